@@ -1,0 +1,2 @@
+//! Marking the reachable objects of a heap.
+#![tactic(auto)]

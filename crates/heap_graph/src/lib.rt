@@ -1,0 +1,2 @@
+//! The objects of a heap dump, their classes and references.
+#![tactic(auto)]

@@ -1,0 +1,2 @@
+//! The histogram of a marked heap, and its report.
+#![tactic(auto)]

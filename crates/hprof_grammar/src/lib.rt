@@ -1,0 +1,2 @@
+//! Records and sub-records of an HPROF heap dump, as places in its bytes.
+#![tactic(auto)]
