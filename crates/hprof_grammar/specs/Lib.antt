@@ -1,0 +1,9 @@
+pub mod Tables
+pub mod Spelling
+pub mod SubRecord
+pub mod Record
+pub mod Dump
+pub mod Fault
+pub mod Reading
+pub mod Orders
+pub mod Joining

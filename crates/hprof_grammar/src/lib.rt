@@ -1,2 +1,10 @@
-//! Records and sub-records of an HPROF heap dump, as places in its bytes.
+//! Records and sub-records of an HPROF heap dump (JAVA PROFILE 1.0.2), as places in its bytes.
 #![tactic(auto)]
+
+mod dump;
+mod flaw;
+mod order;
+mod tables;
+
+pub use dump::Dump;
+pub use flaw::{FormatFault, ReadRefusal};

@@ -1,0 +1,115 @@
+-- What the parts of the parser add to a dump, and the faults that they find. The private contracts cite these words.
+use Rattle.std.specs.Prelude.{Err, List, Ok, Result, [], false, flat_map, length, map, true, ℕ, ◌++◌, ◌+◌, ◌∷◌, ◌≡◌}
+use Rattle.std.specs.List.{AllByRecursion}
+use Rattle.hprof_grammar.specs.Record.{CanGoOn, HasParts, IsRecord, Record, body_of, subs_of, tag_of, time_of}
+use Rattle.hprof_grammar.specs.Tables.{is_heap_tag, is_length_of}
+use Rattle.hprof_grammar.specs.Dump.{Places, heap_list, is_load, is_object, is_root, is_string, placed, placed_subs, places_where, spellings}
+use Rattle.hprof_grammar.specs.Fault.{LongestRecords, LongestSubs, RecordFault, SubFault}
+use Rattle.hprof_grammar.specs.SubRecord.{Class, Instance, IsSubRecord, ObjectArray, PrimitiveArray, Root, SubRecord, spelling_of}
+use Rattle.hprof_grammar.specs.Orders.{IsAt}
+use Rattle.hprof_grammar.specs.declared.tables.Kind.{Kind}
+use Rattle.hprof_grammar.specs.declared.tables.Kind.TheVariants as kinds
+use Rattle.hprof_grammar.specs.declared.order.Order.{Order}
+use Rattle.hprof_grammar.specs.declared.flaw.FormatFault.{FormatFault}
+use Rattle.hprof_grammar.specs.declared.flaw.ReadRefusal.{ReadRefusal}
+use Rattle.hprof_grammar.specs.declared.flaw.ReadRefusal.TheVariants as refusals
+
+-- a fact of the fault, if it is one
+abbrev pub IfFault : {X : Type 0} → Result X ReadRefusal → (FormatFault → Type 0) → Type 0
+IfFault (Ok x) P = Unit {0}
+IfFault (Err (refusals.Fault f)) P = P f
+IfFault (Err refusals.OutOfMemory) P = Unit {0}
+
+abbrev pub nothing_of : ℕ → Places
+nothing_of s = record { id_size = s; strings = []; loaded = []; roots = []; objects = [] }
+
+-- with the place of one more sub-record
+abbrev pub noted : Places → Kind → ℕ → Places
+noted p (kinds.Root n) at = record { id_size = p.id_size; strings = p.strings; loaded = p.loaded; roots = p.roots ++ at ∷ []; objects = p.objects }
+noted p kinds.Class at = record { id_size = p.id_size; strings = p.strings; loaded = p.loaded; roots = p.roots; objects = p.objects ++ at ∷ [] }
+noted p kinds.Instance at = record { id_size = p.id_size; strings = p.strings; loaded = p.loaded; roots = p.roots; objects = p.objects ++ at ∷ [] }
+noted p kinds.ObjectArray at = record { id_size = p.id_size; strings = p.strings; loaded = p.loaded; roots = p.roots; objects = p.objects ++ at ∷ [] }
+noted p kinds.PrimitiveArray at = record { id_size = p.id_size; strings = p.strings; loaded = p.loaded; roots = p.roots; objects = p.objects ++ at ∷ [] }
+
+abbrev pub with_string : Places → ℕ → Places
+with_string p at = record { id_size = p.id_size; strings = p.strings ++ at ∷ []; loaded = p.loaded; roots = p.roots; objects = p.objects }
+
+abbrev pub with_loaded : Places → ℕ → Places
+with_loaded p at = record { id_size = p.id_size; strings = p.strings; loaded = p.loaded ++ at ∷ []; roots = p.roots; objects = p.objects }
+
+-- the places of these sub-records join those that were there
+abbrev pub with_subs : Places → ℕ → List SubRecord → Places
+with_subs p at subs = record {
+  id_size = p.id_size;
+  strings = p.strings;
+  loaded = p.loaded;
+  roots = p.roots ++ places_where is_root (placed_subs p.id_size at subs);
+  objects = p.objects ++ places_where is_object (placed_subs p.id_size at subs);
+}
+
+-- the bytes are these sub-records, then the rest, and their places have joined
+pub record AddsSubs (at : ℕ) (body rest : List ℕ) (old new : Places) : Type 0 where
+  pub subs : List SubRecord
+  pub parts : body ≡ flat_map (spelling_of old.id_size) subs ++ rest
+  pub each : AllByRecursion (IsSubRecord old.id_size) subs
+  pub joined : new ≡ with_subs old at subs
+
+-- the body of a heap record that stands at a place has this fault
+pub record HasSubFault (s at : ℕ) (body : List ℕ) (fault : FormatFault) : Type 0 where
+  pub subs : List SubRecord
+  pub rest : List ℕ
+  pub longest : LongestSubs s body subs rest
+  pub wrong : SubFault s rest fault.code
+  pub place : fault.offset ≡ at + length (flat_map (spelling_of s) subs)
+
+-- the place of this record, and those of its sub-records, join those that were there
+abbrev pub with_record : Places → ℕ → Record → Places
+with_record p at r = record {
+  id_size = p.id_size;
+  strings = p.strings ++ places_where is_string ((at, r) ∷ []);
+  loaded = p.loaded ++ places_where is_load ((at, r) ∷ []);
+  roots = p.roots ++ places_where is_root (placed_subs p.id_size (at + 9) (subs_of r));
+  objects = p.objects ++ places_where is_object (placed_subs p.id_size (at + 9) (subs_of r));
+}
+
+-- what stands in a frame is a record, and it has joined
+pub record AddsRecord (at tag time : ℕ) (body : List ℕ) (before after : Order) (old new : Places) : Type 0 where
+  pub is : Record
+  pub tag_is : tag_of is ≡ tag
+  pub time_is : time_of is ≡ time
+  pub body_is : body_of old.id_size is ≡ body
+  pub parts : HasParts old.id_size is
+  pub length_allowed : is_length_of old.id_size tag (length body) ≡ true
+  pub order : (tags : List ℕ) → IsAt before tags → IsAt after (tags ++ tag ∷ [])
+  pub joined : new ≡ with_record old at is
+
+-- what stands in a frame is no record here
+pub data FrameFault (s at tag : ℕ) (body : List ℕ) (before : Order) (fault : FormatFault) : Type 0 where
+  wrong_length : fault.code ≡ 4 → fault.offset ≡ at → is_length_of s tag (length body) ≡ false → FrameFault s at tag body before fault
+  wrong_order : fault.code ≡ 8 → fault.offset ≡ at → is_length_of s tag (length body) ≡ true → ((tags : List ℕ) → IsAt before tags → CanGoOn (tags ++ tag ∷ []) → ⊥) → FrameFault s at tag body before fault
+  wrong_heap : is_heap_tag tag ≡ true → is_length_of s tag (length body) ≡ true → ((tags : List ℕ) → IsAt before tags → CanGoOn (tags ++ tag ∷ [])) → HasSubFault s (at + 9) body fault → FrameFault s at tag body before fault
+
+-- the places of these records, from place 31 on, join those that were there
+abbrev pub with_records : Places → List Record → Places
+with_records p records = record {
+  id_size = p.id_size;
+  strings = p.strings ++ places_where is_string (placed p.id_size 31 records);
+  loaded = p.loaded ++ places_where is_load (placed p.id_size 31 records);
+  roots = p.roots ++ places_where is_root (heap_list p.id_size records);
+  objects = p.objects ++ places_where is_object (heap_list p.id_size records);
+}
+
+-- the bytes are these records, then the rest
+pub record AddsRecords (bytes rest : List ℕ) (reached : Order) (old new : Places) : Type 0 where
+  pub records : List Record
+  pub parts : bytes ≡ spellings old.id_size records ++ rest
+  pub each : AllByRecursion (IsRecord old.id_size) records
+  pub order : IsAt reached (map tag_of records)
+  pub joined : new ≡ with_records old records
+
+-- behind the header the bytes have this fault
+pub record HasRecordFault (s : ℕ) (bytes : List ℕ) (fault : FormatFault) : Type 0 where
+  pub records : List Record
+  pub rest : List ℕ
+  pub longest : LongestRecords s bytes records rest
+  pub wrong : RecordFault s records (31 + length (spellings s records)) rest fault.code fault.offset

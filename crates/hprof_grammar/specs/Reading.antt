@@ -1,0 +1,119 @@
+-- Reading from left to right, with the first flaw that is met. The parts of the parser say by these what they do.
+use Rattle.std.specs.Prelude.{Err, List, None, Ok, Option, Result, Some, [], drop, if◌then◌else◌, length, nat_lt, suc, take, zero, ℕ, ◌*◌, ◌∷◌, ◌≡◌}
+use Rattle.byteorder.specs.Endian.{big_number}
+use Rattle.hprof_grammar.specs.Tables.{is_type_at, kind_of, size_of}
+use Rattle.hprof_grammar.specs.SubRecord.{Class, Constant, Instance, Member, ObjectArray, PrimitiveArray, Root, Static, SubRecord}
+use Rattle.hprof_grammar.specs.SubRecord.SubRecord.{class_dump, instance_dump, object_array_dump, primitive_array_dump, root}
+use Rattle.hprof_grammar.specs.declared.tables.Kind.{Kind}
+use Rattle.hprof_grammar.specs.declared.tables.Kind.TheVariants as kinds
+use Rattle.hprof_grammar.specs.declared.tables.TypePlace.{TypePlace}
+use Rattle.hprof_grammar.specs.declared.tables.TypePlace.TheVariants.{InArray, InConstant, InMember, InStatic}
+use Rattle.hprof_grammar.specs.declared.flaw.Flaw.{Flaw}
+use Rattle.hprof_grammar.specs.declared.flaw.Flaw.TheVariants.{Short, UnknownTag, WrongType}
+
+infixl 10 ◌>>=◌
+abbrev pub ◌>>=◌ : {A B : Type 0} → Result A Flaw → (A → Result B Flaw) → Result B Flaw
+(Ok x) >>= f = f x
+(Err e) >>= f = Err e
+
+-- a number of that many bytes, and the bytes behind it
+abbrev pub number_at : ℕ → List ℕ → Result (ℕ × List ℕ) Flaw
+number_at width bytes = if nat_lt (length bytes) width then Err Short else Ok (big_number width bytes, drop width bytes)
+
+abbrev pub raw_at : ℕ → List ℕ → Result (List ℕ × List ℕ) Flaw
+raw_at n bytes = if nat_lt (length bytes) n then Err Short else Ok (take n bytes, drop n bytes)
+
+abbrev pub type_at : TypePlace → List ℕ → Result (ℕ × List ℕ) Flaw
+type_at place [] = Err Short
+type_at place (t ∷ rest) = if is_type_at place t then Ok (t, rest) else Err WrongType
+
+-- one after the other, where the second may depend on what the first gave
+abbrev pub pair_at : {A B : Type 0} → (List ℕ → Result (A × List ℕ) Flaw) → (A → List ℕ → Result (B × List ℕ) Flaw) → List ℕ → Result ((A × B) × List ℕ) Flaw
+pair_at first second bytes = first bytes >>= λ x. second x.0 x.1 >>= λ y. Ok ((x.0, y.0), y.1)
+
+-- n times
+abbrev pub list_at : {A : Type 0} → (List ℕ → Result (A × List ℕ) Flaw) → ℕ → List ℕ → Result (List A × List ℕ) Flaw
+list_at one zero bytes = Ok ([], bytes)
+list_at one (suc n) bytes = one bytes >>= λ x. list_at one n x.1 >>= λ xs. Ok (x.0 ∷ xs.0, xs.1)
+
+-- the same, as something else
+abbrev pub as_at : {A B : Type 0} → (A → B) → (List ℕ → Result (A × List ℕ) Flaw) → List ℕ → Result (B × List ℕ) Flaw
+as_at to read bytes = read bytes >>= λ x. Ok (to x.0, x.1)
+
+-- a count, and that many
+abbrev pub counted_at : {A : Type 0} → ℕ → (List ℕ → Result (A × List ℕ) Flaw) → List ℕ → Result (List A × List ℕ) Flaw
+counted_at width one bytes = as_at (λ p. p.1) (pair_at (number_at width) (λ n. list_at one n)) bytes
+
+-- only the bytes behind it
+abbrev pub behind : {A : Type 0} → Result (A × List ℕ) Flaw → Result (List ℕ) Flaw
+behind (Ok x) = Ok x.1
+behind (Err e) = Err e
+
+-- ---- the parts of sub-records, field by field
+
+abbrev pub constant_at : ℕ → List ℕ → Result (Constant × List ℕ) Flaw
+constant_at s = as_at (λ p. record { index = p.0; type = p.1.0; value = p.1.1 }) (pair_at (number_at 2) (λ _. pair_at (type_at InConstant) (λ t. raw_at (size_of s t))))
+
+abbrev pub static_at : ℕ → List ℕ → Result (Static × List ℕ) Flaw
+static_at s = as_at (λ p. record { name = p.0; type = p.1.0; value = p.1.1 }) (pair_at (number_at s) (λ _. pair_at (type_at InStatic) (λ t. raw_at (size_of s t))))
+
+abbrev pub member_at : ℕ → List ℕ → Result (Member × List ℕ) Flaw
+member_at s = as_at (λ p. record { name = p.0; type = p.1 }) (pair_at (number_at s) (λ _. type_at InMember))
+
+unfoldable pub class_at : ℕ → List ℕ → Result (Class × List ℕ) Flaw
+class_at s = as_at
+    (λ p. record { object = p.0; stack = p.1.0; super = p.1.1.0; loader = p.1.1.1.0; signers = p.1.1.1.1.0; domain = p.1.1.1.1.1.0; reserved = p.1.1.1.1.1.1.0; reserved_too = p.1.1.1.1.1.1.1.0; instance_size = p.1.1.1.1.1.1.1.1.0; constants = p.1.1.1.1.1.1.1.1.1.0; statics = p.1.1.1.1.1.1.1.1.1.1.0; members = p.1.1.1.1.1.1.1.1.1.1.1 })
+    (pair_at (number_at s) (λ _. pair_at (number_at 4) (λ _. pair_at (number_at s) (λ _. pair_at (number_at s) (λ _. pair_at (number_at s) (λ _. pair_at (number_at s) (λ _. pair_at (number_at s) (λ _. pair_at (number_at s) (λ _. pair_at (number_at 4)
+    (λ _. pair_at (counted_at 2 (constant_at s)) (λ _. pair_at (counted_at 2 (static_at s)) (λ _. counted_at 2 (member_at s)))))))))))))
+
+unfoldable pub instance_at : ℕ → List ℕ → Result (Instance × List ℕ) Flaw
+instance_at s = as_at (λ p. record { object = p.0; stack = p.1.0; class = p.1.1.0; values = p.1.1.1.1 })
+    (pair_at (number_at s) (λ _. pair_at (number_at 4) (λ _. pair_at (number_at s) (λ _. pair_at (number_at 4) (λ n. raw_at n)))))
+
+unfoldable pub object_array_at : ℕ → List ℕ → Result (ObjectArray × List ℕ) Flaw
+object_array_at s = as_at (λ p. record { object = p.0; stack = p.1.0; class = p.1.1.1.0; elements = p.1.1.1.1 })
+    (pair_at (number_at s) (λ _. pair_at (number_at 4) (λ _. pair_at (number_at 4) (λ n. pair_at (number_at s) (λ _. list_at (number_at s) n)))))
+
+unfoldable pub primitive_array_at : ℕ → List ℕ → Result (PrimitiveArray × List ℕ) Flaw
+primitive_array_at s = as_at (λ p. record { object = p.0; stack = p.1.0; count = p.1.1.0; type = p.1.1.1.0; values = p.1.1.1.1 })
+    (pair_at (number_at s) (λ _. pair_at (number_at 4) (λ _. pair_at (number_at 4) (λ n. pair_at (type_at InArray) (λ t. raw_at (n * size_of s t))))))
+
+unfoldable pub root_at : ℕ → ℕ → ℕ → List ℕ → Result (Root × List ℕ) Flaw
+root_at s tag n = as_at (λ p. record { tag = tag; object = p.0; rest = p.1 }) (pair_at (number_at s) (λ _. raw_at n))
+
+-- what stands behind a tag
+abbrev pub body_at : ℕ → ℕ → Option Kind → List ℕ → Result (SubRecord × List ℕ) Flaw
+body_at s tag None bytes = Err UnknownTag
+body_at s tag (Some (kinds.Root n)) bytes = as_at root (root_at s tag n) bytes
+body_at s tag (Some kinds.Class) bytes = as_at class_dump (class_at s) bytes
+body_at s tag (Some kinds.Instance) bytes = as_at instance_dump (instance_at s) bytes
+body_at s tag (Some kinds.ObjectArray) bytes = as_at object_array_dump (object_array_at s) bytes
+body_at s tag (Some kinds.PrimitiveArray) bytes = as_at primitive_array_dump (primitive_array_at s) bytes
+
+-- a sub-record, and the bytes behind it
+unfoldable pub sub_record_at : ℕ → List ℕ → Result (SubRecord × List ℕ) Flaw
+sub_record_at s [] = Err Short
+sub_record_at s (tag ∷ rest) = body_at s tag (kind_of s tag) rest
+
+-- ---- what a part of the parser does: it goes to the end of what is read, or finds the flaw
+
+abbrev pub Gives : {X : Type 0} → Result X Flaw → List ℕ → Result (X × List ℕ) Flaw → Type 0
+Gives (Ok x) rest read = read ≡ Ok (x, rest)
+Gives (Err e) rest read = read ≡ Err e
+
+abbrev pub Passes : {X Y : Type 0} → Result X Flaw → List ℕ → Result (Y × List ℕ) Flaw → Type 0
+Passes (Ok _) rest read = behind read ≡ Ok rest
+Passes (Err e) rest read = behind read ≡ Err e
+
+abbrev pub GivesAs : {X Y : Type 0} → (X → Y) → Result X Flaw → List ℕ → Result (Y × List ℕ) Flaw → Type 0
+GivesAs view (Ok x) rest read = read ≡ Ok (view x, rest)
+GivesAs view (Err e) rest read = read ≡ Err e
+
+-- ---- the frame of a record: a tag, a time, a length and that many bytes
+
+abbrev pub block_at : List ℕ → Result (List ℕ × List ℕ) Flaw
+block_at = as_at (λ p. p.1) (pair_at (number_at 4) (λ n. raw_at n))
+
+unfoldable pub frame_at : List ℕ → Result ((ℕ × ℕ × List ℕ) × List ℕ) Flaw
+frame_at [] = Err Short
+frame_at (tag ∷ bytes) = as_at (λ p. (tag, p.0, p.1)) (pair_at (number_at 4) (λ _. block_at)) bytes

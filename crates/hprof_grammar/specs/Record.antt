@@ -1,0 +1,73 @@
+-- The records of a file.
+use Rattle.std.specs.Prelude.{List, [], false, filter, flat_map, length, true, ℕ, ◌++◌, ◌<◌, ◌^◌, ◌∷◌, ◌≡◌}
+use Rattle.std.specs.List.{AllByRecursion}
+use Rattle.byteorder.specs.Endian.{big_bytes}
+use Rattle.hprof_grammar.specs.Tables.{IsSnapshot, is_heap_tag, is_length_of, is_snapshot_tag}
+use Rattle.hprof_grammar.specs.SubRecord.{IsSubRecord, SubRecord, spelling_of}
+
+pub data Record : Type 0 where
+  string : (time id : ℕ) (text : List ℕ) → Record
+  load_class : (time serial class stack name : ℕ) → Record
+  -- a heap dump or a segment of one, by its tag
+  heap : (tag time : ℕ) (subs : List SubRecord) → Record
+  -- the end of the segments, and whatever is skipped
+  other : (tag time : ℕ) (body : List ℕ) → Record
+
+-- a tag, a time, a length and that many bytes
+abbrev pub framed : ℕ → ℕ → List ℕ → List ℕ
+framed tag time body = tag ∷ big_bytes 4 time ++ (big_bytes 4 (length body) ++ body)
+
+abbrev pub tag_of : Record → ℕ
+tag_of (string time id text) = 0x01
+tag_of (load_class time serial class stack name) = 0x02
+tag_of (heap tag time subs) = tag
+tag_of (other tag time body) = tag
+
+abbrev pub time_of : Record → ℕ
+time_of (string time id text) = time
+time_of (load_class time serial class stack name) = time
+time_of (heap tag time subs) = time
+time_of (other tag time body) = time
+
+abbrev pub subs_of : Record → List SubRecord
+subs_of (string time id text) = []
+subs_of (load_class time serial class stack name) = []
+subs_of (heap tag time subs) = subs
+subs_of (other tag time body) = []
+
+abbrev pub body_of : ℕ → Record → List ℕ
+body_of s (string time id text) = big_bytes s id ++ text
+body_of s (load_class time serial class stack name) = big_bytes 4 serial ++ (big_bytes s class ++ (big_bytes 4 stack ++ big_bytes s name))
+body_of s (heap tag time subs) = flat_map (spelling_of s) subs
+body_of s (other tag time body) = body
+
+-- The one spelling of a record.
+abbrev pub record_spelling : ℕ → Record → List ℕ
+record_spelling s r = framed (tag_of r) (time_of r) (body_of s r)
+
+-- the tags that the manual's other records have
+abbrev pub IsOther : ℕ → Type 0
+IsOther tag = (tag ≡ 0x01 → ⊥) × (tag ≡ 0x02 → ⊥) × (is_heap_tag tag ≡ false)
+
+abbrev pub HasParts : ℕ → Record → Type 0
+HasParts s (string time id text) = id < 256 ^ s
+HasParts s (load_class time serial class stack name) = (serial < 256 ^ 4) × (class < 256 ^ s) × (stack < 256 ^ 4) × (name < 256 ^ s)
+HasParts s (heap tag time subs) = (is_heap_tag tag ≡ true) × AllByRecursion (IsSubRecord s) subs
+HasParts s (other tag time body) = IsOther tag
+
+pub record IsRecord (s : ℕ) (r : Record) : Type 0 where
+  pub parts : HasParts s r
+  pub time : time_of r < 256 ^ 4
+  pub length_fits : length (body_of s r) < 256 ^ 4
+  pub length_allowed : is_length_of s (tag_of r) (length (body_of s r)) ≡ true
+
+-- The records keep the snapshot rule.
+abbrev pub snapshot_tags : List ℕ → List ℕ
+snapshot_tags tags = filter is_snapshot_tag tags
+
+abbrev pub IsOrderly : List ℕ → Type 0
+IsOrderly tags = IsSnapshot (snapshot_tags tags)
+
+-- more records can make it so
+abbrev pub CanGoOn : List ℕ → Type 0
+CanGoOn tags = (more : List ℕ) × IsOrderly (tags ++ more)

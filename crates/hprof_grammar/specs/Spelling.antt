@@ -1,0 +1,57 @@
+-- A field of a sub-record, and its bytes.
+use Rattle.std.specs.Prelude.{List, [], false, flat_map, length, true, ℕ, ◌++◌, ◌<◌, ◌∷◌, ◌≡◌}
+use Rattle.std.specs.List.{AllByRecursion}
+use Rattle.byteorder.specs.Endian.{big_bytes}
+use Rattle.hprof_grammar.specs.Tables.{is_type_at}
+use Rattle.hprof_grammar.specs.declared.tables.TypePlace.{TypePlace}
+
+pub data Field : Type 0 where
+  -- a number of that many bytes
+  number : (width value : ℕ) → Field
+  -- one byte that says a type
+  type_code : (place : TypePlace) (code : ℕ) → Field
+  -- bytes that stand for themselves
+  raw : (bytes : List ℕ) → Field
+
+-- numbers are big-endian
+abbrev pub bytes_of : Field → List ℕ
+bytes_of (number width value) = big_bytes width value
+bytes_of (type_code place code) = code ∷ []
+bytes_of (raw bytes) = bytes
+
+-- the fields one after the other
+abbrev pub spelled : List Field → List ℕ
+spelled fields = flat_map bytes_of fields
+
+abbrev pub IsAllowed : Field → Type 0
+IsAllowed (number width value) = Unit {0}
+IsAllowed (type_code place code) = is_type_at place code ≡ true
+IsAllowed (raw bytes) = Unit {0}
+
+abbrev pub AreAllowed : List Field → Type 0
+AreAllowed fields = AllByRecursion IsAllowed fields
+
+-- the bytes are the first of these fields, all allowed, and less than the whole of the next one
+pub record EndsShort (fields : List Field) (bytes : List ℕ) : Type 0 where
+  pub front : List Field
+  pub cut : Field
+  pub more : List Field
+  pub part : List ℕ
+  pub missing : List ℕ
+  pub in_order : fields ≡ front ++ cut ∷ more
+  pub allowed : AreAllowed front
+  pub bytes_are : bytes ≡ spelled front ++ part
+  pub cut_is : bytes_of cut ≡ part ++ missing
+  pub not_whole : 0 < length missing
+
+-- the bytes begin with the first of these fields, all allowed, and a type code that is not
+pub record HasWrongType (fields : List Field) (bytes : List ℕ) : Type 0 where
+  pub front : List Field
+  pub place : TypePlace
+  pub code : ℕ
+  pub more : List Field
+  pub rest : List ℕ
+  pub in_order : fields ≡ front ++ type_code place code ∷ more
+  pub allowed : AreAllowed front
+  pub wrong : is_type_at place code ≡ false
+  pub bytes_are : bytes ≡ spelled front ++ code ∷ rest

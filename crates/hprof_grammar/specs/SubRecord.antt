@@ -1,0 +1,183 @@
+-- The sub-records of a heap record, and their fields in order.
+use Rattle.std.specs.Prelude.{List, Some, [], flat_map, length, map, ℕ, ◌*◌, ◌++◌, ◌<◌, ◌^◌, ◌∷◌, ◌≡◌}
+use Rattle.std.specs.List.{AllByRecursion}
+use Rattle.hprof_grammar.specs.Tables.{kind_of, size_of}
+use Rattle.hprof_grammar.specs.Spelling.{AreAllowed, Field, spelled}
+use Rattle.hprof_grammar.specs.Spelling.Field.{number, raw, type_code}
+use Rattle.hprof_grammar.specs.declared.tables.Kind.TheVariants as kinds
+use Rattle.hprof_grammar.specs.declared.tables.TypePlace.TheVariants.{InArray, InConstant, InMember, InStatic}
+
+-- a constant pool entry
+pub record Constant : Type 0 where
+  pub index : ℕ
+  pub type : ℕ
+  pub value : List ℕ
+
+-- a static field
+pub record Static : Type 0 where
+  pub name : ℕ
+  pub type : ℕ
+  pub value : List ℕ
+
+-- an instance field that a class declares
+pub record Member : Type 0 where
+  pub name : ℕ
+  pub type : ℕ
+
+pub record Class : Type 0 where
+  pub object : ℕ
+  pub stack : ℕ
+  pub super : ℕ
+  pub loader : ℕ
+  pub signers : ℕ
+  pub domain : ℕ
+  pub reserved : ℕ
+  pub reserved_too : ℕ
+  pub instance_size : ℕ
+  pub constants : List Constant
+  pub statics : List Static
+  pub members : List Member
+
+pub record Instance : Type 0 where
+  pub object : ℕ
+  pub stack : ℕ
+  pub class : ℕ
+  pub values : List ℕ
+
+pub record ObjectArray : Type 0 where
+  pub object : ℕ
+  pub stack : ℕ
+  pub class : ℕ
+  pub elements : List ℕ
+
+pub record PrimitiveArray : Type 0 where
+  pub object : ℕ
+  pub stack : ℕ
+  pub count : ℕ
+  pub type : ℕ
+  pub values : List ℕ
+
+pub record Root : Type 0 where
+  pub tag : ℕ
+  pub object : ℕ
+  pub rest : List ℕ
+
+pub data SubRecord : Type 0 where
+  root : Root → SubRecord
+  class_dump : Class → SubRecord
+  instance_dump : Instance → SubRecord
+  object_array_dump : ObjectArray → SubRecord
+  primitive_array_dump : PrimitiveArray → SubRecord
+
+-- an ID is a number of s bytes
+abbrev pub constant_fields : Constant → List Field
+constant_fields c = number 2 c.index ∷ type_code InConstant c.type ∷ raw c.value ∷ []
+
+abbrev pub static_fields : ℕ → Static → List Field
+static_fields s f = number s f.name ∷ type_code InStatic f.type ∷ raw f.value ∷ []
+
+abbrev pub member_fields : ℕ → Member → List Field
+member_fields s m = number s m.name ∷ type_code InMember m.type ∷ []
+
+-- what stands behind the tag
+abbrev pub class_fields : ℕ → Class → List Field
+class_fields s c =
+    number s c.object ∷ number 4 c.stack ∷ number s c.super ∷ number s c.loader ∷ number s c.signers ∷ number s c.domain ∷ number s c.reserved ∷ number s c.reserved_too ∷ number 4 c.instance_size
+    ∷ (number 2 (length c.constants) ∷ flat_map constant_fields c.constants)
+    ++ ((number 2 (length c.statics) ∷ flat_map (static_fields s) c.statics)
+    ++ (number 2 (length c.members) ∷ flat_map (member_fields s) c.members))
+
+abbrev pub instance_fields : ℕ → Instance → List Field
+instance_fields s i = number s i.object ∷ number 4 i.stack ∷ number s i.class ∷ number 4 (length i.values) ∷ raw i.values ∷ []
+
+abbrev pub object_array_fields : ℕ → ObjectArray → List Field
+object_array_fields s a = number s a.object ∷ number 4 a.stack ∷ number 4 (length a.elements) ∷ number s a.class ∷ map (number s) a.elements
+
+abbrev pub primitive_array_fields : ℕ → PrimitiveArray → List Field
+primitive_array_fields s a = number s a.object ∷ number 4 a.stack ∷ number 4 a.count ∷ type_code InArray a.type ∷ raw a.values ∷ []
+
+abbrev pub root_fields : ℕ → Root → List Field
+root_fields s r = number s r.object ∷ raw r.rest ∷ []
+
+abbrev pub tag_of : SubRecord → ℕ
+tag_of (root r) = r.tag
+tag_of (class_dump c) = 0x20
+tag_of (instance_dump i) = 0x21
+tag_of (object_array_dump a) = 0x22
+tag_of (primitive_array_dump a) = 0x23
+
+-- the fields of a sub-record behind its tag, in their order
+abbrev pub fields_of : ℕ → SubRecord → List Field
+fields_of s (root r) = root_fields s r
+fields_of s (class_dump c) = class_fields s c
+fields_of s (instance_dump i) = instance_fields s i
+fields_of s (object_array_dump a) = object_array_fields s a
+fields_of s (primitive_array_dump a) = primitive_array_fields s a
+
+-- The one spelling of a sub-record.
+abbrev pub spelling_of : ℕ → SubRecord → List ℕ
+spelling_of s sub = tag_of sub ∷ spelled (fields_of s sub)
+
+-- Each number fits its bytes, and each value has the size that its type or its count says.
+pub record IsConstant (s : ℕ) (c : Constant) : Type 0 where
+  pub index : c.index < 256 ^ 2
+  pub value : length c.value ≡ size_of s c.type
+
+pub record IsStatic (s : ℕ) (f : Static) : Type 0 where
+  pub name : f.name < 256 ^ s
+  pub value : length f.value ≡ size_of s f.type
+
+abbrev pub IsMember : ℕ → Member → Type 0
+IsMember s m = m.name < 256 ^ s
+
+pub record IsClass (s : ℕ) (c : Class) : Type 0 where
+  pub object : c.object < 256 ^ s
+  pub stack : c.stack < 256 ^ 4
+  pub super : c.super < 256 ^ s
+  pub loader : c.loader < 256 ^ s
+  pub signers : c.signers < 256 ^ s
+  pub domain : c.domain < 256 ^ s
+  pub reserved : c.reserved < 256 ^ s
+  pub reserved_too : c.reserved_too < 256 ^ s
+  pub instance_size : c.instance_size < 256 ^ 4
+  pub constant_count : length c.constants < 256 ^ 2
+  pub constants : AllByRecursion (IsConstant s) c.constants
+  pub static_count : length c.statics < 256 ^ 2
+  pub statics : AllByRecursion (IsStatic s) c.statics
+  pub member_count : length c.members < 256 ^ 2
+  pub members : AllByRecursion (IsMember s) c.members
+
+pub record IsInstance (s : ℕ) (i : Instance) : Type 0 where
+  pub object : i.object < 256 ^ s
+  pub stack : i.stack < 256 ^ 4
+  pub class : i.class < 256 ^ s
+  pub values : length i.values < 256 ^ 4
+
+pub record IsObjectArray (s : ℕ) (a : ObjectArray) : Type 0 where
+  pub object : a.object < 256 ^ s
+  pub stack : a.stack < 256 ^ 4
+  pub class : a.class < 256 ^ s
+  pub count : length a.elements < 256 ^ 4
+  pub elements : AllByRecursion (λ e. e < 256 ^ s) a.elements
+
+pub record IsPrimitiveArray (s : ℕ) (a : PrimitiveArray) : Type 0 where
+  pub object : a.object < 256 ^ s
+  pub stack : a.stack < 256 ^ 4
+  pub count : a.count < 256 ^ 4
+  pub values : length a.values ≡ a.count * size_of s a.type
+
+pub record IsRoot (s : ℕ) (r : Root) : Type 0 where
+  pub kind : kind_of s r.tag ≡ Some (kinds.Root (length r.rest))
+  pub object : r.object < 256 ^ s
+
+-- as a sub-record, but for type codes that may be any
+abbrev pub IsFormed : ℕ → SubRecord → Type 0
+IsFormed s (root r) = IsRoot s r
+IsFormed s (class_dump c) = (kind_of s 0x20 ≡ Some kinds.Class) × IsClass s c
+IsFormed s (instance_dump i) = (kind_of s 0x21 ≡ Some kinds.Instance) × IsInstance s i
+IsFormed s (object_array_dump a) = (kind_of s 0x22 ≡ Some kinds.ObjectArray) × IsObjectArray s a
+IsFormed s (primitive_array_dump a) = (kind_of s 0x23 ≡ Some kinds.PrimitiveArray) × IsPrimitiveArray s a
+
+pub record IsSubRecord (s : ℕ) (sub : SubRecord) : Type 0 where
+  pub formed : IsFormed s sub
+  pub allowed : AreAllowed (fields_of s sub)

@@ -1,0 +1,55 @@
+-- The format's tables: which numbers are allowed where, and what sizes they stand for. No proof opens one of these
+-- words but a few lemmas of two lines, so that the accepted part of the format is settled here alone.
+-- For now it is a narrow part: identifiers of 4 bytes, one heap dump in place of segments, and in it roots of unknown
+-- kind, class dumps without constants and static fields, and instances.
+use Rattle.std.specs.Prelude.{Bool, List, None, Option, Some, [], false, if◌then◌else◌, nat_le, true, ℕ, ◌&&◌, ◌*◌, ◌+◌, ◌==◌, ◌||◌, ◌∷◌, ◌≡◌}
+use Rattle.hprof_grammar.specs.declared.tables.Kind.{Kind}
+use Rattle.hprof_grammar.specs.declared.tables.Kind.TheVariants.{Class, Instance, Root}
+use Rattle.hprof_grammar.specs.declared.tables.TypePlace.{TypePlace}
+use Rattle.hprof_grammar.specs.declared.tables.TypePlace.TheVariants.{InArray, InConstant, InMember, InStatic}
+
+-- the sizes of identifiers (the manual leaves them open)
+unfoldable pub is_id_size : ℕ → Bool
+is_id_size s = s == 4
+
+-- 2 object, 4 boolean, 5 char, 6 float, 7 double, 8 byte, 9 short, 10 int, 11 long
+abbrev pub is_primitive : ℕ → Bool
+is_primitive t = nat_le 4 t && nat_le t 11
+
+-- the type codes that are allowed in each place
+unfoldable pub is_type_at : TypePlace → ℕ → Bool
+is_type_at InConstant t = false
+is_type_at InStatic t = false
+is_type_at InMember t = (t == 2) || is_primitive t
+is_type_at InArray t = is_primitive t
+
+-- the bytes of a value, with identifiers of s bytes
+unfoldable pub size_of : ℕ → ℕ → ℕ
+size_of s t = if t == 2 then s else if (t == 4) || (t == 8) then 1 else if (t == 5) || (t == 9) then 2 else if (t == 6) || (t == 10) then 4 else if (t == 7) || (t == 11) then 8 else 0
+
+-- how many bytes stand behind a root's object
+unfoldable pub root_rest : ℕ → ℕ → Option ℕ
+root_rest s tag = if tag == 0xFF then Some 0 else None
+
+abbrev pub root_of : Option ℕ → Option Kind
+root_of None = None
+root_of (Some n) = Some (Root n)
+
+-- what a sub-record's tag says. A root has that many bytes behind its object's ID
+unfoldable pub kind_of : ℕ → ℕ → Option Kind
+kind_of s tag = if tag == 0x20 then Some Class else if tag == 0x21 then Some Instance else root_of (root_rest s tag)
+
+-- the lengths that the body of a record may have
+unfoldable pub is_length_of : ℕ → ℕ → ℕ → Bool
+is_length_of s tag n = if tag == 0x01 then nat_le s n else if tag == 0x02 then n == 8 + 2 * s else if tag == 0x2C then n == 0 else true
+
+abbrev pub is_heap_tag : ℕ → Bool
+is_heap_tag tag = (tag == 0x0C) || (tag == 0x1C)
+
+-- the tags of the records that make a snapshot
+abbrev pub is_snapshot_tag : ℕ → Bool
+is_snapshot_tag tag = (tag == 0x0C) || (tag == 0x1C) || (tag == 0x2C)
+
+-- the tags of a snapshot's records: one heap dump
+abbrev pub IsSnapshot : List ℕ → Type 0
+IsSnapshot tags = tags ≡ 0x0C ∷ []
