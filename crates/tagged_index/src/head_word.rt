@@ -1,0 +1,143 @@
+//! A head in one word: the tag in the upper 48 bits, and in the lower 16 bits 0 for no index, else
+//! the index plus 1.
+ghost use Rattle.std.specs.Prelude.{◌≡◌, ◌+◌, ◌<◌, ◌≤◌, MatchOption};
+ghost use Rattle.std.specs.Option.{ForSome};
+ghost use Rattle.tagged_index.specs.Head.{after, head_of, word_of};
+
+use std::marker::Model;
+
+/// The largest tag. A head that bears it is exchanged no more.
+pub const LAST_TAG: u64 = 281_474_976_710_655;
+
+/// The largest index that a head can hold.
+pub const LAST_INDEX: u32 = 65_534;
+
+// How many values the lower 16 bits have.
+const LOW_VALUES: u64 = 65_536;
+
+/// The head of a stack. Contracts see the index and the tag; `word` gives the 64 bits.
+#[derive(Clone, Copy, PartialEq, Eq, Debug)]
+pub struct HeadWord {
+    word: u64,
+}
+
+impl Model for HeadWord {
+    ghost use Rattle.std.proofs.Common.{ap};
+    ghost use Rattle.tagged_index.specs.Head.{Head, head_of, word_of};
+    ghost use Rattle.tagged_index.specs.Words.{restored};
+
+    ghost Value = { Head };
+
+    ghost view = { λ h. head_of h.word };
+
+    ghost inverse = { λ h. record { word = word_of h } };
+
+    ghost inverse_ok = { λ a h. ap (λ w. record { word = w }) (restored a.word) };
+}
+
+impl HeadWord {
+    /// The head without an index, of an empty stack.
+    pub fn none(tag: u64) -> Self
+        requires { tag ≤ LAST_TAG }
+        ensures { result ≡ record { index = None; tag = tag } }
+    {
+        HeadWord {
+            word: tag * LOW_VALUES,
+        }
+    }
+
+    /// The head with this index.
+    pub fn of(index: u32, tag: u64) -> Self
+        requires small { index ≤ LAST_INDEX }
+        requires tagged { tag ≤ LAST_TAG }
+        ensures { result ≡ record { index = Some index; tag = tag } }
+    {
+        HeadWord {
+            word: tag * LOW_VALUES + (u64::from(index) + 1),
+        }
+    }
+
+    /// The head that this word spells. Each word spells one.
+    pub fn from_word(word: u64) -> Self
+        ensures { result ≡ head_of word }
+    {
+        HeadWord { word }
+    }
+
+    /// The word that spells this head: the tag times 65,536, and the index plus 1 where there is
+    /// one.
+    pub fn word(self) -> u64
+        ensures spelled { head_of result ≡ self }
+        ensures value { result ≡ word_of self }
+    {
+        self.word
+    }
+
+    /// The index, None for an empty stack.
+    pub fn index(self) -> Option<u32>
+        ensures same { result ≡ self.index }
+        ensures small { ForSome result (λ i. i ≤ LAST_INDEX) }
+    {
+        let low = (self.word % LOW_VALUES) as u32;
+        if low == 0 { None } else { Some(low - 1) }
+    }
+
+    /// The tag.
+    pub fn tag(self) -> u64
+        ensures same { result ≡ self.tag }
+        ensures small { result ≤ LAST_TAG }
+    {
+        self.word / LOW_VALUES
+    }
+
+    /// The head with this index and the tag one higher, None exactly at the last tag.
+    pub fn next(self, index: Option<u32>) -> Option<Self>
+        requires { ForSome index (λ i. i ≤ LAST_INDEX) }
+        ensures { MatchOption result (self.tag ≡ LAST_TAG) (λ h. (self.tag < LAST_TAG) × (h ≡ after self index)) }
+    {
+        let tag = self.tag();
+        if tag == LAST_TAG {
+            return None;
+        }
+        Some(match index {
+            None => HeadWord::none(tag + 1),
+            Some(index) => HeadWord::of(index, tag + 1),
+        })
+    }
+}
+
+#[cfg(test)]
+mod tests {
+    use super::*;
+
+    #[test]
+    fn words_of_the_format(rt: HostRuntime) {
+        let last = 281_474_976_710_655;
+        for (index, tag, word) in [
+            (None, 0, 0),
+            (Some(0), 0, 1),
+            (Some(0), 1, 65_537),
+            (Some(65_534), 0, 65_535),
+            (None, last, 18_446_744_073_709_486_080),
+            (Some(65_534), last, 18_446_744_073_709_551_615),
+        ] {
+            assert!(rt; tag <= LAST_TAG);
+            let made = match index {
+                None => HeadWord::none(tag),
+                Some(index) => {
+                    assert!(rt; index <= LAST_INDEX);
+                    HeadWord::of(index, tag)
+                }
+            };
+            assert_eq!(rt; made.word(), word, "the word of {word}");
+            let head = HeadWord::from_word(word);
+            assert_eq!(rt; head.index(), index, "the index of {word}");
+            assert_eq!(rt; head.tag(), tag, "the tag of {word}");
+            let next = head.next(None).map(|head| head.tag());
+            let rises = (tag < last).then_some(tag + 1);
+            assert_eq!(rt; next, rises, "the next tag of {word}");
+        }
+        let next = HeadWord::from_word(65_537).next(Some(4));
+        assert_eq!(rt; next.map(|head| head.word()), Some(131_077));
+    }
+}
