@@ -1,0 +1,16 @@
+-- A counted reader or writer: what it wraps, and how many of its calls failed.
+use Rattle.std.specs.Prelude.{ℕ, Bool, true, List, length, Result, Ok, Err, ◌==◌, ◌&&◌, nat_lt}
+use Rattle.histogram.specs.declared.streams.Counted.{Counted}
+
+-- how many calls have failed so far
+abbrev pub failures_of : {T : Type 0} → Counted T → ℕ
+failures_of c = c.failures
+
+-- the reader or the writer itself
+abbrev pub inner_of : {T : Type 0} → Counted T → T
+inner_of c = c.inner
+
+-- a write fails where it answers a fault, or takes nothing of a slice that is not empty
+abbrev pub is_failed_write : {E : Type 0} → Result ℕ E → List ℕ → Bool
+is_failed_write (Ok n) bytes = n == 0 && nat_lt 0 (length bytes)
+is_failed_write (Err e) bytes = true
