@@ -1,2 +1,11 @@
 //! Marking the reachable objects of a heap.
 #![tactic(auto)]
+
+mod gate;
+mod marked;
+mod options;
+mod walk;
+
+pub use gate::{Gate, NoGate};
+pub use marked::{Marked, RunFault};
+pub use options::{BadOptions, Options};

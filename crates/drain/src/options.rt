@@ -1,0 +1,101 @@
+//! How many workers mark, and with how much room.
+
+use std::marker::Model;
+use thiserror::Error;
+
+/// A value of the options is out of its range.
+#[derive(Clone, Copy, Debug, PartialEq, Eq, Error)]
+#[error("an option is out of its range")]
+pub struct BadOptions;
+
+/// How a graph is marked.
+#[derive(Clone, Copy, Debug, PartialEq, Eq)]
+pub struct Options {
+    workers: u32,
+    buffer: u32,
+    buffers: u32,
+    first_tag: u64,
+}
+
+impl Model for Options {
+    ghost use Rattle.drain.specs.Options.{Choice, IsAllowed};
+
+    ghost Value = { Choice };
+
+    ghost view = { λ o. record { workers = o.workers; buffer = o.buffer; buffers = o.buffers; first_tag = o.first_tag } };
+
+    ghost invariant = { λ o. IsAllowed (record { workers = o.workers; buffer = o.buffer; buffers = o.buffers; first_tag = o.first_tag }) };
+
+    ghost inverse = { λ c. record { workers = c.workers; buffer = c.buffer; buffers = c.buffers; first_tag = c.first_tag } };
+}
+
+impl Options {
+    ghost use Rattle.std.specs.Prelude.{◌≡◌, ◌↔◌, IfOk, IsOk};
+    ghost use Rattle.drain.specs.Options.{IsAllowed, choice};
+
+    /// The most workers that can be asked for.
+    pub const MOST_WORKERS: u32 = 64;
+
+    /// The most objects that a buffer can be asked to hold.
+    pub const MOST_IN_BUFFER: u32 = 4096;
+
+    /// The most buffers that can be asked for.
+    pub const MOST_BUFFERS: u32 = 65_534;
+
+    /// The last tag of a stack's head.
+    pub const LAST_TAG: u64 = 281_474_976_710_655;
+
+    /// Options for 1 to 64 workers, 4 to 65,534 buffers of 2 to 4,096 objects, two for each worker and two more,
+    /// and a first tag of at most 281,474,976,710,655. Any other value is refused.
+    pub fn new(
+        workers: u32,
+        buffer: u32,
+        buffers: u32,
+        first_tag: u64,
+    ) -> Result<Options, BadOptions>
+        ensures allowed { IsOk result ↔ IsAllowed (choice workers buffer buffers first_tag) }
+        ensures value { IfOk result (λ o. o ≡ choice workers buffer buffers first_tag) }
+    {
+        let in_range = (1..=Options::MOST_WORKERS).contains(&workers)
+            && (2..=Options::MOST_IN_BUFFER).contains(&buffer)
+            && (4..=Options::MOST_BUFFERS).contains(&buffers)
+            && first_tag <= Options::LAST_TAG;
+        if !in_range || buffers < 2 * workers + 2 {
+            return Err(BadOptions);
+        }
+        Ok(Options {
+            workers,
+            buffer,
+            buffers,
+            first_tag,
+        })
+    }
+
+    /// How many threads mark beside the one that calls.
+    pub fn workers(&self) -> u32
+        ensures { result ≡ self.now.workers }
+    {
+        self.workers
+    }
+
+    /// How many objects a buffer holds.
+    pub fn buffer(&self) -> u32
+        ensures { result ≡ self.now.buffer }
+    {
+        self.buffer
+    }
+
+    /// How many buffers there are.
+    pub fn buffers(&self) -> u32
+        ensures { result ≡ self.now.buffers }
+    {
+        self.buffers
+    }
+
+    /// The tag that the heads of the stacks bear at first.
+    pub fn first_tag(&self) -> u64
+        ensures { result ≡ self.now.first_tag }
+    {
+        self.first_tag
+    }
+}
