@@ -1,0 +1,10 @@
+pub mod Lists
+pub mod Account
+pub mod World
+pub mod Event
+pub mod Ownership
+pub mod Colours
+pub mod Shares
+pub mod Law
+pub mod Runs
+pub mod Step

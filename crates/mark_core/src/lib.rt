@@ -1,2 +1,10 @@
 //! The world of a marking with many workers, its events, and the law that they keep.
 #![tactic(auto)]
+
+mod edges;
+mod event;
+mod which;
+
+pub use edges::Edges;
+pub use event::{Event, Kind};
+pub use which::Which;

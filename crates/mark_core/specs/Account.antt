@@ -1,0 +1,89 @@
+-- An account: what one worker has, and what it knows. Then what each event does to the account that takes part in it.
+use Rattle.std.specs.Prelude.{ℕ, ◌+◌, ◌-◌, ◌==◌, if◌then◌else◌, Bool, true, false, ◌&&◌, ◌||◌, List, [], ◌∷◌, ◌++◌, Option, Some, None, is_some}
+use Rattle.tagged_index.specs.Head.{Head}
+use Rattle.mark_core.specs.declared.which.Which.{Which}
+use Rattle.mark_core.specs.declared.which.Which.TheVariants.{Full, Empty}
+use Rattle.mark_core.specs.Lists.{remove_one, without}
+
+-- what an account last loaded of a stack: its head, and after that the link of the buffer on top, which is None where that buffer is the last
+pub record Look : Type 0 where
+  pub head : Option Head
+  pub link : Option (Option ℕ)
+
+pub record Account : Type 0 where
+  -- its units: an account is there while it has one
+  pub share : ℕ
+  -- the buffers that it holds
+  pub held : List ℕ
+  -- the objects that it answers for
+  pub charge : List ℕ
+  -- the objects that it saw marked
+  pub seen : List ℕ
+  -- the objects that it finished
+  pub finished : List ℕ
+  -- what it last loaded of the full stack, and of the empty one
+  pub full : Look
+  pub empty : Look
+  -- it pushed on full, and has not loaded a full head without a buffer since
+  pub open_push : Bool
+
+abbrev pub look_of : Account → Which → Look
+look_of a Full = a.full
+look_of a Empty = a.empty
+
+-- nothing was loaded
+abbrev pub blank : Look
+blank = record { head = None; link = None }
+
+-- an account with these units and nothing else
+abbrev pub part : ℕ → Account
+part units = record { share = units; held = []; charge = []; seen = []; finished = []; full = blank; empty = blank; open_push = false }
+
+-- what is left of an account that was put into another
+abbrev pub spent : Account
+spent = part 0
+
+-- a claim of the object o, whose mark was found so: o is seen, and where it was not marked the account answers for it
+abbrev pub after_claim : ℕ → ℕ → Account → Account
+after_claim o found a = record a { charge = if found == 0 then a.charge ++ o ∷ [] else a.charge; seen = a.seen ++ o ∷ [] }
+
+-- the object o leaves the charge and is finished
+abbrev pub after_finish : ℕ → Account → Account
+after_finish o a = record a { charge = remove_one o a.charge; finished = a.finished ++ o ∷ [] }
+
+-- units go to another account
+abbrev pub after_split : ℕ → Account → Account
+after_split units a = record a { share = a.share - units }
+
+-- two accounts put together: lists and shares are added, the first's last heads and links stay, and so does an open push of either
+abbrev pub after_join : Account → Account → Account
+after_join a b =
+    record {
+      share = a.share + b.share;
+      held = a.held ++ b.held;
+      charge = a.charge ++ b.charge;
+      seen = a.seen ++ b.seen;
+      finished = a.finished ++ b.finished;
+      full = a.full;
+      empty = a.empty;
+      open_push = a.open_push || b.open_push;
+    }
+
+-- the head of a stack was loaded: the link loaded before is forgotten, and a full head without a buffer ends an open push
+abbrev pub after_load : Which → Head → Account → Account
+after_load Full h a = record a { full = record { head = Some h; link = None }; open_push = a.open_push && is_some h.index }
+after_load Empty h a = record a { empty = record { head = Some h; link = None } }
+
+-- the link of the last head's buffer was loaded
+abbrev pub after_load_link : Which → Option ℕ → Account → Account
+after_load_link Full l a = record a { full = record { head = a.full.head; link = Some l } }
+after_load_link Empty l a = record a { empty = record { head = a.empty.head; link = Some l } }
+
+-- the buffer i was popped: it is held, and its items join the charge
+abbrev pub after_pop : ℕ → List ℕ → Account → Account
+after_pop i items a = record a { held = a.held ++ i ∷ []; charge = a.charge ++ items }
+
+-- the buffer i was pushed with these items: it is no longer held, and they leave the charge
+abbrev pub after_push : Which → ℕ → List ℕ → Account → Account
+after_push Full i items a = record a { held = remove_one i a.held; charge = without items a.charge; open_push = true }
+after_push Empty i items a = record a { held = remove_one i a.held; charge = without items a.charge }

@@ -1,0 +1,119 @@
+-- The events: when each is possible, and what it does. Each is one step on a shared word, but for split and join, which touch none.
+use Rattle.std.specs.Prelude.{◌≡◌, ◌≢◌, ◌⊎◌, ℕ, ◌<◌, ◌≤◌, max, List, [], ◌∷◌, ◌++◌, length, Option, Some, None, Contains, slice_set, slice_index_or}
+use Rattle.tagged_index.specs.Head.{Head, after, last_tag}
+use Rattle.mark_core.specs.declared.which.Which.{Which}
+use Rattle.mark_core.specs.declared.which.Which.TheVariants.{Empty}
+use Rattle.mark_core.specs.Lists.{IsPart}
+use Rattle.mark_core.specs.Account.{Account, Look, look_of, part, spent, after_claim, after_finish, after_split, after_join, after_load, after_load_link, after_pop, after_push}
+use Rattle.mark_core.specs.World.{Setup, Marking, items_of, account_at, IsThere, put, put_which}
+
+pub data Kind : Type 0 where
+  -- claim an object: a white one becomes claimed
+  Claim : ℕ → Kind
+  -- finish an object
+  Finish : ℕ → Kind
+  -- give these units to a new account
+  Split : ℕ → Kind
+  -- take in the account of this number
+  Join : ℕ → Kind
+  -- load the head of a stack
+  Load : Which → Kind
+  -- load the link of the buffer that the head loaded last names
+  LoadLink : Which → Kind
+  -- store this link at a buffer
+  StoreLink : ℕ → Option ℕ → Kind
+  -- exchange the head of a stack for the link of its first buffer
+  Pop : Which → Kind
+  -- exchange the head of a stack for this buffer, with these items
+  Push : Which → ℕ → List ℕ → Kind
+  -- an exchange of the head that found another one
+  Fail : Which → Kind
+
+-- what the account of a worker does
+pub record Event : Type 0 where
+  pub worker : ℕ
+  pub kind : Kind
+
+-- an account may claim a root, and a successor of an object that it answers for
+abbrev pub CanClaim : Setup → ℕ → Account → Type 0
+CanClaim e o a = Contains e.roots o ⊎ ((p : ℕ) × Contains a.charge p × Contains e.pairs (p, o))
+
+-- an account may finish an object that it answers for, once it saw each successor marked
+abbrev pub CanFinish : Setup → ℕ → Account → Type 0
+CanFinish e o a = Contains a.charge o × ((s : ℕ) → Contains e.pairs (o, s) → Contains a.seen s)
+
+-- an account may give away some of its units, but not all
+abbrev pub CanSplit : ℕ → Account → Type 0
+CanSplit units a = (0 < units) × (units < a.share)
+
+-- the head that was loaded last is the stack's, and its tag is not the last
+abbrev pub CanExchange : Head → Look → Type 0
+CanExchange now look = (look.head ≡ Some now) × (now.tag < last_tag)
+
+-- the head may be exchanged, it names a buffer, and the link of that buffer was loaded
+abbrev pub CanPop : Head → Look → Type 0
+CanPop now look = CanExchange now look × ((i : ℕ) × (now.index ≡ Some i)) × ((l : Option ℕ) × (look.link ≡ Some l))
+
+-- an account may push a buffer that it holds with items of its charge, at most as many as a buffer takes, and none on the empty stack
+abbrev pub CanGive : Setup → Which → ℕ → List ℕ → Account → Type 0
+CanGive e q i items a = Contains a.held i × IsPart items a.charge × (length items ≤ e.size) × (q ≡ Empty → items ≡ [])
+
+-- the account w, which is a, may do this
+abbrev pub Allows : Setup → Marking → ℕ → Account → Kind → Type 0
+Allows e m w a (Claim o) = CanClaim e o a
+Allows e m w a (Finish o) = CanFinish e o a
+Allows e m w a (Split units) = CanSplit units a
+Allows e m w a (Join v) = (v ≢ w) × ((b : Account) × IsThere m.accounts v b)
+Allows e m w a (Load q) = Unit {0}
+Allows e m w a (LoadLink q) = (h : Head) × (i : ℕ) × ((look_of a q).head ≡ Some h) × (h.index ≡ Some i)
+Allows e m w a (StoreLink i l) = Contains a.held i
+Allows e m w a (Pop q) = CanPop (m.head q) (look_of a q)
+Allows e m w a (Push q i items) = CanExchange (m.head q) (look_of a q) × CanGive e q i items a × (m.link i ≡ (m.head q).index)
+Allows e m w a (Fail q) = (h : Head) × ((look_of a q).head ≡ Some h) × (m.head q ≢ h)
+
+-- the link that a head leads to
+abbrev pub link_from : (ℕ → Option ℕ) → Option ℕ → Option ℕ
+link_from link None = None
+link_from link (Some i) = link i
+
+-- the link of the buffer that the head loaded last names
+abbrev pub last_link : (ℕ → Option ℕ) → Option Head → Option ℕ
+last_link link None = None
+last_link link (Some h) = link_from link h.index
+
+-- the first buffer i of a stack, whose link was loaded as l, goes to the account
+abbrev pub popped : Marking → ℕ → Account → Which → Option ℕ → Option (Option ℕ) → Marking
+popped m w a q (Some i) (Some l) =
+    record m {
+      head = put_which q (after (m.head q) l) m.head;
+      slots = slice_set m.slots i None;
+      accounts = slice_set m.accounts w (after_pop i (items_of (slice_index_or m.slots i None)) a);
+    }
+popped m w a q None l = m
+popped m w a q (Some i) None = m
+
+-- the marking after the account w, which is a, did this
+abbrev pub effect : Marking → ℕ → Account → Kind → Marking
+effect m w a (Claim o) = record m { mark = put o (max 1 (m.mark o)) m.mark; accounts = slice_set m.accounts w (after_claim o (m.mark o) a) }
+effect m w a (Finish o) = record m { mark = put o 2 m.mark; accounts = slice_set m.accounts w (after_finish o a) }
+effect m w a (Split units) = record m { accounts = slice_set m.accounts w (after_split units a) ++ part units ∷ [] }
+effect m w a (Join v) = record m { accounts = slice_set (slice_set m.accounts w (after_join a (account_at m.accounts v))) v spent }
+effect m w a (Load q) = record m { accounts = slice_set m.accounts w (after_load q (m.head q) a) }
+effect m w a (LoadLink q) = record m { accounts = slice_set m.accounts w (after_load_link q (last_link m.link (look_of a q).head) a) }
+effect m w a (StoreLink i l) = record m { link = put i l m.link }
+effect m w a (Pop q) = popped m w a q (m.head q).index (look_of a q).link
+effect m w a (Push q i items) =
+    record m {
+      head = put_which q (after (m.head q) (Some i)) m.head;
+      slots = slice_set m.slots i (Some items);
+      accounts = slice_set m.accounts w (after_push q i items a);
+    }
+effect m w a (Fail q) = m
+
+-- an event is possible where its account is there and may do it
+abbrev pub IsPossible : Setup → Marking → Event → Type 0
+IsPossible e m event = (a : Account) × IsThere m.accounts event.worker a × Allows e m event.worker a event.kind
+
+-- the marking after an event
+abbrev pub happens : Marking → Event → Marking
+happens m event = effect m event.worker (account_at m.accounts event.worker) event.kind

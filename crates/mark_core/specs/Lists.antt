@@ -1,0 +1,35 @@
+-- Lists by place, and lists of numbers taken without order, each number as often as it stands there.
+use Rattle.std.specs.Prelude.{◌≡◌, ℕ, ◌+◌, ◌≤◌, ◌==◌, if◌then◌else◌, List, [], ◌∷◌}
+use mathlib.Core.Option.{some}
+use lib.ListN.{get_elem?}
+
+-- x stands in the list at this place
+abbrev pub StandsAt : {X : Type 0} → List X → ℕ → X → Type 0
+StandsAt xs i x = get_elem? xs i ≡ some x
+
+-- the sum over the list of what each element counts for
+abbrev pub total : {X : Type 0} → (X → ℕ) → List X → ℕ
+total f [] = 0
+total f (x ∷ xs) = f x + total f xs
+
+-- the weight that counts x as 1 and each other number as 0
+abbrev pub only : ℕ → ℕ → ℕ
+only x y = if y == x then 1 else 0
+
+-- how often x stands in the list
+abbrev pub times : ℕ → List ℕ → ℕ
+times x xs = total (only x) xs
+
+-- the list with the first x taken out
+abbrev pub remove_one : ℕ → List ℕ → List ℕ
+remove_one x [] = []
+remove_one x (y ∷ ys) = if y == x then ys else y ∷ remove_one x ys
+
+-- the second list with each number of the first taken out once
+abbrev pub without : List ℕ → List ℕ → List ℕ
+without [] ys = ys
+without (x ∷ xs) ys = without xs (remove_one x ys)
+
+-- the second list has each number at least as often as the first
+abbrev pub IsPart : List ℕ → List ℕ → Type 0
+IsPart xs ys = (x : ℕ) → times x xs ≤ times x ys

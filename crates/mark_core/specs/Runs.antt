@@ -1,0 +1,107 @@
+-- How a marking begins, and what holds of every run.
+use Rattle.std.specs.Prelude.{◌≡◌, ◌≢◌, ◌⊎◌, ◌↔◌, ℕ, ◌+◌, ◌<◌, ◌≤◌, nat_lt, if◌then◌else◌, false, List, [], ◌∷◌, replicate, Option, Some, None, Contains}
+use Rattle.tagged_index.specs.Head.{Head}
+use Rattle.mark_core.specs.declared.which.Which.{Which}
+use Rattle.mark_core.specs.declared.which.Which.TheVariants.{Full, Empty}
+use Rattle.mark_core.specs.Lists.{StandsAt, times}
+use Rattle.mark_core.specs.Account.{Account, part}
+use Rattle.mark_core.specs.World.{Setup, Marking}
+use Rattle.mark_core.specs.Event.{Kind, Pop, Push, Event, IsPossible, happens}
+use Rattle.mark_core.specs.Ownership.{Chain}
+use Rattle.mark_core.specs.Shares.{whole, HasNothing}
+use Rattle.mark_core.specs.Law.{Law}
+
+-- at first the full stack has no buffer, and the empty one has 0 on top
+abbrev pub first_heads : ℕ → Which → Head
+first_heads tag Full = record { index = None; tag = tag }
+first_heads tag Empty = record { index = Some 0; tag = tag }
+
+-- at first the link of each buffer is the next number, while there is one
+abbrev pub first_link : ℕ → ℕ → Option ℕ
+first_link buffers i = if nat_lt (i + 1) buffers then Some (i + 1) else None
+
+-- all objects are white, all buffers are on the empty stack, and one account has the whole share and nothing else
+abbrev pub opening : Setup → ℕ → Marking
+opening e tag = record { head = first_heads tag; link = first_link e.buffers; mark = λ o. 0; slots = replicate e.buffers (Some []); accounts = part whole ∷ [] }
+
+-- this is an opening marking, and there is a buffer
+abbrev pub IsOpening : Setup → Marking → Type 0
+IsOpening e m = (tag : ℕ) × (0 < e.buffers) × (m ≡ opening e tag)
+
+-- these events may happen in this order from the first marking on, and lead to the last
+abbrev pub Run : Setup → Marking → List Event → Marking → Type 0
+Run e first [] last = last ≡ first
+Run e first (event ∷ events) last = IsPossible e first event × Run e (happens first event) events last
+
+-- a run from an opening marking leads here
+abbrev pub IsRun : Setup → Marking → Type 0
+IsRun e last = (first : Marking) × (events : List Event) × IsOpening e first × Run e first events last
+
+-- after every list of events the law holds
+abbrev pub RunsKeepLaw : Type 0
+RunsKeepLaw = (e : Setup) (m : Marking) → IsRun e m → Law e m
+
+-- the buffers of a stack are these, the first on top
+abbrev pub IsListOf : Marking → Which → List ℕ → Type 0
+IsListOf m q list = Chain m.link (m.head q).index list
+
+-- what an event leaves of the list of a stack: a pop from it takes the first buffer off, a push puts one before it, and nothing else changes it
+abbrev pub Changes : Which → Kind → List ℕ → List ℕ → Type 0
+Changes q (Pop p) old new = (p ≡ q → (i : ℕ) × (old ≡ i ∷ new)) × (p ≢ q → new ≡ old)
+Changes q (Push p i items) old new = (p ≡ q → new ≡ i ∷ old) × (p ≢ q → new ≡ old)
+Changes q kind old new = new ≡ old
+
+-- in every run each event changes the stacks as one thread would
+abbrev pub StacksChange : Type 0
+StacksChange =
+    (e : Setup) (m : Marking) (event : Event) → IsRun e m → IsPossible e m event
+    → (q : Which) (old new : List ℕ) → IsListOf m q old → IsListOf (happens m event) q new → Changes q event.kind old new
+
+-- a head stays as it is, or its tag rises by one
+abbrev pub TagsRise : Type 0
+TagsRise = (m : Marking) (event : Event) (q : Which) → ((happens m event).head q ≡ m.head q) ⊎ (((happens m event).head q).tag ≡ (m.head q).tag + 1)
+
+-- it holds no buffer twice, and no object is twice in its charge and its finished list taken together
+pub record HasEachOnce (a : Account) : Type 0 where
+  pub held : (i : ℕ) → times i a.held ≤ 1
+  pub objects : (o : ℕ) → times o a.charge + times o a.finished ≤ 1
+
+-- in every run each account has a buffer or an object at most once
+abbrev pub AccountsHaveEachOnce : Type 0
+AccountsHaveEachOnce = (e : Setup) (m : Marking) → IsRun e m → (w : ℕ) (a : Account) → StandsAt m.accounts w a → HasEachOnce a
+
+-- no buffer is held by both, and no object stands in the charge or the finished list of both
+pub record AreApart (a b : Account) : Type 0 where
+  pub held : (i : ℕ) → times i a.held + times i b.held ≤ 1
+  pub objects : (o : ℕ) → (times o a.charge + times o a.finished) + (times o b.charge + times o b.finished) ≤ 1
+
+-- in every run two accounts, as those that meet in a join, have nothing in common
+abbrev pub AccountsAreApart : Type 0
+AccountsAreApart =
+    (e : Setup) (m : Marking) → IsRun e m
+    → (w v : ℕ) (a b : Account) → v ≢ w → StandsAt m.accounts w a → StandsAt m.accounts v b → AreApart a b
+
+-- the object is an item of a buffer of the list
+abbrev pub LiesIn : Marking → List ℕ → ℕ → Type 0
+LiesIn m list o = (b : ℕ) × (items : List ℕ) × Contains list b × StandsAt m.slots b (Some items) × Contains items o
+
+-- what the account w, which is a, has at the close
+pub record IsClosed (e : Setup) (m : Marking) (w : ℕ) (a : Account) : Type 0 where
+  -- the finished objects are its own, each once
+  pub finished : (o : ℕ) → (m.mark o ≡ 2) ↔ Contains a.finished o
+  pub once : (o : ℕ) → times o a.finished ≤ 1
+  -- the claimed objects are the items on the full stack, each once
+  pub claimed : (full : List ℕ) → IsListOf m Full full → (o : ℕ) → (m.mark o ≡ 1) ↔ LiesIn m full o
+  -- with no open push the full stack has no buffer
+  pub emptied : a.open_push ≡ false → (full : List ℕ) → IsListOf m Full full → full ≡ []
+  -- each buffer that it does not hold is on one of the stacks
+  pub buffers :
+      (full empty : List ℕ) → IsListOf m Full full → IsListOf m Empty empty
+      → (b : ℕ) → times b full + times b empty + times b a.held ≡ (if nat_lt b e.buffers then 1 else 0)
+  pub others : (v : ℕ) (b : Account) → v ≢ w → StandsAt m.accounts v b → HasNothing b
+
+-- in every run, where one account has the whole share and answers for nothing, the marks are told by its finished list and the full stack
+abbrev pub ClosedIsTold : Type 0
+ClosedIsTold =
+    (e : Setup) (m : Marking) → IsRun e m
+    → (w : ℕ) (a : Account) → StandsAt m.accounts w a → a.share ≡ whole → a.charge ≡ [] → IsClosed e m w a

@@ -1,0 +1,38 @@
+//! Events, as a caller of `step` gives them.
+
+use crate::which::Which;
+use std::alloc::{Allocator, Global};
+
+/// What the account of a worker does.
+#[derive(Debug, Drop)]
+pub enum Kind<A: Allocator = Global> {
+    /// Claims an object: a root, or a successor of an object in the account's charge.
+    Claim(u32),
+    /// Finishes an object of the account's charge, each successor of which it saw marked.
+    Finish(u32),
+    /// Gives this many units, at least one and not all, to a new account.
+    Split(u32),
+    /// Takes in the account of this number.
+    Join(u32),
+    /// Loads the head of a stack.
+    Load(Which),
+    /// Loads the link of the buffer that the head loaded last names.
+    LoadLink(Which),
+    /// Stores a link at a buffer that the account holds: the number of the next buffer, if any.
+    StoreLink(u32, Option<u32>),
+    /// Exchanges the head of a stack for the link of its first buffer, which goes to the account with its items.
+    Pop(Which),
+    /// Exchanges the head of a stack for a buffer that the account holds, with items of its charge.
+    Push(Which, u32, Vec<u32, A>),
+    /// Tries an exchange of the head of a stack, and finds another head than the one loaded last.
+    Fail(Which),
+}
+
+/// One step of one worker.
+#[derive(Debug, Drop)]
+pub struct Event<A: Allocator = Global> {
+    /// The number of its account.
+    pub worker: u32,
+    /// What it does.
+    pub kind: Kind<A>,
+}
