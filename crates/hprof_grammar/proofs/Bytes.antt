@@ -1,0 +1,107 @@
+-- Lists of bytes, and the bytes of a number of any width.
+use Rattle.std.proofs.Common.{◌*◌, ◌+◌, ◌++◌, ◌/◌, ◌<◌, ◌^◌, ◌∙◌, ◌∷◌, ◌≡◌, ◌≤◌, List, [], ap, arith, drop, length, refl, slice_index, suc, sym, take, zero, ℕ}
+use Rattle.std.proofs.lemmas.List.{append-nil, get_or-append-add, get_or-drop, length-append, length-drop, length-take-le, take-append-drop}
+use Rattle.std.proofs.Math.Seq.{drop-append_seam, take-append_seam}
+use Rattle.std.proofs.Math.Arith.{digits_div}
+use Rattle.std.specs.Int.{byte_at}
+use Rattle.byteorder.specs.Endian.{big_bytes, big_number}
+use Rattle.byteorder.specs.Numbers.{big_from-cons, big_from-lt, big_from-take, big_number-reads_back, length-bytes_high_first}
+
+-- each of these numbers is a byte
+abbrev pub IsBytes : List ℕ → Type 0
+IsBytes bytes = (k : ℕ) → slice_index bytes k < 256
+
+pub bytes-tail : (a : ℕ) (bytes : List ℕ) → IsBytes (a ∷ bytes) → IsBytes bytes
+bytes-tail a bytes h k = h (suc k)
+
+pub bytes-drop : (n : ℕ) (bytes : List ℕ) → IsBytes bytes → IsBytes (drop n bytes)
+bytes-drop n bytes h k = rw (get_or-drop n bytes k 0) (h (n + k))
+
+pub bytes-behind : (front back : List ℕ) → IsBytes (front ++ back) → IsBytes back
+bytes-behind front back h k = rw get_or-append-add at (h (length front + k))
+
+bytes-take : (n : ℕ) (bytes : List ℕ) → IsBytes bytes → IsBytes (take n bytes)
+bytes-take zero bytes h k = omega arith
+bytes-take (suc n) [] h k = omega arith
+bytes-take (suc n) (b ∷ bytes) h zero = h 0
+bytes-take (suc n) (b ∷ bytes) h (suc k) = bytes-take n bytes (bytes-tail b bytes h) k
+
+-- the bytes of a number are bytes
+byte_at-lt : (i x : ℕ) → byte_at i x < 256
+byte_at-lt zero x = omega arith
+byte_at-lt (suc i) x = omega arith
+
+big_bytes-bytes : (n x : ℕ) → IsBytes (big_bytes n x)
+big_bytes-bytes zero x k = omega arith
+big_bytes-bytes (suc n) x zero = byte_at-lt n x
+big_bytes-bytes (suc n) x (suc k) = big_bytes-bytes n x k
+
+-- a multiple of c and a number below c are known from their sum
+same_digits : (a b c r s : ℕ) → r < c → s < c → a * c + r ≡ b * c + s → (a ≡ b) × (r ≡ s)
+same_digits a b c r s h k e =
+    let top : a ≡ b = sym (digits_div a h) ∙ ap (λ (x : ℕ). x / c) e ∙ digits_div b k in
+    let low : b * c + r ≡ b * c + s = rw top at e in
+    (top, omega arith)
+
+number-cons : (n a : ℕ) (bytes : List ℕ) → big_number (suc n) (a ∷ bytes) ≡ a * 256 ^ n + big_number n bytes
+number-cons n a bytes = ap (λ (r : ℕ). a * 256 ^ n + r) (big_from-cons 0 n a bytes)
+
+-- n bytes are known from the number that they make
+pub same_bytes : (n : ℕ) (xs ys : List ℕ) → IsBytes xs → IsBytes ys → length xs ≡ n → length ys ≡ n → big_number n xs ≡ big_number n ys → xs ≡ ys
+same_bytes zero [] [] h k p q e = refl
+same_bytes zero [] (y ∷ ys) h k p q e = absurd (omega arith)
+same_bytes zero (x ∷ xs) ys h k p q e = absurd (omega arith)
+same_bytes (suc n) [] ys h k p q e = absurd (omega arith)
+same_bytes (suc n) (x ∷ xs) [] h k p q e = absurd (omega arith)
+same_bytes (suc n) (x ∷ xs) (y ∷ ys) h k p q e =
+    let low = bytes-tail x xs h in
+    let low_too = bytes-tail y ys k in
+    let d = same_digits x y (256 ^ n) (big_number n xs) (big_number n ys) (big_from-lt 0 n xs low) (big_from-lt 0 n ys low_too) (sym (number-cons n x xs) ∙ e ∙ number-cons n y ys) in
+    rw (d.0, same_bytes n xs ys low low_too (omega arith) (omega arith) d.1) refl
+
+pub length-big_bytes : (n x : ℕ) → length (big_bytes n x) ≡ n
+length-big_bytes n x = length-bytes_high_first n x
+
+-- n bytes make a number below 256 ^ n
+pub number-lt : (n : ℕ) (bytes : List ℕ) → IsBytes bytes → big_number n bytes < 256 ^ n
+number-lt n bytes h = big_from-lt 0 n bytes h
+
+-- the bytes of the number in the first n bytes are those bytes
+pub bytes_of_number : (n : ℕ) (bytes : List ℕ) → IsBytes bytes → n ≤ length bytes → big_bytes n (big_number n bytes) ≡ take n bytes
+bytes_of_number n bytes h fits =
+    let value = big_number n bytes in
+    let read : big_number n (big_bytes n value) ≡ value = ap (big_number n) (sym (append-nil (big_bytes n value))) ∙ big_number-reads_back n value [] (number-lt n bytes h) in
+    same_bytes n (big_bytes n value) (take n bytes) (big_bytes-bytes n value) (bytes-take n bytes h) (length-big_bytes n value) (length-take-le n bytes fits)
+    (read ∙ sym (big_from-take 0 n n bytes (omega arith)))
+
+pub number_parts : (n : ℕ) (bytes : List ℕ) → IsBytes bytes → n ≤ length bytes → bytes ≡ big_bytes n (big_number n bytes) ++ drop n bytes
+number_parts n bytes h fits = rw (bytes_of_number n bytes h fits) (sym (take-append-drop n bytes))
+
+-- a number that is spelled is read
+pub number_read : (n x : ℕ) (rest : List ℕ) → x < 256 ^ n → big_number n (big_bytes n x ++ rest) ≡ x
+number_read n x rest h = big_number-reads_back n x rest h
+
+-- what stands behind n bytes
+pub behind_bytes : (n : ℕ) (front rest : List ℕ) → length front ≡ n → drop n (front ++ rest) ≡ rest
+behind_bytes n front rest e = rw (← e) (drop-append_seam front rest)
+
+pub first_bytes : (n : ℕ) (front rest : List ℕ) → length front ≡ n → take n (front ++ rest) ≡ front
+first_bytes n front rest e = rw (← e) (take-append_seam front rest)
+
+pub behind_number : (n x : ℕ) (rest : List ℕ) → drop n (big_bytes n x ++ rest) ≡ rest
+behind_number n x rest = behind_bytes n (big_bytes n x) rest (length-big_bytes n x)
+
+-- two spellings of numbers of n bytes that begin one text
+pub same_number : (n x y : ℕ) (rest more : List ℕ) → x < 256 ^ n → y < 256 ^ n → big_bytes n x ++ rest ≡ big_bytes n y ++ more → (x ≡ y) × (rest ≡ more)
+same_number n x y rest more h k e =
+    (sym (number_read n x rest h) ∙ ap (big_number n) e ∙ number_read n y more k, sym (behind_number n x rest) ∙ ap (drop n) e ∙ behind_number n y more)
+
+-- the same where only the texts of the numbers are asked for
+pub same_front : (n : ℕ) (xs ys rest more : List ℕ) → length xs ≡ n → length ys ≡ n → xs ++ rest ≡ ys ++ more → (xs ≡ ys) × (rest ≡ more)
+same_front n xs ys rest more h k e =
+    (sym (first_bytes n xs rest h) ∙ ap (take n) e ∙ first_bytes n ys more k, sym (behind_bytes n xs rest h) ∙ ap (drop n) e ∙ behind_bytes n ys more k)
+
+-- a number that stands at a place has room there, and is read there
+pub number_at_place : (bytes : List ℕ) (at n x : ℕ) (rest : List ℕ) → drop at bytes ≡ big_bytes n x ++ rest → 1 ≤ n → x < 256 ^ n → (at + n ≤ length bytes) × (big_number n (drop at bytes) ≡ x)
+number_at_place bytes at n x rest e some h =
+    (omega (arith, ap length e, length-drop at bytes, length-append (big_bytes n x) rest, length-big_bytes n x), ap (big_number n) e ∙ number_read n x rest h)
