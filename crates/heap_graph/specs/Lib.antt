@@ -1,0 +1,14 @@
+pub mod Heap
+pub mod Layout
+pub mod SuperRule
+pub mod References
+pub mod Roots
+pub mod Rows
+pub mod Names
+pub mod Linked
+pub mod LinkFault
+pub mod ObjectGraph
+pub mod Reachable
+pub mod Histogram
+pub mod Line
+pub mod Report

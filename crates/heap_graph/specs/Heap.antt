@@ -1,0 +1,49 @@
+-- The heap list of a dump, its objects, and what an identifier names.
+use Rattle.std.specs.Prelude.{List, None, Option, Some, filter, filter_map, flat_map, if◌then◌else◌, option_and_then, position, slice_get, ℕ, ◌==◌}
+use Rattle.std.specs.List.{position_or_len}
+use Rattle.hprof_grammar.specs.Record.{Record, subs_of}
+use Rattle.hprof_grammar.specs.Dump.{is_object}
+use Rattle.hprof_grammar.specs.SubRecord.{Class, SubRecord}
+use Rattle.hprof_grammar.specs.SubRecord.SubRecord.{class_dump, instance_dump, object_array_dump, primitive_array_dump, root}
+
+-- the heap list: all sub-records of the heap records, in order
+abbrev pub heap_of : List Record → List SubRecord
+heap_of records = flat_map subs_of records
+
+-- The sub-records that describe objects, in order. An object's number is its place here.
+abbrev pub objects : List SubRecord → List SubRecord
+objects heap = filter is_object heap
+
+-- the identifier of the object that a sub-record describes, or that a root names
+abbrev pub id_of : SubRecord → ℕ
+id_of (root r) = r.object
+id_of (class_dump c) = c.object
+id_of (instance_dump i) = i.object
+id_of (object_array_dump a) = a.object
+id_of (primitive_array_dump a) = a.object
+
+-- An identifier names the first object that bears it, whatever its kind: the number of that object.
+abbrev pub number_named : List SubRecord → ℕ → Option ℕ
+number_named heap id = position (λ o. id_of o == id) (objects heap)
+
+abbrev pub object_named : List SubRecord → ℕ → Option SubRecord
+object_named heap id = option_and_then (λ n. slice_get (objects heap) n) (number_named heap id)
+
+abbrev pub as_class : SubRecord → Option Class
+as_class (root r) = None
+as_class (class_dump c) = Some c
+as_class (instance_dump i) = None
+as_class (object_array_dump a) = None
+as_class (primitive_array_dump a) = None
+
+-- The class that an identifier names: it names an object, and that is a class dump. Identifier 0 names none.
+abbrev pub class_named : List SubRecord → ℕ → Option Class
+class_named heap id = if id == 0 then None else option_and_then as_class (object_named heap id)
+
+-- The class dumps in their order. A class's number is its place here.
+abbrev pub class_dumps : List SubRecord → List Class
+class_dumps heap = filter_map as_class heap
+
+-- the number of the class of that identifier
+abbrev pub class_number : List SubRecord → ℕ → ℕ
+class_number heap id = position_or_len (λ c. c.object == id) (class_dumps heap)

@@ -1,0 +1,33 @@
+-- The superclasses of a class, and the layout of its instances.
+use Rattle.std.specs.Prelude.{List, Some, [], drop, flat_map, if◌then◌else◌, length, sum_by, take, ℕ, ◌++◌, ◌==◌, ◌∷◌, ◌≡◌}
+use Rattle.byteorder.specs.Endian.{big_number}
+use Rattle.heap_graph.specs.Heap.{class_named}
+use Rattle.hprof_grammar.specs.Tables.{size_of}
+use Rattle.hprof_grammar.specs.SubRecord.{Class, Member, SubRecord}
+
+-- these are the class of that identifier, its superclass, and so on up
+abbrev pub IsLine : List SubRecord → ℕ → List Class → Type 0
+IsLine heap id [] = Unit {0}
+IsLine heap id (c ∷ cs) = (class_named heap id ≡ Some c) × IsLine heap c.super cs
+
+-- and the last of them has no superclass
+abbrev pub IsChain : List SubRecord → ℕ → List Class → Type 0
+IsChain heap id [] = id ≡ 0
+IsChain heap id (c ∷ cs) = (class_named heap id ≡ Some c) × IsChain heap c.super cs
+
+-- following superclasses never ends
+abbrev pub NeverEnds : List SubRecord → ℕ → Type 0
+NeverEnds heap id = (n : ℕ) → (classes : List Class) × (length classes ≡ n) × IsLine heap id classes
+
+-- A class's own instance fields in their order, then its superclass's layout.
+abbrev pub layout : List Class → List Member
+layout chain = flat_map (λ c. c.members) chain
+
+abbrev pub layout_size : ℕ → List Class → ℕ
+layout_size s chain = sum_by (λ m. size_of s m.type) (layout chain)
+
+-- The identifiers in the fields of type 2. A field's place is the sum of the sizes before it.
+abbrev pub field_ids : ℕ → List Member → List ℕ → List ℕ
+field_ids s [] values = []
+field_ids s (m ∷ ms) values =
+    (if m.type == 2 then big_number s (take s values) ∷ [] else []) ++ field_ids s ms (drop (size_of s m.type) values)

@@ -1,0 +1,60 @@
+-- When a heap list is linked.
+use Rattle.std.specs.Prelude.{Contains, List, None, Some, length, map, slice_get, take, ℕ, ◌≡◌, ◌≢◌, ◌≤◌}
+use Rattle.heap_graph.specs.SuperRule.{IsBadSuper, IsMeasured}
+use Rattle.heap_graph.specs.Layout.{IsChain, layout_size}
+use Rattle.heap_graph.specs.Heap.{class_named, heap_of, id_of, objects}
+use Rattle.hprof_grammar.specs.Record.{IsOrderly, Record, tag_of}
+use Rattle.hprof_grammar.specs.Dump.{Spells}
+use Rattle.hprof_grammar.specs.SubRecord.{Class, SubRecord}
+use Rattle.hprof_grammar.specs.SubRecord.SubRecord.{class_dump, instance_dump, object_array_dump, primitive_array_dump, root}
+use Rattle.heap_graph.specs.declared.rule.LinkRule.{LinkRule}
+use Rattle.heap_graph.specs.declared.rule.LinkRule.TheVariants.{DuplicateObject, InstanceSize, SuperChain, TooLarge, UnknownClass, ZeroObject}
+
+abbrev pub most_objects : ℕ
+most_objects = 16777216
+
+-- an instance or object array whose class is not there
+abbrev pub LacksClass : List SubRecord → SubRecord → Type 0
+LacksClass heap (root r) = ⊥
+LacksClass heap (class_dump c) = ⊥
+LacksClass heap (instance_dump i) = class_named heap i.class ≡ None
+LacksClass heap (object_array_dump a) = class_named heap a.class ≡ None
+LacksClass heap (primitive_array_dump a) = ⊥
+
+-- a class whose superclass is not there, or whose superclasses never end
+abbrev pub HasBadChain : List SubRecord → SubRecord → Type 0
+HasBadChain heap (root r) = ⊥
+HasBadChain heap (class_dump c) = IsBadSuper heap c.super
+HasBadChain heap (instance_dump i) = ⊥
+HasBadChain heap (object_array_dump a) = ⊥
+HasBadChain heap (primitive_array_dump a) = ⊥
+
+-- an instance with more or fewer value bytes than its layout
+abbrev pub HasWrongSize : ℕ → List SubRecord → SubRecord → Type 0
+HasWrongSize s heap (root r) = ⊥
+HasWrongSize s heap (class_dump c) = ⊥
+HasWrongSize s heap (instance_dump i) = (chain : List Class) × IsChain heap i.class chain × IsMeasured chain × (length i.values ≢ layout_size s chain)
+HasWrongSize s heap (object_array_dump a) = ⊥
+HasWrongSize s heap (primitive_array_dump a) = ⊥
+
+-- Object number n of the heap list breaks a rule.
+abbrev pub Breaks : ℕ → List SubRecord → ℕ → SubRecord → LinkRule → Type 0
+Breaks s heap n o ZeroObject = id_of o ≡ 0
+Breaks s heap n o DuplicateObject = Contains (take n (map id_of (objects heap))) (id_of o)
+Breaks s heap n o UnknownClass = LacksClass heap o
+Breaks s heap n o SuperChain = HasBadChain heap o
+Breaks s heap n o InstanceSize = HasWrongSize s heap o
+Breaks s heap n o TooLarge = most_objects ≤ n
+
+abbrev pub Fails : ℕ → List SubRecord → ℕ → LinkRule → Type 0
+Fails s heap n rule = (o : SubRecord) × (slice_get (objects heap) n ≡ Some o) × Breaks s heap n o rule
+
+-- A heap list is linked where no object breaks a rule.
+abbrev pub IsLinked : ℕ → List SubRecord → Type 0
+IsLinked s heap = (n : ℕ) (rule : LinkRule) → Fails s heap n rule → ⊥
+
+-- A text is accepted where it spells a dump with an orderly list of records and a linked heap list.
+pub record IsAccepted (text : List ℕ) (s : ℕ) (records : List Record) : Type 0 where
+  pub spells : Spells text s records
+  pub orderly : IsOrderly (map tag_of records)
+  pub linked : IsLinked s (heap_of records)

@@ -1,0 +1,61 @@
+-- The graph of a heap list: what is left of a dump when its objects are numbers.
+use Rattle.std.specs.Prelude.{List, Option, [], count_by, length, map, slice_index_or, ℕ, ◌++◌, ◌≡◌}
+use Rattle.std.specs.List.{concat}
+use Rattle.heap_graph.specs.Names.{class_text}
+use Rattle.heap_graph.specs.Roots.{root_ids, root_objects}
+use Rattle.heap_graph.specs.Heap.{class_dumps, heap_of, objects}
+use Rattle.heap_graph.specs.Linked.{IsAccepted}
+use Rattle.heap_graph.specs.References.{AreIdLists, is_unresolved, targets}
+use Rattle.heap_graph.specs.Rows.{bytes_of, row_of}
+use Rattle.hprof_grammar.specs.Record.{Record}
+use Rattle.hprof_grammar.specs.SubRecord.{SubRecord}
+use Rattle.heap_graph.specs.declared.row.RowKey.{RowKey}
+
+-- a class, and the text that names it
+pub record NamedClass : Type 0 where
+  pub id : ℕ
+  pub text : Option (List ℕ)
+
+pub record ObjectGraph : Type 0 where
+  -- of each object: the objects that it refers to, in order, repeats kept
+  pub references : List (List ℕ)
+  -- the objects that are roots, in order, repeats kept
+  pub roots : List ℕ
+  -- of each object: its row and its bytes
+  pub rows : List RowKey
+  pub bytes : List ℕ
+  -- the classes by their numbers
+  pub classes : List NamedClass
+  -- how many identifiers other than 0, in objects and in roots, name no object
+  pub unresolved : ℕ
+
+abbrev pub object_count : ObjectGraph → ℕ
+object_count g = length g.references
+
+abbrev pub references_of : ObjectGraph → ℕ → List ℕ
+references_of g o = slice_index_or g.references o []
+
+abbrev pub named_classes : List Record → List NamedClass
+named_classes records = map (λ c. record { id = c.object; text = class_text records c.object }) (class_dumps (heap_of records))
+
+-- each occurrence counts, in objects that are reachable or not, and in roots
+abbrev pub unresolved_in : List SubRecord → List (List ℕ) → ℕ
+unresolved_in heap lists = count_by (is_unresolved heap) (concat lists ++ root_ids heap)
+
+-- This is the graph of the heap list of these records.
+pub record IsGraphOf (s : ℕ) (records : List Record) (g : ObjectGraph) : Type 0 where
+  pub id_lists : List (List ℕ)
+  pub id_lists_are : AreIdLists s (heap_of records) id_lists
+  pub references_are : g.references ≡ map (targets (heap_of records)) id_lists
+  pub roots_are : g.roots ≡ root_objects (heap_of records)
+  pub rows_are : g.rows ≡ map (row_of (heap_of records)) (objects (heap_of records))
+  pub bytes_are : g.bytes ≡ map (bytes_of s) (objects (heap_of records))
+  pub classes_are : g.classes ≡ named_classes records
+  pub unresolved_is : g.unresolved ≡ unresolved_in (heap_of records) id_lists
+
+-- The text is accepted, and this is the graph of the dump that it spells.
+pub record IsGraphOfText (text : List ℕ) (g : ObjectGraph) : Type 0 where
+  pub id_size : ℕ
+  pub records : List Record
+  pub accepted : IsAccepted text id_size records
+  pub graph : IsGraphOf id_size records g

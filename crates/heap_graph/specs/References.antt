@@ -1,0 +1,49 @@
+-- The identifiers that an object holds, and the references that they are.
+use Rattle.std.specs.Prelude.{Bool, List, None, Option, Some, [], false, filter, filter_map, if◌then◌else◌, is_none, length, map, slice_get, ℕ, ◌++◌, ◌==◌, ◌∷◌, ◌≡◌}
+use Rattle.byteorder.specs.Endian.{big_number}
+use Rattle.heap_graph.specs.Layout.{IsChain, field_ids, layout}
+use Rattle.heap_graph.specs.Heap.{number_named, objects}
+use Rattle.hprof_grammar.specs.SubRecord.{Class, Constant, Instance, Static, SubRecord}
+use Rattle.hprof_grammar.specs.SubRecord.SubRecord.{class_dump, instance_dump, object_array_dump, primitive_array_dump, root}
+
+-- the values of type 2 among the constant pool entries, and among the static fields
+abbrev pub constant_ids : ℕ → List Constant → List ℕ
+constant_ids s constants = map (λ c. big_number s c.value) (filter (λ c. c.type == 2) constants)
+
+abbrev pub static_ids : ℕ → List Static → List ℕ
+static_ids s statics = map (λ f. big_number s f.value) (filter (λ f. f.type == 2) statics)
+
+-- Superclass, loader, signers and protection domain, then the constant pool, then the static fields. The two reserved
+-- identifiers are not followed.
+abbrev pub class_ids : ℕ → Class → List ℕ
+class_ids s c = c.super ∷ c.loader ∷ c.signers ∷ c.domain ∷ constant_ids s c.constants ++ static_ids s c.statics
+
+-- The class, then the fields of type 2 in the order of the layout.
+abbrev pub instance_ids : ℕ → Instance → List Class → List ℕ
+instance_ids s i chain = i.class ∷ field_ids s (layout chain) i.values
+
+-- The identifiers that an object holds, in order: an object array refers to its array class and then to its elements, a
+-- primitive array to nothing.
+abbrev pub AreIdsIn : ℕ → List SubRecord → SubRecord → List ℕ → Type 0
+AreIdsIn s heap (root r) ids = ids ≡ []
+AreIdsIn s heap (class_dump c) ids = ids ≡ class_ids s c
+AreIdsIn s heap (instance_dump i) ids = (chain : List Class) × IsChain heap i.class chain × (ids ≡ instance_ids s i chain)
+AreIdsIn s heap (object_array_dump a) ids = ids ≡ a.class ∷ a.elements
+AreIdsIn s heap (primitive_array_dump a) ids = ids ≡ []
+
+-- a list of identifiers for each object
+pub record AreIdLists (s : ℕ) (heap : List SubRecord) (lists : List (List ℕ)) : Type 0 where
+  pub one_each : length lists ≡ length (objects heap)
+  pub each : (n : ℕ) (o : SubRecord) (ids : List ℕ) → slice_get (objects heap) n ≡ Some o → slice_get lists n ≡ Some ids → AreIdsIn s heap o ids
+
+-- 0 is null, and what names no object is not followed
+abbrev pub target_of : List SubRecord → ℕ → Option ℕ
+target_of heap id = if id == 0 then None else number_named heap id
+
+-- the objects that these identifiers name, in order, repeats kept
+abbrev pub targets : List SubRecord → List ℕ → List ℕ
+targets heap ids = filter_map (target_of heap) ids
+
+-- an identifier other than 0 that names no object
+abbrev pub is_unresolved : List SubRecord → ℕ → Bool
+is_unresolved heap id = if id == 0 then false else is_none (number_named heap id)

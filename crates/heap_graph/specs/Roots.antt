@@ -1,0 +1,14 @@
+-- The roots of a heap list.
+use Rattle.std.specs.Prelude.{List, filter, map, ℕ}
+use Rattle.heap_graph.specs.Heap.{id_of}
+use Rattle.heap_graph.specs.References.{targets}
+use Rattle.hprof_grammar.specs.Dump.{is_root}
+use Rattle.hprof_grammar.specs.SubRecord.{SubRecord}
+
+-- the first identifiers of the root sub-records of all kinds, in order
+abbrev pub root_ids : List SubRecord → List ℕ
+root_ids heap = map id_of (filter is_root heap)
+
+-- the objects that they name, in order, repeats kept
+abbrev pub root_objects : List SubRecord → List ℕ
+root_objects heap = targets heap (root_ids heap)

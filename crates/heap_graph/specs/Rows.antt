@@ -1,0 +1,26 @@
+-- The row and the bytes of an object.
+use Rattle.std.specs.Prelude.{List, length, sum_by, ℕ, ◌*◌}
+use Rattle.heap_graph.specs.Heap.{class_number}
+use Rattle.hprof_grammar.specs.Tables.{size_of}
+use Rattle.hprof_grammar.specs.SubRecord.{SubRecord}
+use Rattle.hprof_grammar.specs.SubRecord.SubRecord.{class_dump, instance_dump, object_array_dump, primitive_array_dump, root}
+use Rattle.heap_graph.specs.declared.row.RowKey.{RowKey}
+use Rattle.heap_graph.specs.declared.row.RowKey.TheVariants as keys
+
+-- An instance or object array belongs to the row of its class, a primitive array to that of its type, a class to that
+-- of the class objects.
+abbrev pub row_of : List SubRecord → SubRecord → RowKey
+row_of heap (root r) = keys.ClassObject
+row_of heap (class_dump c) = keys.ClassObject
+row_of heap (instance_dump i) = keys.Class (class_number heap i.class)
+row_of heap (object_array_dump a) = keys.Class (class_number heap a.class)
+row_of heap (primitive_array_dump a) = keys.Primitive a.type
+
+-- An instance has its value bytes, an object array its identifiers, a primitive array its elements, a class its static
+-- values.
+abbrev pub bytes_of : ℕ → SubRecord → ℕ
+bytes_of s (root r) = 0
+bytes_of s (class_dump c) = sum_by (λ f. size_of s f.type) c.statics
+bytes_of s (instance_dump i) = length i.values
+bytes_of s (object_array_dump a) = length a.elements * s
+bytes_of s (primitive_array_dump a) = a.count * size_of s a.type

@@ -1,0 +1,41 @@
+//! The rules that the objects of a dump keep, and the faults where one is broken.
+
+use thiserror::Error;
+
+/// The rules that each object is tested by, in this order.
+#[derive(Clone, Copy, Debug, PartialEq, Eq)]
+pub(crate) enum LinkRule {
+    /// An object's identifier is not 0.
+    ZeroObject,
+    /// No earlier object has its identifier.
+    DuplicateObject,
+    /// The class of an instance or an object array is there.
+    UnknownClass,
+    /// The superclasses of a class are there, and come to an end.
+    SuperChain,
+    /// An instance has as many value bytes as its layout.
+    InstanceSize,
+    /// There are at most 16,777,216 objects.
+    TooLarge,
+}
+
+/// The first fault in the links of a dump.
+#[derive(Clone, Copy, Debug, PartialEq, Eq, Error)]
+#[error("fault {code} at {offset}")]
+pub struct LinkFault {
+    /// 9 to 14.
+    pub code: u8,
+    /// The place of the object's sub-record in the bytes.
+    pub offset: u64,
+}
+
+/// Why no graph was built.
+#[derive(Clone, Copy, Debug, PartialEq, Eq, Error)]
+pub enum LinkRefusal {
+    /// The objects of the dump are not linked.
+    #[error("the objects of the heap dump are not linked: {0}")]
+    Fault(LinkFault),
+    /// A growth was refused.
+    #[error("out of memory")]
+    OutOfMemory,
+}
