@@ -4,6 +4,8 @@
 mod dump;
 mod flaw;
 mod order;
+mod reader;
+mod sub_records;
 mod tables;
 
 pub use dump::Dump;

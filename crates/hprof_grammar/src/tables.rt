@@ -1,5 +1,8 @@
 //! What the tags and type codes of a dump stand for.
 
+ghost use Rattle.std.specs.Prelude.{◌≡◌};
+ghost use Rattle.hprof_grammar.specs.Tables as tables;
+
 /// What the tag of a sub-record says.
 #[derive(Clone, Copy, Debug, PartialEq, Eq)]
 pub enum Kind {
@@ -22,4 +25,77 @@ pub enum TypePlace {
     InMember,
     /// In a primitive array.
     InArray,
+}
+
+/// Whether identifiers may have so many bytes.
+#[tactic(auto, unfolding(crate::specs::Tables::is_id_size))]
+pub fn is_id_size(size: u32) -> bool
+    ensures { result ≡ tables.is_id_size size }
+{
+    size == 4
+}
+
+/// Whether a type code may stand there.
+#[tactic(auto, unfolding(crate::specs::Tables::is_type_at))]
+pub fn is_type_at(place: TypePlace, code: u8) -> bool
+    ensures { result ≡ tables.is_type_at place code }
+{
+    match place {
+        TypePlace::InConstant | TypePlace::InStatic => false,
+        TypePlace::InMember => code == 2 || (4 <= code && code <= 11),
+        TypePlace::InArray => 4 <= code && code <= 11,
+    }
+}
+
+/// The bytes of a value of that type, 0 for a code that is no type.
+#[tactic(auto, unfolding(crate::specs::Tables::size_of))]
+pub fn size_of(id_size: u8, code: u8) -> u8
+    ensures { result ≡ tables.size_of id_size code }
+{
+    match code {
+        2 => id_size,
+        4 | 8 => 1,
+        5 | 9 => 2,
+        6 | 10 => 4,
+        7 | 11 => 8,
+        _ => 0,
+    }
+}
+
+/// How many bytes stand behind the object of a root with that tag.
+#[tactic(auto, unfolding(crate::specs::Tables::root_rest))]
+fn root_rest(id_size: u8, tag: u8) -> Option<u8>
+    ensures { result ≡ tables.root_rest id_size tag }
+{
+    let _size = id_size;
+    match tag {
+        0xFF => Some(0),
+        _ => None,
+    }
+}
+
+/// What the tag of a sub-record says, if it is one.
+#[tactic(auto, unfolding(crate::specs::Tables::kind_of))]
+pub fn kind_of(id_size: u8, tag: u8) -> Option<Kind>
+    ensures { result ≡ tables.kind_of id_size tag }
+{
+    match tag {
+        0x20 => Some(Kind::Class),
+        0x21 => Some(Kind::Instance),
+        _ => root_rest(id_size, tag).map(Kind::Root),
+    }
+}
+
+/// Whether the body of a record with that tag may have so many bytes.
+#[tactic(auto, unfolding(crate::specs::Tables::is_length_of))]
+pub fn is_length_of(id_size: u8, tag: u8, length: usize) -> bool
+    ensures { result ≡ tables.is_length_of id_size tag length }
+{
+    let size = usize::from(id_size);
+    match tag {
+        0x01 => size <= length,
+        0x02 => length == 8 + 2 * size,
+        0x2C => length == 0,
+        _ => true,
+    }
 }

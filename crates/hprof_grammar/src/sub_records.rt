@@ -1,0 +1,209 @@
+//! Sub-records of a heap record, read field by field. Their values are looked at only where they say
+//! how much follows.
+
+ghost use Rattle.std.specs.Prelude.{◌≡◌, ◌≤◌, IfOk, Some, slice_get, ℕ};
+ghost use Rattle.std.specs.Option.{option_and_then};
+ghost use Rattle.hprof_grammar.specs.Tables as tables;
+ghost use Rattle.hprof_grammar.specs.Reading.{Passes, class_at, constant_at, counted_at, instance_at, list_at, member_at, number_at, object_array_at, pair_at, primitive_array_at, raw_at, root_at, static_at, sub_record_at, type_at};
+
+use crate::flaw::Flaw;
+use crate::reader::Reader;
+use crate::tables::{Kind, TypePlace, kind_of, size_of};
+
+/// A type code, and a value of that type.
+fn typed_value(reader: &mut Reader<'_>, id_size: u8, place: TypePlace) -> Result<(), Flaw>
+    ensures { Passes result reader.new.rest.now
+        (pair_at (type_at place) (λ t. raw_at (tables.size_of id_size t)) reader.old.rest.now) }
+{
+    let code = reader.type_code(place)?;
+    reader.raw(u64::from(size_of(id_size, code)))?;
+    Ok(())
+}
+
+/// An entry of a constant pool: its index, and a value.
+fn constant(reader: &mut Reader<'_>, id_size: u8) -> Result<(), Flaw>
+    ensures { Passes result reader.new.rest.now (constant_at id_size reader.old.rest.now) }
+{
+    reader.number(2)?;
+    typed_value(reader, id_size, TypePlace::InConstant)
+}
+
+/// A static field: the identifier of its name, and a value.
+fn static_field(reader: &mut Reader<'_>, id_size: u8) -> Result<(), Flaw>
+    requires low { 1 ≤ id_size }
+    requires high { id_size ≤ 8 }
+    ensures { Passes result reader.new.rest.now (static_at id_size reader.old.rest.now) }
+{
+    reader.number(id_size)?;
+    typed_value(reader, id_size, TypePlace::InStatic)
+}
+
+/// An instance field that a class declares: the identifier of its name, and its type.
+fn member(reader: &mut Reader<'_>, id_size: u8) -> Result<(), Flaw>
+    requires low { 1 ≤ id_size }
+    requires high { id_size ≤ 8 }
+    ensures { Passes result reader.new.rest.now (member_at id_size reader.old.rest.now) }
+{
+    reader.number(id_size)?;
+    reader.type_code(TypePlace::InMember)?;
+    Ok(())
+}
+
+/// A count of two bytes, and so many entries of a constant pool.
+#[tactic(auto, using(crate::proofs::Counts::list_step, crate::proofs::Counts::list_stops, crate::proofs::Counts::list_ends))]
+fn constants(reader: &mut Reader<'_>, id_size: u8) -> Result<(), Flaw>
+    ensures { Passes result reader.new.rest.now
+        (counted_at 2 (constant_at id_size) reader.old.rest.now) }
+{
+    let count = reader.number(2)?;
+    for _i in 0..count {
+        constant(reader, id_size)?;
+    }
+    Ok(())
+}
+
+/// A count of two bytes, and so many static fields.
+#[tactic(auto, using(crate::proofs::Counts::list_step, crate::proofs::Counts::list_stops, crate::proofs::Counts::list_ends))]
+fn statics(reader: &mut Reader<'_>, id_size: u8) -> Result<(), Flaw>
+    requires low { 1 ≤ id_size }
+    requires high { id_size ≤ 8 }
+    ensures { Passes result reader.new.rest.now
+        (counted_at 2 (static_at id_size) reader.old.rest.now) }
+{
+    let count = reader.number(2)?;
+    for _i in 0..count {
+        static_field(reader, id_size)?;
+    }
+    Ok(())
+}
+
+/// A count of two bytes, and so many instance fields.
+#[tactic(auto, using(crate::proofs::Counts::list_step, crate::proofs::Counts::list_stops, crate::proofs::Counts::list_ends))]
+fn members(reader: &mut Reader<'_>, id_size: u8) -> Result<(), Flaw>
+    requires low { 1 ≤ id_size }
+    requires high { id_size ≤ 8 }
+    ensures { Passes result reader.new.rest.now
+        (counted_at 2 (member_at id_size) reader.old.rest.now) }
+{
+    let count = reader.number(2)?;
+    for _i in 0..count {
+        member(reader, id_size)?;
+    }
+    Ok(())
+}
+
+/// Behind the tag of a CLASS DUMP.
+#[tactic(auto, unfolding(crate::specs::Reading::class_at))]
+fn class(reader: &mut Reader<'_>, id_size: u8) -> Result<(), Flaw>
+    requires low { 1 ≤ id_size }
+    requires high { id_size ≤ 8 }
+    ensures { Passes result reader.new.rest.now (class_at id_size reader.old.rest.now) }
+{
+    reader.number(id_size)?; // the object
+    reader.number(4)?; // the stack trace
+    reader.number(id_size)?; // the superclass
+    reader.number(id_size)?; // the class loader
+    reader.number(id_size)?; // the signers
+    reader.number(id_size)?; // the protection domain
+    reader.number(id_size)?; // reserved
+    reader.number(id_size)?; // reserved
+    reader.number(4)?; // the instance size
+    constants(reader, id_size)?;
+    statics(reader, id_size)?;
+    members(reader, id_size)
+}
+
+/// Behind the tag of an INSTANCE DUMP.
+#[tactic(auto, unfolding(crate::specs::Reading::instance_at))]
+fn instance(reader: &mut Reader<'_>, id_size: u8) -> Result<(), Flaw>
+    requires low { 1 ≤ id_size }
+    requires high { id_size ≤ 8 }
+    ensures { Passes result reader.new.rest.now (instance_at id_size reader.old.rest.now) }
+{
+    reader.number(id_size)?; // the object
+    reader.number(4)?; // the stack trace
+    reader.number(id_size)?; // the class
+    let size = reader.number(4)?;
+    reader.raw(size)?;
+    Ok(())
+}
+
+/// Behind the tag of an OBJECT ARRAY DUMP.
+#[tactic(auto, unfolding(crate::specs::Reading::object_array_at))]
+fn object_array(reader: &mut Reader<'_>, id_size: u8) -> Result<(), Flaw>
+    requires low { 1 ≤ id_size }
+    requires high { id_size ≤ 8 }
+    ensures { Passes result reader.new.rest.now (object_array_at id_size reader.old.rest.now) }
+{
+    reader.number(id_size)?; // the object
+    reader.number(4)?; // the stack trace
+    let count = reader.number(4)?;
+    reader.number(id_size)?; // the class
+    elements(reader, id_size, count)
+}
+
+#[tactic(auto, using(crate::proofs::Counts::list_step, crate::proofs::Counts::list_stops, crate::proofs::Counts::list_ends))]
+fn elements(reader: &mut Reader<'_>, id_size: u8, count: u64) -> Result<(), Flaw>
+    requires low { 1 ≤ id_size }
+    requires high { id_size ≤ 8 }
+    ensures { Passes result reader.new.rest.now
+        (list_at (number_at id_size) count reader.old.rest.now) }
+{
+    for _i in 0..count {
+        reader.number(id_size)?;
+    }
+    Ok(())
+}
+
+/// Behind the tag of a PRIMITIVE ARRAY DUMP.
+#[tactic(auto, unfolding(crate::specs::Reading::primitive_array_at))]
+fn primitive_array(reader: &mut Reader<'_>, id_size: u8) -> Result<(), Flaw>
+    requires low { 1 ≤ id_size }
+    requires high { id_size ≤ 8 }
+    ensures { Passes result reader.new.rest.now (primitive_array_at id_size reader.old.rest.now) }
+{
+    reader.number(id_size)?; // the object
+    reader.number(4)?; // the stack trace
+    let count = reader.number(4)?;
+    let code = reader.type_code(TypePlace::InArray)?;
+    reader.raw(count * u64::from(size_of(id_size, code)))?;
+    Ok(())
+}
+
+/// Behind the tag of a root: its object, and so many bytes that are read past.
+#[tactic(auto, unfolding(crate::specs::Reading::root_at))]
+fn root(reader: &mut Reader<'_>, id_size: u8, rest: u8) -> Result<(), Flaw>
+    requires low { 1 ≤ id_size }
+    requires high { id_size ≤ 8 }
+    ensures { (tag : ℕ) → Passes result reader.new.rest.now (root_at id_size tag rest reader.old.rest.now) }
+{
+    reader.number(id_size)?;
+    reader.raw(u64::from(rest))?;
+    Ok(())
+}
+
+/// A whole sub-record, of which the tag says the kind.
+#[tactic(auto, unfolding(crate::specs::Reading::sub_record_at))]
+pub fn sub_record(reader: &mut Reader<'_>, id_size: u8) -> Result<Kind, Flaw>
+    requires low { 1 ≤ id_size }
+    requires high { id_size ≤ 8 }
+    ensures passes { Passes result reader.new.rest.now (sub_record_at id_size reader.old.rest.now) }
+    ensures kind { IfOk result (λ kind.
+        option_and_then (tables.kind_of id_size) (slice_get reader.old.rest.now 0) ≡ Some kind) }
+{
+    let [tag, behind @ ..] = reader.rest else {
+        return Err(Flaw::Short);
+    };
+    let Some(kind) = kind_of(id_size, *tag) else {
+        return Err(Flaw::UnknownTag);
+    };
+    reader.rest = behind;
+    match kind {
+        Kind::Root(rest) => root(reader, id_size, rest)?,
+        Kind::Class => class(reader, id_size)?,
+        Kind::Instance => instance(reader, id_size)?,
+        Kind::ObjectArray => object_array(reader, id_size)?,
+        Kind::PrimitiveArray => primitive_array(reader, id_size)?,
+    }
+    Ok(kind)
+}
