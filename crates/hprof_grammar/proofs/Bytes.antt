@@ -1,5 +1,5 @@
 -- Lists of bytes, and the bytes of a number of any width.
-use Rattle.std.proofs.Common.{◌*◌, ◌+◌, ◌++◌, ◌/◌, ◌<◌, ◌^◌, ◌∙◌, ◌∷◌, ◌≡◌, ◌≤◌, List, [], ap, arith, drop, length, refl, slice_index, suc, sym, take, zero, ℕ}
+use Rattle.std.proofs.Common.{◌*◌, ◌+◌, ◌++◌, ◌/◌, ◌<◌, ◌^◌, ◌∙◌, ◌∷◌, ◌≡◌, ◌≤◌, List, [], ap, arith, drop, length, refl, replicate, slice_index, suc, sym, take, zero, ℕ}
 use Rattle.std.proofs.lemmas.List.{append-nil, get_or-append-add, get_or-drop, length-append, length-drop, length-take-le, take-append-drop}
 use Rattle.std.proofs.Math.Seq.{drop-append_seam, take-append_seam}
 use Rattle.std.proofs.Math.Arith.{digits_div}
@@ -25,6 +25,16 @@ bytes-take zero bytes h k = omega arith
 bytes-take (suc n) [] h k = omega arith
 bytes-take (suc n) (b ∷ bytes) h zero = h 0
 bytes-take (suc n) (b ∷ bytes) h (suc k) = bytes-take n bytes (bytes-tail b bytes h) k
+
+pub bytes-join : (xs ys : List ℕ) → IsBytes xs → IsBytes ys → IsBytes (xs ++ ys)
+bytes-join [] ys h k i = k i
+bytes-join (x ∷ xs) ys h k zero = h 0
+bytes-join (x ∷ xs) ys h k (suc i) = bytes-join xs ys (bytes-tail x xs h) k i
+
+pub zeros-bytes : (n : ℕ) → IsBytes (replicate n 0)
+zeros-bytes zero k = omega arith
+zeros-bytes (suc n) zero = omega arith
+zeros-bytes (suc n) (suc k) = zeros-bytes n k
 
 -- the bytes of a number are bytes
 byte_at-lt : (i x : ℕ) → byte_at i x < 256
