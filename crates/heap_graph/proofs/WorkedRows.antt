@@ -1,5 +1,5 @@
 -- The definitions on small dumps, by computation.
-use Rattle.std.proofs.Common.{List, None, Some, [], codes, flat_map, refl, true, false, ℕ, ◌++◌, ◌∷◌, ◌≡◌, slice_get, subst, sym, zero, suc}
+use Rattle.std.proofs.Common.{Bool, List, None, Some, [], codes, refl, true, false, ℕ, ◌++◌, ◌∷◌, ◌≡◌, slice_get, subst, sym, zero, suc}
 use Rattle.std.specs.Fmt.{digits}
 use Rattle.byteorder.specs.Endian.{big_bytes}
 use Rattle.hprof_grammar.specs.Tables.{size_of}
@@ -10,11 +10,10 @@ use Rattle.hprof_grammar.specs.Record.Record.{heap, load_class, string}
 use Rattle.heap_graph.specs.declared.row.RowKey.TheVariants as keys
 use Rattle.heap_graph.specs.Heap.{heap_of, objects}
 use Rattle.heap_graph.specs.Layout.{IsChain, layout_size}
-use Rattle.heap_graph.specs.Line.{line}
 use Rattle.heap_graph.specs.ObjectGraph.{IsGraphOf, ObjectGraph}
 use Rattle.heap_graph.specs.References.{AreIdsIn, instance_ids, targets}
-use Rattle.heap_graph.specs.Report.{entries, line_of, totals}
-use Rattle.heap_graph.specs.Histogram.{chosen}
+use Rattle.heap_graph.specs.Report.{line, report_of}
+use Rattle.heap_graph.specs.Histogram.{Histogram, entries, marked_objects, total, unmarked_objects}
 
 abbrev member : ℕ → Member
 member type = record { name = 2; type = type }
@@ -53,8 +52,17 @@ two_references : targets (heap_of two) (instance_ids 4 (record { object = 0x201;
 unfolding size_of
 two_references = refl
 
+-- the histogram of these marks, where the rows are in order already
+abbrev histogram_of : ObjectGraph → List Bool → Histogram
+histogram_of g marks = record {
+  rows = entries g (marked_objects g marks);
+  reachable = total g (marked_objects g marks);
+  unreachable = total g (unmarked_objects g marks);
+  unresolved = g.unresolved;
+}
+
 -- its report, all objects reachable
-two_report : flat_map line_of (entries graph_of_two (0 ∷ 1 ∷ 2 ∷ [])) ++ totals graph_of_two (true ∷ true ∷ true ∷ []) ≡
+two_report : report_of (histogram_of graph_of_two (true ∷ true ∷ true ∷ [])) ≡
     codes "         2               8  A" ++ 10 ∷ codes "         1               0  <class>" ++ 10 ∷ codes "         3               8  (reachable)" ++ 10 ∷ codes "         0               0  (unreachable)" ++ 10 ∷ codes "         0               0  (unresolved)" ++ 10 ∷ []
 unfolding digits line entries
 two_report = refl
@@ -91,10 +99,10 @@ graph_of_four = record {
   unresolved = 0;
 }
 
-four_marks : flat_map line_of (entries graph_of_four (chosen true graph_of_four (true ∷ true ∷ true ∷ false ∷ false ∷ []))) ++ totals graph_of_four (true ∷ true ∷ true ∷ false ∷ false ∷ []) ≡
+four_report : report_of (histogram_of graph_of_four (true ∷ true ∷ true ∷ false ∷ false ∷ [])) ≡
     codes "         2               8  A" ++ 10 ∷ codes "         1               0  <class>" ++ 10 ∷ codes "         3               8  (reachable)" ++ 10 ∷ codes "         2               8  (unreachable)" ++ 10 ∷ codes "         0               0  (unresolved)" ++ 10 ∷ []
 unfolding digits line entries
-four_marks = refl
+four_report = refl
 
 -- ---- a class below another: the layout has the class's own fields first
 

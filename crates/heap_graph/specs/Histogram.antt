@@ -1,35 +1,79 @@
--- The histogram of a graph: how many objects each row has, and how many bytes.
-use Rattle.std.specs.Prelude.{Bool, List, count_by, false, filter, if◌then◌else◌, length, not, slice_index, slice_index_or, sum_by, true, ℕ, ◌+◌, ◌-◌, ◌==◌}
+-- The histogram of a graph with marks: how many objects each row has, and how many bytes.
+use Rattle.std.specs.Prelude.{Bool, IsPermutation, IsSorted, List, [], false, filter, length, map, nat_lt, not, slice_index_or, sum_by, true, ℕ, ◌++◌, ◌==◌, ◌∷◌, ◌≡◌}
 use Rattle.std.specs.List.{range_with_len}
-use Rattle.heap_graph.specs.ObjectGraph.{ObjectGraph, object_count}
+use Rattle.heap_graph.specs.ObjectGraph.{ObjectGraph, bytes_at, class_count, object_count, row_at}
+use Rattle.heap_graph.specs.ShownNames.{row_id, shown_row}
+use Rattle.std.specs.Ordering.{nat_cmp, ordering_then}
+use Rattle.std.specs.Cmp.Lexicographic.{slice_cmp}
+use Rattle.std.specs.declared.cmp.Ordering.{Ordering}
 use Rattle.heap_graph.specs.declared.row.RowKey.{RowKey}
 use Rattle.heap_graph.specs.declared.row.RowKey.TheVariants as keys
 
--- All rows in order: the classes by their numbers, the primitive types 4 to 11, the class objects. A row's number is its
--- place here.
-abbrev pub row_count : ObjectGraph → ℕ
-row_count g = length g.classes + 9
+-- a test whether two rows are the same
+abbrev pub same_row : RowKey → RowKey → Bool
+same_row (keys.Class a) (keys.Class b) = a == b
+same_row (keys.Class a) (keys.Primitive b) = false
+same_row (keys.Class a) keys.ClassObject = false
+same_row (keys.Primitive a) (keys.Class b) = false
+same_row (keys.Primitive a) (keys.Primitive b) = a == b
+same_row (keys.Primitive a) keys.ClassObject = false
+same_row keys.ClassObject (keys.Class b) = false
+same_row keys.ClassObject (keys.Primitive b) = false
+same_row keys.ClassObject keys.ClassObject = true
 
-abbrev pub row_number : ObjectGraph → RowKey → ℕ
-row_number g (keys.Class n) = n
-row_number g (keys.Primitive t) = length g.classes + (t - 4)
-row_number g keys.ClassObject = length g.classes + 8
-
--- the row and the bytes of an object
-abbrev pub row_at : ObjectGraph → ℕ → ℕ
-row_at g o = row_number g (slice_index_or g.rows o keys.ClassObject)
-
-abbrev pub bytes_at : ObjectGraph → ℕ → ℕ
-bytes_at g o = slice_index g.bytes o
+-- all rows: the classes by their numbers, the eight primitive types, the class objects
+abbrev pub all_rows : ObjectGraph → List RowKey
+all_rows g = map keys.Class (range_with_len 0 (class_count g)) ++ (map keys.Primitive (range_with_len 4 8) ++ keys.ClassObject ∷ [])
 
 -- the objects that are marked, and those that are not
-abbrev pub chosen : Bool → ObjectGraph → List Bool → List ℕ
-chosen true g marks = filter (λ o. slice_index_or marks o false) (range_with_len 0 (object_count g))
-chosen false g marks = filter (λ o. not (slice_index_or marks o false)) (range_with_len 0 (object_count g))
+abbrev pub marked_objects : ObjectGraph → List Bool → List ℕ
+marked_objects g marks = filter (λ o. slice_index_or marks o false) (range_with_len 0 (object_count g))
 
--- how many of these objects are in the row, and the sum of their bytes
-abbrev pub count_in : ObjectGraph → ℕ → List ℕ → ℕ
-count_in g row numbers = count_by (λ o. row_at g o == row) numbers
+abbrev pub unmarked_objects : ObjectGraph → List Bool → List ℕ
+unmarked_objects g marks = filter (λ o. not (slice_index_or marks o false)) (range_with_len 0 (object_count g))
 
-abbrev pub bytes_in : ObjectGraph → ℕ → List ℕ → ℕ
-bytes_in g row numbers = sum_by (λ o. if row_at g o == row then bytes_at g o else 0) numbers
+-- those of these objects that belong to the row
+abbrev pub of_row : ObjectGraph → RowKey → List ℕ → List ℕ
+of_row g row numbers = filter (λ o. same_row row (row_at g o)) numbers
+
+-- how many objects these are, and their bytes together
+abbrev pub total : ObjectGraph → List ℕ → ℕ × ℕ
+total g numbers = (length numbers, sum_by (bytes_at g) numbers)
+
+-- a row with its shown name, the identifier of its class or 0, its number of objects and their bytes together
+pub record Entry : Type 0 where
+  pub name : List ℕ
+  pub class : ℕ
+  pub count : ℕ
+  pub bytes : ℕ
+
+abbrev pub entry : ObjectGraph → List ℕ → RowKey → Entry
+entry g numbers row = record {
+  name = shown_row g row;
+  class = row_id g row;
+  count = length (of_row g row numbers);
+  bytes = sum_by (bytes_at g) (of_row g row numbers);
+}
+
+-- each row that has one of these objects
+unfoldable pub entries : ObjectGraph → List ℕ → List Entry
+entries g numbers = filter (λ e. nat_lt 0 e.count) (map (entry g numbers) (all_rows g))
+
+-- bytes falling, count falling, shown name rising (a beginning before its extension), class identifier rising
+abbrev pub compare : Entry → Entry → Ordering
+compare a b = ordering_then (nat_cmp b.bytes a.bytes) (ordering_then (nat_cmp b.count a.count) (ordering_then (slice_cmp nat_cmp a.name b.name) (nat_cmp a.class b.class)))
+
+-- the rows in order, and the pairs of count and bytes over all marked and all other objects
+pub record Histogram : Type 0 where
+  pub rows : List Entry
+  pub reachable : ℕ × ℕ
+  pub unreachable : ℕ × ℕ
+  pub unresolved : ℕ
+
+-- This is the histogram of the graph with these marks: each row that has a marked object stands there once, in order.
+pub record IsHistogram (g : ObjectGraph) (marks : List Bool) (h : Histogram) : Type 0 where
+  pub each_once : IsPermutation (entries g (marked_objects g marks)) h.rows
+  pub in_order : IsSorted compare h.rows
+  pub reachable_is : h.reachable ≡ total g (marked_objects g marks)
+  pub unreachable_is : h.unreachable ≡ total g (unmarked_objects g marks)
+  pub unresolved_is : h.unresolved ≡ g.unresolved

@@ -9,6 +9,6 @@ pub mod Linked
 pub mod LinkFault
 pub mod ObjectGraph
 pub mod Reachable
+pub mod ShownNames
 pub mod Histogram
-pub mod Line
 pub mod Report

@@ -1,15 +1,17 @@
 -- The graph of a heap list: what is left of a dump when its objects are numbers.
-use Rattle.std.specs.Prelude.{List, Option, [], count_by, length, map, slice_index_or, ℕ, ◌++◌, ◌≡◌}
+use Rattle.std.specs.Prelude.{All, List, None, Option, [], count_by, length, map, slice_index, slice_index_or, ℕ, ◌++◌, ◌<◌, ◌≡◌, ◌≤◌}
 use Rattle.std.specs.List.{concat}
 use Rattle.heap_graph.specs.Names.{class_text}
 use Rattle.heap_graph.specs.Roots.{root_ids, root_objects}
 use Rattle.heap_graph.specs.Heap.{class_dumps, heap_of, objects}
-use Rattle.heap_graph.specs.Linked.{IsAccepted}
+use Rattle.heap_graph.specs.Linked.{IsAccepted, most_objects}
 use Rattle.heap_graph.specs.References.{AreIdLists, is_unresolved, targets}
 use Rattle.heap_graph.specs.Rows.{bytes_of, row_of}
 use Rattle.hprof_grammar.specs.Record.{Record}
+use Rattle.hprof_grammar.specs.Dump.{limit}
 use Rattle.hprof_grammar.specs.SubRecord.{SubRecord}
 use Rattle.heap_graph.specs.declared.row.RowKey.{RowKey}
+use Rattle.heap_graph.specs.declared.row.RowKey.TheVariants as keys
 
 -- a class, and the text that names it
 pub record NamedClass : Type 0 where
@@ -32,8 +34,39 @@ pub record ObjectGraph : Type 0 where
 abbrev pub object_count : ObjectGraph → ℕ
 object_count g = length g.references
 
+abbrev pub class_count : ObjectGraph → ℕ
+class_count g = length g.classes
+
+-- of an object by its number: the objects that it refers to, its row, its bytes
 abbrev pub references_of : ObjectGraph → ℕ → List ℕ
 references_of g o = slice_index_or g.references o []
+
+abbrev pub row_at : ObjectGraph → ℕ → RowKey
+row_at g o = slice_index_or g.rows o keys.ClassObject
+
+abbrev pub bytes_at : ObjectGraph → ℕ → ℕ
+bytes_at g o = slice_index g.bytes o
+
+-- the class of that number
+abbrev pub class_at : ObjectGraph → ℕ → NamedClass
+class_at g n = slice_index_or g.classes n (record { id = 0; text = None })
+
+-- a row that the graph has
+abbrev pub IsRowIn : ObjectGraph → RowKey → Type 0
+IsRowIn g (keys.Class n) = n < class_count g
+IsRowIn g (keys.Primitive t) = (4 ≤ t) × (t ≤ 11)
+IsRowIn g keys.ClassObject = Unit {0}
+
+-- What holds of each graph of a linked heap list: an object has one row and one number of bytes, and what is named is there.
+pub record IsWhole (g : ObjectGraph) : Type 0 where
+  pub row_each : length g.rows ≡ object_count g
+  pub bytes_each : length g.bytes ≡ object_count g
+  pub few_objects : object_count g ≤ most_objects
+  pub few_classes : class_count g ≤ object_count g
+  pub roots_within : All (λ o. o < object_count g) g.roots
+  pub references_within : (o : ℕ) → All (λ b. b < object_count g) (references_of g o)
+  pub rows_within : (o : ℕ) → o < object_count g → IsRowIn g (row_at g o)
+  pub few_bytes : (o : ℕ) → bytes_at g o ≤ limit
 
 abbrev pub named_classes : List Record → List NamedClass
 named_classes records = map (λ c. record { id = c.object; text = class_text records c.object }) (class_dumps (heap_of records))
