@@ -83,7 +83,11 @@ after_load_link Empty l a = record a { empty = record { head = a.empty.head; lin
 abbrev pub after_pop : ℕ → List ℕ → Account → Account
 after_pop i items a = record a { held = a.held ++ i ∷ []; charge = a.charge ++ items }
 
+-- whether a push is open after a push on this stack
+abbrev pub opened : Which → Bool → Bool
+opened Full was = true
+opened Empty was = was
+
 -- the buffer i was pushed with these items: it is no longer held, and they leave the charge
 abbrev pub after_push : Which → ℕ → List ℕ → Account → Account
-after_push Full i items a = record a { held = remove_one i a.held; charge = without items a.charge; open_push = true }
-after_push Empty i items a = record a { held = remove_one i a.held; charge = without items a.charge }
+after_push q i items a = record a { held = remove_one i a.held; charge = without items a.charge; open_push = opened q a.open_push }

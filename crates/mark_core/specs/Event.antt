@@ -94,7 +94,7 @@ popped m w a q (Some i) None = m
 
 -- the marking after the account w, which is a, did this
 abbrev pub effect : Marking → ℕ → Account → Kind → Marking
-effect m w a (Claim o) = record m { mark = put o (max 1 (m.mark o)) m.mark; accounts = slice_set m.accounts w (after_claim o (m.mark o) a) }
+effect m w a (Claim o) = record m { mark = put o (max (m.mark o) 1) m.mark; accounts = slice_set m.accounts w (after_claim o (m.mark o) a) }
 effect m w a (Finish o) = record m { mark = put o 2 m.mark; accounts = slice_set m.accounts w (after_finish o a) }
 effect m w a (Split units) = record m { accounts = slice_set m.accounts w (after_split units a) ++ part units ∷ [] }
 effect m w a (Join v) = record m { accounts = slice_set (slice_set m.accounts w (after_join a (account_at m.accounts v))) v spent }

@@ -1,5 +1,5 @@
 -- Lists by place, and lists of numbers taken without order, each number as often as it stands there.
-use Rattle.std.specs.Prelude.{◌≡◌, ℕ, ◌+◌, ◌≤◌, ◌==◌, if◌then◌else◌, List, [], ◌∷◌}
+use Rattle.std.specs.Prelude.{◌≡◌, ℕ, ◌+◌, ◌≤◌, ◌==◌, if◌then◌else◌, Bool, true, false, List, [], ◌∷◌}
 use mathlib.Core.Option.{some}
 use lib.ListN.{get_elem?}
 
@@ -12,9 +12,14 @@ abbrev pub total : {X : Type 0} → (X → ℕ) → List X → ℕ
 total f [] = 0
 total f (x ∷ xs) = f x + total f xs
 
+-- 1 where the test is true, else 0
+abbrev pub one_where : Bool → ℕ
+one_where true = 1
+one_where false = 0
+
 -- the weight that counts x as 1 and each other number as 0
 abbrev pub only : ℕ → ℕ → ℕ
-only x y = if y == x then 1 else 0
+only x y = one_where (y == x)
 
 -- how often x stands in the list
 abbrev pub times : ℕ → List ℕ → ℕ

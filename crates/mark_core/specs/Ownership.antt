@@ -1,9 +1,9 @@
 -- Ownership: each buffer is on one of the two stacks or held by one account, and what an account loaded of a stack stands or is outdated by the tag.
-use Rattle.std.specs.Prelude.{◌≡◌, ◌⊎◌, ℕ, ◌+◌, ◌<◌, nat_lt, if◌then◌else◌, true, List, [], ◌∷◌, length, Option, Some, None}
+use Rattle.std.specs.Prelude.{◌≡◌, ◌⊎◌, ℕ, ◌+◌, ◌<◌, nat_lt, true, List, [], ◌∷◌, length, Option, Some, None}
 use Rattle.tagged_index.specs.Head.{Head}
 use Rattle.mark_core.specs.declared.which.Which.{Which}
 use Rattle.mark_core.specs.declared.which.Which.TheVariants.{Full, Empty}
-use Rattle.mark_core.specs.Lists.{StandsAt, total, times}
+use Rattle.mark_core.specs.Lists.{StandsAt, total, times, one_where}
 use Rattle.mark_core.specs.Account.{Account, Look, look_of}
 
 -- from this index on the links give the list
@@ -28,7 +28,7 @@ HasOpenPush accounts = (w : ℕ) × (a : Account) × StandsAt accounts w a × (a
 pub record IsOwned (buffers : ℕ) (head : Which → Head) (link : ℕ → Option ℕ) (accounts : List Account) (stack : Which → List ℕ) : Type 0 where
   pub chain : (q : Which) → Chain link (head q).index (stack q)
   -- each buffer stands once in both stacks and all held lists taken together, and nothing else does
-  pub once : (b : ℕ) → times b (stack Full) + times b (stack Empty) + held_times b accounts ≡ (if nat_lt b buffers then 1 else 0)
+  pub once : (b : ℕ) → times b (stack Full) + times b (stack Empty) + held_times b accounts ≡ one_where (nat_lt b buffers)
   pub recent : (q : Which) (w : ℕ) (a : Account) → StandsAt accounts w a → IsRecent link (head q) (look_of a q)
   -- while a buffer is on the full stack, some account has an open push
   pub owed : (stack Full ≡ []) ⊎ HasOpenPush accounts

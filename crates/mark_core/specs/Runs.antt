@@ -3,7 +3,7 @@ use Rattle.std.specs.Prelude.{◌≡◌, ◌≢◌, ◌⊎◌, ◌↔◌, ℕ, �
 use Rattle.tagged_index.specs.Head.{Head}
 use Rattle.mark_core.specs.declared.which.Which.{Which}
 use Rattle.mark_core.specs.declared.which.Which.TheVariants.{Full, Empty}
-use Rattle.mark_core.specs.Lists.{StandsAt, times}
+use Rattle.mark_core.specs.Lists.{StandsAt, times, one_where}
 use Rattle.mark_core.specs.Account.{Account, part}
 use Rattle.mark_core.specs.World.{Setup, Marking}
 use Rattle.mark_core.specs.Event.{Kind, Pop, Push, Event, IsPossible, happens}
@@ -97,7 +97,7 @@ pub record IsClosed (e : Setup) (m : Marking) (w : ℕ) (a : Account) : Type 0 w
   -- each buffer that it does not hold is on one of the stacks
   pub buffers :
       (full empty : List ℕ) → IsListOf m Full full → IsListOf m Empty empty
-      → (b : ℕ) → times b full + times b empty + times b a.held ≡ (if nat_lt b e.buffers then 1 else 0)
+      → (b : ℕ) → times b full + times b empty + times b a.held ≡ one_where (nat_lt b e.buffers)
   pub others : (v : ℕ) (b : Account) → v ≢ w → StandsAt m.accounts v b → HasNothing b
 
 -- in every run, where one account has the whole share and answers for nothing, the marks are told by its finished list and the full stack

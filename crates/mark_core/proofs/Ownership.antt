@@ -1,0 +1,271 @@
+-- What each event leaves of the ownership of the buffers.
+use Rattle.std.proofs.Common.{◌≡◌, ◌≢◌, ◌⊎◌, ℕ, ◌+◌, ◌<◌, ◌≤◌, Bool, true, false, ◌||◌, nat_lt, List, [], ◌∷◌, ◌++◌, Option, Some, set, ap, sym, refl, subst, ◌∙◌, inl, inr, lt-ltb, le-ltb, lt_of_not-le, arith}
+use native.Mathlib.Decide.{dec_le, ℕ_discrete}
+use Rattle.tagged_index.specs.Head.{Head, after}
+use Rattle.mark_core.specs.declared.which.Which.{Which}
+use Rattle.mark_core.specs.declared.which.Which.TheVariants.{Full, Empty}
+use Rattle.mark_core.specs.Lists.{StandsAt, times, one_where, only}
+use Rattle.mark_core.specs.Account.{Account, look_of, part, spent, after_pop, after_push, after_join}
+use Rattle.mark_core.specs.World.{put_which}
+use Rattle.mark_core.specs.Ownership.{Chain, IsRecent, IsOwned, HasOpenPush, held_times}
+use Rattle.mark_core.proofs.Places.{at_set, at_push, at_longer, at_one, set_here, set_else, put_one, put_two}
+use Rattle.mark_core.proofs.Sums.{total-set, total-append, term_le, times-remove_one, only-same}
+use Rattle.mark_core.proofs.Chains.{chain_links, chain_rest, chain_more, recent_blank, recent_after, recent_links, recent_link}
+
+-- a number counted among the buffers is below their number
+pub counted_below : (b n : ℕ) → 0 < one_where (nat_lt b n) → b < n
+counted_below b n h = go (dec_le n b)
+  where
+    go : Dec (n ≤ b) → b < n
+    go (yes p) = let e = ap one_where (le-ltb b n p) in absurd (omega arith)
+    go (no p) = lt_of_not-le p
+
+pub below_counted : (b n : ℕ) → b < n → one_where (nat_lt b n) ≡ 1
+below_counted b n h = ap one_where (lt-ltb b n h)
+
+pub counted_once : (t : Bool) → one_where t ≤ 1
+counted_once true = omega arith
+counted_once false = omega arith
+
+pub same_looks : (a b : Account) → b.full ≡ a.full → b.empty ≡ a.empty → (p : Which) → look_of b p ≡ look_of a p
+same_looks a b f g Full = f
+same_looks a b f g Empty = g
+
+or_first : (x y : Bool) → x ≡ true → (x || y) ≡ true
+or_first true y e = refl
+or_first false y e = let f : ⊥ = cc in absurd f
+
+or_second : (x y : Bool) → y ≡ true → (x || y) ≡ true
+or_second true y e = refl
+or_second false y e = e
+
+-- an open push stays where the account that changes keeps its own
+pub open_set : (accounts : List Account) (w : ℕ) (a b : Account) → StandsAt accounts w a → (a.open_push ≡ true → b.open_push ≡ true) → HasOpenPush accounts → HasOpenPush (set accounts w b)
+open_set accounts w a b is keep o = go (ℕ_discrete o.0 w)
+  where
+    go : Dec (o.0 ≡ w) → HasOpenPush (set accounts w b)
+    go (yes e) =
+        let s : o.1 ≡ a = at_one accounts w o.1 a (subst (λ v. StandsAt accounts v o.1) e o.2) is in
+        let t : o.1.open_push ≡ a.open_push = ap (λ (x : Account). x.open_push) s in
+        (w, b, set_here accounts w b a is, keep (sym t ∙ o.3))
+    go (no n) = (o.0, o.1, set_else accounts w o.0 b n ∙ o.2, o.3)
+
+-- what a pop and a push leave of how often a buffer is stacked
+popped_sum : (q : Which) (i : ℕ) (rest : List ℕ) (stack : Which → List ℕ) → stack q ≡ i ∷ rest → (b : ℕ) → times b (put_which q rest stack Full) + times b (put_which q rest stack Empty) + only b i ≡ times b (stack Full) + times b (stack Empty)
+popped_sum Full i rest stack e b = omega (arith, ap (times b) e)
+popped_sum Empty i rest stack e b = omega (arith, ap (times b) e)
+
+pushed_sum : (q : Which) (i : ℕ) (stack : Which → List ℕ) (b : ℕ) → times b (put_which q (i ∷ stack q) stack Full) + times b (put_which q (i ∷ stack q) stack Empty) ≡ times b (stack Full) + times b (stack Empty) + only b i
+pushed_sum Full i stack b = omega arith
+pushed_sum Empty i stack b = omega arith
+
+popped_nothing : (q : Which) (i : ℕ) (rest : List ℕ) (stack : Which → List ℕ) → stack q ≡ i ∷ rest → stack Full ≡ [] → put_which q rest stack Full ≡ []
+popped_nothing Full i rest stack e n = let f : ⊥ = cc in absurd f
+popped_nothing Empty i rest stack e n = n
+
+chain_top : (link : ℕ → Option ℕ) (n : Option ℕ) (xs : List ℕ) (i : ℕ) → Chain link n xs → n ≡ Some i → 0 < times i xs
+chain_top link n xs i c e = let r = chain_rest link n xs i c e in omega (arith, ap (times i) r.1, only-same i i refl)
+
+module _ (buffers : ℕ) (head : Which → Head) (link : ℕ → Option ℕ) (accounts : List Account) (stack : Which → List ℕ) (o : IsOwned buffers head link accounts stack) where
+  -- a buffer stands in one place
+  pub place_one : (b : ℕ) → times b (stack Full) + times b (stack Empty) + held_times b accounts ≤ 1
+  place_one b = omega (arith, o.once b, counted_once (nat_lt b buffers))
+
+  pub place_below : (b : ℕ) → 0 < times b (stack Full) + times b (stack Empty) + held_times b accounts → b < buffers
+  place_below b h = counted_below b buffers (omega (arith, o.once b))
+
+  -- the first buffer of a stack
+  pub top_stands : (q : Which) (i : ℕ) → (head q).index ≡ Some i → 0 < times i (stack q)
+  top_stands q i e = chain_top link (head q).index (stack q) i (o.chain q) e
+
+  pub stacked_below : (q : Which) (b : ℕ) → 0 < times b (stack q) → b < buffers
+  stacked_below Full b h = place_below b (omega arith)
+  stacked_below Empty b h = place_below b (omega arith)
+
+  -- other links of buffers that are not stacked change nothing
+  pub owned_links : (new : ℕ → Option ℕ) → ((q : Which) (b : ℕ) → 0 < times b (stack q) → new b ≡ link b) → IsOwned buffers head new accounts stack
+  owned_links new same =
+      record {
+        chain = λ q. chain_links link new (head q).index (stack q) (same q) (o.chain q);
+        once = o.once;
+        recent = λ q v x at. recent_links link new (head q) (look_of x q) (λ i e. same q i (top_stands q i e)) (o.recent q v x at);
+        owed = o.owed;
+      }
+
+  -- a new account that has only units
+  pub owned_part : (units : ℕ) → IsOwned buffers head link (accounts ++ part units ∷ []) stack
+  owned_part units = record { chain = o.chain; once = once; recent = recent; owed = owed o.owed }
+    where
+      once : (b : ℕ) → times b (stack Full) + times b (stack Empty) + held_times b (accounts ++ part units ∷ []) ≡ one_where (nat_lt b buffers)
+      once b = omega (arith, o.once b, total-append (λ (x : Account). times b x.held) accounts (part units ∷ []))
+
+      recent : (q : Which) (v : ℕ) (x : Account) → StandsAt (accounts ++ part units ∷ []) v x → IsRecent link (head q) (look_of x q)
+      recent q v x at = go (at_push accounts (part units) x v at)
+        where
+          blank : (p : Which) → IsRecent link (head p) (look_of (part units) p)
+          blank Full = recent_blank link (head Full)
+          blank Empty = recent_blank link (head Empty)
+
+          go : StandsAt accounts v x ⊎ (part units ≡ x) → IsRecent link (head q) (look_of x q)
+          go (inl p) = o.recent q v x p
+          go (inr p) = subst (λ y. IsRecent link (head q) (look_of y q)) p (blank q)
+
+      owed : (stack Full ≡ []) ⊎ HasOpenPush accounts → (stack Full ≡ []) ⊎ HasOpenPush (accounts ++ part units ∷ [])
+      owed (inl p) = inl p
+      owed (inr p) = inr (p.0, p.1, at_longer accounts (part units ∷ []) p.0 p.1 p.2, p.3)
+
+  module _ (w : ℕ) (a : Account) (is : StandsAt accounts w a) where
+    -- a held buffer is a buffer, and on no stack
+    pub held_apart : (i : ℕ) → 0 < times i a.held → (i < buffers) × (times i (stack Full) ≡ 0) × (times i (stack Empty) ≡ 0)
+    held_apart i h =
+        let t = term_le (λ (x : Account). times i x.held) accounts w a is in
+        let p = place_one i in
+        (place_below i (omega arith), omega arith, omega arith)
+
+    recent_set : (b : Account) → ((q : Which) → IsRecent link (head q) (look_of b q)) → (q : Which) (v : ℕ) (x : Account) → StandsAt (set accounts w b) v x → IsRecent link (head q) (look_of x q)
+    recent_set b new q v x at = go (at_set accounts w v b x at)
+      where
+        go : ((v ≡ w) × (b ≡ x)) ⊎ ((v ≢ w) × StandsAt accounts v x) → IsRecent link (head q) (look_of x q)
+        go (inl p) = subst (λ y. IsRecent link (head q) (look_of y q)) p.1 (new q)
+        go (inr p) = o.recent q v x p.1
+
+    -- what the account loaded stays
+    keeps_looks : (b : Account) → b.full ≡ a.full → b.empty ≡ a.empty → (q : Which) → IsRecent link (head q) (look_of b q)
+    keeps_looks b f g q = subst (λ l. IsRecent link (head q) l) (sym (same_looks a b f g q)) (o.recent q w a is)
+
+    -- the account changes, and holds the same buffers
+    pub owned_set :
+        (b : Account) → ((q : Which) → IsRecent link (head q) (look_of b q)) → b.held ≡ a.held
+        → (a.open_push ≡ true → (stack Full ≡ []) ⊎ (b.open_push ≡ true)) → IsOwned buffers head link (set accounts w b) stack
+    owned_set b new held push = record { chain = o.chain; once = once; recent = recent_set b new; owed = owed o.owed }
+      where
+        once : (x : ℕ) → times x (stack Full) + times x (stack Empty) + held_times x (set accounts w b) ≡ one_where (nat_lt x buffers)
+        once x = let t : times x b.held ≡ times x a.held = ap (times x) held in omega (arith, o.once x, total-set (λ (y : Account). times x y.held) accounts w a b is)
+
+        owed : (stack Full ≡ []) ⊎ HasOpenPush accounts → (stack Full ≡ []) ⊎ HasOpenPush (set accounts w b)
+        owed (inl p) = inl p
+        owed (inr p) = go (ℕ_discrete p.0 w)
+          where
+            here : (stack Full ≡ []) ⊎ (b.open_push ≡ true) → (stack Full ≡ []) ⊎ HasOpenPush (set accounts w b)
+            here (inl e) = inl e
+            here (inr e) = inr (w, b, set_here accounts w b a is, e)
+
+            go : Dec (p.0 ≡ w) → (stack Full ≡ []) ⊎ HasOpenPush (set accounts w b)
+            go (yes e) =
+                let s : p.1 ≡ a = at_one accounts w p.1 a (subst (λ v. StandsAt accounts v p.1) e p.2) is in
+                let t : p.1.open_push ≡ a.open_push = ap (λ (x : Account). x.open_push) s in
+                here (push (sym t ∙ p.3))
+            go (no n) = inr (p.0, p.1, set_else accounts w p.0 b n ∙ p.2, p.3)
+
+    -- the account changes in nothing that ownership reads
+    pub owned_same : (b : Account) → b.full ≡ a.full → b.empty ≡ a.empty → b.held ≡ a.held → b.open_push ≡ a.open_push → IsOwned buffers head link (set accounts w b) stack
+    owned_same b f g held push = owned_set b (keeps_looks b f g) held (λ e. inr (push ∙ e))
+
+    -- a pop takes the first buffer off its stack
+    pub owned_pop :
+        (q : Which) (i : ℕ) (l : Option ℕ) (items : List ℕ) → (look_of a q).head ≡ Some (head q) → (head q).index ≡ Some i → (look_of a q).link ≡ Some l
+        → (rest : List ℕ) × (stack q ≡ i ∷ rest) × IsOwned buffers (put_which q (after (head q) l) head) link (set accounts w (after_pop i items a)) (put_which q rest stack)
+    owned_pop q i l items hit top next = (rest, r.1, record { chain = chain; once = once; recent = recent; owed = owed o.owed })
+      where
+        r : (xs : List ℕ) × (stack q ≡ i ∷ xs) × Chain link (link i) xs
+        r = chain_rest link (head q).index (stack q) i (o.chain q) top
+
+        rest : List ℕ
+        rest = r.0
+
+        b : Account
+        b = after_pop i items a
+
+        stands : link i ≡ l
+        stands = recent_link link (head q) (look_of a q) i l (o.recent q w a is) hit top next
+
+        chain : (p : Which) → Chain link (put_which q (after (head q) l) head p).index (put_which q rest stack p)
+        chain = put_two (λ (h : Head) (xs : List ℕ). Chain link h.index xs) q (after (head q) l) rest head stack (subst (λ n. Chain link n rest) stands r.2) o.chain
+
+        once : (x : ℕ) → times x (put_which q rest stack Full) + times x (put_which q rest stack Empty) + held_times x (set accounts w b) ≡ one_where (nat_lt x buffers)
+        once x = omega (arith, o.once x, popped_sum q i rest stack r.1 x, total-set (λ (y : Account). times x y.held) accounts w a b is, total-append (only x) a.held (i ∷ []))
+
+        recent : (p : Which) (v : ℕ) (x : Account) → StandsAt (set accounts w b) v x → IsRecent link (put_which q (after (head q) l) head p) (look_of x p)
+        recent =
+            put_one (λ p (h : Head). (v : ℕ) (x : Account) → StandsAt (set accounts w b) v x → IsRecent link h (look_of x p)) q (after (head q) l) head
+            (λ v x at. recent_after link (head q) (look_of x q) l (recent_set b (keeps_looks b refl refl) q v x at))
+            (recent_set b (keeps_looks b refl refl))
+
+        owed : (stack Full ≡ []) ⊎ HasOpenPush accounts → (put_which q rest stack Full ≡ []) ⊎ HasOpenPush (set accounts w b)
+        owed (inl p) = inl (popped_nothing q i rest stack r.1 p)
+        owed (inr p) = inr (open_set accounts w a b is (λ e. e) p)
+
+    -- a push puts the buffer before its stack
+    pub owned_push :
+        (q : Which) (i : ℕ) (items : List ℕ) → 0 < times i a.held → link i ≡ (head q).index
+        → IsOwned buffers (put_which q (after (head q) (Some i)) head) link (set accounts w (after_push q i items a)) (put_which q (i ∷ stack q) stack)
+    owned_push q i items mine leads = record { chain = chain; once = once; recent = recent; owed = owed q o.owed }
+      where
+        b : Account
+        b = after_push q i items a
+
+        chain : (p : Which) → Chain link (put_which q (after (head q) (Some i)) head p).index (put_which q (i ∷ stack q) stack p)
+        chain = put_two (λ (h : Head) (xs : List ℕ). Chain link h.index xs) q (after (head q) (Some i)) (i ∷ stack q) head stack (chain_more link (head q).index (stack q) i (o.chain q) leads) o.chain
+
+        once : (x : ℕ) → times x (put_which q (i ∷ stack q) stack Full) + times x (put_which q (i ∷ stack q) stack Empty) + held_times x (set accounts w b) ≡ one_where (nat_lt x buffers)
+        once x = omega (arith, o.once x, pushed_sum q i stack x, total-set (λ (y : Account). times x y.held) accounts w a b is, times-remove_one x i a.held mine)
+
+        recent : (p : Which) (v : ℕ) (x : Account) → StandsAt (set accounts w b) v x → IsRecent link (put_which q (after (head q) (Some i)) head p) (look_of x p)
+        recent =
+            put_one (λ p (h : Head). (v : ℕ) (x : Account) → StandsAt (set accounts w b) v x → IsRecent link h (look_of x p)) q (after (head q) (Some i)) head
+            (λ v x at. recent_after link (head q) (look_of x q) (Some i) (recent_set b (keeps_looks b refl refl) q v x at))
+            (recent_set b (keeps_looks b refl refl))
+
+        owed : (p : Which) → (stack Full ≡ []) ⊎ HasOpenPush accounts → (put_which p (i ∷ stack p) stack Full ≡ []) ⊎ HasOpenPush (set accounts w (after_push p i items a))
+        owed Full old = inr (w, after_push Full i items a, set_here accounts w (after_push Full i items a) a is, refl)
+        owed Empty (inl e) = inl e
+        owed Empty (inr e) = inr (open_set accounts w a (after_push Empty i items a) is (λ t. t) e)
+
+    -- two accounts are put together
+    pub owned_join : (v : ℕ) (b : Account) → v ≢ w → StandsAt accounts v b → IsOwned buffers head link (set (set accounts w (after_join a b)) v spent) stack
+    owned_join v b apart at = record { chain = o.chain; once = once; recent = recent; owed = owed o.owed }
+      where
+        both : Account
+        both = after_join a b
+
+        still : StandsAt (set accounts w both) v b
+        still = set_else accounts w v both apart ∙ at
+
+        once : (x : ℕ) → times x (stack Full) + times x (stack Empty) + held_times x (set (set accounts w both) v spent) ≡ one_where (nat_lt x buffers)
+        once x =
+            omega (
+              arith,
+              o.once x,
+              total-set (λ (y : Account). times x y.held) accounts w a both is,
+              total-set (λ (y : Account). times x y.held) (set accounts w both) v b spent still,
+              total-append (only x) a.held b.held,
+            )
+
+        recent : (q : Which) (u : ℕ) (x : Account) → StandsAt (set (set accounts w both) v spent) u x → IsRecent link (head q) (look_of x q)
+        recent q u x e = go (at_set (set accounts w both) v u spent x e)
+          where
+            blank : (p : Which) → IsRecent link (head p) (look_of spent p)
+            blank Full = recent_blank link (head Full)
+            blank Empty = recent_blank link (head Empty)
+
+            go : ((u ≡ v) × (spent ≡ x)) ⊎ ((u ≢ v) × StandsAt (set accounts w both) u x) → IsRecent link (head q) (look_of x q)
+            go (inl p) = subst (λ y. IsRecent link (head q) (look_of y q)) p.1 (blank q)
+            go (inr p) = recent_set both (keeps_looks both refl refl) q u x p.1
+
+        first : Account → Account → StandsAt (set (set accounts w both) v spent) w both
+        first x y = set_else (set accounts w both) v w spent (λ e. apart (sym e)) ∙ set_here accounts w both a is
+
+        owed : (stack Full ≡ []) ⊎ HasOpenPush accounts → (stack Full ≡ []) ⊎ HasOpenPush (set (set accounts w both) v spent)
+        owed (inl p) = inl p
+        owed (inr p) = go (ℕ_discrete p.0 w) (ℕ_discrete p.0 v)
+          where
+            go : Dec (p.0 ≡ w) → Dec (p.0 ≡ v) → (stack Full ≡ []) ⊎ HasOpenPush (set (set accounts w both) v spent)
+            go (yes e) d =
+                let s : p.1 ≡ a = at_one accounts w p.1 a (subst (λ u. StandsAt accounts u p.1) e p.2) is in
+                let t : p.1.open_push ≡ a.open_push = ap (λ (x : Account). x.open_push) s in
+                inr (w, both, first a a, or_first a.open_push b.open_push (sym t ∙ p.3))
+            go (no n) (yes e) =
+                let s : p.1 ≡ b = at_one accounts v p.1 b (subst (λ u. StandsAt accounts u p.1) e p.2) at in
+                let t : p.1.open_push ≡ b.open_push = ap (λ (x : Account). x.open_push) s in
+                inr (w, both, first a a, or_second a.open_push b.open_push (sym t ∙ p.3))
+            go (no n) (no k) = inr (p.0, p.1, set_else (set accounts w both) v p.0 spent k ∙ (set_else accounts w p.0 both n ∙ p.2), p.3)
