@@ -1,5 +1,4 @@
-use Rattle.std.proofs.Common.{arith, rules, ◌<◌}
-use Rattle.std.proofs.lemmas.Grind.{common_steps}
+use Rattle.std.proofs.Common.{arith, ◌<◌}
 use Rattle.hprof_grammar.specs.Reading.{static_at}
 use Rattle.hprof_grammar.proofs.Counts.{list_stops}
 use Rattle.hprof_grammar.proofs.sub_records.statics.Goals as goal
