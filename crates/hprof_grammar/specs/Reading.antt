@@ -117,3 +117,9 @@ block_at = as_at (λ p. p.1) (pair_at (number_at 4) (λ n. raw_at n))
 unfoldable pub frame_at : List ℕ → Result ((ℕ × ℕ × List ℕ) × List ℕ) Flaw
 frame_at [] = Err Short
 frame_at (tag ∷ bytes) = as_at (λ p. (tag, p.0, p.1)) (pair_at (number_at 4) (λ _. block_at)) bytes
+
+-- the code by which a flaw is told
+abbrev pub code_of : Flaw → ℕ
+code_of UnknownTag = 5
+code_of Short = 6
+code_of WrongType = 7

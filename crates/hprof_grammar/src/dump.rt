@@ -1,5 +1,10 @@
 //! A dump, as places in its bytes.
 
+ghost use Rattle.std.specs.Prelude.{◌≡◌, IfErr, IfOk, OnOk};
+ghost use Rattle.hprof_grammar.specs.Joining.{noted, nothing_of, with_loaded, with_string};
+
+use crate::flaw::ReadRefusal;
+use crate::tables::Kind;
 use std::alloc::Allocator;
 use std::marker::Model;
 
@@ -20,4 +25,83 @@ impl<A: Allocator> Model for Dump<A> {
     ghost Value = { Places };
 
     ghost view = { λ d. record { id_size = d.id_size; strings = d.strings.items; loaded = d.loaded.items; roots = d.roots.items; objects = d.objects.items } };
+}
+
+impl<A: Allocator> Dump<A> {
+    /// The bytes of an identifier.
+    pub fn id_size(&self) -> u8
+        ensures { result ≡ self.now.id_size }
+    {
+        self.id_size
+    }
+
+    /// The places of the STRING IN UTF8 records.
+    pub fn strings(&self) -> &[u32]
+        ensures { result.now ≡ self.now.strings }
+    {
+        &self.strings
+    }
+
+    /// The places of the LOAD CLASS records.
+    pub fn loaded(&self) -> &[u32]
+        ensures { result.now ≡ self.now.loaded }
+    {
+        &self.loaded
+    }
+
+    /// The places of the root sub-records.
+    pub fn roots(&self) -> &[u32]
+        ensures { result.now ≡ self.now.roots }
+    {
+        &self.roots
+    }
+
+    /// The places of the class, instance and array dumps.
+    pub fn objects(&self) -> &[u32]
+        ensures { result.now ≡ self.now.objects }
+    {
+        &self.objects
+    }
+
+    /// Notes where a sub-record stands.
+    pub(crate) fn note(&mut self, kind: Kind, at: u32) -> Result<(), ReadRefusal>
+        ensures ok { OnOk result (self.new ≡ noted self.old kind at) }
+        ensures memory { IfErr result (λ e. e ≡ ReadRefusal.OutOfMemory) }
+    {
+        match kind {
+            Kind::Root(_) => self.roots.push(at).map_err(|_| ReadRefusal::OutOfMemory),
+            _ => self.objects.push(at).map_err(|_| ReadRefusal::OutOfMemory),
+        }
+    }
+
+    /// Notes where a STRING IN UTF8 record stands.
+    pub(crate) fn note_string(&mut self, at: u32) -> Result<(), ReadRefusal>
+        ensures ok { OnOk result (self.new ≡ with_string self.old at) }
+        ensures memory { IfErr result (λ e. e ≡ ReadRefusal.OutOfMemory) }
+    {
+        self.strings.push(at).map_err(|_| ReadRefusal::OutOfMemory)
+    }
+
+    /// Notes where a LOAD CLASS record stands.
+    pub(crate) fn note_loaded(&mut self, at: u32) -> Result<(), ReadRefusal>
+        ensures ok { OnOk result (self.new ≡ with_loaded self.old at) }
+        ensures memory { IfErr result (λ e. e ≡ ReadRefusal.OutOfMemory) }
+    {
+        self.loaded.push(at).map_err(|_| ReadRefusal::OutOfMemory)
+    }
+}
+
+impl<A: Allocator + Copy> Dump<A> {
+    /// A dump of which nothing was read yet.
+    pub(crate) fn new(alloc: A, id_size: u8) -> Self
+        ensures { result ≡ nothing_of id_size }
+    {
+        Dump {
+            id_size,
+            strings: Vec::new(alloc),
+            loaded: Vec::new(alloc),
+            roots: Vec::new(alloc),
+            objects: Vec::new(alloc),
+        }
+    }
 }

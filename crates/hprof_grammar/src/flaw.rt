@@ -14,6 +14,22 @@ pub enum Flaw {
     WrongType,
 }
 
+impl Flaw {
+    ghost use Rattle.std.specs.Prelude.{◌≡◌};
+    ghost use Rattle.hprof_grammar.specs.Reading as reading;
+
+    /// The code by which it is told.
+    pub fn code(self) -> u8
+        ensures { result ≡ reading.code_of self }
+    {
+        match self {
+            Flaw::UnknownTag => 5,
+            Flaw::Short => 6,
+            Flaw::WrongType => 7,
+        }
+    }
+}
+
 /// The first fault of bytes that are no dump.
 #[derive(Clone, Copy, Debug, PartialEq, Eq, Error)]
 #[error("fault {code} at {offset}")]
