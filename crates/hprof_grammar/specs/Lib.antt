@@ -7,3 +7,6 @@ pub mod Fault
 pub mod Reading
 pub mod Orders
 pub mod Joining
+pub mod Series
+pub mod Standing
+pub mod ObjectKinds

@@ -7,6 +7,9 @@ mod order;
 mod reader;
 mod sub_records;
 mod tables;
+mod view;
 
 pub use dump::Dump;
 pub use flaw::{FormatFault, ReadRefusal};
+pub use view::ids::Ids;
+pub use view::{ObjectKind, View};

@@ -1,0 +1,111 @@
+-- The fields of sub-records, each at its place.
+use Rattle.std.proofs.Common.{List, ap, ◌∙◌, Some, [], arith, drop, length, map, slice_index, take, true, ℕ, ◌*◌, ◌++◌, ◌+◌, ◌<◌, ◌∷◌, ◌≡◌, ◌≤◌}
+use Rattle.hprof_grammar.specs.Spelling.{Field, bytes_of, spelled}
+use Rattle.hprof_grammar.specs.Spelling.Field.{number, raw, type_code}
+use Rattle.hprof_grammar.specs.SubRecord.{Class, Instance, ObjectArray, PrimitiveArray, Root, SubRecord, class_fields, fields_of, instance_fields, object_array_fields, primitive_array_fields}
+use Rattle.hprof_grammar.specs.SubRecord.SubRecord.{class_dump, instance_dump, object_array_dump, primitive_array_dump, root}
+use Rattle.hprof_grammar.specs.Standing.{Sight, Stands, StandsAt, id_of}
+use Rattle.hprof_grammar.specs.Series.{numbers_in}
+use Rattle.hprof_grammar.proofs.SeriesRead.{numbers_again, widths-numbers}
+use Rattle.hprof_grammar.proofs.Places.{ByteAt, NumberAt, Spell, byte_read, fields_stand, first_stands, in_sight, length-spelled, number_stands, sub_stands}
+
+-- ---- any sub-record
+
+object_id_stands : (s : ℕ) (bytes : List ℕ) (at : ℕ) (sub : SubRecord) → StandsAt s bytes at sub → NumberAt bytes (at + 1) s (id_of sub)
+object_id_stands s bytes at (root r) h = number_stands bytes at r.tag (at + 1) [] s r.object (drop 1 (fields_of s (root r))) (sub_stands s bytes at (root r) h) h.is.formed.object (omega arith)
+object_id_stands s bytes at (class_dump c) h = number_stands bytes at 0x20 (at + 1) [] s c.object (drop 1 (class_fields s c)) (sub_stands s bytes at (class_dump c) h) h.is.formed.1.object (omega arith)
+object_id_stands s bytes at (instance_dump i) h = number_stands bytes at 0x21 (at + 1) [] s i.object (drop 1 (instance_fields s i)) (sub_stands s bytes at (instance_dump i) h) h.is.formed.1.object (omega arith)
+object_id_stands s bytes at (object_array_dump a) h = number_stands bytes at 0x22 (at + 1) [] s a.object (drop 1 (object_array_fields s a)) (sub_stands s bytes at (object_array_dump a) h) h.is.formed.1.object (omega arith)
+object_id_stands s bytes at (primitive_array_dump a) h = number_stands bytes at 0x23 (at + 1) [] s a.object (drop 1 (primitive_array_fields s a)) (sub_stands s bytes at (primitive_array_dump a) h) h.is.formed.1.object (omega arith)
+
+-- in these lemmas w is what the fields of a view show, and v is the view
+pub object_id : {v w : Sight} → w ≡ v → (at : ℕ) (sub : SubRecord) → Stands v at sub → NumberAt w.bytes (at + 1) w.id_size (id_of sub)
+object_id {v} {w} e at sub h = object_id_stands w.id_size w.bytes at sub (in_sight v w at sub e h)
+
+-- ---- instances
+
+instance_field : {v w : Sight} → w ≡ v → (at : ℕ) (i : Instance) → Stands v at (instance_dump i) → Spell w.bytes at (0x21 ∷ spelled (instance_fields w.id_size i))
+instance_field {v} {w} e at i h = sub_stands w.id_size w.bytes at (instance_dump i) (in_sight v w at (instance_dump i) e h)
+
+pub instance_class : {v w : Sight} → w ≡ v → (at : ℕ) (i : Instance) → Stands v at (instance_dump i) → NumberAt w.bytes (at + 5 + w.id_size) w.id_size i.class
+instance_class {v} {w} e at i h =
+    let s = w.id_size in
+    number_stands w.bytes at 0x21 (at + 5 + s) (number s i.object ∷ number 4 i.stack ∷ []) s i.class (drop 3 (instance_fields s i)) (instance_field e at i h) (in_sight v w at (instance_dump i) e h).is.formed.1.class (omega arith)
+
+pub instance_count : {v w : Sight} → w ≡ v → (at : ℕ) (i : Instance) → Stands v at (instance_dump i) → NumberAt w.bytes (at + 5 + 2 * w.id_size) 4 (length i.values)
+instance_count {v} {w} e at i h =
+    let s = w.id_size in
+    number_stands w.bytes at 0x21 (at + 5 + 2 * s) (number s i.object ∷ number 4 i.stack ∷ number s i.class ∷ []) 4 (length i.values) (raw i.values ∷ []) (instance_field e at i h) (in_sight v w at (instance_dump i) e h).is.formed.1.values (omega arith)
+
+pub instance_values : {v w : Sight} → w ≡ v → (at : ℕ) (i : Instance) → Stands v at (instance_dump i) → Spell w.bytes (at + 5 + 2 * w.id_size + 4) i.values
+instance_values {v} {w} e at i h =
+    let s = w.id_size in
+    first_stands w.bytes (at + 5 + 2 * s + 4) i.values [] (fields_stand w.bytes at 0x21 (at + 5 + 2 * s + 4) (number s i.object ∷ number 4 i.stack ∷ number s i.class ∷ number 4 (length i.values) ∷ []) (raw i.values ∷ []) (instance_field e at i h) (omega arith))
+
+-- ---- object arrays
+
+object_array_field : {v w : Sight} → w ≡ v → (at : ℕ) (a : ObjectArray) → Stands v at (object_array_dump a) → Spell w.bytes at (0x22 ∷ spelled (object_array_fields w.id_size a))
+object_array_field {v} {w} e at a h = sub_stands w.id_size w.bytes at (object_array_dump a) (in_sight v w at (object_array_dump a) e h)
+
+pub array_count : {v w : Sight} → w ≡ v → (at : ℕ) (a : ObjectArray) → Stands v at (object_array_dump a) → NumberAt w.bytes (at + 5 + w.id_size) 4 (length a.elements)
+array_count {v} {w} e at a h =
+    let s = w.id_size in
+    number_stands w.bytes at 0x22 (at + 5 + s) (number s a.object ∷ number 4 a.stack ∷ []) 4 (length a.elements) (drop 3 (object_array_fields s a)) (object_array_field e at a h) (in_sight v w at (object_array_dump a) e h).is.formed.1.count (omega arith)
+
+pub array_class : {v w : Sight} → w ≡ v → (at : ℕ) (a : ObjectArray) → Stands v at (object_array_dump a) → NumberAt w.bytes (at + 9 + w.id_size) w.id_size a.class
+array_class {v} {w} e at a h =
+    let s = w.id_size in
+    number_stands w.bytes at 0x22 (at + 9 + s) (number s a.object ∷ number 4 a.stack ∷ number 4 (length a.elements) ∷ []) s a.class (map (number s) a.elements) (object_array_field e at a h) (in_sight v w at (object_array_dump a) e h).is.formed.1.class (omega arith)
+
+array_elements_stand : {v w : Sight} → w ≡ v → (at : ℕ) (a : ObjectArray) → Stands v at (object_array_dump a) → Spell w.bytes (at + 9 + 2 * w.id_size) (spelled (map (number w.id_size) a.elements))
+array_elements_stand {v} {w} e at a h =
+    let s = w.id_size in
+    fields_stand w.bytes at 0x22 (at + 9 + 2 * s) (number s a.object ∷ number 4 a.stack ∷ number 4 (length a.elements) ∷ number s a.class ∷ []) (map (number s) a.elements) (object_array_field e at a h) (omega arith)
+
+pub array_room : {v w : Sight} → w ≡ v → (at : ℕ) (a : ObjectArray) → Stands v at (object_array_dump a) → at + 9 + 2 * w.id_size + length a.elements * w.id_size ≤ length w.bytes
+array_room {v} {w} e at a h = omega (arith, (array_elements_stand e at a h).inside, length-spelled (map (number w.id_size) a.elements), widths-numbers w.id_size a.elements)
+
+pub array_elements : {v w : Sight} → w ≡ v → (at : ℕ) (a : ObjectArray) → Stands v at (object_array_dump a) → numbers_in w.id_size (length a.elements) (drop (at + 9 + 2 * w.id_size) w.bytes) ≡ a.elements
+array_elements {v} {w} e at a h =
+    let there = array_elements_stand e at a h in
+    ap (numbers_in w.id_size (length a.elements)) there.bytes_are ∙ numbers_again w.id_size a.elements there.rest (in_sight v w at (object_array_dump a) e h).is.formed.1.elements
+
+-- ---- primitive arrays
+
+primitive_array_field : {v w : Sight} → w ≡ v → (at : ℕ) (a : PrimitiveArray) → Stands v at (primitive_array_dump a) → Spell w.bytes at (0x23 ∷ spelled (primitive_array_fields w.id_size a))
+primitive_array_field {v} {w} e at a h = sub_stands w.id_size w.bytes at (primitive_array_dump a) (in_sight v w at (primitive_array_dump a) e h)
+
+pub element_count : {v w : Sight} → w ≡ v → (at : ℕ) (a : PrimitiveArray) → Stands v at (primitive_array_dump a) → NumberAt w.bytes (at + 5 + w.id_size) 4 a.count
+element_count {v} {w} e at a h =
+    let s = w.id_size in
+    number_stands w.bytes at 0x23 (at + 5 + s) (number s a.object ∷ number 4 a.stack ∷ []) 4 a.count (drop 3 (primitive_array_fields s a)) (primitive_array_field e at a h) (in_sight v w at (primitive_array_dump a) e h).is.formed.1.count (omega arith)
+
+pub element_type : {v w : Sight} → w ≡ v → (at : ℕ) (a : PrimitiveArray) → Stands v at (primitive_array_dump a) → ByteAt w.bytes (at + 9 + w.id_size) a.type
+element_type {v} {w} e at a h =
+    let s = w.id_size in
+    byte_read w.bytes (at + 9 + s) a.type (spelled (raw a.values ∷ [])) (fields_stand w.bytes at 0x23 (at + 9 + s) (number s a.object ∷ number 4 a.stack ∷ number 4 a.count ∷ []) (drop 3 (primitive_array_fields s a)) (primitive_array_field e at a h) (omega arith))
+
+-- ---- classes
+
+class_field : {v w : Sight} → w ≡ v → (at : ℕ) (c : Class) → Stands v at (class_dump c) → Spell w.bytes at (0x20 ∷ spelled (class_fields w.id_size c))
+class_field {v} {w} e at c h = sub_stands w.id_size w.bytes at (class_dump c) (in_sight v w at (class_dump c) e h)
+
+pub superclass : {v w : Sight} → w ≡ v → (at : ℕ) (c : Class) → Stands v at (class_dump c) → NumberAt w.bytes (at + 5 + w.id_size) w.id_size c.super
+superclass {v} {w} e at c h =
+    let s = w.id_size in
+    number_stands w.bytes at 0x20 (at + 5 + s) (number s c.object ∷ number 4 c.stack ∷ []) s c.super (drop 3 (class_fields s c)) (class_field e at c h) (in_sight v w at (class_dump c) e h).is.formed.1.super (omega arith)
+
+pub loader : {v w : Sight} → w ≡ v → (at : ℕ) (c : Class) → Stands v at (class_dump c) → NumberAt w.bytes (at + 5 + 2 * w.id_size) w.id_size c.loader
+loader {v} {w} e at c h =
+    let s = w.id_size in
+    number_stands w.bytes at 0x20 (at + 5 + 2 * s) (number s c.object ∷ number 4 c.stack ∷ number s c.super ∷ []) s c.loader (drop 4 (class_fields s c)) (class_field e at c h) (in_sight v w at (class_dump c) e h).is.formed.1.loader (omega arith)
+
+pub signers : {v w : Sight} → w ≡ v → (at : ℕ) (c : Class) → Stands v at (class_dump c) → NumberAt w.bytes (at + 5 + 3 * w.id_size) w.id_size c.signers
+signers {v} {w} e at c h =
+    let s = w.id_size in
+    number_stands w.bytes at 0x20 (at + 5 + 3 * s) (number s c.object ∷ number 4 c.stack ∷ number s c.super ∷ number s c.loader ∷ []) s c.signers (drop 5 (class_fields s c)) (class_field e at c h) (in_sight v w at (class_dump c) e h).is.formed.1.signers (omega arith)
+
+pub domain : {v w : Sight} → w ≡ v → (at : ℕ) (c : Class) → Stands v at (class_dump c) → NumberAt w.bytes (at + 5 + 4 * w.id_size) w.id_size c.domain
+domain {v} {w} e at c h =
+    let s = w.id_size in
+    number_stands w.bytes at 0x20 (at + 5 + 4 * s) (number s c.object ∷ number 4 c.stack ∷ number s c.super ∷ number s c.loader ∷ number s c.signers ∷ []) s c.domain (drop 6 (class_fields s c)) (class_field e at c h) (in_sight v w at (class_dump c) e h).is.formed.1.domain (omega arith)

@@ -1,0 +1,9 @@
+use Rattle.std.proofs.Common.{◌∙◌}
+use Rattle.hprof_grammar.proofs.FieldsStand.{loader}
+use Rattle.hprof_grammar.proofs.view.View.loader.Goals as goal
+
+pub number_at-requires-clause-room : goal.number_at-requires-clause-room
+number_at-requires-clause-room c = (loader c.self.view_is c.args.at c.requires.0 c.requires.1).room
+
+pub returns : goal.returns
+returns c = λ x h. c.number_at.ensures ∙ (loader c.self.view_is c.args.at x h).value

@@ -1,0 +1,9 @@
+use Rattle.std.proofs.Common.{◌∙◌}
+use Rattle.hprof_grammar.proofs.FieldsStand.{domain}
+use Rattle.hprof_grammar.proofs.view.View.protection_domain.Goals as goal
+
+pub number_at-requires-clause-room : goal.number_at-requires-clause-room
+number_at-requires-clause-room c = (domain c.self.view_is c.args.at c.requires.0 c.requires.1).room
+
+pub returns : goal.returns
+returns c = λ x h. c.number_at.ensures ∙ (domain c.self.view_is c.args.at x h).value

@@ -1,0 +1,53 @@
+-- What stands at a place of the bytes, and that the places of a dump hold what they should.
+use Rattle.std.specs.Prelude.{List, Some, drop, filter, flat_map, length, slice_get, ℕ, ◌++◌, ◌≡◌}
+use Rattle.hprof_grammar.specs.Record.{IsRecord, Record, record_spelling, subs_of}
+use Rattle.hprof_grammar.specs.SubRecord.{IsSubRecord, SubRecord, spelling_of}
+use Rattle.hprof_grammar.specs.SubRecord.SubRecord.{class_dump, instance_dump, object_array_dump, primitive_array_dump, root}
+use Rattle.hprof_grammar.specs.Dump.{Places, is_load, is_object, is_root, is_string}
+
+-- the bytes from that place on are the spelling of the sub-record, and then a rest
+pub record StandsAt (s : ℕ) (bytes : List ℕ) (at : ℕ) (sub : SubRecord) : Type 0 where
+  pub rest : List ℕ
+  pub bytes_are : drop at bytes ≡ spelling_of s sub ++ rest
+  pub is : IsSubRecord s sub
+
+-- the bytes from that place on are the spelling of the record, and then a rest
+pub record RecordStandsAt (s : ℕ) (bytes : List ℕ) (at : ℕ) (r : Record) : Type 0 where
+  pub rest : List ℕ
+  pub bytes_are : drop at bytes ≡ record_spelling s r ++ rest
+  pub is : IsRecord s r
+
+-- the bytes of a dump, and the size of its identifiers
+pub record Sight : Type 0 where
+  pub bytes : List ℕ
+  pub id_size : ℕ
+
+abbrev pub Stands : Sight → ℕ → SubRecord → Type 0
+Stands v at sub = StandsAt v.id_size v.bytes at sub
+
+abbrev pub RecordStands : Sight → ℕ → Record → Type 0
+RecordStands v at r = RecordStandsAt v.id_size v.bytes at r
+
+-- the first ID of a sub-record: the object that a root names, or that a dump describes
+abbrev pub id_of : SubRecord → ℕ
+id_of (root r) = r.object
+id_of (class_dump c) = c.object
+id_of (instance_dump i) = i.object
+id_of (object_array_dump a) = a.object
+id_of (primitive_array_dump a) = a.object
+
+-- the heap list: all sub-records of the heap records, in order
+abbrev pub heap_of : List Record → List SubRecord
+heap_of records = flat_map subs_of records
+
+-- there are as many places as things, and at the k-th place stands the k-th thing
+pub record StandInTurn {X : Type 0} (IsAt : ℕ → X → Type 0) (places : List ℕ) (things : List X) : Type 0 where
+  pub count : length places ≡ length things
+  pub each : (k place : ℕ) → slice_get places k ≡ Some place → (x : X) × (slice_get things k ≡ Some x) × IsAt place x
+
+-- each string, loaded class, root and object stands at its place, in turn
+pub record IsPlaced (text : List ℕ) (dump : Places) (records : List Record) : Type 0 where
+  pub strings : StandInTurn (RecordStandsAt dump.id_size text) dump.strings (filter is_string records)
+  pub loaded : StandInTurn (RecordStandsAt dump.id_size text) dump.loaded (filter is_load records)
+  pub roots : StandInTurn (StandsAt dump.id_size text) dump.roots (filter is_root (heap_of records))
+  pub objects : StandInTurn (StandsAt dump.id_size text) dump.objects (filter is_object (heap_of records))

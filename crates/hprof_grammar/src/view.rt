@@ -1,0 +1,100 @@
+//! The fields of a dump's parts, read at the places of the parts.
+//!
+//! Each reader takes a place of a `Dump` and needs that such a part stands there, as `dump_is_placed` says of all
+//! places of a dump. No reader takes memory.
+
+mod arrays;
+mod classes;
+pub mod ids;
+mod instances;
+
+ghost use Rattle.std.specs.Prelude.{Some, true, ◌+◌, ◌≡◌, ◌≤◌, drop, length, take};
+ghost use Rattle.byteorder.specs.Endian.{big_number};
+ghost use Rattle.hprof_grammar.specs.Dump.{is_object};
+ghost use Rattle.hprof_grammar.specs.SubRecord.{SubRecord};
+ghost use Rattle.hprof_grammar.specs.Standing.{Stands, id_of};
+
+use byteorder::{BigEndian, ByteOrder};
+use std::marker::Model;
+
+/// The kind of a sub-record that describes an object.
+#[derive(Clone, Copy, Debug, PartialEq, Eq)]
+pub enum ObjectKind {
+    Class,
+    Instance,
+    ObjectArray,
+    PrimitiveArray,
+}
+
+/// The bytes of a dump, and the size of its identifiers.
+#[derive(Drop)]
+pub struct View<'a> {
+    bytes: &'a [u8],
+    id_size: u8,
+}
+
+impl<'a> Model for View<'a> {
+    ghost use Rattle.std.specs.Prelude.{◌≤◌};
+    ghost use Rattle.hprof_grammar.specs.Standing.{Sight};
+
+    ghost Value = { Sight };
+
+    ghost view = { λ v. record { bytes = v.bytes.now; id_size = v.id_size } };
+
+    ghost invariant = { λ v. (1 ≤ v.id_size) × (v.id_size ≤ 8) };
+}
+
+impl<'a> View<'a> {
+    ghost use Rattle.hprof_grammar.specs.ObjectKinds.{object_kind};
+
+    /// The view of these bytes, with identifiers of `id_size` bytes.
+    pub fn new(bytes: &'a [u8], id_size: u8) -> Self
+        requires low { 1 ≤ id_size }
+        requires high { id_size ≤ 8 }
+        ensures bytes { result.bytes ≡ bytes.now }
+        ensures size { result.id_size ≡ id_size }
+    {
+        View { bytes, id_size }
+    }
+
+    /// The kind of the object that a sub-record describes.
+    pub fn kind(&self, at: u32) -> ObjectKind
+        requires { (sub : SubRecord) × Stands self.now at sub × (is_object sub ≡ true) }
+        ensures { (sub : SubRecord) → Stands self.now at sub → is_object sub ≡ true → object_kind sub ≡ Some result }
+    {
+        match self.bytes[at as usize] {
+            0x20 => ObjectKind::Class,
+            0x21 => ObjectKind::Instance,
+            0x22 => ObjectKind::ObjectArray,
+            _ => ObjectKind::PrimitiveArray,
+        }
+    }
+
+    /// The first identifier of a sub-record: the object that a root names, or that a dump describes.
+    pub fn object_id(&self, at: u32) -> u64
+        requires { (sub : SubRecord) × Stands self.now at sub }
+        ensures { (sub : SubRecord) → Stands self.now at sub → result ≡ id_of sub }
+    {
+        number_at(self.bytes, at as usize + 1, self.id_size as usize)
+    }
+}
+
+/// The number of `width` bytes at a place.
+fn number_at(bytes: &[u8], at: usize, width: usize) -> u64
+    requires low { 1 ≤ width }
+    requires high { width ≤ 8 }
+    requires room { at + width ≤ length bytes.now }
+    ensures { result ≡ big_number width (drop at bytes.now) }
+{
+    BigEndian::read_uint(&bytes[at..], width)
+}
+
+/// The `count` bytes at a place.
+fn bytes_at(bytes: &[u8], at: usize, count: usize) -> &[u8]
+    requires { at + count ≤ length bytes.now }
+    ensures { result.now ≡ take count (drop at bytes.now) }
+{
+    let (_, behind) = bytes.split_at(at);
+    let (part, _) = behind.split_at(count);
+    part
+}

@@ -1,0 +1,79 @@
+//! Identifiers that stand one after the other.
+
+ghost use Rattle.std.specs.Prelude.{◌*◌, ◌+◌, ◌≡◌, ◌≤◌, ◌↔◌, [], IsTrue, drop, length};
+ghost use Rattle.hprof_grammar.specs.Series.{numbers_in};
+
+use crate::view::number_at;
+use std::marker::Model;
+
+/// The identifiers that are left of a list.
+#[derive(Drop)]
+pub struct Ids<'a> {
+    bytes: &'a [u8],
+    width: u8,
+    left: u32,
+}
+
+impl<'a> Model for Ids<'a> {
+    ghost use Rattle.std.specs.Prelude.{List, ℕ};
+    ghost use Rattle.hprof_grammar.specs.Series.{HasNumbers, numbers_in};
+
+    ghost Value = { List ℕ };
+
+    ghost view = { λ v. numbers_in v.width v.left v.bytes.now };
+
+    ghost invariant = { λ v. HasNumbers v.width v.left v.bytes.now };
+}
+
+impl<'a> Ids<'a> {
+    /// The `count` identifiers of `width` bytes at a place.
+    pub(crate) fn new(bytes: &'a [u8], at: usize, width: u8, count: u32) -> Self
+        requires low { 1 ≤ width }
+        requires high { width ≤ 8 }
+        requires room { at + count * width ≤ length bytes.now }
+        ensures { result ≡ numbers_in width count (drop at bytes.now) }
+    {
+        let (_, behind) = bytes.split_at(at);
+        Ids {
+            bytes: behind,
+            width,
+            left: count,
+        }
+    }
+
+    /// How many are left.
+    pub fn len(&self) -> usize
+        ensures { result ≡ length self.now }
+    {
+        self.left as usize
+    }
+
+    /// Whether none is left.
+    pub fn is_empty(&self) -> bool
+        ensures { IsTrue result ↔ (self.now ≡ []) }
+    {
+        self.left == 0
+    }
+}
+
+impl<'a> Iterator for Ids<'a> {
+    ghost use Rattle.std.specs.Iterator.{YieldsFirst, item_count};
+
+    type Item = u64;
+
+    ghost next_gives = { YieldsFirst (λ ids. ids) };
+
+    ghost remaining = { item_count (λ ids. ids) };
+
+    fn next(&mut self) -> Option<u64> {
+        if self.left == 0 {
+            return None;
+        }
+        let width = self.width as usize;
+        let bytes = self.bytes;
+        let (_, behind) = bytes.split_at(width);
+        self.left -= 1;
+        self.bytes = behind;
+        Some(number_at(bytes, 0, width))
+    }
+}
