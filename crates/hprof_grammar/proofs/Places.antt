@@ -7,6 +7,7 @@ use Rattle.byteorder.specs.Numbers.{big_number-reads_back, length-bytes_high_fir
 use Rattle.hprof_grammar.specs.Spelling.{Field, bytes_of, spelled}
 use Rattle.hprof_grammar.specs.Spelling.Field.{number, raw, type_code}
 use Rattle.hprof_grammar.specs.SubRecord.{SubRecord, fields_of, spelling_of, tag_of}
+use Rattle.hprof_grammar.proofs.Fields.{spelled-append}
 use Rattle.hprof_grammar.specs.Standing.{Sight, Stands, StandsAt}
 
 -- from that place on stand these bytes
@@ -83,10 +84,6 @@ length-bytes_of (raw bytes) = refl
 pub length-spelled : (fs : List Field) → length (spelled fs) ≡ widths fs
 length-spelled [] = refl
 length-spelled (f ∷ fs) = omega (arith, length-append (bytes_of f) (spelled fs), length-bytes_of f, length-spelled fs)
-
-pub spelled-append : (fs gs : List Field) → spelled (fs ++ gs) ≡ spelled fs ++ spelled gs
-spelled-append [] gs = refl
-spelled-append (f ∷ fs) gs = ap (λ (l : List ℕ). bytes_of f ++ l) (spelled-append fs gs) ∙ sym (append_assoc (bytes_of f) (spelled fs) (spelled gs))
 
 -- behind a tag and some fields stand the others
 pub fields_stand : (bytes : List ℕ) (at tag place : ℕ) (front more : List Field) → Spell bytes at (tag ∷ spelled (front ++ more)) → place ≡ at + (1 + widths front)
