@@ -1,3 +1,4 @@
 pub mod Options
 pub mod Reachable
+pub mod Steps
 pub mod Walk

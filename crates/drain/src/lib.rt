@@ -3,6 +3,7 @@
 
 mod gate;
 mod marked;
+mod marking;
 mod options;
 mod walk;
 

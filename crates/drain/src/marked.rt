@@ -41,6 +41,13 @@ impl<A: Allocator> Marked<A> {
     ghost use Rattle.std.specs.Prelude.{◌≡◌, ◌↔◌, IsTrue, count_by};
     ghost use Rattle.drain.specs.Reachable.{IsMarked};
 
+    /// The marks, by the number of the object.
+    pub(crate) fn new(marks: Vec<bool, A>) -> Self
+        ensures { result ≡ marks.items }
+    {
+        Marked { marks }
+    }
+
     /// Whether the object is marked. A number that no object has is not.
     pub fn is_marked(&self, object: u32) -> bool
         ensures { IsTrue result ↔ IsMarked self.now object }

@@ -1,0 +1,4 @@
+pub mod Exact
+pub mod Marks
+pub mod Runs
+pub mod Scans
