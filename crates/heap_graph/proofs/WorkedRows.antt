@@ -1,9 +1,8 @@
 -- The definitions on small dumps, by computation.
-use Rattle.std.proofs.Common.{Bool, List, None, Some, [], codes, refl, true, false, ℕ, ◌++◌, ◌∷◌, ◌≡◌, slice_get, subst, sym, zero, suc}
+use Rattle.std.proofs.Common.{Bool, List, Some, [], codes, refl, true, false, ℕ, ◌++◌, ◌∷◌, ◌≡◌, slice_get, subst, sym, zero, suc}
 use Rattle.std.specs.Fmt.{digits}
-use Rattle.byteorder.specs.Endian.{big_bytes}
 use Rattle.hprof_grammar.specs.Tables.{size_of}
-use Rattle.hprof_grammar.specs.SubRecord.{Class, Instance, Member, Root, SubRecord}
+use Rattle.hprof_grammar.specs.SubRecord.{Class, Member, SubRecord}
 use Rattle.hprof_grammar.specs.SubRecord.SubRecord.{class_dump, instance_dump, root}
 use Rattle.hprof_grammar.specs.Record.{Record}
 use Rattle.hprof_grammar.specs.Record.Record.{heap, load_class, string}

@@ -12,3 +12,5 @@ pub mod Reachable
 pub mod ShownNames
 pub mod Histogram
 pub mod Report
+pub mod Pieces
+pub mod Tables

@@ -1,8 +1,14 @@
 //! The objects of a heap dump: their references, roots, rows and bytes, and the rules that link them.
 #![tactic(auto)]
 
+mod entry;
+mod graph;
+mod pieces;
 mod row;
 mod rule;
+mod successors;
 
+pub use graph::Graph;
 pub use row::RowKey;
 pub use rule::{LinkFault, LinkRefusal};
+pub use successors::Successors;

@@ -1,0 +1,15 @@
+//! Pieces of a slice that is cut at rising places.
+
+ghost use Rattle.std.specs.Prelude.{◌+◌, ◌<◌, ◌≡◌, length};
+ghost use Rattle.heap_graph.specs.Pieces.{AreCuts, piece};
+
+/// The piece between a cut and the next.
+pub(crate) fn piece_at<'t>(cuts: &[usize], all: &'t [u32], number: usize) -> &'t [u32]
+    requires rise { AreCuts cuts.now all.now }
+    requires below { number + 1 < length cuts.now }
+    ensures { result.now ≡ piece cuts.now all.now number }
+{
+    let start = cuts[number];
+    let end = cuts[number + 1];
+    &all[start..end]
+}
