@@ -4,6 +4,7 @@
 mod dump;
 mod flaw;
 mod order;
+mod placed;
 mod reader;
 mod sub_records;
 mod tables;
@@ -11,5 +12,6 @@ mod view;
 
 pub use dump::Dump;
 pub use flaw::{FormatFault, ReadRefusal};
+pub use placed::{dump_is_placed, stands_within};
 pub use view::ids::Ids;
 pub use view::{ObjectKind, View};
