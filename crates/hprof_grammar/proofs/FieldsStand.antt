@@ -1,8 +1,8 @@
 -- The fields of sub-records, each at its place.
-use Rattle.std.proofs.Common.{List, ap, ◌∙◌, Some, [], arith, drop, length, map, slice_index, take, true, ℕ, ◌*◌, ◌++◌, ◌+◌, ◌<◌, ◌∷◌, ◌≡◌, ◌≤◌}
-use Rattle.hprof_grammar.specs.Spelling.{Field, bytes_of, spelled}
-use Rattle.hprof_grammar.specs.Spelling.Field.{number, raw, type_code}
-use Rattle.hprof_grammar.specs.SubRecord.{Class, Instance, ObjectArray, PrimitiveArray, Root, SubRecord, class_fields, fields_of, instance_fields, object_array_fields, primitive_array_fields}
+use Rattle.std.proofs.Common.{List, ap, ◌∙◌, [], arith, drop, length, map, ℕ, ◌*◌, ◌+◌, ◌∷◌, ◌≡◌, ◌≤◌}
+use Rattle.hprof_grammar.specs.Spelling.{spelled}
+use Rattle.hprof_grammar.specs.Spelling.Field.{number, raw}
+use Rattle.hprof_grammar.specs.SubRecord.{Class, Instance, ObjectArray, PrimitiveArray, SubRecord, class_fields, fields_of, instance_fields, object_array_fields, primitive_array_fields}
 use Rattle.hprof_grammar.specs.SubRecord.SubRecord.{class_dump, instance_dump, object_array_dump, primitive_array_dump, root}
 use Rattle.hprof_grammar.specs.Standing.{Sight, Stands, StandsAt, id_of}
 use Rattle.hprof_grammar.specs.Series.{numbers_in}

@@ -1,5 +1,5 @@
 -- What is spelled one after the other is read one after the other.
-use Rattle.std.proofs.Common.{List, [], ap, append_assoc, arith, drop, length, map, refl, suc, zero, ℕ, ◌*◌, ◌++◌, ◌+◌, ◌<◌, ◌^◌, ◌∙◌, ◌∷◌, ◌≡◌, ◌≤◌}
+use Rattle.std.proofs.Common.{List, [], ap, append_assoc, arith, drop, length, map, refl, suc, zero, ℕ, ◌*◌, ◌++◌, ◌<◌, ◌^◌, ◌∙◌, ◌∷◌, ◌≡◌}
 use Rattle.std.proofs.Math.Seq.{drop-append_seam}
 use Rattle.std.specs.List.{AllByRecursion}
 use Rattle.byteorder.specs.Endian.{big_bytes, big_number}
@@ -7,7 +7,7 @@ use Rattle.byteorder.specs.Numbers.{big_number-reads_back, length-bytes_high_fir
 use Rattle.hprof_grammar.specs.Spelling.{spelled}
 use Rattle.hprof_grammar.specs.Spelling.Field.{number}
 use Rattle.hprof_grammar.specs.Series.{numbers_in}
-use Rattle.hprof_grammar.proofs.Places.{Spell, widths}
+use Rattle.hprof_grammar.proofs.Places.{widths}
 
 -- ---- numbers
 

@@ -1,4 +1,4 @@
-use Rattle.std.proofs.Common.{ap, arith, drop, length, subst, sym, take, ℕ, ◌+◌, ◌*◌, ◌∙◌, ◌≤◌}
+use Rattle.std.proofs.Common.{ap, arith, drop, take, ℕ, ◌+◌, ◌*◌, ◌∙◌}
 use Rattle.hprof_grammar.proofs.FieldsStand.{instance_count, instance_values}
 use Rattle.hprof_grammar.proofs.Places.{raw_read}
 use Rattle.hprof_grammar.proofs.view.View.instance_values.Goals as goal
