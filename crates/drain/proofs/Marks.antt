@@ -3,7 +3,7 @@ use Rattle.std.proofs.Common.{Bool, Contains, List, [], arith, cond, false, get_
 use Rattle.std.proofs.lemmas.Bool.{cases_eq}
 use Rattle.std.proofs.lemmas.List.Elements.{Contains-append_cases, Contains-append_left, Contains-append_right, Contains-push, Contains-push_cases}
 use Rattle.std.proofs.lemmas.List.Sums.{sum_by-set}
-use Rattle.drain.specs.Reachable.{IsMarked}
+use Rattle.heap_graph.specs.Reachable.{IsMarked}
 use Rattle.drain.specs.Steps.{AreMarked, turns}
 
 pub none_marked : (marks : List Bool) (list : List ℕ) → AreMarked [] marks list marks list

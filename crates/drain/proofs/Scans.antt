@@ -3,7 +3,7 @@ use Rattle.std.proofs.Common.{Bool, Contains, List, [], arith, false, inl, inr, 
 use Rattle.std.proofs.lemmas.Bool.{cases_lt}
 use Rattle.std.proofs.lemmas.List.{get_or-replicate, get_or_past, length-replicate}
 use Rattle.std.proofs.lemmas.List.Elements.{Contains-append_left, Contains-push, Contains-push_cases}
-use Rattle.drain.specs.Reachable.{IsMarked, IsReachable, MarksReachable}
+use Rattle.heap_graph.specs.Reachable.{IsMarked, IsReachable, MarksReachable}
 use Rattle.drain.specs.Steps.{AreMarked, IsMarking}
 use Rattle.drain.proofs.Exact.{exactly_reachable, next_reachable, root_reachable}
 

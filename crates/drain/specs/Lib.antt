@@ -1,4 +1,3 @@
 pub mod Options
-pub mod Reachable
 pub mod Steps
 pub mod Walk

@@ -1,6 +1,6 @@
 -- What a step of the marking in one thread does, and what stays true from step to step.
 use Rattle.std.specs.Prelude.{Bool, Contains, List, count_by, length, not, ℕ, ◌+◌, ◌≡◌, ◌⊎◌}
-use Rattle.drain.specs.Reachable.{IsMarked, IsReachable}
+use Rattle.heap_graph.specs.Reachable.{IsMarked, IsReachable}
 
 -- how many objects are left to scan at most: the listed ones, and those that are not marked
 abbrev pub turns : List Bool → List ℕ → ℕ

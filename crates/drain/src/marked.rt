@@ -39,7 +39,7 @@ impl<A: Allocator> Model for Marked<A> {
 
 impl<A: Allocator> Marked<A> {
     ghost use Rattle.std.specs.Prelude.{◌≡◌, ◌↔◌, IsTrue, count_by};
-    ghost use Rattle.drain.specs.Reachable.{IsMarked};
+    ghost use Rattle.heap_graph.specs.Reachable.{IsMarked};
 
     /// The marks, by the number of the object.
     pub(crate) fn new(marks: Vec<bool, A>) -> Self

@@ -1,7 +1,7 @@
 //! Marking in the calling thread: a vector of marks, and a list of the objects that are still to be scanned.
 
 ghost use Rattle.std.specs.Prelude.{IfOk};
-ghost use Rattle.drain.specs.Reachable.{MarksReachable};
+ghost use Rattle.heap_graph.specs.Reachable.{MarksReachable};
 
 use crate::gate::Gate;
 use crate::marked::Marked;
