@@ -5,3 +5,8 @@ pub mod Ownership
 pub mod Shelves
 pub mod Colours
 pub mod Shares
+pub mod Events
+pub mod Openings
+pub mod Runs
+pub mod Changes
+pub mod Closing

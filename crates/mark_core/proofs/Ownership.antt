@@ -51,11 +51,11 @@ open_set accounts w a b is keep o = go (ℕ_discrete o.0 w)
     go (no n) = (o.0, o.1, set_else accounts w o.0 b n ∙ o.2, o.3)
 
 -- what a pop and a push leave of how often a buffer is stacked
-popped_sum : (q : Which) (i : ℕ) (rest : List ℕ) (stack : Which → List ℕ) → stack q ≡ i ∷ rest → (b : ℕ) → times b (put_which q rest stack Full) + times b (put_which q rest stack Empty) + only b i ≡ times b (stack Full) + times b (stack Empty)
+pub popped_sum : (q : Which) (i : ℕ) (rest : List ℕ) (stack : Which → List ℕ) → stack q ≡ i ∷ rest → (b : ℕ) → times b (put_which q rest stack Full) + times b (put_which q rest stack Empty) + only b i ≡ times b (stack Full) + times b (stack Empty)
 popped_sum Full i rest stack e b = omega (arith, ap (times b) e)
 popped_sum Empty i rest stack e b = omega (arith, ap (times b) e)
 
-pushed_sum : (q : Which) (i : ℕ) (stack : Which → List ℕ) (b : ℕ) → times b (put_which q (i ∷ stack q) stack Full) + times b (put_which q (i ∷ stack q) stack Empty) ≡ times b (stack Full) + times b (stack Empty) + only b i
+pub pushed_sum : (q : Which) (i : ℕ) (stack : Which → List ℕ) (b : ℕ) → times b (put_which q (i ∷ stack q) stack Full) + times b (put_which q (i ∷ stack q) stack Empty) ≡ times b (stack Full) + times b (stack Empty) + only b i
 pushed_sum Full i stack b = omega arith
 pushed_sum Empty i stack b = omega arith
 

@@ -31,6 +31,12 @@ module _ {X : Type 0} (f : X → ℕ) where
   total-nothing [] each = refl
   total-nothing (x ∷ xs) each = omega (arith, each 0 x refl, total-nothing xs (λ i a e. each (suc i) a e))
 
+  -- a sum of which each term but one is 0
+  pub total-alone : (xs : List X) (i : ℕ) (a : X) → StandsAt xs i a → ((j : ℕ) (b : X) → j ≢ i → StandsAt xs j b → f b ≡ 0) → total f xs ≡ f a
+  total-alone [] i a e each = absurd (some-ne-none a (sym e))
+  total-alone (x ∷ xs) zero a e each = let s : f x ≡ f a = ap f (some-injective x a e) in omega (arith, total-nothing xs (λ j b d. each (suc j) b (λ n. omega arith) d))
+  total-alone (x ∷ xs) (suc i) a e each = omega (arith, each 0 x (λ n. omega arith) refl, total-alone xs i a e (λ j b n d. each (suc j) b (λ s. n (omega arith)) d))
+
   -- a sum that is not 0 has a term that is not
   pub some_term : (xs : List X) → 0 < total f xs → (i : ℕ) × (a : X) × StandsAt xs i a × (0 < f a)
   some_term [] h = absurd (omega arith)

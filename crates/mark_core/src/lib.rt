@@ -3,8 +3,10 @@
 
 mod edges;
 mod event;
+mod law;
 mod which;
 
 pub use edges::Edges;
 pub use event::{Event, Kind};
+pub use law::all_runs_keep_law;
 pub use which::Which;

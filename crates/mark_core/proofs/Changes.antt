@@ -1,0 +1,124 @@
+-- What an event leaves of the two lists and of the tags.
+use Rattle.std.proofs.Common.{◌≡◌, ◌≢◌, ◌⊎◌, ℕ, ◌+◌, List, ◌∷◌, Option, Some, None, ap, sym, refl, subst, ◌∙◌, inl, inr, ◌<◌, arith}
+use Rattle.tagged_index.specs.Head.{Head, after}
+use Rattle.mark_core.specs.declared.which.Which.{Which}
+use Rattle.mark_core.specs.declared.which.Which.TheVariants.{Full, Empty}
+use Rattle.mark_core.specs.Lists.{times}
+use Rattle.mark_core.specs.Account.{Account, look_of, spent}
+use Rattle.mark_core.specs.World.{Setup, Marking, account_at, IsThere, put, put_which}
+use Rattle.mark_core.specs.Event.{Kind, Claim, Finish, Split, Join, Load, LoadLink, StoreLink, Pop, Push, Fail, Allows, effect, popped}
+use Rattle.mark_core.specs.Ownership.{Chain}
+use Rattle.mark_core.specs.Law.{Law}
+use Rattle.mark_core.specs.Runs.{IsListOf, Changes, StacksChange, TagsRise}
+use Rattle.mark_core.proofs.Places.{at_get_or, put_else, put_one}
+use Rattle.mark_core.proofs.Sums.{stands_times}
+use Rattle.mark_core.proofs.Chains.{chain_one, chain_links, chain_rest, chain_more, recent_link}
+use Rattle.mark_core.proofs.Ownership.{held_apart}
+use Rattle.mark_core.proofs.Runs.{runs_keep_law}
+
+-- an exchange of one head: of its stack one list is left, and of the other stack the same
+exchanged :
+    (link : ℕ → Option ℕ) (head : Which → Head) (p q : Which) (h : Head) (old new list : List ℕ) → Chain link (head q).index old → Chain link h.index list → Chain link (put_which p h head q).index new
+    → (p ≡ q → new ≡ list) × (p ≢ q → new ≡ old)
+exchanged link head Full Full h old new list c d n = ((λ e. chain_one link h.index new list n d), (λ k. absurd (k refl)))
+exchanged link head Full Empty h old new list c d n = ((λ e. let f : ⊥ = cc in absurd f), (λ k. chain_one link (head Empty).index new old n c))
+exchanged link head Empty Full h old new list c d n = ((λ e. let f : ⊥ = cc in absurd f), (λ k. chain_one link (head Full).index new old n c))
+exchanged link head Empty Empty h old new list c d n = ((λ e. chain_one link h.index new list n d), (λ k. absurd (k refl)))
+
+module _ (e : Setup) (m : Marking) (law : Law e m) (w : ℕ) (a : Account) (there : IsThere m.accounts w a) where
+  -- after a pop: the rest of the stack, whose list this was
+  pub pop_takes :
+      (p q : Which) (i : ℕ) (l : Option ℕ) → (look_of a p).head ≡ Some (m.head p) → (m.head p).index ≡ Some i → (look_of a p).link ≡ Some l
+      → (old new : List ℕ) → IsListOf m q old → Chain m.link (put_which p (after (m.head p) l) m.head q).index new
+      → (p ≡ q → (k : ℕ) × (old ≡ k ∷ new)) × (p ≢ q → new ≡ old)
+  pop_takes p q i l hit top next old new c n = (taken, both.1)
+    where
+      r : (rest : List ℕ) × (law.stack p ≡ i ∷ rest) × Chain m.link (m.link i) rest
+      r = chain_rest m.link (m.head p).index (law.stack p) i (law.owned.chain p) top
+
+      stands : m.link i ≡ l
+      stands = recent_link m.link (m.head p) (look_of a p) i l (law.owned.recent p w a there.0) hit top next
+
+      both : (p ≡ q → new ≡ r.0) × (p ≢ q → new ≡ old)
+      both = exchanged m.link m.head p q (after (m.head p) l) old new r.0 c (subst (λ x. Chain m.link x r.0) stands r.2) n
+
+      taken : p ≡ q → (k : ℕ) × (old ≡ k ∷ new)
+      taken s =
+          let was : old ≡ law.stack p = chain_one m.link (m.head p).index old (law.stack p) (subst (λ z. IsListOf m z old) (sym s) c) (law.owned.chain p) in
+          let rest = both.0 s in
+          (i, was ∙ (r.1 ∙ ap (λ xs. i ∷ xs) (sym rest)))
+
+  -- after a push: the buffer and the stack, whose list this was
+  pub push_puts :
+      (p q : Which) (i : ℕ) → m.link i ≡ (m.head p).index
+      → (old new : List ℕ) → IsListOf m q old → Chain m.link (put_which p (after (m.head p) (Some i)) m.head q).index new
+      → (p ≡ q → new ≡ i ∷ old) × (p ≢ q → new ≡ old)
+  push_puts p q i leads old new c n = (put_on, both.1)
+    where
+      both : (p ≡ q → new ≡ i ∷ law.stack p) × (p ≢ q → new ≡ old)
+      both = exchanged m.link m.head p q (after (m.head p) (Some i)) old new (i ∷ law.stack p) c (chain_more m.link (m.head p).index (law.stack p) i (law.owned.chain p) leads) n
+
+      put_on : p ≡ q → new ≡ i ∷ old
+      put_on s =
+          let was : old ≡ law.stack p = chain_one m.link (m.head p).index old (law.stack p) (subst (λ z. IsListOf m z old) (sym s) c) (law.owned.chain p) in
+          both.0 s ∙ ap (λ xs. i ∷ xs) (sym was)
+
+  -- a store at a held buffer changes no list
+  pub store_leaves : (q : Which) (i : ℕ) (l : Option ℕ) → 0 < times i a.held → (old new : List ℕ) → IsListOf m q old → Chain (put i l m.link) (m.head q).index new → new ≡ old
+  store_leaves q i l mine old new c n = chain_one (put i l m.link) (m.head q).index new old n (chain_links m.link (put i l m.link) (m.head q).index old (λ b h. put_else i b l m.link (other b h)) c)
+    where
+      apart : (i < e.buffers) × (times i (law.stack Full) ≡ 0) × (times i (law.stack Empty) ≡ 0)
+      apart = held_apart e.buffers m.head m.link m.accounts law.stack law.owned w a there.0 i mine
+
+      on_no : (p : Which) → times i (law.stack p) ≡ 0
+      on_no Full = apart.1
+      on_no Empty = apart.2
+
+      other : (b : ℕ) → 0 < times b old → b ≢ i
+      other b h s =
+          let was : old ≡ law.stack q = chain_one m.link (m.head q).index old (law.stack q) c (law.owned.chain q) in
+          let t : times b old ≡ times i (law.stack q) = ap (λ j. times j old) s ∙ ap (times i) was in
+          absurd (omega (arith, on_no q))
+
+  effect_changes : (kind : Kind) → Allows e m w a kind → (q : Which) (old new : List ℕ) → IsListOf m q old → IsListOf (effect m w a kind) q new → Changes q kind old new
+  effect_changes (Claim o) can q old new c n = chain_one m.link (m.head q).index new old n c
+  effect_changes (Finish o) can q old new c n = chain_one m.link (m.head q).index new old n c
+  effect_changes (Split units) can q old new c n = chain_one m.link (m.head q).index new old n c
+  effect_changes (Join v) can q old new c n = chain_one m.link (m.head q).index new old n c
+  effect_changes (Load p) can q old new c n = chain_one m.link (m.head q).index new old n c
+  effect_changes (LoadLink p) can q old new c n = chain_one m.link (m.head q).index new old n c
+  effect_changes (StoreLink i l) can q old new c n = store_leaves q i l (stands_times a.held i can) old new c n
+  effect_changes (Pop p) can q old new c n =
+      pop_takes p q can.1.0 can.2.0 can.0.0 can.1.1 can.2.1 old new c
+      (subst (λ k. IsListOf (popped m w a p (Some can.1.0) k) q new) can.2.1 (subst (λ x. IsListOf (popped m w a p x (look_of a p).link) q new) can.1.1 n))
+  effect_changes (Push p i items) can q old new c n = push_puts p q i can.2 old new c n
+  effect_changes (Fail p) can q old new c n = chain_one m.link (m.head q).index new old n c
+
+pub stacks_change : StacksChange
+stacks_change e m event run can q old new c n =
+    effect_changes e m (runs_keep_law e m run) event.worker can.0 can.1 event.kind can.2 q old new c
+    (subst (λ x. IsListOf (effect m event.worker x event.kind) q new) (at_get_or m.accounts event.worker can.0 spent can.1.0) n)
+
+-- the head that an exchange writes has the next tag
+tag_after : (m : Marking) (p q : Which) (i : Option ℕ) → (put_which p (after (m.head p) i) m.head q ≡ m.head q) ⊎ ((put_which p (after (m.head p) i) m.head q).tag ≡ (m.head q).tag + 1)
+tag_after m p q i = put_one (λ r h. (h ≡ m.head r) ⊎ (h.tag ≡ (m.head r).tag + 1)) p (after (m.head p) i) m.head (inr refl) (λ r. inl refl) q
+
+effect_rises : (m : Marking) (w : ℕ) (a : Account) (kind : Kind) (q : Which) → ((effect m w a kind).head q ≡ m.head q) ⊎ (((effect m w a kind).head q).tag ≡ (m.head q).tag + 1)
+effect_rises m w a (Claim o) q = inl refl
+effect_rises m w a (Finish o) q = inl refl
+effect_rises m w a (Split units) q = inl refl
+effect_rises m w a (Join v) q = inl refl
+effect_rises m w a (Load p) q = inl refl
+effect_rises m w a (LoadLink p) q = inl refl
+effect_rises m w a (StoreLink i l) q = inl refl
+effect_rises m w a (Pop p) q = go (m.head p).index (look_of a p).link
+  where
+    go : (x : Option ℕ) (k : Option (Option ℕ)) → ((popped m w a p x k).head q ≡ m.head q) ⊎ (((popped m w a p x k).head q).tag ≡ (m.head q).tag + 1)
+    go (Some i) (Some l) = tag_after m p q l
+    go (Some i) None = inl refl
+    go None k = inl refl
+effect_rises m w a (Push p i items) q = tag_after m p q (Some i)
+effect_rises m w a (Fail p) q = inl refl
+
+pub tags_rise : TagsRise
+tags_rise m event q = effect_rises m event.worker (account_at m.accounts event.worker) event.kind q

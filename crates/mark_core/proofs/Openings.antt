@@ -1,0 +1,128 @@
+-- The law holds of an opening marking.
+use Rattle.std.proofs.Common.{◌≡◌, ◌⊎◌, ℕ, zero, suc, ◌+◌, ◌<◌, ◌≤◌, nat_lt, List, [], ◌∷◌, Option, Some, None, Contains, if◌then◌else◌, replicate, ap, sym, refl, subst, inl, inr, lt-ltb, le-ltb, arith}
+use mathlib.Core.Option.{some-injective, some-ne-none}
+use native.Mathlib.Decide.{dec_le, ℕ_discrete}
+use lib.ListN.{length-replicate}
+use Rattle.mark_core.specs.declared.which.Which.{Which}
+use Rattle.mark_core.specs.declared.which.Which.TheVariants.{Full, Empty}
+use Rattle.mark_core.specs.Lists.{StandsAt, times, one_where}
+use Rattle.mark_core.specs.Account.{Account, look_of, part}
+use Rattle.mark_core.specs.World.{Setup, items_of}
+use Rattle.mark_core.specs.Ownership.{Chain, IsOwned, IsShelved, IsRecent}
+use Rattle.mark_core.specs.Colours.{IsColoured, stacked_times}
+use Rattle.mark_core.specs.Shares.{IsShared, whole}
+use Rattle.mark_core.specs.Law.{Law}
+use Rattle.mark_core.specs.Runs.{first_heads, first_link, opening}
+use Rattle.mark_core.proofs.Sums.{total-nothing, only-same, only-other}
+use Rattle.mark_core.proofs.Chains.{recent_blank}
+
+-- n numbers from k on
+abbrev numbers : ℕ → ℕ → List ℕ
+numbers k zero = []
+numbers k (suc n) = k ∷ numbers (suc k) n
+
+numbers_none : (n k b : ℕ) → (b < k) ⊎ (k + n ≤ b) → times b (numbers k n) ≡ 0
+numbers_none zero k b h = refl
+numbers_none (suc n) k b (inl h) = omega (arith, only-other b k (λ e. omega arith), numbers_none n (suc k) b (inl (omega arith)))
+numbers_none (suc n) k b (inr h) = omega (arith, only-other b k (λ e. omega arith), numbers_none n (suc k) b (inr (omega arith)))
+
+numbers_once : (n k b : ℕ) → k ≤ b → b < k + n → times b (numbers k n) ≡ 1
+numbers_once zero k b low high = absurd (omega arith)
+numbers_once (suc n) k b low high = go (ℕ_discrete k b) (numbers_once n (suc k) b)
+  where
+    go : Dec (k ≡ b) → (suc k ≤ b → b < suc k + n → times b (numbers (suc k) n) ≡ 1) → times b (numbers k (suc n)) ≡ 1
+    go (yes e) rest = omega (arith, only-same b k e, numbers_none n (suc k) b (inl (omega arith)))
+    go (no d) rest = omega (arith, only-other b k d, rest (omega arith) (omega arith))
+
+numbers_counted : (n b : ℕ) → times b (numbers 0 n) ≡ one_where (nat_lt b n)
+numbers_counted n b = go (dec_le n b)
+  where
+    go : Dec (n ≤ b) → times b (numbers 0 n) ≡ one_where (nat_lt b n)
+    go (yes h) = omega (arith, numbers_none n 0 b (inr (omega arith)), ap one_where (le-ltb b n h))
+    go (no d) = omega (arith, numbers_once n 0 b (omega arith) (omega arith), ap one_where (lt-ltb b n (omega arith)))
+
+-- the number k, while it is below the buffers
+abbrev below : ℕ → ℕ → Option ℕ
+below buffers k = if nat_lt k buffers then Some k else None
+
+chain_numbers : (buffers n k : ℕ) → k + n ≡ buffers → Chain (first_link buffers) (below buffers k) (numbers k n)
+chain_numbers buffers zero k e = ap (λ t. if t then Some k else None) (le-ltb k buffers (omega arith))
+chain_numbers buffers (suc n) k e = (
+  ap (λ t. if t then Some k else None) (lt-ltb k buffers (omega arith)),
+  (let s : suc k ≡ k + 1 = omega arith in subst (λ j. Chain (first_link buffers) (below buffers j) (numbers (suc k) n)) s (chain_numbers buffers n (suc k) (omega arith))),
+)
+
+at_replicate : {X : Type 0} (n i : ℕ) (x : X) → i < n → StandsAt (replicate n x) i x
+at_replicate zero i x h = absurd (omega arith)
+at_replicate (suc n) zero x h = refl
+at_replicate (suc n) (suc i) x h = at_replicate n i x (omega arith)
+
+in_replicate : {X : Type 0} (n i : ℕ) (x y : X) → StandsAt (replicate n x) i y → x ≡ y
+in_replicate zero i x y e = absurd (some-ne-none y (sym e))
+in_replicate (suc n) zero x y e = some-injective x y e
+in_replicate (suc n) (suc i) x y e = in_replicate n i x y e
+
+-- the one account of an opening marking
+alone : (w : ℕ) (a x : Account) → StandsAt (a ∷ []) w x → a ≡ x
+alone zero a x e = some-injective a x e
+alone (suc w) a x e = absurd (some-ne-none x (sym e))
+
+module _ (e : Setup) (tag : ℕ) (some_buffer : 0 < e.buffers) where
+  first_stack : Which → List ℕ
+  first_stack Full = []
+  first_stack Empty = numbers 0 e.buffers
+
+  first_owned : IsOwned e.buffers (first_heads tag) (first_link e.buffers) (part whole ∷ []) first_stack
+  unfolding first_stack
+  first_owned = record { chain = chain; once = λ b. omega (arith, numbers_counted e.buffers b); recent = recent; owed = inl refl }
+    where
+      chain : (q : Which) → Chain (first_link e.buffers) (first_heads tag q).index (first_stack q)
+      chain Full = refl
+      chain Empty =
+          subst (λ n. Chain (first_link e.buffers) n (numbers 0 e.buffers)) (ap (λ t. if t then Some 0 else None) (lt-ltb 0 e.buffers some_buffer)) (chain_numbers e.buffers e.buffers 0 (omega arith))
+
+      blank : (q : Which) → IsRecent (first_link e.buffers) (first_heads tag q) (look_of (part whole) q)
+      blank Full = recent_blank (first_link e.buffers) (first_heads tag Full)
+      blank Empty = recent_blank (first_link e.buffers) (first_heads tag Empty)
+
+      recent : (q : Which) (w : ℕ) (a : Account) → StandsAt (part whole ∷ []) w a → IsRecent (first_link e.buffers) (first_heads tag q) (look_of a q)
+      recent q w a at = subst (λ x. IsRecent (first_link e.buffers) (first_heads tag q) (look_of x q)) (alone w (part whole) a at) (blank q)
+
+  first_shelved : IsShelved e.buffers (replicate e.buffers (Some [])) first_stack
+  unfolding first_stack
+  first_shelved = record { places = length-replicate e.buffers (Some []); stacked = stacked; bare = bare; away = away }
+    where
+      inside : (b : ℕ) → 0 < times b (numbers 0 e.buffers) → b < e.buffers
+      inside b h = go (dec_le e.buffers b)
+        where
+          go : Dec (e.buffers ≤ b) → b < e.buffers
+          go (yes l) = absurd (omega (arith, numbers_none e.buffers 0 b (inr (omega arith))))
+          go (no d) = omega arith
+
+      bare : (b : ℕ) → 0 < times b (first_stack Empty) → StandsAt {X = Option (List ℕ)} (replicate e.buffers (Some [])) b (Some [])
+      bare b h = at_replicate e.buffers b (Some []) (inside b h)
+
+      stacked : (q : Which) (b : ℕ) → 0 < times b (first_stack q) → (items : List ℕ) × StandsAt {X = Option (List ℕ)} (replicate e.buffers (Some [])) b (Some items)
+      stacked Full b h = absurd (omega arith)
+      stacked Empty b h = ([], bare b h)
+
+      away : (b : ℕ) → b < e.buffers → times b (first_stack Full) ≡ 0 → times b (first_stack Empty) ≡ 0 → StandsAt {X = Option (List ℕ)} (replicate e.buffers (Some [])) b None
+      away b l f g = absurd (omega (arith, numbers_once e.buffers 0 b (omega arith) (omega arith)))
+
+  first_coloured : IsColoured e (λ o. 0) (replicate e.buffers (Some [])) (part whole ∷ [])
+  first_coloured =
+      record {
+        tells = λ o. inl (refl, omega (arith, bare o), refl);
+        closed = λ o s two pair. absurd (omega arith);
+        reachable = λ o one. absurd (omega arith);
+        saw = λ w a at o k. let none : Contains [] o = subst (λ (x : Account). Contains x.seen o) (sym (alone w (part whole) a at)) k in absurd (omega (arith, none.1));
+      }
+    where
+      bare : (o : ℕ) → stacked_times o (replicate e.buffers (Some [])) ≡ 0
+      bare o = total-nothing (λ slot. times o (items_of slot)) (replicate e.buffers (Some [])) (λ i slot at. sym (ap (λ s. times o (items_of s)) (in_replicate e.buffers i (Some []) slot at)))
+
+  first_shared : IsShared (part whole ∷ [])
+  first_shared = record { sum = omega arith; spent = λ w a at none. let t : whole ≡ a.share = ap (λ (x : Account). x.share) (alone w (part whole) a at) in absurd (omega arith) }
+
+  pub opening_keeps : Law e (opening e tag)
+  opening_keeps = record { stack = first_stack; owned = first_owned; shelved = first_shelved; coloured = first_coloured; shared = first_shared }

@@ -1,0 +1,23 @@
+-- Each clause is a lemma of its own.
+use Rattle.mark_core.proofs.Runs.{runs_keep_law}
+use Rattle.mark_core.proofs.Changes.{stacks_change, tags_rise}
+use Rattle.mark_core.proofs.Closing.{each_once, apart, closed_is_told}
+use Rattle.mark_core.proofs.law.all_runs_keep_law.Goals as goal
+
+pub returns-clause-law : goal.returns-clause-law
+returns-clause-law c = runs_keep_law
+
+pub returns-clause-stacks : goal.returns-clause-stacks
+returns-clause-stacks c = stacks_change
+
+pub returns-clause-tags : goal.returns-clause-tags
+returns-clause-tags c = tags_rise
+
+pub returns-clause-once : goal.returns-clause-once
+returns-clause-once c = each_once
+
+pub returns-clause-apart : goal.returns-clause-apart
+returns-clause-apart c = apart
+
+pub returns-clause-closed : goal.returns-clause-closed
+returns-clause-closed c = closed_is_told
