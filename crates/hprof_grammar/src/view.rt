@@ -7,6 +7,7 @@ mod arrays;
 mod classes;
 pub mod ids;
 mod instances;
+mod records;
 
 ghost use Rattle.std.specs.Prelude.{Some, true, ◌+◌, ◌≡◌, ◌≤◌, drop, length, take};
 ghost use Rattle.byteorder.specs.Endian.{big_number};

@@ -1,0 +1,70 @@
+-- The fields of strings and loaded classes, each at its place.
+use Rattle.std.proofs.Common.{List, ap, append_assoc, arith, drop, length, subst, sym, take, ℕ, ◌++◌, ◌+◌, ◌<◌, ◌^◌, ◌∙◌, ◌∷◌, ◌≡◌, ◌≤◌}
+use Rattle.std.proofs.lemmas.List.{length-append}
+use Rattle.byteorder.specs.Endian.{big_bytes, big_number}
+use Rattle.byteorder.specs.Numbers.{length-bytes_high_first}
+use Rattle.hprof_grammar.specs.Record.{Record, body_of, framed, record_spelling, tag_of, time_of}
+use Rattle.hprof_grammar.specs.Record.Record.{load_class, string}
+use Rattle.hprof_grammar.specs.Standing.{RecordStands, Sight}
+use Rattle.hprof_grammar.proofs.Places.{NumberAt, Spell, first_stands, next_stands, number_read}
+use Rattle.hprof_grammar.proofs.Stands.{body_stands, record_stands}
+
+-- in these lemmas w is what the fields of a view show, and v is the view
+record_seen : {v w : Sight} → w ≡ v → (at : ℕ) (r : Record) → RecordStands v at r → RecordStands w at r
+record_seen {v} {w} e at r h = subst (λ (x : Sight). RecordStands x at r) (sym e) h
+
+-- bytes that stand a number of bytes behind a place
+moved : (bytes : List ℕ) (at size : ℕ) (xs ys : List ℕ) → length xs ≡ size → Spell bytes at (xs ++ ys) → Spell bytes (at + size) ys
+moved bytes at size xs ys len h = subst (λ (n : ℕ). Spell bytes (at + n) ys) len (next_stands bytes at xs ys h)
+
+body_length : (bytes : List ℕ) (at tag time : ℕ) (body : List ℕ) → length body < 256 ^ 4 → Spell bytes at (framed tag time body) → NumberAt bytes (at + 5) 4 (length body)
+body_length bytes at tag time body fits h =
+    let front = tag ∷ big_bytes 4 time in
+    let size = big_bytes 4 (length body) in
+    number_read bytes (at + 5) 4 (length body) fits (first_stands bytes (at + 5) size body (moved bytes at 5 front (size ++ body) (omega (arith, length-bytes_high_first 4 time)) h))
+
+body_seen : {v w : Sight} → w ≡ v → (at : ℕ) (r : Record) → RecordStands v at r → Spell w.bytes (at + 9) (body_of w.id_size r)
+body_seen {v} {w} e at r h = body_stands w.bytes at (tag_of r) (time_of r) (body_of w.id_size r) (record_stands w.id_size w.bytes at r (record_seen e at r h))
+
+-- ---- strings
+
+pub string_id : {v w : Sight} → w ≡ v → (at time id : ℕ) (text : List ℕ) → RecordStands v at (string time id text) → NumberAt w.bytes (at + 9) w.id_size id
+string_id {v} {w} e at time id text h =
+    number_read w.bytes (at + 9) w.id_size id (record_seen e at (string time id text) h).is.parts (first_stands w.bytes (at + 9) (big_bytes w.id_size id) text (body_seen e at (string time id text) h))
+
+pub string_length : {v w : Sight} → w ≡ v → (at time id : ℕ) (text : List ℕ) → RecordStands v at (string time id text) → NumberAt w.bytes (at + 5) 4 (w.id_size + length text)
+string_length {v} {w} e at time id text h =
+    let seen = record_seen e at (string time id text) h in
+    let body = big_bytes w.id_size id ++ text in
+    let len : length body ≡ w.id_size + length text = omega (arith, length-append (big_bytes w.id_size id) text, length-bytes_high_first w.id_size id) in
+    subst (λ (n : ℕ). NumberAt w.bytes (at + 5) 4 n) len (body_length w.bytes at 0x01 time body seen.is.length_fits (record_stands w.id_size w.bytes at (string time id text) seen))
+
+pub string_text : {v w : Sight} → w ≡ v → (at time id : ℕ) (text : List ℕ) → RecordStands v at (string time id text) → Spell w.bytes (at + 9 + w.id_size) text
+string_text {v} {w} e at time id text h =
+    moved w.bytes (at + 9) w.id_size (big_bytes w.id_size id) text (length-bytes_high_first w.id_size id) (body_seen e at (string time id text) h)
+
+-- ---- loaded classes
+
+behind_serial : {v w : Sight} → w ≡ v → (at time serial class stack name : ℕ) → RecordStands v at (load_class time serial class stack name)
+    → Spell w.bytes (at + 13) (big_bytes w.id_size class ++ (big_bytes 4 stack ++ big_bytes w.id_size name))
+behind_serial {v} {w} e at time serial class stack name h =
+    let s = w.id_size in
+    let more = big_bytes s class ++ (big_bytes 4 stack ++ big_bytes s name) in
+    let there : at + 9 + 4 ≡ at + 13 = omega arith in
+    subst (λ (n : ℕ). Spell w.bytes n more) there
+    (moved w.bytes (at + 9) 4 (big_bytes 4 serial) more (length-bytes_high_first 4 serial) (body_seen e at (load_class time serial class stack name) h))
+
+pub loaded_class_id : {v w : Sight} → w ≡ v → (at time serial class stack name : ℕ) → RecordStands v at (load_class time serial class stack name) → NumberAt w.bytes (at + 13) w.id_size class
+loaded_class_id {v} {w} e at time serial class stack name h =
+    let s = w.id_size in
+    let fits = (record_seen e at (load_class time serial class stack name) h).is.parts.1 in
+    number_read w.bytes (at + 13) s class fits (first_stands w.bytes (at + 13) (big_bytes s class) (big_bytes 4 stack ++ big_bytes s name) (behind_serial e at time serial class stack name h))
+
+pub loaded_class_name : {v w : Sight} → w ≡ v → (at time serial class stack name : ℕ) → RecordStands v at (load_class time serial class stack name) → NumberAt w.bytes (at + 17 + w.id_size) w.id_size name
+loaded_class_name {v} {w} e at time serial class stack name h =
+    let s = w.id_size in
+    let fits = (record_seen e at (load_class time serial class stack name) h).is.parts.3 in
+    let stack_there = moved w.bytes (at + 13) s (big_bytes s class) (big_bytes 4 stack ++ big_bytes s name) (length-bytes_high_first s class) (behind_serial e at time serial class stack name h) in
+    let name_there = moved w.bytes (at + 13 + s) 4 (big_bytes 4 stack) (big_bytes s name) (length-bytes_high_first 4 stack) stack_there in
+    let there : at + 13 + s + 4 ≡ at + 17 + s = omega arith in
+    number_read w.bytes (at + 17 + s) s name fits (subst (λ (n : ℕ). Spell w.bytes n (big_bytes s name)) there name_there)
