@@ -1,6 +1,9 @@
 //! The histogram of a marked heap, and its report.
 #![tactic(auto)]
 
+mod report;
 mod streams;
+mod text;
 
+pub use report::{Line, Report};
 pub use streams::{Counted, ReaderRefusal};

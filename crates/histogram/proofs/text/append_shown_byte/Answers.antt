@@ -1,0 +1,7 @@
+use Rattle.std.proofs.Common.{arith, ap, sym, is_ok, ◌∙◌}
+use Rattle.histogram.proofs.LineText.{escaped, from_ok}
+use Rattle.histogram.proofs.text.append_shown_byte.Goals as goal
+
+pub returns : goal.returns
+returns g c = escaped c.args.out.now.items c.write.new.self.items c.args.byte c.ranges.byte.fits (sym c.is_plain_byte.ensures ∙ c.if-is_plain_byte.false)
+    (from_ok c.write.result (sym c.map_err.ensures.variant ∙ ap (λ r. is_ok r) c.in_ok-map_err.was) (rw (c.laid_out.ensures, c.in_radix.ensures) at c.write.ensures.bytes))
