@@ -1,1 +1,2 @@
+pub mod BytesMoved
 pub mod LineText

@@ -1,12 +1,14 @@
 -- The text of one line, and a text that grows piece by piece.
-use Rattle.std.proofs.Common.{◌≡◌, ℕ, ◌+◌, ◌-◌, ◌^◌, ◌<◌, List, [], ◌∷◌, ◌++◌, Result, Ok, Err, OnOk, is_ok, true, false, length, map, take, get_or, ◌≤◌, refl, sym, ap, ◌∙◌, append_assoc, replicate, append-nil, suc, zero, arith}
+use Rattle.std.proofs.Common.{◌≡◌, ℕ, ◌+◌, ◌-◌, ◌^◌, ◌<◌, List, [], ◌∷◌, ◌++◌, Result, Ok, Err, OnOk, is_ok, true, false, length, map, take, get_or, ◌≤◌, refl, ap, ◌∙◌, append_assoc, replicate, append-nil, suc, zero, arith}
 use Rattle.std.specs.Fmt.{char_count, decimal, digits, format_spec, padded_integral, styled_decimal}
 use Rattle.std.specs.List.{flat_map, repeat}
 use lib.Utf8.{encode}
 use Rattle.std.proofs.lemmas.Fmt.{hex_byte}
 use Rattle.std.proofs.lemmas.List.Folds.{flat_map-map}
 use Rattle.std.proofs.lemmas.List.{flat_map_more, take_all, take_more}
-use Rattle.histogram.specs.Histogram.{Entry, is_plain, line, line_of, right_in, shown_byte}
+use Rattle.heap_graph.specs.Histogram.{Entry}
+use Rattle.heap_graph.specs.Report.{line, line_of, right_in}
+use Rattle.heap_graph.specs.ShownNames.{is_plain, shown_byte}
 
 -- a fact of Ok, where the call answered Ok
 pub from_ok : {T E : Type 0} {P : Type 0} (r : Result T E) → is_ok r ≡ true → OnOk r P → P

@@ -1,5 +1,6 @@
 -- A counted reader or writer: what it wraps, and how many of its calls failed.
-use Rattle.std.specs.Prelude.{ℕ, Bool, true, List, length, Result, Ok, Err, ◌==◌, ◌&&◌, nat_lt}
+use Rattle.std.specs.Prelude.{Bool, Err, List, Ok, Option, Result, length, nat_lt, take, true, ℕ, ◌&&◌, ◌==◌, ◌≤◌}
+use Rattle.std.specs.Io.KnownBytes.{Appends}
 use Rattle.histogram.specs.declared.streams.Counted.{Counted}
 
 -- how many calls have failed so far
@@ -14,3 +15,7 @@ inner_of c = c.inner
 abbrev pub is_failed_write : {E : Type 0} → Result ℕ E → List ℕ → Bool
 is_failed_write (Ok n) bytes = n == 0 && nat_lt 0 (length bytes)
 is_failed_write (Err e) bytes = true
+
+-- known bytes grow by a beginning of these bytes
+abbrev pub AppendsBeginning : Option (List ℕ) → Option (List ℕ) → List ℕ → Type 0
+AppendsBeginning old new bytes = (n : ℕ) × (n ≤ length bytes) × Appends old new (take n bytes)

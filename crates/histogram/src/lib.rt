@@ -4,6 +4,8 @@
 mod report;
 mod streams;
 mod text;
+mod writing;
 
 pub use report::{Line, Report};
 pub use streams::{Counted, ReaderRefusal};
+pub use writing::{WriteRefusal, write_report};

@@ -1,8 +1,8 @@
 //! Readers and writers that count how many of their calls failed.
-ghost use Rattle.std.specs.Prelude.{◌≡◌, ◌≢◌, ◌+◌, ◌-◌, ◌^◌, ◌<◌, ◌≤◌, ◌↔◌, ◌⊎◌, if◌then◌else◌, take, is_err, IfOk, IfSome, IsErrOf, vec_len};
+ghost use Rattle.std.specs.Prelude.{◌≡◌, ◌≢◌, ◌+◌, ◌-◌, ◌^◌, ◌<◌, ◌≤◌, ◌↔◌, ◌⊎◌, if◌then◌else◌, take, is_err, IfOk, IfSome, IsErrOf, OnErr, OnOk, vec_len};
 ghost use Rattle.std.specs.Io.{ReadsAtMost, WritesAtMost};
-ghost use Rattle.std.specs.Io.KnownBytes.{Consumes, Keeps, ReadConsumes, WriteAppends};
-ghost use Rattle.histogram.specs.Counting.{failures_of, inner_of, is_failed_write};
+ghost use Rattle.std.specs.Io.KnownBytes.{Appends, Consumes, Keeps, ReadConsumes, WriteAppends};
+ghost use Rattle.histogram.specs.Counting.{AppendsBeginning, failures_of, inner_of, is_failed_write};
 
 use std::alloc::Allocator;
 use std::io;
@@ -29,6 +29,10 @@ pub enum ReaderRefusal {
     #[error("out of memory")]
     OutOfMemory,
 }
+
+/// A call of a writer failed.
+#[derive(Clone, Copy)]
+pub(crate) struct WriteFault;
 
 /// How many bytes one read asks for at most.
 const CHUNK: usize = 65_536;
@@ -135,5 +139,26 @@ impl<W: Write> Counted<W> {
             self.failures += 1;
         }
         outcome
+    }
+
+    /// Writes all these bytes and flushes. A call that fails ends it, and is not tried again.
+    pub(crate) fn write_whole(&mut self, bytes: &[u8]) -> Result<(), WriteFault>
+        requires { failures_of self.old < 2 ^ 64 - 1 }
+        ensures written { OnOk result (Appends (W.contents (inner_of self.old)) (W.contents (inner_of self.new)) bytes.now) }
+        ensures beginning { OnErr result (AppendsBeginning (W.contents (inner_of self.old)) (W.contents (inner_of self.new)) bytes.now) }
+        ensures counts { failures_of self.new ≡ (if is_err result then failures_of self.old + 1 else failures_of self.old) }
+    {
+        let mut at = 0;
+        while at < bytes.len() {
+            match self.write(&bytes[at..]) {
+                Ok(0) => return Err(WriteFault),
+                Ok(count) => at += count,
+                Err(_) => return Err(WriteFault),
+            }
+        }
+        match self.flush() {
+            Ok(()) => Ok(()),
+            Err(_) => Err(WriteFault),
+        }
     }
 }

@@ -1,6 +1,7 @@
 //! The text of a report, and the names that it shows.
 ghost use Rattle.std.specs.Prelude.{◌≡◌, ◌++◌, IfOk, OnOk};
-ghost use Rattle.histogram.specs.Histogram.{is_plain, line, report_of, shown_byte, shown_primitive, shown_text, unnamed};
+ghost use Rattle.heap_graph.specs.Report.{line, report_of};
+ghost use Rattle.heap_graph.specs.ShownNames.{is_plain, shown_byte, shown_primitive, shown_text, unnamed};
 ghost use Rattle.histogram.specs.Lines.{histogram_of};
 
 use crate::report::Report;

@@ -1,5 +1,5 @@
 use Rattle.std.proofs.Common.{◌≡◌, ◌++◌, take}
-use Rattle.histogram.specs.Histogram.{shown_text}
+use Rattle.heap_graph.specs.ShownNames.{shown_text}
 use Rattle.histogram.proofs.text.append_shown.Given as goal
 
 -- the beginning of the text is shown

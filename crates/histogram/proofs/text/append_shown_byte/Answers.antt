@@ -1,4 +1,4 @@
-use Rattle.std.proofs.Common.{arith, ap, sym, is_ok, ◌∙◌}
+use Rattle.std.proofs.Common.{ap, sym, is_ok, ◌∙◌}
 use Rattle.histogram.proofs.LineText.{escaped, from_ok}
 use Rattle.histogram.proofs.text.append_shown_byte.Goals as goal
 
