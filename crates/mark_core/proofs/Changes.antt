@@ -1,5 +1,6 @@
--- What an event leaves of the two lists and of the tags.
-use Rattle.std.proofs.Common.{◌≡◌, ◌≢◌, ◌⊎◌, ℕ, ◌+◌, List, ◌∷◌, Option, Some, None, ap, sym, refl, subst, ◌∙◌, inl, inr, ◌<◌, arith}
+-- What an event leaves of the two lists, of the tags and of the marks.
+use Rattle.std.proofs.Common.{◌≡◌, ◌≢◌, ◌⊎◌, ℕ, ◌+◌, List, ◌∷◌, Option, Some, None, ap, sym, refl, subst, ◌∙◌, inl, inr, ◌<◌, ◌≤◌, max, arith}
+use native.Mathlib.Decide.{ℕ_discrete}
 use Rattle.tagged_index.specs.Head.{Head, after}
 use Rattle.mark_core.specs.declared.which.Which.{Which}
 use Rattle.mark_core.specs.declared.which.Which.TheVariants.{Full, Empty}
@@ -9,11 +10,12 @@ use Rattle.mark_core.specs.World.{Setup, Marking, account_at, IsThere, put, put_
 use Rattle.mark_core.specs.Event.{Kind, Claim, Finish, Split, Join, Load, LoadLink, StoreLink, Pop, Push, Fail, Allows, effect, popped}
 use Rattle.mark_core.specs.Ownership.{Chain}
 use Rattle.mark_core.specs.Law.{Law}
-use Rattle.mark_core.specs.Runs.{IsListOf, Changes, StacksChange, TagsRise}
-use Rattle.mark_core.proofs.Places.{at_get_or, put_else, put_one}
+use Rattle.mark_core.specs.Runs.{IsListOf, Changes, StacksChange, TagsRise, PopsFindLinks, MarksRise}
+use Rattle.mark_core.proofs.Places.{at_get_or, put_here, put_else, put_one}
 use Rattle.mark_core.proofs.Sums.{stands_times}
 use Rattle.mark_core.proofs.Chains.{chain_one, chain_links, chain_rest, chain_more, recent_link}
 use Rattle.mark_core.proofs.Ownership.{held_apart}
+use Rattle.mark_core.proofs.Colours.{charged}
 use Rattle.mark_core.proofs.Runs.{runs_keep_law}
 
 -- an exchange of one head: of its stack one list is left, and of the other stack the same
@@ -122,3 +124,37 @@ effect_rises m w a (Fail p) q = inl refl
 
 pub tags_rise : TagsRise
 tags_rise m event q = effect_rises m event.worker (account_at m.accounts event.worker) event.kind q
+
+pub pops_find_links : PopsFindLinks
+pops_find_links e m run w a q is can i l top next = recent_link m.link (m.head q) (look_of a q) i l ((runs_keep_law e m run).owned.recent q w a is) can.0.0 top next
+
+-- a number put in that is no smaller makes none smaller
+put_rises : (mark : ℕ → ℕ) (p x : ℕ) → mark p ≤ x → (o : ℕ) → mark o ≤ put p x mark o
+put_rises mark p x h o = go (ℕ_discrete o p)
+  where
+    go : Dec (o ≡ p) → mark o ≤ put p x mark o
+    go (yes s) = let t : mark o ≡ mark p = ap mark s in omega (arith, put_here p o x mark s)
+    go (no n) = omega (arith, put_else p o x mark n)
+
+effect_marks : (e : Setup) (m : Marking) → Law e m → (w : ℕ) (a : Account) → IsThere m.accounts w a → (kind : Kind) → Allows e m w a kind → (o : ℕ) → m.mark o ≤ (effect m w a kind).mark o
+effect_marks e m law w a there (Claim p) can o = put_rises m.mark p (max (m.mark p) 1) (omega arith) o
+effect_marks e m law w a there (Finish p) can o =
+    let was = charged e m.mark m.slots m.accounts law.coloured w a there.0 p (stands_times a.charge p can.0) in put_rises m.mark p 2 (omega (arith, was.0)) o
+effect_marks e m law w a there (Split units) can o = omega arith
+effect_marks e m law w a there (Join v) can o = omega arith
+effect_marks e m law w a there (Load p) can o = omega arith
+effect_marks e m law w a there (LoadLink p) can o = omega arith
+effect_marks e m law w a there (StoreLink i l) can o = omega arith
+effect_marks e m law w a there (Pop p) can o = go (m.head p).index (look_of a p).link
+  where
+    go : (x : Option ℕ) (k : Option (Option ℕ)) → m.mark o ≤ (popped m w a p x k).mark o
+    go (Some i) (Some l) = omega arith
+    go (Some i) None = omega arith
+    go None k = omega arith
+effect_marks e m law w a there (Push p i items) can o = omega arith
+effect_marks e m law w a there (Fail p) can o = omega arith
+
+pub marks_rise : MarksRise
+marks_rise e m event run can o =
+    subst (λ x. m.mark o ≤ (effect m event.worker x event.kind).mark o) (sym (at_get_or m.accounts event.worker can.0 spent can.1.0))
+    (effect_marks e m (runs_keep_law e m run) event.worker can.0 can.1 event.kind can.2 o)

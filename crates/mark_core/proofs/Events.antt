@@ -42,7 +42,7 @@ relink_keeps e m law new same =
 
 module _ (e : Setup) (m : Marking) (law : Law e m) (w : ℕ) (a : Account) (is : StandsAt m.accounts w a) (there : 0 < a.share) where
   -- what the account knows of the stacks changes, and nothing else
-  looks_keep :
+  pub looks_keep :
       (b : Account) → ((q : Which) → IsRecent m.link (m.head q) (look_of b q)) → b.share ≡ a.share → b.held ≡ a.held → b.charge ≡ a.charge → b.seen ≡ a.seen → b.finished ≡ a.finished
       → (a.open_push ≡ true → (law.stack Full ≡ []) ⊎ (b.open_push ≡ true)) → Law e (record m { accounts = set m.accounts w b })
   looks_keep b recent share held charge seen finished push =

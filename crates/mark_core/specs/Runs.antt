@@ -4,9 +4,9 @@ use Rattle.tagged_index.specs.Head.{Head}
 use Rattle.mark_core.specs.declared.which.Which.{Which}
 use Rattle.mark_core.specs.declared.which.Which.TheVariants.{Full, Empty}
 use Rattle.mark_core.specs.Lists.{StandsAt, times, one_where}
-use Rattle.mark_core.specs.Account.{Account, part}
+use Rattle.mark_core.specs.Account.{Account, look_of, part}
 use Rattle.mark_core.specs.World.{Setup, Marking}
-use Rattle.mark_core.specs.Event.{Kind, Pop, Push, Event, IsPossible, happens}
+use Rattle.mark_core.specs.Event.{Kind, Pop, Push, Event, CanPop, IsPossible, happens}
 use Rattle.mark_core.specs.Ownership.{Chain}
 use Rattle.mark_core.specs.Shares.{whole, HasNothing}
 use Rattle.mark_core.specs.Law.{Law}
@@ -61,6 +61,17 @@ StacksChange =
 abbrev pub TagsRise : Type 0
 TagsRise = (m : Marking) (event : Event) (q : Which) → ((happens m event).head q ≡ m.head q) ⊎ (((happens m event).head q).tag ≡ (m.head q).tag + 1)
 
+-- in every run a pop that is possible finds the very link that its account loaded
+abbrev pub PopsFindLinks : Type 0
+PopsFindLinks =
+    (e : Setup) (m : Marking) → IsRun e m
+    → (w : ℕ) (a : Account) (q : Which) → StandsAt m.accounts w a → CanPop (m.head q) (look_of a q)
+    → (i : ℕ) (l : Option ℕ) → (m.head q).index ≡ Some i → (look_of a q).link ≡ Some l → m.link i ≡ l
+
+-- in every run no event lets a mark fall
+abbrev pub MarksRise : Type 0
+MarksRise = (e : Setup) (m : Marking) (event : Event) → IsRun e m → IsPossible e m event → (o : ℕ) → m.mark o ≤ (happens m event).mark o
+
 -- it holds no buffer twice, and no object is twice in its charge and its finished list taken together
 pub record HasEachOnce (a : Account) : Type 0 where
   pub held : (i : ℕ) → times i a.held ≤ 1
@@ -90,7 +101,7 @@ pub record IsClosed (e : Setup) (m : Marking) (w : ℕ) (a : Account) : Type 0 w
   -- the finished objects are its own, each once
   pub finished : (o : ℕ) → (m.mark o ≡ 2) ↔ Contains a.finished o
   pub once : (o : ℕ) → times o a.finished ≤ 1
-  -- the claimed objects are the items on the full stack, each once
+  -- the claimed objects are the items on the full stack
   pub claimed : (full : List ℕ) → IsListOf m Full full → (o : ℕ) → (m.mark o ≡ 1) ↔ LiesIn m full o
   -- with no open push the full stack has no buffer
   pub emptied : a.open_push ≡ false → (full : List ℕ) → IsListOf m Full full → full ≡ []

@@ -1,11 +1,13 @@
 //! The law over all runs.
-ghost use Rattle.mark_core.specs.Runs.{RunsKeepLaw, StacksChange, TagsRise, ClosedIsTold, AccountsHaveEachOnce, AccountsAreApart};
+ghost use Rattle.mark_core.specs.Runs.{RunsKeepLaw, StacksChange, TagsRise, PopsFindLinks, MarksRise, ClosedIsTold, AccountsHaveEachOnce, AccountsAreApart};
 
 /// The law of a marking: from every opening world, after every list of events of any number of workers.
 ///
 /// - `law`: each buffer is on one of the two stacks or held by one account, the mark of each object tells where it stands, and the shares add up to the whole.
 /// - `stacks`: each event changes each stack as one thread would: a pop takes the first buffer off, a push puts one before it, and no other event changes a stack.
 /// - `tags`: a head stays as it is, or its tag rises by one.
+/// - `links`: a pop that is possible finds the very link that its account loaded.
+/// - `marks`: no event lets a mark fall.
 /// - `once`: an account holds no buffer twice, and no object is twice in its charge and its finished list.
 /// - `apart`: two accounts, as those that meet in a join, have nothing in common.
 /// - `closed`: what one account with the whole share and nothing in charge may conclude.
@@ -13,6 +15,8 @@ pub fn all_runs_keep_law()
     ensures law { RunsKeepLaw }
     ensures stacks { StacksChange }
     ensures tags { TagsRise }
+    ensures links { PopsFindLinks }
+    ensures marks { MarksRise }
     ensures once { AccountsHaveEachOnce }
     ensures apart { AccountsAreApart }
     ensures closed { ClosedIsTold }

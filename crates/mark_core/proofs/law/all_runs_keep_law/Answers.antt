@@ -1,6 +1,6 @@
 -- Each clause is a lemma of its own.
 use Rattle.mark_core.proofs.Runs.{runs_keep_law}
-use Rattle.mark_core.proofs.Changes.{stacks_change, tags_rise}
+use Rattle.mark_core.proofs.Changes.{stacks_change, tags_rise, pops_find_links, marks_rise}
 use Rattle.mark_core.proofs.Closing.{each_once, apart, closed_is_told}
 use Rattle.mark_core.proofs.law.all_runs_keep_law.Goals as goal
 
@@ -12,6 +12,12 @@ returns-clause-stacks c = stacks_change
 
 pub returns-clause-tags : goal.returns-clause-tags
 returns-clause-tags c = tags_rise
+
+pub returns-clause-links : goal.returns-clause-links
+returns-clause-links c = pops_find_links
+
+pub returns-clause-marks : goal.returns-clause-marks
+returns-clause-marks c = marks_rise
 
 pub returns-clause-once : goal.returns-clause-once
 returns-clause-once c = each_once
