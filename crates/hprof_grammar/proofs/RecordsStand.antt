@@ -1,9 +1,9 @@
 -- The fields of strings and loaded classes, each at its place.
-use Rattle.std.proofs.Common.{List, ap, append_assoc, arith, drop, length, subst, sym, take, ℕ, ◌++◌, ◌+◌, ◌<◌, ◌^◌, ◌∙◌, ◌∷◌, ◌≡◌, ◌≤◌}
+use Rattle.std.proofs.Common.{List, arith, length, subst, sym, ℕ, ◌++◌, ◌+◌, ◌<◌, ◌^◌, ◌∷◌, ◌≡◌}
 use Rattle.std.proofs.lemmas.List.{length-append}
-use Rattle.byteorder.specs.Endian.{big_bytes, big_number}
+use Rattle.byteorder.specs.Endian.{big_bytes}
 use Rattle.byteorder.specs.Numbers.{length-bytes_high_first}
-use Rattle.hprof_grammar.specs.Record.{Record, body_of, framed, record_spelling, tag_of, time_of}
+use Rattle.hprof_grammar.specs.Record.{Record, body_of, framed, tag_of, time_of}
 use Rattle.hprof_grammar.specs.Record.Record.{load_class, string}
 use Rattle.hprof_grammar.specs.Standing.{RecordStands, Sight}
 use Rattle.hprof_grammar.proofs.Places.{NumberAt, Spell, first_stands, next_stands, number_read}
