@@ -24,43 +24,43 @@ object_id {v} {w} e at sub h = object_id_stands w.id_size w.bytes at sub (in_sig
 
 -- ---- instances
 
-instance_field : {v w : Sight} → w ≡ v → (at : ℕ) (i : Instance) → Stands v at (instance_dump i) → Spell w.bytes at (0x21 ∷ spelled (instance_fields w.id_size i))
-instance_field {v} {w} e at i h = sub_stands w.id_size w.bytes at (instance_dump i) (in_sight v w at (instance_dump i) e h)
+instance_stands : {v w : Sight} → w ≡ v → (at : ℕ) (i : Instance) → Stands v at (instance_dump i) → Spell w.bytes at (0x21 ∷ spelled (instance_fields w.id_size i))
+instance_stands {v} {w} e at i h = sub_stands w.id_size w.bytes at (instance_dump i) (in_sight v w at (instance_dump i) e h)
 
 pub instance_class : {v w : Sight} → w ≡ v → (at : ℕ) (i : Instance) → Stands v at (instance_dump i) → NumberAt w.bytes (at + 5 + w.id_size) w.id_size i.class
 instance_class {v} {w} e at i h =
     let s = w.id_size in
-    number_stands w.bytes at 0x21 (at + 5 + s) (number s i.object ∷ number 4 i.stack ∷ []) s i.class (drop 3 (instance_fields s i)) (instance_field e at i h) (in_sight v w at (instance_dump i) e h).is.formed.1.class (omega arith)
+    number_stands w.bytes at 0x21 (at + 5 + s) (number s i.object ∷ number 4 i.stack ∷ []) s i.class (drop 3 (instance_fields s i)) (instance_stands e at i h) (in_sight v w at (instance_dump i) e h).is.formed.1.class (omega arith)
 
 pub instance_count : {v w : Sight} → w ≡ v → (at : ℕ) (i : Instance) → Stands v at (instance_dump i) → NumberAt w.bytes (at + 5 + 2 * w.id_size) 4 (length i.values)
 instance_count {v} {w} e at i h =
     let s = w.id_size in
-    number_stands w.bytes at 0x21 (at + 5 + 2 * s) (number s i.object ∷ number 4 i.stack ∷ number s i.class ∷ []) 4 (length i.values) (raw i.values ∷ []) (instance_field e at i h) (in_sight v w at (instance_dump i) e h).is.formed.1.values (omega arith)
+    number_stands w.bytes at 0x21 (at + 5 + 2 * s) (number s i.object ∷ number 4 i.stack ∷ number s i.class ∷ []) 4 (length i.values) (raw i.values ∷ []) (instance_stands e at i h) (in_sight v w at (instance_dump i) e h).is.formed.1.values (omega arith)
 
 pub instance_values : {v w : Sight} → w ≡ v → (at : ℕ) (i : Instance) → Stands v at (instance_dump i) → Spell w.bytes (at + 5 + 2 * w.id_size + 4) i.values
 instance_values {v} {w} e at i h =
     let s = w.id_size in
-    first_stands w.bytes (at + 5 + 2 * s + 4) i.values [] (fields_stand w.bytes at 0x21 (at + 5 + 2 * s + 4) (number s i.object ∷ number 4 i.stack ∷ number s i.class ∷ number 4 (length i.values) ∷ []) (raw i.values ∷ []) (instance_field e at i h) (omega arith))
+    first_stands w.bytes (at + 5 + 2 * s + 4) i.values [] (fields_stand w.bytes at 0x21 (at + 5 + 2 * s + 4) (number s i.object ∷ number 4 i.stack ∷ number s i.class ∷ number 4 (length i.values) ∷ []) (raw i.values ∷ []) (instance_stands e at i h) (omega arith))
 
 -- ---- object arrays
 
-object_array_field : {v w : Sight} → w ≡ v → (at : ℕ) (a : ObjectArray) → Stands v at (object_array_dump a) → Spell w.bytes at (0x22 ∷ spelled (object_array_fields w.id_size a))
-object_array_field {v} {w} e at a h = sub_stands w.id_size w.bytes at (object_array_dump a) (in_sight v w at (object_array_dump a) e h)
+object_array_stands : {v w : Sight} → w ≡ v → (at : ℕ) (a : ObjectArray) → Stands v at (object_array_dump a) → Spell w.bytes at (0x22 ∷ spelled (object_array_fields w.id_size a))
+object_array_stands {v} {w} e at a h = sub_stands w.id_size w.bytes at (object_array_dump a) (in_sight v w at (object_array_dump a) e h)
 
 pub array_count : {v w : Sight} → w ≡ v → (at : ℕ) (a : ObjectArray) → Stands v at (object_array_dump a) → NumberAt w.bytes (at + 5 + w.id_size) 4 (length a.elements)
 array_count {v} {w} e at a h =
     let s = w.id_size in
-    number_stands w.bytes at 0x22 (at + 5 + s) (number s a.object ∷ number 4 a.stack ∷ []) 4 (length a.elements) (drop 3 (object_array_fields s a)) (object_array_field e at a h) (in_sight v w at (object_array_dump a) e h).is.formed.1.count (omega arith)
+    number_stands w.bytes at 0x22 (at + 5 + s) (number s a.object ∷ number 4 a.stack ∷ []) 4 (length a.elements) (drop 3 (object_array_fields s a)) (object_array_stands e at a h) (in_sight v w at (object_array_dump a) e h).is.formed.1.count (omega arith)
 
 pub array_class : {v w : Sight} → w ≡ v → (at : ℕ) (a : ObjectArray) → Stands v at (object_array_dump a) → NumberAt w.bytes (at + 9 + w.id_size) w.id_size a.class
 array_class {v} {w} e at a h =
     let s = w.id_size in
-    number_stands w.bytes at 0x22 (at + 9 + s) (number s a.object ∷ number 4 a.stack ∷ number 4 (length a.elements) ∷ []) s a.class (map (number s) a.elements) (object_array_field e at a h) (in_sight v w at (object_array_dump a) e h).is.formed.1.class (omega arith)
+    number_stands w.bytes at 0x22 (at + 9 + s) (number s a.object ∷ number 4 a.stack ∷ number 4 (length a.elements) ∷ []) s a.class (map (number s) a.elements) (object_array_stands e at a h) (in_sight v w at (object_array_dump a) e h).is.formed.1.class (omega arith)
 
 array_elements_stand : {v w : Sight} → w ≡ v → (at : ℕ) (a : ObjectArray) → Stands v at (object_array_dump a) → Spell w.bytes (at + 9 + 2 * w.id_size) (spelled (map (number w.id_size) a.elements))
 array_elements_stand {v} {w} e at a h =
     let s = w.id_size in
-    fields_stand w.bytes at 0x22 (at + 9 + 2 * s) (number s a.object ∷ number 4 a.stack ∷ number 4 (length a.elements) ∷ number s a.class ∷ []) (map (number s) a.elements) (object_array_field e at a h) (omega arith)
+    fields_stand w.bytes at 0x22 (at + 9 + 2 * s) (number s a.object ∷ number 4 a.stack ∷ number 4 (length a.elements) ∷ number s a.class ∷ []) (map (number s) a.elements) (object_array_stands e at a h) (omega arith)
 
 pub array_room : {v w : Sight} → w ≡ v → (at : ℕ) (a : ObjectArray) → Stands v at (object_array_dump a) → at + 9 + 2 * w.id_size + length a.elements * w.id_size ≤ length w.bytes
 array_room {v} {w} e at a h = omega (arith, (array_elements_stand e at a h).inside, length-spelled (map (number w.id_size) a.elements), widths-numbers w.id_size a.elements)
@@ -72,40 +72,40 @@ array_elements {v} {w} e at a h =
 
 -- ---- primitive arrays
 
-primitive_array_field : {v w : Sight} → w ≡ v → (at : ℕ) (a : PrimitiveArray) → Stands v at (primitive_array_dump a) → Spell w.bytes at (0x23 ∷ spelled (primitive_array_fields w.id_size a))
-primitive_array_field {v} {w} e at a h = sub_stands w.id_size w.bytes at (primitive_array_dump a) (in_sight v w at (primitive_array_dump a) e h)
+primitive_array_stands : {v w : Sight} → w ≡ v → (at : ℕ) (a : PrimitiveArray) → Stands v at (primitive_array_dump a) → Spell w.bytes at (0x23 ∷ spelled (primitive_array_fields w.id_size a))
+primitive_array_stands {v} {w} e at a h = sub_stands w.id_size w.bytes at (primitive_array_dump a) (in_sight v w at (primitive_array_dump a) e h)
 
 pub element_count : {v w : Sight} → w ≡ v → (at : ℕ) (a : PrimitiveArray) → Stands v at (primitive_array_dump a) → NumberAt w.bytes (at + 5 + w.id_size) 4 a.count
 element_count {v} {w} e at a h =
     let s = w.id_size in
-    number_stands w.bytes at 0x23 (at + 5 + s) (number s a.object ∷ number 4 a.stack ∷ []) 4 a.count (drop 3 (primitive_array_fields s a)) (primitive_array_field e at a h) (in_sight v w at (primitive_array_dump a) e h).is.formed.1.count (omega arith)
+    number_stands w.bytes at 0x23 (at + 5 + s) (number s a.object ∷ number 4 a.stack ∷ []) 4 a.count (drop 3 (primitive_array_fields s a)) (primitive_array_stands e at a h) (in_sight v w at (primitive_array_dump a) e h).is.formed.1.count (omega arith)
 
 pub element_type : {v w : Sight} → w ≡ v → (at : ℕ) (a : PrimitiveArray) → Stands v at (primitive_array_dump a) → ByteAt w.bytes (at + 9 + w.id_size) a.type
 element_type {v} {w} e at a h =
     let s = w.id_size in
-    byte_read w.bytes (at + 9 + s) a.type (spelled (raw a.values ∷ [])) (fields_stand w.bytes at 0x23 (at + 9 + s) (number s a.object ∷ number 4 a.stack ∷ number 4 a.count ∷ []) (drop 3 (primitive_array_fields s a)) (primitive_array_field e at a h) (omega arith))
+    byte_read w.bytes (at + 9 + s) a.type (spelled (raw a.values ∷ [])) (fields_stand w.bytes at 0x23 (at + 9 + s) (number s a.object ∷ number 4 a.stack ∷ number 4 a.count ∷ []) (drop 3 (primitive_array_fields s a)) (primitive_array_stands e at a h) (omega arith))
 
 -- ---- classes
 
-class_field : {v w : Sight} → w ≡ v → (at : ℕ) (c : Class) → Stands v at (class_dump c) → Spell w.bytes at (0x20 ∷ spelled (class_fields w.id_size c))
-class_field {v} {w} e at c h = sub_stands w.id_size w.bytes at (class_dump c) (in_sight v w at (class_dump c) e h)
+pub class_stands : {v w : Sight} → w ≡ v → (at : ℕ) (c : Class) → Stands v at (class_dump c) → Spell w.bytes at (0x20 ∷ spelled (class_fields w.id_size c))
+class_stands {v} {w} e at c h = sub_stands w.id_size w.bytes at (class_dump c) (in_sight v w at (class_dump c) e h)
 
 pub superclass : {v w : Sight} → w ≡ v → (at : ℕ) (c : Class) → Stands v at (class_dump c) → NumberAt w.bytes (at + 5 + w.id_size) w.id_size c.super
 superclass {v} {w} e at c h =
     let s = w.id_size in
-    number_stands w.bytes at 0x20 (at + 5 + s) (number s c.object ∷ number 4 c.stack ∷ []) s c.super (drop 3 (class_fields s c)) (class_field e at c h) (in_sight v w at (class_dump c) e h).is.formed.1.super (omega arith)
+    number_stands w.bytes at 0x20 (at + 5 + s) (number s c.object ∷ number 4 c.stack ∷ []) s c.super (drop 3 (class_fields s c)) (class_stands e at c h) (in_sight v w at (class_dump c) e h).is.formed.1.super (omega arith)
 
 pub loader : {v w : Sight} → w ≡ v → (at : ℕ) (c : Class) → Stands v at (class_dump c) → NumberAt w.bytes (at + 5 + 2 * w.id_size) w.id_size c.loader
 loader {v} {w} e at c h =
     let s = w.id_size in
-    number_stands w.bytes at 0x20 (at + 5 + 2 * s) (number s c.object ∷ number 4 c.stack ∷ number s c.super ∷ []) s c.loader (drop 4 (class_fields s c)) (class_field e at c h) (in_sight v w at (class_dump c) e h).is.formed.1.loader (omega arith)
+    number_stands w.bytes at 0x20 (at + 5 + 2 * s) (number s c.object ∷ number 4 c.stack ∷ number s c.super ∷ []) s c.loader (drop 4 (class_fields s c)) (class_stands e at c h) (in_sight v w at (class_dump c) e h).is.formed.1.loader (omega arith)
 
 pub signers : {v w : Sight} → w ≡ v → (at : ℕ) (c : Class) → Stands v at (class_dump c) → NumberAt w.bytes (at + 5 + 3 * w.id_size) w.id_size c.signers
 signers {v} {w} e at c h =
     let s = w.id_size in
-    number_stands w.bytes at 0x20 (at + 5 + 3 * s) (number s c.object ∷ number 4 c.stack ∷ number s c.super ∷ number s c.loader ∷ []) s c.signers (drop 5 (class_fields s c)) (class_field e at c h) (in_sight v w at (class_dump c) e h).is.formed.1.signers (omega arith)
+    number_stands w.bytes at 0x20 (at + 5 + 3 * s) (number s c.object ∷ number 4 c.stack ∷ number s c.super ∷ number s c.loader ∷ []) s c.signers (drop 5 (class_fields s c)) (class_stands e at c h) (in_sight v w at (class_dump c) e h).is.formed.1.signers (omega arith)
 
 pub domain : {v w : Sight} → w ≡ v → (at : ℕ) (c : Class) → Stands v at (class_dump c) → NumberAt w.bytes (at + 5 + 4 * w.id_size) w.id_size c.domain
 domain {v} {w} e at c h =
     let s = w.id_size in
-    number_stands w.bytes at 0x20 (at + 5 + 4 * s) (number s c.object ∷ number 4 c.stack ∷ number s c.super ∷ number s c.loader ∷ number s c.signers ∷ []) s c.domain (drop 6 (class_fields s c)) (class_field e at c h) (in_sight v w at (class_dump c) e h).is.formed.1.domain (omega arith)
+    number_stands w.bytes at 0x20 (at + 5 + 4 * s) (number s c.object ∷ number 4 c.stack ∷ number s c.super ∷ number s c.loader ∷ number s c.signers ∷ []) s c.domain (drop 6 (class_fields s c)) (class_stands e at c h) (in_sight v w at (class_dump c) e h).is.formed.1.domain (omega arith)

@@ -1,12 +1,17 @@
 -- What is spelled one after the other is read one after the other.
-use Rattle.std.proofs.Common.{List, [], ap, append_assoc, arith, drop, length, map, refl, suc, zero, ℕ, ◌*◌, ◌++◌, ◌<◌, ◌^◌, ◌∙◌, ◌∷◌, ◌≡◌}
-use Rattle.std.proofs.Math.Seq.{drop-append_seam}
+use Rattle.std.proofs.Common.{List, [], ap, append_assoc, arith, drop, flat_map, length, map, slice_index, subst, sym, take, refl, suc, zero, ℕ, ◌*◌, ◌+◌, ◌++◌, ◌<◌, ◌^◌, ◌∙◌, ◌∷◌, ◌≡◌, ◌≤◌}
+use Rattle.std.proofs.lemmas.List.{append-nil, drop-drop, get_or-drop, length-append}
+use Rattle.std.proofs.Math.Seq.{drop-append_seam, take-append_seam}
 use Rattle.std.specs.List.{AllByRecursion}
 use Rattle.byteorder.specs.Endian.{big_bytes, big_number}
 use Rattle.byteorder.specs.Numbers.{big_number-reads_back, length-bytes_high_first}
-use Rattle.hprof_grammar.specs.Spelling.{spelled}
-use Rattle.hprof_grammar.specs.Spelling.Field.{number}
-use Rattle.hprof_grammar.specs.Series.{numbers_in}
+use Rattle.hprof_grammar.specs.Spelling.{Field, spelled}
+use Rattle.hprof_grammar.specs.Spelling.Field.{number, raw, type_code}
+use Rattle.hprof_grammar.specs.SubRecord.{IsMember, Member, member_fields}
+use Rattle.hprof_grammar.specs.Tables.{size_of}
+use Rattle.hprof_grammar.specs.declared.tables.TypePlace.{TypePlace}
+use Rattle.hprof_grammar.specs.Series.{HasValues, behind_values, members_in, numbers_in, value_end, values_in}
+use Rattle.hprof_grammar.proofs.Fields.{spelled_then}
 use Rattle.hprof_grammar.proofs.Places.{widths}
 
 -- ---- numbers
@@ -29,3 +34,76 @@ numbers_again w (x ∷ xs) rest fit =
     let first : big_number w (big_bytes w x ++ others) ≡ x = big_number-reads_back w x others fit.0 in
     let behind : drop w (big_bytes w x ++ others) ≡ others = behind_bytes w x others in
     rw (append_assoc, first, behind, numbers_again w xs rest fit.1) refl
+
+-- ---- values behind type codes
+
+-- some bytes, a type code, a value, and others
+pub record IsValue (w size t : ℕ) (text others bytes : List ℕ) : Type 0 where
+  pub type : slice_index bytes w ≡ t
+  pub value : take size (drop (w + 1) bytes) ≡ text
+  pub behind : drop (w + 1 + size) bytes ≡ others
+  pub room : w + 1 + size ≤ length bytes
+
+is_value : (w size t : ℕ) (front value others : List ℕ) → length front ≡ w → length value ≡ size → IsValue w size t value others (front ++ (t ∷ (value ++ others)))
+is_value w size t front value others front_len value_len =
+    let bytes = front ++ (t ∷ (value ++ others)) in
+    let here : drop w bytes ≡ t ∷ (value ++ others) = subst (λ (n : ℕ). drop n bytes ≡ t ∷ (value ++ others)) front_len (drop-append_seam front (t ∷ (value ++ others))) in
+    let after : drop (w + 1) bytes ≡ value ++ others = sym (drop-drop 1 w bytes) ∙ ap (drop 1) here in
+    record {
+      type = ap (slice_index bytes) (let same : w ≡ w + 0 = omega arith in same) ∙ sym (get_or-drop w bytes 0 0) ∙ ap (λ (l : List ℕ). slice_index l 0) here;
+      value = ap (take size) after ∙ subst (λ (n : ℕ). take n (value ++ others) ≡ value) value_len (take-append_seam value others);
+      behind = sym (drop-drop size (w + 1) bytes) ∙ ap (drop size) after ∙ subst (λ (n : ℕ). drop n (value ++ others) ≡ others) value_len (drop-append_seam value others);
+      room = omega (arith, length-append front (t ∷ (value ++ others)), length-append value others);
+    }
+
+-- n values that stand in the bytes, and what stands behind them
+pub record AreValues (s w n : ℕ) (them : List (ℕ × List ℕ)) (others bytes : List ℕ) : Type 0 where
+  pub room : HasValues s w n bytes
+  pub values : values_in s w n bytes ≡ them
+  pub behind : behind_values s w n bytes ≡ others
+
+one_more : (s w n t : ℕ) (value : List ℕ) (values : List (ℕ × List ℕ)) (behind others bytes : List ℕ) → IsValue w (size_of s t) t value behind bytes → AreValues s w n values others behind
+    → AreValues s w (suc n) ((t, value) ∷ values) others bytes
+one_more s w n t value values behind others bytes h more = record {
+  room = rw (h.type, h.behind) (h.room, more.room);
+  values = rw (h.type, h.behind, h.value, more.values) refl;
+  behind = rw (h.type, h.behind) more.behind;
+}
+
+module _ {X : Type 0} (s w : ℕ) (place : TypePlace) (front type : X → ℕ) (value : X → List ℕ) where
+  abbrev pub value_fields : X → List Field
+  value_fields x = number w (front x) ∷ type_code place (type x) ∷ raw (value x) ∷ []
+
+  spelled_first : (x : X) (xs : List X) (rest : List ℕ) → spelled (flat_map value_fields (x ∷ xs)) ++ rest ≡ big_bytes w (front x) ++ (type x ∷ (value x ++ (spelled (flat_map value_fields xs) ++ rest)))
+  spelled_first x xs rest =
+      spelled_then (value_fields x) (flat_map value_fields xs) rest
+      ∙ append_assoc (big_bytes w (front x)) (type x ∷ (value x ++ [])) (spelled (flat_map value_fields xs) ++ rest)
+      ∙ ap (λ (l : List ℕ). big_bytes w (front x) ++ (type x ∷ (l ++ (spelled (flat_map value_fields xs) ++ rest)))) (append-nil (value x))
+
+  pub values_again : (xs : List X) (rest : List ℕ) → AllByRecursion (λ x. length (value x) ≡ size_of s (type x)) xs
+      → AreValues s w (length xs) (map (λ x. (type x, value x)) xs) rest (spelled (flat_map value_fields xs) ++ rest)
+  values_again [] rest fit = record { room = tt; values = refl; behind = refl }
+  values_again (x ∷ xs) rest fit =
+      let others = spelled (flat_map value_fields xs) ++ rest in
+      let here = is_value w (size_of s (type x)) (type x) (big_bytes w (front x)) (value x) others (length-bytes_high_first w (front x)) fit.0 in
+      let all = one_more s w (length xs) (type x) (value x) (map (λ y. (type y, value y)) xs) others rest (big_bytes w (front x) ++ (type x ∷ (value x ++ others))) here (values_again xs rest fit.1) in
+      subst (λ (l : List ℕ). AreValues s w (length (x ∷ xs)) (map (λ y. (type y, value y)) (x ∷ xs)) rest l) (sym (spelled_first x xs rest)) all
+
+-- ---- instance fields
+
+pub length-members_in : (s n : ℕ) (bytes : List ℕ) → length (members_in s n bytes) ≡ n
+length-members_in s zero bytes = refl
+length-members_in s (suc n) bytes = ap suc (length-members_in s n (drop (s + 1) bytes))
+
+pub widths-members : (s : ℕ) (ms : List Member) → widths (flat_map (member_fields s) ms) ≡ length ms * (s + 1)
+widths-members s [] = omega arith
+widths-members s (m ∷ ms) = omega (arith, widths-members s ms)
+
+pub members_again : (s : ℕ) (ms : List Member) (rest : List ℕ) → AllByRecursion (IsMember s) ms → members_in s (length ms) (spelled (flat_map (member_fields s) ms) ++ rest) ≡ ms
+members_again s [] rest fit = refl
+members_again s (m ∷ ms) rest fit =
+    let others = spelled (flat_map (member_fields s) ms) ++ rest in
+    let here = is_value s 0 m.type (big_bytes s m.name) [] others (length-bytes_high_first s m.name) refl in
+    let name : big_number s (big_bytes s m.name ++ (m.type ∷ others)) ≡ m.name = big_number-reads_back s m.name (m.type ∷ others) fit.0 in
+    let behind : drop (s + 1) (big_bytes s m.name ++ (m.type ∷ others)) ≡ others = ap (λ (n : ℕ). drop n (big_bytes s m.name ++ (m.type ∷ others))) (let same : s + 1 ≡ s + 1 + 0 = omega arith in same) ∙ here.behind in
+    rw (append_assoc, name, here.type, behind, members_again s ms rest fit.1) refl

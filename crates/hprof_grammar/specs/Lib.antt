@@ -10,3 +10,5 @@ pub mod Joining
 pub mod Series
 pub mod Standing
 pub mod ObjectKinds
+pub mod MemberFields
+pub mod ClassParts

@@ -14,3 +14,47 @@ pub record HasNumbers (width n : ℕ) (bytes : List ℕ) : Type 0 where
   pub low : 1 ≤ width
   pub high : width ≤ 8
   pub room : n * width ≤ length bytes
+
+-- n instance fields: a name of s bytes and a type code each
+abbrev pub members_in : ℕ → ℕ → List ℕ → List Member
+members_in s zero bytes = []
+members_in s (suc n) bytes = record { name = big_number s bytes; type = slice_index bytes s } ∷ members_in s n (drop (s + 1) bytes)
+
+-- the bytes have room for that many instance fields
+pub record HasMembers (s n : ℕ) (bytes : List ℕ) : Type 0 where
+  pub low : 1 ≤ s
+  pub high : s ≤ 8
+  pub room : n * (s + 1) ≤ length bytes
+
+-- where `front` bytes stand before a type code, and a value of that type behind it: the bytes of all three
+abbrev pub value_end : ℕ → ℕ → List ℕ → ℕ
+value_end s front bytes = front + 1 + size_of s (slice_index bytes front)
+
+-- n such: the type codes and the values
+abbrev pub values_in : ℕ → ℕ → ℕ → List ℕ → List (ℕ × List ℕ)
+values_in s front zero bytes = []
+values_in s front (suc n) bytes = (slice_index bytes front, take (size_of s (slice_index bytes front)) (drop (front + 1) bytes)) ∷ values_in s front n (drop (value_end s front bytes) bytes)
+
+-- the bytes behind n such
+abbrev pub behind_values : ℕ → ℕ → ℕ → List ℕ → List ℕ
+behind_values s front zero bytes = bytes
+behind_values s front (suc n) bytes = behind_values s front n (drop (value_end s front bytes) bytes)
+
+-- the bytes have room for n such
+abbrev pub HasValues : ℕ → ℕ → ℕ → List ℕ → Type 0
+HasValues s front zero bytes = Unit {0}
+HasValues s front (suc n) bytes = (value_end s front bytes ≤ length bytes) × HasValues s front n (drop (value_end s front bytes) bytes)
+
+-- the same behind a count of 2 bytes
+abbrev pub count_in : List ℕ → ℕ
+count_in bytes = big_number 2 bytes
+
+abbrev pub counted_values_in : ℕ → ℕ → List ℕ → List (ℕ × List ℕ)
+counted_values_in s front bytes = values_in s front (count_in bytes) (drop 2 bytes)
+
+abbrev pub behind_counted_values : ℕ → ℕ → List ℕ → List ℕ
+behind_counted_values s front bytes = behind_values s front (count_in bytes) (drop 2 bytes)
+
+pub record HasCountedValues (s front : ℕ) (bytes : List ℕ) : Type 0 where
+  pub count : 2 ≤ length bytes
+  pub values : HasValues s front (count_in bytes) (drop 2 bytes)

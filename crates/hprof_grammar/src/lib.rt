@@ -14,4 +14,6 @@ pub use dump::Dump;
 pub use flaw::{FormatFault, ReadRefusal};
 pub use placed::{dump_is_placed, stands_within};
 pub use view::ids::Ids;
+pub use view::members::{MemberField, Members};
+pub use view::values::{TypedValue, Values};
 pub use view::{ObjectKind, View};

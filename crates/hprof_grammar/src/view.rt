@@ -7,14 +7,18 @@ mod arrays;
 mod classes;
 pub mod ids;
 mod instances;
+pub mod members;
 mod records;
+pub mod values;
 
 ghost use Rattle.std.specs.Prelude.{Some, true, ◌+◌, ◌≡◌, ◌≤◌, drop, length, take};
 ghost use Rattle.byteorder.specs.Endian.{big_number};
 ghost use Rattle.hprof_grammar.specs.Dump.{is_object};
 ghost use Rattle.hprof_grammar.specs.SubRecord.{SubRecord};
+ghost use Rattle.hprof_grammar.specs.Tables as tables;
 ghost use Rattle.hprof_grammar.specs.Standing.{Stands, id_of};
 
+use crate::tables;
 use byteorder::{BigEndian, ByteOrder};
 use std::marker::Model;
 
@@ -58,6 +62,13 @@ impl<'a> View<'a> {
         View { bytes, id_size }
     }
 
+    /// How many bytes a value of that type takes.
+    pub fn size_of(&self, type_code: u8) -> u8
+        ensures { result ≡ tables.size_of self.now.id_size type_code }
+    {
+        tables::size_of(self.id_size, type_code)
+    }
+
     /// The kind of the object that a sub-record describes.
     pub fn kind(&self, at: u32) -> ObjectKind
         requires { (sub : SubRecord) × Stands self.now at sub × (is_object sub ≡ true) }
@@ -98,4 +109,13 @@ fn bytes_at(bytes: &[u8], at: usize, count: usize) -> &[u8]
     let (_, behind) = bytes.split_at(at);
     let (part, _) = behind.split_at(count);
     part
+}
+
+/// The bytes from a place on.
+fn bytes_from(bytes: &[u8], at: usize) -> &[u8]
+    requires { at ≤ length bytes.now }
+    ensures { result.now ≡ drop at bytes.now }
+{
+    let (_, behind) = bytes.split_at(at);
+    behind
 }

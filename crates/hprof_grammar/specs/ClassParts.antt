@@ -1,0 +1,24 @@
+-- The parts of a class dump that have counts, from one of them on.
+use Rattle.std.specs.Prelude.{List, flat_map, length, ℕ, ◌++◌, ◌∷◌, ◌≡◌}
+use Rattle.hprof_grammar.specs.Spelling.{Field, spelled}
+use Rattle.hprof_grammar.specs.Spelling.Field.{number}
+use Rattle.hprof_grammar.specs.SubRecord.{Class, IsClass, constant_fields, member_fields, static_fields}
+
+-- a count of 2 bytes, and the fields of that many things
+abbrev pub counted_fields : {X : Type 0} → (X → List Field) → List X → List Field
+counted_fields fields things = number 2 (length things) ∷ flat_map fields things
+
+abbrev pub fields_from_members : ℕ → Class → List Field
+fields_from_members s c = counted_fields (member_fields s) c.members
+
+abbrev pub fields_from_statics : ℕ → Class → List Field
+fields_from_statics s c = counted_fields (static_fields s) c.statics ++ fields_from_members s c
+
+abbrev pub fields_from_constants : ℕ → Class → List Field
+fields_from_constants s c = counted_fields constant_fields c.constants ++ fields_from_statics s c
+
+-- the bytes are these last fields of the class dump, and then a rest
+pub record IsPartOf (s : ℕ) (c : Class) (fields : List Field) (bytes : List ℕ) : Type 0 where
+  pub rest : List ℕ
+  pub bytes_are : bytes ≡ spelled fields ++ rest
+  pub is : IsClass s c

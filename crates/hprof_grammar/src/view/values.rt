@@ -1,0 +1,113 @@
+//! The values of constants and of static fields.
+
+ghost use Rattle.std.specs.Prelude.{◌+◌, ◌≡◌, ◌≤◌, drop, length, slice_index, take};
+ghost use Rattle.hprof_grammar.specs.Tables as tables;
+ghost use Rattle.hprof_grammar.specs.Series.{HasCountedValues, HasValues, behind_counted_values, behind_values, count_in, counted_values_in, value_end, values_in};
+
+use crate::tables::size_of;
+use crate::view::{bytes_at, number_at};
+use std::marker::Model;
+
+/// A value of a constant or of a static field.
+#[derive(Clone, Copy, Debug)]
+pub struct TypedValue<'a> {
+    /// The value's type.
+    pub type_code: u8,
+    /// The value's bytes.
+    pub value: &'a [u8],
+}
+
+/// The values that are left of a class's constants or static fields.
+#[derive(Drop)]
+pub struct Values<'a> {
+    bytes: &'a [u8],
+    id_size: u8,
+    front: u8,
+    left: u16,
+}
+
+impl<'a> Model for Values<'a> {
+    ghost use Rattle.std.specs.Prelude.{List, ℕ};
+    ghost use Rattle.hprof_grammar.specs.Series.{HasValues, values_in};
+
+    ghost Value = { List (ℕ × List ℕ) };
+
+    ghost view = { λ v. values_in v.id_size v.front v.left v.bytes.now };
+
+    ghost invariant = { λ v. HasValues v.id_size v.front v.left v.bytes.now };
+}
+
+impl<'a> Values<'a> {
+    /// The values in these bytes, behind their count. `front` bytes stand before each type code.
+    pub(crate) fn new(bytes: &'a [u8], id_size: u8, front: u8) -> Self
+        requires { HasCountedValues id_size front bytes.now }
+        ensures { result ≡ counted_values_in id_size front bytes.now }
+    {
+        let (left, behind) = split_count(bytes);
+        Values {
+            bytes: behind,
+            id_size,
+            front,
+            left,
+        }
+    }
+}
+
+impl<'a> Iterator for Values<'a> {
+    ghost use Rattle.std.specs.Iterator.{YieldsFirstBy, item_count};
+
+    type Item = TypedValue<'a>;
+
+    ghost next_gives = { YieldsFirstBy (λ value. (value.type_code, value.value.now)) (λ values. values) };
+
+    ghost remaining = { item_count (λ values. values) };
+
+    fn next(&mut self) -> Option<TypedValue<'a>> {
+        if self.left == 0 {
+            return None;
+        }
+        let (value, behind) = split_value(self.bytes, self.id_size, self.front);
+        self.left -= 1;
+        self.bytes = behind;
+        Some(value)
+    }
+}
+
+/// The count of 2 bytes that stands first, and the bytes behind it.
+pub(crate) fn split_count(bytes: &[u8]) -> (u16, &[u8])
+    requires { 2 ≤ length bytes.now }
+    ensures count { result.0 ≡ count_in bytes.now }
+    ensures behind { result.1.now ≡ drop 2 bytes.now }
+{
+    let (_, behind) = bytes.split_at(2);
+    (number_at(bytes, 0, 2) as u16, behind)
+}
+
+/// The value that stands behind `front` bytes and its type code, and the bytes behind it.
+fn split_value(bytes: &[u8], id_size: u8, front: u8) -> (TypedValue<'_>, &[u8])
+    requires { value_end id_size front bytes.now ≤ length bytes.now }
+    ensures type_code { result.0.type_code ≡ slice_index bytes.now front }
+    ensures value { result.0.value.now ≡ take (tables.size_of id_size (slice_index bytes.now front)) (drop (front + 1) bytes.now) }
+    ensures behind { result.1.now ≡ drop (value_end id_size front bytes.now) bytes.now }
+{
+    let front = front as usize;
+    let type_code = bytes[front];
+    let size = size_of(id_size, type_code) as usize;
+    let value = bytes_at(bytes, front + 1, size);
+    let (_, behind) = bytes.split_at(front + 1 + size);
+    (TypedValue { type_code, value }, behind)
+}
+
+/// The bytes behind the values in these, which their count precedes.
+pub(crate) fn skip_values(bytes: &[u8], id_size: u8, front: u8) -> &[u8]
+    requires { HasCountedValues id_size front bytes.now }
+    ensures { result.now ≡ behind_counted_values id_size front bytes.now }
+{
+    let (mut left, mut rest) = split_count(bytes);
+    while left > 0 {
+        let (_, behind) = split_value(rest, id_size, front);
+        left -= 1;
+        rest = behind;
+    }
+    rest
+}
