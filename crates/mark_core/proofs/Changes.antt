@@ -16,7 +16,6 @@ use Rattle.mark_core.proofs.Sums.{stands_times}
 use Rattle.mark_core.proofs.Chains.{chain_one, chain_links, chain_rest, chain_more, recent_link}
 use Rattle.mark_core.proofs.Ownership.{held_apart}
 use Rattle.mark_core.proofs.Colours.{charged}
-use Rattle.mark_core.proofs.Runs.{runs_keep_law}
 
 -- an exchange of one head: of its stack one list is left, and of the other stack the same
 exchanged :
@@ -97,8 +96,8 @@ module _ (e : Setup) (m : Marking) (law : Law e m) (w : ℕ) (a : Account) (ther
   effect_changes (Fail p) can q old new c n = chain_one m.link (m.head q).index new old n c
 
 pub stacks_change : StacksChange
-stacks_change e m event run can q old new c n =
-    effect_changes e m (runs_keep_law e m run) event.worker can.0 can.1 event.kind can.2 q old new c
+stacks_change e m event law can q old new c n =
+    effect_changes e m law event.worker can.0 can.1 event.kind can.2 q old new c
     (subst (λ x. IsListOf (effect m event.worker x event.kind) q new) (at_get_or m.accounts event.worker can.0 spent can.1.0) n)
 
 -- the head that an exchange writes has the next tag
@@ -126,7 +125,7 @@ pub tags_rise : TagsRise
 tags_rise m event q = effect_rises m event.worker (account_at m.accounts event.worker) event.kind q
 
 pub pops_find_links : PopsFindLinks
-pops_find_links e m run w a q is can i l top next = recent_link m.link (m.head q) (look_of a q) i l ((runs_keep_law e m run).owned.recent q w a is) can.0.0 top next
+pops_find_links e m law w a q is can i l top next = recent_link m.link (m.head q) (look_of a q) i l (law.owned.recent q w a is) can.0.0 top next
 
 -- a number put in that is no smaller makes none smaller
 put_rises : (mark : ℕ → ℕ) (p x : ℕ) → mark p ≤ x → (o : ℕ) → mark o ≤ put p x mark o
@@ -155,6 +154,6 @@ effect_marks e m law w a there (Push p i items) can o = omega arith
 effect_marks e m law w a there (Fail p) can o = omega arith
 
 pub marks_rise : MarksRise
-marks_rise e m event run can o =
+marks_rise e m event law can o =
     subst (λ x. m.mark o ≤ (effect m event.worker x event.kind).mark o) (sym (at_get_or m.accounts event.worker can.0 spent can.1.0))
-    (effect_marks e m (runs_keep_law e m run) event.worker can.0 can.1 event.kind can.2 o)
+    (effect_marks e m law event.worker can.0 can.1 event.kind can.2 o)

@@ -15,7 +15,6 @@ use Rattle.mark_core.proofs.Sums.{term_le, terms_le, total-alone, some_term, sta
 use Rattle.mark_core.proofs.Chains.{chain_one}
 use Rattle.mark_core.proofs.Ownership.{place_one}
 use Rattle.mark_core.proofs.Colours.{linear}
-use Rattle.mark_core.proofs.Runs.{runs_keep_law}
 
 module _ (e : Setup) (m : Marking) (law : Law e m) where
   pub has_each_once : (w : ℕ) (a : Account) → StandsAt m.accounts w a → HasEachOnce a
@@ -139,10 +138,10 @@ module _ (e : Setup) (m : Marking) (law : Law e m) where
             omega (arith, ap (times b) f, ap (times b) g, law.owned.once b, alone_held b)
 
 pub each_once : AccountsHaveEachOnce
-each_once e m run = has_each_once e m (runs_keep_law e m run)
+each_once = has_each_once
 
 pub apart : AccountsAreApart
-apart e m run = are_apart e m (runs_keep_law e m run)
+apart = are_apart
 
 pub closed_is_told : ClosedIsTold
-closed_is_told e m run w a is all = closes e m (runs_keep_law e m run) w a is all
+closed_is_told = closes

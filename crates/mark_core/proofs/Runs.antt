@@ -3,9 +3,9 @@ use Rattle.std.proofs.Common.{◌≡◌, ℕ, List, [], ◌∷◌, Some, None, s
 use Rattle.mark_core.specs.Lists.{StandsAt}
 use Rattle.mark_core.specs.Account.{Account, look_of, spent, after_join, after_load_link}
 use Rattle.mark_core.specs.World.{Setup, Marking, items_of, IsThere}
-use Rattle.mark_core.specs.Event.{Kind, Claim, Finish, Split, Join, Load, LoadLink, StoreLink, Pop, Push, Fail, Event, Allows, IsPossible, effect, happens, popped, last_link, link_from}
+use Rattle.mark_core.specs.Event.{Kind, Claim, Finish, Split, Join, Load, LoadLink, StoreLink, Pop, Push, Fail, Event, Allows, effect, happens, popped, last_link, link_from}
 use Rattle.mark_core.specs.Law.{Law}
-use Rattle.mark_core.specs.Runs.{Run, RunsKeepLaw}
+use Rattle.mark_core.specs.Runs.{Run, RunsKeepLaw, EventsKeepLaw}
 use Rattle.mark_core.proofs.Places.{at_get_or}
 use Rattle.mark_core.proofs.Sums.{stands_times}
 use Rattle.mark_core.proofs.Ownership.{top_stands}
@@ -37,7 +37,7 @@ effect_keeps e m law w a there (Push q i items) can = push_keeps e m law w a the
 effect_keeps e m law w a there (Fail q) can = law
 
 -- each possible event keeps the law
-pub happens_keeps : (e : Setup) (m : Marking) (event : Event) → Law e m → IsPossible e m event → Law e (happens m event)
+pub happens_keeps : EventsKeepLaw
 happens_keeps e m event law can =
     subst (λ x. Law e (effect m event.worker x event.kind)) (sym (at_get_or m.accounts event.worker can.0 spent can.1.0)) (effect_keeps e m law event.worker can.0 can.1 event.kind can.2)
 

@@ -41,6 +41,10 @@ IsRun e last = (first : Marking) × (events : List Event) × IsOpening e first �
 abbrev pub RunsKeepLaw : Type 0
 RunsKeepLaw = (e : Setup) (m : Marking) → IsRun e m → Law e m
 
+-- each event keeps the law. From here on the facts are of every marking under the law, so of every run
+abbrev pub EventsKeepLaw : Type 0
+EventsKeepLaw = (e : Setup) (m : Marking) (event : Event) → Law e m → IsPossible e m event → Law e (happens m event)
+
 -- the buffers of a stack are these, the first on top
 abbrev pub IsListOf : Marking → Which → List ℕ → Type 0
 IsListOf m q list = Chain m.link (m.head q).index list
@@ -51,45 +55,45 @@ Changes q (Pop p) old new = (p ≡ q → (i : ℕ) × (old ≡ i ∷ new)) × (p
 Changes q (Push p i items) old new = (p ≡ q → new ≡ i ∷ old) × (p ≢ q → new ≡ old)
 Changes q kind old new = new ≡ old
 
--- in every run each event changes the stacks as one thread would
+-- each event changes the stacks as one thread would
 abbrev pub StacksChange : Type 0
 StacksChange =
-    (e : Setup) (m : Marking) (event : Event) → IsRun e m → IsPossible e m event
+    (e : Setup) (m : Marking) (event : Event) → Law e m → IsPossible e m event
     → (q : Which) (old new : List ℕ) → IsListOf m q old → IsListOf (happens m event) q new → Changes q event.kind old new
 
 -- a head stays as it is, or its tag rises by one
 abbrev pub TagsRise : Type 0
 TagsRise = (m : Marking) (event : Event) (q : Which) → ((happens m event).head q ≡ m.head q) ⊎ (((happens m event).head q).tag ≡ (m.head q).tag + 1)
 
--- in every run a pop that is possible finds the very link that its account loaded
+-- a pop that is possible finds the very link that its account loaded
 abbrev pub PopsFindLinks : Type 0
 PopsFindLinks =
-    (e : Setup) (m : Marking) → IsRun e m
+    (e : Setup) (m : Marking) → Law e m
     → (w : ℕ) (a : Account) (q : Which) → StandsAt m.accounts w a → CanPop (m.head q) (look_of a q)
     → (i : ℕ) (l : Option ℕ) → (m.head q).index ≡ Some i → (look_of a q).link ≡ Some l → m.link i ≡ l
 
--- in every run no event lets a mark fall
+-- no event lets a mark fall
 abbrev pub MarksRise : Type 0
-MarksRise = (e : Setup) (m : Marking) (event : Event) → IsRun e m → IsPossible e m event → (o : ℕ) → m.mark o ≤ (happens m event).mark o
+MarksRise = (e : Setup) (m : Marking) (event : Event) → Law e m → IsPossible e m event → (o : ℕ) → m.mark o ≤ (happens m event).mark o
 
 -- it holds no buffer twice, and no object is twice in its charge and its finished list taken together
 pub record HasEachOnce (a : Account) : Type 0 where
   pub held : (i : ℕ) → times i a.held ≤ 1
   pub objects : (o : ℕ) → times o a.charge + times o a.finished ≤ 1
 
--- in every run each account has a buffer or an object at most once
+-- each account has a buffer or an object at most once
 abbrev pub AccountsHaveEachOnce : Type 0
-AccountsHaveEachOnce = (e : Setup) (m : Marking) → IsRun e m → (w : ℕ) (a : Account) → StandsAt m.accounts w a → HasEachOnce a
+AccountsHaveEachOnce = (e : Setup) (m : Marking) → Law e m → (w : ℕ) (a : Account) → StandsAt m.accounts w a → HasEachOnce a
 
 -- no buffer is held by both, and no object stands in the charge or the finished list of both
 pub record AreApart (a b : Account) : Type 0 where
   pub held : (i : ℕ) → times i a.held + times i b.held ≤ 1
   pub objects : (o : ℕ) → (times o a.charge + times o a.finished) + (times o b.charge + times o b.finished) ≤ 1
 
--- in every run two accounts, as those that meet in a join, have nothing in common
+-- two accounts, as those that meet in a join, have nothing in common
 abbrev pub AccountsAreApart : Type 0
 AccountsAreApart =
-    (e : Setup) (m : Marking) → IsRun e m
+    (e : Setup) (m : Marking) → Law e m
     → (w v : ℕ) (a b : Account) → v ≢ w → StandsAt m.accounts w a → StandsAt m.accounts v b → AreApart a b
 
 -- the object is an item of a buffer of the list
@@ -111,8 +115,8 @@ pub record IsClosed (e : Setup) (m : Marking) (w : ℕ) (a : Account) : Type 0 w
       → (b : ℕ) → times b full + times b empty + times b a.held ≡ one_where (nat_lt b e.buffers)
   pub others : (v : ℕ) (b : Account) → v ≢ w → StandsAt m.accounts v b → HasNothing b
 
--- in every run, where one account has the whole share and answers for nothing, the marks are told by its finished list and the full stack
+-- where one account has the whole share and answers for nothing, the marks are told by its finished list and the full stack
 abbrev pub ClosedIsTold : Type 0
 ClosedIsTold =
-    (e : Setup) (m : Marking) → IsRun e m
+    (e : Setup) (m : Marking) → Law e m
     → (w : ℕ) (a : Account) → StandsAt m.accounts w a → a.share ≡ whole → a.charge ≡ [] → IsClosed e m w a

@@ -1,18 +1,26 @@
 //! The law over all runs.
-ghost use Rattle.mark_core.specs.Runs.{RunsKeepLaw, StacksChange, TagsRise, PopsFindLinks, MarksRise, ClosedIsTold, AccountsHaveEachOnce, AccountsAreApart};
+ghost use Rattle.mark_core.specs.Runs.{RunsKeepLaw, EventsKeepLaw, StacksChange, TagsRise};
+ghost use Rattle.mark_core.specs.Runs.{PopsFindLinks, MarksRise, ClosedIsTold};
+ghost use Rattle.mark_core.specs.Runs.{AccountsHaveEachOnce, AccountsAreApart};
 
-/// The law of a marking: from every opening world, after every list of events of any number of workers.
+/// The law of a marking, after every list of events of any number of workers, splits and joins
+/// included. It does nothing: its contract is the law.
 ///
-/// - `law`: each buffer is on one of the two stacks or held by one account, the mark of each object tells where it stands, and the shares add up to the whole.
-/// - `stacks`: each event changes each stack as one thread would: a pop takes the first buffer off, a push puts one before it, and no other event changes a stack.
+/// - `law`: from every opening on, each buffer is on one of the two stacks or held by one account,
+///   the mark of each object tells where it stands, and the shares add up to the whole.
+/// - `events`: each event that is possible keeps the law. So what follows holds in every run.
+/// - `stacks`: each event changes each stack as one thread would: a pop takes the first buffer off,
+///   a push puts one before it, and no other event changes a stack.
 /// - `tags`: a head stays as it is, or its tag rises by one.
 /// - `links`: a pop that is possible finds the very link that its account loaded.
 /// - `marks`: no event lets a mark fall.
-/// - `once`: an account holds no buffer twice, and no object is twice in its charge and its finished list.
+/// - `once`: an account holds no buffer twice, and no object is twice in its charge and its
+///   finished list.
 /// - `apart`: two accounts, as those that meet in a join, have nothing in common.
 /// - `closed`: what one account with the whole share and nothing in charge may conclude.
 pub fn all_runs_keep_law()
     ensures law { RunsKeepLaw }
+    ensures events { EventsKeepLaw }
     ensures stacks { StacksChange }
     ensures tags { TagsRise }
     ensures links { PopsFindLinks }

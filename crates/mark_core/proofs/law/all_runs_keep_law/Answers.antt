@@ -1,11 +1,14 @@
 -- Each clause is a lemma of its own.
-use Rattle.mark_core.proofs.Runs.{runs_keep_law}
+use Rattle.mark_core.proofs.Runs.{runs_keep_law, happens_keeps}
 use Rattle.mark_core.proofs.Changes.{stacks_change, tags_rise, pops_find_links, marks_rise}
 use Rattle.mark_core.proofs.Closing.{each_once, apart, closed_is_told}
 use Rattle.mark_core.proofs.law.all_runs_keep_law.Goals as goal
 
 pub returns-clause-law : goal.returns-clause-law
 returns-clause-law c = runs_keep_law
+
+pub returns-clause-events : goal.returns-clause-events
+returns-clause-events c = happens_keeps
 
 pub returns-clause-stacks : goal.returns-clause-stacks
 returns-clause-stacks c = stacks_change
