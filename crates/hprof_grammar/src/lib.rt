@@ -3,6 +3,7 @@
 
 mod dump;
 mod flaw;
+mod laws;
 mod order;
 mod placed;
 mod reader;
@@ -12,6 +13,7 @@ mod view;
 
 pub use dump::Dump;
 pub use flaw::{FormatFault, ReadRefusal};
+pub use laws::{dump_or_fault, one_dump, one_fault};
 pub use placed::{dump_is_placed, stands_within};
 pub use view::ids::Ids;
 pub use view::members::{MemberField, Members};

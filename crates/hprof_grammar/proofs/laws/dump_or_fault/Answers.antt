@@ -1,0 +1,5 @@
+use Rattle.hprof_grammar.proofs.OneFault.{dump_or_fault}
+use Rattle.hprof_grammar.proofs.laws.dump_or_fault.Goals as goal
+
+pub returns : goal.returns
+returns c = dump_or_fault

@@ -1,0 +1,5 @@
+use Rattle.hprof_grammar.proofs.OneDump.{one_dump}
+use Rattle.hprof_grammar.proofs.laws.one_dump.Goals as goal
+
+pub returns : goal.returns
+returns c = one_dump

@@ -1,0 +1,21 @@
+//! What a text and its dump or its first fault have in common, as laws: functions with empty bodies.
+
+ghost use Rattle.std.specs.Prelude.{List, ℕ, ◌≡◌};
+ghost use Rattle.hprof_grammar.specs.Dump.{IsDumpOf, Places};
+ghost use Rattle.hprof_grammar.specs.Fault.{FirstFault};
+
+/// A text spells at most one dump.
+pub fn one_dump()
+    ensures { (text : List ℕ) (dump other : Places) → IsDumpOf text dump → IsDumpOf text other → dump ≡ other }
+{}
+
+/// A text has at most one first fault: its code, and its place.
+pub fn one_fault()
+    ensures { (text : List ℕ) (code place other_code other_place : ℕ) → FirstFault text code place → FirstFault text other_code other_place
+        → (code ≡ other_code) × (place ≡ other_place) }
+{}
+
+/// A text that spells a dump has no first fault.
+pub fn dump_or_fault()
+    ensures { (text : List ℕ) (dump : Places) (code place : ℕ) → IsDumpOf text dump → FirstFault text code place → ⊥ }
+{}
