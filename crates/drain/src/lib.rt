@@ -2,11 +2,14 @@
 #![tactic(auto)]
 
 mod gate;
+mod leader;
+mod linked;
 mod marked;
 mod marking;
 mod options;
 mod walk;
 
 pub use gate::{Gate, NoGate};
+pub use leader::mark;
 pub use marked::{Marked, RunFault};
 pub use options::{BadOptions, Options};
