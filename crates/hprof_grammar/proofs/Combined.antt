@@ -44,24 +44,24 @@ module _ {A B : Type 0} {W : A → Type 0} {F : A → List Field} {r : List ℕ 
 
   pair_fails : (bytes : List ℕ) (flaw : Flaw) → IsBytes bytes → pair_at r q bytes ≡ Err flaw → (p : A × B) × (W p.0 × V p.0 p.1) × Breaks flaw (F p.0 ++ G p.0 p.1) bytes
   pair_fails bytes flaw h e = elim (bind_err (r bytes) (λ x. q x.0 x.1 >>= λ y. Ok ((x.0, y.0), y.1)) flaw e) [
-      inl f ↦
+    | inl f ↦
         let a = first.fails bytes flaw h f in
         let b = second a.0 in
         ((a.0, b.sample), (a.1, b.sample_well), breaks_first flaw (F a.0) (G a.0 b.sample) bytes a.2)
     | inr a ↦ elim (bind_err (q a.0.0 a.0.1) (λ y. Ok ((a.0.0, y.0), y.1)) flaw a.2) [
-        inl f ↦
+      | inl f ↦
           let s = first.takes bytes a.0 h a.1 in
           let b = (second a.0.0).fails a.0.1 flaw (rest_bytes W F bytes a.0.0 a.0.1 s h) f in
           ((a.0.0, b.0), (s.well, b.1), breaks_behind W F bytes a.0.0 a.0.1 (G a.0.0 b.0) flaw s b.2)
       | inr b ↦ absurd (let e : ◌≡◌ {A = Result ((A × B) × List ℕ) Flaw} (Ok ((a.0.0, b.0.0), b.0.1)) (Err flaw) = b.2 in cc)
-      ]
     ]
+  ]
 
   pair_fails_again : (p : A × B) (bytes : List ℕ) (flaw : Flaw) → W p.0 × V p.0 p.1 → Breaks flaw (F p.0 ++ G p.0 p.1) bytes → pair_at r q bytes ≡ Err flaw
   pair_fails_again p bytes flaw h b = elim (breaks_split flaw (F p.0) (G p.0 p.1) bytes b) [
-      inl f ↦ rw (first.fails_again p.0 bytes flaw h.0 f) refl
+    | inl f ↦ rw (first.fails_again p.0 bytes flaw h.0 f) refl
     | inr s ↦ rw (s.2) (rw (first.again p.0 s.0 h.0 s.1) (rw ((second p.0).fails_again p.1 s.0 flaw h.1 s.3) refl))
-    ]
+  ]
 
   pub pair_format : IsFormat (λ (p : A × B). W p.0 × V p.0 p.1) (λ p. F p.0 ++ G p.0 p.1) (pair_at r q)
   pair_format = record {
@@ -101,7 +101,6 @@ module _ {A : Type 0} {W : A → Type 0} {F : A → List Field} {r : List ℕ �
       rw (spelled_then (F x) (flat_map F xs) rest)
       (rw (one.again x (spelled (flat_map F xs) ++ rest) h.1.0 parts.0) (rw (list_again n xs rest (omega (arith, h.0), h.1.1) parts.1) refl))
 
-
   samples_well : (n : ℕ) → (length (replicate n one.sample) ≡ n) × AllByRecursion W (replicate n one.sample)
   samples_well zero = (refl, tt)
   samples_well (suc n) = let s = samples_well n in (omega (arith, s.0), (one.sample_well, s.1))
@@ -109,26 +108,26 @@ module _ {A : Type 0} {W : A → Type 0} {F : A → List Field} {r : List ℕ �
   list_fails : (n : ℕ) (bytes : List ℕ) (flaw : Flaw) → IsBytes bytes → list_at r n bytes ≡ Err flaw → (xs : List A) × ((length xs ≡ n) × AllByRecursion W xs) × Breaks flaw (flat_map F xs) bytes
   list_fails zero bytes flaw h e = absurd (let k : ◌≡◌ {A = Result (List A × List ℕ) Flaw} (Ok ([], bytes)) (Err flaw) = e in cc)
   list_fails (suc n) bytes flaw h e = elim (bind_err (r bytes) (λ x. list_at r n x.1 >>= λ xs. Ok (x.0 ∷ xs.0, xs.1)) flaw e) [
-      inl f ↦
+    | inl f ↦
         let a = one.fails bytes flaw h f in
         let some = samples_well n in
         (a.0 ∷ replicate n one.sample, (omega (arith, some.0), (a.1, some.1)), breaks_first flaw (F a.0) (flat_map F (replicate n one.sample)) bytes a.2)
     | inr a ↦ elim (bind_err (list_at r n a.0.1) (λ xs. Ok (a.0.0 ∷ xs.0, xs.1)) flaw a.2) [
-        inl f ↦
+      | inl f ↦
           let s = one.takes bytes a.0 h a.1 in
           let b = list_fails n a.0.1 flaw (rest_bytes W F bytes a.0.0 a.0.1 s h) f in
           (a.0.0 ∷ b.0, (omega (arith, b.1.0), (s.well, b.1.1)), breaks_behind W F bytes a.0.0 a.0.1 (flat_map F b.0) flaw s b.2)
       | inr b ↦ absurd (let k : ◌≡◌ {A = Result (List A × List ℕ) Flaw} (Ok (a.0.0 ∷ b.0.0, b.0.1)) (Err flaw) = b.2 in cc)
-      ]
     ]
+  ]
 
   list_fails_again : (n : ℕ) (xs : List A) (bytes : List ℕ) (flaw : Flaw) → (length xs ≡ n) × AllByRecursion W xs → Breaks flaw (flat_map F xs) bytes → list_at r n bytes ≡ Err flaw
   list_fails_again n [] bytes flaw h b = absurd (breaks_never flaw bytes b)
   list_fails_again zero (x ∷ xs) bytes flaw h b = absurd (omega (arith, h.0))
   list_fails_again (suc n) (x ∷ xs) bytes flaw h b = elim (breaks_split flaw (F x) (flat_map F xs) bytes b) [
-      inl f ↦ rw (one.fails_again x bytes flaw h.1.0 f) refl
+    | inl f ↦ rw (one.fails_again x bytes flaw h.1.0 f) refl
     | inr s ↦ rw (s.2) (rw (one.again x s.0 h.1.0 s.1) (rw (list_fails_again n xs s.0 flaw (omega (arith, h.0), h.1.1) s.3) refl))
-    ]
+  ]
 
   pub list_format : (n : ℕ) → IsFormat (λ xs. (length xs ≡ n) × AllByRecursion W xs) (λ xs. flat_map F xs) (list_at r n)
   list_format n = record {
@@ -168,11 +167,11 @@ module _ {A B : Type 0} {W : A → Type 0} {F : A → List Field} {r : List ℕ 
 
   as_fails : (bytes : List ℕ) (flaw : Flaw) → IsBytes bytes → as_at to r bytes ≡ Err flaw → (b : B) × V b × Breaks flaw (G b) bytes
   as_fails bytes flaw h e = elim (bind_err (r bytes) (λ x. Ok (to x.0, x.1)) flaw e) [
-      inl f ↦
+    | inl f ↦
         let a = under.fails bytes flaw h f in
         (to a.0, same.well_to a.0 a.1, rw (same.fields_to a.0 a.1) a.2)
     | inr a ↦ absurd (let k : ◌≡◌ {A = Result (B × List ℕ) Flaw} (Ok (to a.0.0, a.0.1)) (Err flaw) = a.2 in cc)
-    ]
+  ]
 
   as_fails_again : (b : B) (bytes : List ℕ) (flaw : Flaw) → V b → Breaks flaw (G b) bytes → as_at to r bytes ≡ Err flaw
   as_fails_again b bytes flaw h f = rw (under.fails_again (from b) bytes flaw (same.well_from b h) (subst (λ (x : List Field). Breaks flaw x bytes) (same.fields_from b h) f)) refl
@@ -192,9 +191,9 @@ module _ {A B : Type 0} {W : A → Type 0} {F : A → List Field} {r : List ℕ 
 pub counted_format : {A : Type 0} {W : A → Type 0} {F : A → List Field} {r : List ℕ → Result (A × List ℕ) Flaw} (w : ℕ) → IsFormat W F r
     → IsFormat (λ xs. (length xs < 256 ^ w) × AllByRecursion W xs) (λ xs. number w (length xs) ∷ flat_map F xs) (counted_at w r)
 counted_format {A = A} {W = W} {F = F} w one = as_format {from = λ (xs : List A). (length xs, xs)} (pair_format (number_format w) (λ (n : ℕ). list_format one n)) (record {
-    well_to = λ p h. (rw (h.1.0) h.0, h.1.1);
-    well_from = λ xs h. (h.0, (refl, h.1));
-    fields_to = λ p h. rw (h.1.0) refl;
-    fields_from = λ xs h. refl;
-    back = λ xs h. refl;
-  })
+  well_to = λ p h. (rw (h.1.0) h.0, h.1.1);
+  well_from = λ xs h. (h.0, (refl, h.1));
+  fields_to = λ p h. rw (h.1.0) refl;
+  fields_from = λ xs h. refl;
+  back = λ xs h. refl;
+})

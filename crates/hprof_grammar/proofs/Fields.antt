@@ -88,20 +88,24 @@ split_at {A = A} (x ∷ xs) ys (z ∷ front) a more e =
     let h : x ≡ z = cc in
     let t : xs ++ ys ≡ front ++ a ∷ more = cc in
     elim (split_at xs ys front a more t) [
-      inl s ↦ inl (s.0, rw (h, s.1) refl)
-    | inr s ↦ inr (s.0, rw (h, s.1) refl, s.2)
+      | inl s ↦ inl (s.0, rw (h, s.1) refl)
+      | inr s ↦ inr (s.0, rw (h, s.1) refl, s.2)
     ]
 
 -- reading breaks off in the first list, or behind it in the second
 pub breaks_split : (flaw : Flaw) (fs gs : List Field) (bytes : List ℕ) → Breaks flaw (fs ++ gs) bytes
     → Breaks flaw fs bytes ⊎ ((rest : List ℕ) × AreAllowed fs × (bytes ≡ spelled fs ++ rest) × Breaks flaw gs rest)
 breaks_split flaw fs gs bytes b = elim (split_at fs gs b.front b.field b.more b.in_order) [
-    inl s ↦ inl (record { front = b.front; field = b.field; more = s.0; rest = b.rest; in_order = s.1; allowed = b.allowed; bytes_are = b.bytes_are; spoiled = b.spoiled })
+  | inl s ↦ inl (record { front = b.front; field = b.field; more = s.0; rest = b.rest; in_order = s.1; allowed = b.allowed; bytes_are = b.bytes_are; spoiled = b.spoiled })
   | inr s ↦
       let parts = all_split IsAllowed fs s.0 (subst AreAllowed s.1 b.allowed) in
-      inr (spelled s.0 ++ b.rest, parts.0, b.bytes_are ∙ ap (λ (x : List Field). spelled x ++ b.rest) s.1 ∙ spelled_then fs s.0 b.rest,
-      record { front = s.0; field = b.field; more = b.more; rest = b.rest; in_order = s.2; allowed = parts.1; bytes_are = refl; spoiled = b.spoiled })
-  ]
+      inr (
+        spelled s.0 ++ b.rest,
+        parts.0,
+        b.bytes_are ∙ ap (λ (x : List Field). spelled x ++ b.rest) s.1 ∙ spelled_then fs s.0 b.rest,
+        record { front = s.0; field = b.field; more = b.more; rest = b.rest; in_order = s.2; allowed = parts.1; bytes_are = refl; spoiled = b.spoiled },
+      )
+]
 
 -- no list of fields breaks off behind its last one
 pub breaks_never : (flaw : Flaw) (bytes : List ℕ) → Breaks flaw [] bytes → ⊥
@@ -111,8 +115,8 @@ pub breaks_one : (flaw : Flaw) (f : Field) (bytes : List ℕ) → Breaks flaw (f
 breaks_one flaw f bytes b = one b.front b.in_order b.bytes_are where
   one : (front : List Field) → f ∷ [] ≡ front ++ b.field ∷ b.more → bytes ≡ spelled front ++ b.rest → Spoils flaw f bytes
   one [] e is =
-    let h : b.field ≡ f = cc in
-    rw is (subst (λ (x : Field). Spoils flaw x b.rest) h b.spoiled)
+      let h : b.field ≡ f = cc in
+      rw is (subst (λ (x : Field). Spoils flaw x b.rest) h b.spoiled)
   one (g ∷ front) e is = absurd (omega (arith, ap length e, length-append front (b.field ∷ b.more)))
 
 -- ---- the two ways to break off, as the definitions say them

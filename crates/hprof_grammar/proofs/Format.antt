@@ -100,10 +100,12 @@ number_fails w bytes flaw h e =
     let whole = filled w bytes in
     let size : length whole ≡ w = filled-length w bytes (omega arith) in
     let are = bytes-join bytes (replicate (w - length bytes) 0) h (zeros-bytes (w - length bytes)) in
-    let spells : big_bytes w (big_number w whole) ≡ whole = bytes_of_number w whole are (omega arith) ∙ take_all w whole (omega arith) in
-    (big_number w whole, number-lt w whole are,
-    subst (λ (y : Flaw). Breaks y (number w (big_number w whole) ∷ []) bytes) t.1
-    (breaks_here Short (number w (big_number w whole)) [] bytes (replicate (w - length bytes) 0, spells, filled-more w bytes short)))
+    let spells : big_bytes w (big_number w whole) ≡ whole = bytes_of_number w whole are (omega arith) ∙ take_all w whole (omega arith) in (
+      big_number w whole,
+      number-lt w whole are,
+      subst (λ (y : Flaw). Breaks y (number w (big_number w whole) ∷ []) bytes) t.1
+          (breaks_here Short (number w (big_number w whole)) [] bytes (replicate (w - length bytes) 0, spells, filled-more w bytes short)),
+    )
 
 number_fails_again : (w x : ℕ) (bytes : List ℕ) (flaw : Flaw) → Spoils flaw (number w x) bytes → number_at w bytes ≡ Err flaw
 number_fails_again w x bytes Short s = number_cut w bytes (omega (arith, s.2, ap length s.1, length-append bytes s.0, length-big_bytes w x))
@@ -140,10 +142,12 @@ raw_takes n bytes z e =
 raw_fails : (n : ℕ) (bytes : List ℕ) (flaw : Flaw) → raw_at n bytes ≡ Err flaw → (x : List ℕ) × (length x ≡ n) × Breaks flaw (raw x ∷ []) bytes
 raw_fails n bytes flaw e =
     let t = test_err (nat_lt (length bytes) n) Short flaw (take n bytes, drop n bytes) e in
-    let short : length bytes < n = ltb-true (length bytes) n t.0 in
-    (filled n bytes, filled-length n bytes (omega arith),
-    subst (λ (y : Flaw). Breaks y (raw (filled n bytes) ∷ []) bytes) t.1
-    (breaks_here Short (raw (filled n bytes)) [] bytes (replicate (n - length bytes) 0, refl, filled-more n bytes short)))
+    let short : length bytes < n = ltb-true (length bytes) n t.0 in (
+      filled n bytes,
+      filled-length n bytes (omega arith),
+      subst (λ (y : Flaw). Breaks y (raw (filled n bytes) ∷ []) bytes) t.1
+          (breaks_here Short (raw (filled n bytes)) [] bytes (replicate (n - length bytes) 0, refl, filled-more n bytes short)),
+    )
 
 raw_fails_again : (n : ℕ) (x bytes : List ℕ) (flaw : Flaw) → length x ≡ n → Spoils flaw (raw x) bytes → raw_at n bytes ≡ Err flaw
 raw_fails_again n x bytes Short h s = raw_cut n bytes (omega (arith, s.2, ap length s.1, length-append bytes s.0))

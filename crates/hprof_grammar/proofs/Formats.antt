@@ -52,13 +52,50 @@ class_format s = as_format
     pair_format (counted_format 2 (static_format s)) (λ (_ : List Static). counted_format 2 (member_format s)))))))))))))
     (record {
       well_to = λ p h. record {
-        object = h.0; stack = h.1.0; super = h.1.1.0; loader = h.1.1.1.0; signers = h.1.1.1.1.0; domain = h.1.1.1.1.1.0; reserved = h.1.1.1.1.1.1.0; reserved_too = h.1.1.1.1.1.1.1.0; instance_size = h.1.1.1.1.1.1.1.1.0;
-        constant_count = h.1.1.1.1.1.1.1.1.1.0.0; constants = h.1.1.1.1.1.1.1.1.1.0.1;
-        static_count = h.1.1.1.1.1.1.1.1.1.1.0.0; statics = h.1.1.1.1.1.1.1.1.1.1.0.1;
-        member_count = h.1.1.1.1.1.1.1.1.1.1.1.0; members = h.1.1.1.1.1.1.1.1.1.1.1.1;
+        object = h.0;
+        stack = h.1.0;
+        super = h.1.1.0;
+        loader = h.1.1.1.0;
+        signers = h.1.1.1.1.0;
+        domain = h.1.1.1.1.1.0;
+        reserved = h.1.1.1.1.1.1.0;
+        reserved_too = h.1.1.1.1.1.1.1.0;
+        instance_size = h.1.1.1.1.1.1.1.1.0;
+        constant_count = h.1.1.1.1.1.1.1.1.1.0.0;
+        constants = h.1.1.1.1.1.1.1.1.1.0.1;
+        static_count = h.1.1.1.1.1.1.1.1.1.1.0.0;
+        statics = h.1.1.1.1.1.1.1.1.1.1.0.1;
+        member_count = h.1.1.1.1.1.1.1.1.1.1.1.0;
+        members = h.1.1.1.1.1.1.1.1.1.1.1.1;
       };
-      well_from = λ c h. (h.object, (h.stack, (h.super, (h.loader, (h.signers, (h.domain, (h.reserved, (h.reserved_too, (h.instance_size,
-        ((h.constant_count, h.constants), ((h.static_count, h.statics), (h.member_count, h.members))))))))))));
+      well_from = λ c h. (
+        h.object,
+        (
+          h.stack,
+          (
+            h.super,
+            (
+              h.loader,
+              (
+                h.signers,
+                (
+                  h.domain,
+                  (
+                    h.reserved,
+                    (
+                      h.reserved_too,
+                      (
+                        h.instance_size,
+                        ((h.constant_count, h.constants), ((h.static_count, h.statics), (h.member_count, h.members))),
+                      ),
+                    ),
+                  ),
+                ),
+              ),
+            ),
+          ),
+        ),
+      );
       fields_to = λ p h. refl;
       fields_from = λ c h. refl;
       back = λ c h. refl;

@@ -40,7 +40,7 @@ same_frame tag time body after tag_too time_too body_too after_too h k e =
 pub cut_or_whole : (rest : List ℕ) (tag time : ℕ) (body after : List ℕ) → length body < 256 ^ 4 → rest ≡ framed tag time body ++ after → RunsPastEnd rest → ⊥
 cut_or_whole rest tag time body after h e cut =
     let whole : framed cut.tag cut.time cut.body ++ [] ≡ framed tag time body ++ (after ++ cut.missing) =
-        append-nil (framed cut.tag cut.time cut.body) ∙ cut.begins ∙ ap (λ (l : List ℕ). l ++ cut.missing) e ∙ append_assoc (framed tag time body) after cut.missing in
+    append-nil (framed cut.tag cut.time cut.body) ∙ cut.begins ∙ ap (λ (l : List ℕ). l ++ cut.missing) e ∙ append_assoc (framed tag time body) after cut.missing in
     let s = same_frame cut.tag cut.time cut.body [] tag time body (after ++ cut.missing) cut.length_fits h whole in
     omega (arith, cut.not_whole, ap length s.afters, length-append after cut.missing)
 

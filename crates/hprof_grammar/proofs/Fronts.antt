@@ -20,8 +20,8 @@ module _ {A : Type 0} (spell : A → List ℕ) (Is : A → Type 0) (determined :
   fronts (x ∷ xs) (y ∷ ys) rest more h k e =
       let d = determined x y (flat_map spell xs ++ rest) (flat_map spell ys ++ more) h.0 k.0 (sym (append_assoc (spell x) (flat_map spell xs) rest) ∙ e ∙ append_assoc (spell y) (flat_map spell ys) more) in
       elim (fronts xs ys rest more h.1 k.1 d.1) [
-        inl g ↦ inl (g.0, rw (d.0, g.1) refl, g.2)
-      | inr g ↦ inr (g.0, rw (d.0, g.1) refl, g.2)
+        | inl g ↦ inl (g.0, rw (d.0, g.1) refl, g.2)
+        | inr g ↦ inr (g.0, rw (d.0, g.1) refl, g.2)
       ]
 
   -- what goes on with no more elements ends at the same place
@@ -34,17 +34,17 @@ module _ {A : Type 0} (spell : A → List ℕ) (Is : A → Type 0) (determined :
   -- lists of one length that begin one text
   pub same_fronts : (xs ys : List A) (rest more : List ℕ) → length xs ≡ length ys → AllByRecursion Is xs → AllByRecursion Is ys → flat_map spell xs ++ rest ≡ flat_map spell ys ++ more → (xs ≡ ys) × (rest ≡ more)
   same_fronts xs ys rest more n h k e = elim (fronts xs ys rest more h k e) [
-      inl g ↦ let s = goes_nowhere xs ys rest more (omega arith) g in (sym s.0, s.1)
+    | inl g ↦ let s = goes_nowhere xs ys rest more (omega arith) g in (sym s.0, s.1)
     | inr g ↦ let s = goes_nowhere ys xs more rest (omega arith) g in (s.0, sym s.1)
-    ]
+  ]
 
   -- where nothing goes on, no other list is longer
   pub longest_front : (xs ys : List A) (rest more : List ℕ) → AllByRecursion Is xs → AllByRecursion Is ys → ((z : A) (left : List ℕ) → Is z → rest ≡ spell z ++ left → ⊥)
       → flat_map spell xs ++ rest ≡ flat_map spell ys ++ more → length ys ≤ length xs
   longest_front xs ys rest more h k stops e = elim (fronts xs ys rest more h k e) [
-      inl g ↦ ends g.0 g.1 g.2
+    | inl g ↦ ends g.0 g.1 g.2
     | inr g ↦ omega (arith, ap length g.1, length-append ys g.0)
-    ] where
+  ] where
     ends : (zs : List A) → ys ≡ xs ++ zs → rest ≡ flat_map spell zs ++ more → length ys ≤ length xs
     ends [] p q = omega (arith, ap length p, length-append xs [])
     ends (z ∷ zs) p q =
@@ -54,9 +54,9 @@ module _ {A : Type 0} (spell : A → List ℕ) (Is : A → Type 0) (determined :
   -- the same text is spelled by one list
   pub same_list : ((x : A) → 0 < length (spell x)) → (xs ys : List A) → AllByRecursion Is xs → AllByRecursion Is ys → flat_map spell xs ≡ flat_map spell ys → xs ≡ ys
   same_list some xs ys h k e = elim (fronts xs ys [] [] h k (append-nil (flat_map spell xs) ∙ e ∙ sym (append-nil (flat_map spell ys)))) [
-      inl g ↦ sym (empty xs ys g.0 g.1 g.2)
+    | inl g ↦ sym (empty xs ys g.0 g.1 g.2)
     | inr g ↦ empty ys xs g.0 g.1 g.2
-    ] where
+  ] where
     empty : (us vs zs : List A) → vs ≡ us ++ zs → [] ≡ flat_map spell zs ++ [] → vs ≡ us
     empty us vs [] p q = p ∙ append-nil us
     empty us vs (z ∷ zs) p q = absurd (omega (arith, some z, ap length q, length-append (spell z) (flat_map spell zs), length-append (flat_map spell (z ∷ zs)) []))

@@ -71,9 +71,14 @@ where-append is xs ys = ap (map (λ p. p.0)) (filter-append (λ p. is p.1) xs ys
 one_more : (p : Places) (at : ℕ) (subs : List SubRecord) (x : SubRecord) (place : ℕ) → place ≡ at + length (flat_map (spelling_of p.id_size) subs)
     → with_subs p at (subs ++ x ∷ []) ≡ with_subs (with_subs p at subs) place (x ∷ [])
 one_more p at subs x place e =
-    rw (placed_more p.id_size at subs x, ← e, where-append is_root (placed_subs p.id_size at subs) ((place, x) ∷ []), where-append is_object (placed_subs p.id_size at subs) ((place, x) ∷ []),
+    rw (
+      placed_more p.id_size at subs x,
+      ← e,
+      where-append is_root (placed_subs p.id_size at subs) ((place, x) ∷ []),
+      where-append is_object (placed_subs p.id_size at subs) ((place, x) ∷ []),
       ← append_assoc p.roots (places_where is_root (placed_subs p.id_size at subs)) (places_where is_root ((place, x) ∷ [])),
-      ← append_assoc p.objects (places_where is_object (placed_subs p.id_size at subs)) (places_where is_object ((place, x) ∷ []))) refl
+      ← append_assoc p.objects (places_where is_object (placed_subs p.id_size at subs)) (places_where is_object ((place, x) ∷ [])),
+    ) refl
 
 -- what the tag of a sub-record says
 kind_is : (s : ℕ) (x : SubRecord) (kind : Kind) → IsSubRecord s x → kind_of s (tag_of x) ≡ Some kind → (p : Places) (at : ℕ) → noted p kind at ≡ with_subs p at (x ∷ [])
@@ -137,6 +142,6 @@ subs_fault s at body rest old new flaw fault size h some adds read code place =
       wrong = rw code (fault_of s rest flaw some bytes flawed);
       place = omega (arith, place, ap length parts, length-append (texts s adds.subs) rest);
     } where
-    fault_of : (s : ℕ) (rest : List ℕ) (flaw : Flaw) → 0 < length rest → IsBytes rest → sub_record_at s rest ≡ Err flaw → SubFault s rest (code_of flaw)
-    fault_of s [] flaw some h e = absurd (omega (arith, some))
-    fault_of s (tag ∷ rest) flaw some h e = sub_fails s tag rest flaw h e
+      fault_of : (s : ℕ) (rest : List ℕ) (flaw : Flaw) → 0 < length rest → IsBytes rest → sub_record_at s rest ≡ Err flaw → SubFault s rest (code_of flaw)
+      fault_of s [] flaw some h e = absurd (omega (arith, some))
+      fault_of s (tag ∷ rest) flaw some h e = sub_fails s tag rest flaw h e

@@ -91,7 +91,7 @@ whole_is_longest s records each orderly = record {
   each = each;
   goes_on = ([], rw (append-nil (map tag_of records)) orderly);
   longest = λ others left e h goes. longest_front (record_spelling s) (IsRecord s) (records_determined s) records others [] left each h
-    (λ z more is none. no_frame (tag_of z) (time_of z) (body_of s z) more none) (append-nil (spellings s records) ∙ e);
+      (λ z more is none. no_frame (tag_of z) (time_of z) (body_of s z) more none) (append-nil (spellings s records) ∙ e);
 }
 
 -- behind a whole list nothing is wrong
@@ -167,6 +167,6 @@ dump_or_fault text dump c p d (bad_id_size s rest size room fits e wrong) = bad_
 dump_or_fault text dump c p d (in_records s time body records rest code place size is e longest wrong) =
     let head = same_header s time dump.id_size d.spells.time body (spellings dump.id_size d.records) is d.spells.id_size (sym e ∙ d.spells.whole) in
     let longest_here : LongestRecords dump.id_size (spellings dump.id_size d.records) records rest =
-        subst (λ (n : ℕ). LongestRecords n (spellings dump.id_size d.records) records rest) head.0 (subst (λ (b : List ℕ). LongestRecords s b records rest) head.1 longest) in
+    subst (λ (n : ℕ). LongestRecords n (spellings dump.id_size d.records) records rest) head.0 (subst (λ (b : List ℕ). LongestRecords s b records rest) head.1 longest) in
     let same = one_longest_records dump.id_size (spellings dump.id_size d.records) records d.records rest [] longest_here (whole_is_longest dump.id_size d.records d.spells.each d.orderly) in
     no_fault_behind s (31 + length (spellings s records)) records rest code place same.1 (rw (same.0) d.orderly) wrong

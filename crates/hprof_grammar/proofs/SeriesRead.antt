@@ -10,7 +10,7 @@ use Rattle.hprof_grammar.specs.Spelling.Field.{number, raw, type_code}
 use Rattle.hprof_grammar.specs.SubRecord.{IsMember, Member, member_fields}
 use Rattle.hprof_grammar.specs.Tables.{size_of}
 use Rattle.hprof_grammar.specs.declared.tables.TypePlace.{TypePlace}
-use Rattle.hprof_grammar.specs.Series.{HasValues, behind_values, members_in, numbers_in, value_end, values_in}
+use Rattle.hprof_grammar.specs.Series.{HasValues, behind_values, members_in, numbers_in, values_in}
 use Rattle.hprof_grammar.proofs.Fields.{spelled_then}
 use Rattle.hprof_grammar.proofs.Places.{widths}
 

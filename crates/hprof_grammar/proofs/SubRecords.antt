@@ -49,11 +49,11 @@ module _ {A : Type 0} {W : A → Type 0} {F : A → List Field} {r : List ℕ �
 
   kind_fails : (rest : List ℕ) (flaw : Flaw) → IsBytes rest → as_at make r rest ≡ Err flaw → SubBreaks s tag rest flaw
   kind_fails rest flaw h e = elim (bind_err (r rest) (λ x. Ok (make x.0, x.1)) flaw e) [
-      inl f ↦
+    | inl f ↦
         let a = under.fails rest flaw h f in
         (make a.0, formed a.0 a.1, tag_is a.0 a.1, rw (fields_are a.0) a.2)
     | inr a ↦ absurd (let k : ◌≡◌ {A = Result (SubRecord × List ℕ) Flaw} (Ok (make a.0.0, a.0.1)) (Err flaw) = a.2 in cc)
-    ]
+  ]
 
   kind_fails_again : (a : A) (rest : List ℕ) (flaw : Flaw) → W a → Breaks flaw (fields_of s (make a)) rest → as_at make r rest ≡ Err flaw
   kind_fails_again a rest flaw h b = rw (under.fails_again a rest flaw h (subst (λ (x : List Field). Breaks flaw x rest) (fields_are a) b)) refl
