@@ -1,6 +1,6 @@
 -- Lists of bytes, and the bytes of a number of any width.
 use Rattle.std.proofs.Common.{◌*◌, ◌+◌, ◌++◌, ◌/◌, ◌<◌, ◌^◌, ◌∙◌, ◌∷◌, ◌≡◌, ◌≤◌, List, [], ap, arith, drop, length, refl, replicate, slice_index, suc, sym, take, zero, ℕ}
-use Rattle.std.proofs.lemmas.List.{append-nil, get_or-append-add, get_or-drop, length-append, length-drop, length-take-le, take-append-drop}
+use Rattle.std.proofs.lemmas.List.{append-nil, get_or-append-add, get_or-drop, length-take-le, take-append-drop}
 use Rattle.std.proofs.Math.Seq.{drop-append_seam, take-append_seam}
 use Rattle.std.proofs.Math.Arith.{digits_div}
 use Rattle.std.specs.Int.{byte_at}
@@ -57,7 +57,7 @@ number-cons : (n a : ℕ) (bytes : List ℕ) → big_number (suc n) (a ∷ bytes
 number-cons n a bytes = ap (λ (r : ℕ). a * 256 ^ n + r) (big_from-cons 0 n a bytes)
 
 -- n bytes are known from the number that they make
-pub same_bytes : (n : ℕ) (xs ys : List ℕ) → IsBytes xs → IsBytes ys → length xs ≡ n → length ys ≡ n → big_number n xs ≡ big_number n ys → xs ≡ ys
+same_bytes : (n : ℕ) (xs ys : List ℕ) → IsBytes xs → IsBytes ys → length xs ≡ n → length ys ≡ n → big_number n xs ≡ big_number n ys → xs ≡ ys
 same_bytes zero [] [] h k p q e = refl
 same_bytes zero [] (y ∷ ys) h k p q e = absurd (omega arith)
 same_bytes zero (x ∷ xs) ys h k p q e = absurd (omega arith)
@@ -106,12 +106,7 @@ pub same_number : (n x y : ℕ) (rest more : List ℕ) → x < 256 ^ n → y < 2
 same_number n x y rest more h k e =
     (sym (number_read n x rest h) ∙ ap (big_number n) e ∙ number_read n y more k, sym (behind_number n x rest) ∙ ap (drop n) e ∙ behind_number n y more)
 
--- the same where only the texts of the numbers are asked for
+-- two fronts of n bytes that begin one text
 pub same_front : (n : ℕ) (xs ys rest more : List ℕ) → length xs ≡ n → length ys ≡ n → xs ++ rest ≡ ys ++ more → (xs ≡ ys) × (rest ≡ more)
 same_front n xs ys rest more h k e =
     (sym (first_bytes n xs rest h) ∙ ap (take n) e ∙ first_bytes n ys more k, sym (behind_bytes n xs rest h) ∙ ap (drop n) e ∙ behind_bytes n ys more k)
-
--- a number that stands at a place has room there, and is read there
-pub number_at_place : (bytes : List ℕ) (at n x : ℕ) (rest : List ℕ) → drop at bytes ≡ big_bytes n x ++ rest → 1 ≤ n → x < 256 ^ n → (at + n ≤ length bytes) × (big_number n (drop at bytes) ≡ x)
-number_at_place bytes at n x rest e some h =
-    (omega (arith, ap length e, length-drop at bytes, length-append (big_bytes n x) rest, length-big_bytes n x), ap (big_number n) e ∙ number_read n x rest h)

@@ -72,7 +72,7 @@ number_whole w bytes h = rw (le-ltb (length bytes) w h) refl
 number_cut : (w : ℕ) (bytes : List ℕ) → length bytes < w → number_at w bytes ≡ Err Short
 number_cut w bytes h = rw (lt-ltb (length bytes) w h) refl
 
-pub number_again : (w x : ℕ) (rest : List ℕ) → x < 256 ^ w → number_at w (big_bytes w x ++ rest) ≡ Ok (x, rest)
+number_again : (w x : ℕ) (rest : List ℕ) → x < 256 ^ w → number_at w (big_bytes w x ++ rest) ≡ Ok (x, rest)
 number_again w x rest h =
     number_whole w (big_bytes w x ++ rest) (omega (arith, length-append (big_bytes w x) rest, length-big_bytes w x))
     ∙ rw (number_read w x rest h, behind_number w x rest) refl
@@ -130,7 +130,7 @@ raw_whole n bytes h = rw (le-ltb (length bytes) n h) refl
 raw_cut : (n : ℕ) (bytes : List ℕ) → length bytes < n → raw_at n bytes ≡ Err Short
 raw_cut n bytes h = rw (lt-ltb (length bytes) n h) refl
 
-pub raw_again : (n : ℕ) (text rest : List ℕ) → length text ≡ n → raw_at n (text ++ rest) ≡ Ok (text, rest)
+raw_again : (n : ℕ) (text rest : List ℕ) → length text ≡ n → raw_at n (text ++ rest) ≡ Ok (text, rest)
 raw_again n text rest h = raw_whole n (text ++ rest) (omega (arith, length-append text rest)) ∙ rw (first_bytes n text rest h, behind_bytes n text rest h) refl
 
 raw_takes : (n : ℕ) (bytes : List ℕ) (z : List ℕ × List ℕ) → raw_at n bytes ≡ Ok z → Taken (λ x. length x ≡ n) (λ x. raw x ∷ []) bytes z.0 z.1

@@ -9,7 +9,7 @@ use Rattle.hprof_grammar.specs.declared.tables.TypePlace.TheVariants.{InArray, I
 use Rattle.hprof_grammar.proofs.Format.{IsFormat, number_format, raw_format, type_format}
 use Rattle.hprof_grammar.proofs.Combined.{as_format, counted_format, list_format, pair_format}
 
-pub constant_format : (s : ℕ) → IsFormat (IsConstant s) constant_fields (constant_at s)
+constant_format : (s : ℕ) → IsFormat (IsConstant s) constant_fields (constant_at s)
 constant_format s = as_format {from = λ (c : Constant). (c.index, (c.type, c.value))}
     (pair_format (number_format 2) (λ (_ : ℕ). pair_format (type_format InConstant) (λ (t : ℕ). raw_format (size_of s t))))
     (record {
@@ -20,7 +20,7 @@ constant_format s = as_format {from = λ (c : Constant). (c.index, (c.type, c.va
       back = λ c h. refl;
     })
 
-pub static_format : (s : ℕ) → IsFormat (IsStatic s) (static_fields s) (static_at s)
+static_format : (s : ℕ) → IsFormat (IsStatic s) (static_fields s) (static_at s)
 static_format s = as_format {from = λ (f : Static). (f.name, (f.type, f.value))}
     (pair_format (number_format s) (λ (_ : ℕ). pair_format (type_format InStatic) (λ (t : ℕ). raw_format (size_of s t))))
     (record {
@@ -31,7 +31,7 @@ static_format s = as_format {from = λ (f : Static). (f.name, (f.type, f.value))
       back = λ f h. refl;
     })
 
-pub member_format : (s : ℕ) → IsFormat (IsMember s) (member_fields s) (member_at s)
+member_format : (s : ℕ) → IsFormat (IsMember s) (member_fields s) (member_at s)
 member_format s = as_format {from = λ (m : Member). (m.name, m.type)}
     (pair_format (number_format s) (λ (_ : ℕ). type_format InMember))
     (record {

@@ -25,7 +25,7 @@ abbrev texts : ℕ → List SubRecord → List ℕ
 texts s subs = flat_map (spelling_of s) subs
 
 -- where no whole sub-record stands, the longest beginning ends
-pub longest_subs : (s : ℕ) (body : List ℕ) (subs : List SubRecord) (rest : List ℕ) → body ≡ flat_map (spelling_of s) subs ++ rest → AllByRecursion (IsSubRecord s) subs
+longest_subs : (s : ℕ) (body : List ℕ) (subs : List SubRecord) (rest : List ℕ) → body ≡ flat_map (spelling_of s) subs ++ rest → AllByRecursion (IsSubRecord s) subs
     → ((z : SubRecord) (left : List ℕ) → IsSubRecord s z → rest ≡ spelling_of s z ++ left → ⊥) → LongestSubs s body subs rest
 longest_subs s body subs rest parts each stops = record {
   parts = parts;
@@ -98,10 +98,7 @@ kind_is s (primitive_array_dump a) kind h e p at =
     let same : kinds.PrimitiveArray ≡ kind = (let both = sym h.formed.0 ∙ e in cc) in
     subst (λ (k : Kind). noted p k at ≡ with_subs p at (primitive_array_dump a ∷ [])) same (rw (append-nil p.roots) refl)
 
--- ---- the loop over the sub-records: before it, at each turn, and at a flaw
-
-pub subs_begin : (at : ℕ) (body : List ℕ) (p : Places) → AddsSubs at body body p p
-subs_begin at body p = record { subs = []; parts = refl; each = tt; joined = rw (append-nil p.roots, append-nil p.objects) refl }
+-- ---- the loop over the sub-records: at each turn, and at a flaw
 
 step_more : (at : ℕ) (body rest left : List ℕ) (old new : Places) (kind : Kind) (place : ℕ) (x : SubRecord) → (adds : AddsSubs at body rest old new) → IsSubRecord old.id_size x
     → rest ≡ spelling_of old.id_size x ++ left → kind_of old.id_size (tag_of x) ≡ Some kind → place ≡ at + length (flat_map (spelling_of old.id_size) adds.subs) → AddsSubs at body left old (noted new kind place)

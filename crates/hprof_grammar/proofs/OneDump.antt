@@ -64,7 +64,7 @@ record_some : (s : ℕ) (x : Record) → 0 < length (record_spelling s x)
 record_some s x = omega arith
 
 -- one list of records is spelled by a text
-pub same_records : (s : ℕ) (xs ys : List Record) → AllByRecursion (IsRecord s) xs → AllByRecursion (IsRecord s) ys → spellings s xs ≡ spellings s ys → xs ≡ ys
+same_records : (s : ℕ) (xs ys : List Record) → AllByRecursion (IsRecord s) xs → AllByRecursion (IsRecord s) ys → spellings s xs ≡ spellings s ys → xs ≡ ys
 same_records s xs ys h k e = same_list (record_spelling s) (IsRecord s) (records_determined s) (record_some s) xs ys h k e
 
 pub one_dump : (text : List ℕ) (dump dump_too : Places) → IsDumpOf text dump → IsDumpOf text dump_too → dump ≡ dump_too

@@ -19,7 +19,7 @@ use Rattle.hprof_grammar.proofs.TableLaws.{heap_length, is_id_size-lt}
 
 -- ---- what is wrong behind the records
 
--- two faults of a text that has the same code and place
+-- two faults have the same code and the same place
 abbrev pub Agree : ℕ → ℕ → ℕ → ℕ → Type 0
 Agree code place code_too place_too = (code ≡ code_too) × (place ≡ place_too)
 
@@ -34,7 +34,7 @@ length_both s tag body tag_too body_too tags bodies h k =
     cc
 
 module _ (s : ℕ) (records : List Record) (at : ℕ) where
-  pub one_record_fault : (rest rest_too : List ℕ) (code place code_too place_too : ℕ) → rest ≡ rest_too → RecordFault s records at rest code place → RecordFault s records at rest_too code_too place_too → Agree code place code_too place_too
+  one_record_fault : (rest rest_too : List ℕ) (code place code_too place_too : ℕ) → rest ≡ rest_too → RecordFault s records at rest code place → RecordFault s records at rest_too code_too place_too → Agree code place code_too place_too
   one_record_fault rest rest_too code place code_too place_too e (no_snapshot h) (no_snapshot k) = (refl, refl)
   one_record_fault rest rest_too code place code_too place_too e (no_snapshot h) (truncated _ some cut) = absurd (omega (arith, some, ap length e))
   one_record_fault rest rest_too code place code_too place_too e (no_snapshot h) (bad_length tag time body after fits wrong) = absurd (no_frame tag time body after e)
@@ -78,7 +78,7 @@ module _ (s : ℕ) (records : List Record) (at : ℕ) where
 
 -- ---- the longest list of whole records
 
-pub one_longest_records : (s : ℕ) (body : List ℕ) (records records_too : List Record) (rest rest_too : List ℕ) → LongestRecords s body records rest → LongestRecords s body records_too rest_too → (records ≡ records_too) × (rest ≡ rest_too)
+one_longest_records : (s : ℕ) (body : List ℕ) (records records_too : List Record) (rest rest_too : List ℕ) → LongestRecords s body records rest → LongestRecords s body records_too rest_too → (records ≡ records_too) × (rest ≡ rest_too)
 one_longest_records s body records records_too rest rest_too h k =
     let most : length records_too ≤ length records = h.longest records_too rest_too k.parts k.each k.goes_on in
     let most_too : length records ≤ length records_too = k.longest records rest h.parts h.each h.goes_on in
@@ -119,7 +119,7 @@ bad_size_there s s_too time text rest body fits wrong e right k =
 
 -- ---- the laws
 
--- what is left in two headers, and the longest lists behind them
+-- two faults behind the header agree
 records_agree : (text : List ℕ) (s time s_too time_too : ℕ) (body body_too : List ℕ) (records records_too : List Record) (rest rest_too : List ℕ) (code place code_too place_too : ℕ)
     → is_id_size s ≡ true → is_id_size s_too ≡ true → text ≡ header s time ++ body → text ≡ header s_too time_too ++ body_too → LongestRecords s body records rest → LongestRecords s_too body_too records_too rest_too
     → RecordFault s records (31 + length (spellings s records)) rest code place → RecordFault s_too records_too (31 + length (spellings s_too records_too)) rest_too code_too place_too → Agree code place code_too place_too

@@ -145,7 +145,7 @@ unknown_read : (s tag : ℕ) (rest : List ℕ) → kind_of s tag ≡ None → su
 unfolding sub_record_at
 unknown_read s tag rest h = rw h refl
 
-pub fault_read : (s : ℕ) (bytes : List ℕ) (code : ℕ) → SubFault s bytes code → (flaw : Flaw) × (sub_record_at s bytes ≡ Err flaw) × (code ≡ code_of flaw)
+fault_read : (s : ℕ) (bytes : List ℕ) (code : ℕ) → SubFault s bytes code → (flaw : Flaw) × (sub_record_at s bytes ≡ Err flaw) × (code ≡ code_of flaw)
 fault_read s bytes code (unknown_tag tag rest h) = (UnknownTag, unknown_read s tag rest h, refl)
 fault_read s bytes code (short x rest h b) = (Short, body_fails_again s x rest Short h (breaks_short (fields_of s x) rest b), refl)
 fault_read s bytes code (wrong_type x rest h b) = (WrongType, body_fails_again s x rest WrongType h (breaks_wrong (fields_of s x) rest b), refl)
