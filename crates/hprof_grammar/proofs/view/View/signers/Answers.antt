@@ -1,9 +1,13 @@
-use Rattle.std.proofs.Common.{◌∙◌}
+use Rattle.std.proofs.Common.{arith}
 use Rattle.hprof_grammar.proofs.FieldsStand.{signers}
 use Rattle.hprof_grammar.proofs.view.View.signers.Goals as goal
 
 pub number_at-requires-clause-room : goal.number_at-requires-clause-room
-number_at-requires-clause-room c = (signers c.self.view_is c.args.at c.requires.0 c.requires.1).room
+number_at-requires-clause-room c =
+    let there = signers c.self.view_is c.args.at c.requires.0 c.requires.1 in
+    omega (arith, there.room)
 
 pub returns : goal.returns
-returns c = λ x h. c.number_at.ensures ∙ (signers c.self.view_is c.args.at x h).value
+returns c = λ x h.
+    let there = signers c.self.view_is c.args.at x h in
+    cc (c.number_at.ensures, there.value)

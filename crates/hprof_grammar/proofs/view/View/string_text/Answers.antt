@@ -1,26 +1,27 @@
-use Rattle.std.proofs.Common.{ap, arith, drop, length, take, ℕ, ◌+◌, ◌-◌, ◌≡◌, ◌∙◌}
+use Rattle.std.proofs.Common.{arith, length, ◌+◌, ◌-◌, ◌≡◌}
 use Rattle.hprof_grammar.proofs.RecordsStand.{string_length, string_text}
 use Rattle.hprof_grammar.proofs.Places.{raw_read}
 use Rattle.hprof_grammar.proofs.view.View.string_text.Goals as goal
 
 pub number_at-length-requires-clause-room : goal.number_at-length-requires-clause-room
-number_at-length-requires-clause-room c = (string_length c.self.view_is c.args.at c.requires.0 c.requires.1 c.requires.2 c.requires.3).room
-
-pub bytes_at-requires : goal.bytes_at-requires
-bytes_at-requires c =
-    let whole = c.number_at-length.ensures ∙ (string_length c.self.view_is c.args.at c.requires.0 c.requires.1 c.requires.2 c.requires.3).value in
-    let there = string_text c.self.view_is c.args.at c.requires.0 c.requires.1 c.requires.2 c.requires.3 in
-    omega (arith, whole, there.inside)
-
-pub returns : goal.returns
-returns c = λ time id text h.
-    let whole = c.number_at-length.ensures ∙ (string_length c.self.view_is c.args.at time id text h).value in
-    let count : c.number_at-length.result - c.self.inside.id_size ≡ length text = omega (arith, whole) in
-    let at = c.args.at + 9 + c.self.inside.id_size in
-    let there = string_text c.self.view_is c.args.at time id text h in
-    c.bytes_at.ensures ∙ ap (λ (n : ℕ). take n (drop at c.self.inside.bytes.now)) count ∙ raw_read c.self.inside.bytes.now at text there
+number_at-length-requires-clause-room c =
+    let whole = string_length c.self.view_is c.args.at c.requires.0 c.requires.1 c.requires.2 c.requires.3 in
+    omega (arith, whole.room)
 
 pub overflow_sub-length : goal.overflow_sub-length
 overflow_sub-length c =
-    let whole = c.number_at-length.ensures ∙ (string_length c.self.view_is c.args.at c.requires.0 c.requires.1 c.requires.2 c.requires.3).value in
-    omega (arith, whole)
+    let whole = string_length c.self.view_is c.args.at c.requires.0 c.requires.1 c.requires.2 c.requires.3 in
+    omega (arith, c.number_at-length.ensures, whole.value)
+
+pub bytes_at-requires : goal.bytes_at-requires
+bytes_at-requires c =
+    let whole = string_length c.self.view_is c.args.at c.requires.0 c.requires.1 c.requires.2 c.requires.3 in
+    let there = string_text c.self.view_is c.args.at c.requires.0 c.requires.1 c.requires.2 c.requires.3 in
+    omega (arith, c.number_at-length.ensures, whole.value, there.inside)
+
+pub returns : goal.returns
+returns c = λ time id text h.
+    let whole = string_length c.self.view_is c.args.at time id text h in
+    let count : c.number_at-length.result - c.self.inside.id_size ≡ length text = omega (arith, c.number_at-length.ensures, whole.value) in
+    let same = raw_read c.self.inside.bytes.now (c.args.at + 9 + c.self.inside.id_size) text (string_text c.self.view_is c.args.at time id text h) in
+    cc (c.bytes_at.ensures, count, same)
