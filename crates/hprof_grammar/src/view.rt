@@ -62,6 +62,15 @@ impl<'a> View<'a> {
         View { bytes, id_size }
     }
 
+    /// The bytes of an identifier.
+    pub fn id_size(&self) -> u8
+        ensures size { result ≡ self.now.id_size }
+        ensures low { 1 ≤ self.now.id_size }
+        ensures high { self.now.id_size ≤ 8 }
+    {
+        self.id_size
+    }
+
     /// How many bytes a value of that type takes.
     pub fn size_of(&self, type_code: u8) -> u8
         ensures { result ≡ tables.size_of self.now.id_size type_code }

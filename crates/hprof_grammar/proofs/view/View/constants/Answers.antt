@@ -1,13 +1,15 @@
-use Rattle.std.proofs.Common.{◌∙◌}
 use Rattle.hprof_grammar.proofs.ClassPartsRead.{constants_read, constants_room, constants_seen}
 use Rattle.hprof_grammar.proofs.view.View.constants.Goals as goal
 
 pub new-requires : goal.new-requires
 new-requires c =
-    let part = c.constants_from.ensures c.requires.0 c.requires.1 in
-    constants_room c.self.inside.id_size c.requires.0 c.constants_from.result.now (constants_seen c.self.view_is c.requires.0 c.constants_from.result.now part)
+    let k = c.requires.0 in
+    let bytes = c.constants_from.result.now in
+    let room = constants_room c.self.inside.id_size k bytes (constants_seen c.self.view_is k bytes (c.constants_from.ensures k c.requires.1)) in
+    assumption room
 
 pub returns : goal.returns
 returns c = λ k h.
-    let part = c.constants_from.ensures k h in
-    c.new.ensures ∙ constants_read c.self.inside.id_size k c.constants_from.result.now (constants_seen c.self.view_is k c.constants_from.result.now part)
+    let bytes = c.constants_from.result.now in
+    let values = constants_read c.self.inside.id_size k bytes (constants_seen c.self.view_is k bytes (c.constants_from.ensures k h)) in
+    cc (c.new.ensures, values)

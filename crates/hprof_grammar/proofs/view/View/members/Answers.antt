@@ -1,4 +1,4 @@
-use Rattle.std.proofs.Common.{List, subst, sym, ℕ, ◌∙◌}
+use Rattle.std.proofs.Common.{List, arith, subst, sym, ℕ}
 use Rattle.hprof_grammar.specs.ClassParts.{IsPartOf, fields_from_members}
 use Rattle.hprof_grammar.proofs.ClassPartsRead.{behind_statics, members_read, members_room, statics_room, statics_seen}
 use Rattle.hprof_grammar.proofs.view.View.members.Goals as goal
@@ -6,7 +6,8 @@ use Rattle.hprof_grammar.proofs.view.View.members.Goals as goal
 pub skip_values-members-requires : goal.skip_values-members-requires
 skip_values-members-requires c =
     let part = c.statics_from.ensures c.requires.0 c.requires.1 in
-    statics_room c.self.inside.id_size c.requires.0 c.statics_from.result.now (statics_seen c.self.view_is c.requires.0 c.statics_from.result.now part)
+    let room = statics_room c.self.inside.id_size c.requires.0 c.statics_from.result.now (statics_seen c.self.view_is c.requires.0 c.statics_from.result.now part) in
+    assumption room
 
 pub new-requires-clause-room : goal.new-requires-clause-room
 new-requires-clause-room c =
@@ -15,7 +16,8 @@ new-requires-clause-room c =
     let bytes = c.statics_from.result.now in
     let part = statics_seen c.self.view_is k bytes (c.statics_from.ensures k c.requires.1) in
     let behind = subst (λ (l : List ℕ). IsPartOf s k (fields_from_members s k) l) (sym c.skip_values-members.ensures) (behind_statics s k bytes part) in
-    members_room s k c.skip_values-members.result.now behind
+    let room = members_room s k c.skip_values-members.result.now behind in
+    omega (arith, room)
 
 pub returns : goal.returns
 returns c = λ k h.
@@ -23,4 +25,5 @@ returns c = λ k h.
     let bytes = c.statics_from.result.now in
     let part = statics_seen c.self.view_is k bytes (c.statics_from.ensures k h) in
     let behind = subst (λ (l : List ℕ). IsPartOf s k (fields_from_members s k) l) (sym c.skip_values-members.ensures) (behind_statics s k bytes part) in
-    c.new.ensures ∙ members_read s k c.skip_values-members.result.now behind
+    let members = members_read s k c.skip_values-members.result.now behind in
+    cc (c.new.ensures, members)

@@ -1,6 +1,7 @@
-use Rattle.std.proofs.Common.{ap, length, sym, ◌∙◌}
 use Rattle.hprof_grammar.proofs.SeriesRead.{length-members_in}
 use Rattle.hprof_grammar.proofs.view.members.Members.len.Goals as goal
 
 pub returns : goal.returns
-returns c = sym (length-members_in c.self.inside.id_size c.self.inside.left c.self.inside.bytes.now) ∙ ap length c.self.view_is
+returns c =
+    let count = length-members_in c.self.inside.id_size c.self.inside.left c.self.inside.bytes.now in
+    cc (count, c.self.view_is)
