@@ -1,2 +1,4 @@
 pub mod BytesMoved
 pub mod LineText
+pub mod RowLemmas
+pub mod TallyLemmas

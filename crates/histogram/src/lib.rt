@@ -3,6 +3,7 @@
 
 mod report;
 mod streams;
+mod tally;
 mod text;
 mod writing;
 

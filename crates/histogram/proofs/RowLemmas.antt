@@ -1,0 +1,88 @@
+-- Rows by their numbers.
+use Rattle.std.proofs.Common.{◌≡◌, ◌≢◌, ℕ, ◌+◌, ◌-◌, ◌<◌, ◌≤◌, ◌⊎◌, Bool, List, [], ◌∷◌, ◌++◌, true, false, inl, inr, length, map, get_or, set, refl, sym, ap, ◌∙◌, arith, append-nil, eq-eqb, ne_eqb}
+use Rattle.std.specs.List.{filter, range_with_len}
+use Rattle.std.proofs.lemmas.Bool.{cases_eq, cases_lt, le-ltb, lt-ltb}
+use Rattle.std.proofs.lemmas.Bool.Decides.{nat_tests}
+use Rattle.std.proofs.lemmas.List.{get_or_default, get_or-set_other, get_or-set_same}
+use Rattle.std.proofs.lemmas.List.Elements.{filter-append}
+use Rattle.std.proofs.Math.ListN.{length-set}
+use Rattle.heap_graph.specs.Histogram.{all_rows, of_row, same_row}
+use Rattle.heap_graph.specs.ObjectGraph.{IsRowIn, ObjectGraph, bytes_at, class_count, row_at}
+use Rattle.heap_graph.specs.declared.row.RowKey.{RowKey}
+use Rattle.heap_graph.specs.declared.row.RowKey.TheVariants as keys
+use Rattle.histogram.specs.declared.tally.Tally.{Tally}
+use Rattle.histogram.specs.Tallies.{AreTallies, no_object, numbered_row, one_more, row_count, row_number, tally_of}
+use Rattle.histogram.proofs.TallyLemmas.{tally_push}
+
+pub at_class : (classes n : ℕ) → n < classes → numbered_row classes n ≡ keys.Class n
+at_class classes n h = rw (lt-ltb n classes h) refl
+
+pub at_primitive : (classes n : ℕ) → classes ≤ n → n < classes + 8 → numbered_row classes n ≡ keys.Primitive (n - classes + 4)
+at_primitive classes n h k = rw (le-ltb n classes h, lt-ltb n (classes + 8) k) refl
+
+pub at_objects : (classes n : ℕ) → classes + 8 ≤ n → numbered_row classes n ≡ keys.ClassObject
+at_objects classes n h = let past : classes ≤ n = omega arith in rw (le-ltb n classes past, le-ltb n (classes + 8) h) refl
+
+-- the three kinds of numbers
+pub number_kinds : (classes n : ℕ) → (n < classes) ⊎ (((classes ≤ n) × (n < classes + 8)) ⊎ (classes + 8 ≤ n))
+number_kinds classes n = elim (cases_lt n classes) [ inl h ↦ inl h | inr h ↦ elim (cases_lt n (classes + 8)) [ inl k ↦ inr (inl (h, k)) | inr k ↦ inr (inr k) ] ]
+
+-- a row is the one of its number, and of no other
+pub row_here : (g : ObjectGraph) (row : RowKey) → IsRowIn g row → same_row (numbered_row (class_count g) (row_number (class_count g) row)) row ≡ true
+row_here g (keys.Class n) h = rw (at_class (class_count g) n h) (eq-eqb n n refl)
+row_here g (keys.Primitive t) h =
+    let behind : class_count g ≤ class_count g + (t - 4) = omega arith in
+    let before : class_count g + (t - 4) < class_count g + 8 = omega arith in
+    let same : class_count g + (t - 4) - class_count g + 4 ≡ t = omega arith in
+    rw (at_primitive (class_count g) (class_count g + (t - 4)) behind before) (eq-eqb _ _ same)
+row_here g keys.ClassObject h = rw (at_objects (class_count g) (class_count g + 8) (omega arith)) refl
+
+pub row_elsewhere : (g : ObjectGraph) (row : RowKey) (n : ℕ) → IsRowIn g row → n < row_count g → n ≢ row_number (class_count g) row
+    → same_row (numbered_row (class_count g) n) row ≡ false
+row_elsewhere g (keys.Class c) n h below other = elim (number_kinds (class_count g) n) [
+    inl k ↦ rw (at_class (class_count g) n k) (ne_eqb n c other)
+    | inr k ↦ elim k [ inl m ↦ rw (at_primitive (class_count g) n m.0 m.1) refl | inr m ↦ rw (at_objects (class_count g) n m) refl ] ]
+row_elsewhere g (keys.Primitive t) n h below other = elim (number_kinds (class_count g) n) [
+    inl k ↦ rw (at_class (class_count g) n k) refl
+    | inr k ↦ elim k [
+        inl m ↦ rw (at_primitive (class_count g) n m.0 m.1) (ne_eqb (n - class_count g + 4) t (λ e. other (omega (arith, e, h.0, m.0))))
+        | inr m ↦ rw (at_objects (class_count g) n m) refl ] ]
+row_elsewhere g keys.ClassObject n h below other = elim (number_kinds (class_count g) n) [
+    inl k ↦ rw (at_class (class_count g) n k) refl
+    | inr k ↦ elim k [ inl m ↦ rw (at_primitive (class_count g) n m.0 m.1) refl | inr m ↦ absurd (other (omega (arith, m, below))) ] ]
+
+-- one object more, in the row or in another
+pub of_row_yes : (g : ObjectGraph) (row : RowKey) (xs : List ℕ) (o : ℕ) → same_row row (row_at g o) ≡ true → of_row g row (xs ++ o ∷ []) ≡ of_row g row xs ++ o ∷ []
+of_row_yes g row xs o e = filter-append (λ x. same_row row (row_at g x)) xs (o ∷ []) ∙ (rw e refl)
+
+pub of_row_no : (g : ObjectGraph) (row : RowKey) (xs : List ℕ) (o : ℕ) → same_row row (row_at g o) ≡ false → of_row g row (xs ++ o ∷ []) ≡ of_row g row xs
+of_row_no g row xs o e = filter-append (λ x. same_row row (row_at g x)) xs (o ∷ []) ∙ (rw e (append-nil (of_row g row xs)))
+
+-- the tallies with one object more: that of its row, and those of the other rows
+module _ (g : ObjectGraph) (xs : List ℕ) (o bytes number : ℕ) (tallies : List Tally) (tally : Tally) (row_in : IsRowIn g (row_at g o))
+    (number_is : number ≡ row_number (class_count g) (row_at g o)) (within : number < row_count g) (bytes_are : bytes ≡ bytes_at g o)
+    (were : AreTallies g xs tallies) (grown : tally ≡ one_more (get_or tallies number no_object) bytes) where
+  tally_here : get_or (set tallies number tally) number no_object ≡ tally_of g (of_row g (numbered_row (class_count g) number) (xs ++ o ∷ []))
+  tally_here =
+      let row = numbered_row (class_count g) number in
+      let short : number < length tallies = omega (arith, were.each) in
+      let same : same_row row (row_at g o) ≡ true = rw number_is (row_here g (row_at g o) row_in) in
+      get_or-set_same tallies number tally no_object short ∙ grown ∙ ap (λ t. one_more t bytes) (were.right number within)
+      ∙ ap (λ b. one_more (tally_of g (of_row g row xs)) b) bytes_are ∙ sym (ap (tally_of g) (of_row_yes g row xs o same) ∙ tally_push g (of_row g row xs) o)
+
+  tally_elsewhere : (n : ℕ) → n < row_count g → n ≢ number → get_or (set tallies number tally) n no_object ≡ tally_of g (of_row g (numbered_row (class_count g) n) (xs ++ o ∷ []))
+  tally_elsewhere n below other =
+      let row = numbered_row (class_count g) n in
+      let apart : same_row row (row_at g o) ≡ false = row_elsewhere g (row_at g o) n row_in below (λ e. other (e ∙ sym number_is)) in
+      get_or-set_other tallies number n tally no_object other ∙ were.right n below ∙ sym (ap (tally_of g) (of_row_no g row xs o apart))
+
+  pub tallies_take_in : AreTallies g (xs ++ o ∷ []) (set tallies number tally)
+  tallies_take_in = record {
+      each = length-set tallies number tally ∙ were.each;
+      right = λ n below. elim (cases_eq n number) [ inl e ↦ rw e tally_here | inr ne ↦ tally_elsewhere n below ne ];
+    }
+
+-- the tally at the number of a row, however it was read
+pub tally_read : (g : ObjectGraph) (xs : List ℕ) (number : ℕ) (tallies : List Tally) (tally : Tally) → AreTallies g xs tallies → number < row_count g
+    → tally ≡ get_or tallies number tally → tally ≡ get_or tallies number no_object
+tally_read g xs number tallies tally are within read = let short : number < length tallies = omega (arith, are.each) in read ∙ get_or_default tallies number tally no_object short
