@@ -1,12 +1,10 @@
 -- Rows by their numbers.
-use Rattle.std.proofs.Common.{◌≡◌, ◌≢◌, ℕ, ◌+◌, ◌-◌, ◌<◌, ◌≤◌, ◌⊎◌, Bool, List, [], ◌∷◌, ◌++◌, true, false, inl, inr, length, map, get_or, set, refl, sym, ap, ◌∙◌, arith, append-nil, eq-eqb, ne_eqb}
-use Rattle.std.specs.List.{filter, range_with_len}
+use Rattle.std.proofs.Common.{◌≡◌, ◌≢◌, ℕ, ◌+◌, ◌-◌, ◌<◌, ◌≤◌, ◌⊎◌, List, [], ◌∷◌, ◌++◌, true, false, inl, inr, length, get_or, set, refl, sym, ap, ◌∙◌, arith, append-nil, eq-eqb, ne_eqb}
 use Rattle.std.proofs.lemmas.Bool.{cases_eq, cases_lt, le-ltb, lt-ltb}
-use Rattle.std.proofs.lemmas.Bool.Decides.{nat_tests}
 use Rattle.std.proofs.lemmas.List.{get_or_default, get_or-set_other, get_or-set_same}
 use Rattle.std.proofs.lemmas.List.Elements.{filter-append}
 use Rattle.std.proofs.Math.ListN.{length-set}
-use Rattle.heap_graph.specs.Histogram.{all_rows, of_row, same_row}
+use Rattle.heap_graph.specs.Histogram.{of_row, same_row}
 use Rattle.heap_graph.specs.ObjectGraph.{IsRowIn, ObjectGraph, bytes_at, class_count, row_at}
 use Rattle.heap_graph.specs.declared.row.RowKey.{RowKey}
 use Rattle.heap_graph.specs.declared.row.RowKey.TheVariants as keys
@@ -40,16 +38,20 @@ row_here g keys.ClassObject h = rw (at_objects (class_count g) (class_count g + 
 pub row_elsewhere : (g : ObjectGraph) (row : RowKey) (n : ℕ) → IsRowIn g row → n < row_count g → n ≢ row_number (class_count g) row
     → same_row (numbered_row (class_count g) n) row ≡ false
 row_elsewhere g (keys.Class c) n h below other = elim (number_kinds (class_count g) n) [
-    inl k ↦ rw (at_class (class_count g) n k) (ne_eqb n c other)
-    | inr k ↦ elim k [ inl m ↦ rw (at_primitive (class_count g) n m.0 m.1) refl | inr m ↦ rw (at_objects (class_count g) n m) refl ] ]
+  | inl k ↦ rw (at_class (class_count g) n k) (ne_eqb n c other)
+  | inr k ↦ elim k [ inl m ↦ rw (at_primitive (class_count g) n m.0 m.1) refl | inr m ↦ rw (at_objects (class_count g) n m) refl ]
+]
 row_elsewhere g (keys.Primitive t) n h below other = elim (number_kinds (class_count g) n) [
-    inl k ↦ rw (at_class (class_count g) n k) refl
-    | inr k ↦ elim k [
-        inl m ↦ rw (at_primitive (class_count g) n m.0 m.1) (ne_eqb (n - class_count g + 4) t (λ e. other (omega (arith, e, h.0, m.0))))
-        | inr m ↦ rw (at_objects (class_count g) n m) refl ] ]
+  | inl k ↦ rw (at_class (class_count g) n k) refl
+  | inr k ↦ elim k [
+    | inl m ↦ rw (at_primitive (class_count g) n m.0 m.1) (ne_eqb (n - class_count g + 4) t (λ e. other (omega (arith, e, h.0, m.0))))
+    | inr m ↦ rw (at_objects (class_count g) n m) refl
+  ]
+]
 row_elsewhere g keys.ClassObject n h below other = elim (number_kinds (class_count g) n) [
-    inl k ↦ rw (at_class (class_count g) n k) refl
-    | inr k ↦ elim k [ inl m ↦ rw (at_primitive (class_count g) n m.0 m.1) refl | inr m ↦ absurd (other (omega (arith, m, below))) ] ]
+  | inl k ↦ rw (at_class (class_count g) n k) refl
+  | inr k ↦ elim k [ inl m ↦ rw (at_primitive (class_count g) n m.0 m.1) refl | inr m ↦ absurd (other (omega (arith, m, below))) ]
+]
 
 -- one object more, in the row or in another
 pub of_row_yes : (g : ObjectGraph) (row : RowKey) (xs : List ℕ) (o : ℕ) → same_row row (row_at g o) ≡ true → of_row g row (xs ++ o ∷ []) ≡ of_row g row xs ++ o ∷ []
@@ -78,9 +80,9 @@ module _ (g : ObjectGraph) (xs : List ℕ) (o bytes number : ℕ) (tallies : Lis
 
   pub tallies_take_in : AreTallies g (xs ++ o ∷ []) (set tallies number tally)
   tallies_take_in = record {
-      each = length-set tallies number tally ∙ were.each;
-      right = λ n below. elim (cases_eq n number) [ inl e ↦ rw e tally_here | inr ne ↦ tally_elsewhere n below ne ];
-    }
+    each = length-set tallies number tally ∙ were.each;
+    right = λ n below. elim (cases_eq n number) [ inl e ↦ rw e tally_here | inr ne ↦ tally_elsewhere n below ne ];
+  }
 
 -- the tally at the number of a row, however it was read
 pub tally_read : (g : ObjectGraph) (xs : List ℕ) (number : ℕ) (tallies : List Tally) (tally : Tally) → AreTallies g xs tallies → number < row_count g

@@ -1,6 +1,6 @@
 -- What one object more does to a tally.
-use Rattle.std.proofs.Common.{◌≡◌, ℕ, ◌+◌, ◌^◌, ◌<◌, ◌≤◌, ◌*◌, ◌↔◌, Bool, IsTrue, List, [], ◌∷◌, ◌++◌, zero, suc, true, false, length, refl, sym, ap, ◌∙◌, arith, add-one, add-zero, zero-add, append-nil, length-append}
-use Rattle.std.specs.List.{count_by, filter, range_with_len, sum_by}
+use Rattle.std.proofs.Common.{◌≡◌, ℕ, ◌+◌, ◌^◌, ◌<◌, ◌≤◌, ◌↔◌, Bool, IsTrue, List, [], ◌∷◌, ◌++◌, zero, suc, true, false, length, refl, sym, ap, ◌∙◌, arith, add-one, add-zero, zero-add, append-nil, length-append}
+use Rattle.std.specs.List.{filter, range_with_len}
 use Rattle.std.proofs.lemmas.List.Elements.{filter-append}
 use Rattle.std.proofs.lemmas.List.FromFn.{length-range_with_len}
 use Rattle.std.proofs.lemmas.List.Sums.{count_by-le-length, length-filter, sum_by-le, sum_by_push}

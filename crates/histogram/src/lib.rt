@@ -1,12 +1,17 @@
 //! The histogram of a marked heap, and its report.
 #![tactic(auto)]
 
+mod law;
+mod lines;
+mod names;
 mod report;
 mod streams;
 mod tally;
 mod text;
 mod writing;
 
+pub use law::one_histogram;
+pub use lines::rows;
 pub use report::{Line, Report};
 pub use streams::{Counted, ReaderRefusal};
 pub use writing::{WriteRefusal, write_report};

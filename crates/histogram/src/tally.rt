@@ -4,10 +4,9 @@ ghost use Rattle.heap_graph.specs.Histogram.{marked_objects, unmarked_objects};
 ghost use Rattle.heap_graph.specs.ObjectGraph.{IsRowIn, class_count};
 ghost use Rattle.histogram.specs.Tallies.{AreTallies, no_object, numbered_row, one_more, row_count, row_number, tally_of};
 
-use std::alloc::{AllocError, Allocator};
-
 use drain::Marked;
 use heap_graph::{Graph, RowKey};
+use std::alloc::{AllocError, Allocator};
 
 /// How many objects, and their bytes together.
 #[derive(Clone, Copy)]
@@ -36,7 +35,10 @@ impl Tally {
 }
 
 /// The tallies of the objects that are marked, and of those that are not.
-pub(crate) fn total_tallies<A: Allocator, B: Allocator>(graph: &Graph<'_, A>, marks: &Marked<B>) -> (Tally, Tally)
+pub(crate) fn total_tallies<A: Allocator, B: Allocator>(
+    graph: &Graph<'_, A>,
+    marks: &Marked<B>,
+) -> (Tally, Tally)
     ensures marked { result.0 ≡ tally_of graph.now (marked_objects graph.now marks.now) }
     ensures unmarked { result.1 ≡ tally_of graph.now (unmarked_objects graph.now marks.now) }
 {

@@ -2,7 +2,7 @@ use Rattle.std.proofs.Common.{◌≡◌, ◌<◌, Bool, List, ap, arith, false, 
 use Rattle.heap_graph.specs.Histogram.{of_row, same_row}
 use Rattle.heap_graph.specs.ObjectGraph.{IsRowIn, ObjectGraph, class_count, object_count, row_at}
 use Rattle.histogram.specs.declared.tally.Tally.{Tally}
-use Rattle.histogram.specs.Tallies.{chosen_below, AreTallies, no_object, numbered_row, one_more, row_count, row_number, tally_of}
+use Rattle.histogram.specs.Tallies.{chosen_below, AreTallies, numbered_row, one_more, row_count, row_number, tally_of}
 use Rattle.histogram.proofs.TallyLemmas.{bytes_fit, chosen_no, chosen_yes, count_fits, length-chosen-le, length-filter-le, says_no, says_yes}
 use Rattle.histogram.proofs.RowLemmas.{tallies_take_in, tally_read}
 use Rattle.histogram.proofs.tally.row_tallies.Goals as goal
@@ -53,16 +53,17 @@ loop-object-preserved g c =
     let object = c.loop-object.object in
     let was = c.loop-object.invariant in
     elim c.if-is_marked.branch [
-      then-is_marked w ↦
-        let marked : p object ≡ true = says_yes c.is_marked.result (p object) c.is_marked.ensures w.if-is_marked.true in
-        let tally = w.index_mut-tally.result.now in
-        let number = w.number_of-row.result in
-        let tallies = c.loop-object.tallies.items in
-        let row_in = subst (λ r. IsRowIn graph r) w.row_of.ensures.value w.row_of.ensures.within in
-        let number_is = w.number_of-row.ensures.value ∙ ap (row_number (class_count graph)) w.row_of.ensures.value in
-        let grown = w.add.ensures ∙ ap (λ t. one_more t w.bytes_of.result) (tally_read graph (chosen_below p object) number tallies tally was w.number_of-row.ensures.within w.index_mut-tally.ensures.value) in
-        let taken = tallies_take_in graph (chosen_below p object) object w.bytes_of.result number tallies w.add.new.self row_in number_is w.number_of-row.ensures.within w.bytes_of.ensures.value was grown in
-        goes_on graph (chosen_below p object ++ object ∷ []) (chosen_below p (object + 1)) (set tallies number w.add.new.self) c.if-is_marked.tallies.items (chosen_yes p object marked) (ap (λ v. v.items) w.tallies-is) taken
+      | then-is_marked w ↦
+          let marked : p object ≡ true = says_yes c.is_marked.result (p object) c.is_marked.ensures w.if-is_marked.true in
+          let tally = w.index_mut-tally.result.now in
+          let number = w.number_of-row.result in
+          let tallies = c.loop-object.tallies.items in
+          let row_in = subst (λ r. IsRowIn graph r) w.row_of.ensures.value w.row_of.ensures.within in
+          let number_is = w.number_of-row.ensures.value ∙ ap (row_number (class_count graph)) w.row_of.ensures.value in
+          let grown = w.add.ensures ∙ ap (λ t. one_more t w.bytes_of.result) (tally_read graph (chosen_below p object) number tallies tally was w.number_of-row.ensures.within w.index_mut-tally.ensures.value) in
+          let taken = tallies_take_in graph (chosen_below p object) object w.bytes_of.result number tallies w.add.new.self row_in number_is w.number_of-row.ensures.within w.bytes_of.ensures.value was grown in
+          goes_on graph (chosen_below p object ++ object ∷ []) (chosen_below p (object + 1)) (set tallies number w.add.new.self) c.if-is_marked.tallies.items (chosen_yes p object marked) (ap (λ v. v.items) w.tallies-is) taken
       | else-is_marked w ↦
-        let unmarked : p object ≡ false = says_no c.is_marked.result (p object) c.is_marked.ensures w.if-is_marked.false in
-        goes_on graph (chosen_below p object) (chosen_below p (object + 1)) c.loop-object.tallies.items c.if-is_marked.tallies.items (chosen_no p object unmarked) (ap (λ v. v.items) w.tallies-is) was ]
+          let unmarked : p object ≡ false = says_no c.is_marked.result (p object) c.is_marked.ensures w.if-is_marked.false in
+          goes_on graph (chosen_below p object) (chosen_below p (object + 1)) c.loop-object.tallies.items c.if-is_marked.tallies.items (chosen_no p object unmarked) (ap (λ v. v.items) w.tallies-is) was
+    ]

@@ -1,5 +1,4 @@
-use Rattle.std.proofs.Common.{◌≡◌, ◌<◌, Bool, List, ap, arith, false, get_or, length, not, true, ℕ, ◌∙◌}
-use Rattle.heap_graph.specs.ObjectGraph.{object_count}
+use Rattle.std.proofs.Common.{◌≡◌, Bool, List, ap, arith, false, get_or, not, true, ℕ, ◌∙◌}
 use Rattle.histogram.specs.Tallies.{chosen_below}
 use Rattle.histogram.proofs.TallyLemmas.{bytes_fit, count_fits, leaves_out, length-chosen-le, says_no, says_yes, takes_in}
 use Rattle.histogram.proofs.tally.total_tallies.Goals as goal
@@ -48,15 +47,16 @@ loop-object-preserved g c =
     let q : ℕ → Bool = λ o. not (get_or marks o false) in
     let was = c.loop-object.invariant in
     elim c.if-is_marked.branch [
-      then-is_marked w ↦
-        let marked : p object ≡ true = says_yes c.is_marked.result (p object) c.is_marked.ensures w.if-is_marked.true in
-        record {
-          marked = takes_in graph p object c.bytes_of-bytes.result c.loop-object.marked c.if-is_marked.marked marked c.bytes_of-bytes.ensures.value was.marked (w.marked-is ∙ w.add.ensures);
-          unmarked = leaves_out graph q object c.loop-object.unmarked c.if-is_marked.unmarked (ap not marked) was.unmarked w.unmarked-is;
-        }
+      | then-is_marked w ↦
+          let marked : p object ≡ true = says_yes c.is_marked.result (p object) c.is_marked.ensures w.if-is_marked.true in
+          record {
+            marked = takes_in graph p object c.bytes_of-bytes.result c.loop-object.marked c.if-is_marked.marked marked c.bytes_of-bytes.ensures.value was.marked (w.marked-is ∙ w.add.ensures);
+            unmarked = leaves_out graph q object c.loop-object.unmarked c.if-is_marked.unmarked (ap not marked) was.unmarked w.unmarked-is;
+          }
       | else-is_marked w ↦
-        let unmarked : p object ≡ false = says_no c.is_marked.result (p object) c.is_marked.ensures w.if-is_marked.false in
-        record {
-          marked = leaves_out graph p object c.loop-object.marked c.if-is_marked.marked unmarked was.marked w.marked-is;
-          unmarked = takes_in graph q object c.bytes_of-bytes.result c.loop-object.unmarked c.if-is_marked.unmarked (ap not unmarked) c.bytes_of-bytes.ensures.value was.unmarked (w.unmarked-is ∙ w.add-else-is_marked.ensures);
-        } ]
+          let unmarked : p object ≡ false = says_no c.is_marked.result (p object) c.is_marked.ensures w.if-is_marked.false in
+          record {
+            marked = leaves_out graph p object c.loop-object.marked c.if-is_marked.marked unmarked was.marked w.marked-is;
+            unmarked = takes_in graph q object c.bytes_of-bytes.result c.loop-object.unmarked c.if-is_marked.unmarked (ap not unmarked) c.bytes_of-bytes.ensures.value was.unmarked (w.unmarked-is ∙ w.add-else-is_marked.ensures);
+          }
+    ]

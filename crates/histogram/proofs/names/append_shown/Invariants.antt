@@ -1,6 +1,6 @@
 use Rattle.std.proofs.Common.{◌≡◌, ◌++◌, take}
 use Rattle.heap_graph.specs.ShownNames.{shown_text}
-use Rattle.histogram.proofs.text.append_shown.Given as goal
+use Rattle.histogram.proofs.names.append_shown.Given as goal
 
 -- the beginning of the text is shown
 abbrev pub invariant-loop-byte : goal.invariant-loop-byte

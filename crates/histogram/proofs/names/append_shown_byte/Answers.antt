@@ -1,6 +1,6 @@
 use Rattle.std.proofs.Common.{ap, sym, is_ok, ◌∙◌}
 use Rattle.histogram.proofs.LineText.{escaped, from_ok}
-use Rattle.histogram.proofs.text.append_shown_byte.Goals as goal
+use Rattle.histogram.proofs.names.append_shown_byte.Goals as goal
 
 pub returns : goal.returns
 returns g c = escaped c.args.out.now.items c.write.new.self.items c.args.byte c.ranges.byte.fits (sym c.is_plain_byte.ensures ∙ c.if-is_plain_byte.false)

@@ -1,0 +1,93 @@
+-- The entries of a histogram by the numbers of the rows.
+use Rattle.std.proofs.Common.{◌≡◌, ℕ, ◌+◌, ◌-◌, ◌<◌, ◌≤◌, List, [], ◌∷◌, ◌++◌, inl, inr, length, map, get_or, filter, nat_lt, refl, sym, ap, ◌∙◌, arith, append-nil, length-append, zero-add}
+use Rattle.std.specs.List.{range_with_len}
+use Rattle.std.proofs.lemmas.Bool.{le-ltb, lt-ltb}
+use Rattle.std.proofs.lemmas.List.{get_or-append-add, get_or_append_left, map-append}
+use Rattle.std.proofs.lemmas.List.FromFn.{fill_by_all, filter_of_map_range_with_len_more, get_or-map-range_with_len, length-map-range_with_len}
+use Rattle.std.proofs.lemmas.Simd.{map-map}
+use Rattle.heap_graph.specs.Histogram.{Entry, all_rows, entries, entry}
+use Rattle.heap_graph.specs.ObjectGraph.{ObjectGraph, class_count}
+use Rattle.heap_graph.specs.ShownNames.{row_id, shown_row}
+use Rattle.heap_graph.specs.declared.row.RowKey.{RowKey}
+use Rattle.heap_graph.specs.declared.row.RowKey.TheVariants as keys
+use Rattle.histogram.specs.declared.tally.Tally.{Tally}
+use Rattle.histogram.specs.Tallies.{AreTallies, no_object, numbered_row, row_count}
+use Rattle.histogram.proofs.RowLemmas.{at_class, at_objects, at_primitive, number_kinds}
+
+-- the row at each number: of the classes, of the primitive types, of the class objects
+module _ (g : ObjectGraph) (n : ℕ) where
+  classes : List RowKey
+  classes = map keys.Class (range_with_len 0 (class_count g))
+
+  primitives : List RowKey
+  primitives = map keys.Primitive (range_with_len 4 8)
+
+  at_first : n < class_count g → get_or (all_rows g) n keys.ClassObject ≡ keys.Class n
+  unfolding classes primitives
+  at_first below =
+      let within : n < length classes = omega (arith, below, length-map-range_with_len keys.Class 0 (class_count g)) in
+      get_or_append_left classes (primitives ++ keys.ClassObject ∷ []) keys.ClassObject n within
+      ∙ get_or-map-range_with_len keys.Class 0 (class_count g) n n keys.ClassObject below (zero-add n)
+
+  behind : (k : ℕ) → n ≡ class_count g + k → get_or (all_rows g) n keys.ClassObject ≡ get_or (primitives ++ keys.ClassObject ∷ []) k keys.ClassObject
+  unfolding classes primitives
+  behind k is =
+      let place : n ≡ length classes + k = omega (arith, is, length-map-range_with_len keys.Class 0 (class_count g)) in
+      ap (λ m. get_or (all_rows g) m keys.ClassObject) place ∙ get_or-append-add classes (primitives ++ keys.ClassObject ∷ []) k keys.ClassObject
+
+  at_second : class_count g ≤ n → n < class_count g + 8 → get_or (all_rows g) n keys.ClassObject ≡ keys.Primitive (n - class_count g + 4)
+  unfolding primitives
+  at_second past below =
+      let k : ℕ = n - class_count g in
+      let is : n ≡ class_count g + k = omega arith in
+      let few : k < 8 = omega arith in
+      let code : 4 + k ≡ k + 4 = omega arith in
+      behind k is ∙ get_or_append_left primitives (keys.ClassObject ∷ []) keys.ClassObject k few ∙ get_or-map-range_with_len keys.Primitive 4 8 k (k + 4) keys.ClassObject few code
+
+  at_last : n ≡ class_count g + 8 → get_or (all_rows g) n keys.ClassObject ≡ keys.ClassObject
+  unfolding primitives
+  at_last is = behind 8 is
+
+  pub row_at_number : n < row_count g → get_or (all_rows g) n keys.ClassObject ≡ numbered_row (class_count g) n
+  row_at_number below = elim (number_kinds (class_count g) n) [
+    | inl h ↦ at_first h ∙ sym (at_class (class_count g) n h)
+    | inr h ↦ elim h [
+      | inl k ↦ at_second k.0 k.1 ∙ sym (at_primitive (class_count g) n k.0 k.1)
+      | inr k ↦ at_last (omega (arith, k, below)) ∙ sym (at_objects (class_count g) n k)
+    ]
+  ]
+
+pub length-all_rows : (g : ObjectGraph) → length (all_rows g) ≡ row_count g
+length-all_rows g = omega (
+  arith,
+  length-append (map keys.Class (range_with_len 0 (class_count g))) (map keys.Primitive (range_with_len 4 8) ++ keys.ClassObject ∷ []),
+  length-map-range_with_len keys.Class 0 (class_count g),
+)
+
+pub all_rows_numbered : (g : ObjectGraph) → all_rows g ≡ map (numbered_row (class_count g)) (range_with_len 0 (row_count g))
+all_rows_numbered g = fill_by_all (numbered_row (class_count g)) (all_rows g) (row_count g) keys.ClassObject (length-all_rows g) (row_at_number g)
+
+pub entries_numbered : (g : ObjectGraph) (xs : List ℕ)
+    → entries g xs ≡ filter (λ e. nat_lt 0 e.count) (map (λ n. entry g xs (numbered_row (class_count g) n)) (range_with_len 0 (row_count g)))
+unfolding entries
+entries_numbered g xs = ap (λ rows. filter (λ e. nat_lt 0 e.count) (map (entry g xs) rows)) (all_rows_numbered g)
+    ∙ ap (filter (λ e. nat_lt 0 e.count)) (map-map (entry g xs) (numbered_row (class_count g)) (range_with_len 0 (row_count g)))
+
+-- the entry of a row that has a tally
+pub entry_at : (g : ObjectGraph) (xs : List ℕ) (tallies : List Tally) (n : ℕ) (tally : Tally) → AreTallies g xs tallies → n < row_count g
+    → tally ≡ get_or tallies n no_object
+    → record { name = shown_row g (numbered_row (class_count g) n); class = row_id g (numbered_row (class_count g) n); count = tally.count; bytes = tally.bytes } ≡ entry g xs (numbered_row (class_count g) n)
+entry_at g xs tallies n tally are below is = rw (is, are.right n below) refl
+
+-- one line more, or none
+pub line_more : {X : Type 0} (show : X → Entry) (lines now : List X) (line : X) (f : ℕ → Entry) (n : ℕ)
+    → map show lines ≡ filter (λ e. nat_lt 0 e.count) (map f (range_with_len 0 n)) → now ≡ lines ++ line ∷ [] → show line ≡ f n → 0 < (f n).count
+    → map show now ≡ filter (λ e. nat_lt 0 e.count) (map f (range_with_len 0 (n + 1)))
+line_more show lines now line f n were more is some =
+    rw (more, map-append show lines (line ∷ []), were, is, filter_of_map_range_with_len_more (λ e. nat_lt 0 e.count) f 0 n n (omega arith), lt-ltb 0 ((f n).count) some) refl
+
+pub line_less : {X : Type 0} (show : X → Entry) (lines now : List X) (f : ℕ → Entry) (n : ℕ)
+    → map show lines ≡ filter (λ e. nat_lt 0 e.count) (map f (range_with_len 0 n)) → now ≡ lines → (f n).count ≤ 0
+    → map show now ≡ filter (λ e. nat_lt 0 e.count) (map f (range_with_len 0 (n + 1)))
+line_less show lines now f n were same none =
+    rw (same, were, filter_of_map_range_with_len_more (λ e. nat_lt 0 e.count) f 0 n n (omega arith), le-ltb 0 ((f n).count) none) (sym (append-nil _))
