@@ -1,24 +1,16 @@
 -- What the parts of the parser add to a dump, and the faults that they find. The private contracts cite these words.
-use Rattle.std.specs.Prelude.{Err, List, Ok, Result, [], false, flat_map, length, map, true, ℕ, ◌++◌, ◌+◌, ◌∷◌, ◌≡◌}
+use Rattle.std.specs.Prelude.{List, [], drop, false, flat_map, length, map, true, ℕ, ◌++◌, ◌+◌, ◌∷◌, ◌≡◌, ◌≤◌}
 use Rattle.std.specs.List.{AllByRecursion}
 use Rattle.hprof_grammar.specs.Record.{CanGoOn, HasParts, IsRecord, Record, body_of, subs_of, tag_of, time_of}
-use Rattle.hprof_grammar.specs.Tables.{is_heap_tag, is_length_of}
-use Rattle.hprof_grammar.specs.Dump.{Places, heap_list, is_load, is_object, is_root, is_string, placed, placed_subs, places_where, spellings}
+use Rattle.hprof_grammar.specs.Tables.{is_heap_tag, is_id_size, is_length_of}
+use Rattle.hprof_grammar.specs.Dump.{Places, header, heap_list, is_load, is_object, is_root, is_string, limit, placed, placed_subs, places_where, spellings}
 use Rattle.hprof_grammar.specs.Fault.{LongestRecords, LongestSubs, RecordFault, SubFault}
 use Rattle.hprof_grammar.specs.SubRecord.{Class, Instance, IsSubRecord, ObjectArray, PrimitiveArray, Root, SubRecord, spelling_of}
-use Rattle.hprof_grammar.specs.Orders.{IsAt}
+use Rattle.hprof_grammar.specs.Orders.{IsAt, is_done}
 use Rattle.hprof_grammar.specs.declared.tables.Kind.{Kind}
 use Rattle.hprof_grammar.specs.declared.tables.Kind.TheVariants as kinds
 use Rattle.hprof_grammar.specs.declared.order.Order.{Order}
 use Rattle.hprof_grammar.specs.declared.flaw.FormatFault.{FormatFault}
-use Rattle.hprof_grammar.specs.declared.flaw.ReadRefusal.{ReadRefusal}
-use Rattle.hprof_grammar.specs.declared.flaw.ReadRefusal.TheVariants as refusals
-
--- a fact of the fault, if it is one
-abbrev pub IfFault : {X : Type 0} → Result X ReadRefusal → (FormatFault → Type 0) → Type 0
-IfFault (Ok x) P = Unit {0}
-IfFault (Err (refusals.Fault f)) P = P f
-IfFault (Err refusals.OutOfMemory) P = Unit {0}
 
 abbrev pub nothing_of : ℕ → Places
 nothing_of s = record { id_size = s; strings = []; loaded = []; roots = []; objects = [] }
@@ -113,3 +105,14 @@ pub record HasRecordFault (s : ℕ) (bytes : List ℕ) (fault : FormatFault) : T
   pub rest : List ℕ
   pub longest : LongestRecords s bytes records rest
   pub wrong : RecordFault s records (31 + length (spellings s records)) rest fault.code fault.offset
+
+-- the bytes are records that make a snapshot, and they have joined
+abbrev pub AddsAll : List ℕ → Places → Places → Type 0
+AddsAll bytes old new = (order : Order) × (is_done order ≡ true) × AddsRecords bytes [] order old new
+
+-- the text begins with a header, with identifiers of s bytes
+pub record HasHeader (s : ℕ) (text : List ℕ) : Type 0 where
+  pub size : length text ≤ limit
+  pub id_size : is_id_size s ≡ true
+  pub time : ℕ
+  pub whole : text ≡ header s time ++ drop 31 text

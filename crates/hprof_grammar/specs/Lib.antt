@@ -12,3 +12,4 @@ pub mod Standing
 pub mod ObjectKinds
 pub mod MemberFields
 pub mod ClassParts
+pub mod Refusal

@@ -40,6 +40,20 @@ pub struct FormatFault {
     pub offset: u64,
 }
 
+impl FormatFault {
+    ghost use Rattle.std.specs.Prelude.{◌≡◌};
+
+    /// A fault at a place.
+    pub(crate) fn new(code: u8, at: u32) -> Self
+        ensures { result ≡ record { code = code; offset = at } }
+    {
+        FormatFault {
+            code,
+            offset: u64::from(at),
+        }
+    }
+}
+
 /// Why bytes were not read as a dump.
 #[derive(Clone, Copy, Debug, PartialEq, Eq, Error)]
 pub enum ReadRefusal {

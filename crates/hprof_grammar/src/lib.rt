@@ -4,9 +4,13 @@
 mod dump;
 mod flaw;
 mod laws;
+mod frame;
+mod heap_records;
 mod order;
 mod placed;
+mod parse;
 mod reader;
+mod record_list;
 mod sub_records;
 mod tables;
 mod view;
@@ -19,3 +23,4 @@ pub use view::ids::Ids;
 pub use view::members::{MemberField, Members};
 pub use view::values::{TypedValue, Values};
 pub use view::{ObjectKind, View};
+pub use parse::read;

@@ -1,0 +1,9 @@
+use Rattle.std.proofs.Common.{length}
+use Rattle.hprof_grammar.specs.Joining.{AddsSubs}
+use Rattle.hprof_grammar.proofs.heap_records.note_subs.Given as goal
+
+abbrev pub invariant-loop-reader : goal.invariant-loop-reader
+invariant-loop-reader g l = AddsSubs l.at l.body l.reader.rest.now l.fn.dump l.dump
+
+abbrev pub decreases-loop-reader : goal.decreases-loop-reader
+decreases-loop-reader g l = length l.reader.rest.now

@@ -1,0 +1,33 @@
+//! What every record of a dump has: a tag, a time, a length, and a body of so many bytes.
+
+ghost use Rattle.std.specs.Prelude.{◌≡◌};
+ghost use Rattle.hprof_grammar.specs.Reading.{GivesAs, frame_at};
+
+use crate::flaw::Flaw;
+use crate::reader::Reader;
+
+/// A whole record, of which only the length was looked at.
+#[derive(Clone, Copy)]
+pub struct Frame<'a> {
+    pub tag: u8,
+    /// Microseconds since the time of the header.
+    pub time: u64,
+    pub body: &'a [u8],
+}
+
+/// The record that the bytes begin with.
+#[tactic(auto, unfolding(crate::specs::Reading::frame_at))]
+pub fn next_frame<'a>(reader: &mut Reader<'a>) -> Result<Frame<'a>, Flaw>
+    ensures { GivesAs (λ frame. (frame.tag, frame.time, frame.body.now))
+        result reader.new.rest.now (frame_at reader.old.rest.now) }
+{
+    let [tag, behind @ ..] = reader.rest else {
+        return Err(Flaw::Short);
+    };
+    let tag = *tag;
+    reader.rest = behind;
+    let time = reader.number(4)?;
+    let length = reader.number(4)?;
+    let body = reader.raw(length)?;
+    Ok(Frame { tag, time, body })
+}

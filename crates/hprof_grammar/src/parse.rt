@@ -1,0 +1,56 @@
+//! A whole dump, from its first byte to its last.
+
+ghost use Rattle.std.specs.Prelude.{◌≡◌, ◌≤◌, IfErr, IfOk, length};
+ghost use Rattle.hprof_grammar.specs.Dump.{IsDumpOf};
+ghost use Rattle.hprof_grammar.specs.Fault.{FirstFault};
+ghost use Rattle.hprof_grammar.specs.Joining.{HasHeader};
+ghost use Rattle.hprof_grammar.specs.Refusal.{IfFault};
+
+use crate::dump::Dump;
+use crate::flaw::{FormatFault, ReadRefusal};
+use crate::record_list::{FIRST_RECORD, note_records};
+use crate::tables::is_id_size;
+use byteorder::{BigEndian, ByteOrder};
+use std::alloc::Allocator;
+
+/// The bytes of the longest dump that is read.
+const LIMIT: u32 = 1_073_741_824;
+
+/// What a dump begins with.
+const MAGIC: &[u8] = b"JAVA PROFILE 1.0.2\0";
+
+/// Where the size of identifiers stands.
+const ID_SIZE_AT: u32 = 19;
+
+/// The size of identifiers, of a header that is right.
+fn header_id_size(bytes: &[u8]) -> Result<u8, FormatFault>
+    ensures ok { IfOk result (λ s. HasHeader s bytes.now) }
+    ensures fault { IfErr result (λ f. FirstFault bytes.now f.code f.offset) }
+{
+    if bytes.len() > LIMIT as usize {
+        return Err(FormatFault::new(14, LIMIT));
+    }
+    if !bytes.starts_with(MAGIC) {
+        return Err(FormatFault::new(1, 0));
+    }
+    if bytes.len() < FIRST_RECORD as usize {
+        return Err(FormatFault::new(3, 0));
+    }
+    let size = BigEndian::read_u32(&bytes[ID_SIZE_AT as usize..]);
+    if !is_id_size(size) {
+        return Err(FormatFault::new(2, ID_SIZE_AT));
+    }
+    Ok(size as u8)
+}
+
+/// Reads a dump in the format of the HPROF manual, JAVA PROFILE 1.0.2: the dump that the bytes spell, as
+/// places in them, or their first fault. `OutOfMemory` only where a growth was refused.
+pub fn read<A: Allocator + Copy>(alloc: A, bytes: &[u8]) -> Result<Dump<A>, ReadRefusal>
+    ensures dump { IfOk result (λ dump. IsDumpOf bytes.now dump) }
+    ensures fault { IfFault result (λ fault. FirstFault bytes.now fault.code fault.offset) }
+{
+    let id_size = header_id_size(bytes).map_err(ReadRefusal::Fault)?;
+    let mut dump = Dump::new(alloc, id_size);
+    note_records(&mut dump, &bytes[FIRST_RECORD as usize..])?;
+    Ok(dump)
+}

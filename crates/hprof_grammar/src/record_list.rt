@@ -1,0 +1,67 @@
+//! The records of a dump, behind its header.
+
+ghost use Rattle.std.specs.Prelude.{◌≡◌, ◌+◌, ◌<◌, ◌≤◌, ◌^◌, IfOk, OnOk, ℕ, length};
+ghost use Rattle.hprof_grammar.specs.Joining.{AddsAll, AddsRecord, FrameFault, HasRecordFault};
+ghost use Rattle.hprof_grammar.specs.Refusal.{IfFault};
+
+use crate::dump::Dump;
+use crate::flaw::{FormatFault, ReadRefusal};
+use crate::frame::next_frame;
+use crate::heap_records::note_subs;
+use crate::order::Order;
+use crate::reader::Reader;
+use crate::tables::is_length_of;
+use std::alloc::Allocator;
+
+/// Where the records begin.
+pub const FIRST_RECORD: u32 = 31;
+
+/// The bytes of a record before its body: a tag, a time and a length.
+const FRAME: u32 = 9;
+
+/// Notes a record that stands at that place, and tells what has come of the snapshot with it.
+fn note_record<A: Allocator>(dump: &mut Dump<A>, order: Order, tag: u8, body: &[u8], at: u32) -> Result<Order, ReadRefusal>
+    requires low { 1 ≤ dump.old.id_size }
+    requires high { dump.old.id_size ≤ 8 }
+    requires room { at + 9 + length body.now < 2 ^ 32 }
+    ensures adds { IfOk result (λ next. (time : ℕ) → AddsRecord at tag time body.now order next dump.old dump.new) }
+    ensures fault { IfFault result (FrameFault dump.old.id_size at tag body.now order) }
+{
+    if !is_length_of(dump.id_size(), tag, body.len()) {
+        return Err(ReadRefusal::Fault(FormatFault::new(4, at)));
+    }
+    let Some(next) = order.after(tag) else {
+        return Err(ReadRefusal::Fault(FormatFault::new(8, at)));
+    };
+    match tag {
+        0x01 => dump.note_string(at)?,
+        0x02 => dump.note_loaded(at)?,
+        0x0C | 0x1C => note_subs(dump, body, at + FRAME)?,
+        _ => {}
+    }
+    Ok(next)
+}
+
+/// Notes all records of a dump, of which the bytes behind the header are given.
+pub fn note_records<A: Allocator>(dump: &mut Dump<A>, bytes: &[u8]) -> Result<(), ReadRefusal>
+    requires low { 1 ≤ dump.old.id_size }
+    requires high { dump.old.id_size ≤ 8 }
+    requires room { 31 + length bytes.now < 2 ^ 32 }
+    ensures adds { OnOk result (AddsAll bytes.now dump.old dump.new) }
+    ensures fault { IfFault result (HasRecordFault dump.old.id_size bytes.now) }
+{
+    let mut order = Order::Before;
+    let mut reader = Reader::new(bytes);
+    while !reader.is_empty() {
+        let place = FIRST_RECORD + (bytes.len() - reader.rest.len()) as u32;
+        let Ok(frame) = next_frame(&mut reader) else {
+            return Err(ReadRefusal::Fault(FormatFault::new(3, place)));
+        };
+        order = note_record(dump, order, frame.tag, frame.body, place)?;
+    }
+    if !order.is_done() {
+        let end = FIRST_RECORD + bytes.len() as u32;
+        return Err(ReadRefusal::Fault(FormatFault::new(8, end)));
+    }
+    Ok(())
+}
