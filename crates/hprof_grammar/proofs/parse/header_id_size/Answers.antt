@@ -1,4 +1,4 @@
-use Rattle.std.proofs.Common.{Fits, ap, arith, drop, length, sym, true, ◌<◌, ◌∙◌, ◌≡◌, ◌≤◌}
+use Rattle.std.proofs.Common.{ap, arith, drop, length, sym, true, ◌<◌, ◌∙◌, ◌≡◌, ◌≤◌}
 use Rattle.std.proofs.lemmas.List.{take_rest}
 use Rattle.byteorder.specs.Endian.{big_number}
 use Rattle.hprof_grammar.specs.Dump.{magic}
