@@ -1,5 +1,5 @@
 -- The few facts of the format's tables that proofs use. Only here are the tables opened.
-use Rattle.std.proofs.Common.{None, Option, Some, arith, true, ℕ, ◌<◌, ◌^◌, ◌≡◌, ◌≤◌}
+use Rattle.std.proofs.Common.{None, Option, Some, arith, true, ℕ, ◌*◌, ◌+◌, ◌<◌, ◌^◌, ◌≡◌, ◌≤◌}
 use Rattle.std.proofs.lemmas.Bool.Decides.{nat_tests}
 use Rattle.hprof_grammar.specs.Tables.{is_heap_tag, is_id_size, is_length_of, kind_of, root_of, root_rest}
 use Rattle.hprof_grammar.specs.declared.tables.Kind.{Kind}
@@ -45,3 +45,13 @@ object_array_tag s tag h = grind (arith, nat_tests, root_is (root_rest s tag) Ob
 pub primitive_array_tag : (s tag : ℕ) → kind_of s tag ≡ Some PrimitiveArray → tag ≡ 0x23
 unfolding kind_of
 primitive_array_tag s tag h = grind (arith, nat_tests, root_is (root_rest s tag) PrimitiveArray)
+
+-- ---- the lengths of the records of which the body is read
+
+pub string_length : (s n : ℕ) → is_length_of s 0x01 n ≡ true → s ≤ n
+unfolding is_length_of
+string_length s n h = grind (arith, nat_tests)
+
+pub load_length : (s n : ℕ) → is_length_of s 0x02 n ≡ true → n ≡ 8 + 2 * s
+unfolding is_length_of
+load_length s n h = grind (arith, nat_tests)
