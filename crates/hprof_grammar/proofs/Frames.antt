@@ -98,7 +98,7 @@ runs_past tag rest p Short room b =
       not_whole = omega (arith, length-append s.missing (spelled s.more), s.not_whole);
     }
 
-pub frame_fails : (tag : ℕ) (rest : List ℕ) (flaw : Flaw) → IsBytes (tag ∷ rest) → frame_at (tag ∷ rest) ≡ Err flaw → RunsPastEnd (tag ∷ rest)
+frame_fails : (tag : ℕ) (rest : List ℕ) (flaw : Flaw) → IsBytes (tag ∷ rest) → frame_at (tag ∷ rest) ≡ Err flaw → RunsPastEnd (tag ∷ rest)
 unfolding frame_at
 frame_fails tag rest flaw h e = elim (bind_err (pair_at (number_at 4) (λ _. block_at) rest) (λ (x : (ℕ × List ℕ) × List ℕ). Ok ((tag, x.0.0, x.0.1), x.1)) flaw e) [
     inl f ↦
@@ -106,3 +106,8 @@ frame_fails tag rest flaw h e = elim (bind_err (pair_at (number_at 4) (λ _. blo
       runs_past tag rest b.0 flaw b.1 b.2
   | inr a ↦ absurd (let k : ◌≡◌ {A = Result ((ℕ × ℕ × List ℕ) × List ℕ) Flaw} (Ok ((tag, a.0.0.0, a.0.0.1), a.0.1)) (Err flaw) = a.2 in cc)
   ]
+
+-- where bytes are left and no frame is read, the record runs past the end
+pub cut_record : (rest : List ℕ) (flaw : Flaw) → 0 < length rest → IsBytes rest → frame_at rest ≡ Err flaw → RunsPastEnd rest
+cut_record [] flaw some h e = absurd (omega (arith, some))
+cut_record (tag ∷ rest) flaw some h e = frame_fails tag rest flaw h e

@@ -13,6 +13,7 @@ use Rattle.hprof_grammar.specs.Joining.{HasHeader}
 use Rattle.hprof_grammar.specs.Tables.{is_id_size}
 use Rattle.hprof_grammar.specs.declared.flaw.FormatFault.{FormatFault}
 use Rattle.hprof_grammar.proofs.Bytes.{IsBytes, bytes-drop, number-lt, number_parts}
+use Rattle.hprof_grammar.proofs.FrameLaws.{header_parts}
 
 -- ---- the text of the header
 
@@ -36,11 +37,6 @@ time_part text bytes room =
     let within : 8 ≤ length (drop 23 text) = omega (arith, length-drop 23 text) in
     number_parts 8 (drop 23 text) (bytes-drop 23 text bytes) within ∙ ap (λ rest. big_bytes 8 (big_number 8 (drop 23 text)) ++ rest) (drop-drop 8 23 text)
 
--- the header's parts, one after the other
-header_joined : (s time : ℕ) (rest : List ℕ) → magic ++ (big_bytes 4 s ++ (big_bytes 8 time ++ rest)) ≡ header s time ++ rest
-header_joined s time rest =
-    ap (λ back. magic ++ back) (sym (append_assoc (big_bytes 4 s) (big_bytes 8 time) rest)) ∙ sym (append_assoc magic (big_bytes 4 s ++ big_bytes 8 time) rest)
-
 pub header_stands : (s : ℕ) (text : List ℕ) → IsBytes text → length text ≤ limit → 31 ≤ length text → text ≡ magic ++ drop 19 text → s ≡ big_number 4 (drop 19 text) → is_id_size s ≡ true → HasHeader s text
 header_stands s text bytes size room begins e is =
     let time = big_number 8 (drop 23 text) in
@@ -49,7 +45,7 @@ header_stands s text bytes size room begins e is =
       size = size;
       id_size = is;
       time = time;
-      whole = begins ∙ ap (λ back. magic ++ back) (sizes ∙ ap (λ back. big_bytes 4 s ++ back) (time_part text bytes room)) ∙ header_joined s time (drop 31 text);
+      whole = begins ∙ ap (λ back. magic ++ back) (sizes ∙ ap (λ back. big_bytes 4 s ++ back) (time_part text bytes room)) ∙ sym (header_parts s time (drop 31 text));
     }
 
 -- ---- the faults of a header

@@ -1,0 +1,9 @@
+use Rattle.std.proofs.Common.{length}
+use Rattle.hprof_grammar.specs.Joining.{AddsRecords}
+use Rattle.hprof_grammar.proofs.record_list.note_records.Given as goal
+
+abbrev pub invariant-loop-reader : goal.invariant-loop-reader
+invariant-loop-reader g l = AddsRecords l.bytes l.reader.rest.now l.order l.fn.dump l.dump
+
+abbrev pub decreases-loop-reader : goal.decreases-loop-reader
+decreases-loop-reader g l = length l.reader.rest.now
