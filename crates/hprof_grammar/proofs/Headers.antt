@@ -1,19 +1,22 @@
--- The header of a dump: a text that has it, and what is wrong with one that has not.
-use Rattle.std.proofs.Common.{Bool, List, ap, append_assoc, arith, drop, length, refl, subst, sym, false, true, ℕ, ◌++◌, ◌+◌, ◌-◌, ◌<◌, ◌^◌, ◌∙◌, ◌∷◌, ◌≡◌, ◌≤◌}
+-- The header of a dump: a text that has it, what is wrong with one that has not, and what the records behind it make of
+-- the text.
+use Rattle.std.proofs.Common.{Bool, List, ap, append_assoc, arith, drop, length, map, refl, subst, sym, false, true, ℕ, ◌++◌, ◌+◌, ◌-◌, ◌<◌, ◌^◌, ◌∙◌, ◌∷◌, ◌≡◌, ◌≤◌}
 use Rattle.std.specs.List.{starts_with}
 use Rattle.std.specs.Prelude.{nat_eq}
 use Rattle.std.proofs.lemmas.Bool.Decides.{Decides-eqb}
-use Rattle.std.proofs.lemmas.List.{drop-drop, length-drop}
+use Rattle.std.proofs.lemmas.List.{append-nil, drop-drop, length-drop}
 use Rattle.std.proofs.lemmas.Slice.Eq.{starts_is}
 use Rattle.byteorder.specs.Endian.{big_bytes, big_number}
-use Rattle.hprof_grammar.specs.Dump.{header, limit, magic}
+use Rattle.hprof_grammar.specs.Dump.{IsDumpOf, Places, header, limit, magic, spellings}
 use Rattle.hprof_grammar.specs.Fault.{FirstFault, HasMagic}
-use Rattle.hprof_grammar.specs.Fault.FirstFault.{bad_header, bad_id_size, short_header, too_large}
-use Rattle.hprof_grammar.specs.Joining.{HasHeader}
+use Rattle.hprof_grammar.specs.Fault.FirstFault.{bad_header, bad_id_size, in_records, short_header, too_large}
+use Rattle.hprof_grammar.specs.Joining.{AddsAll, HasHeader, HasRecordFault, nothing_of}
+use Rattle.hprof_grammar.specs.Record.{tag_of}
 use Rattle.hprof_grammar.specs.Tables.{is_id_size}
 use Rattle.hprof_grammar.specs.declared.flaw.FormatFault.{FormatFault}
 use Rattle.hprof_grammar.proofs.Bytes.{IsBytes, bytes-drop, number-lt, number_parts}
 use Rattle.hprof_grammar.proofs.FrameLaws.{header_parts}
+use Rattle.hprof_grammar.proofs.OrderLaws.{done_is_orderly}
 
 -- ---- the text of the header
 
@@ -67,3 +70,20 @@ id_size_wrong s text fault e bytes size room begins is wrong =
     let sizes : drop 19 text ≡ big_bytes 4 s ++ drop 23 text = id_size_part text bytes (omega arith) ∙ ap (λ n. big_bytes 4 n ++ drop 23 text) (sym is) in
     let fits : s < 256 ^ 4 = rw is (number-lt 4 (drop 19 text) (bytes-drop 19 text bytes)) in
     fault_at text fault 2 19 e (bad_id_size s (drop 23 text) size room fits (begins ∙ ap (λ back. magic ++ back) sizes) wrong)
+
+-- ---- the records behind the header
+
+pub dump_read : (text : List ℕ) (s : ℕ) (new : Places) → HasHeader s text → AddsAll (drop 31 text) (nothing_of s) new → IsDumpOf text new
+dump_read text s new head all =
+    let order = all.0 in
+    let adds = all.2 in
+    let whole : text ≡ header s head.time ++ spellings s adds.records = head.whole ∙ ap (λ (rest : List ℕ). header s head.time ++ rest) (adds.parts ∙ append-nil (spellings s adds.records)) in
+    subst (IsDumpOf text) (sym adds.joined) (record {
+      records = adds.records;
+      spells = record { size = head.size; id_size = head.id_size; time = head.time; whole = whole; each = adds.each };
+      orderly = done_is_orderly order (map tag_of adds.records) all.1 adds.order;
+      places = refl;
+    })
+
+pub record_fault_read : (text : List ℕ) (s : ℕ) (fault : FormatFault) → HasHeader s text → HasRecordFault s (drop 31 text) fault → FirstFault text fault.code fault.offset
+record_fault_read text s fault head wrong = in_records s head.time (drop 31 text) wrong.records wrong.rest fault.code fault.offset head.size head.id_size head.whole wrong.longest wrong.wrong

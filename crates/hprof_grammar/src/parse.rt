@@ -1,6 +1,6 @@
 //! A whole dump, from its first byte to its last.
 
-ghost use Rattle.std.specs.Prelude.{◌≡◌, ◌≤◌, IfErr, IfOk, length};
+ghost use Rattle.std.specs.Prelude.{◌≡◌, ◌≤◌, IfOk, length};
 ghost use Rattle.hprof_grammar.specs.Dump.{IsDumpOf};
 ghost use Rattle.hprof_grammar.specs.Fault.{FirstFault};
 ghost use Rattle.hprof_grammar.specs.Joining.{HasHeader};
@@ -23,22 +23,22 @@ const MAGIC: &[u8] = b"JAVA PROFILE 1.0.2\0";
 const ID_SIZE_AT: u32 = 19;
 
 /// The size of identifiers, of a header that is right.
-fn header_id_size(bytes: &[u8]) -> Result<u8, FormatFault>
-    ensures ok { IfOk result (λ s. HasHeader s bytes.now) }
-    ensures fault { IfErr result (λ f. FirstFault bytes.now f.code f.offset) }
+fn header_id_size(bytes: &[u8]) -> Result<u8, ReadRefusal>
+    ensures ok { IfOk result (λ id_size. HasHeader id_size bytes.now) }
+    ensures fault { IfFault result (λ fault. FirstFault bytes.now fault.code fault.offset) }
 {
     if bytes.len() > LIMIT as usize {
-        return Err(FormatFault::new(14, LIMIT));
+        return Err(ReadRefusal::Fault(FormatFault::new(14, LIMIT)));
     }
     if !bytes.starts_with(MAGIC) {
-        return Err(FormatFault::new(1, 0));
+        return Err(ReadRefusal::Fault(FormatFault::new(1, 0)));
     }
     if bytes.len() < FIRST_RECORD as usize {
-        return Err(FormatFault::new(3, 0));
+        return Err(ReadRefusal::Fault(FormatFault::new(3, 0)));
     }
     let size = BigEndian::read_u32(&bytes[ID_SIZE_AT as usize..]);
     if !is_id_size(size) {
-        return Err(FormatFault::new(2, ID_SIZE_AT));
+        return Err(ReadRefusal::Fault(FormatFault::new(2, ID_SIZE_AT)));
     }
     Ok(size as u8)
 }
@@ -49,7 +49,7 @@ pub fn read<A: Allocator + Copy>(alloc: A, bytes: &[u8]) -> Result<Dump<A>, Read
     ensures dump { IfOk result (λ dump. IsDumpOf bytes.now dump) }
     ensures fault { IfFault result (λ fault. FirstFault bytes.now fault.code fault.offset) }
 {
-    let id_size = header_id_size(bytes).map_err(ReadRefusal::Fault)?;
+    let id_size = header_id_size(bytes)?;
     let mut dump = Dump::new(alloc, id_size);
     note_records(&mut dump, &bytes[FIRST_RECORD as usize..])?;
     Ok(dump)

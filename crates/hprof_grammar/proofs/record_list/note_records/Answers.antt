@@ -5,7 +5,7 @@ use Rattle.std.proofs.lemmas.Result.{err_from_is_err_and}
 use Rattle.hprof_grammar.specs.Joining.{FrameFault, HasRecordFault}
 use Rattle.hprof_grammar.specs.Orders.{is_done}
 use Rattle.hprof_grammar.specs.declared.order.Order.{Order}
-use Rattle.hprof_grammar.proofs.Refusals.{fault_maps}
+use Rattle.hprof_grammar.proofs.Refusals.{fault_passes}
 use Rattle.hprof_grammar.proofs.Bytes.{IsBytes}
 use Rattle.hprof_grammar.proofs.Frames.{FrameTaken, cut_record, frame_takes}
 use Rattle.hprof_grammar.proofs.RecordSteps.{records_step}
@@ -41,10 +41,9 @@ returns-in_err-order-clause-fault g c =
     let at = 31 + (length c.args.bytes.now - length rest) in
     let frame = frame_takes rest ((c.in-Ok.frame.tag, c.in-Ok.frame.time, c.in-Ok.frame.body.now), behind) left c.in-Ok.ensures in
     let exit = err_from_is_err_and c.from_residual.result c.from_residual.ensures.1 in
-    rw (exit.1, exit.2)
-    (fault_maps Order (Unit {0}) c.in_err-order.field-0.0 (FrameFault c.loop-reader.dump.id_size at c.in-Ok.frame.tag c.in-Ok.frame.body.now c.loop-reader.order) (HasRecordFault c.args.dump.now.id_size c.args.bytes.now)
+    fault_passes Order c.from_residual.result c.in_err-order.field-0.0 (FrameFault c.loop-reader.dump.id_size at c.in-Ok.frame.tag c.in-Ok.frame.body.now c.loop-reader.order) (HasRecordFault c.args.dump.now.id_size c.args.bytes.now) exit
       (λ fault wrong. fault_in_record c.args.bytes.now rest c.loop-reader.order c.args.dump.now c.loop-reader.dump adds at c.in-Ok.frame.tag c.in-Ok.frame.time c.in-Ok.frame.body.now behind fault frame refl wrong)
-      c.in_err-order.ensures.fault)
+      c.in_err-order.ensures.fault
 
 pub loop-reader-smaller : goal.loop-reader-smaller
 loop-reader-smaller g c =
