@@ -5,7 +5,7 @@ use Rattle.byteorder.specs.Endian.{big_bytes}
 use Rattle.hprof_grammar.specs.Fault.{RunsPastEnd}
 use Rattle.hprof_grammar.specs.Reading.{block_at, frame_at, number_at, pair_at}
 use Rattle.hprof_grammar.specs.Record.{framed}
-use Rattle.hprof_grammar.specs.Spelling.{EndsShort, Field, HasWrongType, bytes_of, spelled}
+use Rattle.hprof_grammar.specs.Spelling.{EndsShort, Field, spelled}
 use Rattle.hprof_grammar.specs.Spelling.Field.{number, raw, type_code}
 use Rattle.hprof_grammar.specs.declared.flaw.Flaw.{Flaw}
 use Rattle.hprof_grammar.specs.declared.flaw.Flaw.TheVariants.{Short, UnknownTag, WrongType}
@@ -25,12 +25,12 @@ frame_fields p = number 4 p.0 ∷ number 4 (length p.1) ∷ raw p.1 ∷ []
 
 block_format : IsFormat (λ (body : List ℕ). length body < 256 ^ 4) (λ body. number 4 (length body) ∷ raw body ∷ []) block_at
 block_format = as_format {from = λ (body : List ℕ). (length body, body)} (pair_format (number_format 4) (λ (n : ℕ). raw_format n)) (record {
-    well_to = λ p h. rw (h.1) h.0;
-    well_from = λ body h. (h, refl);
-    fields_to = λ p h. rw (h.1) refl;
-    fields_from = λ body h. refl;
-    back = λ body h. refl;
-  })
+  well_to = λ p h. rw (h.1) h.0;
+  well_from = λ body h. (h, refl);
+  fields_to = λ p h. rw (h.1) refl;
+  fields_from = λ body h. refl;
+  back = λ body h. refl;
+})
 
 behind_tag : IsFormat HasRoom frame_fields (pair_at (number_at 4) (λ _. block_at))
 behind_tag = pair_format (number_format 4) (λ (_ : ℕ). block_format)
@@ -101,11 +101,11 @@ runs_past tag rest p Short room b =
 frame_fails : (tag : ℕ) (rest : List ℕ) (flaw : Flaw) → IsBytes (tag ∷ rest) → frame_at (tag ∷ rest) ≡ Err flaw → RunsPastEnd (tag ∷ rest)
 unfolding frame_at
 frame_fails tag rest flaw h e = elim (bind_err (pair_at (number_at 4) (λ _. block_at) rest) (λ (x : (ℕ × List ℕ) × List ℕ). Ok ((tag, x.0.0, x.0.1), x.1)) flaw e) [
-    inl f ↦
+  | inl f ↦
       let b = behind_tag.fails rest flaw (bytes-tail tag rest h) f in
       runs_past tag rest b.0 flaw b.1 b.2
   | inr a ↦ absurd (let k : ◌≡◌ {A = Result ((ℕ × ℕ × List ℕ) × List ℕ) Flaw} (Ok ((tag, a.0.0.0, a.0.0.1), a.0.1)) (Err flaw) = a.2 in cc)
-  ]
+]
 
 -- where bytes are left and no frame is read, the record runs past the end
 pub cut_record : (rest : List ℕ) (flaw : Flaw) → 0 < length rest → IsBytes rest → frame_at rest ≡ Err flaw → RunsPastEnd rest

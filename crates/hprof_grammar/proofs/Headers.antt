@@ -1,6 +1,6 @@
 -- The header of a dump: a text that has it, what is wrong with one that has not, and what the records behind it make of
 -- the text.
-use Rattle.std.proofs.Common.{Bool, List, ap, append_assoc, arith, drop, length, map, refl, subst, sym, false, true, ℕ, ◌++◌, ◌+◌, ◌-◌, ◌<◌, ◌^◌, ◌∙◌, ◌∷◌, ◌≡◌, ◌≤◌}
+use Rattle.std.proofs.Common.{Bool, List, ap, arith, drop, length, map, refl, subst, sym, false, true, ℕ, ◌++◌, ◌<◌, ◌^◌, ◌∙◌, ◌≡◌, ◌≤◌}
 use Rattle.std.specs.List.{starts_with}
 use Rattle.std.specs.Prelude.{nat_eq}
 use Rattle.std.proofs.lemmas.Bool.Decides.{Decides-eqb}

@@ -1,6 +1,6 @@
 -- The loop over the records: before it, and at each turn.
 use Rattle.std.proofs.Common.{Bool, List, [], ap, append_assoc, arith, filter, length, map, refl, subst, sym, true, ℕ, ◌++◌, ◌+◌, ◌-◌, ◌<◌, ◌^◌, ◌∙◌, ◌∷◌, ◌≡◌}
-use Rattle.std.specs.List.{AllByRecursion, flat_map}
+use Rattle.std.specs.List.{flat_map}
 use Rattle.std.proofs.lemmas.List.{append-nil, length-append, map-append}
 use Rattle.std.proofs.lemmas.List.Elements.{filter-append}
 use Rattle.std.proofs.lemmas.Grind.{flat_map-append}
@@ -45,11 +45,16 @@ one_more p records r place e =
     let loaded = ap (places_where is_load) all ∙ places_join is_load (placed p.id_size 31 records) ((place, r) ∷ []) in
     let roots = ap (places_where is_root) heaps ∙ places_join is_root (heap_list p.id_size records) subs in
     let objects = ap (places_where is_object) heaps ∙ places_join is_object (heap_list p.id_size records) subs in
-    rw (strings, loaded, roots, objects,
+    rw (
+      strings,
+      loaded,
+      roots,
+      objects,
       ← append_assoc p.strings (places_where is_string (placed p.id_size 31 records)) (places_where is_string ((place, r) ∷ [])),
       ← append_assoc p.loaded (places_where is_load (placed p.id_size 31 records)) (places_where is_load ((place, r) ∷ [])),
       ← append_assoc p.roots (places_where is_root (heap_list p.id_size records)) (places_where is_root subs),
-      ← append_assoc p.objects (places_where is_object (heap_list p.id_size records)) (places_where is_object subs)) refl
+      ← append_assoc p.objects (places_where is_object (heap_list p.id_size records)) (places_where is_object subs),
+    ) refl
 
 -- ---- the loop
 
@@ -64,7 +69,7 @@ records_step bytes rest left was next old new newer at tag time body adds frame 
     let size : new.id_size ≡ s = ap (λ (p : Places). p.id_size) adds.joined in
     let body_is : body_of s one.is ≡ body = subst (λ (n : ℕ). body_of n one.is ≡ body) size one.body_is in
     let spelled : record_spelling s one.is ≡ framed tag time body =
-        ap (λ (t : ℕ). framed t (time_of one.is) (body_of s one.is)) one.tag_is ∙ ap (λ (t : ℕ). framed tag t (body_of s one.is)) one.time_is ∙ ap (framed tag time) body_is in
+    ap (λ (t : ℕ). framed t (time_of one.is) (body_of s one.is)) one.tag_is ∙ ap (λ (t : ℕ). framed tag t (body_of s one.is)) one.time_is ∙ ap (framed tag time) body_is in
     let is_record : IsRecord s one.is = record {
       parts = subst (λ (n : ℕ). HasParts n one.is) size one.parts;
       time = subst (λ (t : ℕ). t < 256 ^ 4) (sym one.time_is) frame.time_fits;
@@ -81,7 +86,7 @@ records_step bytes rest left was next old new newer at tag time body adds frame 
       each = all_join (IsRecord s) adds.records (one.is ∷ []) adds.each (is_record, tt);
       order =
           let tags : map tag_of (adds.records ++ one.is ∷ []) ≡ map tag_of adds.records ++ tag ∷ [] =
-              map-append tag_of adds.records (one.is ∷ []) ∙ ap (λ (t : ℕ). map tag_of adds.records ++ t ∷ []) one.tag_is in
+          map-append tag_of adds.records (one.is ∷ []) ∙ ap (λ (t : ℕ). map tag_of adds.records ++ t ∷ []) one.tag_is in
           subst (IsAt next) (sym tags) (one.order (map tag_of adds.records) adds.order);
       joined = one.joined ∙ ap (λ (p : Places). with_record p at one.is) adds.joined ∙ sym (one_more old adds.records one.is at place);
     }

@@ -1,17 +1,15 @@
 -- The records that the bytes behind the header begin with.
-use Rattle.std.proofs.Common.{List, [], ap, append_assoc, arith, false, filter, inl, inr, length, map, refl, subst, sym, true, ℕ, ◌++◌, ◌+◌, ◌-◌, ◌<◌, ◌^◌, ◌∙◌, ◌∷◌, ◌≡◌, ◌≤◌}
+use Rattle.std.proofs.Common.{List, [], ap, append_assoc, arith, false, inl, inr, length, map, refl, subst, sym, true, ℕ, ◌++◌, ◌+◌, ◌-◌, ◌<◌, ◌∙◌, ◌∷◌, ◌≡◌, ◌≤◌}
 use Rattle.std.specs.List.{AllByRecursion, flat_map}
 use Rattle.std.proofs.lemmas.List.{append-nil, length-append, map-append}
-use Rattle.std.proofs.lemmas.List.Elements.{filter-append}
-use Rattle.std.proofs.lemmas.Grind.{flat_map-append}
-use Rattle.hprof_grammar.specs.Dump.{Places, heap_list, is_load, is_object, is_root, is_string, placed, placed_subs, places_where, spellings}
+use Rattle.hprof_grammar.specs.Dump.{Places, spellings}
 use Rattle.hprof_grammar.specs.Fault.{LongestRecords, RecordFault, RunsPastEnd, SubFault}
 use Rattle.hprof_grammar.specs.Fault.RecordFault.{bad_length, in_heap, no_snapshot, out_of_order, truncated}
 use Rattle.hprof_grammar.specs.Fault.SubFault.{short, unknown_tag, wrong_type}
-use Rattle.hprof_grammar.specs.Joining.{AddsRecord, AddsRecords, FrameFault, HasRecordFault, with_record, with_records}
+use Rattle.hprof_grammar.specs.Joining.{AddsRecords, FrameFault, HasRecordFault}
 use Rattle.hprof_grammar.specs.Joining.FrameFault.{wrong_heap, wrong_length, wrong_order}
 use Rattle.hprof_grammar.specs.Orders.{IsAt, is_done}
-use Rattle.hprof_grammar.specs.Record.{CanGoOn, IsOrderly, IsRecord, Record, body_of, framed, record_spelling, subs_of, tag_of, time_of}
+use Rattle.hprof_grammar.specs.Record.{CanGoOn, IsOrderly, IsRecord, Record, body_of, framed, record_spelling, tag_of, time_of}
 use Rattle.hprof_grammar.specs.Record.Record.{heap, load_class, other, string}
 use Rattle.hprof_grammar.specs.SubRecord.{IsSubRecord, SubRecord, spelling_of}
 use Rattle.hprof_grammar.specs.Tables.{is_heap_tag, is_length_of}
@@ -42,17 +40,17 @@ IsStuck s records rest = (z : Record) (left : List ℕ) → IsRecord s z → res
 no_longer : (s : ℕ) (records others : List Record) (rest left : List ℕ) → AllByRecursion (IsRecord s) records → AllByRecursion (IsRecord s) others → IsStuck s records rest → CanGoOn (tags_of others)
     → spellings s records ++ rest ≡ spellings s others ++ left → length others ≤ length records
 no_longer s records others rest left h k stuck go e = elim (fronts (record_spelling s) (IsRecord s) (records_determined s) records others rest left h k e) [
-    inl g ↦ ends g.0 g.1 g.2
+  | inl g ↦ ends g.0 g.1 g.2
   | inr g ↦ omega (arith, ap length g.1, length-append others g.0)
-  ] where
+] where
   ends : (zs : List Record) → others ≡ records ++ zs → rest ≡ spellings s zs ++ left → length others ≤ length records
   ends [] p q = omega (arith, ap length p, length-append records [])
   ends (z ∷ zs) p q =
       let all = all_split (IsRecord s) records (z ∷ zs) (rw p at k) in
       let tags : tags_of others ≡ (tags_of records ++ tag_of z ∷ []) ++ tags_of zs =
-          ap tags_of p ∙ map-append tag_of records (z ∷ zs) ∙ sym (append_assoc (tags_of records) (tag_of z ∷ []) (tags_of zs)) in
+      ap tags_of p ∙ map-append tag_of records (z ∷ zs) ∙ sym (append_assoc (tags_of records) (tag_of z ∷ []) (tags_of zs)) in
       absurd (stuck z (spellings s zs ++ left) all.1.0 (q ∙ append_assoc (record_spelling s z) (spellings s zs) left)
-        (goes_on_front (tags_of records ++ tag_of z ∷ []) (tags_of zs) (subst CanGoOn tags go)))
+      (goes_on_front (tags_of records ++ tag_of z ∷ []) (tags_of zs) (subst CanGoOn tags go)))
 
 pub longest_records : (s : ℕ) (bytes : List ℕ) (records : List Record) (rest : List ℕ) → bytes ≡ spellings s records ++ rest → AllByRecursion (IsRecord s) records → CanGoOn (map tag_of records) → IsStuck s records rest
     → LongestRecords s bytes records rest
@@ -82,17 +80,18 @@ no_whole_body : (s : ℕ) (body : List ℕ) (subs others : List SubRecord) (rest
     → AllByRecursion (IsSubRecord s) others → body ≡ flat_map (spelling_of s) others → ⊥
 no_whole_body s body subs others rest code parts each fault all e =
     elim (fronts (spelling_of s) (IsSubRecord s) (subs_determined s) subs others rest [] each all (sym parts ∙ e ∙ sym (append-nil (flat_map (spelling_of s) others)))) [
-      inl g ↦ goes g.0 g.1 g.2
-    | inr g ↦ stops g.0 g.2
+      | inl g ↦ goes g.0 g.1 g.2
+      | inr g ↦ stops g.0 g.2
     ] where
-    goes : (zs : List SubRecord) → others ≡ subs ++ zs → rest ≡ flat_map (spelling_of s) zs ++ [] → ⊥
-    goes [] p q = fault_some s rest code fault q
-    goes (z ∷ zs) p q =
-        let is = all_split (IsSubRecord s) subs (z ∷ zs) (rw p at all) in
-        no_sub_fault s z (flat_map (spelling_of s) zs ++ []) code is.1.0 (subst (λ (l : List ℕ). SubFault s l code) (q ∙ append_assoc (spelling_of s z) (flat_map (spelling_of s) zs) []) fault)
-    stops : (zs : List SubRecord) → [] ≡ flat_map (spelling_of s) zs ++ rest → ⊥
-    stops [] q = fault_some s rest code fault (sym q)
-    stops (z ∷ zs) q = cc
+      goes : (zs : List SubRecord) → others ≡ subs ++ zs → rest ≡ flat_map (spelling_of s) zs ++ [] → ⊥
+      goes [] p q = fault_some s rest code fault q
+      goes (z ∷ zs) p q =
+          let is = all_split (IsSubRecord s) subs (z ∷ zs) (rw p at all) in
+          no_sub_fault s z (flat_map (spelling_of s) zs ++ []) code is.1.0 (subst (λ (l : List ℕ). SubFault s l code) (q ∙ append_assoc (spelling_of s z) (flat_map (spelling_of s) zs) []) fault)
+
+      stops : (zs : List SubRecord) → [] ≡ flat_map (spelling_of s) zs ++ rest → ⊥
+      stops [] q = fault_some s rest code fault (sym q)
+      stops (z ∷ zs) q = cc
 
 -- a heap record's body is the spelling of its sub-records
 heap_body : (s : ℕ) (z : Record) → IsRecord s z → is_heap_tag (tag_of z) ≡ true → (subs : List SubRecord) × AllByRecursion (IsSubRecord s) subs × (body_of s z ≡ flat_map (spelling_of s) subs)
@@ -110,11 +109,11 @@ module _ (s at tag time : ℕ) (body after rest : List ℕ) (records : List Reco
       let bodies : body ≡ body_of s z = same.bodies in
       let allowed_here : is_length_of s tag (length body) ≡ true = rw (tags, bodies) is.length_allowed in
       elim wrong [
-        wrong_length code place not_allowed ↦ cc
-      | wrong_order code place allowed breaks ↦ breaks (map tag_of records) comes (subst (λ (n : ℕ). CanGoOn (map tag_of records ++ n ∷ [])) (sym tags) go)
-      | wrong_heap is_heap allowed goes bad ↦
-          let whole = heap_body s z is (subst (λ (n : ℕ). is_heap_tag n ≡ true) tags is_heap) in
-          no_whole_body s body bad.subs whole.0 bad.rest fault.code bad.longest.parts bad.longest.each bad.wrong whole.1 (bodies ∙ whole.2)
+        | wrong_length code place not_allowed ↦ cc
+        | wrong_order code place allowed breaks ↦ breaks (map tag_of records) comes (subst (λ (n : ℕ). CanGoOn (map tag_of records ++ n ∷ [])) (sym tags) go)
+        | wrong_heap is_heap allowed goes bad ↦
+            let whole = heap_body s z is (subst (λ (n : ℕ). is_heap_tag n ≡ true) tags is_heap) in
+            no_whole_body s body bad.subs whole.0 bad.rest fault.code bad.longest.parts bad.longest.each bad.wrong whole.1 (bodies ∙ whole.2)
       ]
 
   told : (code place : ℕ) → fault.code ≡ code → fault.offset ≡ place → RecordFault s records at (framed tag time body ++ after) code place → RecordFault s records at rest fault.code fault.offset
@@ -122,12 +121,12 @@ module _ (s at tag time : ℕ) (body after rest : List ℕ) (records : List Reco
 
   fault_in_frame : FrameFault s at tag body was fault → RecordFault s records at rest fault.code fault.offset
   fault_in_frame wrong = elim wrong [
-      wrong_length code place not_allowed ↦ told 4 at code place (bad_length tag time body after frame.length_fits not_allowed)
+    | wrong_length code place not_allowed ↦ told 4 at code place (bad_length tag time body after frame.length_fits not_allowed)
     | wrong_order code place allowed breaks ↦ told 8 at code place (out_of_order tag time body after frame.length_fits allowed (breaks (map tag_of records) comes))
     | wrong_heap is_heap allowed goes bad ↦
         told fault.code (at + 9 + length (flat_map (spelling_of s) bad.subs)) refl bad.place
         (in_heap tag time body after bad.subs bad.rest fault.code frame.length_fits is_heap (goes (map tag_of records) comes) bad.longest bad.wrong)
-    ]
+  ]
 
 -- ---- the loop over the records: its faults
 
@@ -164,7 +163,7 @@ module _ (bytes rest : List ℕ) (was : Order) (old new : Places) (adds : AddsRe
       let stuck : IsStuck old.id_size adds.records rest = subst (IsStuck old.id_size adds.records) (sym none) (stuck_at_end old.id_size adds.records) in
       subst (λ (x : FormatFault). HasRecordFault old.id_size bytes x) (sym f)
       (fault_here at (record { code = 8; offset = at }) place stuck
-        (subst (λ (l : List ℕ). RecordFault old.id_size adds.records at l 8 at) (sym none) (no_snapshot (not_done_is_not was (map tag_of adds.records) undone adds.order))))
+      (subst (λ (l : List ℕ). RecordFault old.id_size adds.records at l 8 at) (sym none) (no_snapshot (not_done_is_not was (map tag_of adds.records) undone adds.order))))
 
 -- ---- what is left to read at a turn of the loop
 

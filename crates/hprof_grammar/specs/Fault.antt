@@ -45,8 +45,8 @@ pub data RecordFault (s : ℕ) (records : List Record) (at : ℕ) : List ℕ →
   bad_length : (tag time : ℕ) (body after : List ℕ) → length body < 256 ^ 4 → is_length_of s tag (length body) ≡ false → RecordFault s records at (framed tag time body ++ after) 4 at
   out_of_order : (tag time : ℕ) (body after : List ℕ) → length body < 256 ^ 4 → is_length_of s tag (length body) ≡ true → (CanGoOn (map tag_of records ++ tag ∷ []) → ⊥) → RecordFault s records at (framed tag time body ++ after) 8 at
   in_heap : (tag time : ℕ) (body after : List ℕ) (subs : List SubRecord) (rest : List ℕ) (code : ℕ) → length body < 256 ^ 4 → is_heap_tag tag ≡ true → CanGoOn (map tag_of records ++ tag ∷ [])
-    → LongestSubs s body subs rest → SubFault s rest code
-    → RecordFault s records at (framed tag time body ++ after) code (at + 9 + length (flat_map (spelling_of s) subs))
+      → LongestSubs s body subs rest → SubFault s rest code
+      → RecordFault s records at (framed tag time body ++ after) code (at + 9 + length (flat_map (spelling_of s) subs))
 
 abbrev pub HasMagic : List ℕ → Type 0
 HasMagic text = (rest : List ℕ) × (text ≡ magic ++ rest)
@@ -58,5 +58,5 @@ pub data FirstFault (text : List ℕ) : ℕ → ℕ → Type 0 where
   short_header : HasMagic text → length text < 31 → FirstFault text 3 0
   bad_id_size : (s : ℕ) (rest : List ℕ) → length text ≤ limit → 31 ≤ length text → s < 256 ^ 4 → text ≡ magic ++ (big_bytes 4 s ++ rest) → is_id_size s ≡ false → FirstFault text 2 19
   in_records : (s time : ℕ) (body : List ℕ) (records : List Record) (rest : List ℕ) (code place : ℕ) → length text ≤ limit → is_id_size s ≡ true → text ≡ header s time ++ body
-    → LongestRecords s body records rest → RecordFault s records (31 + length (spellings s records)) rest code place
-    → FirstFault text code place
+      → LongestRecords s body records rest → RecordFault s records (31 + length (spellings s records)) rest code place
+      → FirstFault text code place

@@ -5,7 +5,7 @@ use Rattle.hprof_grammar.specs.Record.{CanGoOn, HasParts, IsRecord, Record, body
 use Rattle.hprof_grammar.specs.Tables.{is_heap_tag, is_id_size, is_length_of}
 use Rattle.hprof_grammar.specs.Dump.{Places, header, heap_list, is_load, is_object, is_root, is_string, limit, placed, placed_subs, places_where, spellings}
 use Rattle.hprof_grammar.specs.Fault.{LongestRecords, LongestSubs, RecordFault, SubFault}
-use Rattle.hprof_grammar.specs.SubRecord.{Class, Instance, IsSubRecord, ObjectArray, PrimitiveArray, Root, SubRecord, spelling_of}
+use Rattle.hprof_grammar.specs.SubRecord.{IsSubRecord, SubRecord, spelling_of}
 use Rattle.hprof_grammar.specs.Orders.{IsAt, is_done}
 use Rattle.hprof_grammar.specs.declared.tables.Kind.{Kind}
 use Rattle.hprof_grammar.specs.declared.tables.Kind.TheVariants as kinds

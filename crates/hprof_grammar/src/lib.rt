@@ -3,12 +3,12 @@
 
 mod dump;
 mod flaw;
-mod laws;
 mod frame;
 mod heap_records;
+mod laws;
 mod order;
-mod placed;
 mod parse;
+mod placed;
 mod reader;
 mod record_list;
 mod sub_records;
@@ -18,9 +18,9 @@ mod view;
 pub use dump::Dump;
 pub use flaw::{FormatFault, ReadRefusal};
 pub use laws::{dump_or_fault, one_dump, one_fault};
+pub use parse::read;
 pub use placed::{dump_is_placed, stands_within};
 pub use view::ids::Ids;
 pub use view::members::{MemberField, Members};
 pub use view::values::{TypedValue, Values};
 pub use view::{ObjectKind, View};
-pub use parse::read;

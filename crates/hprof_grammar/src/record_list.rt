@@ -20,7 +20,13 @@ pub const FIRST_RECORD: u32 = 31;
 const FRAME: u32 = 9;
 
 /// Notes a record that stands at that place, and tells what has come of the snapshot with it.
-fn note_record<A: Allocator>(dump: &mut Dump<A>, order: Order, tag: u8, body: &[u8], at: u32) -> Result<Order, ReadRefusal>
+fn note_record<A: Allocator>(
+    dump: &mut Dump<A>,
+    order: Order,
+    tag: u8,
+    body: &[u8],
+    at: u32,
+) -> Result<Order, ReadRefusal>
     requires low { 1 ≤ dump.old.id_size }
     requires high { dump.old.id_size ≤ 8 }
     requires room { at + 9 + length body.now < 2 ^ 32 }

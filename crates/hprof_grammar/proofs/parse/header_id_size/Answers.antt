@@ -1,8 +1,6 @@
-use Rattle.std.proofs.Common.{ap, arith, drop, length, sym, true, ◌<◌, ◌∙◌, ◌≡◌, ◌≤◌}
+use Rattle.std.proofs.Common.{ap, arith, drop, sym, true, ◌∙◌, ◌≡◌, ◌≤◌}
 use Rattle.std.proofs.lemmas.List.{take_rest}
 use Rattle.byteorder.specs.Endian.{big_number}
-use Rattle.hprof_grammar.specs.Dump.{magic}
-use Rattle.hprof_grammar.specs.Tables.{is_id_size}
 use Rattle.hprof_grammar.proofs.Bytes.{IsBytes}
 use Rattle.hprof_grammar.proofs.Headers.{begins_with_magic, header_cut, header_missing, header_stands, id_size_wrong, magic_is_found, text_too_large}
 use Rattle.hprof_grammar.proofs.TableLaws.{id_size_high}

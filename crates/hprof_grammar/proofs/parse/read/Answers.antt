@@ -1,9 +1,9 @@
-use Rattle.std.proofs.Common.{List, ap, arith, drop, length, refl, subst, sym, take, ℕ, ◌-◌, ◌∙◌, ◌≡◌, ◌≤◌}
+use Rattle.std.proofs.Common.{List, ap, arith, drop, length, subst, take, ℕ, ◌-◌, ◌≡◌}
 use Rattle.std.proofs.lemmas.List.{take_rest}
 use Rattle.std.proofs.lemmas.Result.{err_from_is_err_and}
 use Rattle.hprof_grammar.specs.Dump.{Places}
 use Rattle.hprof_grammar.specs.Fault.{FirstFault}
-use Rattle.hprof_grammar.specs.Joining.{AddsAll, HasRecordFault, nothing_of}
+use Rattle.hprof_grammar.specs.Joining.{AddsAll, HasRecordFault}
 use Rattle.hprof_grammar.proofs.Headers.{dump_read, record_fault_read}
 use Rattle.hprof_grammar.proofs.Refusals.{fault_passes}
 use Rattle.hprof_grammar.proofs.TableLaws.{id_size_high, id_size_low}
@@ -25,10 +25,10 @@ returns-in_err-note_records-clause-fault g c =
     let exit = err_from_is_err_and c.from_residual-in_err-note_records.result c.from_residual-in_err-note_records.ensures.1 in
     let size : c.new-dump.result.id_size ≡ c.in_ok-id_size.id_size = ap (λ (p : Places). p.id_size) c.new-dump.ensures in
     fault_passes (Unit {0}) c.from_residual-in_err-note_records.result c.in_err-note_records.field-0.0 (HasRecordFault c.new-dump.result.id_size (take (length text - 31) (drop 31 text)))
-      (λ fault. FirstFault c.args.bytes.now fault.code fault.offset) exit
-      (λ fault wrong. record_fault_read c.args.bytes.now c.in_ok-id_size.id_size fault c.in_ok-id_size.ensures.ok
-        (subst (λ (s : ℕ). HasRecordFault s (drop 31 c.args.bytes.now) fault) size (subst (λ (l : List ℕ). HasRecordFault c.new-dump.result.id_size l fault) (take_rest c.args.bytes.now 31) wrong)))
-      c.in_err-note_records.ensures.fault
+    (λ fault. FirstFault c.args.bytes.now fault.code fault.offset) exit
+    (λ fault wrong. record_fault_read c.args.bytes.now c.in_ok-id_size.id_size fault c.in_ok-id_size.ensures.ok
+    (subst (λ (s : ℕ). HasRecordFault s (drop 31 c.args.bytes.now) fault) size (subst (λ (l : List ℕ). HasRecordFault c.new-dump.result.id_size l fault) (take_rest c.args.bytes.now 31) wrong)))
+    c.in_err-note_records.ensures.fault
 
 pub returns-clause-dump : goal.returns-clause-dump
 returns-clause-dump g c =

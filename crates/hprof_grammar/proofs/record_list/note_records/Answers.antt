@@ -1,4 +1,4 @@
-use Rattle.std.proofs.Common.{List, [], arith, false, length, nat_eq, not, refl, subst, sym, true, ℕ, ◌+◌, ◌-◌, ◌<◌, ◌∙◌, ◌≡◌, ◌≤◌}
+use Rattle.std.proofs.Common.{arith, false, length, refl, sym, ◌+◌, ◌-◌, ◌<◌, ◌∙◌, ◌≡◌}
 use Rattle.std.proofs.lemmas.Bool.Decides.{nat_tests}
 use Rattle.std.proofs.lemmas.List.{nil_from_length}
 use Rattle.std.proofs.lemmas.Result.{err_from_is_err_and}
@@ -7,7 +7,7 @@ use Rattle.hprof_grammar.specs.Orders.{is_done}
 use Rattle.hprof_grammar.specs.declared.order.Order.{Order}
 use Rattle.hprof_grammar.proofs.Refusals.{fault_passes}
 use Rattle.hprof_grammar.proofs.Bytes.{IsBytes}
-use Rattle.hprof_grammar.proofs.Frames.{FrameTaken, cut_record, frame_takes}
+use Rattle.hprof_grammar.proofs.Frames.{cut_record, frame_takes}
 use Rattle.hprof_grammar.proofs.RecordSteps.{records_step}
 use Rattle.hprof_grammar.proofs.Wholes.{bytes_left, fault_at_end, fault_in_record, fault_where_cut, frame_room, left_within}
 use Rattle.hprof_grammar.proofs.record_list.note_records.Goals as goal
@@ -42,8 +42,8 @@ returns-in_err-order-clause-fault g c =
     let frame = frame_takes rest ((c.in-Ok.frame.tag, c.in-Ok.frame.time, c.in-Ok.frame.body.now), behind) left c.in-Ok.ensures in
     let exit = err_from_is_err_and c.from_residual.result c.from_residual.ensures.1 in
     fault_passes Order c.from_residual.result c.in_err-order.field-0.0 (FrameFault c.loop-reader.dump.id_size at c.in-Ok.frame.tag c.in-Ok.frame.body.now c.loop-reader.order) (HasRecordFault c.args.dump.now.id_size c.args.bytes.now) exit
-      (λ fault wrong. fault_in_record c.args.bytes.now rest c.loop-reader.order c.args.dump.now c.loop-reader.dump adds at c.in-Ok.frame.tag c.in-Ok.frame.time c.in-Ok.frame.body.now behind fault frame refl wrong)
-      c.in_err-order.ensures.fault
+    (λ fault wrong. fault_in_record c.args.bytes.now rest c.loop-reader.order c.args.dump.now c.loop-reader.dump adds at c.in-Ok.frame.tag c.in-Ok.frame.time c.in-Ok.frame.body.now behind fault frame refl wrong)
+    c.in_err-order.ensures.fault
 
 pub loop-reader-smaller : goal.loop-reader-smaller
 loop-reader-smaller g c =
