@@ -24,3 +24,6 @@ pub use view::ids::Ids;
 pub use view::members::{MemberField, Members};
 pub use view::values::{TypedValue, Values};
 pub use view::{ObjectKind, View};
+
+#[cfg(test)]
+mod tests;

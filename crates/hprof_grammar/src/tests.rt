@@ -1,0 +1,127 @@
+//! Rows of bytes with the places or the fault that they have to give.
+
+use crate::{FormatFault, ReadRefusal, read};
+use linked_list_allocator::LocalHeap;
+use std::test::Fail;
+
+/// A class `A` with one field, two instances that refer to each other, and a root: 174 bytes.
+#[rattlefmt::skip]
+const FILE: [u8; 174] = [
+    0x4a, 0x41, 0x56, 0x41, 0x20, 0x50, 0x52, 0x4f, 0x46, 0x49, 0x4c, 0x45, 0x20, 0x31, 0x2e, 0x30, 0x2e, 0x32, 0,
+    0, 0, 0, 0x04, 0, 0, 0, 0, 0, 0, 0, 0,
+    0x01, 0, 0, 0, 0, 0, 0, 0, 0x05,
+    0, 0, 0, 0x01, 0x41,
+    0x02, 0, 0, 0, 0, 0, 0, 0, 0x10,
+    0, 0, 0, 0x01, 0, 0, 0x01, 0, 0, 0, 0, 0, 0, 0, 0, 0x01,
+    0x0c, 0, 0, 0, 0, 0, 0, 0, 0x5f,
+    0x20, 0, 0, 0x01, 0, 0, 0, 0, 0,
+    0, 0, 0, 0, 0, 0, 0, 0, 0, 0, 0, 0, 0, 0, 0, 0, 0, 0, 0, 0, 0, 0, 0, 0,
+    0, 0, 0, 0, 0, 0, 0, 0, 0, 0x01,
+    0, 0, 0, 0x02, 0x02,
+    0x21, 0, 0, 0x02, 0x01, 0, 0, 0, 0, 0, 0, 0x01, 0, 0, 0, 0, 0x04, 0, 0, 0x02, 0x02,
+    0x21, 0, 0, 0x02, 0x02, 0, 0, 0, 0, 0, 0, 0x01, 0, 0, 0, 0, 0x04, 0, 0, 0x02, 0x01,
+    0xff, 0, 0, 0x02, 0x01,
+];
+
+/// The fault of the first bytes of the file, by how many they are: from, up to, code, place.
+const CUTS: [(usize, usize, u8, u64); 8] = [
+    (0, 18, 1, 0),
+    (19, 30, 3, 0),
+    (31, 31, 8, 31),
+    (32, 44, 3, 31),
+    (45, 45, 8, 45),
+    (46, 69, 3, 45),
+    (70, 70, 8, 70),
+    (71, 173, 3, 70),
+];
+
+/// The fault of the file with one byte changed: place, byte, code, place of the fault.
+const CHANGES: [(usize, u8, u8, u64); 8] = [
+    (0, 0, 1, 0),
+    (22, 2, 2, 19),
+    (39, 3, 4, 31),
+    (53, 15, 4, 45),
+    (77, 1, 3, 70),
+    (126, 3, 7, 79),
+    (127, 0x7e, 5, 127),
+    (140, 1, 6, 127),
+];
+
+fn fault<D>(outcome: Result<D, ReadRefusal>) -> Option<(u8, u64)>
+where
+    D: Drop,
+{
+    match outcome {
+        Err(ReadRefusal::Fault(FormatFault { code, offset })) => Some((code, offset)),
+        _ => None,
+    }
+}
+
+#[test]
+fn places_of_the_file(rt: HostRuntime) -> Result<(), Fail> {
+    let dump = read(rt.alloc(), &FILE)?;
+    assert_eq!(rt; dump.id_size(), 4);
+    assert_eq!(rt; dump.strings(), [31].as_slice());
+    assert_eq!(rt; dump.loaded(), [45].as_slice());
+    assert_eq!(rt; dump.objects(), [79, 127, 148].as_slice());
+    assert_eq!(rt; dump.roots(), [169].as_slice());
+    Ok(())
+}
+
+#[test]
+fn first_faults(rt: HostRuntime) -> Result<(), Fail> {
+    for (from, to, code, place) in CUTS {
+        for length in from..to + 1 {
+            assert!(rt; length <= FILE.len());
+            assert_eq!(rt;
+                fault(read(rt.alloc(), &FILE[..length])),
+                Some((code, place)),
+                "{length} bytes"
+            );
+        }
+    }
+    for (at, byte, code, place) in CHANGES {
+        let mut file = FILE;
+        assert!(rt; at < file.len());
+        file[at] = byte;
+        assert_eq!(rt;
+            fault(read(rt.alloc(), &file)),
+            Some((code, place)),
+            "{byte} at {at}"
+        );
+    }
+    Ok(())
+}
+
+/// A second snapshot breaks the order, however small.
+#[test]
+fn one_snapshot(rt: HostRuntime) -> Result<(), Fail> {
+    let mut file = FILE.to_vec(rt.alloc())?;
+    file.extend_from_slice(&[0x0c, 0, 0, 0, 0, 0, 0, 0, 0])?;
+    assert_eq!(rt; fault(read(rt.alloc(), &file)), Some((8, 174)));
+    Ok(())
+}
+
+/// Heaps of every size up to one that is large enough: each answer is want of memory, or the right one.
+#[test]
+fn memory_refused_in_turn(rt: HostRuntime) -> Result<(), Fail> {
+    let mut refused = 0u32;
+    let mut read_whole = 0u32;
+    for size in 1..40usize {
+        let heap = LocalHeap::new(rt.alloc(), size * 16)?;
+        match read(&heap, &FILE) {
+            Ok(dump) => {
+                assert_eq!(rt; dump.objects(), [79, 127, 148].as_slice());
+                assert_eq!(rt; dump.roots(), [169].as_slice());
+                read_whole = read_whole.saturating_add(1);
+            }
+            Err(refusal) => {
+                assert_eq!(rt; refusal, ReadRefusal::OutOfMemory);
+                refused = refused.saturating_add(1);
+            }
+        }
+    }
+    assert!(rt; refused > 0);
+    assert!(rt; read_whole > 0);
+    Ok(())
+}
