@@ -1,0 +1,130 @@
+-- A file of 174 bytes, by computation: a class with one field, two instances that refer to each other, and a root.
+use Rattle.std.proofs.Common.{List, [], lit<, lit≤, refl, ℕ, ◌++◌, ◌∷◌, ◌≡◌}
+use Rattle.hprof_grammar.specs.Dump.{IsDumpOf, Places, header, places_of, spellings}
+use Rattle.hprof_grammar.specs.Record.{IsRecord, Record}
+use Rattle.hprof_grammar.specs.Record.Record.{heap, load_class, string}
+use Rattle.hprof_grammar.specs.SubRecord.{Class, Instance, IsSubRecord, Root, SubRecord}
+use Rattle.hprof_grammar.specs.SubRecord.SubRecord.{class_dump, instance_dump, root}
+use Rattle.hprof_grammar.specs.Tables.{is_id_size, is_length_of, is_type_at, kind_of, root_rest}
+
+abbrev file : List ℕ
+file =
+    0x4A ∷ 0x41 ∷ 0x56 ∷ 0x41 ∷ 0x20 ∷ 0x50 ∷ 0x52 ∷ 0x4F ∷ 0x46 ∷ 0x49 ∷ 0x4C ∷ 0x45 ∷ 0x20 ∷ 0x31 ∷ 0x2E ∷ 0x30 ∷ 0x2E ∷ 0x32 ∷ 0 ∷
+    0 ∷ 0 ∷ 0 ∷ 4 ∷ 0 ∷ 0 ∷ 0 ∷ 0 ∷ 0 ∷ 0 ∷ 0 ∷ 0 ∷
+    1 ∷ 0 ∷ 0 ∷ 0 ∷ 0 ∷ 0 ∷ 0 ∷ 0 ∷ 5 ∷
+    0 ∷ 0 ∷ 0 ∷ 1 ∷ 0x41 ∷
+    2 ∷ 0 ∷ 0 ∷ 0 ∷ 0 ∷ 0 ∷ 0 ∷ 0 ∷ 0x10 ∷
+    0 ∷ 0 ∷ 0 ∷ 1 ∷ 0 ∷ 0 ∷ 1 ∷ 0 ∷ 0 ∷ 0 ∷ 0 ∷ 0 ∷ 0 ∷ 0 ∷ 0 ∷ 1 ∷
+    0x0C ∷ 0 ∷ 0 ∷ 0 ∷ 0 ∷ 0 ∷ 0 ∷ 0 ∷ 0x5F ∷
+    0x20 ∷ 0 ∷ 0 ∷ 1 ∷ 0 ∷ 0 ∷ 0 ∷ 0 ∷ 0 ∷
+    0 ∷ 0 ∷ 0 ∷ 0 ∷ 0 ∷ 0 ∷ 0 ∷ 0 ∷ 0 ∷ 0 ∷ 0 ∷ 0 ∷ 0 ∷ 0 ∷ 0 ∷ 0 ∷ 0 ∷ 0 ∷ 0 ∷ 0 ∷ 0 ∷ 0 ∷ 0 ∷ 0 ∷
+    0 ∷ 0 ∷ 0 ∷ 0 ∷ 0 ∷ 0 ∷ 0 ∷ 0 ∷ 0 ∷ 1 ∷
+    0 ∷ 0 ∷ 0 ∷ 2 ∷ 2 ∷
+    0x21 ∷ 0 ∷ 0 ∷ 2 ∷ 1 ∷ 0 ∷ 0 ∷ 0 ∷ 0 ∷ 0 ∷ 0 ∷ 1 ∷ 0 ∷ 0 ∷ 0 ∷ 0 ∷ 4 ∷ 0 ∷ 0 ∷ 2 ∷ 2 ∷
+    0x21 ∷ 0 ∷ 0 ∷ 2 ∷ 2 ∷ 0 ∷ 0 ∷ 0 ∷ 0 ∷ 0 ∷ 0 ∷ 1 ∷ 0 ∷ 0 ∷ 0 ∷ 0 ∷ 4 ∷ 0 ∷ 0 ∷ 2 ∷ 1 ∷
+    0xFF ∷ 0 ∷ 0 ∷ 2 ∷ 1 ∷ []
+
+abbrev the_class : Class
+the_class = record {
+  object = 0x100;
+  stack = 0;
+  super = 0;
+  loader = 0;
+  signers = 0;
+  domain = 0;
+  reserved = 0;
+  reserved_too = 0;
+  instance_size = 0;
+  constants = [];
+  statics = [];
+  members = record { name = 2; type = 2 } ∷ [];
+}
+
+abbrev first : Instance
+first = record { object = 0x201; stack = 0; class = 0x100; values = 0 ∷ 0 ∷ 2 ∷ 2 ∷ [] }
+
+abbrev second : Instance
+second = record { object = 0x202; stack = 0; class = 0x100; values = 0 ∷ 0 ∷ 2 ∷ 1 ∷ [] }
+
+abbrev the_root : Root
+the_root = record { tag = 0xFF; object = 0x201; rest = [] }
+
+abbrev subs : List SubRecord
+subs = class_dump the_class ∷ instance_dump first ∷ instance_dump second ∷ root the_root ∷ []
+
+abbrev records : List Record
+records = string 0 1 (0x41 ∷ []) ∷ load_class 0 1 0x100 0 1 ∷ heap 0x0C 0 subs ∷ []
+
+file_is : file ≡ header 4 0 ++ spellings 4 records
+file_is = refl
+
+abbrev places : Places
+places = record { id_size = 4; strings = 31 ∷ []; loaded = 45 ∷ []; roots = 169 ∷ []; objects = 79 ∷ 127 ∷ 148 ∷ [] }
+
+places_are : places ≡ places_of 4 records
+places_are = refl
+
+-- ---- each part is as the tables ask
+
+class_is : IsSubRecord 4 (class_dump the_class)
+unfolding is_type_at kind_of
+class_is = record {
+  formed = (refl, record {
+    object = lit< tt;
+    stack = lit< tt;
+    super = lit< tt;
+    loader = lit< tt;
+    signers = lit< tt;
+    domain = lit< tt;
+    reserved = lit< tt;
+    reserved_too = lit< tt;
+    instance_size = lit< tt;
+    constant_count = lit< tt;
+    constants = tt;
+    static_count = lit< tt;
+    statics = tt;
+    member_count = lit< tt;
+    members = (lit< tt, tt);
+  });
+  allowed = (tt, (tt, (tt, (tt, (tt, (tt, (tt, (tt, (tt, (tt, (tt, (tt, (tt, (refl, tt))))))))))))));
+}
+
+first_is : IsSubRecord 4 (instance_dump first)
+unfolding kind_of
+first_is = record {
+  formed = (refl, record { object = lit< tt; stack = lit< tt; class = lit< tt; values = lit< tt });
+  allowed = (tt, (tt, (tt, (tt, (tt, tt)))));
+}
+
+second_is : IsSubRecord 4 (instance_dump second)
+unfolding kind_of
+second_is = record {
+  formed = (refl, record { object = lit< tt; stack = lit< tt; class = lit< tt; values = lit< tt });
+  allowed = (tt, (tt, (tt, (tt, (tt, tt)))));
+}
+
+root_is : IsSubRecord 4 (root the_root)
+unfolding kind_of root_rest
+root_is = record { formed = record { kind = refl; object = lit< tt }; allowed = (tt, (tt, tt)) }
+
+string_is : IsRecord 4 (string 0 1 (0x41 ∷ []))
+unfolding is_length_of
+string_is = record { parts = lit< tt; time = lit< tt; length_fits = lit< tt; length_allowed = refl }
+
+load_is : IsRecord 4 (load_class 0 1 0x100 0 1)
+unfolding is_length_of
+load_is = record { parts = (lit< tt, lit< tt, lit< tt, lit< tt); time = lit< tt; length_fits = lit< tt; length_allowed = refl }
+
+heap_is : IsRecord 4 (heap 0x0C 0 subs)
+unfolding is_length_of
+heap_is = record { parts = (refl, (class_is, (first_is, (second_is, (root_is, tt))))); time = lit< tt; length_fits = lit< tt; length_allowed = refl }
+
+-- the file spells a dump, with these places
+file_is_dump : IsDumpOf file places
+unfolding is_id_size
+file_is_dump = record {
+  records = records;
+  spells = record { size = lit≤ tt; id_size = refl; time = 0; whole = file_is; each = (string_is, (load_is, (heap_is, tt))) };
+  orderly = refl;
+  places = places_are;
+}
