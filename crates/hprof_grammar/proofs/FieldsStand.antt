@@ -1,10 +1,11 @@
 -- The fields of sub-records, each at its place.
-use Rattle.std.proofs.Common.{List, ap, ◌∙◌, [], arith, drop, length, map, ℕ, ◌*◌, ◌+◌, ◌∷◌, ◌≡◌, ◌≤◌}
-use Rattle.hprof_grammar.specs.Spelling.{spelled}
+use Rattle.std.proofs.Common.{List, Option, Some, [], ap, arith, drop, length, map, refl, true, ℕ, ◌*◌, ◌+◌, ◌<◌, ◌^◌, ◌∙◌, ◌∷◌, ◌≡◌, ◌≤◌}
+use Rattle.hprof_grammar.specs.Spelling.{Field, spelled}
 use Rattle.hprof_grammar.specs.Spelling.Field.{number, raw}
 use Rattle.hprof_grammar.specs.SubRecord.{Class, Instance, ObjectArray, PrimitiveArray, SubRecord, class_fields, fields_of, instance_fields, object_array_fields, primitive_array_fields}
 use Rattle.hprof_grammar.specs.SubRecord.SubRecord.{class_dump, instance_dump, object_array_dump, primitive_array_dump, root}
-use Rattle.hprof_grammar.specs.Standing.{Sight, Stands, StandsAt, id_of}
+use Rattle.hprof_grammar.specs.Standing.{Sight, Stands, StandsAt, id_of, stack_of}
+use Rattle.hprof_grammar.specs.Dump.{is_object}
 use Rattle.hprof_grammar.specs.Series.{numbers_in}
 use Rattle.hprof_grammar.proofs.SeriesRead.{numbers_again, widths-numbers}
 use Rattle.hprof_grammar.proofs.Places.{ByteAt, NumberAt, Spell, byte_read, fields_stand, first_stands, in_sight, length-spelled, number_stands, sub_stands}
@@ -21,6 +22,26 @@ object_id_stands s bytes at (primitive_array_dump a) h = number_stands bytes at 
 -- in these lemmas w is what the fields of a view show, and v is the view
 pub object_id : {v w : Sight} → w ≡ v → (at : ℕ) (sub : SubRecord) → Stands v at sub → NumberAt w.bytes (at + 1) w.id_size (id_of sub)
 object_id {v} {w} e at sub h = object_id_stands w.id_size w.bytes at sub (in_sight v w at sub e h)
+
+stack_at : (s : ℕ) (bytes : List ℕ) (at tag object stack : ℕ) (more : List Field) → Spell bytes at (tag ∷ spelled (number s object ∷ number 4 stack ∷ more)) → stack < 256 ^ 4 → NumberAt bytes (at + 1 + s) 4 stack
+stack_at s bytes at tag object stack more h fits = number_stands bytes at tag (at + 1 + s) (number s object ∷ []) 4 stack more h fits (omega arith)
+
+-- the stack trace of an object's dump
+pub record StackAt (bytes : List ℕ) (at : ℕ) (sub : SubRecord) : Type 0 where
+  pub stack : ℕ
+  pub is : stack_of sub ≡ Some stack
+  pub fits : stack < 256 ^ 4
+  pub there : NumberAt bytes at 4 stack
+
+stack_stands : (s : ℕ) (bytes : List ℕ) (at : ℕ) (sub : SubRecord) → is_object sub ≡ true → StandsAt s bytes at sub → StackAt bytes (at + 1 + s) sub
+stack_stands s bytes at (root r) is h = cc
+stack_stands s bytes at (class_dump c) is h = record { stack = c.stack; is = refl; fits = h.is.formed.1.stack; there = stack_at s bytes at 0x20 c.object c.stack (drop 2 (class_fields s c)) (sub_stands s bytes at (class_dump c) h) h.is.formed.1.stack }
+stack_stands s bytes at (instance_dump i) is h = record { stack = i.stack; is = refl; fits = h.is.formed.1.stack; there = stack_at s bytes at 0x21 i.object i.stack (drop 2 (instance_fields s i)) (sub_stands s bytes at (instance_dump i) h) h.is.formed.1.stack }
+stack_stands s bytes at (object_array_dump a) is h = record { stack = a.stack; is = refl; fits = h.is.formed.1.stack; there = stack_at s bytes at 0x22 a.object a.stack (drop 2 (object_array_fields s a)) (sub_stands s bytes at (object_array_dump a) h) h.is.formed.1.stack }
+stack_stands s bytes at (primitive_array_dump a) is h = record { stack = a.stack; is = refl; fits = h.is.formed.1.stack; there = stack_at s bytes at 0x23 a.object a.stack (drop 2 (primitive_array_fields s a)) (sub_stands s bytes at (primitive_array_dump a) h) h.is.formed.1.stack }
+
+pub stack_trace : {v w : Sight} → w ≡ v → (at : ℕ) (sub : SubRecord) → is_object sub ≡ true → Stands v at sub → StackAt w.bytes (at + 1 + w.id_size) sub
+stack_trace {v} {w} e at sub is h = stack_stands w.id_size w.bytes at sub is (in_sight v w at sub e h)
 
 -- ---- instances
 
@@ -109,3 +130,8 @@ pub domain : {v w : Sight} → w ≡ v → (at : ℕ) (c : Class) → Stands v a
 domain {v} {w} e at c h =
     let s = w.id_size in
     number_stands w.bytes at 0x20 (at + 5 + 4 * s) (number s c.object ∷ number 4 c.stack ∷ number s c.super ∷ number s c.loader ∷ number s c.signers ∷ []) s c.domain (drop 6 (class_fields s c)) (class_stands e at c h) (in_sight v w at (class_dump c) e h).is.formed.1.domain (omega arith)
+
+pub instance_size : {v w : Sight} → w ≡ v → (at : ℕ) (c : Class) → Stands v at (class_dump c) → NumberAt w.bytes (at + 5 + 7 * w.id_size) 4 c.instance_size
+instance_size {v} {w} e at c h =
+    let s = w.id_size in
+    number_stands w.bytes at 0x20 (at + 5 + 7 * s) (number s c.object ∷ number 4 c.stack ∷ number s c.super ∷ number s c.loader ∷ number s c.signers ∷ number s c.domain ∷ number s c.reserved ∷ number s c.reserved_too ∷ []) 4 c.instance_size (drop 9 (class_fields s c)) (class_stands e at c h) (in_sight v w at (class_dump c) e h).is.formed.1.instance_size (omega arith)

@@ -68,3 +68,16 @@ loaded_class_name {v} {w} e at time serial class stack name h =
     let name_there = moved w.bytes (at + 13 + s) 4 (big_bytes 4 stack) (big_bytes s name) (length-bytes_high_first 4 stack) stack_there in
     let there : at + 13 + s + 4 ≡ at + 17 + s = omega arith in
     number_read w.bytes (at + 17 + s) s name fits (subst (λ (n : ℕ). Spell w.bytes n (big_bytes s name)) there name_there)
+
+pub loaded_class_serial : {v w : Sight} → w ≡ v → (at time serial class stack name : ℕ) → RecordStands v at (load_class time serial class stack name) → NumberAt w.bytes (at + 9) 4 serial
+loaded_class_serial {v} {w} e at time serial class stack name h =
+    let s = w.id_size in
+    let fits = (record_seen e at (load_class time serial class stack name) h).is.parts.0 in
+    number_read w.bytes (at + 9) 4 serial fits (first_stands w.bytes (at + 9) (big_bytes 4 serial) (big_bytes s class ++ (big_bytes 4 stack ++ big_bytes s name)) (body_seen e at (load_class time serial class stack name) h))
+
+pub loaded_class_stack : {v w : Sight} → w ≡ v → (at time serial class stack name : ℕ) → RecordStands v at (load_class time serial class stack name) → NumberAt w.bytes (at + 13 + w.id_size) 4 stack
+loaded_class_stack {v} {w} e at time serial class stack name h =
+    let s = w.id_size in
+    let fits = (record_seen e at (load_class time serial class stack name) h).is.parts.2 in
+    let there = moved w.bytes (at + 13) s (big_bytes s class) (big_bytes 4 stack ++ big_bytes s name) (length-bytes_high_first s class) (behind_serial e at time serial class stack name h) in
+    number_read w.bytes (at + 13 + s) 4 stack fits (first_stands w.bytes (at + 13 + s) (big_bytes 4 stack) (big_bytes s name) there)

@@ -1,5 +1,5 @@
 -- What stands at a place of the bytes, and that the places of a dump hold what they should.
-use Rattle.std.specs.Prelude.{List, Some, drop, filter, flat_map, length, slice_get, ℕ, ◌++◌, ◌≡◌}
+use Rattle.std.specs.Prelude.{List, None, Option, Some, drop, filter, flat_map, length, slice_get, ℕ, ◌++◌, ◌≡◌}
 use Rattle.hprof_grammar.specs.Record.{IsRecord, Record, record_spelling, subs_of}
 use Rattle.hprof_grammar.specs.SubRecord.{IsSubRecord, SubRecord, spelling_of}
 use Rattle.hprof_grammar.specs.SubRecord.SubRecord.{class_dump, instance_dump, object_array_dump, primitive_array_dump, root}
@@ -35,6 +35,14 @@ id_of (class_dump c) = c.object
 id_of (instance_dump i) = i.object
 id_of (object_array_dump a) = a.object
 id_of (primitive_array_dump a) = a.object
+
+-- the serial number of the stack trace of an object's dump, none for a root
+abbrev pub stack_of : SubRecord → Option ℕ
+stack_of (root r) = None
+stack_of (class_dump c) = Some c.stack
+stack_of (instance_dump i) = Some i.stack
+stack_of (object_array_dump a) = Some a.stack
+stack_of (primitive_array_dump a) = Some a.stack
 
 -- the heap list: all sub-records of the heap records, in order
 abbrev pub heap_of : List Record → List SubRecord

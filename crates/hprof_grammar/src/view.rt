@@ -16,7 +16,7 @@ ghost use Rattle.byteorder.specs.Endian.{big_number};
 ghost use Rattle.hprof_grammar.specs.Dump.{is_object};
 ghost use Rattle.hprof_grammar.specs.SubRecord.{SubRecord};
 ghost use Rattle.hprof_grammar.specs.Tables as tables;
-ghost use Rattle.hprof_grammar.specs.Standing.{Stands, id_of};
+ghost use Rattle.hprof_grammar.specs.Standing.{Stands, id_of, stack_of};
 
 use crate::tables;
 use byteorder::{BigEndian, ByteOrder};
@@ -97,6 +97,14 @@ impl<'a> View<'a> {
         ensures { (sub : SubRecord) → Stands self.now at sub → result ≡ id_of sub }
     {
         number_at(self.bytes, at as usize + 1, self.id_size as usize)
+    }
+
+    /// The serial number of the stack trace in the dump of an object.
+    pub fn stack_trace(&self, at: u32) -> u32
+        requires { (sub : SubRecord) × Stands self.now at sub × (is_object sub ≡ true) }
+        ensures { (sub : SubRecord) → Stands self.now at sub → is_object sub ≡ true → stack_of sub ≡ Some result }
+    {
+        number_at(self.bytes, at as usize + 1 + self.id_size as usize, 4) as u32
     }
 }
 

@@ -50,6 +50,14 @@ impl<'a> View<'a> {
         number_at(self.bytes, at as usize + 5 + 4 * size, size)
     }
 
+    /// The bytes of an instance of a class, as the dump says. Nothing rests on it.
+    pub fn instance_size(&self, at: u32) -> u32
+        requires { (c : Class) × Stands self.now at (class_dump c) }
+        ensures { (c : Class) → Stands self.now at (class_dump c) → result ≡ c.instance_size }
+    {
+        number_at(self.bytes, at as usize + 5 + 7 * self.id_size as usize, 4) as u32
+    }
+
     /// The values of a class's constants.
     pub fn constants(&self, at: u32) -> Values<'a>
         requires { (c : Class) × Stands self.now at (class_dump c) }

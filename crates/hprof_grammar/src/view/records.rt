@@ -41,4 +41,20 @@ impl<'a> View<'a> {
         let size = self.id_size as usize;
         number_at(self.bytes, at as usize + 17 + size, size)
     }
+
+    /// The serial number of a loaded class.
+    pub fn loaded_class_serial(&self, at: u32) -> u32
+        requires { (time serial class stack name : ℕ) × RecordStands self.now at (load_class time serial class stack name) }
+        ensures { (time serial class stack name : ℕ) → RecordStands self.now at (load_class time serial class stack name) → result ≡ serial }
+    {
+        number_at(self.bytes, at as usize + 9, 4) as u32
+    }
+
+    /// The serial number of the stack trace of a loaded class.
+    pub fn loaded_class_stack_trace(&self, at: u32) -> u32
+        requires { (time serial class stack name : ℕ) × RecordStands self.now at (load_class time serial class stack name) }
+        ensures { (time serial class stack name : ℕ) → RecordStands self.now at (load_class time serial class stack name) → result ≡ stack }
+    {
+        number_at(self.bytes, at as usize + 13 + self.id_size as usize, 4) as u32
+    }
 }
