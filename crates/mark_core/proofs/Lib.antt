@@ -10,3 +10,8 @@ pub mod Openings
 pub mod Runs
 pub mod Changes
 pub mod Closing
+pub mod Taking
+pub mod Tables
+pub mod Within
+pub mod Steps
+pub mod Begins

@@ -63,7 +63,7 @@ popped_nothing : (q : Which) (i : ℕ) (rest : List ℕ) (stack : Which → List
 popped_nothing Full i rest stack e n = let f : ⊥ = cc in absurd f
 popped_nothing Empty i rest stack e n = n
 
-chain_top : (link : ℕ → Option ℕ) (n : Option ℕ) (xs : List ℕ) (i : ℕ) → Chain link n xs → n ≡ Some i → 0 < times i xs
+pub chain_top : (link : ℕ → Option ℕ) (n : Option ℕ) (xs : List ℕ) (i : ℕ) → Chain link n xs → n ≡ Some i → 0 < times i xs
 chain_top link n xs i c e = let r = chain_rest link n xs i c e in omega (arith, ap (times i) r.1, only-same i i refl)
 
 module _ (buffers : ℕ) (head : Which → Head) (link : ℕ → Option ℕ) (accounts : List Account) (stack : Which → List ℕ) (o : IsOwned buffers head link accounts stack) where

@@ -1,13 +1,14 @@
 -- What `step` is given and what it answers.
-use Rattle.std.specs.Prelude.{◌≡◌, ℕ, List, Option, Some, None, slice_index, slice_index_or, vec_items}
+use Rattle.std.specs.Prelude.{◌≡◌, ℕ, ◌<◌, ◌≤◌, Bool, MatchBool, List, [], length, All, Contains, Option, Some, None, slice_index, slice_index_or, vec_items}
 use Rattle.tagged_index.specs.Head.{Head}
 use Rattle.mark_core.specs.declared.which.Which.{Which}
 use Rattle.mark_core.specs.declared.which.Which.TheVariants.{Full, Empty}
 use Rattle.mark_core.specs.declared.event.Kind as given
 use Rattle.mark_core.specs.declared.event.Event as given_event
-use Rattle.mark_core.specs.Account.{Account}
-use Rattle.mark_core.specs.World.{Setup, Marking}
-use Rattle.mark_core.specs.Event.{Kind, Claim, Finish, Split, Join, Load, LoadLink, StoreLink, Pop, Push, Fail, Event, IsPossible, happens}
+use Rattle.mark_core.specs.Account.{Account, look_of}
+use Rattle.mark_core.specs.World.{Setup, Marking, account_at}
+use Rattle.mark_core.specs.Event.{Kind, Claim, Finish, Split, Join, Load, LoadLink, StoreLink, Pop, Push, Fail, Event, Allows, effect, IsPossible, happens}
+use Rattle.mark_core.specs.Law.{Law}
 
 -- a marking as lists, with its setup: what callers see of a `World`
 pub record Listing : Type 0 where
@@ -43,7 +44,71 @@ kind_of (given.TheVariants.Fail q) = Fail q
 abbrev pub event_of : {A : Type 0} → given_event.Event A → Event
 event_of event = record { worker = event.worker; kind = kind_of event.kind }
 
--- the marking after the event, of the same setup; or none, exactly where the event is not possible
+-- the lists with this head for one of the stacks
+abbrev pub with_head : Listing → Which → Head → Listing
+with_head l Full h = record l { full = h }
+with_head l Empty h = record l { empty = h }
+
+-- what holds between two events: the law, and a place for each buffer and each object
+pub record IsLawful (l : Listing) : Type 0 where
+  pub law : Law l.setup (marking_of l)
+  pub links : length l.links ≡ l.setup.buffers
+  pub slots : length l.slots ≡ l.setup.buffers
+  pub marks : length l.marks ≡ l.setup.objects
+  -- each buffer is an index that a head can hold
+  pub few : l.setup.buffers ≤ 65534
+  -- roots and pairs are of objects
+  pub rooted : All (λ o. o < l.setup.objects) l.setup.roots
+  pub paired : All (λ p. (p.0 < l.setup.objects) × (p.1 < l.setup.objects)) l.setup.pairs
+
+-- the account of this number is there: it has a share
+abbrev pub HasAccount : Listing → ℕ → Type 0
+HasAccount l w = (w < length l.accounts) × (0 < (account_at l.accounts w).share)
+
+-- the account w may do this, and these are the lists after it
+pub record Does (old : Listing) (w : ℕ) (kind : Kind) (new : Listing) : Type 0 where
+  pub allowed : Allows old.setup (marking_of old) w (account_at old.accounts w) kind
+  pub marking : marking_of new ≡ effect (marking_of old) w (account_at old.accounts w) kind
+  pub setup : new.setup ≡ old.setup
+  pub links : length new.links ≡ length old.links
+  pub slots : length new.slots ≡ length old.slots
+  pub marks : length new.marks ≡ length old.marks
+
+-- the account w does this, or it may not
+abbrev pub Tries : Listing → ℕ → Kind → Bool → Listing → Type 0
+Tries old w kind done new = MatchBool done (Does old w kind new) (¬ Allows old.setup (marking_of old) w (account_at old.accounts w) kind)
+
+-- what a push asks, but that the items are part of the charge and that the tag is not the last
+pub record MayPush (l : Listing) (w : ℕ) (q : Which) (i : ℕ) (items : List ℕ) : Type 0 where
+  pub head : (look_of (account_at l.accounts w) q).head ≡ Some (heads_of l q)
+  pub held : Contains (account_at l.accounts w).held i
+  pub fits : length items ≤ l.setup.size
+  pub bare : q ≡ Empty → items ≡ []
+  pub link : slice_index_or l.links i None ≡ (heads_of l q).index
+
+-- a split needs a number for the new account, and 4,294,967,295 accounts have one
+abbrev pub HasNumber : Kind → List Account → Type 0
+HasNumber (Split units) accounts = length accounts < 4294967295
+HasNumber kind accounts = Unit {0}
+
+-- the event is possible, and there is a number for the account that it makes
+abbrev pub CanStep : Listing → Event → Type 0
+CanStep l event = IsPossible l.setup (marking_of l) event × HasNumber event.kind l.accounts
+
+-- there was a step, and these are the lists after it
+pub record Follows (old : Listing) (event : Event) (new : Listing) : Type 0 where
+  pub possible : CanStep old event
+  pub marking : marking_of new ≡ happens (marking_of old) event
+  pub setup : new.setup ≡ old.setup
+  pub links : length new.links ≡ length old.links
+  pub slots : length new.slots ≡ length old.slots
+  pub marks : length new.marks ≡ length old.marks
+
+-- the step is done, or there is none
+abbrev pub Steps : Listing → Event → Bool → Listing → Type 0
+Steps old event done new = MatchBool done (Follows old event new) (¬ CanStep old event)
+
+-- the lists after the event, of the same setup; or none, exactly where there is no step
 abbrev pub Answers : Option Listing → Listing → Event → Type 0
-Answers None old event = ¬ IsPossible old.setup (marking_of old) event
-Answers (Some new) old event = IsPossible old.setup (marking_of old) event × (new.setup ≡ old.setup) × (marking_of new ≡ happens (marking_of old) event)
+Answers None old event = ¬ CanStep old event
+Answers (Some new) old event = CanStep old event × (new.setup ≡ old.setup) × (marking_of new ≡ happens (marking_of old) event)

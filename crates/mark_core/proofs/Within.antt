@@ -1,0 +1,79 @@
+-- What the law says of the numbers that an event names: they are places of the tables.
+use Rattle.std.proofs.Common.{◌≡◌, ◌≢◌, ℕ, zero, suc, ◌+◌, ◌<◌, ◌≤◌, ◌^◌, List, [], ◌∷◌, length, get_or, set, get_or-set_other, Option, Some, Contains, ap, sym, subst, refl, ◌∙◌, inl, inr, arith}
+use Rattle.std.proofs.Math.ListN.{get_or-eq_default}
+use Rattle.std.proofs.lemmas.List.Elements.{All-contains}
+use Rattle.std.specs.Option.{ForSome}
+use native.Mathlib.Decide.{dec_le}
+use mathlib.Core.Option.{some}
+use Rattle.mark_core.specs.declared.which.Which.{Which}
+use Rattle.mark_core.specs.Lists.{StandsAt, times}
+use Rattle.mark_core.specs.Account.{Account, look_of, spent}
+use Rattle.mark_core.specs.World.{account_at, IsThere}
+use Rattle.mark_core.specs.Event.{CanClaim}
+use Rattle.mark_core.specs.Step.{Listing, IsLawful, heads_of, marking_of}
+use Rattle.mark_core.proofs.Places.{at_below, at_get_or}
+use Rattle.mark_core.proofs.Sums.{stands_times, terms_le}
+use Rattle.mark_core.proofs.Chains.{chain_rest, recent_link}
+use Rattle.mark_core.proofs.Ownership.{held_apart, top_stands, stacked_below, chain_top}
+use Rattle.mark_core.proofs.Colours.{charged}
+
+pub stands_at : {X : Type 0} (xs : List X) (i : ℕ) (d : X) → i < length xs → StandsAt xs i (get_or xs i d)
+stands_at [] i d h = absurd (omega arith)
+stands_at (x ∷ xs) zero d h = refl
+stands_at (x ∷ xs) (suc i) d h = stands_at xs i d (omega arith)
+
+pub stands_here : {X : Type 0} (xs : List X) (i : ℕ) (a : X) → i < length xs → a ≡ get_or xs i a → StandsAt xs i a
+stands_here xs i a h e = stands_at xs i a h ∙ ap some (sym e)
+
+-- an account that stands at v with a share is there
+pub is_there : (accounts : List Account) (v : ℕ) (a : Account) → IsThere accounts v a → (v < length accounts) × (0 < (account_at accounts v).share)
+is_there accounts v a t = (at_below accounts v a t.0, subst (λ (x : Account). 0 < x.share) (sym (at_get_or accounts v a spent t.0)) t.1)
+
+-- what is read at w after a write at another place stood there before
+pub read_past : (accounts : List Account) (v w : ℕ) (x a : Account) → w ≢ v → a ≡ get_or (set accounts v x) w a → a ≡ get_or accounts w a
+read_past accounts v w x a other is = is ∙ get_or-set_other accounts v w x a other
+
+module _ (s : Listing) (lawful : IsLawful s) where
+  pub buffer_within : (q : Which) (i : ℕ) → (heads_of s q).index ≡ Some i → i < length s.slots
+  buffer_within q i e =
+      let m = marking_of s in
+      let o = lawful.law.owned in
+      let below = stacked_below s.setup.buffers m.head m.link m.accounts lawful.law.stack o q i (top_stands s.setup.buffers m.head m.link m.accounts lawful.law.stack o q i e) in
+      omega (arith, lawful.slots)
+
+  module _ (w : ℕ) (a : Account) (there : w < length s.accounts) (is : a ≡ get_or s.accounts w a) where
+    here : StandsAt s.accounts w a
+    here = stands_here s.accounts w a there is
+
+    pub claim_within : (o : ℕ) → CanClaim s.setup o a → o < length s.marks
+    claim_within o (inl root) = omega (arith, lawful.marks, All-contains (λ x. x < s.setup.objects) s.setup.roots o lawful.rooted root)
+    claim_within o (inr p) = omega (arith, lawful.marks, (All-contains (λ x. (x.0 < s.setup.objects) × (x.1 < s.setup.objects)) s.setup.pairs (p.0, o) lawful.paired p.2).1)
+
+    pub charge_within : (o : ℕ) → Contains a.charge o → o < length s.marks
+    charge_within o k = go (dec_le (suc o) (length s.marks))
+      where
+        marked : get_or s.marks o 0 ≡ 1
+        marked = let m = marking_of s in (charged s.setup m.mark m.slots m.accounts lawful.law.coloured w a here o (stands_times a.charge o k)).0
+
+        go : Dec (suc o ≤ length s.marks) → o < length s.marks
+        go (yes p) = omega arith
+        go (no n) = absurd (omega (arith, marked, get_or-eq_default s.marks 0 {n = o} (omega arith)))
+
+    pub held_within : (i : ℕ) → Contains a.held i → i < s.setup.buffers
+    held_within i k = let m = marking_of s in (held_apart s.setup.buffers m.head m.link m.accounts lawful.law.stack lawful.law.owned w a here i (stands_times a.held i k)).0
+
+    -- the link that a pop puts in the head is a buffer
+    pub link_within : (q : Which) (i : ℕ) (l : Option ℕ) → (look_of a q).head ≡ Some (heads_of s q) → (heads_of s q).index ≡ Some i → (look_of a q).link ≡ Some l → ForSome l (λ j. j ≤ 65534)
+    link_within q i l shows top linked =
+        let m = marking_of s in
+        let o = lawful.law.owned in
+        let same = recent_link m.link (m.head q) (look_of a q) i l (o.recent q w a here) shows top linked in
+        let rest = chain_rest m.link (m.head q).index (lawful.law.stack q) i (o.chain q) top in
+        λ j e.
+        let in_rest = chain_top m.link (m.link i) rest.0 j rest.2 (same ∙ e) in
+        let in_stack : 0 < times j (lawful.law.stack q) = omega (arith, ap (times j) rest.1) in
+        omega (arith, lawful.few, stacked_below s.setup.buffers m.head m.link m.accounts lawful.law.stack o q j in_stack)
+
+    pub shares_within : (v : ℕ) (b : Account) → v ≢ w → v < length s.accounts → b ≡ get_or s.accounts v b → a.share + b.share < 2 ^ 32
+    shares_within v b other inside at =
+        omega (arith, lawful.law.shared.sum, terms_le (λ (x : Account). x.share) s.accounts w v a b other here (stands_here s.accounts v b inside at))

@@ -1,0 +1,16 @@
+use Rattle.std.proofs.Common.{sym, subst, refl}
+use Rattle.mark_core.specs.Step.{IsLawful}
+use Rattle.mark_core.proofs.Tables.{does_claim}
+use Rattle.mark_core.proofs.Within.{claim_within}
+use Rattle.mark_core.proofs.state.State.claim.Goals as goal
+
+pub returns : goal.returns
+returns g c =
+    let lawful = subst IsLawful (sym c.self.view_is) c.requires.lawful in
+    let there = rw (← c.self.view_is) at c.requires.there in
+    let asked = c.index.result.now in
+    let changed = c.index_mut.result.now in
+    let can = c.if-not-may_claim.ensures.0 refl in
+    let inside = claim_within _ lawful c.args.w asked there c.index.ensures c.args.object can in
+    rw (← c.self.view_is)
+    (does_claim _ c.args.w asked changed _ there c.index.ensures c.index_mut.ensures.value c.args.object _ _ inside can c.index-found.ensures c.max.ensures c.in_ok-claim.ensures)

@@ -1,0 +1,21 @@
+use Rattle.std.proofs.Common.{List, [], ◌∷◌, ◌++◌, ap, ◌∙◌}
+use Rattle.mark_core.specs.Account.{Account}
+use Rattle.mark_core.specs.Step.{Listing}
+use Rattle.mark_core.proofs.Begins.{opens}
+use Rattle.mark_core.proofs.state.State.opening.Goals as goal
+
+pub returns-clause-marking : goal.returns-clause-marking
+returns-clause-marking g c =
+    let accounts = c.in_ok-push.ensures.items ∙ ap (λ (xs : List Account). xs ++ c.new.result ∷ []) c.new-accounts.ensures.items ∙ ap (λ (a : Account). a ∷ []) c.new.ensures in
+    let tables : Listing =
+    record {
+      setup = c.args.setup;
+      full = c.none.result;
+      empty = c.of.result;
+      links = c.in_ok-links.links.items;
+      marks = c.in_ok-marks.marks.items;
+      slots = c.in_ok-slots.slots.items;
+      accounts = c.push.new.self.items;
+    }
+    in
+    opens tables _ c.args.setup c.args.first_tag c.setup.view_is c.none.ensures c.of.ensures c.in_ok-links.ensures.links (c.in_ok-marks.ensures.items_if_clones_equal (λ y e. e)) c.in_ok-slots.ensures accounts

@@ -1,0 +1,216 @@
+//! What one worker has, and what it knows.
+ghost use Rattle.std.specs.Prelude.{◌≡◌, ◌↔◌, ◌<◌, ◌≤◌, ◌+◌, ◌^◌, ℕ, IsTrue, OnOk, Contains};
+ghost use Rattle.std.specs.Bool.{OnTrue};
+ghost use Rattle.mark_core.specs.Account.{part, look_of, after_claim, after_finish};
+ghost use Rattle.mark_core.specs.Account.{after_split, after_join, after_load, after_load_link};
+ghost use Rattle.mark_core.specs.Account.{after_pop, after_push};
+ghost use Rattle.mark_core.specs.Event.{CanClaim, CanFinish, CanSplit};
+ghost use Rattle.mark_core.specs.Lists.{IsPart};
+ghost use Rattle.mark_core.specs.World.{items_of};
+
+use crate::look::Look;
+use crate::numbers::Numbers;
+use crate::out_of_memory::OutOfMemory;
+use crate::setup::Setup;
+use crate::which::Which;
+use std::alloc::Allocator;
+use std::marker::Model;
+use tagged_index::HeadWord;
+
+/// The account of a worker: its units, its buffers, the objects that it answers for, saw marked and
+/// finished, and what it last loaded of each stack.
+#[derive(Drop)]
+pub struct Account<A: Allocator> {
+    share: u32,
+    held: Numbers<A>,
+    charge: Numbers<A>,
+    seen: Numbers<A>,
+    finished: Numbers<A>,
+    full: Look,
+    empty: Look,
+    open_push: bool,
+}
+
+impl<A: Allocator> Model for Account<A> {
+    ghost use Rattle.mark_core.specs.Account.{Account};
+
+    ghost Value = { Account };
+
+    ghost view = { λ a. record {
+      share = a.share;
+      held = a.held;
+      charge = a.charge;
+      seen = a.seen;
+      finished = a.finished;
+      full = a.full;
+      empty = a.empty;
+      open_push = a.open_push;
+    } };
+}
+
+impl<A: Allocator + Copy> Account<A> {
+    /// An account with these units and nothing else.
+    pub fn new(alloc: A, share: u32) -> Self
+        ensures { result ≡ part share }
+    {
+        Account {
+            share,
+            held: Numbers::new(alloc),
+            charge: Numbers::new(alloc),
+            seen: Numbers::new(alloc),
+            finished: Numbers::new(alloc),
+            full: Look::blank(),
+            empty: Look::blank(),
+            open_push: false,
+        }
+    }
+}
+
+impl<A: Allocator> Account<A> {
+    /// Whether the account is there: one that was put into another has no unit left.
+    pub fn is_there(&self) -> bool
+        ensures { IsTrue result ↔ (0 < self.now.share) }
+    {
+        self.share > 0
+    }
+
+    /// The buffers that it holds.
+    pub fn held(&self) -> &[u32]
+        ensures { result.now ≡ self.now.held }
+    {
+        self.held.as_slice()
+    }
+
+    /// The objects that it answers for.
+    pub fn charge(&self) -> &[u32]
+        ensures { result.now ≡ self.now.charge }
+    {
+        self.charge.as_slice()
+    }
+
+    /// What it last loaded of this stack.
+    pub fn look(&self, which: Which) -> Look
+        ensures { result ≡ look_of self.now which }
+    {
+        match which {
+            Which::Full => self.full,
+            Which::Empty => self.empty,
+        }
+    }
+
+    pub fn holds(&self, buffer: u32) -> bool
+        ensures { IsTrue result ↔ Contains self.now.held buffer }
+    {
+        self.held.contains(buffer)
+    }
+
+    pub fn may_claim(&self, setup: &Setup<A>, object: u32) -> bool
+        ensures { IsTrue result ↔ CanClaim setup.now object self.now }
+    {
+        setup.is_root(object) || setup.has_pair_from(self.charge.as_slice(), object)
+    }
+
+    pub fn may_finish(&self, setup: &Setup<A>, object: u32) -> bool
+        ensures { IsTrue result ↔ CanFinish setup.now object self.now }
+    {
+        self.charge.contains(object) && setup.has_successors_in(object, &self.seen)
+    }
+
+    pub fn may_split(&self, units: u32) -> bool
+        ensures { IsTrue result ↔ CanSplit units self.now }
+    {
+        0 < units && units < self.share
+    }
+
+    /// Sees an object marked whose mark was found so, and answers for it where it was white.
+    pub fn claim(&mut self, object: u32, found: u8) -> Result<(), OutOfMemory>
+        ensures { OnOk result (self.new ≡ after_claim object found self.old) }
+    {
+        self.seen.add(object)?;
+        if found == 0 {
+            self.charge.add(object)?;
+        }
+        Ok(())
+    }
+
+    /// Finishes an object.
+    pub fn finish(&mut self, object: u32) -> Result<(), OutOfMemory>
+        ensures { OnOk result (self.new ≡ after_finish object self.old) }
+    {
+        self.finished.add(object)?;
+        let _ = self.charge.take_one(object);
+        Ok(())
+    }
+
+    /// Gives units away.
+    pub fn give(&mut self, units: u32)
+        requires { units ≤ self.old.share }
+        ensures { self.new ≡ after_split units self.old }
+    {
+        self.share -= units;
+    }
+
+    /// Takes another account in.
+    pub fn join(&mut self, other: &Account<A>) -> Result<(), OutOfMemory>
+        requires { self.old.share + other.now.share < 2 ^ 32 }
+        ensures { OnOk result (self.new ≡ after_join self.old other.now) }
+    {
+        self.held.append(other.held.as_slice())?;
+        self.charge.append(other.charge.as_slice())?;
+        self.seen.append(other.seen.as_slice())?;
+        self.finished.append(other.finished.as_slice())?;
+        self.share += other.share;
+        self.open_push = self.open_push || other.open_push;
+        Ok(())
+    }
+
+    /// Notes that this head of a stack was loaded.
+    pub fn load(&mut self, which: Which, head: HeadWord)
+        ensures { self.new ≡ after_load which head self.old }
+    {
+        match which {
+            Which::Full => {
+                self.full = Look::of(head);
+                self.open_push = self.open_push && head.index().is_some();
+            }
+            Which::Empty => self.empty = Look::of(head),
+        }
+    }
+
+    /// Notes that this link was loaded, of the buffer that the last head names.
+    pub fn load_link(&mut self, which: Which, link: Option<u32>)
+        ensures { self.new ≡ after_load_link which link self.old }
+    {
+        match which {
+            Which::Full => self.full = self.full.with_link(link),
+            Which::Empty => self.empty = self.empty.with_link(link),
+        }
+    }
+
+    /// Gets a buffer with what lay in its slot.
+    pub fn pop(&mut self, buffer: u32, slot: Option<Numbers<A>>) -> Result<(), OutOfMemory>
+        ensures { OnOk result (self.new ≡ after_pop buffer (items_of slot) self.old) }
+    {
+        self.held.add(buffer)?;
+        if let Some(items) = slot {
+            self.charge.append(items.as_slice())?;
+        }
+        Ok(())
+    }
+
+    /// Lets a buffer go with these items, and answers whether they are part of the charge. Else what
+    /// is left is not told.
+    pub fn push(&mut self, which: Which, buffer: u32, items: &[u32]) -> bool
+        ensures part { IsTrue result ↔ IsPart items.now self.old.charge }
+        ensures pushed { OnTrue result (self.new ≡ after_push which buffer items.now self.old) }
+    {
+        if !self.charge.take_all(items) {
+            return false;
+        }
+        let _ = self.held.take_one(buffer);
+        if which == Which::Full {
+            self.open_push = true;
+        }
+        true
+    }
+}

@@ -1,0 +1,90 @@
+//! What an account last loaded of a stack.
+ghost use Rattle.std.specs.Prelude.{◌≡◌, ◌≢◌, ◌↔◌, ℕ, IsTrue, MatchOption};
+ghost use Rattle.mark_core.specs.Account.{blank};
+ghost use Rattle.tagged_index.specs.Head.{Head};
+
+use std::marker::Model;
+use tagged_index::HeadWord;
+
+/// The head of a stack that was loaded last, and the link of its buffer, where that was loaded
+/// after it.
+#[derive(Clone, Copy)]
+pub struct Look {
+    head: Option<HeadWord>,
+    link: Option<Option<u32>>,
+}
+
+impl Model for Look {
+    ghost use Rattle.mark_core.specs.Account.{Look};
+
+    ghost Value = { Look };
+
+    ghost view = { λ l. record { head = l.head; link = l.link } };
+
+    ghost inverse = { λ l. record { head = l.head; link = l.link } };
+}
+
+impl Look {
+    /// Nothing was loaded.
+    pub fn blank() -> Self
+        ensures { result ≡ blank }
+    {
+        Look {
+            head: None,
+            link: None,
+        }
+    }
+
+    /// This head was loaded, and no link after it.
+    pub fn of(head: HeadWord) -> Self
+        ensures { result ≡ record { head = Some head; link = None } }
+    {
+        Look {
+            head: Some(head),
+            link: None,
+        }
+    }
+
+    /// And then this link.
+    pub fn with_link(self, link: Option<u32>) -> Self
+        ensures { result ≡ record { head = self.head; link = Some link } }
+    {
+        Look {
+            head: self.head,
+            link: Some(link),
+        }
+    }
+
+    /// The link, where it was loaded.
+    pub fn link(self) -> Option<Option<u32>>
+        ensures { result ≡ self.link }
+    {
+        self.link
+    }
+
+    /// The buffer that the head names.
+    pub fn buffer(self) -> Option<u32>
+        ensures { MatchOption result
+            (¬ ((h : Head) × (i : ℕ) × (self.head ≡ Some h) × (h.index ≡ Some i)))
+            (λ i. (h : Head) × (self.head ≡ Some h) × (h.index ≡ Some i)) }
+    {
+        self.head?.index()
+    }
+
+    /// Whether this is the head that was loaded.
+    pub fn shows(self, now: HeadWord) -> bool
+        ensures { IsTrue result ↔ (self.head ≡ Some now) }
+    {
+        self.head == Some(now)
+    }
+
+    /// Whether a head was loaded, and it is not this one.
+    pub fn shows_another(self, now: HeadWord) -> bool
+        ensures { IsTrue result ↔ ((h : Head) × (self.head ≡ Some h) × (now ≢ h)) }
+    {
+        match self.head {
+            Some(head) => now != head,
+            None => false,
+        }
+    }
+}

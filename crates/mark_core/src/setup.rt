@@ -1,0 +1,83 @@
+//! What no event changes.
+ghost use Rattle.std.specs.Prelude.{◌≡◌, ◌↔◌, ◌≤◌, ℕ, IsTrue, Contains, [], length};
+ghost use Rattle.mark_core.specs.World.{Setup};
+
+use crate::numbers::Numbers;
+use crate::which::Which;
+use std::alloc::Allocator;
+use std::marker::Model;
+
+/// The numbers of objects and of buffers, the most items of a buffer, the roots, and the pairs of an
+/// object and a successor.
+#[derive(Drop)]
+pub struct Setup<A: Allocator> {
+    pub objects: u32,
+    pub buffers: u32,
+    pub size: u32,
+    pub roots: Vec<u32, A>,
+    pub pairs: Vec<(u32, u32), A>,
+}
+
+impl<A: Allocator> Model for Setup<A> {
+    ghost use Rattle.mark_core.specs.World.{Setup};
+
+    ghost Value = { Setup };
+
+    ghost view = { λ s. record {
+      objects = s.objects;
+      buffers = s.buffers;
+      size = s.size;
+      roots = s.roots.items;
+      pairs = s.pairs.items;
+    } };
+}
+
+impl<A: Allocator> Setup<A> {
+    pub fn is_root(&self, object: u32) -> bool
+        ensures { IsTrue result ↔ Contains self.now.roots object }
+    {
+        self.roots.contains(&object)
+    }
+
+    /// Whether the second object is a successor of the first.
+    pub fn has_pair(&self, object: u32, successor: u32) -> bool
+        ensures { IsTrue result ↔ Contains self.now.pairs (object, successor) }
+    {
+        self.pairs.contains(&(object, successor))
+    }
+
+    /// Whether the object is a successor of one of these.
+    pub fn has_pair_from(&self, objects: &[u32], successor: u32) -> bool
+        ensures { IsTrue result
+            ↔ ((p : ℕ) × Contains objects.now p × Contains self.now.pairs (p, successor)) }
+    {
+        objects
+            .iter()
+            .any(|&object| self.has_pair(object, successor))
+    }
+
+    /// Whether each successor of the object is among these.
+    pub fn has_successors_in(&self, object: u32, seen: &Numbers<A>) -> bool
+        ensures { IsTrue result
+            ↔ ((s : ℕ) → Contains self.now.pairs (object, s) → Contains seen.now s) }
+    {
+        for &(before, after) in &self.pairs {
+            if before == object && !seen.contains(after) {
+                return false;
+            }
+        }
+        true
+    }
+
+    /// Whether a buffer may go on this stack with these items: at most as many as it takes, and on
+    /// the empty stack none.
+    pub fn takes(&self, which: Which, items: &Numbers<A>) -> bool
+        ensures { IsTrue result
+            ↔ ((length items.now ≤ self.now.size) × (which ≡ Which.Empty → items.now ≡ [])) }
+    {
+        match which {
+            Which::Full => items.len() <= self.size as usize,
+            Which::Empty => items.is_empty(),
+        }
+    }
+}

@@ -1,0 +1,42 @@
+//! Loads of heads and links, and exchanges that fail.
+ghost use Rattle.std.specs.Prelude.{◌<◌, true, length};
+ghost use Rattle.mark_core.specs.Event.{Load, LoadLink, Fail};
+ghost use Rattle.mark_core.specs.Step.{Tries};
+
+use crate::state::State;
+use crate::which::Which;
+use std::alloc::Allocator;
+
+impl<A: Allocator> State<A> {
+    /// The account `w` loads the head of a stack.
+    pub fn load(&mut self, w: usize, which: Which)
+        requires { w < length self.old.accounts }
+        ensures { Tries self.old w (Load which) true self.new }
+    {
+        let head = self.head(which);
+        self.accounts[w].load(which, head);
+    }
+
+    /// The account `w` loads the link of the buffer that its last head of a stack names, where it
+    /// may.
+    pub fn load_link(&mut self, w: usize, which: Which) -> bool
+        requires { w < length self.old.accounts }
+        ensures { Tries self.old w (LoadLink which) result self.new }
+    {
+        let Some(buffer) = self.accounts[w].look(which).buffer() else {
+            return false;
+        };
+        let link = self.link(buffer);
+        self.accounts[w].load_link(which, link);
+        true
+    }
+
+    /// Whether an exchange of the head of a stack by the account `w` may fail. It changes nothing.
+    pub fn fail(&mut self, w: usize, which: Which) -> bool
+        requires { w < length self.old.accounts }
+        ensures { Tries self.old w (Fail which) result self.new }
+    {
+        let now = self.head(which);
+        self.accounts[w].look(which).shows_another(now)
+    }
+}

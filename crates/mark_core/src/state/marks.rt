@@ -1,0 +1,39 @@
+//! Claim and finish.
+ghost use Rattle.std.specs.Prelude.{◌<◌, IfOk, length};
+ghost use Rattle.mark_core.specs.Event.{Claim, Finish};
+ghost use Rattle.mark_core.specs.Step.{IsLawful, Tries};
+
+use crate::out_of_memory::OutOfMemory;
+use crate::state::State;
+use std::alloc::Allocator;
+
+impl<A: Allocator> State<A> {
+    /// The account `w` claims an object, where it may.
+    pub fn claim(&mut self, w: usize, object: u32) -> Result<bool, OutOfMemory>
+        requires there { w < length self.old.accounts }
+        requires lawful { IsLawful self.old }
+        ensures { IfOk result (λ done. Tries self.old w (Claim object) done self.new) }
+    {
+        if !self.accounts[w].may_claim(&self.setup, object) {
+            return Ok(false);
+        }
+        let found = self.marks[object as usize];
+        self.accounts[w].claim(object, found)?;
+        self.marks[object as usize] = found.max(1);
+        Ok(true)
+    }
+
+    /// The account `w` finishes an object, where it may.
+    pub fn finish(&mut self, w: usize, object: u32) -> Result<bool, OutOfMemory>
+        requires there { w < length self.old.accounts }
+        requires lawful { IsLawful self.old }
+        ensures { IfOk result (λ done. Tries self.old w (Finish object) done self.new) }
+    {
+        if !self.accounts[w].may_finish(&self.setup, object) {
+            return Ok(false);
+        }
+        self.accounts[w].finish(object)?;
+        self.marks[object as usize] = 2;
+        Ok(true)
+    }
+}

@@ -1,0 +1,55 @@
+//! Split and join.
+ghost use Rattle.std.specs.Prelude.{◌<◌, ◌↔◌, IfOk, IsTrue, length};
+ghost use Rattle.mark_core.specs.Event.{Split, Join};
+ghost use Rattle.mark_core.specs.Step.{IsLawful, Tries};
+
+use crate::account::Account;
+use crate::out_of_memory::OutOfMemory;
+use crate::state::State;
+use std::alloc::Allocator;
+use std::mem;
+
+/// The most accounts that have a number.
+const MOST_ACCOUNTS: usize = 4_294_967_295;
+
+impl<A: Allocator> State<A> {
+    /// Whether there is a number for one more account.
+    pub fn has_number(&self) -> bool
+        ensures { IsTrue result ↔ (length self.now.accounts < 4294967295) }
+    {
+        self.accounts.len() < MOST_ACCOUNTS
+    }
+}
+
+impl<A: Allocator + Copy> State<A> {
+    /// The account `w` gives units to a new account, where it may.
+    pub fn split(&mut self, alloc: A, w: usize, units: u32) -> Result<bool, OutOfMemory>
+        requires { w < length self.old.accounts }
+        ensures { IfOk result (λ done. Tries self.old w (Split units) done self.new) }
+    {
+        if !self.accounts[w].may_split(units) {
+            return Ok(false);
+        }
+        self.accounts[w].give(units);
+        self.accounts.push(Account::new(alloc, units))?;
+        Ok(true)
+    }
+
+    /// The account `w` takes another one in, where it may.
+    pub fn join(&mut self, alloc: A, w: usize, other: u32) -> Result<bool, OutOfMemory>
+        requires there { w < length self.old.accounts }
+        requires lawful { IsLawful self.old }
+        ensures { IfOk result (λ done. Tries self.old w (Join other) done self.new) }
+    {
+        let place = other as usize;
+        if place == w {
+            return Ok(false);
+        }
+        if !self.is_there(other) {
+            return Ok(false);
+        }
+        let other = mem::replace(&mut self.accounts[place], Account::new(alloc, 0));
+        self.accounts[w].join(&other)?;
+        Ok(true)
+    }
+}

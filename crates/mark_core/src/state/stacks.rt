@@ -1,0 +1,98 @@
+//! Stores of links, pops and pushes.
+ghost use Rattle.std.specs.Prelude.{◌≡◌, ◌<◌, ◌↔◌, IfOk, IsTrue, length, slice_index_or};
+ghost use Rattle.mark_core.specs.Event.{StoreLink, Pop, Push};
+ghost use Rattle.mark_core.specs.Step.{IsLawful, MayPush, Tries};
+
+use crate::numbers::Numbers;
+use crate::out_of_memory::OutOfMemory;
+use crate::state::State;
+use crate::which::Which;
+use std::alloc::Allocator;
+
+impl<A: Allocator> State<A> {
+    /// The account `w` stores the link of a buffer, where it may.
+    pub fn store_link(&mut self, w: usize, buffer: u32, link: Option<u32>) -> bool
+        requires there { w < length self.old.accounts }
+        requires lawful { IsLawful self.old }
+        ensures { Tries self.old w (StoreLink buffer link) result self.new }
+    {
+        if !self.accounts[w].holds(buffer) {
+            return false;
+        }
+        self.links[buffer as usize] = link;
+        true
+    }
+
+    /// The account `w` exchanges the head of a stack for the link that it loaded, where it may.
+    pub fn pop(&mut self, w: usize, which: Which) -> Result<bool, OutOfMemory>
+        requires there { w < length self.old.accounts }
+        requires lawful { IsLawful self.old }
+        ensures { IfOk result (λ done. Tries self.old w (Pop which) done self.new) }
+    {
+        let now = self.head(which);
+        let look = self.accounts[w].look(which);
+        if !look.shows(now) {
+            return Ok(false);
+        }
+        let Some(buffer) = now.index() else {
+            return Ok(false);
+        };
+        let Some(link) = look.link() else {
+            return Ok(false);
+        };
+        let Some(next) = now.next(link) else {
+            return Ok(false);
+        };
+        let slot = self.slots[buffer as usize].take();
+        self.accounts[w].pop(buffer, slot)?;
+        self.set_head(which, next);
+        Ok(true)
+    }
+
+    /// The account `w` exchanges the head of a stack for a buffer with these items, where it may.
+    pub fn push(&mut self, w: usize, which: Which, buffer: u32, items: Numbers<A>) -> bool
+        requires there { w < length self.old.accounts }
+        requires lawful { IsLawful self.old }
+        ensures { Tries self.old w (Push which buffer items) result self.new }
+    {
+        let now = self.head(which);
+        if !self.may_push(w, which, buffer, &items) {
+            return false;
+        }
+        let Some(next) = now.next(Some(buffer)) else {
+            return false;
+        };
+        if !self.accounts[w].push(which, buffer, items.as_slice()) {
+            return false;
+        }
+        self.slots[buffer as usize] = Some(items);
+        self.set_head(which, next);
+        true
+    }
+
+    // What a push asks besides that the items are part of the charge, and that the tag is not the last.
+    fn may_push(&self, w: usize, which: Which, buffer: u32, items: &Numbers<A>) -> bool
+        requires { w < length self.now.accounts }
+        ensures { IsTrue result ↔ MayPush self.now w which buffer items.now }
+    {
+        let now = self.head(which);
+        let account = &self.accounts[w];
+        if !account.look(which).shows(now) {
+            return false;
+        }
+        if !account.holds(buffer) {
+            return false;
+        }
+        if !self.setup.takes(which, items) {
+            return false;
+        }
+        self.links_to(buffer, now.index())
+    }
+
+    // Whether the buffer's link leads there.
+    fn links_to(&self, buffer: u32, next: Option<u32>) -> bool
+        ensures { IsTrue result ↔ (slice_index_or self.now.links buffer None ≡ next) }
+    {
+        self.link(buffer) == next
+    }
+}

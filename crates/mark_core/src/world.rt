@@ -1,0 +1,134 @@
+//! A world, which keeps the law from one event to the next.
+ghost use Rattle.std.specs.Prelude.{◌≡◌, ◌↔◌, ◌<◌, ◌≤◌, All, IfOk, IsSome, IfSome, length};
+ghost use Rattle.std.specs.Prelude.{vec_items};
+ghost use Rattle.mark_core.specs.Runs.{opening};
+ghost use Rattle.mark_core.specs.Step.{Answers, HasAccount, IsLawful, event_of, marking_of};
+ghost use Rattle.mark_core.specs.World.{account_at};
+
+use crate::event::Event;
+use crate::out_of_memory::OutOfMemory;
+use crate::setup::Setup;
+use crate::state::State;
+use crate::which::Which;
+use std::alloc::Allocator;
+use std::marker::Model;
+use tagged_index::{HeadWord, LAST_TAG};
+
+/// The shared part of a marking, and the account of each worker.
+///
+/// A world keeps the law of ownership, colours and shares. Tests replay lists of events with it.
+#[derive(Drop)]
+pub struct World<A: Allocator> {
+    state: State<A>,
+}
+
+impl<A: Allocator> Model for World<A> {
+    ghost use Rattle.mark_core.specs.Step.{Listing, IsLawful};
+
+    ghost Value = { Listing };
+
+    ghost view = { λ w. w.state };
+
+    ghost invariant = { λ w. IsLawful w.state };
+}
+
+impl<A: Allocator + Copy> World<A> {
+    /// The opening world of a heap with this many objects, these roots and these pairs of an object
+    /// and a successor: all objects are white, all buffers lie on the empty stack with 0 on top and
+    /// rising numbers below, both heads bear the first tag, and account 0 has the whole share of
+    /// 65,536 units.
+    pub fn new(
+        alloc: A,
+        objects: u32,
+        roots: Vec<u32, A>,
+        pairs: Vec<(u32, u32), A>,
+        buffers: u32,
+        size: u32,
+        first_tag: u64,
+    ) -> Result<Self, OutOfMemory>
+        requires objects { objects ≤ 16777216 }
+        requires buffers { (4 ≤ buffers) × (buffers ≤ 65534) }
+        requires size { (2 ≤ size) × (size ≤ 4096) }
+        requires tag { first_tag ≤ LAST_TAG }
+        requires rooted { All (λ o. o < objects) (vec_items roots) }
+        requires paired { All (λ p. (p.0 < objects) × (p.1 < objects)) (vec_items pairs) }
+        ensures setup { IfOk result (λ w. w.setup ≡ record {
+          objects = objects;
+          buffers = buffers;
+          size = size;
+          roots = vec_items roots;
+          pairs = vec_items pairs;
+        }) }
+        ensures opening { IfOk result (λ w. marking_of w ≡ opening w.setup first_tag) }
+    {
+        let setup = Setup {
+            objects,
+            buffers,
+            size,
+            roots,
+            pairs,
+        };
+        let state = State::opening(alloc, setup, first_tag)?;
+        Ok(World { state })
+    }
+}
+
+impl<A: Allocator> World<A> {
+    /// The mark of each object: 0 for white, 1 for claimed, 2 for finished.
+    pub fn marks(&self) -> &[u8]
+        ensures same { result.now ≡ self.now.marks }
+        ensures each { length result.now ≡ self.now.setup.objects }
+        ensures lawful { IsLawful self.now }
+    {
+        self.state.marks()
+    }
+
+    /// The objects that an account answers for, None where the account is not there.
+    pub fn charge(&self, worker: u32) -> Option<&[u32]>
+        ensures there { IsSome result ↔ HasAccount self.now worker }
+        ensures charge { IfSome result (λ c. c.now ≡ (account_at self.now.accounts worker).charge) }
+    {
+        let account = self.state.account(worker)?;
+        Some(account.charge())
+    }
+
+    /// The buffers that an account holds, None where the account is not there.
+    pub fn held(&self, worker: u32) -> Option<&[u32]>
+        ensures there { IsSome result ↔ HasAccount self.now worker }
+        ensures held { IfSome result (λ h. h.now ≡ (account_at self.now.accounts worker).held) }
+    {
+        let account = self.state.account(worker)?;
+        Some(account.held())
+    }
+
+    /// The head of a stack.
+    pub fn head(&self, which: Which) -> HeadWord
+        ensures { result ≡ (marking_of self.now).head which }
+    {
+        self.state.head(which)
+    }
+
+    /// The link of a buffer: the next one, if any. None also where there is no such buffer.
+    pub fn link(&self, i: u32) -> Option<u32>
+        ensures { result ≡ (marking_of self.now).link i }
+    {
+        self.state.link(i)
+    }
+}
+
+/// The world after this event, None exactly where the event is not possible, or is a split and
+/// 4,294,967,295 accounts were made. At None and where memory is refused the world is given up.
+pub fn step<A: Allocator + Copy>(
+    alloc: A,
+    world: World<A>,
+    event: Event<A>,
+) -> Result<Option<World<A>>, OutOfMemory>
+    ensures { IfOk result (λ r. Answers r world (event_of event)) }
+{
+    let mut state = world.state;
+    if state.act(alloc, event)? {
+        Ok(Some(World { state }))
+    } else {
+        Ok(None)
+    }
+}
