@@ -1,4 +1,5 @@
 pub mod Exact
 pub mod Marks
+pub mod OneMarking
 pub mod Runs
 pub mod Scans

@@ -45,9 +45,9 @@ module _ (count : ℕ) (is_root : ℕ → Type 0) (refers : ℕ → ℕ → Type
         (λ (same : o ≡ other). inr (λ next r. are.here next ((exact next).1 (subst (λ x. refers x next) (sym same) r))))
         (Contains-push_cases rest o other (subst (λ l. Contains l other) popped h))
 
-    pub scans : length marks ≡ count → IsMarking count is_root refers marks list
-    scans size = record {
-      size = size;
+    pub scans : length marks ≡ length old_marks → IsMarking count is_root refers marks list
+    scans same = record {
+      size = same ∙ was.size;
       roots = λ other root. are.kept other (was.roots other root);
       sound = λ other h. ⊎_elim (was.sound other) (λ both. next_sound other both.0) (are.new other h);
       listed = λ other h. ⊎_elim (λ k. are.kept other (was.listed other (subst (λ l. Contains l other) (sym popped) (Contains-append_left rest (o ∷ []) other k)))) (λ m. m) (are.listed other h);

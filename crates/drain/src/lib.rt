@@ -2,6 +2,7 @@
 #![tactic(auto)]
 
 mod gate;
+mod laws;
 mod leader;
 mod linked;
 mod marked;
@@ -10,6 +11,7 @@ mod options;
 mod walk;
 
 pub use gate::{Gate, NoGate};
+pub use laws::one_marking;
 pub use leader::mark;
 pub use marked::{Marked, RunFault};
 pub use options::{BadOptions, Options};

@@ -29,10 +29,9 @@ successors-requires g c =
 pub loop-object-preserved : goal.loop-object-preserved
 loop-object-preserved g c =
     let given = c.successors.ensures.exact in
-    let size : length c.mark_all-in-Some.new.self.marks.items ≡ g.V.Walk.objects c.args.graph.now = c.mark_all-in-Some.ensures.size ∙ c.loop-object.invariant.size in
     scans (g.V.Walk.objects c.args.graph.now) (g.V.Walk.is_root c.args.graph.now) (g.V.Walk.refers c.args.graph.now) c.in-Some.object given.objects given.exact
     c.loop-object.marking.marks.items c.mark_all-in-Some.new.self.marks.items c.loop-object.marking.list.items c.pop.new.self.items c.mark_all-in-Some.new.self.list.items
-    c.in-Some.ensures.items c.loop-object.invariant (c.in_ok-mark_all-2.ensures.marked given.objects given.gives) size
+    c.in-Some.ensures.items c.loop-object.invariant (c.in_ok-mark_all-2.ensures.marked given.objects given.gives) c.mark_all-in-Some.ensures.size
 
 pub returns : goal.returns
 returns g c =

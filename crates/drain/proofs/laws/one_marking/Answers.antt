@@ -1,0 +1,7 @@
+use Rattle.heap_graph.specs.ObjectGraph.{object_count}
+use Rattle.heap_graph.specs.Reachable.{IsReferenceOf, IsRootOf}
+use Rattle.drain.proofs.OneMarking.{marks_determined}
+use Rattle.drain.proofs.laws.one_marking.Goals as goal
+
+pub returns : goal.returns
+returns c graph = marks_determined (object_count graph) (IsRootOf graph) (IsReferenceOf graph)

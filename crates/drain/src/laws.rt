@@ -1,0 +1,10 @@
+//! What is said of a graph's marks as a law: a function with an empty body.
+
+ghost use Rattle.std.specs.Prelude.{◌≡◌, Bool, List};
+ghost use Rattle.heap_graph.specs.ObjectGraph.{ObjectGraph};
+ghost use Rattle.heap_graph.specs.Reachable.{MarksReachableOf};
+
+/// A graph has one list of marks that are exactly at its reachable objects, whoever sets them and in whatever order.
+pub fn one_marking()
+    ensures { (graph : ObjectGraph) (marks other : List Bool) → MarksReachableOf graph marks → MarksReachableOf graph other → marks ≡ other }
+{}
