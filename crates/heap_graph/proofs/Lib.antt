@@ -1,2 +1,3 @@
 pub mod Cutting
 mod WorkedRows
+mod OneGraph

@@ -3,12 +3,14 @@
 
 mod entry;
 mod graph;
+mod laws;
 mod pieces;
 mod row;
 mod rule;
 mod successors;
 
 pub use graph::Graph;
+pub use laws::one_graph;
 pub use row::RowKey;
 pub use rule::{LinkFault, LinkRefusal};
 pub use successors::Successors;

@@ -3,7 +3,7 @@ use Rattle.std.proofs.Common.{List, [], ap, arith, false, length, refl, sym, tru
 use Rattle.std.specs.List.{AllByRecursion}
 use Rattle.std.proofs.lemmas.List.{append-nil}
 use Rattle.byteorder.specs.Endian.{big_bytes}
-use Rattle.hprof_grammar.specs.Dump.{IsDumpOf, Places, places_of, spellings}
+use Rattle.hprof_grammar.specs.Dump.{IsDumpOf, Places, Spells, places_of, spellings}
 use Rattle.hprof_grammar.specs.Record.{HasParts, IsRecord, Record, body_of, record_spelling, tag_of, time_of}
 use Rattle.hprof_grammar.specs.Record.Record.{heap, load_class, other, string}
 use Rattle.hprof_grammar.specs.SubRecord.{IsSubRecord, SubRecord, spelling_of}
@@ -67,10 +67,15 @@ record_some s x = omega arith
 same_records : (s : ℕ) (xs ys : List Record) → AllByRecursion (IsRecord s) xs → AllByRecursion (IsRecord s) ys → spellings s xs ≡ spellings s ys → xs ≡ ys
 same_records s xs ys h k e = same_list (record_spelling s) (IsRecord s) (records_determined s) (record_some s) xs ys h k e
 
+-- a text spells one list of records, with identifiers of one size
+pub one_list : (text : List ℕ) (s s_too : ℕ) (xs ys : List Record) → Spells text s xs → Spells text s_too ys → (s ≡ s_too) × (xs ≡ ys)
+one_list text s s_too xs ys h k =
+    let head = same_header s h.time s_too k.time (spellings s xs) (spellings s_too ys) h.id_size k.id_size (sym h.whole ∙ k.whole) in
+    let each : AllByRecursion (IsRecord s) ys = rw (head.0) k.each in
+    let texts : spellings s xs ≡ spellings s ys = head.1 ∙ ap (λ (n : ℕ). spellings n ys) (sym head.0) in
+    (head.0, same_records s xs ys h.each each texts)
+
 pub one_dump : (text : List ℕ) (dump dump_too : Places) → IsDumpOf text dump → IsDumpOf text dump_too → dump ≡ dump_too
 one_dump text dump dump_too h k =
-    let head = same_header dump.id_size h.spells.time dump_too.id_size k.spells.time (spellings dump.id_size h.records) (spellings dump_too.id_size k.records) h.spells.id_size k.spells.id_size (sym h.spells.whole ∙ k.spells.whole) in
-    let each : AllByRecursion (IsRecord dump.id_size) k.records = rw (head.0) k.spells.each in
-    let texts : spellings dump.id_size h.records ≡ spellings dump.id_size k.records = head.1 ∙ ap (λ (n : ℕ). spellings n k.records) (sym head.0) in
-    let records = same_records dump.id_size h.records k.records h.spells.each each texts in
-    h.places ∙ ap (places_of dump.id_size) records ∙ ap (λ (n : ℕ). places_of n k.records) head.0 ∙ sym k.places
+    let one = one_list text dump.id_size dump_too.id_size h.records k.records h.spells k.spells in
+    h.places ∙ ap (places_of dump.id_size) one.1 ∙ ap (λ (n : ℕ). places_of n k.records) one.0 ∙ sym k.places

@@ -69,23 +69,26 @@ places_are = refl
 class_is : IsSubRecord 4 (class_dump the_class)
 unfolding is_type_at kind_of
 class_is = record {
-  formed = (refl, record {
-    object = lit< tt;
-    stack = lit< tt;
-    super = lit< tt;
-    loader = lit< tt;
-    signers = lit< tt;
-    domain = lit< tt;
-    reserved = lit< tt;
-    reserved_too = lit< tt;
-    instance_size = lit< tt;
-    constant_count = lit< tt;
-    constants = tt;
-    static_count = lit< tt;
-    statics = tt;
-    member_count = lit< tt;
-    members = (lit< tt, tt);
-  });
+  formed = (
+    refl,
+    record {
+      object = lit< tt;
+      stack = lit< tt;
+      super = lit< tt;
+      loader = lit< tt;
+      signers = lit< tt;
+      domain = lit< tt;
+      reserved = lit< tt;
+      reserved_too = lit< tt;
+      instance_size = lit< tt;
+      constant_count = lit< tt;
+      constants = tt;
+      static_count = lit< tt;
+      statics = tt;
+      member_count = lit< tt;
+      members = (lit< tt, tt);
+    },
+  );
   allowed = (tt, (tt, (tt, (tt, (tt, (tt, (tt, (tt, (tt, (tt, (tt, (tt, (tt, (refl, tt))))))))))))));
 }
 

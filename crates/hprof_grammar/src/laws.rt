@@ -1,8 +1,15 @@
 //! What a text and its dump or its first fault have in common, as laws: functions with empty bodies.
 
 ghost use Rattle.std.specs.Prelude.{List, ℕ, ◌≡◌};
-ghost use Rattle.hprof_grammar.specs.Dump.{IsDumpOf, Places};
+ghost use Rattle.hprof_grammar.specs.Dump.{IsDumpOf, Places, Spells};
 ghost use Rattle.hprof_grammar.specs.Fault.{FirstFault};
+ghost use Rattle.hprof_grammar.specs.Record.{Record};
+
+/// A text spells at most one list of records, with identifiers of one size.
+pub fn one_list_of_records()
+    ensures { (text : List ℕ) (id_size other_size : ℕ) (records others : List Record) → Spells text id_size records → Spells text other_size others
+        → (id_size ≡ other_size) × (records ≡ others) }
+{}
 
 /// A text spells at most one dump.
 pub fn one_dump()

@@ -1,0 +1,5 @@
+use Rattle.heap_graph.proofs.OneGraph.{one_graph}
+use Rattle.heap_graph.proofs.laws.one_graph.Goals as goal
+
+pub returns : goal.returns
+returns c = one_graph
