@@ -1,5 +1,5 @@
 -- The fields of sub-records, each at its place.
-use Rattle.std.proofs.Common.{List, Option, Some, [], ap, arith, drop, length, map, refl, true, ℕ, ◌*◌, ◌+◌, ◌<◌, ◌^◌, ◌∙◌, ◌∷◌, ◌≡◌, ◌≤◌}
+use Rattle.std.proofs.Common.{List, Some, [], ap, arith, drop, length, map, refl, true, ℕ, ◌*◌, ◌+◌, ◌<◌, ◌^◌, ◌∙◌, ◌∷◌, ◌≡◌, ◌≤◌}
 use Rattle.hprof_grammar.specs.Spelling.{Field, spelled}
 use Rattle.hprof_grammar.specs.Spelling.Field.{number, raw}
 use Rattle.hprof_grammar.specs.SubRecord.{Class, Instance, ObjectArray, PrimitiveArray, SubRecord, class_fields, fields_of, instance_fields, object_array_fields, primitive_array_fields}
@@ -30,15 +30,14 @@ stack_at s bytes at tag object stack more h fits = number_stands bytes at tag (a
 pub record StackAt (bytes : List ℕ) (at : ℕ) (sub : SubRecord) : Type 0 where
   pub stack : ℕ
   pub is : stack_of sub ≡ Some stack
-  pub fits : stack < 256 ^ 4
   pub there : NumberAt bytes at 4 stack
 
 stack_stands : (s : ℕ) (bytes : List ℕ) (at : ℕ) (sub : SubRecord) → is_object sub ≡ true → StandsAt s bytes at sub → StackAt bytes (at + 1 + s) sub
 stack_stands s bytes at (root r) is h = cc
-stack_stands s bytes at (class_dump c) is h = record { stack = c.stack; is = refl; fits = h.is.formed.1.stack; there = stack_at s bytes at 0x20 c.object c.stack (drop 2 (class_fields s c)) (sub_stands s bytes at (class_dump c) h) h.is.formed.1.stack }
-stack_stands s bytes at (instance_dump i) is h = record { stack = i.stack; is = refl; fits = h.is.formed.1.stack; there = stack_at s bytes at 0x21 i.object i.stack (drop 2 (instance_fields s i)) (sub_stands s bytes at (instance_dump i) h) h.is.formed.1.stack }
-stack_stands s bytes at (object_array_dump a) is h = record { stack = a.stack; is = refl; fits = h.is.formed.1.stack; there = stack_at s bytes at 0x22 a.object a.stack (drop 2 (object_array_fields s a)) (sub_stands s bytes at (object_array_dump a) h) h.is.formed.1.stack }
-stack_stands s bytes at (primitive_array_dump a) is h = record { stack = a.stack; is = refl; fits = h.is.formed.1.stack; there = stack_at s bytes at 0x23 a.object a.stack (drop 2 (primitive_array_fields s a)) (sub_stands s bytes at (primitive_array_dump a) h) h.is.formed.1.stack }
+stack_stands s bytes at (class_dump c) is h = record { stack = c.stack; is = refl; there = stack_at s bytes at 0x20 c.object c.stack (drop 2 (class_fields s c)) (sub_stands s bytes at (class_dump c) h) h.is.formed.1.stack }
+stack_stands s bytes at (instance_dump i) is h = record { stack = i.stack; is = refl; there = stack_at s bytes at 0x21 i.object i.stack (drop 2 (instance_fields s i)) (sub_stands s bytes at (instance_dump i) h) h.is.formed.1.stack }
+stack_stands s bytes at (object_array_dump a) is h = record { stack = a.stack; is = refl; there = stack_at s bytes at 0x22 a.object a.stack (drop 2 (object_array_fields s a)) (sub_stands s bytes at (object_array_dump a) h) h.is.formed.1.stack }
+stack_stands s bytes at (primitive_array_dump a) is h = record { stack = a.stack; is = refl; there = stack_at s bytes at 0x23 a.object a.stack (drop 2 (primitive_array_fields s a)) (sub_stands s bytes at (primitive_array_dump a) h) h.is.formed.1.stack }
 
 pub stack_trace : {v w : Sight} → w ≡ v → (at : ℕ) (sub : SubRecord) → is_object sub ≡ true → Stands v at sub → StackAt w.bytes (at + 1 + w.id_size) sub
 stack_trace {v} {w} e at sub is h = stack_stands w.id_size w.bytes at sub is (in_sight v w at sub e h)

@@ -104,7 +104,7 @@ impl<'a> View<'a> {
         requires { (sub : SubRecord) × Stands self.now at sub × (is_object sub ≡ true) }
         ensures { (sub : SubRecord) → Stands self.now at sub → is_object sub ≡ true → stack_of sub ≡ Some result }
     {
-        number_at(self.bytes, at as usize + 1 + self.id_size as usize, 4) as u32
+        u32_at(self.bytes, at as usize + 1 + self.id_size as usize)
     }
 }
 
@@ -116,6 +116,14 @@ fn number_at(bytes: &[u8], at: usize, width: usize) -> u64
     ensures { result ≡ big_number width (drop at bytes.now) }
 {
     BigEndian::read_uint(&bytes[at..], width)
+}
+
+/// The number of 4 bytes at a place.
+fn u32_at(bytes: &[u8], at: usize) -> u32
+    requires { at + 4 ≤ length bytes.now }
+    ensures { result ≡ big_number 4 (drop at bytes.now) }
+{
+    BigEndian::read_u32(&bytes[at..])
 }
 
 /// The `count` bytes at a place.

@@ -6,7 +6,7 @@ ghost use Rattle.hprof_grammar.specs.SubRecord.SubRecord.{object_array_dump, pri
 ghost use Rattle.hprof_grammar.specs.Standing.{Stands};
 
 use crate::view::ids::Ids;
-use crate::view::{View, number_at};
+use crate::view::{View, number_at, u32_at};
 
 impl<'a> View<'a> {
     /// The identifier of an object array's class.
@@ -24,7 +24,7 @@ impl<'a> View<'a> {
         ensures { (a : ObjectArray) → Stands self.now at (object_array_dump a) → result ≡ a.elements }
     {
         let size = self.id_size as usize;
-        let count = number_at(self.bytes, at as usize + 5 + size, 4) as u32;
+        let count = u32_at(self.bytes, at as usize + 5 + size);
         Ids::new(self.bytes, at as usize + 9 + 2 * size, self.id_size, count)
     }
 
@@ -41,6 +41,6 @@ impl<'a> View<'a> {
         requires { (a : PrimitiveArray) × Stands self.now at (primitive_array_dump a) }
         ensures { (a : PrimitiveArray) → Stands self.now at (primitive_array_dump a) → result ≡ a.count }
     {
-        number_at(self.bytes, at as usize + 5 + self.id_size as usize, 4) as u32
+        u32_at(self.bytes, at as usize + 5 + self.id_size as usize)
     }
 }

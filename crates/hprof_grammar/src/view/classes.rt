@@ -8,7 +8,7 @@ ghost use Rattle.hprof_grammar.specs.ClassParts.{IsPartOf, fields_from_constants
 
 use crate::view::members::Members;
 use crate::view::values::{Values, skip_values};
-use crate::view::{View, bytes_from, number_at};
+use crate::view::{View, bytes_from, number_at, u32_at};
 
 /// The bytes of a constant's index.
 const INDEX_SIZE: u8 = 2;
@@ -55,7 +55,7 @@ impl<'a> View<'a> {
         requires { (c : Class) × Stands self.now at (class_dump c) }
         ensures { (c : Class) → Stands self.now at (class_dump c) → result ≡ c.instance_size }
     {
-        number_at(self.bytes, at as usize + 5 + 7 * self.id_size as usize, 4) as u32
+        u32_at(self.bytes, at as usize + 5 + 7 * self.id_size as usize)
     }
 
     /// The values of a class's constants.

@@ -5,7 +5,7 @@ ghost use Rattle.hprof_grammar.specs.SubRecord.{Instance};
 ghost use Rattle.hprof_grammar.specs.SubRecord.SubRecord.{instance_dump};
 ghost use Rattle.hprof_grammar.specs.Standing.{Stands};
 
-use crate::view::{View, bytes_at, number_at};
+use crate::view::{View, bytes_at, number_at, u32_at};
 
 impl<'a> View<'a> {
     /// The identifier of an instance's class.
@@ -23,7 +23,7 @@ impl<'a> View<'a> {
         ensures { (i : Instance) → Stands self.now at (instance_dump i) → result.now ≡ i.values }
     {
         let count_at = at as usize + 5 + 2 * self.id_size as usize;
-        let count = number_at(self.bytes, count_at, 4) as usize;
+        let count = u32_at(self.bytes, count_at) as usize;
         bytes_at(self.bytes, count_at + 4, count)
     }
 }

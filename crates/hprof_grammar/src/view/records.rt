@@ -4,7 +4,7 @@ ghost use Rattle.std.specs.Prelude.{List, ℕ, ◌≡◌};
 ghost use Rattle.hprof_grammar.specs.Record.Record.{load_class, string};
 ghost use Rattle.hprof_grammar.specs.Standing.{RecordStands};
 
-use crate::view::{View, bytes_at, number_at};
+use crate::view::{View, bytes_at, number_at, u32_at};
 
 impl<'a> View<'a> {
     /// The identifier of a string.
@@ -21,7 +21,7 @@ impl<'a> View<'a> {
         ensures { (time id : ℕ) (text : List ℕ) → RecordStands self.now at (string time id text) → result.now ≡ text }
     {
         let size = self.id_size as usize;
-        let length = number_at(self.bytes, at as usize + 5, 4) as usize;
+        let length = u32_at(self.bytes, at as usize + 5) as usize;
         bytes_at(self.bytes, at as usize + 9 + size, length - size)
     }
 
@@ -47,7 +47,7 @@ impl<'a> View<'a> {
         requires { (time serial class stack name : ℕ) × RecordStands self.now at (load_class time serial class stack name) }
         ensures { (time serial class stack name : ℕ) → RecordStands self.now at (load_class time serial class stack name) → result ≡ serial }
     {
-        number_at(self.bytes, at as usize + 9, 4) as u32
+        u32_at(self.bytes, at as usize + 9)
     }
 
     /// The serial number of the stack trace of a loaded class.
@@ -55,6 +55,6 @@ impl<'a> View<'a> {
         requires { (time serial class stack name : ℕ) × RecordStands self.now at (load_class time serial class stack name) }
         ensures { (time serial class stack name : ℕ) → RecordStands self.now at (load_class time serial class stack name) → result ≡ stack }
     {
-        number_at(self.bytes, at as usize + 13 + self.id_size as usize, 4) as u32
+        u32_at(self.bytes, at as usize + 13 + self.id_size as usize)
     }
 }

@@ -5,7 +5,8 @@ ghost use Rattle.hprof_grammar.specs.Tables as tables;
 ghost use Rattle.hprof_grammar.specs.Series.{HasCountedValues, HasValues, behind_counted_values, behind_values, count_in, counted_values_in, value_end, values_in};
 
 use crate::tables::size_of;
-use crate::view::{bytes_at, number_at};
+use crate::view::bytes_at;
+use byteorder::{BigEndian, ByteOrder};
 use std::marker::Model;
 
 /// A value of a constant or of a static field.
@@ -80,7 +81,7 @@ pub(crate) fn split_count(bytes: &[u8]) -> (u16, &[u8])
     ensures behind { result.1.now ≡ drop 2 bytes.now }
 {
     let (_, behind) = bytes.split_at(2);
-    (number_at(bytes, 0, 2) as u16, behind)
+    (BigEndian::read_u16(bytes), behind)
 }
 
 /// The value that stands behind `front` bytes and its type code, and the bytes behind it.

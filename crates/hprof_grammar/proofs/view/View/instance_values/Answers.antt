@@ -3,8 +3,8 @@ use Rattle.hprof_grammar.proofs.FieldsStand.{instance_count, instance_values}
 use Rattle.hprof_grammar.proofs.Places.{raw_read}
 use Rattle.hprof_grammar.proofs.view.View.instance_values.Goals as goal
 
-pub number_at-count-requires-clause-room : goal.number_at-count-requires-clause-room
-number_at-count-requires-clause-room c =
+pub u32_at-count-requires : goal.u32_at-count-requires
+u32_at-count-requires c =
     let count = instance_count c.self.view_is c.args.at c.requires.0 c.requires.1 in
     omega (arith, count.room)
 
@@ -12,10 +12,10 @@ pub bytes_at-requires : goal.bytes_at-requires
 bytes_at-requires c =
     let count = instance_count c.self.view_is c.args.at c.requires.0 c.requires.1 in
     let there = instance_values c.self.view_is c.args.at c.requires.0 c.requires.1 in
-    omega (arith, c.number_at-count.ensures, count.value, there.inside)
+    omega (arith, c.u32_at-count.ensures, count.value, there.inside)
 
 pub returns : goal.returns
 returns c = λ i h.
     let count = instance_count c.self.view_is c.args.at i h in
     let values = raw_read c.self.inside.bytes.now (c.args.at + 5 + 2 * c.self.inside.id_size + 4) i.values (instance_values c.self.view_is c.args.at i h) in
-    cc (c.number_at-count.ensures, count.value, c.bytes_at.ensures, values)
+    cc (c.u32_at-count.ensures, count.value, c.bytes_at.ensures, values)

@@ -2,17 +2,12 @@ use Rattle.std.proofs.Common.{arith}
 use Rattle.hprof_grammar.proofs.RecordsStand.{loaded_class_serial}
 use Rattle.hprof_grammar.proofs.view.View.loaded_class_serial.Goals as goal
 
-pub number_at-requires-clause-room : goal.number_at-requires-clause-room
-number_at-requires-clause-room c =
+pub u32_at-requires : goal.u32_at-requires
+u32_at-requires c =
     let there = loaded_class_serial c.self.view_is c.args.at c.requires.0 c.requires.1 c.requires.2 c.requires.3 c.requires.4 c.requires.5 in
     omega (arith, there.room)
-
-pub overflow_cast-result : goal.overflow_cast-result
-overflow_cast-result c =
-    let there = loaded_class_serial c.self.view_is c.args.at c.requires.0 c.requires.1 c.requires.2 c.requires.3 c.requires.4 c.requires.5 in
-    omega (arith, c.number_at.ensures, there.value, c.requires.5.is.parts.0)
 
 pub returns : goal.returns
 returns c = λ time serial class stack name h.
     let there = loaded_class_serial c.self.view_is c.args.at time serial class stack name h in
-    cc (c.number_at.ensures, there.value)
+    cc (c.u32_at.ensures, there.value)
