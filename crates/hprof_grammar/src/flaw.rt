@@ -1,6 +1,6 @@
 //! What can be wrong with the bytes of a dump.
 
-use std::alloc::AllocError;
+use crate::codes;
 use thiserror::Error;
 
 /// What is wrong where no whole sub-record stands.
@@ -23,9 +23,9 @@ impl Flaw {
         ensures { result ≡ reading.code_of self }
     {
         match self {
-            Flaw::UnknownTag => 5,
-            Flaw::Short => 6,
-            Flaw::WrongType => 7,
+            Flaw::UnknownTag => codes::BAD_SUB_TAG,
+            Flaw::Short => codes::SUB_TRUNCATED,
+            Flaw::WrongType => codes::BAD_TYPE,
         }
     }
 }
@@ -34,7 +34,9 @@ impl Flaw {
 #[derive(Clone, Copy, Debug, PartialEq, Eq, Error)]
 #[error("fault {code} at {offset}")]
 pub struct FormatFault {
-    /// 1 to 8, or 14.
+    /// 1 the text of the header, 2 the size of identifiers, 3 the header or a record is cut, 4 the length of a
+    /// record, 5 the tag of a sub-record, 6 a sub-record is cut, 7 a type code, 8 the order of the snapshot's
+    /// records, 14 too many bytes.
     pub code: u8,
     /// The place of the fault in the bytes.
     pub offset: u64,

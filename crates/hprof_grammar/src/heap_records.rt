@@ -24,7 +24,10 @@ pub fn note_subs<A: Allocator>(dump: &mut Dump<A>, body: &[u8], at: u32) -> Resu
         let place = at + (body.len() - reader.rest.len()) as u32;
         match sub_record(&mut reader, id_size) {
             Ok(kind) => dump.note(kind, place)?,
-            Err(flaw) => return Err(ReadRefusal::Fault(FormatFault::new(flaw.code(), place))),
+            Err(flaw) => {
+                let code = flaw.code();
+                return Err(ReadRefusal::Fault(FormatFault::new(code, place)));
+            }
         }
     }
     Ok(())

@@ -1,6 +1,7 @@
 //! Records and sub-records of an HPROF heap dump (JAVA PROFILE 1.0.2), as places in its bytes.
 #![tactic(auto)]
 
+mod codes;
 mod dump;
 mod flaw;
 mod frame;

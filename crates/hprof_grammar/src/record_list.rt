@@ -4,6 +4,7 @@ ghost use Rattle.std.specs.Prelude.{◌≡◌, ◌+◌, ◌<◌, ◌≤◌, ◌^
 ghost use Rattle.hprof_grammar.specs.Joining.{AddsAll, AddsRecord, FrameFault, HasRecordFault};
 ghost use Rattle.hprof_grammar.specs.Refusal.{IfFault};
 
+use crate::codes;
 use crate::dump::Dump;
 use crate::flaw::{FormatFault, ReadRefusal};
 use crate::frame::next_frame;
@@ -34,10 +35,10 @@ fn note_record<A: Allocator>(
     ensures fault { IfFault result (FrameFault dump.old.id_size at tag body.now order) }
 {
     if !is_length_of(dump.id_size(), tag, body.len()) {
-        return Err(ReadRefusal::Fault(FormatFault::new(4, at)));
+        return Err(ReadRefusal::Fault(FormatFault::new(codes::BAD_LENGTH, at)));
     }
     let Some(next) = order.after(tag) else {
-        return Err(ReadRefusal::Fault(FormatFault::new(8, at)));
+        return Err(ReadRefusal::Fault(FormatFault::new(codes::DUMP_ORDER, at)));
     };
     match tag {
         0x01 => dump.note_string(at)?,
@@ -61,13 +62,13 @@ pub fn note_records<A: Allocator>(dump: &mut Dump<A>, bytes: &[u8]) -> Result<()
     while !reader.is_empty() {
         let place = FIRST_RECORD + (bytes.len() - reader.rest.len()) as u32;
         let Ok(frame) = next_frame(&mut reader) else {
-            return Err(ReadRefusal::Fault(FormatFault::new(3, place)));
+            return Err(ReadRefusal::Fault(FormatFault::new(codes::TRUNCATED, place)));
         };
         order = note_record(dump, order, frame.tag, frame.body, place)?;
     }
     if !order.is_done() {
         let end = FIRST_RECORD + bytes.len() as u32;
-        return Err(ReadRefusal::Fault(FormatFault::new(8, end)));
+        return Err(ReadRefusal::Fault(FormatFault::new(codes::DUMP_ORDER, end)));
     }
     Ok(())
 }

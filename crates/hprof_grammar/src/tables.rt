@@ -67,7 +67,6 @@ pub fn size_of(id_size: u8, code: u8) -> u8
 fn root_rest(id_size: u8, tag: u8) -> Option<u8>
     ensures { result ≡ tables.root_rest id_size tag }
 {
-    let _size = id_size;
     match tag {
         0xFF => Some(0),
         _ => None,

@@ -27,4 +27,4 @@ returns-in-Err-clause-fault g c =
     let some : 0 < length c.loop-reader.reader.rest.now = grind (arith, nat_tests) in
     subst (λ (s : ℕ). HasSubFault s c.args.at c.args.body.now c.new.result) c.id_size-id_size.ensures
     (subs_fault c.id_size-id_size.result c.args.at c.args.body.now c.loop-reader.reader.rest.now c.args.dump.now c.loop-reader.dump c.in-Err.flaw c.new.result c.id_size-id_size.ensures bytes some
-    c.loop-reader.invariant c.in-Err.ensures.passes (ap (λ f. f.code) c.new.ensures ∙ c.code.ensures) (ap (λ f. f.offset) c.new.ensures))
+    c.loop-reader.invariant c.in-Err.ensures.passes (ap (λ f. f.code) c.new.ensures ∙ c.code-code.ensures) (ap (λ f. f.offset) c.new.ensures))
