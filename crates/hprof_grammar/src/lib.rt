@@ -14,6 +14,7 @@ mod reader;
 mod record_list;
 mod sub_records;
 mod tables;
+mod tags;
 mod view;
 
 pub use dump::Dump;

@@ -3,6 +3,8 @@
 ghost use Rattle.std.specs.Prelude.{◌≡◌};
 ghost use Rattle.hprof_grammar.specs.Orders as orders;
 
+use crate::tags;
+
 /// What has come of the snapshot.
 #[derive(Clone, Copy, Debug, PartialEq, Eq)]
 pub enum Order {
@@ -19,12 +21,12 @@ impl Order {
     {
         match self {
             Order::Before => match tag {
-                0x0C => Some(Order::Whole),
-                0x1C | 0x2C => None,
+                tags::HEAP_DUMP => Some(Order::Whole),
+                tags::HEAP_DUMP_SEGMENT | tags::HEAP_DUMP_END => None,
                 _ => Some(Order::Before),
             },
             Order::Whole => match tag {
-                0x0C | 0x1C | 0x2C => None,
+                tags::HEAP_DUMP | tags::HEAP_DUMP_SEGMENT | tags::HEAP_DUMP_END => None,
                 _ => Some(Order::Whole),
             },
         }

@@ -12,6 +12,7 @@ use crate::heap_records::note_subs;
 use crate::order::Order;
 use crate::reader::Reader;
 use crate::tables::is_length_of;
+use crate::tags;
 use std::alloc::Allocator;
 
 /// Where the records begin.
@@ -41,9 +42,9 @@ fn note_record<A: Allocator>(
         return Err(ReadRefusal::Fault(FormatFault::new(codes::DUMP_ORDER, at)));
     };
     match tag {
-        0x01 => dump.note_string(at)?,
-        0x02 => dump.note_loaded(at)?,
-        0x0C | 0x1C => note_subs(dump, body, at + FRAME)?,
+        tags::STRING_IN_UTF8 => dump.note_string(at)?,
+        tags::LOAD_CLASS => dump.note_loaded(at)?,
+        tags::HEAP_DUMP | tags::HEAP_DUMP_SEGMENT => note_subs(dump, body, at + FRAME)?,
         _ => {}
     }
     Ok(next)

@@ -3,6 +3,8 @@
 ghost use Rattle.std.specs.Prelude.{◌≡◌};
 ghost use Rattle.hprof_grammar.specs.Tables as tables;
 
+use crate::tags;
+
 /// What the tag of a sub-record says.
 #[derive(Clone, Copy, Debug, PartialEq, Eq)]
 pub enum Kind {
@@ -68,7 +70,7 @@ fn root_rest(id_size: u8, tag: u8) -> Option<u8>
     ensures { result ≡ tables.root_rest id_size tag }
 {
     match tag {
-        0xFF => Some(0),
+        tags::ROOT_UNKNOWN => Some(0),
         _ => None,
     }
 }
@@ -79,8 +81,8 @@ pub fn kind_of(id_size: u8, tag: u8) -> Option<Kind>
     ensures { result ≡ tables.kind_of id_size tag }
 {
     match tag {
-        0x20 => Some(Kind::Class),
-        0x21 => Some(Kind::Instance),
+        tags::CLASS_DUMP => Some(Kind::Class),
+        tags::INSTANCE_DUMP => Some(Kind::Instance),
         _ => root_rest(id_size, tag).map(Kind::Root),
     }
 }
@@ -92,9 +94,9 @@ pub fn is_length_of(id_size: u8, tag: u8, length: usize) -> bool
 {
     let size = usize::from(id_size);
     match tag {
-        0x01 => size <= length,
-        0x02 => length == 8 + 2 * size,
-        0x2C => length == 0,
+        tags::STRING_IN_UTF8 => size <= length,
+        tags::LOAD_CLASS => length == 8 + 2 * size,
+        tags::HEAP_DUMP_END => length == 0,
         _ => true,
     }
 }
