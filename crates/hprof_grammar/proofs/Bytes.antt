@@ -1,5 +1,5 @@
 -- Lists of bytes, and the bytes of a number of any width.
-use Rattle.std.proofs.Common.{◌*◌, ◌+◌, ◌++◌, ◌/◌, ◌<◌, ◌^◌, ◌∙◌, ◌∷◌, ◌≡◌, ◌≤◌, List, [], ap, arith, drop, length, refl, replicate, slice_index, suc, sym, take, zero, ℕ}
+use Rattle.std.proofs.Common.{◌*◌, ◌+◌, ◌++◌, ◌/◌, ◌<◌, ◌^◌, ◌∙◌, ◌∷◌, ◌≡◌, ◌≤◌, Fits, List, [], ap, arith, drop, length, refl, replicate, slice_index, suc, sym, take, w8, zero, ℕ}
 use Rattle.std.proofs.lemmas.List.{append-nil, get_or-append-add, get_or-drop, length-take-le, take-append-drop}
 use Rattle.std.proofs.Math.Seq.{drop-append_seam, take-append_seam}
 use Rattle.std.proofs.Math.Arith.{digits_div}
@@ -10,6 +10,10 @@ use Rattle.byteorder.specs.Numbers.{big_from-cons, big_from-lt, big_from-take, b
 -- each of these numbers is a byte
 abbrev pub IsBytes : List ℕ → Type 0
 IsBytes bytes = (k : ℕ) → slice_index bytes k < 256
+
+-- what the check knows of a slice of bytes
+pub in_bytes : (bytes : List ℕ) → ((k : ℕ) → Fits w8 (slice_index bytes k)) → IsBytes bytes
+in_bytes bytes h k = omega (arith, h k)
 
 pub bytes-tail : (a : ℕ) (bytes : List ℕ) → IsBytes (a ∷ bytes) → IsBytes bytes
 bytes-tail a bytes h k = h (suc k)

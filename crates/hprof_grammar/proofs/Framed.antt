@@ -1,5 +1,5 @@
 -- What stands in the frame of a record, by its tag.
-use Rattle.std.proofs.Common.{List, [], ap, arith, drop, length, refl, subst, sym, true, ℕ, ◌*◌, ◌++◌, ◌+◌, ◌∙◌, ◌∷◌, ◌≡◌, ◌≤◌}
+use Rattle.std.proofs.Common.{List, [], ap, arith, drop, length, refl, subst, sym, true, ℕ, ◌*◌, ◌++◌, ◌+◌, ◌∙◌, ◌∷◌, ◌≡◌, ◌≤◌, Bool, Fits, slice_index, w8}
 use Rattle.std.proofs.Math.ListN.{drop_of_length-le}
 use Rattle.std.proofs.lemmas.List.{append-nil, length-drop}
 use Rattle.byteorder.specs.Endian.{big_bytes, big_number}
@@ -10,7 +10,7 @@ use Rattle.hprof_grammar.specs.Record.{IsOther}
 use Rattle.hprof_grammar.specs.Record.Record.{heap, load_class, other, string}
 use Rattle.hprof_grammar.specs.Tables.{is_heap_tag, is_length_of}
 use Rattle.hprof_grammar.specs.declared.order.Order.{Order}
-use Rattle.hprof_grammar.proofs.Bytes.{IsBytes, bytes-drop, number-lt, number_parts}
+use Rattle.hprof_grammar.proofs.Bytes.{IsBytes, bytes-drop, in_bytes, number-lt, number_parts}
 use Rattle.hprof_grammar.proofs.TableLaws.{load_length, string_length}
 
 -- what is known of a frame whose tag, length and order are right
@@ -18,6 +18,14 @@ pub record IsPlacedFrame (tag : ℕ) (body : List ℕ) (was next : Order) (old :
   pub bytes : IsBytes body
   pub length_allowed : is_length_of old.id_size tag (length body) ≡ true
   pub order : (tags : List ℕ) → IsAt was tags → IsAt next (tags ++ tag ∷ [])
+
+pub placed_frame : (tag : ℕ) (body : List ℕ) (was next : Order) (old : Places) (s : ℕ) (allowed : Bool) → ((k : ℕ) → Fits w8 (slice_index body k)) → s ≡ old.id_size
+    → allowed ≡ is_length_of s tag (length body) → allowed ≡ true → ((tags : List ℕ) → IsAt was tags → IsAt next (tags ++ tag ∷ [])) → IsPlacedFrame tag body was next old
+placed_frame tag body was next old s allowed bytes size test passed order = record {
+  bytes = in_bytes body bytes;
+  length_allowed = subst (λ (n : ℕ). is_length_of n tag (length body) ≡ true) size (sym test ∙ passed);
+  order = order;
+}
 
 pub string_framed : (at tag time : ℕ) (body : List ℕ) (was next : Order) (old new : Places) → tag ≡ 0x01 → IsPlacedFrame tag body was next old → new ≡ with_string old at → AddsRecord at tag time body was next old new
 string_framed at tag time body was next old new e frame noted =

@@ -4,7 +4,6 @@ ghost use Rattle.std.specs.Prelude.{◌≡◌, ◌+◌, ◌<◌, ◌≤◌, ◌^
 ghost use Rattle.hprof_grammar.specs.Joining.{AddsAll, AddsRecord, FrameFault, HasRecordFault};
 ghost use Rattle.hprof_grammar.specs.Refusal.{IfFault};
 
-use crate::codes;
 use crate::dump::Dump;
 use crate::flaw::{FormatFault, ReadRefusal};
 use crate::frame::next_frame;
@@ -12,7 +11,7 @@ use crate::heap_records::note_subs;
 use crate::order::Order;
 use crate::reader::Reader;
 use crate::tables::is_length_of;
-use crate::tags;
+use crate::{codes, tags};
 use std::alloc::Allocator;
 
 /// Where the records begin.

@@ -1,7 +1,7 @@
 use Rattle.std.proofs.Common.{ap, arith, drop, sym, true, ◌∙◌, ◌≡◌, ◌≤◌}
 use Rattle.std.proofs.lemmas.List.{take_rest}
 use Rattle.byteorder.specs.Endian.{big_number}
-use Rattle.hprof_grammar.proofs.Bytes.{IsBytes}
+use Rattle.hprof_grammar.proofs.Bytes.{IsBytes, in_bytes}
 use Rattle.hprof_grammar.proofs.Headers.{begins_with_magic, header_cut, header_missing, header_stands, id_size_wrong, magic_is_found, text_too_large}
 use Rattle.hprof_grammar.proofs.TableLaws.{id_size_high}
 use Rattle.hprof_grammar.proofs.parse.header_id_size.Goals as goal
@@ -21,7 +21,7 @@ returns-then-bytes-2-clause-fault c =
 
 pub returns-then-not-is_id_size-clause-fault : goal.returns-then-not-is_id_size-clause-fault
 returns-then-not-is_id_size-clause-fault c =
-    let bytes : IsBytes c.args.bytes.now = λ k. omega (arith, c.type_inv.bytes k) in
+    let bytes : IsBytes c.args.bytes.now = in_bytes c.args.bytes.now c.type_inv.bytes in
     let size : c.read_u32-size.result ≡ big_number 4 (drop 19 c.args.bytes.now) = c.read_u32-size.ensures ∙ ap (big_number 4) (take_rest c.args.bytes.now 19) in
     id_size_wrong c.read_u32-size.result c.args.bytes.now c.new-then-not-is_id_size.result c.new-then-not-is_id_size.ensures bytes c.if-bytes.false c.if-bytes-2.false
     (begins_with_magic c.args.bytes.now c.starts_with.result c.starts_with.ensures.value c.if-not-starts_with.false) size (sym c.is_id_size.ensures ∙ c.if-not-is_id_size.true)
@@ -33,7 +33,7 @@ overflow_cast-result c =
 
 pub returns-clause-ok : goal.returns-clause-ok
 returns-clause-ok c =
-    let bytes : IsBytes c.args.bytes.now = λ k. omega (arith, c.type_inv.bytes k) in
+    let bytes : IsBytes c.args.bytes.now = in_bytes c.args.bytes.now c.type_inv.bytes in
     let size : c.read_u32-size.result ≡ big_number 4 (drop 19 c.args.bytes.now) = c.read_u32-size.ensures ∙ ap (big_number 4) (take_rest c.args.bytes.now 19) in
     header_stands c.read_u32-size.result c.args.bytes.now bytes c.if-bytes.false c.if-bytes-2.false
     (begins_with_magic c.args.bytes.now c.starts_with.result c.starts_with.ensures.value c.if-not-starts_with.false) size (sym c.is_id_size.ensures ∙ c.if-not-is_id_size.false)

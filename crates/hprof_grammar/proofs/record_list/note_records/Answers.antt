@@ -6,7 +6,7 @@ use Rattle.hprof_grammar.specs.Joining.{FrameFault, HasRecordFault}
 use Rattle.hprof_grammar.specs.Orders.{is_done}
 use Rattle.hprof_grammar.specs.declared.order.Order.{Order}
 use Rattle.hprof_grammar.proofs.Refusals.{fault_passes}
-use Rattle.hprof_grammar.proofs.Bytes.{IsBytes}
+use Rattle.hprof_grammar.proofs.Bytes.{IsBytes, in_bytes}
 use Rattle.hprof_grammar.proofs.Frames.{cut_record, frame_takes}
 use Rattle.hprof_grammar.proofs.RecordSteps.{records_step}
 use Rattle.hprof_grammar.proofs.Wholes.{bytes_left, fault_at_end, fault_in_record, fault_where_cut, frame_room, left_within}
@@ -14,7 +14,7 @@ use Rattle.hprof_grammar.proofs.record_list.note_records.Goals as goal
 
 pub returns-in_default-clause-fault : goal.returns-in_default-clause-fault
 returns-in_default-clause-fault g c =
-    let bytes : IsBytes c.args.bytes.now = λ k. omega (arith, c.type_inv.bytes k) in
+    let bytes : IsBytes c.args.bytes.now = in_bytes c.args.bytes.now c.type_inv.bytes in
     let rest = c.loop-reader.reader.rest.now in
     let adds = c.loop-reader.invariant in
     let left : IsBytes c.loop-reader.reader.rest.now = bytes_left c.args.bytes.now rest c.loop-reader.order c.args.dump.now c.loop-reader.dump adds bytes in
@@ -24,7 +24,7 @@ returns-in_default-clause-fault g c =
 
 pub note_record-requires-clause-room : goal.note_record-requires-clause-room
 note_record-requires-clause-room g c =
-    let bytes : IsBytes c.args.bytes.now = λ k. omega (arith, c.type_inv.bytes k) in
+    let bytes : IsBytes c.args.bytes.now = in_bytes c.args.bytes.now c.type_inv.bytes in
     let rest = c.loop-reader.reader.rest.now in
     let adds = c.loop-reader.invariant in
     let left = bytes_left c.args.bytes.now rest c.loop-reader.order c.args.dump.now c.loop-reader.dump adds bytes in
@@ -33,7 +33,7 @@ note_record-requires-clause-room g c =
 
 pub returns-in_err-order-clause-fault : goal.returns-in_err-order-clause-fault
 returns-in_err-order-clause-fault g c =
-    let bytes : IsBytes c.args.bytes.now = λ k. omega (arith, c.type_inv.bytes k) in
+    let bytes : IsBytes c.args.bytes.now = in_bytes c.args.bytes.now c.type_inv.bytes in
     let rest = c.loop-reader.reader.rest.now in
     let behind = c.next_frame.new.reader.rest.now in
     let adds = c.loop-reader.invariant in
@@ -47,7 +47,7 @@ returns-in_err-order-clause-fault g c =
 
 pub loop-reader-smaller : goal.loop-reader-smaller
 loop-reader-smaller g c =
-    let bytes : IsBytes c.args.bytes.now = λ k. omega (arith, c.type_inv.bytes k) in
+    let bytes : IsBytes c.args.bytes.now = in_bytes c.args.bytes.now c.type_inv.bytes in
     let rest = c.loop-reader.reader.rest.now in
     let left = bytes_left c.args.bytes.now rest c.loop-reader.order c.args.dump.now c.loop-reader.dump c.loop-reader.invariant bytes in
     let frame = frame_takes rest ((c.in-Ok.frame.tag, c.in-Ok.frame.time, c.in-Ok.frame.body.now), c.next_frame.new.reader.rest.now) left c.in-Ok.ensures in
@@ -55,7 +55,7 @@ loop-reader-smaller g c =
 
 pub loop-reader-preserved : goal.loop-reader-preserved
 loop-reader-preserved g c =
-    let bytes : IsBytes c.args.bytes.now = λ k. omega (arith, c.type_inv.bytes k) in
+    let bytes : IsBytes c.args.bytes.now = in_bytes c.args.bytes.now c.type_inv.bytes in
     let rest = c.loop-reader.reader.rest.now in
     let behind = c.next_frame.new.reader.rest.now in
     let adds = c.loop-reader.invariant in
