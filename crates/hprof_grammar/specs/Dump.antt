@@ -8,6 +8,7 @@ use Rattle.hprof_grammar.specs.Tables.{is_id_size}
 use Rattle.hprof_grammar.specs.SubRecord.{SubRecord, spelling_of}
 use Rattle.hprof_grammar.specs.SubRecord.SubRecord.{class_dump, instance_dump, object_array_dump, primitive_array_dump, root}
 
+-- the bytes of the longest text that is read: 1 GiB
 abbrev pub limit : ℕ
 limit = 1073741824
 
@@ -15,14 +16,14 @@ limit = 1073741824
 abbrev pub magic : List ℕ
 magic = codes "JAVA PROFILE 1.0.2" ++ 0 ∷ []
 
--- a text and a zero, the size of identifiers, and a time
+-- the header: that text and its zero, u4 size of identifiers, u8 milliseconds since 1970
 abbrev pub header : ℕ → ℕ → List ℕ
 header s time = magic ++ (big_bytes 4 s ++ big_bytes 8 time)
 
 abbrev pub spellings : ℕ → List Record → List ℕ
 spellings s records = flat_map (record_spelling s) records
 
--- The text is the header, and then the spellings of these records.
+-- The text is the header, and then the spellings of these records, with IDs of s bytes.
 pub record Spells (text : List ℕ) (s : ℕ) (records : List Record) : Type 0 where
   pub size : length text ≤ limit
   pub id_size : is_id_size s ≡ true
@@ -72,7 +73,8 @@ is_object (primitive_array_dump a) = true
 abbrev pub places_where : {X : Type 0} → (X → Bool) → List (ℕ × X) → List ℕ
 places_where is items = map (λ p. p.0) (filter (λ p. is p.1) items)
 
--- What is kept of a dump: the size of identifiers, and places.
+-- What is kept of a dump: the size of identifiers, and where the strings, the loaded classes, the roots and the objects
+-- (class, instance and array dumps) stand, in the order of the text.
 pub record Places : Type 0 where
   pub id_size : ℕ
   pub strings : List ℕ

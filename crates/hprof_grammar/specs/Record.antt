@@ -1,4 +1,4 @@
--- The records of a file.
+-- The records of a file, behind its header: a tag, a time, a length, and a body of so many bytes.
 use Rattle.std.specs.Prelude.{List, [], false, filter, flat_map, length, true, ℕ, ◌++◌, ◌<◌, ◌^◌, ◌∷◌, ◌≡◌}
 use Rattle.std.specs.List.{AllByRecursion}
 use Rattle.byteorder.specs.Endian.{big_bytes}
@@ -6,14 +6,16 @@ use Rattle.hprof_grammar.specs.Tables.{IsSnapshot, is_heap_tag, is_length_of, is
 use Rattle.hprof_grammar.specs.SubRecord.{IsSubRecord, SubRecord, spelling_of}
 
 pub data Record : Type 0 where
+  -- STRING IN UTF8, 0x01: an ID and the text
   string : (time id : ℕ) (text : List ℕ) → Record
+  -- LOAD CLASS, 0x02: the class's serial number, its object ID, a stack trace's serial number, the ID of its name
   load_class : (time serial class stack name : ℕ) → Record
-  -- a heap dump or a segment of one, by its tag
+  -- HEAP DUMP, 0x0C, or HEAP DUMP SEGMENT, 0x1C: whole sub-records
   heap : (tag time : ℕ) (subs : List SubRecord) → Record
-  -- the end of the segments, and whatever is skipped
+  -- HEAP DUMP END, 0x2C, and every record that is skipped by its length
   other : (tag time : ℕ) (body : List ℕ) → Record
 
--- a tag, a time, a length and that many bytes
+-- u1 tag, u4 microseconds since the header's time, u4 length, and that many bytes
 abbrev pub framed : ℕ → ℕ → List ℕ → List ℕ
 framed tag time body = tag ∷ big_bytes 4 time ++ (big_bytes 4 (length body) ++ body)
 
@@ -45,26 +47,29 @@ body_of s (other tag time body) = body
 abbrev pub record_spelling : ℕ → Record → List ℕ
 record_spelling s r = framed (tag_of r) (time_of r) (body_of s r)
 
--- the tags that the manual's other records have
+-- a tag of none of these
 abbrev pub IsOther : ℕ → Type 0
 IsOther tag = (tag ≡ 0x01 → ⊥) × (tag ≡ 0x02 → ⊥) × (is_heap_tag tag ≡ false)
 
+-- the numbers fit their bytes, and what stands in a heap record are sub-records
 abbrev pub HasParts : ℕ → Record → Type 0
 HasParts s (string time id text) = id < 256 ^ s
 HasParts s (load_class time serial class stack name) = (serial < 256 ^ 4) × (class < 256 ^ s) × (stack < 256 ^ 4) × (name < 256 ^ s)
 HasParts s (heap tag time subs) = (is_heap_tag tag ≡ true) × AllByRecursion (IsSubRecord s) subs
 HasParts s (other tag time body) = IsOther tag
 
+-- A record: its parts are right, and its length is one that its tag allows.
 pub record IsRecord (s : ℕ) (r : Record) : Type 0 where
   pub parts : HasParts s r
   pub time : time_of r < 256 ^ 4
   pub length_fits : length (body_of s r) < 256 ^ 4
   pub length_allowed : is_length_of s (tag_of r) (length (body_of s r)) ≡ true
 
--- The records keep the snapshot rule.
+-- The tags that make the snapshot, in their order; the rule speaks of these alone.
 abbrev pub snapshot_tags : List ℕ → List ℕ
 snapshot_tags tags = filter is_snapshot_tag tags
 
+-- The records keep the snapshot rule.
 abbrev pub IsOrderly : List ℕ → Type 0
 IsOrderly tags = IsSnapshot (snapshot_tags tags)
 

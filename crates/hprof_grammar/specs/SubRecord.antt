@@ -1,4 +1,4 @@
--- The sub-records of a heap record, and their fields in order.
+-- The sub-records of a heap record, and their fields in the order that the manual gives them.
 use Rattle.std.specs.Prelude.{List, Some, [], flat_map, length, map, ℕ, ◌*◌, ◌++◌, ◌<◌, ◌^◌, ◌∷◌, ◌≡◌}
 use Rattle.std.specs.List.{AllByRecursion}
 use Rattle.hprof_grammar.specs.Tables.{kind_of, size_of}
@@ -24,6 +24,7 @@ pub record Member : Type 0 where
   pub name : ℕ
   pub type : ℕ
 
+-- CLASS DUMP, 0x20
 pub record Class : Type 0 where
   pub object : ℕ
   pub stack : ℕ
@@ -38,18 +39,21 @@ pub record Class : Type 0 where
   pub statics : List Static
   pub members : List Member
 
+-- INSTANCE DUMP, 0x21: the values are those of the class's own fields, then those of its superclass, and so on up
 pub record Instance : Type 0 where
   pub object : ℕ
   pub stack : ℕ
   pub class : ℕ
   pub values : List ℕ
 
+-- OBJECT ARRAY DUMP, 0x22
 pub record ObjectArray : Type 0 where
   pub object : ℕ
   pub stack : ℕ
   pub class : ℕ
   pub elements : List ℕ
 
+-- PRIMITIVE ARRAY DUMP, 0x23: so many elements of a type, packed
 pub record PrimitiveArray : Type 0 where
   pub object : ℕ
   pub stack : ℕ
@@ -57,6 +61,7 @@ pub record PrimitiveArray : Type 0 where
   pub type : ℕ
   pub values : List ℕ
 
+-- a root of any kind: its object, and the rest of its body, which is read past
 pub record Root : Type 0 where
   pub tag : ℕ
   pub object : ℕ
@@ -69,7 +74,8 @@ pub data SubRecord : Type 0 where
   object_array_dump : ObjectArray → SubRecord
   primitive_array_dump : PrimitiveArray → SubRecord
 
--- an ID is a number of s bytes
+-- An ID is a number of s bytes, s being the header's size of identifiers.
+
 abbrev pub constant_fields : Constant → List Field
 constant_fields c = number 2 c.index ∷ type_code InConstant c.type ∷ raw c.value ∷ []
 
@@ -170,7 +176,7 @@ pub record IsRoot (s : ℕ) (r : Root) : Type 0 where
   pub kind : kind_of s r.tag ≡ Some (kinds.Root (length r.rest))
   pub object : r.object < 256 ^ s
 
--- as a sub-record, but for type codes that may be any
+-- a sub-record, but that its type codes may be any
 abbrev pub IsFormed : ℕ → SubRecord → Type 0
 IsFormed s (root r) = IsRoot s r
 IsFormed s (class_dump c) = (kind_of s 0x20 ≡ Some kinds.Class) × IsClass s c
@@ -178,6 +184,7 @@ IsFormed s (instance_dump i) = (kind_of s 0x21 ≡ Some kinds.Instance) × IsIns
 IsFormed s (object_array_dump a) = (kind_of s 0x22 ≡ Some kinds.ObjectArray) × IsObjectArray s a
 IsFormed s (primitive_array_dump a) = (kind_of s 0x23 ≡ Some kinds.PrimitiveArray) × IsPrimitiveArray s a
 
+-- A sub-record: each type code is one that is allowed where it stands.
 pub record IsSubRecord (s : ℕ) (sub : SubRecord) : Type 0 where
   pub formed : IsFormed s sub
   pub allowed : AreAllowed (fields_of s sub)

@@ -8,11 +8,11 @@ use Rattle.hprof_grammar.specs.declared.tables.Kind.TheVariants.{Class, Instance
 use Rattle.hprof_grammar.specs.declared.tables.TypePlace.{TypePlace}
 use Rattle.hprof_grammar.specs.declared.tables.TypePlace.TheVariants.{InArray, InConstant, InMember, InStatic}
 
--- the sizes of identifiers (the manual leaves them open)
+-- the sizes of identifiers that are read ("size of identifiers" in the manual's header, which leaves it open)
 unfoldable pub is_id_size : ℕ → Bool
 is_id_size s = s == 4
 
--- 2 object, 4 boolean, 5 char, 6 float, 7 double, 8 byte, 9 short, 10 int, 11 long
+-- the manual's basic types: 2 object, 4 boolean, 5 char, 6 float, 7 double, 8 byte, 9 short, 10 int, 11 long
 abbrev pub is_primitive : ℕ → Bool
 is_primitive t = nat_le 4 t && nat_le t 11
 
@@ -23,11 +23,11 @@ is_type_at InStatic t = false
 is_type_at InMember t = (t == 2) || is_primitive t
 is_type_at InArray t = is_primitive t
 
--- the bytes of a value, with identifiers of s bytes
+-- the bytes of a value of a basic type, with identifiers of s bytes; 0 for a code that is no type
 unfoldable pub size_of : ℕ → ℕ → ℕ
 size_of s t = if t == 2 then s else if (t == 4) || (t == 8) then 1 else if (t == 5) || (t == 9) then 2 else if (t == 6) || (t == 10) then 4 else if (t == 7) || (t == 11) then 8 else 0
 
--- how many bytes stand behind a root's object
+-- how many bytes stand behind a root's object, by the sub-record's tag: 0xFF is ROOT UNKNOWN
 unfoldable pub root_rest : ℕ → ℕ → Option ℕ
 root_rest s tag = if tag == 0xFF then Some 0 else None
 
@@ -35,18 +35,20 @@ abbrev pub root_of : Option ℕ → Option Kind
 root_of None = None
 root_of (Some n) = Some (Root n)
 
--- what a sub-record's tag says. A root has that many bytes behind its object's ID
+-- what a sub-record's tag says: 0x20 CLASS DUMP, 0x21 INSTANCE DUMP, or a root with so many bytes behind its object
 unfoldable pub kind_of : ℕ → ℕ → Option Kind
 kind_of s tag = if tag == 0x20 then Some Class else if tag == 0x21 then Some Instance else root_of (root_rest s tag)
 
--- the lengths that the body of a record may have
+-- the lengths that the body of a record may have: STRING IN UTF8 (0x01) has at least its ID, LOAD CLASS (0x02) two IDs
+-- and two u4, HEAP DUMP END (0x2C) nothing; any other record any length
 unfoldable pub is_length_of : ℕ → ℕ → ℕ → Bool
 is_length_of s tag n = if tag == 0x01 then nat_le s n else if tag == 0x02 then n == 8 + 2 * s else if tag == 0x2C then n == 0 else true
 
+-- HEAP DUMP and HEAP DUMP SEGMENT
 abbrev pub is_heap_tag : ℕ → Bool
 is_heap_tag tag = (tag == 0x0C) || (tag == 0x1C)
 
--- the tags of the records that make a snapshot
+-- the tags of the records that make a snapshot: those, and HEAP DUMP END
 abbrev pub is_snapshot_tag : ℕ → Bool
 is_snapshot_tag tag = (tag == 0x0C) || (tag == 0x1C) || (tag == 0x2C)
 
