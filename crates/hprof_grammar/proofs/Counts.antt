@@ -39,3 +39,6 @@ pub list_ends : {A : Type 0} (one : List ℕ → Result (A × List ℕ) Flaw) (n
 list_ends one n i bytes e =
     let left : n - i ≡ zero = omega arith in
     ap (λ k. behind (list_at one k bytes)) left
+
+-- the turns of a loop that reads so many, and its end
+pub ruleset turns = (list_step, list_stops, list_ends)

@@ -50,7 +50,7 @@ fn member(reader: &mut Reader<'_>, id_size: u8) -> Result<(), Flaw>
 }
 
 /// A count of two bytes, and so many entries of a constant pool.
-#[tactic(auto, using(crate::proofs::Counts::list_step, crate::proofs::Counts::list_stops, crate::proofs::Counts::list_ends))]
+#[tactic(auto, using(crate::proofs::Counts::turns))]
 fn constants(reader: &mut Reader<'_>, id_size: u8) -> Result<(), Flaw>
     ensures { Passes result reader.new.rest.now
         (counted_at 2 (constant_at id_size) reader.old.rest.now) }
@@ -63,7 +63,7 @@ fn constants(reader: &mut Reader<'_>, id_size: u8) -> Result<(), Flaw>
 }
 
 /// A count of two bytes, and so many static fields.
-#[tactic(auto, using(crate::proofs::Counts::list_step, crate::proofs::Counts::list_stops, crate::proofs::Counts::list_ends))]
+#[tactic(auto, using(crate::proofs::Counts::turns))]
 fn statics(reader: &mut Reader<'_>, id_size: u8) -> Result<(), Flaw>
     requires low { 1 ≤ id_size }
     requires high { id_size ≤ 8 }
@@ -78,7 +78,7 @@ fn statics(reader: &mut Reader<'_>, id_size: u8) -> Result<(), Flaw>
 }
 
 /// A count of two bytes, and so many instance fields.
-#[tactic(auto, using(crate::proofs::Counts::list_step, crate::proofs::Counts::list_stops, crate::proofs::Counts::list_ends))]
+#[tactic(auto, using(crate::proofs::Counts::turns))]
 fn members(reader: &mut Reader<'_>, id_size: u8) -> Result<(), Flaw>
     requires low { 1 ≤ id_size }
     requires high { id_size ≤ 8 }
@@ -142,7 +142,7 @@ fn object_array(reader: &mut Reader<'_>, id_size: u8) -> Result<(), Flaw>
     elements(reader, id_size, count)
 }
 
-#[tactic(auto, using(crate::proofs::Counts::list_step, crate::proofs::Counts::list_stops, crate::proofs::Counts::list_ends))]
+#[tactic(auto, using(crate::proofs::Counts::turns))]
 fn elements(reader: &mut Reader<'_>, id_size: u8, count: u64) -> Result<(), Flaw>
     requires low { 1 ≤ id_size }
     requires high { id_size ≤ 8 }
