@@ -7,6 +7,8 @@ mod names;
 mod report;
 mod streams;
 mod tally;
+#[cfg(test)]
+mod tests;
 mod text;
 mod writing;
 

@@ -103,3 +103,35 @@ fn primitive_name(code: u8) -> &'static [u8]
         _ => b"long[]",
     }
 }
+
+#[cfg(test)]
+mod tests {
+    use super::*;
+    use std::test::Fail;
+
+    #[test]
+    fn shows_the_worked_names(rt: HostRuntime) -> Result<(), Fail> {
+        let names: [(&[u8], &str); 5] = [
+            (b"A \xc3", "A\\x20\\xc3"),
+            (b"[Ljava/lang/Object;", "[Ljava/lang/Object;"),
+            (b"!~", "!~"),
+            (b"\\\x7f\x00\x0a", "\\x5c\\x7f\\x00\\x0a"),
+            (b"", ""),
+        ];
+        for (text, want) in names {
+            let mut shown = Vec::new(rt.alloc());
+            append_shown(&mut shown, text)?;
+            assert_eq!(rt; shown.as_slice(), want.as_bytes());
+        }
+        for (class, want) in [
+            (0xab0, "?0xab0"),
+            (0, "?0x0"),
+            (u64::MAX, "?0xffffffffffffffff"),
+        ] {
+            let mut shown = Vec::new(rt.alloc());
+            append_unnamed(&mut shown, class)?;
+            assert_eq!(rt; shown.as_slice(), want.as_bytes());
+        }
+        Ok(())
+    }
+}
