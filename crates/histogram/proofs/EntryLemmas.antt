@@ -7,11 +7,10 @@ use Rattle.std.proofs.lemmas.List.FromFn.{fill_by_all, filter_of_map_range_with_
 use Rattle.std.proofs.lemmas.Simd.{map-map}
 use Rattle.heap_graph.specs.Histogram.{Entry, all_rows, entries, entry}
 use Rattle.heap_graph.specs.ObjectGraph.{ObjectGraph, class_count}
-use Rattle.heap_graph.specs.ShownNames.{row_id, shown_row}
 use Rattle.heap_graph.specs.declared.row.RowKey.{RowKey}
 use Rattle.heap_graph.specs.declared.row.RowKey.TheVariants as keys
 use Rattle.histogram.specs.declared.tally.Tally.{Tally}
-use Rattle.histogram.specs.Tallies.{AreTallies, no_object, numbered_row, row_count}
+use Rattle.histogram.specs.Tallies.{AreTallies, entries_below, no_object, numbered_row, row_count, row_entry}
 use Rattle.histogram.proofs.RowLemmas.{at_class, at_objects, at_primitive, number_kinds}
 
 -- the row at each number: of the classes, of the primitive types, of the class objects
@@ -68,26 +67,45 @@ pub all_rows_numbered : (g : ObjectGraph) → all_rows g ≡ map (numbered_row (
 all_rows_numbered g = fill_by_all (numbered_row (class_count g)) (all_rows g) (row_count g) keys.ClassObject (length-all_rows g) (row_at_number g)
 
 pub entries_numbered : (g : ObjectGraph) (xs : List ℕ)
-    → entries g xs ≡ filter (λ e. nat_lt 0 e.count) (map (λ n. entry g xs (numbered_row (class_count g) n)) (range_with_len 0 (row_count g)))
+    → entries g xs ≡ entries_below g xs (row_count g)
 unfolding entries
 entries_numbered g xs = ap (λ rows. filter (λ e. nat_lt 0 e.count) (map (entry g xs) rows)) (all_rows_numbered g)
     ∙ ap (filter (λ e. nat_lt 0 e.count)) (map-map (entry g xs) (numbered_row (class_count g)) (range_with_len 0 (row_count g)))
 
+pub all_entries : (g : ObjectGraph) (xs : List ℕ) (shown : List Entry) (n : ℕ) → n ≡ row_count g → shown ≡ entries_below g xs n → shown ≡ entries g xs
+all_entries g xs shown n all are = are ∙ ap (entries_below g xs) all ∙ sym (entries_numbered g xs)
+
 -- the entry of a row that has a tally
 pub entry_at : (g : ObjectGraph) (xs : List ℕ) (tallies : List Tally) (n : ℕ) (tally : Tally) → AreTallies g xs tallies → n < row_count g
     → tally ≡ get_or tallies n no_object
-    → record { name = shown_row g (numbered_row (class_count g) n); class = row_id g (numbered_row (class_count g) n); count = tally.count; bytes = tally.bytes } ≡ entry g xs (numbered_row (class_count g) n)
+    → row_entry g (numbered_row (class_count g) n) tally ≡ entry g xs (numbered_row (class_count g) n)
 entry_at g xs tallies n tally are below is = rw (is, are.right n below) refl
 
--- one line more, or none
-pub line_more : {X : Type 0} (show : X → Entry) (lines now : List X) (line : X) (f : ℕ → Entry) (n : ℕ)
-    → map show lines ≡ filter (λ e. nat_lt 0 e.count) (map f (range_with_len 0 n)) → now ≡ lines ++ line ∷ [] → show line ≡ f n → 0 < (f n).count
-    → map show now ≡ filter (λ e. nat_lt 0 e.count) (map f (range_with_len 0 (n + 1)))
-line_more show lines now line f n were more is some =
-    rw (more, map-append show lines (line ∷ []), were, is, filter_of_map_range_with_len_more (λ e. nat_lt 0 e.count) f 0 n n (omega arith), lt-ltb 0 ((f n).count) some) refl
+-- one line more
+pub line_more : {X : Type 0} (g : ObjectGraph) (xs : List ℕ) (tallies : List Tally) (show : X → Entry) (lines pushed now : List X) (line : X) (row : RowKey) (tally : Tally) (n : ℕ)
+    → AreTallies g xs tallies → n < row_count g → tally ≡ get_or tallies n no_object → 0 < tally.count
+    → row ≡ numbered_row (class_count g) n → show line ≡ row_entry g row tally → pushed ≡ lines ++ line ∷ [] → now ≡ pushed
+    → map show lines ≡ entries_below g xs n → map show now ≡ entries_below g xs (n + 1)
+line_more g xs tallies show lines pushed now line row tally n are below is some row_is line_is more same were =
+    let f : ℕ → Entry = λ k. entry g xs (numbered_row (class_count g) k) in
+    let made = entry_at g xs tallies n tally are below is in
+    let shown : show line ≡ f n = line_is ∙ ap (λ r. row_entry g r tally) row_is ∙ made in
+    let counted : 0 < (f n).count = omega (arith, some, ap (λ e. e.count) made) in
+    rw (
+      same,
+      more,
+      map-append show lines (line ∷ []),
+      were,
+      shown,
+      filter_of_map_range_with_len_more (λ e. nat_lt 0 e.count) f 0 n n (omega arith),
+      lt-ltb 0 ((f n).count) counted,
+    ) refl
 
-pub line_less : {X : Type 0} (show : X → Entry) (lines now : List X) (f : ℕ → Entry) (n : ℕ)
-    → map show lines ≡ filter (λ e. nat_lt 0 e.count) (map f (range_with_len 0 n)) → now ≡ lines → (f n).count ≤ 0
-    → map show now ≡ filter (λ e. nat_lt 0 e.count) (map f (range_with_len 0 (n + 1)))
-line_less show lines now f n were same none =
-    rw (same, were, filter_of_map_range_with_len_more (λ e. nat_lt 0 e.count) f 0 n n (omega arith), le-ltb 0 ((f n).count) none) (sym (append-nil _))
+-- or none
+pub line_less : {X : Type 0} (g : ObjectGraph) (xs : List ℕ) (tallies : List Tally) (show : X → Entry) (lines now : List X) (tally : Tally) (n : ℕ)
+    → AreTallies g xs tallies → n < row_count g → tally ≡ get_or tallies n no_object → tally.count ≤ 0 → now ≡ lines
+    → map show lines ≡ entries_below g xs n → map show now ≡ entries_below g xs (n + 1)
+line_less g xs tallies show lines now tally n are below is none same were =
+    let f : ℕ → Entry = λ k. entry g xs (numbered_row (class_count g) k) in
+    let empty : (f n).count ≤ 0 = omega (arith, none, ap (λ e. e.count) (entry_at g xs tallies n tally are below is)) in
+    rw (same, were, filter_of_map_range_with_len_more (λ e. nat_lt 0 e.count) f 0 n n (omega arith), le-ltb 0 ((f n).count) empty) (sym (append-nil (entries_below g xs n)))

@@ -1,16 +1,17 @@
 -- Rows by their numbers.
-use Rattle.std.proofs.Common.{◌≡◌, ◌≢◌, ℕ, ◌+◌, ◌-◌, ◌<◌, ◌≤◌, ◌⊎◌, List, [], ◌∷◌, ◌++◌, true, false, inl, inr, length, get_or, set, refl, sym, ap, ◌∙◌, arith, append-nil, eq-eqb, ne_eqb}
+use Rattle.std.proofs.Common.{Bool, subst, ◌^◌, ◌≡◌, ◌≢◌, ℕ, ◌+◌, ◌-◌, ◌<◌, ◌≤◌, ◌⊎◌, List, [], ◌∷◌, ◌++◌, true, false, inl, inr, length, get_or, set, refl, sym, ap, ◌∙◌, arith, append-nil, eq-eqb, ne_eqb}
 use Rattle.std.proofs.lemmas.Bool.{cases_eq, cases_lt, le-ltb, lt-ltb}
 use Rattle.std.proofs.lemmas.List.{get_or_default, get_or-set_other, get_or-set_same}
 use Rattle.std.proofs.lemmas.List.Elements.{filter-append}
 use Rattle.std.proofs.Math.ListN.{length-set}
 use Rattle.heap_graph.specs.Histogram.{of_row, same_row}
-use Rattle.heap_graph.specs.ObjectGraph.{IsRowIn, ObjectGraph, bytes_at, class_count, row_at}
+use Rattle.heap_graph.specs.ObjectGraph.{IsRowIn, IsWhole, object_count, ObjectGraph, bytes_at, class_count, row_at}
 use Rattle.heap_graph.specs.declared.row.RowKey.{RowKey}
 use Rattle.heap_graph.specs.declared.row.RowKey.TheVariants as keys
 use Rattle.histogram.specs.declared.tally.Tally.{Tally}
-use Rattle.histogram.specs.Tallies.{AreTallies, no_object, numbered_row, one_more, row_count, row_number, tally_of}
-use Rattle.histogram.proofs.TallyLemmas.{tally_push}
+use Rattle.histogram.specs.Tallies.{AreTallies, chosen_below, no_object, numbered_row, one_more, row_count, row_number, tally_of}
+use Rattle.hprof_grammar.specs.Dump.{limit}
+use Rattle.histogram.proofs.TallyLemmas.{bytes_fit, chosen_no, chosen_yes, count_fits, length-filter-le, tally_push}
 
 pub at_class : (classes n : ℕ) → n < classes → numbered_row classes n ≡ keys.Class n
 at_class classes n h = rw (lt-ltb n classes h) refl
@@ -78,13 +79,42 @@ module _ (g : ObjectGraph) (xs : List ℕ) (o bytes number : ℕ) (tallies : Lis
       let apart : same_row row (row_at g o) ≡ false = row_elsewhere g (row_at g o) n row_in below (λ e. other (e ∙ sym number_is)) in
       get_or-set_other tallies number n tally no_object other ∙ were.right n below ∙ sym (ap (tally_of g) (of_row_no g row xs o apart))
 
-  pub tallies_take_in : AreTallies g (xs ++ o ∷ []) (set tallies number tally)
+  tallies_take_in : AreTallies g (xs ++ o ∷ []) (set tallies number tally)
   tallies_take_in = record {
     each = length-set tallies number tally ∙ were.each;
     right = λ n below. elim (cases_eq n number) [ inl e ↦ rw e tally_here | inr ne ↦ tally_elsewhere n below ne ];
   }
 
 -- the tally at the number of a row, however it was read
-pub tally_read : (g : ObjectGraph) (xs : List ℕ) (number : ℕ) (tallies : List Tally) (tally : Tally) → AreTallies g xs tallies → number < row_count g
-    → tally ≡ get_or tallies number tally → tally ≡ get_or tallies number no_object
-tally_read g xs number tallies tally are within read = let short : number < length tallies = omega (arith, are.each) in read ∙ get_or_default tallies number tally no_object short
+module _ (g : ObjectGraph) (xs : List ℕ) (number : ℕ) (tallies : List Tally) (tally : Tally) (are : AreTallies g xs tallies) (within : number < row_count g)
+    (read : tally ≡ get_or tallies number tally) where
+  tally_read : tally ≡ get_or tallies number no_object
+  tally_read = let short : number < length tallies = omega (arith, are.each) in read ∙ get_or_default tallies number tally no_object short
+
+  tally_is : tally ≡ tally_of g (of_row g (numbered_row (class_count g) number) xs)
+  tally_is = tally_read ∙ are.right number within
+
+  few : length xs < object_count g → length (of_row g (numbered_row (class_count g) number) xs) < object_count g
+  few short = omega (arith, short, length-filter-le (λ o. same_row (numbered_row (class_count g) number) (row_at g o)) xs)
+
+  -- neither of its numbers goes past 64 bits
+  pub row_count_fits : IsWhole g → length xs < object_count g → tally.count + 1 < 2 ^ 64
+  row_count_fits whole short = count_fits g tally (of_row g (numbered_row (class_count g) number) xs) whole tally_is (few short)
+
+  pub row_bytes_fit : IsWhole g → length xs < object_count g → (bytes : ℕ) → bytes ≤ limit → tally.bytes + bytes < 2 ^ 64
+  row_bytes_fit whole short bytes small = bytes_fit g tally (of_row g (numbered_row (class_count g) number) xs) bytes whole tally_is (few short) small
+
+-- the next object is taken in by its row, or left out
+pub row_takes_in : (g : ObjectGraph) (p : ℕ → Bool) (n bytes number : ℕ) (row : RowKey) (tallies now : List Tally) (before after : Tally) → p n ≡ true
+    → row ≡ row_at g n → IsRowIn g row → number ≡ row_number (class_count g) row → number < row_count g → bytes ≡ bytes_at g n
+    → AreTallies g (chosen_below p n) tallies → before ≡ get_or tallies number before → after ≡ one_more before bytes → now ≡ set tallies number after
+    → AreTallies g (chosen_below p (n + 1)) now
+row_takes_in g p n bytes number row tallies now before after passes row_is row_in number_is within bytes_are were read grown is =
+    let here : IsRowIn g (row_at g n) = subst (IsRowIn g) row_is row_in in
+    let at : number ≡ row_number (class_count g) (row_at g n) = number_is ∙ ap (row_number (class_count g)) row_is in
+    let more : after ≡ one_more (get_or tallies number no_object) bytes = grown ∙ ap (λ t. one_more t bytes) (tally_read g (chosen_below p n) number tallies before were within read) in
+    rw (is, chosen_yes p n passes) (tallies_take_in g (chosen_below p n) n bytes number tallies after here at within bytes_are were more)
+
+pub row_leaves_out : (g : ObjectGraph) (p : ℕ → Bool) (n : ℕ) (tallies now : List Tally) → p n ≡ false → AreTallies g (chosen_below p n) tallies → now ≡ tallies
+    → AreTallies g (chosen_below p (n + 1)) now
+row_leaves_out g p n tallies now fails were same = rw (same, chosen_no p n fails) were

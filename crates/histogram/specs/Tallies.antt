@@ -1,8 +1,9 @@
 -- The numbers of rows, and how many objects a row has. These are words of this crate's own contracts; the histogram is
 -- defined in heap_graph.
-use Rattle.std.specs.Prelude.{Bool, List, filter, if◌then◌else◌, length, nat_lt, slice_index_or, sum_by, ℕ, ◌+◌, ◌-◌, ◌<◌, ◌≡◌}
+use Rattle.std.specs.Prelude.{Bool, List, filter, if◌then◌else◌, length, map, nat_lt, slice_index_or, sum_by, ℕ, ◌+◌, ◌-◌, ◌<◌, ◌≡◌}
 use Rattle.std.specs.List.{range_with_len}
-use Rattle.heap_graph.specs.Histogram.{of_row}
+use Rattle.heap_graph.specs.Histogram.{Entry, entry, of_row}
+use Rattle.heap_graph.specs.ShownNames.{row_id, shown_row}
 use Rattle.heap_graph.specs.ObjectGraph.{ObjectGraph, bytes_at, class_count}
 use Rattle.heap_graph.specs.declared.row.RowKey.{RowKey}
 use Rattle.heap_graph.specs.declared.row.RowKey.TheVariants as keys
@@ -40,3 +41,11 @@ row_count g = class_count g + 9
 pub record AreTallies (g : ObjectGraph) (objects : List ℕ) (tallies : List Tally) : Type 0 where
   pub each : length tallies ≡ row_count g
   pub right : (n : ℕ) → n < row_count g → slice_index_or tallies n no_object ≡ tally_of g (of_row g (numbered_row (class_count g) n) objects)
+
+-- what a row with this tally shows
+abbrev pub row_entry : ObjectGraph → RowKey → Tally → Entry
+row_entry g row t = record { name = shown_row g row; class = row_id g row; count = t.count; bytes = t.bytes }
+
+-- the entries of the rows with a number below n
+abbrev pub entries_below : ObjectGraph → List ℕ → ℕ → List Entry
+entries_below g objects n = filter (λ e. nat_lt 0 e.count) (map (λ k. entry g objects (numbered_row (class_count g) k)) (range_with_len 0 n))

@@ -2,8 +2,8 @@
 ghost use Rattle.std.specs.Prelude.{◌≡◌, IfOk, IsPermutation, IsSorted, map};
 ghost use Rattle.heap_graph.specs.Histogram.{IsHistogram, compare, entries, marked_objects};
 ghost use Rattle.heap_graph.specs.ObjectGraph.{IsRowIn};
-ghost use Rattle.heap_graph.specs.ShownNames.{row_id, shown_row};
 ghost use Rattle.histogram.specs.Lines.{entry_of, histogram_of};
+ghost use Rattle.histogram.specs.Tallies.{row_entry};
 
 use crate::names::{row_class, row_name};
 use crate::report::{Line, Report};
@@ -89,8 +89,7 @@ fn line_of_row<A: Allocator, B: Allocator>(
     tally: Tally,
 ) -> Result<Line<A>, AllocError>
     requires { IsRowIn graph.now row }
-    ensures { IfOk result (λ line. entry_of line
-        ≡ record { name = shown_row graph.now row; class = row_id graph.now row; count = tally.count; bytes = tally.bytes }) }
+    ensures { IfOk result (λ line. entry_of line ≡ row_entry graph.now row tally) }
 {
     let name = row_name(alloc, graph, row)?;
     Ok(Line {
