@@ -60,6 +60,17 @@ impl<T> Counted<T> {
         let Counted { inner, failures: _ } = self;
         inner
     }
+
+    /// Counts a call that failed.
+    fn count_if(&mut self, failed: bool)
+        requires { failures_of self.old < 2 ^ 64 - 1 }
+        ensures counts { failures_of self.new ≡ (if failed then failures_of self.old + 1 else failures_of self.old) }
+        ensures keeps { inner_of self.new ≡ inner_of self.old }
+    {
+        if failed {
+            self.failures += 1;
+        }
+    }
 }
 
 impl<R: Read> Counted<R> {
@@ -71,9 +82,7 @@ impl<R: Read> Counted<R> {
         ensures counts { failures_of self.new ≡ (if is_err result then failures_of self.old + 1 else failures_of self.old) }
     {
         let outcome = self.inner.read(buf);
-        if outcome.is_err() {
-            self.failures += 1;
-        }
+        self.count_if(outcome.is_err());
         outcome
     }
 
@@ -122,9 +131,7 @@ impl<W: Write> Counted<W> {
     {
         let outcome = self.inner.write(buf);
         let took_nothing = matches!(outcome, Ok(0)) && !buf.is_empty();
-        if outcome.is_err() || took_nothing {
-            self.failures += 1;
-        }
+        self.count_if(outcome.is_err() || took_nothing);
         outcome
     }
 
@@ -134,11 +141,9 @@ impl<W: Write> Counted<W> {
         ensures bytes { Keeps (W.contents (inner_of self.old)) (W.contents (inner_of self.new)) }
         ensures counts { failures_of self.new ≡ (if is_err result then failures_of self.old + 1 else failures_of self.old) }
     {
-        let outcome = self.inner.flush();
-        if outcome.is_err() {
-            self.failures += 1;
-        }
-        outcome
+        let flushed = self.inner.flush();
+        self.count_if(flushed.is_err());
+        flushed
     }
 
     /// Writes all these bytes and flushes. A call that fails ends it, and is not tried again.
