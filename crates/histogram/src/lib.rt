@@ -1,7 +1,7 @@
 //! The histogram of a marked heap, and its report.
 #![tactic(auto)]
 
-mod law;
+mod laws;
 mod lines;
 mod names;
 mod report;
@@ -12,7 +12,7 @@ mod tests;
 mod text;
 mod writing;
 
-pub use law::one_histogram;
+pub use laws::{one_histogram, one_report};
 pub use lines::rows;
 pub use report::{Line, Report};
 pub use streams::{Counted, ReaderRefusal};

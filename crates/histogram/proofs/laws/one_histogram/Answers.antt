@@ -1,7 +1,7 @@
 use Rattle.std.proofs.Common.{sym, ◌∙◌}
 use Rattle.heap_graph.specs.Histogram.{entries, marked_objects}
 use Rattle.histogram.proofs.OrderLemmas.{one_arrangement}
-use Rattle.histogram.proofs.law.one_histogram.Goals as goal
+use Rattle.histogram.proofs.laws.one_histogram.Goals as goal
 
 pub returns : goal.returns
 returns c = λ g marks h k a b.

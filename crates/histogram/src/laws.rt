@@ -1,0 +1,27 @@
+//! A report is determined, as laws: functions that do nothing.
+ghost use Rattle.std.specs.Prelude.{◌≡◌, Bool, List, ℕ};
+ghost use Rattle.heap_graph.specs.Histogram.{Histogram, IsHistogram};
+ghost use Rattle.heap_graph.specs.ObjectGraph.{ObjectGraph};
+ghost use Rattle.heap_graph.specs.Report.{IsReport};
+
+use drain::one_marking;
+use heap_graph::one_graph;
+
+/// A graph with marks has one histogram.
+///
+/// The histogram is defined as a relation: its rows are some arrangement in order. Only one arrangement is in order, since the
+/// order tells any two rows apart.
+pub fn one_histogram()
+    ensures { (g : ObjectGraph) (marks : List Bool) (h k : Histogram) → IsHistogram g marks h → IsHistogram g marks k → h ≡ k }
+{}
+
+/// A text has at most one report.
+///
+/// It has one graph, that graph one list of marks that are exactly at the reachable objects, and those one histogram.
+pub fn one_report()
+    ensures { (text report other : List ℕ) → IsReport text report → IsReport text other → report ≡ other }
+{
+    one_graph();
+    one_marking();
+    one_histogram();
+}
