@@ -132,3 +132,6 @@ pub fn step<A: Allocator + Copy>(
         Ok(None)
     }
 }
+
+#[cfg(test)]
+mod tests;

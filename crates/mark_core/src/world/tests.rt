@@ -1,0 +1,187 @@
+//! Lists of events, replayed.
+use super::*;
+use crate::event::Kind;
+use linked_list_allocator::LocalHeap;
+
+// A world and the allocator that it takes memory from, or no world after an event that is not
+// possible.
+#[derive(Drop)]
+struct Replay<A: Allocator + Copy> {
+    alloc: A,
+    world: Option<World<A>>,
+}
+
+impl<A: Allocator + Copy> Replay<A> {
+    fn does(self, worker: u32, kind: Kind<A>) -> Result<Self, OutOfMemory> {
+        let Replay { alloc, world } = self;
+        let world = match world {
+            Some(world) => step(alloc, world, Event { worker, kind })?,
+            None => None,
+        };
+        Ok(Replay { alloc, world })
+    }
+
+    // Pops the first buffer of a stack, undisturbed.
+    fn pops(self, worker: u32, which: Which) -> Result<Self, OutOfMemory> {
+        self.does(worker, Kind::Load(which))?
+            .does(worker, Kind::LoadLink(which))?
+            .does(worker, Kind::Pop(which))
+    }
+
+    // Pushes a buffer without items on the full stack, undisturbed, where this one is on top.
+    fn pushes(self, worker: u32, buffer: u32, top: Option<u32>) -> Result<Self, OutOfMemory> {
+        let items = Vec::new(self.alloc);
+        self.does(worker, Kind::Load(Which::Full))?
+            .does(worker, Kind::StoreLink(buffer, top))?
+            .does(worker, Kind::Push(Which::Full, buffer, items))
+    }
+}
+
+// Object 1 is a root. It leads to 0 and 2, and 2 leads to 0 and 1.
+fn three_objects<A: Allocator + Copy>(alloc: A) -> Result<Replay<A>, OutOfMemory> {
+    let roots = vec![in alloc; 1]?;
+    let pairs = vec![in alloc; (1, 0), (1, 2), (2, 0), (2, 1)]?;
+    let world = World::new(alloc, 3, roots, pairs, 4, 2, 0)?;
+    Ok(Replay {
+        alloc,
+        world: Some(world),
+    })
+}
+
+// Account 0 has claimed the root, and account 1 has one unit and has seen it.
+fn root_claimed<A: Allocator + Copy>(alloc: A) -> Result<Replay<A>, OutOfMemory> {
+    three_objects(alloc)?
+        .does(0, Kind::Claim(1))?
+        .does(0, Kind::Split(1))?
+        .does(1, Kind::Claim(1))
+}
+
+fn root_finished<A: Allocator + Copy>(alloc: A) -> Result<Replay<A>, OutOfMemory> {
+    root_claimed(alloc)?
+        .does(0, Kind::Claim(0))?
+        .does(0, Kind::Claim(2))?
+        .does(0, Kind::Finish(1))
+}
+
+fn all_finished<A: Allocator + Copy>(alloc: A) -> Result<Replay<A>, OutOfMemory> {
+    root_finished(alloc)?
+        .does(0, Kind::Finish(0))?
+        .does(0, Kind::Finish(2))?
+        .does(0, Kind::Join(1))
+}
+
+fn marks_are<A: Allocator + Copy>(replay: &Replay<A>, marks: &[u8]) -> bool {
+    match &replay.world {
+        Some(world) => world.marks() == marks,
+        None => false,
+    }
+}
+
+#[test]
+fn claims_and_finishes(rt: HostRuntime) -> Result<(), OutOfMemory> {
+    let alloc = rt.alloc();
+    let early = three_objects(alloc)?.does(0, Kind::Claim(0))?;
+    assert!(rt; early.world.is_none());
+
+    let claimed = root_claimed(alloc)?;
+    assert!(rt; marks_are(&claimed, &[0, 1, 0]));
+    if let Some(world) = &claimed.world {
+        assert_eq!(rt; world.charge(0), Some(&[1][..]));
+        assert_eq!(rt; world.charge(1), Some(&[][..]));
+        assert_eq!(rt; world.charge(2), None);
+    }
+    let apart = claimed.does(1, Kind::Claim(2))?;
+    assert!(rt; apart.world.is_none());
+
+    let unseen = root_claimed(alloc)?
+        .does(0, Kind::Claim(0))?
+        .does(0, Kind::Finish(1))?;
+    assert!(rt; unseen.world.is_none());
+
+    assert!(rt; marks_are(&root_finished(alloc)?, &[1, 2, 1]));
+    assert!(rt; marks_are(&all_finished(alloc)?, &[2, 2, 2]));
+    Ok(())
+}
+
+// Without objects: account 0 pops the buffers 0, 1 and 2, pushes 2 and then 1, and splits off
+// account 1.
+fn two_stacked<A: Allocator + Copy>(alloc: A) -> Result<Replay<A>, OutOfMemory> {
+    let world = World::new(alloc, 0, Vec::new(alloc), Vec::new(alloc), 4, 2, 5)?;
+    let opened = Replay {
+        alloc,
+        world: Some(world),
+    };
+    opened
+        .pops(0, Which::Empty)?
+        .pops(0, Which::Empty)?
+        .pops(0, Which::Empty)?
+        .pushes(0, 2, None)?
+        .pushes(0, 1, Some(2))?
+        .does(0, Kind::Split(1))
+}
+
+// Account 0 loads the full head and its link, and before its exchange account 1 pops both buffers
+// and pushes the first one again.
+fn overtaken<A: Allocator + Copy>(alloc: A) -> Result<Replay<A>, OutOfMemory> {
+    two_stacked(alloc)?
+        .does(0, Kind::Load(Which::Full))?
+        .does(0, Kind::LoadLink(Which::Full))?
+        .pops(1, Which::Full)?
+        .pops(1, Which::Full)?
+        .pushes(1, 1, None)
+}
+
+#[test]
+fn a_head_that_came_back_is_not_exchanged(rt: HostRuntime) -> Result<(), OutOfMemory> {
+    let alloc = rt.alloc();
+    let stacked = two_stacked(alloc)?;
+    assert!(rt; stacked.world.is_some());
+    if let Some(world) = &stacked.world {
+        assert_eq!(rt; world.head(Which::Full), HeadWord::of(1, 7));
+        assert_eq!(rt; world.head(Which::Empty), HeadWord::of(3, 8));
+        assert_eq!(rt; world.link(1), Some(2));
+        assert_eq!(rt; world.link(2), None);
+        assert_eq!(rt; world.link(4), None);
+    }
+
+    let popped = overtaken(alloc)?.does(0, Kind::Pop(Which::Full))?;
+    assert!(rt; popped.world.is_none());
+
+    let failed = overtaken(alloc)?.does(0, Kind::Fail(Which::Full))?;
+    assert!(rt; is_overtaken(&failed));
+    Ok(())
+}
+
+fn is_overtaken<A: Allocator + Copy>(replay: &Replay<A>) -> bool {
+    match &replay.world {
+        Some(world) => {
+            world.head(Which::Full) == HeadWord::of(1, 10)
+                && world.link(1).is_none()
+                && world.held(0) == Some(&[0][..])
+                && world.held(1) == Some(&[2][..])
+        }
+        None => false,
+    }
+}
+
+#[test]
+fn each_request_may_be_refused(rt: HostRuntime) -> Result<(), OutOfMemory> {
+    let mut refused = false;
+    let mut done = false;
+    for size in 1..80 {
+        let heap = LocalHeap::new(rt.alloc(), size * 64)?;
+        match overtaken(&heap) {
+            Ok(replay) => assert!(rt; is_overtaken(&replay), "stacks in {size}"),
+            Err(OutOfMemory) => refused = true,
+        }
+        match all_finished(&heap) {
+            Ok(replay) => {
+                assert!(rt; marks_are(&replay, &[2, 2, 2]), "marks in {size}");
+                done = true;
+            }
+            Err(OutOfMemory) => refused = true,
+        }
+    }
+    assert!(rt; refused && done);
+    Ok(())
+}
