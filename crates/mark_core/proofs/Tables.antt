@@ -1,5 +1,5 @@
 -- What the tables of a world are after each event.
-use Rattle.std.proofs.Common.{◌≡◌, ◌≢◌, ℕ, ◌<◌, ◌≤◌, max, List, [], length, get_or, set, Option, Some, None, Contains, ap, sym, subst, refl, ◌∙◌, get_or-set_same, get_or-set_other, length-set}
+use Rattle.std.proofs.Common.{◌≡◌, ◌≢◌, ◌↔◌, Bool, true, false, IsTrue, ℕ, ◌<◌, ◌≤◌, max, List, [], length, get_or, set, Option, Some, None, Contains, ap, sym, subst, refl, ◌∙◌, get_or-set_same, get_or-set_other, length-set}
 use Rattle.std.proofs.lemmas.List.{get_or_default, set_comm}
 use native.Mathlib.Decide.{ℕ_discrete}
 use Rattle.tagged_index.specs.Head.{Head, after, last_tag}
@@ -9,7 +9,9 @@ use Rattle.mark_core.specs.Lists.{IsPart}
 use Rattle.mark_core.specs.Account.{Account, Look, look_of, spent, after_claim, after_finish, after_join, after_pop, after_push}
 use Rattle.mark_core.specs.World.{Marking, items_of, account_at, put, put_which}
 use Rattle.mark_core.specs.Event.{Claim, Finish, Join, StoreLink, Pop, Push, popped, CanClaim, CanFinish, CanPop}
-use Rattle.mark_core.specs.Step.{Listing, IsLawful, Does, heads_of, with_head, marking_of, MayPush}
+use Rattle.mark_core.specs.Step.{Listing, IsLawful, Does, Tries, heads_of, with_head, exchanged, marking_of, MayPush}
+use Rattle.std.specs.Bool.{OnTrue}
+use Rattle.mark_core.proofs.Taking.{false_is_not_true}
 use Rattle.mark_core.proofs.Places.{put_here, put_else}
 use Rattle.mark_core.proofs.Within.{stands_here, held_within}
 
@@ -76,21 +78,21 @@ module _ (s : Listing) (w : ℕ) (a b c : Account) (there : w < length s.account
   same_b : b ≡ account_at s.accounts w
   same_b = account_here s.accounts w b there is_b
 
-  pub does_claim : (o f m : ℕ) → o < length s.marks → CanClaim s.setup o a → f ≡ get_or s.marks o f → m ≡ max f 1 → c ≡ after_claim o f b → Does s w (Claim o) (record s { marks = set s.marks o m; accounts = set s.accounts w c })
-  does_claim o f m inside can read raised new =
+  pub does_claim : (o f : ℕ) (marks : List ℕ) → o < length s.marks → CanClaim s.setup o a → f ≡ get_or s.marks o 0 → marks ≡ set s.marks o (max f 1) → c ≡ after_claim o f b → Does s w (Claim o) (record s { marks = marks; accounts = set s.accounts w c })
+  does_claim o f marks inside can found raised new =
       let mark : ℕ = get_or s.marks o 0 in
-      let found : f ≡ mark = read ∙ get_or_default s.marks o f 0 inside in
-      let top : m ≡ max mark 1 = raised ∙ ap (λ x. max x 1) found in
+      let written : marks ≡ set s.marks o (max mark 1) = raised ∙ ap (λ x. set s.marks o (max x 1)) found in
       let last : c ≡ after_claim o mark (account_at s.accounts w) = new ∙ ap (λ x. after_claim o x b) found ∙ ap (after_claim o mark) same_b in
       record {
         allowed = subst (CanClaim s.setup o) same_a can;
         marking =
-            ap (λ f. record (marking_of s) { mark = f; accounts = set s.accounts w c }) (put_in s.marks o m 0 inside ∙ ap (λ x. put o x (λ j. get_or s.marks j 0)) top)
+            ap (λ (ms : List ℕ). record (marking_of s) { mark = λ j. get_or ms j 0; accounts = set s.accounts w c }) written
+            ∙ ap (λ f. record (marking_of s) { mark = f; accounts = set s.accounts w c }) (put_in s.marks o (max mark 1) 0 inside)
             ∙ ap (λ x. record (marking_of s) { mark = put o (max mark 1) (λ j. get_or s.marks j 0); accounts = set s.accounts w x }) last;
         setup = refl;
         links = refl;
         slots = refl;
-        marks = length-set s.marks o m;
+        marks = ap (λ (ms : List ℕ). length ms) written ∙ length-set s.marks o (max mark 1);
       }
 
   pub does_finish : (o : ℕ) → o < length s.marks → CanFinish s.setup o a → c ≡ after_finish o b → Does s w (Finish o) (record s { marks = set s.marks o 2; accounts = set s.accounts w c })
@@ -166,6 +168,23 @@ module _ (s : Listing) (w : ℕ) (a b c : Account) (there : w < length s.account
         slots = same.slots ∙ length-set s.slots i (Some items);
         marks = same.marks;
       }
+
+  -- the exchange of a pop, which is done where the tag is not the last
+  pub tries_pop :
+      (q : Which) (i : ℕ) (l : Option ℕ) → i < length s.slots → PopTold (heads_of s q) a q i l
+      → (slot emptied : Option (List ℕ)) → slot ≡ get_or s.slots i slot → emptied ≡ None → c ≡ after_pop i (items_of slot) b
+      → (done : Bool) (new : Listing) → IsTrue done ↔ ((heads_of s q).tag < last_tag) → OnTrue done (new ≡ exchanged (record s { slots = set s.slots i emptied; accounts = set s.accounts w c }) q l)
+      → Tries s w (Pop q) done new
+  tries_pop q i l inside told slot emptied read gone changed true new low next =
+      subst (Does s w (Pop q)) (sym next) (does_pop q i l inside told (low.0 refl) (after (heads_of s q) l) refl slot emptied read gone changed)
+  tries_pop q i l inside told slot emptied read gone changed false new low next = λ can. false_is_not_true (low.1 can.0.1)
+
+  pub tries_push :
+      (q : Which) (i : ℕ) (items : List ℕ) → MayPush s w q i items → IsPart items b.charge → c ≡ after_push q i items b
+      → (done : Bool) (new : Listing) → IsTrue done ↔ ((heads_of s q).tag < last_tag) → OnTrue done (new ≡ exchanged (record s { slots = set s.slots i (Some items); accounts = set s.accounts w c }) q (Some i))
+      → Tries s w (Push q i items) done new
+  tries_push q i items may part changed true new low next = subst (Does s w (Push q i items)) (sym next) (does_push q i items may (low.0 refl) part (after (heads_of s q) (Some i)) refl changed)
+  tries_push q i items may part changed false new low next = λ can. false_is_not_true (low.1 can.0.1)
 
   pub does_join :
       (v : ℕ) (d e : Account) → v ≢ w → v < length s.accounts → d ≡ get_or s.accounts v d → 0 < d.share → e ≡ spent → c ≡ after_join b d

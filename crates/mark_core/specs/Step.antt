@@ -1,6 +1,6 @@
 -- What `step` is given and what it answers.
 use Rattle.std.specs.Prelude.{◌≡◌, ℕ, ◌<◌, ◌≤◌, Bool, MatchBool, List, [], length, All, Contains, Option, Some, None, slice_index, slice_index_or, vec_items}
-use Rattle.tagged_index.specs.Head.{Head}
+use Rattle.tagged_index.specs.Head.{Head, after}
 use Rattle.mark_core.specs.declared.which.Which.{Which}
 use Rattle.mark_core.specs.declared.which.Which.TheVariants.{Full, Empty}
 use Rattle.mark_core.specs.declared.event.Kind as given
@@ -48,6 +48,10 @@ event_of event = record { worker = event.worker; kind = kind_of event.kind }
 abbrev pub with_head : Listing → Which → Head → Listing
 with_head l Full h = record l { full = h }
 with_head l Empty h = record l { empty = h }
+
+-- the lists after an exchange of the head of a stack
+abbrev pub exchanged : Listing → Which → Option ℕ → Listing
+exchanged l q index = with_head l q (after (heads_of l q) index)
 
 -- what holds between two events: the law, and a place for each buffer and each object
 pub record IsLawful (l : Listing) : Type 0 where

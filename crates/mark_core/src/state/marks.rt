@@ -1,5 +1,5 @@
 //! Claim and finish.
-ghost use Rattle.std.specs.Prelude.{◌<◌, IfOk, length};
+ghost use Rattle.std.specs.Prelude.{◌≡◌, ◌<◌, IfOk, length, max, slice_index, slice_set, vec_len};
 ghost use Rattle.mark_core.specs.Event.{Claim, Finish};
 ghost use Rattle.mark_core.specs.Step.{IsLawful, Tries};
 
@@ -17,9 +17,8 @@ impl<A: Allocator> State<A> {
         if !self.accounts[w].may_claim(&self.setup, object) {
             return Ok(false);
         }
-        let found = self.marks[object as usize];
+        let found = fetch_max(&mut self.marks, object as usize, 1);
         self.accounts[w].claim(object, found)?;
-        self.marks[object as usize] = found.max(1);
         Ok(true)
     }
 
@@ -36,4 +35,15 @@ impl<A: Allocator> State<A> {
         self.marks[object as usize] = 2;
         Ok(true)
     }
+}
+
+// Raises the mark of an object to this one, where it is lower, and answers what it was.
+fn fetch_max<A: Allocator>(marks: &mut Vec<u8, A>, object: usize, mark: u8) -> u8
+    requires { object < vec_len marks.old }
+    ensures found { result ≡ slice_index marks.old.items object }
+    ensures raised { marks.new.items ≡ slice_set marks.old.items object (max result mark) }
+{
+    let found = marks[object];
+    marks[object] = found.max(mark);
+    found
 }

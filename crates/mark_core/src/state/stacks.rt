@@ -1,13 +1,16 @@
 //! Stores of links, pops and pushes.
-ghost use Rattle.std.specs.Prelude.{◌≡◌, ◌<◌, ◌↔◌, IfOk, IsTrue, length, slice_index_or};
+ghost use Rattle.std.specs.Prelude.{◌≡◌, ◌<◌, ◌≤◌, ◌↔◌, IfOk, IsTrue, length, slice_index_or};
+ghost use Rattle.std.specs.Bool.{OnTrue};
+ghost use Rattle.std.specs.Option.{ForSome};
 ghost use Rattle.mark_core.specs.Event.{StoreLink, Pop, Push};
-ghost use Rattle.mark_core.specs.Step.{IsLawful, MayPush, Tries};
+ghost use Rattle.mark_core.specs.Step.{IsLawful, MayPush, Tries, exchanged, heads_of};
 
 use crate::numbers::Numbers;
 use crate::out_of_memory::OutOfMemory;
 use crate::state::State;
 use crate::which::Which;
 use std::alloc::Allocator;
+use tagged_index::{LAST_INDEX, LAST_TAG};
 
 impl<A: Allocator> State<A> {
     /// The account `w` stores the link of a buffer, where it may.
@@ -40,13 +43,9 @@ impl<A: Allocator> State<A> {
         let Some(link) = look.link() else {
             return Ok(false);
         };
-        let Some(next) = now.next(link) else {
-            return Ok(false);
-        };
         let slot = self.slots[buffer as usize].take();
         self.accounts[w].pop(buffer, slot)?;
-        self.set_head(which, next);
-        Ok(true)
+        Ok(self.exchange(which, link))
     }
 
     /// The account `w` exchanges the head of a stack for a buffer with these items, where it may.
@@ -55,22 +54,34 @@ impl<A: Allocator> State<A> {
         requires lawful { IsLawful self.old }
         ensures { Tries self.old w (Push which buffer items) result self.new }
     {
-        let now = self.head(which);
         if !self.may_push(w, which, buffer, &items) {
             return false;
         }
-        let Some(next) = now.next(Some(buffer)) else {
-            return false;
-        };
         if !self.accounts[w].push(which, buffer, items.as_slice()) {
             return false;
         }
         self.slots[buffer as usize] = Some(items);
-        self.set_head(which, next);
-        true
+        self.exchange(which, Some(buffer))
     }
 
-    // What a push asks besides that the items are part of the charge, and that the tag is not the last.
+    // Exchanges the head of a stack for this index with the next tag, and answers whether there is
+    // a next tag.
+    fn exchange(&mut self, which: Which, index: Option<u32>) -> bool
+        requires { ForSome index (λ i. i ≤ LAST_INDEX) }
+        ensures low { IsTrue result ↔ ((heads_of self.old which).tag < LAST_TAG) }
+        ensures next { OnTrue result (self.new ≡ exchanged self.old which index) }
+    {
+        match self.head(which).next(index) {
+            Some(next) => {
+                self.set_head(which, next);
+                true
+            }
+            None => false,
+        }
+    }
+
+    // What a push asks besides that the items are part of the charge, and that the tag is not the
+    // last.
     fn may_push(&self, w: usize, which: Which, buffer: u32, items: &Numbers<A>) -> bool
         requires { w < length self.now.accounts }
         ensures { IsTrue result ↔ MayPush self.now w which buffer items.now }

@@ -13,4 +13,4 @@ returns g c =
     let can = c.if-not-may_claim.ensures.0 refl in
     let inside = claim_within _ lawful c.args.w asked there c.index.ensures c.args.object can in
     rw (← c.self.view_is)
-    (does_claim _ c.args.w asked changed _ there c.index.ensures c.index_mut.ensures.value c.args.object _ _ inside can c.index-found.ensures c.max.ensures c.in_ok-claim.ensures)
+    (does_claim _ c.args.w asked changed _ there c.index.ensures c.index_mut.ensures.value c.args.object c.fetch_max-found.result _ inside can c.fetch_max-found.ensures.found c.fetch_max-found.ensures.raised c.in_ok-claim.ensures)

@@ -1,12 +1,12 @@
 use Rattle.std.proofs.Common.{◌≡◌, ℕ, ◌<◌, List, Option, get_or, ap, sym, subst, refl, arith, ◌∙◌}
 use Rattle.tagged_index.specs.Head.{Head, after, last_tag}
 use Rattle.mark_core.specs.Step.{IsLawful}
-use Rattle.mark_core.proofs.Tables.{does_pop, pop_told}
+use Rattle.mark_core.proofs.Tables.{tries_pop, pop_told}
 use Rattle.mark_core.proofs.Within.{buffer_within, link_within}
 use Rattle.mark_core.proofs.state.State.pop.Goals as goal
 
-pub next-requires : goal.next-requires
-next-requires g c =
+pub exchange-requires : goal.exchange-requires
+exchange-requires g c =
     let lawful = subst IsLawful (sym c.self.view_is) c.requires.lawful in
     let there = rw (← c.self.view_is) at c.requires.there in
     let now = rw (← c.self.view_is) at c.head-now.ensures in
@@ -34,9 +34,7 @@ returns g c =
     (c.if-not-shows.ensures.0 refl) (sym c.index-2.ensures.same ∙ c.in-Some.is) (sym c.link.ensures ∙ c.in-Some-link.is)
     in
     let inside = buffer_within _ lawful c.args.which c.in-Some.buffer told.top in
-    let low = subst (λ (h : Head). h.tag < last_tag) now c.in-Some-next.ensures.0 in
-    let next = c.in-Some-next.ensures.1 ∙ ap (λ (h : Head). after h c.in-Some-link.link) now in
     let slot = subst (λ (x : Option (List ℕ)). x ≡ get_or c.self.inside.slots.items c.in-Some.buffer x) (sym c.take-slot.ensures.value) c.index_mut.ensures.value in
-    rw (c.set_head.ensures, ← c.self.view_is)
-    (does_pop _ c.args.w asked c.index_mut-2.result.now c.pop.new.self there c.index.ensures c.index_mut-2.ensures.value c.args.which c.in-Some.buffer c.in-Some-link.link inside told low
-    c.in-Some-next.next next c.take-slot.result _ slot c.take-slot.ensures.after c.in_ok-pop.ensures)
+    rw (← c.self.view_is)
+    (tries_pop _ c.args.w asked c.index_mut-2.result.now c.pop.new.self there c.index.ensures c.index_mut-2.ensures.value c.args.which c.in-Some.buffer c.in-Some-link.link inside told
+    c.take-slot.result _ slot c.take-slot.ensures.after c.in_ok-pop.ensures c.exchange.result c.exchange.new.self c.exchange.ensures.low c.exchange.ensures.next)
