@@ -1,3 +1,18 @@
 pub mod Cutting
+pub mod Naming
+pub mod Firsts
+pub mod Standings
+pub mod FieldLaws
+pub mod Narrow
+pub mod Testing
+pub mod Linking
+pub mod Adding
+pub mod Lookups
+pub mod GrowingLaws
+pub mod EntryLaws
+pub mod ClassLaws
+pub mod Sizes
+pub mod Wholeness
+pub mod Building
 mod WorkedRows
 mod OneGraph

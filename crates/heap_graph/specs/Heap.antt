@@ -5,22 +5,11 @@ use Rattle.hprof_grammar.specs.Record.{Record, subs_of}
 use Rattle.hprof_grammar.specs.Dump.{is_object}
 use Rattle.hprof_grammar.specs.SubRecord.{Class, SubRecord}
 use Rattle.hprof_grammar.specs.SubRecord.SubRecord.{class_dump, instance_dump, object_array_dump, primitive_array_dump, root}
-
--- the heap list: all sub-records of the heap records, in order
-abbrev pub heap_of : List Record → List SubRecord
-heap_of records = flat_map subs_of records
+pub use Rattle.hprof_grammar.specs.Standing.{heap_of, id_of}
 
 -- The sub-records that describe objects, in order. An object's number is its place here.
 abbrev pub objects : List SubRecord → List SubRecord
 objects heap = filter is_object heap
-
--- the identifier of the object that a sub-record describes, or that a root names
-abbrev pub id_of : SubRecord → ℕ
-id_of (root r) = r.object
-id_of (class_dump c) = c.object
-id_of (instance_dump i) = i.object
-id_of (object_array_dump a) = a.object
-id_of (primitive_array_dump a) = a.object
 
 -- An identifier names the first object that bears it, whatever its kind: the number of that object.
 abbrev pub number_named : List SubRecord → ℕ → Option ℕ

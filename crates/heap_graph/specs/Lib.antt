@@ -14,3 +14,12 @@ pub mod Histogram
 pub mod Report
 pub mod Pieces
 pub mod Tables
+pub mod Named
+pub mod Placed
+pub mod Values
+pub mod Tests
+pub mod Holding
+pub mod NamePlaces
+pub mod Growing
+pub mod Entries
+pub mod Refusal

@@ -9,7 +9,7 @@ use Rattle.heap_graph.specs.References.{AreIdLists, is_unresolved, targets}
 use Rattle.heap_graph.specs.Rows.{bytes_of, row_of}
 use Rattle.hprof_grammar.specs.Record.{Record}
 use Rattle.hprof_grammar.specs.Dump.{limit}
-use Rattle.hprof_grammar.specs.SubRecord.{SubRecord}
+use Rattle.hprof_grammar.specs.SubRecord.{Class, SubRecord}
 use Rattle.heap_graph.specs.declared.row.RowKey.{RowKey}
 use Rattle.heap_graph.specs.declared.row.RowKey.TheVariants as keys
 
@@ -68,8 +68,12 @@ pub record IsWhole (g : ObjectGraph) : Type 0 where
   pub rows_within : (o : ℕ) → o < object_count g → IsRowIn g (row_at g o)
   pub few_bytes : (o : ℕ) → bytes_at g o ≤ limit
 
+-- the class dumps with the texts that name them
+abbrev pub named_in : List Record → Class → NamedClass
+named_in records c = record { id = c.object; text = class_text records c.object }
+
 abbrev pub named_classes : List Record → List NamedClass
-named_classes records = map (λ c. record { id = c.object; text = class_text records c.object }) (class_dumps (heap_of records))
+named_classes records = map (named_in records) (class_dumps (heap_of records))
 
 -- each occurrence counts, in objects that are reachable or not, and in roots
 abbrev pub unresolved_in : List SubRecord → List (List ℕ) → ℕ

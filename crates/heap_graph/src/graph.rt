@@ -1,5 +1,7 @@
 //! The graph of the objects of a dump.
 
+mod build;
+
 ghost use Rattle.std.specs.Prelude.{All, ◌<◌, ◌≡◌, ◌≤◌, option_copied};
 ghost use Rattle.hprof_grammar.specs.Dump.{limit};
 ghost use Rattle.heap_graph.specs.ObjectGraph.{IsRowIn, IsWhole, bytes_at, class_at, class_count, object_count, references_of, row_at};

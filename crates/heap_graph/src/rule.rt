@@ -1,5 +1,8 @@
 //! The rules that the objects of a dump keep, and the faults where one is broken.
 
+ghost use Rattle.std.specs.Prelude.{◌≡◌};
+ghost use Rattle.heap_graph.specs.LinkFault.{code_of};
+
 use thiserror::Error;
 
 /// The rules that each object is tested by, in this order.
@@ -17,6 +20,22 @@ pub(crate) enum LinkRule {
     InstanceSize,
     /// There are at most 16,777,216 objects.
     TooLarge,
+}
+
+impl LinkRule {
+    /// The code of a fault where the rule is broken.
+    pub(crate) fn code(self) -> u8
+        ensures { result ≡ code_of self }
+    {
+        match self {
+            LinkRule::ZeroObject => 9,
+            LinkRule::DuplicateObject => 10,
+            LinkRule::UnknownClass => 11,
+            LinkRule::SuperChain => 12,
+            LinkRule::InstanceSize => 13,
+            LinkRule::TooLarge => 14,
+        }
+    }
 }
 
 /// The first fault in the links of a dump.

@@ -1,0 +1,124 @@
+-- From a dump to its graph.
+use Rattle.std.proofs.Common.{List, Some, [], ap, arith, cond, count_by, filter, length, length-append, map, refl, slice_get, subst, sym, take, ℕ, ◌++◌, ◌+◌, ◌∙◌, ◌∷◌, ◌≡◌, ◌≤◌}
+use Rattle.std.specs.Prelude.{filter_map}
+use Rattle.std.specs.List.{concat}
+use Rattle.std.proofs.lemmas.List.{length-map, length-take}
+use Rattle.std.proofs.lemmas.List.Sums.{sum_by-append}
+use Rattle.hprof_grammar.specs.Dump.{IsDumpOf, Places, is_load, is_string}
+use Rattle.hprof_grammar.specs.Record.{Record}
+use Rattle.hprof_grammar.specs.Standing.{IsPlaced, RecordStands, RecordStandsAt, Sight, StandInTurn, Stands, StandsAt, id_of}
+use Rattle.hprof_grammar.specs.SubRecord.{Class, SubRecord}
+use Rattle.heap_graph.specs.declared.entry.ClassEntry.{ClassEntry}
+use Rattle.heap_graph.specs.declared.entry.ObjectEntry.{ObjectEntry}
+use Rattle.heap_graph.specs.declared.rule.LinkFault.{LinkFault}
+use Rattle.heap_graph.specs.Entries.{AreClasses, AreClassesOf}
+use Rattle.heap_graph.specs.Heap.{as_class, heap_of, objects}
+use Rattle.heap_graph.specs.Holding.{AreLinked}
+use Rattle.heap_graph.specs.LinkFault.{HasLinkFault, IsFirstFault}
+use Rattle.heap_graph.specs.Linked.{IsLinked, most_objects}
+use Rattle.heap_graph.specs.Named.{Resolves, target_in}
+use Rattle.heap_graph.specs.NamePlaces.{AreNames}
+use Rattle.heap_graph.specs.ObjectGraph.{IsGraphOf, IsGraphOfText, NamedClass, ObjectGraph, named_in}
+use Rattle.heap_graph.specs.Placed.{AreObjects}
+use Rattle.heap_graph.specs.References.{is_unresolved, targets}
+use Rattle.heap_graph.specs.Roots.{root_ids}
+use Rattle.heap_graph.specs.Tables.{graph_of, named_class}
+use Rattle.heap_graph.specs.Tests.{IsFaultOf}
+use Rattle.heap_graph.proofs.GrowingLaws.{same_missing, same_targets}
+use Rattle.heap_graph.proofs.Sizes.{id_size_range}
+use Rattle.heap_graph.proofs.Wholeness.{AreAll, few_classes, few_objects, same_classes, take_all}
+
+-- ---- what stands in the bytes, seen by a view of them
+
+pub seen : (v : Sight) (bytes : List ℕ) (s : ℕ) (places known : List ℕ) (subs : List SubRecord) → v.bytes ≡ bytes → v.id_size ≡ s → places ≡ known → StandInTurn (StandsAt s bytes) known subs → StandInTurn (Stands v) places subs
+seen v bytes s places known subs bytes_are size_is places_are stand =
+    subst (λ (xs : List ℕ). StandInTurn (Stands v) xs subs) (sym places_are)
+    (subst (λ (n : ℕ). StandInTurn (StandsAt n v.bytes) known subs) (sym size_is) (subst (λ (bs : List ℕ). StandInTurn (StandsAt s bs) known subs) (sym bytes_are) stand))
+
+pub seen_records : (v : Sight) (bytes : List ℕ) (s : ℕ) (places known : List ℕ) (rs : List Record) → v.bytes ≡ bytes → v.id_size ≡ s → places ≡ known → StandInTurn (RecordStandsAt s bytes) known rs → StandInTurn (RecordStands v) places rs
+seen_records v bytes s places known rs bytes_are size_is places_are stand =
+    subst (λ (xs : List ℕ). StandInTurn (RecordStands v) xs rs) (sym places_are)
+    (subst (λ (n : ℕ). StandInTurn (RecordStandsAt n v.bytes) known rs) (sym size_is) (subst (λ (bs : List ℕ). StandInTurn (RecordStandsAt s bs) known rs) (sym bytes_are) stand))
+
+pub are_linked : (bytes : List ℕ) (dump : Places) (is : IsDumpOf bytes dump) (v : Sight) (places ids : List ℕ) → v.bytes ≡ bytes → v.id_size ≡ dump.id_size → AreObjects v places ids (heap_of is.records) → IsLinked v.id_size (heap_of is.records) → AreLinked v places ids (heap_of is.records)
+are_linked bytes dump is v places ids bytes_are size_is are linked =
+    let range = id_size_range dump.id_size is.spells.id_size in
+    record { are = are; low = omega (arith, size_is, range.0); high = omega (arith, size_is, range.1); short = omega (arith, ap length bytes_are, is.spells.size); linked = linked }
+
+pub are_names : (bytes : List ℕ) (dump : Places) (is : IsDumpOf bytes dump) (v : Sight) (strings loaded : List ℕ) → v.bytes ≡ bytes → v.id_size ≡ dump.id_size → strings ≡ dump.strings → loaded ≡ dump.loaded → IsPlaced bytes dump is.records → AreNames v strings loaded is.records
+are_names bytes dump is v strings loaded bytes_are size_is strings_are loaded_are placed = record {
+  string_each = seen_records v bytes dump.id_size strings dump.strings (filter is_string is.records) bytes_are size_is strings_are placed.strings;
+  loaded_each = seen_records v bytes dump.id_size loaded dump.loaded (filter is_load is.records) bytes_are size_is loaded_are placed.loaded;
+}
+
+-- ---- the fault
+
+pub has_fault : (bytes : List ℕ) (dump : Places) (is : IsDumpOf bytes dump) (s : ℕ) (places : List ℕ) (fault : LinkFault) → s ≡ dump.id_size → places ≡ dump.objects → IsFaultOf s (heap_of is.records) places fault → HasLinkFault bytes fault.code fault.offset
+has_fault bytes dump is s places fault size_is places_are f = record {
+  id_size = dump.id_size;
+  records = is.records;
+  spells = is.spells;
+  orderly = is.orderly;
+  number = f.number;
+  rule = f.rule;
+  first = subst (λ (n : ℕ). IsFirstFault n (heap_of is.records) f.number f.rule) size_is f.first;
+  code_is = f.code_is;
+  place_is = sym (ap (λ (ps : List ℕ). slice_get ps f.number) (places_are ∙ ap (λ (d : Places). d.objects) is.places)) ∙ f.place_is;
+}
+
+-- ---- the graph
+
+pub few_class_entries : (v : Sight) (places ids : List ℕ) (records : List Record) (classes : List ClassEntry) → AreLinked v places ids (heap_of records) → AreClassesOf records (length places) classes → length classes ≤ most_objects
+few_class_entries v places ids records classes linked are =
+    omega (arith, length-map classes named_class, ap length are, length-map (filter_map as_class (take (length places) (objects (heap_of records)))) (named_in records), few_classes (take (length places) (objects (heap_of records))), length-take (length places) (objects (heap_of records)), few_objects v.id_size (heap_of records) linked.linked)
+
+-- the roots that were resolved, and how many were not
+pub record AreRootsOf (heap : List SubRecord) (roots : List ℕ) (missing : ℕ) : Type 0 where
+  pub roots_are : roots ≡ targets heap (root_ids heap)
+  pub missing_is : missing ≡ count_by (is_unresolved heap) (root_ids heap)
+
+pub roots_resolved : (heap : List SubRecord) (ids wanted old new : List ℕ) (missing : ℕ) → ids ≡ map id_of (objects heap) → old ≡ [] → wanted ≡ root_ids heap → Resolves ids wanted old new missing → AreRootsOf heap new missing
+roots_resolved heap ids wanted old new missing ids_are none wanted_are r = record {
+  roots_are = r.appended ∙ ap (λ (xs : List ℕ). xs ++ filter_map (target_in ids) wanted) none ∙ same_targets heap ids wanted ids_are ∙ ap (λ (ws : List ℕ). targets heap ws) wanted_are;
+  missing_is = r.counted ∙ same_missing heap ids wanted ids_are ∙ ap (λ (ws : List ℕ). count_by (is_unresolved heap) ws) wanted_are;
+}
+
+pub graph_is : (v : Sight) (records : List Record) (cuts all roots : List ℕ) (entries : List ObjectEntry) (classes : List ClassEntry) (unresolved missing : ℕ) → AreAll v records cuts all roots (root_ids (heap_of records)) entries classes unresolved → AreRootsOf (heap_of records) roots missing
+    → IsGraphOf v.id_size records (graph_of cuts all roots entries classes (unresolved + missing))
+graph_is v records cuts all roots entries classes unresolved missing are found = record {
+  id_lists = are.links.lists;
+  id_lists_are = record { one_each = are.links.one_each; each = are.links.each };
+  references_are = are.links.pieces_are;
+  roots_are = are.roots_are;
+  rows_are = are.rows_are;
+  bytes_are = are.bytes_are;
+  classes_are = are.classes_are;
+  unresolved_is = ap (λ (n : ℕ). n + missing) are.links.counted ∙ ap (λ (n : ℕ). count_by (is_unresolved (heap_of records)) (concat are.links.lists) + n) found.missing_is
+      ∙ sym (sum_by-append (λ x. cond (is_unresolved (heap_of records) x) 1 0) (concat are.links.lists) (root_ids (heap_of records)));
+}
+
+pub text_graph : (bytes : List ℕ) (dump : Places) (is : IsDumpOf bytes dump) (s : ℕ) (g : ObjectGraph) → s ≡ dump.id_size → IsLinked s (heap_of is.records) → IsGraphOf s is.records g → IsGraphOfText bytes g
+text_graph bytes dump is s g size_is linked graph = record {
+  id_size = dump.id_size;
+  records = is.records;
+  accepted = record { spells = is.spells; orderly = is.orderly; linked = subst (λ (n : ℕ). IsLinked n (heap_of is.records)) size_is linked };
+  graph = subst (λ (n : ℕ). IsGraphOf n is.records g) size_is graph;
+}
+
+-- the identifiers in the table of classes
+same_ids : (classes : List ClassEntry) → map (λ (c : ClassEntry). c.id) classes ≡ map (λ (n : NamedClass). n.id) (map named_class classes)
+same_ids [] = refl
+same_ids (c ∷ cs) = ap (λ (ids : List ℕ). c.id ∷ ids) (same_ids cs)
+
+dump_ids : (records : List Record) (dumps : List Class) → map (λ (c : Class). c.object) dumps ≡ map (λ (n : NamedClass). n.id) (map (named_in records) dumps)
+dump_ids records [] = refl
+dump_ids records (c ∷ cs) = ap (λ (ids : List ℕ). c.object ∷ ids) (dump_ids records cs)
+
+ids_kept : (records : List Record) (classes : List ClassEntry) (dumps : List Class) → map named_class classes ≡ map (named_in records) dumps → map (λ (c : ClassEntry). c.id) classes ≡ map (λ (c : Class). c.object) dumps
+ids_kept records classes dumps e = same_ids classes ∙ ap (λ (ns : List NamedClass). map (λ (n : NamedClass). n.id) ns) e ∙ sym (dump_ids records dumps)
+
+pub class_ids_are : (v : Sight) (places ids : List ℕ) (records : List Record) (classes : List ClassEntry) → AreLinked v places ids (heap_of records) → AreClassesOf records (length places) classes → AreClasses (heap_of records) classes
+class_ids_are v places ids records classes linked are =
+    let whole : take (length places) (objects (heap_of records)) ≡ objects (heap_of records) = take_all (objects (heap_of records)) (length places) (omega (arith, linked.are.stand.count)) in
+    ids_kept records classes (filter_map as_class (take (length places) (objects (heap_of records)))) are
+    ∙ ap (λ (os : List SubRecord). map (λ (c : Class). c.object) (filter_map as_class os)) whole ∙ ap (λ (cs : List Class). map (λ (c : Class). c.object) cs) (same_classes (heap_of records))

@@ -1,0 +1,62 @@
+-- What holds in a linked heap list.
+use Rattle.std.proofs.Common.{Bool, List, None, Option, Some, [], ap, arith, cond, false, length, refl, slice_get, subst, sym, true, ⊎_elim, ℕ, ◌∙◌, ◌∷◌, ◌≡◌}
+use Rattle.std.specs.Prelude.{option_and_then, position, ◌==◌}
+use Rattle.std.proofs.lemmas.Bool.{cases_order, eqb-true}
+use Rattle.hprof_grammar.specs.Standing.{id_of}
+use Rattle.hprof_grammar.specs.SubRecord.{Class, Instance, SubRecord}
+use Rattle.hprof_grammar.specs.SubRecord.SubRecord.{class_dump, instance_dump, object_array_dump, primitive_array_dump, root}
+use Rattle.heap_graph.specs.declared.rule.LinkRule.TheVariants.{InstanceSize, SuperChain, UnknownClass}
+use Rattle.heap_graph.specs.Heap.{as_class, class_named, number_named, objects}
+use Rattle.heap_graph.specs.Layout.{layout_size}
+use Rattle.heap_graph.specs.Linked.{IsLinked}
+use Rattle.heap_graph.proofs.Firsts.{IsHit, position_hit}
+use Rattle.heap_graph.proofs.Narrow.{measured_alone, not_bad_super}
+
+-- the class that an identifier names is an object of the heap list, and bears that identifier
+pub record IsClassThere (heap : List SubRecord) (id : ℕ) (c : Class) : Type 0 where
+  pub number : ℕ
+  pub is : slice_get (objects heap) number ≡ Some (class_dump c)
+  pub id_is : c.object ≡ id
+
+dump_of : (o : SubRecord) (c : Class) → as_class o ≡ Some c → o ≡ class_dump c
+dump_of (root r) c e = absurd (let wrong : None ≡ Some c = e in cc)
+dump_of (class_dump d) c e = let same : d ≡ c = cc in ap (λ (x : Class). class_dump x) same
+dump_of (instance_dump i) c e = absurd (let wrong : None ≡ Some c = e in cc)
+dump_of (object_array_dump a) c e = absurd (let wrong : None ≡ Some c = e in cc)
+dump_of (primitive_array_dump a) c e = absurd (let wrong : None ≡ Some c = e in cc)
+
+there_at : (heap : List SubRecord) (id : ℕ) (c : Class) (n : ℕ) (o : Option SubRecord) → slice_get (objects heap) n ≡ o → IsHit (λ x. id_of x == id) (objects heap) n → option_and_then as_class o ≡ Some c → IsClassThere heap id c
+there_at heap id c n None e hit h = absurd (let wrong : None ≡ Some c = h in cc)
+there_at heap id c n (Some o) e hit h =
+    let same : o ≡ class_dump c = dump_of o c h in
+    let what : hit.what ≡ o = let both : Some hit.what ≡ Some o = sym hit.here ∙ e in cc in
+    record { number = n; is = e ∙ ap (λ (x : SubRecord). Some x) same; id_is = sym (ap id_of same) ∙ sym (ap id_of what) ∙ eqb-true (id_of hit.what) id hit.passes }
+
+there_named : (heap : List SubRecord) (id : ℕ) (c : Class) (p : Option ℕ) → number_named heap id ≡ p → option_and_then as_class (option_and_then (λ n. slice_get (objects heap) n) p) ≡ Some c → IsClassThere heap id c
+there_named heap id c None e h = absurd (let wrong : None ≡ Some c = h in cc)
+there_named heap id c (Some n) e h = there_at heap id c n (slice_get (objects heap) n) refl (position_hit (λ x. id_of x == id) (objects heap) n e) h
+
+there_if : (heap : List SubRecord) (id : ℕ) (c : Class) (b : Bool) → cond b None (option_and_then as_class (option_and_then (λ n. slice_get (objects heap) n) (number_named heap id))) ≡ Some c → IsClassThere heap id c
+there_if heap id c true h = absurd (let wrong : None ≡ Some c = h in cc)
+there_if heap id c false h = there_named heap id c (number_named heap id) refl h
+
+pub class_there : (heap : List SubRecord) (id : ℕ) (c : Class) → class_named heap id ≡ Some c → IsClassThere heap id c
+class_there heap id c h = there_if heap id c (id == 0) h
+
+-- its superclass is that of no class
+pub no_super : (s : ℕ) (heap : List SubRecord) (id : ℕ) (c : Class) → IsLinked s heap → class_named heap id ≡ Some c → c.super ≡ 0
+no_super s heap id c linked named =
+    let it : IsClassThere heap id c = class_there heap id c named in
+    not_bad_super heap c.super (λ bad. linked it.number SuperChain (class_dump c, it.is, bad))
+
+equal_numbers : (a b : ℕ) → ((a ≡ b → ⊥) → ⊥) → a ≡ b
+equal_numbers a b h = ⊎_elim (λ e. e) (⊎_elim (λ l. absurd (h (λ e. omega (arith, e, l)))) (λ l. absurd (h (λ e. omega (arith, e, l))))) (cases_order a b)
+
+-- an instance has as many bytes as the fields of its class
+pub right_size : (s : ℕ) (heap : List SubRecord) (n : ℕ) (i : Instance) (c : Class) → IsLinked s heap → slice_get (objects heap) n ≡ Some (instance_dump i) → class_named heap i.class ≡ Some c → length i.values ≡ layout_size s (c ∷ [])
+right_size s heap n i c linked is named =
+    equal_numbers (length i.values) (layout_size s (c ∷ [])) (λ other. linked n InstanceSize (instance_dump i, is, (c ∷ [], (named, no_super s heap i.class c linked named), measured_alone c, other)))
+
+-- the class of an instance is there
+pub no_unknown : (s : ℕ) (heap : List SubRecord) (n : ℕ) (i : Instance) → IsLinked s heap → slice_get (objects heap) n ≡ Some (instance_dump i) → class_named heap i.class ≡ None → ⊥
+no_unknown s heap n i linked is missing = linked n UnknownClass (instance_dump i, is, missing)

@@ -1,0 +1,187 @@
+-- The graph of a linked heap list is whole.
+use Rattle.std.proofs.Common.{All, Bool, List, None, Option, Some, [], ap, arith, cond, drop, false, filter, get_or, length, map, not, refl, slice_get, subst, suc, sym, take, true, zero, ⊎_elim, ℕ, ◌++◌, ◌+◌, ◌-◌, ◌<◌, ◌∙◌, ◌∷◌, ◌≡◌, ◌≤◌}
+use Rattle.std.specs.Prelude.{filter_map, option_to_list, position, slice_index, slice_index_or, ◌==◌}
+use Rattle.std.specs.List.{cons_option, position_or_len}
+use Rattle.std.proofs.lemmas.Bool.{cases_lt, cases_order, eq-eqb}
+use Rattle.std.proofs.lemmas.List.{get_or-map, get_or_past, length-map}
+use Rattle.std.proofs.lemmas.List.Elements.{All-cons}
+use Rattle.std.proofs.lemmas.Option.{slice_get-get_or}
+use Rattle.hprof_grammar.specs.Dump.{is_object, limit}
+use Rattle.hprof_grammar.specs.Record.{Record}
+use Rattle.hprof_grammar.specs.Standing.{Sight, Stands, id_of}
+use Rattle.hprof_grammar.specs.SubRecord.{Class, IsSubRecord, SubRecord, spelling_of}
+use Rattle.hprof_grammar.specs.SubRecord.SubRecord.{class_dump, instance_dump, object_array_dump, primitive_array_dump, root}
+use Rattle.heap_graph.specs.declared.entry.ClassEntry.{ClassEntry}
+use Rattle.heap_graph.specs.declared.entry.ObjectEntry.{ObjectEntry}
+use Rattle.heap_graph.specs.declared.row.RowKey.{RowKey}
+use Rattle.heap_graph.specs.declared.row.RowKey.TheVariants as keys
+use Rattle.heap_graph.specs.declared.rule.LinkRule.TheVariants.{TooLarge, UnknownClass}
+use Rattle.heap_graph.specs.Entries.{AreClassesOf, AreEntries}
+use Rattle.heap_graph.specs.Growing.{AreLinks}
+use Rattle.heap_graph.specs.Heap.{as_class, class_dumps, class_named, class_number, heap_of, number_named, objects}
+use Rattle.heap_graph.specs.Holding.{AreLinked}
+use Rattle.heap_graph.specs.Linked.{IsLinked, most_objects}
+use Rattle.heap_graph.specs.ObjectGraph.{IsRowIn, IsWhole, NamedClass, ObjectGraph, bytes_at, class_count, named_classes, named_in, object_count, references_of, row_at}
+use Rattle.heap_graph.specs.Pieces.{pieces}
+use Rattle.heap_graph.specs.References.{target_of, targets}
+use Rattle.heap_graph.specs.Rows.{bytes_of, row_of}
+use Rattle.heap_graph.specs.Tables.{graph_of, named_class}
+use Rattle.heap_graph.proofs.Firsts.{IsHit, filter_passes, position_hit}
+use Rattle.heap_graph.proofs.Linking.{IsClassThere, class_there}
+use Rattle.heap_graph.proofs.Sizes.{array_type_range, bytes_width}
+use Rattle.heap_graph.proofs.Standings.{IsThere, there}
+
+-- ---- what is named is there
+
+target_if : (heap : List SubRecord) (id : ℕ) (b : Bool) (t : ℕ) → cond b None (number_named heap id) ≡ Some t → t < length (objects heap)
+target_if heap id true t h = absurd (let wrong : None ≡ Some t = h in cc)
+target_if heap id false t h = (position_hit (λ o. id_of o == id) (objects heap) t h).below
+
+kept_within : (heap : List SubRecord) (o : Option ℕ) (rest : List ℕ) → ((t : ℕ) → o ≡ Some t → t < length (objects heap)) → All (λ t. t < length (objects heap)) rest → All (λ t. t < length (objects heap)) (cons_option o rest)
+kept_within heap None rest here all = all
+kept_within heap (Some t) rest here all = All-cons (λ t. t < length (objects heap)) t rest (here t refl) all
+
+pub targets_within : (heap : List SubRecord) (ids : List ℕ) → All (λ t. t < length (objects heap)) (targets heap ids)
+targets_within heap [] = λ k d h. absurd (omega (arith, h))
+targets_within heap (id ∷ ids) = kept_within heap (target_of heap id) (targets heap ids) (λ t h. target_if heap id (id == 0) t h) (targets_within heap ids)
+
+-- ---- the classes among the objects
+
+same_classes_if : (o : SubRecord) (rest : List SubRecord) (b : Bool) → is_object o ≡ b → filter_map as_class (cond b (o ∷ rest) rest) ≡ cons_option (as_class o) (filter_map as_class rest)
+same_classes_if o rest true e = refl
+same_classes_if (root r) rest false e = refl
+same_classes_if (class_dump c) rest false e = absurd (cc e)
+same_classes_if (instance_dump i) rest false e = absurd (cc e)
+same_classes_if (object_array_dump a) rest false e = absurd (cc e)
+same_classes_if (primitive_array_dump a) rest false e = absurd (cc e)
+
+pub same_classes : (heap : List SubRecord) → filter_map as_class (objects heap) ≡ class_dumps heap
+same_classes [] = refl
+same_classes (o ∷ rest) = same_classes_if o (objects rest) (is_object o) refl ∙ ap (λ (cs : List Class). cons_option (as_class o) cs) (same_classes rest)
+
+few_kept : (o : Option Class) (rest : List Class) (n : ℕ) → length rest ≤ n → length (cons_option o rest) ≤ 1 + n
+few_kept None rest n h = omega (arith, h)
+few_kept (Some c) rest n h = omega (arith, h)
+
+pub few_classes : (os : List SubRecord) → length (filter_map as_class os) ≤ length os
+few_classes [] = omega arith
+few_classes (o ∷ os) = let h = few_kept (as_class o) (filter_map as_class os) (length os) (few_classes os) in omega (arith, h)
+
+-- a class among the objects has a number
+found_if : {X : Type 0} (p : X → Bool) (x : X) (xs : List X) (b : Bool) → position_or_len p xs < length xs → cond b (1 + position_or_len p xs) 0 < 1 + length xs
+found_if p x xs true h = omega (arith, h)
+found_if p x xs false h = omega arith
+
+found_here : {X : Type 0} (p : X → Bool) (x : X) (xs : List X) → p x ≡ true → position_or_len p (x ∷ xs) < length (x ∷ xs)
+found_here p x xs e = let zero_is : position_or_len p (x ∷ xs) ≡ 0 = ap (λ b. cond (not b) (1 + position_or_len p xs) 0) e in omega (arith, zero_is)
+
+found_later : {X : Type 0} (p : X → Bool) (x : X) (xs : List X) → position_or_len p xs < length xs → position_or_len p (x ∷ xs) < length (x ∷ xs)
+found_later p x xs h = let k = found_if p x xs (not (p x)) h in omega (arith, k)
+
+numbered_if : (id : ℕ) (o : SubRecord) (os : List SubRecord) (k : Option Class) → position_or_len (λ c. c.object == id) (filter_map as_class os) < length (filter_map as_class os)
+    → position_or_len (λ c. c.object == id) (cons_option k (filter_map as_class os)) < length (cons_option k (filter_map as_class os))
+numbered_if id o os None h = h
+numbered_if id o os (Some d) h = found_later (λ (c : Class). c.object == id) d (filter_map as_class os) h
+
+numbered : (id : ℕ) (os : List SubRecord) (n : ℕ) (c : Class) → slice_get os n ≡ Some (class_dump c) → c.object ≡ id → position_or_len (λ c. c.object == id) (filter_map as_class os) < length (filter_map as_class os)
+numbered id [] n c h e = absurd (let wrong : None ≡ Some (class_dump c) = h in cc)
+numbered id (o ∷ os) zero c h e =
+    let same : class_dump c ≡ o = (let both : Some o ≡ Some (class_dump c) = h in cc) in
+    subst (λ (x : SubRecord). position_or_len (λ c. c.object == id) (filter_map as_class (x ∷ os)) < length (filter_map as_class (x ∷ os))) same (found_here (λ (d : Class). d.object == id) c (filter_map as_class os) (eq-eqb c.object id e))
+numbered id (o ∷ os) (suc n) c h e = numbered_if id o os (as_class o) (numbered id os n c h e)
+
+pub class_number_below : (heap : List SubRecord) (id : ℕ) (c : Class) → class_named heap id ≡ Some c → class_number heap id < length (class_dumps heap)
+class_number_below heap id c named =
+    let it : IsClassThere heap id c = class_there heap id c named in
+    subst (λ (cs : List Class). position_or_len (λ d. d.object == id) cs < length cs) (same_classes heap) (numbered id (objects heap) it.number c it.is it.id_is)
+
+-- the class of an object that has one is there
+known_if : (heap : List SubRecord) (id : ℕ) (k : Option Class) → class_named heap id ≡ k → (class_named heap id ≡ None → ⊥) → class_number heap id < length (class_dumps heap)
+known_if heap id None e known = absurd (known e)
+known_if heap id (Some c) e known = class_number_below heap id c e
+
+row_there : (s : ℕ) (heap : List SubRecord) (n : ℕ) (o : SubRecord) (g : ObjectGraph) → class_count g ≡ length (class_dumps heap) → IsLinked s heap → slice_get (objects heap) n ≡ Some o → IsSubRecord s o → IsRowIn g (row_of heap o)
+row_there s heap n (root r) g e linked is sub = tt
+row_there s heap n (class_dump c) g e linked is sub = tt
+row_there s heap n (instance_dump i) g e linked is sub = omega (arith, e, known_if heap i.class (class_named heap i.class) refl (λ none. linked n UnknownClass (instance_dump i, is, none)))
+row_there s heap n (object_array_dump a) g e linked is sub = omega (arith, e, known_if heap a.class (class_named heap a.class) refl (λ none. linked n UnknownClass (object_array_dump a, is, none)))
+row_there s heap n (primitive_array_dump a) g e linked is sub = array_type_range a.type sub.allowed.1.1.1.0
+
+-- ---- the whole graph
+
+abbrev no_class : Class
+no_class = record { object = 0; stack = 0; super = 0; loader = 0; signers = 0; domain = 0; reserved = 0; reserved_too = 0; instance_size = 0; constants = []; statics = []; members = [] }
+
+pub few_objects : (s : ℕ) (heap : List SubRecord) → IsLinked s heap → length (objects heap) ≤ most_objects
+few_objects s heap linked =
+    ⊎_elim (λ l. absurd (linked most_objects TooLarge (get_or (objects heap) most_objects (class_dump no_class), slice_get-get_or (objects heap) most_objects (class_dump no_class) l, omega arith)))
+    (λ l. l) (cases_lt most_objects (length (objects heap)))
+
+pub take_all : {X : Type 0} (xs : List X) (n : ℕ) → length xs ≤ n → take n xs ≡ xs
+take_all [] zero h = refl
+take_all [] (suc n) h = refl
+take_all (x ∷ xs) zero h = absurd (omega (arith, h))
+take_all (x ∷ xs) (suc n) h = ap (λ ys. x ∷ ys) (take_all xs n (omega (arith, h)))
+
+-- what the tables of a graph are, of all objects
+pub record AreAll (v : Sight) (records : List Record) (cuts all roots root_ids : List ℕ) (entries : List ObjectEntry) (classes : List ClassEntry) (unresolved : ℕ) : Type 0 where
+  pub links : AreLinks v.id_size (heap_of records) (length (objects (heap_of records))) cuts all unresolved
+  pub rows_are : map (λ e. e.row) entries ≡ map (row_of (heap_of records)) (objects (heap_of records))
+  pub bytes_are : map (λ e. e.bytes) entries ≡ map (bytes_of v.id_size) (objects (heap_of records))
+  pub classes_are : map named_class classes ≡ named_classes records
+  pub roots_are : roots ≡ targets (heap_of records) root_ids
+
+pub all_of : (v : Sight) (places ids : List ℕ) (records : List Record) (cuts all roots root_ids : List ℕ) (entries : List ObjectEntry) (classes : List ClassEntry) (unresolved : ℕ) → AreLinked v places ids (heap_of records)
+    → AreLinks v.id_size (heap_of records) (length places) cuts all unresolved → AreEntries v.id_size (heap_of records) (length places) entries → AreClassesOf records (length places) classes → roots ≡ targets (heap_of records) root_ids
+    → AreAll v records cuts all roots root_ids entries classes unresolved
+all_of v places ids records cuts all roots root_ids entries classes unresolved linked links are classes_are roots_are =
+    let whole : take (length places) (objects (heap_of records)) ≡ objects (heap_of records) = take_all (objects (heap_of records)) (length places) (omega (arith, linked.are.stand.count)) in
+    record {
+      links = subst (λ (n : ℕ). AreLinks v.id_size (heap_of records) n cuts all unresolved) linked.are.stand.count links;
+      rows_are = are.rows_are ∙ ap (λ (os : List SubRecord). map (row_of (heap_of records)) os) whole;
+      bytes_are = are.bytes_are ∙ ap (λ (os : List SubRecord). map (bytes_of v.id_size) os) whole;
+      classes_are = classes_are ∙ ap (λ (os : List SubRecord). map (named_in records) (filter_map as_class os)) whole ∙ ap (λ (cs : List Class). map (named_in records) cs) (same_classes (heap_of records));
+      roots_are = roots_are;
+    }
+
+some_of : (v : Sight) (places ids : List ℕ) (heap : List SubRecord) (n : ℕ) → AreLinked v places ids heap → n < length (objects heap) → IsThere v heap n (get_or places n 0)
+some_of v places ids heap n linked h = there v places ids heap n linked.are (omega (arith, h, linked.are.stand.count))
+
+here_is : {X Y : Type 0} (f : X → Y) (xs : List X) (n : ℕ) (x : X) (e : Y) → slice_get xs n ≡ Some x → get_or (map f xs) n e ≡ f x
+here_is f [] n x e h = absurd (let wrong : None ≡ Some x = h in cc)
+here_is f (y ∷ ys) zero x e h = let same : y ≡ x = cc in ap f same
+here_is f (y ∷ ys) (suc n) x e h = here_is f ys n x e h
+
+refs_within : (heap : List SubRecord) (lists : List (List ℕ)) (o : ℕ) → All (λ t. t < length (objects heap)) (get_or (map (targets heap) lists) o [])
+refs_within heap [] o = targets_within heap []
+refs_within heap (ids ∷ lists) zero = targets_within heap ids
+refs_within heap (ids ∷ lists) (suc o) = refs_within heap lists o
+
+pub is_whole : (v : Sight) (places ids : List ℕ) (records : List Record) (cuts all roots root_ids : List ℕ) (entries : List ObjectEntry) (classes : List ClassEntry) (old unresolved : ℕ) → AreLinked v places ids (heap_of records)
+    → ((at : ℕ) (sub : SubRecord) → Stands v at sub → at + length (spelling_of v.id_size sub) ≤ length v.bytes) → AreAll v records cuts all roots root_ids entries classes old → IsWhole (graph_of cuts all roots entries classes unresolved)
+is_whole v places ids records cuts all roots root_ids entries classes old unresolved linked within are =
+    let heap : List SubRecord = heap_of records in
+    let g : ObjectGraph = graph_of cuts all roots entries classes unresolved in
+    let count : length (pieces cuts all) ≡ length (objects heap) = ap length are.links.pieces_are ∙ length-map are.links.lists (targets heap) ∙ are.links.one_each in
+    let class_total : class_count g ≡ length (class_dumps heap) = ap length are.classes_are ∙ length-map (class_dumps heap) (named_in records) in
+    record {
+      row_each = ap length are.rows_are ∙ length-map (objects heap) (row_of heap) ∙ sym count;
+      bytes_each = ap length are.bytes_are ∙ length-map (objects heap) (bytes_of v.id_size) ∙ sym count;
+      few_objects = omega (arith, few_objects v.id_size heap linked.linked, count);
+      few_classes = omega (arith, class_total, count, few_classes (objects heap), ap length (same_classes heap));
+      roots_within = subst (λ (n : ℕ). All (λ o. o < n) roots) (sym count) (subst (λ (xs : List ℕ). All (λ t. t < length (objects heap)) xs) (sym are.roots_are) (targets_within heap root_ids));
+      references_within = λ o. subst (λ (n : ℕ). All (λ b. b < n) (references_of g o)) (sym count) (subst (λ (xs : List (List ℕ)). All (λ t. t < length (objects heap)) (get_or xs o [])) (sym are.links.pieces_are) (refs_within heap are.links.lists o));
+      rows_within = λ o h.
+          let it : IsThere v heap o (get_or places o 0) = some_of v places ids heap o linked (omega (arith, h, count)) in
+          let row : row_at g o ≡ row_of heap it.object = ap (λ (rs : List RowKey). get_or rs o keys.ClassObject) are.rows_are ∙ here_is (row_of heap) (objects heap) o it.object keys.ClassObject it.is in
+          subst (λ (r : RowKey). IsRowIn g r) (sym row) (row_there v.id_size heap o it.object g class_total linked.linked it.is it.stands.is);
+      few_bytes = λ o. ⊎_elim
+          (λ l.
+          let it : IsThere v heap o (get_or places o 0) = some_of v places ids heap o linked l in
+          let bytes : bytes_at g o ≡ bytes_of v.id_size it.object = ap (λ (bs : List ℕ). slice_index bs o) are.bytes_are ∙ here_is (bytes_of v.id_size) (objects heap) o it.object 0 it.is in
+          omega (arith, bytes, bytes_width v.id_size it.object it.stands.is, within (get_or places o 0) it.object it.stands, linked.short))
+          (λ l.
+          let none : bytes_at g o ≡ 0 = get_or_past (map (λ (e : ObjectEntry). e.bytes) entries) o 0 (omega (arith, ap length are.bytes_are, length-map (objects heap) (bytes_of v.id_size), l)) in
+          omega (arith, none))
+          (cases_lt o (length (objects heap)));
+    }

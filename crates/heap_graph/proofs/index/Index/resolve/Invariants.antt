@@ -1,0 +1,9 @@
+use Rattle.std.proofs.Common.{take, ◌≤◌, ◌≡◌}
+use Rattle.heap_graph.specs.Named.{Resolves}
+use Rattle.heap_graph.proofs.index.Index.resolve.Given as goal
+
+abbrev pub invariant-loop-id : goal.invariant-loop-id
+invariant-loop-id g l = record {
+  resolved : Resolves l.self (take l.id-index l.ids) l.initial.targets.items l.targets.items l.missing;
+  few : l.missing ≤ l.id-index;
+}

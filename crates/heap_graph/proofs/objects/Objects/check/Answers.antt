@@ -1,0 +1,27 @@
+use Rattle.std.proofs.Common.{List, Some, ap, arith, get_or, slice_get, subst, sym, ℕ, ◌<◌, ◌∙◌, ◌≡◌}
+use Rattle.std.proofs.lemmas.Option.{slice_get-get_or}
+use Rattle.hprof_grammar.specs.SubRecord.{SubRecord}
+use Rattle.heap_graph.specs.declared.rule.LinkRule.{LinkRule}
+use Rattle.heap_graph.specs.Linked.{Fails}
+use Rattle.heap_graph.specs.Placed.{AreOf}
+use Rattle.heap_graph.proofs.Standings.{number_below}
+use Rattle.heap_graph.proofs.Testing.{none_before}
+use Rattle.heap_graph.proofs.objects.Objects.check.Goals as goal
+
+pub loop-number-init : goal.loop-number-init
+loop-number-init g c = λ heap are k rule h f. omega (arith, h)
+
+pub returns-in-Some-clause-fault : goal.returns-in-Some-clause-fault
+returns-in-Some-clause-fault g c = λ heap are. record {
+  number = c.loop-number.number;
+  rule = c.in-Some.rule;
+  first = record { here = c.in-Some.ensures heap are; first = λ before other h f. c.loop-number.invariant heap are before other h f };
+  code_is = c.code.ensures;
+  place_is = slice_get-get_or c.args.self.now.places.now c.loop-number.number 0 c.loop-number-test.true ∙ ap (λ (n : ℕ). Some n) (sym c.from.ensures);
+}
+
+pub loop-number-preserved : goal.loop-number-preserved
+loop-number-preserved g c = λ heap are. none_before c.args.self.now.view.id_size heap c.loop-number.number (c.loop-number.invariant heap are) (c.in_default.ensures heap are)
+
+pub returns-clause-linked : goal.returns-clause-linked
+returns-clause-linked g c = λ heap are n rule f. c.loop-number.invariant heap are n rule (omega (arith, number_below c.args.self.now.view c.args.self.now.places.now c.args.self.now.index heap n f.0 are f.1)) f

@@ -1,0 +1,8 @@
+use Rattle.std.proofs.Common.{List}
+use Rattle.hprof_grammar.specs.SubRecord.{SubRecord}
+use Rattle.heap_graph.specs.Entries.{AreClasses, AreEntries}
+use Rattle.heap_graph.specs.Holding.{AreLinkedOf}
+use Rattle.heap_graph.proofs.objects.Objects.entries.Given as goal
+
+abbrev pub invariant-loop-number : goal.invariant-loop-number
+invariant-loop-number g l = (heap : List SubRecord) → AreLinkedOf l.self heap → AreClasses heap l.classes → AreEntries l.self.view.id_size heap l.number l.entries.items

@@ -1,0 +1,35 @@
+-- What the tests of one object answer.
+use Rattle.std.specs.Prelude.{List, None, Option, Some, slice_get, ℕ, ◌≡◌, ◌≤◌}
+use Rattle.hprof_grammar.specs.SubRecord.{SubRecord}
+use Rattle.heap_graph.specs.declared.rule.LinkFault.{LinkFault}
+use Rattle.heap_graph.specs.declared.rule.LinkRule.{LinkRule}
+use Rattle.heap_graph.specs.declared.rule.LinkRule.TheVariants.{DuplicateObject, InstanceSize, SuperChain, TooLarge, UnknownClass, ZeroObject}
+use Rattle.heap_graph.specs.LinkFault.{IsFirstFault, IsLeastFault, code_of}
+use Rattle.heap_graph.specs.Linked.{Fails, HasBadChain, HasWrongSize, LacksClass}
+
+-- the rules on classes, superclasses and sizes
+abbrev pub BreaksLate : ℕ → List SubRecord → SubRecord → LinkRule → Type 0
+BreaksLate s heap o ZeroObject = ⊥
+BreaksLate s heap o DuplicateObject = ⊥
+BreaksLate s heap o UnknownClass = LacksClass heap o
+BreaksLate s heap o SuperChain = HasBadChain heap o
+BreaksLate s heap o InstanceSize = HasWrongSize s heap o
+BreaksLate s heap o TooLarge = ⊥
+
+-- the first of them that the object breaks
+abbrev pub IsLateRule : ℕ → List SubRecord → SubRecord → Option LinkRule → Type 0
+IsLateRule s heap o None = (rule : LinkRule) → BreaksLate s heap o rule → ⊥
+IsLateRule s heap o (Some rule) = BreaksLate s heap o rule × ((other : LinkRule) → BreaksLate s heap o other → code_of rule ≤ code_of other)
+
+-- the first of all rules that object number n breaks
+abbrev pub IsLeastRule : ℕ → List SubRecord → ℕ → Option LinkRule → Type 0
+IsLeastRule s heap n None = (rule : LinkRule) → Fails s heap n rule → ⊥
+IsLeastRule s heap n (Some rule) = IsLeastFault s heap n rule
+
+-- the first fault of the objects, with the place of its object
+pub record IsFaultOf (s : ℕ) (heap : List SubRecord) (places : List ℕ) (fault : LinkFault) : Type 0 where
+  pub number : ℕ
+  pub rule : LinkRule
+  pub first : IsFirstFault s heap number rule
+  pub code_is : fault.code ≡ code_of rule
+  pub place_is : slice_get places number ≡ Some fault.offset

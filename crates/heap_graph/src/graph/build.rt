@@ -1,0 +1,99 @@
+//! A graph from a dump.
+
+ghost use Rattle.std.specs.Prelude.{IfOk, List, filter, ◌≡◌};
+ghost use Rattle.hprof_grammar.specs.Dump.{IsDumpOf, is_root};
+ghost use Rattle.hprof_grammar.specs.Record.{Record};
+ghost use Rattle.hprof_grammar.specs.Standing.{StandInTurn, Stands};
+ghost use Rattle.heap_graph.specs.Heap.{heap_of};
+ghost use Rattle.heap_graph.specs.LinkFault.{HasLinkFault};
+ghost use Rattle.heap_graph.specs.ObjectGraph.{IsGraphOf, IsGraphOfText};
+ghost use Rattle.heap_graph.specs.Refusal.{IfLinkFault};
+ghost use Rattle.heap_graph.specs.Holding.{AreLinkedOf};
+ghost use Rattle.heap_graph.specs.NamePlaces.{AreNamesOf};
+ghost use Rattle.heap_graph.specs.Placed.{AreOf, IsReadFrom};
+
+use crate::graph::Graph;
+use crate::index::Index;
+use crate::names::Names;
+use crate::objects::{Objects, read_ids};
+use crate::rule::LinkRefusal;
+use hprof_grammar::{Dump, View, dump_is_placed, stands_within};
+use std::alloc::{AllocError, Allocator};
+
+/// The objects of a dump, by their identifiers.
+fn read_objects<'d, A: Allocator, B: Allocator>(
+    alloc: A,
+    bytes: &'d [u8],
+    dump: &'d Dump<B>,
+) -> Result<Objects<'d, A>, AllocError>
+    requires { IsDumpOf bytes.now dump.now }
+    ensures { IfOk result (λ o. IsReadFrom o bytes.now dump.now) }
+{
+    dump_is_placed();
+    let view = View::new(bytes, dump.id_size());
+    let ids = read_ids(alloc, &view, dump.objects())?;
+    Ok(Objects {
+        view,
+        places: dump.objects(),
+        index: Index::new(ids),
+    })
+}
+
+impl<'a, A: Allocator + Copy> Graph<'a, A> {
+    /// The graph of linked objects.
+    fn assemble<C: Allocator>(
+        alloc: A,
+        objects: &Objects<'_, C>,
+        names: &Names<'a, '_>,
+        root_places: &[u32],
+    ) -> Result<Graph<'a, A>, AllocError>
+        requires { (records : List Record) × AreLinkedOf objects.now (heap_of records) × AreNamesOf names.now records × StandInTurn (Stands objects.now.view) root_places.now (filter is_root (heap_of records)) }
+        ensures { IfOk result (λ g. (records : List Record) → AreLinkedOf objects.now (heap_of records) → AreNamesOf names.now records → StandInTurn (Stands objects.now.view) root_places.now (filter is_root (heap_of records)) → IsGraphOf objects.now.view.id_size records g) }
+    {
+        stands_within();
+        let classes = objects.classes(alloc, names)?;
+        let entries = objects.entries(alloc, &classes)?;
+        let links = objects.links(alloc)?;
+        let root_ids = read_ids(alloc, &objects.view, root_places)?;
+        let mut roots = Vec::new(alloc);
+        let missing = objects.index.resolve(&root_ids, &mut roots)?;
+        Ok(Graph {
+            cuts: links.cuts,
+            targets: links.targets,
+            roots,
+            objects: entries,
+            classes,
+            unresolved: links.unresolved + missing,
+        })
+    }
+
+    /// The graph of a dump that was read from these bytes: a fault is the first one of its links, and else only memory
+    /// can be missing.
+    pub fn build<B: Allocator>(
+        alloc: A,
+        bytes: &'a [u8],
+        dump: Dump<B>,
+    ) -> Result<Graph<'a, A>, LinkRefusal>
+        requires { IsDumpOf bytes.now dump }
+        ensures graph { IfOk result (λ g. IsGraphOfText bytes.now g) }
+        ensures fault { IfLinkFault result (λ f. HasLinkFault bytes.now f.code f.offset) }
+    {
+        dump_is_placed();
+        let objects = match read_objects(alloc, bytes, &dump) {
+            Ok(objects) => objects,
+            Err(_) => return Err(LinkRefusal::OutOfMemory),
+        };
+        if let Err(fault) = objects.check() {
+            return Err(LinkRefusal::Fault(fault));
+        }
+        let names = Names {
+            view: View::new(bytes, dump.id_size()),
+            strings: dump.strings(),
+            loaded: dump.loaded(),
+        };
+        match Graph::assemble(alloc, &objects, &names, dump.roots()) {
+            Ok(graph) => return Ok(graph),
+            Err(_) => return Err(LinkRefusal::OutOfMemory),
+        }
+    }
+}

@@ -1,0 +1,56 @@
+//! The objects of a dump at their places.
+
+ghost use Rattle.hprof_grammar.specs.SubRecord.{SubRecord};
+ghost use Rattle.hprof_grammar.specs.Standing.{StandInTurn, Stands, id_of};
+ghost use Rattle.std.specs.Prelude.{IfOk, List, map, ◌≡◌};
+
+use crate::index::Index;
+use hprof_grammar::{ObjectKind, View};
+use std::alloc::{AllocError, Allocator};
+
+/// The places of the objects of a dump in the order of the file, and their identifiers.
+#[derive(Drop)]
+pub(crate) struct Objects<'d, A: Allocator> {
+    pub(crate) view: View<'d>,
+    pub(crate) places: &'d [u32],
+    pub(crate) index: Index<A>,
+}
+
+impl<'d, A: Allocator> Objects<'d, A> {
+    ghost use Rattle.heap_graph.specs.Placed.{AreOf, IsClassAt};
+
+    /// The place of the class dump that an identifier names.
+    pub(crate) fn class_named(&self, id: u64) -> Option<u32>
+        requires { (heap : List SubRecord) × AreOf self.now heap }
+        ensures { (heap : List SubRecord) → AreOf self.now heap → IsClassAt self.now.view heap id result }
+    {
+        if id == 0 {
+            return None;
+        }
+        let number = match self.index.find(id) {
+            Some(number) => number,
+            None => return None,
+        };
+        let place = self.places[number];
+        match self.view.kind(place) {
+            ObjectKind::Class => return Some(place),
+            _ => return None,
+        }
+    }
+}
+
+/// The identifiers of the objects or roots at these places.
+pub(crate) fn read_ids<B: Allocator>(
+    alloc: B,
+    view: &View<'_>,
+    places: &[u32],
+) -> Result<Vec<u64, B>, AllocError>
+    requires { (subs : List SubRecord) × StandInTurn (Stands view.now) places.now subs }
+    ensures { IfOk result (λ v. (subs : List SubRecord) → StandInTurn (Stands view.now) places.now subs → v.items ≡ map id_of subs) }
+{
+    let mut ids = Vec::new(alloc);
+    for at in places {
+        ids.push(view.object_id(*at))?;
+    }
+    Ok(ids)
+}
