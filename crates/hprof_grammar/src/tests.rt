@@ -102,12 +102,13 @@ fn one_snapshot(rt: HostRuntime) -> Result<(), Fail> {
     Ok(())
 }
 
-/// Heaps of every size up to one that is large enough: each answer is want of memory, or the right one.
+/// Heaps of every size from 0 to one that is large enough, so that each request is refused in turn: each answer is want of
+/// memory, or the right one.
 #[test]
 fn memory_refused_in_turn(rt: HostRuntime) -> Result<(), Fail> {
     let mut refused = 0u32;
     let mut read_whole = 0u32;
-    for size in 1..40usize {
+    for size in 0..40usize {
         let heap = LocalHeap::new(rt.alloc(), size * 16)?;
         match read(&heap, &FILE) {
             Ok(dump) => {
