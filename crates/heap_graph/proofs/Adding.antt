@@ -1,20 +1,20 @@
 -- The identifiers that an object holds, one part after the other.
-use Rattle.std.proofs.Common.{Bool, List, [], append-nil, append_assoc, ap, arith, cond, false, filter, length, length-append, map, refl, subst, sum_by, sym, true, ℕ, ◌++◌, ◌+◌, ◌<◌, ◌^◌, ◌∙◌, ◌∷◌, ◌≡◌, ◌≤◌}
-use Rattle.std.specs.Prelude.{Err, Ok, OnOk, Result, Some, None, if◌then◌else◌, take, drop, slice_get, ◌==◌}
+use Rattle.std.proofs.Common.{Bool, List, [], append-nil, append_assoc, ap, arith, false, filter, length, length-append, map, refl, sym, true, ℕ, ◌++◌, ◌+◌, ◌<◌, ◌^◌, ◌∙◌, ◌∷◌, ◌≡◌, ◌≤◌}
+use Rattle.std.specs.Prelude.{Err, Ok, OnOk, Result, Some, if◌then◌else◌, take, drop, ◌==◌}
 use Rattle.std.specs.List.{AllByRecursion}
 use Rattle.std.proofs.lemmas.Bool.{eqb-true}
 use Rattle.byteorder.specs.Endian.{big_number}
-use Rattle.hprof_grammar.specs.SubRecord.{Class, Constant, Instance, IsClass, IsConstant, IsStatic, IsSubRecord, Member, ObjectArray, PrimitiveArray, Static, SubRecord}
+use Rattle.hprof_grammar.specs.SubRecord.{Class, Constant, Instance, IsClass, IsConstant, IsStatic, Member, ObjectArray, PrimitiveArray, Static, SubRecord}
 use Rattle.hprof_grammar.specs.SubRecord.SubRecord.{class_dump, instance_dump, object_array_dump, primitive_array_dump}
 use Rattle.hprof_grammar.specs.Tables.{size_of}
-use Rattle.heap_graph.specs.Heap.{class_named, objects}
+use Rattle.heap_graph.specs.Heap.{class_named}
 use Rattle.heap_graph.specs.Holding.{AddsIds}
 use Rattle.heap_graph.specs.Layout.{field_ids, layout}
 use Rattle.heap_graph.specs.Linked.{IsLinked}
 use Rattle.heap_graph.specs.References.{class_ids, constant_ids, instance_ids, static_ids}
-use Rattle.heap_graph.specs.Values.{IsIdValue, value_ids, values_ids}
+use Rattle.heap_graph.specs.Values.{IsIdValue, values_ids}
 use Rattle.heap_graph.proofs.FieldLaws.{size_of_id_type}
-use Rattle.heap_graph.proofs.Linking.{no_super, no_unknown}
+use Rattle.heap_graph.proofs.Linking.{no_super}
 
 pub on_ok : {X E : Type 0} {P Q : Type 0} (r : Result X E) → (P → Q) → OnOk r P → OnOk r Q
 on_ok (Ok x) f h = f h

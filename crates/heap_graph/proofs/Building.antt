@@ -1,5 +1,5 @@
 -- From a dump to its graph.
-use Rattle.std.proofs.Common.{List, Some, [], ap, arith, cond, count_by, filter, length, length-append, map, refl, slice_get, subst, sym, take, ℕ, ◌++◌, ◌+◌, ◌∙◌, ◌∷◌, ◌≡◌, ◌≤◌}
+use Rattle.std.proofs.Common.{List, [], ap, arith, cond, count_by, filter, length, map, refl, slice_get, subst, sym, take, ℕ, ◌++◌, ◌+◌, ◌∙◌, ◌∷◌, ◌≡◌, ◌≤◌}
 use Rattle.std.specs.Prelude.{filter_map}
 use Rattle.std.specs.List.{concat}
 use Rattle.std.proofs.lemmas.List.{length-map, length-take}

@@ -1,5 +1,5 @@
 -- The classes among the objects: one more object.
-use Rattle.std.proofs.Common.{List, None, Option, Some, [], append-nil, append_assoc, ap, map, refl, slice_get, sym, take, ℕ, ◌++◌, ◌+◌, ◌∙◌, ◌∷◌, ◌≡◌}
+use Rattle.std.proofs.Common.{List, None, Option, Some, [], append-nil, ap, map, refl, slice_get, sym, take, ℕ, ◌++◌, ◌+◌, ◌∙◌, ◌∷◌, ◌≡◌}
 use Rattle.std.specs.Prelude.{filter_map, option_to_list}
 use Rattle.std.specs.List.{cons_option}
 use Rattle.std.proofs.lemmas.List.{map-append}

@@ -1,16 +1,14 @@
 -- The rows and the bytes of objects.
-use Rattle.std.proofs.Common.{List, None, Option, Some, [], ap, arith, filter, length, map, refl, slice_get, subst, suc, sum_by, sym, take, zero, ℕ, ◌++◌, ◌+◌, ◌<◌, ◌∙◌, ◌∷◌, ◌≡◌}
-use Rattle.std.specs.Prelude.{filter_map, ◌==◌}
+use Rattle.std.proofs.Common.{List, None, Some, [], ap, arith, map, refl, slice_get, subst, suc, sum_by, sym, take, zero, ℕ, ◌++◌, ◌+◌, ◌∙◌, ◌∷◌, ◌≡◌}
+use Rattle.std.specs.Prelude.{◌==◌}
 use Rattle.std.specs.List.{position_or_len}
 use Rattle.std.proofs.lemmas.List.Sums.{sum_by-cons}
-use Rattle.hprof_grammar.specs.Dump.{is_object}
 use Rattle.hprof_grammar.specs.SubRecord.{Class, Static, SubRecord}
-use Rattle.hprof_grammar.specs.SubRecord.SubRecord.{class_dump, instance_dump, object_array_dump, primitive_array_dump, root}
 use Rattle.hprof_grammar.specs.Tables.{size_of}
 use Rattle.heap_graph.specs.declared.entry.ClassEntry.{ClassEntry}
 use Rattle.heap_graph.specs.declared.entry.ObjectEntry.{ObjectEntry}
 use Rattle.heap_graph.specs.Entries.{AreClasses, AreEntries, IsEntry}
-use Rattle.heap_graph.specs.Heap.{as_class, class_dumps, class_number, objects}
+use Rattle.heap_graph.specs.Heap.{class_dumps, class_number, objects}
 use Rattle.heap_graph.specs.Rows.{bytes_of, row_of}
 use Rattle.heap_graph.proofs.Adding.{typed_static}
 use Rattle.heap_graph.proofs.Firsts.{position_or_len-map}

@@ -1,5 +1,5 @@
 -- The identifiers among the values of fields: one more field.
-use Rattle.std.proofs.Common.{Bool, List, [], append_assoc, ap, arith, drop, false, length, length-take, min, refl, subst, sym, take, true, ℕ, ◌++◌, ◌+◌, ◌∙◌, ◌∷◌, ◌≡◌, ◌≤◌}
+use Rattle.std.proofs.Common.{Bool, List, [], append_assoc, ap, arith, drop, false, length, length-take, refl, take, true, ℕ, ◌++◌, ◌∙◌, ◌∷◌, ◌≡◌, ◌≤◌}
 use Rattle.std.specs.Prelude.{if◌then◌else◌, ◌==◌}
 use Rattle.std.proofs.lemmas.Bool.{eqb-true}
 use Rattle.byteorder.specs.Endian.{big_number}

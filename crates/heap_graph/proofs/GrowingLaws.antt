@@ -1,6 +1,6 @@
 -- The references of one more object.
-use Rattle.std.proofs.Common.{Bool, List, None, Option, Some, [], append-nil, ap, arith, cond, count_by, drop, false, get_or, length, length-append, map, refl, slice_get, subst, suc, sym, take, zero, ⊎_elim, ℕ, ◌*◌, ◌++◌, ◌+◌, ◌-◌, ◌<◌, ◌^◌, ◌∙◌, ◌∷◌, ◌≡◌, ◌≤◌}
-use Rattle.std.specs.Prelude.{filter_map, is_none, position, slice_index, slice_range, ◌==◌}
+use Rattle.std.proofs.Common.{Bool, List, None, Option, Some, [], append-nil, ap, arith, cond, count_by, drop, false, length, length-append, map, refl, slice_get, subst, suc, sym, take, zero, ⊎_elim, ℕ, ◌++◌, ◌+◌, ◌-◌, ◌<◌, ◌^◌, ◌∙◌, ◌∷◌, ◌≡◌, ◌≤◌}
+use Rattle.std.specs.Prelude.{filter_map, is_none, slice_index, slice_range, ◌==◌}
 use Rattle.std.specs.List.{concat, range_with_len}
 use Rattle.std.proofs.Math.ListN.{get_or-append}
 use Rattle.std.proofs.Math.Seq.{drop-append_seam, get_or-append_seam, take-length}
@@ -13,7 +13,7 @@ use Rattle.std.proofs.lemmas.Option.{slice_get_past}
 use Rattle.hprof_grammar.specs.Standing.{Sight, id_of}
 use Rattle.hprof_grammar.specs.SubRecord.{SubRecord}
 use Rattle.heap_graph.specs.Growing.{AddsLinks, AreLinks, IsStart}
-use Rattle.heap_graph.specs.Heap.{number_named, objects}
+use Rattle.heap_graph.specs.Heap.{objects}
 use Rattle.heap_graph.specs.Holding.{AddsIdsOf}
 use Rattle.heap_graph.specs.Named.{is_missing, target_in}
 use Rattle.heap_graph.specs.Pieces.{AreCuts, piece, pieces}

@@ -1,12 +1,12 @@
 -- The first of the strings or loaded classes that bears an identifier.
-use Rattle.std.proofs.Common.{Bool, List, None, Option, Some, [], ap, arith, drop, false, filter, get_or, length, refl, slice_get, subst, suc, sym, true, zero, ℕ, ◌+◌, ◌<◌, ◌∙◌, ◌∷◌, ◌≡◌, ◌≤◌}
+use Rattle.std.proofs.Common.{Bool, List, None, Some, [], ap, arith, drop, false, filter, get_or, length, refl, slice_get, subst, suc, sym, true, zero, ℕ, ◌+◌, ◌<◌, ◌∙◌, ◌∷◌, ◌≡◌, ◌≤◌}
 use Rattle.std.specs.Prelude.{if◌then◌else◌, ◌==◌}
 use Rattle.std.proofs.lemmas.Bool.{eq-eqb, ne_eqb}
 use Rattle.std.proofs.lemmas.Option.{slice_get-get_or}
 use Rattle.hprof_grammar.specs.Dump.{is_load, is_string}
 use Rattle.hprof_grammar.specs.Record.{Record}
 use Rattle.hprof_grammar.specs.Record.Record.{heap, load_class, other, string}
-use Rattle.hprof_grammar.specs.Standing.{RecordStands, Sight, StandInTurn}
+use Rattle.hprof_grammar.specs.Standing.{RecordStands, Sight}
 use Rattle.heap_graph.specs.NamePlaces.{AreNames}
 use Rattle.heap_graph.specs.Names.{name_of, string_named}
 use Rattle.heap_graph.proofs.Firsts.{filter_passes}

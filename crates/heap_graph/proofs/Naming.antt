@@ -1,5 +1,5 @@
 -- What identifiers name: one more identifier.
-use Rattle.std.proofs.Common.{Bool, List, Option, None, Some, [], append_assoc, ap, arith, count_by, false, get_or, length, refl, rules, sym, take, true, ℕ, ◌++◌, ◌+◌, ◌<◌, ◌∙◌, ◌∷◌, ◌≡◌}
+use Rattle.std.proofs.Common.{List, Option, None, Some, [], append_assoc, ap, false, get_or, length, refl, sym, take, true, ℕ, ◌++◌, ◌+◌, ◌<◌, ◌∙◌, ◌∷◌, ◌≡◌}
 use Rattle.std.specs.Option.{option_to_list}
 use Rattle.std.specs.Prelude.{filter_map}
 use Rattle.std.specs.List.{cons_option}

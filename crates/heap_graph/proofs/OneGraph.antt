@@ -1,12 +1,12 @@
 -- A text has at most one graph: its records are determined, so is the chain of a class, and so are the identifiers that an object holds.
-use Rattle.std.proofs.Common.{◌≡◌, ℕ, zero, suc, List, [], ◌∷◌, length, map, Option, Some, None, slice_get, refl, sym, ap, subst, ◌∙◌, arith}
+use Rattle.std.proofs.Common.{◌≡◌, ℕ, suc, List, [], ◌∷◌, length, map, Some, None, slice_get, refl, sym, ap, subst, ◌∙◌, arith}
 use Rattle.hprof_grammar.specs.Record.{Record}
 use Rattle.hprof_grammar.specs.SubRecord.{Class, SubRecord}
 use Rattle.hprof_grammar.specs.SubRecord.SubRecord.{class_dump, instance_dump, object_array_dump, primitive_array_dump, root}
 use Rattle.hprof_grammar.proofs.OneDump.{one_list}
 use Rattle.heap_graph.specs.Heap.{class_named, heap_of, objects}
 use Rattle.heap_graph.specs.Layout.{IsChain}
-use Rattle.heap_graph.specs.ObjectGraph.{IsGraphOf, IsGraphOfText, ObjectGraph, named_classes, unresolved_in}
+use Rattle.heap_graph.specs.ObjectGraph.{IsGraphOf, IsGraphOfText, ObjectGraph, unresolved_in}
 use Rattle.heap_graph.specs.References.{AreIdLists, AreIdsIn, instance_ids, targets}
 
 -- identifier 0 names no class

@@ -1,15 +1,14 @@
 -- An object's bytes stand in its spelling.
-use Rattle.std.proofs.Common.{List, [], append-nil, ap, arith, flat_map, length, length-append, map, refl, subst, sum_by, sym, true, ℕ, ◌*◌, ◌++◌, ◌+◌, ◌∙◌, ◌∷◌, ◌≡◌, ◌≤◌}
+use Rattle.std.proofs.Common.{List, [], append-nil, ap, arith, flat_map, length, length-append, map, sum_by, true, ℕ, ◌*◌, ◌++◌, ◌+◌, ◌∙◌, ◌∷◌, ◌≡◌, ◌≤◌}
 use Rattle.std.specs.List.{AllByRecursion}
 use Rattle.std.proofs.lemmas.Bool.Decides.{nat_tests}
 use Rattle.std.proofs.lemmas.Grind.{flat_map-append}
 use Rattle.std.proofs.lemmas.List.Sums.{sum_by-cons}
-use Rattle.byteorder.specs.Endian.{big_bytes}
 use Rattle.byteorder.specs.Numbers.{length-bytes_high_first}
 use Rattle.hprof_grammar.specs.Spelling.{Field, spelled}
 use Rattle.hprof_grammar.specs.Spelling.Field.{number, raw, type_code}
 use Rattle.hprof_grammar.specs.Spelling as spelling
-use Rattle.hprof_grammar.specs.SubRecord.{Class, Instance, IsStatic, IsSubRecord, Member, ObjectArray, PrimitiveArray, Static, SubRecord, class_fields, constant_fields, fields_of, instance_fields, member_fields, object_array_fields, primitive_array_fields, spelling_of, static_fields}
+use Rattle.hprof_grammar.specs.SubRecord.{IsStatic, IsSubRecord, Static, SubRecord, constant_fields, member_fields, spelling_of, static_fields}
 use Rattle.hprof_grammar.specs.SubRecord.SubRecord.{class_dump, instance_dump, object_array_dump, primitive_array_dump, root}
 use Rattle.hprof_grammar.specs.Tables.{is_id_size, is_type_at, size_of}
 use Rattle.hprof_grammar.specs.declared.tables.TypePlace.TheVariants.{InArray, InStatic}

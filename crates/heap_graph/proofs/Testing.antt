@@ -1,9 +1,9 @@
 -- What the tests of one object show.
-use Rattle.std.proofs.Common.{Bool, Contains, List, None, Option, Some, [], ap, append-nil, arith, get_or, length, map, refl, slice_get, subst, sum_by, sym, take, ⊎_elim, ℕ, ◌+◌, ◌++◌, ◌∙◌, ◌<◌, ◌∷◌, ◌≡◌, ◌≤◌}
+use Rattle.std.proofs.Common.{Contains, List, None, Some, [], ap, append-nil, arith, length, map, refl, slice_get, subst, sum_by, sym, take, ⊎_elim, ℕ, ◌+◌, ◌∙◌, ◌<◌, ◌∷◌, ◌≡◌, ◌≤◌}
 use Rattle.std.proofs.lemmas.Bool.{cases_order}
-use Rattle.hprof_grammar.specs.Standing.{Sight, id_of}
-use Rattle.hprof_grammar.specs.SubRecord.{Class, Instance, ObjectArray, PrimitiveArray, SubRecord}
-use Rattle.hprof_grammar.specs.SubRecord.SubRecord.{class_dump, instance_dump, object_array_dump, primitive_array_dump}
+use Rattle.hprof_grammar.specs.Standing.{id_of}
+use Rattle.hprof_grammar.specs.SubRecord.{Class, Instance, ObjectArray, SubRecord}
+use Rattle.hprof_grammar.specs.SubRecord.SubRecord.{class_dump, instance_dump, object_array_dump}
 use Rattle.hprof_grammar.specs.Tables.{size_of}
 use Rattle.heap_graph.specs.declared.rule.LinkRule.{LinkRule}
 use Rattle.heap_graph.specs.declared.rule.LinkRule.TheVariants.{DuplicateObject, InstanceSize, SuperChain, TooLarge, UnknownClass, ZeroObject}
@@ -11,7 +11,6 @@ use Rattle.heap_graph.specs.Heap.{class_named, objects}
 use Rattle.heap_graph.specs.Layout.{IsChain, layout_size}
 use Rattle.heap_graph.specs.LinkFault.{IsLeastFault, code_of}
 use Rattle.heap_graph.specs.Linked.{Breaks, Fails, most_objects}
-use Rattle.heap_graph.specs.SuperRule.{IsMeasured}
 use Rattle.heap_graph.specs.Tests.{BreaksLate, IsLateRule, IsLeastRule}
 use Rattle.heap_graph.proofs.Narrow.{bad_super, fine_super, measured_alone, only_one_measured}
 

@@ -1,12 +1,12 @@
 -- The graph of a linked heap list is whole.
-use Rattle.std.proofs.Common.{All, Bool, List, None, Option, Some, [], ap, arith, cond, drop, false, filter, get_or, length, map, not, refl, slice_get, subst, suc, sym, take, true, zero, ⊎_elim, ℕ, ◌++◌, ◌+◌, ◌-◌, ◌<◌, ◌∙◌, ◌∷◌, ◌≡◌, ◌≤◌}
-use Rattle.std.specs.Prelude.{filter_map, option_to_list, position, slice_index, slice_index_or, ◌==◌}
+use Rattle.std.proofs.Common.{All, Bool, List, None, Option, Some, [], ap, arith, cond, false, get_or, length, map, not, refl, slice_get, subst, suc, sym, take, true, zero, ⊎_elim, ℕ, ◌+◌, ◌<◌, ◌∙◌, ◌∷◌, ◌≡◌, ◌≤◌}
+use Rattle.std.specs.Prelude.{filter_map, slice_index, ◌==◌}
 use Rattle.std.specs.List.{cons_option, position_or_len}
-use Rattle.std.proofs.lemmas.Bool.{cases_lt, cases_order, eq-eqb}
-use Rattle.std.proofs.lemmas.List.{get_or-map, get_or_past, length-map}
+use Rattle.std.proofs.lemmas.Bool.{cases_lt, eq-eqb}
+use Rattle.std.proofs.lemmas.List.{get_or_past, length-map}
 use Rattle.std.proofs.lemmas.List.Elements.{All-cons}
 use Rattle.std.proofs.lemmas.Option.{slice_get-get_or}
-use Rattle.hprof_grammar.specs.Dump.{is_object, limit}
+use Rattle.hprof_grammar.specs.Dump.{is_object}
 use Rattle.hprof_grammar.specs.Record.{Record}
 use Rattle.hprof_grammar.specs.Standing.{Sight, Stands, id_of}
 use Rattle.hprof_grammar.specs.SubRecord.{Class, IsSubRecord, SubRecord, spelling_of}
@@ -21,12 +21,12 @@ use Rattle.heap_graph.specs.Growing.{AreLinks}
 use Rattle.heap_graph.specs.Heap.{as_class, class_dumps, class_named, class_number, heap_of, number_named, objects}
 use Rattle.heap_graph.specs.Holding.{AreLinked}
 use Rattle.heap_graph.specs.Linked.{IsLinked, most_objects}
-use Rattle.heap_graph.specs.ObjectGraph.{IsRowIn, IsWhole, NamedClass, ObjectGraph, bytes_at, class_count, named_classes, named_in, object_count, references_of, row_at}
+use Rattle.heap_graph.specs.ObjectGraph.{IsRowIn, IsWhole, ObjectGraph, bytes_at, class_count, named_classes, named_in, references_of, row_at}
 use Rattle.heap_graph.specs.Pieces.{pieces}
 use Rattle.heap_graph.specs.References.{target_of, targets}
 use Rattle.heap_graph.specs.Rows.{bytes_of, row_of}
 use Rattle.heap_graph.specs.Tables.{graph_of, named_class}
-use Rattle.heap_graph.proofs.Firsts.{IsHit, filter_passes, position_hit}
+use Rattle.heap_graph.proofs.Firsts.{position_hit}
 use Rattle.heap_graph.proofs.Linking.{IsClassThere, class_there}
 use Rattle.heap_graph.proofs.Sizes.{array_type_range, bytes_width}
 use Rattle.heap_graph.proofs.Standings.{IsThere, there}

@@ -1,7 +1,6 @@
 -- The heap list of a dump, its objects, and what an identifier names.
-use Rattle.std.specs.Prelude.{List, None, Option, Some, filter, filter_map, flat_map, if◌then◌else◌, option_and_then, position, slice_get, ℕ, ◌==◌}
+use Rattle.std.specs.Prelude.{List, None, Option, Some, filter, filter_map, if◌then◌else◌, option_and_then, position, slice_get, ℕ, ◌==◌}
 use Rattle.std.specs.List.{position_or_len}
-use Rattle.hprof_grammar.specs.Record.{Record, subs_of}
 use Rattle.hprof_grammar.specs.Dump.{is_object}
 use Rattle.hprof_grammar.specs.SubRecord.{Class, SubRecord}
 use Rattle.hprof_grammar.specs.SubRecord.SubRecord.{class_dump, instance_dump, object_array_dump, primitive_array_dump, root}

@@ -1,5 +1,5 @@
 -- A heap list whose objects stand at places of the bytes.
-use Rattle.std.specs.Prelude.{List, None, Option, Some, map, slice_get, ℕ, ◌≡◌}
+use Rattle.std.specs.Prelude.{List, None, Option, Some, map, ℕ, ◌≡◌}
 use Rattle.hprof_grammar.specs.SubRecord.{Class, SubRecord}
 use Rattle.hprof_grammar.specs.SubRecord.SubRecord.{class_dump}
 use Rattle.hprof_grammar.specs.Standing.{Sight, StandInTurn, Stands, id_of}

@@ -23,3 +23,6 @@ pub use laws::one_graph;
 pub use row::RowKey;
 pub use rule::{LinkFault, LinkRefusal};
 pub use successors::Successors;
+
+#[cfg(test)]
+mod tests;

@@ -1,4 +1,4 @@
-use Rattle.std.proofs.Common.{List, ap, get_or, map, sym, take, ◌++◌, ◌∙◌, ◌∷◌, ◌≡◌, [], ℕ}
+use Rattle.std.proofs.Common.{List, ap, get_or, map, sym, take, ◌++◌, ◌∙◌, ◌∷◌, [], ℕ}
 use Rattle.std.proofs.lemmas.Option.{slice_get-get_or}
 use Rattle.hprof_grammar.specs.Standing.{id_of}
 use Rattle.hprof_grammar.specs.SubRecord.{SubRecord}

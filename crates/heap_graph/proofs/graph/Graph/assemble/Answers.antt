@@ -1,4 +1,4 @@
-use Rattle.std.proofs.Common.{List, ap, arith, count_by, filter, length, map, subst, sym, ℕ, ◌+◌, ◌∙◌, ◌≡◌, ◌≤◌}
+use Rattle.std.proofs.Common.{List, ap, arith, filter, length, subst, sym, ◌+◌, ◌∙◌, ◌≤◌}
 use Rattle.std.proofs.lemmas.List.Sums.{count_by-le-length}
 use Rattle.hprof_grammar.specs.Dump.{is_root}
 use Rattle.heap_graph.specs.declared.entry.ClassEntry.{ClassEntry}

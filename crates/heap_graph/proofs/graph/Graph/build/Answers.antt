@@ -1,4 +1,4 @@
-use Rattle.std.proofs.Common.{List, ap, filter, ℕ, ◌∙◌, ◌≡◌}
+use Rattle.std.proofs.Common.{filter, ◌∙◌}
 use Rattle.hprof_grammar.specs.Dump.{is_root}
 use Rattle.hprof_grammar.specs.Standing.{IsPlaced}
 use Rattle.heap_graph.specs.Heap.{heap_of}

@@ -1,6 +1,5 @@
-use Rattle.std.proofs.Common.{List, ap, arith, filter, ℕ, ◌∙◌, ◌≡◌}
+use Rattle.std.proofs.Common.{arith, filter, ◌∙◌}
 use Rattle.hprof_grammar.specs.Dump.{is_object}
-use Rattle.hprof_grammar.specs.Standing.{StandInTurn, Stands}
 use Rattle.heap_graph.specs.Heap.{heap_of}
 use Rattle.heap_graph.proofs.Building.{seen}
 use Rattle.heap_graph.proofs.Sizes.{id_size_range}

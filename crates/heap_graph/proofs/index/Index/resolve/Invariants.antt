@@ -1,4 +1,4 @@
-use Rattle.std.proofs.Common.{take, ◌≤◌, ◌≡◌}
+use Rattle.std.proofs.Common.{take, ◌≤◌}
 use Rattle.heap_graph.specs.Named.{Resolves}
 use Rattle.heap_graph.proofs.index.Index.resolve.Given as goal
 

@@ -1,7 +1,5 @@
-use Rattle.std.proofs.Common.{List, Some, ap, get_or, subst, sym, ◌∙◌, ◌≡◌, ℕ}
-use Rattle.hprof_grammar.specs.Record.{Record}
+use Rattle.std.proofs.Common.{Some, ap, get_or, sym, ◌∙◌, ℕ}
 use Rattle.heap_graph.proofs.Lookups.{LoadedAt, loaded_at, name_first, name_here, name_next, no_name}
-use Rattle.heap_graph.specs.NamePlaces.{AreNamesOf}
 use Rattle.hprof_grammar.specs.Dump.{is_load}
 use Rattle.std.specs.Prelude.{filter}
 use Rattle.heap_graph.proofs.names.Names.name_of.Goals as goal

@@ -1,7 +1,5 @@
-use Rattle.std.proofs.Common.{List, Some, ap, get_or, subst, sym, ◌∙◌, ◌≡◌, ℕ}
-use Rattle.hprof_grammar.specs.Record.{Record}
+use Rattle.std.proofs.Common.{List, Some, ap, get_or, sym, ◌∙◌, ℕ}
 use Rattle.heap_graph.proofs.Lookups.{TextAt, no_text, text_at, text_first, text_here, text_next}
-use Rattle.heap_graph.specs.NamePlaces.{AreNamesOf}
 use Rattle.hprof_grammar.specs.Dump.{is_string}
 use Rattle.std.specs.Prelude.{filter}
 use Rattle.heap_graph.proofs.names.Names.string_named.Goals as goal

@@ -1,4 +1,4 @@
-use Rattle.std.proofs.Common.{List, Some, None, ap, subst, sym, ◌∙◌, ◌≡◌, ℕ}
+use Rattle.std.proofs.Common.{Some, None, subst, ◌≡◌, ℕ}
 use Rattle.heap_graph.specs.Heap.{class_named}
 use Rattle.heap_graph.specs.Placed.{IsClassAt}
 use Rattle.heap_graph.proofs.Testing.{array_fine, array_unknown}

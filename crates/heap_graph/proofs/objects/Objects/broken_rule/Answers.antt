@@ -1,7 +1,5 @@
-use Rattle.std.proofs.Common.{Contains, Option, get_or, refl, subst, sym, take, true, ◌≡◌}
+use Rattle.std.proofs.Common.{get_or, refl}
 use Rattle.std.proofs.lemmas.Bool.{iff_false}
-use Rattle.hprof_grammar.specs.SubRecord.{SubRecord}
-use Rattle.heap_graph.specs.declared.rule.LinkRule.{LinkRule}
 use Rattle.heap_graph.proofs.Standings.{IsThere, there}
 use Rattle.heap_graph.proofs.Testing.{IsOwn, fine_object, large_fails, late_fails, own_object, repeated_object}
 use Rattle.heap_graph.proofs.objects.Objects.broken_rule.Goals as goal

@@ -1,9 +1,5 @@
-use Rattle.std.proofs.Common.{List, Some, ap, arith, get_or, slice_get, subst, sym, ℕ, ◌<◌, ◌∙◌, ◌≡◌}
+use Rattle.std.proofs.Common.{Some, ap, arith, sym, ℕ, ◌∙◌}
 use Rattle.std.proofs.lemmas.Option.{slice_get-get_or}
-use Rattle.hprof_grammar.specs.SubRecord.{SubRecord}
-use Rattle.heap_graph.specs.declared.rule.LinkRule.{LinkRule}
-use Rattle.heap_graph.specs.Linked.{Fails}
-use Rattle.heap_graph.specs.Placed.{AreOf}
 use Rattle.heap_graph.proofs.Standings.{number_below}
 use Rattle.heap_graph.proofs.Testing.{none_before}
 use Rattle.heap_graph.proofs.objects.Objects.check.Goals as goal

@@ -1,7 +1,5 @@
-use Rattle.std.proofs.Common.{Bool, arith, false, get_or, rules, sym, ◌≡◌}
+use Rattle.std.proofs.Common.{arith, get_or, sym}
 use Rattle.std.proofs.lemmas.Bool.{ne_eqb}
-use Rattle.std.specs.Prelude.{◌==◌}
-use Rattle.hprof_grammar.specs.SubRecord.{SubRecord}
 use Rattle.heap_graph.proofs.Standings.{IsThere, class_found, class_not_found, class_not_named, found_below, there}
 use Rattle.heap_graph.proofs.objects.Objects.class_named.Goals as goal
 

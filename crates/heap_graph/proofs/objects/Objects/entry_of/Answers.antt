@@ -1,4 +1,4 @@
-use Rattle.std.proofs.Common.{List, Some, ap, arith, get_or, length, map, refl, subst, sum_by, sym, ℕ, ◌*◌, ◌<◌, ◌^◌, ◌∙◌, ◌≡◌, ◌≤◌}
+use Rattle.std.proofs.Common.{List, Some, ap, arith, get_or, length, refl, subst, sum_by, ℕ, ◌*◌, ◌<◌, ◌^◌, ◌∙◌, ◌≤◌}
 use Rattle.std.proofs.Math.Nat.{mul-le-mul_left}
 use Rattle.hprof_grammar.specs.Standing.{Stands}
 use Rattle.hprof_grammar.specs.SubRecord.{SubRecord}

@@ -1,10 +1,6 @@
-use Rattle.std.proofs.Common.{List, None, Some, ap, arith, length, subst, sym, ◌∙◌, ◌≡◌, ℕ}
-use Rattle.hprof_grammar.specs.SubRecord.{Instance, SubRecord}
-use Rattle.hprof_grammar.specs.SubRecord.SubRecord.{class_dump, instance_dump}
-use Rattle.hprof_grammar.specs.Standing.{Stands}
+use Rattle.std.proofs.Common.{None, Some, ap, arith, length, subst, ◌≡◌, ℕ}
 use Rattle.heap_graph.specs.Heap.{class_named}
-use Rattle.heap_graph.specs.Layout.{layout_size}
-use Rattle.heap_graph.specs.Placed.{AreOf, IsClassAt}
+use Rattle.heap_graph.specs.Placed.{IsClassAt}
 use Rattle.heap_graph.proofs.Testing.{instance_fine, instance_unknown, instance_wrong}
 use Rattle.heap_graph.proofs.objects.Objects.instance_rule.Goals as goal
 

@@ -1,6 +1,5 @@
-use Rattle.std.proofs.Common.{List, Option, subst, sym, ◌≡◌, ℕ}
+use Rattle.std.proofs.Common.{subst, sym}
 use Rattle.hprof_grammar.specs.SubRecord.{SubRecord}
-use Rattle.hprof_grammar.specs.SubRecord.SubRecord.{class_dump}
 use Rattle.hprof_grammar.specs.Standing.{Stands}
 use Rattle.heap_graph.specs.Tests.{IsLateRule}
 use Rattle.heap_graph.proofs.Standings.{IsDumpOfClass, is_class_dump}

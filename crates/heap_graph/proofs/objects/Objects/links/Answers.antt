@@ -1,4 +1,4 @@
-use Rattle.std.proofs.Common.{List, [], ap, subst, sym, ◌++◌, ◌∙◌, ◌≡◌, ℕ}
+use Rattle.std.proofs.Common.{List, subst, ℕ}
 use Rattle.heap_graph.specs.Growing.{AddsLinks}
 use Rattle.heap_graph.specs.Holding.{AddsIdsOf}
 use Rattle.heap_graph.proofs.GrowingLaws.{links_more, links_none}

@@ -1,5 +1,5 @@
-use Rattle.std.proofs.Common.{List, ap, arith, length, subst, sum_by, ◌<◌, ◌∙◌, ◌^◌, ◌≡◌, ℕ}
-use Rattle.hprof_grammar.specs.SubRecord.{Class, Member}
+use Rattle.std.proofs.Common.{List, ap, arith, length, sum_by, ◌<◌, ◌∙◌, ◌^◌}
+use Rattle.hprof_grammar.specs.SubRecord.{Member}
 use Rattle.hprof_grammar.specs.Tables.{size_of}
 use Rattle.heap_graph.proofs.Testing.{layout_alone}
 use Rattle.heap_graph.proofs.objects.Objects.own_size.Goals as goal

@@ -1,4 +1,4 @@
-use Rattle.std.proofs.Common.{List, ap, ℕ, ◌++◌, ◌∙◌, ◌≡◌, ◌∷◌, []}
+use Rattle.std.proofs.Common.{List, ap, ℕ, ◌++◌, ◌∙◌, ◌∷◌, []}
 use Rattle.heap_graph.proofs.Adding.{array_adds}
 use Rattle.heap_graph.proofs.objects.Objects.push_array_ids.Goals as goal
 

@@ -1,6 +1,5 @@
-use Rattle.std.proofs.Common.{List, Option, Some, ap, get_or, sym, ◌∙◌, ◌≡◌, ℕ}
+use Rattle.std.proofs.Common.{List, Option, ap, get_or, ◌∙◌, ◌≡◌, ℕ}
 use Rattle.hprof_grammar.specs.Standing.{id_of}
-use Rattle.hprof_grammar.specs.SubRecord.{SubRecord}
 use Rattle.heap_graph.specs.Heap.{as_class, heap_of}
 use Rattle.heap_graph.specs.Names.{class_text}
 use Rattle.heap_graph.specs.ObjectGraph.{NamedClass}

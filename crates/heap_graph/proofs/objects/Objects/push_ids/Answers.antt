@@ -1,8 +1,6 @@
-use Rattle.std.proofs.Common.{List, Some, ap, get_or, slice_get, subst, sym, ℕ, ◌∙◌, ◌≡◌}
+use Rattle.std.proofs.Common.{Some, ap, get_or, ◌∙◌}
 use Rattle.hprof_grammar.specs.SubRecord.{SubRecord}
 use Rattle.hprof_grammar.specs.SubRecord.SubRecord.{class_dump, instance_dump, object_array_dump, primitive_array_dump}
-use Rattle.hprof_grammar.specs.Standing.{Stands}
-use Rattle.heap_graph.specs.Holding.{AddsIds, AreLinkedOf, IsObjectAt}
 use Rattle.heap_graph.proofs.Adding.{nothing_adds, on_ok}
 use Rattle.heap_graph.proofs.Standings.{IsDumpOfArray, IsDumpOfClass, IsDumpOfInstance, IsDumpOfPrimitives, IsThere, is_array_dump, is_class_dump, is_instance_dump, is_primitives_dump, object_at, there}
 use Rattle.heap_graph.proofs.objects.Objects.push_ids.Goals as goal

@@ -1,4 +1,4 @@
-use Rattle.std.proofs.Common.{List, None, Some, [], ap, arith, length, subst, sum_by, sym, ℕ, ◌++◌, ◌∙◌, ◌∷◌, ◌≡◌, ◌≤◌}
+use Rattle.std.proofs.Common.{List, None, Some, [], ap, arith, length, subst, sum_by, ℕ, ◌++◌, ◌∙◌, ◌∷◌, ◌≡◌}
 use Rattle.hprof_grammar.specs.SubRecord.{Member}
 use Rattle.hprof_grammar.specs.Tables.{size_of}
 use Rattle.heap_graph.specs.Heap.{class_named}
