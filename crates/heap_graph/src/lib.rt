@@ -21,7 +21,7 @@ mod successors;
 pub use graph::Graph;
 pub use laws::one_graph;
 pub use row::RowKey;
-pub use rule::{LinkFault, LinkRefusal};
+pub use rule::{LinkFault, LinkRefusal, LinkRule};
 pub use successors::Successors;
 
 #[cfg(test)]

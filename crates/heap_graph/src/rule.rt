@@ -7,7 +7,7 @@ use thiserror::Error;
 
 /// The rules that each object is tested by, in this order.
 #[derive(Clone, Copy, Debug, PartialEq, Eq)]
-pub(crate) enum LinkRule {
+pub enum LinkRule {
     /// An object's identifier is not 0.
     ZeroObject,
     /// No earlier object has its identifier.

@@ -1,0 +1,6 @@
+use Rattle.std.proofs.Common.{rules}
+use Rattle.heapmark.proofs.Codes.{known_of}
+use Rattle.heapmark.proofs.pipeline.answer.Goals as goal
+
+pub returns-in-Err-clause-known : goal.returns-in-Err-clause-known
+returns-in-Err-clause-known g c = known_of c.args.bytes.now c.from.result (search rules)

@@ -1,0 +1,52 @@
+-- What a run answers for the bytes that it read.
+use Rattle.std.specs.Prelude.{IsNone, IsSome, List, Option, take, ℕ, ◌≡◌, ◌≤◌, ◌⊎◌}
+use Rattle.std.specs.Io.KnownBytes.{Appends}
+use Rattle.heap_graph.specs.Linked.{IsAccepted}
+use Rattle.heap_graph.specs.LinkFault.{HasLinkFault}
+use Rattle.heap_graph.specs.Report.{IsReport}
+use Rattle.heapmark.specs.Refusals.{out_of_memory, read_fault, told}
+use Rattle.heapmark.specs.declared.refusal.Refusal.{Refusal}
+use Rattle.histogram.specs.Counting.{AppendsBeginning}
+use Rattle.hprof_grammar.specs.Fault.{FirstFault}
+use Rattle.hprof_grammar.specs.Record.{Record}
+
+-- The bytes of a run: all that its reader gives, but no more than one byte above the largest dump.
+abbrev pub bytes_read : List ℕ → List ℕ
+bytes_read given = take 1073741825 given
+
+-- The text spells a dump whose records are in order and whose objects are linked.
+abbrev pub IsAcceptedText : List ℕ → Type 0
+IsAcceptedText text = (id_size : ℕ) × (records : List Record) × IsAccepted text id_size records
+
+-- The first fault of a text: that of its form, or, where its form has none, that of its links.
+abbrev pub FirstFaultOf : List ℕ → ℕ → ℕ → Type 0
+FirstFaultOf text code place = FirstFault text code place ⊎ HasLinkFault text code place
+
+-- The refusal is this first fault.
+pub record TellsFirstFault (text : List ℕ) (refusal : Refusal) : Type 0 where
+  pub place : ℕ
+  pub is : refusal ≡ told refusal.code place
+  pub fault : FirstFaultOf text refusal.code place
+
+-- The codes are 1 to 21, and those up to 14 have a place.
+pub record IsKnown (refusal : Refusal) : Type 0 where
+  pub least : 1 ≤ refusal.code
+  pub most : refusal.code ≤ 21
+  pub with_place : refusal.code ≤ 14 → IsSome refusal.offset
+  pub without_place : 15 ≤ refusal.code → IsNone refusal.offset
+
+-- What a run refuses of a text that is not accepted: its first fault, or the means to find it.
+abbrev pub IsRefusalOf : List ℕ → Refusal → Type 0
+IsRefusalOf text refusal = TellsFirstFault text refusal ⊎ (refusal ≡ out_of_memory) ⊎ (refusal ≡ read_fault)
+
+-- the report of the text was written, and nothing else
+pub record WritesReport (text : List ℕ) (old new : Option (List ℕ)) : Type 0 where
+  pub report : List ℕ
+  pub is : IsReport text report
+  pub written : Appends old new report
+
+-- a beginning of the report of the text was written, and nothing else
+pub record WritesBeginning (text : List ℕ) (old new : Option (List ℕ)) : Type 0 where
+  pub report : List ℕ
+  pub is : IsReport text report
+  pub written : AppendsBeginning old new report

@@ -1,0 +1,64 @@
+//! The program over its words, and its exit status.
+
+ghost use Rattle.std.specs.Prelude.{◌≡◌, ◌≢◌, ◌+◌, ◌-◌, ◌^◌, ◌<◌, ◌≤◌, ◌↔◌, OnOk, length};
+ghost use Rattle.std.specs.Io.KnownBytes.{Keeps};
+ghost use Rattle.histogram.specs.Counting.{failures_of, inner_of};
+
+use crate::pipeline::run;
+use crate::refusal::Refusal;
+use drain::{NoGate, Options};
+use histogram::Counted;
+use std::fs;
+use std::io::Write;
+use std::rt::Files;
+
+/// Does all that the program does, for its words with its own name first, and answers its exit status: 0 where the
+/// report of the file is on `out`, 1 at a refusal, 2 where the words are not one file's name. Refusals and the usage go
+/// to `err`, whose faults change nothing.
+pub fn program<T: Files + Alloc, W: Write, E: Write>(
+    rt: &T,
+    words: &[&str],
+    out: &mut Counted<W>,
+    err: &mut E,
+) -> u8
+    requires { failures_of out.old < 2 ^ 64 - 1 }
+    ensures status { result ≤ 2 }
+    ensures usage { result ≡ 2 ↔ (length words.now ≢ 2) }
+    ensures untouched { result ≡ 2 → Keeps (W.contents (inner_of out.old)) (W.contents (inner_of out.new)) }
+    ensures no_failure { result ≢ 1 → failures_of out.new ≡ failures_of out.old }
+    ensures failures { failures_of out.new ≤ failures_of out.old + 1 }
+{
+    let [_, file] = words else {
+        let _ = writeln!(err, "heapmark: usage: heapmark FILE");
+        return 2;
+    };
+    match report_file(rt, file, out) {
+        Ok(()) => 0,
+        Err(refusal) => refused(err, &refusal),
+    }
+}
+
+/// Prints a refusal and answers its exit status.
+pub fn refused<E: Write>(err: &mut E, refusal: &Refusal) -> u8
+    ensures { result ≡ 1 }
+{
+    let _ = writeln!(err, "heapmark: {refusal}");
+    1
+}
+
+/// Runs on a file.
+fn report_file<T: Files + Alloc, W: Write>(
+    rt: &T,
+    file: &str,
+    out: &mut Counted<W>,
+) -> Result<(), Refusal>
+    requires { failures_of out.old < 2 ^ 64 - 1 }
+    ensures no_failure { OnOk result (failures_of out.new ≡ failures_of out.old) }
+    ensures failures { failures_of out.new ≤ failures_of out.old + 1 }
+{
+    let options = Options::new(2, 256, 1024, 0).unwrap();
+    match fs::open(rt, file) {
+        Ok(file) => run(rt.alloc(), &mut Counted::new(file), out, &options, &NoGate),
+        Err(_) => Err(Refusal::READ_FAULT),
+    }
+}

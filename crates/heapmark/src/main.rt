@@ -1,0 +1,43 @@
+//! Marks the reachable objects of a Java heap dump and prints a histogram by class.
+#![tactic(auto)]
+
+mod command;
+mod pipeline;
+mod refusal;
+
+pub use command::program;
+pub use drain::{Gate, NoGate, Options};
+pub use histogram::{Counted, one_report};
+pub use pipeline::run;
+pub use refusal::Refusal;
+
+#[cfg(test)]
+mod tests;
+
+use command::refused;
+use std::alloc::AllocError;
+use std::env;
+use std::io::{ErrorKind, Write};
+use std::process::ExitCode;
+
+fn main(rt: HostRuntime) -> ExitCode {
+    let mut err = rt.stderr();
+    let status = match start(&rt, &mut err) {
+        Ok(status) => status,
+        Err(_) => refused(&mut err, &Refusal::OUT_OF_MEMORY),
+    };
+    ExitCode::from(status)
+}
+
+/// Hands the words of the command line to the program. Words that are not text are wrong ones.
+fn start<E: Write>(rt: &HostRuntime, err: &mut E) -> Result<u8, AllocError> {
+    let mut out = Counted::new(rt.stdout());
+    let args = match env::args(rt) {
+        Ok(args) => args,
+        Err(fault) if fault.kind() == ErrorKind::OutOfMemory => return Err(AllocError),
+        Err(_) => return Ok(program(rt, &[], &mut out, err)),
+    };
+    let args: Vec<String> = args.collect(rt.alloc())?;
+    let words: Vec<&str> = args.iter().map(|arg| arg.as_str()).collect(rt.alloc())?;
+    Ok(program(rt, words.as_slice(), &mut out, err))
+}

@@ -1,0 +1,97 @@
+//! From the bytes of a dump to its report.
+
+ghost use Rattle.std.specs.Prelude.{◌≡◌, ◌≢◌, ◌+◌, ◌-◌, ◌^◌, ◌<◌, ◌≤◌, ◌↔◌, ◌⊎◌, IfErr, IfOk, IfSome, IsErrAnd, OnOk};
+ghost use Rattle.std.specs.Io.KnownBytes.{Keeps};
+ghost use Rattle.heap_graph.specs.Report.{IsReport, report_of};
+ghost use Rattle.histogram.specs.Counting.{failures_of, inner_of};
+ghost use Rattle.histogram.specs.Lines.{histogram_of};
+ghost use Rattle.heapmark.specs.Answer.{IsAcceptedText, IsKnown, IsRefusalOf, TellsFirstFault, WritesBeginning, WritesReport, bytes_read};
+ghost use Rattle.heapmark.specs.Refusals.{HasCode, out_of_memory};
+
+use crate::refusal::Refusal;
+use drain::{Gate, Options, mark};
+use heap_graph::Graph;
+use histogram::{Counted, ReaderRefusal, Report, WriteRefusal, rows, write_report};
+use hprof_grammar::read;
+use std::alloc::Allocator;
+use std::io::{Read, Write};
+
+/// One byte more than a dump may have, so that a longer one is seen as such.
+const MOST_BYTES: usize = 1_073_741_825;
+
+/// Reads a heap dump, marks its reachable objects, and writes the histogram of them.
+///
+/// Reads until a read answers 0, or one byte more than a dump may have is there. No read or write that fails is tried
+/// again, and nothing is written but the report.
+pub fn run<A: Allocator, R: Read, W: Write, G: Gate>(
+    alloc: A,
+    reader: &mut Counted<R>,
+    writer: &mut Counted<W>,
+    options: &Options,
+    gate: &G,
+) -> Result<(), Refusal>
+    requires reads { failures_of reader.old < 2 ^ 64 - 1 }
+    requires writes { failures_of writer.old < 2 ^ 64 - 1 }
+
+    // The bytes read are an accepted dump, and their report was written behind what the writer had.
+    ensures reported { OnOk result (IfSome (R.remaining (inner_of reader.old)) (λ given.
+        WritesReport (bytes_read given) (W.contents (inner_of writer.old)) (W.contents (inner_of writer.new)))) }
+
+    // The other side: a fault is told only where it is the first one, and where there is one nothing else is told but
+    // want of memory or of the reader.
+    ensures first_fault { IfErr result (λ refusal. refusal.code ≤ 14 → IfSome (R.remaining (inner_of reader.old)) (λ given.
+        TellsFirstFault (bytes_read given) refusal)) }
+    ensures not_accepted { IfSome (R.remaining (inner_of reader.old)) (λ given.
+        (IsAcceptedText (bytes_read given) → ⊥) → IsErrAnd result (IsRefusalOf (bytes_read given))) }
+    ensures known { IfErr result IsKnown }
+
+    // Each count of failures rises with its own refusal, by one, and with no other outcome.
+    ensures read_fault { HasCode result 19 ↔ (failures_of reader.new ≡ failures_of reader.old + 1) }
+    ensures no_read_fault { (HasCode result 19 → ⊥) → failures_of reader.new ≡ failures_of reader.old }
+    ensures write_fault { HasCode result 20 ↔ (failures_of writer.new ≡ failures_of writer.old + 1) }
+    ensures no_write_fault { (HasCode result 20 → ⊥) → failures_of writer.new ≡ failures_of writer.old }
+
+    // What was written at a refusal.
+    ensures beginning { HasCode result 20 → IfSome (R.remaining (inner_of reader.old)) (λ given.
+        WritesBeginning (bytes_read given) (W.contents (inner_of writer.old)) (W.contents (inner_of writer.new))) }
+    ensures untouched { IfErr result (λ refusal. refusal.code ≢ 20
+        → Keeps (W.contents (inner_of writer.old)) (W.contents (inner_of writer.new))) }
+{
+    let bytes = match reader.read_to_limit(&alloc, MOST_BYTES) {
+        Ok(bytes) => bytes,
+        Err(ReaderRefusal::ReadFault) => return Err(Refusal::READ_FAULT),
+        Err(ReaderRefusal::OutOfMemory) => return Err(Refusal::OUT_OF_MEMORY),
+    };
+    let report = match answer(&alloc, bytes.as_slice(), options, gate) {
+        Ok(report) => report,
+        Err(refusal) => return Err(refusal),
+    };
+    match write_report(&alloc, &report, writer) {
+        Ok(()) => Ok(()),
+        Err(WriteRefusal::WriteFault) => Err(Refusal::WRITE_FAULT),
+        Err(WriteRefusal::OutOfMemory) => Err(Refusal::OUT_OF_MEMORY),
+    }
+}
+
+/// The report of the bytes of a dump. It knows nothing of readers and writers.
+fn answer<A: Allocator + Copy, G: Gate>(
+    alloc: A,
+    bytes: &[u8],
+    options: &Options,
+    gate: &G,
+) -> Result<Report<A>, Refusal>
+    ensures report { IfOk result (λ report. IsReport bytes.now (report_of (histogram_of report))) }
+    ensures refusal { IfErr result (λ refusal. TellsFirstFault bytes.now refusal ⊎ (refusal ≡ out_of_memory)) }
+    ensures known { IfErr result (λ refusal. IsKnown refusal × (refusal.code ≤ 15)) }
+{
+    let dump = match read(alloc, bytes) {
+        Ok(dump) => dump,
+        Err(refusal) => return Err(Refusal::from(refusal)),
+    };
+    let graph = match Graph::build(alloc, bytes, dump) {
+        Ok(graph) => graph,
+        Err(refusal) => return Err(Refusal::from(refusal)),
+    };
+    let marked = mark(alloc, &graph, options, gate)?;
+    Ok(rows(alloc, &graph, &marked)?)
+}

@@ -1,0 +1,132 @@
+//! Why a run gave no report, and how that is shown.
+
+use drain::RunFault;
+use heap_graph::LinkRefusal;
+use hprof_grammar::ReadRefusal;
+use std::alloc::AllocError;
+use std::fmt;
+
+/// Why a run gave no report.
+#[derive(Clone, Copy, Debug, PartialEq, Eq)]
+pub struct Refusal {
+    /// 1 to 21. The codes 1 to 14 are faults of the bytes.
+    pub code: u8,
+    /// At the codes 1 to 14 the place of the fault in the bytes.
+    pub offset: Option<u64>,
+}
+
+impl Refusal {
+    /// A growth was refused.
+    pub const OUT_OF_MEMORY: Refusal = Refusal {
+        code: 15,
+        offset: None,
+    };
+
+    /// The reader failed, or the file could not be opened.
+    pub const READ_FAULT: Refusal = Refusal {
+        code: 19,
+        offset: None,
+    };
+
+    /// The writer failed.
+    pub const WRITE_FAULT: Refusal = Refusal {
+        code: 20,
+        offset: None,
+    };
+
+    /// The name of the code.
+    pub fn name(&self) -> &'static str {
+        match self.code {
+            1 => "BadHeader",
+            2 => "BadIdSize",
+            3 => "Truncated",
+            4 => "BadLength",
+            5 => "BadSubTag",
+            6 => "SubTruncated",
+            7 => "BadType",
+            8 => "DumpOrder",
+            9 => "ZeroObject",
+            10 => "DuplicateObject",
+            11 => "UnknownClass",
+            12 => "SuperChain",
+            13 => "InstanceSize",
+            14 => "TooLarge",
+            15 => "OutOfMemory",
+            16 => "TagSpent",
+            17 => "NoBuffer",
+            18 => "WorkerRefused",
+            19 => "ReadFault",
+            20 => "WriteFault",
+            _ => "BadOptions",
+        }
+    }
+}
+
+impl fmt::Display for Refusal {
+    fn fmt<W: fmt::Write>(&self, f: &mut fmt::Formatter<W>) -> fmt::Result {
+        let code = self.code;
+        let name = self.name();
+        match self.offset {
+            Some(offset) => write!(f, "refused {code} {name} at {offset}"),
+            None => write!(f, "refused {code} {name}"),
+        }
+    }
+}
+
+impl From<ReadRefusal> for Refusal {
+    ghost use Rattle.std.specs.Prelude.{◌≡◌};
+    ghost use Rattle.heapmark.specs.Refusals.{form_refusal};
+
+    ghost from_gives = { λ refusal r. r ≡ form_refusal refusal };
+
+    fn from(refusal: ReadRefusal) -> Refusal {
+        match refusal {
+            ReadRefusal::Fault(fault) => Refusal {
+                code: fault.code,
+                offset: Some(fault.offset),
+            },
+            ReadRefusal::OutOfMemory => Refusal::OUT_OF_MEMORY,
+        }
+    }
+}
+
+impl From<LinkRefusal> for Refusal {
+    ghost use Rattle.std.specs.Prelude.{◌≡◌};
+    ghost use Rattle.heapmark.specs.Refusals.{link_refusal};
+
+    ghost from_gives = { λ refusal r. r ≡ link_refusal refusal };
+
+    fn from(refusal: LinkRefusal) -> Refusal {
+        match refusal {
+            LinkRefusal::Fault(fault) => Refusal {
+                code: fault.code,
+                offset: Some(fault.offset),
+            },
+            LinkRefusal::OutOfMemory => Refusal::OUT_OF_MEMORY,
+        }
+    }
+}
+
+impl From<RunFault> for Refusal {
+    ghost use Rattle.std.specs.Prelude.{◌≡◌};
+    ghost use Rattle.heapmark.specs.Refusals.{out_of_memory};
+
+    ghost from_gives = { λ _ r. r ≡ out_of_memory };
+
+    fn from(fault: RunFault) -> Refusal {
+        match fault {
+            RunFault::OutOfMemory => Refusal::OUT_OF_MEMORY,
+        }
+    }
+}
+
+impl From<AllocError> for Refusal {
+    ghost use Rattle.std.specs.Prelude.{◌≡◌};
+    ghost use Rattle.heapmark.specs.Refusals.{out_of_memory};
+
+    ghost from_gives = { λ _ r. r ≡ out_of_memory };
+
+    fn from(_fault: AllocError) -> Refusal {
+        Refusal::OUT_OF_MEMORY
+    }
+}
