@@ -5,6 +5,8 @@ mod laws;
 mod lines;
 mod names;
 mod report;
+#[cfg(test)]
+mod row_tests;
 mod streams;
 mod tally;
 #[cfg(test)]
