@@ -1,0 +1,90 @@
+-- Claims and finishes keep the rule, and are the events of those names.
+use Rattle.std.proofs.Common.{◌≡◌, ℕ, ◌<◌, max, [], Option, set, slice_index, slice_set, ap, sym, refl, subst, ⊎_elim, length-set, arith}
+use Rattle.std.proofs.lemmas.List.Elements.{All-contains}
+use mathlib.Core.Option.{none, some}
+use lib.ListN.{get_elem?}
+use Rattle.atomic_table.specs.Seated.{TableId}
+use Rattle.atomic_table.specs.Table.{State, Me, Allows, step, keeps}
+use Rattle.atomic_table.proofs.Lists.{set_here}
+use Rattle.tagged_index.specs.Head.{head_of, index_of}
+use Rattle.mark_core.specs.Account.{Account}
+use Rattle.mark_core.specs.World.{Setup, Marking, put}
+use Rattle.mark_core.specs.Event.{CanClaim, CanFinish}
+use Rattle.mark_core.specs.Law.{Law}
+use Rattle.mark_core.proofs.Places.{at_below}
+use Rattle.mark_core.proofs.Sums.{stands_times}
+use Rattle.mark_core.proofs.Colours.{charged}
+use Rattle.mark_core.proofs.Events.{claim_keeps, can_claim, finish_keeps}
+use Rattle.buffer_pool.specs.declared.view.View.{View}
+use Rattle.buffer_pool.specs.Book.{claimed, finished}
+use Rattle.buffer_pool.specs.Plays.{rested, claim_made, finish_made}
+use Rattle.buffer_pool.specs.Laid.{IsLaid}
+use Rattle.buffer_pool.specs.Table.{Reading, Rule, Carries, free, mark_word, marking_of}
+use Rattle.buffer_pool.proofs.States.{agrees, stands, accounts_set, freed}
+use Rattle.buffer_pool.proofs.Loads.{noticed, each_once}
+use Rattle.buffer_pool.proofs.Words.{head_beside_mark, link_beside_mark, marks_after}
+
+module _ {B : Type 0} (r : Reading B) (e : Setup) (s : State (Option B) View) (rule : Rule r e s) (id : ℕ) (v : View) (is : get_elem? s.views id ≡ some v) (bare : v.out ≡ 0) (there : 0 < v.book.account.share) where
+  -- the mark of an object changes, and the account of the seat
+  marked :
+      (o x : ℕ) (w : View) → o < e.objects → w.out ≡ 0 → w.book.account.held ≡ v.book.account.held → w.book.setup ≡ v.book.setup
+      → Law e (record (marking_of r e s) { mark = put o x (marking_of r e s).mark; accounts = set (marking_of r e s).accounts id w.book.account })
+      → Rule r e (record { words = set s.words (mark_word e o) x; homes = s.homes; views = set s.views id w })
+  marked o x w below out held setup law =
+      noticed r e s rule id v is bare there (set s.words (mark_word e o) x) w (length-set s.words (mark_word e o) x) (link_beside_mark e s.words o x) out held setup
+      (agrees e (record m { mark = put o x m.mark; accounts = set m.accounts id w.book.account }) (marking_of r e (record { words = set s.words (mark_word e o) x; homes = s.homes; views = set s.views id w }))
+      (λ q. ap head_of (head_beside_mark e s.words o x q)) (λ i h. ap index_of (link_beside_mark e s.words o x i h)) (marks_after e s.words o x (omega (arith, rule.word_count))) refl (accounts_set s.views id w) law)
+    where
+      m : Marking
+      m = marking_of r e s
+
+module _ {B : Type 0} (r : Reading B) (e : Setup) (slots id : ℕ) where
+  pub claims :
+      (me : Me (Option B) View) (o : ℕ) → Carries me → 0 < me.0.book.account.share → CanClaim me.0.book.setup o me.0.book.account → o < e.objects
+      → Allows (Rule r e) slots id me (mark_word e o) (λ n. max n 1) (claim_made (step slots (mark_word e o) 1 0 none) me)
+  claims me o carries there can below = freed r e slots id (mark_word e o) (λ n. max n 1) (claim_made (step slots (mark_word e o) 1 0 none) me) me carries (λ s rule count is fits.
+      let n = slice_index s.words (mark_word e o) in
+      let v : View = free me.0 in
+      let w : View = record v { book = claimed o n me.0.book } in
+      let m = marking_of r e s in
+      let a = me.0.book.account in
+      let same : me.0.book.setup ≡ e = rule.same_setup id v is there in
+      let can' : CanClaim e o a = subst (λ (g : Setup). CanClaim g o a) same can in
+      let at = stands r e s rule id v is in (
+        w,
+        keeps,
+        tt,
+        marked r e s rule id v is refl there o (max n 1) w below refl refl refl (claim_keeps e m rule.law id a at there o (can_claim e m rule.law id a at there o can')),
+        (λ p h. let b : me.0.book.setup.buffers ≡ e.buffers = ap (λ (x : Setup). x.buffers) same in
+            let k : o ≡ p = omega (arith, h) in subst (λ x. (w, []) ≡ rested me (claimed x n me.0.book)) k refl),
+      ))
+
+  pub finishes :
+      (me : Me (Option B) View) (o : ℕ) → Carries me → 0 < me.0.book.account.share → CanFinish me.0.book.setup o me.0.book.account → o < e.objects
+      → Allows (Rule r e) slots id me (mark_word e o) (λ n. max n 2) (finish_made (step slots (mark_word e o) 2 0 none) me)
+  finishes me o carries there can below = freed r e slots id (mark_word e o) (λ n. max n 2) (finish_made (step slots (mark_word e o) 2 0 none) me) me carries (λ s rule count is fits.
+      let n = slice_index s.words (mark_word e o) in
+      let v : View = free me.0 in
+      let w : View = record v { book = finished o me.0.book } in
+      let m = marking_of r e s in
+      let a = me.0.book.account in
+      let same : me.0.book.setup ≡ e = rule.same_setup id v is there in
+      let can' : CanFinish e o a = subst (λ (g : Setup). CanFinish g o a) same can in
+      let at = stands r e s rule id v is in
+      let one : n ≡ 1 = (charged e m.mark m.slots m.accounts rule.law.coloured id a at o (stands_times a.charge o can'.0)).0 in
+      let two : max n 2 ≡ 2 = omega (arith, one) in
+      let after : Rule r e (record { words = slice_set s.words (mark_word e o) (max n 2); homes = s.homes; views = set s.views id w }) =
+      subst (λ x. Rule r e (record { words = slice_set s.words (mark_word e o) x; homes = s.homes; views = set s.views id w })) (sym two)
+      (marked r e s rule id v is refl there o 2 w below refl refl refl (finish_keeps e m rule.law id a at there o can')) in
+      let once = each_once r e (record { words = slice_set s.words (mark_word e o) (max n 2); homes = s.homes; views = set s.views id w }) after id w (set_here s.views id w (at_below s.views id v is)) in (
+        w,
+        keeps,
+        tt,
+        after,
+        (λ p h. let b : me.0.book.setup.buffers ≡ e.buffers = ap (λ (x : Setup). x.buffers) same in
+            let k : o ≡ p = omega (arith, h) in (subst (λ x. (w, []) ≡ rested me (finished x me.0.book)) k refl, λ x. omega (arith, once.objects x))),
+      ))
+
+-- what an account may claim is an object, and what it may finish as well
+pub claimable_within : (t : TableId) (e : Setup) (a : Account) (o : ℕ) → IsLaid t e → CanClaim e o a → o < e.objects
+claimable_within t e a o laid can = ⊎_elim (λ root. All-contains (λ x. x < e.objects) e.roots o laid.roots root) (λ next. (All-contains (λ (p : ℕ × ℕ). (p.0 < e.objects) × (p.1 < e.objects)) e.pairs (next.0, o) laid.pairs next.2).1) can

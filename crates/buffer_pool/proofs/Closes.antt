@@ -1,0 +1,86 @@
+-- What holds of the last state of a pool that is closed.
+use Rattle.std.proofs.Common.{◌≡◌, ℕ, ◌+◌, ◌≤◌, false, List, [], length, drop, Contains, Option, slice_index, ap, sym, subst, ◌∙◌, length-drop, arith}
+use Rattle.std.proofs.lemmas.List.{get_or-drop}
+use mathlib.Core.Option.{some}
+use lib.ListN.{get_elem?}
+use Rattle.mark_core.proofs.Places.{at_get_or}
+use Rattle.atomic_table.specs.Table.{Final, Seen}
+use Rattle.mark_core.specs.declared.which.Which.TheVariants.{Full}
+use Rattle.mark_core.specs.Lists.{StandsAt, times}
+use Rattle.mark_core.specs.World.{Setup, Marking}
+use Rattle.mark_core.specs.Law.{Law}
+use Rattle.mark_core.specs.Shares.{whole}
+use Rattle.mark_core.specs.Runs.{IsClosed, LiesIn}
+use Rattle.mark_core.proofs.Colours.{linear}
+use Rattle.mark_core.proofs.Closing.{closes}
+use Rattle.buffer_pool.specs.declared.view.View.{View}
+use Rattle.buffer_pool.specs.Book.{Book}
+use Rattle.buffer_pool.specs.Closing.{Ends}
+use Rattle.buffer_pool.specs.Table.{Reading, Rule, marking_of, mark_word}
+use Rattle.buffer_pool.proofs.States.{stands}
+
+-- of any marking with these marks
+ends :
+    (b : Book) (marks : List ℕ) (last : Marking) (w : ℕ) → length marks ≡ b.setup.objects → Law b.setup last → StandsAt last.accounts w b.account → ((o : ℕ) → slice_index marks o ≡ last.mark o)
+    → b.account.share ≡ whole → b.account.held ≡ [] → b.account.charge ≡ [] → Ends b marks
+ends b marks last w count law own same all none_held none_charged =
+    record {
+      count = count;
+      last = last;
+      law = law;
+      own = (w, own);
+      same_marks = same;
+      finished = λ o. (λ two. (closed.finished o).0 (sym (same o) ∙ two), λ k. same o ∙ (closed.finished o).1 k);
+      once = closed.once;
+      claimed = λ full list o. (λ one. (closed.claimed full list o).0 (sym (same o) ∙ one), λ lies. same o ∙ (closed.claimed full list o).1 lies);
+      emptied = emptied;
+      buffers = λ full empty first second i. omega (arith, closed.buffers full empty first second i, ap (times i) none_held);
+      seen = λ o k. omega (arith, law.coloured.saw w b.account own o k, same o);
+      successors = λ o s two pair. omega (arith, law.coloured.closed o s (sym (same o) ∙ two) pair, same s);
+      reachable = λ o one. law.coloured.reachable o (omega (arith, one, same o));
+    }
+  where
+    closed : IsClosed b.setup last w b.account
+    closed = closes b.setup last law w b.account own all none_charged
+
+    -- with no open push the full stack has no buffer, so no object lies there
+    emptied : b.account.open_push ≡ false → (o : ℕ) → 1 ≤ slice_index marks o → slice_index marks o ≡ 2
+    emptied shut o one = omega (arith, one, same o, linear b.setup last.mark last.slots last.accounts law.coloured o, unclaimed)
+      where
+        list : law.stack Full ≡ []
+        list = closed.emptied shut (law.stack Full) (law.owned.chain Full)
+
+        unclaimed : last.mark o ≡ 1 → ⊥
+        unclaimed claimed =
+            let lies : LiesIn last (law.stack Full) o = (closed.claimed (law.stack Full) (law.owned.chain Full) o).0 claimed in
+            let k : Contains [] lies.0 = subst (λ (l : List ℕ). Contains l lies.0) list lies.2 in
+            omega (arith, k.1)
+
+pub ends_of :
+    {B : Type 0} (r : Reading B) (e : Setup) (id : ℕ) (v : View) (words : List ℕ) (slots : List (Option B)) (first : ℕ) → first ≡ 32 + e.buffers → Final (Seen (Rule r e) id v) words slots
+    → v.book.account.share ≡ whole → v.book.account.held ≡ [] → v.book.account.charge ≡ [] → Ends v.book (drop first words)
+ends_of r e id v words slots first place final all none_held none_charged = ends v.book (drop first words) last id count law (stands r e final.0 rule id v final.1.1) marks all none_held none_charged
+  where
+    rule : Rule r e final.0
+    rule = final.1.0
+
+    last : Marking
+    last = marking_of r e final.0
+
+    same : v.book.setup ≡ e
+    same = rule.same_setup id v final.1.1 (omega (arith, all))
+
+    law : Law v.book.setup last
+    law = subst (λ (g : Setup). Law g last) (sym same) rule.law
+
+    marks : (o : ℕ) → slice_index (drop first words) o ≡ last.mark o
+    marks o =
+        let there : first + o ≡ mark_word e o = omega (arith, place) in
+        get_or-drop first words o 0 ∙ ap (slice_index words) there ∙ ap (λ (ws : List ℕ). slice_index ws (mark_word e o)) (sym final.2)
+
+    count : length (drop first words) ≡ v.book.setup.objects
+    count = omega (arith, length-drop first words, place, rule.word_count, ap (λ (ws : List ℕ). length ws) final.2, ap (λ (g : Setup). g.objects) same)
+
+-- a word behind the first ones is a mark
+pub mark_there : (words : List ℕ) (first object x : ℕ) → get_elem? words (first + object) ≡ some x → slice_index (drop first words) object ≡ x
+mark_there words first object x at = get_or-drop first words object 0 ∙ at_get_or words (first + object) x 0 at

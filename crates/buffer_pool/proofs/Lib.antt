@@ -1,0 +1,12 @@
+pub mod States
+pub mod Loads
+pub mod Words
+pub mod Claims
+pub mod Pops
+pub mod Pushes
+pub mod Parts
+pub mod Sound
+pub mod Starts
+pub mod Closes
+pub mod Tries
+pub mod Rounds

@@ -1,0 +1,153 @@
+-- Loads keep the rule, and tell what was loaded. So do the steps that change nothing.
+use Rattle.std.proofs.Common.{◌≡◌, ◌≢◌, ℕ, suc, ◌<◌, ◌≤◌, ◌==◌, List, [], length, Option, Some, set, slice_index, slice_set, ap, sym, refl, subst, ◌∙◌, arith}
+use Rattle.std.proofs.lemmas.List.{set-get_or}
+use mathlib.Core.Option.{none, some}
+use lib.ListN.{get_elem?}
+use prog.Atomic.{either}
+use Rattle.atomic_table.specs.Table.{State, Me, Allows, step, keeps}
+use Rattle.atomic_table.proofs.Lists.{exchanged, set_again}
+use Rattle.tagged_index.specs.Head.{Head, head_of, index_of}
+use Rattle.mark_core.specs.declared.which.Which.{Which}
+use Rattle.mark_core.specs.declared.which.Which.TheVariants.{Full, Empty}
+use Rattle.mark_core.specs.Lists.{times}
+use Rattle.mark_core.specs.Account.{Account, look_of, after_load, after_load_link}
+use Rattle.mark_core.specs.World.{Setup}
+use Rattle.mark_core.specs.Law.{Law}
+use Rattle.mark_core.proofs.Ownership.{place_one, stacked_below, top_stands}
+use Rattle.mark_core.proofs.Sums.{term_le}
+use Rattle.mark_core.proofs.Colours.{linear}
+use Rattle.mark_core.proofs.Events.{load_keeps, load_link_keeps}
+use Rattle.buffer_pool.specs.declared.view.View.{View}
+use Rattle.buffer_pool.specs.Book.{Book, loaded, link_loaded}
+use Rattle.buffer_pool.specs.Plays.{rested, head_seen, link_seen, set_aside, settled, HasEachOnce}
+use Rattle.buffer_pool.specs.Table.{Reading, Rule, IsTied, Rests, Carries, free, head_word, link_word, marking_of}
+use Rattle.buffer_pool.proofs.States.{agrees, stands, changed, accounts_set, held_below, freed}
+
+-- a stack has its own head word
+pub same_head : (q p : Which) → head_word q ≡ head_word p → q ≡ p
+same_head Full Full e = refl
+same_head Full Empty e = let f : ◌≡◌ {A = ℕ} 0 16 = e in absurd (omega arith)
+same_head Empty Full e = let f : ◌≡◌ {A = ℕ} 16 0 = e in absurd (omega arith)
+same_head Empty Empty e = refl
+
+pub account_loaded : (q : Which) (h : Head) (b : Book) → (loaded q h b).account ≡ after_load q h b.account
+account_loaded Full h b = refl
+account_loaded Empty h b = refl
+
+pub held_loaded : (q : Which) (h : Head) (b : Book) → (loaded q h b).account.held ≡ b.account.held
+held_loaded Full h b = refl
+held_loaded Empty h b = refl
+
+pub charge_loaded : (q : Which) (h : Head) (b : Book) → (loaded q h b).account.charge ≡ b.account.charge
+charge_loaded Full h b = refl
+charge_loaded Empty h b = refl
+
+pub setup_loaded : (q : Which) (h : Head) (b : Book) → (loaded q h b).setup ≡ b.setup
+setup_loaded Full h b = refl
+setup_loaded Empty h b = refl
+
+held_linked : (q : Which) (l : Option ℕ) (b : Book) → (link_loaded q l b).account.held ≡ b.account.held
+held_linked Full l b = refl
+held_linked Empty l b = refl
+
+pub nothing_out : (n : ℕ) → n ≡ 0 → (i : ℕ) → n ≡ suc i → ⊥
+nothing_out n z i s = omega (arith, z, s)
+
+module _ {B : Type 0} (r : Reading B) (e : Setup) (s : State (Option B) View) (rule : Rule r e s) (id : ℕ) (v : View) (is : get_elem? s.views id ≡ some v) (bare : v.out ≡ 0) (there : 0 < v.book.account.share) where
+  -- the seat learns something, no slot moves, and no link changes
+  pub noticed :
+      (words : List ℕ) (w : View) → length words ≡ length s.words → ((i : ℕ) → i < e.buffers → slice_index words (link_word i) ≡ slice_index s.words (link_word i))
+      → w.out ≡ 0 → w.book.account.held ≡ v.book.account.held → w.book.setup ≡ v.book.setup
+      → Law e (marking_of r e (record { words = words; homes = s.homes; views = set s.views id w })) → Rule r e (record { words = words; homes = s.homes; views = set s.views id w })
+  noticed words w count links out held setup law =
+      changed r e s rule id v is words s.homes w count refl (λ i h. let l = links i h in omega (arith, rule.linked i h)) rule.sized (λ i o. absurd (nothing_out w.out out i o))
+      (λ i mine o. rule.rests id v is i (subst (λ xs. 0 < times i xs) held mine) (nothing_out v.out bare i)) others (λ h. setup ∙ rule.same_setup id v is there) law
+    where
+      others : (k : ℕ) (u : View) → k ≢ id → get_elem? s.views k ≡ some u → IsTied words u × Rests s.homes u
+      others k u other at = ((λ i o. let t = rule.tied k u at i o in (t.0, links i (held_below r e s rule k u at i t.0) ∙ t.1)), rule.rests k u at)
+
+  -- the index of a loaded head is a buffer's
+  pub top_below : (q : Which) (i : ℕ) → (head_of (slice_index s.words (head_word q))).index ≡ Some i → i < v.book.setup.buffers
+  top_below q i top =
+      let m = marking_of r e s in
+      let below : i < e.buffers = stacked_below e.buffers m.head m.link m.accounts rule.law.stack rule.law.owned q i (top_stands e.buffers m.head m.link m.accounts rule.law.stack rule.law.owned q i top) in
+      subst (λ (x : Setup). i < x.buffers) (sym (rule.same_setup id v is there)) below
+
+-- an account has no buffer twice, and no object twice among those that it answers for and finished
+pub each_once : {B : Type 0} (r : Reading B) (e : Setup) (s : State (Option B) View) (rule : Rule r e s) (id : ℕ) (v : View) → get_elem? s.views id ≡ some v → HasEachOnce v.book.account
+each_once r e s rule id v is =
+    let m = marking_of r e s in
+    let at = stands r e s rule id v is in
+    record {
+      held = λ i. omega (arith, place_one e.buffers m.head m.link m.accounts rule.law.stack rule.law.owned i, term_le (λ (a : Account). times i a.held) m.accounts id v.book.account at);
+      objects = λ o. omega (arith, (linear e m.mark m.slots m.accounts rule.law.coloured o).1, term_le (λ (a : Account). times o a.charge) m.accounts id v.book.account at, term_le (λ (a : Account). times o a.finished) m.accounts id v.book.account at);
+    }
+
+module _ {B : Type 0} (r : Reading B) (e : Setup) (slots id : ℕ) where
+  -- what stays as it is keeps the rule of a word written again
+  written_again : (s : State (Option B) View) (word : ℕ) (w : View) → Rule r e (record { words = s.words; homes = s.homes; views = set s.views id w }) → Rule r e (record { words = slice_set s.words word (slice_index s.words word); homes = s.homes; views = set s.views id w })
+  written_again s word w rule = subst (λ ws. Rule r e (record { words = ws; homes = s.homes; views = set s.views id w })) (sym (set-get_or s.words word 0)) rule
+
+  pub sees_head : (me : Me (Option B) View) (q : Which) → Carries me → 0 < me.0.book.account.share → Allows (Rule r e) slots id me (head_word q) (λ n. n) (head_seen (step slots (head_word q) 0 0 none) me)
+  sees_head me q carries there = freed r e slots id (head_word q) (λ n. n) (head_seen (step slots (head_word q) 0 0 none) me) me carries (λ s rule count is fits.
+      let n = slice_index s.words (head_word q) in
+      let v : View = free me.0 in
+      let w : View = record v { book = loaded q (head_of n) me.0.book } in
+      let m = marking_of r e s in
+      let law : Law e (marking_of r e (record { words = s.words; homes = s.homes; views = set s.views id w })) =
+      agrees e (record m { accounts = set m.accounts id (after_load q (m.head q) me.0.book.account) }) (marking_of r e (record { words = s.words; homes = s.homes; views = set s.views id w })) (λ p. refl) (λ i h. refl) (λ o. refl) refl
+      (accounts_set s.views id w ∙ ap (set m.accounts id) (account_loaded q (head_of n) me.0.book)) (load_keeps e m rule.law id me.0.book.account (stands r e s rule id v is) there q) in (
+        w,
+        keeps,
+        tt,
+        written_again s (head_word q) w (noticed r e s rule id v is refl there s.words w refl (λ i h. refl) refl (held_loaded q (head_of n) me.0.book) (setup_loaded q (head_of n) me.0.book) law),
+        (λ p same. subst (λ k. ((w, []) ≡ rested me (loaded k (head_of n) me.0.book)) × ((i : ℕ) → (head_of n).index ≡ Some i → i < me.0.book.setup.buffers)) (same_head q p same) (refl, top_below r e s rule id v is refl there q)),
+      ))
+
+  pub sees_link :
+      (me : Me (Option B) View) (q : Which) (h : Head) (i : ℕ) → Carries me → 0 < me.0.book.account.share → (look_of me.0.book.account q).head ≡ Some h → h.index ≡ Some i → i < me.0.book.setup.buffers
+      → Allows (Rule r e) slots id me (link_word i) (λ n. n) (link_seen q (step slots (link_word i) 0 0 none) me)
+  sees_link me q h i carries there last top below = freed r e slots id (link_word i) (λ n. n) (link_seen q (step slots (link_word i) 0 0 none) me) me carries (λ s rule count is fits.
+      let n = slice_index s.words (link_word i) in
+      let v : View = free me.0 in
+      let w : View = record v { book = link_loaded q (index_of n) me.0.book } in
+      let m = marking_of r e s in
+      let same : me.0.book.setup ≡ e = rule.same_setup id v is there in
+      let law : Law e (marking_of r e (record { words = s.words; homes = s.homes; views = set s.views id w })) =
+      agrees e (record m { accounts = set m.accounts id (after_load_link q (m.link i) me.0.book.account) }) (marking_of r e (record { words = s.words; homes = s.homes; views = set s.views id w })) (λ p. refl) (λ j b. refl) (λ o. refl) refl
+      (accounts_set s.views id w) (load_link_keeps e m rule.law id me.0.book.account (stands r e s rule id v is) there q h i last top) in (
+        w,
+        keeps,
+        tt,
+        written_again s (link_word i) w (noticed r e s rule id v is refl there s.words w refl (λ j b. refl) refl (held_linked q (index_of n) me.0.book) refl law),
+        (refl, subst (λ (x : Setup). n ≤ x.buffers) (sym same) (rule.linked i (subst (λ (x : Setup). i < x.buffers) same below))),
+      ))
+
+  -- an exchange of a word for itself
+  pub sets_aside : (me : Me (Option B) View) (word units : ℕ) → Carries me → 0 < me.0.book.account.share → Allows (Rule r e) slots id me word (λ n. either (n == units) units n) (set_aside (step slots word units units none) me)
+  sets_aside me word units carries there = freed r e slots id word (λ n. either (n == units) units n) (set_aside (step slots word units units none) me) me carries (λ s rule count is fits.
+      let n = slice_index s.words word in
+      let v : View = free me.0 in
+      let w : View = record v { aside = units } in
+      let m = marking_of r e s in
+      let law : Law e (marking_of r e (record { words = s.words; homes = s.homes; views = set s.views id w })) =
+      agrees e m (marking_of r e (record { words = s.words; homes = s.homes; views = set s.views id w })) (λ p. refl) (λ j b. refl) (λ o. refl) refl
+      (accounts_set s.views id w ∙ set_again m.accounts id me.0.book.account (stands r e s rule id v is)) rule.law in
+      let kept : Rule r e (record { words = slice_set s.words word n; homes = s.homes; views = set s.views id w }) =
+      written_again s word w (noticed r e s rule id v is refl there s.words w refl (λ j b. refl) refl refl refl law) in (
+        w,
+        keeps,
+        tt,
+        exchanged n units units (λ x. Rule r e (record { words = slice_set s.words word x; homes = s.homes; views = set s.views id w })) (λ hit. subst (λ x. Rule r e (record { words = slice_set s.words word x; homes = s.homes; views = set s.views id w })) hit kept) (λ miss. kept),
+        refl,
+      ))
+
+  -- a load that tells that the account has each thing once
+  pub settles : (me : Me (Option B) View) (word : ℕ) → Carries me → 0 < me.0.book.account.share → Allows (Rule r e) slots id me word (λ n. n) (settled (step slots word 0 0 none) me)
+  settles me word carries there = freed r e slots id word (λ n. n) (settled (step slots word 0 0 none) me) me carries (λ s rule count is fits.
+      let v : View = free me.0 in
+      let m = marking_of r e s in
+      let law : Law e (marking_of r e (record { words = s.words; homes = s.homes; views = set s.views id v })) =
+      agrees e m (marking_of r e (record { words = s.words; homes = s.homes; views = set s.views id v })) (λ p. refl) (λ j b. refl) (λ o. refl) refl
+      (accounts_set s.views id v ∙ set_again m.accounts id me.0.book.account (stands r e s rule id v is)) rule.law in
+      (v, keeps, tt, written_again s word v (noticed r e s rule id v is refl there s.words v refl (λ j b. refl) refl refl refl law), (refl, each_once r e s rule id v is)))

@@ -1,0 +1,196 @@
+-- A split of a worker, and a join of two, keep the rule.
+use Rattle.std.proofs.Common.{◌≡◌, Contains, ℕ, ◌<◌, ◌≤◌, List, [], ◌∷◌, ◌++◌, Option, None, set, ap, sym, refl, subst, ◌∙◌, ⊎_elim, arith}
+use Rattle.std.proofs.lemmas.List.{map-append}
+use mathlib.Core.Option.{some}
+use native.Mathlib.Decide.{dec_le}
+use lib.ListN.{get_elem?}
+use Rattle.atomic_table.specs.Table.{Me, State, Splits, Joins}
+use Rattle.atomic_table.specs.Seated.{TableId}
+use Rattle.atomic_table.proofs.Lists.{at_set, at_snoc, set_else}
+use Rattle.mark_core.specs.Lists.{times, only}
+use Rattle.mark_core.specs.Account.{Account, part, spent, after_split, after_join}
+use Rattle.mark_core.specs.World.{Setup, Marking}
+use Rattle.mark_core.specs.Runs.{AreApart}
+use Rattle.mark_core.specs.Law.{Law}
+use Rattle.mark_core.proofs.Sums.{total-append, stands_append}
+use Rattle.mark_core.proofs.Events.{split_keeps, join_keeps}
+use Rattle.buffer_pool.specs.declared.view.View.{View}
+use Rattle.buffer_pool.specs.Book.{joined, new_book, parted}
+use Rattle.buffer_pool.specs.Laid.{IsLaid, IsSound, IsWithin}
+use Rattle.buffer_pool.specs.Plays.{HasEachOnce}
+use Rattle.buffer_pool.specs.Setups.{kept_part, given_part, joined_view, spent_view}
+use Rattle.buffer_pool.specs.Table.{Reading, Rule, IsTied, Rests, account_of, free, marking_of}
+use Rattle.buffer_pool.proofs.States.{agrees, stands, accounts_set}
+use Rattle.buffer_pool.proofs.Loads.{nothing_out}
+
+-- what the rule says of one view
+pub record Suits {B : Type 0} (e : Setup) (s : State (Option B) View) (v : View) : Type 0 where
+  pub tied : IsTied s.words v
+  pub rests : Rests s.homes v
+  pub same_setup : 0 < v.book.account.share → v.book.setup ≡ e
+
+module _ {B : Type 0} (r : Reading B) (e : Setup) (s : State (Option B) View) (rule : Rule r e s) where
+  suits : (k : ℕ) (u : View) → get_elem? s.views k ≡ some u → Suits e s u
+  suits k u at = record { tied = rule.tied k u at; rests = rule.rests k u at; same_setup = rule.same_setup k u at }
+
+  -- the rule after views alone changed
+  with_views :
+      (views : List View) → ((k : ℕ) (u : View) → get_elem? views k ≡ some u → Suits e s u) → Law e (marking_of r e (record { words = s.words; homes = s.homes; views = views }))
+      → Rule r e (record { words = s.words; homes = s.homes; views = views })
+  with_views views all law =
+      record {
+        word_count = rule.word_count;
+        slot_count = rule.slot_count;
+        sized = rule.sized;
+        linked = rule.linked;
+        tied = λ k u at. (all k u at).tied;
+        rests = λ k u at. (all k u at).rests;
+        same_setup = λ k u at. (all k u at).same_setup;
+        law = law;
+      }
+
+module _ {B : Type 0} (r : Reading B) (e : Setup) (id : ℕ) (v : View) where
+  pub splits : 0 < v.aside → v.aside < v.book.account.share → Splits (Rule r e) id v (kept_part v) (given_part v)
+  splits some_units less s rule is = with_views r e s rule views all law
+    where
+      m : Marking
+      m = marking_of r e s
+
+      a : Account
+      a = v.book.account
+
+      views : List View
+      views = set s.views id (kept_part v) ++ given_part v ∷ []
+
+      there : 0 < a.share
+      there = omega (arith, less)
+
+      own : Suits e s v
+      own = suits r e s rule id v is
+
+      kept : Suits e s (kept_part v)
+      kept = record { tied = own.tied; rests = own.rests; same_setup = λ h. own.same_setup there }
+
+      given : Suits e s (given_part v)
+      given = record { tied = λ i out. absurd (nothing_out 0 refl i out); rests = λ i mine out. absurd (omega (arith, mine)); same_setup = λ h. own.same_setup there }
+
+      all : (k : ℕ) (u : View) → get_elem? views k ≡ some u → Suits e s u
+      all k u at =
+          ⊎_elim (λ t. ⊎_elim (λ x. subst (Suits e s) x.1 kept) (λ x. suits r e s rule k u x.1) (at_set s.views id k (kept_part v) u t)) (λ same. subst (Suits e s) same given)
+          (at_snoc (set s.views id (kept_part v)) (given_part v) u k at)
+
+      law : Law e (marking_of r e (record { words = s.words; homes = s.homes; views = views }))
+      law =
+          agrees e (record m { accounts = set m.accounts id (after_split v.aside a) ++ part v.aside ∷ [] }) (marking_of r e (record { words = s.words; homes = s.homes; views = views }))
+          (λ q. refl) (λ i h. refl) (λ o. refl) refl
+          (map-append account_of (set s.views id (kept_part v)) (given_part v ∷ []) ∙ ap (λ (xs : List Account). xs ++ part v.aside ∷ []) (accounts_set s.views id (kept_part v)))
+          (split_keeps e m rule.law id a (stands r e s rule id v is) there v.aside some_units less)
+
+  module _ (other : ℕ) (w : View) where
+    pub joins : w.out ≡ 0 → 0 < v.book.account.share → Joins (Rule r e) id v other w (joined_view v w) spent_view
+    joins bare there s rule is apart after = with_views r e s rule views all law
+      where
+        m : Marking
+        m = marking_of r e s
+
+        both : View
+        both = joined_view v w
+
+        views : List View
+        views = set (set s.views id both) other spent_view
+
+        at : get_elem? s.views other ≡ some w
+        at = sym (set_else s.views id other both apart) ∙ after
+
+        own : Suits e s v
+        own = suits r e s rule id v is
+
+        theirs : Suits e s w
+        theirs = suits r e s rule other w at
+
+        rests : Rests s.homes both
+        rests i mine out = go (dec_le 1 (times i v.book.account.held))
+          where
+            go : Dec (1 ≤ times i v.book.account.held) → get_elem? s.homes i ≡ some (some None)
+            go (yes h) = own.rests i h out
+            go (no h) = theirs.rests i (omega (arith, total-append (only i) v.book.account.held w.book.account.held)) (nothing_out w.out bare i)
+
+        together : Suits e s both
+        together =
+            record {
+              tied = λ i out. (omega (arith, (own.tied i out).0, total-append (only i) v.book.account.held w.book.account.held), (own.tied i out).1);
+              rests = rests;
+              same_setup = λ h. own.same_setup there;
+            }
+
+        gone : Suits e s spent_view
+        gone = record { tied = λ i out. absurd (nothing_out 0 refl i out); rests = λ i mine out. absurd (omega (arith, mine)); same_setup = λ h. absurd (omega (arith, h)) }
+
+        all : (k : ℕ) (u : View) → get_elem? views k ≡ some u → Suits e s u
+        all k u stood =
+            ⊎_elim (λ t. subst (Suits e s) t.1 gone) (λ t. ⊎_elim (λ x. subst (Suits e s) x.1 together) (λ x. suits r e s rule k u x.1) (at_set s.views id k both u t.1))
+            (at_set (set s.views id both) other k spent_view u stood)
+
+        law : Law e (marking_of r e (record { words = s.words; homes = s.homes; views = views }))
+        law =
+            agrees e (record m { accounts = set (set m.accounts id (after_join v.book.account w.book.account)) other spent }) (marking_of r e (record { words = s.words; homes = s.homes; views = views }))
+            (λ q. refl) (λ i h. refl) (λ o. refl) refl
+            (accounts_set (set s.views id both) other spent_view ∙ ap (λ (xs : List Account). set xs other spent) (accounts_set s.views id both))
+            (join_keeps e m rule.law id v.book.account (stands r e s rule id v is) there other w.book.account apart (stands r e s rule other w at))
+
+-- two setups of one table have the same numbers
+same_numbers : (t : TableId) (e f : Setup) → IsLaid t e → IsLaid t f → (e.buffers ≡ f.buffers) × (e.objects ≡ f.objects)
+same_numbers t e f one two = (omega (arith, one.slots, two.slots), omega (arith, one.slots, two.slots, one.words, two.words))
+
+-- what two accounts of one table have together is within it
+within_joined : (t : TableId) (e f : Setup) (a b : Account) → IsLaid t e → IsLaid t f → IsWithin e a → IsWithin f b → IsWithin e (after_join a b)
+within_joined t e f a b one two first second = record { held = held; charge = charge }
+  where
+    numbers : (e.buffers ≡ f.buffers) × (e.objects ≡ f.objects)
+    numbers = same_numbers t e f one two
+
+    held : (i : ℕ) → Contains (a.held ++ b.held) i → i < e.buffers
+    held i k = ⊎_elim (λ l. first.held i l) (λ l. omega (arith, second.held i l, numbers.0)) (stands_append a.held b.held i k)
+
+    charge : (o : ℕ) → Contains (a.charge ++ b.charge) o → o < e.objects
+    charge o k = ⊎_elim (λ l. first.charge o l) (λ l. omega (arith, second.charge o l, numbers.1)) (stands_append a.charge b.charge o k)
+
+-- the seat that keeps a part
+pub keeps_part :
+    {B : Type 0} (t u : TableId) (m n : Me (Option B) View) (units : ℕ) → u ≡ t → n ≡ (kept_part (record (free m.0) { aside = units }), []) → IsSound t m → units < m.0.book.account.share
+    → IsSound u n × (n.0.book ≡ parted units m.0.book)
+keeps_part {B} t u m n units table is sound less = (subst (λ x. IsSound x n) (sym table) (subst (IsSound t) (sym is) here), ap (λ (x : Me (Option B) View). x.0.book) is)
+  where
+    here : IsSound {B = B} t (kept_part (record (free m.0) { aside = units }), [])
+    here = record { laid = sound.laid; share = omega (arith, less); carries = refl; within = record { held = sound.within.held; charge = sound.within.charge } }
+
+-- the new seat
+pub has_part :
+    {B : Type 0} (t u : TableId) (m n : Me (Option B) View) (units : ℕ) → u ≡ t → n ≡ (given_part (record (free m.0) { aside = units }), []) → IsSound t m → 0 < units
+    → IsSound u n × (n.0.book ≡ new_book m.0.book.setup units)
+has_part {B} t u m n units table is sound some_units = (subst (λ x. IsSound x n) (sym table) (subst (IsSound t) (sym is) here), ap (λ (x : Me (Option B) View). x.0.book) is)
+  where
+    here : IsSound {B = B} t (given_part (record (free m.0) { aside = units }), [])
+    here = record { laid = sound.laid; share = some_units; carries = refl; within = record { held = λ i k. absurd (omega (arith, k.1)); charge = λ o k. absurd (omega (arith, k.1)) } }
+
+-- the seat that took another in
+pub has_both :
+    {B : Type 0} (t u : TableId) (m o n : Me (Option B) View) → u ≡ t → n ≡ (free (joined_view m.0 (free o.0)), []) → IsSound t m → IsSound t o → IsSound u n × (n.0.book ≡ joined m.0.book o.0.book)
+has_both {B} t u m o n table is first second = (subst (λ x. IsSound x n) (sym table) (subst (IsSound t) (sym is) here), ap (λ (x : Me (Option B) View). x.0.book) is)
+  where
+    here : IsSound {B = B} t (free (joined_view m.0 (free o.0)), [])
+    here =
+        record {
+          laid = first.laid;
+          share = omega (arith, first.share);
+          carries = refl;
+          within = within_joined t m.0.book.setup o.0.book.setup m.0.book.account o.0.book.account first.laid second.laid first.within second.within;
+        }
+
+-- where the two together have each thing once, they have nothing in common
+pub apart_by : (a b : Account) → HasEachOnce (after_join a b) → AreApart a b
+apart_by a b each =
+    record {
+      held = λ i. omega (arith, each.held i, total-append (only i) a.held b.held);
+      objects = λ o. omega (arith, each.objects o, total-append (only o) a.charge b.charge, total-append (only o) a.finished b.finished);
+    }

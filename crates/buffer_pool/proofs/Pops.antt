@@ -1,0 +1,185 @@
+-- An exchange of a head for the link of its buffer keeps the rule: it pops, or it has failed.
+use Rattle.std.proofs.Common.{◌≡◌, ◌≢◌, ℕ, zero, suc, ◌<◌, ◌≤◌, ◌==◌, List, [], ◌∷◌, ◌++◌, length, map, Option, Some, None, set, slice_index, slice_set, ap, sym, refl, subst, ◌∙◌, ⊎_elim, Contains, lt_of_not-le, length-set, arith}
+use Rattle.std.proofs.lemmas.List.{set-get_or, get_or_past}
+use mathlib.Core.Option.{none, some, some-injective, some-ne-none}
+use mathlib.Core.Option as maybe
+use native.Mathlib.Decide.{dec_le, ℕ_discrete}
+use lib.ListN.{get_elem?}
+use prog.Atomic.{either}
+use Rattle.atomic_table.specs.Table.{State, Me, Act, Allows, Valid, step, stepped, carried_after, keeps, takes}
+use Rattle.atomic_table.proofs.Lists.{at_map, at_set, set_else, set_again}
+use Rattle.tagged_index.specs.Head.{Head, head_of, index_of, after}
+use Rattle.mark_core.specs.declared.which.Which.{Which}
+use Rattle.mark_core.specs.declared.which.Which.TheVariants.{Full, Empty}
+use Rattle.mark_core.specs.Lists.{StandsAt, times, only}
+use Rattle.mark_core.specs.Account.{Account, look_of, after_pop}
+use Rattle.mark_core.specs.World.{Setup, Marking, items_of, put_which}
+use Rattle.mark_core.specs.Law.{Law}
+use Rattle.mark_core.proofs.Colours.{linear}
+use Rattle.mark_core.proofs.Sums.{stands_times, total-append, term_le, only-same, only-other}
+use Rattle.mark_core.proofs.Ownership.{place_one, top_stands}
+use Rattle.mark_core.proofs.Events.{pop_keeps}
+use Rattle.buffer_pool.specs.declared.view.View.{View}
+use Rattle.buffer_pool.specs.Book.{popped, failed}
+use Rattle.buffer_pool.specs.Plays.{IsOurs, pop_tried}
+use Rattle.buffer_pool.specs.Table.{Reading, Rule, IsTied, Rests, Carries, account_of, free, head_word, link_word, mark_word, marking_of, slot_of}
+use Rattle.buffer_pool.proofs.States.{agrees, stands, changed, accounts_set, slots_set, freed}
+use Rattle.mark_core.proofs.Places.{at_one}
+use Rattle.buffer_pool.proofs.Loads.{noticed, same_head}
+use Rattle.buffer_pool.proofs.Words.{exchange_hit, exchange_miss, link_beside_head, mark_beside_head, heads_after}
+
+-- items at home are those of a buffer
+pub buffer_there : {B : Type 0} (r : Reading B) (homes : List (maybe.Option (Option B))) (i : ℕ) (items : List ℕ) → StandsAt (map (slot_of r) homes) i (Some items) → (b : B) × (get_elem? homes i ≡ some (some (Some b))) × (r.items b ≡ items)
+buffer_there r [] i items at = absurd (some-ne-none (Some items) (sym at))
+buffer_there r (none ∷ hs) zero items at = let f : ⊥ = cc in absurd f
+buffer_there r (some None ∷ hs) zero items at = let f : ⊥ = cc in absurd f
+buffer_there r (some (Some b) ∷ hs) zero items at = (b, refl, cc)
+buffer_there r (h ∷ hs) (suc i) items at = buffer_there r hs i items at
+
+-- a stacked buffer is held by no account
+pub stacked_free : {B : Type 0} (r : Reading B) (e : Setup) (s : State (Option B) View) (rule : Rule r e s) (k : ℕ) (u : View) (q : Which) (i : ℕ) → get_elem? s.views k ≡ some u → 0 < times i (rule.law.stack q) → 0 < times i u.book.account.held → ⊥
+stacked_free r e s rule k u Full i at on mine =
+    let m = marking_of r e s in
+    omega (arith, place_one e.buffers m.head m.link m.accounts rule.law.stack rule.law.owned i, term_le (λ (a : Account). times i a.held) m.accounts k u.book.account (at_map account_of s.views k u at))
+stacked_free r e s rule k u Empty i at on mine =
+    let m = marking_of r e s in
+    omega (arith, place_one e.buffers m.head m.link m.accounts rule.law.stack rule.law.owned i, term_le (λ (a : Account). times i a.held) m.accounts k u.book.account (at_map account_of s.views k u at))
+
+-- the items of a stacked buffer are objects, since their marks are not 0
+items_within : {B : Type 0} (r : Reading B) (e : Setup) (s : State (Option B) View) (rule : Rule r e s) (i : ℕ) (b : B) → get_elem? s.homes i ≡ some (some (Some b)) → (o : ℕ) → Contains (r.items b) o → o < e.objects
+items_within r e s rule i b home o here = go (dec_le (length s.words) (mark_word e o))
+  where
+    m : Marking
+    m = marking_of r e s
+
+    go : Dec (length s.words ≤ mark_word e o) → o < e.objects
+    go (no below) = omega (arith, lt_of_not-le below, rule.word_count)
+    go (yes past) =
+        let white = get_or_past s.words (mark_word e o) 0 past in
+        let told = (linear e m.mark m.slots m.accounts rule.law.coloured o).0 in
+        let one = term_le (λ (slot : Option (List ℕ)). times o (items_of slot)) m.slots i (Some (r.items b)) (at_map (slot_of r) s.homes i (some (Some b)) home) in absurd (omega (arith, white, told, one, stands_times (r.items b) o here))
+
+-- a buffer on the empty stack has no items
+bare_on_empty :
+  {B : Type 0} (r : Reading B) (e : Setup) (s : State (Option B) View) (rule : Rule r e s) (q : Which) (i : ℕ) (b : B) → (head_of (slice_index s.words (head_word q))).index ≡ Some i → get_elem? s.homes i ≡ some (some (Some b))
+  → q ≡ Empty → r.items b ≡ []
+bare_on_empty r e s rule q i b top home empty =
+    let m = marking_of r e s in
+    let on = subst (λ k. 0 < times i (rule.law.stack k)) empty (top_stands e.buffers m.head m.link m.accounts rule.law.stack rule.law.owned q i top) in
+    let one : Some (r.items b) ≡ Some [] = at_one m.slots i (Some (r.items b)) (Some []) (at_map (slot_of r) s.homes i (some (Some b)) home) (rule.law.shelved.bare i on) in cc
+
+-- where the head is the one loaded
+module _ {B : Type 0} (r : Reading B) (e : Setup) (s : State (Option B) View) (rule : Rule r e s) (id : ℕ) (v : View) (is : get_elem? s.views id ≡ some v) (bare : v.out ≡ 0) (there : 0 < v.book.account.share) where
+  abbrev pop_view : ℕ → B → View
+  pop_view i b = record v { book = popped i (r.items b) v.book; out = suc i; out_link = slice_index s.words (link_word i) }
+
+  module _ (q : Which) (i : ℕ) (b : B) (top : (head_of (slice_index s.words (head_word q))).index ≡ Some i) (home : get_elem? s.homes i ≡ some (some (Some b))) where
+    on_stack : 0 < times i (rule.law.stack q)
+    on_stack = let m = marking_of r e s in top_stands e.buffers m.head m.link m.accounts rule.law.stack rule.law.owned q i top
+
+    elsewhere : (k : ℕ) (u : View) (j : ℕ) → get_elem? s.views k ≡ some u → 0 < times j u.book.account.held → get_elem? (set s.homes i none) j ≡ get_elem? s.homes j
+    elsewhere k u j at mine = set_else s.homes i j none (λ same. stacked_free r e s rule k u q i at on_stack (subst (λ x. 0 < times x u.book.account.held) same mine))
+
+    pub popped_rule :
+        (x : ℕ) (l : Option ℕ) → (look_of v.book.account q).head ≡ Some (head_of (slice_index s.words (head_word q))) → (look_of v.book.account q).link ≡ Some l → head_of x ≡ after (head_of (slice_index s.words (head_word q))) l
+        → Rule r e (record { words = set s.words (head_word q) x; homes = set s.homes i none; views = set s.views id (pop_view i b) })
+    popped_rule x l hit loaded next =
+        changed r e s rule id v is words homes w (length-set s.words (head_word q) x) (length-set s.homes i none) (λ j h. let same = link_beside_head e s.words q x j in omega (arith, rule.linked j h)) sized tied rests others (λ h. rule.same_setup id v is there) law
+      where
+        m : Marking
+        m = marking_of r e s
+
+        words : List ℕ
+        words = set s.words (head_word q) x
+
+        homes : List (maybe.Option (Option B))
+        homes = set s.homes i none
+
+        w : View
+        w = pop_view i b
+
+        sized : (j : ℕ) (c : B) → get_elem? homes j ≡ some (some (Some c)) → r.size c ≡ e.size
+        sized j c at = ⊎_elim (λ t. let gone : ⊥ = cc in absurd gone) (λ t. rule.sized j c t.1) (at_set s.homes i j none (some (Some c)) at)
+
+        tied : IsTied words w
+        tied j out =
+            let same : i ≡ j = omega (arith, out) in
+            (subst (λ k. 0 < times k (v.book.account.held ++ i ∷ [])) same (omega (arith, total-append (only i) v.book.account.held (i ∷ []), only-same i i refl)), link_beside_head e s.words q x j ∙ ap (λ k. slice_index s.words (link_word k)) (sym same))
+
+        rests : Rests homes w
+        rests j mine not_out =
+            let other : j ≢ i = λ same. not_out (ap suc (sym same)) in
+            let old : 0 < times j v.book.account.held = omega (arith, total-append (only j) v.book.account.held (i ∷ []), only-other j i (λ t. other (sym t))) in
+            set_else s.homes i j none other ∙ rule.rests id v is j old (λ o. omega (arith, o, bare))
+
+        others : (k : ℕ) (u : View) → k ≢ id → get_elem? s.views k ≡ some u → IsTied words u × Rests homes u
+        others k u other at =
+            ((λ j out. let t = rule.tied k u at j out in (t.0, link_beside_head e s.words q x j ∙ t.1)), (λ j mine not_out. elsewhere k u j at mine ∙ rule.rests k u at j mine not_out))
+
+        law : Law e (marking_of r e (record { words = words; homes = homes; views = set s.views id w }))
+        law =
+            agrees e (record m { head = put_which q (after (m.head q) l) m.head; slots = set m.slots i None; accounts = set m.accounts id (after_pop i (r.items b) v.book.account) }) (marking_of r e (record { words = words; homes = homes; views = set s.views id w }))
+            (heads_after e s.words q x (after (m.head q) l) (omega (arith, rule.word_count)) next) (λ j h. ap index_of (link_beside_head e s.words q x j)) (mark_beside_head e s.words q x) (slots_set r s.homes i none) (accounts_set s.views id w)
+            (pop_keeps e m rule.law id v.book.account (stands r e s rule id v is) there q i l (r.items b) hit top loaded (at_map (slot_of r) s.homes i (some (Some b)) home))
+
+  -- the buffer on top of a stack lies at home
+  pub top_home : (q : Which) (i : ℕ) → (head_of (slice_index s.words (head_word q))).index ≡ Some i → (b : B) × (get_elem? s.homes i ≡ some (some (Some b)))
+  top_home q i top =
+      let m = marking_of r e s in
+      let at = rule.law.shelved.stacked q i (top_stands e.buffers m.head m.link m.accounts rule.law.stack rule.law.owned q i top) in
+      let found = buffer_there r s.homes i at.0 at.1 in (found.0, found.1)
+
+  -- where it is another, only the failure is counted
+  pub failed_rule : (word : ℕ) → Rule r e (record { words = slice_set s.words word (slice_index s.words word); homes = s.homes; views = set s.views id (record v { book = failed v.book }) })
+  failed_rule word =
+      let w : View = record v { book = failed v.book } in
+      let m = marking_of r e s in
+      let law : Law e (marking_of r e (record { words = s.words; homes = s.homes; views = set s.views id w })) =
+      agrees e m (marking_of r e (record { words = s.words; homes = s.homes; views = set s.views id w })) (λ p. refl) (λ j h. refl) (λ o. refl) refl
+      (accounts_set s.views id w ∙ set_again m.accounts id v.book.account (stands r e s rule id v is)) rule.law in
+      subst (λ ws. Rule r e (record { words = ws; homes = s.homes; views = set s.views id w })) (sym (set-get_or s.words word 0)) (noticed r e s rule id v is bare there s.words w refl (λ j h. refl) bare refl refl law)
+
+module _ {B : Type 0} (r : Reading B) (e : Setup) (slots id : ℕ) where
+  pub pops :
+      (me : Me (Option B) View) (q : Which) (old new i : ℕ) (l : Option ℕ) → Carries me → 0 < me.0.book.account.share
+      → (look_of me.0.book.account q).head ≡ Some (head_of old) → (head_of old).index ≡ Some i → (look_of me.0.book.account q).link ≡ Some l → head_of new ≡ after (head_of old) l
+      → Allows (Rule r e) slots id me (head_word q) (λ n. either (n == old) new n) (pop_tried r (step slots (head_word q) old new none) me)
+  pops me q old new i l carries there last top linked next = freed r e slots id (head_word q) (λ n. either (n == old) new n) (pop_tried r (step slots (head_word q) old new none) me) me carries (λ s rule count is fits. go s rule is (ℕ_discrete (slice_index s.words (head_word q)) old))
+    where
+      v : View
+      v = free me.0
+
+      Goal : State (Option B) View → Type 0
+      Goal s =
+          (w : View) × (a : Act (Option B)) × Valid s.homes [] a × Rule r e (stepped s (head_word q) (either (slice_index s.words (head_word q) == old) new (slice_index s.words (head_word q))) id [] w a)
+          × pop_tried r (step slots (head_word q) old new none) me (slice_index s.words (head_word q)) (w, carried_after [] a)
+
+      go : (s : State (Option B) View) → Rule r e s → get_elem? s.views id ≡ some v → Dec (slice_index s.words (head_word q) ≡ old) → Goal s
+      go s rule is (yes hit) =
+          let n = slice_index s.words (head_word q) in
+          let same : head_of old ≡ head_of n = ap head_of (sym hit) in
+          let top' : (head_of n).index ≡ Some i = ap (λ (h : Head). h.index) (sym same) ∙ top in
+          let home = top_home r e s rule id v is refl there q i top' in
+          let b = home.0 in
+          let w = pop_view r e s rule id v is refl there i b in
+          let ours : IsOurs r me.0.book.setup b = subst (λ f. IsOurs r f b) (sym (rule.same_setup id v is there)) (record { size = rule.sized i b home.1; objects = items_within r e s rule i b home.1 }) in
+          let after_it : Rule r e (record { words = set s.words (head_word q) new; homes = set s.homes i none; views = set s.views id w }) =
+          popped_rule r e s rule id v is refl there q i b top' home.1 new l (last ∙ ap {B = Option Head} Some same) linked (next ∙ ap (λ (h : Head). after h l) same) in (
+            w,
+            takes i (Some b),
+            home.1,
+            subst (λ x. Rule r e (record { words = set s.words (head_word q) x; homes = set s.homes i none; views = set s.views id w })) (sym (exchange_hit n old new hit)) after_it,
+            (
+              (λ h j t. let k : i ≡ j = let f : Some i ≡ Some j = sym top' ∙ t in cc in (b, ap (λ x. (x, Some b) ∷ []) k, ap suc k, ap (λ x. popped x (r.items b) me.0.book) k, ours, (λ word. bare_on_empty r e s rule q i b top' home.1 (same_head q Empty word)))),
+              (λ miss. absurd (miss hit)),
+            ),
+          )
+      go s rule is (no miss) =
+          let n = slice_index s.words (head_word q) in
+          let w : View = record v { book = failed me.0.book } in (
+            w,
+            keeps,
+            tt,
+            subst (λ x. Rule r e (record { words = slice_set s.words (head_word q) x; homes = s.homes; views = set s.views id w })) (sym (exchange_miss n old new miss)) (failed_rule r e s rule id v is refl there (head_word q)),
+            ((λ hit j t. absurd (miss hit)), (λ h. refl)),
+          )

@@ -1,0 +1,230 @@
+-- A store of a held buffer's link, and an exchange of a head for that buffer, keep the rule: the second pushes, or it has failed.
+use Rattle.std.proofs.Common.{◌≡◌, ◌≢◌, ℕ, suc, ◌+◌, ◌<◌, ◌≤◌, ◌==◌, List, [], ◌∷◌, length, Option, Some, None, get_or, set, slice_index, slice_set, ap, sym, refl, subst, ◌∙◌, ⊎_elim, length-set, arith}
+use Rattle.std.proofs.lemmas.List.{set-get_or}
+use mathlib.Core.Option.{none, some}
+use mathlib.Core.Option as maybe
+use native.Mathlib.Decide.{ℕ_discrete}
+use lib.ListN.{get_elem?}
+use prog.Atomic.{either}
+use Rattle.atomic_table.specs.Table.{State, Me, Act, Allows, Valid, step, stepped, carried_after, keeps, takes, gives}
+use Rattle.atomic_table.proofs.Lists.{at_set, set_else, set_again}
+use Rattle.tagged_index.specs.Head.{Head, head_of, index_of, low_of, after}
+use Rattle.mark_core.specs.declared.which.Which.{Which}
+use Rattle.mark_core.specs.declared.which.Which.TheVariants.{Full, Empty}
+use Rattle.mark_core.specs.Lists.{times, remove_one, IsPart}
+use Rattle.mark_core.specs.Account.{look_of, after_push}
+use Rattle.mark_core.specs.World.{Setup, Marking, put, put_which}
+use Rattle.mark_core.specs.Law.{Law}
+use Rattle.mark_core.proofs.Sums.{times-remove_one, only-same, only-other}
+use Rattle.mark_core.proofs.Events.{store_keeps, push_keeps}
+use Rattle.buffer_pool.specs.declared.view.View.{View}
+use Rattle.buffer_pool.specs.Book.{Book, pushed, failed}
+use Rattle.buffer_pool.specs.Plays.{rested, link_stored, push_tried}
+use Rattle.buffer_pool.specs.Table.{Reading, Rule, IsTied, Rests, Carries, free, head_word, link_word, marking_of}
+use Rattle.buffer_pool.proofs.States.{agrees, stands, changed, accounts_set, slots_set, held_alone, held_below, held_away, freed}
+use Rattle.buffer_pool.proofs.Loads.{each_once}
+use Rattle.buffer_pool.proofs.Words.{exchange_hit, exchange_miss, link_beside_head, mark_beside_head, heads_after, head_beside_link, link_beside_link, link_here, mark_beside_link, links_after}
+
+-- the link word to an index of a buffer is at most the number of buffers
+pub low_small : (index : Option ℕ) (buffers : ℕ) → ((i : ℕ) → index ≡ Some i → i < buffers) → low_of index ≤ buffers
+low_small None buffers below = omega arith
+low_small (Some i) buffers below = omega (arith, below i refl)
+
+account_pushed : (q : Which) (i : ℕ) (items : List ℕ) (b : Book) → (pushed q i items b).account ≡ after_push q i items b.account
+account_pushed q i items b = refl
+
+held_pushed : (q : Which) (i : ℕ) (items : List ℕ) (b : Book) → (pushed q i items b).account.held ≡ remove_one i b.account.held
+held_pushed Full i items b = refl
+held_pushed Empty i items b = refl
+
+share_pushed : (q : Which) (i : ℕ) (items : List ℕ) (b : Book) → (pushed q i items b).account.share ≡ b.account.share
+share_pushed Full i items b = refl
+share_pushed Empty i items b = refl
+
+-- a slot that a seat carries alone is the one that it took
+pub one_carried : {B : Type 0} (i j : ℕ) (b c : B) → ◌≡◌ {A = List (ℕ × Option B)} ((i, Some b) ∷ []) ((j, Some c) ∷ []) → (i ≡ j) × (b ≡ c)
+one_carried {B = B} i j b c e =
+    let first : i ≡ j = ap (λ (xs : List (ℕ × Option B)). (get_or xs 0 (0, None)).0) e in
+    let second : Some b ≡ Some c = ap (λ (xs : List (ℕ × Option B)). (get_or xs 0 (0, None)).1) e in (first, cc)
+
+module _ {B : Type 0} (r : Reading B) (e : Setup) (s : State (Option B) View) (rule : Rule r e s) (id : ℕ) (v : View) (is : get_elem? s.views id ≡ some v) (there : 0 < v.book.account.share) (i : ℕ) (mine : 0 < times i v.book.account.held) where
+  -- other seats hold other buffers, so a write at this one's slot leaves theirs
+  beside_mine : (k : ℕ) (u : View) (j : ℕ) (h : maybe.Option (Option B)) → k ≢ id → get_elem? s.views k ≡ some u → 0 < times j u.book.account.held → get_elem? (set s.homes i h) j ≡ get_elem? s.homes j
+  beside_mine k u j h other at theirs = set_else s.homes i j h (λ same. held_alone r e s rule id v is k u i other at mine (subst (λ x. 0 < times x u.book.account.held) same theirs))
+
+  -- the link of a held buffer is stored, and its slot comes out
+  pub stored_rule :
+      (x : ℕ) → v.out ≡ 0 → x ≤ e.buffers → Rule r e (record { words = set s.words (link_word i) x; homes = set s.homes i none; views = set s.views id (record v { out = suc i; out_link = x }) })
+  stored_rule x bare small =
+      changed r e s rule id v is words homes w (length-set s.words (link_word i) x) (length-set s.homes i none) linked sized tied rests others (rule.same_setup id v is) law
+    where
+      m : Marking
+      m = marking_of r e s
+
+      words : List ℕ
+      words = set s.words (link_word i) x
+
+      homes : List (maybe.Option (Option B))
+      homes = set s.homes i none
+
+      w : View
+      w = record v { out = suc i; out_link = x }
+
+      below : i < e.buffers
+      below = held_below r e s rule id v is i mine
+
+      in_words : 32 + i < length s.words
+      in_words = omega (arith, rule.word_count, below)
+
+      linked : (j : ℕ) → j < e.buffers → slice_index words (link_word j) ≤ e.buffers
+      linked j h = go (ℕ_discrete j i)
+        where
+          go : Dec (j ≡ i) → slice_index words (link_word j) ≤ e.buffers
+          go (yes same) = subst (λ k. slice_index words (link_word k) ≤ e.buffers) (sym same) (omega (arith, link_here e s.words i x in_words))
+          go (no other) = omega (arith, link_beside_link e s.words i x j other, rule.linked j h)
+
+      sized : (j : ℕ) (c : B) → get_elem? homes j ≡ some (some (Some c)) → r.size c ≡ e.size
+      sized j c at = ⊎_elim (λ t. let gone : ⊥ = cc in absurd gone) (λ t. rule.sized j c t.1) (at_set s.homes i j none (some (Some c)) at)
+
+      tied : IsTied words w
+      tied j out = let same : i ≡ j = omega (arith, out) in (subst (λ k. 0 < times k v.book.account.held) same mine, subst (λ k. slice_index words (link_word k) ≡ x) same (link_here e s.words i x in_words))
+
+      rests : Rests homes w
+      rests j held not_out = set_else s.homes i j none (λ same. not_out (ap suc (sym same))) ∙ rule.rests id v is j held (λ o. omega (arith, o, bare))
+
+      others : (k : ℕ) (u : View) → k ≢ id → get_elem? s.views k ≡ some u → IsTied words u × Rests homes u
+      others k u other at = (
+        (λ j out. let t = rule.tied k u at j out in
+            (t.0, link_beside_link e s.words i x j (λ same. held_alone r e s rule id v is k u i other at mine (subst (λ y. 0 < times y u.book.account.held) same t.0)) ∙ t.1)),
+        (λ j theirs not_out. beside_mine k u j none other at theirs ∙ rule.rests k u at j theirs not_out),
+      )
+
+      law : Law e (marking_of r e (record { words = words; homes = homes; views = set s.views id w }))
+      law =
+          agrees e (record m { link = put i (index_of x) m.link }) (marking_of r e (record { words = words; homes = homes; views = set s.views id w })) (λ q. ap head_of (head_beside_link e s.words i x q))
+          (λ j h. links_after e s.words i x in_words j) (mark_beside_link e s.words i x below) (slots_set r s.homes i none ∙ set_again m.slots i None (held_away r e s rule id v is i mine))
+          (accounts_set s.views id w ∙ set_again m.accounts id v.book.account (stands r e s rule id v is)) (store_keeps e m rule.law id v.book.account (stands r e s rule id v is) there i (index_of x) mine)
+
+  module _ (b : B) (out : v.out ≡ suc i) (q : Which) where
+    abbrev push_view : View
+    push_view = record (free v) { book = pushed q i (r.items b) v.book }
+
+    -- the head is exchanged for the buffer, and its slot goes home with it
+    pub pushed_rule :
+        (x : ℕ) → (look_of v.book.account q).head ≡ Some (head_of (slice_index s.words (head_word q))) → head_of x ≡ after (head_of (slice_index s.words (head_word q))) (Some i)
+        → index_of v.out_link ≡ (head_of (slice_index s.words (head_word q))).index → IsPart (r.items b) v.book.account.charge → (q ≡ Empty → r.items b ≡ []) → r.size b ≡ v.book.setup.size
+        → Rule r e (record { words = set s.words (head_word q) x; homes = set s.homes i (some (Some b)); views = set s.views id push_view })
+    pushed_rule x hit next leads part none_empty size =
+        changed r e s rule id v is words homes w (length-set s.words (head_word q) x) (length-set s.homes i (some (Some b))) (λ j h. let same = link_beside_head e s.words q x j in omega (arith, rule.linked j h)) sized
+        (λ j o. let z : ◌≡◌ {A = ℕ} 0 (suc j) = o in absurd (omega arith)) rests others (λ h. rule.same_setup id v is there) law
+      where
+        m : Marking
+        m = marking_of r e s
+
+        words : List ℕ
+        words = set s.words (head_word q) x
+
+        homes : List (maybe.Option (Option B))
+        homes = set s.homes i (some (Some b))
+
+        w : View
+        w = push_view
+
+        right : r.size b ≡ e.size
+        right = size ∙ ap (λ (k : Setup). k.size) (rule.same_setup id v is there)
+
+        sized : (j : ℕ) (c : B) → get_elem? homes j ≡ some (some (Some c)) → r.size c ≡ e.size
+        sized j c at = ⊎_elim (λ t. let f : Some b ≡ Some c = maybe.some-injective (Some b) (Some c) t.1 in let same : b ≡ c = cc in subst (λ (y : B). r.size y ≡ e.size) same right) (λ t. rule.sized j c t.1) (at_set s.homes i j (some (Some b)) (some (Some c)) at)
+
+        rests : Rests homes w
+        rests j held not_out =
+            let kept : 0 < times j (remove_one i v.book.account.held) = subst (λ xs. 0 < times j xs) (held_pushed q i (r.items b) v.book) held in
+            let sum = times-remove_one j i v.book.account.held mine in
+            let other : j ≢ i = λ same. let k : times j v.book.account.held ≤ 1 = (each_once r e s rule id v is).held j in omega (arith, only-same j i (sym same)) in
+            let old : 0 < times j v.book.account.held = omega (arith, only-other j i (λ t. other (sym t))) in set_else s.homes i j (some (Some b)) other ∙ rule.rests id v is j old (λ o. other (omega (arith, o, out)))
+
+        others : (k : ℕ) (u : View) → k ≢ id → get_elem? s.views k ≡ some u → IsTied words u × Rests homes u
+        others k u other at =
+            ((λ j o. let t = rule.tied k u at j o in (t.0, link_beside_head e s.words q x j ∙ t.1)), (λ j theirs not_out. beside_mine k u j (some (Some b)) other at theirs ∙ rule.rests k u at j theirs not_out))
+
+        law : Law e (marking_of r e (record { words = words; homes = homes; views = set s.views id w }))
+        law =
+            agrees e (record m { head = put_which q (after (m.head q) (Some i)) m.head; slots = set m.slots i (Some (r.items b)); accounts = set m.accounts id (after_push q i (r.items b) v.book.account) })
+            (marking_of r e (record { words = words; homes = homes; views = set s.views id w })) (heads_after e s.words q x (after (m.head q) (Some i)) (omega (arith, rule.word_count)) next) (λ j h. ap index_of (link_beside_head e s.words q x j))
+            (mark_beside_head e s.words q x) (slots_set r s.homes i (some (Some b))) (accounts_set s.views id w)
+            (push_keeps e m rule.law id v.book.account (stands r e s rule id v is) there q i (r.items b) mine (ap index_of (rule.tied id v is i out).1 ∙ leads) part none_empty)
+
+    -- the head was another: only the failure is counted, and the slot stays out
+    pub missed_rule : (word : ℕ) → Rule r e (record { words = slice_set s.words word (slice_index s.words word); homes = s.homes; views = set s.views id (record v { book = failed v.book }) })
+    missed_rule word =
+        subst (λ ws. Rule r e (record { words = ws; homes = s.homes; views = set s.views id w })) (sym (set-get_or s.words word 0))
+        (changed r e s rule id v is s.words s.homes w refl refl rule.linked rule.sized (rule.tied id v is) (rule.rests id v is) (λ k u other at. (rule.tied k u at, rule.rests k u at)) (rule.same_setup id v is) law)
+      where
+        m : Marking
+        m = marking_of r e s
+
+        w : View
+        w = record v { book = failed v.book }
+
+        law : Law e (marking_of r e (record { words = s.words; homes = s.homes; views = set s.views id w }))
+        law =
+            agrees e m (marking_of r e (record { words = s.words; homes = s.homes; views = set s.views id w })) (λ p. refl) (λ j h. refl) (λ o. refl) refl
+            (accounts_set s.views id w ∙ set_again m.accounts id v.book.account (stands r e s rule id v is)) rule.law
+
+module _ {B : Type 0} (r : Reading B) (e : Setup) (slots id : ℕ) where
+  pub stores :
+      (me : Me (Option B) View) (i x : ℕ) → Carries me → 0 < me.0.book.account.share → 0 < times i me.0.book.account.held → x ≤ e.buffers
+      → Allows (Rule r e) slots id me (link_word i) (λ n. x) (λ n. link_stored (step slots (link_word i) x 0 none) me x)
+  stores me i x carries there mine small = freed r e slots id (link_word i) (λ n. x) (λ n. link_stored (step slots (link_word i) x 0 none) me x) me carries (λ s rule count is fits.
+      let v : View = free me.0 in
+      let w : View = record v { out = suc i; out_link = x } in (
+        w,
+        takes i None,
+        rule.rests id v is i mine (λ o. let z : ◌≡◌ {A = ℕ} 0 (suc i) = o in absurd (omega arith)),
+        stored_rule r e s rule id v is there i mine x refl small,
+        (λ j h. let same : i ≡ j = omega (arith, h) in ap (λ k. (record me.0 { out = suc k; out_link = x }, (k, None) ∷ [])) same),
+      ))
+
+  pub pushes :
+      (me : Me (Option B) View) (q : Which) (old new i : ℕ) (b : B) → me.1 ≡ (i, Some b) ∷ [] → me.0.out ≡ suc i → 0 < me.0.book.account.share → 0 < times i me.0.book.account.held
+      → (look_of me.0.book.account q).head ≡ Some (head_of old) → head_of new ≡ after (head_of old) (Some i) → index_of me.0.out_link ≡ (head_of old).index
+      → IsPart (r.items b) me.0.book.account.charge → (q ≡ Empty → r.items b ≡ []) → r.size b ≡ me.0.book.setup.size
+      → Allows (Rule r e) slots id me (head_word q) (λ n. either (n == old) new n) (push_tried r q (step slots (head_word q) old new none) me)
+  pushes me q old new i b carried out there mine last next leads part none_empty size = λ s rule count is fits. go s rule is (ℕ_discrete (slice_index s.words (head_word q)) old)
+    where
+      v : View
+      v = me.0
+
+      Goal : State (Option B) View → Type 0
+      Goal s =
+          (w : View) × (a : Act (Option B)) × Valid s.homes me.1 a × Rule r e (stepped s (head_word q) (either (slice_index s.words (head_word q) == old) new (slice_index s.words (head_word q))) id me.1 w a)
+          × push_tried r q (step slots (head_word q) old new none) me (slice_index s.words (head_word q)) (w, carried_after me.1 a)
+
+      go : (s : State (Option B) View) → Rule r e s → get_elem? s.views id ≡ some v → Dec (slice_index s.words (head_word q) ≡ old) → Goal s
+      go s rule is (yes hit) =
+          let n = slice_index s.words (head_word q) in
+          let same : head_of old ≡ head_of n = ap head_of (sym hit) in
+          let w : View = push_view r e s rule id v is there i mine b out q in
+          let after_it : Rule r e (record { words = set s.words (head_word q) new; homes = set s.homes i (some (Some b)); views = set s.views id w }) =
+          pushed_rule r e s rule id v is there i mine b out q new (last ∙ ap {B = Option Head} Some same) (next ∙ ap (λ (h : Head). after h (Some i)) same) (leads ∙ ap (λ (h : Head). h.index) same) part none_empty size in
+          let put : Rule r e (stepped s (head_word q) (either (n == old) new n) id ((i, Some b) ∷ []) w gives) = subst (λ x. Rule r e (record { words = set s.words (head_word q) x; homes = set s.homes i (some (Some b)); views = set s.views id w })) (sym (exchange_hit n old new hit)) after_it in (
+            w,
+            gives,
+            tt,
+            subst (λ c. Rule r e (stepped s (head_word q) (either (n == old) new n) id c w gives)) (sym carried) put,
+            (
+              (λ h j c t. let one = one_carried i j b c (sym carried ∙ t) in
+                  let a : (w, []) ≡ rested me (pushed q j (r.items c) me.0.book) = λ k. rested me (pushed q (one.0 k) (r.items (one.1 k)) me.0.book) in
+                  subst (λ xs. (w, carried_after xs gives) ≡ rested me (pushed q j (r.items c) me.0.book)) (sym carried) a),
+              (λ miss. absurd (miss hit)),
+            ),
+          )
+      go s rule is (no miss) =
+          let n = slice_index s.words (head_word q) in
+          let w : View = record v { book = failed me.0.book } in (
+            w,
+            keeps,
+            tt,
+            subst (λ x. Rule r e (record { words = slice_set s.words (head_word q) x; homes = s.homes; views = set s.views id w })) (sym (exchange_miss n old new miss)) (missed_rule r e s rule id v is there i mine b out q (head_word q)),
+            ((λ hit j c t. absurd (miss hit)), (λ h. refl)),
+          )

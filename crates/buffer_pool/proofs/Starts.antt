@@ -1,0 +1,145 @@
+-- The words and slots that a pool is made of meet the rule.
+use Rattle.std.proofs.Common.{◌≡◌, ℕ, zero, suc, ◌+◌, ◌<◌, ◌≤◌, if◌then◌else◌, List, [], ◌∷◌, ◌++◌, length, map, replicate, Option, Some, None, All, set, slice_index, ap, sym, refl, subst, ◌∙◌, length-set, lt-ltb, le-ltb, arith}
+use Rattle.std.proofs.lemmas.List.{get_or-set_same, get_or-set_other, length-replicate, length-map}
+use Rattle.std.proofs.lemmas.List.Elements.{All-append}
+use mathlib.Core.Option.{some, some-injective, some-ne-none}
+use native.Mathlib.Decide.{dec_le}
+use lib.ListN.{get_elem?}
+use Rattle.atomic_table.specs.Table.{opening}
+use Rattle.atomic_table.specs.Seated.{TableId}
+use Rattle.tagged_index.specs.Head.{head_of, index_of}
+use Rattle.mark_core.specs.declared.which.Which.{Which}
+use Rattle.mark_core.specs.declared.which.Which.TheVariants.{Full, Empty}
+use Rattle.mark_core.specs.World.{Setup}
+use Rattle.mark_core.specs.Runs.{first_heads, first_link}
+use Rattle.mark_core.specs.Runs as runs
+use Rattle.mark_core.proofs.Openings.{opening_keeps}
+use Rattle.buffer_pool.specs.declared.view.View.{View}
+use Rattle.buffer_pool.specs.Laid.{IsInside, IsLaid, IsSound}
+use Rattle.buffer_pool.specs.Setups.{first_view}
+use Rattle.buffer_pool.specs.Opening.{HasFirstWords, IsFirstSlot}
+use Rattle.buffer_pool.specs.Table.{Reading, Rule, IsTied, Rests, head_word, link_word, mark_word, marking_of, slot_of}
+use Rattle.buffer_pool.proofs.States.{agrees}
+use Rattle.buffer_pool.proofs.Loads.{nothing_out}
+use Rattle.buffer_pool.proofs.Words.{head_below}
+
+zeros : (n i : ℕ) → slice_index (replicate n 0) i ≡ 0
+zeros zero i = refl
+zeros (suc n) zero = refl
+zeros (suc n) (suc i) = zeros n i
+
+-- two heads among zeros: no link is laid
+pub heads_alone :
+    (count tag x y : ℕ) → 32 ≤ count → head_of x ≡ first_heads tag Full → head_of y ≡ first_heads tag Empty
+    → HasFirstWords count tag 1 (set (set (replicate count 0) 0 x) 16 y)
+heads_alone count tag x y long full empty = record { word_count = length-set bare 16 y ∙ long_as; heads = heads; links = λ i low. absurd (omega (arith, low)); rest = rest }
+  where
+    bare : List ℕ
+    bare = set (replicate count 0) 0 x
+
+    long_as : length bare ≡ count
+    long_as = length-set (replicate count 0) 0 x ∙ length-replicate count 0
+
+    heads : (q : Which) → head_of (slice_index (set bare 16 y) (head_word q)) ≡ first_heads tag q
+    heads Full = ap head_of (get_or-set_other bare 16 0 y 0 (λ f. omega (arith, f)) ∙ get_or-set_same (replicate count 0) 0 x 0 (omega (arith, long, length-replicate {A = ℕ} count 0))) ∙ full
+    heads Empty = ap head_of (get_or-set_same bare 16 y 0 (omega (arith, long, long_as))) ∙ empty
+
+    rest : (k : ℕ) → 31 + 1 ≤ k → slice_index (set bare 16 y) k ≡ 0
+    rest k far = get_or-set_other bare 16 k y 0 (λ f. omega (arith, f, far)) ∙ get_or-set_other (replicate count 0) 0 k x 0 (λ f. omega (arith, f, far)) ∙ zeros count k
+
+-- one more link is laid
+pub link_laid : (count tag next at x : ℕ) (words : List ℕ) → HasFirstWords count tag next words → 0 < next → at ≡ 31 + next → at < count → x ≡ next + 1 → HasFirstWords count tag (next + 1) (set words at x)
+link_laid count tag next at x words first some_link place inside value = record { word_count = length-set words at x ∙ first.word_count; heads = heads; links = links; rest = rest }
+  where
+    heads : (q : Which) → head_of (slice_index (set words at x) (head_word q)) ≡ first_heads tag q
+    heads q = ap head_of (get_or-set_other words at (head_word q) x 0 (λ f. omega (arith, f, head_below q))) ∙ first.heads q
+
+    links : (i : ℕ) → i + 1 < next + 1 → slice_index (set words at x) (link_word i) ≡ i + 2
+    links i low = go (dec_le next (i + 1))
+      where
+        go : Dec (next ≤ i + 1) → slice_index (set words at x) (link_word i) ≡ i + 2
+        go (yes last) =
+            let here : at ≡ 32 + i = omega (arith, last, low) in
+            subst (λ k. slice_index (set words at x) k ≡ i + 2) here (get_or-set_same words at x 0 (omega (arith, first.word_count, inside)) ∙ omega (arith, last, low))
+        go (no earlier) = get_or-set_other words at (link_word i) x 0 (λ f. omega (arith, f, earlier)) ∙ first.links i (omega (arith, earlier))
+
+    rest : (k : ℕ) → 31 + (next + 1) ≤ k → slice_index (set words at x) k ≡ 0
+    rest k far = get_or-set_other words at k x 0 (λ f. omega (arith, f, far)) ∙ first.rest k (omega (arith, far))
+
+-- slots of new buffers are those of an opening marking
+module _ {B : Type 0} (r : Reading B) (size : ℕ) where
+  slots_bare : (slots : List (Option B)) → All (IsFirstSlot r size) slots → map (slot_of r) (map some slots) ≡ replicate (length slots) (Some [])
+  slots_bare [] all = refl
+  slots_bare (s ∷ ss) all =
+      let t : IsFirstSlot r size s = all 0 s (omega arith) in
+      let here : slot_of r (some s) ≡ Some [] = ap (λ (x : Option B). slot_of r (some x)) t.1 ∙ ap Some t.2 in
+      let rest = slots_bare ss (λ k d low. all (suc k) d (omega (arith, low))) in
+      λ k. here k ∷ rest k
+
+  slots_sized : (slots : List (Option B)) (i : ℕ) (b : B) → All (IsFirstSlot r size) slots → get_elem? (map some slots) i ≡ some (some (Some b)) → r.size b ≡ size
+  slots_sized [] i b all at = absurd (some-ne-none (some (Some b)) (sym at))
+  slots_sized (s ∷ ss) zero b all at =
+      let t : IsFirstSlot r size s = all 0 s (omega arith) in
+      let same : Some t.0 ≡ Some b = sym t.1 ∙ some-injective s (Some b) (some-injective (some s) (some (Some b)) at) in
+      let one : t.0 ≡ b = cc in
+      sym (ap r.size one) ∙ t.3
+  slots_sized (s ∷ ss) (suc i) b all at = slots_sized ss i b (λ k d low. all (suc k) d (omega (arith, low))) at
+
+-- the one view
+one_view : (w : ℕ) (v u : View) → get_elem? (v ∷ []) w ≡ some u → v ≡ u
+one_view zero v u at = some-injective v u at
+one_view (suc w) v u at = absurd (some-ne-none u (sym at))
+
+pub starts :
+    {B : Type 0} (r : Reading B) (e : Setup) (tag : ℕ) (words : List ℕ) (slots : List (Option B)) → 0 < e.buffers
+    → HasFirstWords (32 + e.buffers + e.objects) tag e.buffers words → length slots ≡ e.buffers → All (IsFirstSlot r e.size) slots
+    → Rule r e (opening words slots (first_view e))
+starts {B} r e tag words slots some_buffer first count all =
+    record {
+      word_count = first.word_count;
+      slot_count = length-map slots some ∙ count;
+      sized = λ i b at. slots_sized r e.size slots i b all at;
+      linked = linked;
+      tied = λ w v at. subst (IsTied words) (one_view w (first_view e) v at) (λ i out. absurd (nothing_out 0 refl i out));
+      rests = λ w v at. subst (Rests (map some slots)) (one_view w (first_view e) v at) (λ i mine out. absurd (omega (arith, mine)));
+      same_setup = λ w v at. subst (λ (x : View). 0 < x.book.account.share → x.book.setup ≡ e) (one_view w (first_view e) v at) (λ h. refl);
+      law =
+          agrees e (runs.opening e tag) (marking_of r e (opening words slots (first_view e))) first.heads links (λ o. first.rest (mark_word e o) (omega arith))
+          (slots_bare r e.size slots all ∙ ap (λ n. replicate n (Some [])) count) refl (opening_keeps e tag some_buffer);
+    }
+  where
+    linked : (i : ℕ) → i < e.buffers → slice_index words (link_word i) ≤ e.buffers
+    linked i low = go (dec_le e.buffers (i + 1))
+      where
+        go : Dec (e.buffers ≤ i + 1) → slice_index words (link_word i) ≤ e.buffers
+        go (yes last) = omega (arith, first.rest (link_word i) (omega (arith, last)))
+        go (no earlier) = omega (arith, earlier, first.links i (omega (arith, earlier)))
+
+    links : (i : ℕ) → i < e.buffers → index_of (slice_index words (link_word i)) ≡ first_link e.buffers i
+    links i low = go (dec_le e.buffers (i + 1))
+      where
+        go : Dec (e.buffers ≤ i + 1) → index_of (slice_index words (link_word i)) ≡ first_link e.buffers i
+        go (yes last) = ap index_of (first.rest (link_word i) (omega (arith, last))) ∙ sym (ap (λ t. if t then Some (i + 1) else None) (le-ltb (i + 1) e.buffers last))
+        go (no earlier) =
+            let two : slice_index words (link_word i) ≡ suc (i + 1) = omega (arith, first.links i (omega (arith, earlier))) in
+            ap index_of two ∙ sym (ap (λ t. if t then Some (i + 1) else None) (lt-ltb (i + 1) e.buffers (omega (arith, earlier))))
+
+-- one more slot has its buffer
+pub slot_pushed : {B : Type 0} (r : Reading B) (size : ℕ) (slots : List (Option B)) (b : B) → All (IsFirstSlot r size) slots → r.items b ≡ [] → r.size b ≡ size → All (IsFirstSlot r size) (slots ++ Some b ∷ [])
+slot_pushed r size slots b all bare sized = All-append (IsFirstSlot r size) slots (Some b ∷ []) all one
+  where
+    one : All (IsFirstSlot r size) (Some b ∷ [])
+    one zero d low = (b, refl, bare, sized)
+    one (suc k) d low = absurd (omega (arith, low))
+
+-- a table of these words and slots is laid for the setup
+pub laid_first :
+    (t : TableId) (e : Setup) (tag : ℕ) (words : List ℕ) (slots : ℕ) → t.words ≡ length words → t.slots ≡ slots → HasFirstWords (32 + e.buffers + e.objects) tag e.buffers words → slots ≡ e.buffers
+    → IsInside e.objects e.buffers e.size tag → All (λ o. o < e.objects) e.roots → All (λ p. (p.0 < e.objects) × (p.1 < e.objects)) e.pairs → IsLaid t e
+laid_first t e tag words slots word_count slot_count first count inside roots pairs =
+    record { words = word_count ∙ first.word_count; slots = slot_count ∙ count; few = inside.few; many = inside.many; objects = inside.objects; roots = roots; pairs = pairs }
+
+-- the first seat is sound
+pub sound_first : {B : Type 0} (t : TableId) (e : Setup) → IsLaid t e → IsSound {B = B} t (first_view e, [])
+sound_first t e laid =
+    record { laid = laid; share = omega arith; carries = refl; within = record { held = λ i k. absurd (omega (arith, k.1)); charge = λ o k. absurd (omega (arith, k.1)) } }

@@ -1,0 +1,77 @@
+-- The words of a table after one of them changed.
+use Rattle.std.proofs.Common.{◌≡◌, ◌≢◌, ℕ, ◌+◌, ◌<◌, ◌≤◌, ◌==◌, List, length, set, slice_index, ap, sym, ◌∙◌, eq-eqb, ne_eqb, arith}
+use Rattle.std.proofs.lemmas.List.{get_or-set_same, get_or-set_other}
+use native.Mathlib.Decide.{ℕ_discrete}
+use prog.Atomic.{either}
+use Rattle.tagged_index.specs.Head.{Head, head_of, index_of}
+use Rattle.mark_core.specs.declared.which.Which.{Which}
+use Rattle.mark_core.specs.declared.which.Which.TheVariants.{Full, Empty}
+use Rattle.mark_core.specs.World.{Setup, put, put_which}
+use Rattle.mark_core.proofs.Places.{put_here, put_else}
+use Rattle.buffer_pool.specs.Table.{head_word, link_word, mark_word}
+
+-- a head's word is below the links
+pub head_below : (q : Which) → head_word q < 32
+head_below Full = omega arith
+head_below Empty = omega arith
+
+-- what a compare-exchange leaves
+pub exchange_hit : (n old new : ℕ) → n ≡ old → either (n == old) new n ≡ new
+exchange_hit n old new hit = ap (λ b. either b new n) (eq-eqb n old hit)
+
+pub exchange_miss : (n old new : ℕ) → n ≢ old → either (n == old) new n ≡ n
+exchange_miss n old new miss = ap (λ b. either b new n) (ne_eqb n old miss)
+
+module _ (e : Setup) (words : List ℕ) where
+  -- after a write of a head
+  module _ (q : Which) (x : ℕ) where
+    pub link_beside_head : (i : ℕ) → slice_index (set words (head_word q) x) (link_word i) ≡ slice_index words (link_word i)
+    link_beside_head i = get_or-set_other words (head_word q) (link_word i) x 0 (λ h. omega (arith, h, head_below q))
+
+    pub mark_beside_head : (o : ℕ) → slice_index (set words (head_word q) x) (mark_word e o) ≡ slice_index words (mark_word e o)
+    mark_beside_head o = get_or-set_other words (head_word q) (mark_word e o) x 0 (λ h. omega (arith, h, head_below q))
+
+    pub heads_after : (h : Head) → 32 ≤ length words → head_of x ≡ h → (p : Which) → head_of (slice_index (set words (head_word q) x) (head_word p)) ≡ put_which q h (λ k. head_of (slice_index words (head_word k))) p
+    heads_after h long is p = go q p is
+      where
+        go : (q p : Which) → head_of x ≡ h → head_of (slice_index (set words (head_word q) x) (head_word p)) ≡ put_which q h (λ k. head_of (slice_index words (head_word k))) p
+        go Full Full is = ap head_of (get_or-set_same words 0 x 0 (omega arith)) ∙ is
+        go Full Empty is = ap head_of (get_or-set_other words 0 16 x 0 (λ f. omega (arith, f)))
+        go Empty Full is = ap head_of (get_or-set_other words 16 0 x 0 (λ f. omega (arith, f)))
+        go Empty Empty is = ap head_of (get_or-set_same words 16 x 0 (omega arith)) ∙ is
+
+  -- after a write of a buffer's link
+  module _ (i x : ℕ) where
+    pub head_beside_link : (q : Which) → slice_index (set words (link_word i) x) (head_word q) ≡ slice_index words (head_word q)
+    head_beside_link q = get_or-set_other words (link_word i) (head_word q) x 0 (λ h. omega (arith, h, head_below q))
+
+    pub link_beside_link : (j : ℕ) → j ≢ i → slice_index (set words (link_word i) x) (link_word j) ≡ slice_index words (link_word j)
+    link_beside_link j other = get_or-set_other words (link_word i) (link_word j) x 0 (λ h. other (omega (arith, h)))
+
+    pub link_here : 32 + i < length words → slice_index (set words (link_word i) x) (link_word i) ≡ x
+    link_here below = get_or-set_same words (link_word i) x 0 below
+
+    pub mark_beside_link : i < e.buffers → (o : ℕ) → slice_index (set words (link_word i) x) (mark_word e o) ≡ slice_index words (mark_word e o)
+    mark_beside_link below o = get_or-set_other words (link_word i) (mark_word e o) x 0 (λ h. omega (arith, h, below))
+
+    pub links_after : 32 + i < length words → (j : ℕ) → index_of (slice_index (set words (link_word i) x) (link_word j)) ≡ put i (index_of x) (λ k. index_of (slice_index words (link_word k))) j
+    links_after below j = go (ℕ_discrete j i)
+      where
+        go : Dec (j ≡ i) → index_of (slice_index (set words (link_word i) x) (link_word j)) ≡ put i (index_of x) (λ k. index_of (slice_index words (link_word k))) j
+        go (yes same) = ap (λ k. index_of (slice_index (set words (link_word i) x) (link_word k))) same ∙ ap index_of (link_here below) ∙ sym (put_here i j (index_of x) (λ k. index_of (slice_index words (link_word k))) same)
+        go (no other) = ap index_of (link_beside_link j other) ∙ sym (put_else i j (index_of x) (λ k. index_of (slice_index words (link_word k))) other)
+
+  -- after a write of an object's mark
+  module _ (o x : ℕ) where
+    pub head_beside_mark : (q : Which) → slice_index (set words (mark_word e o) x) (head_word q) ≡ slice_index words (head_word q)
+    head_beside_mark q = get_or-set_other words (mark_word e o) (head_word q) x 0 (λ h. omega (arith, h, head_below q))
+
+    pub link_beside_mark : (i : ℕ) → i < e.buffers → slice_index (set words (mark_word e o) x) (link_word i) ≡ slice_index words (link_word i)
+    link_beside_mark i below = get_or-set_other words (mark_word e o) (link_word i) x 0 (λ h. omega (arith, h, below))
+
+    pub marks_after : mark_word e o < length words → (p : ℕ) → slice_index (set words (mark_word e o) x) (mark_word e p) ≡ put o x (λ k. slice_index words (mark_word e k)) p
+    marks_after below p = go (ℕ_discrete p o)
+      where
+        go : Dec (p ≡ o) → slice_index (set words (mark_word e o) x) (mark_word e p) ≡ put o x (λ k. slice_index words (mark_word e k)) p
+        go (yes same) = ap (λ k. slice_index (set words (mark_word e o) x) (mark_word e k)) same ∙ get_or-set_same words (mark_word e o) x 0 below ∙ sym (put_here o p x (λ k. slice_index words (mark_word e k)) same)
+        go (no other) = get_or-set_other words (mark_word e o) (mark_word e p) x 0 (λ h. other (omega (arith, h))) ∙ sym (put_else o p x (λ k. slice_index words (mark_word e k)) other)

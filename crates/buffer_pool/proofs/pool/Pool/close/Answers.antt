@@ -1,0 +1,20 @@
+use Rattle.std.proofs.Common.{◌∙◌, ℕ, ◌+◌, List, drop, ap, subst, sym}
+use Rattle.std.specs.Slots.{slots_items}
+use Rattle.buffer_pool.specs.Buffers.{buffer_reading}
+use Rattle.buffer_pool.specs.Calls.{Holder}
+use Rattle.buffer_pool.specs.Closing.{Ends}
+use Rattle.buffer_pool.specs.Setups.{setup_of}
+use Rattle.buffer_pool.proofs.Closes.{ends_of}
+use Rattle.buffer_pool.proofs.pool.Pool.close.Goals as goal
+
+pub returns : goal.returns
+returns g c =
+    let seat = c.worker.inside.seat in
+    let is = c.worker.view_is in
+    let words = slots_items c.close_with-closed.result.words in
+    let first : ℕ = 32 + c.self.inside.buffers in
+    let told =
+    ends_of buffer_reading (setup_of c.self.inside.table.shared.key) seat.id seat.me.0 words (slots_items c.close_with-closed.result.slots) first (ap (λ (n : ℕ). 32 + n) c.self.invariant.1)
+    c.close_with-closed.ensures.values.2 (ap (λ (x : Holder). x.book.account.share) is ∙ c.requires.share) (ap (λ (x : Holder). x.book.account.held) is ∙ c.requires.held)
+    (ap (λ (x : Holder). x.book.account.charge) is ∙ c.requires.charge) in
+    subst (λ (ws : List ℕ). Ends c.args.worker.book (drop first ws)) (sym (ap slots_items c.empty_slots.ensures.words)) (subst (λ (x : Holder). Ends x.book (drop first words)) is told)

@@ -1,0 +1,10 @@
+-- the buffer has what the worker still answers for
+use Rattle.std.proofs.Common.{length}
+use Rattle.buffer_pool.specs.Rounds.{HasOne, IsSameWorker}
+use Rattle.buffer_pool.proofs.tests.rounds.finish_items.Given as goal
+
+abbrev pub decreases-loop-object : goal.decreases-loop-object
+decreases-loop-object g l = length l.held.items
+
+abbrev pub invariant-loop-object : goal.invariant-loop-object
+invariant-loop-object g l = IsSameWorker l.initial.worker l.worker × HasOne l.worker l.held

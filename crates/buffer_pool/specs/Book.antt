@@ -1,0 +1,79 @@
+-- A book: the account of one worker, what its pool was made for, and counts of what it did. What each step does to a book.
+use Rattle.std.specs.Prelude.{ℕ, ◌+◌, List, [], Option, is_none, if◌then◌else◌}
+use Rattle.mark_core.specs.declared.which.Which.{Which}
+use Rattle.mark_core.specs.declared.which.Which.TheVariants.{Full, Empty}
+use Rattle.tagged_index.specs.Head.{Head}
+use Rattle.mark_core.specs.Account.{Account, part, spent, after_claim, after_finish, after_split, after_join, after_load, after_load_link, after_pop, after_push}
+use Rattle.mark_core.specs.World.{Setup}
+
+pub record Book : Type 0 where
+  pub setup : Setup
+  pub account : Account
+  -- loads of a head
+  pub loads : ℕ
+  -- loads of the full head, and of the empty one, that found no buffer
+  pub full_empties : ℕ
+  pub empty_empties : ℕ
+  -- exchanges of a head that failed
+  pub failures : ℕ
+
+abbrev pub empties_of : Book → Which → ℕ
+empties_of b Full = b.full_empties
+empties_of b Empty = b.empty_empties
+
+-- a book with these units and nothing else
+abbrev pub new_book : Setup → ℕ → Book
+new_book e units = record { setup = e; account = part units; loads = 0; full_empties = 0; empty_empties = 0; failures = 0 }
+
+-- one for a head without a buffer
+abbrev pub none_found : Head → ℕ
+none_found h = if is_none h.index then 1 else 0
+
+-- the head of a stack was loaded
+abbrev pub loaded : Which → Head → Book → Book
+loaded Full h b = record b { account = after_load Full h b.account; loads = b.loads + 1; full_empties = b.full_empties + none_found h }
+loaded Empty h b = record b { account = after_load Empty h b.account; loads = b.loads + 1; empty_empties = b.empty_empties + none_found h }
+
+-- the link of the last head's buffer was loaded
+abbrev pub link_loaded : Which → Option ℕ → Book → Book
+link_loaded q l b = record b { account = after_load_link q l b.account }
+
+-- an exchange failed
+abbrev pub failed : Book → Book
+failed b = record b { failures = b.failures + 1 }
+
+-- the buffer i was popped, with these items
+abbrev pub popped : ℕ → List ℕ → Book → Book
+popped i items b = record b { account = after_pop i items b.account }
+
+-- the buffer i was pushed, with these items
+abbrev pub pushed : Which → ℕ → List ℕ → Book → Book
+pushed q i items b = record b { account = after_push q i items b.account }
+
+-- the object o, whose mark was found so, was claimed
+abbrev pub claimed : ℕ → ℕ → Book → Book
+claimed o found b = record b { account = after_claim o found b.account }
+
+-- the object o was finished
+abbrev pub finished : ℕ → Book → Book
+finished o b = record b { account = after_finish o b.account }
+
+-- these units went to another book
+abbrev pub parted : ℕ → Book → Book
+parted units b = record b { account = after_split units b.account }
+
+-- two books put together: lists, shares and counts are added
+abbrev pub joined : Book → Book → Book
+joined a b =
+    record {
+      setup = a.setup;
+      account = after_join a.account b.account;
+      loads = a.loads + b.loads;
+      full_empties = a.full_empties + b.full_empties;
+      empty_empties = a.empty_empties + b.empty_empties;
+      failures = a.failures + b.failures;
+    }
+
+-- what is left of a book that was put into another
+abbrev pub spent_book : Book
+spent_book = record { setup = record { objects = 0; buffers = 0; size = 0; roots = []; pairs = [] }; account = spent; loads = 0; full_empties = 0; empty_empties = 0; failures = 0 }

@@ -1,0 +1,35 @@
+-- What the marks tell once one worker has the whole share, holds no buffer and answers for no object.
+use Rattle.std.specs.Prelude.{◌≡◌, ◌↔◌, ℕ, ◌+◌, ◌<◌, ◌≤◌, nat_lt, Bool, false, List, length, Contains, slice_index, slice_index_or}
+use Rattle.mark_core.specs.declared.which.Which.TheVariants.{Full, Empty}
+use Rattle.mark_core.specs.Lists.{StandsAt, one_where, times}
+use Rattle.mark_core.specs.World.{Marking}
+use Rattle.mark_core.specs.Colours.{IsReachable}
+use Rattle.mark_core.specs.Law.{Law}
+use Rattle.mark_core.specs.Runs.{IsListOf, LiesIn}
+use Rattle.buffer_pool.specs.Book.{Book}
+
+-- of so many places none has a value
+abbrev pub IsEmptied : ℕ → List Bool → Type 0
+IsEmptied count filled = (k : ℕ) → k < count → slice_index_or filled k false ≡ false
+
+pub record Ends (b : Book) (marks : List ℕ) : Type 0 where
+  -- one mark for each object
+  pub count : length marks ≡ b.setup.objects
+  -- the marking as the last step left it: the law holds of it, the account is one of its accounts, and these are its marks
+  pub last : Marking
+  pub law : Law b.setup last
+  pub own : (w : ℕ) × StandsAt last.accounts w b.account
+  pub same_marks : (o : ℕ) → slice_index marks o ≡ last.mark o
+  -- the finished objects are those of the finished list, each once
+  pub finished : (o : ℕ) → (slice_index marks o ≡ 2) ↔ Contains b.account.finished o
+  pub once : (o : ℕ) → times o b.account.finished ≤ 1
+  -- the other marked ones are the items on the full stack
+  pub claimed : (full : List ℕ) → IsListOf last Full full → (o : ℕ) → (slice_index marks o ≡ 1) ↔ LiesIn last full o
+  -- and there are none where no push on full is open
+  pub emptied : b.account.open_push ≡ false → (o : ℕ) → 1 ≤ slice_index marks o → slice_index marks o ≡ 2
+  -- each buffer is on one of the stacks
+  pub buffers : (full empty : List ℕ) → IsListOf last Full full → IsListOf last Empty empty → (i : ℕ) → times i full + times i empty ≡ one_where (nat_lt i b.setup.buffers)
+  -- what was seen marked is marked, successors of finished objects are marked, and what is marked can be reached
+  pub seen : (o : ℕ) → Contains b.account.seen o → 1 ≤ slice_index marks o
+  pub successors : (o s : ℕ) → slice_index marks o ≡ 2 → Contains b.setup.pairs (o, s) → 1 ≤ slice_index marks s
+  pub reachable : (o : ℕ) → 1 ≤ slice_index marks o → IsReachable b.setup o

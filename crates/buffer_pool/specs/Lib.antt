@@ -1,0 +1,12 @@
+pub mod Book
+pub mod Codes
+pub mod Table
+pub mod Plays
+pub mod Buffers
+pub mod Setups
+pub mod Calls
+pub mod Laid
+pub mod Opening
+pub mod Faults
+pub mod Closing
+pub mod Rounds

@@ -1,0 +1,30 @@
+-- The setup that a key says, and the views at a start, a split and a join.
+use Rattle.mark_core.specs.Shares.{whole}
+use Rattle.mark_core.specs.World.{Setup}
+use Rattle.buffer_pool.specs.Book.{Book, new_book, parted, joined, spent_book}
+use Rattle.buffer_pool.specs.declared.key.Key.{Key}
+use Rattle.buffer_pool.specs.declared.view.View.{View}
+
+abbrev pub setup_of : Key → Setup
+setup_of k = record { objects = k.objects; buffers = k.buffers; size = k.size; roots = k.named.roots; pairs = k.named.pairs }
+
+abbrev pub view_with : Book → View
+view_with b = record { marker = record {}; book = b; aside = 0; out = 0; out_link = 0 }
+
+-- the first worker has the whole share
+abbrev pub first_view : Setup → View
+first_view e = view_with (new_book e whole)
+
+-- what a worker keeps of a split, and what it gives away
+abbrev pub kept_part : View → View
+kept_part v = record v { book = parted v.aside v.book; aside = 0 }
+
+abbrev pub given_part : View → View
+given_part v = view_with (new_book v.book.setup v.aside)
+
+-- what two workers put together have; the first one's slot stays where it is
+abbrev pub joined_view : View → View → View
+joined_view v w = record v { book = joined v.book w.book }
+
+abbrev pub spent_view : View
+spent_view = view_with spent_book

@@ -1,0 +1,46 @@
+//! What a pool's table is told once, when it is made.
+ghost use Rattle.std.specs.Borrow.{ftrue};
+ghost use Rattle.std.specs.Prelude.{◌≡◌, ℕ, List};
+ghost use Rattle.std.specs.Coded.{coded_list, coded_ℕ, coded×};
+
+use mark_core::Edges;
+use std::marker::{Model, PhantomData};
+
+/// The roots and pairs of some edges, as clauses see them. It has no bytes.
+pub struct Named {
+    marker: PhantomData<()>,
+    /// The objects at which reachability begins.
+    pub ghost roots: { List ℕ } by { coded_list coded_ℕ },
+    /// Each object with each of its successors.
+    pub ghost pairs: { List (ℕ × ℕ) } by { coded_list (coded× coded_ℕ coded_ℕ) },
+}
+
+impl Model for Named {
+    ghost also_owns = { λ _. ftrue };
+}
+
+impl Named {
+    pub(crate) fn of<E: Edges>(edges: &E) -> Named
+        ensures { (result.roots ≡ E.roots edges.now) × (result.pairs ≡ E.pairs edges.now) }
+    {
+        let _ = edges;
+        Named {
+            marker: PhantomData,
+        }
+    }
+}
+
+impl Drop for Named {
+    fn drop(self) {
+        let Self { marker: _ } = self;
+    }
+}
+
+/// The setup of a pool.
+#[derive(Drop)]
+pub struct Key {
+    pub(crate) named: Named,
+    pub(crate) objects: u32,
+    pub(crate) buffers: u32,
+    pub(crate) size: u32,
+}

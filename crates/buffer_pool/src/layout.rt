@@ -1,0 +1,23 @@
+//! Which word of the table is what: two heads, a link for each buffer, a mark for each object.
+
+use mark_core::Which;
+
+// The heads lie 128 bytes apart, so that they share no cache line with each other or with the links.
+const FULL_HEAD: usize = 0;
+
+const EMPTY_HEAD: usize = 16;
+
+pub(crate) const FIRST_LINK: usize = 32;
+
+ghost use Rattle.std.specs.Prelude.{◌≡◌, ◌+◌, ◌≤◌};
+ghost use Rattle.buffer_pool.specs.Table.{head_word, link_word};
+
+/// The word of a stack's head.
+pub(crate) fn head_word(which: Which) -> usize
+    ensures { result ≡ head_word which }
+{
+    match which {
+        Which::Full => FULL_HEAD,
+        Which::Empty => EMPTY_HEAD,
+    }
+}

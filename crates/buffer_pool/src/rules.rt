@@ -1,0 +1,43 @@
+//! The rule of the pool's table, how a worker's view is cut in two, and how two are put together.
+ghost use Rattle.buffer_pool.specs.Buffers.{buffer_reading};
+ghost use Rattle.buffer_pool.specs.Setups.{first_view, setup_of, given_part, joined_view, kept_part, spent_view};
+ghost use Rattle.buffer_pool.specs.Table.{Rule};
+
+use crate::buffer::Buffer;
+use crate::key::Key;
+use crate::view::View;
+use atomic_table::{Join, Seat, Shared, Split, TableRule};
+use std::alloc::Allocator;
+
+/// The law of a marking, between any two steps.
+pub struct MarkingRule;
+
+impl<A: Allocator> TableRule<Option<Buffer<A>>, View, Key> for MarkingRule {
+    ghost holds = { λ key. Rule buffer_reading (setup_of key) };
+
+    ghost first = { λ key. first_view (setup_of key) };
+}
+
+/// The units that were set aside go to a new worker.
+pub struct GivePart;
+
+impl Split<View> for GivePart {
+    ghost left = { kept_part };
+
+    ghost right = { given_part };
+}
+
+/// One worker takes in another.
+pub struct TakeIn;
+
+impl Join<View> for TakeIn {
+    ghost both = { joined_view };
+
+    ghost spent = { spent_view };
+}
+
+/// The table as workers share it.
+pub(crate) type Words<A> = Shared<Option<Buffer<A>>, View, Key, MarkingRule>;
+
+/// What a worker steps with.
+pub(crate) type Token<A> = Seat<Option<Buffer<A>>, View>;

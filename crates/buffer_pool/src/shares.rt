@@ -1,0 +1,67 @@
+//! How a worker's share is cut in two, and how two workers become one.
+ghost use Rattle.std.specs.Prelude.{◌≡◌, ℕ, ◌<◌, ◌≤◌};
+ghost use Rattle.mark_core.specs.Lists.{times};
+ghost use Rattle.mark_core.specs.Runs.{AreApart};
+ghost use Rattle.buffer_pool.specs.Book.{joined, new_book, parted};
+ghost use Rattle.buffer_pool.specs.Laid.{IsSound};
+
+use crate::plays::{SetAside, Settle};
+use crate::pool::Pool;
+use crate::rules::{GivePart, TakeIn, Token, Words};
+use crate::worker::Worker;
+use std::alloc::Allocator;
+
+// A view changes only at a step on a word, and a split sees only the view: so the units are noted first, by an exchange that changes nothing.
+fn give_part<A: Allocator>(words: &Words<A>, seat: &mut Token<A>, units: u64) -> Token<A>
+    requires table { seat.old.table_id ≡ words.now.table_id }
+    requires sound { IsSound seat.old.table_id seat.old.me }
+    requires units { (0 < units) × (units < seat.old.me.0.book.account.share) }
+    ensures same { (seat.new.table_id ≡ seat.old.table_id) × (result.table_id ≡ seat.old.table_id) }
+    ensures kept { IsSound seat.new.table_id seat.new.me × (seat.new.me.0.book ≡ parted units seat.old.me.0.book) }
+    ensures given { IsSound result.table_id result.me × (result.me.0.book ≡ new_book seat.old.me.0.book.setup units) }
+{
+    words.compare_exchange::<SetAside>(seat, 0, units, units);
+    words.split_seat::<GivePart>(seat)
+}
+
+// The second seat's slot goes home before it is given up, and the last load tells that the two had nothing in common.
+fn take_in<A: Allocator>(words: &Words<A>, seat: &mut Token<A>, mut other: Token<A>)
+    requires table { (seat.old.table_id ≡ words.now.table_id) × (other.table_id ≡ words.now.table_id) }
+    requires sound { IsSound seat.old.table_id seat.old.me × IsSound other.table_id other.me }
+    ensures same { seat.new.table_id ≡ seat.old.table_id }
+    ensures joined { IsSound seat.new.table_id seat.new.me × (seat.new.me.0.book ≡ joined seat.old.me.0.book other.me.0.book) }
+    ensures apart { AreApart seat.old.me.0.book.account other.me.0.book.account }
+    ensures once { (o : ℕ) → times o seat.new.me.0.book.account.finished ≤ 1 }
+{
+    words.load::<Settle>(&mut other, 0);
+    words.join_seat::<TakeIn>(seat, other);
+    words.load::<Settle>(seat, 0);
+}
+
+impl<A: Allocator> Pool<A> {
+    /// Gives units of a worker's share to a new worker, which has no buffer and answers for no object. The first keeps all else.
+    pub fn split(&self, worker: Worker<A>, units: u32) -> (Worker<A>, Worker<A>)
+        requires pool { worker.pool ≡ self.now }
+        requires units { (0 < units) × (units < worker.book.account.share) }
+        ensures first { result.0 ≡ record worker { book = parted units worker.book } }
+        ensures second { result.1 ≡ record worker { book = new_book worker.book.setup units } }
+    {
+        let Worker { mut seat } = worker;
+        let other = give_part(&self.table.shared, &mut seat, u64::from(units));
+        (Worker { seat }, Worker { seat: other })
+    }
+
+    /// Puts two workers together: shares and counts are added, and so are buffers, charges, objects seen and objects finished.
+    /// What the first loaded of the stacks stays. They had nothing in common.
+    pub fn join(&self, worker: Worker<A>, other: Worker<A>) -> Worker<A>
+        requires pool { (worker.pool ≡ self.now) × (other.pool ≡ self.now) }
+        ensures together { result ≡ record worker { book = joined worker.book other.book } }
+        ensures apart { AreApart worker.book.account other.book.account }
+        ensures once { (o : ℕ) → times o result.book.account.finished ≤ 1 }
+    {
+        let Worker { mut seat } = worker;
+        let Worker { seat: other } = other;
+        take_in(&self.table.shared, &mut seat, other);
+        Worker { seat }
+    }
+}

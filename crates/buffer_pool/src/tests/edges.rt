@@ -1,0 +1,40 @@
+//! Pools over small heaps.
+ghost use Rattle.std.specs.Prelude.{◌≡◌, ℕ, [], IfOk};
+ghost use Rattle.mark_core.specs.Shares.{whole};
+ghost use Rattle.buffer_pool.specs.Rounds.{HasNone, HasRoots, numbers};
+
+use crate::{Edges, Pool, PoolFault, Worker};
+use std::alloc::Global;
+
+/// Objects that are all roots, without successors.
+#[derive(Drop)]
+pub(super) struct Roots {
+    pub(super) objects: u32,
+}
+
+impl Edges for Roots {
+    ghost count = { λ e. e.objects };
+
+    ghost roots = { λ e. numbers e.objects };
+
+    ghost pairs = { λ _. [] };
+
+    fn objects(&self) -> u32 {
+        self.objects
+    }
+}
+
+/// A pool over roots alone, and its worker.
+pub(super) fn pool_of_roots(
+    alloc: Global,
+    objects: u32,
+    buffers: u32,
+    size: u32,
+) -> Result<(Pool<Global>, Worker<Global>), PoolFault>
+    ensures pool { IfOk result (λ p. p.1.pool ≡ p.0) }
+    ensures roots { IfOk result (λ p. HasRoots objects p.1) }
+    ensures none { IfOk result (λ p. HasNone p.1) }
+    ensures share { IfOk result (λ p. p.1.book.account.share ≡ whole) }
+{
+    Pool::new(alloc, &Roots { objects }, buffers, size, 0)
+}

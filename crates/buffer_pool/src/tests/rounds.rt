@@ -1,0 +1,137 @@
+//! Rounds of the work of one thread: fill a buffer, push it, pop one and finish what it has.
+ghost use Rattle.std.specs.Prelude.{◌≡◌, ◌≤◌, [], MatchOption};
+ghost use Rattle.mark_core.specs.declared.which.Which.TheVariants.{Empty};
+ghost use Rattle.buffer_pool.specs.Rounds.{HasNone, HasOne, HasRoots, IsSameWorker};
+
+use super::edges::pool_of_roots;
+use crate::{Held, Pool, TryPopped, TryPushed, Which, Worker};
+use std::alloc::Allocator;
+use std::process::Abort;
+
+pub(super) const OBJECTS: u32 = 4_000;
+
+/// The tries of one pop or push. One is lost only where another thread's pop or push succeeds between its two steps, and all
+/// threads together make about a thousand of these.
+const TURNS: u32 = 10_000;
+
+fn pop_within<R: Abort, A: Allocator>(
+    rt: &R,
+    pool: &Pool<A>,
+    worker: &mut Worker<A>,
+    which: Which,
+) -> Option<Held<A>>
+    requires pool { worker.old.pool ≡ pool.now }
+    requires none { HasNone worker.old }
+    ensures same { IsSameWorker worker.old worker.new }
+    ensures held { MatchOption result (HasNone worker.new) (HasOne worker.new) }
+{
+    for _ in 0..TURNS {
+        match pool.try_pop(worker, which) {
+            TryPopped::Took(held) => return Some(held),
+            TryPopped::Empty => return None,
+            TryPopped::Lost => {}
+            TryPopped::Spent => panic!(rt; "no tag is near the last one"),
+        }
+    }
+    panic!(rt; "each pop was lost")
+}
+
+fn push_within<R: Abort, A: Allocator>(
+    rt: &R,
+    pool: &Pool<A>,
+    worker: &mut Worker<A>,
+    which: Which,
+    held: Held<A>,
+)
+    requires pool { worker.old.pool ≡ pool.now }
+    requires one { HasOne worker.old held }
+    requires bare { which ≡ Empty → held.items ≡ [] }
+    ensures same { IsSameWorker worker.old worker.new }
+    ensures none { HasNone worker.new }
+{
+    let mut held = held;
+    for _ in 0..TURNS {
+        match pool.try_push(worker, which, held) {
+            TryPushed::Done => return,
+            TryPushed::Lost(back) => held = back,
+            TryPushed::Spent(_) => panic!(rt; "no tag is near the last one"),
+        }
+    }
+    panic!(rt; "each push was lost")
+}
+
+/// Claims these objects, and puts those that were white into the buffer.
+fn fill<R: Abort, A: Allocator>(
+    rt: &R,
+    pool: &Pool<A>,
+    worker: &mut Worker<A>,
+    held: &mut Held<A>,
+    from: u32,
+    to: u32,
+)
+    requires pool { worker.old.pool ≡ pool.now }
+    requires roots { HasRoots OBJECTS worker.old }
+    requires to { to ≤ OBJECTS }
+    requires one { HasOne worker.old held.old }
+    ensures same { IsSameWorker worker.old worker.new }
+    ensures one { HasOne worker.new held.new }
+{
+    for object in from..to {
+        if pool.claim(worker, object) {
+            let Ok(()) = held.put(object) else {
+                panic!(rt; "a round is no more than a buffer takes");
+            };
+        }
+    }
+}
+
+fn finish_items<A: Allocator>(pool: &Pool<A>, worker: &mut Worker<A>, held: &mut Held<A>)
+    requires pool { worker.old.pool ≡ pool.now }
+    requires roots { HasRoots OBJECTS worker.old }
+    requires one { HasOne worker.old held.old }
+    ensures same { IsSameWorker worker.old worker.new }
+    ensures one { HasOne worker.new held.new }
+    ensures bare { held.new.items ≡ [] }
+{
+    while let Some(object) = held.take() {
+        pool.finish(worker, object);
+    }
+}
+
+/// Finishes what a buffer of the full stack has, and puts it on the empty one. False where there is none.
+pub(super) fn finish_buffer<R: Abort, A: Allocator>(rt: &R, pool: &Pool<A>, worker: &mut Worker<A>) -> bool
+    requires pool { worker.old.pool ≡ pool.now }
+    requires roots { HasRoots OBJECTS worker.old }
+    requires none { HasNone worker.old }
+    ensures same { IsSameWorker worker.old worker.new }
+    ensures none { HasNone worker.new }
+{
+    let Some(mut held) = pop_within(rt, pool, worker, Which::Full) else {
+        return false;
+    };
+    finish_items(pool, worker, &mut held);
+    push_within(rt, pool, worker, Which::Empty, held);
+    true
+}
+
+/// Claims these objects, and puts a buffer with them on the full stack.
+pub(super) fn fill_buffer<R: Abort, A: Allocator>(
+    rt: &R,
+    pool: &Pool<A>,
+    worker: &mut Worker<A>,
+    from: u32,
+    to: u32,
+)
+    requires pool { worker.old.pool ≡ pool.now }
+    requires roots { HasRoots OBJECTS worker.old }
+    requires to { to ≤ OBJECTS }
+    requires none { HasNone worker.old }
+    ensures same { IsSameWorker worker.old worker.new }
+    ensures none { HasNone worker.new }
+{
+    let Some(mut held) = pop_within(rt, pool, worker, Which::Empty) else {
+        panic!(rt; "there are more buffers than threads");
+    };
+    fill(rt, pool, worker, &mut held, from, to);
+    push_within(rt, pool, worker, Which::Full, held);
+}

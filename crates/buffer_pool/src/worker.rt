@@ -1,0 +1,22 @@
+//! What a worker of a pool steps with.
+
+use crate::rules::Token;
+use std::alloc::Allocator;
+use std::marker::Model;
+
+/// A worker of one pool: a share of it, the buffers that it holds, the objects that it answers for. It has no bytes.
+#[derive(Drop)]
+pub struct Worker<A: Allocator> {
+    pub(crate) seat: Token<A>,
+}
+
+impl<A: Allocator> Model for Worker<A> {
+    ghost use Rattle.buffer_pool.specs.Calls.{Holder};
+    ghost use Rattle.buffer_pool.specs.Laid.{IsSound};
+
+    ghost Value = { Holder };
+
+    ghost view = { λ w. record { pool = w.seat.table_id; book = w.seat.me.0.book } };
+
+    ghost invariant = { λ w. IsSound w.seat.table_id w.seat.me };
+}
