@@ -61,8 +61,8 @@ items_within r e s rule i b home o here = go (dec_le (length s.words) (mark_word
 
 -- a buffer on the empty stack has no items
 bare_on_empty :
-  {B : Type 0} (r : Reading B) (e : Setup) (s : State (Option B) View) (rule : Rule r e s) (q : Which) (i : ℕ) (b : B) → (head_of (slice_index s.words (head_word q))).index ≡ Some i → get_elem? s.homes i ≡ some (some (Some b))
-  → q ≡ Empty → r.items b ≡ []
+    {B : Type 0} (r : Reading B) (e : Setup) (s : State (Option B) View) (rule : Rule r e s) (q : Which) (i : ℕ) (b : B) → (head_of (slice_index s.words (head_word q))).index ≡ Some i → get_elem? s.homes i ≡ some (some (Some b))
+    → q ≡ Empty → r.items b ≡ []
 bare_on_empty r e s rule q i b top home empty =
     let m = marking_of r e s in
     let on = subst (λ k. 0 < times i (rule.law.stack k)) empty (top_stands e.buffers m.head m.link m.accounts rule.law.stack rule.law.owned q i top) in

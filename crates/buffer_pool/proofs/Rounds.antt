@@ -101,7 +101,7 @@ module _ (old new : Holder) (pool : new.pool ≡ old.pool) where
       let l = look_head q p.0 old.book in
       let before = (loaded q p.0 old.book).account in
       let gone : (o : ℕ) → times o (without h.items before.charge) ≡ 0 =
-        λ o. let now : (x : ℕ) → times x before.charge ≡ times x h.items = λ x. ap (times x) l.charge ∙ one.charge x in omega (arith, now o, times-without h.items before.charge (λ x. omega (arith, now x)) o) in (
+      λ o. let now : (x : ℕ) → times x before.charge ≡ times x h.items = λ x. ap (times x) l.charge ∙ one.charge x in omega (arith, now o, times-without h.items before.charge (λ x. omega (arith, now x)) o) in (
         record { pool = pool; setup = ap (λ (c : Book). c.setup) p.2 ∙ l.setup; share = ap (λ (c : Book). c.account.share) p.2 ∙ l.share },
         record {
           held = ap (λ (c : Book). c.account.held) p.2 ∙ ap (remove_one h.index) (l.held ∙ one.held) ∙ remove_one-same h.index h.index [] refl;
@@ -116,11 +116,11 @@ module _ (old new : Holder) (pool : new.pool ≡ old.pool) where
       let setup : new.book.setup ≡ old.book.setup = ap (λ (c : Book). c.setup) p.3 ∙ k.setup in (
         record { pool = pool; setup = setup; share = ap (λ (c : Book). c.account.share) p.3 ∙ k.share },
         subst (HasOne new) (sym p.1)
-        (record {
-          held = ap (λ (c : Book). c.account.held) p.3 ∙ k.held ∙ one.held;
-          charge = λ o. ap (λ (c : Book). times o c.account.charge) p.3 ∙ ap (times o) k.charge ∙ one.charge o;
-          size = one.size ∙ ap (λ e. e.size) (sym setup);
-        }),
+            (record {
+              held = ap (λ (c : Book). c.account.held) p.3 ∙ k.held ∙ one.held;
+              charge = λ o. ap (λ (c : Book). times o c.account.charge) p.3 ∙ ap (times o) k.charge ∙ one.charge o;
+              size = one.size ∙ ap (λ e. e.size) (sym setup);
+            }),
         p.1,
       )
 
@@ -130,8 +130,8 @@ module _ (old new : Holder) (pool : new.pool ≡ old.pool) where
       record {
         held = ap (λ (c : Book). c.account.held) is ∙ one.held;
         charge =
-          λ x. ap (λ (c : Book). times x c.account.charge) is ∙ ap (times x) (charge_white o found old.book.account.charge white) ∙ total-append (only x) old.book.account.charge (o ∷ [])
-          ∙ ap (λ n. n + times x (o ∷ [])) (one.charge x) ∙ sym (total-append (only x) h.items (o ∷ []));
+            λ x. ap (λ (c : Book). times x c.account.charge) is ∙ ap (times x) (charge_white o found old.book.account.charge white) ∙ total-append (only x) old.book.account.charge (o ∷ [])
+            ∙ ap (λ n. n + times x (o ∷ [])) (one.charge x) ∙ sym (total-append (only x) h.items (o ∷ []));
         size = one.size ∙ ap (λ (c : Book). c.setup.size) (sym is);
       }
 
@@ -153,7 +153,7 @@ module _ (old new : Holder) (pool : new.pool ≡ old.pool) where
   pub taken : (h rest : Load) (o : ℕ) → HasOne old h → h.items ≡ rest.items ++ o ∷ [] → rest ≡ record h { items = rest.items } → new.book ≡ finished o old.book → HasOne new rest
   taken h rest o one last same is =
       let before : (x : ℕ) → times x old.book.account.charge ≡ times x rest.items + times x (o ∷ []) =
-        λ x. one.charge x ∙ ap (times x) last ∙ total-append (only x) rest.items (o ∷ []) in
+      λ x. one.charge x ∙ ap (times x) last ∙ total-append (only x) rest.items (o ∷ []) in
       let here : 0 < times o old.book.account.charge = omega (arith, before o, only-same o o refl) in
       record {
         held = ap (λ (c : Book). c.account.held) is ∙ one.held ∙ ap (λ (k : Load). k.index ∷ []) (sym same);
@@ -169,6 +169,7 @@ may_finish n w h rest o roots one last = (times_stands w.book.account.charge o h
   where
     here : 0 < times o w.book.account.charge
     here = omega (arith, one.charge o, ap (times o) last, total-append (only o) rest.items (o ∷ []), only-same o o refl)
+
     no_pair : (s : ℕ) → Contains w.book.setup.pairs (o, s) → ⊥
     no_pair s pair = let k : Contains [] (o, s) = subst (λ (ps : List (ℕ × ℕ)). Contains ps (o, s)) roots.pairs pair in omega (arith, k.1)
 

@@ -2,12 +2,14 @@
 #![tactic(auto)]
 
 mod command;
+mod laws;
 mod pipeline;
 mod refusal;
 
 pub use command::program;
 pub use drain::{Gate, NoGate, Options};
 pub use histogram::{Counted, one_report};
+pub use laws::{accepted_or_fault, one_first_fault};
 pub use pipeline::run;
 pub use refusal::Refusal;
 

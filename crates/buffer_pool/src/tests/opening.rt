@@ -29,7 +29,11 @@ fn sizes_at_their_bounds(rt: HostRuntime) {
         } else {
             Some(PoolFault::BadOptions)
         };
-        assert_eq!(rt; fault, wanted, "{objects} objects, {buffers} buffers of {size}");
+        assert_eq!(rt;
+            fault,
+            wanted,
+            "{objects} objects, {buffers} buffers of {size}"
+        );
     }
     let past = Pool::new(rt.alloc(), &Roots { objects: 0 }, 4, 2, LAST_TAG + 1);
     assert_eq!(rt; past.err(), Some(PoolFault::BadOptions));

@@ -99,7 +99,11 @@ fn finish_items<A: Allocator>(pool: &Pool<A>, worker: &mut Worker<A>, held: &mut
 }
 
 /// Finishes what a buffer of the full stack has, and puts it on the empty one. False where there is none.
-pub(super) fn finish_buffer<R: Abort, A: Allocator>(rt: &R, pool: &Pool<A>, worker: &mut Worker<A>) -> bool
+pub(super) fn finish_buffer<R: Abort, A: Allocator>(
+    rt: &R,
+    pool: &Pool<A>,
+    worker: &mut Worker<A>,
+) -> bool
     requires pool { worker.old.pool ≡ pool.now }
     requires roots { HasRoots OBJECTS worker.old }
     requires none { HasNone worker.old }

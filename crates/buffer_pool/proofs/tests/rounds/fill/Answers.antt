@@ -20,9 +20,9 @@ loop-object-preserved g c =
     let pool = c.claim.ensures.pool in
     let o = c.loop-object.object in
     let one : HasOne new c.if-claim.held =
-      elim c.if-claim.branch [
-        | then-claim+in-Ok w ↦
+    elim c.if-claim.branch [
+      | then-claim+in-Ok w ↦
           subst (λ (h : Load). HasOne new h) (sym (w.held-is ∙ w.in-Ok.ensures.ok.1)) (put_in old new pool c.loop-object.held o event.0 was.1 event.1 (event.2.0 w.if-claim.true))
-        | else-claim w ↦ subst (λ (h : Load). HasOne new h) (sym w.held-is) (left_out old new pool c.loop-object.held o event.0 was.1 event.1 (not_white c.claim.result event.0 event.2 w.if-claim.false))
-      ] in
+      | else-claim w ↦ subst (λ (h : Load). HasOne new h) (sym w.held-is) (left_out old new pool c.loop-object.held o event.0 was.1 event.1 (not_white c.claim.result event.0 event.2 w.if-claim.false))
+    ] in
     (same_again c.args.worker.now old new was.0 (same_claimed old new pool o event.0 event.1), one)

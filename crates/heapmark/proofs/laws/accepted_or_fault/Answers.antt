@@ -1,0 +1,5 @@
+use Rattle.heapmark.proofs.Faults.{accepted_excludes}
+use Rattle.heapmark.proofs.laws.accepted_or_fault.Goals as goal
+
+pub returns : goal.returns
+returns c = accepted_excludes c.dump_or_fault.ensures c.one_list_of_records.ensures

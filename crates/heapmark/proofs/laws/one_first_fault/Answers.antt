@@ -1,0 +1,5 @@
+use Rattle.heapmark.proofs.Faults.{fault_determined}
+use Rattle.heapmark.proofs.laws.one_first_fault.Goals as goal
+
+pub returns : goal.returns
+returns c = fault_determined c.dump_or_fault.ensures c.one_fault.ensures c.one_list_of_records.ensures

@@ -1,0 +1,24 @@
+//! What the faults of a text exclude, as laws: functions whose bodies are the laws that they stand on.
+
+ghost use Rattle.std.specs.Prelude.{◌≡◌, List, ℕ};
+ghost use Rattle.heapmark.specs.Answer.{FirstFaultOf, IsAcceptedText};
+
+use hprof_grammar::{dump_or_fault, one_fault, one_list_of_records};
+
+/// A text that is accepted has no first fault. So a refusal that tells one means that the bytes read are not accepted.
+pub fn accepted_or_fault()
+    ensures { (text : List ℕ) (code place : ℕ) → IsAcceptedText text → FirstFaultOf text code place → ⊥ }
+{
+    dump_or_fault();
+    one_list_of_records();
+}
+
+/// A text has at most one first fault: its code, and its place.
+pub fn one_first_fault()
+    ensures { (text : List ℕ) (code place other_code other_place : ℕ) → FirstFaultOf text code place → FirstFaultOf text other_code other_place
+        → (code ≡ other_code) × (place ≡ other_place) }
+{
+    dump_or_fault();
+    one_fault();
+    one_list_of_records();
+}
