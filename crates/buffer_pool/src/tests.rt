@@ -1,4 +1,4 @@
-//! What only a run shows: that calls succeed, memory that is refused, and last tags.
+//! What only a run shows: that calls succeed, memory that is refused, last tags, and threads to their end.
 
 mod claims;
 mod edges;
