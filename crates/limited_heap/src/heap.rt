@@ -1,0 +1,58 @@
+//! The allocator.
+ghost use Rattle.std.specs.Prelude.{◌≡◌, ◌+◌, ◌<◌, ◌≤◌, ◌^◌};
+ghost use Rattle.limited_heap.specs.Limit.{request_limit};
+
+use crate::quota::Quota;
+use std::alloc::{AllocError, Allocator, Global};
+
+/// A heap that passes its first requests for memory to the allocator behind it and refuses the
+/// rest. A collection takes a `&` to it.
+#[derive(Drop)]
+pub struct LimitedHeap<A: Allocator = Global> {
+    inner: A,
+    quota: Quota,
+}
+
+impl<A: Allocator> LimitedHeap<A> {
+    /// A heap over `inner` that grants `requests` requests: each new block is one, and each growth
+    /// or shrinking of a block, which moves it to a new one. Giving a block back is none.
+    pub fn new(inner: A, requests: u64) -> LimitedHeap<A>
+        ensures limit { request_limit result ≡ requests }
+    {
+        LimitedHeap {
+            inner,
+            quota: Quota::new(requests),
+        }
+    }
+
+    /// How many more requests will be granted.
+    pub fn requests_left(&self) -> u64
+        ensures within { result ≤ request_limit self.now }
+    {
+        self.quota.left()
+    }
+
+    /// How many requests were refused for their number. What the allocator behind refuses is not
+    /// counted here.
+    pub fn refusals(&self) -> u64
+        ensures beyond { result + request_limit self.now < 2 ^ 64 }
+    {
+        self.quota.refused()
+    }
+}
+
+unsafe impl<A: Allocator> Allocator for LimitedHeap<A> {
+    ghost dealloc_token = { λ heap ty ptr. A.dealloc_token heap.inner ty ptr };
+
+    fn allocate(&self, size: usize, align: usize) -> Result<*mut u8, AllocError> {
+        if self.quota.take() {
+            self.inner.allocate(size, align)
+        } else {
+            Err(AllocError)
+        }
+    }
+
+    unsafe fn deallocate(&self, ptr: *mut u8, size: usize, align: usize) {
+        self.inner.deallocate(ptr, size, align);
+    }
+}

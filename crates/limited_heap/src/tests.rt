@@ -1,0 +1,86 @@
+//! What no clause says: which requests are granted.
+
+use crate::LimitedHeap;
+use std::alloc::{AllocError, Allocator};
+use std::test::Fail;
+use std::thread::{Threads, join};
+
+#[test]
+fn without_a_grant_all_is_refused(rt: HostRuntime) -> Result<(), Fail> {
+    let heap = LimitedHeap::new(rt.alloc(), 0);
+    assert!(rt; Vec::<u64, _>::with_capacity(&heap, 4).is_err());
+    assert!(rt; Box::new(&heap, 7u8).is_err());
+    assert_eq!(rt; (heap.requests_left(), heap.refusals()), (0, 2));
+    Ok(())
+}
+
+#[test]
+fn a_growth_is_a_request(rt: HostRuntime) -> Result<(), Fail> {
+    let heap = LimitedHeap::new(rt.alloc(), 1);
+    assert_eq!(rt; (heap.requests_left(), heap.refusals()), (1, 0));
+    let mut list = Vec::with_capacity(&heap, 2)?;
+    assert_eq!(rt; (heap.requests_left(), heap.refusals()), (0, 0));
+    for item in [3u64, 5] {
+        list.push(item)?;
+    }
+    assert_eq!(rt; heap.refusals(), 0);
+    assert!(rt; list.push(8).is_err());
+    assert_eq!(rt; heap.refusals(), 1);
+    assert_eq!(rt; &list[..], &[3, 5][..]);
+    Ok(())
+}
+
+/// How many of `tries` boxes were made.
+fn boxes_made<A: Allocator + Copy>(heap: A, tries: u32) -> u32 {
+    let mut made = 0u32;
+    for number in 0..tries {
+        if Box::new(heap, number).is_ok() {
+            made = made.saturating_add(1);
+        }
+    }
+    made
+}
+
+#[test]
+fn two_threads_share_the_grants(rt: HostRuntime) -> Result<(), Fail> {
+    let heap = LimitedHeap::new(rt.alloc(), 700);
+    let shared = &heap;
+    let (one, other) = join(
+        &rt,
+        move || boxes_made(shared, 500),
+        move || boxes_made(shared, 500),
+    );
+    assert_eq!(rt; one.saturating_add(other), 700);
+    assert_eq!(rt; (heap.requests_left(), heap.refusals()), (0, 300));
+    Ok(())
+}
+
+type Lists<'a, A> = (
+    Result<Vec<u8, &'a A>, AllocError>,
+    Result<Vec<u8, &'a A>, AllocError>,
+);
+
+/// Two copies, each made by a thread of its own.
+fn copied_twice<'a, R: Threads, A: Allocator + Sync>(
+    rt: &R,
+    heap: &'a A,
+    text: &[u8],
+) -> Lists<'a, A> {
+    join(
+        rt,
+        move || Vec::from_slice(heap, text),
+        move || Vec::from_slice(heap, text),
+    )
+}
+
+#[test]
+fn a_block_goes_from_thread_to_thread(rt: HostRuntime) -> Result<(), Fail> {
+    let heap = LimitedHeap::new(rt.alloc(), 2);
+    let (one, other) = copied_twice(&rt, &heap, b"heap");
+    assert_eq!(rt; &one?[..], b"heap".as_slice());
+    assert_eq!(rt; &other?[..], b"heap".as_slice());
+    let (one, other) = copied_twice(&rt, &heap, b"heap");
+    assert!(rt; one.is_err() && other.is_err());
+    assert_eq!(rt; heap.refusals(), 2);
+    Ok(())
+}
