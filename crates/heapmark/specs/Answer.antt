@@ -50,3 +50,11 @@ pub record WritesBeginning (text : List ℕ) (old new : Option (List ℕ)) : Typ
   pub report : List ℕ
   pub is : IsReport text report
   pub written : AppendsBeginning old new report
+
+-- the report of some text was written, and nothing else
+abbrev pub WritesSomeReport : Option (List ℕ) → Option (List ℕ) → Type 0
+WritesSomeReport old new = (text : List ℕ) × WritesReport text old new
+
+-- a beginning of the report of some text was written, and nothing else
+abbrev pub WritesSomeBeginning : Option (List ℕ) → Option (List ℕ) → Type 0
+WritesSomeBeginning old new = (text : List ℕ) × WritesBeginning text old new

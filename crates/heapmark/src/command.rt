@@ -1,7 +1,8 @@
 //! The program over its words, and its exit status.
 
-ghost use Rattle.std.specs.Prelude.{◌≡◌, ◌≢◌, ◌+◌, ◌-◌, ◌^◌, ◌<◌, ◌≤◌, ◌↔◌, OnOk, length};
+ghost use Rattle.std.specs.Prelude.{◌≡◌, ◌≢◌, ◌+◌, ◌-◌, ◌^◌, ◌<◌, ◌≤◌, ◌↔◌, IfErr, OnErr, OnOk, length};
 ghost use Rattle.std.specs.Io.KnownBytes.{Keeps};
+ghost use Rattle.heapmark.specs.Answer.{IsKnown, WritesSomeBeginning, WritesSomeReport};
 ghost use Rattle.histogram.specs.Counting.{failures_of, inner_of};
 
 use crate::pipeline::run;
@@ -25,6 +26,16 @@ pub fn program<T: Files + Alloc, W: Write, E: Write>(
     ensures status { result ≤ 2 }
     ensures usage { result ≡ 2 ↔ (length words.now ≢ 2) }
     ensures untouched { result ≡ 2 → Keeps (W.contents (inner_of out.old)) (W.contents (inner_of out.new)) }
+
+    // At 0 what was written is a report, and no refusal was told. No contract can say that it is that of the file.
+    ensures reported { result ≡ 0 → WritesSomeReport (W.contents (inner_of out.old)) (W.contents (inner_of out.new)) }
+    ensures silent { result ≡ 0 → Keeps (E.contents err.old) (E.contents err.new) }
+
+    // At 1 nothing was written, but for a beginning of a report where the writer failed.
+    ensures unwritten { result ≡ 1 → failures_of out.new ≡ failures_of out.old
+        → Keeps (W.contents (inner_of out.old)) (W.contents (inner_of out.new)) }
+    ensures beginning { result ≡ 1 → failures_of out.new ≡ failures_of out.old + 1
+        → WritesSomeBeginning (W.contents (inner_of out.old)) (W.contents (inner_of out.new)) }
     ensures no_failure { result ≢ 1 → failures_of out.new ≡ failures_of out.old }
     ensures failures { failures_of out.new ≤ failures_of out.old + 1 }
 {
@@ -53,6 +64,12 @@ fn report_file<T: Files + Alloc, W: Write>(
     out: &mut Counted<W>,
 ) -> Result<(), Refusal>
     requires { failures_of out.old < 2 ^ 64 - 1 }
+    ensures known { IfErr result IsKnown }
+    ensures reported { OnOk result (WritesSomeReport (W.contents (inner_of out.old)) (W.contents (inner_of out.new))) }
+    ensures unwritten { OnErr result (failures_of out.new ≡ failures_of out.old
+        → Keeps (W.contents (inner_of out.old)) (W.contents (inner_of out.new))) }
+    ensures beginning { OnErr result (failures_of out.new ≡ failures_of out.old + 1
+        → WritesSomeBeginning (W.contents (inner_of out.old)) (W.contents (inner_of out.new))) }
     ensures no_failure { OnOk result (failures_of out.new ≡ failures_of out.old) }
     ensures failures { failures_of out.new ≤ failures_of out.old + 1 }
 {

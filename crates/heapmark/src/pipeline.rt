@@ -5,7 +5,7 @@ ghost use Rattle.std.specs.Io.KnownBytes.{Keeps};
 ghost use Rattle.heap_graph.specs.Report.{IsReport, report_of};
 ghost use Rattle.histogram.specs.Counting.{failures_of, inner_of};
 ghost use Rattle.histogram.specs.Lines.{histogram_of};
-ghost use Rattle.heapmark.specs.Answer.{IsAcceptedText, IsKnown, IsRefusalOf, TellsFirstFault, WritesBeginning, WritesReport, bytes_read};
+ghost use Rattle.heapmark.specs.Answer.{IsAcceptedText, IsKnown, IsRefusalOf, TellsFirstFault, WritesBeginning, WritesReport, WritesSomeBeginning, WritesSomeReport, bytes_read};
 ghost use Rattle.heapmark.specs.Refusals.{HasCode, out_of_memory};
 
 use crate::refusal::Refusal;
@@ -37,6 +37,9 @@ pub fn run<A: Allocator, R: Read, W: Write, G: Gate>(
     ensures reported { OnOk result (IfSome (R.remaining (inner_of reader.old)) (λ given.
         WritesReport (bytes_read given) (W.contents (inner_of writer.old)) (W.contents (inner_of writer.new)))) }
 
+    // Of any reader, also one whose bytes no contract can name, as a file: what was written is the report of a text.
+    ensures report_of_a_text { OnOk result (WritesSomeReport (W.contents (inner_of writer.old)) (W.contents (inner_of writer.new))) }
+
     // The other side: a fault is told only where it is the first one, and where there is one nothing else is told but
     // want of memory or of the reader.
     ensures first_fault { IfErr result (λ refusal. refusal.code ≤ 14 → IfSome (R.remaining (inner_of reader.old)) (λ given.
@@ -54,6 +57,8 @@ pub fn run<A: Allocator, R: Read, W: Write, G: Gate>(
     // What was written at a refusal.
     ensures beginning { HasCode result 20 → IfSome (R.remaining (inner_of reader.old)) (λ given.
         WritesBeginning (bytes_read given) (W.contents (inner_of writer.old)) (W.contents (inner_of writer.new))) }
+    ensures beginning_of_a_report { HasCode result 20
+        → WritesSomeBeginning (W.contents (inner_of writer.old)) (W.contents (inner_of writer.new)) }
     ensures untouched { IfErr result (λ refusal. refusal.code ≢ 20
         → Keeps (W.contents (inner_of writer.old)) (W.contents (inner_of writer.new))) }
 {
