@@ -1,0 +1,63 @@
+#!/bin/sh
+# Times the pool alone beside std alone: claims, and pops and pushes, on one and on four threads.
+#
+# usage: bench/pool.sh [RUNS]
+#
+# Builds crates/pool_bench with rt and bench/std_baseline.rs with rustc, and runs the two in turn: RUNS times for claims (10
+# without a word), four times as often for pops and pushes, which are shorter. Prints the best of each, the ratio of the best
+# times and that of the middle ones: above 1 the pool takes longer. A pop with its push counts as one.
+set -eu
+top=$(cd "$(dirname "$0")/.." && pwd)
+runs=${1:-10}
+objects=16777216
+turns=500000
+room=$(mktemp -d)
+trap 'rm -rf "$room"' EXIT
+
+(cd "$top/crates/pool_bench" && rt run -- 1 1 1 1) > "$room/build" 2>&1 || { cat "$room/build" >&2; exit 1; }
+rustc -O -o "$room/std" "$top/bench/std_baseline.rs"
+pool=$top/crates/pool_bench/out/pool_bench
+
+# both COUNT WORD..: runs the two in turn so often, and sees that both did the same work. Keeps the times that they told.
+both() {
+    count=$1
+    shift
+    : > "$room/pool.times"
+    : > "$room/std.times"
+    for _ in $(seq "$count"); do
+        "$pool" "$@" > "$room/pool.out" 2>> "$room/pool.times"
+        "$room/std" "$@" > "$room/std.out" 2>> "$room/std.times"
+        cmp -s "$room/pool.out" "$room/std.out" || { echo "the two did not do the same work: $*" >&2; exit 1; }
+    done
+}
+
+# nth PROGRAM NAME K: of the times that the runs told under this name the Kth, the least first.
+nth() {
+    sed -n "s/^$2 took \([0-9]*\) ns\$/\1/p" "$room/$1.times" | sort -n | sed -n "$3p"
+}
+
+# row NAME THREADS COUNT POOL STD POOL STD: from the best times and the middle ones, for so many.
+row() {
+    awk -v name="$1" -v threads="$2" -v count="$3" -v pool="$4" -v std="$5" -v pool2="$6" -v std2="$7" 'BEGIN {
+        printf "| %s | %d | %.1f | %.1f | %.1f | %.1f | ", name, threads, pool / count, std / count, 1000 * count / pool, 1000 * count / std
+        printf "%.2f | %.2f |\n", pool / std, pool2 / std2
+    }'
+}
+
+echo '| Work | Threads | ns, pool | ns, std | Millions a second, pool | std | Ratio of the best | of the middle ones |'
+echo '|---|---|---|---|---|---|---|---|'
+middle=$((runs / 2 + 1))
+for threads in 1 4; do
+    both "$runs" "$threads" "$objects" 1 0
+    pool1=$(nth pool claims 1) std1=$(nth std claims 1) pool2=$(nth pool claims $middle) std2=$(nth std claims $middle)
+    row 'claim of a white object' "$threads" "$objects" "$pool1" "$std1" "$pool2" "$std2"
+    both "$runs" "$threads" "$objects" 3 0
+    row 'claim of a marked object' "$threads" $((2 * objects)) \
+        $(($(nth pool claims 1) - pool1)) $(($(nth std claims 1) - std1)) \
+        $(($(nth pool claims $middle) - pool2)) $(($(nth std claims $middle) - std2))
+    both $((4 * runs)) "$threads" 0 0 "$turns"
+    pool1=$(nth pool 'pops and pushes' 1) pool2=$(nth pool 'pops and pushes' $((2 * runs)))
+    for name in 'pops and pushes' 'pops and pushes of vectors'; do
+        row "$name" "$threads" $((threads * turns)) "$pool1" "$(nth std "$name" 1)" "$pool2" "$(nth std "$name" $((2 * runs)))"
+    done
+done

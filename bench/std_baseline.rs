@@ -1,0 +1,150 @@
+//! The work of `pool_bench` with std alone: claims on atomic words, and pops and pushes on a plain stack with a tagged head.
+//!
+//! Its words are those of `pool_bench`, and so is what it writes to standard output. The times go to standard error. The
+//! last of them has no counterpart there: each pop takes a vector out of the number's slot, and each push puts it back.
+
+use std::cell::UnsafeCell;
+use std::hint::black_box;
+use std::process::ExitCode;
+use std::sync::atomic::{AtomicU64, Ordering::SeqCst};
+use std::thread;
+use std::time::Instant;
+
+const BUFFERS: u64 = 64;
+const SIZE: usize = 256;
+const TAG: u64 = 65_536;
+
+/// A stack of numbers. The head is the tag times 65,536, plus 0 for no number or the number on top plus 1; a link is 0 or a
+/// number plus 1.
+struct Stack {
+    head: AtomicU64,
+    links: Vec<AtomicU64>,
+}
+
+impl Stack {
+    fn new() -> Stack {
+        let links = (1..=BUFFERS).map(|next| if next < BUFFERS { next + 1 } else { 0 });
+        Stack {
+            head: AtomicU64::new(1),
+            links: links.map(AtomicU64::new).collect(),
+        }
+    }
+
+    fn pop(&self) -> Option<u64> {
+        loop {
+            let head = self.head.load(SeqCst);
+            let top = (head % TAG).checked_sub(1)?;
+            let link = self.links[top as usize].load(SeqCst);
+            let next = (head / TAG + 1) * TAG + link;
+            if self.head.compare_exchange(head, next, SeqCst, SeqCst).is_ok() {
+                return Some(top);
+            }
+        }
+    }
+
+    fn push(&self, top: u64) {
+        loop {
+            let head = self.head.load(SeqCst);
+            self.links[top as usize].store(head % TAG, SeqCst);
+            let next = (head / TAG + 1) * TAG + top + 1;
+            if self.head.compare_exchange(head, next, SeqCst, SeqCst).is_ok() {
+                return;
+            }
+        }
+    }
+}
+
+/// A vector for each number, which is there while the number is on the stack.
+struct Slots(Vec<UnsafeCell<Option<Vec<u32>>>>);
+
+// SAFETY: a thread touches a slot only between its pop of that number and its push.
+unsafe impl Sync for Slots {}
+
+impl Slots {
+    fn new() -> Slots {
+        let vectors = (0..BUFFERS).map(|_| Some(Vec::with_capacity(SIZE)));
+        Slots(vectors.map(UnsafeCell::new).collect())
+    }
+
+    /// The number has to be popped, and not pushed since.
+    unsafe fn replace(&self, number: u64, vector: Option<Vec<u32>>) -> Option<Vec<u32>> {
+        unsafe { std::mem::replace(&mut *self.0[number as usize].get(), vector) }
+    }
+}
+
+/// Claims each object of a part so many times, and answers how many were white.
+fn claim_part(marks: &[AtomicU64], passes: u64) -> u64 {
+    let mut white = 0;
+    for _ in 0..passes {
+        white += marks.iter().filter(|mark| mark.fetch_max(1, SeqCst) == 0).count() as u64;
+    }
+    white
+}
+
+/// Pops a number and pushes it, and answers in how many turns there was one.
+fn take_turns(stack: &Stack, turns: u64) -> u64 {
+    let mut moved = 0;
+    for _ in 0..turns {
+        if let Some(top) = stack.pop() {
+            stack.push(top);
+            moved += 1;
+        }
+    }
+    moved
+}
+
+/// The same, with the vector of the number.
+fn take_turns_with(stack: &Stack, slots: &Slots, turns: u64) -> u64 {
+    let mut moved = 0;
+    for _ in 0..turns {
+        if let Some(top) = stack.pop() {
+            // SAFETY: the number was popped just now, and is pushed after the second call.
+            let vector = black_box(unsafe { slots.replace(top, None) });
+            moved += u64::from(vector.is_some());
+            unsafe { slots.replace(top, vector) };
+            stack.push(top);
+        }
+    }
+    moved
+}
+
+/// Runs the work on so many threads, tells how long they took together, and answers the sum of their answers.
+fn timed(name: &str, threads: u64, work: impl Fn(u64) -> u64 + Sync) -> u64 {
+    let start = Instant::now();
+    let sum = thread::scope(|scope| {
+        let work = &work;
+        let threads: Vec<_> = (0..threads).map(|number| scope.spawn(move || work(number))).collect();
+        threads.into_iter().map(|thread| thread.join().unwrap()).sum()
+    });
+    eprintln!("{name} took {} ns", start.elapsed().as_nanos());
+    sum
+}
+
+fn run(threads: u64, objects: u64, passes: u64, turns: u64) {
+    let marks: Vec<AtomicU64> = (0..objects).map(|_| AtomicU64::new(0)).collect();
+    let part = objects.div_ceil(threads);
+    let white = timed("claims", threads, |number| {
+        let from = (number * part).min(objects);
+        let to = (from + part).min(objects);
+        claim_part(&marks[from as usize..to as usize], passes)
+    });
+    println!("claims {}\nwhite {white}", objects * passes);
+
+    let stack = Stack::new();
+    let moved = timed("pops and pushes", threads, |_| take_turns(&stack, turns));
+    println!("pops {moved}\npushes {moved}");
+
+    let slots = Slots::new();
+    let moved_with = timed("pops and pushes of vectors", threads, |_| take_turns_with(&stack, &slots, turns));
+    assert_eq!(moved_with, moved);
+}
+
+fn main() -> ExitCode {
+    let words: Vec<u64> = std::env::args().skip(1).filter_map(|word| word.parse().ok()).collect();
+    let [threads @ 1..=64, objects, passes, turns] = words[..] else {
+        eprintln!("usage: std_baseline THREADS OBJECTS PASSES TURNS");
+        return ExitCode::from(2);
+    };
+    run(threads, objects, passes, turns);
+    ExitCode::SUCCESS
+}

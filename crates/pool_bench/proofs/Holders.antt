@@ -1,0 +1,37 @@
+-- Roots, and what a worker may push after a pop.
+use Rattle.std.proofs.Common.{◌≡◌, ℕ, ◌<◌, [], ◌∷◌, ◌++◌, Option, All, Contains, ap, subst, sym, refl, ◌∙◌, inl, arith}
+use Rattle.std.specs.List.{range_with_len}
+use Rattle.std.proofs.lemmas.List.FromFn.{length-range_with_len, get_or-range_with_len}
+use Rattle.std.proofs.lemmas.List.Elements.{Contains-append_right}
+use Rattle.mark_core.specs.declared.which.Which.TheVariants.{Empty}
+use Rattle.mark_core.specs.Lists.{times}
+use Rattle.mark_core.specs.Event.{CanClaim}
+use Rattle.buffer_pool.specs.Book.{Book}
+use Rattle.buffer_pool.specs.Calls.{Holder, Load, MayPush, PopsAtLast}
+use Rattle.buffer_pool.specs.declared.answers.Popped.TheVariants as pop
+use Rattle.pool_bench.specs.Holders.{AreRoots, SamePool, numbers}
+
+pub roots_below : (n : ℕ) → All (λ o. o < n) (numbers n)
+unfolding numbers
+roots_below n i d below = let k : i < n = omega (arith, below, length-range_with_len 0 n) in omega (arith, k, get_or-range_with_len 0 n i d k)
+
+pub is_number : (n o : ℕ) → o < n → Contains (numbers n) o
+unfolding numbers
+is_number n o below = (o, omega (arith, below, length-range_with_len 0 n), omega (arith, get_or-range_with_len 0 n o o below))
+
+pub same_roots : (n : ℕ) (a b : Holder) → SamePool a b → AreRoots n a → AreRoots n b
+same_roots n a b s r o below = subst (λ rs. Contains rs o) (ap (λ e. e.roots) (sym s.setup)) (r o below)
+
+pub may_claim : (n o : ℕ) (w : Holder) → AreRoots n w → o < n → CanClaim w.book.setup o w.book.account
+may_claim n o w r below = inl (r o below)
+
+-- the buffer that the last pop took from the empty stack has no items
+pub may_push : (old new : Book) (h : Load) → PopsAtLast Empty old new (pop.Took h) → MayPush Empty h new
+may_push old new h p =
+    let q = p.2 in
+    record {
+      held = subst (λ (b : Book). Contains b.account.held h.index) (sym q.5) (Contains-append_right p.0.account.held (h.index ∷ []) h.index (0, omega arith, refl));
+      size = q.4 ∙ ap (λ (b : Book). b.setup.size) (sym q.5);
+      charged = λ x. let none : times x h.items ≡ 0 = ap (times x) (q.6 refl) in omega (arith, none);
+      bare = q.6;
+    }

@@ -1,0 +1,12 @@
+-- What is asked of each worker is asked of the one at this place.
+use Rattle.std.proofs.Common.{ap, sym, subst, ◌∙◌}
+use Rattle.pool_bench.specs.declared.workers.NumberedWorker.{NumberedWorker}
+use Rattle.pool_bench.specs.Holders.{AreRoots}
+use Rattle.pool_bench.proofs.claims.claim_all.Goals as goal
+
+pub map_vec-requires-after_bounds : goal.map_vec-requires-after_bounds
+map_vec-requires-after_bounds g c =
+    λ _ _ i x below is. (
+      ap (λ (w : NumberedWorker). w.worker.pool) is ∙ c.requires.pool i x below,
+      subst (λ (w : NumberedWorker). AreRoots c.args.sizes.objects w.worker) (sym is) (c.requires.roots i x below),
+    )

@@ -1,0 +1,7 @@
+-- the worker stays in its pool, and each object so far was white or not
+use Rattle.std.proofs.Common.{◌+◌, ◌≤◌}
+use Rattle.pool_bench.specs.Holders.{SamePool}
+use Rattle.pool_bench.proofs.claims.claim_part.Given as goal
+
+abbrev pub invariant-loop-object : goal.invariant-loop-object
+invariant-loop-object g l = SamePool l.initial.worker l.worker × (l.white + l.from ≤ l.object)

@@ -1,0 +1,7 @@
+-- the worker stays in its pool, and a pass finds no more white objects than there are
+use Rattle.std.proofs.Common.{◌*◌, ◌≤◌}
+use Rattle.pool_bench.specs.Holders.{SamePool}
+use Rattle.pool_bench.proofs.claims.claim_passes.Given as goal
+
+abbrev pub invariant-loop : goal.invariant-loop
+invariant-loop l = SamePool l.initial.worker l.worker × (l.white ≤ l.counter * 4294967295)

@@ -1,0 +1,21 @@
+//! Measures the pool alone: claims of objects, and pops and pushes of buffers, on some threads.
+#![tactic(auto)]
+
+mod claims;
+mod roots;
+mod runs;
+mod sizes;
+mod turns;
+mod workers;
+
+use anyhow::Result;
+use runs::{run_claims, run_turns};
+use sizes::sizes_of;
+use std::env;
+
+fn main(rt: HostRuntime) -> Result<()> {
+    let words: Vec<String> = env::args(&rt)?.collect(rt.alloc())?;
+    let sizes = sizes_of(words.as_slice())?;
+    run_claims(&rt, rt.alloc(), sizes)?;
+    run_turns(&rt, rt.alloc(), sizes)
+}

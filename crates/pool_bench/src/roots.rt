@@ -1,0 +1,43 @@
+//! A pool over objects that are all roots.
+ghost use Rattle.std.specs.Prelude.{◌≡◌, ℕ, [], IfOk};
+ghost use Rattle.mark_core.specs.Shares.{whole};
+ghost use Rattle.pool_bench.specs.Holders.{AreRoots, numbers};
+
+use buffer_pool::{Edges, Pool, PoolFault, Worker};
+use std::alloc::Global;
+
+/// The buffers of a pool.
+const BUFFERS: u32 = 64;
+
+/// The objects that a buffer is made for.
+const SIZE: u32 = 256;
+
+/// Objects that are all roots, without successors.
+#[derive(Drop)]
+struct Roots {
+    objects: u32,
+}
+
+impl Edges for Roots {
+    ghost count = { λ e. e.objects };
+
+    ghost roots = { λ e. numbers e.objects };
+
+    ghost pairs = { λ _. [] };
+
+    fn objects(&self) -> u32 {
+        self.objects
+    }
+}
+
+/// A pool for so many objects, which are all roots, and its worker.
+pub(crate) fn pool_of_roots(
+    alloc: Global,
+    objects: u32,
+) -> Result<(Pool<Global>, Worker<Global>), PoolFault>
+    ensures pool { IfOk result (λ p. p.1.pool ≡ p.0) }
+    ensures roots { IfOk result (λ p. AreRoots objects p.1) }
+    ensures share { IfOk result (λ p. p.1.book.account.share ≡ whole) }
+{
+    Pool::new(alloc, &Roots { objects }, BUFFERS, SIZE, 0)
+}

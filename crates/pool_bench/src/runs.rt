@@ -1,0 +1,46 @@
+//! The two runs: what they count goes to standard output, the time that they took to standard error.
+
+use crate::claims::claim_all;
+use crate::roots::pool_of_roots;
+use crate::sizes::Sizes;
+use crate::turns::turn_all;
+use crate::workers::split_among;
+use anyhow::Result;
+use std::alloc::Global;
+use std::rt::Clock;
+use std::sync::Wait;
+use std::thread::Threads;
+use std::time::Instant;
+
+/// Claims each object of a pool as often as there are passes.
+pub(crate) fn run_claims<R: Threads + Clock + Print + Eprint + Sync>(
+    rt: &R,
+    alloc: Global,
+    sizes: Sizes,
+) -> Result<()> {
+    let (pool, worker) = pool_of_roots(alloc, sizes.objects)?;
+    let workers = split_among(alloc, &pool, worker, sizes.threads)?;
+    let start = Instant::now(rt)?;
+    let white = claim_all(rt, &pool, workers, sizes)?;
+    let took = start.elapsed(rt)?;
+    let claims = u64::from(sizes.objects) * u64::from(sizes.passes);
+    println!(rt; "claims {claims}\nwhite {white}")?;
+    eprintln!(rt; "claims took {} ns", took.as_nanos())?;
+    Ok(())
+}
+
+/// Pops from the empty stack of a pool and pushes on it, as often as there are turns, on each thread.
+pub(crate) fn run_turns<R: Threads + Wait + Clock + Print + Eprint + Sync>(
+    rt: &R,
+    alloc: Global,
+    sizes: Sizes,
+) -> Result<()> {
+    let (pool, worker) = pool_of_roots(alloc, 0)?;
+    let workers = split_among(alloc, &pool, worker, sizes.threads)?;
+    let start = Instant::now(rt)?;
+    let moved = turn_all(rt, &pool, workers, sizes.turns)?;
+    let took = start.elapsed(rt)?;
+    println!(rt; "pops {moved}\npushes {moved}")?;
+    eprintln!(rt; "pops and pushes took {} ns", took.as_nanos())?;
+    Ok(())
+}

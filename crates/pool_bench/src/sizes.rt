@@ -1,0 +1,42 @@
+//! The words of the command line.
+ghost use Rattle.std.specs.Prelude.{◌<◌, ◌≤◌};
+
+use anyhow::{Context, Result, bail, ensure};
+
+/// The most threads.
+const MOST_THREADS: u32 = 64;
+
+/// How much is done.
+#[derive(Clone, Copy)]
+pub(crate) struct Sizes {
+    /// Threads, from 1 to 64.
+    pub(crate) threads: u32,
+    /// Objects of the pool, of which each thread has a part.
+    pub(crate) objects: u32,
+    /// How often each object is claimed.
+    pub(crate) passes: u32,
+    /// How often each thread pops and pushes.
+    pub(crate) turns: u32,
+    ghost some: { 0 < threads },
+    ghost few: { threads ≤ 64 },
+}
+
+fn number(word: &String) -> Result<u32> {
+    word.parse::<u32>()
+        .context(format_args!("reading {word:?}"))
+}
+
+/// Reads threads, objects, passes and turns, behind the program's name.
+pub(crate) fn sizes_of(words: &[String]) -> Result<Sizes> {
+    let [_, threads, objects, passes, turns] = words else {
+        bail!("usage: pool_bench THREADS OBJECTS PASSES TURNS");
+    };
+    let threads = number(threads)?;
+    ensure!((1..=MOST_THREADS).contains(&threads), "{threads} threads");
+    Ok(Sizes {
+        threads,
+        objects: number(objects)?,
+        passes: number(passes)?,
+        turns: number(turns)?,
+    })
+}

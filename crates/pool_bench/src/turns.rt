@@ -1,0 +1,54 @@
+//! Pops from the empty stack, and pushes on it.
+ghost use Rattle.std.specs.Prelude.{◌≡◌, ◌≤◌, All};
+
+use crate::workers::{NumberedWorker, sum_of};
+use buffer_pool::{Pool, Popped, Which, Worker};
+use std::alloc::{AllocError, Allocator, Global};
+use std::sync::Wait;
+use std::thread;
+use std::thread::Threads;
+
+/// Pops a buffer and pushes it. False where there was none, or the last tag is reached.
+fn turn<R: Wait, A: Allocator>(rt: &R, pool: &Pool<A>, worker: &mut Worker<A>) -> bool
+    requires { worker.old.pool ≡ pool.now }
+    ensures { worker.new.pool ≡ worker.old.pool }
+{
+    match pool.pop(rt, worker, Which::Empty) {
+        Popped::Took(held) => pool.push(rt, worker, Which::Empty, held).is_ok(),
+        Popped::Empty | Popped::Spent => false,
+    }
+}
+
+/// Takes so many turns, and answers in how many a buffer was popped and pushed.
+fn take_turns<R: Wait>(rt: &R, pool: &Pool<Global>, numbered: NumberedWorker, turns: u32) -> u64
+    requires { numbered.worker.pool ≡ pool.now }
+    ensures { result ≤ turns }
+{
+    let NumberedWorker {
+        mut worker,
+        number: _,
+    } = numbered;
+    let mut moved = 0;
+    for _ in 0..turns {
+        if turn(rt, pool, &mut worker) {
+            moved += 1;
+        }
+    }
+    moved
+}
+
+/// Takes so many turns on each thread, and answers in how many a buffer was popped and pushed.
+pub(crate) fn turn_all<R: Threads + Wait + Sync>(
+    rt: &R,
+    pool: &Pool<Global>,
+    workers: Vec<NumberedWorker>,
+    turns: u32,
+) -> Result<u64, AllocError>
+    requires { All (λ w. w.worker.pool ≡ pool.now) workers.items }
+{
+    let take = |numbered: NumberedWorker| -> u64
+        requires { numbered.worker.pool ≡ pool.now }
+    { take_turns(rt, pool, numbered, turns) };
+    let moved = thread::map_vec(rt, workers, &take)?;
+    Ok(sum_of(moved.as_slice()))
+}

@@ -1,0 +1,48 @@
+//! A worker for each thread.
+ghost use Rattle.std.specs.Prelude.{◌≡◌, ◌≤◌, All, IfOk};
+ghost use Rattle.pool_bench.specs.Holders.{SamePool};
+
+use buffer_pool::{Pool, Worker};
+use std::alloc::{AllocError, Global};
+
+/// A worker with its number, from 0 on.
+#[derive(Drop)]
+pub(crate) struct NumberedWorker {
+    pub(crate) worker: Worker<Global>,
+    pub(crate) number: u32,
+}
+
+/// Splits a worker into so many, each with a number of its own.
+pub(crate) fn split_among(
+    alloc: Global,
+    pool: &Pool<Global>,
+    worker: Worker<Global>,
+    threads: u32,
+) -> Result<Vec<NumberedWorker>, AllocError>
+    requires pool { worker.pool ≡ pool.now }
+    requires share { threads ≤ worker.book.account.share }
+    ensures { IfOk result (λ v. All (λ w. SamePool worker w.worker) v.items) }
+{
+    let mut workers = Vec::new(alloc);
+    let mut first = worker;
+    for number in 1..threads {
+        let (kept, given) = pool.split(first, 1);
+        first = kept;
+        workers.push(NumberedWorker {
+            worker: given,
+            number,
+        })?;
+    }
+    workers.push(NumberedWorker {
+        worker: first,
+        number: 0,
+    })?;
+    Ok(workers)
+}
+
+/// The sum of what the threads counted, or the largest number where it is more.
+pub(crate) fn sum_of(counts: &[u64]) -> u64 {
+    counts
+        .iter()
+        .fold(0, |sum: u64, count| sum.saturating_add(*count))
+}
