@@ -108,13 +108,14 @@ fn take_turns_with(stack: &Stack, slots: &Slots, turns: u64) -> u64 {
     moved
 }
 
-/// Runs the work on so many threads, tells how long they took together, and answers the sum of their answers.
+/// Runs the work on so many threads, this one among them, tells how long they took together, and answers the sum of their
+/// answers.
 fn timed(name: &str, threads: u64, work: impl Fn(u64) -> u64 + Sync) -> u64 {
     let start = Instant::now();
     let sum = thread::scope(|scope| {
         let work = &work;
-        let threads: Vec<_> = (0..threads).map(|number| scope.spawn(move || work(number))).collect();
-        threads.into_iter().map(|thread| thread.join().unwrap()).sum()
+        let others: Vec<_> = (1..threads).map(|number| scope.spawn(move || work(number))).collect();
+        work(0) + others.into_iter().map(|thread| thread.join().unwrap()).sum::<u64>()
     });
     eprintln!("{name} took {} ns", start.elapsed().as_nanos());
     sum

@@ -1,6 +1,5 @@
 -- Roots, and what a worker may push after a pop.
-use Rattle.std.proofs.Common.{◌≡◌, ℕ, ◌<◌, [], ◌∷◌, ◌++◌, Option, All, Contains, ap, subst, sym, refl, ◌∙◌, inl, arith}
-use Rattle.std.specs.List.{range_with_len}
+use Rattle.std.proofs.Common.{◌≡◌, ℕ, ◌<◌, [], ◌∷◌, All, Contains, ap, subst, sym, refl, ◌∙◌, inl, arith}
 use Rattle.std.proofs.lemmas.List.FromFn.{length-range_with_len, get_or-range_with_len}
 use Rattle.std.proofs.lemmas.List.Elements.{Contains-append_right}
 use Rattle.mark_core.specs.declared.which.Which.TheVariants.{Empty}
