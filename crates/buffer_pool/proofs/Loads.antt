@@ -10,16 +10,16 @@ use Rattle.tagged_index.specs.Head.{Head, head_of, index_of}
 use Rattle.mark_core.specs.declared.which.Which.{Which}
 use Rattle.mark_core.specs.declared.which.Which.TheVariants.{Full, Empty}
 use Rattle.mark_core.specs.Lists.{times}
-use Rattle.mark_core.specs.Account.{Account, look_of, after_load, after_load_link}
+use Rattle.mark_core.specs.Account.{look_of, after_load, after_load_link}
 use Rattle.mark_core.specs.World.{Setup}
+use Rattle.mark_core.specs.Runs.{HasEachOnce}
 use Rattle.mark_core.specs.Law.{Law}
-use Rattle.mark_core.proofs.Ownership.{place_one, stacked_below, top_stands}
-use Rattle.mark_core.proofs.Sums.{term_le}
-use Rattle.mark_core.proofs.Colours.{linear}
+use Rattle.mark_core.proofs.Ownership.{stacked_below, top_stands}
+use Rattle.mark_core.proofs.Closing.{has_each_once}
 use Rattle.mark_core.proofs.Events.{load_keeps, load_link_keeps}
 use Rattle.buffer_pool.specs.declared.view.View.{View}
 use Rattle.buffer_pool.specs.Book.{Book, loaded, link_loaded}
-use Rattle.buffer_pool.specs.Plays.{rested, head_seen, link_seen, set_aside, settled, HasEachOnce}
+use Rattle.buffer_pool.specs.Plays.{rested, head_seen, link_seen, set_aside, settled}
 use Rattle.buffer_pool.specs.Table.{Reading, Rule, IsTied, Rests, Carries, free, head_word, link_word, marking_of}
 use Rattle.buffer_pool.proofs.States.{agrees, stands, changed, accounts_set, held_below, freed}
 
@@ -75,13 +75,7 @@ module _ {B : Type 0} (r : Reading B) (e : Setup) (s : State (Option B) View) (r
 
 -- an account has no buffer twice, and no object twice among those that it answers for and finished
 pub each_once : {B : Type 0} (r : Reading B) (e : Setup) (s : State (Option B) View) (rule : Rule r e s) (id : ℕ) (v : View) → get_elem? s.views id ≡ some v → HasEachOnce v.book.account
-each_once r e s rule id v is =
-    let m = marking_of r e s in
-    let at = stands r e s rule id v is in
-    record {
-      held = λ i. omega (arith, place_one e.buffers m.head m.link m.accounts rule.law.stack rule.law.owned i, term_le (λ (a : Account). times i a.held) m.accounts id v.book.account at);
-      objects = λ o. omega (arith, (linear e m.mark m.slots m.accounts rule.law.coloured o).1, term_le (λ (a : Account). times o a.charge) m.accounts id v.book.account at, term_le (λ (a : Account). times o a.finished) m.accounts id v.book.account at);
-    }
+each_once r e s rule id v is = has_each_once e (marking_of r e s) rule.law id v.book.account (stands r e s rule id v is)
 
 module _ {B : Type 0} (r : Reading B) (e : Setup) (slots id : ℕ) where
   -- what stays as it is keeps the rule of a word written again

@@ -10,16 +10,15 @@ use Rattle.atomic_table.proofs.Lists.{at_set, at_snoc, set_else}
 use Rattle.mark_core.specs.Lists.{times, only}
 use Rattle.mark_core.specs.Account.{Account, part, spent, after_split, after_join}
 use Rattle.mark_core.specs.World.{Setup, Marking}
-use Rattle.mark_core.specs.Runs.{AreApart}
+use Rattle.mark_core.specs.Runs.{AreApart, HasEachOnce}
 use Rattle.mark_core.specs.Law.{Law}
 use Rattle.mark_core.proofs.Sums.{total-append, stands_append}
 use Rattle.mark_core.proofs.Events.{split_keeps, join_keeps}
 use Rattle.buffer_pool.specs.declared.view.View.{View}
 use Rattle.buffer_pool.specs.Book.{joined, new_book, parted}
 use Rattle.buffer_pool.specs.Laid.{IsLaid, IsSound, IsWithin}
-use Rattle.buffer_pool.specs.Plays.{HasEachOnce}
 use Rattle.buffer_pool.specs.Setups.{kept_part, given_part, joined_view, spent_view}
-use Rattle.buffer_pool.specs.Table.{Reading, Rule, IsTied, Rests, account_of, free, marking_of}
+use Rattle.buffer_pool.specs.Table.{Reading, Rule, Carries, IsTied, Rests, account_of, free, marking_of}
 use Rattle.buffer_pool.proofs.States.{agrees, stands, accounts_set}
 use Rattle.buffer_pool.proofs.Loads.{nothing_out}
 
@@ -186,6 +185,16 @@ has_both {B} t u m o n table is first second = (subst (λ x. IsSound x n) (sym t
           carries = refl;
           within = within_joined t m.0.book.setup o.0.book.setup m.0.book.account o.0.book.account first.laid second.laid first.within second.within;
         }
+
+-- what it is told at last, once the other's slot went home, the two were joined, and its own slot went home
+pub joined_at_last :
+    {B : Type 0} (m o freed both n : Me (Option B) View) → freed ≡ (free o.0, []) → both ≡ (joined_view m.0 freed.0, m.1) → n ≡ (free both.0, [])
+    → n ≡ (free (joined_view m.0 (free o.0)), [])
+joined_at_last {B} m o freed both n first second third = third ∙ ap (λ (x : Me (Option B) View). (free x.0, [])) second ∙ ap (λ (x : Me (Option B) View). (free (joined_view m.0 x.0), [])) first
+
+-- its slot is where it was
+pub carries_joined : {B : Type 0} (m o n : Me (Option B) View) → n ≡ (joined_view m.0 o.0, m.1) → Carries m → Carries n
+carries_joined {B} m o n is carries = subst {A = Me (Option B) View} Carries (sym {A = Me (Option B) View} is) carries
 
 -- where the two together have each thing once, they have nothing in common
 pub apart_by : (a b : Account) → HasEachOnce (after_join a b) → AreApart a b

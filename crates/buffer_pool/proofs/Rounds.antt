@@ -1,7 +1,6 @@
 -- What a worker has between the calls of a round.
-use Rattle.std.proofs.Common.{◌≡◌, ◌≢◌, ◌↔◌, ℕ, Bool, false, IsTrue, ◌+◌, ◌<◌, ◌≤◌, List, [], ◌∷◌, ◌++◌, Option, All, Contains, if◌then◌else◌, ◌==◌, length, cond, eq-eqb, ne_eqb, ap, sym, refl, subst, ◌∙◌, inl, arith}
+use Rattle.std.proofs.Common.{◌≡◌, ◌≢◌, ◌↔◌, ℕ, Bool, false, IsTrue, ◌+◌, ◌<◌, List, [], ◌∷◌, ◌++◌, Option, All, Contains, if◌then◌else◌, ◌==◌, cond, eq-eqb, ne_eqb, ap, sym, refl, subst, ◌∙◌, inl, arith}
 use Rattle.std.proofs.lemmas.Bool.{false≢true}
-use Rattle.std.specs.List.{range_with_len}
 use Rattle.std.proofs.lemmas.List.FromFn.{length-range_with_len, get_or-range_with_len}
 use Rattle.tagged_index.specs.Head.{Head}
 use Rattle.mark_core.specs.declared.which.Which.{Which}
@@ -10,7 +9,7 @@ use Rattle.mark_core.specs.Lists.{times, only, remove_one, without}
 use Rattle.mark_core.specs.World.{Setup}
 use Rattle.mark_core.specs.Event.{CanClaim, CanFinish}
 use Rattle.mark_core.proofs.Sums.{total-append, only-same, remove_one-same, times-remove_one, times-without, times_stands}
-use Rattle.buffer_pool.specs.Book.{Book, loaded, link_loaded, failed, popped, pushed, claimed, finished}
+use Rattle.buffer_pool.specs.Book.{Book, loaded, link_loaded, failed, claimed, finished}
 use Rattle.buffer_pool.specs.Calls.{Holder, Load, MayPush, Pops, Pushes}
 use Rattle.buffer_pool.specs.Rounds.{HasNone, HasOne, HasRoots, IsSameWorker, numbers}
 use Rattle.buffer_pool.specs.declared.answers.TryPopped.TheVariants as try_pop

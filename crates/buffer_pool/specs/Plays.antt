@@ -1,12 +1,13 @@
 -- What each step on the table tells the worker that makes it: of the step, the seat before, the number found and the seat after.
-use Rattle.std.specs.Prelude.{Contains, ◌≡◌, ℕ, suc, ◌+◌, ◌<◌, ◌≤◌, [], ◌∷◌, Option, Some, None}
+use Rattle.std.specs.Prelude.{Contains, ◌≡◌, ℕ, suc, ◌<◌, ◌≤◌, [], ◌∷◌, Option, Some, None}
 use Rattle.atomic_table.specs.Table.{Me, Step}
 use Rattle.tagged_index.specs.Head.{head_of, index_of, after}
 use Rattle.mark_core.specs.declared.which.Which.{Which}
 use Rattle.mark_core.specs.declared.which.Which.TheVariants.{Empty}
 use Rattle.mark_core.specs.Lists.{times, IsPart}
-use Rattle.mark_core.specs.Account.{Account, look_of}
+use Rattle.mark_core.specs.Account.{look_of}
 use Rattle.mark_core.specs.World.{Setup}
+use Rattle.mark_core.specs.Runs.{HasEachOnce}
 use Rattle.buffer_pool.specs.declared.view.View.{View}
 use Rattle.buffer_pool.specs.Book.{Book, loaded, link_loaded, failed, popped, pushed, claimed, finished}
 use Rattle.buffer_pool.specs.Table.{Reading, head_word, link_word, mark_word, free}
@@ -14,11 +15,6 @@ use Rattle.buffer_pool.specs.Table.{Reading, head_word, link_word, mark_word, fr
 -- the seat between two calls, with this book and no slot out
 abbrev pub rested : {B : Type 0} → Me (Option B) View → Book → Me (Option B) View
 rested m b = (record (free m.0) { book = b }, [])
-
--- an account has no buffer twice, or an object twice among those that it answers for and finished
-pub record HasEachOnce (a : Account) : Type 0 where
-  pub held : (i : ℕ) → times i a.held ≤ 1
-  pub objects : (o : ℕ) → times o a.charge + times o a.finished ≤ 1
 
 -- a buffer of this setup: it takes as many items, and its items are objects
 pub record IsOurs {B : Type 0} (r : Reading B) (e : Setup) (b : B) : Type 0 where

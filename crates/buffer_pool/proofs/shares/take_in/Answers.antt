@@ -1,18 +1,16 @@
-use Rattle.std.proofs.Common.{◌∙◌, ap, subst, sym, Option, [], arith}
+use Rattle.std.proofs.Common.{◌∙◌, ap, subst, sym, Option, arith}
 use Rattle.atomic_table.specs.Table.{Me}
 use Rattle.atomic_table.specs.Seated.{TableId}
 use Rattle.buffer_pool.specs.declared.buffer.Buffer.{Buffer}
 use Rattle.buffer_pool.specs.declared.view.View.{View}
 use Rattle.buffer_pool.specs.Buffers.{buffer_reading}
-use Rattle.buffer_pool.specs.Setups.{setup_of, joined_view}
-use Rattle.buffer_pool.specs.Table.{Carries, free}
+use Rattle.buffer_pool.specs.Setups.{setup_of}
 use Rattle.buffer_pool.specs.Laid.{IsSound}
 use Rattle.buffer_pool.proofs.Loads.{settles}
 use Rattle.mark_core.specs.Lists.{times}
 use Rattle.mark_core.specs.Account.{after_join}
-use Rattle.mark_core.specs.Runs.{AreApart}
-use Rattle.buffer_pool.specs.Plays.{HasEachOnce}
-use Rattle.buffer_pool.proofs.Parts.{apart_by, joins, has_both}
+use Rattle.mark_core.specs.Runs.{AreApart, HasEachOnce}
+use Rattle.buffer_pool.proofs.Parts.{apart_by, carries_joined, joined_at_last, joins, has_both}
 use Rattle.buffer_pool.proofs.shares.take_in.Given as given
 use Rattle.buffer_pool.proofs.shares.take_in.Goals as goal
 
@@ -44,15 +42,15 @@ load-requires-2 g c =
     let both = c.join_seat.ensures.2 in (
       c.join_seat.ensures.0 ∙ c.requires.table.0,
       omega (arith, sound.laid.words, ap (λ (t : TableId). t.words) c.requires.table.0),
-      settles buffer_reading (setup_of c.args.words.now.key) c.args.words.now.table_id.slots c.join_seat.new.seat.id c.join_seat.new.seat.me 0 (subst Carries (sym both) sound.carries)
+      settles buffer_reading (setup_of c.args.words.now.key) c.args.words.now.table_id.slots c.join_seat.new.seat.id c.join_seat.new.seat.me 0 (carries_joined c.args.seat.now.me c.load.new.seat.me c.join_seat.new.seat.me both sound.carries)
           (omega (arith, sound.share, ap (λ (n : Token g). n.0.book.account.share) both)),
     )
 
 pub returns-clause-joined : goal.returns-clause-joined
 returns-clause-joined g c =
     let same = sym (c.requires.table.1 ∙ sym c.requires.table.0) in
-    has_both c.args.seat.now.table_id c.load-2.new.seat.table_id c.args.seat.now.me c.args.other.me c.load-2.new.seat.me (c.load-2.ensures.0 ∙ c.join_seat.ensures.0)
-    (c.load-2.ensures.2.0 ∙ ap (λ (n : Token g). (free n.0, [])) (c.join_seat.ensures.2 ∙ ap (λ (n : Token g). (joined_view c.args.seat.now.me.0 n.0, c.args.seat.now.me.1)) c.load.ensures.2.0)) c.requires.sound.0
+    let told = joined_at_last c.args.seat.now.me c.args.other.me c.load.new.seat.me c.join_seat.new.seat.me c.load-2.new.seat.me c.load.ensures.2.0 c.join_seat.ensures.2 c.load-2.ensures.2.0 in
+    has_both c.args.seat.now.table_id c.load-2.new.seat.table_id c.args.seat.now.me c.args.other.me c.load-2.new.seat.me (c.load-2.ensures.0 ∙ c.join_seat.ensures.0) told c.requires.sound.0
     (subst (λ t. IsSound t c.args.other.me) (sym same) c.requires.sound.1)
 
 pub returns-clause-apart : goal.returns-clause-apart
