@@ -154,6 +154,12 @@ within_joined t e f a b one two first second = record { held = held; charge = ch
     charge : (o : ℕ) → Contains (a.charge ++ b.charge) o → o < e.objects
     charge o k = ⊎_elim (λ l. first.charge o l) (λ l. omega (arith, second.charge o l, numbers.1)) (stands_append a.charge b.charge o k)
 
+-- the units of a split are as they were noted
+pub noted_units :
+    {B : Type 0} (m n : Me (Option B) View) (units : ℕ) → n ≡ (record (free m.0) { aside = units }, []) → 0 < units → units < m.0.book.account.share
+    → (0 < n.0.aside) × (n.0.aside < n.0.book.account.share)
+noted_units {B} m n units is some_units less = subst {A = Me (Option B) View} (λ x. (0 < x.0.aside) × (x.0.aside < x.0.book.account.share)) (sym {A = Me (Option B) View} is) (some_units, less)
+
 -- the seat that keeps a part
 pub keeps_part :
     {B : Type 0} (t u : TableId) (m n : Me (Option B) View) (units : ℕ) → u ≡ t → n ≡ (kept_part (record (free m.0) { aside = units }), []) → IsSound t m → units < m.0.book.account.share

@@ -6,7 +6,8 @@ use mathlib.Core.Option as maybe
 use native.Mathlib.Decide.{ℕ_discrete}
 use lib.ListN.{get_elem?}
 use prog.Atomic.{either}
-use Rattle.atomic_table.specs.Table.{State, Me, Act, Allows, Valid, step, stepped, carried_after, keeps, takes, gives}
+use Rattle.atomic_table.specs.Seated.{TableId}
+use Rattle.atomic_table.specs.Table.{State, Me, Act, Allows, Valid, rest, step, stepped, carried_after, keeps, takes, gives}
 use Rattle.atomic_table.proofs.Lists.{at_set, set_else, set_again}
 use Rattle.tagged_index.specs.Head.{Head, head_of, index_of, low_of, after}
 use Rattle.mark_core.specs.declared.which.Which.{Which}
@@ -40,6 +41,24 @@ held_pushed Empty i items b = refl
 share_pushed : (q : Which) (i : ℕ) (items : List ℕ) (b : Book) → (pushed q i items b).account.share ≡ b.account.share
 share_pushed Full i items b = refl
 share_pushed Empty i items b = refl
+
+-- a seat that carries one slot, after the slot's value was exchanged
+pub carried_with : {B : Type 0} (m n : Me (Option B) View) (i j : ℕ) (b : B) → n ≡ (m.0, (i, Some b) ∷ rest m.1) → m.1 ≡ (j, None) ∷ [] → n ≡ (m.0, (i, Some b) ∷ [])
+carried_with {B} m n i j b exchanged carried = exchanged ∙ ap {B = Me (Option B) View} (λ (xs : List (ℕ × Option B)). (m.0, (i, Some b) ∷ rest xs)) carried
+
+-- a seat stays at its table in two steps
+pub stays : (a b c d : TableId) → b ≡ a → c ≡ b → d ≡ c → d ≡ a
+stays a b c d first second third = third ∙ second ∙ first
+
+-- it still carries that slot after a step that left its slots as they were
+pub still_carried : {B : Type 0} (m n : Me (Option B) View) (i : ℕ) (b : B) → n.1 ≡ m.1 → m.1 ≡ (i, Some b) ∷ [] → n.1 ≡ (i, Some b) ∷ rest n.1
+still_carried {B} m n i b same carried = let now = same ∙ carried in now ∙ ap (λ (xs : List (ℕ × Option B)). (i, Some b) ∷ rest xs) (sym now)
+
+-- what a push told, of another name for the seat before it
+pub told_of :
+    {B : Type 0} (m n o : Me (Option B) View) (q : Which) (i j : ℕ) (xs ys : List ℕ) → m.0 ≡ n.0 → i ≡ j → xs ≡ ys → o ≡ rested m (pushed q i xs m.0.book)
+    → o ≡ rested n (pushed q j ys n.0.book)
+told_of {B} m n o q i j xs ys same index items told = told ∙ (λ k. rested {B = B} (same k, []) (pushed q (index k) (items k) (same k).book))
 
 -- a slot that a seat carries alone is the one that it took
 pub one_carried : {B : Type 0} (i j : ℕ) (b c : B) → ◌≡◌ {A = List (ℕ × Option B)} ((i, Some b) ∷ []) ((j, Some c) ∷ []) → (i ≡ j) × (b ≡ c)

@@ -6,7 +6,7 @@ use Rattle.buffer_pool.specs.declared.view.View.{View}
 use Rattle.buffer_pool.specs.Buffers.{buffer_reading}
 use Rattle.buffer_pool.specs.Setups.{setup_of, kept_part, given_part}
 use Rattle.buffer_pool.proofs.Loads.{sets_aside}
-use Rattle.buffer_pool.proofs.Parts.{splits, keeps_part, has_part}
+use Rattle.buffer_pool.proofs.Parts.{noted_units, splits, keeps_part, has_part}
 use Rattle.buffer_pool.proofs.shares.give_part.Given as given
 use Rattle.buffer_pool.proofs.shares.give_part.Goals as goal
 
@@ -22,12 +22,10 @@ compare_exchange-requires g c = (
 
 pub split_seat-requires : goal.split_seat-requires
 split_seat-requires g c =
-    let noted = c.compare_exchange.ensures.2 in
-    let aside = ap (λ (n : Token g). n.0.aside) noted in
-    let share = ap (λ (n : Token g). n.0.book.account.share) noted in (
+    let noted = noted_units c.args.seat.now.me c.compare_exchange.new.seat.me c.args.units c.compare_exchange.ensures.2 c.requires.units.0 c.requires.units.1 in (
       c.compare_exchange.ensures.0 ∙ c.requires.table,
       omega (arith, c.requires.sound.laid.words, ap (λ (t : TableId). t.words) c.requires.table),
-      splits buffer_reading (setup_of c.args.words.now.key) c.compare_exchange.new.seat.id c.compare_exchange.new.seat.me.0 (omega (arith, c.requires.units, aside)) (omega (arith, c.requires.units, aside, share)),
+      splits buffer_reading (setup_of c.args.words.now.key) c.compare_exchange.new.seat.id c.compare_exchange.new.seat.me.0 noted.0 noted.1,
     )
 
 pub returns-clause-kept : goal.returns-clause-kept

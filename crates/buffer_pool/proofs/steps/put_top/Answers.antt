@@ -1,14 +1,13 @@
 -- The slot carries the buffer into the exchange, and out of it where it failed.
-use Rattle.std.proofs.Common.{◌≡◌, suc, ◌∷◌, sym, subst, ap, ◌∙◌, Option, Some, Contains, refl}
+use Rattle.std.proofs.Common.{◌≡◌, suc, sym, subst, ap, ◌∙◌, Option, Some, Contains, refl}
 use Rattle.tagged_index.specs.Head.{Head, index_of, after}
 use Rattle.tagged_index.specs.Words.{index_of-low_of}
 use Rattle.mark_core.proofs.Sums.{stands_times}
-use Rattle.atomic_table.specs.Table.{rest}
 use Rattle.buffer_pool.specs.Buffers.{buffer_reading}
-use Rattle.buffer_pool.specs.Book.{pushed}
 use Rattle.mark_core.specs.Lists.{IsPart}
 use Rattle.buffer_pool.specs.Calls.{Load}
-use Rattle.buffer_pool.specs.Plays.{CanPut, rested}
+use Rattle.buffer_pool.specs.Plays.{CanPut}
+use Rattle.buffer_pool.proofs.Pushes.{carried_with, stays, still_carried, told_of}
 use Rattle.buffer_pool.proofs.steps.put_top.Goals as goal
 
 pub exchange_for_buffer-requires-clause-put : goal.exchange_for_buffer-requires-clause-put
@@ -22,7 +21,7 @@ exchange_for_buffer-requires-clause-put g c =
     let size : b.size ≡ c.args.held.size = ap (λ (h : Load). h.size) c.held.view_is in
     let held : Contains me.0.book.account.held i = subst (Contains me.0.book.account.held) (sym index) c.requires.may.held in
     let spelled = c.word-word.ensures.spelled in
-    let at = c.exchange.ensures.3 ∙ ap (λ xs. (me.0, (i, Some b) ∷ rest xs)) c.requires.stored.0 in (
+    let at = carried_with me c.exchange.new.seat.me i c.args.held.index b c.exchange.ensures.3 c.requires.stored.0 in (
       i,
       b,
       subst (λ m. CanPut buffer_reading q m c.word-word.result c.word.result i b) (sym at) (record {
@@ -46,15 +45,18 @@ returns-then-exchange_for_buffer-word-clause-told g c =
     let b = c.held.inside.buffer in
     let index : i ≡ c.args.held.index = ap (λ (h : Load). h.index) c.held.view_is in
     let items : b.items.items ≡ c.args.held.items = ap (λ (h : Load). h.items) c.held.view_is in
-    let at = c.exchange.ensures.3 ∙ ap (λ xs. (me.0, (i, Some b) ∷ rest xs)) c.requires.stored.0 in
-    c.exchange_for_buffer.ensures.told.0 c.if-exchange_for_buffer-word.true i b (λ k. (at k).1) ∙ (λ k. rested (at k) (pushed c.args.which (index k) (items k) ((at k).0.book)))
+    let at = carried_with me c.exchange.new.seat.me i c.args.held.index b c.exchange.ensures.3 c.requires.stored.0 in
+    told_of c.exchange.new.seat.me me c.exchange_for_buffer.new.seat.me c.args.which i c.args.held.index b.items.items c.args.held.items (λ k. (at k).0) index items
+    (c.exchange_for_buffer.ensures.told.0 c.if-exchange_for_buffer-word.true i b (λ k. (at k).1))
 
 pub exchange-requires-2 : goal.exchange-requires-2
 exchange-requires-2 g c =
     let me = c.args.seat.now.me in
     let i = c.held.inside.index in
     let b = c.held.inside.buffer in
-    let at = c.exchange.ensures.3 ∙ ap (λ xs. (me.0, (i, Some b) ∷ rest xs)) c.requires.stored.0 in
+    let at = carried_with me c.exchange.new.seat.me i c.args.held.index b c.exchange.ensures.3 c.requires.stored.0 in
     let back = c.exchange_for_buffer.ensures.told.1 c.if-exchange_for_buffer-word.false in
-    let carried = (λ k. (back k).1) ∙ (λ k. (at k).1) in
-    (c.exchange_for_buffer.ensures.same.0 ∙ c.exchange.ensures.0 ∙ c.requires.table.0, (Some b, carried ∙ ap (λ xs. (i, Some b) ∷ rest xs) (sym carried)))
+    let carried = still_carried c.exchange.new.seat.me c.exchange_for_buffer.new.seat.me i b (λ k. (back k).1) (λ k. (at k).1) in (
+      stays c.args.words.now.table_id c.args.seat.now.table_id c.exchange.new.seat.table_id c.exchange_for_buffer.new.seat.table_id c.requires.table.0 c.exchange.ensures.0 c.exchange_for_buffer.ensures.same.0,
+      (Some b, carried),
+    )

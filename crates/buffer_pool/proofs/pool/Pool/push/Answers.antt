@@ -3,7 +3,7 @@ use Rattle.std.proofs.Common.{◌≡◌, refl, ◌∙◌}
 use Rattle.buffer_pool.specs.Calls.{Pushes}
 use Rattle.buffer_pool.specs.Calls.LostPushes.{none, more}
 use Rattle.buffer_pool.specs.declared.answers.TryPushed.TheVariants as try_push
-use Rattle.buffer_pool.proofs.Tries.{may_again}
+use Rattle.buffer_pool.proofs.Tries.{may_again, same_pool}
 use Rattle.buffer_pool.proofs.pool.Pool.push.Goals as goal
 
 pub loop-init : goal.loop-init
@@ -19,4 +19,4 @@ loop-preserved g c =
     let tried = c.in-Lost.ensures.pushes in
     let same : c.in-Lost.back ≡ h = tried.1 ∙ was.1 in
     let again : Pushes q h old new (try_push.Lost h) = (tried.0, refl, tried.2, tried.3) in
-    (c.try_push.ensures.pool ∙ was.0, same, may_again q c.loop.held c.in-Lost.back old new was.2 tried, more c.args.worker.now.book old new was.3 again)
+    (same_pool c.args.worker.now c.loop.worker c.try_push.new.worker was.0 c.try_push.ensures.pool, same, may_again q c.loop.held c.in-Lost.back old new was.2 tried, more c.args.worker.now.book old new was.3 again)
