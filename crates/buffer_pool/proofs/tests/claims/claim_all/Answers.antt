@@ -1,7 +1,5 @@
 -- Each object is a root.
-use Rattle.std.proofs.Common.{◌<◌, arith}
-use Rattle.buffer_pool.specs.Rounds.{IsSameWorker}
-use Rattle.buffer_pool.proofs.Rounds.{may_claim, same_again, same_claimed, same_roots, same_worker}
+use Rattle.buffer_pool.proofs.Rounds.{may_claim, same_roots, same_worker}
 use Rattle.buffer_pool.proofs.tests.claims.claim_all.Goals as goal
 
 pub loop-object-init : goal.loop-object-init

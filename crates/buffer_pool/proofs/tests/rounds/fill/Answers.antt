@@ -1,5 +1,5 @@
 -- Each object is a root, and a white one went into the buffer.
-use Rattle.std.proofs.Common.{◌≡◌, ◌<◌, ◌≤◌, ◌∙◌, sym, subst, arith}
+use Rattle.std.proofs.Common.{◌∙◌, sym, subst, arith}
 use Rattle.buffer_pool.specs.Calls.{Load}
 use Rattle.buffer_pool.specs.Rounds.{HasOne}
 use Rattle.buffer_pool.proofs.Rounds.{left_out, may_claim, not_white, put_in, same_again, same_claimed, same_roots}

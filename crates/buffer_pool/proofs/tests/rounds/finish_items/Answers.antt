@@ -1,5 +1,4 @@
 -- What was taken out is finished.
-use Rattle.std.proofs.Common.{◌≡◌}
 use Rattle.buffer_pool.proofs.Rounds.{may_finish, same_again, same_finished, same_roots, taken}
 use Rattle.buffer_pool.proofs.tests.rounds.finish_items.Goals as goal
 

@@ -1,6 +1,4 @@
 -- A try that was lost changes nothing that is asked of the worker.
-use Rattle.std.proofs.Common.{◌≡◌, ◌∙◌}
-use Rattle.buffer_pool.specs.Rounds.{HasNone, HasOne, IsSameWorker}
 use Rattle.buffer_pool.proofs.Rounds.{found_none, lost_pop, same_again, same_worker, took}
 use Rattle.buffer_pool.proofs.tests.rounds.pop_within.Goals as goal
 

@@ -1,8 +1,6 @@
 -- A try that was lost gives the buffer back.
-use Rattle.std.proofs.Common.{◌≡◌, ◌∙◌, refl, ap, subst}
-use Rattle.mark_core.specs.declared.which.Which.TheVariants.{Empty}
+use Rattle.std.proofs.Common.{◌∙◌, refl, ap}
 use Rattle.buffer_pool.specs.Calls.{Load}
-use Rattle.buffer_pool.specs.Rounds.{HasNone, HasOne, IsSameWorker}
 use Rattle.buffer_pool.proofs.Rounds.{done, lost_push, may_push, same_again, same_worker}
 use Rattle.buffer_pool.proofs.tests.rounds.push_within.Goals as goal
 
