@@ -10,3 +10,4 @@ pub mod Starts
 pub mod Closes
 pub mod Tries
 pub mod Rounds
+pub mod Worked

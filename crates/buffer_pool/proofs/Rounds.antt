@@ -43,17 +43,17 @@ nothing [] none = refl
 nothing (x ∷ xs) none = absurd (omega (arith, none x, only-same x x refl))
 
 -- a load changes neither the setup, nor the share, the buffers and the charge
-record IsLook (old new : Book) : Type 0 where
-  setup : new.setup ≡ old.setup
-  share : new.account.share ≡ old.account.share
-  held : new.account.held ≡ old.account.held
-  charge : new.account.charge ≡ old.account.charge
+pub record IsLook (old new : Book) : Type 0 where
+  pub setup : new.setup ≡ old.setup
+  pub share : new.account.share ≡ old.account.share
+  pub held : new.account.held ≡ old.account.held
+  pub charge : new.account.charge ≡ old.account.charge
 
-look_head : (q : Which) (head : Head) (b : Book) → IsLook b (loaded q head b)
+pub look_head : (q : Which) (head : Head) (b : Book) → IsLook b (loaded q head b)
 look_head Full head b = record { setup = refl; share = refl; held = refl; charge = refl }
 look_head Empty head b = record { setup = refl; share = refl; held = refl; charge = refl }
 
-look_link : (q : Which) (head : Head) (link : Option ℕ) (b : Book) → IsLook b (link_loaded q link (loaded q head b))
+pub look_link : (q : Which) (head : Head) (link : Option ℕ) (b : Book) → IsLook b (link_loaded q link (loaded q head b))
 look_link Full head link b = record { setup = refl; share = refl; held = refl; charge = refl }
 look_link Empty head link b = record { setup = refl; share = refl; held = refl; charge = refl }
 
@@ -61,7 +61,7 @@ look_link Empty head link b = record { setup = refl; share = refl; held = refl; 
 charge_white : (o found : ℕ) (xs : List ℕ) → found ≡ 0 → (if found == 0 then xs ++ o ∷ [] else xs) ≡ xs ++ o ∷ []
 charge_white o found xs e = ap (λ t. cond t (xs ++ o ∷ []) xs) (eq-eqb found 0 e)
 
-charge_marked : (o found : ℕ) (xs : List ℕ) → found ≢ 0 → (if found == 0 then xs ++ o ∷ [] else xs) ≡ xs
+pub charge_marked : (o found : ℕ) (xs : List ℕ) → found ≢ 0 → (if found == 0 then xs ++ o ∷ [] else xs) ≡ xs
 charge_marked o found xs n = ap (λ t. cond t (xs ++ o ∷ []) xs) (ne_eqb found 0 n)
 
 module _ (old new : Holder) (pool : new.pool ≡ old.pool) where

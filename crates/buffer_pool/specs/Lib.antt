@@ -10,3 +10,4 @@ pub mod Opening
 pub mod Faults
 pub mod Closing
 pub mod Rounds
+pub mod Worked

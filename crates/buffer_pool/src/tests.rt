@@ -2,7 +2,9 @@
 
 mod claims;
 mod edges;
+mod graph;
 mod opening;
 mod rounds;
 mod tags;
+mod waiting;
 mod worked;

@@ -1,0 +1,94 @@
+//! A run over objects with references: two objects with their class.
+ghost use Rattle.std.specs.Prelude.{◌≡◌, ◌≢◌, ℕ, [], ◌∷◌, IfOk};
+ghost use Rattle.mark_core.specs.Event.{CanClaim};
+ghost use Rattle.buffer_pool.specs.Book.{claimed};
+ghost use Rattle.buffer_pool.specs.Worked.{all_finished, begun, claimed_again, references, root_finished};
+
+use crate::{Edges, Pool, PoolFault, Worker};
+use std::alloc::{Allocator, Global};
+use std::process::Abort;
+use std::test::Fail;
+
+const OBJECTS: u32 = 3;
+
+/// Object 0 is the class. Object 1 is a root and refers to the class and to object 2, which refers to the class and to object 1.
+#[derive(Drop)]
+struct TwoObjects;
+
+impl Edges for TwoObjects {
+    ghost count = { λ _. 3 };
+
+    ghost roots = { λ _. 1 ∷ [] };
+
+    ghost pairs = { λ _. references };
+
+    fn objects(&self) -> u32 {
+        OBJECTS
+    }
+}
+
+fn pool_of_two_objects(alloc: Global) -> Result<(Pool<Global>, Worker<Global>), PoolFault>
+    ensures pool { IfOk result (λ p. p.1.pool ≡ p.0) }
+    ensures book { IfOk result (λ p. p.1.book ≡ begun) }
+{
+    Pool::new(alloc, &TwoObjects, 4, 2, 0)
+}
+
+/// Claims an object that is white.
+fn claim_white<R: Abort, A: Allocator>(rt: &R, pool: &Pool<A>, worker: &mut Worker<A>, object: u32)
+    requires pool { worker.old.pool ≡ pool.now }
+    requires can { CanClaim worker.old.book.setup object worker.old.book.account }
+    ensures pool { worker.new.pool ≡ worker.old.pool }
+    ensures book { worker.new.book ≡ claimed object 0 worker.old.book }
+{
+    assert!(rt; pool.claim(worker, object), "object {object}");
+}
+
+/// Claims an object that was marked.
+fn claim_marked<R: Abort, A: Allocator>(rt: &R, pool: &Pool<A>, worker: &mut Worker<A>, object: u32)
+    requires pool { worker.old.pool ≡ pool.now }
+    requires can { CanClaim worker.old.book.setup object worker.old.book.account }
+    ensures pool { worker.new.pool ≡ worker.old.pool }
+    ensures book { worker.new.book ≡ claimed_again object worker.old.book }
+{
+    assert!(rt; !pool.claim(worker, object), "object {object}");
+}
+
+/// Claims the root, scans it, and finishes it.
+fn scan_root<R: Abort, A: Allocator>(rt: &R, pool: &Pool<A>, worker: &mut Worker<A>)
+    requires pool { worker.old.pool ≡ pool.now }
+    requires book { worker.old.book ≡ begun }
+    ensures pool { worker.new.pool ≡ worker.old.pool }
+    ensures book { worker.new.book ≡ root_finished }
+{
+    claim_white(rt, pool, worker, 1);
+    claim_white(rt, pool, worker, 0);
+    claim_white(rt, pool, worker, 2);
+    pool.finish(worker, 1);
+}
+
+/// Finishes the class, which refers to nothing, and scans the other object, whose successors are marked.
+fn scan_rest<R: Abort, A: Allocator>(rt: &R, pool: &Pool<A>, worker: &mut Worker<A>)
+    requires pool { worker.old.pool ≡ pool.now }
+    requires book { worker.old.book ≡ root_finished }
+    ensures pool { worker.new.pool ≡ worker.old.pool }
+    ensures book { worker.new.book ≡ all_finished }
+{
+    pool.finish(worker, 0);
+    claim_marked(rt, pool, worker, 0);
+    claim_marked(rt, pool, worker, 1);
+    pool.finish(worker, 2);
+}
+
+#[test]
+fn successors_of_a_root(rt: HostRuntime) -> Result<(), Fail> {
+    let (pool, mut worker) = pool_of_two_objects(rt.alloc())?;
+    scan_root(&rt, &pool, &mut worker);
+    scan_rest(&rt, &pool, &mut worker);
+    let marks = pool.close(worker);
+    for object in 0..OBJECTS {
+        assert!(rt; marks.is_claimed(object), "object {object}");
+        assert!(rt; marks.is_finished(object), "object {object}");
+    }
+    Ok(())
+}

@@ -1,0 +1,168 @@
+//! Pops and pushes that try again until one is not lost, and what is seen of the stacks between them.
+ghost use Rattle.std.specs.Prelude.{◌≡◌, ℕ, ◌<◌, List, [], ◌∷◌, ◌++◌, Contains, IfOk};
+ghost use Rattle.mark_core.specs.Lists.{remove_one};
+ghost use Rattle.mark_core.specs.Shares.{whole};
+ghost use Rattle.buffer_pool.specs.Worked.{Holds, bare};
+
+use super::edges::Roots;
+use crate::layout::{FIRST_LINK, head_word};
+use crate::{Held, Pool, PoolFault, Popped, Which, Worker};
+use std::alloc::{Allocator, Global};
+use std::process::Abort;
+use std::sync::Wait;
+use std::test::Fail;
+use tagged_index::HeadWord;
+
+const BUFFERS: u32 = 4;
+
+/// A pool without objects, of four buffers for two objects each.
+fn bare_pool(alloc: Global, first_tag: u64) -> Result<(Pool<Global>, Worker<Global>), PoolFault>
+    ensures pool { IfOk result (λ p. p.1.pool ≡ p.0) }
+    ensures none { IfOk result (λ p. Holds 2 [] p.1) }
+    ensures share { IfOk result (λ p. p.1.book.account.share ≡ whole) }
+{
+    Pool::new(alloc, &Roots { objects: 0 }, BUFFERS, 2, first_tag)
+}
+
+/// The index and the tag of a head, as they stand in the table.
+fn head<A: Allocator>(pool: &Pool<A>, which: Which) -> (Option<u32>, u64) {
+    let head = HeadWord::from_word(pool.table.shared.peek(head_word(which)));
+    (head.index(), head.tag())
+}
+
+/// The link word of a buffer, as it stands in the table.
+fn link<A: Allocator>(pool: &Pool<A>, buffer: usize) -> u64
+    requires { buffer < 4 }
+{
+    pool.table.shared.peek(FIRST_LINK + buffer)
+}
+
+fn links<A: Allocator>(pool: &Pool<A>) -> [u64; 4] {
+    [link(pool, 0), link(pool, 1), link(pool, 2), link(pool, 3)]
+}
+
+/// Pops this buffer, which has no items.
+fn pop_bare<R: Wait + Abort, A: Allocator>(
+    rt: &R,
+    pool: &Pool<A>,
+    worker: &mut Worker<A>,
+    which: Which,
+    wanted: u32,
+) -> Held<A>
+    requires pool { worker.old.pool ≡ pool.now }
+    ensures pool { worker.new.pool ≡ worker.old.pool }
+    ensures held { (n : ℕ) (list : List ℕ) → Holds n list worker.old → Holds n (list ++ wanted ∷ []) worker.new × (result ≡ bare n wanted) }
+{
+    let Popped::Took(held) = pool.pop(rt, worker, which) else {
+        panic!(rt; "there is a buffer, and a tag");
+    };
+    assert_eq!(rt; held.index, wanted);
+    assert_eq!(rt; held.len(), 0);
+    held
+}
+
+/// Pushes a buffer without items.
+fn push_bare<R: Wait + Abort, A: Allocator>(
+    rt: &R,
+    pool: &Pool<A>,
+    worker: &mut Worker<A>,
+    which: Which,
+    held: Held<A>,
+)
+    requires pool { worker.old.pool ≡ pool.now }
+    requires held { (n : ℕ) × (list : List ℕ) × Holds n list worker.old × Contains list held.index × (held ≡ bare n held.index) }
+    ensures pool { worker.new.pool ≡ worker.old.pool }
+    ensures held { (n : ℕ) (list : List ℕ) → Holds n list worker.old → Holds n (remove_one held.index list) worker.new }
+{
+    let Ok(()) = pool.push(rt, worker, which, held) else {
+        panic!(rt; "no tag is near the last one");
+    };
+}
+
+fn sees_empty<A: Allocator>(pool: &Pool<A>, worker: &mut Worker<A>, which: Which) -> bool
+    requires pool { worker.old.pool ≡ pool.now }
+    ensures pool { worker.new.pool ≡ worker.old.pool }
+    ensures held { (n : ℕ) (list : List ℕ) → Holds n list worker.old → Holds n list worker.new }
+{
+    pool.sees_empty(worker, which)
+}
+
+/// Takes buffers 0, 1 and 2 from the empty stack. The last two come back.
+fn pop_three<R: Wait + Abort, A: Allocator>(
+    rt: &R,
+    pool: &Pool<A>,
+    worker: &mut Worker<A>,
+) -> (Held<A>, Held<A>)
+    requires pool { worker.old.pool ≡ pool.now }
+    requires none { Holds 2 [] worker.old }
+    ensures pool { worker.new.pool ≡ worker.old.pool }
+    ensures held { Holds 2 (0 ∷ 1 ∷ 2 ∷ []) worker.new }
+    ensures two { (result.0 ≡ bare 2 1) × (result.1 ≡ bare 2 2) }
+{
+    pop_bare(rt, pool, worker, Which::Empty, 0);
+    let second = pop_bare(rt, pool, worker, Which::Empty, 1);
+    let third = pop_bare(rt, pool, worker, Which::Empty, 2);
+    (second, third)
+}
+
+/// Puts buffer 2 and then 1 on the full stack, which is seen empty before the first and not after it.
+fn push_two<R: Wait + Abort, A: Allocator>(
+    rt: &R,
+    pool: &Pool<A>,
+    worker: &mut Worker<A>,
+    second: Held<A>,
+    third: Held<A>,
+)
+    requires pool { worker.old.pool ≡ pool.now }
+    requires held { Holds 2 (0 ∷ 1 ∷ 2 ∷ []) worker.old }
+    requires two { (second ≡ bare 2 1) × (third ≡ bare 2 2) }
+    ensures pool { worker.new.pool ≡ worker.old.pool }
+{
+    assert!(rt; sees_empty(pool, worker, Which::Full));
+    push_bare(rt, pool, worker, Which::Full, third);
+    assert!(rt; !sees_empty(pool, worker, Which::Full));
+    push_bare(rt, pool, worker, Which::Full, second);
+}
+
+/// Takes both from the full stack, which is then seen empty, and puts buffer 1 back.
+fn pop_two_push_one<R: Wait + Abort, A: Allocator>(rt: &R, pool: &Pool<A>, worker: &mut Worker<A>)
+    requires pool { worker.old.pool ≡ pool.now }
+    requires none { Holds 2 [] worker.old }
+{
+    let first = pop_bare(rt, pool, worker, Which::Full, 1);
+    assert!(rt; !sees_empty(pool, worker, Which::Full));
+    pop_bare(rt, pool, worker, Which::Full, 2);
+    assert!(rt; sees_empty(pool, worker, Which::Full));
+    push_bare(rt, pool, worker, Which::Full, first);
+    assert!(rt; !sees_empty(pool, worker, Which::Full));
+}
+
+/// Both heads bear the first tag, and the empty stack has buffers 0 to 3 in this order.
+#[test]
+fn stacks_at_the_opening(rt: HostRuntime) -> Result<(), Fail> {
+    for first_tag in [0, 5, tagged_index::LAST_TAG] {
+        let (pool, mut worker) = bare_pool(rt.alloc(), first_tag)?;
+        assert_eq!(rt; head(&pool, Which::Full), (None, first_tag));
+        assert_eq!(rt; head(&pool, Which::Empty), (Some(0), first_tag));
+        assert_eq!(rt; links(&pool), [2, 3, 4, 0]);
+        assert!(rt; pool.sees_empty(&mut worker, Which::Full));
+        assert!(rt; !pool.sees_empty(&mut worker, Which::Empty));
+    }
+    Ok(())
+}
+
+/// The pops and pushes of the worked table of events: each exchange of a head raises its tag by one.
+#[test]
+fn two_workers_in_turn(rt: HostRuntime) -> Result<(), Fail> {
+    let (pool, worker) = bare_pool(rt.alloc(), 5)?;
+    let (mut worker, mut other) = pool.split(worker, 1);
+    let (second, third) = pop_three(&rt, &pool, &mut worker);
+    push_two(&rt, &pool, &mut worker, second, third);
+    assert_eq!(rt; head(&pool, Which::Full), (Some(1), 7));
+    assert_eq!(rt; head(&pool, Which::Empty), (Some(3), 8));
+    assert_eq!(rt; links(&pool), [2, 3, 0, 0]);
+    pop_two_push_one(&rt, &pool, &mut other);
+    assert_eq!(rt; head(&pool, Which::Full), (Some(1), 10));
+    assert_eq!(rt; links(&pool), [2, 0, 0, 0]);
+    Ok(())
+}
