@@ -28,10 +28,10 @@ pub record TellsFirstFault (text : List ℕ) (refusal : Refusal) : Type 0 where
   pub is : refusal ≡ told refusal.code place
   pub fault : FirstFaultOf text refusal.code place
 
--- The codes are 1 to 21, and those up to 14 have a place.
+-- The codes are 1 to 20, since a run is given options that are in their ranges. Those up to 14 have a place.
 pub record IsKnown (refusal : Refusal) : Type 0 where
   pub least : 1 ≤ refusal.code
-  pub most : refusal.code ≤ 21
+  pub most : refusal.code ≤ 20
   pub with_place : refusal.code ≤ 14 → IsSome refusal.offset
   pub without_place : 15 ≤ refusal.code → IsNone refusal.offset
 

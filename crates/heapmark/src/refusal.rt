@@ -16,6 +16,9 @@ pub struct Refusal {
 }
 
 impl Refusal {
+    ghost use Rattle.std.specs.Prelude.{◌≡◌};
+    ghost use Rattle.heapmark.specs.Refusals.{name_of};
+
     /// A growth was refused.
     pub const OUT_OF_MEMORY: Refusal = Refusal {
         code: 15,
@@ -35,7 +38,9 @@ impl Refusal {
     };
 
     /// The name of the code.
-    pub fn name(&self) -> &'static str {
+    pub fn name(&self) -> &'static str
+        ensures { result.now ≡ name_of self.now.code }
+    {
         match self.code {
             1 => "BadHeader",
             2 => "BadIdSize",
@@ -63,6 +68,11 @@ impl Refusal {
 }
 
 impl fmt::Display for Refusal {
+    ghost use Rattle.std.specs.Prelude.{Some};
+    ghost use Rattle.heapmark.specs.Refusals.{refusal_text};
+
+    ghost output = { λ refusal. Some (refusal_text refusal) };
+
     fn fmt<W: fmt::Write>(&self, f: &mut fmt::Formatter<W>) -> fmt::Result {
         let code = self.code;
         let name = self.name();
