@@ -1,7 +1,11 @@
--- What is asked of the workers of a pool.
-use Rattle.std.specs.Prelude.{◌≡◌, ℕ, ◌<◌, List, Contains}
+-- What is asked of the workers of a pool, and what they have done.
+use Rattle.std.specs.Prelude.{◌≡◌, ◌⊎◌, ℕ, ◌<◌, ◌≤◌, Bool, true, false, List, Contains}
 use Rattle.std.specs.List.{range_with_len}
-use Rattle.buffer_pool.specs.Calls.{Holder}
+use Rattle.mark_core.specs.declared.which.Which.TheVariants.{Empty}
+use Rattle.buffer_pool.specs.Book.{Book}
+use Rattle.buffer_pool.specs.Calls.{Holder, Load, PopsAtLast, PushesAtLast}
+use Rattle.buffer_pool.specs.declared.answers.Popped.TheVariants as pop
+use Rattle.buffer_pool.specs.declared.answers.TryPushed.TheVariants as try_push
 
 -- the numbers below n
 unfoldable pub numbers : ℕ → List ℕ
@@ -11,7 +15,18 @@ numbers n = range_with_len 0 n
 abbrev pub AreRoots : ℕ → Holder → Type 0
 AreRoots n w = (o : ℕ) → o < n → Contains w.book.setup.roots o
 
+-- each number from one up to another was claimed, by this worker or before
+abbrev pub HasSeen : ℕ → ℕ → Holder → Type 0
+HasSeen from to w = (o : ℕ) → from ≤ o → o < to → Contains w.book.account.seen o
+
 -- two workers of one pool
 pub record SamePool (one other : Holder) : Type 0 where
   pub pool : other.pool ≡ one.pool
   pub setup : other.book.setup ≡ one.book.setup
+
+-- a buffer was popped from the empty stack and pushed there
+abbrev pub PopsAndPushes : Book → Book → Bool → Type 0
+PopsAndPushes old new true = (mid : Book) × (h : Load) × PopsAtLast Empty old mid (pop.Took h) × PushesAtLast Empty h mid new try_push.Done
+PopsAndPushes old new false =
+    PopsAtLast Empty old new pop.Empty ⊎ PopsAtLast Empty old new pop.Spent
+    ⊎ ((mid : Book) × (h : Load) × (back : Load) × PopsAtLast Empty old mid (pop.Took h) × PushesAtLast Empty h mid new (try_push.Spent back))

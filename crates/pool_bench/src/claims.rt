@@ -1,6 +1,6 @@
 //! Claims of objects, each thread's in a part of its own.
 ghost use Rattle.std.specs.Prelude.{◌≡◌, All};
-ghost use Rattle.pool_bench.specs.Holders.{AreRoots, SamePool};
+ghost use Rattle.pool_bench.specs.Holders.{AreRoots, HasSeen, SamePool};
 
 use crate::sizes::Sizes;
 use crate::workers::{NumberedWorker, sum_of};
@@ -13,7 +13,8 @@ use std::thread::Threads;
 fn claim_part<A: Allocator>(pool: &Pool<A>, worker: &mut Worker<A>, from: u32, to: u32) -> u32
     requires pool { worker.old.pool ≡ pool.now }
     requires roots { AreRoots to worker.old }
-    ensures { SamePool worker.old worker.new }
+    ensures same { SamePool worker.old worker.new }
+    ensures seen { HasSeen from to worker.new }
 {
     let mut white = 0;
     for object in from..to {

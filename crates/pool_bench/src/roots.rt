@@ -1,6 +1,8 @@
 //! A pool over objects that are all roots.
-ghost use Rattle.std.specs.Prelude.{◌≡◌, ℕ, [], IfOk};
+ghost use Rattle.std.specs.Prelude.{◌≡◌, ℕ, [], IfErr, IfOk};
 ghost use Rattle.mark_core.specs.Shares.{whole};
+ghost use Rattle.buffer_pool.specs.Faults.{Refuses};
+ghost use Rattle.buffer_pool.specs.Laid.{IsInside};
 ghost use Rattle.pool_bench.specs.Holders.{AreRoots, numbers};
 
 use buffer_pool::{Edges, Pool, PoolFault, Worker};
@@ -37,6 +39,7 @@ pub(crate) fn pool_of_roots(
 ) -> Result<(Pool<Global>, Worker<Global>), PoolFault>
     ensures pool { IfOk result (λ p. p.1.pool ≡ p.0) }
     ensures roots { IfOk result (λ p. AreRoots objects p.1) }
+    ensures fault { IfErr result (Refuses (IsInside objects 64 256 0)) }
     ensures share { IfOk result (λ p. p.1.book.account.share ≡ whole) }
 {
     Pool::new(alloc, &Roots { objects }, BUFFERS, SIZE, 0)

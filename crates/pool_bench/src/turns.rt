@@ -1,5 +1,6 @@
 //! Pops from the empty stack, and pushes on it.
 ghost use Rattle.std.specs.Prelude.{◌≡◌, ◌≤◌, All};
+ghost use Rattle.pool_bench.specs.Holders.{PopsAndPushes};
 
 use crate::workers::{NumberedWorker, sum_of};
 use buffer_pool::{Pool, Popped, Which, Worker};
@@ -11,7 +12,8 @@ use std::thread::Threads;
 /// Pops a buffer and pushes it. False where there was none, or the last tag is reached.
 fn turn<R: Wait, A: Allocator>(rt: &R, pool: &Pool<A>, worker: &mut Worker<A>) -> bool
     requires { worker.old.pool ≡ pool.now }
-    ensures { worker.new.pool ≡ worker.old.pool }
+    ensures pool { worker.new.pool ≡ worker.old.pool }
+    ensures turns { PopsAndPushes worker.old.book worker.new.book result }
 {
     match pool.pop(rt, worker, Which::Empty) {
         Popped::Took(held) => pool.push(rt, worker, Which::Empty, held).is_ok(),

@@ -1,5 +1,5 @@
 //! A worker for each thread.
-ghost use Rattle.std.specs.Prelude.{◌≡◌, ◌≤◌, All, IfOk};
+ghost use Rattle.std.specs.Prelude.{◌≡◌, ◌<◌, ◌≤◌, All, IfOk, vec_len};
 ghost use Rattle.pool_bench.specs.Holders.{SamePool};
 
 use buffer_pool::{Pool, Worker};
@@ -20,8 +20,10 @@ pub(crate) fn split_among(
     threads: u32,
 ) -> Result<Vec<NumberedWorker>, AllocError>
     requires pool { worker.pool ≡ pool.now }
+    requires some { 0 < threads }
     requires share { threads ≤ worker.book.account.share }
-    ensures { IfOk result (λ v. All (λ w. SamePool worker w.worker) v.items) }
+    ensures count { IfOk result (λ v. vec_len v ≡ threads) }
+    ensures same { IfOk result (λ v. All (λ w. SamePool worker w.worker) v.items) }
 {
     let mut workers = Vec::new(alloc);
     let mut first = worker;

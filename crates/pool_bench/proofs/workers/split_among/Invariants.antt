@@ -1,9 +1,9 @@
--- so many units are given, and each worker is of the first one's pool
-use Rattle.std.proofs.Common.{◌≡◌, ◌+◌, All}
+-- so many units are given, and so many workers are there, each of the first one's pool
+use Rattle.std.proofs.Common.{◌≡◌, ◌+◌, All, vec_len}
 use Rattle.pool_bench.specs.Holders.{SamePool}
 use Rattle.pool_bench.proofs.workers.split_among.Given as goal
 
 abbrev pub invariant-loop-number : goal.invariant-loop-number
 invariant-loop-number l =
     SamePool l.initial.first l.first × (l.first.book.account.share + l.number ≡ l.initial.first.book.account.share + 1)
-    × All (λ w. SamePool l.initial.first w.worker) l.workers.items
+    × (vec_len l.workers + 1 ≡ l.number) × All (λ w. SamePool l.initial.first w.worker) l.workers.items
