@@ -1,5 +1,12 @@
+pub mod Claims
+pub mod Closes
+pub mod Counts
 pub mod Exact
-pub mod Marks
+pub mod Few
+pub mod Joins
+pub mod Numbered
 pub mod OneMarking
+pub mod Pairs
+pub mod RootParts
 pub mod Runs
 pub mod Scans

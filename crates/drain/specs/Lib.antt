@@ -1,3 +1,6 @@
+pub mod Marks
 pub mod Options
-pub mod Steps
+pub mod Pairs
+pub mod Parts
 pub mod Walk
+pub mod Working

@@ -6,9 +6,10 @@ mod laws;
 mod leader;
 mod linked;
 mod marked;
-mod marking;
 mod options;
+mod scan;
 mod walk;
+mod workers;
 
 pub use gate::{Gate, NoGate};
 pub use laws::one_marking;

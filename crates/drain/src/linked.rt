@@ -1,6 +1,7 @@
 //! The graph of a heap dump, as marking walks it.
 
 use crate::walk::Walk;
+use buffer_pool::Edges;
 use heap_graph::{Graph, Successors};
 use std::alloc::Allocator;
 
@@ -10,21 +11,23 @@ pub(crate) struct Linked<'a, A: Allocator> {
     pub(crate) graph: &'a Graph<'a, A>,
 }
 
-impl<'a, A: Allocator> Walk for Linked<'a, A> {
+impl<'a, A: Allocator> Edges for Linked<'a, A> {
     ghost use Rattle.heap_graph.specs.ObjectGraph.{object_count};
-    ghost use Rattle.heap_graph.specs.Reachable.{IsReferenceOf, IsRootOf};
+    ghost use Rattle.drain.specs.Pairs.{pairs_of};
 
-    type Successors = Successors<'a>;
+    ghost count = { λ l. object_count l.graph.now };
 
-    ghost objects = { λ l. object_count l.graph.now };
+    ghost roots = { λ l. l.graph.now.roots };
 
-    ghost is_root = { λ l. IsRootOf l.graph.now };
+    ghost pairs = { λ l. pairs_of l.graph.now };
 
-    ghost refers = { λ l. IsReferenceOf l.graph.now };
-
-    fn len(&self) -> u32 {
+    fn objects(&self) -> u32 {
         self.graph.len()
     }
+}
+
+impl<'a, A: Allocator + Sync> Walk for Linked<'a, A> {
+    type Successors = Successors<'a>;
 
     fn roots(&self) -> &[u32] {
         self.graph.roots()

@@ -1,5 +1,6 @@
 //! What a marking gives.
 
+use buffer_pool::Marks;
 use std::alloc::{AllocError, AllocFailed, Allocator};
 use std::marker::Model;
 use thiserror::Error;
@@ -10,6 +11,9 @@ pub enum RunFault {
     /// A growth was refused.
     #[error("out of memory")]
     OutOfMemory,
+    /// A worker's thread could not be started.
+    #[error("a worker could not be started")]
+    WorkerRefused,
 }
 
 impl From<AllocError> for RunFault {
@@ -24,41 +28,53 @@ impl From<AllocError> for RunFault {
 }
 
 /// The marks of a graph's objects.
-#[derive(Debug, Drop)]
+#[derive(Drop)]
 pub struct Marked<A: Allocator> {
-    marks: Vec<bool, A>,
+    marks: Marks<A>,
+    objects: u32,
 }
 
 impl<A: Allocator> Model for Marked<A> {
-    ghost use Rattle.std.specs.Prelude.{Bool, List};
+    ghost use Rattle.std.specs.Prelude.{Bool, List, length, map, ◌≡◌};
+    ghost use Rattle.drain.specs.Marks.{is_set};
 
     ghost Value = { List Bool };
 
-    ghost view = { λ m. m.marks.items };
+    ghost view = { λ m. map is_set m.marks };
+
+    ghost invariant = { λ m. m.objects ≡ length m.marks };
 }
 
 impl<A: Allocator> Marked<A> {
-    ghost use Rattle.std.specs.Prelude.{◌≡◌, ◌↔◌, IsTrue, count_by};
+    ghost use Rattle.std.specs.Prelude.{◌≡◌, ◌↔◌, IsTrue, count_by, length, map};
     ghost use Rattle.heap_graph.specs.Reachable.{IsMarked};
+    ghost use Rattle.drain.specs.Marks.{is_set};
 
-    /// The marks, by the number of the object.
-    pub(crate) fn new(marks: Vec<bool, A>) -> Self
-        ensures { result ≡ marks.items }
+    /// The marks of so many objects.
+    pub(crate) fn new(marks: Marks<A>, objects: u32) -> Self
+        requires { objects ≡ length marks }
+        ensures { result ≡ map is_set marks }
     {
-        Marked { marks }
+        Marked { marks, objects }
     }
 
     /// Whether the object is marked. A number that no object has is not.
     pub fn is_marked(&self, object: u32) -> bool
         ensures { IsTrue result ↔ IsMarked self.now object }
     {
-        self.marks.get(object as usize).copied().unwrap_or(false)
+        object < self.objects && self.marks.is_claimed(object)
     }
 
     /// How many objects are marked.
     pub fn len(&self) -> u64
         ensures { result ≡ count_by (λ m. m) self.now }
     {
-        self.marks.iter().filter(|mark| **mark).count() as u64
+        let mut marked = 0;
+        for object in 0..self.objects {
+            if self.marks.is_claimed(object) {
+                marked += 1;
+            }
+        }
+        marked
     }
 }

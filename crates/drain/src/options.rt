@@ -73,7 +73,8 @@ impl Options {
 
     /// How many threads mark beside the one that calls.
     pub fn workers(&self) -> u32
-        ensures { result ≡ self.now.workers }
+        ensures value { result ≡ self.now.workers }
+        ensures allowed { IsAllowed self.now }
     {
         self.workers
     }

@@ -1,0 +1,54 @@
+-- The marks at the close are exactly at the reachable objects.
+use Rattle.std.proofs.Common.{◌≡◌, ◌↔◌, ℕ, zero, suc, ◌+◌, ◌<◌, ◌≤◌, nat_le, Bool, true, false, List, [], ◌∷◌, map, length, slice_index, slice_index_or, Contains, ap, sym, refl, subst, ◌∙◌, leb-true, le-leb, arith}
+use Rattle.std.proofs.lemmas.Bool.{false≢true}
+use Rattle.std.proofs.lemmas.List.{length-map}
+use Rattle.mark_core.specs.World.{Setup}
+use Rattle.mark_core.specs.Colours as colours
+use Rattle.heap_graph.specs.ObjectGraph.{ObjectGraph, object_count}
+use Rattle.heap_graph.specs.Reachable.{IsMarked, IsReachable, IsReferenceOf, IsRootOf, MarksReachableOf}
+use Rattle.buffer_pool.specs.Calls.{Holder}
+use Rattle.buffer_pool.specs.Closing.{Ends}
+use Rattle.drain.specs.Marks.{is_set}
+use Rattle.drain.specs.Pairs.{pairs_of}
+use Rattle.drain.specs.Working.{HasTakenIn, IsSetupOf}
+use Rattle.drain.proofs.Exact.{exactly_reachable, next_reachable, root_reachable}
+use Rattle.drain.proofs.Pairs.{pair_is_reference}
+use Rattle.drain.proofs.RootParts.{all_parts}
+
+-- a mark that is set is at least that of a claimed object
+pub marked_where_set : (marks : List ℕ) (o : ℕ) → IsMarked (map is_set marks) o ↔ (1 ≤ slice_index marks o)
+marked_where_set [] o = (λ h. absurd (false≢true h), λ h. absurd (omega (arith, h)))
+marked_where_set (m ∷ marks) zero = (leb-true 1 m, le-leb 1 m)
+marked_where_set (m ∷ marks) (suc o) = marked_where_set marks o
+
+module _ (g : ObjectGraph) (e : Setup) (setup : IsSetupOf (object_count g) g.roots (pairs_of g) e) where
+  -- a path of the setup is one of the graph
+  pub path_there : (back : List ℕ) (o : ℕ) → colours.Leads e back o → IsReachable (IsRootOf g) (IsReferenceOf g) o
+  path_there [] o root = root_reachable (IsRootOf g) (IsReferenceOf g) o (subst (λ (rs : List ℕ). Contains rs o) setup.roots root)
+  path_there (p ∷ back) o leads =
+      next_reachable (IsRootOf g) (IsReferenceOf g) p o (path_there back p leads.1) ((pair_is_reference g p o).1 (subst (λ (ps : List (ℕ × ℕ)). Contains ps (p, o)) setup.pairs leads.0))
+
+  pub exactly_marked : (workers : ℕ) (w : Holder) (marks : List ℕ) → 0 < workers → HasTakenIn workers workers e w → Ends w.book marks → MarksReachableOf g (map is_set marks)
+  exactly_marked workers w marks some taken ends = record {
+    one_each = length-map marks is_set ∙ ends.count ∙ ap (λ (s : Setup). s.objects) taken.setup ∙ setup.objects;
+    exact = λ o.
+        let both = exactly_reachable (IsRootOf g) (IsReferenceOf g) holds closed roots sound o in
+        (λ h. both.0 ((marked_where_set marks o).0 h), λ h. (marked_where_set marks o).1 (both.1 h));
+  }
+    where
+      holds : ℕ → Type 0
+      holds o = 1 ≤ slice_index marks o
+
+      closed : (a b : ℕ) → holds a → IsReferenceOf g a b → holds b
+      closed a b here refers =
+          let pair : Contains (pairs_of g) (a, b) = (pair_is_reference g a b).0 refers in
+          let there : Contains w.book.setup.pairs (a, b) = subst (λ (ps : List (ℕ × ℕ)). Contains ps (a, b)) (sym (ap (λ (s : Setup). s.pairs) taken.setup ∙ setup.pairs)) pair in
+          ends.successors a b (ends.emptied taken.open_push a here) there
+
+      roots : (o : ℕ) → IsRootOf g o → holds o
+      roots o root =
+          let there : Contains w.book.setup.roots o = subst (λ (rs : List ℕ). Contains rs o) (sym (ap (λ (s : Setup). s.roots) taken.setup ∙ setup.roots)) root in
+          ends.seen o (all_parts workers w some taken.saw o there)
+
+      sound : (o : ℕ) → holds o → IsReachable (IsRootOf g) (IsReferenceOf g) o
+      sound o here = let path = subst (λ (s : Setup). colours.IsReachable s o) taken.setup (ends.reachable o here) in path_there path.0 o path.1

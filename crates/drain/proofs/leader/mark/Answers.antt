@@ -1,0 +1,43 @@
+use Rattle.std.proofs.Common.{ap, sym, subst, List, ℕ, ◌+◌, ◌<◌, ◌≤◌, ◌≡◌, ◌∙◌, arith}
+use Rattle.mark_core.specs.World.{Setup}
+use Rattle.buffer_pool.specs.Book.{Book}
+use Rattle.buffer_pool.specs.Faults.{Refuses}
+use Rattle.buffer_pool.specs.Laid.{IsInside}
+use Rattle.heap_graph.specs.ObjectGraph.{object_count}
+use Rattle.heap_graph.specs.Reachable.{MarksReachableOf}
+use Rattle.drain.specs.Pairs.{pairs_of}
+use Rattle.drain.specs.Working.{IsSetupOf}
+use Rattle.drain.proofs.Closes.{exactly_marked}
+use Rattle.drain.proofs.leader.mark.Goals as goal
+
+pub unreachable-requires : goal.unreachable-requires
+unreachable-requires g c =
+    let allowed = c.workers-workers.ensures.allowed in
+    let refused = subst (λ fault. Refuses (IsInside (object_count c.args.graph.now) c.buffers.result c.buffer.result c.first_tag.result) fault) c.in-Err-BadOptions.field-0-is c.in-Err-BadOptions.ensures in
+    refused (record {
+      objects = c.len-objects.ensures.whole.few_objects;
+      few = omega (arith, c.buffers.ensures, allowed.least_buffers);
+      many = omega (arith, c.buffers.ensures, allowed.most_buffers);
+      small = omega (arith, c.buffer.ensures, allowed.least_buffer);
+      large = omega (arith, c.buffer.ensures, allowed.largest_buffer);
+      tag = omega (arith, c.first_tag.ensures, allowed.last_tag);
+    })
+
+pub mark_together-requires-clause-workers : goal.mark_together-requires-clause-workers
+mark_together-requires-clause-workers g c κs within = omega (arith, c.workers-workers.ensures.value, c.workers-workers.ensures.allowed.most_workers)
+
+pub returns : goal.returns
+returns g c =
+    let graph = c.args.graph.now in
+    let leader = c.in-Ok.opened.1 in
+    let is = c.in-Ok.ensures.2 in
+    let e : Setup = leader.book.setup in
+    let setup : IsSetupOf (object_count graph) graph.roots (pairs_of graph) e = record {
+      objects = ap (λ (b : Book). b.setup.objects) is;
+      roots = ap (λ (b : Book). b.setup.roots) is;
+      pairs = ap (λ (b : Book). b.setup.pairs) is;
+    } in
+    let exact =
+    exactly_marked graph e setup c.workers-workers.result c.in_ok-leader.leader c.close.result (omega (arith, c.workers-workers.ensures.value, c.workers-workers.ensures.allowed.some_worker))
+    c.in_ok-leader.ensures.taken c.close.ensures in
+    subst (MarksReachableOf graph) (sym c.new-2.ensures) exact
