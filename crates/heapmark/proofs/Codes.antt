@@ -49,7 +49,7 @@ fault_code : (text : List ℕ) (code place : ℕ) → FirstFaultOf text code pla
 fault_code text code place fault = ⊎_elim form_code link_code fault
 
 -- a first fault, or want of memory
-pub known_of : (text : List ℕ) (refusal : Refusal) → TellsFirstFault text refusal ⊎ (refusal ≡ out_of_memory) → IsKnown refusal × (refusal.code ≤ 15)
+pub known_of : (text : List ℕ) (refusal : Refusal) → TellsFirstFault text refusal ⊎ (refusal ≡ out_of_memory) → IsKnown refusal × (refusal.code ≤ 18)
 known_of text refusal (inl tells) =
     let code = fault_code text refusal.code tells.place tells.fault in (
       record {
@@ -60,7 +60,7 @@ known_of text refusal (inl tells) =
       },
       omega (arith, code.1),
     )
-known_of text refusal (inr same) = let Q : Refusal → Type 0 = λ r. IsKnown r × (r.code ≤ 15) in subst Q (sym same) (
+known_of text refusal (inr same) = let Q : Refusal → Type 0 = λ r. IsKnown r × (r.code ≤ 18) in subst Q (sym same) (
   record {
     least = omega arith;
     most = omega arith;

@@ -1,5 +1,7 @@
 -- What is told of each fault.
 use Rattle.std.specs.Prelude.{IsErrAnd, List, None, Option, Result, Some, codes, decimal, if◌then◌else◌, ℕ, ◌++◌, ◌==◌, ◌≡◌}
+use Rattle.drain.specs.declared.marked.RunFault.{RunFault}
+use Rattle.drain.specs.declared.marked.RunFault.TheVariants as marking
 use Rattle.heap_graph.specs.declared.rule.LinkRefusal.{LinkRefusal}
 use Rattle.heap_graph.specs.declared.rule.LinkRefusal.TheVariants as link
 use Rattle.hprof_grammar.specs.declared.flaw.ReadRefusal.{ReadRefusal}
@@ -20,6 +22,13 @@ form_refusal form.OutOfMemory = out_of_memory
 abbrev pub link_refusal : LinkRefusal → Refusal
 link_refusal (link.Fault f) = told f.code f.offset
 link_refusal link.OutOfMemory = out_of_memory
+
+abbrev pub worker_refused : Refusal
+worker_refused = record { code = 18; offset = None }
+
+abbrev pub run_refusal : RunFault → Refusal
+run_refusal marking.OutOfMemory = out_of_memory
+run_refusal marking.WorkerRefused = worker_refused
 
 abbrev pub read_fault : Refusal
 read_fault = record { code = 19; offset = None }

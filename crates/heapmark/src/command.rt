@@ -12,11 +12,13 @@ use histogram::Counted;
 use std::fs;
 use std::io::Write;
 use std::rt::Files;
+use std::sync::Wait;
+use std::thread::Threads;
 
 /// Does all that the program does, for its words with its own name first, and answers its exit status: 0 where the
 /// report of the file is on `out`, 1 at a refusal, 2 where the words are not one file's name. Refusals and the usage go
 /// to `err`, whose faults change nothing.
-pub fn program<T: Files + Alloc, W: Write, E: Write>(
+pub fn program<T: Files + AllocGlobal + Threads + Wait + Sync, W: Write, E: Write>(
     rt: &T,
     words: &[&str],
     out: &mut Counted<W>,
@@ -58,7 +60,7 @@ pub fn refused<E: Write>(err: &mut E, refusal: &Refusal) -> u8
 }
 
 /// Runs on a file.
-fn report_file<T: Files + Alloc, W: Write>(
+fn report_file<T: Files + AllocGlobal + Threads + Wait + Sync, W: Write>(
     rt: &T,
     file: &str,
     out: &mut Counted<W>,
@@ -75,7 +77,10 @@ fn report_file<T: Files + Alloc, W: Write>(
 {
     let options = Options::new(2, 256, 1024, 0).unwrap();
     match fs::open(rt, file) {
-        Ok(file) => run(rt.alloc(), &mut Counted::new(file), out, &options, &NoGate),
+        Ok(file) => {
+            let mut file = Counted::new(file);
+            run(rt, rt.alloc(), &mut file, out, &options, &NoGate)
+        }
         Err(_) => Err(Refusal::READ_FAULT),
     }
 }

@@ -6,7 +6,7 @@ ghost use Rattle.heap_graph.specs.Report.{IsReport, report_of};
 ghost use Rattle.histogram.specs.Counting.{failures_of, inner_of};
 ghost use Rattle.histogram.specs.Lines.{histogram_of};
 ghost use Rattle.heapmark.specs.Answer.{IsAcceptedText, IsKnown, IsRefusalOf, TellsFirstFault, WritesBeginning, WritesReport, WritesSomeBeginning, WritesSomeReport, bytes_read};
-ghost use Rattle.heapmark.specs.Refusals.{HasCode, out_of_memory};
+ghost use Rattle.heapmark.specs.Refusals.{HasCode, out_of_memory, worker_refused};
 
 use crate::refusal::Refusal;
 use drain::{Gate, Options, mark};
@@ -15,21 +15,30 @@ use histogram::{Counted, ReaderRefusal, Report, WriteRefusal, rows, write_report
 use hprof_grammar::read;
 use std::alloc::Allocator;
 use std::io::{Read, Write};
+use std::sync::Wait;
+use std::thread::Threads;
 
 /// One byte more than a dump may have, so that a longer one is seen as such.
 const MOST_BYTES: usize = 1_073_741_825;
 
-/// Reads a heap dump, marks its reachable objects, and writes the histogram of them.
+/// Reads a heap dump, marks its reachable objects with a thread for each worker, and writes the histogram of them.
 ///
 /// Reads until a read answers 0, or one byte more than a dump may have is there. No read or write that fails is tried
 /// again, and nothing is written but the report.
-pub fn run<A: Allocator, R: Read, W: Write, G: Gate>(
+pub fn run<T, A, R, W, G>(
+    rt: &T,
     alloc: A,
     reader: &mut Counted<R>,
     writer: &mut Counted<W>,
     options: &Options,
     gate: &G,
 ) -> Result<(), Refusal>
+where
+    T: Threads + Wait + Sync,
+    A: Allocator + Sync,
+    R: Read,
+    W: Write,
+    G: Gate,
     requires reads { failures_of reader.old < 2 ^ 64 - 1 }
     requires writes { failures_of writer.old < 2 ^ 64 - 1 }
 
@@ -67,7 +76,7 @@ pub fn run<A: Allocator, R: Read, W: Write, G: Gate>(
         Err(ReaderRefusal::ReadFault) => return Err(Refusal::READ_FAULT),
         Err(ReaderRefusal::OutOfMemory) => return Err(Refusal::OUT_OF_MEMORY),
     };
-    let report = match answer(&alloc, bytes.as_slice(), options, gate) {
+    let report = match answer(rt, &alloc, bytes.as_slice(), options, gate) {
         Ok(report) => report,
         Err(refusal) => return Err(refusal),
     };
@@ -79,15 +88,21 @@ pub fn run<A: Allocator, R: Read, W: Write, G: Gate>(
 }
 
 /// The report of the bytes of a dump. It knows nothing of readers and writers.
-fn answer<A: Allocator + Copy, G: Gate>(
+fn answer<T, A, G>(
+    rt: &T,
     alloc: A,
     bytes: &[u8],
     options: &Options,
     gate: &G,
 ) -> Result<Report<A>, Refusal>
+where
+    T: Threads + Wait + Sync,
+    A: Allocator + Copy + Send + Sync,
+    G: Gate,
     ensures report { IfOk result (λ report. IsReport bytes.now (report_of (histogram_of report))) }
-    ensures refusal { IfErr result (λ refusal. TellsFirstFault bytes.now refusal ⊎ (refusal ≡ out_of_memory)) }
-    ensures known { IfErr result (λ refusal. IsKnown refusal × (refusal.code ≤ 15)) }
+    ensures refusal { IfErr result (λ refusal. TellsFirstFault bytes.now refusal ⊎ (refusal ≡ out_of_memory)
+        ⊎ (IsAcceptedText bytes.now × (refusal ≡ worker_refused))) }
+    ensures known { IfErr result (λ refusal. IsKnown refusal × (refusal.code ≤ 18)) }
 {
     let dump = match read(alloc, bytes) {
         Ok(dump) => dump,
@@ -97,6 +112,6 @@ fn answer<A: Allocator + Copy, G: Gate>(
         Ok(graph) => graph,
         Err(refusal) => return Err(Refusal::from(refusal)),
     };
-    let marked = mark(alloc, &graph, options, gate)?;
+    let marked = mark(rt, alloc, &graph, options, gate)?;
     Ok(rows(alloc, &graph, &marked)?)
 }

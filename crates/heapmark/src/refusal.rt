@@ -25,6 +25,12 @@ impl Refusal {
         offset: None,
     };
 
+    /// A worker's thread could not be started.
+    pub const WORKER_REFUSED: Refusal = Refusal {
+        code: 18,
+        offset: None,
+    };
+
     /// The reader failed, or the file could not be opened.
     pub const READ_FAULT: Refusal = Refusal {
         code: 19,
@@ -119,13 +125,14 @@ impl From<LinkRefusal> for Refusal {
 
 impl From<RunFault> for Refusal {
     ghost use Rattle.std.specs.Prelude.{◌≡◌};
-    ghost use Rattle.heapmark.specs.Refusals.{out_of_memory};
+    ghost use Rattle.heapmark.specs.Refusals.{run_refusal};
 
-    ghost from_gives = { λ _ r. r ≡ out_of_memory };
+    ghost from_gives = { λ fault r. r ≡ run_refusal fault };
 
     fn from(fault: RunFault) -> Refusal {
         match fault {
             RunFault::OutOfMemory => Refusal::OUT_OF_MEMORY,
+            RunFault::WorkerRefused => Refusal::WORKER_REFUSED,
         }
     }
 }

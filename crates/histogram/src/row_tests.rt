@@ -6,7 +6,9 @@ use heap_graph::Graph;
 use hprof_grammar::read;
 use linked_list_allocator::LocalHeap;
 use std::alloc::Global;
+use std::sync::Wait;
 use std::test::Fail;
+use std::thread::Threads;
 
 /// A class `A` with one field, two instances that refer to each other, two more that do, and a root that is the first.
 #[rattlefmt::skip]
@@ -37,15 +39,19 @@ fn graph(rt: &HostRuntime) -> Result<Graph<'static, Global>, Fail> {
     Ok(Graph::build(rt.alloc(), &FILE, dump)?)
 }
 
-fn marked(rt: &HostRuntime, graph: &Graph<'_, Global>) -> Result<Marked<Global>, Fail> {
+fn marked<T: Threads + Wait + Sync>(
+    rt: &T,
+    alloc: Global,
+    graph: &Graph<'_, Global>,
+) -> Result<Marked<Global>, Fail> {
     let options = Options::new(2, 256, 1024, 0)?;
-    Ok(mark(rt.alloc(), graph, &options, &NoGate)?)
+    Ok(mark(rt, alloc, graph, &options, &NoGate)?)
 }
 
 #[test]
 fn counts_what_is_reachable(rt: HostRuntime) -> Result<(), Fail> {
     let graph = graph(&rt)?;
-    let report = rows(rt.alloc(), &graph, &marked(&rt, &graph)?)?;
+    let report = rows(rt.alloc(), &graph, &marked(&rt, rt.alloc(), &graph)?)?;
     let mut writer = Counted::new(Vec::new(rt.alloc()));
     write_report(rt.alloc(), &report, &mut writer)?;
     assert_eq!(rt; writer.into_inner().as_slice(), REPORT.as_bytes());
@@ -55,7 +61,7 @@ fn counts_what_is_reachable(rt: HostRuntime) -> Result<(), Fail> {
 #[test]
 fn want_of_memory_for_rows(rt: HostRuntime) -> Result<(), Fail> {
     let graph = graph(&rt)?;
-    let marks = marked(&rt, &graph)?;
+    let marks = marked(&rt, rt.alloc(), &graph)?;
     let mut refusals = 0u32;
     for size in 1..40 {
         let heap = LocalHeap::new(rt.alloc(), size * 32)?;

@@ -4,7 +4,10 @@ use super::dumps::{Bytes, TWO_OBJECTS, dump_of, two_objects};
 use crate::{Counted, Refusal, program};
 use std::io::{ErrorKind, Write};
 use std::path::PathBuf;
+use std::rt::Files;
+use std::sync::Wait;
 use std::test::Fail;
+use std::thread::Threads;
 use std::{env, fs, io};
 
 /// A writer each of whose calls fails.
@@ -29,7 +32,10 @@ fn file_of(rt: &HostRuntime, name: &str, dump: &Bytes) -> io::Result<PathBuf> {
 }
 
 /// What the program prints on both streams for these words, and its status.
-fn printed(rt: &HostRuntime, words: &[&str]) -> (u8, Vec<u8>, Vec<u8>) {
+fn printed<T: Files + AllocGlobal + Threads + Wait + Sync>(
+    rt: &T,
+    words: &[&str],
+) -> (u8, Vec<u8>, Vec<u8>) {
     let mut out = Counted::new(Vec::new(rt.alloc()));
     let mut err = Vec::new(rt.alloc());
     let status = program(rt, words, &mut out, &mut err);

@@ -1,12 +1,13 @@
 //! Dumps and their reports or refusals.
 
 use super::dumps::{Bytes, NOTHING, TWO_OBJECTS, dump_of, named_class, two_instances, two_objects};
-use super::{options, refused, run_on};
-use crate::{Counted, Gate, Refusal, run};
+use super::{refused, run_on};
+use crate::Refusal;
 use std::alloc::{AllocError, Global};
 use std::process::Abort;
-use std::sync::atomic::{AtomicU64, Ordering};
+use std::sync::Wait;
 use std::test::Fail;
+use std::thread::Threads;
 
 /// A dump, and what a run on it answers: a report, or a refusal and no report.
 #[derive(Drop)]
@@ -32,9 +33,9 @@ fn refusal(dump: Bytes, code: u8, offset: u64) -> Row {
     }
 }
 
-fn check_rows(rt: &impl Abort, alloc: Global, rows: &Vec<Row>) {
+fn check_rows<T: Abort + Threads + Wait + Sync>(rt: &T, alloc: Global, rows: &Vec<Row>) {
     for (number, row) in rows.iter().enumerate() {
-        let (outcome, written) = run_on(alloc, row.dump.0.as_slice(), Vec::new(alloc));
+        let (outcome, written) = run_on(rt, alloc, row.dump.0.as_slice(), Vec::new(alloc));
         assert_eq!(rt; outcome, row.outcome, "row {number}");
         assert_eq!(rt; written.as_slice(), row.report.as_bytes(), "row {number}");
     }
@@ -163,37 +164,5 @@ fn faults_are_refused(rt: HostRuntime) -> Result<(), Fail> {
     heap.instance(0x201, 0x100, &[])?;
     rows.push(refusal(dump_of(alloc, &heap)?, 11, 40))?;
     check_rows(&rt, alloc, &rows);
-    Ok(())
-}
-
-/// Counts its calls, and those in the name of the thread that leads.
-#[derive(Drop)]
-struct Calls {
-    all: AtomicU64,
-    by_leader: AtomicU64,
-}
-
-impl Gate for Calls {
-    fn before_scan(&self, worker: u32, _object: u32) {
-        self.all.fetch_add(1, Ordering::SeqCst);
-        if worker == 2 {
-            self.by_leader.fetch_add(1, Ordering::SeqCst);
-        }
-    }
-}
-
-#[test]
-fn the_gate_sees_each_reachable_object(rt: HostRuntime) -> Result<(), Fail> {
-    let alloc = rt.alloc();
-    let dump = two_objects(alloc)?;
-    let gate = Calls {
-        all: AtomicU64::new(0),
-        by_leader: AtomicU64::new(0),
-    };
-    let mut reader = Counted::new(dump.0.as_slice());
-    let mut writer = Counted::new(Vec::new(alloc));
-    assert!(rt; run(alloc, &mut reader, &mut writer, &options(), &gate).is_ok());
-    assert_eq!(rt; gate.all.load(Ordering::SeqCst), 3);
-    assert_eq!(rt; gate.by_leader.load(Ordering::SeqCst), 3);
     Ok(())
 }

@@ -2,7 +2,8 @@
 
 use super::dumps::{TWO_OBJECTS, two_objects};
 use super::{refused, run_on};
-use linked_list_allocator::LocalHeap;
+use crate::{Counted, NoGate, Options, run};
+use limited_heap::LimitedHeap;
 use std::alloc::Global;
 use std::io;
 use std::io::{ErrorKind, Read, Write};
@@ -98,7 +99,7 @@ fn a_read_fault_is_told_and_not_tried_again(rt: HostRuntime) -> Result<(), Fail>
                 calls_left,
                 kind,
             };
-            let (outcome, written) = run_on(alloc, drip, Vec::new(alloc));
+            let (outcome, written) = run_on(&rt, alloc, drip, Vec::new(alloc));
             // 174 reads give a byte, and one more finds the end
             if calls_left < 175 {
                 assert_eq!(rt; outcome, refused(19, None), "{calls_left} reads");
@@ -125,7 +126,7 @@ fn a_write_fault_leaves_a_beginning(rt: HostRuntime) -> Result<(), Fail> {
     for failure in failures {
         for writes_left in 0..32usize {
             let tray = Tray::new(alloc, 10, writes_left, failure);
-            let (outcome, tray) = run_on(alloc, dump.0.as_slice(), tray);
+            let (outcome, tray) = run_on(&rt, alloc, dump.0.as_slice(), tray);
             let taken = writes_left * 10;
             if taken < report.len() {
                 assert_eq!(rt; outcome, refused(20, None), "{writes_left} writes");
@@ -138,7 +139,7 @@ fn a_write_fault_leaves_a_beginning(rt: HostRuntime) -> Result<(), Fail> {
     }
     let mut tray = Tray::new(alloc, 1000, 1000, Failure::TakesNothing);
     tray.flushes = false;
-    let (outcome, tray) = run_on(alloc, dump.0.as_slice(), tray);
+    let (outcome, tray) = run_on(&rt, alloc, dump.0.as_slice(), tray);
     assert_eq!(rt; outcome, refused(20, None), "the flush");
     assert_eq!(rt; tray.taken.as_slice(), report);
     Ok(())
@@ -148,17 +149,22 @@ fn a_write_fault_leaves_a_beginning(rt: HostRuntime) -> Result<(), Fail> {
 fn want_of_memory_is_told_at_each_request(rt: HostRuntime) -> Result<(), Fail> {
     let alloc = rt.alloc();
     let dump = two_objects(alloc)?;
-    for size in 0..512usize {
-        let heap = LocalHeap::new(alloc, size * 32)?;
-        let (outcome, written) = run_on(&heap, dump.0.as_slice(), Vec::new(alloc));
-        if outcome.is_ok() {
+    let few = Options::new(2, 2, 6, 0).map_err(|_| "the options are in range")?;
+    for requests in 0..512u64 {
+        let heap = LimitedHeap::new(alloc, requests);
+        let mut reader = Counted::new(dump.0.as_slice());
+        let mut writer = Counted::new(Vec::new(alloc));
+        let outcome = run(&rt, &heap, &mut reader, &mut writer, &few, &NoGate);
+        let written = writer.into_inner();
+        if heap.refusals() == 0 {
+            assert_eq!(rt; outcome, Ok(()));
             assert_eq!(rt; written.as_slice(), TWO_OBJECTS.as_bytes());
-            assert!(rt; size > 8, "some requests were refused");
+            assert!(rt; requests > 8, "some requests were refused");
             return Ok(());
         }
-        assert_eq!(rt; outcome, refused(15, None));
+        assert_eq!(rt; outcome, refused(15, None), "{requests} requests");
         assert!(rt; written.is_empty());
     }
-    assert!(rt; false, "16 KiB are too few");
+    assert!(rt; false, "512 requests are too few");
     Ok(())
 }
