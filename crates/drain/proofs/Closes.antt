@@ -1,11 +1,12 @@
 -- The marks at the close are exactly at the reachable objects.
-use Rattle.std.proofs.Common.{◌≡◌, ◌↔◌, ℕ, zero, suc, ◌+◌, ◌<◌, ◌≤◌, nat_le, Bool, true, false, List, [], ◌∷◌, map, length, slice_index, slice_index_or, Contains, ap, sym, refl, subst, ◌∙◌, leb-true, le-leb, arith}
+use Rattle.std.proofs.Common.{◌≡◌, ◌↔◌, ℕ, zero, suc, ◌<◌, ◌≤◌, List, [], ◌∷◌, map, slice_index, Contains, ap, sym, subst, ◌∙◌, leb-true, le-leb, arith}
 use Rattle.std.proofs.lemmas.Bool.{false≢true}
 use Rattle.std.proofs.lemmas.List.{length-map}
 use Rattle.mark_core.specs.World.{Setup}
 use Rattle.mark_core.specs.Colours as colours
 use Rattle.heap_graph.specs.ObjectGraph.{ObjectGraph, object_count}
 use Rattle.heap_graph.specs.Reachable.{IsMarked, IsReachable, IsReferenceOf, IsRootOf, MarksReachableOf}
+use Rattle.buffer_pool.specs.Book.{Book, new_book}
 use Rattle.buffer_pool.specs.Calls.{Holder}
 use Rattle.buffer_pool.specs.Closing.{Ends}
 use Rattle.drain.specs.Marks.{is_set}
@@ -20,6 +21,16 @@ pub marked_where_set : (marks : List ℕ) (o : ℕ) → IsMarked (map is_set mar
 marked_where_set [] o = (λ h. absurd (false≢true h), λ h. absurd (omega (arith, h)))
 marked_where_set (m ∷ marks) zero = (leb-true 1 m, le-leb 1 m)
 marked_where_set (m ∷ marks) (suc o) = marked_where_set marks o
+
+-- the setup of a book that a pool for this graph opened with
+pub opened_setup : (g : ObjectGraph) (buffers size units : ℕ) (b : Book)
+    → b ≡ new_book (record { objects = object_count g; buffers = buffers; size = size; roots = g.roots; pairs = pairs_of g }) units
+    → IsSetupOf (object_count g) g.roots (pairs_of g) b.setup
+opened_setup g buffers size units b is = record {
+  objects = ap (λ (c : Book). c.setup.objects) is;
+  roots = ap (λ (c : Book). c.setup.roots) is;
+  pairs = ap (λ (c : Book). c.setup.pairs) is;
+}
 
 module _ (g : ObjectGraph) (e : Setup) (setup : IsSetupOf (object_count g) g.roots (pairs_of g) e) where
   -- a path of the setup is one of the graph

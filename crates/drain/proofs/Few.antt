@@ -1,7 +1,7 @@
 -- A list of numbers below n that has each at most once has at most n.
 use Rattle.std.proofs.Common.{◌≡◌, ◌≢◌, ℕ, zero, suc, ◌+◌, ◌<◌, ◌≤◌, List, [], ◌∷◌, length, Contains, subst, refl, arith}
 use native.Mathlib.Decide.{dec_le, ℕ_discrete}
-use Rattle.mark_core.specs.Lists.{times, only, remove_one}
+use Rattle.mark_core.specs.Lists.{times, remove_one}
 use Rattle.mark_core.proofs.Sums.{only-other, only-same, remove_one-other, remove_one-same, stands_times, times-remove_one, times_stands}
 
 length-remove_one : (y : ℕ) (xs : List ℕ) → 0 < times y xs → length (remove_one y xs) + 1 ≡ length xs

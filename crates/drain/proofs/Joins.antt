@@ -1,5 +1,5 @@
 -- The leader before it joins, and with one worker more.
-use Rattle.std.proofs.Common.{◌≡◌, ℕ, ◌+◌, ◌*◌, ◌<◌, ◌≤◌, Bool, false, ◌||◌, List, [], ◌++◌, length, slice_index, Contains, below_more, ap, sym, refl, subst, ◌∙◌, arith}
+use Rattle.std.proofs.Common.{◌≡◌, ℕ, ◌+◌, ◌*◌, ◌<◌, Bool, false, ◌||◌, List, [], ◌++◌, length, slice_index, Contains, below_more, ap, sym, subst, ◌∙◌, arith}
 use Rattle.std.proofs.lemmas.List.Elements.{Contains-append_left, Contains-append_right}
 use Rattle.mark_core.specs.World.{Setup}
 use Rattle.buffer_pool.specs.Book as book

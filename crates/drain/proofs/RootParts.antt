@@ -1,5 +1,5 @@
 -- The parts of the roots: each worker's part, claimed one root after the other, and all parts together.
-use Rattle.std.proofs.Common.{◌≡◌, ℕ, ◌+◌, ◌*◌, ◌/◌, ◌%◌, ◌<◌, ◌≤◌, List, [], ◌∷◌, length, slice_index, Contains, below_more, ap, sym, refl, subst, ◌∙◌, ⊎_elim, arith}
+use Rattle.std.proofs.Common.{◌≡◌, ℕ, ◌+◌, ◌*◌, ◌/◌, ◌%◌, ◌<◌, ◌≤◌, List, [], ◌∷◌, length, slice_index, Contains, below_more, ap, sym, subst, ◌∙◌, ⊎_elim, arith}
 use Rattle.std.proofs.lemmas.Bool.{cases_lt}
 use Rattle.std.proofs.lemmas.List.{get_or_default}
 use Rattle.std.proofs.lemmas.List.Elements.{Contains-push}
@@ -7,7 +7,6 @@ use Rattle.std.proofs.Math.Nat.{mod-add-div', mod-lt, mul-le-mul_right}
 use Rattle.mark_core.specs.World.{Setup}
 use Rattle.buffer_pool.specs.Calls.{Holder}
 use Rattle.drain.specs.Working.{AreClaimed, GoesOn, SawPart}
-use Rattle.drain.proofs.Claims.{goes_on_again}
 
 -- the roots of so many turns were seen
 abbrev pub SawTurns : ℕ → ℕ → ℕ → List ℕ → List ℕ → Type 0

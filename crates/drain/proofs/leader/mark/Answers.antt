@@ -1,13 +1,10 @@
-use Rattle.std.proofs.Common.{ap, sym, subst, List, ℕ, ◌+◌, ◌<◌, ◌≤◌, ◌≡◌, ◌∙◌, arith}
-use Rattle.mark_core.specs.World.{Setup}
-use Rattle.buffer_pool.specs.Book.{Book}
+use Rattle.std.proofs.Common.{sym, subst, ◌<◌, arith}
+use Rattle.mark_core.specs.Shares.{whole}
 use Rattle.buffer_pool.specs.Faults.{Refuses}
 use Rattle.buffer_pool.specs.Laid.{IsInside}
 use Rattle.heap_graph.specs.ObjectGraph.{object_count}
 use Rattle.heap_graph.specs.Reachable.{MarksReachableOf}
-use Rattle.drain.specs.Pairs.{pairs_of}
-use Rattle.drain.specs.Working.{IsSetupOf}
-use Rattle.drain.proofs.Closes.{exactly_marked}
+use Rattle.drain.proofs.Closes.{exactly_marked, opened_setup}
 use Rattle.drain.proofs.leader.mark.Goals as goal
 
 pub unreachable-requires : goal.unreachable-requires
@@ -31,13 +28,7 @@ returns g c =
     let graph = c.args.graph.now in
     let leader = c.in-Ok.opened.1 in
     let is = c.in-Ok.ensures.2 in
-    let e : Setup = leader.book.setup in
-    let setup : IsSetupOf (object_count graph) graph.roots (pairs_of graph) e = record {
-      objects = ap (λ (b : Book). b.setup.objects) is;
-      roots = ap (λ (b : Book). b.setup.roots) is;
-      pairs = ap (λ (b : Book). b.setup.pairs) is;
-    } in
-    let exact =
-    exactly_marked graph e setup c.workers-workers.result c.in_ok-leader.leader c.close.result (omega (arith, c.workers-workers.ensures.value, c.workers-workers.ensures.allowed.some_worker))
-    c.in_ok-leader.ensures.taken c.close.ensures in
+    let setup = opened_setup graph c.buffers.result c.buffer.result whole leader.book is in
+    let some : 0 < c.workers-workers.result = omega (arith, c.workers-workers.ensures.value, c.workers-workers.ensures.allowed.some_worker) in
+    let exact = exactly_marked graph leader.book.setup setup c.workers-workers.result c.in_ok-leader.leader c.close.result some c.in_ok-leader.ensures.taken c.close.ensures in
     subst (MarksReachableOf graph) (sym c.new-2.ensures) exact

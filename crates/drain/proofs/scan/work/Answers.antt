@@ -1,7 +1,6 @@
-use Rattle.std.proofs.Common.{ap, sym, ◌∙◌}
 use Rattle.drain.proofs.Claims.{goes_on_again}
 use Rattle.drain.proofs.RootParts.{part_still}
-use Rattle.drain.proofs.Scans.{new_scanning, nothing}
+use Rattle.drain.proofs.Scans.{nothing}
 use Rattle.drain.proofs.scan.work.Goals as goal
 
 pub returns : goal.returns

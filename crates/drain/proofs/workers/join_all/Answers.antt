@@ -1,4 +1,4 @@
-use Rattle.std.proofs.Common.{ap, sym, refl, subst, List, ℕ, get_or, ◌+◌, ◌-◌, ◌<◌, ◌≡◌, ◌∙◌, arith}
+use Rattle.std.proofs.Common.{ap, sym, refl, subst, ℕ, get_or, ◌+◌, ◌-◌, ◌≡◌, ◌∙◌, arith}
 use Rattle.std.specs.Vec.Iter.{into_iter_items, into_iter_len}
 use Rattle.mark_core.specs.Shares.{whole}
 use Rattle.buffer_pool.specs.Book.{Book, new_book}

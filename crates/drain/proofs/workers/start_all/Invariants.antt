@@ -1,4 +1,4 @@
-use Rattle.std.proofs.Common.{◌≡◌, ◌<◌, ◌-◌, ◌+◌, ◌≤◌, ℕ, get_or, vec_len, vec_capacity}
+use Rattle.std.proofs.Common.{◌≡◌, ◌<◌, ◌-◌, ◌≤◌, ℕ, get_or, vec_len, vec_capacity}
 use Rattle.mark_core.specs.Shares.{whole}
 use Rattle.buffer_pool.specs.Book.{new_book}
 use Rattle.drain.specs.Parts.{IsPartOf}

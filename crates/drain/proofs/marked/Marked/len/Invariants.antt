@@ -1,4 +1,4 @@
-use Rattle.std.proofs.Common.{count_by, map, take, ◌≡◌, ◌≤◌}
+use Rattle.std.proofs.Common.{count_by, map, take, ◌≡◌}
 use Rattle.drain.specs.Marks.{is_set}
 use Rattle.drain.proofs.marked.Marked.len.Given as goal
 

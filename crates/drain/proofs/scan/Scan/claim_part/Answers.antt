@@ -1,4 +1,4 @@
-use Rattle.std.proofs.Common.{rules, ap, sym, subst, ℕ, ◌+◌, ◌*◌, ◌∙◌, ◌≡◌, ◌<◌, ◌≤◌, length, slice_index, arith}
+use Rattle.std.proofs.Common.{rules, ap, sym, subst, ◌+◌, ◌∙◌, ◌<◌, ◌≤◌, length, slice_index}
 use Rattle.std.proofs.lemmas.List.Elements.{All-get_or}
 use Rattle.mark_core.specs.World.{Setup}
 use Rattle.drain.proofs.Claims.{goes_on_again, only_member}
