@@ -112,16 +112,14 @@ fn join_all<T: Threads, A: Allocator>(
     pool: &Pool<A>,
     leader: Worker<A>,
     threads: Vec<Started<A>, A>,
-    workers: u32,
 ) -> Result<Worker<A>, RunFault>
     requires pool { leader.pool ≡ pool.now }
-    requires leader { leader.book ≡ new_book leader.book.setup (whole - workers) }
-    requires workers { workers < whole }
-    requires count { vec_len threads ≡ workers }
-    requires threads { (number : ℕ) (t : _) → number < workers → IsPartOf number workers (record leader { book = new_book leader.book.setup 1 }) (get_or threads.items number t).promise }
+    requires workers { vec_len threads < whole }
+    requires leader { leader.book ≡ new_book leader.book.setup (whole - vec_len threads) }
+    requires threads { (number : ℕ) (t : _) → number < vec_len threads → IsPartOf number (vec_len threads) (record leader { book = new_book leader.book.setup 1 }) (get_or threads.items number t).promise }
     ensures pool { IfOk result (λ w. w.pool ≡ leader.pool) }
     ensures whole { IfOk result (λ w. w.book.account.share ≡ whole) }
-    ensures taken { IfOk result (HasTakenIn workers workers leader.book.setup) }
+    ensures taken { IfOk result (HasTakenIn (vec_len threads) (vec_len threads) leader.book.setup) }
 {
     let mut leader = leader;
     for thread in threads {
@@ -166,7 +164,7 @@ where
             ensures taken { IfOk result (HasTakenIn workers workers leader.book.setup) }
         {
             let (leader, threads) = start_all(scope, alloc, graph, pool, gate, leader, workers)?;
-            join_all(rt, pool, leader, threads, workers)
+            join_all(rt, pool, leader, threads)
         },
     )
 }
