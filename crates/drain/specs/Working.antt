@@ -52,7 +52,7 @@ pub record HasDone (number workers : ℕ) (begun w : Holder) : Type 0 where
   pub charge : w.book.account.charge ≡ []
   pub saw : SawPart number workers w
 
--- The leader, once it took in the first workers: it has these units, and they are all that it lacks for the whole.
+-- The leader, once it took in so many of the workers: it saw their parts of the roots, holds no buffer and answers for nothing.
 pub record HasTakenIn (joined workers : ℕ) (e : Setup) (w : Holder) : Type 0 where
   pub setup : w.book.setup ≡ e
   pub held : w.book.account.held ≡ []
