@@ -61,7 +61,7 @@ look_link Empty head link b = record { setup = refl; share = refl; held = refl; 
 charge_white : (o found : ℕ) (xs : List ℕ) → found ≡ 0 → (if found == 0 then xs ++ o ∷ [] else xs) ≡ xs ++ o ∷ []
 charge_white o found xs e = ap (λ t. cond t (xs ++ o ∷ []) xs) (eq-eqb found 0 e)
 
-pub charge_marked : (o found : ℕ) (xs : List ℕ) → found ≢ 0 → (if found == 0 then xs ++ o ∷ [] else xs) ≡ xs
+charge_marked : (o found : ℕ) (xs : List ℕ) → found ≢ 0 → (if found == 0 then xs ++ o ∷ [] else xs) ≡ xs
 charge_marked o found xs n = ap (λ t. cond t (xs ++ o ∷ []) xs) (ne_eqb found 0 n)
 
 module _ (old new : Holder) (pool : new.pool ≡ old.pool) where

@@ -58,7 +58,8 @@ fn raise_to_finished<A: Allocator>(words: &Words<A>, seat: &mut Token<A>, buffer
 }
 
 impl<A: Allocator> Pool<A> {
-    /// Claims an object: true exactly where it was white. Then the worker answers for it. One atomic step; waits for nobody.
+    /// Claims an object: true exactly where it was white. Then the worker answers for it. One atomic step;
+    /// waits for nobody.
     pub fn claim(&self, worker: &mut Worker<A>, object: u32) -> bool
         requires pool { worker.old.pool ≡ self.now }
         requires can { CanClaim worker.old.book.setup object worker.old.book.account }
@@ -68,8 +69,8 @@ impl<A: Allocator> Pool<A> {
         raise_to_claimed(&self.table.shared, &mut worker.seat, self.buffers, object) == 0
     }
 
-    /// Finishes an object that the worker answers for and of which it has seen each successor marked. One atomic step; waits
-    /// for nobody.
+    /// Finishes an object that the worker answers for and of which it has seen each successor marked. One
+    /// atomic step; waits for nobody.
     pub fn finish(&self, worker: &mut Worker<A>, object: u32)
         requires pool { worker.old.pool ≡ self.now }
         requires can { CanFinish worker.old.book.setup object worker.old.book.account }

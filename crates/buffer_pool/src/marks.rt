@@ -78,7 +78,8 @@ impl<A: Allocator> Drop for Marks<A> {
 }
 
 impl<A: Allocator> Pool<A> {
-    /// Ends the marking. The worker has the whole share, no buffer and no charge, so no other worker has anything. The buffers are given back.
+    /// Ends the marking. The worker has the whole share, no buffer and no charge, so no other worker has
+    /// anything. The buffers are given back.
     pub fn close(self, worker: Worker<A>) -> Marks<A>
         requires pool { worker.pool ≡ self }
         requires share { worker.book.account.share ≡ whole }

@@ -61,8 +61,9 @@ fn is_inside(objects: u32, buffers: u32, size: u32, first_tag: u64) -> bool
 }
 
 impl<A: Allocator + Clone> Pool<A> {
-    /// A pool for at most 16,777,216 objects, of 4 to 65,534 buffers for 2 to 4,096 objects each, whose stacks' heads begin with a tag of at most
-    /// 281,474,976,710,655. No object is marked, all buffers are on the empty stack, and the worker has the whole share. All memory of the pool is taken here.
+    /// A pool for at most 16,777,216 objects, of 4 to 65,534 buffers for 2 to 4,096 objects each, whose
+    /// stacks' heads begin with a tag of at most 281,474,976,710,655. No object is marked, all buffers are on
+    /// the empty stack, and the worker has the whole share. All memory of the pool is taken here.
     pub fn new<E: Edges>(
         alloc: A,
         edges: &E,

@@ -8,7 +8,8 @@ use atomic_table::Table;
 use std::alloc::Allocator;
 use std::marker::Model;
 
-/// The marks of the objects, and the buffers on two stacks. Workers share it by reference, and each step takes the worker that makes it.
+/// The marks of the objects, and the buffers on two stacks. Workers share it by reference, and each step
+/// takes the worker that makes it.
 #[derive(Drop)]
 pub struct Pool<A: Allocator> {
     pub(crate) table: Table<Option<Buffer<A>>, View, Key, MarkingRule, A>,

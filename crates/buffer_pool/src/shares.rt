@@ -11,7 +11,8 @@ use crate::rules::{GivePart, TakeIn, Token, Words};
 use crate::worker::Worker;
 use std::alloc::Allocator;
 
-// A view changes only at a step on a word, and a split sees only the view: so the units are noted first, by an exchange that changes nothing.
+// A view changes only at a step on a word, and a split sees only the view: so the units are noted first, by
+// an exchange that changes nothing.
 fn give_part<A: Allocator>(words: &Words<A>, seat: &mut Token<A>, units: u64) -> Token<A>
     requires table { seat.old.table_id ≡ words.now.table_id }
     requires sound { IsSound seat.old.table_id seat.old.me }
@@ -39,7 +40,8 @@ fn take_in<A: Allocator>(words: &Words<A>, seat: &mut Token<A>, mut other: Token
 }
 
 impl<A: Allocator> Pool<A> {
-    /// Gives units of a worker's share to a new worker, which has no buffer and answers for no object. The first keeps all else.
+    /// Gives units of a worker's share to a new worker, which has no buffer and answers for no object. The
+    /// first keeps all else.
     pub fn split(&self, worker: Worker<A>, units: u32) -> (Worker<A>, Worker<A>)
         requires pool { worker.pool ≡ self.now }
         requires units { (0 < units) × (units < worker.book.account.share) }
@@ -51,8 +53,8 @@ impl<A: Allocator> Pool<A> {
         (Worker { seat }, Worker { seat: other })
     }
 
-    /// Puts two workers together: shares and counts are added, and so are buffers, charges, objects seen and objects finished.
-    /// What the first loaded of the stacks stays. They had nothing in common.
+    /// Puts two workers together: shares and counts are added, and so are buffers, charges, objects seen and
+    /// objects finished. What the first loaded of the stacks stays. They had nothing in common.
     pub fn join(&self, worker: Worker<A>, other: Worker<A>) -> Worker<A>
         requires pool { (worker.pool ≡ self.now) × (other.pool ≡ self.now) }
         ensures together { result ≡ record worker { book = joined worker.book other.book } }

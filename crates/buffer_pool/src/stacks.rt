@@ -37,8 +37,8 @@ impl<A: Allocator> Pool<A> {
         pop_from(&self.table.shared, &mut worker.seat, which)
     }
 
-    /// Tries once to put a held buffer on a stack. Waits for nobody and takes no memory. Its items have to be part of what
-    /// the worker answers for; on the empty stack it has none.
+    /// Tries once to put a held buffer on a stack. Waits for nobody and takes no memory. Its items have to be
+    /// part of what the worker answers for; on the empty stack it has none.
     pub fn try_push(
         &self,
         worker: &mut Worker<A>,
@@ -71,8 +71,8 @@ impl<A: Allocator> Pool<A> {
         unreachable!()
     }
 
-    /// Tries to put a held buffer on a stack until a try is not lost. The buffer comes back where the stack's last tag was
-    /// loaded.
+    /// Tries to put a held buffer on a stack until a try is not lost. The buffer comes back where the stack's
+    /// last tag was loaded.
     pub fn push<R: Wait>(
         &self,
         rt: &R,

@@ -6,13 +6,11 @@ ghost use Rattle.hprof_grammar.specs.Tables as tables;
 ghost use Rattle.std.specs.List.{position_or_len};
 
 use crate::entry::{ClassEntry, ObjectEntry};
+use crate::fields::OBJECT_TYPE;
 use crate::objects::Objects;
 use crate::row::RowKey;
 use hprof_grammar::{ObjectKind, Values, View};
 use std::alloc::{AllocError, Allocator};
-
-/// The type code of an identifier.
-const OBJECT_TYPE: u8 = 2;
 
 /// The bytes of these values together.
 fn bytes_together(view: &View<'_>, values: Values<'_>) -> u64

@@ -11,7 +11,7 @@ use hprof_grammar::{Members, Values, View};
 use std::alloc::{AllocError, Allocator};
 
 /// The type code of an identifier.
-const OBJECT_TYPE: u8 = 2;
+pub(crate) const OBJECT_TYPE: u8 = 2;
 
 /// The bytes of the values of these fields together.
 pub(crate) fn size_together(view: &View<'_>, members: Members<'_>) -> u64

@@ -9,8 +9,8 @@ use heap_graph::one_graph;
 
 /// A graph with marks has one histogram.
 ///
-/// The histogram is defined as a relation: its rows are some arrangement in order. Only one arrangement is in order, since the
-/// order tells any two rows apart.
+/// The histogram is defined as a relation: its rows are some arrangement in order. Only one arrangement is in
+/// order, since the order tells any two rows apart.
 pub fn one_histogram()
     ensures { (g : ObjectGraph) (marks : List Bool) (h k : Histogram) → IsHistogram g marks h → IsHistogram g marks k → h ≡ k }
 {}

@@ -47,7 +47,8 @@ fn lines_in_order<A: Allocator + Clone, B: Allocator, C: Allocator>(
     Ok(lines)
 }
 
-/// Which line stands first: that of more bytes, then of more objects, then of the lesser name, then of the lesser class.
+/// Which line stands first: that of more bytes, then of more objects, then of the lesser name, then of the
+/// lesser class.
 fn compare_lines<A: Allocator>(a: &Line<A>, b: &Line<A>) -> Ordering
     ensures { result ≡ compare (entry_of a.now) (entry_of b.now) }
 {

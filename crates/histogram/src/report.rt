@@ -4,7 +4,8 @@ use std::alloc::Allocator;
 /// The rows of a histogram in the order of the report, and its totals.
 #[derive(Drop)]
 pub struct Report<A: Allocator> {
-    /// One line for each row that has a reachable object: bytes falling, then count falling, then name and class rising.
+    /// One line for each row that has a reachable object: bytes falling, then count falling, then name and
+    /// class rising.
     pub rows: Vec<Line<A>, A>,
     /// How many objects are reachable, and their bytes.
     pub reachable: (u64, u64),

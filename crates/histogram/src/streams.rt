@@ -11,8 +11,9 @@ use thiserror::Error;
 
 /// A reader or a writer of the standard library, with the number of its calls that failed.
 ///
-/// A call fails where it answers a fault, and a write also where it takes nothing of a slice that is not empty. The
-/// count says what no error value can: that a reader's bytes ended in no fault, and a writer took all that it was given.
+/// A call fails where it answers a fault, and a write also where it takes nothing of a slice that is not
+/// empty. The count says what no error value can: that a reader's bytes ended in no fault, and a writer took
+/// all that it was given.
 #[derive(Drop)]
 pub struct Counted<T> {
     inner: T,

@@ -102,8 +102,8 @@ fn one_snapshot(rt: HostRuntime) -> Result<(), Fail> {
     Ok(())
 }
 
-/// Heaps of every size from 0 to one that is large enough, so that each request is refused in turn: each answer is want of
-/// memory, or the right one.
+/// Heaps of every size from 0 to one that is large enough, so that each request is refused in turn: each
+/// answer is want of memory, or the right one.
 #[test]
 fn memory_refused_in_turn(rt: HostRuntime) -> Result<(), Fail> {
     let mut refused = 0u32;

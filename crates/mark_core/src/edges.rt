@@ -3,8 +3,8 @@ ghost use Rattle.std.specs.Prelude.{◌≡◌, ℕ, ◌<◌, List, All};
 
 /// The objects of a heap, as a marking sees them.
 ///
-/// Objects have numbers from 0 on. The roots are the objects at which reachability begins, and the pairs are each object
-/// with each of its successors.
+/// Objects have numbers from 0 on. The roots are the objects at which reachability begins, and the pairs are
+/// each object with each of its successors.
 pub trait Edges {
     ghost count: { Self → ℕ };
 

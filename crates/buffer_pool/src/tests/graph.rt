@@ -11,7 +11,8 @@ use std::test::Fail;
 
 const OBJECTS: u32 = 3;
 
-/// Object 0 is the class. Object 1 is a root and refers to the class and to object 2, which refers to the class and to object 1.
+/// Object 0 is the class. Object 1 is a root and refers to the class and to object 2, which refers to the
+/// class and to object 1.
 #[derive(Drop)]
 struct TwoObjects;
 

@@ -20,8 +20,8 @@ const PART: u32 = 1_000;
 /// The objects of one round, which are as many as a buffer takes.
 const ROUND: u32 = 16;
 
-/// The tries of one pop or push. One is lost only where another thread's pop or push succeeds between its two steps, and all
-/// threads together make about a thousand of these.
+/// The tries of one pop or push. One is lost only where another thread's pop or push succeeds between its two
+/// steps, and all threads together make about a thousand of these.
 const TURNS: u32 = 10_000;
 
 fn pop_within<R: Abort, A: Allocator>(

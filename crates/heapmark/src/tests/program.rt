@@ -60,6 +60,7 @@ fn a_file_is_reported_or_refused(rt: HostRuntime) -> Result<(), Fail> {
         err.as_slice(),
         "heapmark: refused 20 WriteFault\n".as_bytes()
     );
+    fs::remove_file(&rt, path.as_path())?;
 
     // a root, and behind it a tag that no table has
     let mut heap = Bytes::new(alloc);
@@ -74,6 +75,7 @@ fn a_file_is_reported_or_refused(rt: HostRuntime) -> Result<(), Fail> {
         err.as_slice(),
         "heapmark: refused 5 BadSubTag at 45\n".as_bytes()
     );
+    fs::remove_file(&rt, path.as_path())?;
 
     let (status, out, err) = printed(&rt, &["heapmark", "/nowhere/heapmark.hprof"]);
     assert_eq!(rt; status, 1);

@@ -1,5 +1,5 @@
-use Rattle.std.proofs.Common.{◌≡◌, ℕ, ◌<◌, List, Option, get_or, ap, sym, subst, refl, arith, ◌∙◌}
-use Rattle.tagged_index.specs.Head.{Head, after, last_tag}
+use Rattle.std.proofs.Common.{◌≡◌, ℕ, List, Option, get_or, ap, sym, subst, refl, arith, ◌∙◌}
+use Rattle.tagged_index.specs.Head.{Head}
 use Rattle.mark_core.specs.Step.{IsLawful}
 use Rattle.mark_core.proofs.Tables.{tries_pop, pop_told}
 use Rattle.mark_core.proofs.Within.{buffer_within, link_within}

@@ -1,5 +1,4 @@
-use Rattle.std.proofs.Common.{◌≡◌, ◌<◌, Some, ap, sym, subst, refl, arith, ◌∙◌}
-use Rattle.tagged_index.specs.Head.{Head, after, last_tag}
+use Rattle.std.proofs.Common.{◌≡◌, sym, subst, refl, arith}
 use Rattle.mark_core.specs.Step.{IsLawful}
 use Rattle.mark_core.proofs.Tables.{tries_push, push_within}
 use Rattle.mark_core.proofs.state.State.push.Goals as goal
