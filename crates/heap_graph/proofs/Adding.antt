@@ -8,11 +8,11 @@ use Rattle.hprof_grammar.specs.SubRecord.{Class, Constant, Instance, IsClass, Is
 use Rattle.hprof_grammar.specs.SubRecord.SubRecord.{class_dump, instance_dump, object_array_dump, primitive_array_dump}
 use Rattle.hprof_grammar.specs.Tables.{size_of}
 use Rattle.heap_graph.specs.Heap.{class_named}
-use Rattle.heap_graph.specs.Holding.{AddsIds}
+use Rattle.heap_graph.specs.working.HeldIds.{AddsIds}
 use Rattle.heap_graph.specs.Layout.{field_ids, layout}
 use Rattle.heap_graph.specs.Linked.{IsLinked}
 use Rattle.heap_graph.specs.References.{class_ids, constant_ids, instance_ids, static_ids}
-use Rattle.heap_graph.specs.Values.{IsIdValue, values_ids}
+use Rattle.heap_graph.specs.working.Values.{IsIdValue, values_ids}
 use Rattle.heap_graph.proofs.FieldLaws.{size_of_id_type}
 use Rattle.heap_graph.proofs.Linking.{no_super}
 

@@ -11,19 +11,19 @@ use Rattle.hprof_grammar.specs.SubRecord.{Class, SubRecord}
 use Rattle.heap_graph.specs.declared.entry.ClassEntry.{ClassEntry}
 use Rattle.heap_graph.specs.declared.entry.ObjectEntry.{ObjectEntry}
 use Rattle.heap_graph.specs.declared.rule.LinkFault.{LinkFault}
-use Rattle.heap_graph.specs.Entries.{AreClasses, AreClassesOf}
+use Rattle.heap_graph.specs.working.Entries.{AreClasses, AreClassesOf}
 use Rattle.heap_graph.specs.Heap.{as_class, heap_of, objects}
-use Rattle.heap_graph.specs.Holding.{AreLinked}
+use Rattle.heap_graph.specs.working.HeldIds.{AreLinked}
 use Rattle.heap_graph.specs.LinkFault.{HasLinkFault, IsFirstFault}
 use Rattle.heap_graph.specs.Linked.{IsLinked, most_objects}
-use Rattle.heap_graph.specs.Named.{Resolves, target_in}
-use Rattle.heap_graph.specs.NamePlaces.{AreNames}
+use Rattle.heap_graph.specs.working.Resolving.{Resolves, target_in}
+use Rattle.heap_graph.specs.working.PlacedNames.{AreNames}
 use Rattle.heap_graph.specs.ObjectGraph.{IsGraphOf, IsGraphOfText, NamedClass, ObjectGraph, named_in}
-use Rattle.heap_graph.specs.Placed.{AreObjects}
+use Rattle.heap_graph.specs.working.PlacedObjects.{AreObjects}
 use Rattle.heap_graph.specs.References.{is_unresolved, targets}
 use Rattle.heap_graph.specs.Roots.{root_ids}
-use Rattle.heap_graph.specs.Tables.{graph_of, named_class}
-use Rattle.heap_graph.specs.Tests.{IsFaultOf}
+use Rattle.heap_graph.specs.working.Refinement.{graph_of, named_class}
+use Rattle.heap_graph.specs.working.RuleAnswers.{IsFaultOf}
 use Rattle.heap_graph.proofs.GrowingLaws.{same_missing, same_targets}
 use Rattle.heap_graph.proofs.Sizes.{id_size_range}
 use Rattle.heap_graph.proofs.Wholeness.{AreAll, few_classes, few_objects, same_classes, take_all}

@@ -7,10 +7,10 @@ use Rattle.std.proofs.lemmas.List.Elements.{filter_map-append}
 use Rattle.hprof_grammar.specs.Record.{Record}
 use Rattle.hprof_grammar.specs.SubRecord.{Class, SubRecord}
 use Rattle.heap_graph.specs.declared.entry.ClassEntry.{ClassEntry}
-use Rattle.heap_graph.specs.Entries.{AddsClass, AreClassesOf}
+use Rattle.heap_graph.specs.working.Entries.{AddsClass, AreClassesOf}
 use Rattle.heap_graph.specs.Heap.{as_class, heap_of, objects}
 use Rattle.heap_graph.specs.ObjectGraph.{NamedClass, named_in}
-use Rattle.heap_graph.specs.Tables.{named_class}
+use Rattle.heap_graph.specs.working.Refinement.{named_class}
 use Rattle.heap_graph.proofs.EntryLaws.{map_one, take_one}
 
 one_kept : {X Y : Type 0} (h : X → Option Y) (x : X) → filter_map h (x ∷ []) ≡ option_to_list (h x)

@@ -1,7 +1,7 @@
 -- The pieces of a list that is cut.
 use Rattle.std.proofs.Common.{List, [], arith, get_or, length, ℕ, ◌+◌, ◌-◌, ◌<◌, ◌≡◌}
 use Rattle.std.proofs.lemmas.List.FromFn.{get_or-map-range_with_len, length-map-range_with_len}
-use Rattle.heap_graph.specs.Pieces.{piece, pieces}
+use Rattle.heap_graph.specs.working.CutLists.{piece, pieces}
 
 pub length-pieces : (cuts all : List ℕ) → length (pieces cuts all) ≡ length cuts - 1
 length-pieces cuts all = length-map-range_with_len (piece cuts all) 0 (length cuts - 1)

@@ -7,7 +7,7 @@ use Rattle.hprof_grammar.specs.SubRecord.{Class, Static, SubRecord}
 use Rattle.hprof_grammar.specs.Tables.{size_of}
 use Rattle.heap_graph.specs.declared.entry.ClassEntry.{ClassEntry}
 use Rattle.heap_graph.specs.declared.entry.ObjectEntry.{ObjectEntry}
-use Rattle.heap_graph.specs.Entries.{AreClasses, AreEntries, IsEntry}
+use Rattle.heap_graph.specs.working.Entries.{AreClasses, AreEntries, IsEntry}
 use Rattle.heap_graph.specs.Heap.{class_dumps, class_number, objects}
 use Rattle.heap_graph.specs.Rows.{bytes_of, row_of}
 use Rattle.heap_graph.proofs.Adding.{typed_static}

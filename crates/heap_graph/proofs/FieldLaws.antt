@@ -6,7 +6,7 @@ use Rattle.byteorder.specs.Endian.{big_number}
 use Rattle.hprof_grammar.specs.SubRecord.{Member}
 use Rattle.hprof_grammar.specs.Tables.{size_of}
 use Rattle.heap_graph.specs.Layout.{field_ids}
-use Rattle.heap_graph.specs.Values.{value_ids}
+use Rattle.heap_graph.specs.working.Values.{value_ids}
 
 -- a value of type 2 is an identifier
 pub size_of_id : (s : ℕ) → size_of s 2 ≡ s

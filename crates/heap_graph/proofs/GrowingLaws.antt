@@ -12,12 +12,12 @@ use Rattle.std.proofs.lemmas.List.Sums.{count_by-le-length, sum_by-append}
 use Rattle.std.proofs.lemmas.Option.{slice_get_past}
 use Rattle.hprof_grammar.specs.Standing.{Sight, id_of}
 use Rattle.hprof_grammar.specs.SubRecord.{SubRecord}
-use Rattle.heap_graph.specs.Growing.{AddsLinks, AreLinks, IsStart}
+use Rattle.heap_graph.specs.working.GrowingLinks.{AddsLinks, AreLinks, IsStart}
 use Rattle.heap_graph.specs.Heap.{objects}
-use Rattle.heap_graph.specs.Holding.{AddsIdsOf}
-use Rattle.heap_graph.specs.Named.{is_missing, target_in}
-use Rattle.heap_graph.specs.Pieces.{AreCuts, piece, pieces}
-use Rattle.heap_graph.specs.Placed.{AreObjects}
+use Rattle.heap_graph.specs.working.HeldIds.{AddsIdsOf}
+use Rattle.heap_graph.specs.working.Resolving.{is_missing, target_in}
+use Rattle.heap_graph.specs.working.CutLists.{AreCuts, piece, pieces}
+use Rattle.heap_graph.specs.working.PlacedObjects.{AreObjects}
 use Rattle.heap_graph.specs.References.{AreIdsIn, is_unresolved, target_of, targets}
 use Rattle.heap_graph.proofs.Firsts.{position-map}
 

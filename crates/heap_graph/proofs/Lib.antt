@@ -3,7 +3,7 @@ pub mod Naming
 pub mod Firsts
 pub mod Standings
 pub mod FieldLaws
-pub mod Narrow
+pub mod SuperRuleLaws
 pub mod Testing
 pub mod Linking
 pub mod Adding
@@ -14,5 +14,4 @@ pub mod ClassLaws
 pub mod Sizes
 pub mod Wholeness
 pub mod Building
-mod WorkedRows
 mod OneGraph

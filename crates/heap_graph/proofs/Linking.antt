@@ -10,7 +10,7 @@ use Rattle.heap_graph.specs.Heap.{as_class, class_named, number_named, objects}
 use Rattle.heap_graph.specs.Layout.{layout_size}
 use Rattle.heap_graph.specs.Linked.{IsLinked}
 use Rattle.heap_graph.proofs.Firsts.{IsHit, position_hit}
-use Rattle.heap_graph.proofs.Narrow.{measured_alone, not_bad_super}
+use Rattle.heap_graph.proofs.SuperRuleLaws.{measured_alone, not_bad_super}
 
 -- the class that an identifier names is an object of the heap list, and bears that identifier
 pub record IsClassThere (heap : List SubRecord) (id : ℕ) (c : Class) : Type 0 where

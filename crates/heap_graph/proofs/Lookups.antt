@@ -7,8 +7,8 @@ use Rattle.hprof_grammar.specs.Dump.{is_load, is_string}
 use Rattle.hprof_grammar.specs.Record.{Record}
 use Rattle.hprof_grammar.specs.Record.Record.{heap, load_class, other, string}
 use Rattle.hprof_grammar.specs.Standing.{RecordStands, Sight}
-use Rattle.heap_graph.specs.NamePlaces.{AreNames}
-use Rattle.heap_graph.specs.Names.{name_of, string_named}
+use Rattle.heap_graph.specs.working.PlacedNames.{AreNames}
+use Rattle.heap_graph.specs.ClassNames.{name_of, string_named}
 use Rattle.heap_graph.proofs.Firsts.{filter_passes}
 
 -- a record that loads a class, with its parts

@@ -6,7 +6,7 @@ use Rattle.std.specs.List.{cons_option}
 use Rattle.std.proofs.lemmas.List.{take_more}
 use Rattle.std.proofs.lemmas.List.Elements.{filter_map-append}
 use Rattle.std.proofs.lemmas.List.Sums.{count_by_more_no, count_by_more_yes}
-use Rattle.heap_graph.specs.Named.{Resolves, ResolvesOne, is_missing, target_in}
+use Rattle.heap_graph.specs.working.Resolving.{Resolves, ResolvesOne, is_missing, target_in}
 
 one_target : (h : ℕ → Option ℕ) (x : ℕ) → filter_map h (x ∷ []) ≡ option_to_list (h x)
 one_target h x = elim (h x) as (λ o. cons_option o [] ≡ option_to_list o) [ None ↦ refl | Some y ↦ refl ]

@@ -11,8 +11,8 @@ use Rattle.hprof_grammar.specs.SubRecord.SubRecord.{class_dump, instance_dump, o
 use Rattle.hprof_grammar.specs.declared.view.ObjectKind.{ObjectKind}
 use Rattle.hprof_grammar.specs.declared.view.ObjectKind.TheVariants as kinds
 use Rattle.heap_graph.specs.Heap.{as_class, class_named, number_named, object_named, objects}
-use Rattle.heap_graph.specs.Holding.{IsObjectAt}
-use Rattle.heap_graph.specs.Placed.{AreObjects, IsClassAt}
+use Rattle.heap_graph.specs.working.HeldIds.{IsObjectAt}
+use Rattle.heap_graph.specs.working.PlacedObjects.{AreObjects, IsClassAt}
 use Rattle.heap_graph.proofs.Firsts.{filter_passes, position-map, position_hit}
 
 pub slice_get_below : {X : Type 0} (xs : List X) (n : ℕ) (x : X) → slice_get xs n ≡ Some x → n < length xs

@@ -11,8 +11,8 @@ use Rattle.heap_graph.specs.Heap.{class_named, objects}
 use Rattle.heap_graph.specs.Layout.{IsChain, layout_size}
 use Rattle.heap_graph.specs.LinkFault.{IsLeastFault, code_of}
 use Rattle.heap_graph.specs.Linked.{Breaks, Fails, most_objects}
-use Rattle.heap_graph.specs.Tests.{BreaksLate, IsLateRule, IsLeastRule}
-use Rattle.heap_graph.proofs.Narrow.{bad_super, fine_super, measured_alone, only_one_measured}
+use Rattle.heap_graph.specs.working.RuleAnswers.{BreaksLate, IsLateRule, IsLeastRule}
+use Rattle.heap_graph.proofs.SuperRuleLaws.{bad_super, fine_super, measured_alone, only_one_measured}
 
 some_inj : {X : Type 0} {x y : X} → Some x ≡ Some y → x ≡ y
 some_inj {X} {x} {y} e = cc

@@ -16,16 +16,16 @@ use Rattle.heap_graph.specs.declared.entry.ObjectEntry.{ObjectEntry}
 use Rattle.heap_graph.specs.declared.row.RowKey.{RowKey}
 use Rattle.heap_graph.specs.declared.row.RowKey.TheVariants as keys
 use Rattle.heap_graph.specs.declared.rule.LinkRule.TheVariants.{TooLarge, UnknownClass}
-use Rattle.heap_graph.specs.Entries.{AreClassesOf, AreEntries}
-use Rattle.heap_graph.specs.Growing.{AreLinks}
+use Rattle.heap_graph.specs.working.Entries.{AreClassesOf, AreEntries}
+use Rattle.heap_graph.specs.working.GrowingLinks.{AreLinks}
 use Rattle.heap_graph.specs.Heap.{as_class, class_dumps, class_named, class_number, heap_of, number_named, objects}
-use Rattle.heap_graph.specs.Holding.{AreLinked}
+use Rattle.heap_graph.specs.working.HeldIds.{AreLinked}
 use Rattle.heap_graph.specs.Linked.{IsLinked, most_objects}
 use Rattle.heap_graph.specs.ObjectGraph.{IsRowIn, IsWhole, ObjectGraph, bytes_at, class_count, named_classes, named_in, references_of, row_at}
-use Rattle.heap_graph.specs.Pieces.{pieces}
+use Rattle.heap_graph.specs.working.CutLists.{pieces}
 use Rattle.heap_graph.specs.References.{target_of, targets}
 use Rattle.heap_graph.specs.Rows.{bytes_of, row_of}
-use Rattle.heap_graph.specs.Tables.{graph_of, named_class}
+use Rattle.heap_graph.specs.working.Refinement.{graph_of, named_class}
 use Rattle.heap_graph.proofs.Firsts.{position_hit}
 use Rattle.heap_graph.proofs.Linking.{IsClassThere, class_there}
 use Rattle.heap_graph.proofs.Sizes.{array_type_range, bytes_width}

@@ -1,7 +1,7 @@
 -- The graph of a heap list: what is left of a dump when its objects are numbers.
 use Rattle.std.specs.Prelude.{All, List, None, Option, [], count_by, length, map, slice_index, slice_index_or, ℕ, ◌++◌, ◌<◌, ◌≡◌, ◌≤◌}
 use Rattle.std.specs.List.{concat}
-use Rattle.heap_graph.specs.Names.{class_text}
+use Rattle.heap_graph.specs.ClassNames.{class_text}
 use Rattle.heap_graph.specs.Roots.{root_ids, root_objects}
 use Rattle.heap_graph.specs.Heap.{class_dumps, heap_of, objects}
 use Rattle.heap_graph.specs.Linked.{IsAccepted, most_objects}

@@ -4,7 +4,7 @@ ghost use Rattle.std.specs.Prelude.{OnOk, ◌++◌, ◌+◌, ◌^◌, ◌<◌, �
 ghost use Rattle.std.specs.List.{AllByRecursion};
 ghost use Rattle.hprof_grammar.specs.Tables as tables;
 ghost use Rattle.heap_graph.specs.Layout.{field_ids};
-ghost use Rattle.heap_graph.specs.Values.{IsIdValue, value_ids, values_ids};
+ghost use Rattle.heap_graph.specs.working.Values.{IsIdValue, value_ids, values_ids};
 
 use byteorder::{BigEndian, ByteOrder};
 use hprof_grammar::{Members, Values, View};

@@ -28,8 +28,8 @@ pub struct Graph<'a, A: Allocator> {
 impl<'a, A: Allocator> Model for Graph<'a, A> {
     ghost use Rattle.std.specs.Prelude.{length, ◌+◌, ◌≡◌};
     ghost use Rattle.heap_graph.specs.ObjectGraph.{IsWhole, ObjectGraph};
-    ghost use Rattle.heap_graph.specs.Pieces.{AreCuts};
-    ghost use Rattle.heap_graph.specs.Tables.{graph_of};
+    ghost use Rattle.heap_graph.specs.working.CutLists.{AreCuts};
+    ghost use Rattle.heap_graph.specs.working.Refinement.{graph_of};
 
     ghost Value = { ObjectGraph };
 

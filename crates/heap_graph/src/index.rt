@@ -1,7 +1,7 @@
 //! The objects by their identifiers.
 
 ghost use Rattle.std.specs.Prelude.{Contains, IfOk, IsTrue, ◌<◌, ◌==◌, ◌^◌, ◌≡◌, ◌≤◌, ◌↔◌, length, position, take};
-ghost use Rattle.heap_graph.specs.Named.{Resolves, ResolvesOne};
+ghost use Rattle.heap_graph.specs.working.Resolving.{Resolves, ResolvesOne};
 
 use std::alloc::{AllocError, Allocator};
 use std::marker::Model;

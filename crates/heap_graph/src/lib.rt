@@ -1,19 +1,14 @@
 //! The objects of a heap dump: their references, roots, rows and bytes, and the rules that link them.
 #![tactic(auto)]
 
-mod check;
-mod classes;
-mod entries;
 mod entry;
 mod fields;
 mod graph;
 mod index;
 mod laws;
-mod links;
 mod names;
 mod objects;
 mod pieces;
-mod references;
 mod row;
 mod rule;
 mod successors;

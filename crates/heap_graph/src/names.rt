@@ -2,7 +2,7 @@
 
 ghost use Rattle.std.specs.Prelude.{List, ◌≡◌, option_copied};
 ghost use Rattle.hprof_grammar.specs.Record.{Record};
-ghost use Rattle.heap_graph.specs.Names as named;
+ghost use Rattle.heap_graph.specs.ClassNames as named;
 
 use hprof_grammar::View;
 
@@ -15,7 +15,7 @@ pub(crate) struct Names<'a, 'd> {
 }
 
 impl<'a, 'd> Names<'a, 'd> {
-    ghost use Rattle.heap_graph.specs.NamePlaces.{AreNamesOf};
+    ghost use Rattle.heap_graph.specs.working.PlacedNames.{AreNamesOf};
 
     /// The identifier of the string that names a loaded class: that of the first such class.
     fn name_of(&self, class: u64) -> Option<u64>

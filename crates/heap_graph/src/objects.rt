@@ -1,5 +1,11 @@
 //! The objects of a dump at their places.
 
+mod check;
+mod classes;
+pub(crate) mod entries;
+mod links;
+mod references;
+
 ghost use Rattle.hprof_grammar.specs.SubRecord.{SubRecord};
 ghost use Rattle.hprof_grammar.specs.Standing.{StandInTurn, Stands, id_of};
 ghost use Rattle.std.specs.Prelude.{IfOk, List, map, ◌≡◌};
@@ -17,7 +23,7 @@ pub(crate) struct Objects<'d, A: Allocator> {
 }
 
 impl<'d, A: Allocator> Objects<'d, A> {
-    ghost use Rattle.heap_graph.specs.Placed.{AreOf, IsClassAt};
+    ghost use Rattle.heap_graph.specs.working.PlacedObjects.{AreOf, IsClassAt};
 
     /// The place of the class dump that an identifier names.
     pub(crate) fn class_named(&self, id: u64) -> Option<u32>

@@ -1,7 +1,7 @@
 //! Pieces of a slice that is cut at rising places.
 
 ghost use Rattle.std.specs.Prelude.{◌+◌, ◌<◌, ◌≡◌, length};
-ghost use Rattle.heap_graph.specs.Pieces.{AreCuts, piece};
+ghost use Rattle.heap_graph.specs.working.CutLists.{AreCuts, piece};
 
 /// The piece between a cut and the next.
 pub(crate) fn piece_at<'t>(cuts: &[usize], all: &'t [u32], number: usize) -> &'t [u32]

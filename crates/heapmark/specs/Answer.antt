@@ -3,7 +3,7 @@ use Rattle.std.specs.Prelude.{IsNone, IsSome, List, Option, take, ℕ, ◌≡◌
 use Rattle.std.specs.Io.KnownBytes.{Appends}
 use Rattle.heap_graph.specs.Linked.{IsAccepted}
 use Rattle.heap_graph.specs.LinkFault.{HasLinkFault}
-use Rattle.heap_graph.specs.Report.{IsReport}
+use Rattle.histogram.specs.Report.{IsReport}
 use Rattle.heapmark.specs.Refusals.{out_of_memory, read_fault, told}
 use Rattle.heapmark.specs.declared.refusal.Refusal.{Refusal}
 use Rattle.histogram.specs.Counting.{AppendsBeginning}

@@ -2,7 +2,7 @@
 
 ghost use Rattle.std.specs.Prelude.{◌≡◌, ◌≢◌, ◌+◌, ◌-◌, ◌^◌, ◌<◌, ◌≤◌, ◌↔◌, ◌⊎◌, IfErr, IfOk, IfSome, IsErrAnd, OnOk};
 ghost use Rattle.std.specs.Io.KnownBytes.{Keeps};
-ghost use Rattle.heap_graph.specs.Report.{IsReport, report_of};
+ghost use Rattle.histogram.specs.Report.{IsReport, report_of};
 ghost use Rattle.histogram.specs.Counting.{failures_of, inner_of};
 ghost use Rattle.histogram.specs.Lines.{histogram_of};
 ghost use Rattle.heapmark.specs.Answer.{IsAcceptedText, IsKnown, IsRefusalOf, TellsFirstFault, WritesBeginning, WritesReport, WritesSomeBeginning, WritesSomeReport, bytes_read};

@@ -4,3 +4,4 @@ pub mod LineText
 pub mod OrderLemmas
 pub mod RowLemmas
 pub mod TallyLemmas
+mod WorkedRows

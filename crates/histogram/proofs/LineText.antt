@@ -6,9 +6,9 @@ use lib.Utf8.{encode}
 use Rattle.std.proofs.lemmas.Fmt.{hex_byte}
 use Rattle.std.proofs.lemmas.List.Folds.{flat_map-map}
 use Rattle.std.proofs.lemmas.List.{flat_map_more, take_all, take_more}
-use Rattle.heap_graph.specs.Histogram.{Entry}
-use Rattle.heap_graph.specs.Report.{line, line_of, right_in}
-use Rattle.heap_graph.specs.ShownNames.{is_plain, shown_byte}
+use Rattle.histogram.specs.Histogram.{Entry}
+use Rattle.histogram.specs.Report.{line, line_of, right_in}
+use Rattle.histogram.specs.ShownRows.{is_plain, shown_byte}
 
 -- a fact of Ok, where the call answered Ok
 pub from_ok : {T E : Type 0} {P : Type 0} (r : Result T E) → is_ok r ≡ true → OnOk r P → P

@@ -10,7 +10,7 @@ use Rattle.std.proofs.lemmas.List.{get_or-map, length-map}
 use Rattle.std.proofs.lemmas.List.Sorted.{ranks_by, sorted_far, sum_by-IsPermutation}
 use Rattle.std.proofs.lemmas.List.Sums.{sum_by-cons}
 use Rattle.std.proofs.lemmas.Map.Lookups.{exact_bytes}
-use Rattle.heap_graph.specs.Histogram.{Entry, compare}
+use Rattle.histogram.specs.Histogram.{Entry, compare}
 
 pub compare_total : IsTotalOrder compare
 compare_total = then_total (back_total (on_total (λ (e : Entry). e.bytes) nat_cmp_total))

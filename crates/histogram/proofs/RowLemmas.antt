@@ -4,7 +4,7 @@ use Rattle.std.proofs.lemmas.Bool.{cases_eq, cases_lt, le-ltb, lt-ltb}
 use Rattle.std.proofs.lemmas.List.{get_or_default, get_or-set_other, get_or-set_same}
 use Rattle.std.proofs.lemmas.List.Elements.{filter-append}
 use Rattle.std.proofs.Math.ListN.{length-set}
-use Rattle.heap_graph.specs.Histogram.{of_row, same_row}
+use Rattle.histogram.specs.Histogram.{of_row, same_row}
 use Rattle.heap_graph.specs.ObjectGraph.{IsRowIn, IsWhole, object_count, ObjectGraph, bytes_at, class_count, row_at}
 use Rattle.heap_graph.specs.declared.row.RowKey.{RowKey}
 use Rattle.heap_graph.specs.declared.row.RowKey.TheVariants as keys

@@ -1,6 +1,6 @@
 -- What a report shows: its lines as entries, and the whole as a histogram.
 use Rattle.std.specs.Prelude.{map}
-use Rattle.heap_graph.specs.Histogram.{Entry, Histogram}
+use Rattle.histogram.specs.Histogram.{Entry, Histogram}
 use Rattle.histogram.specs.declared.report.Line.{Line}
 use Rattle.histogram.specs.declared.report.Report.{Report}
 

@@ -1,9 +1,8 @@
--- The numbers of rows, and how many objects a row has. These are words of this crate's own contracts; the histogram is
--- defined in heap_graph.
+-- The numbers of rows, and how many objects a row has.
 use Rattle.std.specs.Prelude.{Bool, List, filter, if◌then◌else◌, length, map, nat_lt, slice_index_or, sum_by, ℕ, ◌+◌, ◌-◌, ◌<◌, ◌≡◌}
 use Rattle.std.specs.List.{range_with_len}
-use Rattle.heap_graph.specs.Histogram.{Entry, entry, of_row}
-use Rattle.heap_graph.specs.ShownNames.{row_id, shown_row}
+use Rattle.histogram.specs.Histogram.{Entry, entry, of_row}
+use Rattle.histogram.specs.ShownRows.{row_id, shown_row}
 use Rattle.heap_graph.specs.ObjectGraph.{ObjectGraph, bytes_at, class_count}
 use Rattle.heap_graph.specs.declared.row.RowKey.{RowKey}
 use Rattle.heap_graph.specs.declared.row.RowKey.TheVariants as keys

@@ -1,8 +1,8 @@
 //! A report is determined, as laws: functions that do nothing.
 ghost use Rattle.std.specs.Prelude.{◌≡◌, Bool, List, ℕ};
-ghost use Rattle.heap_graph.specs.Histogram.{Histogram, IsHistogram};
+ghost use Rattle.histogram.specs.Histogram.{Histogram, IsHistogram};
 ghost use Rattle.heap_graph.specs.ObjectGraph.{ObjectGraph};
-ghost use Rattle.heap_graph.specs.Report.{IsReport};
+ghost use Rattle.histogram.specs.Report.{IsReport};
 
 use drain::one_marking;
 use heap_graph::one_graph;

@@ -1,6 +1,6 @@
 //! How many objects there are, and their bytes: of each row, and of all.
 ghost use Rattle.std.specs.Prelude.{◌≡◌, ◌+◌, ◌^◌, ◌<◌, IfOk, length};
-ghost use Rattle.heap_graph.specs.Histogram.{marked_objects, unmarked_objects};
+ghost use Rattle.histogram.specs.Histogram.{marked_objects, unmarked_objects};
 ghost use Rattle.heap_graph.specs.ObjectGraph.{IsRowIn, class_count};
 ghost use Rattle.histogram.specs.Tallies.{AreTallies, no_object, numbered_row, one_more, row_count, row_number, tally_of};
 

@@ -1,6 +1,6 @@
 //! The text of a report.
 ghost use Rattle.std.specs.Prelude.{◌≡◌, ◌++◌, IfOk, OnOk};
-ghost use Rattle.heap_graph.specs.Report.{line, report_of};
+ghost use Rattle.histogram.specs.Report.{line, report_of};
 ghost use Rattle.histogram.specs.Lines.{histogram_of};
 
 use crate::report::Report;

@@ -1,7 +1,7 @@
 //! Writing a report.
 ghost use Rattle.std.specs.Prelude.{◌≡◌, ◌≢◌, ◌+◌, ◌-◌, ◌^◌, ◌<◌, ◌↔◌, IsErrOf, OnOk};
 ghost use Rattle.std.specs.Io.KnownBytes.{Appends, Keeps};
-ghost use Rattle.heap_graph.specs.Report.{report_of};
+ghost use Rattle.histogram.specs.Report.{report_of};
 ghost use Rattle.histogram.specs.Counting.{AppendsBeginning, failures_of, inner_of};
 ghost use Rattle.histogram.specs.Lines.{histogram_of};
 

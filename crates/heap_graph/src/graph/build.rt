@@ -8,9 +8,9 @@ ghost use Rattle.heap_graph.specs.Heap.{heap_of};
 ghost use Rattle.heap_graph.specs.LinkFault.{HasLinkFault};
 ghost use Rattle.heap_graph.specs.ObjectGraph.{IsGraphOf, IsGraphOfText};
 ghost use Rattle.heap_graph.specs.Refusal.{IfLinkFault};
-ghost use Rattle.heap_graph.specs.Holding.{AreLinkedOf};
-ghost use Rattle.heap_graph.specs.NamePlaces.{AreNamesOf};
-ghost use Rattle.heap_graph.specs.Placed.{AreOf, IsReadFrom};
+ghost use Rattle.heap_graph.specs.working.HeldIds.{AreLinkedOf};
+ghost use Rattle.heap_graph.specs.working.PlacedNames.{AreNamesOf};
+ghost use Rattle.heap_graph.specs.working.PlacedObjects.{AreOf, IsReadFrom};
 
 use crate::graph::Graph;
 use crate::index::Index;

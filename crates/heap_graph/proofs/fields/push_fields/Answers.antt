@@ -3,7 +3,7 @@ use Rattle.std.proofs.lemmas.List.Sums.{sum_by-cons}
 use Rattle.hprof_grammar.specs.SubRecord.{Member}
 use Rattle.hprof_grammar.specs.Tables.{size_of}
 use Rattle.heap_graph.specs.Layout.{field_ids}
-use Rattle.heap_graph.specs.Values.{value_ids}
+use Rattle.heap_graph.specs.working.Values.{value_ids}
 use Rattle.heap_graph.proofs.FieldLaws.{field_step, size_of_id}
 use Rattle.heap_graph.proofs.fields.push_fields.Goals as goal
 

@@ -1,6 +1,6 @@
 use Rattle.std.proofs.Common.{◌++◌, ◌≡◌}
 use Rattle.std.specs.List.{AllByRecursion}
-use Rattle.heap_graph.specs.Values.{IsIdValue, values_ids}
+use Rattle.heap_graph.specs.working.Values.{IsIdValue, values_ids}
 use Rattle.heap_graph.proofs.fields.push_values.Given as goal
 
 abbrev pub invariant-loop-value : goal.invariant-loop-value

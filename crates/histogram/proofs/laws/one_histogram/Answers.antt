@@ -1,5 +1,5 @@
 use Rattle.std.proofs.Common.{sym, ◌∙◌}
-use Rattle.heap_graph.specs.Histogram.{entries, marked_objects}
+use Rattle.histogram.specs.Histogram.{entries, marked_objects}
 use Rattle.histogram.proofs.OrderLemmas.{one_arrangement}
 use Rattle.histogram.proofs.laws.one_histogram.Goals as goal
 

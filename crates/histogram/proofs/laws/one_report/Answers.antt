@@ -1,8 +1,8 @@
 use Rattle.std.proofs.Common.{Bool, List, ap, subst, sym, ◌∙◌, ◌≡◌}
-use Rattle.heap_graph.specs.Histogram.{Histogram, IsHistogram}
+use Rattle.histogram.specs.Histogram.{Histogram, IsHistogram}
 use Rattle.heap_graph.specs.ObjectGraph.{ObjectGraph}
 use Rattle.heap_graph.specs.Reachable.{MarksReachableOf}
-use Rattle.heap_graph.specs.Report.{report_of}
+use Rattle.histogram.specs.Report.{report_of}
 use Rattle.histogram.proofs.laws.one_report.Goals as goal
 
 -- a histogram is that of the same graph with the same marks

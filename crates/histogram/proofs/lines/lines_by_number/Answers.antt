@@ -1,5 +1,5 @@
 use Rattle.std.proofs.Common.{ap, arith, get_or, length, map, ◌<◌, ◌≡◌}
-use Rattle.heap_graph.specs.Histogram.{marked_objects}
+use Rattle.histogram.specs.Histogram.{marked_objects}
 use Rattle.histogram.specs.declared.tally.Tally.{Tally}
 use Rattle.histogram.specs.Lines.{entry_of}
 use Rattle.histogram.specs.Tallies.{no_object, row_count}

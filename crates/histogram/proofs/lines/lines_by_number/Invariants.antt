@@ -1,5 +1,5 @@
 use Rattle.std.proofs.Common.{map, ◌≡◌}
-use Rattle.heap_graph.specs.Histogram.{marked_objects}
+use Rattle.histogram.specs.Histogram.{marked_objects}
 use Rattle.histogram.specs.Lines.{entry_of}
 use Rattle.histogram.specs.Tallies.{entries_below}
 use Rattle.histogram.proofs.lines.lines_by_number.Given as goal

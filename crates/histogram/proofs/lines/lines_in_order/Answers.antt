@@ -1,7 +1,7 @@
 use Rattle.std.proofs.Common.{◌≡◌, IsPermutation, map, rules, subst}
 use Rattle.std.specs.Ordering.{is_lt}
 use Rattle.std.proofs.lemmas.List.Sorted.{IsPermutation-map, answers_always, ranks_by}
-use Rattle.heap_graph.specs.Histogram.{compare}
+use Rattle.histogram.specs.Histogram.{compare}
 use Rattle.histogram.specs.Lines.{entry_of}
 use Rattle.histogram.proofs.OrderLemmas.{compare_total, sorted_map}
 use Rattle.histogram.proofs.lines.lines_in_order.Goals as goal

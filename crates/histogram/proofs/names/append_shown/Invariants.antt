@@ -1,5 +1,5 @@
 use Rattle.std.proofs.Common.{◌≡◌, ◌++◌, take}
-use Rattle.heap_graph.specs.ShownNames.{shown_text}
+use Rattle.histogram.specs.ShownRows.{shown_text}
 use Rattle.histogram.proofs.names.append_shown.Given as goal
 
 -- the beginning of the text is shown

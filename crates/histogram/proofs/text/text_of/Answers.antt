@@ -1,5 +1,5 @@
 use Rattle.std.specs.Prelude.{codes}
-use Rattle.heap_graph.specs.Report.{line}
+use Rattle.histogram.specs.Report.{line}
 use Rattle.histogram.specs.Lines.{entry_of}
 use Rattle.histogram.proofs.LineText.{report_made}
 use Rattle.histogram.proofs.text.text_of.Goals as goal

@@ -1,5 +1,5 @@
 use Rattle.std.proofs.Common.{◌≡◌, flat_map, take}
-use Rattle.heap_graph.specs.Report.{line_of}
+use Rattle.histogram.specs.Report.{line_of}
 use Rattle.histogram.specs.Lines.{entry_of}
 use Rattle.histogram.proofs.text.text_of.Given as goal
 

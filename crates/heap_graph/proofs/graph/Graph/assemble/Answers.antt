@@ -2,11 +2,11 @@ use Rattle.std.proofs.Common.{List, ap, arith, filter, length, subst, sym, â—Œ+â
 use Rattle.std.proofs.lemmas.List.Sums.{count_by-le-length}
 use Rattle.hprof_grammar.specs.Dump.{is_root}
 use Rattle.heap_graph.specs.declared.entry.ClassEntry.{ClassEntry}
-use Rattle.heap_graph.specs.Entries.{AreClasses, AreClassesOf, AreEntries}
-use Rattle.heap_graph.specs.Growing.{AreLinks}
+use Rattle.heap_graph.specs.working.Entries.{AreClasses, AreClassesOf, AreEntries}
+use Rattle.heap_graph.specs.working.GrowingLinks.{AreLinks}
 use Rattle.heap_graph.specs.Heap.{heap_of}
 use Rattle.heap_graph.specs.Linked.{most_objects}
-use Rattle.heap_graph.specs.Named.{is_missing}
+use Rattle.heap_graph.specs.working.Resolving.{is_missing}
 use Rattle.heap_graph.specs.Roots.{root_ids}
 use Rattle.heap_graph.proofs.Building.{AreRootsOf, class_ids_are, few_class_entries, graph_is, roots_resolved}
 use Rattle.heap_graph.proofs.Standings.{same_count}

@@ -2,8 +2,8 @@ use Rattle.std.proofs.Common.{filter, ◌∙◌}
 use Rattle.hprof_grammar.specs.Dump.{is_root}
 use Rattle.hprof_grammar.specs.Standing.{IsPlaced}
 use Rattle.heap_graph.specs.Heap.{heap_of}
-use Rattle.heap_graph.specs.Holding.{AreLinked}
-use Rattle.heap_graph.specs.NamePlaces.{AreNames}
+use Rattle.heap_graph.specs.working.HeldIds.{AreLinked}
+use Rattle.heap_graph.specs.working.PlacedNames.{AreNames}
 use Rattle.heap_graph.proofs.Building.{are_linked, are_names, has_fault, seen, text_graph}
 use Rattle.heap_graph.proofs.graph.Graph.build.Goals as goal
 

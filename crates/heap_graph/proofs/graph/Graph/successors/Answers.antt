@@ -1,6 +1,6 @@
 use Rattle.std.proofs.Common.{arith, ap, sym, subst, ◌∙◌, ℕ, ◌≡◌, length, ◌-◌, List}
 use Rattle.heap_graph.specs.ObjectGraph.{ObjectGraph, object_count, references_of}
-use Rattle.heap_graph.specs.Pieces.{piece}
+use Rattle.heap_graph.specs.working.CutLists.{piece}
 use Rattle.heap_graph.proofs.Cutting.{get_or-pieces, length-pieces}
 use Rattle.heap_graph.proofs.graph.Graph.successors.Goals as goal
 

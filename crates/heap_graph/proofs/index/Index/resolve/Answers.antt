@@ -1,5 +1,5 @@
 use Rattle.std.proofs.Common.{Bool, arith, false, length, subst, sym, true, ℕ, ◌+◌, ◌<◌, ◌≡◌, take, get_or}
-use Rattle.heap_graph.specs.Named.{Resolves, ResolvesOne}
+use Rattle.heap_graph.specs.working.Resolving.{Resolves, ResolvesOne}
 use Rattle.heap_graph.proofs.Naming.{resolves_found, resolves_missing}
 use Rattle.heap_graph.proofs.index.Index.resolve.Goals as goal
 use Rattle.heap_graph.proofs.index.Index.resolve.Goals.{else-branch, then-branch}

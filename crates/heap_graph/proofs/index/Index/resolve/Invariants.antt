@@ -1,5 +1,5 @@
 use Rattle.std.proofs.Common.{take, ◌≤◌}
-use Rattle.heap_graph.specs.Named.{Resolves}
+use Rattle.heap_graph.specs.working.Resolving.{Resolves}
 use Rattle.heap_graph.proofs.index.Index.resolve.Given as goal
 
 abbrev pub invariant-loop-id : goal.invariant-loop-id

@@ -1,8 +1,8 @@
 use Rattle.std.proofs.Common.{List, drop, filter, ◌≡◌}
 use Rattle.hprof_grammar.specs.Dump.{is_string}
 use Rattle.hprof_grammar.specs.Record.{Record}
-use Rattle.heap_graph.specs.NamePlaces.{AreNamesOf}
-use Rattle.heap_graph.specs.Names.{string_named}
+use Rattle.heap_graph.specs.working.PlacedNames.{AreNamesOf}
+use Rattle.heap_graph.specs.ClassNames.{string_named}
 use Rattle.heap_graph.proofs.names.Names.string_named.Given as goal
 
 abbrev pub invariant-loop-at : goal.invariant-loop-at

@@ -1,6 +1,6 @@
 use Rattle.std.proofs.Common.{Some, None, subst, ◌≡◌, ℕ}
 use Rattle.heap_graph.specs.Heap.{class_named}
-use Rattle.heap_graph.specs.Placed.{IsClassAt}
+use Rattle.heap_graph.specs.working.PlacedObjects.{IsClassAt}
 use Rattle.heap_graph.proofs.Testing.{array_fine, array_unknown}
 use Rattle.heap_graph.proofs.objects.Objects.array_rule.Goals as goal
 

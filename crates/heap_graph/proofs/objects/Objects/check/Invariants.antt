@@ -2,7 +2,7 @@ use Rattle.std.proofs.Common.{List, ℕ, ◌<◌}
 use Rattle.hprof_grammar.specs.SubRecord.{SubRecord}
 use Rattle.heap_graph.specs.declared.rule.LinkRule.{LinkRule}
 use Rattle.heap_graph.specs.Linked.{Fails}
-use Rattle.heap_graph.specs.Placed.{AreOf}
+use Rattle.heap_graph.specs.working.PlacedObjects.{AreOf}
 use Rattle.heap_graph.proofs.objects.Objects.check.Given as goal
 
 abbrev pub invariant-loop-number : goal.invariant-loop-number

@@ -1,9 +1,9 @@
 use Rattle.std.proofs.Common.{List}
 use Rattle.hprof_grammar.specs.Record.{Record}
-use Rattle.heap_graph.specs.Entries.{AreClassesOf}
+use Rattle.heap_graph.specs.working.Entries.{AreClassesOf}
 use Rattle.heap_graph.specs.Heap.{heap_of}
-use Rattle.heap_graph.specs.NamePlaces.{AreNamesOf}
-use Rattle.heap_graph.specs.Placed.{AreOf}
+use Rattle.heap_graph.specs.working.PlacedNames.{AreNamesOf}
+use Rattle.heap_graph.specs.working.PlacedObjects.{AreOf}
 use Rattle.heap_graph.proofs.objects.Objects.classes.Given as goal
 
 abbrev pub invariant-loop-number : goal.invariant-loop-number

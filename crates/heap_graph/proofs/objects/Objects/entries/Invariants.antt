@@ -1,7 +1,7 @@
 use Rattle.std.proofs.Common.{List}
 use Rattle.hprof_grammar.specs.SubRecord.{SubRecord}
-use Rattle.heap_graph.specs.Entries.{AreClasses, AreEntries}
-use Rattle.heap_graph.specs.Holding.{AreLinkedOf}
+use Rattle.heap_graph.specs.working.Entries.{AreClasses, AreEntries}
+use Rattle.heap_graph.specs.working.HeldIds.{AreLinkedOf}
 use Rattle.heap_graph.proofs.objects.Objects.entries.Given as goal
 
 abbrev pub invariant-loop-number : goal.invariant-loop-number

@@ -1,6 +1,6 @@
 use Rattle.std.proofs.Common.{None, Some, ap, arith, length, subst, ◌≡◌, ℕ}
 use Rattle.heap_graph.specs.Heap.{class_named}
-use Rattle.heap_graph.specs.Placed.{IsClassAt}
+use Rattle.heap_graph.specs.working.PlacedObjects.{IsClassAt}
 use Rattle.heap_graph.proofs.Testing.{instance_fine, instance_unknown, instance_wrong}
 use Rattle.heap_graph.proofs.objects.Objects.instance_rule.Goals as goal
 

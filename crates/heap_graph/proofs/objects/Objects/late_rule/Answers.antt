@@ -1,7 +1,7 @@
 use Rattle.std.proofs.Common.{subst, sym}
 use Rattle.hprof_grammar.specs.SubRecord.{SubRecord}
 use Rattle.hprof_grammar.specs.Standing.{Stands}
-use Rattle.heap_graph.specs.Tests.{IsLateRule}
+use Rattle.heap_graph.specs.working.RuleAnswers.{IsLateRule}
 use Rattle.heap_graph.proofs.Standings.{IsDumpOfClass, is_class_dump}
 use Rattle.heap_graph.proofs.objects.Objects.late_rule.Goals as goal
 

@@ -1,6 +1,6 @@
 use Rattle.std.proofs.Common.{List, subst, ℕ}
-use Rattle.heap_graph.specs.Growing.{AddsLinks}
-use Rattle.heap_graph.specs.Holding.{AddsIdsOf}
+use Rattle.heap_graph.specs.working.GrowingLinks.{AddsLinks}
+use Rattle.heap_graph.specs.working.HeldIds.{AddsIdsOf}
 use Rattle.heap_graph.proofs.GrowingLaws.{links_more, links_none}
 use Rattle.heap_graph.proofs.objects.Objects.links.Goals as goal
 

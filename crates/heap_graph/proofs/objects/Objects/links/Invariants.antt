@@ -1,7 +1,7 @@
 use Rattle.std.proofs.Common.{List}
 use Rattle.hprof_grammar.specs.SubRecord.{SubRecord}
-use Rattle.heap_graph.specs.Growing.{AreLinks}
-use Rattle.heap_graph.specs.Holding.{AreLinkedOf}
+use Rattle.heap_graph.specs.working.GrowingLinks.{AreLinks}
+use Rattle.heap_graph.specs.working.HeldIds.{AreLinkedOf}
 use Rattle.heap_graph.proofs.objects.Objects.links.Given as goal
 
 abbrev pub invariant-loop-number : goal.invariant-loop-number

@@ -1,7 +1,7 @@
 use Rattle.std.proofs.Common.{List, Option, ap, get_or, ◌∙◌, ◌≡◌, ℕ}
 use Rattle.hprof_grammar.specs.Standing.{id_of}
 use Rattle.heap_graph.specs.Heap.{as_class, heap_of}
-use Rattle.heap_graph.specs.Names.{class_text}
+use Rattle.heap_graph.specs.ClassNames.{class_text}
 use Rattle.heap_graph.specs.ObjectGraph.{NamedClass}
 use Rattle.heap_graph.proofs.ClassLaws.{class_adds_one, no_class_adds}
 use Rattle.heap_graph.proofs.Standings.{IsDumpOfClass, IsThere, is_class_dump, no_class_dump, there}

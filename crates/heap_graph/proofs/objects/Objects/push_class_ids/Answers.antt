@@ -1,6 +1,6 @@
 use Rattle.std.proofs.Common.{List, ap, subst, sym, ℕ, ◌++◌, ◌∙◌, ◌∷◌, []}
 use Rattle.std.specs.List.{AllByRecursion}
-use Rattle.heap_graph.specs.Values.{IsIdValue, values_ids}
+use Rattle.heap_graph.specs.working.Values.{IsIdValue, values_ids}
 use Rattle.heap_graph.proofs.Adding.{class_adds, constant_values, static_values}
 use Rattle.heap_graph.proofs.objects.Objects.push_class_ids.Goals as goal
 

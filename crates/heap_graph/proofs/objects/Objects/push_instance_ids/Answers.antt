@@ -3,7 +3,7 @@ use Rattle.hprof_grammar.specs.SubRecord.{Member}
 use Rattle.hprof_grammar.specs.Tables.{size_of}
 use Rattle.heap_graph.specs.Heap.{class_named}
 use Rattle.heap_graph.specs.Layout.{field_ids, layout_size}
-use Rattle.heap_graph.specs.Placed.{IsClassAt}
+use Rattle.heap_graph.specs.working.PlacedObjects.{IsClassAt}
 use Rattle.heap_graph.proofs.Adding.{instance_adds}
 use Rattle.heap_graph.proofs.Linking.{no_unknown, right_size}
 use Rattle.heap_graph.proofs.Testing.{layout_alone}

@@ -6,7 +6,7 @@ use Rattle.hprof_grammar.specs.Standing.{Sight, Stands}
 use Rattle.heap_graph.specs.declared.objects.Objects.{Objects}
 use Rattle.heap_graph.specs.Heap.{objects}
 use Rattle.heap_graph.specs.Linked.{IsLinked}
-use Rattle.heap_graph.specs.Placed.{AreObjects}
+use Rattle.heap_graph.specs.working.PlacedObjects.{AreObjects}
 use Rattle.heap_graph.specs.References.{AreIdsIn}
 
 -- the objects stand at their places and are linked, and their identifiers have 1 to 8 bytes

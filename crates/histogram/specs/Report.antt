@@ -1,6 +1,6 @@
 -- The report: a line for each row of the histogram, and three lines of totals.
 use Rattle.std.specs.Prelude.{Bool, List, [], codes, decimal, flat_map, length, replicate, ℕ, ◌++◌, ◌-◌, ◌∷◌, ◌≡◌}
-use Rattle.heap_graph.specs.Histogram.{Entry, Histogram, IsHistogram}
+use Rattle.histogram.specs.Histogram.{Entry, Histogram, IsHistogram}
 use Rattle.heap_graph.specs.Reachable.{MarksReachableOf}
 use Rattle.heap_graph.specs.ObjectGraph.{IsGraphOfText, ObjectGraph}
 

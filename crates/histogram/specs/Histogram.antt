@@ -2,7 +2,7 @@
 use Rattle.std.specs.Prelude.{Bool, IsPermutation, IsSorted, List, [], false, filter, length, map, nat_lt, not, slice_index_or, sum_by, true, ℕ, ◌++◌, ◌==◌, ◌∷◌, ◌≡◌}
 use Rattle.std.specs.List.{range_with_len}
 use Rattle.heap_graph.specs.ObjectGraph.{ObjectGraph, bytes_at, class_count, object_count, row_at}
-use Rattle.heap_graph.specs.ShownNames.{row_id, shown_row}
+use Rattle.histogram.specs.ShownRows.{row_id, shown_row}
 use Rattle.std.specs.Ordering.{nat_cmp, ordering_then}
 use Rattle.std.specs.Cmp.Lexicographic.{slice_cmp}
 use Rattle.std.specs.declared.cmp.Ordering.{Ordering}

@@ -43,8 +43,8 @@ fn class_number(classes: &[ClassEntry<'_>], id: u64) -> usize
 }
 
 impl<'d, A: Allocator> Objects<'d, A> {
-    ghost use Rattle.heap_graph.specs.Holding.{AreLinkedOf};
-    ghost use Rattle.heap_graph.specs.Entries.{AreClasses, AreEntries, IsEntry};
+    ghost use Rattle.heap_graph.specs.working.HeldIds.{AreLinkedOf};
+    ghost use Rattle.heap_graph.specs.working.Entries.{AreClasses, AreEntries, IsEntry};
 
     /// The row and the bytes of an object.
     fn entry_of(&self, number: usize, classes: &[ClassEntry<'_>]) -> ObjectEntry

@@ -6,7 +6,7 @@ use Rattle.heap_graph.specs.declared.entry.ClassEntry.{ClassEntry}
 use Rattle.heap_graph.specs.declared.entry.ObjectEntry.{ObjectEntry}
 use Rattle.heap_graph.specs.Heap.{as_class, class_dumps, heap_of, objects}
 use Rattle.heap_graph.specs.ObjectGraph.{named_in}
-use Rattle.heap_graph.specs.Tables.{named_class}
+use Rattle.heap_graph.specs.working.Refinement.{named_class}
 use Rattle.heap_graph.specs.Rows.{bytes_of, row_of}
 
 -- the identifiers of the class dumps, in order

@@ -11,9 +11,9 @@ use hprof_grammar::ObjectKind;
 use std::alloc::{AllocError, Allocator};
 
 impl<'d, A: Allocator> Objects<'d, A> {
-    ghost use Rattle.heap_graph.specs.Entries.{AddsClass, AreClassesOf};
-    ghost use Rattle.heap_graph.specs.NamePlaces.{AreNamesOf};
-    ghost use Rattle.heap_graph.specs.Placed.{AreOf};
+    ghost use Rattle.heap_graph.specs.working.Entries.{AddsClass, AreClassesOf};
+    ghost use Rattle.heap_graph.specs.working.PlacedNames.{AreNamesOf};
+    ghost use Rattle.heap_graph.specs.working.PlacedObjects.{AreOf};
 
     /// Appends the object of that number, if it is a class.
     fn push_class<'a, B: Allocator>(

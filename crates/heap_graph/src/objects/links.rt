@@ -2,7 +2,7 @@
 
 ghost use Rattle.std.specs.Prelude.{IfOk, List, OnOk, length, ◌+◌, ◌^◌, ◌<◌, ◌≤◌};
 ghost use Rattle.hprof_grammar.specs.SubRecord.{SubRecord};
-ghost use Rattle.heap_graph.specs.Growing.{AddsLinks, IsStart};
+ghost use Rattle.heap_graph.specs.working.GrowingLinks.{AddsLinks, IsStart};
 
 use crate::index::Index;
 use crate::objects::Objects;
@@ -47,8 +47,8 @@ impl<B: Allocator> Links<B> {
 }
 
 impl<'d, A: Allocator> Objects<'d, A> {
-    ghost use Rattle.heap_graph.specs.Holding.{AreLinkedOf};
-    ghost use Rattle.heap_graph.specs.Growing.{AreLinks};
+    ghost use Rattle.heap_graph.specs.working.HeldIds.{AreLinkedOf};
+    ghost use Rattle.heap_graph.specs.working.GrowingLinks.{AreLinks};
 
     /// The references of all objects.
     pub(crate) fn links<B: Allocator + Copy>(&self, alloc: B) -> Result<Links<B>, AllocError>

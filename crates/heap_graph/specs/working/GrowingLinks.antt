@@ -3,8 +3,8 @@ use Rattle.std.specs.Prelude.{List, Some, [], count_by, filter_map, length, map,
 use Rattle.std.specs.List.{concat}
 use Rattle.hprof_grammar.specs.SubRecord.{SubRecord}
 use Rattle.heap_graph.specs.Heap.{objects}
-use Rattle.heap_graph.specs.Named.{is_missing, target_in}
-use Rattle.heap_graph.specs.Pieces.{AreCuts, pieces}
+use Rattle.heap_graph.specs.working.Resolving.{is_missing, target_in}
+use Rattle.heap_graph.specs.working.CutLists.{AreCuts, pieces}
 use Rattle.heap_graph.specs.References.{AreIdsIn, is_unresolved, targets}
 
 -- the references of no object

@@ -18,8 +18,8 @@ const MOST_OBJECTS: usize = 16_777_216;
 impl<'d, A: Allocator> Objects<'d, A> {
     ghost use Rattle.heap_graph.specs.Layout.{layout_size};
     ghost use Rattle.heap_graph.specs.Linked.{IsLinked};
-    ghost use Rattle.heap_graph.specs.Placed.{AreOf};
-    ghost use Rattle.heap_graph.specs.Tests.{IsFaultOf, IsLateRule, IsLeastRule};
+    ghost use Rattle.heap_graph.specs.working.PlacedObjects.{AreOf};
+    ghost use Rattle.heap_graph.specs.working.RuleAnswers.{IsFaultOf, IsLateRule, IsLeastRule};
 
     /// The bytes of an instance of a class that has no superclass.
     fn own_size(&self, at: u32) -> u64

@@ -10,7 +10,7 @@ use hprof_grammar::{Ids, ObjectKind};
 use std::alloc::{AllocError, Allocator};
 
 impl<'d, A: Allocator> Objects<'d, A> {
-    ghost use Rattle.heap_graph.specs.Holding.{AddsIds, AddsIdsOf, AreLinkedOf, IsObjectAt};
+    ghost use Rattle.heap_graph.specs.working.HeldIds.{AddsIds, AddsIdsOf, AreLinkedOf, IsObjectAt};
 
     /// Appends the identifiers that a class dump holds. The two reserved ones are not followed.
     fn push_class_ids<B: Allocator>(&self, at: u32, ids: &mut Vec<u64, B>) -> Result<(), AllocError>

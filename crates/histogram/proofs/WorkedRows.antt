@@ -11,8 +11,8 @@ use Rattle.heap_graph.specs.Heap.{heap_of, objects}
 use Rattle.heap_graph.specs.Layout.{IsChain, layout_size}
 use Rattle.heap_graph.specs.ObjectGraph.{IsGraphOf, ObjectGraph}
 use Rattle.heap_graph.specs.References.{AreIdsIn, instance_ids, targets}
-use Rattle.heap_graph.specs.Report.{line, report_of}
-use Rattle.heap_graph.specs.Histogram.{Histogram, entries, marked_objects, total, unmarked_objects}
+use Rattle.histogram.specs.Report.{line, report_of}
+use Rattle.histogram.specs.Histogram.{Histogram, entries, marked_objects, total, unmarked_objects}
 
 abbrev member : ℕ → Member
 member type = record { name = 2; type = type }

@@ -1,6 +1,6 @@
 -- What the tables of a graph stand for.
 use Rattle.std.specs.Prelude.{List, map, option_copied, ℕ}
-use Rattle.heap_graph.specs.Pieces.{pieces}
+use Rattle.heap_graph.specs.working.CutLists.{pieces}
 use Rattle.heap_graph.specs.Heap.{objects}
 use Rattle.heap_graph.specs.References.{targets}
 use Rattle.heap_graph.specs.ObjectGraph.{NamedClass, ObjectGraph}

@@ -1,0 +1,11 @@
+-- Words that only private clauses use.
+pub mod CutLists
+pub mod Refinement
+pub mod Resolving
+pub mod PlacedObjects
+pub mod PlacedNames
+pub mod Values
+pub mod HeldIds
+pub mod GrowingLinks
+pub mod Entries
+pub mod RuleAnswers
