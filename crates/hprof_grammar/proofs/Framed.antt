@@ -4,13 +4,16 @@ use Rattle.std.proofs.Math.ListN.{drop_of_length-le}
 use Rattle.std.proofs.lemmas.List.{append-nil, length-drop}
 use Rattle.byteorder.specs.Endian.{big_bytes, big_number}
 use Rattle.hprof_grammar.specs.Dump.{Places}
-use Rattle.hprof_grammar.specs.Joining.{AddsRecord, AddsSubs, with_loaded, with_string}
+use Rattle.hprof_grammar.specs.Joining.{AddsRecord, AddsSubs, FrameFault, HasSubFault, with_loaded, with_string}
+use Rattle.hprof_grammar.specs.Joining.FrameFault.{wrong_heap}
 use Rattle.hprof_grammar.specs.Orders.{IsAt}
 use Rattle.hprof_grammar.specs.Record.{IsOther}
 use Rattle.hprof_grammar.specs.Record.Record.{heap, load_class, other, string}
 use Rattle.hprof_grammar.specs.Tables.{is_heap_tag, is_length_of}
+use Rattle.hprof_grammar.specs.declared.flaw.FormatFault.{FormatFault}
 use Rattle.hprof_grammar.specs.declared.order.Order.{Order}
 use Rattle.hprof_grammar.proofs.Bytes.{IsBytes, bytes-drop, in_bytes, number-lt, number_parts}
+use Rattle.hprof_grammar.proofs.OrderLaws.{at_goes_on}
 use Rattle.hprof_grammar.proofs.TableLaws.{load_length, string_length}
 
 -- what is known of a frame whose tag, length and order are right
@@ -89,6 +92,9 @@ heap_framed at tag time body was next old new frame is_heap adds = record {
   order = frame.order;
   joined = adds.joined ∙ rw (append-nil old.strings, append-nil old.loaded) refl;
 }
+
+pub heap_broken : (at tag : ℕ) (body : List ℕ) (was next : Order) (old : Places) (fault : FormatFault) → IsPlacedFrame tag body was next old → is_heap_tag tag ≡ true → HasSubFault old.id_size (at + 9) body fault → FrameFault old.id_size at tag body was fault
+heap_broken at tag body was next old fault frame is_heap bad = wrong_heap is_heap frame.length_allowed (λ tags h. at_goes_on next (tags ++ tag ∷ []) (frame.order tags h)) bad
 
 pub other_framed : (at tag time : ℕ) (body : List ℕ) (was next : Order) (old : Places) → IsPlacedFrame tag body was next old → IsOther tag → AddsRecord at tag time body was next old old
 other_framed at tag time body was next old frame is_other = record {

@@ -1,4 +1,4 @@
--- The few facts of the format's tables that proofs use. Only here are the tables opened.
+-- The few facts of the format's tables that proofs use.
 use Rattle.std.proofs.Common.{None, Option, Some, arith, true, ℕ, ◌*◌, ◌+◌, ◌<◌, ◌^◌, ◌≡◌, ◌≤◌}
 use Rattle.std.proofs.lemmas.Bool.Decides.{nat_tests}
 use Rattle.hprof_grammar.specs.Tables.{is_heap_tag, is_id_size, is_length_of, kind_of, root_of, root_rest}

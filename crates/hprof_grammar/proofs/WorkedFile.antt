@@ -1,5 +1,5 @@
 -- A file of 174 bytes, by computation: a class with one field, two instances that refer to each other, and a root.
-use Rattle.std.proofs.Common.{List, [], lit<, lit≤, refl, ℕ, ◌++◌, ◌∷◌, ◌≡◌}
+use Rattle.std.proofs.Common.{List, [], inl, lit<, lit≤, refl, ℕ, ◌++◌, ◌∷◌, ◌≡◌}
 use Rattle.hprof_grammar.specs.Dump.{IsDumpOf, Places, header, places_of, spellings}
 use Rattle.hprof_grammar.specs.Record.{IsRecord, Record}
 use Rattle.hprof_grammar.specs.Record.Record.{heap, load_class, string}
@@ -128,6 +128,6 @@ unfolding is_id_size
 file_is_dump = record {
   records = records;
   spells = record { size = lit≤ tt; id_size = refl; time = 0; whole = file_is; each = (string_is, (load_is, (heap_is, tt))) };
-  orderly = refl;
+  orderly = inl refl;
   places = places_are;
 }

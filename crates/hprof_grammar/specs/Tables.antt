@@ -1,16 +1,14 @@
 -- The format's tables: which numbers are allowed where, and what sizes they stand for. No proof opens one of these
 -- words but a few lemmas of two lines, so that the accepted part of the format is settled here alone.
--- For now it is a narrow part: identifiers of 4 bytes, one heap dump in place of segments, and in it roots of unknown
--- kind, class dumps without constants and static fields, and instances.
-use Rattle.std.specs.Prelude.{Bool, List, None, Option, Some, [], false, if◌then◌else◌, nat_le, true, ℕ, ◌&&◌, ◌*◌, ◌+◌, ◌==◌, ◌||◌, ◌∷◌, ◌≡◌}
+use Rattle.std.specs.Prelude.{Bool, List, None, Option, Some, [], if◌then◌else◌, nat_le, replicate, suc, true, ℕ, ◌&&◌, ◌*◌, ◌++◌, ◌+◌, ◌==◌, ◌||◌, ◌∷◌, ◌≡◌, ◌⊎◌}
 use Rattle.hprof_grammar.specs.declared.tables.Kind.{Kind}
-use Rattle.hprof_grammar.specs.declared.tables.Kind.TheVariants.{Class, Instance, Root}
+use Rattle.hprof_grammar.specs.declared.tables.Kind.TheVariants.{Class, Instance, ObjectArray, PrimitiveArray, Root}
 use Rattle.hprof_grammar.specs.declared.tables.TypePlace.{TypePlace}
 use Rattle.hprof_grammar.specs.declared.tables.TypePlace.TheVariants.{InArray, InConstant, InMember, InStatic}
 
 -- the sizes of identifiers that are read ("size of identifiers" in the manual's header, which leaves it open)
 unfoldable pub is_id_size : ℕ → Bool
-is_id_size s = s == 4
+is_id_size s = (s == 4) || (s == 8)
 
 -- the manual's basic types: 2 object, 4 boolean, 5 char, 6 float, 7 double, 8 byte, 9 short, 10 int, 11 long
 abbrev pub is_primitive : ℕ → Bool
@@ -18,8 +16,8 @@ is_primitive t = nat_le 4 t && nat_le t 11
 
 -- the type codes that are allowed in each place
 unfoldable pub is_type_at : TypePlace → ℕ → Bool
-is_type_at InConstant t = false
-is_type_at InStatic t = false
+is_type_at InConstant t = (t == 2) || is_primitive t
+is_type_at InStatic t = (t == 2) || is_primitive t
 is_type_at InMember t = (t == 2) || is_primitive t
 is_type_at InArray t = is_primitive t
 
@@ -27,17 +25,35 @@ is_type_at InArray t = is_primitive t
 unfoldable pub size_of : ℕ → ℕ → ℕ
 size_of s t = if t == 2 then s else if (t == 4) || (t == 8) then 1 else if (t == 5) || (t == 9) then 2 else if (t == 6) || (t == 10) then 4 else if (t == 7) || (t == 11) then 8 else 0
 
--- how many bytes stand behind a root's object, by the sub-record's tag: 0xFF is ROOT UNKNOWN
+-- how many bytes stand behind a root's object, by the sub-record's tag: ROOT UNKNOWN (0xFF), JNI GLOBAL (an ID),
+-- JNI LOCAL (two u4), JAVA FRAME (two u4), NATIVE STACK (u4), STICKY CLASS, THREAD BLOCK (u4), MONITOR USED,
+-- THREAD OBJECT (two u4)
 unfoldable pub root_rest : ℕ → ℕ → Option ℕ
-root_rest s tag = if tag == 0xFF then Some 0 else None
+root_rest s tag =
+    if tag == 0xFF then Some 0
+    else if tag == 0x01 then Some s
+    else if tag == 0x02 then Some 8
+    else if tag == 0x03 then Some 8
+    else if tag == 0x04 then Some 4
+    else if tag == 0x05 then Some 0
+    else if tag == 0x06 then Some 4
+    else if tag == 0x07 then Some 0
+    else if tag == 0x08 then Some 8
+    else None
 
 abbrev pub root_of : Option ℕ → Option Kind
 root_of None = None
 root_of (Some n) = Some (Root n)
 
--- what a sub-record's tag says: 0x20 CLASS DUMP, 0x21 INSTANCE DUMP, or a root with so many bytes behind its object
+-- what a sub-record's tag says: CLASS DUMP, INSTANCE DUMP, OBJECT ARRAY DUMP, PRIMITIVE ARRAY DUMP, or a root with so
+-- many bytes behind its object
 unfoldable pub kind_of : ℕ → ℕ → Option Kind
-kind_of s tag = if tag == 0x20 then Some Class else if tag == 0x21 then Some Instance else root_of (root_rest s tag)
+kind_of s tag =
+    if tag == 0x20 then Some Class
+    else if tag == 0x21 then Some Instance
+    else if tag == 0x22 then Some ObjectArray
+    else if tag == 0x23 then Some PrimitiveArray
+    else root_of (root_rest s tag)
 
 -- the lengths that the body of a record may have: STRING IN UTF8 (0x01) has at least its ID, LOAD CLASS (0x02) two IDs
 -- and two u4, HEAP DUMP END (0x2C) nothing; any other record any length
@@ -52,6 +68,6 @@ is_heap_tag tag = (tag == 0x0C) || (tag == 0x1C)
 abbrev pub is_snapshot_tag : ℕ → Bool
 is_snapshot_tag tag = (tag == 0x0C) || (tag == 0x1C) || (tag == 0x2C)
 
--- the tags of a snapshot's records: one heap dump
+-- The tags of a snapshot's records: one heap dump, or one or more segments and then one end.
 abbrev pub IsSnapshot : List ℕ → Type 0
-IsSnapshot tags = tags ≡ 0x0C ∷ []
+IsSnapshot tags = (tags ≡ 0x0C ∷ []) ⊎ ((n : ℕ) × (tags ≡ replicate (suc n) 0x1C ++ 0x2C ∷ []))

@@ -12,6 +12,10 @@ pub enum Order {
     Before,
     /// A heap dump.
     Whole,
+    /// Segments, and no end yet.
+    Segments,
+    /// Segments and their end.
+    Ended,
 }
 
 impl Order {
@@ -22,12 +26,19 @@ impl Order {
         match self {
             Order::Before => match tag {
                 tags::HEAP_DUMP => Some(Order::Whole),
-                tags::HEAP_DUMP_SEGMENT | tags::HEAP_DUMP_END => None,
+                tags::HEAP_DUMP_SEGMENT => Some(Order::Segments),
+                tags::HEAP_DUMP_END => None,
                 _ => Some(Order::Before),
             },
-            Order::Whole => match tag {
+            Order::Segments => match tag {
+                tags::HEAP_DUMP => None,
+                tags::HEAP_DUMP_SEGMENT => Some(Order::Segments),
+                tags::HEAP_DUMP_END => Some(Order::Ended),
+                _ => Some(Order::Segments),
+            },
+            Order::Whole | Order::Ended => match tag {
                 tags::HEAP_DUMP | tags::HEAP_DUMP_SEGMENT | tags::HEAP_DUMP_END => None,
-                _ => Some(Order::Whole),
+                _ => Some(self),
             },
         }
     }
@@ -37,8 +48,8 @@ impl Order {
         ensures { result ≡ orders.is_done self }
     {
         match self {
-            Order::Before => false,
-            Order::Whole => true,
+            Order::Before | Order::Segments => false,
+            Order::Whole | Order::Ended => true,
         }
     }
 }

@@ -34,7 +34,7 @@ pub enum TypePlace {
 pub fn is_id_size(size: u32) -> bool
     ensures { result ≡ tables.is_id_size size }
 {
-    size == 4
+    size == 4 || size == 8
 }
 
 /// Whether a type code may stand there.
@@ -43,8 +43,9 @@ pub fn is_type_at(place: TypePlace, code: u8) -> bool
     ensures { result ≡ tables.is_type_at place code }
 {
     match place {
-        TypePlace::InConstant | TypePlace::InStatic => false,
-        TypePlace::InMember => code == 2 || (4 <= code && code <= 11),
+        TypePlace::InConstant | TypePlace::InStatic | TypePlace::InMember => {
+            code == 2 || (4 <= code && code <= 11)
+        }
         TypePlace::InArray => 4 <= code && code <= 11,
     }
 }
@@ -70,7 +71,10 @@ fn root_rest(id_size: u8, tag: u8) -> Option<u8>
     ensures { result ≡ tables.root_rest id_size tag }
 {
     match tag {
-        tags::ROOT_UNKNOWN => Some(0),
+        tags::ROOT_JNI_GLOBAL => Some(id_size),
+        tags::ROOT_JNI_LOCAL | tags::ROOT_JAVA_FRAME | tags::ROOT_THREAD_OBJECT => Some(8),
+        tags::ROOT_NATIVE_STACK | tags::ROOT_THREAD_BLOCK => Some(4),
+        tags::ROOT_UNKNOWN | tags::ROOT_STICKY_CLASS | tags::ROOT_MONITOR_USED => Some(0),
         _ => None,
     }
 }
@@ -83,6 +87,8 @@ pub fn kind_of(id_size: u8, tag: u8) -> Option<Kind>
     match tag {
         tags::CLASS_DUMP => Some(Kind::Class),
         tags::INSTANCE_DUMP => Some(Kind::Instance),
+        tags::OBJECT_ARRAY_DUMP => Some(Kind::ObjectArray),
+        tags::PRIMITIVE_ARRAY_DUMP => Some(Kind::PrimitiveArray),
         _ => root_rest(id_size, tag).map(Kind::Root),
     }
 }
