@@ -1,0 +1,58 @@
+#!/usr/bin/env bash
+# Compares a live dump with the class histogram that the virtual machine printed at the same moment.
+#
+# usage: bench/compare.sh DUMP HISTOGRAM REPORTER.. [-- PLAIN]
+#
+# REPORTER..: the command that prints the report of a dump named behind it, as crates/heapmark/out/heapmark. PLAIN: the plain
+# marker, by which all objects of the dump are counted (bench/run.sh builds it); /tmp/heapmark-bench/plain if not given.
+# Prints for each class whose counts differ how many the machine has, how many the dump, and how many the report. A class
+# object is a row `<class>` in the report and an instance of java.lang.Class in the histogram.
+set -euo pipefail
+
+[ $# -ge 3 ] || { sed -n 's/^# usage: /usage: /p' "$0" >&2; exit 2; }
+dump=$1 histogram=$2
+shift 2
+reporter=()
+while [ $# -gt 0 ] && [ "$1" != -- ]; do
+    reporter+=("$1")
+    shift
+done
+plain=${2:-/tmp/heapmark-bench/plain}
+room=$(mktemp -d)
+trap 'rm -rf "$room"' EXIT
+
+# of_histogram and of_report: lines "COUNT NAME", with the names that reports use.
+of_histogram() {
+    awk '$1 ~ /^[0-9]+:$/ { name = $4; sub(/\/0x/, "+0x", name); gsub(/\./, "/", name); print $2, name }' "$1"
+}
+
+of_report() {
+    awk 'BEGIN {
+        split("boolean Z char C float F double D byte B short S int I long J", codes)
+        for (at = 1; at <= 16; at += 2) code[codes[at] "[]"] = "[" codes[at + 1]
+        code["<class>"] = "java/lang/Class"
+    }
+    $3 !~ /^\((reachable|unreachable|unresolved)\)$/ { print $1, $3 in code ? code[$3] : $3 }' "$1"
+}
+
+"${reporter[@]}" "$dump" > "$room/report"
+"$plain" "$dump" --count all > "$room/all" 2> "$room/told" || { cat "$room/told" >&2; exit 1; }
+of_histogram "$histogram" > "$room/1"
+of_report "$room/all" > "$room/2"
+of_report "$room/report" > "$room/3"
+
+awk '
+    { count[FILENAME, $2] += $1; total[FILENAME] += $1; names[$2] }
+    function of(file, name) { return count[room "/" file, name] + 0 }
+    END {
+        printf "%10s %10s %10s  %s\n", "machine", "dump", "report", "class"
+        for (name in names) {
+            if (of(1, name) != of(2, name) || of(2, name) != of(3, name)) {
+                printf "%10d %10d %10d  %s\n", of(1, name), of(2, name), of(3, name), name | "sort -k1,1nr -k4"
+            } else same++
+        }
+        close("sort -k1,1nr -k4")
+        printf "%10d %10d %10d  (all)\n", total[room "/1"], total[room "/2"], total[room "/3"]
+        printf "%d classes have the same count in all three.\n", same
+    }' room="$room" "$room/1" "$room/2" "$room/3"
+tail -n 1 "$room/report"

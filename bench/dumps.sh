@@ -1,0 +1,131 @@
+#!/usr/bin/env bash
+# Makes heap dumps of real Java programs, each beside the class histogram of the same moment.
+#
+# usage: bench/dumps.sh [DIR [GROUP..]]
+#
+# Writes NAME.hprof and NAME.histogram into DIR (/tmp/heapmark-bench if it is not given). The groups, all of them if none
+# is given:
+#   small    Filler with 5 MB, by each collector, live and all
+#   medium   Filler with 100 MB, by G1 and Serial, live and all
+#   large    Filler with 600 MB, by G1, live
+#   tools    jshell, the virtual machine that it starts, and javac at work
+#   odd      no compressed references, no class archive, a dump written at the end of memory
+#   refused  a dump compressed by the virtual machine, which heapmark refuses
+# Java is the one of JAVA_HOME, else that of PATH. Files that are there already are made again.
+set -euo pipefail
+
+top=$(cd "$(dirname "$0")/.." && pwd)
+room=${1:-/tmp/heapmark-bench}
+[ $# -eq 0 ] || shift
+java=${JAVA_HOME:+$JAVA_HOME/bin/}
+
+# moment PID NAME [-all]: histogram and dump, by one request to the machine, so that little happens between the two. Before
+# those of live objects the garbage goes twice, since what waits to be finalized or cleaned outlives the first time.
+moment() {
+    if [ $# -eq 2 ]; then
+        "${java}jcmd" "$1" GC.run > "$room/$2.histogram"
+        sleep 0.5
+    fi
+    rm -f "$room/$2.hprof"
+    printf 'GC.class_histogram %s\nGC.heap_dump %s %s\n' "${3:-}" "${3:-}" "$room/$2.hprof" > "$room/request"
+    "${java}jcmd" "$1" -f "$room/request" > "$room/$2.histogram"
+    ls -l "$room/$2.hprof"
+}
+
+# started COMMAND..: starts a program that prints "ready", jshell since it is told so, and then waits for the end of its input.
+started() {
+    coproc PROGRAM { exec "$@"; }
+    local line=
+    echo 'System.out.println("ready")' >&"${PROGRAM[1]}"
+    until [ "$line" = ready ]; do read -r line <&"${PROGRAM[0]}"; done
+}
+
+# ended: closes the input of the program that was started, and waits for its end.
+ended() {
+    local program=$PROGRAM_PID input=${PROGRAM[1]}
+    exec {input}>&-
+    wait "$program"
+}
+
+# filler MEGABYTES NAME OPTION..: the dump of all objects first, since that of the live ones collects the garbage.
+filler() {
+    local megabytes=$1 name=$2
+    shift 2
+    started "${java}java" -cp "$room/classes" "-Xmx$((megabytes * 2 + 64))m" "$@" Filler "$megabytes"
+    [ "$megabytes" -gt 200 ] || moment "$PROGRAM_PID" "$name-all" -all
+    moment "$PROGRAM_PID" "$name-live"
+    ended
+}
+
+small() {
+    filler 5 small-g1 -XX:+UseG1GC
+    filler 5 small-serial -XX:+UseSerialGC
+    filler 5 small-parallel -XX:+UseParallelGC
+    filler 5 small-z -XX:+UseZGC
+}
+
+medium() {
+    filler 100 medium-g1 -XX:+UseG1GC
+    filler 100 medium-serial -XX:+UseSerialGC
+}
+
+large() {
+    filler 600 large-g1 -XX:+UseG1GC
+}
+
+odd() {
+    filler 5 odd-uncompressed -XX:-UseCompressedOops
+    filler 5 odd-unshared -Xshare:off
+    rm -f "$room/odd-out-of-memory.hprof"
+    "${java}java" -cp "$room/classes" -Xmx20m -XX:+HeapDumpOnOutOfMemoryError \
+        "-XX:HeapDumpPath=$room/odd-out-of-memory.hprof" Filler 100 < /dev/null > /dev/null 2>&1 || true
+    ls -l "$room/odd-out-of-memory.hprof"
+}
+
+refused() {
+    rm -f "$room/refused-compressed.hprof"
+    started "${java}java" -cp "$room/classes" Filler 1
+    "${java}jcmd" "$PROGRAM_PID" GC.heap_dump -gz=1 "$room/refused-compressed.hprof" > /dev/null
+    ended
+    ls -l "$room/refused-compressed.hprof"
+}
+
+# The shell's own machine holds the compiler; the one that it starts runs what is typed.
+jshell_and_agent() {
+    started "${java}jshell" "-J-Djava.util.prefs.userRoot=$room" -s -
+    moment "$PROGRAM_PID" tools-jshell-live
+    moment "$(pgrep -P "$PROGRAM_PID")" tools-jshell-agent-live
+    ended
+}
+
+# Copies of Filler, each in a package of its own, and javac in the midst of compiling them: it does not stand still between
+# its histogram and its dump.
+javac_at_work() {
+    local number compiler
+    for number in $(seq 600); do
+        mkdir -p "$room/sources/p$number"
+        { echo "package p$number;"; cat "$top/bench/java/Filler.java"; } > "$room/sources/p$number/Filler.java"
+    done
+    "${java}javac" -J-Xmx1g -d "$room/compiled" "$room"/sources/*/Filler.java &
+    compiler=$!
+    sleep 6
+    moment "$compiler" tools-javac-all -all
+    moment "$compiler" tools-javac-live
+    wait "$compiler"
+    rm -r "$room/sources" "$room/compiled"
+}
+
+tools() {
+    jshell_and_agent
+    javac_at_work
+}
+
+mkdir -p "$room"
+"${java}javac" -d "$room/classes" "$top/bench/java/Filler.java"
+[ $# -gt 0 ] || set -- small medium large tools odd refused
+for group; do
+    case $group in
+        small | medium | large | tools | odd | refused) "$group" ;;
+        *) echo "no such group: $group" >&2; exit 2 ;;
+    esac
+done

@@ -1,0 +1,160 @@
+//! A plain marker of heap dumps: the same method and the same report as `heapmark`, with Rust's std alone and no proof.
+//!
+//! usage: `plain FILE [--threads N] [--references table|bytes] [--count reachable|all]`
+//!
+//! Written to be measured beside `heapmark`, and to agree with it to the byte. Without `--threads` one thread marks and
+//! no step is atomic. `--count all` reports each object of the dump as if it were reachable. How long each phase took,
+//! what was read and the peak of memory go to standard error.
+
+mod dump;
+mod graph;
+mod index;
+mod mark;
+mod report;
+#[cfg(test)]
+mod rows;
+
+use dump::{Fault, LIMIT, Text, identifier_size};
+use graph::Graph;
+use index::Index;
+use mark::{Successors, Table, mark, mark_with};
+use std::fs::File;
+use std::io::{self, Read, Write};
+use std::process::ExitCode;
+use std::time::Instant;
+
+const NAMES: [&str; 14] = [
+    "BadHeader",
+    "BadIdSize",
+    "Truncated",
+    "BadLength",
+    "BadSubTag",
+    "SubTruncated",
+    "BadType",
+    "DumpOrder",
+    "ZeroObject",
+    "DuplicateObject",
+    "UnknownClass",
+    "SuperChain",
+    "InstanceSize",
+    "TooLarge",
+];
+
+#[derive(Clone, Copy)]
+struct Options {
+    threads: Option<usize>,
+    table: bool,
+    all: bool,
+}
+
+/// Tells how long it took from one end of a phase to the next.
+struct Clock(Instant);
+
+impl Clock {
+    fn tell(&mut self, phase: &str) {
+        eprintln!("{phase} took {} ns", self.0.elapsed().as_nanos());
+        self.0 = Instant::now();
+    }
+}
+
+fn arguments() -> Option<(String, Options)> {
+    let mut options = Options { threads: None, table: true, all: false };
+    let mut words = std::env::args().skip(1);
+    let file = words.next()?;
+    while let Some(word) = words.next() {
+        match (word.as_str(), words.next()?.as_str()) {
+            ("--threads", number) => {
+                options.threads = Some(number.parse().ok().filter(|number| (1..=64).contains(number))?)
+            }
+            ("--references", "table") => options.table = true,
+            ("--references", "bytes") => options.table = false,
+            ("--count", "reachable") => options.all = false,
+            ("--count", "all") => options.all = true,
+            _ => return None,
+        }
+    }
+    Some((file, options))
+}
+
+fn read_file(name: &str) -> io::Result<Vec<u8>> {
+    let file = File::open(name)?;
+    let size = file.metadata()?.len().min(LIMIT as u64 + 1);
+    let mut bytes = Vec::with_capacity(size as usize + 1);
+    file.take(LIMIT as u64 + 1).read_to_end(&mut bytes)?;
+    Ok(bytes)
+}
+
+fn marks_of<const ID: usize>(graph: &Graph<ID>, edges: &impl Successors, roots: &[u32], options: Options) -> Vec<bool> {
+    match options.threads {
+        _ if options.all => vec![true; graph.len()],
+        None => mark(edges, graph.len(), roots),
+        Some(threads) => mark_with(threads, edges, graph.len(), roots),
+    }
+}
+
+fn run<const ID: usize>(bytes: &[u8], options: Options, clock: &mut Clock) -> Result<String, Fault> {
+    let text = Text::<ID> { bytes };
+    let dump = text.parse()?;
+    clock.tell("parse");
+    let index = Index::new(dump.objects.iter().map(|at| text.id(*at as usize + 1)));
+    clock.tell("index");
+    let graph = Graph::new(text, dump, index)?;
+    let (roots, mut unresolved) = graph.roots();
+    clock.tell("link");
+    let marks = if options.table {
+        let (table, missing) = Table::new(&graph);
+        unresolved += missing;
+        clock.tell("references");
+        eprintln!("references {}", table.len());
+        marks_of(&graph, &table, &roots, options)
+    } else {
+        for object in 0..graph.len() as u32 {
+            graph.each_reference(object, |target| unresolved += u64::from(target.is_none()));
+        }
+        clock.tell("references");
+        marks_of(&graph, &graph, &roots, options)
+    };
+    clock.tell("mark");
+    let text = report::report(&graph, &marks, unresolved);
+    eprintln!("objects {}", graph.len());
+    Ok(text)
+}
+
+fn marked(bytes: &[u8], options: Options, clock: &mut Clock) -> Result<String, Fault> {
+    match identifier_size(bytes)? {
+        4 => run::<4>(bytes, options, clock),
+        _ => run::<8>(bytes, options, clock),
+    }
+}
+
+fn tell_peak() {
+    let status = std::fs::read_to_string("/proc/self/status").unwrap_or_default();
+    let peak = status.lines().find_map(|line| line.strip_prefix("VmHWM:"));
+    eprintln!("peak {}", peak.unwrap_or("unknown").trim());
+}
+
+fn main() -> ExitCode {
+    let Some((file, options)) = arguments() else {
+        eprintln!("usage: plain FILE [--threads N] [--references table|bytes] [--count reachable|all]");
+        return ExitCode::from(2);
+    };
+    let mut clock = Clock(Instant::now());
+    let Ok(bytes) = read_file(&file) else {
+        eprintln!("plain: refused 19 ReadFault");
+        return ExitCode::FAILURE;
+    };
+    clock.tell("read");
+    eprintln!("file {}", bytes.len());
+    match marked(&bytes, options, &mut clock) {
+        Ok(text) => {
+            let written = io::stdout().write_all(text.as_bytes());
+            clock.tell("report");
+            tell_peak();
+            if written.is_ok() { ExitCode::SUCCESS } else { ExitCode::FAILURE }
+        }
+        Err(Fault { code, at }) => {
+            eprintln!("plain: refused {code} {} at {at}", NAMES[usize::from(code) - 1]);
+            ExitCode::FAILURE
+        }
+    }
+}

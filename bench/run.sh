@@ -1,0 +1,107 @@
+#!/usr/bin/env bash
+# Measures heapmark beside the plain marker on the same dumps, in turn, and sees that both write the same bytes.
+#
+# usage: bench/run.sh [RUNS [DUMP..]]
+#
+# RUNS: how often each program runs on each dump (5); the best wall time of them counts, and the largest peak of memory.
+# DUMP..: those of /tmp/heapmark-bench if none is given (bench/dumps.sh makes them). Prints Markdown tables: whole programs
+# first, then the dumps, then the phases of the plain marker. heapmark is the binary that `rt run` in crates/heapmark made, or what the
+# variable HEAPMARK names. Built with rustc: bench/plain.
+set -euo pipefail
+
+top=$(cd "$(dirname "$0")/.." && pwd)
+runs=${1:-5}
+[ $# -eq 0 ] || shift
+[ $# -gt 0 ] || set -- /tmp/heapmark-bench/*.hprof
+heapmark=${HEAPMARK:-$top/crates/heapmark/out/heapmark}
+room=$(mktemp -d)
+trap 'rm -rf "$room"' EXIT
+
+rustc --edition 2024 -O -o "$room/plain" "$top/bench/plain/main.rs"
+cp "$room/plain" /tmp/heapmark-bench/plain
+
+# The ways in which each program runs: a word for each, from which `command_of` makes the command.
+ways() {
+    if [ -x "$heapmark" ]; then
+        if "$heapmark" --help > /dev/null 2>&1; then echo heapmark-1 heapmark-2 heapmark-4; else echo heapmark; fi
+    fi
+    echo plain plain-2 plain-4 plain-bytes plain-bytes-2 plain-bytes-4
+}
+
+command_of() {
+    case $1 in
+        heapmark) command=("$heapmark" "$2") ;;
+        heapmark-*) command=("$heapmark" "$2" --workers "${1#heapmark-}") ;;
+        plain) command=("$room/plain" "$2") ;;
+        plain-bytes) command=("$room/plain" "$2" --references bytes) ;;
+        plain-bytes-*) command=("$room/plain" "$2" --references bytes --threads "${1#plain-bytes-}") ;;
+        plain-*) command=("$room/plain" "$2" --threads "${1#plain-}") ;;
+    esac
+}
+
+# timed WAY DUMP: one run; adds "MICROSECONDS KILOBYTES" and what the program told to what is kept of that way.
+timed() {
+    local start end
+    command_of "$1" "$2"
+    start=${EPOCHREALTIME/./}
+    /usr/bin/time -q -f %M -o "$room/peak" "${command[@]}" > "$room/$1.report" 2>> "$room/$1.told" || true
+    end=${EPOCHREALTIME/./}
+    echo "$((end - start)) $(tail -n 1 "$room/peak")" >> "$room/$1.times"
+}
+
+# measure DUMP: all ways in turn, so that a busy moment hurts each of them alike.
+measure() {
+    local way
+    rm -f "$room"/*.times "$room"/*.told
+    for _ in $(seq "$runs"); do
+        for way in $(ways); do timed "$way" "$1"; done
+    done
+}
+
+# told WAY NAME: the least number that the runs told under this name.
+told() {
+    sed -n "s/^$2 \([0-9][0-9]*\).*/\1/p" "$room/$1.told" | sort -n | head -n 1
+}
+
+# row DUMP WAY: times of the whole program, and what they are to those of the plain marker with one thread.
+row() {
+    local same=same
+    cmp -s "$room/plain.report" "$room/$2.report" || same=DIFFERENT
+    awk -v dump="$1" -v way="$2" -v bytes="$(told plain file)" -v objects="$(told plain objects)" -v same="$same" '
+        FNR == 1 { file++ }
+        { if (!(file in best) || $1 < best[file]) best[file] = $1; if ($2 > peak[file]) peak[file] = $2 }
+        END {
+            printf "| %s | %s | %.3f | %.0f | %.2f | %.0f | %.2f | %.2f | %s |\n", dump, way, best[2] / 1e6,
+                bytes / best[2], objects / best[2], peak[2] / 1024, best[2] / best[1], peak[2] / peak[1], same
+        }' "$room/plain.times" "$room/$2.times"
+}
+
+# phases DUMP: of each way of the plain marker, each phase by the run in which it took least.
+phases() {
+    local way phase
+    for way in plain plain-2 plain-4 plain-bytes plain-bytes-2 plain-bytes-4; do
+        printf '| %s | %s |' "$1" "$way"
+        for phase in read parse index link references mark report; do
+            awk "{ printf \" %.0f |\", \$1 / 1e6 }" <<< "$(told "$way" "$phase took")"
+        done
+        echo
+    done
+}
+
+echo "Measured on $(date -u +'%-d %B %Y') on $(nproc) processors ($(sed -n 's/^model name.*: //p' /proc/cpuinfo | head -n 1))," \
+    "load $(cut -d ' ' -f 1 /proc/loadavg), $(rustc --version | cut -d ' ' -f 1,2), the best of $runs runs."
+printf '\n| Dump | Program | Wall, s | MB/s | Million objects/s | Peak, MiB | Wall to plain | Peak to plain | Report |\n'
+echo '|---|---|---|---|---|---|---|---|---|'
+for dump; do
+    name=$(basename "$dump" .hprof)
+    measure "$dump"
+    [ -n "$(told plain objects)" ] || { echo "$name: $(tail -n 1 "$room/plain.told")" >&2; continue; }
+    for way in $(ways); do row "$name" "$way"; done
+    phases "$name" >> "$room/phases"
+    echo "| $name | $(told plain file) | $(told plain objects) | $(told plain references) |" >> "$room/sizes"
+done
+printf '\n| Dump | Bytes | Objects | References |\n|---|---|---|---|\n'
+cat "$room/sizes"
+printf '\n| Dump | Program, ms by phase | read | parse | index | link | references | mark | report |\n'
+echo '|---|---|---|---|---|---|---|---|---|'
+cat "$room/phases"
