@@ -1,5 +1,5 @@
 -- Claims and finishes keep the rule, and are the events of those names.
-use Rattle.std.proofs.Common.{◌≡◌, ℕ, ◌<◌, max, [], Option, set, slice_index, slice_set, ap, sym, refl, subst, ⊎_elim, length-set, arith}
+use Rattle.std.proofs.Common.{◌≡◌, ℕ, ◌<◌, max, [], map, Option, set, slice_index, slice_set, ap, sym, refl, subst, ◌∙◌, ⊎_elim, length-set, arith}
 use Rattle.std.proofs.lemmas.List.Elements.{All-contains}
 use mathlib.Core.Option.{none, some}
 use lib.ListN.{get_elem?}
@@ -9,34 +9,44 @@ use Rattle.atomic_table.proofs.Lists.{set_here}
 use Rattle.tagged_index.specs.Head.{head_of, index_of}
 use Rattle.mark_core.specs.Account.{Account}
 use Rattle.mark_core.specs.World.{Setup, Marking, put}
-use Rattle.mark_core.specs.Event.{CanClaim, CanFinish}
-use Rattle.mark_core.specs.Law.{Law}
+use Rattle.mark_core.specs.Event.{Kind, Claim, Finish, CanClaim, CanFinish, effect}
+use Rattle.mark_core.specs.Event as may
+use Rattle.mark_core.specs.Counts.{counted}
 use Rattle.mark_core.proofs.Places.{at_below}
 use Rattle.mark_core.proofs.Sums.{stands_times}
 use Rattle.mark_core.proofs.Colours.{charged}
-use Rattle.mark_core.proofs.Events.{claim_keeps, can_claim, finish_keeps}
 use Rattle.buffer_pool.specs.declared.view.View.{View}
 use Rattle.buffer_pool.specs.Book.{claimed, finished}
 use Rattle.buffer_pool.specs.Plays.{rested, claim_made, finish_made}
 use Rattle.buffer_pool.specs.Laid.{IsLaid}
-use Rattle.buffer_pool.specs.Table.{Reading, Rule, Carries, free, mark_word, marking_of}
-use Rattle.buffer_pool.proofs.States.{agrees, stands, accounts_set, freed}
+use Rattle.buffer_pool.specs.Table.{Reading, Rule, Carries, free, link_word, mark_word, marking_of, view_counts}
+use Rattle.buffer_pool.proofs.States.{agrees, lawful, cut_same, stands, accounts_set, counts_same, happened, freed}
 use Rattle.buffer_pool.proofs.Loads.{noticed, each_once}
 use Rattle.buffer_pool.proofs.Words.{head_beside_mark, link_beside_mark, marks_after}
 
 module _ {B : Type 0} (r : Reading B) (e : Setup) (s : State (Option B) View) (rule : Rule r e s) (id : ℕ) (v : View) (is : get_elem? s.views id ≡ some v) (bare : v.out ≡ 0) (there : 0 < v.book.account.share) where
   -- the mark of an object changes, and the account of the seat
   marked :
-      (o x : ℕ) (w : View) → o < e.objects → w.out ≡ 0 → w.book.account.held ≡ v.book.account.held → w.book.setup ≡ v.book.setup
-      → Law e (record (marking_of r e s) { mark = put o x (marking_of r e s).mark; accounts = set (marking_of r e s).accounts id w.book.account })
+      (o x : ℕ) (w : View) (kind : Kind) → o < e.objects → w.out ≡ 0 → w.book.account.held ≡ v.book.account.held → w.book.setup ≡ v.book.setup → view_counts w ≡ view_counts v
+      → may.Allows e (marking_of r e s) id v.book.account kind
+      → effect (marking_of r e s) id v.book.account kind ≡ record (marking_of r e s) { mark = put o x (marking_of r e s).mark; accounts = set (marking_of r e s).accounts id w.book.account }
+      → counted (marking_of r e s) (map view_counts s.views) id kind ≡ map view_counts s.views
       → Rule r e (record { words = set s.words (mark_word e o) x; homes = s.homes; views = set s.views id w })
-  marked o x w below out held setup law =
+  marked o x w kind below out held setup counts can is_effect is_counted =
       noticed r e s rule id v is bare there (set s.words (mark_word e o) x) w (length-set s.words (mark_word e o) x) (link_beside_mark e s.words o x) out held setup
-      (agrees e (record m { mark = put o x m.mark; accounts = set m.accounts id w.book.account }) (marking_of r e (record { words = set s.words (mark_word e o) x; homes = s.homes; views = set s.views id w }))
-      (λ q. ap head_of (head_beside_mark e s.words o x q)) (λ i h. ap index_of (link_beside_mark e s.words o x i h)) (marks_after e s.words o x (omega (arith, rule.word_count))) refl (accounts_set s.views id w) law)
+      (happened r e s rule id v is kind there can t
+      (agrees (marking_of r e t) (record m { mark = put o x m.mark; accounts = set m.accounts id w.book.account }) (λ q. ap head_of (head_beside_mark e s.words o x q)) links
+      (marks_after e s.words o x (omega (arith, rule.word_count))) refl (accounts_set s.views id w) ∙ sym is_effect)
+      (counts_same r e s rule id v is w counts ∙ sym is_counted))
     where
       m : Marking
       m = marking_of r e s
+
+      t : State (Option B) View
+      t = record { words = set s.words (mark_word e o) x; homes = s.homes; views = set s.views id w }
+
+      links : (i : ℕ) → (marking_of r e t).link i ≡ m.link i
+      links = cut_same e.buffers (λ i. index_of (slice_index t.words (link_word i))) (λ i. index_of (slice_index s.words (link_word i))) (λ i h. ap index_of (link_beside_mark e s.words o x i h))
 
 module _ {B : Type 0} (r : Reading B) (e : Setup) (slots id : ℕ) where
   pub claims :
@@ -46,15 +56,13 @@ module _ {B : Type 0} (r : Reading B) (e : Setup) (slots id : ℕ) where
       let n = slice_index s.words (mark_word e o) in
       let v : View = free me.0 in
       let w : View = record v { book = claimed o n me.0.book } in
-      let m = marking_of r e s in
       let a = me.0.book.account in
       let same : me.0.book.setup ≡ e = rule.same_setup id v is there in
-      let can' : CanClaim e o a = subst (λ (g : Setup). CanClaim g o a) same can in
-      let at = stands r e s rule id v is in (
+      let can' : CanClaim e o a = subst (λ (g : Setup). CanClaim g o a) same can in (
         w,
         keeps,
         tt,
-        marked r e s rule id v is refl there o (max n 1) w below refl refl refl (claim_keeps e m rule.law id a at there o (can_claim e m rule.law id a at there o can')),
+        marked r e s rule id v is refl there o (max n 1) w (Claim o) below refl refl refl refl can' refl refl,
         (λ p h. let b : me.0.book.setup.buffers ≡ e.buffers = ap (λ (x : Setup). x.buffers) same in
             let k : o ≡ p = omega (arith, h) in subst (λ x. (w, []) ≡ rested me (claimed x n me.0.book)) k refl),
       ))
@@ -71,11 +79,11 @@ module _ {B : Type 0} (r : Reading B) (e : Setup) (slots id : ℕ) where
       let same : me.0.book.setup ≡ e = rule.same_setup id v is there in
       let can' : CanFinish e o a = subst (λ (g : Setup). CanFinish g o a) same can in
       let at = stands r e s rule id v is in
-      let one : n ≡ 1 = (charged e m.mark m.slots m.accounts rule.law.coloured id a at o (stands_times a.charge o can'.0)).0 in
+      let one : n ≡ 1 = (charged e m.mark m.slots m.accounts (lawful r e s rule).coloured id a at o (stands_times a.charge o can'.0)).0 in
       let two : max n 2 ≡ 2 = omega (arith, one) in
       let after : Rule r e (record { words = slice_set s.words (mark_word e o) (max n 2); homes = s.homes; views = set s.views id w }) =
       subst (λ x. Rule r e (record { words = slice_set s.words (mark_word e o) x; homes = s.homes; views = set s.views id w })) (sym two)
-      (marked r e s rule id v is refl there o 2 w below refl refl refl (finish_keeps e m rule.law id a at there o can')) in
+      (marked r e s rule id v is refl there o 2 w (Finish o) below refl refl refl refl can' refl refl) in
       let once = each_once r e (record { words = slice_set s.words (mark_word e o) (max n 2); homes = s.homes; views = set s.views id w }) after id w (set_here s.views id w (at_below s.views id v is)) in (
         w,
         keeps,

@@ -1,34 +1,42 @@
 -- What holds of the last state of a pool that is closed.
-use Rattle.std.proofs.Common.{◌≡◌, ℕ, ◌+◌, ◌≤◌, false, List, [], length, drop, Contains, Option, slice_index, ap, sym, subst, ◌∙◌, length-drop, arith}
+use Rattle.std.proofs.Common.{◌≡◌, ℕ, ◌+◌, ◌<◌, ◌≤◌, false, List, [], length, map, drop, Contains, Option, slice_index, ap, sym, subst, ◌∙◌, length-drop, arith}
 use Rattle.std.proofs.lemmas.List.{get_or-drop}
 use mathlib.Core.Option.{some}
 use lib.ListN.{get_elem?}
 use Rattle.mark_core.proofs.Places.{at_get_or}
 use Rattle.atomic_table.specs.Table.{Final, Seen}
+use Rattle.atomic_table.proofs.Lists.{at_map}
 use Rattle.mark_core.specs.declared.which.Which.TheVariants.{Full}
 use Rattle.mark_core.specs.Lists.{StandsAt, times}
 use Rattle.mark_core.specs.World.{Setup, Marking}
+use Rattle.mark_core.specs.Event.{Event}
+use Rattle.mark_core.specs.Counts.{Counts, LeadTo}
 use Rattle.mark_core.specs.Law.{Law}
 use Rattle.mark_core.specs.Shares.{whole}
 use Rattle.mark_core.specs.Runs.{IsClosed, LiesIn}
 use Rattle.mark_core.proofs.Colours.{linear}
 use Rattle.mark_core.proofs.Closing.{closes}
+use Rattle.mark_core.proofs.Counting.{lawful_where}
 use Rattle.buffer_pool.specs.declared.view.View.{View}
-use Rattle.buffer_pool.specs.Book.{Book}
+use Rattle.buffer_pool.specs.Book.{Book, counts_of}
 use Rattle.buffer_pool.specs.Closing.{Ends}
-use Rattle.buffer_pool.specs.Table.{Reading, Rule, marking_of, mark_word}
+use Rattle.buffer_pool.specs.Table.{Reading, Rule, marking_of, mark_word, view_counts}
 use Rattle.buffer_pool.proofs.States.{stands}
 
 -- of any marking with these marks
 ends :
-    (b : Book) (marks : List ℕ) (last : Marking) (w : ℕ) → length marks ≡ b.setup.objects → Law b.setup last → StandsAt last.accounts w b.account → ((o : ℕ) → slice_index marks o ≡ last.mark o)
+    (b : Book) (marks : List ℕ) (events : List Event) (last : Marking) (counts : List Counts) (w : ℕ) → length marks ≡ b.setup.objects → 0 < b.setup.buffers → LeadTo b.setup events last counts
+    → StandsAt last.accounts w b.account → StandsAt counts w (counts_of b) → ((o : ℕ) → slice_index marks o ≡ last.mark o)
     → b.account.share ≡ whole → b.account.held ≡ [] → b.account.charge ≡ [] → Ends b marks
-ends b marks last w count law own same all none_held none_charged =
+ends b marks events last counts w count some_buffer led own own_counts same all none_held none_charged =
     record {
       count = count;
+      events = events;
       last = last;
+      counts = counts;
+      led = led;
       law = law;
-      own = (w, own);
+      own = (w, own, own_counts);
       same_marks = same;
       finished = λ o. (λ two. (closed.finished o).0 (sym (same o) ∙ two), λ k. same o ∙ (closed.finished o).1 k);
       once = closed.once;
@@ -40,6 +48,9 @@ ends b marks last w count law own same all none_held none_charged =
       reachable = λ o one. law.coloured.reachable o (omega (arith, one, same o));
     }
   where
+    law : Law b.setup last
+    law = lawful_where b.setup events last counts some_buffer led
+
     closed : IsClosed b.setup last w b.account
     closed = closes b.setup last law w b.account own all none_charged
 
@@ -59,7 +70,9 @@ ends b marks last w count law own same all none_held none_charged =
 pub ends_of :
     {B : Type 0} (r : Reading B) (e : Setup) (id : ℕ) (v : View) (words : List ℕ) (slots : List (Option B)) (first : ℕ) → first ≡ 32 + e.buffers → Final (Seen (Rule r e) id v) words slots
     → v.book.account.share ≡ whole → v.book.account.held ≡ [] → v.book.account.charge ≡ [] → Ends v.book (drop first words)
-ends_of r e id v words slots first place final all none_held none_charged = ends v.book (drop first words) last id count law (stands r e final.0 rule id v final.1.1) marks all none_held none_charged
+ends_of r e id v words slots first place final all none_held none_charged =
+    ends v.book (drop first words) rule.reached.events last (map view_counts final.0.views) id count some_buffer led (stands r e final.0 rule id v final.1.1) (at_map view_counts final.0.views id v final.1.1)
+    marks all none_held none_charged
   where
     rule : Rule r e final.0
     rule = final.1.0
@@ -70,8 +83,11 @@ ends_of r e id v words slots first place final all none_held none_charged = ends
     same : v.book.setup ≡ e
     same = rule.same_setup id v final.1.1 (omega (arith, all))
 
-    law : Law v.book.setup last
-    law = subst (λ (g : Setup). Law g last) (sym same) rule.law
+    some_buffer : 0 < v.book.setup.buffers
+    some_buffer = subst (λ (g : Setup). 0 < g.buffers) (sym same) rule.some_buffer
+
+    led : LeadTo v.book.setup rule.reached.events last (map view_counts final.0.views)
+    led = subst (λ (g : Setup). LeadTo g rule.reached.events last (map view_counts final.0.views)) (sym same) rule.reached.led
 
     marks : (o : ℕ) → slice_index (drop first words) o ≡ last.mark o
     marks o =

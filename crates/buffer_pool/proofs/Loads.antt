@@ -5,7 +5,7 @@ use mathlib.Core.Option.{none, some}
 use lib.ListN.{get_elem?}
 use prog.Atomic.{either}
 use Rattle.atomic_table.specs.Table.{State, Me, Allows, step, keeps}
-use Rattle.atomic_table.proofs.Lists.{exchanged, set_again}
+use Rattle.atomic_table.proofs.Lists.{exchanged}
 use Rattle.tagged_index.specs.Head.{Head, head_of, index_of}
 use Rattle.mark_core.specs.declared.which.Which.{Which}
 use Rattle.mark_core.specs.declared.which.Which.TheVariants.{Full, Empty}
@@ -13,15 +13,15 @@ use Rattle.mark_core.specs.Lists.{times}
 use Rattle.mark_core.specs.Account.{look_of, after_load, after_load_link}
 use Rattle.mark_core.specs.World.{Setup}
 use Rattle.mark_core.specs.Runs.{HasEachOnce}
-use Rattle.mark_core.specs.Law.{Law}
+use Rattle.mark_core.specs.Event.{Load, LoadLink, effect, last_link, link_from}
+use Rattle.mark_core.specs.Counts.{count_load}
 use Rattle.mark_core.proofs.Ownership.{stacked_below, top_stands}
 use Rattle.mark_core.proofs.Closing.{has_each_once}
-use Rattle.mark_core.proofs.Events.{load_keeps, load_link_keeps}
 use Rattle.buffer_pool.specs.declared.view.View.{View}
-use Rattle.buffer_pool.specs.Book.{Book, loaded, link_loaded}
+use Rattle.buffer_pool.specs.Book.{Book, counts_of, loaded, link_loaded}
 use Rattle.buffer_pool.specs.Plays.{rested, head_seen, link_seen, set_aside, settled}
-use Rattle.buffer_pool.specs.Table.{Reading, Rule, IsTied, Rests, Carries, free, head_word, link_word, marking_of}
-use Rattle.buffer_pool.proofs.States.{agrees, stands, changed, accounts_set, held_below, freed}
+use Rattle.buffer_pool.specs.Table.{Reading, Reached, Rule, IsTied, Rests, Carries, free, head_word, link_word, marking_of}
+use Rattle.buffer_pool.proofs.States.{agrees, lawful, cut_below, stands, changed, accounts_set, accounts_same, counts_same, counts_changed, nothing_happened, happened, held_below, freed}
 
 -- a stack has its own head word
 pub same_head : (q p : Which) → head_word q ≡ head_word p → q ≡ p
@@ -46,6 +46,11 @@ pub setup_loaded : (q : Which) (h : Head) (b : Book) → (loaded q h b).setup �
 setup_loaded Full h b = refl
 setup_loaded Empty h b = refl
 
+-- a load is counted
+counts_loaded : (q : Which) (h : Head) (b : Book) → counts_of (loaded q h b) ≡ count_load q h (counts_of b)
+counts_loaded Full h b = refl
+counts_loaded Empty h b = refl
+
 held_linked : (q : Which) (l : Option ℕ) (b : Book) → (link_loaded q l b).account.held ≡ b.account.held
 held_linked Full l b = refl
 held_linked Empty l b = refl
@@ -58,10 +63,10 @@ module _ {B : Type 0} (r : Reading B) (e : Setup) (s : State (Option B) View) (r
   pub noticed :
       (words : List ℕ) (w : View) → length words ≡ length s.words → ((i : ℕ) → i < e.buffers → slice_index words (link_word i) ≡ slice_index s.words (link_word i))
       → w.out ≡ 0 → w.book.account.held ≡ v.book.account.held → w.book.setup ≡ v.book.setup
-      → Law e (marking_of r e (record { words = words; homes = s.homes; views = set s.views id w })) → Rule r e (record { words = words; homes = s.homes; views = set s.views id w })
-  noticed words w count links out held setup law =
+      → Reached r e (record { words = words; homes = s.homes; views = set s.views id w }) → Rule r e (record { words = words; homes = s.homes; views = set s.views id w })
+  noticed words w count links out held setup reached =
       changed r e s rule id v is words s.homes w count refl (λ i h. let l = links i h in omega (arith, rule.linked i h)) rule.sized (λ i o. absurd (nothing_out w.out out i o))
-      (λ i mine o. rule.rests id v is i (subst (λ xs. 0 < times i xs) held mine) (nothing_out v.out bare i)) others (λ h. setup ∙ rule.same_setup id v is there) law
+      (λ i mine o. rule.rests id v is i (subst (λ xs. 0 < times i xs) held mine) (nothing_out v.out bare i)) others (λ h. setup ∙ rule.same_setup id v is there) reached
     where
       others : (k : ℕ) (u : View) → k ≢ id → get_elem? s.views k ≡ some u → IsTied words u × Rests s.homes u
       others k u other at = ((λ i o. let t = rule.tied k u at i o in (t.0, links i (held_below r e s rule k u at i t.0) ∙ t.1)), rule.rests k u at)
@@ -70,12 +75,22 @@ module _ {B : Type 0} (r : Reading B) (e : Setup) (s : State (Option B) View) (r
   pub top_below : (q : Which) (i : ℕ) → (head_of (slice_index s.words (head_word q))).index ≡ Some i → i < v.book.setup.buffers
   top_below q i top =
       let m = marking_of r e s in
-      let below : i < e.buffers = stacked_below e.buffers m.head m.link m.accounts rule.law.stack rule.law.owned q i (top_stands e.buffers m.head m.link m.accounts rule.law.stack rule.law.owned q i top) in
+      let below : i < e.buffers = stacked_below e.buffers m.head m.link m.accounts (lawful r e s rule).stack (lawful r e s rule).owned q i (top_stands e.buffers m.head m.link m.accounts (lawful r e s rule).stack (lawful r e s rule).owned q i top) in
       subst (λ (x : Setup). i < x.buffers) (sym (rule.same_setup id v is there)) below
+
+-- a view with the same book: nothing happened
+only_seen :
+    {B : Type 0} (r : Reading B) (e : Setup) (s : State (Option B) View) (rule : Rule r e s) (id : ℕ) (v : View) (is : get_elem? s.views id ≡ some v) (w : View) → w.book ≡ v.book
+    → Reached r e (record { words = s.words; homes = s.homes; views = set s.views id w })
+only_seen {B} r e s rule id v is w same =
+    let t : State (Option B) View = record { words = s.words; homes = s.homes; views = set s.views id w } in
+    nothing_happened r e s rule t
+    (agrees (marking_of r e t) (marking_of r e s) (λ q. refl) (λ i. refl) (λ o. refl) refl (accounts_same r e s rule id v is w (ap (λ (b : Book). b.account) same)))
+    (counts_same r e s rule id v is w (ap counts_of same))
 
 -- an account has no buffer twice, and no object twice among those that it answers for and finished
 pub each_once : {B : Type 0} (r : Reading B) (e : Setup) (s : State (Option B) View) (rule : Rule r e s) (id : ℕ) (v : View) → get_elem? s.views id ≡ some v → HasEachOnce v.book.account
-each_once r e s rule id v is = has_each_once e (marking_of r e s) rule.law id v.book.account (stands r e s rule id v is)
+each_once r e s rule id v is = has_each_once e (marking_of r e s) (lawful r e s rule) id v.book.account (stands r e s rule id v is)
 
 module _ {B : Type 0} (r : Reading B) (e : Setup) (slots id : ℕ) where
   -- what stays as it is keeps the rule of a word written again
@@ -88,13 +103,16 @@ module _ {B : Type 0} (r : Reading B) (e : Setup) (slots id : ℕ) where
       let v : View = free me.0 in
       let w : View = record v { book = loaded q (head_of n) me.0.book } in
       let m = marking_of r e s in
-      let law : Law e (marking_of r e (record { words = s.words; homes = s.homes; views = set s.views id w })) =
-      agrees e (record m { accounts = set m.accounts id (after_load q (m.head q) me.0.book.account) }) (marking_of r e (record { words = s.words; homes = s.homes; views = set s.views id w })) (λ p. refl) (λ i h. refl) (λ o. refl) refl
-      (accounts_set s.views id w ∙ ap (set m.accounts id) (account_loaded q (head_of n) me.0.book)) (load_keeps e m rule.law id me.0.book.account (stands r e s rule id v is) there q) in (
+      let t : State (Option B) View = record { words = s.words; homes = s.homes; views = set s.views id w } in
+      let reached : Reached r e t =
+      happened r e s rule id v is (Load q) there tt t
+      (agrees (marking_of r e t) (record m { accounts = set m.accounts id (after_load q (m.head q) me.0.book.account) }) (λ p. refl) (λ i. refl) (λ o. refl) refl
+      (accounts_set s.views id w ∙ ap (set m.accounts id) (account_loaded q (head_of n) me.0.book)))
+      (counts_changed r e s rule id v is w (count_load q (head_of n)) (counts_loaded q (head_of n) me.0.book)) in (
         w,
         keeps,
         tt,
-        written_again s (head_word q) w (noticed r e s rule id v is refl there s.words w refl (λ i h. refl) refl (held_loaded q (head_of n) me.0.book) (setup_loaded q (head_of n) me.0.book) law),
+        written_again s (head_word q) w (noticed r e s rule id v is refl there s.words w refl (λ i h. refl) refl (held_loaded q (head_of n) me.0.book) (setup_loaded q (head_of n) me.0.book) reached),
         (λ p same. subst (λ k. ((w, []) ≡ rested me (loaded k (head_of n) me.0.book)) × ((i : ℕ) → (head_of n).index ≡ Some i → i < me.0.book.setup.buffers)) (same_head q p same) (refl, top_below r e s rule id v is refl there q)),
       ))
 
@@ -107,14 +125,20 @@ module _ {B : Type 0} (r : Reading B) (e : Setup) (slots id : ℕ) where
       let w : View = record v { book = link_loaded q (index_of n) me.0.book } in
       let m = marking_of r e s in
       let same : me.0.book.setup ≡ e = rule.same_setup id v is there in
-      let law : Law e (marking_of r e (record { words = s.words; homes = s.homes; views = set s.views id w })) =
-      agrees e (record m { accounts = set m.accounts id (after_load_link q (m.link i) me.0.book.account) }) (marking_of r e (record { words = s.words; homes = s.homes; views = set s.views id w })) (λ p. refl) (λ j b. refl) (λ o. refl) refl
-      (accounts_set s.views id w) (load_link_keeps e m rule.law id me.0.book.account (stands r e s rule id v is) there q h i last top) in (
+      let small : i < e.buffers = subst (λ (x : Setup). i < x.buffers) same below in
+      let found : last_link m.link (look_of me.0.book.account q).head ≡ index_of n =
+      ap (last_link m.link) last ∙ ap (link_from m.link) top ∙ cut_below e.buffers (λ k. index_of (slice_index s.words (link_word k))) i small in
+      let t : State (Option B) View = record { words = s.words; homes = s.homes; views = set s.views id w } in
+      let reached : Reached r e t =
+      happened r e s rule id v is (LoadLink q) there (h, i, last, top) t
+      (agrees (marking_of r e t) (effect m id me.0.book.account (LoadLink q)) (λ p. refl) (λ j. refl) (λ o. refl) refl
+      (accounts_set s.views id w ∙ ap (λ l. set m.accounts id (after_load_link q l me.0.book.account)) (sym found)))
+      (counts_same r e s rule id v is w refl) in (
         w,
         keeps,
         tt,
-        written_again s (link_word i) w (noticed r e s rule id v is refl there s.words w refl (λ j b. refl) refl (held_linked q (index_of n) me.0.book) refl law),
-        (refl, subst (λ (x : Setup). n ≤ x.buffers) (sym same) (rule.linked i (subst (λ (x : Setup). i < x.buffers) same below))),
+        written_again s (link_word i) w (noticed r e s rule id v is refl there s.words w refl (λ j b. refl) refl (held_linked q (index_of n) me.0.book) refl reached),
+        (refl, subst (λ (x : Setup). n ≤ x.buffers) (sym same) (rule.linked i small)),
       ))
 
   -- an exchange of a word for itself
@@ -123,12 +147,8 @@ module _ {B : Type 0} (r : Reading B) (e : Setup) (slots id : ℕ) where
       let n = slice_index s.words word in
       let v : View = free me.0 in
       let w : View = record v { aside = units } in
-      let m = marking_of r e s in
-      let law : Law e (marking_of r e (record { words = s.words; homes = s.homes; views = set s.views id w })) =
-      agrees e m (marking_of r e (record { words = s.words; homes = s.homes; views = set s.views id w })) (λ p. refl) (λ j b. refl) (λ o. refl) refl
-      (accounts_set s.views id w ∙ set_again m.accounts id me.0.book.account (stands r e s rule id v is)) rule.law in
       let kept : Rule r e (record { words = slice_set s.words word n; homes = s.homes; views = set s.views id w }) =
-      written_again s word w (noticed r e s rule id v is refl there s.words w refl (λ j b. refl) refl refl refl law) in (
+      written_again s word w (noticed r e s rule id v is refl there s.words w refl (λ j b. refl) refl refl refl (only_seen r e s rule id v is w refl)) in (
         w,
         keeps,
         tt,
@@ -140,8 +160,4 @@ module _ {B : Type 0} (r : Reading B) (e : Setup) (slots id : ℕ) where
   pub settles : (me : Me (Option B) View) (word : ℕ) → Carries me → 0 < me.0.book.account.share → Allows (Rule r e) slots id me word (λ n. n) (settled (step slots word 0 0 none) me)
   settles me word carries there = freed r e slots id word (λ n. n) (settled (step slots word 0 0 none) me) me carries (λ s rule count is fits.
       let v : View = free me.0 in
-      let m = marking_of r e s in
-      let law : Law e (marking_of r e (record { words = s.words; homes = s.homes; views = set s.views id v })) =
-      agrees e m (marking_of r e (record { words = s.words; homes = s.homes; views = set s.views id v })) (λ p. refl) (λ j b. refl) (λ o. refl) refl
-      (accounts_set s.views id v ∙ set_again m.accounts id me.0.book.account (stands r e s rule id v is)) rule.law in
-      (v, keeps, tt, written_again s word v (noticed r e s rule id v is refl there s.words v refl (λ j b. refl) refl refl refl law), (refl, each_once r e s rule id v is)))
+      (v, keeps, tt, written_again s word v (noticed r e s rule id v is refl there s.words v refl (λ j b. refl) refl refl refl (only_seen r e s rule id v is v refl)), (refl, each_once r e s rule id v is)))

@@ -1,25 +1,26 @@
 -- A split of a worker, and a join of two, keep the rule.
-use Rattle.std.proofs.Common.{◌≡◌, Contains, ℕ, ◌<◌, ◌≤◌, List, [], ◌∷◌, ◌++◌, Option, None, set, ap, sym, refl, subst, ◌∙◌, ⊎_elim, arith}
+use Rattle.std.proofs.Common.{◌≡◌, Contains, ℕ, ◌<◌, ◌≤◌, List, [], ◌∷◌, ◌++◌, map, Option, None, set, ap, sym, refl, subst, ◌∙◌, ⊎_elim, arith}
 use Rattle.std.proofs.lemmas.List.{map-append}
 use mathlib.Core.Option.{some}
 use native.Mathlib.Decide.{dec_le}
 use lib.ListN.{get_elem?}
 use Rattle.atomic_table.specs.Table.{Me, State, Splits, Joins}
 use Rattle.atomic_table.specs.Seated.{TableId}
-use Rattle.atomic_table.proofs.Lists.{at_set, at_snoc, set_else}
+use Rattle.atomic_table.proofs.Lists.{at_map, at_set, at_snoc, set_else}
 use Rattle.mark_core.specs.Lists.{times, only}
 use Rattle.mark_core.specs.Account.{Account, part, spent, after_split, after_join}
-use Rattle.mark_core.specs.World.{Setup, Marking}
+use Rattle.mark_core.specs.World.{Setup, Marking, account_at}
 use Rattle.mark_core.specs.Runs.{AreApart, HasEachOnce}
-use Rattle.mark_core.specs.Law.{Law}
+use Rattle.mark_core.specs.Event.{Split, Join, effect}
+use Rattle.mark_core.specs.Counts.{Counts, add_counts, counts_at, no_counts}
 use Rattle.mark_core.proofs.Sums.{total-append, stands_append}
-use Rattle.mark_core.proofs.Events.{split_keeps, join_keeps}
+use Rattle.mark_core.proofs.Places.{at_get_or}
 use Rattle.buffer_pool.specs.declared.view.View.{View}
 use Rattle.buffer_pool.specs.Book.{joined, new_book, parted}
 use Rattle.buffer_pool.specs.Laid.{IsLaid, IsSound, IsWithin}
 use Rattle.buffer_pool.specs.Setups.{kept_part, given_part, joined_view, spent_view}
-use Rattle.buffer_pool.specs.Table.{Reading, Rule, Carries, IsTied, Rests, account_of, free, marking_of}
-use Rattle.buffer_pool.proofs.States.{agrees, stands, accounts_set}
+use Rattle.buffer_pool.specs.Table.{Reading, Reached, Rule, Carries, IsTied, Rests, account_of, free, marking_of, view_counts}
+use Rattle.buffer_pool.proofs.States.{agrees, stands, accounts_set, counts_set, counts_same, happened}
 use Rattle.buffer_pool.proofs.Loads.{nothing_out}
 
 -- what the rule says of one view
@@ -34,9 +35,9 @@ module _ {B : Type 0} (r : Reading B) (e : Setup) (s : State (Option B) View) (r
 
   -- the rule after views alone changed
   with_views :
-      (views : List View) → ((k : ℕ) (u : View) → get_elem? views k ≡ some u → Suits e s u) → Law e (marking_of r e (record { words = s.words; homes = s.homes; views = views }))
+      (views : List View) → ((k : ℕ) (u : View) → get_elem? views k ≡ some u → Suits e s u) → Reached r e (record { words = s.words; homes = s.homes; views = views })
       → Rule r e (record { words = s.words; homes = s.homes; views = views })
-  with_views views all law =
+  with_views views all reached =
       record {
         word_count = rule.word_count;
         slot_count = rule.slot_count;
@@ -45,12 +46,13 @@ module _ {B : Type 0} (r : Reading B) (e : Setup) (s : State (Option B) View) (r
         tied = λ k u at. (all k u at).tied;
         rests = λ k u at. (all k u at).rests;
         same_setup = λ k u at. (all k u at).same_setup;
-        law = law;
+        some_buffer = rule.some_buffer;
+        reached = reached;
       }
 
 module _ {B : Type 0} (r : Reading B) (e : Setup) (id : ℕ) (v : View) where
   pub splits : 0 < v.aside → v.aside < v.book.account.share → Splits (Rule r e) id v (kept_part v) (given_part v)
-  splits some_units less s rule is = with_views r e s rule views all law
+  splits some_units less s rule is = with_views r e s rule views all reached
     where
       m : Marking
       m = marking_of r e s
@@ -78,16 +80,19 @@ module _ {B : Type 0} (r : Reading B) (e : Setup) (id : ℕ) (v : View) where
           ⊎_elim (λ t. ⊎_elim (λ x. subst (Suits e s) x.1 kept) (λ x. suits r e s rule k u x.1) (at_set s.views id k (kept_part v) u t)) (λ same. subst (Suits e s) same given)
           (at_snoc (set s.views id (kept_part v)) (given_part v) u k at)
 
-      law : Law e (marking_of r e (record { words = s.words; homes = s.homes; views = views }))
-      law =
-          agrees e (record m { accounts = set m.accounts id (after_split v.aside a) ++ part v.aside ∷ [] }) (marking_of r e (record { words = s.words; homes = s.homes; views = views }))
-          (λ q. refl) (λ i h. refl) (λ o. refl) refl
-          (map-append account_of (set s.views id (kept_part v)) (given_part v ∷ []) ∙ ap (λ (xs : List Account). xs ++ part v.aside ∷ []) (accounts_set s.views id (kept_part v)))
-          (split_keeps e m rule.law id a (stands r e s rule id v is) there v.aside some_units less)
+      t : State (Option B) View
+      t = record { words = s.words; homes = s.homes; views = views }
+
+      reached : Reached r e t
+      reached =
+          happened r e s rule id v is (Split v.aside) there (some_units, less) t
+          (agrees (marking_of r e t) (effect m id a (Split v.aside)) (λ q. refl) (λ i. refl) (λ o. refl) refl
+          (map-append account_of (set s.views id (kept_part v)) (given_part v ∷ []) ∙ ap (λ (xs : List Account). xs ++ part v.aside ∷ []) (accounts_set s.views id (kept_part v))))
+          (map-append view_counts (set s.views id (kept_part v)) (given_part v ∷ []) ∙ ap (λ (xs : List Counts). xs ++ no_counts ∷ []) (counts_same r e s rule id v is (kept_part v) refl))
 
   module _ (other : ℕ) (w : View) where
-    pub joins : w.out ≡ 0 → 0 < v.book.account.share → Joins (Rule r e) id v other w (joined_view v w) spent_view
-    joins bare there s rule is apart after = with_views r e s rule views all law
+    pub joins : w.out ≡ 0 → 0 < v.book.account.share → 0 < w.book.account.share → Joins (Rule r e) id v other w (joined_view v w) spent_view
+    joins bare there theirs_there s rule is apart after = with_views r e s rule views all reached
       where
         m : Marking
         m = marking_of r e s
@@ -130,12 +135,31 @@ module _ {B : Type 0} (r : Reading B) (e : Setup) (id : ℕ) (v : View) where
             ⊎_elim (λ t. subst (Suits e s) t.1 gone) (λ t. ⊎_elim (λ x. subst (Suits e s) x.1 together) (λ x. suits r e s rule k u x.1) (at_set s.views id k both u t.1))
             (at_set (set s.views id both) other k spent_view u stood)
 
-        law : Law e (marking_of r e (record { words = s.words; homes = s.homes; views = views }))
-        law =
-            agrees e (record m { accounts = set (set m.accounts id (after_join v.book.account w.book.account)) other spent }) (marking_of r e (record { words = s.words; homes = s.homes; views = views }))
-            (λ q. refl) (λ i h. refl) (λ o. refl) refl
-            (accounts_set (set s.views id both) other spent_view ∙ ap (λ (xs : List Account). set xs other spent) (accounts_set s.views id both))
-            (join_keeps e m rule.law id v.book.account (stands r e s rule id v is) there other w.book.account apart (stands r e s rule other w at))
+        t : State (Option B) View
+        t = record { words = s.words; homes = s.homes; views = views }
+
+        account : account_at m.accounts other ≡ w.book.account
+        account = at_get_or m.accounts other w.book.account spent (stands r e s rule other w at)
+
+        counts : List Counts
+        counts = map view_counts s.views
+
+        first : counts_at counts id ≡ view_counts v
+        first = at_get_or counts id (view_counts v) no_counts (at_map view_counts s.views id v is)
+
+        second : counts_at counts other ≡ view_counts w
+        second = at_get_or counts other (view_counts w) no_counts (at_map view_counts s.views other w at)
+
+        added : map view_counts views ≡ set (set counts id (add_counts (view_counts v) (view_counts w))) other no_counts
+        added = counts_set (set s.views id both) other spent_view ∙ ap (λ (xs : List Counts). set xs other no_counts) (counts_set s.views id both)
+
+        reached : Reached r e t
+        reached =
+            happened r e s rule id v is (Join other) there (apart, (w.book.account, (stands r e s rule other w at, theirs_there))) t
+            (agrees (marking_of r e t) (effect m id v.book.account (Join other)) (λ q. refl) (λ i. refl) (λ o. refl) refl
+            (accounts_set (set s.views id both) other spent_view ∙ ap (λ (xs : List Account). set xs other spent) (accounts_set s.views id both)
+            ∙ ap (λ a. set (set m.accounts id (after_join v.book.account a)) other spent) (sym account)))
+            (added ∙ (λ k. set (set counts id (add_counts (sym first k) (sym second k))) other no_counts))
 
 -- two setups of one table have the same numbers
 same_numbers : (t : TableId) (e f : Setup) → IsLaid t e → IsLaid t f → (e.buffers ≡ f.buffers) × (e.objects ≡ f.objects)

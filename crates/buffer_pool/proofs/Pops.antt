@@ -1,5 +1,5 @@
 -- An exchange of a head for the link of its buffer keeps the rule: it pops, or it has failed.
-use Rattle.std.proofs.Common.{◌≡◌, ◌≢◌, ℕ, zero, suc, ◌<◌, ◌≤◌, ◌==◌, List, [], ◌∷◌, ◌++◌, length, map, Option, Some, None, set, slice_index, slice_set, ap, sym, refl, subst, ◌∙◌, ⊎_elim, Contains, lt_of_not-le, length-set, arith}
+use Rattle.std.proofs.Common.{◌≡◌, ◌≢◌, ℕ, zero, suc, ◌<◌, ◌≤◌, ◌==◌, List, [], ◌∷◌, ◌++◌, length, map, Option, Some, None, set, slice_index, slice_index_or, slice_set, ap, sym, refl, subst, ◌∙◌, ⊎_elim, Contains, lt_of_not-le, length-set, arith}
 use Rattle.std.proofs.lemmas.List.{set-get_or, get_or_past}
 use mathlib.Core.Option.{none, some, some-injective, some-ne-none}
 use mathlib.Core.Option as maybe
@@ -7,26 +7,27 @@ use native.Mathlib.Decide.{dec_le, ℕ_discrete}
 use lib.ListN.{get_elem?}
 use prog.Atomic.{either}
 use Rattle.atomic_table.specs.Table.{State, Me, Act, Allows, Valid, step, stepped, carried_after, keeps, takes}
-use Rattle.atomic_table.proofs.Lists.{at_map, at_set, set_else, set_again}
-use Rattle.tagged_index.specs.Head.{Head, head_of, index_of, after}
+use Rattle.atomic_table.proofs.Lists.{at_map, at_set, set_else}
+use Rattle.tagged_index.specs.Head.{Head, head_of, index_of, after, last_tag}
 use Rattle.mark_core.specs.declared.which.Which.{Which}
 use Rattle.mark_core.specs.declared.which.Which.TheVariants.{Full, Empty}
 use Rattle.mark_core.specs.Lists.{StandsAt, times, only}
 use Rattle.mark_core.specs.Account.{Account, look_of, after_pop}
 use Rattle.mark_core.specs.World.{Setup, Marking, items_of, put_which}
-use Rattle.mark_core.specs.Law.{Law}
+use Rattle.mark_core.specs.Event.{Pop, Fail, effect}
+use Rattle.mark_core.specs.Event.{popped as popped_event}
+use Rattle.mark_core.specs.Counts.{count_failure}
 use Rattle.mark_core.proofs.Colours.{linear}
 use Rattle.mark_core.proofs.Sums.{stands_times, total-append, term_le, only-same, only-other}
 use Rattle.mark_core.proofs.Ownership.{place_one, top_stands}
-use Rattle.mark_core.proofs.Events.{pop_keeps}
 use Rattle.buffer_pool.specs.declared.view.View.{View}
 use Rattle.buffer_pool.specs.Book.{popped, failed}
 use Rattle.buffer_pool.specs.Plays.{IsOurs, pop_tried}
-use Rattle.buffer_pool.specs.Table.{Reading, Rule, IsTied, Rests, Carries, account_of, free, head_word, link_word, mark_word, marking_of, slot_of}
-use Rattle.buffer_pool.proofs.States.{agrees, stands, changed, accounts_set, slots_set, freed}
-use Rattle.mark_core.proofs.Places.{at_one}
+use Rattle.buffer_pool.specs.Table.{Reading, Reached, Rule, IsTied, Rests, Carries, account_of, free, head_word, link_word, mark_word, marking_of, slot_of, view_counts}
+use Rattle.buffer_pool.proofs.States.{agrees, lawful, stands, changed, accounts_set, accounts_same, counts_same, counts_changed, slots_set, happened, freed}
+use Rattle.mark_core.proofs.Places.{at_one, at_get_or}
 use Rattle.buffer_pool.proofs.Loads.{noticed, same_head}
-use Rattle.buffer_pool.proofs.Words.{exchange_hit, exchange_miss, link_beside_head, mark_beside_head, heads_after}
+use Rattle.buffer_pool.proofs.Words.{one_head, exchange_hit, exchange_miss, link_beside_head, links_beside_head, mark_beside_head, heads_after}
 
 -- items at home are those of a buffer
 pub buffer_there : {B : Type 0} (r : Reading B) (homes : List (maybe.Option (Option B))) (i : ℕ) (items : List ℕ) → StandsAt (map (slot_of r) homes) i (Some items) → (b : B) × (get_elem? homes i ≡ some (some (Some b))) × (r.items b ≡ items)
@@ -37,13 +38,13 @@ buffer_there r (some (Some b) ∷ hs) zero items at = (b, refl, cc)
 buffer_there r (h ∷ hs) (suc i) items at = buffer_there r hs i items at
 
 -- a stacked buffer is held by no account
-pub stacked_free : {B : Type 0} (r : Reading B) (e : Setup) (s : State (Option B) View) (rule : Rule r e s) (k : ℕ) (u : View) (q : Which) (i : ℕ) → get_elem? s.views k ≡ some u → 0 < times i (rule.law.stack q) → 0 < times i u.book.account.held → ⊥
+pub stacked_free : {B : Type 0} (r : Reading B) (e : Setup) (s : State (Option B) View) (rule : Rule r e s) (k : ℕ) (u : View) (q : Which) (i : ℕ) → get_elem? s.views k ≡ some u → 0 < times i ((lawful r e s rule).stack q) → 0 < times i u.book.account.held → ⊥
 stacked_free r e s rule k u Full i at on mine =
     let m = marking_of r e s in
-    omega (arith, place_one e.buffers m.head m.link m.accounts rule.law.stack rule.law.owned i, term_le (λ (a : Account). times i a.held) m.accounts k u.book.account (at_map account_of s.views k u at))
+    omega (arith, place_one e.buffers m.head m.link m.accounts (lawful r e s rule).stack (lawful r e s rule).owned i, term_le (λ (a : Account). times i a.held) m.accounts k u.book.account (at_map account_of s.views k u at))
 stacked_free r e s rule k u Empty i at on mine =
     let m = marking_of r e s in
-    omega (arith, place_one e.buffers m.head m.link m.accounts rule.law.stack rule.law.owned i, term_le (λ (a : Account). times i a.held) m.accounts k u.book.account (at_map account_of s.views k u at))
+    omega (arith, place_one e.buffers m.head m.link m.accounts (lawful r e s rule).stack (lawful r e s rule).owned i, term_le (λ (a : Account). times i a.held) m.accounts k u.book.account (at_map account_of s.views k u at))
 
 -- the items of a stacked buffer are objects, since their marks are not 0
 items_within : {B : Type 0} (r : Reading B) (e : Setup) (s : State (Option B) View) (rule : Rule r e s) (i : ℕ) (b : B) → get_elem? s.homes i ≡ some (some (Some b)) → (o : ℕ) → Contains (r.items b) o → o < e.objects
@@ -56,7 +57,7 @@ items_within r e s rule i b home o here = go (dec_le (length s.words) (mark_word
     go (no below) = omega (arith, lt_of_not-le below, rule.word_count)
     go (yes past) =
         let white = get_or_past s.words (mark_word e o) 0 past in
-        let told = (linear e m.mark m.slots m.accounts rule.law.coloured o).0 in
+        let told = (linear e m.mark m.slots m.accounts (lawful r e s rule).coloured o).0 in
         let one = term_le (λ (slot : Option (List ℕ)). times o (items_of slot)) m.slots i (Some (r.items b)) (at_map (slot_of r) s.homes i (some (Some b)) home) in absurd (omega (arith, white, told, one, stands_times (r.items b) o here))
 
 -- a buffer on the empty stack has no items
@@ -65,8 +66,19 @@ bare_on_empty :
     → q ≡ Empty → r.items b ≡ []
 bare_on_empty r e s rule q i b top home empty =
     let m = marking_of r e s in
-    let on = subst (λ k. 0 < times i (rule.law.stack k)) empty (top_stands e.buffers m.head m.link m.accounts rule.law.stack rule.law.owned q i top) in
-    let one : Some (r.items b) ≡ Some [] = at_one m.slots i (Some (r.items b)) (Some []) (at_map (slot_of r) s.homes i (some (Some b)) home) (rule.law.shelved.bare i on) in cc
+    let on = subst (λ k. 0 < times i ((lawful r e s rule).stack k)) empty (top_stands e.buffers m.head m.link m.accounts (lawful r e s rule).stack (lawful r e s rule).owned q i top) in
+    let one : Some (r.items b) ≡ Some [] = at_one m.slots i (Some (r.items b)) (Some []) (at_map (slot_of r) s.homes i (some (Some b)) home) ((lawful r e s rule).shelved.bare i on) in cc
+
+-- a failed exchange: the account is as it was, and the failure is counted
+pub lost :
+    {B : Type 0} (r : Reading B) (e : Setup) (s : State (Option B) View) (rule : Rule r e s) (id : ℕ) (v : View) (is : get_elem? s.views id ≡ some v) → 0 < v.book.account.share
+    → (w : View) → w.book.account ≡ v.book.account → view_counts w ≡ count_failure (view_counts v)
+    → (q : Which) (h : Head) → (look_of v.book.account q).head ≡ Some h → (head_of (slice_index s.words (head_word q)) ≡ h → ⊥)
+    → Reached r e (record { words = s.words; homes = s.homes; views = set s.views id w })
+lost {B} r e s rule id v is there w account counts q h last other =
+    let t : State (Option B) View = record { words = s.words; homes = s.homes; views = set s.views id w } in
+    happened r e s rule id v is (Fail q) there (h, last, other) t
+    (agrees (marking_of r e t) (marking_of r e s) (λ p. refl) (λ j. refl) (λ o. refl) refl (accounts_same r e s rule id v is w account)) (counts_changed r e s rule id v is w count_failure counts)
 
 -- where the head is the one loaded
 module _ {B : Type 0} (r : Reading B) (e : Setup) (s : State (Option B) View) (rule : Rule r e s) (id : ℕ) (v : View) (is : get_elem? s.views id ≡ some v) (bare : v.out ≡ 0) (there : 0 < v.book.account.share) where
@@ -74,17 +86,18 @@ module _ {B : Type 0} (r : Reading B) (e : Setup) (s : State (Option B) View) (r
   pop_view i b = record v { book = popped i (r.items b) v.book; out = suc i; out_link = slice_index s.words (link_word i) }
 
   module _ (q : Which) (i : ℕ) (b : B) (top : (head_of (slice_index s.words (head_word q))).index ≡ Some i) (home : get_elem? s.homes i ≡ some (some (Some b))) where
-    on_stack : 0 < times i (rule.law.stack q)
-    on_stack = let m = marking_of r e s in top_stands e.buffers m.head m.link m.accounts rule.law.stack rule.law.owned q i top
+    on_stack : 0 < times i ((lawful r e s rule).stack q)
+    on_stack = let m = marking_of r e s in top_stands e.buffers m.head m.link m.accounts (lawful r e s rule).stack (lawful r e s rule).owned q i top
 
     elsewhere : (k : ℕ) (u : View) (j : ℕ) → get_elem? s.views k ≡ some u → 0 < times j u.book.account.held → get_elem? (set s.homes i none) j ≡ get_elem? s.homes j
     elsewhere k u j at mine = set_else s.homes i j none (λ same. stacked_free r e s rule k u q i at on_stack (subst (λ x. 0 < times x u.book.account.held) same mine))
 
     pub popped_rule :
-        (x : ℕ) (l : Option ℕ) → (look_of v.book.account q).head ≡ Some (head_of (slice_index s.words (head_word q))) → (look_of v.book.account q).link ≡ Some l → head_of x ≡ after (head_of (slice_index s.words (head_word q))) l
+        (x : ℕ) (l : Option ℕ) → (look_of v.book.account q).head ≡ Some (head_of (slice_index s.words (head_word q))) → (head_of (slice_index s.words (head_word q))).tag < last_tag
+        → (look_of v.book.account q).link ≡ Some l → head_of x ≡ after (head_of (slice_index s.words (head_word q))) l
         → Rule r e (record { words = set s.words (head_word q) x; homes = set s.homes i none; views = set s.views id (pop_view i b) })
-    popped_rule x l hit loaded next =
-        changed r e s rule id v is words homes w (length-set s.words (head_word q) x) (length-set s.homes i none) (λ j h. let same = link_beside_head e s.words q x j in omega (arith, rule.linked j h)) sized tied rests others (λ h. rule.same_setup id v is there) law
+    popped_rule x l hit short linked_to next =
+        changed r e s rule id v is words homes w (length-set s.words (head_word q) x) (length-set s.homes i none) (λ j h. let same = link_beside_head e s.words q x j in omega (arith, rule.linked j h)) sized tied rests others (λ h. rule.same_setup id v is there) reached
       where
         m : Marking
         m = marking_of r e s
@@ -116,35 +129,49 @@ module _ {B : Type 0} (r : Reading B) (e : Setup) (s : State (Option B) View) (r
         others k u other at =
             ((λ j out. let t = rule.tied k u at j out in (t.0, link_beside_head e s.words q x j ∙ t.1)), (λ j mine not_out. elsewhere k u j at mine ∙ rule.rests k u at j mine not_out))
 
-        law : Law e (marking_of r e (record { words = words; homes = homes; views = set s.views id w }))
-        law =
-            agrees e (record m { head = put_which q (after (m.head q) l) m.head; slots = set m.slots i None; accounts = set m.accounts id (after_pop i (r.items b) v.book.account) }) (marking_of r e (record { words = words; homes = homes; views = set s.views id w }))
-            (heads_after e s.words q x (after (m.head q) l) (omega (arith, rule.word_count)) next) (λ j h. ap index_of (link_beside_head e s.words q x j)) (mark_beside_head e s.words q x) (slots_set r s.homes i none) (accounts_set s.views id w)
-            (pop_keeps e m rule.law id v.book.account (stands r e s rule id v is) there q i l (r.items b) hit top loaded (at_map (slot_of r) s.homes i (some (Some b)) home))
+        t : State (Option B) View
+        t = record { words = words; homes = homes; views = set s.views id w }
+
+        -- what the event leaves: the items of the account are those in the slot
+        left : Marking
+        left = record m { head = put_which q (after (m.head q) l) m.head; slots = set m.slots i None; accounts = set m.accounts id (after_pop i (r.items b) v.book.account) }
+
+        in_slot : items_of (slice_index_or m.slots i None) ≡ r.items b
+        in_slot = ap items_of (at_get_or m.slots i (Some (r.items b)) None (at_map (slot_of r) s.homes i (some (Some b)) home))
+
+        pop_is : effect m id v.book.account (Pop q) ≡ left
+        pop_is =
+            (λ k. popped_event m id v.book.account q (top k) (linked_to k))
+            ∙ ap (λ xs. record m { head = put_which q (after (m.head q) l) m.head; slots = set m.slots i None; accounts = set m.accounts id (after_pop i xs v.book.account) }) in_slot
+
+        reached : Reached r e t
+        reached =
+            happened r e s rule id v is (Pop q) there ((hit, short), (i, top), (l, linked_to)) t
+            (agrees (marking_of r e t) left (heads_after e s.words q x (after (m.head q) l) (omega (arith, rule.word_count)) next) (links_beside_head e s.words q x)
+            (mark_beside_head e s.words q x) (slots_set r s.homes i none) (accounts_set s.views id w) ∙ sym pop_is)
+            (counts_same r e s rule id v is w refl)
 
   -- the buffer on top of a stack lies at home
   pub top_home : (q : Which) (i : ℕ) → (head_of (slice_index s.words (head_word q))).index ≡ Some i → (b : B) × (get_elem? s.homes i ≡ some (some (Some b)))
   top_home q i top =
       let m = marking_of r e s in
-      let at = rule.law.shelved.stacked q i (top_stands e.buffers m.head m.link m.accounts rule.law.stack rule.law.owned q i top) in
+      let at = (lawful r e s rule).shelved.stacked q i (top_stands e.buffers m.head m.link m.accounts (lawful r e s rule).stack (lawful r e s rule).owned q i top) in
       let found = buffer_there r s.homes i at.0 at.1 in (found.0, found.1)
 
   -- where it is another, only the failure is counted
-  pub failed_rule : (word : ℕ) → Rule r e (record { words = slice_set s.words word (slice_index s.words word); homes = s.homes; views = set s.views id (record v { book = failed v.book }) })
-  failed_rule word =
+  pub failed_rule :
+      (q : Which) (h : Head) (word : ℕ) → (look_of v.book.account q).head ≡ Some h → (head_of (slice_index s.words (head_word q)) ≡ h → ⊥)
+      → Rule r e (record { words = slice_set s.words word (slice_index s.words word); homes = s.homes; views = set s.views id (record v { book = failed v.book }) })
+  failed_rule q h word last other =
       let w : View = record v { book = failed v.book } in
-      let m = marking_of r e s in
-      let law : Law e (marking_of r e (record { words = s.words; homes = s.homes; views = set s.views id w })) =
-      agrees e m (marking_of r e (record { words = s.words; homes = s.homes; views = set s.views id w })) (λ p. refl) (λ j h. refl) (λ o. refl) refl
-      (accounts_set s.views id w ∙ set_again m.accounts id v.book.account (stands r e s rule id v is)) rule.law in
-      subst (λ ws. Rule r e (record { words = ws; homes = s.homes; views = set s.views id w })) (sym (set-get_or s.words word 0)) (noticed r e s rule id v is bare there s.words w refl (λ j h. refl) bare refl refl law)
+      subst (λ ws. Rule r e (record { words = ws; homes = s.homes; views = set s.views id w })) (sym (set-get_or s.words word 0)) (noticed r e s rule id v is bare there s.words w refl (λ j b. refl) bare refl refl (lost r e s rule id v is there w refl refl q h last other))
 
 module _ {B : Type 0} (r : Reading B) (e : Setup) (slots id : ℕ) where
   pub pops :
       (me : Me (Option B) View) (q : Which) (old new i : ℕ) (l : Option ℕ) → Carries me → 0 < me.0.book.account.share
-      → (look_of me.0.book.account q).head ≡ Some (head_of old) → (head_of old).index ≡ Some i → (look_of me.0.book.account q).link ≡ Some l → head_of new ≡ after (head_of old) l
+      → (look_of me.0.book.account q).head ≡ Some (head_of old) → (head_of old).tag < last_tag → (head_of old).index ≡ Some i → (look_of me.0.book.account q).link ≡ Some l → head_of new ≡ after (head_of old) l
       → Allows (Rule r e) slots id me (head_word q) (λ n. either (n == old) new n) (pop_tried r (step slots (head_word q) old new none) me)
-  pops me q old new i l carries there last top linked next = freed r e slots id (head_word q) (λ n. either (n == old) new n) (pop_tried r (step slots (head_word q) old new none) me) me carries (λ s rule count is fits. go s rule is (ℕ_discrete (slice_index s.words (head_word q)) old))
+  pops me q old new i l carries there last short top linked next = freed r e slots id (head_word q) (λ n. either (n == old) new n) (pop_tried r (step slots (head_word q) old new none) me) me carries (λ s rule count is fits. go s rule is (ℕ_discrete (slice_index s.words (head_word q)) old))
     where
       v : View
       v = free me.0
@@ -164,7 +191,7 @@ module _ {B : Type 0} (r : Reading B) (e : Setup) (slots id : ℕ) where
           let w = pop_view r e s rule id v is refl there i b in
           let ours : IsOurs r me.0.book.setup b = subst (λ f. IsOurs r f b) (sym (rule.same_setup id v is there)) (record { size = rule.sized i b home.1; objects = items_within r e s rule i b home.1 }) in
           let after_it : Rule r e (record { words = set s.words (head_word q) new; homes = set s.homes i none; views = set s.views id w }) =
-          popped_rule r e s rule id v is refl there q i b top' home.1 new l (last ∙ ap {B = Option Head} Some same) linked (next ∙ ap (λ (h : Head). after h l) same) in (
+          popped_rule r e s rule id v is refl there q i b top' home.1 new l (last ∙ ap {B = Option Head} Some same) (subst (λ (h : Head). h.tag < last_tag) same short) linked (next ∙ ap (λ (h : Head). after h l) same) in (
             w,
             takes i (Some b),
             home.1,
@@ -180,6 +207,6 @@ module _ {B : Type 0} (r : Reading B) (e : Setup) (slots id : ℕ) where
             w,
             keeps,
             tt,
-            subst (λ x. Rule r e (record { words = slice_set s.words (head_word q) x; homes = s.homes; views = set s.views id w })) (sym (exchange_miss n old new miss)) (failed_rule r e s rule id v is refl there (head_word q)),
+            subst (λ x. Rule r e (record { words = slice_set s.words (head_word q) x; homes = s.homes; views = set s.views id w })) (sym (exchange_miss n old new miss)) (failed_rule r e s rule id v is refl there q (head_of old) (head_word q) last (λ same. miss (one_head n old same))),
             ((λ hit j t. absurd (miss hit)), (λ h. refl)),
           )

@@ -1,5 +1,5 @@
 -- A store of a held buffer's link, and an exchange of a head for that buffer, keep the rule: the second pushes, or it has failed.
-use Rattle.std.proofs.Common.{◌≡◌, ◌≢◌, ℕ, suc, ◌+◌, ◌<◌, ◌≤◌, ◌==◌, List, [], ◌∷◌, length, Option, Some, None, get_or, set, slice_index, slice_set, ap, sym, refl, subst, ◌∙◌, ⊎_elim, length-set, arith}
+use Rattle.std.proofs.Common.{◌≡◌, ◌≢◌, ℕ, suc, ◌+◌, ◌<◌, ◌≤◌, ◌==◌, nat_lt, if◌then◌else◌, List, [], ◌∷◌, length, Option, Some, None, get_or, set, slice_index, slice_set, ap, sym, refl, subst, ◌∙◌, ⊎_elim, length-set, arith}
 use Rattle.std.proofs.lemmas.List.{set-get_or}
 use mathlib.Core.Option.{none, some}
 use mathlib.Core.Option as maybe
@@ -9,22 +9,22 @@ use prog.Atomic.{either}
 use Rattle.atomic_table.specs.Seated.{TableId}
 use Rattle.atomic_table.specs.Table.{State, Me, Act, Allows, Valid, rest, step, stepped, carried_after, keeps, takes, gives}
 use Rattle.atomic_table.proofs.Lists.{at_set, set_else, set_again}
-use Rattle.tagged_index.specs.Head.{Head, head_of, index_of, low_of, after}
+use Rattle.tagged_index.specs.Head.{Head, head_of, index_of, low_of, after, last_tag}
 use Rattle.mark_core.specs.declared.which.Which.{Which}
 use Rattle.mark_core.specs.declared.which.Which.TheVariants.{Full, Empty}
 use Rattle.mark_core.specs.Lists.{times, remove_one, IsPart}
 use Rattle.mark_core.specs.Account.{look_of, after_push}
 use Rattle.mark_core.specs.World.{Setup, Marking, put, put_which}
-use Rattle.mark_core.specs.Law.{Law}
-use Rattle.mark_core.proofs.Sums.{times-remove_one, only-same, only-other}
-use Rattle.mark_core.proofs.Events.{store_keeps, push_keeps}
+use Rattle.mark_core.specs.Event.{StoreLink, Push, effect}
+use Rattle.mark_core.proofs.Sums.{times-remove_one, times_stands, only-same, only-other}
 use Rattle.buffer_pool.specs.declared.view.View.{View}
 use Rattle.buffer_pool.specs.Book.{Book, pushed, failed}
 use Rattle.buffer_pool.specs.Plays.{rested, link_stored, push_tried}
-use Rattle.buffer_pool.specs.Table.{Reading, Rule, IsTied, Rests, Carries, free, head_word, link_word, marking_of}
-use Rattle.buffer_pool.proofs.States.{agrees, stands, changed, accounts_set, slots_set, held_alone, held_below, held_away, freed}
+use Rattle.buffer_pool.specs.Table.{Reading, Reached, Rule, IsTied, Rests, Carries, free, head_word, link_word, marking_of}
+use Rattle.buffer_pool.proofs.States.{agrees, cut_below, cut_put, stands, changed, accounts_set, accounts_same, counts_same, slots_set, happened, held_alone, held_below, held_away, freed}
+use Rattle.buffer_pool.proofs.Pops.{lost}
 use Rattle.buffer_pool.proofs.Loads.{each_once}
-use Rattle.buffer_pool.proofs.Words.{exchange_hit, exchange_miss, link_beside_head, mark_beside_head, heads_after, head_beside_link, link_beside_link, link_here, mark_beside_link, links_after}
+use Rattle.buffer_pool.proofs.Words.{one_head, exchange_hit, exchange_miss, link_beside_head, links_beside_head, mark_beside_head, heads_after, head_beside_link, link_beside_link, link_here, mark_beside_link, links_after}
 
 -- the link word to an index of a buffer is at most the number of buffers
 pub low_small : (index : Option ℕ) (buffers : ℕ) → ((i : ℕ) → index ≡ Some i → i < buffers) → low_of index ≤ buffers
@@ -75,7 +75,7 @@ module _ {B : Type 0} (r : Reading B) (e : Setup) (s : State (Option B) View) (r
   pub stored_rule :
       (x : ℕ) → v.out ≡ 0 → x ≤ e.buffers → Rule r e (record { words = set s.words (link_word i) x; homes = set s.homes i none; views = set s.views id (record v { out = suc i; out_link = x }) })
   stored_rule x bare small =
-      changed r e s rule id v is words homes w (length-set s.words (link_word i) x) (length-set s.homes i none) linked sized tied rests others (rule.same_setup id v is) law
+      changed r e s rule id v is words homes w (length-set s.words (link_word i) x) (length-set s.homes i none) linked sized tied rests others (rule.same_setup id v is) reached
     where
       m : Marking
       m = marking_of r e s
@@ -118,11 +118,20 @@ module _ {B : Type 0} (r : Reading B) (e : Setup) (s : State (Option B) View) (r
         (λ j theirs not_out. beside_mine k u j none other at theirs ∙ rule.rests k u at j theirs not_out),
       )
 
-      law : Law e (marking_of r e (record { words = words; homes = homes; views = set s.views id w }))
-      law =
-          agrees e (record m { link = put i (index_of x) m.link }) (marking_of r e (record { words = words; homes = homes; views = set s.views id w })) (λ q. ap head_of (head_beside_link e s.words i x q))
-          (λ j h. links_after e s.words i x in_words j) (mark_beside_link e s.words i x below) (slots_set r s.homes i none ∙ set_again m.slots i None (held_away r e s rule id v is i mine))
-          (accounts_set s.views id w ∙ set_again m.accounts id v.book.account (stands r e s rule id v is)) (store_keeps e m rule.law id v.book.account (stands r e s rule id v is) there i (index_of x) mine)
+      t : State (Option B) View
+      t = record { words = words; homes = homes; views = set s.views id w }
+
+      links : (j : ℕ) → (marking_of r e t).link j ≡ put i (index_of x) m.link j
+      links j =
+          ap (λ y. if nat_lt j e.buffers then y else None) (links_after e s.words i x in_words j)
+          ∙ cut_put e.buffers (λ k. index_of (slice_index s.words (link_word k))) i (index_of x) below j
+
+      reached : Reached r e t
+      reached =
+          happened r e s rule id v is (StoreLink i (index_of x)) there (times_stands v.book.account.held i mine) t
+          (agrees (marking_of r e t) (record m { link = put i (index_of x) m.link }) (λ q. ap head_of (head_beside_link e s.words i x q)) links (mark_beside_link e s.words i x below)
+          (slots_set r s.homes i none ∙ set_again m.slots i None (held_away r e s rule id v is i mine)) (accounts_same r e s rule id v is w refl))
+          (counts_same r e s rule id v is w refl)
 
   module _ (b : B) (out : v.out ≡ suc i) (q : Which) where
     abbrev push_view : View
@@ -130,12 +139,13 @@ module _ {B : Type 0} (r : Reading B) (e : Setup) (s : State (Option B) View) (r
 
     -- the head is exchanged for the buffer, and its slot goes home with it
     pub pushed_rule :
-        (x : ℕ) → (look_of v.book.account q).head ≡ Some (head_of (slice_index s.words (head_word q))) → head_of x ≡ after (head_of (slice_index s.words (head_word q))) (Some i)
+        (x : ℕ) → (look_of v.book.account q).head ≡ Some (head_of (slice_index s.words (head_word q))) → (head_of (slice_index s.words (head_word q))).tag < last_tag → head_of x ≡ after (head_of (slice_index s.words (head_word q))) (Some i)
         → index_of v.out_link ≡ (head_of (slice_index s.words (head_word q))).index → IsPart (r.items b) v.book.account.charge → (q ≡ Empty → r.items b ≡ []) → r.size b ≡ v.book.setup.size
+        → length (r.items b) ≤ v.book.setup.size
         → Rule r e (record { words = set s.words (head_word q) x; homes = set s.homes i (some (Some b)); views = set s.views id push_view })
-    pushed_rule x hit next leads part none_empty size =
+    pushed_rule x hit short next leads part none_empty size fits =
         changed r e s rule id v is words homes w (length-set s.words (head_word q) x) (length-set s.homes i (some (Some b))) (λ j h. let same = link_beside_head e s.words q x j in omega (arith, rule.linked j h)) sized
-        (λ j o. let z : ◌≡◌ {A = ℕ} 0 (suc j) = o in absurd (omega arith)) rests others (λ h. rule.same_setup id v is there) law
+        (λ j o. let z : ◌≡◌ {A = ℕ} 0 (suc j) = o in absurd (omega arith)) rests others (λ h. rule.same_setup id v is there) reached
       where
         m : Marking
         m = marking_of r e s
@@ -166,29 +176,33 @@ module _ {B : Type 0} (r : Reading B) (e : Setup) (s : State (Option B) View) (r
         others k u other at =
             ((λ j o. let t = rule.tied k u at j o in (t.0, link_beside_head e s.words q x j ∙ t.1)), (λ j theirs not_out. beside_mine k u j (some (Some b)) other at theirs ∙ rule.rests k u at j theirs not_out))
 
-        law : Law e (marking_of r e (record { words = words; homes = homes; views = set s.views id w }))
-        law =
-            agrees e (record m { head = put_which q (after (m.head q) (Some i)) m.head; slots = set m.slots i (Some (r.items b)); accounts = set m.accounts id (after_push q i (r.items b) v.book.account) })
-            (marking_of r e (record { words = words; homes = homes; views = set s.views id w })) (heads_after e s.words q x (after (m.head q) (Some i)) (omega (arith, rule.word_count)) next) (λ j h. ap index_of (link_beside_head e s.words q x j))
-            (mark_beside_head e s.words q x) (slots_set r s.homes i (some (Some b))) (accounts_set s.views id w)
-            (push_keeps e m rule.law id v.book.account (stands r e s rule id v is) there q i (r.items b) mine (ap index_of (rule.tied id v is i out).1 ∙ leads) part none_empty)
+        t : State (Option B) View
+        t = record { words = words; homes = homes; views = set s.views id w }
+
+        follows : m.link i ≡ (m.head q).index
+        follows =
+            cut_below e.buffers (λ k. index_of (slice_index s.words (link_word k))) i (held_below r e s rule id v is i mine) ∙ ap index_of (rule.tied id v is i out).1 ∙ leads
+
+        room : length (r.items b) ≤ e.size
+        room = subst (λ (g : Setup). length (r.items b) ≤ g.size) (rule.same_setup id v is there) fits
+
+        reached : Reached r e t
+        reached =
+            happened r e s rule id v is (Push q i (r.items b)) there ((hit, short), (times_stands v.book.account.held i mine, part, room, none_empty), follows) t
+            (agrees (marking_of r e t) (effect m id v.book.account (Push q i (r.items b))) (heads_after e s.words q x (after (m.head q) (Some i)) (omega (arith, rule.word_count)) next)
+            (links_beside_head e s.words q x) (mark_beside_head e s.words q x) (slots_set r s.homes i (some (Some b))) (accounts_set s.views id w))
+            (counts_same r e s rule id v is w refl)
 
     -- the head was another: only the failure is counted, and the slot stays out
-    pub missed_rule : (word : ℕ) → Rule r e (record { words = slice_set s.words word (slice_index s.words word); homes = s.homes; views = set s.views id (record v { book = failed v.book }) })
-    missed_rule word =
+    pub missed_rule :
+        (h : Head) (word : ℕ) → (look_of v.book.account q).head ≡ Some h → (head_of (slice_index s.words (head_word q)) ≡ h → ⊥)
+        → Rule r e (record { words = slice_set s.words word (slice_index s.words word); homes = s.homes; views = set s.views id (record v { book = failed v.book }) })
+    missed_rule h word last other =
         subst (λ ws. Rule r e (record { words = ws; homes = s.homes; views = set s.views id w })) (sym (set-get_or s.words word 0))
-        (changed r e s rule id v is s.words s.homes w refl refl rule.linked rule.sized (rule.tied id v is) (rule.rests id v is) (λ k u other at. (rule.tied k u at, rule.rests k u at)) (rule.same_setup id v is) law)
+        (changed r e s rule id v is s.words s.homes w refl refl rule.linked rule.sized (rule.tied id v is) (rule.rests id v is) (λ k u other at. (rule.tied k u at, rule.rests k u at)) (rule.same_setup id v is) (lost r e s rule id v is there w refl refl q h last other))
       where
-        m : Marking
-        m = marking_of r e s
-
         w : View
         w = record v { book = failed v.book }
-
-        law : Law e (marking_of r e (record { words = s.words; homes = s.homes; views = set s.views id w }))
-        law =
-            agrees e m (marking_of r e (record { words = s.words; homes = s.homes; views = set s.views id w })) (λ p. refl) (λ j h. refl) (λ o. refl) refl
-            (accounts_set s.views id w ∙ set_again m.accounts id v.book.account (stands r e s rule id v is)) rule.law
 
 module _ {B : Type 0} (r : Reading B) (e : Setup) (slots id : ℕ) where
   pub stores :
@@ -206,10 +220,10 @@ module _ {B : Type 0} (r : Reading B) (e : Setup) (slots id : ℕ) where
 
   pub pushes :
       (me : Me (Option B) View) (q : Which) (old new i : ℕ) (b : B) → me.1 ≡ (i, Some b) ∷ [] → me.0.out ≡ suc i → 0 < me.0.book.account.share → 0 < times i me.0.book.account.held
-      → (look_of me.0.book.account q).head ≡ Some (head_of old) → head_of new ≡ after (head_of old) (Some i) → index_of me.0.out_link ≡ (head_of old).index
-      → IsPart (r.items b) me.0.book.account.charge → (q ≡ Empty → r.items b ≡ []) → r.size b ≡ me.0.book.setup.size
+      → (look_of me.0.book.account q).head ≡ Some (head_of old) → (head_of old).tag < last_tag → head_of new ≡ after (head_of old) (Some i) → index_of me.0.out_link ≡ (head_of old).index
+      → IsPart (r.items b) me.0.book.account.charge → (q ≡ Empty → r.items b ≡ []) → r.size b ≡ me.0.book.setup.size → length (r.items b) ≤ me.0.book.setup.size
       → Allows (Rule r e) slots id me (head_word q) (λ n. either (n == old) new n) (push_tried r q (step slots (head_word q) old new none) me)
-  pushes me q old new i b carried out there mine last next leads part none_empty size = λ s rule count is fits. go s rule is (ℕ_discrete (slice_index s.words (head_word q)) old)
+  pushes me q old new i b carried out there mine last short next leads part none_empty size fits = λ s rule count is fits. go s rule is (ℕ_discrete (slice_index s.words (head_word q)) old)
     where
       v : View
       v = me.0
@@ -225,7 +239,7 @@ module _ {B : Type 0} (r : Reading B) (e : Setup) (slots id : ℕ) where
           let same : head_of old ≡ head_of n = ap head_of (sym hit) in
           let w : View = push_view r e s rule id v is there i mine b out q in
           let after_it : Rule r e (record { words = set s.words (head_word q) new; homes = set s.homes i (some (Some b)); views = set s.views id w }) =
-          pushed_rule r e s rule id v is there i mine b out q new (last ∙ ap {B = Option Head} Some same) (next ∙ ap (λ (h : Head). after h (Some i)) same) (leads ∙ ap (λ (h : Head). h.index) same) part none_empty size in
+          pushed_rule r e s rule id v is there i mine b out q new (last ∙ ap {B = Option Head} Some same) (subst (λ (h : Head). h.tag < last_tag) same short) (next ∙ ap (λ (h : Head). after h (Some i)) same) (leads ∙ ap (λ (h : Head). h.index) same) part none_empty size fits in
           let put : Rule r e (stepped s (head_word q) (either (n == old) new n) id ((i, Some b) ∷ []) w gives) = subst (λ x. Rule r e (record { words = set s.words (head_word q) x; homes = set s.homes i (some (Some b)); views = set s.views id w })) (sym (exchange_hit n old new hit)) after_it in (
             w,
             gives,
@@ -244,6 +258,6 @@ module _ {B : Type 0} (r : Reading B) (e : Setup) (slots id : ℕ) where
             w,
             keeps,
             tt,
-            subst (λ x. Rule r e (record { words = slice_set s.words (head_word q) x; homes = s.homes; views = set s.views id w })) (sym (exchange_miss n old new miss)) (missed_rule r e s rule id v is there i mine b out q (head_word q)),
+            subst (λ x. Rule r e (record { words = slice_set s.words (head_word q) x; homes = s.homes; views = set s.views id w })) (sym (exchange_miss n old new miss)) (missed_rule r e s rule id v is there i mine b out q (head_of old) (head_word q) last (λ same. miss (one_head n old same))),
             ((λ hit j c t. absurd (miss hit)), (λ h. refl)),
           )

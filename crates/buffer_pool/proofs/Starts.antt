@@ -13,13 +13,12 @@ use Rattle.mark_core.specs.declared.which.Which.TheVariants.{Full, Empty}
 use Rattle.mark_core.specs.World.{Setup}
 use Rattle.mark_core.specs.Runs.{first_heads, first_link}
 use Rattle.mark_core.specs.Runs as runs
-use Rattle.mark_core.proofs.Openings.{opening_keeps}
 use Rattle.buffer_pool.specs.declared.view.View.{View}
 use Rattle.buffer_pool.specs.Laid.{IsInside, IsLaid, IsSound}
 use Rattle.buffer_pool.specs.Setups.{first_view}
 use Rattle.buffer_pool.specs.Opening.{HasFirstWords, IsFirstSlot}
-use Rattle.buffer_pool.specs.Table.{Reading, Rule, IsTied, Rests, head_word, link_word, mark_word, marking_of, slot_of}
-use Rattle.buffer_pool.proofs.States.{agrees}
+use Rattle.buffer_pool.specs.Table.{Reading, Rule, IsTied, Rests, cut, head_word, link_word, mark_word, marking_of, slot_of}
+use Rattle.buffer_pool.proofs.States.{agrees, cut_below}
 use Rattle.buffer_pool.proofs.Loads.{nothing_out}
 use Rattle.buffer_pool.proofs.Words.{head_below}
 
@@ -91,10 +90,10 @@ one_view zero v u at = some-injective v u at
 one_view (suc w) v u at = absurd (some-ne-none u (sym at))
 
 pub starts :
-    {B : Type 0} (r : Reading B) (e : Setup) (tag : ℕ) (words : List ℕ) (slots : List (Option B)) → 0 < e.buffers
-    → HasFirstWords (32 + e.buffers + e.objects) tag e.buffers words → length slots ≡ e.buffers → All (IsFirstSlot r e.size) slots
+    {B : Type 0} (r : Reading B) (e : Setup) (words : List ℕ) (slots : List (Option B)) → 0 < e.buffers
+    → HasFirstWords (32 + e.buffers + e.objects) e.first_tag e.buffers words → length slots ≡ e.buffers → All (IsFirstSlot r e.size) slots
     → Rule r e (opening words slots (first_view e))
-starts {B} r e tag words slots some_buffer first count all =
+starts {B} r e words slots some_buffer first count all =
     record {
       word_count = first.word_count;
       slot_count = length-map slots some ∙ count;
@@ -103,9 +102,8 @@ starts {B} r e tag words slots some_buffer first count all =
       tied = λ w v at. subst (IsTied words) (one_view w (first_view e) v at) (λ i out. absurd (nothing_out 0 refl i out));
       rests = λ w v at. subst (Rests (map some slots)) (one_view w (first_view e) v at) (λ i mine out. absurd (omega (arith, mine)));
       same_setup = λ w v at. subst (λ (x : View). 0 < x.book.account.share → x.book.setup ≡ e) (one_view w (first_view e) v at) (λ h. refl);
-      law =
-          agrees e (runs.opening e tag) (marking_of r e (opening words slots (first_view e))) first.heads links (λ o. first.rest (mark_word e o) (omega arith))
-          (slots_bare r e.size slots all ∙ ap (λ n. replicate n (Some [])) count) refl (opening_keeps e tag some_buffer);
+      some_buffer = some_buffer;
+      reached = record { events = []; led = record { run = opened; counts = refl } };
     }
   where
     linked : (i : ℕ) → i < e.buffers → slice_index words (link_word i) ≤ e.buffers
@@ -115,14 +113,29 @@ starts {B} r e tag words slots some_buffer first count all =
         go (yes last) = omega (arith, first.rest (link_word i) (omega (arith, last)))
         go (no earlier) = omega (arith, earlier, first.links i (omega (arith, earlier)))
 
-    links : (i : ℕ) → i < e.buffers → index_of (slice_index words (link_word i)) ≡ first_link e.buffers i
-    links i low = go (dec_le e.buffers (i + 1))
+    linked_first : (i : ℕ) → i < e.buffers → index_of (slice_index words (link_word i)) ≡ first_link e.buffers i
+    linked_first i low = go (dec_le e.buffers (i + 1))
       where
         go : Dec (e.buffers ≤ i + 1) → index_of (slice_index words (link_word i)) ≡ first_link e.buffers i
         go (yes last) = ap index_of (first.rest (link_word i) (omega (arith, last))) ∙ sym (ap (λ t. if t then Some (i + 1) else None) (le-ltb (i + 1) e.buffers last))
         go (no earlier) =
             let two : slice_index words (link_word i) ≡ suc (i + 1) = omega (arith, first.links i (omega (arith, earlier))) in
             ap index_of two ∙ sym (ap (λ t. if t then Some (i + 1) else None) (lt-ltb (i + 1) e.buffers (omega (arith, earlier))))
+
+    -- past the buffers both have no link
+    links : (i : ℕ) → cut e.buffers (λ k. index_of (slice_index words (link_word k))) i ≡ first_link e.buffers i
+    links i = go (dec_le e.buffers i)
+      where
+        go : Dec (e.buffers ≤ i) → cut e.buffers (λ k. index_of (slice_index words (link_word k))) i ≡ first_link e.buffers i
+        go (no below) = cut_below e.buffers (λ k. index_of (slice_index words (link_word k))) i (omega (arith, below)) ∙ linked_first i (omega (arith, below))
+        go (yes past) =
+            ap (λ t. if t then index_of (slice_index words (link_word i)) else None) (le-ltb i e.buffers past)
+            ∙ sym (ap (λ t. if t then Some (i + 1) else None) (le-ltb (i + 1) e.buffers (omega (arith, past))))
+
+    opened : marking_of r e (opening words slots (first_view e)) ≡ runs.opening e e.first_tag
+    opened =
+        agrees (marking_of r e (opening words slots (first_view e))) (runs.opening e e.first_tag) first.heads links (λ o. first.rest (mark_word e o) (omega arith))
+        (slots_bare r e.size slots all ∙ ap (λ n. replicate n (Some [])) count) refl
 
 -- one more slot has its buffer
 pub slot_pushed : {B : Type 0} (r : Reading B) (size : ℕ) (slots : List (Option B)) (b : B) → All (IsFirstSlot r size) slots → r.items b ≡ [] → r.size b ≡ size → All (IsFirstSlot r size) (slots ++ Some b ∷ [])

@@ -1,30 +1,56 @@
--- The law of two markings that agree, and the rule of a table after one seat's view changed.
-use Rattle.std.proofs.Common.{◌≡◌, ◌≢◌, ℕ, zero, suc, ◌+◌, ◌<◌, ◌≤◌, List, [], length, map, Option, Some, None, set, slice_index, sym, refl, subst, ◌∙◌, ⊎_elim, length-set, arith}
+-- Markings that agree, the list of events that goes on by one, and the rule of a table after one seat's view changed.
+use Rattle.std.proofs.Common.{◌≡◌, ◌≢◌, ℕ, zero, suc, ◌+◌, ◌<◌, ◌≤◌, nat_lt, if◌then◌else◌, List, [], ◌∷◌, ◌++◌, length, map, Option, Some, None, set, slice_index, ap, sym, refl, subst, ◌∙◌, ⊎_elim, length-set, lt-ltb, le-ltb, arith}
 use Rattle.std.proofs.lemmas.List.{map-set, set-set}
 use mathlib.Core.Option.{none, some, some-injective, some-ne-none}
-use native.Mathlib.Decide.{ℕ_discrete}
+use native.Mathlib.Decide.{dec_le, ℕ_discrete}
 use lib.ListN.{get_elem?}
 use mathlib.Core.Option as maybe
 use Rattle.atomic_table.specs.Table.{State, Me, Allows, put_back, stepped, gives, chain}
 use Rattle.atomic_table.proofs.Lists.{at_map, at_set, set_here, set_else, set_again}
 use Rattle.mark_core.specs.declared.which.Which.{Which}
 use Rattle.mark_core.specs.Lists.{StandsAt, times}
-use Rattle.mark_core.specs.Account.{Account}
-use Rattle.mark_core.specs.World.{Setup, Marking}
+use Rattle.mark_core.specs.Account.{Account, spent}
+use Rattle.mark_core.specs.World.{Setup, Marking, account_at, put}
+use Rattle.mark_core.specs.Event.{Event, Kind, effect}
+use Rattle.mark_core.specs.Event as may
+use Rattle.mark_core.specs.Counts.{Counts, LeadTo, counted, counts_at, no_counts}
 use Rattle.mark_core.specs.Law.{Law}
 use Rattle.mark_core.specs.Ownership.{held_times}
-use Rattle.mark_core.proofs.Places.{at_below}
+use Rattle.mark_core.proofs.Places.{at_below, at_get_or, put_here, put_else}
+use Rattle.mark_core.proofs.Counting.{lawful_where, leads_on}
 use Rattle.mark_core.proofs.Sums.{terms_le}
 use Rattle.mark_core.proofs.Ownership.{held_apart, place_one}
-use Rattle.mark_core.proofs.Events.{relink_keeps}
 use Rattle.buffer_pool.specs.declared.view.View.{View}
-use Rattle.buffer_pool.specs.Table.{Reading, Rule, IsTied, Rests, Carries, account_of, free, link_word, marking_of, slot_of, slots_of}
+use Rattle.buffer_pool.specs.Table.{Reading, Reached, Rule, IsTied, Rests, Carries, account_of, cut, free, link_word, marking_of, slot_of, slots_of, view_counts}
 
--- the law reads heads, marks, slots and accounts as they are, and the links of buffers alone
-pub agrees : (e : Setup) (m n : Marking) → ((q : Which) → n.head q ≡ m.head q) → ((i : ℕ) → i < e.buffers → n.link i ≡ m.link i) → ((o : ℕ) → n.mark o ≡ m.mark o) → n.slots ≡ m.slots → n.accounts ≡ m.accounts → Law e m → Law e n
-agrees e m n heads links marks slots accounts law =
-    let relinked : Law e (record m { link = n.link }) = relink_keeps e m law n.link links in
-    subst (Law e) (λ k. record { head = λ q. sym (heads q) k; link = n.link; mark = λ o. sym (marks o) k; slots = sym slots k; accounts = sym accounts k }) relinked
+-- markings that agree in each part are one
+pub agrees :
+    (m n : Marking) → ((q : Which) → m.head q ≡ n.head q) → ((i : ℕ) → m.link i ≡ n.link i) → ((o : ℕ) → m.mark o ≡ n.mark o)
+    → m.slots ≡ n.slots → m.accounts ≡ n.accounts → m ≡ n
+agrees m n heads links marks slots accounts = λ k. record { head = λ q. heads q k; link = λ i. links i k; mark = λ o. marks o k; slots = slots k; accounts = accounts k }
+
+-- links once cut: the same where they are the same for buffers, a buffer's is as it was, and a buffer's may be written before or after
+pub cut_below : (buffers : ℕ) (f : ℕ → Option ℕ) (i : ℕ) → i < buffers → cut buffers f i ≡ f i
+cut_below buffers f i below = ap (λ t. if t then f i else None) (lt-ltb i buffers below)
+
+pub cut_same : (buffers : ℕ) (f g : ℕ → Option ℕ) → ((i : ℕ) → i < buffers → f i ≡ g i) → (i : ℕ) → cut buffers f i ≡ cut buffers g i
+cut_same buffers f g same i = go (dec_le buffers i)
+  where
+    go : Dec (buffers ≤ i) → cut buffers f i ≡ cut buffers g i
+    go (yes past) = ap (λ t. if t then f i else None) (le-ltb i buffers past) ∙ sym (ap (λ t. if t then g i else None) (le-ltb i buffers past))
+    go (no below) = cut_below buffers f i (omega (arith, below)) ∙ same i (omega (arith, below)) ∙ sym (cut_below buffers g i (omega (arith, below)))
+
+pub cut_put : (buffers : ℕ) (f : ℕ → Option ℕ) (i : ℕ) (x : Option ℕ) → i < buffers → (j : ℕ) → cut buffers (put i x f) j ≡ put i x (cut buffers f) j
+cut_put buffers f i x below j = go (ℕ_discrete j i)
+  where
+    go : Dec (j ≡ i) → cut buffers (put i x f) j ≡ put i x (cut buffers f) j
+    go (yes same) =
+        cut_below buffers (put i x f) j (subst (λ k. k < buffers) (sym same) below) ∙ put_here i j x f same ∙ sym (put_here i j x (cut buffers f) same)
+    go (no other) = ap (λ y. if nat_lt j buffers then y else None) (put_else i j x f other) ∙ sym (put_else i j x (cut buffers f) other)
+
+-- what a list of events led to is lawful
+pub lawful : {B : Type 0} (r : Reading B) (e : Setup) (s : State (Option B) View) → Rule r e s → Law e (marking_of r e s)
+lawful r e s rule = lawful_where e rule.reached.events (marking_of r e s) (map view_counts s.views) rule.some_buffer rule.reached.led
 
 module _ {B : Type 0} (r : Reading B) (e : Setup) (s : State (Option B) View) (rule : Rule r e s) (id : ℕ) (v : View) (is : get_elem? s.views id ≡ some v) where
   -- the account of the view stands among the accounts
@@ -36,16 +62,16 @@ module _ {B : Type 0} (r : Reading B) (e : Setup) (s : State (Option B) View) (r
   held_alone k u i other at mine theirs =
       let m = marking_of r e s in
       let two : times i v.book.account.held + times i u.book.account.held ≤ held_times i m.accounts = terms_le (λ (a : Account). times i a.held) m.accounts id k v.book.account u.book.account other stands (at_map account_of s.views k u at) in
-      let one = place_one e.buffers m.head m.link m.accounts rule.law.stack rule.law.owned i in omega arith
+      let one = place_one e.buffers m.head m.link m.accounts (lawful r e s rule).stack (lawful r e s rule).owned i in omega arith
 
   pub held_below : (i : ℕ) → 0 < times i v.book.account.held → i < e.buffers
-  held_below i mine = let m = marking_of r e s in (held_apart e.buffers m.head m.link m.accounts rule.law.stack rule.law.owned id v.book.account stands i mine).0
+  held_below i mine = let m = marking_of r e s in (held_apart e.buffers m.head m.link m.accounts (lawful r e s rule).stack (lawful r e s rule).owned id v.book.account stands i mine).0
 
   -- the slot of a buffer that the account holds has no items
   pub held_away : (i : ℕ) → 0 < times i v.book.account.held → StandsAt (marking_of r e s).slots i None
   held_away i mine =
       let m = marking_of r e s in
-      let apart = held_apart e.buffers m.head m.link m.accounts rule.law.stack rule.law.owned id v.book.account stands i mine in rule.law.shelved.away i apart.0 apart.1 apart.2
+      let apart = held_apart e.buffers m.head m.link m.accounts (lawful r e s rule).stack (lawful r e s rule).owned id v.book.account stands i mine in (lawful r e s rule).shelved.away i apart.0 apart.1 apart.2
 
   -- the rule after the seat's view became w
   pub changed :
@@ -55,9 +81,9 @@ module _ {B : Type 0} (r : Reading B) (e : Setup) (s : State (Option B) View) (r
       → IsTied words w → Rests homes w
       → ((k : ℕ) (u : View) → k ≢ id → get_elem? s.views k ≡ some u → IsTied words u × Rests homes u)
       → (0 < w.book.account.share → w.book.setup ≡ e)
-      → Law e (marking_of r e (record { words = words; homes = homes; views = set s.views id w }))
+      → Reached r e (record { words = words; homes = homes; views = set s.views id w })
       → Rule r e (record { words = words; homes = homes; views = set s.views id w })
-  changed words homes w word_count slot_count linked sized tied rests others setup law =
+  changed words homes w word_count slot_count linked sized tied rests others setup reached =
       record {
         word_count = word_count ∙ rule.word_count;
         slot_count = slot_count ∙ rule.slot_count;
@@ -66,7 +92,8 @@ module _ {B : Type 0} (r : Reading B) (e : Setup) (s : State (Option B) View) (r
         tied = λ k u at. ⊎_elim (λ t. subst (IsTied words) t.1 tied) (λ t. (others k u t.0 t.1).0) (at_set s.views id k w u at);
         rests = λ k u at. ⊎_elim (λ t. subst (Rests homes) t.1 rests) (λ t. (others k u t.0 t.1).1) (at_set s.views id k w u at);
         same_setup = λ k u at. ⊎_elim (λ t. subst (λ (x : View). 0 < x.book.account.share → x.book.setup ≡ e) t.1 setup) (λ t. rule.same_setup k u t.1) (at_set s.views id k w u at);
-        law = law;
+        some_buffer = rule.some_buffer;
+        reached = reached;
       }
 
 -- the items at home in a slot after a write
@@ -76,21 +103,70 @@ slots_set r homes i h = map-set (slot_of r) homes i h
 pub accounts_set : (views : List View) (id : ℕ) (w : View) → map account_of (set views id w) ≡ set (map account_of views) id w.book.account
 accounts_set views id w = map-set account_of views id w
 
+pub counts_set : (views : List View) (id : ℕ) (w : View) → map view_counts (set views id w) ≡ set (map view_counts views) id (view_counts w)
+counts_set views id w = map-set view_counts views id w
+
+module _ {B : Type 0} (r : Reading B) (e : Setup) (s : State (Option B) View) (rule : Rule r e s) where
+  -- the list of events that led here leads to each table with the same marking and the same counts
+  pub nothing_happened : (t : State (Option B) View) → marking_of r e t ≡ marking_of r e s → map view_counts t.views ≡ map view_counts s.views → Reached r e t
+  nothing_happened t marking counts =
+      record {
+        events = rule.reached.events;
+        led = subst (λ cs. LeadTo e rule.reached.events (marking_of r e t) cs) (sym counts) (subst (λ x. LeadTo e rule.reached.events x (map view_counts s.views)) (sym marking) rule.reached.led);
+      }
+
+  module _ (id : ℕ) (v : View) (is : get_elem? s.views id ≡ some v) where
+    -- accounts and counts after the seat's view became one with the same account, or with the same counts
+    pub accounts_same : (w : View) → w.book.account ≡ v.book.account → map account_of (set s.views id w) ≡ map account_of s.views
+    accounts_same w same =
+        accounts_set s.views id w ∙ ap (set (map account_of s.views) id) same ∙ set_again (map account_of s.views) id v.book.account (stands r e s rule id v is)
+
+    pub counts_same : (w : View) → view_counts w ≡ view_counts v → map view_counts (set s.views id w) ≡ map view_counts s.views
+    counts_same w same =
+        counts_set s.views id w ∙ ap (set (map view_counts s.views) id) same ∙ set_again (map view_counts s.views) id (view_counts v) (at_map view_counts s.views id v is)
+
+    -- the counts after one that the event changes
+    pub counts_changed :
+        (w : View) (f : Counts → Counts) → view_counts w ≡ f (view_counts v)
+        → map view_counts (set s.views id w) ≡ set (map view_counts s.views) id (f (counts_at (map view_counts s.views) id))
+    counts_changed w f new =
+        counts_set s.views id w
+        ∙ ap (set (map view_counts s.views) id) (new ∙ ap f (sym (at_get_or (map view_counts s.views) id (view_counts v) no_counts (at_map view_counts s.views id v is))))
+
+    -- an event of the seat happened: it may do this, and the table stands for what comes of it
+    pub happened :
+        (kind : Kind) → 0 < v.book.account.share → may.Allows e (marking_of r e s) id v.book.account kind → (t : State (Option B) View)
+        → marking_of r e t ≡ effect (marking_of r e s) id v.book.account kind → map view_counts t.views ≡ counted (marking_of r e s) (map view_counts s.views) id kind
+        → Reached r e t
+    happened kind there can t marking counts =
+        let m = marking_of r e s in
+        let event : Event = record { worker = id; kind = kind } in
+        let at = stands r e s rule id v is in
+        let same : account_at m.accounts id ≡ v.book.account = at_get_or m.accounts id v.book.account spent at in
+        let all = marking ∙ ap (λ a. effect m id a kind) (sym same) in
+        record {
+          events = rule.reached.events ++ event ∷ [];
+          led = subst (λ cs. LeadTo e (rule.reached.events ++ event ∷ []) (marking_of r e t) cs) (sym counts)
+              (subst (λ x. LeadTo e (rule.reached.events ++ event ∷ []) x (counted m (map view_counts s.views) id kind)) (sym all)
+              (leads_on e event rule.reached.events m (map view_counts s.views) rule.reached.led (v.book.account, (at, there), can)));
+        }
+
 -- a slot that is out goes home without its buffer, and the rule still holds
 module _ {B : Type 0} (r : Reading B) (e : Setup) (s : State (Option B) View) (rule : Rule r e s) (id : ℕ) (v : View) (is : get_elem? s.views id ≡ some v) where
-  given_law : (homes : List (maybe.Option (Option B))) → map (slot_of r) homes ≡ map (slot_of r) s.homes → Law e (marking_of r e (record { words = s.words; homes = homes; views = set s.views id (free v) }))
-  given_law homes same =
-      agrees e (marking_of r e s) (marking_of r e (record { words = s.words; homes = homes; views = set s.views id (free v) })) (λ q. refl) (λ i h. refl) (λ o. refl) same
-      (accounts_set s.views id (free v) ∙ set_again (map account_of s.views) id v.book.account (stands r e s rule id v is)) rule.law
+  given_reached : (homes : List (maybe.Option (Option B))) → map (slot_of r) homes ≡ map (slot_of r) s.homes → Reached r e (record { words = s.words; homes = homes; views = set s.views id (free v) })
+  given_reached homes same =
+      let t : State (Option B) View = record { words = s.words; homes = homes; views = set s.views id (free v) } in
+      nothing_happened r e s rule t
+      (agrees (marking_of r e t) (marking_of r e s) (λ q. refl) (λ i. refl) (λ o. refl) same (accounts_same r e s rule id v is (free v) refl)) (counts_same r e s rule id v is (free v) refl)
 
   pub given_back : (n : ℕ) → v.out ≡ n → Rule r e (record { words = s.words; homes = put_back s.homes (slots_of n); views = set s.views id (free v) })
   given_back zero none_out =
       changed r e s rule id v is s.words s.homes (free v) refl refl rule.linked rule.sized (λ i out. let z : ◌≡◌ {A = ℕ} 0 (suc i) = out in absurd (omega arith))
-      (λ i mine out. rule.rests id v is i mine (λ o. omega (arith, o, none_out))) (λ k u other at. (rule.tied k u at, rule.rests k u at)) (rule.same_setup id v is) (given_law s.homes refl)
+      (λ i mine out. rule.rests id v is i mine (λ o. omega (arith, o, none_out))) (λ k u other at. (rule.tied k u at, rule.rests k u at)) (rule.same_setup id v is) (given_reached s.homes refl)
   given_back (suc i) out =
       changed r e s rule id v is s.words homes (free v) refl (length-set s.homes i (some None)) rule.linked sized (λ j o. let z : ◌≡◌ {A = ℕ} 0 (suc j) = o in absurd (omega arith)) rests
       (λ k u other at. (rule.tied k u at, others k u other at)) (rule.same_setup id v is)
-      (given_law homes (slots_set r s.homes i (some None) ∙ set_again (map (slot_of r) s.homes) i None (held_away r e s rule id v is i mine)))
+      (given_reached homes (slots_set r s.homes i (some None) ∙ set_again (map (slot_of r) s.homes) i None (held_away r e s rule id v is i mine)))
     where
       homes : List (maybe.Option (Option B))
       homes = set s.homes i (some None)
@@ -122,8 +198,8 @@ module _ {B : Type 0} (r : Reading B) (e : Setup) (s : State (Option B) View) (r
           go (no differ) = set_else s.homes i j (some None) differ ∙ rule.rests k u at j held not_out
 
 -- The first step of a call gives the slot back that is out, at no cost: what a seat with nothing out may do, each seat may do.
-module _ {B : Type 0} (r : Reading B) (e : Setup) (slots id word : ℕ) (f : ℕ → ℕ) (then : ℕ → Me (Option B) View → Type 0) where
-  freed_at : (v : View) (n : ℕ) → v.out ≡ n → Allows (Rule r e) slots id (free v, []) word f then → Allows (Rule r e) slots id (v, slots_of n) word f then
+module _ {B : Type 0} (r : Reading B) (e : Setup) (slots id word : ℕ) (f : ℕ → ℕ) (tells : ℕ → Me (Option B) View → Type 0) where
+  freed_at : (v : View) (n : ℕ) → v.out ≡ n → Allows (Rule r e) slots id (free v, []) word f tells → Allows (Rule r e) slots id (v, slots_of n) word f tells
   freed_at v zero out allows = λ s rule count is fits.
       let t : State (Option B) View = record { words = s.words; homes = s.homes; views = set s.views id (free v) } in
       let a = allows t (given_back r e s rule id v is zero out) count (set_here s.views id (free v) (at_below s.views id v is)) fits in
@@ -133,5 +209,5 @@ module _ {B : Type 0} (r : Reading B) (e : Setup) (slots id word : ℕ) (f : ℕ
       let a = allows t (given_back r e s rule id v is (suc i) out) (length-set s.homes i (some None) ∙ count) (set_here s.views id (free v) (at_below s.views id v is)) fits in
       (a.0, chain gives a.1, (tt, a.2), subst (λ vs. Rule r e (record (stepped t word (f (slice_index s.words word)) id [] a.0 a.1) { views = vs })) (set-set s.views id (free v) a.0) a.3, a.4)
 
-  pub freed : (me : Me (Option B) View) → Carries me → Allows (Rule r e) slots id (free me.0, []) word f then → Allows (Rule r e) slots id me word f then
-  freed me carries allows = subst (λ c. Allows (Rule r e) slots id (me.0, c) word f then) (sym carries) (freed_at me.0 me.0.out refl allows)
+  pub freed : (me : Me (Option B) View) → Carries me → Allows (Rule r e) slots id (free me.0, []) word f tells → Allows (Rule r e) slots id me word f tells
+  freed me carries allows = subst (λ c. Allows (Rule r e) slots id (me.0, c) word f tells) (sym carries) (freed_at me.0 me.0.out refl allows)

@@ -1,14 +1,19 @@
 -- The words of a table after one of them changed.
-use Rattle.std.proofs.Common.{◌≡◌, ◌≢◌, ℕ, ◌+◌, ◌<◌, ◌≤◌, ◌==◌, List, length, set, slice_index, ap, sym, ◌∙◌, eq-eqb, ne_eqb, arith}
+use Rattle.std.proofs.Common.{◌≡◌, ◌≢◌, ℕ, ◌+◌, ◌<◌, ◌≤◌, ◌==◌, nat_lt, if◌then◌else◌, List, length, None, set, slice_index, ap, sym, ◌∙◌, eq-eqb, ne_eqb, arith}
 use Rattle.std.proofs.lemmas.List.{get_or-set_same, get_or-set_other}
 use native.Mathlib.Decide.{ℕ_discrete}
 use prog.Atomic.{either}
-use Rattle.tagged_index.specs.Head.{Head, head_of, index_of}
+use Rattle.tagged_index.specs.Head.{Head, head_of, index_of, word_of}
+use Rattle.tagged_index.specs.Words.{restored}
 use Rattle.mark_core.specs.declared.which.Which.{Which}
 use Rattle.mark_core.specs.declared.which.Which.TheVariants.{Full, Empty}
 use Rattle.mark_core.specs.World.{Setup, put, put_which}
 use Rattle.mark_core.proofs.Places.{put_here, put_else}
-use Rattle.buffer_pool.specs.Table.{head_word, link_word, mark_word}
+use Rattle.buffer_pool.specs.Table.{cut, head_word, link_word, mark_word}
+
+-- a head has one word
+pub one_head : (m n : ℕ) → head_of m ≡ head_of n → m ≡ n
+one_head m n same = sym (restored m) ∙ ap word_of same ∙ restored n
 
 -- a head's word is below the links
 pub head_below : (q : Which) → head_word q < 32
@@ -27,6 +32,11 @@ module _ (e : Setup) (words : List ℕ) where
   module _ (q : Which) (x : ℕ) where
     pub link_beside_head : (i : ℕ) → slice_index (set words (head_word q) x) (link_word i) ≡ slice_index words (link_word i)
     link_beside_head i = get_or-set_other words (head_word q) (link_word i) x 0 (λ h. omega (arith, h, head_below q))
+
+    pub links_beside_head :
+        (i : ℕ)
+        → cut e.buffers (λ k. index_of (slice_index (set words (head_word q) x) (link_word k))) i ≡ cut e.buffers (λ k. index_of (slice_index words (link_word k))) i
+    links_beside_head i = ap (λ y. if nat_lt i e.buffers then index_of y else None) (link_beside_head i)
 
     pub mark_beside_head : (o : ℕ) → slice_index (set words (head_word q) x) (mark_word e o) ≡ slice_index words (mark_word e o)
     mark_beside_head o = get_or-set_other words (head_word q) (mark_word e o) x 0 (λ h. omega (arith, h, head_below q))

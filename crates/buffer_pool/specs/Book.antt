@@ -1,10 +1,11 @@
 -- A book: the account of one worker, what its pool was made for, and counts of what it did. What each step does to a book.
-use Rattle.std.specs.Prelude.{ℕ, ◌+◌, List, [], Option, is_none, if◌then◌else◌}
+use Rattle.std.specs.Prelude.{ℕ, ◌+◌, List, [], Option}
 use Rattle.mark_core.specs.declared.which.Which.{Which}
 use Rattle.mark_core.specs.declared.which.Which.TheVariants.{Full, Empty}
 use Rattle.tagged_index.specs.Head.{Head}
 use Rattle.mark_core.specs.Account.{Account, part, spent, after_claim, after_finish, after_split, after_join, after_load, after_load_link, after_pop, after_push}
 use Rattle.mark_core.specs.World.{Setup}
+use Rattle.mark_core.specs.Counts.{Counts, none_found}
 
 pub record Book : Type 0 where
   pub setup : Setup
@@ -25,9 +26,9 @@ empties_of b Empty = b.empty_empties
 abbrev pub new_book : Setup → ℕ → Book
 new_book e units = record { setup = e; account = part units; loads = 0; full_empties = 0; empty_empties = 0; failures = 0 }
 
--- one for a head without a buffer
-abbrev pub none_found : Head → ℕ
-none_found h = if is_none h.index then 1 else 0
+-- the counts of a book
+abbrev pub counts_of : Book → Counts
+counts_of b = record { loads = b.loads; full_empties = b.full_empties; empty_empties = b.empty_empties; failures = b.failures }
 
 -- the head of a stack was loaded
 abbrev pub loaded : Which → Head → Book → Book
@@ -74,6 +75,10 @@ joined a b =
       failures = a.failures + b.failures;
     }
 
+-- the setup of nothing
+abbrev pub no_setup : Setup
+no_setup = record { objects = 0; buffers = 0; size = 0; first_tag = 0; roots = []; pairs = [] }
+
 -- what is left of a book that was put into another
 abbrev pub spent_book : Book
-spent_book = record { setup = record { objects = 0; buffers = 0; size = 0; roots = []; pairs = [] }; account = spent; loads = 0; full_empties = 0; empty_empties = 0; failures = 0 }
+spent_book = record { setup = no_setup; account = spent; loads = 0; full_empties = 0; empty_empties = 0; failures = 0 }

@@ -4,9 +4,11 @@ use Rattle.mark_core.specs.declared.which.Which.TheVariants.{Full, Empty}
 use Rattle.mark_core.specs.Lists.{StandsAt, one_where, times}
 use Rattle.mark_core.specs.World.{Marking}
 use Rattle.mark_core.specs.Colours.{IsReachable}
+use Rattle.mark_core.specs.Event.{Event}
+use Rattle.mark_core.specs.Counts.{Counts, LeadTo}
 use Rattle.mark_core.specs.Law.{Law}
 use Rattle.mark_core.specs.Runs.{IsListOf, LiesIn}
-use Rattle.buffer_pool.specs.Book.{Book}
+use Rattle.buffer_pool.specs.Book.{Book, counts_of}
 
 -- of so many places none has a value
 abbrev pub IsEmptied : ℕ → List Bool → Type 0
@@ -15,10 +17,14 @@ IsEmptied count filled = (k : ℕ) → k < count → slice_index_or filled k fal
 pub record Ends (b : Book) (marks : List ℕ) : Type 0 where
   -- one mark for each object
   pub count : length marks ≡ b.setup.objects
-  -- the marking as the last step left it: the law holds of it, the account is one of its accounts, and these are its marks
+  -- a list of events led from the opening to the marking and the counts as the last step left them
+  pub events : List Event
   pub last : Marking
+  pub counts : List Counts
+  pub led : LeadTo b.setup events last counts
+  -- so the law holds of it. The worker's account and counts are those of one number, and these are the marks
   pub law : Law b.setup last
-  pub own : (w : ℕ) × StandsAt last.accounts w b.account
+  pub own : (w : ℕ) × StandsAt last.accounts w b.account × StandsAt counts w (counts_of b)
   pub same_marks : (o : ℕ) → slice_index marks o ≡ last.mark o
   -- the finished objects are those of the finished list, each once
   pub finished : (o : ℕ) → (slice_index marks o ≡ 2) ↔ Contains b.account.finished o

@@ -24,9 +24,10 @@ account_code =
 
 abbrev pub setup_code : Coded Setup
 setup_code =
-    code_by ((ℕ × ℕ) × (ℕ × (List ℕ × List (ℕ × ℕ)))) (coded× (coded× coded_ℕ coded_ℕ) (coded× coded_ℕ (coded× (coded_list coded_ℕ) (coded_list (coded× coded_ℕ coded_ℕ)))))
-    (λ e. ((e.objects, e.buffers), (e.size, (e.roots, e.pairs))))
-    (λ p. record { objects = p.0.0; buffers = p.0.1; size = p.1.0; roots = p.1.1.0; pairs = p.1.1.1 }) (λ _. refl)
+    code_by (((ℕ × ℕ) × (ℕ × ℕ)) × (List ℕ × List (ℕ × ℕ)))
+    (coded× (coded× (coded× coded_ℕ coded_ℕ) (coded× coded_ℕ coded_ℕ)) (coded× (coded_list coded_ℕ) (coded_list (coded× coded_ℕ coded_ℕ))))
+    (λ e. (((e.objects, e.buffers), (e.size, e.first_tag)), (e.roots, e.pairs)))
+    (λ p. record { objects = p.0.0.0; buffers = p.0.0.1; size = p.0.1.0; first_tag = p.0.1.1; roots = p.1.0; pairs = p.1.1 }) (λ _. refl)
 
 abbrev pub book_code : Coded Book
 book_code =

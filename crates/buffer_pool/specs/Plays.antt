@@ -1,7 +1,7 @@
 -- What each step on the table tells the worker that makes it: of the step, the seat before, the number found and the seat after.
-use Rattle.std.specs.Prelude.{Contains, ◌≡◌, ℕ, suc, ◌<◌, ◌≤◌, [], ◌∷◌, Option, Some, None}
+use Rattle.std.specs.Prelude.{Contains, ◌≡◌, ℕ, suc, ◌<◌, ◌≤◌, [], ◌∷◌, length, Option, Some, None}
 use Rattle.atomic_table.specs.Table.{Me, Step}
-use Rattle.tagged_index.specs.Head.{head_of, index_of, after}
+use Rattle.tagged_index.specs.Head.{head_of, index_of, after, last_tag}
 use Rattle.mark_core.specs.declared.which.Which.{Which}
 use Rattle.mark_core.specs.declared.which.Which.TheVariants.{Empty}
 use Rattle.mark_core.specs.Lists.{times, IsPart}
@@ -28,11 +28,13 @@ pub record CanPut {B : Type 0} (r : Reading B) (q : Which) (m : Me (Option B) Vi
   pub share : 0 < m.0.book.account.share
   pub held : 0 < times i m.0.book.account.held
   pub last : (look_of m.0.book.account q).head ≡ Some (head_of old)
+  pub short : (head_of old).tag < last_tag
   pub next : head_of new ≡ after (head_of old) (Some i)
   pub leads : index_of m.0.out_link ≡ (head_of old).index
   pub part : IsPart (r.items b) m.0.book.account.charge
   pub bare : q ≡ Empty → r.items b ≡ []
   pub size : r.size b ≡ m.0.book.setup.size
+  pub fits : length (r.items b) ≤ m.0.book.setup.size
 
 module _ {B : Type 0} where
   -- a load of a head: the slot that was out goes home

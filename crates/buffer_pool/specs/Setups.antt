@@ -6,7 +6,7 @@ use Rattle.buffer_pool.specs.declared.key.Key.{Key}
 use Rattle.buffer_pool.specs.declared.view.View.{View}
 
 abbrev pub setup_of : Key → Setup
-setup_of k = record { objects = k.objects; buffers = k.buffers; size = k.size; roots = k.named.roots; pairs = k.named.pairs }
+setup_of k = record { objects = k.objects; buffers = k.buffers; size = k.size; first_tag = k.first_tag; roots = k.named.roots; pairs = k.named.pairs }
 
 abbrev pub view_with : Book → View
 view_with b = record { marker = record {}; book = b; aside = 0; out = 0; out_link = 0 }

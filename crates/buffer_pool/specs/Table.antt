@@ -1,5 +1,5 @@
 -- The pool's table: which word is what, the marking that its words, slots and views stand for, and the rule that holds between any two steps.
-use Rattle.std.specs.Prelude.{◌≡◌, ℕ, zero, suc, ◌+◌, ◌<◌, ◌≤◌, List, [], ◌∷◌, length, map, Option, Some, None, slice_index}
+use Rattle.std.specs.Prelude.{◌≡◌, ℕ, zero, suc, ◌+◌, ◌<◌, ◌≤◌, nat_lt, if◌then◌else◌, List, [], ◌∷◌, length, map, Option, Some, None, slice_index}
 use mathlib.Core.Option.{none, some}
 use lib.ListN.{get_elem?}
 use Rattle.atomic_table.specs.Table.{State, Me}
@@ -9,8 +9,10 @@ use Rattle.mark_core.specs.declared.which.Which.TheVariants.{Full, Empty}
 use Rattle.mark_core.specs.Lists.{StandsAt, times}
 use Rattle.mark_core.specs.Account.{Account}
 use Rattle.mark_core.specs.World.{Setup, Marking}
-use Rattle.mark_core.specs.Law.{Law}
+use Rattle.mark_core.specs.Event.{Event}
+use Rattle.mark_core.specs.Counts.{Counts, LeadTo}
 use Rattle.buffer_pool.specs.declared.view.View.{View}
+use Rattle.buffer_pool.specs.Book.{counts_of}
 use mathlib.Core.Option as maybe
 
 -- The two head words lie 128 bytes apart, so that they share no cache line. Then come a link word for each buffer and a mark word for each object.
@@ -27,6 +29,14 @@ mark_word e o = 32 + e.buffers + o
 -- the account in a view
 abbrev pub account_of : View → Account
 account_of v = v.book.account
+
+-- the counts in a view
+abbrev pub view_counts : View → Counts
+view_counts v = counts_of v.book
+
+-- the links of the buffers alone
+abbrev pub cut : ℕ → (ℕ → Option ℕ) → ℕ → Option ℕ
+cut buffers link i = if nat_lt i buffers then link i else None
 
 -- how a buffer is read: its items, and the most that it takes
 pub record Reading (B : Type 0) : Type 0 where
@@ -65,13 +75,18 @@ module _ {B : Type 0} (r : Reading B) where
   marking_of e s =
       record {
         head = λ q. head_of (slice_index s.words (head_word q));
-        link = λ i. index_of (slice_index s.words (link_word i));
+        link = cut e.buffers (λ i. index_of (slice_index s.words (link_word i)));
         mark = λ o. slice_index s.words (mark_word e o);
         slots = map slot_of s.homes;
         accounts = map account_of s.views;
       }
 
-  -- what holds between any two steps: the law of the marking, and what the code needs besides
+  -- a list of events leads from the opening to the marking and to the counts in the views
+  pub record Reached (e : Setup) (s : State (Option B) View) : Type 0 where
+    pub events : List Event
+    pub led : LeadTo e events (marking_of e s) (map view_counts s.views)
+
+  -- what holds between any two steps: the run that led here, and what the code needs besides
   pub record Rule (e : Setup) (s : State (Option B) View) : Type 0 where
     pub word_count : length s.words ≡ 32 + e.buffers + e.objects
     pub slot_count : length s.homes ≡ e.buffers
@@ -80,4 +95,5 @@ module _ {B : Type 0} (r : Reading B) where
     pub tied : (w : ℕ) (v : View) → StandsAt s.views w v → IsTied s.words v
     pub rests : (w : ℕ) (v : View) → StandsAt s.views w v → Rests s.homes v
     pub same_setup : (w : ℕ) (v : View) → StandsAt s.views w v → 0 < v.book.account.share → v.book.setup ≡ e
-    pub law : Law e (marking_of e s)
+    pub some_buffer : 0 < e.buffers
+    pub reached : Reached e s

@@ -21,7 +21,7 @@ references = (1, 0) ∷ (1, 2) ∷ (2, 0) ∷ (2, 1) ∷ []
 
 -- a pool over them: the root is object 1
 abbrev pub three_objects : Setup
-three_objects = record { objects = 3; buffers = 4; size = 2; roots = 1 ∷ []; pairs = references }
+three_objects = record { objects = 3; buffers = 4; size = 2; first_tag = 0; roots = 1 ∷ []; pairs = references }
 
 -- a claim of the object o, which was marked
 abbrev pub claimed_again : ℕ → Book → Book

@@ -43,4 +43,5 @@ pub struct Key {
     pub(crate) objects: u32,
     pub(crate) buffers: u32,
     pub(crate) size: u32,
+    pub(crate) first_tag: u64,
 }

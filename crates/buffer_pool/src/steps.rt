@@ -1,7 +1,7 @@
 //! The steps of a pop and of a push, each one atomic step on the table or one access to a slot that is out.
 ghost use Rattle.std.specs.Prelude.{◌≡◌, ℕ, suc, ◌+◌, ◌<◌, ◌≤◌, [], ◌∷◌, Option, Some, None, MatchOption, MatchResult, Contains, length};
 ghost use Rattle.std.specs.Option.{ForSome};
-ghost use Rattle.tagged_index.specs.Head.{Head, after, low_of};
+ghost use Rattle.tagged_index.specs.Head.{Head, after, last_tag, low_of};
 ghost use Rattle.mark_core.specs.declared.which.Which.TheVariants.{Empty};
 ghost use Rattle.mark_core.specs.Account.{look_of};
 ghost use Rattle.mark_core.specs.Event.{CanPop};
@@ -152,7 +152,7 @@ pub(crate) fn put_top<A: Allocator>(
 ) -> Result<(), Held<A>>
     requires table { (seat.old.table_id ≡ words.now.table_id) × IsLaid words.now.table_id (setup_of words.now.key) }
     requires stored { (seat.old.me.1 ≡ (held.index, None) ∷ []) × (seat.old.me.0.out ≡ suc held.index) × (seat.old.me.0.out_link ≡ low_of head.index) × (0 < seat.old.me.0.book.account.share) }
-    requires loaded { (look_of seat.old.me.0.book.account which).head ≡ Some head }
+    requires loaded { ((look_of seat.old.me.0.book.account which).head ≡ Some head) × (head.tag < last_tag) }
     requires next { next ≡ after head (Some held.index) }
     requires may { MayPush which held seat.old.me.0.book }
     ensures same { (seat.new.table_id ≡ seat.old.table_id) × (seat.new.id ≡ seat.old.id) }

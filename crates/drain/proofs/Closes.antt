@@ -23,10 +23,10 @@ marked_where_set (m ∷ marks) zero = (leb-true 1 m, le-leb 1 m)
 marked_where_set (m ∷ marks) (suc o) = marked_where_set marks o
 
 -- the setup of a book that a pool for this graph opened with
-pub opened_setup : (g : ObjectGraph) (buffers size units : ℕ) (b : Book)
-    → b ≡ new_book (record { objects = object_count g; buffers = buffers; size = size; roots = g.roots; pairs = pairs_of g }) units
+pub opened_setup : (g : ObjectGraph) (buffers size first_tag units : ℕ) (b : Book)
+    → b ≡ new_book (record { objects = object_count g; buffers = buffers; size = size; first_tag = first_tag; roots = g.roots; pairs = pairs_of g }) units
     → IsSetupOf (object_count g) g.roots (pairs_of g) b.setup
-opened_setup g buffers size units b is = record {
+opened_setup g buffers size first_tag units b is = record {
   objects = ap (λ (c : Book). c.setup.objects) is;
   roots = ap (λ (c : Book). c.setup.roots) is;
   pairs = ap (λ (c : Book). c.setup.pairs) is;

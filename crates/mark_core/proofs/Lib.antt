@@ -8,6 +8,7 @@ pub mod Shares
 pub mod Events
 pub mod Openings
 pub mod Runs
+pub mod Counting
 pub mod Changes
 pub mod Closing
 pub mod Taking

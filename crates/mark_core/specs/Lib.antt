@@ -7,4 +7,5 @@ pub mod Colours
 pub mod Shares
 pub mod Law
 pub mod Runs
+pub mod Counts
 pub mod Step

@@ -6,11 +6,13 @@ use Rattle.mark_core.specs.declared.which.Which.TheVariants.{Full, Empty}
 use Rattle.mark_core.specs.Lists.{StandsAt}
 use Rattle.mark_core.specs.Account.{Account, spent}
 
--- what no event changes: the number of objects, the number of buffers, the most items of a buffer, the roots, and the pairs of an object and a successor
+-- what no event changes: the number of objects, the number of buffers, the most items of a buffer, the tag that both heads begin with, the roots,
+-- and the pairs of an object and a successor
 pub record Setup : Type 0 where
   pub objects : ℕ
   pub buffers : ℕ
   pub size : ℕ
+  pub first_tag : ℕ
   pub roots : List ℕ
   pub pairs : List (ℕ × ℕ)
 

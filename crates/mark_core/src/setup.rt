@@ -7,13 +7,14 @@ use crate::which::Which;
 use std::alloc::Allocator;
 use std::marker::Model;
 
-/// The numbers of objects and of buffers, the most items of a buffer, the roots, and the pairs of an
-/// object and a successor.
+/// The numbers of objects and of buffers, the most items of a buffer, the tag that both heads begin
+/// with, the roots, and the pairs of an object and a successor.
 #[derive(Drop)]
 pub struct Setup<A: Allocator> {
     pub objects: u32,
     pub buffers: u32,
     pub size: u32,
+    pub first_tag: u64,
     pub roots: Vec<u32, A>,
     pub pairs: Vec<(u32, u32), A>,
 }
@@ -27,6 +28,7 @@ impl<A: Allocator> Model for Setup<A> {
       objects = s.objects;
       buffers = s.buffers;
       size = s.size;
+      first_tag = s.first_tag;
       roots = s.roots.items;
       pairs = s.pairs.items;
     } };

@@ -56,19 +56,21 @@ impl<A: Allocator + Copy> World<A> {
           objects = objects;
           buffers = buffers;
           size = size;
+          first_tag = first_tag;
           roots = vec_items roots;
           pairs = vec_items pairs;
         }) }
-        ensures opening { IfOk result (λ w. marking_of w ≡ opening w.setup first_tag) }
+        ensures opening { IfOk result (λ w. marking_of w ≡ opening w.setup w.setup.first_tag) }
     {
         let setup = Setup {
             objects,
             buffers,
             size,
+            first_tag,
             roots,
             pairs,
         };
-        let state = State::opening(alloc, setup, first_tag)?;
+        let state = State::opening(alloc, setup)?;
         Ok(World { state })
     }
 }

@@ -18,14 +18,15 @@ const WHOLE: u32 = 65_536;
 impl<A: Allocator + Copy> State<A> {
     /// All objects are white, all buffers are on the empty stack with 0 on top, and one account has
     /// the whole share.
-    pub fn opening(alloc: A, setup: Setup<A>, first_tag: u64) -> Result<Self, OutOfMemory>
-        requires { first_tag ≤ LAST_TAG }
-        ensures marking { IfOk result (λ s. marking_of s ≡ opening setup first_tag) }
+    pub fn opening(alloc: A, setup: Setup<A>) -> Result<Self, OutOfMemory>
+        requires { setup.first_tag ≤ LAST_TAG }
+        ensures marking { IfOk result (λ s. marking_of s ≡ opening setup setup.first_tag) }
         ensures setup { IfOk result (λ s. s.setup ≡ setup) }
         ensures links { IfOk result (λ s. length s.links ≡ setup.buffers) }
         ensures slots { IfOk result (λ s. length s.slots ≡ setup.buffers) }
         ensures marks { IfOk result (λ s. length s.marks ≡ setup.objects) }
     {
+        let first_tag = setup.first_tag;
         let links = links_of(alloc, setup.buffers)?;
         let slots = slots_of(alloc, setup.buffers)?;
         let marks = vec![in alloc; 0u8; setup.objects as usize]?;

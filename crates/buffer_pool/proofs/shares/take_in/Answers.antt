@@ -33,7 +33,8 @@ join_seat-requires g c =
       c.load.ensures.0 ∙ c.requires.table.1,
       ap (λ (n : Token g). n.1) freed,
       omega (arith, sound.laid.words, ap (λ (t : TableId). t.words) c.requires.table.0),
-      joins buffer_reading (setup_of c.args.words.now.key) c.args.seat.now.id c.args.seat.now.me.0 c.load.new.seat.id c.load.new.seat.me.0 (ap (λ (n : Token g). n.0.out) freed) sound.share,
+      joins buffer_reading (setup_of c.args.words.now.key) c.args.seat.now.id c.args.seat.now.me.0 c.load.new.seat.id c.load.new.seat.me.0 (ap (λ (n : Token g). n.0.out) freed) sound.share
+          (omega (arith, c.requires.sound.1.share, ap (λ (n : Token g). n.0.book.account.share) freed)),
     )
 
 pub load-requires-2 : goal.load-requires-2

@@ -1,6 +1,6 @@
 -- The slot carries the buffer into the exchange, and out of it where it failed.
-use Rattle.std.proofs.Common.{◌≡◌, suc, sym, subst, ap, ◌∙◌, Option, Some, Contains, refl}
-use Rattle.tagged_index.specs.Head.{Head, index_of, after}
+use Rattle.std.proofs.Common.{◌≡◌, suc, ◌<◌, ◌≤◌, length, arith, sym, subst, ap, ◌∙◌, Option, Some, Contains, refl}
+use Rattle.tagged_index.specs.Head.{Head, index_of, after, last_tag}
 use Rattle.tagged_index.specs.Words.{index_of-low_of}
 use Rattle.mark_core.proofs.Sums.{stands_times}
 use Rattle.buffer_pool.specs.Buffers.{buffer_reading}
@@ -29,12 +29,14 @@ exchange_for_buffer-requires-clause-put g c =
         out = c.requires.stored.1 ∙ ap suc (sym index);
         share = c.requires.stored.3;
         held = stands_times me.0.book.account.held i held;
-        last = c.requires.loaded ∙ ap {B = Option Head} Some (sym spelled);
+        last = c.requires.loaded.0 ∙ ap {B = Option Head} Some (sym spelled);
+        short = subst (λ (h : Head). h.tag < last_tag) (sym spelled) c.requires.loaded.1;
         next = c.word.ensures.spelled ∙ c.requires.next ∙ (λ k. after (sym spelled k) (Some (sym index k)));
         leads = ap index_of c.requires.stored.2 ∙ index_of-low_of c.args.head.index ∙ ap (λ (h : Head). h.index) (sym spelled);
         part = subst (λ xs. IsPart xs me.0.book.account.charge) (sym items) c.requires.may.charged;
         bare = λ e. items ∙ c.requires.may.bare e;
         size = size ∙ c.requires.may.size;
+        fits = omega (arith, b.fits, size, c.requires.may.size, b.items.ok.0);
       }),
     )
 

@@ -10,13 +10,13 @@ use Rattle.buffer_pool.proofs.pool.Pool.new.Goals as goal
 
 pub new-requires : goal.new-requires
 new-requires g c =
-    let key : Key = record { named = c.of.result; objects = c.objects-objects.result; buffers = c.args.buffers; size = c.args.size } in
+    let key : Key = record { named = c.of.result; objects = c.objects-objects.result; buffers = c.args.buffers; size = c.args.size; first_tag = c.args.first_tag } in
     let inside : IsInside c.objects-objects.result c.args.buffers c.args.size c.args.first_tag = c.is_inside.ensures.0 c.if-not-is_inside.false in
-    starts buffer_reading (setup_of key) c.args.first_tag c.as_slice.result.now c.in_ok-slots.slots.items (omega (arith, inside.few))
+    starts buffer_reading (setup_of key) c.as_slice.result.now c.in_ok-slots.slots.items (omega (arith, inside.few))
     (subst (HasFirstWords (32 + c.args.buffers + c.objects-objects.result) c.args.first_tag c.args.buffers) (sym c.as_slice.ensures.value) c.in_ok-words.ensures) c.in_ok-slots.ensures.0 c.in_ok-slots.ensures.1
 
 key_of : (g : given.Over) → goal.In-Ok g → Key
-key_of g c = record { named = c.of.result; objects = c.objects-objects.result; buffers = c.args.buffers; size = c.args.size }
+key_of g c = record { named = c.of.result; objects = c.objects-objects.result; buffers = c.args.buffers; size = c.args.size; first_tag = c.args.first_tag }
 
 laid : (g : given.Over) (c : goal.In-Ok g) → IsLaid c.in-Ok.table.shared.table_id (setup_of (key_of g c))
 unfolding key_of

@@ -1,5 +1,7 @@
 use Rattle.std.proofs.Common.{List, [], ◌∷◌, ◌++◌, ap, ◌∙◌}
 use Rattle.mark_core.specs.Account.{Account}
+use Rattle.mark_core.specs.World.{Setup}
+use Rattle.mark_core.specs.Runs.{opening}
 use Rattle.mark_core.specs.Step.{Listing}
 use Rattle.mark_core.proofs.Begins.{opens}
 use Rattle.mark_core.proofs.state.State.opening.Goals as goal
@@ -18,4 +20,5 @@ returns-clause-marking g c =
       accounts = c.push.new.self.items;
     }
     in
-    opens tables _ c.args.setup c.args.first_tag c.setup.view_is c.none.ensures c.of.ensures c.in_ok-links.ensures.links (c.in_ok-marks.ensures.items_if_clones_equal (λ y e. e)) c.in_ok-slots.ensures accounts
+    opens tables _ c.args.setup c.setup.inside.first_tag c.setup.view_is c.none.ensures c.of.ensures c.in_ok-links.ensures.links (c.in_ok-marks.ensures.items_if_clones_equal (λ y e. e)) c.in_ok-slots.ensures accounts
+    ∙ ap (λ (e : Setup). opening c.args.setup e.first_tag) c.setup.view_is

@@ -10,4 +10,4 @@ invariant_of-result g c =
     lawful_opening _ _ c.args.first_tag made.marking made.setup made.links made.slots made.marks (omega arith) c.requires.buffers.1 c.requires.rooted c.requires.paired
 
 pub returns-clause-opening : goal.returns-clause-opening
-returns-clause-opening g c = c.in_ok-state.ensures.marking ∙ sym (ap (λ (e : Setup). opening e c.args.first_tag) c.in_ok-state.ensures.setup)
+returns-clause-opening g c = c.in_ok-state.ensures.marking ∙ sym (ap (λ (e : Setup). opening e e.first_tag) c.in_ok-state.ensures.setup)
