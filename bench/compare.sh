@@ -1,25 +1,22 @@
 #!/usr/bin/env bash
 # Compares a live dump with the class histogram that the virtual machine printed at the same moment.
 #
-# usage: bench/compare.sh DUMP HISTOGRAM REPORTER.. [-- PLAIN]
+# usage: bench/compare.sh DUMP HISTOGRAM REPORTER..
 #
-# REPORTER..: the command that prints the report of a dump named behind it, as crates/heapmark/out/heapmark. PLAIN: the plain
-# marker, by which all objects of the dump are counted (bench/run.sh builds it); /tmp/heapmark-bench/plain if not given.
-# Prints for each class whose counts differ how many the machine has, how many the dump, and how many the report. A class
-# object is a row `<class>` in the report and an instance of java.lang.Class in the histogram.
+# REPORTER..: the command that prints the report of a dump named behind it, as crates/heapmark/out/heapmark. All objects
+# of the dump are counted by the plain marker. Prints for each class whose counts differ how many the machine has, how
+# many the dump, and how many the report. A class object is in a row `<class>` of the report, and an instance of
+# java.lang.Class in the histogram.
 set -euo pipefail
 
 [ $# -ge 3 ] || { sed -n 's/^# usage: /usage: /p' "$0" >&2; exit 2; }
+top=$(cd "$(dirname "$0")/.." && pwd)
 dump=$1 histogram=$2
 shift 2
-reporter=()
-while [ $# -gt 0 ] && [ "$1" != -- ]; do
-    reporter+=("$1")
-    shift
-done
-plain=${2:-/tmp/heapmark-bench/plain}
 room=$(mktemp -d)
 trap 'rm -rf "$room"' EXIT
+
+rustc --edition 2024 -O -o "$room/plain" "$top/bench/plain/main.rs"
 
 # of_histogram and of_report: lines "COUNT NAME", with the names that reports use.
 of_histogram() {
@@ -35,8 +32,8 @@ of_report() {
     $3 !~ /^\((reachable|unreachable|unresolved)\)$/ { print $1, $3 in code ? code[$3] : $3 }' "$1"
 }
 
-"${reporter[@]}" "$dump" > "$room/report"
-"$plain" "$dump" --count all > "$room/all" 2> "$room/told" || { cat "$room/told" >&2; exit 1; }
+"$@" "$dump" > "$room/report"
+"$room/plain" "$dump" --count all > "$room/all" 2> "$room/told" || { cat "$room/told" >&2; exit 1; }
 of_histogram "$histogram" > "$room/1"
 of_report "$room/all" > "$room/2"
 of_report "$room/report" > "$room/3"

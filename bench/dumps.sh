@@ -3,8 +3,8 @@
 #
 # usage: bench/dumps.sh [DIR [GROUP..]]
 #
-# Writes NAME.hprof and NAME.histogram into DIR (/tmp/heapmark-bench if it is not given). The groups, all of them if none
-# is given:
+# Writes NAME.hprof and NAME.histogram into DIR (/tmp/heapmark-bench if it is not given). The groups, all of them if
+# none is given:
 #   small    Filler with 5 MB, by each collector, live and all
 #   medium   Filler with 100 MB, by G1 and Serial, live and all
 #   large    Filler with 600 MB, by G1, live
@@ -19,8 +19,9 @@ room=${1:-/tmp/heapmark-bench}
 [ $# -eq 0 ] || shift
 java=${JAVA_HOME:+$JAVA_HOME/bin/}
 
-# moment PID NAME [-all]: histogram and dump, by one request to the machine, so that little happens between the two. Before
-# those of live objects the garbage goes twice, since what waits to be finalized or cleaned outlives the first time.
+# moment PID NAME [-all]: histogram and dump, by one request to the machine, so that little happens between the two.
+# Before those of live objects the garbage goes twice, since what waits to be finalized or cleaned outlives the first
+# time.
 moment() {
     if [ $# -eq 2 ]; then
         "${java}jcmd" "$1" GC.run > "$room/$2.histogram"
@@ -32,7 +33,8 @@ moment() {
     ls -l "$room/$2.hprof"
 }
 
-# started COMMAND..: starts a program that prints "ready", jshell since it is told so, and then waits for the end of its input.
+# started COMMAND..: starts a program that prints "ready", jshell since it is told so, and then waits for the end of
+# its input.
 started() {
     coproc PROGRAM { exec "$@"; }
     local line=
@@ -98,8 +100,8 @@ jshell_and_agent() {
     ended
 }
 
-# Copies of Filler, each in a package of its own, and javac in the midst of compiling them: it does not stand still between
-# its histogram and its dump.
+# Copies of Filler, each in a package of its own, and javac in the midst of compiling them: it does not stand still
+# between its histogram and its dump.
 javac_at_work() {
     local number compiler
     for number in $(seq 600); do

@@ -3,10 +3,10 @@
 #
 # usage: bench/run.sh [RUNS [DUMP..]]
 #
-# RUNS: how often each program runs on each dump (5); the best wall time of them counts, and the largest peak of memory.
-# DUMP..: those of /tmp/heapmark-bench if none is given (bench/dumps.sh makes them). Prints Markdown tables: whole programs
-# first, then the dumps, then the phases of the plain marker. heapmark is the binary that `rt run` in crates/heapmark made, or what the
-# variable HEAPMARK names. Built with rustc: bench/plain.
+# RUNS: how often each program runs on each dump (5); the best wall time of them counts, and the largest peak of
+# memory. DUMP..: those of /tmp/heapmark-bench if none is given (bench/dumps.sh makes them). Prints Markdown tables:
+# whole programs first, then the dumps, then the phases of the plain marker. heapmark is the binary that `rt run` in
+# crates/heapmark made, or what the variable HEAPMARK names. Built with rustc: bench/plain.
 set -euo pipefail
 
 top=$(cd "$(dirname "$0")/.." && pwd)
@@ -18,7 +18,6 @@ room=$(mktemp -d)
 trap 'rm -rf "$room"' EXIT
 
 rustc --edition 2024 -O -o "$room/plain" "$top/bench/plain/main.rs"
-cp "$room/plain" /tmp/heapmark-bench/plain
 
 # The ways in which each program runs: a word for each, from which `command_of` makes the command.
 ways() {
@@ -88,9 +87,11 @@ phases() {
     done
 }
 
-echo "Measured on $(date -u +'%-d %B %Y') on $(nproc) processors ($(sed -n 's/^model name.*: //p' /proc/cpuinfo | head -n 1))," \
-    "load $(cut -d ' ' -f 1 /proc/loadavg), $(rustc --version | cut -d ' ' -f 1,2), the best of $runs runs."
-printf '\n| Dump | Program | Wall, s | MB/s | Million objects/s | Peak, MiB | Wall to plain | Peak to plain | Report |\n'
+processor=$(sed -n 's/^model name.*: //p' /proc/cpuinfo | head -n 1)
+load=$(cut -d ' ' -f 1 /proc/loadavg)
+echo "Measured on $(date -u +'%-d %B %Y') on $(nproc) processors ($processor), load $load," \
+    "$(rustc --version | cut -d ' ' -f 1,2), the best of $runs runs."
+printf '\n| Dump | Program | Wall, s | MB/s | Mobjects/s | Peak, MiB | To plain: wall | peak | Report |\n'
 echo '|---|---|---|---|---|---|---|---|---|'
 for dump; do
     name=$(basename "$dump" .hprof)

@@ -72,7 +72,7 @@ public final class Filler {
         }
     }
 
-    /** Each round adds about 150 kilobytes to a live dump. */
+    /** Each round adds about 120 kilobytes to a live dump. */
     static final class Round {
         static final int ENTRIES = 150;
 
@@ -154,7 +154,7 @@ public final class Filler {
     }
 
     public static void main(String[] words) throws IOException {
-        fill(Integer.parseInt(words[0]) * 20 / 3);
+        fill(Integer.parseInt(words[0]) * 8);
         System.out.println("ready");
         while (System.in.read() >= 0) {
             LOCAL.get();

@@ -1,0 +1,148 @@
+//! Dumps that are made to be slow to read: `hostile KIND COUNT > FILE`. Built by `rustc -O`; `hostile` alone tells the
+//! kinds.
+
+#[path = "plain/rows/file.rs"]
+#[allow(dead_code)]
+mod file;
+
+use file::File;
+use std::io::{self, Write};
+use std::process::ExitCode;
+
+const CLASS: u64 = 0x1000_0000;
+const OBJECT: u64 = 0x4000_0000;
+
+type Build = fn(File, u64) -> File;
+
+const KINDS: [(&str, Build); 12] = [
+    ("chain", chain),
+    ("chain_upwards", chain_upwards),
+    ("cycle", cycle),
+    ("inherited_fields", inherited_fields),
+    ("one_id", one_id),
+    ("crowded_ids", crowded_ids),
+    ("falling_ids", falling_ids),
+    ("names", names),
+    ("one_name", one_name),
+    ("list", list),
+    ("elements", elements),
+    ("roots", roots),
+];
+
+fn classes_in_a_chain(heap: File, count: u64) -> File {
+    (1..count).fold(heap.class(CLASS, 0, &[]), |heap, above| heap.class(CLASS + above, CLASS + above - 1, &[]))
+}
+
+/// So many classes, each below the one before, and as many instances of the lowest.
+fn chain(file: File, count: u64) -> File {
+    let lowest = CLASS + count - 1;
+    let instances = |heap| (0..count).fold(heap, |heap: File, number| heap.instance(OBJECT + number, lowest, &[]));
+    file.heap(|heap| instances(classes_in_a_chain(heap, count)).root(OBJECT))
+}
+
+/// The same, but each class stands before its superclass.
+fn chain_upwards(file: File, count: u64) -> File {
+    let classes = |heap| (1..count).fold(heap, |heap: File, above| heap.class(CLASS + above - 1, CLASS + above, &[]));
+    let instances = |heap| (0..count).fold(heap, |heap: File, number| heap.instance(OBJECT + number, CLASS, &[]));
+    file.heap(|heap| instances(classes(heap).class(CLASS + count - 1, 0, &[])).root(OBJECT))
+}
+
+/// So many classes in a circle, and as many below one of them.
+fn cycle(file: File, count: u64) -> File {
+    let top = CLASS + count - 1;
+    let below = |heap| (0..count).fold(heap, |heap: File, number| heap.class(CLASS + count + number, CLASS, &[]));
+    file.heap(|heap| {
+        let circle = (1..count)
+            .fold(heap.class(CLASS, top, &[]), |heap, number| heap.class(CLASS + number, CLASS + number - 1, &[]));
+        below(circle)
+    })
+}
+
+/// A class with the most fields that there can be, so many classes below it, and an instance of one of them.
+fn inherited_fields(file: File, count: u64) -> File {
+    let fields = [2; 65_535];
+    let values: Vec<u8> = (0..fields.len()).flat_map(|_| (OBJECT as u32).to_be_bytes()).collect();
+    file.heap(|heap| {
+        let base = heap.class(CLASS, 0, &fields);
+        let all = (1..=count).fold(base, |heap, number| heap.class(CLASS + number, CLASS, &[]));
+        all.instance(OBJECT, CLASS + count, &values).root(OBJECT)
+    })
+}
+
+/// So many objects of one ID.
+fn one_id(file: File, count: u64) -> File {
+    file.heap(|heap| (0..count).fold(heap, |heap, _| heap.primitives(OBJECT, 8, 0, &[])))
+}
+
+/// So many arrays whose IDs follow one another, each with a reference to the next, and one ID that is far away.
+fn crowded_ids(file: File, count: u64) -> File {
+    file.heap(|heap| {
+        let far = heap.class(CLASS, 0, &[]).primitives(u64::from(u32::MAX), 8, 0, &[]);
+        let all = (0..count).fold(far, |heap, number| heap.objects(OBJECT + number, CLASS, &[OBJECT + number + 1]));
+        all.root(OBJECT)
+    })
+}
+
+/// So many arrays whose IDs fall.
+fn falling_ids(file: File, count: u64) -> File {
+    file.heap(|heap| {
+        let class = heap.class(CLASS, 0, &[]);
+        (0..count).rev().fold(class, |heap, number| heap.objects(OBJECT + number, CLASS, &[OBJECT + number / 2]))
+    })
+}
+
+/// So many classes with a name each, and an instance each.
+fn names(file: File, count: u64) -> File {
+    let strings = (0..count).fold(file, |file, number| file.string(number + 1, format!("C{number}").as_bytes()));
+    let loaded = (0..count).fold(strings, |file, number| file.load(CLASS + number, number + 1));
+    loaded.heap(|heap| {
+        (0..count).fold(heap, |heap, number| {
+            let class = heap.class(CLASS + number, 0, &[]).instance(OBJECT + number, CLASS + number, &[]);
+            class.root(OBJECT + number)
+        })
+    })
+}
+
+/// So many strings and loaded classes, of one ID each.
+fn one_name(file: File, count: u64) -> File {
+    let strings = (0..count).fold(file, |file, _| file.string(1, b"A"));
+    let loaded = (0..count).fold(strings, |file, _| file.load(CLASS, 1));
+    loaded.heap(|heap| heap.class(CLASS, 0, &[]).instance(OBJECT, CLASS, &[]).root(OBJECT))
+}
+
+/// A list of so many instances.
+fn list(file: File, count: u64) -> File {
+    file.heap(|heap| {
+        let class = heap.class(CLASS, 0, &[2]);
+        let next = |number: u64| ((OBJECT + number + 1) as u32).to_be_bytes();
+        let all = (0..count).fold(class, |heap, number| heap.instance(OBJECT + number, CLASS, &next(number)));
+        all.root(OBJECT)
+    })
+}
+
+/// An array with so many elements: itself, null and an object that is not there, in turn.
+fn elements(file: File, count: u64) -> File {
+    let elements: Vec<u64> = (0..count).map(|number| [OBJECT, 0, OBJECT + 1][(number % 3) as usize]).collect();
+    file.heap(|heap| heap.class(CLASS, 0, &[]).objects(OBJECT, CLASS, &elements).root(OBJECT))
+}
+
+/// So many roots, of one object and of one that is not there.
+fn roots(file: File, count: u64) -> File {
+    file.heap(|heap| {
+        let object = heap.class(CLASS, 0, &[]).instance(OBJECT, CLASS, &[]);
+        (0..count).fold(object, |heap, number| heap.root(OBJECT + number % 2))
+    })
+}
+
+fn main() -> ExitCode {
+    let words: Vec<String> = std::env::args().skip(1).collect();
+    if let [kind, count] = &words[..]
+        && let Some((_, build)) = KINDS.iter().find(|(name, _)| name == kind)
+        && let Ok(count) = count.parse()
+    {
+        let file = build(File::header(4), count);
+        return io::stdout().write_all(&file.bytes).map_or(ExitCode::FAILURE, |()| ExitCode::SUCCESS);
+    }
+    KINDS.iter().for_each(|(name, _)| println!("{name}"));
+    ExitCode::from(2)
+}
