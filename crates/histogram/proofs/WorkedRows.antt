@@ -24,7 +24,7 @@ abbrev instance_with : ℕ → ℕ → List ℕ → SubRecord
 instance_with id class values = instance_dump (record { object = id; stack = 0; class = class; values = values })
 
 abbrev root_at : ℕ → SubRecord
-root_at id = root (record { tag = 0xFF; object = id; rest = [] })
+root_at id = root (record { object = id; origin = unknown })
 
 some_inj : {X : Type 0} {x y : X} → Some x ≡ Some y → x ≡ y
 some_inj {X} {x} {y} e = cc

@@ -12,7 +12,7 @@ use Rattle.hprof_grammar.specs.SubRecord.SubRecord.{class_dump}
 use Rattle.hprof_grammar.specs.Tables.{size_of}
 use Rattle.hprof_grammar.specs.declared.tables.TypePlace.TheVariants.{InConstant, InStatic}
 use Rattle.hprof_grammar.specs.Standing.{Sight, Stands}
-use Rattle.hprof_grammar.specs.Series.{HasCountedValues, behind_counted_values, count_in, counted_values_in, members_in}
+use Rattle.hprof_grammar.specs.Series.{HasCountedValues, LabelledValue, behind_counted_values, count_in, counted_values_in, members_in, of_constant, of_static}
 use Rattle.hprof_grammar.specs.ClassParts.{IsPartOf, counted_fields, fields_from_constants, fields_from_members, fields_from_statics}
 use Rattle.hprof_grammar.proofs.Fields.{spelled_then}
 use Rattle.hprof_grammar.proofs.Places.{Spell, fields_stand, in_sight, length-spelled}
@@ -33,12 +33,12 @@ count_again n others fits = record {
 }
 
 -- a count and that many values
-pub record IsCountedValues (s w : ℕ) (them : List (ℕ × List ℕ)) (others bytes : List ℕ) : Type 0 where
+pub record IsCountedValues (s w : ℕ) (them : List LabelledValue) (others bytes : List ℕ) : Type 0 where
   pub room : HasCountedValues s w bytes
   pub values : counted_values_in s w bytes ≡ them
   pub behind : behind_counted_values s w bytes ≡ others
 
-counted_values : (s w n : ℕ) (them : List (ℕ × List ℕ)) (inner others bytes : List ℕ) → IsCounted n inner bytes → AreValues s w n them others inner → IsCountedValues s w them others bytes
+counted_values : (s w n : ℕ) (them : List LabelledValue) (inner others bytes : List ℕ) → IsCounted n inner bytes → AreValues s w n them others inner → IsCountedValues s w them others bytes
 counted_values s w n them inner others bytes counted are = record {
   room = record { count = counted.room; values = rw (counted.count, counted.behind) are.room };
   values = rw (counted.count, counted.behind) are.values;
@@ -53,43 +53,43 @@ counted_first {X} fields xs more rest bytes fits e =
     let parts : bytes ≡ big_bytes 2 (length xs) ++ inner = e ∙ spelled_then (counted_fields fields xs) more rest ∙ append_assoc (big_bytes 2 (length xs)) (spelled (flat_map fields xs)) (spelled more ++ rest) in
     subst (λ (l : List ℕ). IsCounted (length xs) inner l) (sym parts) (count_again (length xs) inner fits)
 
-constants_fit : (s : ℕ) (xs : List Constant) → AllByRecursion (IsConstant s) xs → AllByRecursion (λ x. length x.value ≡ size_of s x.type) xs
+constants_fit : (s : ℕ) (xs : List Constant) → AllByRecursion (IsConstant s) xs → AllByRecursion (λ x. (x.index < 256 ^ 2) × (length x.value ≡ size_of s x.type)) xs
 constants_fit s [] h = tt
-constants_fit s (x ∷ xs) h = (h.0.value, constants_fit s xs h.1)
+constants_fit s (x ∷ xs) h = ((h.0.index, h.0.value), constants_fit s xs h.1)
 
-statics_fit : (s : ℕ) (xs : List Static) → AllByRecursion (IsStatic s) xs → AllByRecursion (λ x. length x.value ≡ size_of s x.type) xs
+statics_fit : (s : ℕ) (xs : List Static) → AllByRecursion (IsStatic s) xs → AllByRecursion (λ x. (x.name < 256 ^ s) × (length x.value ≡ size_of s x.type)) xs
 statics_fit s [] h = tt
-statics_fit s (x ∷ xs) h = (h.0.value, statics_fit s xs h.1)
+statics_fit s (x ∷ xs) h = ((h.0.name, h.0.value), statics_fit s xs h.1)
 
 constant_values : (s : ℕ) (c : Class) (bytes : List ℕ) (h : IsPartOf s c (fields_from_constants s c) bytes)
-    → IsCountedValues s 2 (map (λ k. (k.type, k.value)) c.constants) (spelled (fields_from_statics s c) ++ h.rest) bytes
+    → IsCountedValues s 2 (map of_constant c.constants) (spelled (fields_from_statics s c) ++ h.rest) bytes
 constant_values s c bytes h =
     let behind = spelled (fields_from_statics s c) ++ h.rest in
-    counted_values s 2 (length c.constants) (map (λ k. (k.type, k.value)) c.constants) (spelled (flat_map constant_fields c.constants) ++ behind) behind bytes
+    counted_values s 2 (length c.constants) (map of_constant c.constants) (spelled (flat_map constant_fields c.constants) ++ behind) behind bytes
     (counted_first constant_fields c.constants (fields_from_statics s c) h.rest bytes h.is.constant_count h.bytes_are)
     (values_again s 2 InConstant (λ k. k.index) (λ k. k.type) (λ k. k.value) c.constants behind (constants_fit s c.constants h.is.constants))
 
 pub constants_room : (s : ℕ) (c : Class) (bytes : List ℕ) → IsPartOf s c (fields_from_constants s c) bytes → HasCountedValues s 2 bytes
 constants_room s c bytes h = (constant_values s c bytes h).room
 
-pub constants_read : (s : ℕ) (c : Class) (bytes : List ℕ) → IsPartOf s c (fields_from_constants s c) bytes → counted_values_in s 2 bytes ≡ map (λ k. (k.type, k.value)) c.constants
+pub constants_read : (s : ℕ) (c : Class) (bytes : List ℕ) → IsPartOf s c (fields_from_constants s c) bytes → counted_values_in s 2 bytes ≡ map of_constant c.constants
 constants_read s c bytes h = (constant_values s c bytes h).values
 
 pub behind_constants : (s : ℕ) (c : Class) (bytes : List ℕ) → IsPartOf s c (fields_from_constants s c) bytes → IsPartOf s c (fields_from_statics s c) (behind_counted_values s 2 bytes)
 behind_constants s c bytes h = record { rest = h.rest; bytes_are = (constant_values s c bytes h).behind; is = h.is }
 
 static_values : (s : ℕ) (c : Class) (bytes : List ℕ) (h : IsPartOf s c (fields_from_statics s c) bytes)
-    → IsCountedValues s s (map (λ f. (f.type, f.value)) c.statics) (spelled (fields_from_members s c) ++ h.rest) bytes
+    → IsCountedValues s s (map of_static c.statics) (spelled (fields_from_members s c) ++ h.rest) bytes
 static_values s c bytes h =
     let behind = spelled (fields_from_members s c) ++ h.rest in
-    counted_values s s (length c.statics) (map (λ f. (f.type, f.value)) c.statics) (spelled (flat_map (static_fields s) c.statics) ++ behind) behind bytes
+    counted_values s s (length c.statics) (map of_static c.statics) (spelled (flat_map (static_fields s) c.statics) ++ behind) behind bytes
     (counted_first (static_fields s) c.statics (fields_from_members s c) h.rest bytes h.is.static_count h.bytes_are)
     (values_again s s InStatic (λ f. f.name) (λ f. f.type) (λ f. f.value) c.statics behind (statics_fit s c.statics h.is.statics))
 
 pub statics_room : (s : ℕ) (c : Class) (bytes : List ℕ) → IsPartOf s c (fields_from_statics s c) bytes → HasCountedValues s s bytes
 statics_room s c bytes h = (static_values s c bytes h).room
 
-pub statics_read : (s : ℕ) (c : Class) (bytes : List ℕ) → IsPartOf s c (fields_from_statics s c) bytes → counted_values_in s s bytes ≡ map (λ f. (f.type, f.value)) c.statics
+pub statics_read : (s : ℕ) (c : Class) (bytes : List ℕ) → IsPartOf s c (fields_from_statics s c) bytes → counted_values_in s s bytes ≡ map of_static c.statics
 statics_read s c bytes h = (static_values s c bytes h).values
 
 pub behind_statics : (s : ℕ) (c : Class) (bytes : List ℕ) → IsPartOf s c (fields_from_statics s c) bytes → IsPartOf s c (fields_from_members s c) (behind_counted_values s s bytes)

@@ -1,10 +1,13 @@
 -- The fields of sub-records, each at its place.
-use Rattle.std.proofs.Common.{List, Some, [], ap, arith, drop, length, map, refl, true, ℕ, ◌*◌, ◌+◌, ◌<◌, ◌^◌, ◌∙◌, ◌∷◌, ◌≡◌, ◌≤◌}
+use Rattle.std.proofs.Common.{List, Some, [], ap, arith, drop, length, map, refl, slice_index, suc, true, zero, ℕ, ◌*◌, ◌+◌, ◌<◌, ◌^◌, ◌∙◌, ◌∷◌, ◌≡◌, ◌≤◌}
 use Rattle.hprof_grammar.specs.Spelling.{Field, spelled}
-use Rattle.hprof_grammar.specs.Spelling.Field.{number, raw}
-use Rattle.hprof_grammar.specs.SubRecord.{Class, Instance, ObjectArray, PrimitiveArray, SubRecord, class_fields, fields_of, instance_fields, object_array_fields, primitive_array_fields}
+use Rattle.hprof_grammar.specs.Spelling.Field.{number, raw, type_code}
+use Rattle.hprof_grammar.specs.Tables.{size_of}
+use Rattle.hprof_grammar.specs.declared.tables.TypePlace.TheVariants.{InArray}
+use Rattle.hprof_grammar.specs.SubRecord.{Class, Instance, ObjectArray, PrimitiveArray, SubRecord, class_fields, fields_of, tag_of, instance_fields, object_array_fields, primitive_array_fields}
 use Rattle.hprof_grammar.specs.SubRecord.SubRecord.{class_dump, instance_dump, object_array_dump, primitive_array_dump, root}
 use Rattle.hprof_grammar.specs.Standing.{Sight, Stands, StandsAt, id_of, stack_of}
+use Rattle.hprof_grammar.specs.ClassParts.{class_ids}
 use Rattle.hprof_grammar.specs.Dump.{is_object}
 use Rattle.hprof_grammar.specs.Series.{numbers_in}
 use Rattle.hprof_grammar.proofs.SeriesRead.{numbers_again, widths-numbers}
@@ -13,7 +16,7 @@ use Rattle.hprof_grammar.proofs.Places.{ByteAt, NumberAt, Spell, byte_read, fiel
 -- ---- any sub-record
 
 object_id_stands : (s : ℕ) (bytes : List ℕ) (at : ℕ) (sub : SubRecord) → StandsAt s bytes at sub → NumberAt bytes (at + 1) s (id_of sub)
-object_id_stands s bytes at (root r) h = number_stands bytes at r.tag (at + 1) [] s r.object (drop 1 (fields_of s (root r))) (sub_stands s bytes at (root r) h) h.is.formed.object (omega arith)
+object_id_stands s bytes at (root r) h = number_stands bytes at (tag_of (root r)) (at + 1) [] s r.object (drop 1 (fields_of s (root r))) (sub_stands s bytes at (root r) h) h.is.formed.1.object (omega arith)
 object_id_stands s bytes at (class_dump c) h = number_stands bytes at 0x20 (at + 1) [] s c.object (drop 1 (class_fields s c)) (sub_stands s bytes at (class_dump c) h) h.is.formed.1.object (omega arith)
 object_id_stands s bytes at (instance_dump i) h = number_stands bytes at 0x21 (at + 1) [] s i.object (drop 1 (instance_fields s i)) (sub_stands s bytes at (instance_dump i) h) h.is.formed.1.object (omega arith)
 object_id_stands s bytes at (object_array_dump a) h = number_stands bytes at 0x22 (at + 1) [] s a.object (drop 1 (object_array_fields s a)) (sub_stands s bytes at (object_array_dump a) h) h.is.formed.1.object (omega arith)
@@ -105,30 +108,38 @@ element_type {v} {w} e at a h =
     let s = w.id_size in
     byte_read w.bytes (at + 9 + s) a.type (spelled (raw a.values ∷ [])) (fields_stand w.bytes at 0x23 (at + 9 + s) (number s a.object ∷ number 4 a.stack ∷ number 4 a.count ∷ []) (drop 3 (primitive_array_fields s a)) (primitive_array_stands e at a h) (omega arith))
 
+pub packed_elements : {v w : Sight} → w ≡ v → (at : ℕ) (a : PrimitiveArray) → Stands v at (primitive_array_dump a) → Spell w.bytes (at + 10 + w.id_size) a.values
+packed_elements {v} {w} e at a h =
+    let s = w.id_size in
+    first_stands w.bytes (at + 10 + s) a.values []
+    (fields_stand w.bytes at 0x23 (at + 10 + s) (number s a.object ∷ number 4 a.stack ∷ number 4 a.count ∷ type_code InArray a.type ∷ []) (raw a.values ∷ []) (primitive_array_stands e at a h) (omega arith))
+
+-- how many bytes they are, as the view says it
+pub packed_size : {v w : Sight} → w ≡ v → (at : ℕ) (a : PrimitiveArray) → Stands v at (primitive_array_dump a) → length a.values ≡ a.count * size_of v.id_size a.type
+packed_size e at a h = h.is.formed.1.values
+
 -- ---- classes
 
 pub class_stands : {v w : Sight} → w ≡ v → (at : ℕ) (c : Class) → Stands v at (class_dump c) → Spell w.bytes at (0x20 ∷ spelled (class_fields w.id_size c))
 class_stands {v} {w} e at c h = sub_stands w.id_size w.bytes at (class_dump c) (in_sight v w at (class_dump c) e h)
 
-pub superclass : {v w : Sight} → w ≡ v → (at : ℕ) (c : Class) → Stands v at (class_dump c) → NumberAt w.bytes (at + 5 + w.id_size) w.id_size c.super
-superclass {v} {w} e at c h =
-    let s = w.id_size in
-    number_stands w.bytes at 0x20 (at + 5 + s) (number s c.object ∷ number 4 c.stack ∷ []) s c.super (drop 3 (class_fields s c)) (class_stands e at c h) (in_sight v w at (class_dump c) e h).is.formed.1.super (omega arith)
+class_id_stands : (s : ℕ) (bytes : List ℕ) (at n : ℕ) (c : Class) → n < 6 → StandsAt s bytes at (class_dump c) → NumberAt bytes (at + 5 + s + n * s) s (slice_index (class_ids c) n)
+class_id_stands s bytes at zero c below h =
+    number_stands bytes at 0x20 (at + 5 + s + 0 * s) (number s c.object ∷ number 4 c.stack ∷ []) s c.super (drop 3 (class_fields s c)) (sub_stands s bytes at (class_dump c) h) h.is.formed.1.super (omega arith)
+class_id_stands s bytes at (suc zero) c below h =
+    number_stands bytes at 0x20 (at + 5 + s + 1 * s) (number s c.object ∷ number 4 c.stack ∷ number s c.super ∷ []) s c.loader (drop 4 (class_fields s c)) (sub_stands s bytes at (class_dump c) h) h.is.formed.1.loader (omega arith)
+class_id_stands s bytes at (suc (suc zero)) c below h =
+    number_stands bytes at 0x20 (at + 5 + s + 2 * s) (number s c.object ∷ number 4 c.stack ∷ number s c.super ∷ number s c.loader ∷ []) s c.signers (drop 5 (class_fields s c)) (sub_stands s bytes at (class_dump c) h) h.is.formed.1.signers (omega arith)
+class_id_stands s bytes at (suc (suc (suc zero))) c below h =
+    number_stands bytes at 0x20 (at + 5 + s + 3 * s) (number s c.object ∷ number 4 c.stack ∷ number s c.super ∷ number s c.loader ∷ number s c.signers ∷ []) s c.domain (drop 6 (class_fields s c)) (sub_stands s bytes at (class_dump c) h) h.is.formed.1.domain (omega arith)
+class_id_stands s bytes at (suc (suc (suc (suc zero)))) c below h =
+    number_stands bytes at 0x20 (at + 5 + s + 4 * s) (number s c.object ∷ number 4 c.stack ∷ number s c.super ∷ number s c.loader ∷ number s c.signers ∷ number s c.domain ∷ []) s c.reserved (drop 7 (class_fields s c)) (sub_stands s bytes at (class_dump c) h) h.is.formed.1.reserved (omega arith)
+class_id_stands s bytes at (suc (suc (suc (suc (suc zero))))) c below h =
+    number_stands bytes at 0x20 (at + 5 + s + 5 * s) (number s c.object ∷ number 4 c.stack ∷ number s c.super ∷ number s c.loader ∷ number s c.signers ∷ number s c.domain ∷ number s c.reserved ∷ []) s c.reserved_too (drop 8 (class_fields s c)) (sub_stands s bytes at (class_dump c) h) h.is.formed.1.reserved_too (omega arith)
+class_id_stands s bytes at (suc (suc (suc (suc (suc (suc n)))))) c below h = absurd (omega (arith, below))
 
-pub loader : {v w : Sight} → w ≡ v → (at : ℕ) (c : Class) → Stands v at (class_dump c) → NumberAt w.bytes (at + 5 + 2 * w.id_size) w.id_size c.loader
-loader {v} {w} e at c h =
-    let s = w.id_size in
-    number_stands w.bytes at 0x20 (at + 5 + 2 * s) (number s c.object ∷ number 4 c.stack ∷ number s c.super ∷ []) s c.loader (drop 4 (class_fields s c)) (class_stands e at c h) (in_sight v w at (class_dump c) e h).is.formed.1.loader (omega arith)
-
-pub signers : {v w : Sight} → w ≡ v → (at : ℕ) (c : Class) → Stands v at (class_dump c) → NumberAt w.bytes (at + 5 + 3 * w.id_size) w.id_size c.signers
-signers {v} {w} e at c h =
-    let s = w.id_size in
-    number_stands w.bytes at 0x20 (at + 5 + 3 * s) (number s c.object ∷ number 4 c.stack ∷ number s c.super ∷ number s c.loader ∷ []) s c.signers (drop 5 (class_fields s c)) (class_stands e at c h) (in_sight v w at (class_dump c) e h).is.formed.1.signers (omega arith)
-
-pub domain : {v w : Sight} → w ≡ v → (at : ℕ) (c : Class) → Stands v at (class_dump c) → NumberAt w.bytes (at + 5 + 4 * w.id_size) w.id_size c.domain
-domain {v} {w} e at c h =
-    let s = w.id_size in
-    number_stands w.bytes at 0x20 (at + 5 + 4 * s) (number s c.object ∷ number 4 c.stack ∷ number s c.super ∷ number s c.loader ∷ number s c.signers ∷ []) s c.domain (drop 6 (class_fields s c)) (class_stands e at c h) (in_sight v w at (class_dump c) e h).is.formed.1.domain (omega arith)
+pub class_id : {v w : Sight} → w ≡ v → (at n : ℕ) (c : Class) → n < 6 → Stands v at (class_dump c) → NumberAt w.bytes (at + 5 + w.id_size + n * w.id_size) w.id_size (slice_index (class_ids c) n)
+class_id {v} {w} e at n c below h = class_id_stands w.id_size w.bytes at n c below (in_sight v w at (class_dump c) e h)
 
 pub instance_size : {v w : Sight} → w ≡ v → (at : ℕ) (c : Class) → Stands v at (class_dump c) → NumberAt w.bytes (at + 5 + 7 * w.id_size) 4 c.instance_size
 instance_size {v} {w} e at c h =

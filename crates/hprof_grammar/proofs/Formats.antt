@@ -1,9 +1,9 @@
 -- The formats of the parts of sub-records, one for each kind of part.
-use Rattle.std.proofs.Common.{List, length, refl, ℕ, ◌*◌, ◌<◌, ◌^◌, ◌≡◌}
+use Rattle.std.proofs.Common.{List, [], length, refl, ℕ, ◌*◌, ◌<◌, ◌^◌, ◌∷◌, ◌≡◌}
 use Rattle.std.proofs.lemmas.List.Concat.{flat_map_single}
-use Rattle.hprof_grammar.specs.Reading.{class_at, constant_at, instance_at, member_at, object_array_at, primitive_array_at, root_at, static_at}
+use Rattle.hprof_grammar.specs.Reading.{class_at, constant_at, instance_at, member_at, number_at, numbers_at, object_array_at, pair_at, primitive_array_at, static_at}
 use Rattle.hprof_grammar.specs.Spelling.Field.{number}
-use Rattle.hprof_grammar.specs.SubRecord.{Class, Constant, Instance, IsClass, IsConstant, IsInstance, IsMember, IsObjectArray, IsPrimitiveArray, IsStatic, Member, ObjectArray, PrimitiveArray, Root, Static, class_fields, constant_fields, instance_fields, member_fields, object_array_fields, primitive_array_fields, root_fields, static_fields}
+use Rattle.hprof_grammar.specs.SubRecord.{Class, Constant, Instance, IsClass, IsConstant, IsInstance, IsMember, IsObjectArray, IsPrimitiveArray, IsStatic, Member, ObjectArray, PrimitiveArray, Static, class_fields, constant_fields, instance_fields, member_fields, object_array_fields, primitive_array_fields, static_fields}
 use Rattle.hprof_grammar.specs.Tables.{size_of}
 use Rattle.hprof_grammar.specs.declared.tables.TypePlace.TheVariants.{InArray, InConstant, InMember, InStatic}
 use Rattle.hprof_grammar.proofs.Format.{IsFormat, number_format, raw_format, type_format}
@@ -137,20 +137,11 @@ primitive_array_format s = as_format {from = λ (a : PrimitiveArray). (a.object,
       back = λ a h. refl;
     })
 
--- a root with this tag and so many bytes behind its object
-pub record IsRootOf (s tag n : ℕ) (r : Root) : Type 0 where
-  pub tag_is : r.tag ≡ tag
-  pub object : r.object < 256 ^ s
-  pub rest : length r.rest ≡ n
+-- roots: an object; and a number; and two of 4 bytes
 
-pub root_format : (s tag n : ℕ) → IsFormat (IsRootOf s tag n) (root_fields s) (root_at s tag n)
-unfolding root_at
-root_format s tag n = as_format {from = λ (r : Root). (r.object, r.rest)}
-    (pair_format (number_format s) (λ (_ : ℕ). raw_format n))
-    (record {
-      well_to = λ p h. record { tag_is = refl; object = h.0; rest = h.1 };
-      well_from = λ r h. (h.object, h.rest);
-      fields_to = λ p h. refl;
-      fields_from = λ r h. refl;
-      back = λ r h. rw (← h.tag_is) refl;
-    })
+pub two_numbers : (a b : ℕ) → IsFormat (λ (p : ℕ × ℕ). (p.0 < 256 ^ a) × (p.1 < 256 ^ b)) (λ p. number a p.0 ∷ number b p.1 ∷ []) (numbers_at a b)
+two_numbers a b = pair_format (number_format a) (λ (_ : ℕ). number_format b)
+
+pub three_numbers : (s : ℕ) → IsFormat (λ (p : ℕ × (ℕ × ℕ)). (p.0 < 256 ^ s) × ((p.1.0 < 256 ^ 4) × (p.1.1 < 256 ^ 4))) (λ p. number s p.0 ∷ number 4 p.1.0 ∷ number 4 p.1.1 ∷ [])
+    (pair_at (number_at s) (λ _. numbers_at 4 4))
+three_numbers s = pair_format (number_format s) (λ (_ : ℕ). two_numbers 4 4)

@@ -48,6 +48,7 @@ header_stands s text bytes size room begins e is =
       size = size;
       id_size = is;
       time = time;
+      time_fits = number-lt 8 (drop 23 text) (bytes-drop 23 text bytes);
       whole = begins ∙ ap (λ back. magic ++ back) (sizes ∙ ap (λ back. big_bytes 4 s ++ back) (time_part text bytes room)) ∙ sym (header_parts s time (drop 31 text));
     }
 
@@ -80,7 +81,7 @@ dump_read text s new head all =
     let whole : text ≡ header s head.time ++ spellings s adds.records = head.whole ∙ ap (λ (rest : List ℕ). header s head.time ++ rest) (adds.parts ∙ append-nil (spellings s adds.records)) in
     subst (IsDumpOf text) (sym adds.joined) (record {
       records = adds.records;
-      spells = record { size = head.size; id_size = head.id_size; time = head.time; whole = whole; each = adds.each };
+      spells = record { size = head.size; id_size = head.id_size; time = head.time; time_fits = head.time_fits; whole = whole; each = adds.each };
       orderly = done_is_orderly order (map tag_of adds.records) all.1 adds.order;
       places = refl;
     })

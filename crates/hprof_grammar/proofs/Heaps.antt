@@ -9,7 +9,7 @@ use Rattle.hprof_grammar.specs.Dump.{Places, is_object, is_root, placed_subs, pl
 use Rattle.hprof_grammar.specs.Fault.{LongestSubs, SubFault}
 use Rattle.hprof_grammar.specs.Joining.{AddsSubs, HasSubFault, noted, with_subs}
 use Rattle.hprof_grammar.specs.Reading.{behind, code_of, sub_record_at}
-use Rattle.hprof_grammar.specs.SubRecord.{IsSubRecord, SubRecord, spelling_of, tag_of}
+use Rattle.hprof_grammar.specs.SubRecord.{IsSubRecord, SubRecord, origin_kind, spelling_of, tag_of}
 use Rattle.hprof_grammar.specs.SubRecord.SubRecord.{class_dump, instance_dump, object_array_dump, primitive_array_dump, root}
 use Rattle.hprof_grammar.specs.Tables.{kind_of}
 use Rattle.hprof_grammar.specs.declared.tables.Kind.{Kind}
@@ -81,9 +81,9 @@ one_more p at subs x place e =
     ) refl
 
 -- what the tag of a sub-record says
-kind_is : (s : ℕ) (x : SubRecord) (kind : Kind) → IsSubRecord s x → kind_of s (tag_of x) ≡ Some kind → (p : Places) (at : ℕ) → noted p kind at ≡ with_subs p at (x ∷ [])
+kind_is : (s : ℕ) (x : SubRecord) (kind : Kind) → IsSubRecord s x → kind_of (tag_of x) ≡ Some kind → (p : Places) (at : ℕ) → noted p kind at ≡ with_subs p at (x ∷ [])
 kind_is s (root r) kind h e p at =
-    let same : kinds.Root (length r.rest) ≡ kind = (let both = sym h.formed.kind ∙ e in cc) in
+    let same : kinds.Root (origin_kind r.origin) ≡ kind = (let both = sym h.formed.0 ∙ e in cc) in
     subst (λ (k : Kind). noted p k at ≡ with_subs p at (root r ∷ [])) same (rw (append-nil p.objects) refl)
 kind_is s (class_dump c) kind h e p at =
     let same : kinds.Class ≡ kind = (let both = sym h.formed.0 ∙ e in cc) in
@@ -101,7 +101,7 @@ kind_is s (primitive_array_dump a) kind h e p at =
 -- ---- the loop over the sub-records: at each turn, and at a flaw
 
 step_more : (at : ℕ) (body rest left : List ℕ) (old new : Places) (kind : Kind) (place : ℕ) (x : SubRecord) → (adds : AddsSubs at body rest old new) → IsSubRecord old.id_size x
-    → rest ≡ spelling_of old.id_size x ++ left → kind_of old.id_size (tag_of x) ≡ Some kind → place ≡ at + length (flat_map (spelling_of old.id_size) adds.subs) → AddsSubs at body left old (noted new kind place)
+    → rest ≡ spelling_of old.id_size x ++ left → kind_of (tag_of x) ≡ Some kind → place ≡ at + length (flat_map (spelling_of old.id_size) adds.subs) → AddsSubs at body left old (noted new kind place)
 step_more at body rest left old new kind place x adds is here says e = record {
   subs = adds.subs ++ x ∷ [];
   parts =
@@ -114,16 +114,16 @@ step_more at body rest left old new kind place x adds is here says e = record {
 }
 
 pub subs_step : (s at : ℕ) (body rest left : List ℕ) (old new : Places) (kind : Kind) (place : ℕ) → s ≡ old.id_size → IsBytes body → AddsSubs at body rest old new
-    → behind (sub_record_at s rest) ≡ Ok left → option_and_then (kind_of s) (slice_get rest 0) ≡ Some kind → place ≡ at + (length body - length rest) → AddsSubs at body left old (noted new kind place)
+    → behind (sub_record_at s rest) ≡ Ok left → option_and_then kind_of (slice_get rest 0) ≡ Some kind → place ≡ at + (length body - length rest) → AddsSubs at body left old (noted new kind place)
 subs_step s at body rest left old new kind place size h adds read says e =
     let bytes = bytes-behind (texts old.id_size adds.subs) rest (subst IsBytes adds.parts h) in
     let x = behind_ok (sub_record_at s rest) left read in
     let t = sub_takes s rest (x.0, left) bytes x.1 in
     let same : slice_get rest 0 ≡ Some (tag_of x.0) = ap (λ (l : List ℕ). slice_get l 0) t.bytes_are in
-    let kind_here : kind_of s (tag_of x.0) ≡ Some kind = rw same at says in
+    let kind_here : kind_of (tag_of x.0) ≡ Some kind = rw same at says in
     let place_is : place ≡ at + length (texts old.id_size adds.subs) = omega (arith, e, ap length adds.parts, length-append (texts old.id_size adds.subs) rest) in
     step_more at body rest left old new kind place x.0 adds (subst (λ (n : ℕ). IsSubRecord n x.0) size t.is) (subst (λ (n : ℕ). rest ≡ spelling_of n x.0 ++ left) size t.bytes_are)
-    (subst (λ (n : ℕ). kind_of n (tag_of x.0) ≡ Some kind) size kind_here) place_is
+    kind_here place_is
 
 pub subs_fault : (s at : ℕ) (body rest : List ℕ) (old new : Places) (flaw : Flaw) (fault : FormatFault) → s ≡ old.id_size → IsBytes body → 0 < length rest → AddsSubs at body rest old new
     → behind (sub_record_at s rest) ≡ Err flaw → fault.code ≡ code_of flaw → fault.offset ≡ at + (length body - length rest) → HasSubFault s at body fault

@@ -1,11 +1,12 @@
 -- The fields of strings and loaded classes, each at its place.
-use Rattle.std.proofs.Common.{List, arith, length, subst, sym, ℕ, ◌++◌, ◌+◌, ◌<◌, ◌^◌, ◌∷◌, ◌≡◌}
+use Rattle.std.proofs.Common.{List, [], ap, arith, length, refl, subst, sym, ℕ, ◌++◌, ◌+◌, ◌<◌, ◌^◌, ◌∷◌, ◌≡◌}
 use Rattle.std.proofs.lemmas.List.{length-append}
 use Rattle.byteorder.specs.Endian.{big_bytes}
 use Rattle.byteorder.specs.Numbers.{length-bytes_high_first}
 use Rattle.hprof_grammar.specs.Record.{Record, body_of, framed, tag_of, time_of}
 use Rattle.hprof_grammar.specs.Record.Record.{load_class, string}
-use Rattle.hprof_grammar.specs.Standing.{RecordStands, Sight}
+use Rattle.hprof_grammar.specs.Dump.{header, magic}
+use Rattle.hprof_grammar.specs.Standing.{HeaderStands, RecordStands, Sight}
 use Rattle.hprof_grammar.proofs.Places.{NumberAt, Spell, first_stands, next_stands, number_read}
 use Rattle.hprof_grammar.proofs.Stands.{body_stands, record_stands}
 
@@ -25,6 +26,32 @@ body_length bytes at tag time body fits h =
 
 body_seen : {v w : Sight} → w ≡ v → (at : ℕ) (r : Record) → RecordStands v at r → Spell w.bytes (at + 9) (body_of w.id_size r)
 body_seen {v} {w} e at r h = body_stands w.bytes at (tag_of r) (time_of r) (body_of w.id_size r) (record_stands w.id_size w.bytes at r (record_seen e at r h))
+
+-- ---- any record, and the header
+
+pub record_time : {v w : Sight} → w ≡ v → (at : ℕ) (r : Record) → RecordStands v at r → NumberAt w.bytes (at + 1) 4 (time_of r)
+record_time {v} {w} e at r h =
+    let seen = record_seen e at r h in
+    let body = body_of w.id_size r in
+    let more = big_bytes 4 (length body) ++ body in
+    number_read w.bytes (at + 1) 4 (time_of r) seen.is.time
+    (first_stands w.bytes (at + 1) (big_bytes 4 (time_of r)) more (moved w.bytes at 1 (tag_of r ∷ []) (big_bytes 4 (time_of r) ++ more) refl (record_stands w.id_size w.bytes at r seen)))
+
+pub record_length : {v w : Sight} → w ≡ v → (at : ℕ) (r : Record) → RecordStands v at r → NumberAt w.bytes (at + 5) 4 (length (body_of w.id_size r))
+record_length {v} {w} e at r h =
+    let seen = record_seen e at r h in
+    body_length w.bytes at (tag_of r) (time_of r) (body_of w.id_size r) seen.is.length_fits (record_stands w.id_size w.bytes at r seen)
+
+-- the same, as the view says it
+pub length_shown : {v w : Sight} → w ≡ v → (r : Record) → length (body_of w.id_size r) ≡ length (body_of v.id_size r)
+length_shown e r = ap (λ (x : Sight). length (body_of x.id_size r)) e
+
+pub header_time : {v w : Sight} → w ≡ v → (time : ℕ) → HeaderStands v time → NumberAt w.bytes 23 8 time
+header_time {v} {w} e time h =
+    let seen : HeaderStands w time = subst (λ (x : Sight). HeaderStands x time) (sym e) h in
+    let all : Spell w.bytes 0 (header w.id_size time) = record { inside = omega (arith, ap length seen.bytes_are, length-append (header w.id_size time) seen.rest); rest = seen.rest; bytes_are = seen.bytes_are } in
+    let sized = moved w.bytes 0 19 magic (big_bytes 4 w.id_size ++ big_bytes 8 time) refl all in
+    number_read w.bytes 23 8 time seen.fits (moved w.bytes 19 4 (big_bytes 4 w.id_size) (big_bytes 8 time) (length-bytes_high_first 4 w.id_size) sized)
 
 -- ---- strings
 

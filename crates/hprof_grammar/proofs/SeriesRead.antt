@@ -10,7 +10,7 @@ use Rattle.hprof_grammar.specs.Spelling.Field.{number, raw, type_code}
 use Rattle.hprof_grammar.specs.SubRecord.{IsMember, Member, member_fields}
 use Rattle.hprof_grammar.specs.Tables.{size_of}
 use Rattle.hprof_grammar.specs.declared.tables.TypePlace.{TypePlace}
-use Rattle.hprof_grammar.specs.Series.{HasValues, behind_values, members_in, numbers_in, values_in}
+use Rattle.hprof_grammar.specs.Series.{HasValues, LabelledValue, behind_values, members_in, numbers_in, value_end, values_in}
 use Rattle.hprof_grammar.proofs.Fields.{spelled_then}
 use Rattle.hprof_grammar.proofs.Places.{widths}
 
@@ -57,16 +57,16 @@ is_value w size t front value others front_len value_len =
     }
 
 -- n values that stand in the bytes, and what stands behind them
-pub record AreValues (s w n : ℕ) (them : List (ℕ × List ℕ)) (others bytes : List ℕ) : Type 0 where
+pub record AreValues (s w n : ℕ) (them : List LabelledValue) (others bytes : List ℕ) : Type 0 where
   pub room : HasValues s w n bytes
   pub values : values_in s w n bytes ≡ them
   pub behind : behind_values s w n bytes ≡ others
 
-one_more : (s w n t : ℕ) (value : List ℕ) (values : List (ℕ × List ℕ)) (behind others bytes : List ℕ) → IsValue w (size_of s t) t value behind bytes → AreValues s w n values others behind
-    → AreValues s w (suc n) ((t, value) ∷ values) others bytes
-one_more s w n t value values behind others bytes h more = record {
+one_more : (s w n label t : ℕ) (value : List ℕ) (values : List LabelledValue) (behind others bytes : List ℕ) → big_number w bytes ≡ label → IsValue w (size_of s t) t value behind bytes → AreValues s w n values others behind
+    → AreValues s w (suc n) (record { label = label; type = t; value = value } ∷ values) others bytes
+one_more s w n label t value values behind others bytes first h more = record {
   room = rw (h.type, h.behind) (h.room, more.room);
-  values = rw (h.type, h.behind, h.value, more.values) refl;
+  values = rw (h.type, h.behind, h.value, first, more.values) refl;
   behind = rw (h.type, h.behind) more.behind;
 }
 
@@ -80,14 +80,22 @@ module _ {X : Type 0} (s w : ℕ) (place : TypePlace) (front type : X → ℕ) (
       ∙ append_assoc (big_bytes w (front x)) (type x ∷ (value x ++ [])) (spelled (flat_map value_fields xs) ++ rest)
       ∙ ap (λ (l : List ℕ). big_bytes w (front x) ++ (type x ∷ (l ++ (spelled (flat_map value_fields xs) ++ rest)))) (append-nil (value x))
 
-  pub values_again : (xs : List X) (rest : List ℕ) → AllByRecursion (λ x. length (value x) ≡ size_of s (type x)) xs
-      → AreValues s w (length xs) (map (λ x. (type x, value x)) xs) rest (spelled (flat_map value_fields xs) ++ rest)
+  abbrev pub labelled : X → LabelledValue
+  labelled x = record { label = front x; type = type x; value = value x }
+
+  pub values_again : (xs : List X) (rest : List ℕ) → AllByRecursion (λ x. (front x < 256 ^ w) × (length (value x) ≡ size_of s (type x))) xs
+      → AreValues s w (length xs) (map labelled xs) rest (spelled (flat_map value_fields xs) ++ rest)
   values_again [] rest fit = record { room = tt; values = refl; behind = refl }
   values_again (x ∷ xs) rest fit =
       let others = spelled (flat_map value_fields xs) ++ rest in
-      let here = is_value w (size_of s (type x)) (type x) (big_bytes w (front x)) (value x) others (length-bytes_high_first w (front x)) fit.0 in
-      let all = one_more s w (length xs) (type x) (value x) (map (λ y. (type y, value y)) xs) others rest (big_bytes w (front x) ++ (type x ∷ (value x ++ others))) here (values_again xs rest fit.1) in
-      subst (λ (l : List ℕ). AreValues s w (length (x ∷ xs)) (map (λ y. (type y, value y)) (x ∷ xs)) rest l) (sym (spelled_first x xs rest)) all
+      let here = is_value w (size_of s (type x)) (type x) (big_bytes w (front x)) (value x) others (length-bytes_high_first w (front x)) fit.0.1 in
+      let first = big_number-reads_back w (front x) (type x ∷ (value x ++ others)) fit.0.0 in
+      let all = one_more s w (length xs) (front x) (type x) (value x) (map labelled xs) others rest (big_bytes w (front x) ++ (type x ∷ (value x ++ others))) first here (values_again xs rest fit.1) in
+      subst (λ (l : List ℕ). AreValues s w (length (x ∷ xs)) (map labelled (x ∷ xs)) rest l) (sym (spelled_first x xs rest)) all
+
+pub length-values_in : (s w n : ℕ) (bytes : List ℕ) → length (values_in s w n bytes) ≡ n
+length-values_in s w zero bytes = refl
+length-values_in s w (suc n) bytes = ap suc (length-values_in s w n (drop (value_end s w bytes) bytes))
 
 -- ---- instance fields
 

@@ -111,6 +111,8 @@ all_placed text dump is =
     let only_records = placed_only s 31 is.records in
     let only_subs = heap_only s ps ∙ ap (flat_map subs_of) only_records in
     record {
+      time = is.spells.time;
+      header = record { rest = spellings s is.records; bytes_are = is.spells.whole; fits = is.spells.time_fits };
       strings = subst (λ (l : List ℕ). StandInTurn (RecordStandsAt s text) l (filter is_string is.records)) (sym (ap (λ (d : Places). d.strings) is.places)) (rw only_records at (in_turn (RecordStandsAt s text) is_string ps records));
       loaded = subst (λ (l : List ℕ). StandInTurn (RecordStandsAt s text) l (filter is_load is.records)) (sym (ap (λ (d : Places). d.loaded) is.places)) (rw only_records at (in_turn (RecordStandsAt s text) is_load ps records));
       roots = subst (λ (l : List ℕ). StandInTurn (StandsAt s text) l (filter is_root (heap_of is.records))) (sym (ap (λ (d : Places). d.roots) is.places)) (rw only_subs at (in_turn (StandsAt s text) is_root (heap_list s is.records) subs));

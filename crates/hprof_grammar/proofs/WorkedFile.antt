@@ -4,8 +4,9 @@ use Rattle.hprof_grammar.specs.Dump.{IsDumpOf, Places, header, places_of, spelli
 use Rattle.hprof_grammar.specs.Record.{IsRecord, Record}
 use Rattle.hprof_grammar.specs.Record.Record.{heap, load_class, string}
 use Rattle.hprof_grammar.specs.SubRecord.{Class, Instance, IsSubRecord, Root, SubRecord}
+use Rattle.hprof_grammar.specs.SubRecord.RootOrigin.{unknown}
 use Rattle.hprof_grammar.specs.SubRecord.SubRecord.{class_dump, instance_dump, root}
-use Rattle.hprof_grammar.specs.Tables.{is_id_size, is_length_of, is_type_at, kind_of, root_rest}
+use Rattle.hprof_grammar.specs.Tables.{is_id_size, is_length_of, is_type_at, kind_of, root_kind}
 
 abbrev file : List ℕ
 file =
@@ -47,7 +48,7 @@ abbrev second : Instance
 second = record { object = 0x202; stack = 0; class = 0x100; values = 0 ∷ 0 ∷ 2 ∷ 1 ∷ [] }
 
 abbrev the_root : Root
-the_root = record { tag = 0xFF; object = 0x201; rest = [] }
+the_root = record { object = 0x201; origin = unknown }
 
 abbrev subs : List SubRecord
 subs = class_dump the_class ∷ instance_dump first ∷ instance_dump second ∷ root the_root ∷ []
@@ -107,8 +108,8 @@ second_is = record {
 }
 
 root_is : IsSubRecord 4 (root the_root)
-unfolding kind_of root_rest
-root_is = record { formed = record { kind = refl; object = lit< tt }; allowed = (tt, (tt, tt)) }
+unfolding kind_of root_kind
+root_is = record { formed = (refl, record { object = lit< tt; origin = tt }); allowed = (tt, tt) }
 
 string_is : IsRecord 4 (string 0 1 (0x41 ∷ []))
 unfolding is_length_of
@@ -127,7 +128,7 @@ file_is_dump : IsDumpOf file places
 unfolding is_id_size
 file_is_dump = record {
   records = records;
-  spells = record { size = lit≤ tt; id_size = refl; time = 0; whole = file_is; each = (string_is, (load_is, (heap_is, tt))) };
+  spells = record { size = lit≤ tt; id_size = refl; time = 0; time_fits = lit< tt; whole = file_is; each = (string_is, (load_is, (heap_is, tt))) };
   orderly = inl refl;
   places = places_are;
 }

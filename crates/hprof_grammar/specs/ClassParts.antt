@@ -1,8 +1,11 @@
--- The parts of a class dump that have counts, from one of them on.
-use Rattle.std.specs.Prelude.{List, flat_map, length, ℕ, ◌++◌, ◌∷◌, ◌≡◌}
+-- The parts of a class dump: its identifiers behind the stack trace, and those parts that have counts.
+use Rattle.std.specs.Prelude.{List, [], flat_map, length, ℕ, ◌++◌, ◌∷◌, ◌≡◌}
 use Rattle.hprof_grammar.specs.Spelling.{Field, spelled}
 use Rattle.hprof_grammar.specs.Spelling.Field.{number}
 use Rattle.hprof_grammar.specs.SubRecord.{Class, IsClass, constant_fields, member_fields, static_fields}
+
+abbrev pub class_ids : Class → List ℕ
+class_ids c = c.super ∷ c.loader ∷ c.signers ∷ c.domain ∷ c.reserved ∷ c.reserved_too ∷ []
 
 -- a count of 2 bytes, and the fields of that many things
 abbrev pub counted_fields : {X : Type 0} → (X → List Field) → List X → List Field

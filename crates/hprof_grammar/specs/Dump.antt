@@ -1,5 +1,5 @@
 -- A text that spells a dump, and the dump that it spells.
-use Rattle.std.specs.Prelude.{Bool, List, [], codes, false, filter, flat_map, length, map, true, ℕ, ◌++◌, ◌+◌, ◌∷◌, ◌≡◌, ◌≤◌}
+use Rattle.std.specs.Prelude.{Bool, List, [], codes, false, filter, flat_map, length, map, true, ℕ, ◌++◌, ◌+◌, ◌<◌, ◌^◌, ◌∷◌, ◌≡◌, ◌≤◌}
 use Rattle.std.specs.List.{AllByRecursion}
 use Rattle.byteorder.specs.Endian.{big_bytes}
 use Rattle.hprof_grammar.specs.Record.{IsOrderly, IsRecord, Record, record_spelling, subs_of, tag_of}
@@ -16,7 +16,8 @@ limit = 1073741824
 abbrev pub magic : List ℕ
 magic = codes "JAVA PROFILE 1.0.2" ++ 0 ∷ []
 
--- the header: that text and its zero, u4 size of identifiers, u8 milliseconds since 1970
+-- the header: that text and its zero, u4 size of identifiers, and milliseconds since 1970 in two words, u4 the high
+-- one and u4 the low one
 abbrev pub header : ℕ → ℕ → List ℕ
 header s time = magic ++ (big_bytes 4 s ++ big_bytes 8 time)
 
@@ -28,6 +29,7 @@ pub record Spells (text : List ℕ) (s : ℕ) (records : List Record) : Type 0 w
   pub size : length text ≤ limit
   pub id_size : is_id_size s ≡ true
   pub time : ℕ
+  pub time_fits : time < 256 ^ 8
   pub whole : text ≡ header s time ++ spellings s records
   pub each : AllByRecursion (IsRecord s) records
 

@@ -13,7 +13,7 @@ use Rattle.hprof_grammar.specs.Spelling.{EndsShort, HasWrongType}
 -- fit; 7, a type code that is not allowed, as soon as it is read. What would follow 6 and 7 may be anything that has the
 -- right size.
 pub data SubFault (s : ℕ) : List ℕ → ℕ → Type 0 where
-  unknown_tag : (tag : ℕ) (rest : List ℕ) → kind_of s tag ≡ None → SubFault s (tag ∷ rest) 5
+  unknown_tag : (tag : ℕ) (rest : List ℕ) → kind_of tag ≡ None → SubFault s (tag ∷ rest) 5
   short : (x : SubRecord) (rest : List ℕ) → IsFormed s x → EndsShort (fields_of s x) rest → SubFault s (sub.tag_of x ∷ rest) 6
   wrong_type : (x : SubRecord) (rest : List ℕ) → IsFormed s x → HasWrongType (fields_of s x) rest → SubFault s (sub.tag_of x ∷ rest) 7
 

@@ -1,5 +1,5 @@
 -- What the parts of the parser add to a dump, and the faults that they find. The private contracts cite these words.
-use Rattle.std.specs.Prelude.{List, [], drop, false, flat_map, length, map, true, ℕ, ◌++◌, ◌+◌, ◌∷◌, ◌≡◌, ◌≤◌}
+use Rattle.std.specs.Prelude.{List, [], drop, false, flat_map, length, map, true, ℕ, ◌++◌, ◌+◌, ◌<◌, ◌^◌, ◌∷◌, ◌≡◌, ◌≤◌}
 use Rattle.std.specs.List.{AllByRecursion}
 use Rattle.hprof_grammar.specs.Record.{CanGoOn, HasParts, IsRecord, Record, body_of, subs_of, tag_of, time_of}
 use Rattle.hprof_grammar.specs.Tables.{is_heap_tag, is_id_size, is_length_of}
@@ -17,7 +17,7 @@ nothing_of s = record { id_size = s; strings = []; loaded = []; roots = []; obje
 
 -- with the place of one more sub-record
 abbrev pub noted : Places → Kind → ℕ → Places
-noted p (kinds.Root n) at = record { id_size = p.id_size; strings = p.strings; loaded = p.loaded; roots = p.roots ++ at ∷ []; objects = p.objects }
+noted p (kinds.Root kind) at = record { id_size = p.id_size; strings = p.strings; loaded = p.loaded; roots = p.roots ++ at ∷ []; objects = p.objects }
 noted p kinds.Class at = record { id_size = p.id_size; strings = p.strings; loaded = p.loaded; roots = p.roots; objects = p.objects ++ at ∷ [] }
 noted p kinds.Instance at = record { id_size = p.id_size; strings = p.strings; loaded = p.loaded; roots = p.roots; objects = p.objects ++ at ∷ [] }
 noted p kinds.ObjectArray at = record { id_size = p.id_size; strings = p.strings; loaded = p.loaded; roots = p.roots; objects = p.objects ++ at ∷ [] }
@@ -115,4 +115,5 @@ pub record HasHeader (s : ℕ) (text : List ℕ) : Type 0 where
   pub size : length text ≤ limit
   pub id_size : is_id_size s ≡ true
   pub time : ℕ
+  pub time_fits : time < 256 ^ 8
   pub whole : text ≡ header s time ++ drop 31 text

@@ -13,3 +13,4 @@ pub mod ObjectKinds
 pub mod MemberFields
 pub mod ClassParts
 pub mod Refusal
+pub mod RootFields

@@ -2,10 +2,13 @@
 use Rattle.std.specs.Prelude.{Err, List, None, Ok, Option, Result, Some, [], drop, if◌then◌else◌, length, nat_lt, suc, take, zero, ℕ, ◌*◌, ◌∷◌, ◌≡◌}
 use Rattle.byteorder.specs.Endian.{big_number}
 use Rattle.hprof_grammar.specs.Tables.{is_type_at, kind_of, size_of}
-use Rattle.hprof_grammar.specs.SubRecord.{Class, Constant, Instance, Member, ObjectArray, PrimitiveArray, Root, Static, SubRecord}
+use Rattle.hprof_grammar.specs.SubRecord.{Class, Constant, Instance, Member, ObjectArray, PrimitiveArray, RootOrigin, Static, SubRecord}
+use Rattle.hprof_grammar.specs.SubRecord.RootOrigin.{java_frame, jni_global, jni_local, monitor_used, native_stack, sticky_class, thread_block, thread_object, unknown}
 use Rattle.hprof_grammar.specs.SubRecord.SubRecord.{class_dump, instance_dump, object_array_dump, primitive_array_dump, root}
 use Rattle.hprof_grammar.specs.declared.tables.Kind.{Kind}
 use Rattle.hprof_grammar.specs.declared.tables.Kind.TheVariants as kinds
+use Rattle.hprof_grammar.specs.declared.tables.RootKind.{RootKind}
+use Rattle.hprof_grammar.specs.declared.tables.RootKind.TheVariants as roots
 use Rattle.hprof_grammar.specs.declared.tables.TypePlace.{TypePlace}
 use Rattle.hprof_grammar.specs.declared.tables.TypePlace.TheVariants.{InArray, InConstant, InMember, InStatic}
 use Rattle.hprof_grammar.specs.declared.flaw.Flaw.{Flaw}
@@ -78,22 +81,43 @@ unfoldable pub primitive_array_at : ℕ → List ℕ → Result (PrimitiveArray 
 primitive_array_at s = as_at (λ p. record { object = p.0; stack = p.1.0; count = p.1.1.0; type = p.1.1.1.0; values = p.1.1.1.1 })
     (pair_at (number_at s) (λ _. pair_at (number_at 4) (λ _. pair_at (number_at 4) (λ n. pair_at (type_at InArray) (λ t. raw_at (n * size_of s t))))))
 
-unfoldable pub root_at : ℕ → ℕ → ℕ → List ℕ → Result (Root × List ℕ) Flaw
-root_at s tag n = as_at (λ p. record { tag = tag; object = p.0; rest = p.1 }) (pair_at (number_at s) (λ _. raw_at n))
+-- a root of one kind
+abbrev pub lone_root : RootOrigin → ℕ → SubRecord
+lone_root origin object = root (record { object = object; origin = origin })
+
+abbrev pub root_with : (ℕ → RootOrigin) → ℕ × ℕ → SubRecord
+root_with origin p = root (record { object = p.0; origin = origin p.1 })
+
+abbrev pub root_with_two : (ℕ → ℕ → RootOrigin) → ℕ × (ℕ × ℕ) → SubRecord
+root_with_two origin p = root (record { object = p.0; origin = origin p.1.0 p.1.1 })
+
+abbrev pub numbers_at : ℕ → ℕ → List ℕ → Result ((ℕ × ℕ) × List ℕ) Flaw
+numbers_at first second = pair_at (number_at first) (λ _. number_at second)
+
+abbrev pub root_at : ℕ → RootKind → List ℕ → Result (SubRecord × List ℕ) Flaw
+root_at s roots.Unknown = as_at (lone_root unknown) (number_at s)
+root_at s roots.JniGlobal = as_at (root_with jni_global) (numbers_at s s)
+root_at s roots.JniLocal = as_at (root_with_two jni_local) (pair_at (number_at s) (λ _. numbers_at 4 4))
+root_at s roots.JavaFrame = as_at (root_with_two java_frame) (pair_at (number_at s) (λ _. numbers_at 4 4))
+root_at s roots.NativeStack = as_at (root_with native_stack) (numbers_at s 4)
+root_at s roots.StickyClass = as_at (lone_root sticky_class) (number_at s)
+root_at s roots.ThreadBlock = as_at (root_with thread_block) (numbers_at s 4)
+root_at s roots.MonitorUsed = as_at (lone_root monitor_used) (number_at s)
+root_at s roots.ThreadObject = as_at (root_with_two thread_object) (pair_at (number_at s) (λ _. numbers_at 4 4))
 
 -- what stands behind a tag
-abbrev pub body_at : ℕ → ℕ → Option Kind → List ℕ → Result (SubRecord × List ℕ) Flaw
-body_at s tag None bytes = Err UnknownTag
-body_at s tag (Some (kinds.Root n)) bytes = as_at root (root_at s tag n) bytes
-body_at s tag (Some kinds.Class) bytes = as_at class_dump (class_at s) bytes
-body_at s tag (Some kinds.Instance) bytes = as_at instance_dump (instance_at s) bytes
-body_at s tag (Some kinds.ObjectArray) bytes = as_at object_array_dump (object_array_at s) bytes
-body_at s tag (Some kinds.PrimitiveArray) bytes = as_at primitive_array_dump (primitive_array_at s) bytes
+abbrev pub body_at : ℕ → Option Kind → List ℕ → Result (SubRecord × List ℕ) Flaw
+body_at s None bytes = Err UnknownTag
+body_at s (Some (kinds.Root kind)) bytes = root_at s kind bytes
+body_at s (Some kinds.Class) bytes = as_at class_dump (class_at s) bytes
+body_at s (Some kinds.Instance) bytes = as_at instance_dump (instance_at s) bytes
+body_at s (Some kinds.ObjectArray) bytes = as_at object_array_dump (object_array_at s) bytes
+body_at s (Some kinds.PrimitiveArray) bytes = as_at primitive_array_dump (primitive_array_at s) bytes
 
 -- a sub-record, and the bytes behind it
 unfoldable pub sub_record_at : ℕ → List ℕ → Result (SubRecord × List ℕ) Flaw
 sub_record_at s [] = Err Short
-sub_record_at s (tag ∷ rest) = body_at s tag (kind_of s tag) rest
+sub_record_at s (tag ∷ rest) = body_at s (kind_of tag) rest
 
 -- ---- what a part of the parser does: it goes to the end of what is read, or finds the flaw
 

@@ -1,7 +1,7 @@
 -- Like parts that stand one after the other in the bytes: what the cursors over them have left.
 use Rattle.std.specs.Prelude.{List, [], drop, length, slice_index, suc, take, zero, ℕ, ◌*◌, ◌+◌, ◌∷◌, ◌≤◌}
 use Rattle.byteorder.specs.Endian.{big_number}
-use Rattle.hprof_grammar.specs.SubRecord.{Member}
+use Rattle.hprof_grammar.specs.SubRecord.{Constant, Member, Static}
 use Rattle.hprof_grammar.specs.Tables.{size_of}
 
 -- n numbers of `width` bytes each
@@ -30,10 +30,29 @@ pub record HasMembers (s n : ℕ) (bytes : List ℕ) : Type 0 where
 abbrev pub value_end : ℕ → ℕ → List ℕ → ℕ
 value_end s front bytes = front + 1 + size_of s (slice_index bytes front)
 
--- n such: the type codes and the values
-abbrev pub values_in : ℕ → ℕ → ℕ → List ℕ → List (ℕ × List ℕ)
+-- a value, its type code, and the number in front of it: a constant's index, or the ID of a static field's name
+pub record LabelledValue : Type 0 where
+  pub label : ℕ
+  pub type : ℕ
+  pub value : List ℕ
+
+abbrev pub value_in : ℕ → ℕ → List ℕ → LabelledValue
+value_in s front bytes = record {
+  label = big_number front bytes;
+  type = slice_index bytes front;
+  value = take (size_of s (slice_index bytes front)) (drop (front + 1) bytes);
+}
+
+abbrev pub of_constant : Constant → LabelledValue
+of_constant k = record { label = k.index; type = k.type; value = k.value }
+
+abbrev pub of_static : Static → LabelledValue
+of_static f = record { label = f.name; type = f.type; value = f.value }
+
+-- n such
+abbrev pub values_in : ℕ → ℕ → ℕ → List ℕ → List LabelledValue
 values_in s front zero bytes = []
-values_in s front (suc n) bytes = (slice_index bytes front, take (size_of s (slice_index bytes front)) (drop (front + 1) bytes)) ∷ values_in s front n (drop (value_end s front bytes) bytes)
+values_in s front (suc n) bytes = value_in s front bytes ∷ values_in s front n (drop (value_end s front bytes) bytes)
 
 -- the bytes behind n such
 abbrev pub behind_values : ℕ → ℕ → ℕ → List ℕ → List ℕ
@@ -45,11 +64,17 @@ abbrev pub HasValues : ℕ → ℕ → ℕ → List ℕ → Type 0
 HasValues s front zero bytes = Unit {0}
 HasValues s front (suc n) bytes = (value_end s front bytes ≤ length bytes) × HasValues s front n (drop (value_end s front bytes) bytes)
 
+-- the same, and the numbers in front can be read
+pub record HasLabelledValues (s front n : ℕ) (bytes : List ℕ) : Type 0 where
+  pub low : 1 ≤ front
+  pub high : front ≤ 8
+  pub room : HasValues s front n bytes
+
 -- the same behind a count of 2 bytes
 abbrev pub count_in : List ℕ → ℕ
 count_in bytes = big_number 2 bytes
 
-abbrev pub counted_values_in : ℕ → ℕ → List ℕ → List (ℕ × List ℕ)
+abbrev pub counted_values_in : ℕ → ℕ → List ℕ → List LabelledValue
 counted_values_in s front bytes = values_in s front (count_in bytes) (drop 2 bytes)
 
 abbrev pub behind_counted_values : ℕ → ℕ → List ℕ → List ℕ

@@ -1,9 +1,10 @@
 -- What stands at a place of the bytes, and that the places of a dump hold what they should.
-use Rattle.std.specs.Prelude.{List, None, Option, Some, drop, filter, flat_map, length, slice_get, ℕ, ◌++◌, ◌≡◌}
+use Rattle.std.specs.Prelude.{List, None, Option, Some, drop, filter, flat_map, length, slice_get, ℕ, ◌++◌, ◌<◌, ◌^◌, ◌≡◌}
 use Rattle.hprof_grammar.specs.Record.{IsRecord, Record, record_spelling, subs_of}
 use Rattle.hprof_grammar.specs.SubRecord.{IsSubRecord, SubRecord, spelling_of}
 use Rattle.hprof_grammar.specs.SubRecord.SubRecord.{class_dump, instance_dump, object_array_dump, primitive_array_dump, root}
-use Rattle.hprof_grammar.specs.Dump.{Places, is_load, is_object, is_root, is_string}
+use Rattle.hprof_grammar.specs.Record.Record.{load_class, string}
+use Rattle.hprof_grammar.specs.Dump.{Places, header, is_load, is_object, is_root, is_string}
 
 -- the bytes from that place on are the spelling of the sub-record, and then a rest
 pub record StandsAt (s : ℕ) (bytes : List ℕ) (at : ℕ) (sub : SubRecord) : Type 0 where
@@ -17,6 +18,12 @@ pub record RecordStandsAt (s : ℕ) (bytes : List ℕ) (at : ℕ) (r : Record) :
   pub bytes_are : drop at bytes ≡ record_spelling s r ++ rest
   pub is : IsRecord s r
 
+-- the bytes begin with the header that has that time
+pub record HeaderStandsAt (s : ℕ) (bytes : List ℕ) (time : ℕ) : Type 0 where
+  pub rest : List ℕ
+  pub bytes_are : bytes ≡ header s time ++ rest
+  pub fits : time < 256 ^ 8
+
 -- the bytes of a dump, and the size of its identifiers
 pub record Sight : Type 0 where
   pub bytes : List ℕ
@@ -27,6 +34,16 @@ Stands v at sub = StandsAt v.id_size v.bytes at sub
 
 abbrev pub RecordStands : Sight → ℕ → Record → Type 0
 RecordStands v at r = RecordStandsAt v.id_size v.bytes at r
+
+abbrev pub HeaderStands : Sight → ℕ → Type 0
+HeaderStands v time = HeaderStandsAt v.id_size v.bytes time
+
+-- a STRING IN UTF8 or a LOAD CLASS with these fields
+abbrev pub StringStands : Sight → ℕ → (time id : ℕ) → List ℕ → Type 0
+StringStands v at time id text = RecordStands v at (string time id text)
+
+abbrev pub LoadStands : Sight → ℕ → (time serial class stack name : ℕ) → Type 0
+LoadStands v at time serial class stack name = RecordStands v at (load_class time serial class stack name)
 
 -- the first ID of a sub-record: the object that a root names, or that a dump describes
 abbrev pub id_of : SubRecord → ℕ
@@ -53,8 +70,10 @@ pub record StandInTurn {X : Type 0} (IsAt : ℕ → X → Type 0) (places : List
   pub count : length places ≡ length things
   pub each : (k place : ℕ) → slice_get places k ≡ Some place → (x : X) × (slice_get things k ≡ Some x) × IsAt place x
 
--- each string, loaded class, root and object stands at its place, in turn
+-- the header stands first, and each string, loaded class, root and object at its place, in turn
 pub record IsPlaced (text : List ℕ) (dump : Places) (records : List Record) : Type 0 where
+  pub time : ℕ
+  pub header : HeaderStandsAt dump.id_size text time
   pub strings : StandInTurn (RecordStandsAt dump.id_size text) dump.strings (filter is_string records)
   pub loaded : StandInTurn (RecordStandsAt dump.id_size text) dump.loaded (filter is_load records)
   pub roots : StandInTurn (StandsAt dump.id_size text) dump.roots (filter is_root (heap_of records))

@@ -1,10 +1,13 @@
 -- The sub-records of a heap record, and their fields in the order that the manual gives them.
 use Rattle.std.specs.Prelude.{List, Some, [], flat_map, length, map, ℕ, ◌*◌, ◌++◌, ◌<◌, ◌^◌, ◌∷◌, ◌≡◌}
 use Rattle.std.specs.List.{AllByRecursion}
-use Rattle.hprof_grammar.specs.Tables.{kind_of, size_of}
+use Rattle.hprof_grammar.specs.Tables.{kind_of, root_tag, size_of}
 use Rattle.hprof_grammar.specs.Spelling.{AreAllowed, Field, spelled}
 use Rattle.hprof_grammar.specs.Spelling.Field.{number, raw, type_code}
+use Rattle.hprof_grammar.specs.declared.tables.Kind.{Kind}
 use Rattle.hprof_grammar.specs.declared.tables.Kind.TheVariants as kinds
+use Rattle.hprof_grammar.specs.declared.tables.RootKind.{RootKind}
+use Rattle.hprof_grammar.specs.declared.tables.RootKind.TheVariants as roots
 use Rattle.hprof_grammar.specs.declared.tables.TypePlace.TheVariants.{InArray, InConstant, InMember, InStatic}
 
 -- a constant pool entry
@@ -61,11 +64,34 @@ pub record PrimitiveArray : Type 0 where
   pub type : ℕ
   pub values : List ℕ
 
--- a root of any kind: its object, and the rest of its body, which is read past
+-- What makes an object a root, and what the dump says of it: a JNI reference by its ID, threads and stack traces by
+-- their serial numbers, a frame by its number in the stack trace.
+pub data RootOrigin : Type 0 where
+  unknown : RootOrigin
+  jni_global : (reference : ℕ) → RootOrigin
+  jni_local : (thread frame : ℕ) → RootOrigin
+  java_frame : (thread frame : ℕ) → RootOrigin
+  native_stack : (thread : ℕ) → RootOrigin
+  sticky_class : RootOrigin
+  thread_block : (thread : ℕ) → RootOrigin
+  monitor_used : RootOrigin
+  thread_object : (thread stack : ℕ) → RootOrigin
+
+abbrev pub origin_kind : RootOrigin → RootKind
+origin_kind unknown = roots.Unknown
+origin_kind (jni_global reference) = roots.JniGlobal
+origin_kind (jni_local thread frame) = roots.JniLocal
+origin_kind (java_frame thread frame) = roots.JavaFrame
+origin_kind (native_stack thread) = roots.NativeStack
+origin_kind sticky_class = roots.StickyClass
+origin_kind (thread_block thread) = roots.ThreadBlock
+origin_kind monitor_used = roots.MonitorUsed
+origin_kind (thread_object thread stack) = roots.ThreadObject
+
+-- ROOT, by its kind 0xFF or 0x01 to 0x08
 pub record Root : Type 0 where
-  pub tag : ℕ
   pub object : ℕ
-  pub rest : List ℕ
+  pub origin : RootOrigin
 
 pub data SubRecord : Type 0 where
   root : Root → SubRecord
@@ -102,11 +128,22 @@ object_array_fields s a = number s a.object ∷ number 4 a.stack ∷ number 4 (l
 abbrev pub primitive_array_fields : ℕ → PrimitiveArray → List Field
 primitive_array_fields s a = number s a.object ∷ number 4 a.stack ∷ number 4 a.count ∷ type_code InArray a.type ∷ raw a.values ∷ []
 
+abbrev pub origin_fields : ℕ → RootOrigin → List Field
+origin_fields s unknown = []
+origin_fields s (jni_global reference) = number s reference ∷ []
+origin_fields s (jni_local thread frame) = number 4 thread ∷ number 4 frame ∷ []
+origin_fields s (java_frame thread frame) = number 4 thread ∷ number 4 frame ∷ []
+origin_fields s (native_stack thread) = number 4 thread ∷ []
+origin_fields s sticky_class = []
+origin_fields s (thread_block thread) = number 4 thread ∷ []
+origin_fields s monitor_used = []
+origin_fields s (thread_object thread stack) = number 4 thread ∷ number 4 stack ∷ []
+
 abbrev pub root_fields : ℕ → Root → List Field
-root_fields s r = number s r.object ∷ raw r.rest ∷ []
+root_fields s r = number s r.object ∷ origin_fields s r.origin
 
 abbrev pub tag_of : SubRecord → ℕ
-tag_of (root r) = r.tag
+tag_of (root r) = root_tag (origin_kind r.origin)
 tag_of (class_dump c) = 0x20
 tag_of (instance_dump i) = 0x21
 tag_of (object_array_dump a) = 0x22
@@ -172,17 +209,32 @@ pub record IsPrimitiveArray (s : ℕ) (a : PrimitiveArray) : Type 0 where
   pub count : a.count < 256 ^ 4
   pub values : length a.values ≡ a.count * size_of s a.type
 
+abbrev pub IsOrigin : ℕ → RootOrigin → Type 0
+IsOrigin s unknown = Unit {0}
+IsOrigin s (jni_global reference) = reference < 256 ^ s
+IsOrigin s (jni_local thread frame) = (thread < 256 ^ 4) × (frame < 256 ^ 4)
+IsOrigin s (java_frame thread frame) = (thread < 256 ^ 4) × (frame < 256 ^ 4)
+IsOrigin s (native_stack thread) = thread < 256 ^ 4
+IsOrigin s sticky_class = Unit {0}
+IsOrigin s (thread_block thread) = thread < 256 ^ 4
+IsOrigin s monitor_used = Unit {0}
+IsOrigin s (thread_object thread stack) = (thread < 256 ^ 4) × (stack < 256 ^ 4)
+
 pub record IsRoot (s : ℕ) (r : Root) : Type 0 where
-  pub kind : kind_of s r.tag ≡ Some (kinds.Root (length r.rest))
   pub object : r.object < 256 ^ s
+  pub origin : IsOrigin s r.origin
+
+-- the tag is in the table
+abbrev pub HasKind : ℕ → Kind → Type 0
+HasKind tag kind = kind_of tag ≡ Some kind
 
 -- a sub-record, but that its type codes may be any
 abbrev pub IsFormed : ℕ → SubRecord → Type 0
-IsFormed s (root r) = IsRoot s r
-IsFormed s (class_dump c) = (kind_of s 0x20 ≡ Some kinds.Class) × IsClass s c
-IsFormed s (instance_dump i) = (kind_of s 0x21 ≡ Some kinds.Instance) × IsInstance s i
-IsFormed s (object_array_dump a) = (kind_of s 0x22 ≡ Some kinds.ObjectArray) × IsObjectArray s a
-IsFormed s (primitive_array_dump a) = (kind_of s 0x23 ≡ Some kinds.PrimitiveArray) × IsPrimitiveArray s a
+IsFormed s (root r) = HasKind (root_tag (origin_kind r.origin)) (kinds.Root (origin_kind r.origin)) × IsRoot s r
+IsFormed s (class_dump c) = HasKind 0x20 kinds.Class × IsClass s c
+IsFormed s (instance_dump i) = HasKind 0x21 kinds.Instance × IsInstance s i
+IsFormed s (object_array_dump a) = HasKind 0x22 kinds.ObjectArray × IsObjectArray s a
+IsFormed s (primitive_array_dump a) = HasKind 0x23 kinds.PrimitiveArray × IsPrimitiveArray s a
 
 -- A sub-record: each type code is one that is allowed where it stands.
 pub record IsSubRecord (s : ℕ) (sub : SubRecord) : Type 0 where

@@ -3,6 +3,8 @@
 use Rattle.std.specs.Prelude.{Bool, List, None, Option, Some, [], if◌then◌else◌, nat_le, replicate, suc, true, ℕ, ◌&&◌, ◌*◌, ◌++◌, ◌+◌, ◌==◌, ◌||◌, ◌∷◌, ◌≡◌, ◌⊎◌}
 use Rattle.hprof_grammar.specs.declared.tables.Kind.{Kind}
 use Rattle.hprof_grammar.specs.declared.tables.Kind.TheVariants.{Class, Instance, ObjectArray, PrimitiveArray, Root}
+use Rattle.hprof_grammar.specs.declared.tables.RootKind.{RootKind}
+use Rattle.hprof_grammar.specs.declared.tables.RootKind.TheVariants.{JavaFrame, JniGlobal, JniLocal, MonitorUsed, NativeStack, StickyClass, ThreadBlock, ThreadObject, Unknown}
 use Rattle.hprof_grammar.specs.declared.tables.TypePlace.{TypePlace}
 use Rattle.hprof_grammar.specs.declared.tables.TypePlace.TheVariants.{InArray, InConstant, InMember, InStatic}
 
@@ -25,35 +27,44 @@ is_type_at InArray t = is_primitive t
 unfoldable pub size_of : ℕ → ℕ → ℕ
 size_of s t = if t == 2 then s else if (t == 4) || (t == 8) then 1 else if (t == 5) || (t == 9) then 2 else if (t == 6) || (t == 10) then 4 else if (t == 7) || (t == 11) then 8 else 0
 
--- how many bytes stand behind a root's object, by the sub-record's tag: ROOT UNKNOWN (0xFF), JNI GLOBAL (an ID),
--- JNI LOCAL (two u4), JAVA FRAME (two u4), NATIVE STACK (u4), STICKY CLASS, THREAD BLOCK (u4), MONITOR USED,
--- THREAD OBJECT (two u4)
-unfoldable pub root_rest : ℕ → ℕ → Option ℕ
-root_rest s tag =
-    if tag == 0xFF then Some 0
-    else if tag == 0x01 then Some s
-    else if tag == 0x02 then Some 8
-    else if tag == 0x03 then Some 8
-    else if tag == 0x04 then Some 4
-    else if tag == 0x05 then Some 0
-    else if tag == 0x06 then Some 4
-    else if tag == 0x07 then Some 0
-    else if tag == 0x08 then Some 8
+-- the kind of a root, by its tag
+unfoldable pub root_kind : ℕ → Option RootKind
+root_kind tag =
+    if tag == 0xFF then Some Unknown
+    else if tag == 0x01 then Some JniGlobal
+    else if tag == 0x02 then Some JniLocal
+    else if tag == 0x03 then Some JavaFrame
+    else if tag == 0x04 then Some NativeStack
+    else if tag == 0x05 then Some StickyClass
+    else if tag == 0x06 then Some ThreadBlock
+    else if tag == 0x07 then Some MonitorUsed
+    else if tag == 0x08 then Some ThreadObject
     else None
 
-abbrev pub root_of : Option ℕ → Option Kind
-root_of None = None
-root_of (Some n) = Some (Root n)
+-- the same table from the other side: ROOT UNKNOWN, ROOT JNI GLOBAL, ROOT JNI LOCAL and so on
+abbrev pub root_tag : RootKind → ℕ
+root_tag Unknown = 0xFF
+root_tag JniGlobal = 0x01
+root_tag JniLocal = 0x02
+root_tag JavaFrame = 0x03
+root_tag NativeStack = 0x04
+root_tag StickyClass = 0x05
+root_tag ThreadBlock = 0x06
+root_tag MonitorUsed = 0x07
+root_tag ThreadObject = 0x08
 
--- what a sub-record's tag says: CLASS DUMP, INSTANCE DUMP, OBJECT ARRAY DUMP, PRIMITIVE ARRAY DUMP, or a root with so
--- many bytes behind its object
-unfoldable pub kind_of : ℕ → ℕ → Option Kind
-kind_of s tag =
+abbrev pub root_of : Option RootKind → Option Kind
+root_of None = None
+root_of (Some kind) = Some (Root kind)
+
+-- what a sub-record's tag says: CLASS DUMP, INSTANCE DUMP, OBJECT ARRAY DUMP, PRIMITIVE ARRAY DUMP, or a root
+unfoldable pub kind_of : ℕ → Option Kind
+kind_of tag =
     if tag == 0x20 then Some Class
     else if tag == 0x21 then Some Instance
     else if tag == 0x22 then Some ObjectArray
     else if tag == 0x23 then Some PrimitiveArray
-    else root_of (root_rest s tag)
+    else root_of (root_kind tag)
 
 -- the lengths that the body of a record may have: STRING IN UTF8 (0x01) has at least its ID, LOAD CLASS (0x02) two IDs
 -- and two u4, HEAP DUMP END (0x2C) nothing; any other record any length

@@ -22,6 +22,7 @@ pub use flaw::{FormatFault, ReadRefusal};
 pub use laws::{dump_or_fault, one_dump, one_fault, one_list_of_records};
 pub use parse::read;
 pub use placed::{dump_is_placed, stands_within};
+pub use tables::RootKind;
 pub use view::ids::Ids;
 pub use view::members::{MemberField, Members};
 pub use view::values::{TypedValue, Values};

@@ -8,7 +8,7 @@ ghost use Rattle.hprof_grammar.specs.Reading.{Passes, class_at, constant_at, cou
 
 use crate::flaw::Flaw;
 use crate::reader::Reader;
-use crate::tables::{Kind, TypePlace, kind_of, size_of};
+use crate::tables::{Kind, RootKind, TypePlace, kind_of, size_of};
 
 /// A type code, and a value of that type.
 fn typed_value(reader: &mut Reader<'_>, id_size: u8, place: TypePlace) -> Result<(), Flaw>
@@ -170,15 +170,26 @@ fn primitive_array(reader: &mut Reader<'_>, id_size: u8) -> Result<(), Flaw>
     Ok(())
 }
 
-/// Behind the tag of a root: its object, and so many bytes that are read past.
-#[tactic(auto, unfolding(crate::specs::Reading::root_at))]
-fn root(reader: &mut Reader<'_>, id_size: u8, rest: u8) -> Result<(), Flaw>
+/// Behind the tag of a root: its object, and what its kind says of it.
+fn root(reader: &mut Reader<'_>, id_size: u8, kind: RootKind) -> Result<(), Flaw>
     requires low { 1 ≤ id_size }
     requires high { id_size ≤ 8 }
-    ensures { (tag : ℕ) → Passes result reader.new.rest.now (root_at id_size tag rest reader.old.rest.now) }
+    ensures { Passes result reader.new.rest.now (root_at id_size kind reader.old.rest.now) }
 {
-    reader.number(id_size)?;
-    reader.raw(u64::from(rest))?;
+    reader.number(id_size)?; // the object
+    match kind {
+        RootKind::Unknown | RootKind::StickyClass | RootKind::MonitorUsed => {}
+        RootKind::JniGlobal => {
+            reader.number(id_size)?; // the reference
+        }
+        RootKind::NativeStack | RootKind::ThreadBlock => {
+            reader.number(4)?; // the thread
+        }
+        RootKind::JniLocal | RootKind::JavaFrame | RootKind::ThreadObject => {
+            reader.number(4)?; // the thread
+            reader.number(4)?; // the frame, or the stack trace
+        }
+    }
     Ok(())
 }
 
@@ -189,17 +200,17 @@ pub fn sub_record(reader: &mut Reader<'_>, id_size: u8) -> Result<Kind, Flaw>
     requires high { id_size ≤ 8 }
     ensures passes { Passes result reader.new.rest.now (sub_record_at id_size reader.old.rest.now) }
     ensures kind { IfOk result (λ kind.
-        option_and_then (tables.kind_of id_size) (slice_get reader.old.rest.now 0) ≡ Some kind) }
+        option_and_then tables.kind_of (slice_get reader.old.rest.now 0) ≡ Some kind) }
 {
     let [tag, behind @ ..] = reader.rest else {
         return Err(Flaw::Short);
     };
-    let Some(kind) = kind_of(id_size, *tag) else {
+    let Some(kind) = kind_of(*tag) else {
         return Err(Flaw::UnknownTag);
     };
     reader.rest = behind;
     match kind {
-        Kind::Root(rest) => root(reader, id_size, rest)?,
+        Kind::Root(kind) => root(reader, id_size, kind)?,
         Kind::Class => class(reader, id_size)?,
         Kind::Instance => instance(reader, id_size)?,
         Kind::ObjectArray => object_array(reader, id_size)?,

@@ -5,11 +5,33 @@ ghost use Rattle.hprof_grammar.specs.Tables as tables;
 
 use crate::tags;
 
+/// Why an object is a root.
+#[derive(Clone, Copy, Debug, PartialEq, Eq)]
+pub enum RootKind {
+    /// Nothing more is known.
+    Unknown,
+    /// A global JNI reference names it.
+    JniGlobal,
+    /// A local JNI reference names it.
+    JniLocal,
+    /// A local variable of a Java frame holds it.
+    JavaFrame,
+    /// A native method was passed it.
+    NativeStack,
+    /// A system class.
+    StickyClass,
+    /// A blocked thread refers to it.
+    ThreadBlock,
+    /// A monitor that is in use.
+    MonitorUsed,
+    /// A live thread.
+    ThreadObject,
+}
+
 /// What the tag of a sub-record says.
 #[derive(Clone, Copy, Debug, PartialEq, Eq)]
 pub enum Kind {
-    /// A root, with so many bytes behind the identifier of its object.
-    Root(u8),
+    Root(RootKind),
     Class,
     Instance,
     ObjectArray,
@@ -65,31 +87,36 @@ pub fn size_of(id_size: u8, code: u8) -> u8
     }
 }
 
-/// How many bytes stand behind the object of a root with that tag.
-#[tactic(auto, unfolding(crate::specs::Tables::root_rest))]
-fn root_rest(id_size: u8, tag: u8) -> Option<u8>
-    ensures { result ≡ tables.root_rest id_size tag }
+/// The kind of a root with that tag, if it is one.
+#[tactic(auto, unfolding(crate::specs::Tables::root_kind))]
+fn root_kind(tag: u8) -> Option<RootKind>
+    ensures { result ≡ tables.root_kind tag }
 {
     match tag {
-        tags::ROOT_JNI_GLOBAL => Some(id_size),
-        tags::ROOT_JNI_LOCAL | tags::ROOT_JAVA_FRAME | tags::ROOT_THREAD_OBJECT => Some(8),
-        tags::ROOT_NATIVE_STACK | tags::ROOT_THREAD_BLOCK => Some(4),
-        tags::ROOT_UNKNOWN | tags::ROOT_STICKY_CLASS | tags::ROOT_MONITOR_USED => Some(0),
+        tags::ROOT_UNKNOWN => Some(RootKind::Unknown),
+        tags::ROOT_JNI_GLOBAL => Some(RootKind::JniGlobal),
+        tags::ROOT_JNI_LOCAL => Some(RootKind::JniLocal),
+        tags::ROOT_JAVA_FRAME => Some(RootKind::JavaFrame),
+        tags::ROOT_NATIVE_STACK => Some(RootKind::NativeStack),
+        tags::ROOT_STICKY_CLASS => Some(RootKind::StickyClass),
+        tags::ROOT_THREAD_BLOCK => Some(RootKind::ThreadBlock),
+        tags::ROOT_MONITOR_USED => Some(RootKind::MonitorUsed),
+        tags::ROOT_THREAD_OBJECT => Some(RootKind::ThreadObject),
         _ => None,
     }
 }
 
 /// What the tag of a sub-record says, if it is one.
 #[tactic(auto, unfolding(crate::specs::Tables::kind_of))]
-pub fn kind_of(id_size: u8, tag: u8) -> Option<Kind>
-    ensures { result ≡ tables.kind_of id_size tag }
+pub fn kind_of(tag: u8) -> Option<Kind>
+    ensures { result ≡ tables.kind_of tag }
 {
     match tag {
         tags::CLASS_DUMP => Some(Kind::Class),
         tags::INSTANCE_DUMP => Some(Kind::Instance),
         tags::OBJECT_ARRAY_DUMP => Some(Kind::ObjectArray),
         tags::PRIMITIVE_ARRAY_DUMP => Some(Kind::PrimitiveArray),
-        _ => root_rest(id_size, tag).map(Kind::Root),
+        _ => root_kind(tag).map(Kind::Root),
     }
 }
 

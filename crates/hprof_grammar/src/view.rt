@@ -9,6 +9,7 @@ pub mod ids;
 mod instances;
 pub mod members;
 mod records;
+mod roots;
 pub mod values;
 
 ghost use Rattle.std.specs.Prelude.{Some, true, ◌+◌, ◌≡◌, ◌≤◌, drop, length, take};

@@ -1,12 +1,12 @@
 //! The fields of array dumps.
 
-ghost use Rattle.std.specs.Prelude.{◌≡◌};
+ghost use Rattle.std.specs.Prelude.{◌+◌, ◌≡◌};
 ghost use Rattle.hprof_grammar.specs.SubRecord.{ObjectArray, PrimitiveArray};
 ghost use Rattle.hprof_grammar.specs.SubRecord.SubRecord.{object_array_dump, primitive_array_dump};
 ghost use Rattle.hprof_grammar.specs.Standing.{Stands};
 
 use crate::view::ids::Ids;
-use crate::view::{View, number_at, u32_at};
+use crate::view::{View, bytes_at, number_at, u32_at};
 
 impl<'a> View<'a> {
     /// The identifier of an object array's class.
@@ -24,7 +24,7 @@ impl<'a> View<'a> {
         ensures { (a : ObjectArray) → Stands self.now at (object_array_dump a) → result ≡ a.elements }
     {
         let size = self.id_size as usize;
-        let count = u32_at(self.bytes, at as usize + 5 + size);
+        let count = u32_at(self.bytes, array_count(at, self.id_size));
         Ids::new(self.bytes, at as usize + 9 + 2 * size, self.id_size, count)
     }
 
@@ -41,6 +41,23 @@ impl<'a> View<'a> {
         requires { (a : PrimitiveArray) × Stands self.now at (primitive_array_dump a) }
         ensures { (a : PrimitiveArray) → Stands self.now at (primitive_array_dump a) → result ≡ a.count }
     {
-        u32_at(self.bytes, at as usize + 5 + self.id_size as usize)
+        u32_at(self.bytes, array_count(at, self.id_size))
     }
+
+    /// The elements of a primitive array, packed, of the size that their type has.
+    pub fn packed_elements(&self, at: u32) -> &'a [u8]
+        requires { (a : PrimitiveArray) × Stands self.now at (primitive_array_dump a) }
+        ensures { (a : PrimitiveArray) → Stands self.now at (primitive_array_dump a) → result.now ≡ a.values }
+    {
+        let count = self.element_count(at) as usize;
+        let size = self.size_of(self.element_type(at)) as usize;
+        bytes_at(self.bytes, at as usize + 10 + self.id_size as usize, count * size)
+    }
+}
+
+/// Where the number of an array's elements stands.
+fn array_count(at: u32, id_size: u8) -> usize
+    ensures { result ≡ at + 5 + id_size }
+{
+    at as usize + 5 + id_size as usize
 }

@@ -1,10 +1,11 @@
 //! The fields of class dumps.
 
-ghost use Rattle.std.specs.Prelude.{map, ◌≡◌};
+ghost use Rattle.std.specs.Prelude.{map, slice_index, ◌*◌, ◌+◌, ◌<◌, ◌≡◌};
 ghost use Rattle.hprof_grammar.specs.SubRecord.{Class};
 ghost use Rattle.hprof_grammar.specs.SubRecord.SubRecord.{class_dump};
 ghost use Rattle.hprof_grammar.specs.Standing.{Stands};
-ghost use Rattle.hprof_grammar.specs.ClassParts.{IsPartOf, fields_from_constants, fields_from_statics};
+ghost use Rattle.hprof_grammar.specs.Series.{of_constant, of_static};
+ghost use Rattle.hprof_grammar.specs.ClassParts.{IsPartOf, class_ids, fields_from_constants, fields_from_statics};
 
 use crate::view::members::Members;
 use crate::view::values::{Values, skip_values};
@@ -13,14 +14,21 @@ use crate::view::{View, bytes_from, number_at, u32_at};
 /// The bytes of a constant's index.
 const INDEX_SIZE: u8 = 2;
 
+/// The identifiers of a class dump behind its stack trace, by their places among them.
+const SUPERCLASS: usize = 0;
+const LOADER: usize = 1;
+const SIGNERS: usize = 2;
+const PROTECTION_DOMAIN: usize = 3;
+const RESERVED: usize = 4;
+const RESERVED_TOO: usize = 5;
+
 impl<'a> View<'a> {
     /// The identifier of a class's superclass, 0 for none.
     pub fn superclass(&self, at: u32) -> u64
         requires { (c : Class) × Stands self.now at (class_dump c) }
         ensures { (c : Class) → Stands self.now at (class_dump c) → result ≡ c.super }
     {
-        let size = self.id_size as usize;
-        number_at(self.bytes, at as usize + 5 + size, size)
+        self.class_id(at, SUPERCLASS)
     }
 
     /// The identifier of a class's loader.
@@ -28,8 +36,7 @@ impl<'a> View<'a> {
         requires { (c : Class) × Stands self.now at (class_dump c) }
         ensures { (c : Class) → Stands self.now at (class_dump c) → result ≡ c.loader }
     {
-        let size = self.id_size as usize;
-        number_at(self.bytes, at as usize + 5 + 2 * size, size)
+        self.class_id(at, LOADER)
     }
 
     /// The identifier of a class's signers.
@@ -37,8 +44,7 @@ impl<'a> View<'a> {
         requires { (c : Class) × Stands self.now at (class_dump c) }
         ensures { (c : Class) → Stands self.now at (class_dump c) → result ≡ c.signers }
     {
-        let size = self.id_size as usize;
-        number_at(self.bytes, at as usize + 5 + 3 * size, size)
+        self.class_id(at, SIGNERS)
     }
 
     /// The identifier of a class's protection domain.
@@ -46,8 +52,23 @@ impl<'a> View<'a> {
         requires { (c : Class) × Stands self.now at (class_dump c) }
         ensures { (c : Class) → Stands self.now at (class_dump c) → result ≡ c.domain }
     {
-        let size = self.id_size as usize;
-        number_at(self.bytes, at as usize + 5 + 4 * size, size)
+        self.class_id(at, PROTECTION_DOMAIN)
+    }
+
+    /// The first of the two identifiers that the manual reserves. Nothing rests on it.
+    pub fn reserved(&self, at: u32) -> u64
+        requires { (c : Class) × Stands self.now at (class_dump c) }
+        ensures { (c : Class) → Stands self.now at (class_dump c) → result ≡ c.reserved }
+    {
+        self.class_id(at, RESERVED)
+    }
+
+    /// The second of the two identifiers that the manual reserves. Nothing rests on it.
+    pub fn reserved_too(&self, at: u32) -> u64
+        requires { (c : Class) × Stands self.now at (class_dump c) }
+        ensures { (c : Class) → Stands self.now at (class_dump c) → result ≡ c.reserved_too }
+    {
+        self.class_id(at, RESERVED_TOO)
     }
 
     /// The bytes of an instance of a class, as the dump says. Nothing rests on it.
@@ -55,21 +76,21 @@ impl<'a> View<'a> {
         requires { (c : Class) × Stands self.now at (class_dump c) }
         ensures { (c : Class) → Stands self.now at (class_dump c) → result ≡ c.instance_size }
     {
-        u32_at(self.bytes, at as usize + 5 + 7 * self.id_size as usize)
+        u32_at(self.bytes, behind_ids(at, self.id_size))
     }
 
-    /// The values of a class's constants.
+    /// A class's constants: their indexes, types and values.
     pub fn constants(&self, at: u32) -> Values<'a>
         requires { (c : Class) × Stands self.now at (class_dump c) }
-        ensures { (c : Class) → Stands self.now at (class_dump c) → result ≡ map (λ k. (k.type, k.value)) c.constants }
+        ensures { (c : Class) → Stands self.now at (class_dump c) → result ≡ map of_constant c.constants }
     {
         Values::new(self.constants_from(at), self.id_size, INDEX_SIZE)
     }
 
-    /// The values of a class's static fields.
+    /// A class's static fields: their names, types and values.
     pub fn statics(&self, at: u32) -> Values<'a>
         requires { (c : Class) × Stands self.now at (class_dump c) }
-        ensures { (c : Class) → Stands self.now at (class_dump c) → result ≡ map (λ f. (f.type, f.value)) c.statics }
+        ensures { (c : Class) → Stands self.now at (class_dump c) → result ≡ map of_static c.statics }
     {
         Values::new(self.statics_from(at), self.id_size, self.id_size)
     }
@@ -83,12 +104,22 @@ impl<'a> View<'a> {
         Members::new(members, self.id_size)
     }
 
+    /// The identifier at that place among those behind a class's stack trace.
+    fn class_id(&self, at: u32, nth: usize) -> u64
+        requires stands { (c : Class) × Stands self.now at (class_dump c) }
+        requires nth { nth < 6 }
+        ensures { (c : Class) → Stands self.now at (class_dump c) → result ≡ slice_index (class_ids c) nth }
+    {
+        let size = self.id_size as usize;
+        number_at(self.bytes, at as usize + 5 + size + nth * size, size)
+    }
+
     /// The bytes from the count of a class's constants on.
     fn constants_from(&self, at: u32) -> &'a [u8]
         requires { (c : Class) × Stands self.now at (class_dump c) }
         ensures { (c : Class) → Stands self.now at (class_dump c) → IsPartOf self.now.id_size c (fields_from_constants self.now.id_size c) result.now }
     {
-        bytes_from(self.bytes, at as usize + 9 + 7 * self.id_size as usize)
+        bytes_from(self.bytes, behind_ids(at, self.id_size) + 4)
     }
 
     /// The bytes from the count of a class's static fields on.
@@ -98,4 +129,11 @@ impl<'a> View<'a> {
     {
         skip_values(self.constants_from(at), self.id_size, INDEX_SIZE)
     }
+}
+
+/// Where what follows the identifiers of a class dump begins: the instance size, and then the constants.
+fn behind_ids(at: u32, id_size: u8) -> usize
+    ensures { result ≡ at + 5 + 7 * id_size }
+{
+    at as usize + 5 + 7 * id_size as usize
 }

@@ -1,60 +1,102 @@
-//! The fields of strings and loaded classes.
+//! The header's time, and the fields of records.
 
-ghost use Rattle.std.specs.Prelude.{List, ℕ, ◌≡◌};
-ghost use Rattle.hprof_grammar.specs.Record.Record.{load_class, string};
-ghost use Rattle.hprof_grammar.specs.Standing.{RecordStands};
+ghost use Rattle.std.specs.Prelude.{List, length, ℕ, ◌≡◌};
+ghost use Rattle.hprof_grammar.specs.Record.{Record, body_of, time_of};
+ghost use Rattle.hprof_grammar.specs.Standing.{HeaderStands, LoadStands, RecordStands, StringStands};
 
 use crate::view::{View, bytes_at, number_at, u32_at};
 
+/// Where the two words of the header's time stand.
+const HEADER_TIME: usize = 23;
+
+/// Where the fields of a record stand behind its tag: its time, its length, its body.
+const TIME: usize = 1;
+const LENGTH: usize = 5;
+const BODY: usize = 9;
+
+/// Where the fields of a LOAD CLASS stand, each but for an identifier that stands before it.
+const SERIAL: usize = BODY;
+const CLASS: usize = SERIAL + 4;
+const STACK_TRACE: usize = CLASS;
+const NAME: usize = STACK_TRACE + 4;
+
 impl<'a> View<'a> {
+    /// The time of the dump, in milliseconds since 1970: its high word and its low word together.
+    pub fn header_time(&self) -> u64
+        requires { (time : ℕ) × HeaderStands self.now time }
+        ensures { (time : ℕ) → HeaderStands self.now time → result ≡ time }
+    {
+        number_at(self.bytes, HEADER_TIME, 8)
+    }
+
+    /// The time of a record, in microseconds since that of the dump.
+    pub fn record_time(&self, at: u32) -> u32
+        requires { (r : Record) × RecordStands self.now at r }
+        ensures { (r : Record) → RecordStands self.now at r → result ≡ time_of r }
+    {
+        u32_at(self.bytes, at as usize + TIME)
+    }
+
+    /// How many bytes the body of a record has.
+    pub fn record_length(&self, at: u32) -> u32
+        requires { (r : Record) × RecordStands self.now at r }
+        ensures { (r : Record) → RecordStands self.now at r → result ≡ length (body_of self.now.id_size r) }
+    {
+        u32_at(self.bytes, at as usize + LENGTH)
+    }
+
     /// The identifier of a string.
     pub fn string_id(&self, at: u32) -> u64
-        requires { (time id : ℕ) × (text : List ℕ) × RecordStands self.now at (string time id text) }
-        ensures { (time id : ℕ) (text : List ℕ) → RecordStands self.now at (string time id text) → result ≡ id }
+        requires { (time id : ℕ) × (text : List ℕ) × StringStands self.now at time id text }
+        ensures { (time id : ℕ) (text : List ℕ) → StringStands self.now at time id text → result ≡ id }
     {
-        number_at(self.bytes, at as usize + 9, self.id_size as usize)
+        number_at(self.bytes, at as usize + BODY, self.id_size as usize)
     }
 
     /// The bytes of a string.
     pub fn string_text(&self, at: u32) -> &'a [u8]
-        requires { (time id : ℕ) × (text : List ℕ) × RecordStands self.now at (string time id text) }
-        ensures { (time id : ℕ) (text : List ℕ) → RecordStands self.now at (string time id text) → result.now ≡ text }
+        requires { (time id : ℕ) × (text : List ℕ) × StringStands self.now at time id text }
+        ensures { (time id : ℕ) (text : List ℕ) → StringStands self.now at time id text → result.now ≡ text }
     {
         let size = self.id_size as usize;
-        let length = u32_at(self.bytes, at as usize + 5) as usize;
-        bytes_at(self.bytes, at as usize + 9 + size, length - size)
-    }
-
-    /// The identifier of a loaded class.
-    pub fn loaded_class_id(&self, at: u32) -> u64
-        requires { (time serial class stack name : ℕ) × RecordStands self.now at (load_class time serial class stack name) }
-        ensures { (time serial class stack name : ℕ) → RecordStands self.now at (load_class time serial class stack name) → result ≡ class }
-    {
-        number_at(self.bytes, at as usize + 13, self.id_size as usize)
-    }
-
-    /// The identifier of the string that names a loaded class.
-    pub fn loaded_class_name(&self, at: u32) -> u64
-        requires { (time serial class stack name : ℕ) × RecordStands self.now at (load_class time serial class stack name) }
-        ensures { (time serial class stack name : ℕ) → RecordStands self.now at (load_class time serial class stack name) → result ≡ name }
-    {
-        let size = self.id_size as usize;
-        number_at(self.bytes, at as usize + 17 + size, size)
+        let length = u32_at(self.bytes, at as usize + LENGTH) as usize;
+        bytes_at(self.bytes, at as usize + BODY + size, length - size)
     }
 
     /// The serial number of a loaded class.
     pub fn loaded_class_serial(&self, at: u32) -> u32
-        requires { (time serial class stack name : ℕ) × RecordStands self.now at (load_class time serial class stack name) }
-        ensures { (time serial class stack name : ℕ) → RecordStands self.now at (load_class time serial class stack name) → result ≡ serial }
+        requires { (time serial class stack name : ℕ) × LoadStands self.now at time serial class stack name }
+        ensures { (time serial class stack name : ℕ) → LoadStands self.now at time serial class stack name
+            → result ≡ serial }
     {
-        u32_at(self.bytes, at as usize + 9)
+        u32_at(self.bytes, at as usize + SERIAL)
+    }
+
+    /// The identifier of a loaded class.
+    pub fn loaded_class_id(&self, at: u32) -> u64
+        requires { (time serial class stack name : ℕ) × LoadStands self.now at time serial class stack name }
+        ensures { (time serial class stack name : ℕ) → LoadStands self.now at time serial class stack name
+            → result ≡ class }
+    {
+        number_at(self.bytes, at as usize + CLASS, self.id_size as usize)
     }
 
     /// The serial number of the stack trace of a loaded class.
     pub fn loaded_class_stack_trace(&self, at: u32) -> u32
-        requires { (time serial class stack name : ℕ) × RecordStands self.now at (load_class time serial class stack name) }
-        ensures { (time serial class stack name : ℕ) → RecordStands self.now at (load_class time serial class stack name) → result ≡ stack }
+        requires { (time serial class stack name : ℕ) × LoadStands self.now at time serial class stack name }
+        ensures { (time serial class stack name : ℕ) → LoadStands self.now at time serial class stack name
+            → result ≡ stack }
     {
-        u32_at(self.bytes, at as usize + 13 + self.id_size as usize)
+        u32_at(self.bytes, at as usize + STACK_TRACE + self.id_size as usize)
+    }
+
+    /// The identifier of the string that names a loaded class.
+    pub fn loaded_class_name(&self, at: u32) -> u64
+        requires { (time serial class stack name : ℕ) × LoadStands self.now at time serial class stack name }
+        ensures { (time serial class stack name : ℕ) → LoadStands self.now at time serial class stack name
+            → result ≡ name }
+    {
+        let size = self.id_size as usize;
+        number_at(self.bytes, at as usize + NAME + size, size)
     }
 }

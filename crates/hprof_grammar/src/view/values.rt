@@ -1,17 +1,18 @@
 //! The values of constants and of static fields.
 
-ghost use Rattle.std.specs.Prelude.{◌+◌, ◌≡◌, ◌≤◌, drop, length, slice_index, take};
-ghost use Rattle.hprof_grammar.specs.Tables as tables;
-ghost use Rattle.hprof_grammar.specs.Series.{HasCountedValues, HasValues, behind_counted_values, behind_values, count_in, counted_values_in, value_end, values_in};
+ghost use Rattle.std.specs.Prelude.{◌≡◌, ◌≤◌, ◌↔◌, [], IsTrue, drop, length, slice_index};
+ghost use Rattle.hprof_grammar.specs.Series.{HasCountedValues, behind_counted_values, count_in, counted_values_in, value_end, value_in};
 
 use crate::tables::size_of;
-use crate::view::bytes_at;
+use crate::view::{bytes_at, number_at};
 use byteorder::{BigEndian, ByteOrder};
 use std::marker::Model;
 
 /// A value of a constant or of a static field.
 #[derive(Clone, Copy, Debug)]
 pub struct TypedValue<'a> {
+    /// The index of the constant, or the identifier of the string that names the static field.
+    pub label: u64,
     /// The value's type.
     pub type_code: u8,
     /// The value's bytes.
@@ -28,20 +29,22 @@ pub struct Values<'a> {
 }
 
 impl<'a> Model for Values<'a> {
-    ghost use Rattle.std.specs.Prelude.{List, ℕ};
-    ghost use Rattle.hprof_grammar.specs.Series.{HasValues, values_in};
+    ghost use Rattle.std.specs.Prelude.{List};
+    ghost use Rattle.hprof_grammar.specs.Series.{HasLabelledValues, LabelledValue, values_in};
 
-    ghost Value = { List (ℕ × List ℕ) };
+    ghost Value = { List LabelledValue };
 
     ghost view = { λ v. values_in v.id_size v.front v.left v.bytes.now };
 
-    ghost invariant = { λ v. HasValues v.id_size v.front v.left v.bytes.now };
+    ghost invariant = { λ v. HasLabelledValues v.id_size v.front v.left v.bytes.now };
 }
 
 impl<'a> Values<'a> {
-    /// The values in these bytes, behind their count. `front` bytes stand before each type code.
+    /// The values in these bytes, behind their count. A number of `front` bytes stands before each type code.
     pub(crate) fn new(bytes: &'a [u8], id_size: u8, front: u8) -> Self
-        requires { HasCountedValues id_size front bytes.now }
+        requires low { 1 ≤ front }
+        requires high { front ≤ 8 }
+        requires room { HasCountedValues id_size front bytes.now }
         ensures { result ≡ counted_values_in id_size front bytes.now }
     {
         let (left, behind) = split_count(bytes);
@@ -52,14 +55,29 @@ impl<'a> Values<'a> {
             left,
         }
     }
+
+    /// How many are left.
+    pub fn len(&self) -> usize
+        ensures { result ≡ length self.now }
+    {
+        self.left as usize
+    }
+
+    /// Whether none is left.
+    pub fn is_empty(&self) -> bool
+        ensures { IsTrue result ↔ (self.now ≡ []) }
+    {
+        self.left == 0
+    }
 }
 
 impl<'a> Iterator for Values<'a> {
     ghost use Rattle.std.specs.Iterator.{YieldsFirstBy, item_count};
+    ghost use Rattle.hprof_grammar.specs.MemberFields.{value_of};
 
     type Item = TypedValue<'a>;
 
-    ghost next_gives = { YieldsFirstBy (λ value. (value.type_code, value.value.now)) (λ values. values) };
+    ghost next_gives = { YieldsFirstBy value_of (λ values. values) };
 
     ghost remaining = { item_count (λ values. values) };
 
@@ -67,10 +85,16 @@ impl<'a> Iterator for Values<'a> {
         if self.left == 0 {
             return None;
         }
-        let (value, behind) = split_value(self.bytes, self.id_size, self.front);
+        let bytes = self.bytes;
+        let label = number_at(bytes, 0, self.front as usize);
+        let (type_code, value, behind) = split_value(bytes, self.id_size, self.front);
         self.left -= 1;
         self.bytes = behind;
-        Some(value)
+        Some(TypedValue {
+            label,
+            type_code,
+            value,
+        })
     }
 }
 
@@ -84,19 +108,19 @@ pub(crate) fn split_count(bytes: &[u8]) -> (u16, &[u8])
     (BigEndian::read_u16(bytes), behind)
 }
 
-/// The value that stands behind `front` bytes and its type code, and the bytes behind it.
-fn split_value(bytes: &[u8], id_size: u8, front: u8) -> (TypedValue<'_>, &[u8])
+/// The type code that stands behind `front` bytes, its value, and the bytes behind it.
+fn split_value(bytes: &[u8], id_size: u8, front: u8) -> (u8, &[u8], &[u8])
     requires { value_end id_size front bytes.now ≤ length bytes.now }
-    ensures type_code { result.0.type_code ≡ slice_index bytes.now front }
-    ensures value { result.0.value.now ≡ take (tables.size_of id_size (slice_index bytes.now front)) (drop (front + 1) bytes.now) }
-    ensures behind { result.1.now ≡ drop (value_end id_size front bytes.now) bytes.now }
+    ensures type_code { result.0 ≡ slice_index bytes.now front }
+    ensures value { result.1.now ≡ (value_in id_size front bytes.now).value }
+    ensures behind { result.2.now ≡ drop (value_end id_size front bytes.now) bytes.now }
 {
     let front = front as usize;
     let type_code = bytes[front];
     let size = size_of(id_size, type_code) as usize;
     let value = bytes_at(bytes, front + 1, size);
     let (_, behind) = bytes.split_at(front + 1 + size);
-    (TypedValue { type_code, value }, behind)
+    (type_code, value, behind)
 }
 
 /// The bytes behind the values in these, which their count precedes.
@@ -106,7 +130,7 @@ pub(crate) fn skip_values(bytes: &[u8], id_size: u8, front: u8) -> &[u8]
 {
     let (mut left, mut rest) = split_count(bytes);
     while left > 0 {
-        let (_, behind) = split_value(rest, id_size, front);
+        let (_, _, behind) = split_value(rest, id_size, front);
         left -= 1;
         rest = behind;
     }

@@ -1,8 +1,8 @@
 use Rattle.hprof_grammar.proofs.ClassPartsRead.{constants_read, constants_room, constants_seen}
 use Rattle.hprof_grammar.proofs.view.View.constants.Goals as goal
 
-pub new-requires : goal.new-requires
-new-requires c =
+pub new-requires-clause-room : goal.new-requires-clause-room
+new-requires-clause-room c =
     let k = c.requires.0 in
     let bytes = c.constants_from.result.now in
     let room = constants_room c.self.inside.id_size k bytes (constants_seen c.self.view_is k bytes (c.constants_from.ensures k c.requires.1)) in

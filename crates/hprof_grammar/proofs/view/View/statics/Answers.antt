@@ -1,8 +1,8 @@
 use Rattle.hprof_grammar.proofs.ClassPartsRead.{statics_read, statics_room, statics_seen}
 use Rattle.hprof_grammar.proofs.view.View.statics.Goals as goal
 
-pub new-requires : goal.new-requires
-new-requires c =
+pub new-requires-clause-room : goal.new-requires-clause-room
+new-requires-clause-room c =
     let k = c.requires.0 in
     let bytes = c.statics_from.result.now in
     let room = statics_room c.self.inside.id_size k bytes (statics_seen c.self.view_is k bytes (c.statics_from.ensures k c.requires.1)) in

@@ -1,0 +1,13 @@
+use Rattle.std.proofs.Common.{arith}
+use Rattle.hprof_grammar.proofs.RootsStand.{root_trace}
+use Rattle.hprof_grammar.proofs.view.View.root_stack_trace.Goals as goal
+
+pub u32_at-requires : goal.u32_at-requires
+u32_at-requires c =
+    let there = root_trace c.self.view_is c.args.at c.requires.0 c.requires.1 in
+    omega (arith, there.room, c.behind_thread.ensures)
+
+pub returns : goal.returns
+returns c = λ n h.
+    let there = root_trace c.self.view_is c.args.at n h in
+    cc (c.u32_at.ensures, c.behind_thread.ensures, there.value)

@@ -1,0 +1,69 @@
+//! The fields of roots.
+
+ghost use Rattle.std.specs.Prelude.{ℕ, ◌+◌, ◌≡◌};
+ghost use Rattle.hprof_grammar.specs.RootFields.{RootSays, frame_of, reference_of, thread_of, trace_of};
+ghost use Rattle.hprof_grammar.specs.Standing.{Stands};
+ghost use Rattle.hprof_grammar.specs.SubRecord.{Root, origin_kind};
+ghost use Rattle.hprof_grammar.specs.SubRecord.SubRecord.{root};
+
+use crate::tables::{Kind, RootKind, kind_of};
+use crate::view::{View, number_at, u32_at};
+
+impl<'a> View<'a> {
+    /// The kind of a root.
+    pub fn root_kind(&self, at: u32) -> RootKind
+        requires { (r : Root) × Stands self.now at (root r) }
+        ensures { (r : Root) → Stands self.now at (root r) → result ≡ origin_kind r.origin }
+    {
+        match kind_of(self.bytes[at as usize]) {
+            Some(Kind::Root(kind)) => kind,
+            _ => RootKind::Unknown,
+        }
+    }
+
+    /// The identifier of the reference of a JNI global root.
+    pub fn root_reference(&self, at: u32) -> u64
+        requires { (n : ℕ) × RootSays self.now at reference_of n }
+        ensures { (n : ℕ) → RootSays self.now at reference_of n → result ≡ n }
+    {
+        number_at(self.bytes, origin_at(at, self.id_size), self.id_size as usize)
+    }
+
+    /// The serial number of the thread of a root: JNI local, Java frame, native stack, thread block, thread object.
+    pub fn root_thread(&self, at: u32) -> u32
+        requires { (n : ℕ) × RootSays self.now at thread_of n }
+        ensures { (n : ℕ) → RootSays self.now at thread_of n → result ≡ n }
+    {
+        u32_at(self.bytes, origin_at(at, self.id_size))
+    }
+
+    /// The number of the frame of a JNI local or a Java frame root, in the stack trace of its thread.
+    pub fn root_frame(&self, at: u32) -> u32
+        requires { (n : ℕ) × RootSays self.now at frame_of n }
+        ensures { (n : ℕ) → RootSays self.now at frame_of n → result ≡ n }
+    {
+        u32_at(self.bytes, behind_thread(at, self.id_size))
+    }
+
+    /// The serial number of the stack trace of a thread object root.
+    pub fn root_stack_trace(&self, at: u32) -> u32
+        requires { (n : ℕ) × RootSays self.now at trace_of n }
+        ensures { (n : ℕ) → RootSays self.now at trace_of n → result ≡ n }
+    {
+        u32_at(self.bytes, behind_thread(at, self.id_size))
+    }
+}
+
+/// Where the fields behind the object of a root begin.
+fn origin_at(at: u32, id_size: u8) -> usize
+    ensures { result ≡ at + 1 + id_size }
+{
+    at as usize + 1 + id_size as usize
+}
+
+/// Where the field behind the thread of a root stands.
+fn behind_thread(at: u32, id_size: u8) -> usize
+    ensures { result ≡ at + 5 + id_size }
+{
+    origin_at(at, id_size) + 4
+}
