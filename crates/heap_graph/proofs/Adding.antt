@@ -6,6 +6,7 @@ use Rattle.std.proofs.lemmas.Bool.{eqb-true}
 use Rattle.byteorder.specs.Endian.{big_number}
 use Rattle.hprof_grammar.specs.SubRecord.{Class, Constant, Instance, IsClass, IsConstant, IsStatic, Member, ObjectArray, PrimitiveArray, Static, SubRecord}
 use Rattle.hprof_grammar.specs.SubRecord.SubRecord.{class_dump, instance_dump, object_array_dump, primitive_array_dump}
+use Rattle.hprof_grammar.specs.Series.{of_constant, of_static}
 use Rattle.hprof_grammar.specs.Tables.{size_of}
 use Rattle.heap_graph.specs.Heap.{class_named}
 use Rattle.heap_graph.specs.working.HeldIds.{AddsIds}
@@ -20,21 +21,14 @@ pub on_ok : {X E : Type 0} {P Q : Type 0} (r : Result X E) → (P → Q) → OnO
 on_ok (Ok x) f h = f h
 on_ok (Err e) f h = tt
 
--- values and their type codes
-abbrev pub typed : Constant → ℕ × List ℕ
-typed k = (k.type, k.value)
-
-abbrev pub typed_static : Static → ℕ × List ℕ
-typed_static f = (f.type, f.value)
-
 id_value : (s type : ℕ) (value : List ℕ) → 1 ≤ s → s ≤ 8 → length value ≡ size_of s type → IsIdValue type value
 id_value s type value low high size is = let e : size_of s type ≡ s = size_of_id_type s type is in (omega (arith, low, e, size), omega (arith, high, e, size))
 
-pub constant_values : (s : ℕ) (ks : List Constant) → 1 ≤ s → s ≤ 8 → AllByRecursion (IsConstant s) ks → AllByRecursion (λ v. IsIdValue v.0 v.1) (map typed ks)
+pub constant_values : (s : ℕ) (ks : List Constant) → 1 ≤ s → s ≤ 8 → AllByRecursion (IsConstant s) ks → AllByRecursion (λ v. IsIdValue v.type v.value) (map of_constant ks)
 constant_values s [] low high all = tt
 constant_values s (k ∷ ks) low high all = (id_value s k.type k.value low high all.0.value, constant_values s ks low high all.1)
 
-pub static_values : (s : ℕ) (fs : List Static) → 1 ≤ s → s ≤ 8 → AllByRecursion (IsStatic s) fs → AllByRecursion (λ v. IsIdValue v.0 v.1) (map typed_static fs)
+pub static_values : (s : ℕ) (fs : List Static) → 1 ≤ s → s ≤ 8 → AllByRecursion (IsStatic s) fs → AllByRecursion (λ v. IsIdValue v.type v.value) (map of_static fs)
 static_values s [] low high all = tt
 static_values s (f ∷ fs) low high all = (id_value s f.type f.value low high all.0.value, static_values s fs low high all.1)
 
@@ -46,17 +40,17 @@ kept_first : {X : Type 0} (g : X → ℕ) (x : X) (xs : List X) (b : Bool) → (
 kept_first g x xs true = refl
 kept_first g x xs false = refl
 
-pub constants_are : (s : ℕ) (ks : List Constant) → AllByRecursion (IsConstant s) ks → values_ids (map typed ks) ≡ constant_ids s ks
+pub constants_are : (s : ℕ) (ks : List Constant) → AllByRecursion (IsConstant s) ks → values_ids (map of_constant ks) ≡ constant_ids s ks
 constants_are s [] all = refl
 constants_are s (k ∷ ks) all =
-    ap (λ (xs : List ℕ). xs ++ values_ids (map typed ks)) (one_value s k.type k.value (k.type == 2) refl all.0.value)
+    ap (λ (xs : List ℕ). xs ++ values_ids (map of_constant ks)) (one_value s k.type k.value (k.type == 2) refl all.0.value)
     ∙ ap (λ (xs : List ℕ). (if k.type == 2 then big_number s k.value ∷ [] else []) ++ xs) (constants_are s ks all.1)
     ∙ kept_first (λ (x : Constant). big_number s x.value) k (filter (λ (x : Constant). x.type == 2) ks) (k.type == 2)
 
-pub statics_are : (s : ℕ) (fs : List Static) → AllByRecursion (IsStatic s) fs → values_ids (map typed_static fs) ≡ static_ids s fs
+pub statics_are : (s : ℕ) (fs : List Static) → AllByRecursion (IsStatic s) fs → values_ids (map of_static fs) ≡ static_ids s fs
 statics_are s [] all = refl
 statics_are s (f ∷ fs) all =
-    ap (λ (xs : List ℕ). xs ++ values_ids (map typed_static fs)) (one_value s f.type f.value (f.type == 2) refl all.0.value)
+    ap (λ (xs : List ℕ). xs ++ values_ids (map of_static fs)) (one_value s f.type f.value (f.type == 2) refl all.0.value)
     ∙ ap (λ (xs : List ℕ). (if f.type == 2 then big_number s f.value ∷ [] else []) ++ xs) (statics_are s fs all.1)
     ∙ kept_first (λ (x : Static). big_number s x.value) f (filter (λ (x : Static). x.type == 2) fs) (f.type == 2)
 
@@ -81,7 +75,7 @@ few_fields s [] values = omega arith
 few_fields s (m ∷ ms) values = let h = few_first (big_number s (take s values)) (field_ids s ms (drop (size_of s m.type) values)) (length ms) (m.type == 2) (few_fields s ms (drop (size_of s m.type) values)) in omega (arith, h)
 
 pub class_adds : (s : ℕ) (heap : List SubRecord) (c : Class) (old a b d e f g : List ℕ) → IsClass s c
-    → a ≡ old ++ c.super ∷ [] → b ≡ a ++ c.loader ∷ [] → d ≡ b ++ c.signers ∷ [] → e ≡ d ++ c.domain ∷ [] → f ≡ e ++ values_ids (map typed c.constants) → g ≡ f ++ values_ids (map typed_static c.statics)
+    → a ≡ old ++ c.super ∷ [] → b ≡ a ++ c.loader ∷ [] → d ≡ b ++ c.signers ∷ [] → e ≡ d ++ c.domain ∷ [] → f ≡ e ++ values_ids (map of_constant c.constants) → g ≡ f ++ values_ids (map of_static c.statics)
     → AddsIds s heap (class_dump c) old g
 class_adds s heap c old a b d e f g is ea eb ed ee ef eg = record {
   ids = class_ids s c;

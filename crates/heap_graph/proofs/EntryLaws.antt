@@ -4,13 +4,13 @@ use Rattle.std.specs.Prelude.{◌==◌}
 use Rattle.std.specs.List.{position_or_len}
 use Rattle.std.proofs.lemmas.List.Sums.{sum_by-cons}
 use Rattle.hprof_grammar.specs.SubRecord.{Class, Static, SubRecord}
+use Rattle.hprof_grammar.specs.Series.{LabelledValue, of_static}
 use Rattle.hprof_grammar.specs.Tables.{size_of}
 use Rattle.heap_graph.specs.declared.entry.ClassEntry.{ClassEntry}
 use Rattle.heap_graph.specs.declared.entry.ObjectEntry.{ObjectEntry}
 use Rattle.heap_graph.specs.working.Entries.{AreClasses, AreEntries, IsEntry}
 use Rattle.heap_graph.specs.Heap.{class_dumps, class_number, objects}
 use Rattle.heap_graph.specs.Rows.{bytes_of, row_of}
-use Rattle.heap_graph.proofs.Adding.{typed_static}
 use Rattle.heap_graph.proofs.Firsts.{position_or_len-map}
 
 pub same_number : (heap : List SubRecord) (classes : List ClassEntry) (id : ℕ) → AreClasses heap classes → position_or_len (λ (c : ClassEntry). c.id == id) classes ≡ class_number heap id
@@ -19,10 +19,10 @@ same_number heap classes id are =
     ∙ ap (λ (ids : List ℕ). position_or_len (λ x. x == id) ids) are
     ∙ position_or_len-map (λ (c : Class). c.object) (λ x. x == id) (class_dumps heap)
 
-pub static_bytes : (s : ℕ) (fs : List Static) → sum_by (λ v. size_of s v.0) (map typed_static fs) ≡ sum_by (λ f. size_of s f.type) fs
+pub static_bytes : (s : ℕ) (fs : List Static) → sum_by (λ v. size_of s v.type) (map of_static fs) ≡ sum_by (λ f. size_of s f.type) fs
 static_bytes s [] = refl
 static_bytes s (f ∷ fs) =
-    sum_by-cons (λ (v : ℕ × List ℕ). size_of s v.0) (typed_static f) (map typed_static fs)
+    sum_by-cons (λ (v : LabelledValue). size_of s v.type) (of_static f) (map of_static fs)
     ∙ ap (λ (n : ℕ). size_of s f.type + n) (static_bytes s fs)
     ∙ sym (sum_by-cons (λ (x : Static). size_of s x.type) f fs)
 

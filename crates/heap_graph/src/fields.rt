@@ -45,7 +45,7 @@ pub(crate) fn push_values<B: Allocator>(
     ids: &mut Vec<u64, B>,
     values: Values<'_>,
 ) -> Result<(), AllocError>
-    requires { AllByRecursion (λ v. IsIdValue v.0 v.1) values }
+    requires { AllByRecursion (λ v. IsIdValue v.type v.value) values }
     ensures { OnOk result (ids.new.items ≡ ids.old.items ++ values_ids values.entry) }
 {
     for value in values {

@@ -3,6 +3,7 @@ use Rattle.std.proofs.Common.{Bool, List, Some, [], codes, refl, true, false, â„
 use Rattle.std.specs.Fmt.{digits}
 use Rattle.hprof_grammar.specs.Tables.{size_of}
 use Rattle.hprof_grammar.specs.SubRecord.{Class, Member, SubRecord}
+use Rattle.hprof_grammar.specs.SubRecord.RootOrigin.{unknown}
 use Rattle.hprof_grammar.specs.SubRecord.SubRecord.{class_dump, instance_dump, root}
 use Rattle.hprof_grammar.specs.Record.{Record}
 use Rattle.hprof_grammar.specs.Record.Record.{heap, load_class, string}

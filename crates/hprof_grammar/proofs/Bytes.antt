@@ -24,6 +24,12 @@ bytes-drop n bytes h k = rw (get_or-drop n bytes k 0) (h (n + k))
 pub bytes-behind : (front back : List ℕ) → IsBytes (front ++ back) → IsBytes back
 bytes-behind front back h k = rw get_or-append-add at (h (length front + k))
 
+-- the first of two parts
+pub bytes-front : (front back : List ℕ) → IsBytes (front ++ back) → IsBytes front
+bytes-front [] back h k = omega arith
+bytes-front (b ∷ front) back h zero = h 0
+bytes-front (b ∷ front) back h (suc k) = bytes-front front back (bytes-tail b (front ++ back) h) k
+
 bytes-take : (n : ℕ) (bytes : List ℕ) → IsBytes bytes → IsBytes (take n bytes)
 bytes-take zero bytes h k = omega arith
 bytes-take (suc n) [] h k = omega arith

@@ -100,7 +100,7 @@ kind_is s (primitive_array_dump a) kind h e p at =
 
 -- ---- the loop over the sub-records: at each turn, and at a flaw
 
-step_more : (at : ℕ) (body rest left : List ℕ) (old new : Places) (kind : Kind) (place : ℕ) (x : SubRecord) → (adds : AddsSubs at body rest old new) → IsSubRecord old.id_size x
+pub step_more : (at : ℕ) (body rest left : List ℕ) (old new : Places) (kind : Kind) (place : ℕ) (x : SubRecord) → (adds : AddsSubs at body rest old new) → IsSubRecord old.id_size x
     → rest ≡ spelling_of old.id_size x ++ left → kind_of (tag_of x) ≡ Some kind → place ≡ at + length (flat_map (spelling_of old.id_size) adds.subs) → AddsSubs at body left old (noted new kind place)
 step_more at body rest left old new kind place x adds is here says e = record {
   subs = adds.subs ++ x ∷ [];

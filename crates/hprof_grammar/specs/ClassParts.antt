@@ -4,8 +4,9 @@ use Rattle.hprof_grammar.specs.Spelling.{Field, spelled}
 use Rattle.hprof_grammar.specs.Spelling.Field.{number}
 use Rattle.hprof_grammar.specs.SubRecord.{Class, IsClass, constant_fields, member_fields, static_fields}
 
-abbrev pub class_ids : Class → List ℕ
-class_ids c = c.super ∷ c.loader ∷ c.signers ∷ c.domain ∷ c.reserved ∷ c.reserved_too ∷ []
+-- the IDs behind the stack trace
+abbrev pub leading_ids : Class → List ℕ
+leading_ids c = c.super ∷ c.loader ∷ c.signers ∷ c.domain ∷ c.reserved ∷ c.reserved_too ∷ []
 
 -- a count of 2 bytes, and the fields of that many things
 abbrev pub counted_fields : {X : Type 0} → (X → List Field) → List X → List Field

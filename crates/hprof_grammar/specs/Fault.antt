@@ -4,7 +4,7 @@ use Rattle.std.specs.List.{AllByRecursion}
 use Rattle.byteorder.specs.Endian.{big_bytes}
 use Rattle.hprof_grammar.specs.Record.{CanGoOn, IsOrderly, IsRecord, Record, framed, tag_of}
 use Rattle.hprof_grammar.specs.Tables.{is_heap_tag, is_id_size, is_length_of, kind_of}
-use Rattle.hprof_grammar.specs.Dump.{header, limit, magic, spellings}
+use Rattle.hprof_grammar.specs.Dump.{IsDumpOf, Places, header, limit, magic, spellings}
 use Rattle.hprof_grammar.specs.SubRecord.{IsFormed, IsSubRecord, SubRecord, fields_of, spelling_of}
 use Rattle.hprof_grammar.specs.SubRecord as sub
 use Rattle.hprof_grammar.specs.Spelling.{EndsShort, HasWrongType}
@@ -64,3 +64,13 @@ pub data FirstFault (text : List ℕ) : ℕ → ℕ → Type 0 where
   in_records : (s time : ℕ) (body : List ℕ) (records : List Record) (rest : List ℕ) (code place : ℕ) → length text ≤ limit → is_id_size s ≡ true → text ≡ header s time ++ body
       → LongestRecords s body records rest → RecordFault s records (31 + length (spellings s records)) rest code place
       → FirstFault text code place
+
+abbrev pub HasFirstFault : List ℕ → Type 0
+HasFirstFault text = (code : ℕ) × (place : ℕ) × FirstFault text code place
+
+abbrev pub SpellsDump : List ℕ → Type 0
+SpellsDump text = (dump : Places) × IsDumpOf text dump
+
+-- each of these numbers is a byte
+abbrev pub AreBytes : List ℕ → Type 0
+AreBytes text = AllByRecursion (λ b. b < 256) text

@@ -1,7 +1,8 @@
 //! What can be wrong with the bytes of a dump.
 
 use crate::codes;
-use thiserror::Error;
+use std::error::Error;
+use std::fmt;
 
 /// What is wrong where no whole sub-record stands.
 #[derive(Clone, Copy, Debug, PartialEq, Eq)]
@@ -31,8 +32,7 @@ impl Flaw {
 }
 
 /// The first fault of bytes that are no dump.
-#[derive(Clone, Copy, Debug, PartialEq, Eq, Error)]
-#[error("fault {code} at {offset}")]
+#[derive(Clone, Copy, Debug, PartialEq, Eq)]
 pub struct FormatFault {
     /// 1 the text of the header, 2 the size of identifiers, 3 the header or a record is cut, 4 the length of a
     /// record, 5 the tag of a sub-record, 6 a sub-record is cut, 7 a type code, 8 the order of the snapshot's
@@ -56,13 +56,42 @@ impl FormatFault {
     }
 }
 
+impl fmt::Display for FormatFault {
+    ghost use Rattle.std.specs.Prelude.{Some};
+    ghost use Rattle.hprof_grammar.specs.Refusal.{fault_text};
+
+    ghost output = { λ fault. Some (fault_text fault) };
+
+    fn fmt<W: fmt::Write>(&self, f: &mut fmt::Formatter<W>) -> fmt::Result {
+        let code = self.code;
+        let offset = self.offset;
+        write!(f, "fault {code} at {offset}")
+    }
+}
+
+impl Error for FormatFault {}
+
 /// Why bytes were not read as a dump.
-#[derive(Clone, Copy, Debug, PartialEq, Eq, Error)]
+#[derive(Clone, Copy, Debug, PartialEq, Eq)]
 pub enum ReadRefusal {
     /// The bytes are no dump.
-    #[error("the bytes are no heap dump: {0}")]
     Fault(FormatFault),
     /// A growth was refused.
-    #[error("out of memory")]
     OutOfMemory,
 }
+
+impl fmt::Display for ReadRefusal {
+    ghost use Rattle.std.specs.Prelude.{Some};
+    ghost use Rattle.hprof_grammar.specs.Refusal.{read_refusal_text};
+
+    ghost output = { λ refusal. Some (read_refusal_text refusal) };
+
+    fn fmt<W: fmt::Write>(&self, f: &mut fmt::Formatter<W>) -> fmt::Result {
+        match self {
+            ReadRefusal::Fault(fault) => write!(f, "the bytes are no heap dump: {fault}"),
+            ReadRefusal::OutOfMemory => write!(f, "out of memory"),
+        }
+    }
+}
+
+impl Error for ReadRefusal {}

@@ -1,8 +1,8 @@
 //! What a text and its dump or its first fault have in common, as laws: functions with empty bodies.
 
-ghost use Rattle.std.specs.Prelude.{List, ℕ, ◌≡◌};
+ghost use Rattle.std.specs.Prelude.{List, ℕ, ◌≡◌, ◌⊎◌};
 ghost use Rattle.hprof_grammar.specs.Dump.{IsDumpOf, Places, Spells};
-ghost use Rattle.hprof_grammar.specs.Fault.{FirstFault};
+ghost use Rattle.hprof_grammar.specs.Fault.{AreBytes, FirstFault, HasFirstFault, SpellsDump};
 ghost use Rattle.hprof_grammar.specs.Record.{Record};
 
 /// A text spells at most one list of records, with identifiers of one size.
@@ -20,6 +20,11 @@ pub fn one_dump()
 pub fn one_fault()
     ensures { (text : List ℕ) (code place other_code other_place : ℕ) → FirstFault text code place → FirstFault text other_code other_place
         → (code ≡ other_code) × (place ≡ other_place) }
+{}
+
+/// A text of bytes spells a dump or has a first fault.
+pub fn always_dump_or_fault()
+    ensures { (text : List ℕ) → AreBytes text → SpellsDump text ⊎ HasFirstFault text }
 {}
 
 /// A text that spells a dump has no first fault.

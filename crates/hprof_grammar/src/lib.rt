@@ -19,7 +19,7 @@ mod view;
 
 pub use dump::Dump;
 pub use flaw::{FormatFault, ReadRefusal};
-pub use laws::{dump_or_fault, one_dump, one_fault, one_list_of_records};
+pub use laws::{always_dump_or_fault, dump_or_fault, one_dump, one_fault, one_list_of_records};
 pub use parse::read;
 pub use placed::{dump_is_placed, stands_within};
 pub use tables::RootKind;

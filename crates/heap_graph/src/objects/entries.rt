@@ -15,7 +15,7 @@ use std::alloc::{AllocError, Allocator};
 /// The bytes of these values together.
 fn bytes_together(view: &View<'_>, values: Values<'_>) -> u64
     requires { length values < 2 ^ 16 }
-    ensures { result ≡ sum_by (λ v. tables.size_of view.now.id_size v.0) values.entry }
+    ensures { result ≡ sum_by (λ v. tables.size_of view.now.id_size v.type) values.entry }
 {
     let mut bytes = 0;
     for value in values {

@@ -5,7 +5,7 @@ ghost use Rattle.hprof_grammar.specs.SubRecord.{Class};
 ghost use Rattle.hprof_grammar.specs.SubRecord.SubRecord.{class_dump};
 ghost use Rattle.hprof_grammar.specs.Standing.{Stands};
 ghost use Rattle.hprof_grammar.specs.Series.{of_constant, of_static};
-ghost use Rattle.hprof_grammar.specs.ClassParts.{IsPartOf, class_ids, fields_from_constants, fields_from_statics};
+ghost use Rattle.hprof_grammar.specs.ClassParts.{IsPartOf, leading_ids, fields_from_constants, fields_from_statics};
 
 use crate::view::members::Members;
 use crate::view::values::{Values, skip_values};
@@ -108,7 +108,7 @@ impl<'a> View<'a> {
     fn class_id(&self, at: u32, nth: usize) -> u64
         requires stands { (c : Class) × Stands self.now at (class_dump c) }
         requires nth { nth < 6 }
-        ensures { (c : Class) → Stands self.now at (class_dump c) → result ≡ slice_index (class_ids c) nth }
+        ensures { (c : Class) → Stands self.now at (class_dump c) → result ≡ slice_index (leading_ids c) nth }
     {
         let size = self.id_size as usize;
         number_at(self.bytes, at as usize + 5 + size + nth * size, size)

@@ -1,5 +1,6 @@
 use Rattle.std.proofs.Common.{List, Some, ap, arith, get_or, length, refl, subst, sum_by, ℕ, ◌*◌, ◌<◌, ◌^◌, ◌∙◌, ◌≤◌}
 use Rattle.std.proofs.Math.Nat.{mul-le-mul_left}
+use Rattle.hprof_grammar.specs.Series.{LabelledValue, of_static}
 use Rattle.hprof_grammar.specs.Standing.{Stands}
 use Rattle.hprof_grammar.specs.SubRecord.{SubRecord}
 use Rattle.hprof_grammar.specs.SubRecord.SubRecord.{class_dump, instance_dump, object_array_dump, primitive_array_dump}
@@ -7,7 +8,6 @@ use Rattle.hprof_grammar.specs.Tables.{size_of}
 use Rattle.heap_graph.specs.Heap.{class_number}
 use Rattle.heap_graph.specs.declared.row.RowKey.TheVariants as keys
 use Rattle.std.proofs.lemmas.List.{length-map}
-use Rattle.heap_graph.proofs.Adding.{typed_static}
 use Rattle.heap_graph.proofs.EntryLaws.{same_number, static_bytes}
 use Rattle.heap_graph.proofs.FieldLaws.{size_of_id}
 use Rattle.heap_graph.proofs.Standings.{IsDumpOfArray, IsDumpOfClass, IsDumpOfInstance, IsDumpOfPrimitives, IsThere, is_array_dump, is_class_dump, is_instance_dump, is_primitives_dump, there}
@@ -30,7 +30,7 @@ bytes_together-requires g c =
     let dump : IsDumpOfClass it.object = is_class_dump it.object (c.in-Class.ensures it.object it.stands it.describes) in
     let st : Stands c.args.self.now.view (get_or c.args.self.now.places.now c.args.number 0) (class_dump dump.class) = (subst (λ (x : SubRecord). Stands c.args.self.now.view (get_or c.args.self.now.places.now c.args.number 0) x) dump.same it.stands) in
     let few : length dump.class.statics < 256 ^ 2 = st.is.formed.1.static_count in
-    omega (arith, few, ap length (c.statics.ensures dump.class st), length-map dump.class.statics typed_static)
+    omega (arith, few, ap length (c.statics.ensures dump.class st), length-map dump.class.statics of_static)
 
 pub returns-in-Class : goal.returns-in-Class
 returns-in-Class g c = λ heap linked classes.
@@ -41,7 +41,7 @@ returns-in-Class g c = λ heap linked classes.
       object = class_dump dump.class;
       is = it.is ∙ ap (λ (x : SubRecord). Some x) dump.same;
       row_is = refl;
-      bytes_is = c.bytes_together.ensures ∙ ap (λ (vs : List (ℕ × List ℕ)). sum_by (λ v. size_of c.args.self.now.view.id_size v.0) vs) (c.statics.ensures dump.class st) ∙ static_bytes c.args.self.now.view.id_size dump.class.statics;
+      bytes_is = c.bytes_together.ensures ∙ ap (λ (vs : List LabelledValue). sum_by (λ v. size_of c.args.self.now.view.id_size v.type) vs) (c.statics.ensures dump.class st) ∙ static_bytes c.args.self.now.view.id_size dump.class.statics;
     }
 
 pub instance_class-class-requires : goal.instance_class-class-requires
