@@ -1,5 +1,5 @@
 -- Claims and finishes keep the rule, and are the events of those names.
-use Rattle.std.proofs.Common.{◌≡◌, ℕ, ◌<◌, max, [], map, Option, set, slice_index, slice_set, ap, sym, refl, subst, ◌∙◌, ⊎_elim, length-set, arith}
+use Rattle.std.proofs.Common.{◌≡◌, ℕ, ◌<◌, max, true, [], ◌∷◌, map, Option, set, slice_index, slice_set, ap, sym, refl, subst, ◌∙◌, ⊎_elim, length-set, arith}
 use Rattle.std.proofs.lemmas.List.Elements.{All-contains}
 use mathlib.Core.Option.{none, some}
 use lib.ListN.{get_elem?}
@@ -20,7 +20,9 @@ use Rattle.buffer_pool.specs.Book.{claimed, finished}
 use Rattle.buffer_pool.specs.Plays.{rested, claim_made, finish_made}
 use Rattle.buffer_pool.specs.Laid.{IsLaid}
 use Rattle.buffer_pool.specs.Table.{Reading, Rule, Carries, free, link_word, mark_word, marking_of, view_counts}
-use Rattle.buffer_pool.proofs.States.{agrees, lawful, cut_same, stands, accounts_set, counts_same, happened, freed}
+use Rattle.buffer_pool.proofs.States.{agrees, lawful, cut_same, stands, accounts_set, counts_same, happened, log_after, told_after, did_after, freed}
+use Rattle.buffer_pool.specs.Story.{Did}
+use Rattle.buffer_pool.specs.Told.{IsSettled, noted}
 use Rattle.buffer_pool.proofs.Loads.{noticed, each_once}
 use Rattle.buffer_pool.proofs.Words.{head_beside_mark, link_beside_mark, marks_after}
 
@@ -28,16 +30,17 @@ module _ {B : Type 0} (r : Reading B) (e : Setup) (s : State (Option B) View) (r
   -- the mark of an object changes, and the account of the seat
   marked :
       (o x : ℕ) (w : View) (kind : Kind) → o < e.objects → w.out ≡ 0 → w.book.account.held ≡ v.book.account.held → w.book.setup ≡ v.book.setup → view_counts w ≡ view_counts v
+      → w.log ≡ log_after r e s rule id kind → w.unsaid ≡ [] → w.taken ≡ [] → w.named ≡ true
       → may.Allows e (marking_of r e s) id v.book.account kind
       → effect (marking_of r e s) id v.book.account kind ≡ record (marking_of r e s) { mark = put o x (marking_of r e s).mark; accounts = set (marking_of r e s).accounts id w.book.account }
       → counted (marking_of r e s) (map view_counts s.views) id kind ≡ map view_counts s.views
       → Rule r e (record { words = set s.words (mark_word e o) x; homes = s.homes; views = set s.views id w })
-  marked o x w kind below out held setup counts can is_effect is_counted =
+  marked o x w kind below out held setup counts log unsaid taken named can is_effect is_counted =
       noticed r e s rule id v is bare there (set s.words (mark_word e o) x) w (length-set s.words (mark_word e o) x) (link_beside_mark e s.words o x) out held setup
       (happened r e s rule id v is kind there can t
       (agrees (marking_of r e t) (record m { mark = put o x m.mark; accounts = set m.accounts id w.book.account }) (λ q. ap head_of (head_beside_mark e s.words o x q)) links
       (marks_after e s.words o x (omega (arith, rule.word_count))) refl (accounts_set s.views id w) ∙ sym is_effect)
-      (counts_same r e s rule id v is w counts ∙ sym is_counted))
+      (counts_same r e s rule id v is w counts ∙ sym is_counted) (told_after r e s rule id v is there kind w log unsaid taken named))
     where
       m : Marking
       m = marking_of r e s
@@ -50,30 +53,32 @@ module _ {B : Type 0} (r : Reading B) (e : Setup) (s : State (Option B) View) (r
 
 module _ {B : Type 0} (r : Reading B) (e : Setup) (slots id : ℕ) where
   pub claims :
-      (me : Me (Option B) View) (o : ℕ) → Carries me → 0 < me.0.book.account.share → CanClaim me.0.book.setup o me.0.book.account → o < e.objects
+      (me : Me (Option B) View) (o : ℕ) → Carries me → 0 < me.0.book.account.share → IsSettled me.0 → CanClaim me.0.book.setup o me.0.book.account → o < e.objects
       → Allows (Rule r e) slots id me (mark_word e o) (λ n. max n 1) (claim_made (step slots (mark_word e o) 1 0 none) me)
-  claims me o carries there can below = freed r e slots id (mark_word e o) (λ n. max n 1) (claim_made (step slots (mark_word e o) 1 0 none) me) me carries (λ s rule count is fits.
+  claims me o carries there done can below = freed r e slots id (mark_word e o) (λ n. max n 1) (claim_made (step slots (mark_word e o) 1 0 none) me) me carries (λ s rule count is fits.
       let n = slice_index s.words (mark_word e o) in
       let v : View = free me.0 in
-      let w : View = record v { book = claimed o n me.0.book } in
+      let log = log_after r e s rule id (Claim o) in
+      let w : View = record (noted log v) { book = claimed o n me.0.book } in
       let a = me.0.book.account in
       let same : me.0.book.setup ≡ e = rule.same_setup id v is there in
       let can' : CanClaim e o a = subst (λ (g : Setup). CanClaim g o a) same can in (
         w,
         keeps,
         tt,
-        marked r e s rule id v is refl there o (max n 1) w (Claim o) below refl refl refl refl can' refl refl,
+        marked r e s rule id v is refl there o (max n 1) w (Claim o) below refl refl refl refl refl refl refl refl can' refl refl,
         (λ p h. let b : me.0.book.setup.buffers ≡ e.buffers = ap (λ (x : Setup). x.buffers) same in
-            let k : o ≡ p = omega (arith, h) in subst (λ x. (w, []) ≡ rested me (claimed x n me.0.book)) k refl),
+            let k : o ≡ p = omega (arith, h) in subst (λ x. ((w, []) ≡ rested me log (claimed x n me.0.book)) × Did me.0.log (Claim x ∷ []) log) k (refl, did_after r e s rule id v is there done.named done.unsaid (Claim o))),
       ))
 
   pub finishes :
-      (me : Me (Option B) View) (o : ℕ) → Carries me → 0 < me.0.book.account.share → CanFinish me.0.book.setup o me.0.book.account → o < e.objects
+      (me : Me (Option B) View) (o : ℕ) → Carries me → 0 < me.0.book.account.share → IsSettled me.0 → CanFinish me.0.book.setup o me.0.book.account → o < e.objects
       → Allows (Rule r e) slots id me (mark_word e o) (λ n. max n 2) (finish_made (step slots (mark_word e o) 2 0 none) me)
-  finishes me o carries there can below = freed r e slots id (mark_word e o) (λ n. max n 2) (finish_made (step slots (mark_word e o) 2 0 none) me) me carries (λ s rule count is fits.
+  finishes me o carries there done can below = freed r e slots id (mark_word e o) (λ n. max n 2) (finish_made (step slots (mark_word e o) 2 0 none) me) me carries (λ s rule count is fits.
       let n = slice_index s.words (mark_word e o) in
       let v : View = free me.0 in
-      let w : View = record v { book = finished o me.0.book } in
+      let log = log_after r e s rule id (Finish o) in
+      let w : View = record (noted log v) { book = finished o me.0.book } in
       let m = marking_of r e s in
       let a = me.0.book.account in
       let same : me.0.book.setup ≡ e = rule.same_setup id v is there in
@@ -83,14 +88,14 @@ module _ {B : Type 0} (r : Reading B) (e : Setup) (slots id : ℕ) where
       let two : max n 2 ≡ 2 = omega (arith, one) in
       let after : Rule r e (record { words = slice_set s.words (mark_word e o) (max n 2); homes = s.homes; views = set s.views id w }) =
       subst (λ x. Rule r e (record { words = slice_set s.words (mark_word e o) x; homes = s.homes; views = set s.views id w })) (sym two)
-      (marked r e s rule id v is refl there o 2 w (Finish o) below refl refl refl refl can' refl refl) in
+      (marked r e s rule id v is refl there o 2 w (Finish o) below refl refl refl refl refl refl refl refl can' refl refl) in
       let once = each_once r e (record { words = slice_set s.words (mark_word e o) (max n 2); homes = s.homes; views = set s.views id w }) after id w (set_here s.views id w (at_below s.views id v is)) in (
         w,
         keeps,
         tt,
         after,
         (λ p h. let b : me.0.book.setup.buffers ≡ e.buffers = ap (λ (x : Setup). x.buffers) same in
-            let k : o ≡ p = omega (arith, h) in (subst (λ x. (w, []) ≡ rested me (finished x me.0.book)) k refl, λ x. omega (arith, once.objects x))),
+            let k : o ≡ p = omega (arith, h) in (subst (λ x. (w, []) ≡ rested me log (finished x me.0.book)) k refl, (λ x. omega (arith, once.objects x)), subst (λ x. Did me.0.log (Finish x ∷ []) log) k (did_after r e s rule id v is there done.named done.unsaid (Finish o)))),
       ))
 
 -- what an account may claim is an object, and what it may finish as well

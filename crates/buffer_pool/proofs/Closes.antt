@@ -20,6 +20,8 @@ use Rattle.mark_core.proofs.Counting.{lawful_where}
 use Rattle.buffer_pool.specs.declared.view.View.{View}
 use Rattle.buffer_pool.specs.Book.{Book, counts_of}
 use Rattle.buffer_pool.specs.Closing.{Ends}
+use Rattle.buffer_pool.specs.Story.{EndsStory, deeds}
+use Rattle.buffer_pool.specs.Told.{IsSettled, IsTold}
 use Rattle.buffer_pool.specs.Table.{Reading, Rule, marking_of, mark_word, view_counts}
 use Rattle.buffer_pool.proofs.States.{stands}
 
@@ -69,13 +71,20 @@ ends b marks events last counts w count some_buffer led own own_counts same all 
 
 pub ends_of :
     {B : Type 0} (r : Reading B) (e : Setup) (id : ℕ) (v : View) (words : List ℕ) (slots : List (Option B)) (first : ℕ) → first ≡ 32 + e.buffers → Final (Seen (Rule r e) id v) words slots
-    → v.book.account.share ≡ whole → v.book.account.held ≡ [] → v.book.account.charge ≡ [] → Ends v.book (drop first words)
-ends_of r e id v words slots first place final all none_held none_charged =
-    ends v.book (drop first words) rule.reached.events last (map view_counts final.0.views) id count some_buffer led (stands r e final.0 rule id v final.1.1) (at_map view_counts final.0.views id v final.1.1)
-    marks all none_held none_charged
+    → v.book.account.share ≡ whole → v.book.account.held ≡ [] → v.book.account.charge ≡ [] → IsSettled v
+    → (ended : Ends v.book (drop first words)) × EndsStory v.log ended.events
+unfolding ends
+ends_of r e id v words slots first place final all none_held none_charged done = (
+  ends v.book (drop first words) rule.reached.events last (map view_counts final.0.views) id count some_buffer led (stands r e final.0 rule id v final.1.1) (at_map view_counts final.0.views id v final.1.1)
+      marks all none_held none_charged,
+  (told.since, told.goes_on, ap (λ n. deeds n told.since) (told.number done.named) ∙ told.unsaid ∙ done.unsaid),
+)
   where
     rule : Rule r e final.0
     rule = final.1.0
+
+    told : IsTold rule.reached.events id v
+    told = rule.reached.told id v final.1.1 (omega (arith, all))
 
     last : Marking
     last = marking_of r e final.0

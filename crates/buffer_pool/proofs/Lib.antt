@@ -1,3 +1,5 @@
+pub mod Deeds
+pub mod Newcomers
 pub mod States
 pub mod Loads
 pub mod Words

@@ -1,5 +1,5 @@
 -- Loads keep the rule, and tell what was loaded. So do the steps that change nothing.
-use Rattle.std.proofs.Common.{◌≡◌, ◌≢◌, ℕ, suc, ◌<◌, ◌≤◌, ◌==◌, List, [], length, Option, Some, set, slice_index, slice_set, ap, sym, refl, subst, ◌∙◌, arith}
+use Rattle.std.proofs.Common.{◌≡◌, ◌≢◌, ℕ, suc, ◌<◌, ◌≤◌, ◌==◌, true, List, [], ◌∷◌, length, Option, Some, set, slice_index, slice_set, ap, sym, refl, subst, ◌∙◌, arith}
 use Rattle.std.proofs.lemmas.List.{set-get_or}
 use mathlib.Core.Option.{none, some}
 use lib.ListN.{get_elem?}
@@ -20,8 +20,11 @@ use Rattle.mark_core.proofs.Closing.{has_each_once}
 use Rattle.buffer_pool.specs.declared.view.View.{View}
 use Rattle.buffer_pool.specs.Book.{Book, counts_of, loaded, link_loaded}
 use Rattle.buffer_pool.specs.Plays.{rested, head_seen, link_seen, set_aside, settled}
+use Rattle.buffer_pool.specs.Story.{Did}
+use Rattle.buffer_pool.specs.Told.{IsSettled, IsTold, noted}
 use Rattle.buffer_pool.specs.Table.{Reading, Reached, Rule, IsTied, Rests, Carries, free, head_word, link_word, marking_of}
-use Rattle.buffer_pool.proofs.States.{agrees, lawful, cut_below, stands, changed, accounts_set, accounts_same, counts_same, counts_changed, nothing_happened, happened, held_below, freed}
+use Rattle.buffer_pool.proofs.States.{agrees, lawful, cut_below, stands, changed, accounts_set, accounts_same, counts_same, counts_changed, nothing_happened, happened, log_after, log_now, told_after, did_after, held_below, freed}
+use Rattle.buffer_pool.proofs.Deeds.{did_none, told_seen}
 
 -- a stack has its own head word
 pub same_head : (q p : Which) → head_word q ≡ head_word p → q ≡ p
@@ -78,15 +81,17 @@ module _ {B : Type 0} (r : Reading B) (e : Setup) (s : State (Option B) View) (r
       let below : i < e.buffers = stacked_below e.buffers m.head m.link m.accounts (lawful r e s rule).stack (lawful r e s rule).owned q i (top_stands e.buffers m.head m.link m.accounts (lawful r e s rule).stack (lawful r e s rule).owned q i top) in
       subst (λ (x : Setup). i < x.buffers) (sym (rule.same_setup id v is there)) below
 
--- a view with the same book: nothing happened
+-- a view with the same book whose log is up to date: nothing happened
 only_seen :
-    {B : Type 0} (r : Reading B) (e : Setup) (s : State (Option B) View) (rule : Rule r e s) (id : ℕ) (v : View) (is : get_elem? s.views id ≡ some v) (w : View) → w.book ≡ v.book
+    {B : Type 0} (r : Reading B) (e : Setup) (s : State (Option B) View) (rule : Rule r e s) (id : ℕ) (v : View) (is : get_elem? s.views id ≡ some v) → 0 < v.book.account.share
+    → (w : View) → w.book ≡ v.book → w.log ≡ log_now r e s rule id → w.unsaid ≡ [] → w.taken ≡ [] → w.named ≡ true
     → Reached r e (record { words = s.words; homes = s.homes; views = set s.views id w })
-only_seen {B} r e s rule id v is w same =
+only_seen {B} r e s rule id v is there w same log unsaid taken named =
     let t : State (Option B) View = record { words = s.words; homes = s.homes; views = set s.views id w } in
     nothing_happened r e s rule t
     (agrees (marking_of r e t) (marking_of r e s) (λ q. refl) (λ i. refl) (λ o. refl) refl (accounts_same r e s rule id v is w (ap (λ (b : Book). b.account) same)))
     (counts_same r e s rule id v is w (ap counts_of same))
+    (told_seen rule.reached.events s.views rule.reached.told id v is there w log unsaid taken named)
 
 -- an account has no buffer twice, and no object twice among those that it answers for and finished
 pub each_once : {B : Type 0} (r : Reading B) (e : Setup) (s : State (Option B) View) (rule : Rule r e s) (id : ℕ) (v : View) → get_elem? s.views id ≡ some v → HasEachOnce v.book.account
@@ -97,32 +102,36 @@ module _ {B : Type 0} (r : Reading B) (e : Setup) (slots id : ℕ) where
   written_again : (s : State (Option B) View) (word : ℕ) (w : View) → Rule r e (record { words = s.words; homes = s.homes; views = set s.views id w }) → Rule r e (record { words = slice_set s.words word (slice_index s.words word); homes = s.homes; views = set s.views id w })
   written_again s word w rule = subst (λ ws. Rule r e (record { words = ws; homes = s.homes; views = set s.views id w })) (sym (set-get_or s.words word 0)) rule
 
-  pub sees_head : (me : Me (Option B) View) (q : Which) → Carries me → 0 < me.0.book.account.share → Allows (Rule r e) slots id me (head_word q) (λ n. n) (head_seen (step slots (head_word q) 0 0 none) me)
-  sees_head me q carries there = freed r e slots id (head_word q) (λ n. n) (head_seen (step slots (head_word q) 0 0 none) me) me carries (λ s rule count is fits.
+  pub sees_head : (me : Me (Option B) View) (q : Which) → Carries me → 0 < me.0.book.account.share → IsSettled me.0 → Allows (Rule r e) slots id me (head_word q) (λ n. n) (head_seen (step slots (head_word q) 0 0 none) me)
+  sees_head me q carries there done = freed r e slots id (head_word q) (λ n. n) (head_seen (step slots (head_word q) 0 0 none) me) me carries (λ s rule count is fits.
       let n = slice_index s.words (head_word q) in
       let v : View = free me.0 in
-      let w : View = record v { book = loaded q (head_of n) me.0.book } in
+      let log = log_after r e s rule id (Load q) in
+      let w : View = record (noted log v) { book = loaded q (head_of n) me.0.book } in
       let m = marking_of r e s in
       let t : State (Option B) View = record { words = s.words; homes = s.homes; views = set s.views id w } in
       let reached : Reached r e t =
       happened r e s rule id v is (Load q) there tt t
       (agrees (marking_of r e t) (record m { accounts = set m.accounts id (after_load q (m.head q) me.0.book.account) }) (λ p. refl) (λ i. refl) (λ o. refl) refl
       (accounts_set s.views id w ∙ ap (set m.accounts id) (account_loaded q (head_of n) me.0.book)))
-      (counts_changed r e s rule id v is w (count_load q (head_of n)) (counts_loaded q (head_of n) me.0.book)) in (
+      (counts_changed r e s rule id v is w (count_load q (head_of n)) (counts_loaded q (head_of n) me.0.book)) (told_after r e s rule id v is there (Load q) w refl refl refl refl) in (
         w,
         keeps,
         tt,
         written_again s (head_word q) w (noticed r e s rule id v is refl there s.words w refl (λ i h. refl) refl (held_loaded q (head_of n) me.0.book) (setup_loaded q (head_of n) me.0.book) reached),
-        (λ p same. subst (λ k. ((w, []) ≡ rested me (loaded k (head_of n) me.0.book)) × ((i : ℕ) → (head_of n).index ≡ Some i → i < me.0.book.setup.buffers)) (same_head q p same) (refl, top_below r e s rule id v is refl there q)),
+        (λ p same.
+            subst (λ k. ((w, []) ≡ rested me log (loaded k (head_of n) me.0.book)) × ((i : ℕ) → (head_of n).index ≡ Some i → i < me.0.book.setup.buffers) × Did me.0.log (Load k ∷ []) log) (same_head q p same)
+            (refl, top_below r e s rule id v is refl there q, did_after r e s rule id v is there done.named done.unsaid (Load q))),
       ))
 
   pub sees_link :
-      (me : Me (Option B) View) (q : Which) (h : Head) (i : ℕ) → Carries me → 0 < me.0.book.account.share → (look_of me.0.book.account q).head ≡ Some h → h.index ≡ Some i → i < me.0.book.setup.buffers
+      (me : Me (Option B) View) (q : Which) (h : Head) (i : ℕ) → Carries me → 0 < me.0.book.account.share → IsSettled me.0 → (look_of me.0.book.account q).head ≡ Some h → h.index ≡ Some i → i < me.0.book.setup.buffers
       → Allows (Rule r e) slots id me (link_word i) (λ n. n) (link_seen q (step slots (link_word i) 0 0 none) me)
-  sees_link me q h i carries there last top below = freed r e slots id (link_word i) (λ n. n) (link_seen q (step slots (link_word i) 0 0 none) me) me carries (λ s rule count is fits.
+  sees_link me q h i carries there done last top below = freed r e slots id (link_word i) (λ n. n) (link_seen q (step slots (link_word i) 0 0 none) me) me carries (λ s rule count is fits.
       let n = slice_index s.words (link_word i) in
       let v : View = free me.0 in
-      let w : View = record v { book = link_loaded q (index_of n) me.0.book } in
+      let log = log_after r e s rule id (LoadLink q) in
+      let w : View = record (noted log v) { book = link_loaded q (index_of n) me.0.book } in
       let m = marking_of r e s in
       let same : me.0.book.setup ≡ e = rule.same_setup id v is there in
       let small : i < e.buffers = subst (λ (x : Setup). i < x.buffers) same below in
@@ -133,31 +142,39 @@ module _ {B : Type 0} (r : Reading B) (e : Setup) (slots id : ℕ) where
       happened r e s rule id v is (LoadLink q) there (h, i, last, top) t
       (agrees (marking_of r e t) (effect m id me.0.book.account (LoadLink q)) (λ p. refl) (λ j. refl) (λ o. refl) refl
       (accounts_set s.views id w ∙ ap (λ l. set m.accounts id (after_load_link q l me.0.book.account)) (sym found)))
-      (counts_same r e s rule id v is w refl) in (
+      (counts_same r e s rule id v is w refl) (told_after r e s rule id v is there (LoadLink q) w refl refl refl refl) in (
         w,
         keeps,
         tt,
         written_again s (link_word i) w (noticed r e s rule id v is refl there s.words w refl (λ j b. refl) refl (held_linked q (index_of n) me.0.book) refl reached),
-        (refl, subst (λ (x : Setup). n ≤ x.buffers) (sym same) (rule.linked i small)),
+        (refl, subst (λ (x : Setup). n ≤ x.buffers) (sym same) (rule.linked i small), did_after r e s rule id v is there done.named done.unsaid (LoadLink q)),
       ))
 
   -- an exchange of a word for itself
-  pub sets_aside : (me : Me (Option B) View) (word units : ℕ) → Carries me → 0 < me.0.book.account.share → Allows (Rule r e) slots id me word (λ n. either (n == units) units n) (set_aside (step slots word units units none) me)
-  sets_aside me word units carries there = freed r e slots id word (λ n. either (n == units) units n) (set_aside (step slots word units units none) me) me carries (λ s rule count is fits.
+  pub sets_aside : (me : Me (Option B) View) (word units : ℕ) → Carries me → 0 < me.0.book.account.share → IsSettled me.0 → Allows (Rule r e) slots id me word (λ n. either (n == units) units n) (set_aside (step slots word units units none) me)
+  sets_aside me word units carries there done = freed r e slots id word (λ n. either (n == units) units n) (set_aside (step slots word units units none) me) me carries (λ s rule count is fits.
       let n = slice_index s.words word in
       let v : View = free me.0 in
-      let w : View = record v { aside = units } in
+      let log = log_now r e s rule id in
+      let w : View = record (noted log v) { aside = units } in
       let kept : Rule r e (record { words = slice_set s.words word n; homes = s.homes; views = set s.views id w }) =
-      written_again s word w (noticed r e s rule id v is refl there s.words w refl (λ j b. refl) refl refl refl (only_seen r e s rule id v is w refl)) in (
+      written_again s word w (noticed r e s rule id v is refl there s.words w refl (λ j b. refl) refl refl refl (only_seen r e s rule id v is there w refl refl refl refl refl)) in (
         w,
         keeps,
         tt,
         exchanged n units units (λ x. Rule r e (record { words = slice_set s.words word x; homes = s.homes; views = set s.views id w })) (λ hit. subst (λ x. Rule r e (record { words = slice_set s.words word x; homes = s.homes; views = set s.views id w })) hit kept) (λ miss. kept),
-        refl,
+        (refl, let did = did_none rule.reached.events id v (rule.reached.told id v is there) done.named in (did.0, did.1, did.2 ∙ done.unsaid)),
       ))
 
   -- a load that tells that the account has each thing once
   pub settles : (me : Me (Option B) View) (word : ℕ) → Carries me → 0 < me.0.book.account.share → Allows (Rule r e) slots id me word (λ n. n) (settled (step slots word 0 0 none) me)
   settles me word carries there = freed r e slots id word (λ n. n) (settled (step slots word 0 0 none) me) me carries (λ s rule count is fits.
       let v : View = free me.0 in
-      (v, keeps, tt, written_again s word v (noticed r e s rule id v is refl there s.words v refl (λ j b. refl) refl refl refl (only_seen r e s rule id v is v refl)), (refl, each_once r e s rule id v is)))
+      let w : View = noted (log_now r e s rule id) v in
+      let told : IsTold rule.reached.events id v = rule.reached.told id v is there in (
+        w,
+        keeps,
+        tt,
+        written_again s word w (noticed r e s rule id v is refl there s.words w refl (λ j b. refl) refl refl refl (only_seen r e s rule id v is there w refl refl refl refl refl)),
+        record { same = refl; each = each_once r e s rule id v is; did = did_none rule.reached.events id v told; knows = told.taken; fresh = told.fresh },
+      ))

@@ -1,5 +1,5 @@
 -- A split of a worker, and a join of two, keep the rule.
-use Rattle.std.proofs.Common.{◌≡◌, Contains, ℕ, ◌<◌, ◌≤◌, List, [], ◌∷◌, ◌++◌, map, Option, None, set, ap, sym, refl, subst, ◌∙◌, ⊎_elim, arith}
+use Rattle.std.proofs.Common.{◌≡◌, Contains, ℕ, ◌<◌, ◌≤◌, true, false, length, List, [], ◌∷◌, ◌++◌, map, Option, None, set, ap, sym, refl, subst, ◌∙◌, ⊎_elim, arith}
 use Rattle.std.proofs.lemmas.List.{map-append}
 use mathlib.Core.Option.{some}
 use native.Mathlib.Decide.{dec_le}
@@ -10,18 +10,24 @@ use Rattle.atomic_table.proofs.Lists.{at_map, at_set, at_snoc, set_else}
 use Rattle.mark_core.specs.Lists.{times, only}
 use Rattle.mark_core.specs.Account.{Account, part, spent, after_split, after_join}
 use Rattle.mark_core.specs.World.{Setup, Marking, account_at}
-use Rattle.mark_core.specs.Runs.{AreApart, HasEachOnce}
-use Rattle.mark_core.specs.Event.{Split, Join, effect}
+use Rattle.mark_core.specs.Runs.{AreApart, HasEachOnce, opening}
+use Rattle.mark_core.specs.Event.{Event, Split, Join, effect}
 use Rattle.mark_core.specs.Counts.{Counts, add_counts, counts_at, no_counts}
 use Rattle.mark_core.proofs.Sums.{total-append, stands_append}
 use Rattle.mark_core.proofs.Places.{at_get_or}
 use Rattle.buffer_pool.specs.declared.view.View.{View}
 use Rattle.buffer_pool.specs.Book.{joined, new_book, parted}
 use Rattle.buffer_pool.specs.Laid.{IsLaid, IsSound, IsWithin}
+use Rattle.buffer_pool.specs.Story.{Log, Did, IsNewcomer, deeds}
+use Rattle.buffer_pool.specs.Told.{IsSettled, noted}
+use Rattle.buffer_pool.specs.Plays.{IsUpToDate}
 use Rattle.buffer_pool.specs.Setups.{kept_part, given_part, joined_view, spent_view}
 use Rattle.buffer_pool.specs.Table.{Reading, Reached, Rule, Carries, IsTied, Rests, account_of, free, marking_of, view_counts}
 use Rattle.buffer_pool.proofs.States.{agrees, stands, accounts_set, counts_set, counts_same, happened}
 use Rattle.buffer_pool.proofs.Loads.{nothing_out}
+use Rattle.std.proofs.lemmas.List.{append_assoc, length-map}
+use Rattle.buffer_pool.proofs.Deeds.{did_on}
+use Rattle.buffer_pool.proofs.Newcomers.{nothing_done, told_join, told_split}
 
 -- what the rule says of one view
 pub record Suits {B : Type 0} (e : Setup) (s : State (Option B) View) (v : View) : Type 0 where
@@ -51,8 +57,8 @@ module _ {B : Type 0} (r : Reading B) (e : Setup) (s : State (Option B) View) (r
       }
 
 module _ {B : Type 0} (r : Reading B) (e : Setup) (id : ℕ) (v : View) where
-  pub splits : 0 < v.aside → v.aside < v.book.account.share → Splits (Rule r e) id v (kept_part v) (given_part v)
-  splits some_units less s rule is = with_views r e s rule views all reached
+  pub splits : 0 < v.aside → v.aside < v.book.account.share → v.named ≡ true → Splits (Rule r e) id v (kept_part v) (given_part v)
+  splits some_units less known s rule is = with_views r e s rule views all reached
     where
       m : Marking
       m = marking_of r e s
@@ -83,16 +89,22 @@ module _ {B : Type 0} (r : Reading B) (e : Setup) (id : ℕ) (v : View) where
       t : State (Option B) View
       t = record { words = s.words; homes = s.homes; views = views }
 
+      -- the new number is nobody's so far
+      nobody : deeds (length s.views) rule.reached.events ≡ []
+      nobody =
+          nothing_done e rule.reached.events (opening e e.first_tag) m (length s.views) rule.reached.led.run (omega (arith, length-map s.views account_of))
+
       reached : Reached r e t
       reached =
           happened r e s rule id v is (Split v.aside) there (some_units, less) t
           (agrees (marking_of r e t) (effect m id a (Split v.aside)) (λ q. refl) (λ i. refl) (λ o. refl) refl
           (map-append account_of (set s.views id (kept_part v)) (given_part v ∷ []) ∙ ap (λ (xs : List Account). xs ++ part v.aside ∷ []) (accounts_set s.views id (kept_part v))))
           (map-append view_counts (set s.views id (kept_part v)) (given_part v ∷ []) ∙ ap (λ (xs : List Counts). xs ++ no_counts ∷ []) (counts_same r e s rule id v is (kept_part v) refl))
+          (told_split rule.reached.events s.views rule.reached.told id v is there known nobody)
 
   module _ (other : ℕ) (w : View) where
-    pub joins : w.out ≡ 0 → 0 < v.book.account.share → 0 < w.book.account.share → Joins (Rule r e) id v other w (joined_view v w) spent_view
-    joins bare there theirs_there s rule is apart after = with_views r e s rule views all reached
+    pub joins : w.out ≡ 0 → 0 < v.book.account.share → v.named ≡ true → 0 < w.book.account.share → w.named ≡ true → Joins (Rule r e) id v other w (joined_view v w) spent_view
+    joins bare there known theirs_there theirs_known s rule is apart after = with_views r e s rule views all reached
       where
         m : Marking
         m = marking_of r e s
@@ -160,6 +172,7 @@ module _ {B : Type 0} (r : Reading B) (e : Setup) (id : ℕ) (v : View) where
             (accounts_set (set s.views id both) other spent_view ∙ ap (λ (xs : List Account). set xs other spent) (accounts_set s.views id both)
             ∙ ap (λ a. set (set m.accounts id (after_join v.book.account a)) other spent) (sym account)))
             (added ∙ (λ k. set (set counts id (add_counts (sym first k) (sym second k))) other no_counts))
+            (told_join rule.reached.events s.views rule.reached.told id v is there known other w apart at theirs_there theirs_known)
 
 -- two setups of one table have the same numbers
 same_numbers : (t : TableId) (e f : Setup) → IsLaid t e → IsLaid t f → (e.buffers ≡ f.buffers) × (e.objects ≡ f.objects)
@@ -178,49 +191,125 @@ within_joined t e f a b one two first second = record { held = held; charge = ch
     charge : (o : ℕ) → Contains (a.charge ++ b.charge) o → o < e.objects
     charge o k = ⊎_elim (λ l. first.charge o l) (λ l. omega (arith, second.charge o l, numbers.1)) (stands_append a.charge b.charge o k)
 
--- the units of a split are as they were noted
+-- the units of a split are as they were noted, and the worker knows its number
 pub noted_units :
-    {B : Type 0} (m n : Me (Option B) View) (units : ℕ) → n ≡ (record (free m.0) { aside = units }, []) → 0 < units → units < m.0.book.account.share
-    → (0 < n.0.aside) × (n.0.aside < n.0.book.account.share)
-noted_units {B} m n units is some_units less = subst {A = Me (Option B) View} (λ x. (0 < x.0.aside) × (x.0.aside < x.0.book.account.share)) (sym {A = Me (Option B) View} is) (some_units, less)
+    {B : Type 0} (m n : Me (Option B) View) (log : Log) (units : ℕ) → n ≡ (record (noted log (free m.0)) { aside = units }, []) → 0 < units → units < m.0.book.account.share
+    → (0 < n.0.aside) × (n.0.aside < n.0.book.account.share) × (n.0.named ≡ true)
+noted_units {B} m n log units is some_units less =
+    subst {A = Me (Option B) View} (λ x. (0 < x.0.aside) × (x.0.aside < x.0.book.account.share) × (x.0.named ≡ true)) (sym {A = Me (Option B) View} is) (some_units, less, refl)
 
--- the seat that keeps a part
-pub keeps_part :
-    {B : Type 0} (t u : TableId) (m n : Me (Option B) View) (units : ℕ) → u ≡ t → n ≡ (kept_part (record (free m.0) { aside = units }), []) → IsSound t m → units < m.0.book.account.share
-    → IsSound u n × (n.0.book ≡ parted units m.0.book)
-keeps_part {B} t u m n units table is sound less = (subst (λ x. IsSound x n) (sym table) (subst (IsSound t) (sym is) here), ap (λ (x : Me (Option B) View). x.0.book) is)
-  where
-    here : IsSound {B = B} t (kept_part (record (free m.0) { aside = units }), [])
-    here = record { laid = sound.laid; share = omega (arith, less); carries = refl; within = record { held = sound.within.held; charge = sound.within.charge } }
+-- a seat whose log is up to date, over what it was before: sound where that was, but for its log
+module _ {B : Type 0} (t u : TableId) (m n : Me (Option B) View) (table : u ≡ t) (same : n ≡ (noted n.0.log (free m.0), [])) where
+  pub sound_now : IsLaid t m.0.book.setup → 0 < m.0.book.account.share → IsWithin m.0.book.setup m.0.book.account → IsSound u n
+  sound_now laid share within = subst (λ x. IsSound x n) (sym table) (subst {A = Me (Option B) View} (IsSound t) (sym {A = Me (Option B) View} same) here)
+    where
+      here : IsSound {B = B} t (noted n.0.log (free m.0), [])
+      here = record { laid = laid; share = share; carries = refl; within = record { held = within.held; charge = within.charge }; settled = record { named = refl; unsaid = refl } }
 
--- the new seat
-pub has_part :
-    {B : Type 0} (t u : TableId) (m n : Me (Option B) View) (units : ℕ) → u ≡ t → n ≡ (given_part (record (free m.0) { aside = units }), []) → IsSound t m → 0 < units
-    → IsSound u n × (n.0.book ≡ new_book m.0.book.setup units)
-has_part {B} t u m n units table is sound some_units = (subst (λ x. IsSound x n) (sym table) (subst (IsSound t) (sym is) here), ap (λ (x : Me (Option B) View). x.0.book) is)
-  where
-    here : IsSound {B = B} t (given_part (record (free m.0) { aside = units }), [])
-    here = record { laid = sound.laid; share = some_units; carries = refl; within = record { held = λ i k. absurd (omega (arith, k.1)); charge = λ o k. absurd (omega (arith, k.1)) } }
+  pub book_now : n.0.book ≡ m.0.book
+  book_now = ap (λ (x : Me (Option B) View). x.0.book) same
 
--- the seat that took another in
-pub has_both :
-    {B : Type 0} (t u : TableId) (m o n : Me (Option B) View) → u ≡ t → n ≡ (free (joined_view m.0 (free o.0)), []) → IsSound t m → IsSound t o → IsSound u n × (n.0.book ≡ joined m.0.book o.0.book)
-has_both {B} t u m o n table is first second = (subst (λ x. IsSound x n) (sym table) (subst (IsSound t) (sym is) here), ap (λ (x : Me (Option B) View). x.0.book) is)
-  where
-    here : IsSound {B = B} t (free (joined_view m.0 (free o.0)), [])
-    here =
-        record {
-          laid = first.laid;
-          share = omega (arith, first.share);
-          carries = refl;
-          within = within_joined t m.0.book.setup o.0.book.setup m.0.book.account o.0.book.account first.laid second.laid first.within second.within;
-        }
+-- A split: the units were noted (two), the views were cut (kept and given), and each has its log up to date (now)
+module _ {B : Type 0} (t u : TableId) (m two : Me (Option B) View) (units : ℕ) (table : u ≡ t) (log : Log) (sound : IsSound t m)
+    (aside : two ≡ (record (noted log (free m.0)) { aside = units }, [])) (did : Did m.0.log [] log) where
+  pub keeps_part :
+      (kept now : Me (Option B) View) → kept ≡ (kept_part two.0, two.1) → IsUpToDate kept now → units < m.0.book.account.share
+      → (IsSound u now × (now.0.book ≡ parted units m.0.book)) × Did m.0.log (Split units ∷ []) now.0.log
+  keeps_part kept now cut told less =
+      ((sound_now t u kept now table told.same laid share within, book_now t u kept now table told.same ∙ ap (λ (x : Me (Option B) View). x.0.book) is), did_on m.0.log log now.0.log [] (Split units ∷ []) did second)
+    where
+      is : kept ≡ (kept_part (record (noted log (free m.0)) { aside = units }), [])
+      is = cut ∙ ap (λ (x : Me (Option B) View). (kept_part x.0, x.1)) aside
 
--- what it is told at last, once the other's slot went home, the two were joined, and its own slot went home
-pub joined_at_last :
-    {B : Type 0} (m o freed both n : Me (Option B) View) → freed ≡ (free o.0, []) → both ≡ (joined_view m.0 freed.0, m.1) → n ≡ (free both.0, [])
-    → n ≡ (free (joined_view m.0 (free o.0)), [])
-joined_at_last {B} m o freed both n first second third = third ∙ ap (λ (x : Me (Option B) View). (free x.0, [])) second ∙ ap (λ (x : Me (Option B) View). (free (joined_view m.0 x.0), [])) first
+      laid : IsLaid t kept.0.book.setup
+      laid = subst {A = Me (Option B) View} (λ x. IsLaid t x.0.book.setup) (sym {A = Me (Option B) View} is) sound.laid
+
+      share : 0 < kept.0.book.account.share
+      share = subst {A = Me (Option B) View} (λ x. 0 < x.0.book.account.share) (sym {A = Me (Option B) View} is) (omega (arith, less))
+
+      within : IsWithin kept.0.book.setup kept.0.book.account
+      within =
+          subst {A = Me (Option B) View} (λ x. IsWithin x.0.book.setup x.0.book.account) (sym {A = Me (Option B) View} is) (record { held = sound.within.held; charge = sound.within.charge })
+
+      second : Did log (Split units ∷ []) now.0.log
+      second =
+          subst {A = Me (Option B) View} (λ x. Did x.0.log x.0.unsaid now.0.log) is (told.did (subst {A = Me (Option B) View} (λ x. x.0.named ≡ true) (sym {A = Me (Option B) View} is) refl))
+
+  -- what the loads after the cut ask
+  pub kept_may : (kept : Me (Option B) View) → kept ≡ (kept_part two.0, two.1) → units < m.0.book.account.share → Carries kept × (0 < kept.0.book.account.share)
+  kept_may kept cut less =
+      let is : kept ≡ (kept_part (record (noted log (free m.0)) { aside = units }), []) = cut ∙ ap (λ (x : Me (Option B) View). (kept_part x.0, x.1)) aside in
+      subst {A = Me (Option B) View} (λ x. Carries x × (0 < x.0.book.account.share)) (sym {A = Me (Option B) View} is) (refl, omega (arith, less))
+
+  pub given_may : (given : Me (Option B) View) → given ≡ (given_part two.0, []) → 0 < units → Carries given × (0 < given.0.book.account.share)
+  given_may given cut some_units =
+      let is : given ≡ (given_part (record (noted log (free m.0)) { aside = units }), []) = cut ∙ ap (λ (x : Me (Option B) View). (given_part x.0, [])) aside in
+      subst {A = Me (Option B) View} (λ x. Carries x × (0 < x.0.book.account.share)) (sym {A = Me (Option B) View} is) (refl, some_units)
+
+  pub has_part :
+      (given now : Me (Option B) View) → given ≡ (given_part two.0, []) → IsUpToDate given now → 0 < units
+      → (IsSound u now × (now.0.book ≡ new_book m.0.book.setup units)) × IsNewcomer m.0.log now.0.log
+  has_part given now cut told some_units =
+      ((sound_now t u given now table told.same laid share within, book_now t u given now table told.same ∙ ap (λ (x : Me (Option B) View). x.0.book) is), (knows, fresh))
+    where
+      is : given ≡ (given_part (record (noted log (free m.0)) { aside = units }), [])
+      is = cut ∙ ap (λ (x : Me (Option B) View). (given_part x.0, [])) aside
+
+      laid : IsLaid t given.0.book.setup
+      laid = subst {A = Me (Option B) View} (λ x. IsLaid t x.0.book.setup) (sym {A = Me (Option B) View} is) sound.laid
+
+      share : 0 < given.0.book.account.share
+      share = subst {A = Me (Option B) View} (λ x. 0 < x.0.book.account.share) (sym {A = Me (Option B) View} is) some_units
+
+      within : IsWithin given.0.book.setup given.0.book.account
+      within =
+          subst {A = Me (Option B) View} (λ x. IsWithin x.0.book.setup x.0.book.account) (sym {A = Me (Option B) View} is)
+          (record { held = λ i k. absurd (omega (arith, k.1)); charge = λ o k. absurd (omega (arith, k.1)) })
+
+      -- the story of the first at the split is a beginning, and what it was before is a beginning of that
+      knows : (more : List Event) × (now.0.log.story ≡ m.0.log.story ++ more)
+      knows =
+          let first : (more : List Event) × (now.0.log.story ≡ log.story ++ more) = subst {A = Me (Option B) View} (λ x. (more : List Event) × (now.0.log.story ≡ x.0.taken ++ more)) is told.knows in (
+            did.0 ++ first.0,
+            first.1 ∙ ap (λ (x : Log). x.story ++ first.0) did.1 ∙ append_assoc m.0.log.story did.0 first.0,
+          )
+
+      fresh : deeds now.0.log.number now.0.log.story ≡ []
+      fresh = told.fresh (subst {A = Me (Option B) View} (λ x. x.0.named ≡ false) (sym {A = Me (Option B) View} is) refl)
+
+-- A join: the other's log was brought up to date (freed), the two were joined (both), and then its own (now)
+module _ {B : Type 0} (t u : TableId) (m o freed both now : Me (Option B) View) (table : u ≡ t) (first : IsSound t m) (second : IsSound t o)
+    (other : IsUpToDate o freed) (joint : both ≡ (joined_view m.0 freed.0, m.1)) (told : IsUpToDate both now) where
+  is : both ≡ (joined_view m.0 (noted freed.0.log (free o.0)), m.1)
+  is = joint ∙ ap (λ (x : Me (Option B) View). (joined_view m.0 x.0, m.1)) other.same
+
+  at : (P : Me (Option B) View → Type 0) → P (joined_view m.0 (noted freed.0.log (free o.0)), m.1) → P both
+  at P here = subst {A = Me (Option B) View} P (sym {A = Me (Option B) View} is) here
+
+  theirs : Did o.0.log [] freed.0.log
+  theirs = let did = other.did second.settled.named in (did.0, did.1, did.2 ∙ second.settled.unsaid)
+
+  number : freed.0.log.number ≡ o.0.log.number
+  number = ap (λ (x : Log). x.number) theirs.1
+
+  pub has_both : IsSound u now × (now.0.book ≡ joined m.0.book o.0.book)
+  has_both = (
+    sound_now t u both now table told.same (at (λ x. IsLaid t x.0.book.setup) first.laid) (at (λ x. 0 < x.0.book.account.share) (omega (arith, first.share)))
+        (at (λ x. IsWithin x.0.book.setup x.0.book.account) (within_joined t m.0.book.setup o.0.book.setup m.0.book.account o.0.book.account first.laid second.laid first.within second.within)),
+    book_now t u both now table told.same ∙ ap (λ (x : Me (Option B) View). x.0.book) is,
+  )
+
+  pub did_join : Did m.0.log (Join o.0.log.number ∷ []) now.0.log
+  did_join =
+      let did = subst {A = Me (Option B) View} (λ x. x.0.named ≡ true → Did x.0.log x.0.unsaid now.0.log) is told.did first.settled.named in
+      (did.0, did.1, did.2 ∙ (λ k. first.settled.unsaid k ++ Join (number k) ∷ []))
+
+  pub knows_other : (more : List Event) × (now.0.log.story ≡ o.0.log.story ++ more)
+  knows_other =
+      let after = subst {A = Me (Option B) View} (λ x. (more : List Event) × (now.0.log.story ≡ x.0.taken ++ more)) is told.knows in (
+        theirs.0 ++ after.0,
+        after.1 ∙ ap (λ (x : Log). x.story ++ after.0) theirs.1 ∙ append_assoc o.0.log.story theirs.0 after.0,
+      )
 
 -- its slot is where it was
 pub carries_joined : {B : Type 0} (m o n : Me (Option B) View) → n ≡ (joined_view m.0 o.0, m.1) → Carries m → Carries n

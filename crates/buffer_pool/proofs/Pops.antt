@@ -1,5 +1,5 @@
 -- An exchange of a head for the link of its buffer keeps the rule: it pops, or it has failed.
-use Rattle.std.proofs.Common.{◌≡◌, ◌≢◌, ℕ, zero, suc, ◌<◌, ◌≤◌, ◌==◌, List, [], ◌∷◌, ◌++◌, length, map, Option, Some, None, set, slice_index, slice_index_or, slice_set, ap, sym, refl, subst, ◌∙◌, ⊎_elim, Contains, lt_of_not-le, length-set, arith}
+use Rattle.std.proofs.Common.{◌≡◌, ◌≢◌, ℕ, zero, suc, ◌<◌, ◌≤◌, ◌==◌, true, List, [], ◌∷◌, ◌++◌, length, map, Option, Some, None, set, slice_index, slice_index_or, slice_set, ap, sym, refl, subst, ◌∙◌, ⊎_elim, Contains, lt_of_not-le, length-set, arith}
 use Rattle.std.proofs.lemmas.List.{set-get_or, get_or_past}
 use mathlib.Core.Option.{none, some, some-injective, some-ne-none}
 use mathlib.Core.Option as maybe
@@ -22,9 +22,10 @@ use Rattle.mark_core.proofs.Sums.{stands_times, total-append, term_le, only-same
 use Rattle.mark_core.proofs.Ownership.{place_one, top_stands}
 use Rattle.buffer_pool.specs.declared.view.View.{View}
 use Rattle.buffer_pool.specs.Book.{popped, failed}
-use Rattle.buffer_pool.specs.Plays.{IsOurs, pop_tried}
+use Rattle.buffer_pool.specs.Plays.{HasMissed, HasTaken, IsOurs, pop_tried}
 use Rattle.buffer_pool.specs.Table.{Reading, Reached, Rule, IsTied, Rests, Carries, account_of, free, head_word, link_word, mark_word, marking_of, slot_of, view_counts}
-use Rattle.buffer_pool.proofs.States.{agrees, lawful, stands, changed, accounts_set, accounts_same, counts_same, counts_changed, slots_set, happened, freed}
+use Rattle.buffer_pool.proofs.States.{agrees, lawful, stands, changed, accounts_set, accounts_same, counts_same, counts_changed, slots_set, happened, log_after, told_after, did_after, freed}
+use Rattle.buffer_pool.specs.Told.{IsSettled, noted}
 use Rattle.mark_core.proofs.Places.{at_one, at_get_or}
 use Rattle.buffer_pool.proofs.Loads.{noticed, same_head}
 use Rattle.buffer_pool.proofs.Words.{one_head, exchange_hit, exchange_miss, link_beside_head, links_beside_head, mark_beside_head, heads_after}
@@ -72,18 +73,19 @@ bare_on_empty r e s rule q i b top home empty =
 -- a failed exchange: the account is as it was, and the failure is counted
 pub lost :
     {B : Type 0} (r : Reading B) (e : Setup) (s : State (Option B) View) (rule : Rule r e s) (id : ℕ) (v : View) (is : get_elem? s.views id ≡ some v) → 0 < v.book.account.share
-    → (w : View) → w.book.account ≡ v.book.account → view_counts w ≡ count_failure (view_counts v)
-    → (q : Which) (h : Head) → (look_of v.book.account q).head ≡ Some h → (head_of (slice_index s.words (head_word q)) ≡ h → ⊥)
+    → (w : View) (q : Which) → w.book.account ≡ v.book.account → view_counts w ≡ count_failure (view_counts v) → w.log ≡ log_after r e s rule id (Fail q) → w.unsaid ≡ [] → w.taken ≡ [] → w.named ≡ true
+    → (h : Head) → (look_of v.book.account q).head ≡ Some h → (head_of (slice_index s.words (head_word q)) ≡ h → ⊥)
     → Reached r e (record { words = s.words; homes = s.homes; views = set s.views id w })
-lost {B} r e s rule id v is there w account counts q h last other =
+lost {B} r e s rule id v is there w q account counts log unsaid taken named h last other =
     let t : State (Option B) View = record { words = s.words; homes = s.homes; views = set s.views id w } in
     happened r e s rule id v is (Fail q) there (h, last, other) t
     (agrees (marking_of r e t) (marking_of r e s) (λ p. refl) (λ j. refl) (λ o. refl) refl (accounts_same r e s rule id v is w account)) (counts_changed r e s rule id v is w count_failure counts)
+    (told_after r e s rule id v is there (Fail q) w log unsaid taken named)
 
 -- where the head is the one loaded
 module _ {B : Type 0} (r : Reading B) (e : Setup) (s : State (Option B) View) (rule : Rule r e s) (id : ℕ) (v : View) (is : get_elem? s.views id ≡ some v) (bare : v.out ≡ 0) (there : 0 < v.book.account.share) where
-  abbrev pop_view : ℕ → B → View
-  pop_view i b = record v { book = popped i (r.items b) v.book; out = suc i; out_link = slice_index s.words (link_word i) }
+  abbrev pop_view : Which → ℕ → B → View
+  pop_view q i b = record (noted (log_after r e s rule id (Pop q)) v) { book = popped i (r.items b) v.book; out = suc i; out_link = slice_index s.words (link_word i) }
 
   module _ (q : Which) (i : ℕ) (b : B) (top : (head_of (slice_index s.words (head_word q))).index ≡ Some i) (home : get_elem? s.homes i ≡ some (some (Some b))) where
     on_stack : 0 < times i ((lawful r e s rule).stack q)
@@ -95,7 +97,7 @@ module _ {B : Type 0} (r : Reading B) (e : Setup) (s : State (Option B) View) (r
     pub popped_rule :
         (x : ℕ) (l : Option ℕ) → (look_of v.book.account q).head ≡ Some (head_of (slice_index s.words (head_word q))) → (head_of (slice_index s.words (head_word q))).tag < last_tag
         → (look_of v.book.account q).link ≡ Some l → head_of x ≡ after (head_of (slice_index s.words (head_word q))) l
-        → Rule r e (record { words = set s.words (head_word q) x; homes = set s.homes i none; views = set s.views id (pop_view i b) })
+        → Rule r e (record { words = set s.words (head_word q) x; homes = set s.homes i none; views = set s.views id (pop_view q i b) })
     popped_rule x l hit short linked_to next =
         changed r e s rule id v is words homes w (length-set s.words (head_word q) x) (length-set s.homes i none) (λ j h. let same = link_beside_head e s.words q x j in omega (arith, rule.linked j h)) sized tied rests others (λ h. rule.same_setup id v is there) reached
       where
@@ -109,7 +111,7 @@ module _ {B : Type 0} (r : Reading B) (e : Setup) (s : State (Option B) View) (r
         homes = set s.homes i none
 
         w : View
-        w = pop_view i b
+        w = pop_view q i b
 
         sized : (j : ℕ) (c : B) → get_elem? homes j ≡ some (some (Some c)) → r.size c ≡ e.size
         sized j c at = ⊎_elim (λ t. let gone : ⊥ = cc in absurd gone) (λ t. rule.sized j c t.1) (at_set s.homes i j none (some (Some c)) at)
@@ -149,7 +151,7 @@ module _ {B : Type 0} (r : Reading B) (e : Setup) (s : State (Option B) View) (r
             happened r e s rule id v is (Pop q) there ((hit, short), (i, top), (l, linked_to)) t
             (agrees (marking_of r e t) left (heads_after e s.words q x (after (m.head q) l) (omega (arith, rule.word_count)) next) (links_beside_head e s.words q x)
             (mark_beside_head e s.words q x) (slots_set r s.homes i none) (accounts_set s.views id w) ∙ sym pop_is)
-            (counts_same r e s rule id v is w refl)
+            (counts_same r e s rule id v is w refl) (told_after r e s rule id v is there (Pop q) w refl refl refl refl)
 
   -- the buffer on top of a stack lies at home
   pub top_home : (q : Which) (i : ℕ) → (head_of (slice_index s.words (head_word q))).index ≡ Some i → (b : B) × (get_elem? s.homes i ≡ some (some (Some b)))
@@ -158,20 +160,28 @@ module _ {B : Type 0} (r : Reading B) (e : Setup) (s : State (Option B) View) (r
       let at = (lawful r e s rule).shelved.stacked q i (top_stands e.buffers m.head m.link m.accounts (lawful r e s rule).stack (lawful r e s rule).owned q i top) in
       let found = buffer_there r s.homes i at.0 at.1 in (found.0, found.1)
 
+  abbrev missed_view : Which → View
+  missed_view q = record (noted (log_after r e s rule id (Fail q)) v) { book = failed v.book }
+
   -- where it is another, only the failure is counted
   pub failed_rule :
       (q : Which) (h : Head) (word : ℕ) → (look_of v.book.account q).head ≡ Some h → (head_of (slice_index s.words (head_word q)) ≡ h → ⊥)
-      → Rule r e (record { words = slice_set s.words word (slice_index s.words word); homes = s.homes; views = set s.views id (record v { book = failed v.book }) })
+      → Rule r e (record { words = slice_set s.words word (slice_index s.words word); homes = s.homes; views = set s.views id (missed_view q) })
   failed_rule q h word last other =
-      let w : View = record v { book = failed v.book } in
-      subst (λ ws. Rule r e (record { words = ws; homes = s.homes; views = set s.views id w })) (sym (set-get_or s.words word 0)) (noticed r e s rule id v is bare there s.words w refl (λ j b. refl) bare refl refl (lost r e s rule id v is there w refl refl q h last other))
+      let w : View = missed_view q in
+      subst (λ ws. Rule r e (record { words = ws; homes = s.homes; views = set s.views id w })) (sym (set-get_or s.words word 0)) (noticed r e s rule id v is bare there s.words w refl (λ j b. refl) bare refl refl (lost r e s rule id v is there w q refl refl refl refl refl refl h last other))
 
 module _ {B : Type 0} (r : Reading B) (e : Setup) (slots id : ℕ) where
+  -- what the play tells of the stack k, where the number found is n
+  abbrev pop_told : Me (Option B) View → ℕ → Which → ℕ → Me (Option B) View → Type 0
+  pop_told me old k n after =
+      (n ≡ old → (j : ℕ) → (head_of n).index ≡ Some j → (b : B) × HasTaken r k j (Some b) me after b) × ((n ≡ old → ⊥) → HasMissed k me after)
+
   pub pops :
-      (me : Me (Option B) View) (q : Which) (old new i : ℕ) (l : Option ℕ) → Carries me → 0 < me.0.book.account.share
+      (me : Me (Option B) View) (q : Which) (old new i : ℕ) (l : Option ℕ) → Carries me → 0 < me.0.book.account.share → IsSettled me.0
       → (look_of me.0.book.account q).head ≡ Some (head_of old) → (head_of old).tag < last_tag → (head_of old).index ≡ Some i → (look_of me.0.book.account q).link ≡ Some l → head_of new ≡ after (head_of old) l
       → Allows (Rule r e) slots id me (head_word q) (λ n. either (n == old) new n) (pop_tried r (step slots (head_word q) old new none) me)
-  pops me q old new i l carries there last short top linked next = freed r e slots id (head_word q) (λ n. either (n == old) new n) (pop_tried r (step slots (head_word q) old new none) me) me carries (λ s rule count is fits. go s rule is (ℕ_discrete (slice_index s.words (head_word q)) old))
+  pops me q old new i l carries there done last short top linked next = freed r e slots id (head_word q) (λ n. either (n == old) new n) (pop_tried r (step slots (head_word q) old new none) me) me carries (λ s rule count is fits. go s rule is (ℕ_discrete (slice_index s.words (head_word q)) old))
     where
       v : View
       v = free me.0
@@ -188,7 +198,7 @@ module _ {B : Type 0} (r : Reading B) (e : Setup) (slots id : ℕ) where
           let top' : (head_of n).index ≡ Some i = ap (λ (h : Head). h.index) (sym same) ∙ top in
           let home = top_home r e s rule id v is refl there q i top' in
           let b = home.0 in
-          let w = pop_view r e s rule id v is refl there i b in
+          let w = pop_view r e s rule id v is refl there q i b in
           let ours : IsOurs r me.0.book.setup b = subst (λ f. IsOurs r f b) (sym (rule.same_setup id v is there)) (record { size = rule.sized i b home.1; objects = items_within r e s rule i b home.1 }) in
           let after_it : Rule r e (record { words = set s.words (head_word q) new; homes = set s.homes i none; views = set s.views id w }) =
           popped_rule r e s rule id v is refl there q i b top' home.1 new l (last ∙ ap {B = Option Head} Some same) (subst (λ (h : Head). h.tag < last_tag) same short) linked (next ∙ ap (λ (h : Head). after h l) same) in (
@@ -196,17 +206,29 @@ module _ {B : Type 0} (r : Reading B) (e : Setup) (slots id : ℕ) where
             takes i (Some b),
             home.1,
             subst (λ x. Rule r e (record { words = set s.words (head_word q) x; homes = set s.homes i none; views = set s.views id w })) (sym (exchange_hit n old new hit)) after_it,
-            (
-              (λ h j t. let k : i ≡ j = let f : Some i ≡ Some j = sym top' ∙ t in cc in (b, ap (λ x. (x, Some b) ∷ []) k, ap suc k, ap (λ x. popped x (r.items b) me.0.book) k, ours, (λ word. bare_on_empty r e s rule q i b top' home.1 (same_head q Empty word)))),
+            (λ p same_word. subst (λ k. pop_told me old k n (w, (i, Some b) ∷ [])) (same_head q p same_word) (
+              (λ h j t.
+                  let k : i ≡ j = let f : Some i ≡ Some j = sym top' ∙ t in cc in (
+                    b,
+                    record {
+                      slots = ap (λ x. (x, Some b) ∷ []) k;
+                      out = ap suc k;
+                      book = ap (λ x. popped x (r.items b) me.0.book) k;
+                      ours = ours;
+                      bare = bare_on_empty r e s rule q i b top' home.1;
+                      settled = record { named = refl; unsaid = refl };
+                      did = did_after r e s rule id v is there done.named done.unsaid (Pop q);
+                    },
+                  )),
               (λ miss. absurd (miss hit)),
-            ),
+            )),
           )
       go s rule is (no miss) =
           let n = slice_index s.words (head_word q) in
-          let w : View = record v { book = failed me.0.book } in (
+          let w : View = missed_view r e s rule id v is refl there q in (
             w,
             keeps,
             tt,
             subst (λ x. Rule r e (record { words = slice_set s.words (head_word q) x; homes = s.homes; views = set s.views id w })) (sym (exchange_miss n old new miss)) (failed_rule r e s rule id v is refl there q (head_of old) (head_word q) last (λ same. miss (one_head n old same))),
-            ((λ hit j t. absurd (miss hit)), (λ h. refl)),
+            (λ p same_word. subst (λ k. pop_told me old k n (w, [])) (same_head q p same_word) ((λ hit j t. absurd (miss hit)), (λ h. (refl, did_after r e s rule id v is there done.named done.unsaid (Fail q))))),
           )

@@ -15,13 +15,15 @@ use Rattle.mark_core.specs.declared.which.Which.TheVariants.{Full, Empty}
 use Rattle.mark_core.specs.Lists.{times, remove_one, IsPart}
 use Rattle.mark_core.specs.Account.{look_of, after_push}
 use Rattle.mark_core.specs.World.{Setup, Marking, put, put_which}
-use Rattle.mark_core.specs.Event.{StoreLink, Push, effect}
+use Rattle.mark_core.specs.Event.{StoreLink, Push, Fail, effect}
 use Rattle.mark_core.proofs.Sums.{times-remove_one, times_stands, only-same, only-other}
 use Rattle.buffer_pool.specs.declared.view.View.{View}
 use Rattle.buffer_pool.specs.Book.{Book, pushed, failed}
-use Rattle.buffer_pool.specs.Plays.{rested, link_stored, push_tried}
+use Rattle.buffer_pool.specs.Plays.{HasPushed, rested, link_stored, push_tried}
+use Rattle.buffer_pool.specs.Story.{Log, Did}
+use Rattle.buffer_pool.specs.Told.{IsSettled, noted}
 use Rattle.buffer_pool.specs.Table.{Reading, Reached, Rule, IsTied, Rests, Carries, free, head_word, link_word, marking_of}
-use Rattle.buffer_pool.proofs.States.{agrees, cut_below, cut_put, stands, changed, accounts_set, accounts_same, counts_same, slots_set, happened, held_alone, held_below, held_away, freed}
+use Rattle.buffer_pool.proofs.States.{agrees, cut_below, cut_put, stands, changed, accounts_set, accounts_same, counts_same, slots_set, happened, log_after, told_after, did_after, held_alone, held_below, held_away, freed}
 use Rattle.buffer_pool.proofs.Pops.{lost}
 use Rattle.buffer_pool.proofs.Loads.{each_once}
 use Rattle.buffer_pool.proofs.Words.{one_head, exchange_hit, exchange_miss, link_beside_head, links_beside_head, mark_beside_head, heads_after, head_beside_link, link_beside_link, link_here, mark_beside_link, links_after}
@@ -54,11 +56,13 @@ stays a b c d first second third = third ∙ second ∙ first
 pub still_carried : {B : Type 0} (m n : Me (Option B) View) (i : ℕ) (b : B) → n.1 ≡ m.1 → m.1 ≡ (i, Some b) ∷ [] → n.1 ≡ (i, Some b) ∷ rest n.1
 still_carried {B} m n i b same carried = let now = same ∙ carried in now ∙ ap (λ (xs : List (ℕ × Option B)). (i, Some b) ∷ rest xs) (sym now)
 
--- what a push told, of another name for the seat before it
+-- what a push told, of other names for what was pushed
 pub told_of :
-    {B : Type 0} (m n o : Me (Option B) View) (q : Which) (i j : ℕ) (xs ys : List ℕ) → m.0 ≡ n.0 → i ≡ j → xs ≡ ys → o ≡ rested m (pushed q i xs m.0.book)
-    → o ≡ rested n (pushed q j ys n.0.book)
-told_of {B} m n o q i j xs ys same index items told = told ∙ (λ k. rested {B = B} (same k, []) (pushed q (index k) (items k) (same k).book))
+    {B : Type 0} (m n o : Me (Option B) View) (q : Which) (i j : ℕ) (xs ys : List ℕ) → m.0 ≡ n.0 → i ≡ j → xs ≡ ys → HasPushed q i xs m o → HasPushed q j ys n o
+told_of {B} m n o q i j xs ys same index items told = (
+  told.0 ∙ (λ k. rested {B = B} (same k, []) o.0.log (pushed q (index k) (items k) (same k).book)),
+  subst (λ (x : View). Did x.log (Push q j ys ∷ []) o.0.log) same (subst (λ x. Did m.0.log (Push q x ys ∷ []) o.0.log) index (subst (λ zs. Did m.0.log (Push q i zs ∷ []) o.0.log) items told.1)),
+)
 
 -- a slot that a seat carries alone is the one that it took
 pub one_carried : {B : Type 0} (i j : ℕ) (b c : B) → ◌≡◌ {A = List (ℕ × Option B)} ((i, Some b) ∷ []) ((j, Some c) ∷ []) → (i ≡ j) × (b ≡ c)
@@ -71,9 +75,12 @@ module _ {B : Type 0} (r : Reading B) (e : Setup) (s : State (Option B) View) (r
   beside_mine : (k : ℕ) (u : View) (j : ℕ) (h : maybe.Option (Option B)) → k ≢ id → get_elem? s.views k ≡ some u → 0 < times j u.book.account.held → get_elem? (set s.homes i h) j ≡ get_elem? s.homes j
   beside_mine k u j h other at theirs = set_else s.homes i j h (λ same. held_alone r e s rule id v is k u i other at mine (subst (λ x. 0 < times x u.book.account.held) same theirs))
 
+  abbrev stored_view : ℕ → View
+  stored_view x = record (noted (log_after r e s rule id (StoreLink i (index_of x))) v) { out = suc i; out_link = x }
+
   -- the link of a held buffer is stored, and its slot comes out
   pub stored_rule :
-      (x : ℕ) → v.out ≡ 0 → x ≤ e.buffers → Rule r e (record { words = set s.words (link_word i) x; homes = set s.homes i none; views = set s.views id (record v { out = suc i; out_link = x }) })
+      (x : ℕ) → v.out ≡ 0 → x ≤ e.buffers → Rule r e (record { words = set s.words (link_word i) x; homes = set s.homes i none; views = set s.views id (stored_view x) })
   stored_rule x bare small =
       changed r e s rule id v is words homes w (length-set s.words (link_word i) x) (length-set s.homes i none) linked sized tied rests others (rule.same_setup id v is) reached
     where
@@ -87,7 +94,7 @@ module _ {B : Type 0} (r : Reading B) (e : Setup) (s : State (Option B) View) (r
       homes = set s.homes i none
 
       w : View
-      w = record v { out = suc i; out_link = x }
+      w = stored_view x
 
       below : i < e.buffers
       below = held_below r e s rule id v is i mine
@@ -131,11 +138,11 @@ module _ {B : Type 0} (r : Reading B) (e : Setup) (s : State (Option B) View) (r
           happened r e s rule id v is (StoreLink i (index_of x)) there (times_stands v.book.account.held i mine) t
           (agrees (marking_of r e t) (record m { link = put i (index_of x) m.link }) (λ q. ap head_of (head_beside_link e s.words i x q)) links (mark_beside_link e s.words i x below)
           (slots_set r s.homes i none ∙ set_again m.slots i None (held_away r e s rule id v is i mine)) (accounts_same r e s rule id v is w refl))
-          (counts_same r e s rule id v is w refl)
+          (counts_same r e s rule id v is w refl) (told_after r e s rule id v is there (StoreLink i (index_of x)) w refl refl refl refl)
 
   module _ (b : B) (out : v.out ≡ suc i) (q : Which) where
     abbrev push_view : View
-    push_view = record (free v) { book = pushed q i (r.items b) v.book }
+    push_view = record (noted (log_after r e s rule id (Push q i (r.items b))) (free v)) { book = pushed q i (r.items b) v.book }
 
     -- the head is exchanged for the buffer, and its slot goes home with it
     pub pushed_rule :
@@ -191,39 +198,43 @@ module _ {B : Type 0} (r : Reading B) (e : Setup) (s : State (Option B) View) (r
             happened r e s rule id v is (Push q i (r.items b)) there ((hit, short), (times_stands v.book.account.held i mine, part, room, none_empty), follows) t
             (agrees (marking_of r e t) (effect m id v.book.account (Push q i (r.items b))) (heads_after e s.words q x (after (m.head q) (Some i)) (omega (arith, rule.word_count)) next)
             (links_beside_head e s.words q x) (mark_beside_head e s.words q x) (slots_set r s.homes i (some (Some b))) (accounts_set s.views id w))
-            (counts_same r e s rule id v is w refl)
+            (counts_same r e s rule id v is w refl) (told_after r e s rule id v is there (Push q i (r.items b)) w refl refl refl refl)
+
+    abbrev kept_view : View
+    kept_view = record (noted (log_after r e s rule id (Fail q)) v) { book = failed v.book }
 
     -- the head was another: only the failure is counted, and the slot stays out
     pub missed_rule :
         (h : Head) (word : ℕ) → (look_of v.book.account q).head ≡ Some h → (head_of (slice_index s.words (head_word q)) ≡ h → ⊥)
-        → Rule r e (record { words = slice_set s.words word (slice_index s.words word); homes = s.homes; views = set s.views id (record v { book = failed v.book }) })
+        → Rule r e (record { words = slice_set s.words word (slice_index s.words word); homes = s.homes; views = set s.views id kept_view })
     missed_rule h word last other =
         subst (λ ws. Rule r e (record { words = ws; homes = s.homes; views = set s.views id w })) (sym (set-get_or s.words word 0))
-        (changed r e s rule id v is s.words s.homes w refl refl rule.linked rule.sized (rule.tied id v is) (rule.rests id v is) (λ k u other at. (rule.tied k u at, rule.rests k u at)) (rule.same_setup id v is) (lost r e s rule id v is there w refl refl q h last other))
+        (changed r e s rule id v is s.words s.homes w refl refl rule.linked rule.sized (rule.tied id v is) (rule.rests id v is) (λ k u other at. (rule.tied k u at, rule.rests k u at)) (rule.same_setup id v is) (lost r e s rule id v is there w q refl refl refl refl refl refl h last other))
       where
         w : View
-        w = record v { book = failed v.book }
+        w = kept_view
 
 module _ {B : Type 0} (r : Reading B) (e : Setup) (slots id : ℕ) where
   pub stores :
-      (me : Me (Option B) View) (i x : ℕ) → Carries me → 0 < me.0.book.account.share → 0 < times i me.0.book.account.held → x ≤ e.buffers
+      (me : Me (Option B) View) (i x : ℕ) → Carries me → 0 < me.0.book.account.share → IsSettled me.0 → 0 < times i me.0.book.account.held → x ≤ e.buffers
       → Allows (Rule r e) slots id me (link_word i) (λ n. x) (λ n. link_stored (step slots (link_word i) x 0 none) me x)
-  stores me i x carries there mine small = freed r e slots id (link_word i) (λ n. x) (λ n. link_stored (step slots (link_word i) x 0 none) me x) me carries (λ s rule count is fits.
+  stores me i x carries there done mine small = freed r e slots id (link_word i) (λ n. x) (λ n. link_stored (step slots (link_word i) x 0 none) me x) me carries (λ s rule count is fits.
       let v : View = free me.0 in
-      let w : View = record v { out = suc i; out_link = x } in (
+      let log = log_after r e s rule id (StoreLink i (index_of x)) in
+      let w : View = stored_view r e s rule id v is there i mine x in (
         w,
         takes i None,
         rule.rests id v is i mine (λ o. let z : ◌≡◌ {A = ℕ} 0 (suc i) = o in absurd (omega arith)),
         stored_rule r e s rule id v is there i mine x refl small,
-        (λ j h. let same : i ≡ j = omega (arith, h) in ap (λ k. (record me.0 { out = suc k; out_link = x }, (k, None) ∷ [])) same),
+        (λ j h. let same : i ≡ j = omega (arith, h) in (ap (λ k. (record (noted log me.0) { out = suc k; out_link = x }, (k, None) ∷ [])) same, subst (λ k. Did me.0.log (StoreLink k (index_of x) ∷ []) log) same (did_after r e s rule id v is there done.named done.unsaid (StoreLink i (index_of x))))),
       ))
 
   pub pushes :
-      (me : Me (Option B) View) (q : Which) (old new i : ℕ) (b : B) → me.1 ≡ (i, Some b) ∷ [] → me.0.out ≡ suc i → 0 < me.0.book.account.share → 0 < times i me.0.book.account.held
+      (me : Me (Option B) View) (q : Which) (old new i : ℕ) (b : B) → me.1 ≡ (i, Some b) ∷ [] → me.0.out ≡ suc i → 0 < me.0.book.account.share → IsSettled me.0 → 0 < times i me.0.book.account.held
       → (look_of me.0.book.account q).head ≡ Some (head_of old) → (head_of old).tag < last_tag → head_of new ≡ after (head_of old) (Some i) → index_of me.0.out_link ≡ (head_of old).index
       → IsPart (r.items b) me.0.book.account.charge → (q ≡ Empty → r.items b ≡ []) → r.size b ≡ me.0.book.setup.size → length (r.items b) ≤ me.0.book.setup.size
       → Allows (Rule r e) slots id me (head_word q) (λ n. either (n == old) new n) (push_tried r q (step slots (head_word q) old new none) me)
-  pushes me q old new i b carried out there mine last short next leads part none_empty size fits = λ s rule count is fits. go s rule is (ℕ_discrete (slice_index s.words (head_word q)) old)
+  pushes me q old new i b carried out there done mine last short next leads part none_empty size fits = λ s rule count is fits. go s rule is (ℕ_discrete (slice_index s.words (head_word q)) old)
     where
       v : View
       v = me.0
@@ -238,6 +249,7 @@ module _ {B : Type 0} (r : Reading B) (e : Setup) (slots id : ℕ) where
           let n = slice_index s.words (head_word q) in
           let same : head_of old ≡ head_of n = ap head_of (sym hit) in
           let w : View = push_view r e s rule id v is there i mine b out q in
+          let log = w.log in
           let after_it : Rule r e (record { words = set s.words (head_word q) new; homes = set s.homes i (some (Some b)); views = set s.views id w }) =
           pushed_rule r e s rule id v is there i mine b out q new (last ∙ ap {B = Option Head} Some same) (subst (λ (h : Head). h.tag < last_tag) same short) (next ∙ ap (λ (h : Head). after h (Some i)) same) (leads ∙ ap (λ (h : Head). h.index) same) part none_empty size fits in
           let put : Rule r e (stepped s (head_word q) (either (n == old) new n) id ((i, Some b) ∷ []) w gives) = subst (λ x. Rule r e (record { words = set s.words (head_word q) x; homes = set s.homes i (some (Some b)); views = set s.views id w })) (sym (exchange_hit n old new hit)) after_it in (
@@ -247,17 +259,18 @@ module _ {B : Type 0} (r : Reading B) (e : Setup) (slots id : ℕ) where
             subst (λ c. Rule r e (stepped s (head_word q) (either (n == old) new n) id c w gives)) (sym carried) put,
             (
               (λ h j c t. let one = one_carried i j b c (sym carried ∙ t) in
-                  let a : (w, []) ≡ rested me (pushed q j (r.items c) me.0.book) = λ k. rested me (pushed q (one.0 k) (r.items (one.1 k)) me.0.book) in
-                  subst (λ xs. (w, carried_after xs gives) ≡ rested me (pushed q j (r.items c) me.0.book)) (sym carried) a),
+                  let a : (w, []) ≡ rested me log (pushed q j (r.items c) me.0.book) = λ k. rested me log (pushed q (one.0 k) (r.items (one.1 k)) me.0.book) in
+                  let did = did_after r e s rule id v is there done.named done.unsaid (Push q i (r.items b)) in
+                  (subst (λ xs. (w, carried_after xs gives) ≡ rested me log (pushed q j (r.items c) me.0.book)) (sym carried) a, subst (λ (y : B). Did me.0.log (Push q j (r.items y) ∷ []) log) one.1 (subst (λ k. Did me.0.log (Push q k (r.items b) ∷ []) log) one.0 did))),
               (λ miss. absurd (miss hit)),
             ),
           )
       go s rule is (no miss) =
           let n = slice_index s.words (head_word q) in
-          let w : View = record v { book = failed me.0.book } in (
+          let w : View = kept_view r e s rule id v is there i mine b out q in (
             w,
             keeps,
             tt,
             subst (λ x. Rule r e (record { words = slice_set s.words (head_word q) x; homes = s.homes; views = set s.views id w })) (sym (exchange_miss n old new miss)) (missed_rule r e s rule id v is there i mine b out q (head_of old) (head_word q) last (λ same. miss (one_head n old same))),
-            ((λ hit j c t. absurd (miss hit)), (λ h. refl)),
+            ((λ hit j c t. absurd (miss hit)), (λ h. (refl, did_after r e s rule id v is there done.named done.unsaid (Fail q)))),
           )

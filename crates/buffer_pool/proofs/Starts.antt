@@ -20,6 +20,8 @@ use Rattle.buffer_pool.specs.Opening.{HasFirstWords, IsFirstSlot}
 use Rattle.buffer_pool.specs.Table.{Reading, Rule, IsTied, Rests, cut, head_word, link_word, mark_word, marking_of, slot_of}
 use Rattle.buffer_pool.proofs.States.{agrees, cut_below}
 use Rattle.buffer_pool.proofs.Loads.{nothing_out}
+use Rattle.buffer_pool.proofs.Deeds.{told_now}
+use Rattle.buffer_pool.specs.Told.{IsTold}
 use Rattle.buffer_pool.proofs.Words.{head_below}
 
 zeros : (n i : ℕ) → slice_index (replicate n 0) i ≡ 0
@@ -89,6 +91,10 @@ one_view : (w : ℕ) (v u : View) → get_elem? (v ∷ []) w ≡ some u → v �
 one_view zero v u at = some-injective v u at
 one_view (suc w) v u at = absurd (some-ne-none u (sym at))
 
+one_told : (w : ℕ) (v u : View) → get_elem? (v ∷ []) w ≡ some u → IsTold [] 0 v → IsTold [] w u
+one_told zero v u at told = subst (IsTold [] 0) (some-injective v u at) told
+one_told (suc w) v u at told = absurd (some-ne-none u (sym at))
+
 pub starts :
     {B : Type 0} (r : Reading B) (e : Setup) (words : List ℕ) (slots : List (Option B)) → 0 < e.buffers
     → HasFirstWords (32 + e.buffers + e.objects) e.first_tag e.buffers words → length slots ≡ e.buffers → All (IsFirstSlot r e.size) slots
@@ -103,7 +109,12 @@ starts {B} r e words slots some_buffer first count all =
       rests = λ w v at. subst (Rests (map some slots)) (one_view w (first_view e) v at) (λ i mine out. absurd (omega (arith, mine)));
       same_setup = λ w v at. subst (λ (x : View). 0 < x.book.account.share → x.book.setup ≡ e) (one_view w (first_view e) v at) (λ h. refl);
       some_buffer = some_buffer;
-      reached = record { events = []; led = record { run = opened; counts = refl } };
+      reached =
+          record {
+            events = [];
+            led = record { run = opened; counts = refl };
+            told = λ w v at there. one_told w (first_view e) v at (told_now [] 0 (first_view e) refl refl refl refl);
+          };
     }
   where
     linked : (i : ℕ) → i < e.buffers → slice_index words (link_word i) ≤ e.buffers
@@ -155,4 +166,4 @@ laid_first t e tag words slots word_count slot_count first count inside roots pa
 -- the first seat is sound
 pub sound_first : {B : Type 0} (t : TableId) (e : Setup) → IsLaid t e → IsSound {B = B} t (first_view e, [])
 sound_first t e laid =
-    record { laid = laid; share = omega arith; carries = refl; within = record { held = λ i k. absurd (omega (arith, k.1)); charge = λ o k. absurd (omega (arith, k.1)) } }
+    record { laid = laid; share = omega arith; carries = refl; within = record { held = λ i k. absurd (omega (arith, k.1)); charge = λ o k. absurd (omega (arith, k.1)) }; settled = record { named = refl; unsaid = refl } }

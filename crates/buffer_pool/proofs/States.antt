@@ -1,5 +1,5 @@
 -- Markings that agree, the list of events that goes on by one, and the rule of a table after one seat's view changed.
-use Rattle.std.proofs.Common.{◌≡◌, ◌≢◌, ℕ, zero, suc, ◌+◌, ◌<◌, ◌≤◌, nat_lt, if◌then◌else◌, List, [], ◌∷◌, ◌++◌, length, map, Option, Some, None, set, slice_index, ap, sym, refl, subst, ◌∙◌, ⊎_elim, length-set, lt-ltb, le-ltb, arith}
+use Rattle.std.proofs.Common.{◌≡◌, ◌≢◌, ℕ, zero, suc, ◌+◌, ◌<◌, ◌≤◌, true, nat_lt, if◌then◌else◌, List, [], ◌∷◌, ◌++◌, length, map, Option, Some, None, set, slice_index, ap, sym, refl, subst, ◌∙◌, ⊎_elim, length-set, lt-ltb, le-ltb, arith}
 use Rattle.std.proofs.lemmas.List.{map-set, set-set}
 use mathlib.Core.Option.{none, some, some-injective, some-ne-none}
 use native.Mathlib.Decide.{dec_le, ℕ_discrete}
@@ -21,6 +21,9 @@ use Rattle.mark_core.proofs.Counting.{lawful_where, leads_on}
 use Rattle.mark_core.proofs.Sums.{terms_le}
 use Rattle.mark_core.proofs.Ownership.{held_apart, place_one}
 use Rattle.buffer_pool.specs.declared.view.View.{View}
+use Rattle.buffer_pool.proofs.Deeds.{told_set, told_same, told_step, did_step}
+use Rattle.buffer_pool.specs.Told.{AreTold}
+use Rattle.buffer_pool.specs.Story.{Log, Did}
 use Rattle.buffer_pool.specs.Table.{Reading, Reached, Rule, IsTied, Rests, Carries, account_of, cut, free, link_word, marking_of, slot_of, slots_of, view_counts}
 
 -- markings that agree in each part are one
@@ -96,6 +99,23 @@ module _ {B : Type 0} (r : Reading B) (e : Setup) (s : State (Option B) View) (r
         reached = reached;
       }
 
+-- the log of a seat after a step: with the event of the step, or without one
+module _ {B : Type 0} (r : Reading B) (e : Setup) (s : State (Option B) View) (rule : Rule r e s) (id : ℕ) where
+  abbrev pub log_after : Kind → Log
+  log_after kind = record { number = id; story = rule.reached.events ++ record { worker = id; kind = kind } ∷ [] }
+
+  abbrev pub log_now : Log
+  log_now = record { number = id; story = rule.reached.events }
+
+  module _ (v : View) (is : get_elem? s.views id ≡ some v) (there : 0 < v.book.account.share) where
+    -- each log is told, where the seat's has its event
+    pub told_after : (kind : Kind) (w : View) → w.log ≡ log_after kind → w.unsaid ≡ [] → w.taken ≡ [] → w.named ≡ true → AreTold (rule.reached.events ++ record { worker = id; kind = kind } ∷ []) (set s.views id w)
+    told_after = told_step rule.reached.events s.views rule.reached.told id v is there
+
+    -- and the seat did this alone
+    pub did_after : v.named ≡ true → v.unsaid ≡ [] → (kind : Kind) → Did v.log (kind ∷ []) (log_after kind)
+    did_after = did_step rule.reached.events s.views rule.reached.told id v is there
+
 -- the items at home in a slot after a write
 pub slots_set : {B : Type 0} (r : Reading B) (homes : List (maybe.Option (Option B))) (i : ℕ) (h : maybe.Option (Option B)) → map (slot_of r) (set homes i h) ≡ set (map (slot_of r) homes) i (slot_of r h)
 slots_set r homes i h = map-set (slot_of r) homes i h
@@ -108,11 +128,14 @@ counts_set views id w = map-set view_counts views id w
 
 module _ {B : Type 0} (r : Reading B) (e : Setup) (s : State (Option B) View) (rule : Rule r e s) where
   -- the list of events that led here leads to each table with the same marking and the same counts
-  pub nothing_happened : (t : State (Option B) View) → marking_of r e t ≡ marking_of r e s → map view_counts t.views ≡ map view_counts s.views → Reached r e t
-  nothing_happened t marking counts =
+  pub nothing_happened :
+      (t : State (Option B) View) → marking_of r e t ≡ marking_of r e s → map view_counts t.views ≡ map view_counts s.views → AreTold rule.reached.events t.views
+      → Reached r e t
+  nothing_happened t marking counts told =
       record {
         events = rule.reached.events;
         led = subst (λ cs. LeadTo e rule.reached.events (marking_of r e t) cs) (sym counts) (subst (λ x. LeadTo e rule.reached.events x (map view_counts s.views)) (sym marking) rule.reached.led);
+        told = told;
       }
 
   module _ (id : ℕ) (v : View) (is : get_elem? s.views id ≡ some v) where
@@ -137,8 +160,8 @@ module _ {B : Type 0} (r : Reading B) (e : Setup) (s : State (Option B) View) (r
     pub happened :
         (kind : Kind) → 0 < v.book.account.share → may.Allows e (marking_of r e s) id v.book.account kind → (t : State (Option B) View)
         → marking_of r e t ≡ effect (marking_of r e s) id v.book.account kind → map view_counts t.views ≡ counted (marking_of r e s) (map view_counts s.views) id kind
-        → Reached r e t
-    happened kind there can t marking counts =
+        → AreTold (rule.reached.events ++ record { worker = id; kind = kind } ∷ []) t.views → Reached r e t
+    happened kind there can t marking counts told =
         let m = marking_of r e s in
         let event : Event = record { worker = id; kind = kind } in
         let at = stands r e s rule id v is in
@@ -149,6 +172,7 @@ module _ {B : Type 0} (r : Reading B) (e : Setup) (s : State (Option B) View) (r
           led = subst (λ cs. LeadTo e (rule.reached.events ++ event ∷ []) (marking_of r e t) cs) (sym counts)
               (subst (λ x. LeadTo e (rule.reached.events ++ event ∷ []) x (counted m (map view_counts s.views) id kind)) (sym all)
               (leads_on e event rule.reached.events m (map view_counts s.views) rule.reached.led (v.book.account, (at, there), can)));
+          told = told;
         }
 
 -- a slot that is out goes home without its buffer, and the rule still holds
@@ -158,6 +182,8 @@ module _ {B : Type 0} (r : Reading B) (e : Setup) (s : State (Option B) View) (r
       let t : State (Option B) View = record { words = s.words; homes = homes; views = set s.views id (free v) } in
       nothing_happened r e s rule t
       (agrees (marking_of r e t) (marking_of r e s) (λ q. refl) (λ i. refl) (λ o. refl) same (accounts_same r e s rule id v is (free v) refl)) (counts_same r e s rule id v is (free v) refl)
+      (told_set rule.reached.events s.views id (free v) (λ k u other at share. rule.reached.told k u at share)
+      (λ share. told_same rule.reached.events id v (rule.reached.told id v is share) (free v) refl refl refl refl))
 
   pub given_back : (n : ℕ) → v.out ≡ n → Rule r e (record { words = s.words; homes = put_back s.homes (slots_of n); views = set s.views id (free v) })
   given_back zero none_out =

@@ -6,6 +6,7 @@ use Rattle.mark_core.specs.declared.which.Which.{Which}
 use Rattle.mark_core.specs.declared.which.Which.TheVariants.{Empty}
 use Rattle.mark_core.specs.Lists.{IsPart}
 use Rattle.buffer_pool.specs.Book.{Book, loaded, link_loaded, failed, popped, pushed}
+use Rattle.buffer_pool.specs.Story.{Log}
 use Rattle.buffer_pool.specs.declared.answers.TryPopped.{TryPopped}
 use Rattle.buffer_pool.specs.declared.answers.TryPopped.TheVariants as try_pop
 use Rattle.buffer_pool.specs.declared.answers.TryPushed.{TryPushed}
@@ -13,10 +14,11 @@ use Rattle.buffer_pool.specs.declared.answers.TryPushed.TheVariants as try_push
 use Rattle.buffer_pool.specs.declared.answers.Popped.{Popped}
 use Rattle.buffer_pool.specs.declared.answers.Popped.TheVariants as pop
 
--- a worker: its pool, and its book
+-- a worker: its pool, its book, and its log
 pub record Holder : Type 0 where
   pub pool : TableId
   pub book : Book
+  pub log : Log
 
 -- a held buffer: its number, its items with the last put at the end, and the most that it takes
 pub record Load : Type 0 where

@@ -6,6 +6,7 @@ use Rattle.mark_core.specs.Account.{Account}
 use Rattle.mark_core.specs.World.{Setup}
 use Rattle.buffer_pool.specs.declared.view.View.{View}
 use Rattle.buffer_pool.specs.Table.{Carries}
+use Rattle.buffer_pool.specs.Told.{IsSettled}
 
 -- the sizes that a pool may have
 pub record IsInside (object_count buffer_count item_count first_tag : ℕ) : Type 0 where
@@ -37,6 +38,7 @@ pub record IsSound {B : Type 0} (t : TableId) (m : Me (Option B) View) : Type 0 
   pub share : 0 < m.0.book.account.share
   pub carries : Carries m
   pub within : IsWithin m.0.book.setup m.0.book.account
+  pub settled : IsSettled m.0
 
 -- a seat keeps its table and its number
 pub record IsSameSeat (old_table new_table : TableId) (old_id new_id : ℕ) : Type 0 where

@@ -1,10 +1,13 @@
 pub mod Book
+pub mod Story
+pub mod Told
 pub mod Codes
 pub mod Table
 pub mod Plays
 pub mod Buffers
 pub mod Setups
 pub mod Calls
+pub mod Steps
 pub mod Laid
 pub mod Opening
 pub mod Faults

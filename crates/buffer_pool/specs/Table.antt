@@ -13,6 +13,7 @@ use Rattle.mark_core.specs.Event.{Event}
 use Rattle.mark_core.specs.Counts.{Counts, LeadTo}
 use Rattle.buffer_pool.specs.declared.view.View.{View}
 use Rattle.buffer_pool.specs.Book.{counts_of}
+use Rattle.buffer_pool.specs.Told.{AreTold}
 use mathlib.Core.Option as maybe
 
 -- The two head words lie 128 bytes apart, so that they share no cache line. Then come a link word for each buffer and a mark word for each object.
@@ -81,10 +82,11 @@ module _ {B : Type 0} (r : Reading B) where
         accounts = map account_of s.views;
       }
 
-  -- a list of events leads from the opening to the marking and to the counts in the views
+  -- a list of events leads from the opening to the marking and to the counts in the views, and each log is a beginning of it
   pub record Reached (e : Setup) (s : State (Option B) View) : Type 0 where
     pub events : List Event
     pub led : LeadTo e events (marking_of e s) (map view_counts s.views)
+    pub told : AreTold events s.views
 
   -- what holds between any two steps: the run that led here, and what the code needs besides
   pub record Rule (e : Setup) (s : State (Option B) View) : Type 0 where

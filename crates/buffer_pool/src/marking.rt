@@ -1,11 +1,13 @@
 //! Claims and finishes: the marks of objects.
-ghost use Rattle.std.specs.Prelude.{◌≡◌, ◌↔◌, ◌≤◌, ℕ, IsTrue};
+ghost use Rattle.std.specs.Prelude.{◌≡◌, ◌↔◌, ◌≤◌, ℕ, [], ◌∷◌, IsTrue};
 ghost use Rattle.mark_core.specs.Event.{CanClaim, CanFinish};
+ghost use Rattle.mark_core.specs.Event as events;
 ghost use Rattle.mark_core.specs.Lists.{times};
 ghost use Rattle.buffer_pool.specs.Book.{claimed, finished};
 ghost use Rattle.buffer_pool.specs.Laid.{IsLaid, IsSound};
-ghost use Rattle.buffer_pool.specs.Plays.{rested};
+ghost use Rattle.buffer_pool.specs.Plays.{Tells, rested};
 ghost use Rattle.buffer_pool.specs.Setups.{setup_of};
+ghost use Rattle.buffer_pool.specs.Story.{Did};
 
 use crate::layout::FIRST_LINK;
 use crate::plays::{Claim, Finish};
@@ -31,7 +33,8 @@ fn raise_to_claimed<A: Allocator>(
     requires can { CanClaim seat.old.me.0.book.setup object seat.old.me.0.book.account }
     ensures same { seat.new.table_id ≡ seat.old.table_id }
     ensures sound { IsSound seat.new.table_id seat.new.me }
-    ensures told { seat.new.me ≡ rested seat.old.me (claimed object result seat.old.me.0.book) }
+    ensures told { seat.new.me ≡ rested seat.old.me seat.new.me.0.log (claimed object result seat.old.me.0.book) }
+    ensures did { Tells seat.old.me (events.Claim object ∷ []) seat.new.me }
 {
     words.fetch_max::<Claim>(
         seat,
@@ -47,7 +50,8 @@ fn raise_to_finished<A: Allocator>(words: &Words<A>, seat: &mut Token<A>, buffer
     requires can { CanFinish seat.old.me.0.book.setup object seat.old.me.0.book.account }
     ensures same { seat.new.table_id ≡ seat.old.table_id }
     ensures sound { IsSound seat.new.table_id seat.new.me }
-    ensures told { seat.new.me ≡ rested seat.old.me (finished object seat.old.me.0.book) }
+    ensures told { seat.new.me ≡ rested seat.old.me seat.new.me.0.log (finished object seat.old.me.0.book) }
+    ensures did { Tells seat.old.me (events.Finish object ∷ []) seat.new.me }
     ensures once { (o : ℕ) → times o seat.new.me.0.book.account.finished ≤ 1 }
 {
     words.fetch_max::<Finish>(
@@ -65,6 +69,7 @@ impl<A: Allocator> Pool<A> {
         requires can { CanClaim worker.old.book.setup object worker.old.book.account }
         ensures pool { worker.new.pool ≡ worker.old.pool }
         ensures event { (found : ℕ) × (worker.new.book ≡ claimed object found worker.old.book) × (IsTrue result ↔ (found ≡ 0)) }
+        ensures did { Did worker.old.log (events.Claim object ∷ []) worker.new.log }
     {
         raise_to_claimed(&self.table.shared, &mut worker.seat, self.buffers, object) == 0
     }
@@ -76,6 +81,7 @@ impl<A: Allocator> Pool<A> {
         requires can { CanFinish worker.old.book.setup object worker.old.book.account }
         ensures pool { worker.new.pool ≡ worker.old.pool }
         ensures event { worker.new.book ≡ finished object worker.old.book }
+        ensures did { Did worker.old.log (events.Finish object ∷ []) worker.new.log }
         ensures once { (o : ℕ) → times o worker.new.book.account.finished ≤ 1 }
     {
         raise_to_finished(&self.table.shared, &mut worker.seat, self.buffers, object);

@@ -3,6 +3,7 @@ ghost use Rattle.std.specs.Prelude.{◌≡◌, ◌↔◌, ℕ, ◌+◌, ◌<◌,
 ghost use Rattle.mark_core.specs.Shares.{whole};
 ghost use Rattle.std.specs.Slots.{IsFull, slots_filled, slots_len};
 ghost use Rattle.buffer_pool.specs.Closing.{Ends, IsEmptied};
+ghost use Rattle.buffer_pool.specs.Story.{EndsStory};
 
 use crate::buffer::Buffer;
 use crate::layout::FIRST_LINK;
@@ -85,7 +86,7 @@ impl<A: Allocator> Pool<A> {
         requires share { worker.book.account.share ≡ whole }
         requires held { worker.book.account.held ≡ [] }
         requires charge { worker.book.account.charge ≡ [] }
-        ensures { Ends worker.book result }
+        ensures { (ends : Ends worker.book result) × EndsStory worker.log ends.events }
     {
         let Pool { table, buffers } = self;
         let Worker { seat } = worker;

@@ -3,6 +3,8 @@ ghost use Rattle.std.specs.Prelude.{◌≡◌};
 ghost use Rattle.buffer_pool.specs.Calls.{Pops};
 ghost use Rattle.buffer_pool.specs.Laid.{IsLaid, IsSound};
 ghost use Rattle.buffer_pool.specs.Setups.{setup_of};
+ghost use Rattle.buffer_pool.specs.Steps.{pop_steps};
+ghost use Rattle.buffer_pool.specs.Story.{Did};
 
 use crate::answers::TryPopped;
 use crate::held::Held;
@@ -23,6 +25,7 @@ pub(crate) fn pop_from<A: Allocator>(
     ensures same { seat.new.table_id ≡ seat.old.table_id }
     ensures sound { IsSound seat.new.table_id seat.new.me }
     ensures pops { Pops which seat.old.me.0.book seat.new.me.0.book result }
+    ensures did { Did seat.old.me.0.log (pop_steps which result) seat.new.me.0.log }
 {
     let head = load_head(words, seat, which);
     let Some(index) = head.index() else {

@@ -1,8 +1,10 @@
 //! A try of a push, over its steps.
-ghost use Rattle.std.specs.Prelude.{◌≡◌};
+ghost use Rattle.std.specs.Prelude.{◌≡◌, ℕ, Option};
 ghost use Rattle.buffer_pool.specs.Calls.{MayPush, Pushes};
 ghost use Rattle.buffer_pool.specs.Laid.{IsLaid, IsSound};
 ghost use Rattle.buffer_pool.specs.Setups.{setup_of};
+ghost use Rattle.buffer_pool.specs.Steps.{push_steps};
+ghost use Rattle.buffer_pool.specs.Story.{Did};
 
 use crate::answers::TryPushed;
 use crate::held::Held;
@@ -24,6 +26,7 @@ pub(crate) fn push_to<A: Allocator>(
     ensures same { seat.new.table_id ≡ seat.old.table_id }
     ensures sound { IsSound seat.new.table_id seat.new.me }
     ensures pushes { Pushes which held seat.old.me.0.book seat.new.me.0.book result }
+    ensures did { (link : Option ℕ) × Did seat.old.me.0.log (push_steps which held link result) seat.new.me.0.log }
 {
     let index = held.index;
     let head = load_head(words, seat, which);

@@ -1,6 +1,9 @@
 //! The two stacks, as workers use them.
-ghost use Rattle.std.specs.Prelude.{◌≡◌, MatchResult};
+ghost use Rattle.std.specs.Prelude.{◌≡◌, ℕ, List, [], ◌∷◌, ◌++◌, Option, MatchResult};
+ghost use Rattle.mark_core.specs.Event.{Load};
 ghost use Rattle.buffer_pool.specs.Calls.{LostPops, LostPushes, MayPush, Pops, PopsAtLast, Pushes, PushesAtLast, Sees};
+ghost use Rattle.buffer_pool.specs.Steps.{last_pop, last_push, lost_pops, lost_pushes, pop_steps, push_steps};
+ghost use Rattle.buffer_pool.specs.Story.{Did};
 ghost use Rattle.buffer_pool.specs.declared.answers.TryPushed.TheVariants as try_push;
 
 use crate::answers::{Popped, TryPopped, TryPushed};
@@ -21,6 +24,7 @@ impl<A: Allocator> Pool<A> {
         requires { worker.old.pool ≡ self.now }
         ensures pool { worker.new.pool ≡ worker.old.pool }
         ensures sees { Sees which worker.old.book worker.new.book result }
+        ensures did { Did worker.old.log (Load which ∷ []) worker.new.log }
     {
         load_head(&self.table.shared, &mut worker.seat, which)
             .index()
@@ -33,6 +37,7 @@ impl<A: Allocator> Pool<A> {
         requires { worker.old.pool ≡ self.now }
         ensures pool { worker.new.pool ≡ worker.old.pool }
         ensures pops { Pops which worker.old.book worker.new.book result }
+        ensures did { Did worker.old.log (pop_steps which result) worker.new.log }
     {
         pop_from(&self.table.shared, &mut worker.seat, which)
     }
@@ -49,6 +54,7 @@ impl<A: Allocator> Pool<A> {
         requires may { MayPush which held worker.old.book }
         ensures pool { worker.new.pool ≡ worker.old.pool }
         ensures pushes { Pushes which held worker.old.book worker.new.book result }
+        ensures did { (link : Option ℕ) × Did worker.old.log (push_steps which held link result) worker.new.log }
     {
         push_to(&self.table.shared, &mut worker.seat, which, held)
     }
@@ -58,6 +64,7 @@ impl<A: Allocator> Pool<A> {
         requires { worker.old.pool ≡ self.now }
         ensures pool { worker.new.pool ≡ worker.old.pool }
         ensures pops { PopsAtLast which worker.old.book worker.new.book result }
+        ensures did { (lost : ℕ) × Did worker.old.log (lost_pops which lost ++ last_pop which result) worker.new.log }
     {
         let backoff = Backoff::new();
         for _ in rt.forever() {
@@ -84,6 +91,7 @@ impl<A: Allocator> Pool<A> {
         requires may { MayPush which held worker.old.book }
         ensures pool { worker.new.pool ≡ worker.old.pool }
         ensures pushes { MatchResult result (λ _. PushesAtLast which held worker.old.book worker.new.book try_push.Done) (λ back. PushesAtLast which held worker.old.book worker.new.book (try_push.Spent back)) }
+        ensures did { (links : List (Option ℕ)) × (link : Option ℕ) × Did worker.old.log (lost_pushes which held links ++ last_push which held link result) worker.new.log }
     {
         let backoff = Backoff::new();
         let mut held = held;

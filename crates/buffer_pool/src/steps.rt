@@ -4,15 +4,16 @@ ghost use Rattle.std.specs.Option.{ForSome};
 ghost use Rattle.tagged_index.specs.Head.{Head, after, last_tag, low_of};
 ghost use Rattle.mark_core.specs.declared.which.Which.TheVariants.{Empty};
 ghost use Rattle.mark_core.specs.Account.{look_of};
-ghost use Rattle.mark_core.specs.Event.{CanPop};
+ghost use Rattle.mark_core.specs.Event.{CanPop, Load, LoadLink, StoreLink as StoreLinkOf};
 ghost use Rattle.atomic_table.specs.Table.{step};
 ghost use mathlib.Core.Option.{none};
 ghost use Rattle.buffer_pool.specs.Buffers.{buffer_reading};
-ghost use Rattle.buffer_pool.specs.Book.{failed, link_loaded, loaded, popped, pushed};
+ghost use Rattle.buffer_pool.specs.Book.{link_loaded, loaded};
 ghost use Rattle.buffer_pool.specs.Calls.{MayPush};
 ghost use Rattle.buffer_pool.specs.Laid.{IsBare, IsLaid, IsSound};
-ghost use Rattle.buffer_pool.specs.Plays.{CanPut, IsOurs, push_tried, rested};
+ghost use Rattle.buffer_pool.specs.Plays.{CanPut, HasKept, HasMissed, HasPushed, HasTaken, Tells, push_tried, rested};
 ghost use Rattle.buffer_pool.specs.Setups.{setup_of};
+ghost use Rattle.buffer_pool.specs.Told.{IsSettled, noted};
 
 use crate::buffer::Buffer;
 use crate::held::Held;
@@ -35,7 +36,8 @@ pub(crate) fn load_head<A: Allocator>(
     requires sound { IsSound seat.old.table_id seat.old.me }
     ensures same { (seat.new.table_id ≡ seat.old.table_id) × (seat.new.id ≡ seat.old.id) }
     ensures sound { IsSound seat.new.table_id seat.new.me }
-    ensures told { seat.new.me ≡ rested seat.old.me (loaded which result seat.old.me.0.book) }
+    ensures told { seat.new.me ≡ rested seat.old.me seat.new.me.0.log (loaded which result seat.old.me.0.book) }
+    ensures did { Tells seat.old.me (Load which ∷ []) seat.new.me }
     ensures within { (i : ℕ) → result.index ≡ Some i → i < seat.old.me.0.book.setup.buffers }
 {
     HeadWord::from_word(words.load::<SeeHead>(seat, head_word(which)))
@@ -52,7 +54,8 @@ pub(crate) fn load_link<A: Allocator>(
     requires sound { IsSound seat.old.table_id seat.old.me × IsBare seat.old.me }
     requires looked { (h : Head) × ((look_of seat.old.me.0.book.account which).head ≡ Some h) × (h.index ≡ Some index) × (index < seat.old.me.0.book.setup.buffers) }
     ensures same { (seat.new.table_id ≡ seat.old.table_id) × (seat.new.id ≡ seat.old.id) }
-    ensures told { seat.new.me ≡ rested seat.old.me (link_loaded which result seat.old.me.0.book) }
+    ensures told { seat.new.me ≡ rested seat.old.me seat.new.me.0.log (link_loaded which result seat.old.me.0.book) }
+    ensures did { Tells seat.old.me (LoadLink which ∷ []) seat.new.me }
     ensures within { ForSome result (λ i. i < seat.old.me.0.book.setup.buffers) }
 {
     let word = FIRST_LINK + index as usize;
@@ -82,7 +85,7 @@ pub(crate) fn take_top<A: Allocator>(
     requires index { head.index ≡ Some index }
     requires next { (l : Option ℕ) × ((look_of seat.old.me.0.book.account which).link ≡ Some l) × (next ≡ after head l) }
     ensures same { (seat.new.table_id ≡ seat.old.table_id) × (seat.new.id ≡ seat.old.id) }
-    ensures told { MatchOption result (seat.new.me ≡ rested seat.old.me (failed seat.old.me.0.book)) (λ b. IsOurs buffer_reading seat.old.me.0.book.setup b × (seat.new.me.1 ≡ (index, None) ∷ []) × (seat.new.me.0.out ≡ suc index) × (seat.new.me.0.book ≡ popped index b.items.items seat.old.me.0.book) × (which ≡ Empty → b.items.items ≡ [])) }
+    ensures told { MatchOption result (HasMissed which seat.old.me seat.new.me) (λ b. HasTaken buffer_reading which index None seat.old.me seat.new.me b) }
 {
     let word = head.word();
     if words.compare_exchange::<TryPop>(seat, head_word(which), word, next.word()) != word {
@@ -116,7 +119,8 @@ pub(crate) fn store_link<A: Allocator>(
     requires held { Contains seat.old.me.0.book.account.held index }
     requires within { (i : ℕ) → head.index ≡ Some i → i < seat.old.me.0.book.setup.buffers }
     ensures same { (seat.new.table_id ≡ seat.old.table_id) × (seat.new.id ≡ seat.old.id) }
-    ensures told { seat.new.me ≡ (record seat.old.me.0 { out = suc index; out_link = low_of head.index }, (index, None) ∷ []) }
+    ensures told { seat.new.me ≡ (record (noted seat.new.me.0.log seat.old.me.0) { out = suc index; out_link = low_of head.index }, (index, None) ∷ []) }
+    ensures did { Tells seat.old.me (StoreLinkOf index head.index ∷ []) seat.new.me }
 {
     words.store::<StoreLink>(seat, FIRST_LINK + index as usize, link_to(head));
 }
@@ -152,11 +156,12 @@ pub(crate) fn put_top<A: Allocator>(
 ) -> Result<(), Held<A>>
     requires table { (seat.old.table_id ≡ words.now.table_id) × IsLaid words.now.table_id (setup_of words.now.key) }
     requires stored { (seat.old.me.1 ≡ (held.index, None) ∷ []) × (seat.old.me.0.out ≡ suc held.index) × (seat.old.me.0.out_link ≡ low_of head.index) × (0 < seat.old.me.0.book.account.share) }
+    requires settled { IsSettled seat.old.me.0 }
     requires loaded { ((look_of seat.old.me.0.book.account which).head ≡ Some head) × (head.tag < last_tag) }
     requires next { next ≡ after head (Some held.index) }
     requires may { MayPush which held seat.old.me.0.book }
     ensures same { (seat.new.table_id ≡ seat.old.table_id) × (seat.new.id ≡ seat.old.id) }
-    ensures told { MatchResult result (λ _. seat.new.me ≡ rested seat.old.me (pushed which held.index held.items seat.old.me.0.book)) (λ back. (back ≡ held) × (seat.new.me ≡ (record seat.old.me.0 { book = failed seat.old.me.0.book }, (held.index, None) ∷ []))) }
+    ensures told { MatchResult result (λ _. HasPushed which held.index held.items seat.old.me seat.new.me) (λ back. (back ≡ held) × HasKept which ((held.index, None) ∷ []) seat.old.me seat.new.me) }
 {
     let Held { index, buffer } = held;
     words.exchange(seat, index as usize, Some(buffer));

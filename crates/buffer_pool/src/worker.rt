@@ -16,7 +16,7 @@ impl<A: Allocator> Model for Worker<A> {
 
     ghost Value = { Holder };
 
-    ghost view = { λ w. record { pool = w.seat.table_id; book = w.seat.me.0.book } };
+    ghost view = { λ w. record { pool = w.seat.table_id; book = w.seat.me.0.book; log = w.seat.me.0.log } };
 
     ghost invariant = { λ w. IsSound w.seat.table_id w.seat.me };
 }

@@ -24,7 +24,7 @@ both_false : (a b : Bool) → a ≡ false → b ≡ false → a || b ≡ false
 both_false a b h k = ap (λ x. x || b) h ∙ k
 
 module _ (number workers : ℕ) (e : Setup) (begun old worker new : Holder) (fresh : begun.book ≡ book.new_book e 1) (was : HasTakenIn number workers e old)
-    (done : HasDone number workers begun worker) (is : new ≡ record old { book = book.joined old.book worker.book }) where
+    (done : HasDone number workers begun worker) (is : new ≡ record old { book = book.joined old.book worker.book; log = new.log }) where
   book_is : new.book ≡ book.joined old.book worker.book
   book_is = ap (λ (h : Holder). h.book) is
 

@@ -91,7 +91,7 @@ where
     requires setup { IsSetupOf (V.count graph.now) (V.roots graph.now) (V.pairs graph.now) leader.book.setup }
     requires new { leader.book ≡ new_book leader.book.setup whole }
     requires workers { workers < whole }
-    ensures leader { IfOk result (λ s. s.0 ≡ record leader { book = new_book leader.book.setup (whole - workers) }) }
+    ensures leader { IfOk result (λ s. s.0 ≡ record leader { book = new_book leader.book.setup (whole - workers); log = s.0.log }) }
     ensures count { IfOk result (λ s. vec_len s.1 ≡ workers) }
     ensures threads { IfOk result (λ s. (number : ℕ) (t : _) → number < workers → IsPartOf number workers (record leader { book = new_book leader.book.setup 1 }) (get_or s.1.items number t).promise) }
 {

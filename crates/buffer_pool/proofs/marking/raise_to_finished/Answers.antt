@@ -26,7 +26,7 @@ fetch_max-requires g c =
       c.requires.table.0,
       omega (arith, word, below, same, c.requires.table.1.words),
       subst (λ x. Allows (Rule buffer_reading e) z.slots c.args.seat.now.id me x (λ n. max n 2) (finish_made (step z.slots x 2 0 none) me)) (sym word)
-          (finishes buffer_reading e z.slots c.args.seat.now.id me c.args.object c.requires.sound.carries c.requires.sound.share c.requires.can (omega (arith, below, same))),
+          (finishes buffer_reading e z.slots c.args.seat.now.id me c.args.object c.requires.sound.carries c.requires.sound.share c.requires.sound.settled c.requires.can (omega (arith, below, same))),
     )
 
 pub returns-clause-sound : goal.returns-clause-sound
@@ -36,8 +36,8 @@ returns-clause-sound g c =
     let slots : c.args.seat.now.table_id.slots ≡ c.args.words.now.table_id.slots = ap (λ (t : TableId). t.slots) c.requires.table.0 in
     let b : me.0.book.setup.buffers ≡ e.buffers = omega (arith, slots, c.requires.table.1.slots, c.requires.sound.laid.slots) in
     let word : 32 + c.args.buffers + c.args.object ≡ mark_word me.0.book.setup c.args.object = omega (arith, c.requires.table.2, b) in
-    sound_same c.args.seat.now.table_id c.fetch_max.new.seat.table_id c.fetch_max.new.seat.me (rested me (finished c.args.object me.0.book))
-    (sound_finished c.args.seat.now.table_id me c.requires.sound c.args.object (stands_times me.0.book.account.charge c.args.object c.requires.can.0)) c.fetch_max.ensures.0 (c.fetch_max.ensures.2 c.args.object word).0
+    sound_same c.args.seat.now.table_id c.fetch_max.new.seat.table_id c.fetch_max.new.seat.me (rested me c.fetch_max.new.seat.me.0.log (finished c.args.object me.0.book))
+    (sound_finished c.args.seat.now.table_id me c.requires.sound c.fetch_max.new.seat.me.0.log c.args.object (stands_times me.0.book.account.charge c.args.object c.requires.can.0)) c.fetch_max.ensures.0 (c.fetch_max.ensures.2 c.args.object word).0
 
 pub returns-clause-told : goal.returns-clause-told
 returns-clause-told g c =
@@ -56,3 +56,12 @@ returns-clause-once g c =
     let b : me.0.book.setup.buffers ≡ e.buffers = omega (arith, slots, c.requires.table.1.slots, c.requires.sound.laid.slots) in
     let word : 32 + c.args.buffers + c.args.object ≡ mark_word me.0.book.setup c.args.object = omega (arith, c.requires.table.2, b) in
     (c.fetch_max.ensures.2 c.args.object word).1
+
+pub returns-clause-did : goal.returns-clause-did
+returns-clause-did g c =
+    let me = c.args.seat.now.me in
+    let e = setup_of c.args.words.now.key in
+    let slots : c.args.seat.now.table_id.slots ≡ c.args.words.now.table_id.slots = ap (λ (t : TableId). t.slots) c.requires.table.0 in
+    let b : me.0.book.setup.buffers ≡ e.buffers = omega (arith, slots, c.requires.table.1.slots, c.requires.sound.laid.slots) in
+    let word : 32 + c.args.buffers + c.args.object ≡ mark_word me.0.book.setup c.args.object = omega (arith, c.requires.table.2, b) in
+    (c.fetch_max.ensures.2 c.args.object word).2

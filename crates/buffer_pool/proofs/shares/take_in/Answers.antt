@@ -10,7 +10,7 @@ use Rattle.buffer_pool.proofs.Loads.{settles}
 use Rattle.mark_core.specs.Lists.{times}
 use Rattle.mark_core.specs.Account.{after_join}
 use Rattle.mark_core.specs.Runs.{AreApart, HasEachOnce}
-use Rattle.buffer_pool.proofs.Parts.{apart_by, carries_joined, joined_at_last, joins, has_both}
+use Rattle.buffer_pool.proofs.Parts.{apart_by, carries_joined, did_join, joins, has_both, knows_other}
 use Rattle.buffer_pool.proofs.shares.take_in.Given as given
 use Rattle.buffer_pool.proofs.shares.take_in.Goals as goal
 
@@ -27,14 +27,14 @@ load-requires g c =
 
 pub join_seat-requires : goal.join_seat-requires
 join_seat-requires g c =
-    let freed = c.load.ensures.2.0 in
+    let freed = c.load.ensures.2.same in
     let sound = c.requires.sound.0 in (
       c.requires.table.0,
       c.load.ensures.0 ∙ c.requires.table.1,
       ap (λ (n : Token g). n.1) freed,
       omega (arith, sound.laid.words, ap (λ (t : TableId). t.words) c.requires.table.0),
-      joins buffer_reading (setup_of c.args.words.now.key) c.args.seat.now.id c.args.seat.now.me.0 c.load.new.seat.id c.load.new.seat.me.0 (ap (λ (n : Token g). n.0.out) freed) sound.share
-          (omega (arith, c.requires.sound.1.share, ap (λ (n : Token g). n.0.book.account.share) freed)),
+      joins buffer_reading (setup_of c.args.words.now.key) c.args.seat.now.id c.args.seat.now.me.0 c.load.new.seat.id c.load.new.seat.me.0 (ap (λ (n : Token g). n.0.out) freed) sound.share sound.settled.named
+          (omega (arith, c.requires.sound.1.share, ap (λ (n : Token g). n.0.book.account.share) freed)) (ap (λ (n : Token g). n.0.named) freed),
     )
 
 pub load-requires-2 : goal.load-requires-2
@@ -47,19 +47,31 @@ load-requires-2 g c =
           (omega (arith, sound.share, ap (λ (n : Token g). n.0.book.account.share) both)),
     )
 
+-- the joined seat is sound, and tells the join
 pub returns-clause-joined : goal.returns-clause-joined
 returns-clause-joined g c =
     let same = sym (c.requires.table.1 ∙ sym c.requires.table.0) in
-    let told = joined_at_last c.args.seat.now.me c.args.other.me c.load.new.seat.me c.join_seat.new.seat.me c.load-2.new.seat.me c.load.ensures.2.0 c.join_seat.ensures.2 c.load-2.ensures.2.0 in
-    has_both c.args.seat.now.table_id c.load-2.new.seat.table_id c.args.seat.now.me c.args.other.me c.load-2.new.seat.me (c.load-2.ensures.0 ∙ c.join_seat.ensures.0) told c.requires.sound.0
-    (subst (λ t. IsSound t c.args.other.me) (sym same) c.requires.sound.1)
+    has_both c.args.seat.now.table_id c.load-2.new.seat.table_id c.args.seat.now.me c.args.other.me c.load.new.seat.me c.join_seat.new.seat.me c.load-2.new.seat.me (c.load-2.ensures.0 ∙ c.join_seat.ensures.0)
+    c.requires.sound.0 (subst (λ t. IsSound t c.args.other.me) (sym same) c.requires.sound.1) c.load.ensures.2 c.join_seat.ensures.2 c.load-2.ensures.2
+
+pub returns-clause-did : goal.returns-clause-did
+returns-clause-did g c =
+    let same = sym (c.requires.table.1 ∙ sym c.requires.table.0) in
+    did_join c.args.seat.now.table_id c.load-2.new.seat.table_id c.args.seat.now.me c.args.other.me c.load.new.seat.me c.join_seat.new.seat.me c.load-2.new.seat.me (c.load-2.ensures.0 ∙ c.join_seat.ensures.0)
+    c.requires.sound.0 (subst (λ t. IsSound t c.args.other.me) (sym same) c.requires.sound.1) c.load.ensures.2 c.join_seat.ensures.2 c.load-2.ensures.2
+
+pub returns-clause-knows : goal.returns-clause-knows
+returns-clause-knows g c =
+    let same = sym (c.requires.table.1 ∙ sym c.requires.table.0) in
+    knows_other c.args.seat.now.table_id c.load-2.new.seat.table_id c.args.seat.now.me c.args.other.me c.load.new.seat.me c.join_seat.new.seat.me c.load-2.new.seat.me (c.load-2.ensures.0 ∙ c.join_seat.ensures.0)
+    c.requires.sound.0 (subst (λ t. IsSound t c.args.other.me) (sym same) c.requires.sound.1) c.load.ensures.2 c.join_seat.ensures.2 c.load-2.ensures.2
 
 pub returns-clause-apart : goal.returns-clause-apart
 returns-clause-apart g c =
-    let told : HasEachOnce (after_join c.args.seat.now.me.0.book.account c.load.new.seat.me.0.book.account) = subst (λ (n : Token g). HasEachOnce n.0.book.account) c.join_seat.ensures.2 c.load-2.ensures.2.1 in
-    subst (λ (n : Token g). AreApart c.args.seat.now.me.0.book.account n.0.book.account) c.load.ensures.2.0 (apart_by c.args.seat.now.me.0.book.account c.load.new.seat.me.0.book.account told)
+    let told : HasEachOnce (after_join c.args.seat.now.me.0.book.account c.load.new.seat.me.0.book.account) = subst (λ (n : Token g). HasEachOnce n.0.book.account) c.join_seat.ensures.2 c.load-2.ensures.2.each in
+    subst (λ (n : Token g). AreApart c.args.seat.now.me.0.book.account n.0.book.account) c.load.ensures.2.same (apart_by c.args.seat.now.me.0.book.account c.load.new.seat.me.0.book.account told)
 
 pub returns-clause-once : goal.returns-clause-once
 returns-clause-once g c o =
-    let same = ap (λ (n : Token g). times o n.0.book.account.finished) c.load-2.ensures.2.0 in
-    omega (arith, same, c.load-2.ensures.2.1.objects o)
+    let same = ap (λ (n : Token g). times o n.0.book.account.finished) c.load-2.ensures.2.same in
+    omega (arith, same, c.load-2.ensures.2.each.objects o)

@@ -28,6 +28,7 @@ exchange_for_buffer-requires-clause-put g c =
         carried = refl;
         out = c.requires.stored.1 ∙ ap suc (sym index);
         share = c.requires.stored.3;
+        settled = c.requires.settled;
         held = stands_times me.0.book.account.held i held;
         last = c.requires.loaded.0 ∙ ap {B = Option Head} Some (sym spelled);
         short = subst (λ (h : Head). h.tag < last_tag) (sym spelled) c.requires.loaded.1;
@@ -58,7 +59,7 @@ exchange-requires-2 g c =
     let b = c.held.inside.buffer in
     let at = carried_with me c.exchange.new.seat.me i c.args.held.index b c.exchange.ensures.3 c.requires.stored.0 in
     let back = c.exchange_for_buffer.ensures.told.1 c.if-exchange_for_buffer-word.false in
-    let carried = still_carried c.exchange.new.seat.me c.exchange_for_buffer.new.seat.me i b (λ k. (back k).1) (λ k. (at k).1) in (
+    let carried = still_carried c.exchange.new.seat.me c.exchange_for_buffer.new.seat.me i b (λ k. (back.0 k).1) (λ k. (at k).1) in (
       stays c.args.words.now.table_id c.args.seat.now.table_id c.exchange.new.seat.table_id c.exchange_for_buffer.new.seat.table_id c.requires.table.0 c.exchange.ensures.0 c.exchange_for_buffer.ensures.same.0,
       (Some b, carried),
     )

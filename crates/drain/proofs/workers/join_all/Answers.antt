@@ -35,7 +35,7 @@ join-leader-requires g c =
     let begun : Holder = record c.args.leader { book = new_book c.args.leader.book.setup 1 } in
     let part =
     first_holds (λ n t. IsPartOf n (vec_len c.args.threads) begun t.promise) was.2.0 (into_iter_len c.loop-thread.thread-iterator) (into_iter_items c.loop-thread.thread-iterator) (into_iter_items c.next.new.self) c.in-Some.thread step.0 was.2.3 (omega (arith, step.1)) in
-    record { pool = (was.0 ∙ c.requires.pool, c.in_ok-join.ensures.goes_on.pool ∙ ap (λ (h : Holder). h.pool) part.2 ∙ c.requires.pool) }
+    record { pool = (was.0 ∙ c.requires.pool, c.in_ok-join.ensures.goes_on.pool ∙ part.2 ∙ c.requires.pool) }
 
 pub loop-thread-preserved : goal.loop-thread-preserved
 loop-thread-preserved g c =
@@ -51,11 +51,11 @@ loop-thread-preserved g c =
     first_holds (λ n t. IsPartOf n workers begun t.promise) was.2.0 (into_iter_len c.loop-thread.thread-iterator) (into_iter_items c.loop-thread.thread-iterator) (into_iter_items c.next.new.self) c.in-Some.thread step.0 was.2.3 (omega (arith, step.1)) in
     let rest =
     others_hold (λ n t. IsPartOf n workers begun t.promise) was.2.0 (into_iter_len c.loop-thread.thread-iterator) (into_iter_items c.loop-thread.thread-iterator) (into_iter_items c.next.new.self) c.in-Some.thread step.0 was.2.3 (into_iter_len c.next.new.self) step.1 in
-    let as_part = subst (λ (h : Holder). HasDone c.in-Some.thread.promise.number c.in-Some.thread.promise.workers h worker) part.2 c.in_ok-join.ensures in
-    let as_one_of = subst (λ (n : ℕ). HasDone c.in-Some.thread.promise.number n begun worker) part.1 as_part in
-    let done = subst (λ (n : ℕ). HasDone n workers begun worker) part.0 as_one_of in
-    let taken = one_taken was.2.0 workers e begun old worker new refl was.2.2 done c.join-leader.ensures.together in
-    let unit = one_unit_more was.2.0 workers e begun old worker new refl was.2.2 done c.join-leader.ensures.together in (
+    let as_was = c.in-Some.thread.promise.begun.value in
+    let as_one_of = subst (λ (n : ℕ). HasDone c.in-Some.thread.promise.number n as_was worker) part.1 c.in_ok-join.ensures in
+    let done = subst (λ (n : ℕ). HasDone n workers as_was worker) part.0 as_one_of in
+    let taken = one_taken was.2.0 workers e as_was old worker new part.3 was.2.2 done c.join-leader.ensures.together in
+    let unit = one_unit_more was.2.0 workers e as_was old worker new part.3 was.2.2 done c.join-leader.ensures.together in (
       ap (λ (h : Holder). h.pool) c.join-leader.ensures.together ∙ was.0,
       omega (arith, unit, was.1, step.1),
       (was.2.0 + 1, omega (arith, was.2.1, step.1), taken, rest),

@@ -3,6 +3,7 @@ use Rattle.std.specs.Slots.{slots_items}
 use Rattle.buffer_pool.specs.Buffers.{buffer_reading}
 use Rattle.buffer_pool.specs.Calls.{Holder}
 use Rattle.buffer_pool.specs.Closing.{Ends}
+use Rattle.buffer_pool.specs.Story.{EndsStory}
 use Rattle.buffer_pool.specs.Setups.{setup_of}
 use Rattle.buffer_pool.proofs.Closes.{ends_of}
 use Rattle.buffer_pool.proofs.pool.Pool.close.Goals as goal
@@ -16,5 +17,6 @@ returns g c =
     let told =
     ends_of buffer_reading (setup_of c.self.inside.table.shared.key) seat.id seat.me.0 words (slots_items c.close_with-closed.result.slots) first (ap (λ (n : ℕ). 32 + n) c.self.invariant.1)
     c.close_with-closed.ensures.values.2 (ap (λ (x : Holder). x.book.account.share) is ∙ c.requires.share) (ap (λ (x : Holder). x.book.account.held) is ∙ c.requires.held)
-    (ap (λ (x : Holder). x.book.account.charge) is ∙ c.requires.charge) in
-    subst (λ (ws : List ℕ). Ends c.args.worker.book (drop first ws)) (sym (ap slots_items c.empty_slots.ensures.words)) (subst (λ (x : Holder). Ends x.book (drop first words)) is told)
+    (ap (λ (x : Holder). x.book.account.charge) is ∙ c.requires.charge) c.worker.invariant.settled in
+    subst (λ (ws : List ℕ). (ended : Ends c.args.worker.book (drop first ws)) × EndsStory c.args.worker.log ended.events) (sym (ap slots_items c.empty_slots.ensures.words))
+    (subst (λ (x : Holder). (ended : Ends x.book (drop first words)) × EndsStory x.log ended.events) is told)

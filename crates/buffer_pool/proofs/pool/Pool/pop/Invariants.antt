@@ -1,7 +1,11 @@
--- so far the tries were lost
-use Rattle.std.proofs.Common.{◌≡◌}
+-- so far the tries were lost, and the worker did those alone
+use Rattle.std.proofs.Common.{◌≡◌, ℕ}
 use Rattle.buffer_pool.specs.Calls.{LostPops}
+use Rattle.buffer_pool.specs.Steps.{lost_pops}
+use Rattle.buffer_pool.specs.Story.{Did}
 use Rattle.buffer_pool.proofs.pool.Pool.pop.Given as goal
 
 abbrev pub invariant-loop : goal.invariant-loop
-invariant-loop g l = (l.worker.pool ≡ l.initial.worker.pool) × LostPops l.which l.initial.worker.book l.worker.book
+invariant-loop g l =
+    (l.worker.pool ≡ l.initial.worker.pool) × LostPops l.which l.initial.worker.book l.worker.book
+    × ((lost : ℕ) × Did l.initial.worker.log (lost_pops l.which lost) l.worker.log)

@@ -1,9 +1,12 @@
--- so far the tries were lost, and the buffer came back
-use Rattle.std.proofs.Common.{◌≡◌}
+-- so far the tries were lost, the buffer came back, and the worker did those tries alone
+use Rattle.std.proofs.Common.{◌≡◌, ℕ, List, Option}
 use Rattle.buffer_pool.specs.Calls.{LostPushes, MayPush}
+use Rattle.buffer_pool.specs.Steps.{lost_pushes}
+use Rattle.buffer_pool.specs.Story.{Did}
 use Rattle.buffer_pool.proofs.pool.Pool.push.Given as goal
 
 abbrev pub invariant-loop : goal.invariant-loop
 invariant-loop g l =
     (l.worker.pool ≡ l.initial.worker.pool) × (l.held ≡ l.initial.held) × MayPush l.which l.held l.worker.book
     × LostPushes l.which l.initial.held l.initial.worker.book l.worker.book
+    × ((links : List (Option ℕ)) × Did l.initial.worker.log (lost_pushes l.which l.initial.held links) l.worker.log)

@@ -1,0 +1,121 @@
+-- A number that no account has yet did nothing, so the new worker of a split did nothing.
+use Rattle.std.proofs.Common.{◌≡◌, ◌≢◌, ◌⊎◌, ℕ, zero, suc, ◌<◌, ◌≤◌, ◌==◌, true, false, List, [], ◌∷◌, ◌++◌, length, Option, Some, None, set, slice_index_or, ap, sym, refl, subst, ◌∙◌, inl, inr, ⊎_elim, length-set, length-append, ne_eqb, cond, arith}
+use Rattle.std.proofs.lemmas.Bool.{false≢true}
+use Rattle.std.proofs.lemmas.List.{append_assoc}
+use mathlib.Core.Option.{some, some-injective, some-ne-none}
+use lib.ListN.{get_elem?}
+use Rattle.atomic_table.proofs.Lists.{at_set}
+use Rattle.mark_core.specs.declared.which.Which.{Which}
+use Rattle.mark_core.specs.Account.{Account, look_of, part, spent, after_split, after_join}
+use Rattle.mark_core.specs.World.{Setup, Marking, account_at}
+use Rattle.mark_core.specs.Event.{Event, Kind, Claim, Finish, Split, Join, Load, LoadLink, StoreLink, Pop, Push, Fail, effect, happens, popped}
+use Rattle.mark_core.specs.Runs.{Run}
+use Rattle.mark_core.proofs.Places.{at_below}
+use Rattle.buffer_pool.specs.declared.view.View.{View}
+use Rattle.buffer_pool.specs.Story.{deeds}
+use Rattle.buffer_pool.specs.Told.{AreTold, IsTold}
+use Rattle.buffer_pool.specs.Setups.{kept_part, given_part, joined_view, spent_view}
+use Rattle.buffer_pool.proofs.Deeds.{deeds_on, no_deed, told_mine, told_theirs, told_set}
+
+-- accounts never become fewer
+popped_long : (m : Marking) (w : ℕ) (a : Account) (q : Which) (index : Option ℕ) (link : Option (Option ℕ)) → length m.accounts ≤ length (popped m w a q index link).accounts
+popped_long m w a q None link = omega arith
+popped_long m w a q (Some i) None = omega arith
+popped_long m w a q (Some i) (Some l) = omega (arith, length-set m.accounts w)
+
+effect_long : (m : Marking) (w : ℕ) (a : Account) (kind : Kind) → length m.accounts ≤ length (effect m w a kind).accounts
+effect_long m w a (Claim o) = omega (arith, length-set m.accounts w)
+effect_long m w a (Finish o) = omega (arith, length-set m.accounts w)
+effect_long m w a (Split units) = omega (arith, length-set m.accounts w (after_split units a), length-append (set m.accounts w (after_split units a)) (part units ∷ []))
+effect_long m w a (Join v) =
+    omega (arith, length-set m.accounts w (after_join a (account_at m.accounts v)), length-set (set m.accounts w (after_join a (account_at m.accounts v))) v spent)
+effect_long m w a (Load q) = omega (arith, length-set m.accounts w)
+effect_long m w a (LoadLink q) = omega (arith, length-set m.accounts w)
+effect_long m w a (StoreLink i l) = omega arith
+effect_long m w a (Pop q) = popped_long m w a q (m.head q).index (look_of a q).link
+effect_long m w a (Push q i items) = omega (arith, length-set m.accounts w)
+effect_long m w a (Fail q) = omega arith
+
+run_long : (e : Setup) (events : List Event) (first last : Marking) → Run e first events last → length first.accounts ≤ length last.accounts
+run_long e [] first last run = omega (arith, ap (λ (m : Marking). length m.accounts) run)
+run_long e (event ∷ events) first last run =
+    omega (arith, effect_long first event.worker (account_at first.accounts event.worker) event.kind, run_long e events (happens first event) last run.1)
+
+pub nothing_done : (e : Setup) (events : List Event) (first last : Marking) (n : ℕ) → Run e first events last → length last.accounts ≤ n → deeds n events ≡ []
+nothing_done e [] first last n run past = refl
+nothing_done e (event ∷ events) first last n run past =
+    let below : event.worker < length first.accounts = at_below first.accounts event.worker run.0.0 run.0.1.0 in
+    let long = run_long e (event ∷ events) first last run in
+    let other : event.worker ≢ n = λ same. omega (arith, same, below, long, past) in
+    ap (λ t. cond t (event.kind ∷ deeds n events) (deeds n events)) (ne_eqb event.worker n other) ∙ nothing_done e events (happens first event) last n run.1 past
+
+-- what stands in a list with one element more, and where
+pub at_end : {X : Type 0} (xs : List X) (x u : X) (k : ℕ) → get_elem? (xs ++ x ∷ []) k ≡ some u → (get_elem? xs k ≡ some u) ⊎ ((k ≡ length xs) × (x ≡ u))
+at_end [] x u zero at = inr (refl, some-injective x u at)
+at_end [] x u (suc k) at = absurd (some-ne-none u (sym at))
+at_end (y ∷ ys) x u zero at = inl at
+at_end (y ∷ ys) x u (suc k) at = ⊎_elim (λ t. inl t) (λ t. inr (omega (arith, t.0), t.1)) (at_end ys x u k at)
+
+module _ (events : List Event) (views : List View) (told : AreTold events views) (id : ℕ) (v : View) (is : get_elem? views id ≡ some v) (there : 0 < v.book.account.share) (known : v.named ≡ true) where
+  own : IsTold events id v
+  own = told id v is there
+
+  -- after a split: the worker that gave units notes it, and the new one has a number that nobody had
+  pub told_split :
+      deeds (length views) events ≡ []
+      → AreTold (events ++ record { worker = id; kind = Split v.aside } ∷ []) (set views id (kept_part v) ++ given_part v ∷ [])
+  told_split nobody k u at share =
+      ⊎_elim
+      (λ t. told_set later views id (kept_part v) (λ j x other here x_share. told_theirs events j x (told j x here x_share) event (λ same. other (sym same))) (λ h. kept) k u t share)
+      (λ t. subst (λ n. IsTold later n u) (sym (t.0 ∙ length-set views id (kept_part v))) (subst (IsTold later (length views)) t.1 given))
+      (at_end (set views id (kept_part v)) (given_part v) u k at)
+    where
+      event : Event
+      event = record { worker = id; kind = Split v.aside }
+
+      later : List Event
+      later = events ++ event ∷ []
+
+      kept : IsTold later id (kept_part v)
+      kept =
+          told_mine events id v own event (kept_part v) known refl refl known refl (own.taken.0 ++ event ∷ [])
+          (ap (λ xs. xs ++ event ∷ []) own.taken.1 ∙ append_assoc v.taken own.taken.0 (event ∷ []))
+
+      none : deeds (length views) later ≡ []
+      none =
+          let other : id ≢ length views = λ same. omega (arith, same, at_below views id v is) in
+          deeds_on (length views) events (event ∷ []) ∙ (λ i. nobody i ++ no_deed (length views) event other i)
+
+      given : IsTold later (length views) (given_part v)
+      given =
+          record {
+            number = λ named. absurd (false≢true named);
+            since = later;
+            goes_on = refl;
+            unsaid = none;
+            taken = (own.since ++ event ∷ [], ap (λ xs. xs ++ event ∷ []) own.goes_on ∙ append_assoc v.log.story own.since (event ∷ []));
+            fresh = λ new. none;
+          }
+
+  -- after a join: the worker that took the other in notes it, and has the other's story
+  pub told_join :
+      (other : ℕ) (w : View) → other ≢ id → get_elem? views other ≡ some w → 0 < w.book.account.share → w.named ≡ true
+      → AreTold (events ++ record { worker = id; kind = Join other } ∷ []) (set (set views id (joined_view v w)) other spent_view)
+  told_join other w apart at theirs_there theirs_known =
+      told_set later (set views id (joined_view v w)) other spent_view
+      (λ k u differ here share. told_set later views id (joined_view v w) (λ j x apart_too stood x_share. told_theirs events j x (told j x stood x_share) event (λ same. apart_too (sym same))) (λ h. both) k u here share)
+      (λ h. absurd (omega (arith, h)))
+    where
+      event : Event
+      event = record { worker = id; kind = Join other }
+
+      later : List Event
+      later = events ++ event ∷ []
+
+      theirs : IsTold events other w
+      theirs = told other w at theirs_there
+
+      both : IsTold later id (joined_view v w)
+      both =
+          told_mine events id v own event (joined_view v w) known refl refl known (ap (λ n. v.unsaid ++ Join n ∷ []) (theirs.number theirs_known)) (theirs.since ++ event ∷ [])
+          (ap (λ xs. xs ++ event ∷ []) theirs.goes_on ∙ append_assoc w.log.story theirs.since (event ∷ []))

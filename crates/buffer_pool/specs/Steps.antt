@@ -1,0 +1,45 @@
+-- Which events each call of a pool is, in order.
+use Rattle.std.specs.Prelude.{ℕ, zero, suc, List, [], ◌∷◌, ◌++◌, Option, Result, Ok, Err}
+use Rattle.mark_core.specs.declared.which.Which.{Which}
+use Rattle.mark_core.specs.Event.{Kind, Load, LoadLink, StoreLink, Pop, Push, Fail}
+use Rattle.buffer_pool.specs.Calls.{Load as Held}
+use Rattle.buffer_pool.specs.declared.answers.TryPopped.{TryPopped}
+use Rattle.buffer_pool.specs.declared.answers.TryPopped.TheVariants as try_pop
+use Rattle.buffer_pool.specs.declared.answers.TryPushed.{TryPushed}
+use Rattle.buffer_pool.specs.declared.answers.TryPushed.TheVariants as try_push
+use Rattle.buffer_pool.specs.declared.answers.Popped.{Popped}
+use Rattle.buffer_pool.specs.declared.answers.Popped.TheVariants as pop
+
+-- one try of a pop
+abbrev pub pop_steps : {H : Type 0} → Which → TryPopped H → List Kind
+pop_steps q (try_pop.Took h) = Load q ∷ LoadLink q ∷ Pop q ∷ []
+pop_steps q try_pop.Empty = Load q ∷ []
+pop_steps q try_pop.Lost = Load q ∷ LoadLink q ∷ Fail q ∷ []
+pop_steps q try_pop.Spent = Load q ∷ []
+
+-- one try of a push of this buffer, with the link that is stored at it
+abbrev pub push_steps : Which → Held → Option ℕ → TryPushed Held → List Kind
+push_steps q h link try_push.Done = Load q ∷ StoreLink h.index link ∷ Push q h.index h.items ∷ []
+push_steps q h link (try_push.Lost back) = Load q ∷ StoreLink h.index link ∷ Fail q ∷ []
+push_steps q h link (try_push.Spent back) = Load q ∷ []
+
+-- so many tries of a pop, each of them lost
+abbrev pub lost_pops : Which → ℕ → List Kind
+lost_pops q zero = []
+lost_pops q (suc lost) = lost_pops q lost ++ Load q ∷ LoadLink q ∷ Fail q ∷ []
+
+-- the try of a pop that was not lost
+abbrev pub last_pop : {H : Type 0} → Which → Popped H → List Kind
+last_pop q (pop.Took h) = Load q ∷ LoadLink q ∷ Pop q ∷ []
+last_pop q pop.Empty = Load q ∷ []
+last_pop q pop.Spent = Load q ∷ []
+
+-- a try of a push of this buffer for each of these links, the last link first, each of them lost
+abbrev pub lost_pushes : Which → Held → List (Option ℕ) → List Kind
+lost_pushes q h [] = []
+lost_pushes q h (link ∷ links) = lost_pushes q h links ++ push_steps q h link (try_push.Lost h)
+
+-- the try of a push that was not lost: done, or the buffer came back
+abbrev pub last_push : {U : Type 0} → Which → Held → Option ℕ → Result U Held → List Kind
+last_push q h link (Ok done) = push_steps q h link try_push.Done
+last_push q h link (Err back) = push_steps q h link (try_push.Spent back)

@@ -1,0 +1,30 @@
+-- A worker's log: what all workers of a pool did up to its last step, and what of that it did itself.
+use Rattle.std.specs.Prelude.{◌≡◌, ℕ, ◌==◌, if◌then◌else◌, List, [], ◌∷◌, ◌++◌}
+use Rattle.mark_core.specs.Event.{Kind, Event}
+
+pub record Log : Type 0 where
+  -- the worker's number among the accounts
+  pub number : ℕ
+  -- all that the workers of its pool did, from the opening to this worker's last step
+  pub story : List Event
+
+-- what the worker of this number did, in order
+abbrev pub deeds : ℕ → List Event → List Kind
+deeds w [] = []
+deeds w (event ∷ events) = if event.worker == w then event.kind ∷ deeds w events else deeds w events
+
+-- the story went on, and of what came the worker did just this
+abbrev pub Did : Log → List Kind → Log → Type 0
+Did old kinds new = (since : List Event) × (new ≡ record old { story = old.story ++ since }) × (deeds old.number since ≡ kinds)
+
+-- the log of the first worker of a new pool
+abbrev pub first_log : Log
+first_log = record { number = 0; story = [] }
+
+-- the log of a worker that nobody was before: it knows what the log says that it came from, and did nothing
+abbrev pub IsNewcomer : Log → Log → Type 0
+IsNewcomer from new = ((more : List Event) × (new.story ≡ from.story ++ more)) × (deeds new.number new.story ≡ [])
+
+-- these events begin with the worker's story, and it did nothing since
+abbrev pub EndsStory : Log → List Event → Type 0
+EndsStory log events = (since : List Event) × (events ≡ log.story ++ since) × (deeds log.number since ≡ [])
