@@ -1,6 +1,7 @@
 pub mod BytesMoved
 pub mod EntryLemmas
 pub mod LineText
+pub mod ReadInPlace
 pub mod OrderLemmas
 pub mod RowLemmas
 pub mod TallyLemmas

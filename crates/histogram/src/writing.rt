@@ -1,12 +1,12 @@
 //! Writing a report.
-ghost use Rattle.std.specs.Prelude.{◌≡◌, ◌≢◌, ◌+◌, ◌-◌, ◌^◌, ◌<◌, ◌↔◌, IsErrOf, OnOk};
+ghost use Rattle.std.specs.Prelude.{◌≡◌, ◌≢◌, ◌+◌, ◌-◌, ◌^◌, ◌<◌, ◌↔◌, IsErrOf, OnOk, true};
 ghost use Rattle.std.specs.Io.KnownBytes.{Appends, Keeps};
+ghost use Rattle.histogram.specs.Counting.{AppendsBeginning, failures_of, inner_of, is_flushed};
 ghost use Rattle.histogram.specs.Report.{report_of};
-ghost use Rattle.histogram.specs.Counting.{AppendsBeginning, failures_of, inner_of};
 ghost use Rattle.histogram.specs.Lines.{histogram_of};
 
+use crate::counted::Counted;
 use crate::report::Report;
-use crate::streams::Counted;
 use crate::text::text_of;
 use std::alloc::Allocator;
 use std::io::Write;
@@ -35,8 +35,13 @@ pub fn write_report<A: Allocator, B: Allocator, W: Write>(
     ensures written { OnOk result (Appends (W.contents (inner_of writer.old)) (W.contents (inner_of writer.new))
         (report_of (histogram_of report.now))) }
     ensures beginning { result ≡ Err WriteRefusal.WriteFault
-        → AppendsBeginning (W.contents (inner_of writer.old)) (W.contents (inner_of writer.new)) (report_of (histogram_of report.now)) }
-    ensures untouched { result ≡ Err WriteRefusal.OutOfMemory → Keeps (W.contents (inner_of writer.old)) (W.contents (inner_of writer.new)) }
+        → AppendsBeginning (W.contents (inner_of writer.old)) (W.contents (inner_of writer.new))
+        (report_of (histogram_of report.now)) }
+    ensures untouched { result ≡ Err WriteRefusal.OutOfMemory
+        → Keeps (W.contents (inner_of writer.old)) (W.contents (inner_of writer.new)) }
+
+    // A flush came behind the last write that took something.
+    ensures flushed { OnOk result (is_flushed writer.new ≡ true) }
 
     // The count rises where a write or the flush failed, and there alone.
     ensures fault { IsErrOf result WriteRefusal.WriteFault ↔ (failures_of writer.new ≡ failures_of writer.old + 1) }

@@ -1,7 +1,7 @@
 use Rattle.std.proofs.Common.{◌≡◌, ◌-◌, ◌≤◌, length, take}
 use Rattle.std.specs.Io.KnownBytes.{Appends}
 use Rattle.histogram.specs.Counting.{failures_of}
-use Rattle.histogram.proofs.streams.Counted.write_whole.Given as goal
+use Rattle.histogram.proofs.counted.Counted.write_whole.Given as goal
 
 -- no write has failed, and the bytes before `at` were taken
 abbrev pub invariant-loop-at : goal.invariant-loop-at

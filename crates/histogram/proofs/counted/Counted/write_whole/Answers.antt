@@ -1,6 +1,6 @@
 use Rattle.std.proofs.Common.{arith, length, drop, ◌-◌, ◌≤◌, length-take, length-drop}
 use Rattle.histogram.proofs.BytesMoved.{takes_on}
-use Rattle.histogram.proofs.streams.Counted.write_whole.Goals as goal
+use Rattle.histogram.proofs.counted.Counted.write_whole.Goals as goal
 
 pub loop-at-preserved : goal.loop-at-preserved
 loop-at-preserved g c =

@@ -1,0 +1,121 @@
+//! Reading with a count of what failed.
+ghost use Rattle.std.specs.Prelude.{◌≡◌, ◌≢◌, ◌+◌, ◌-◌, ◌^◌, ◌<◌, ◌≤◌, ◌↔◌, if◌then◌else◌, take, drop, is_err, length};
+ghost use Rattle.std.specs.Prelude.{IfOk, IfSome, IsErrOf, OnErr, OnOk, vec_len};
+ghost use Rattle.std.specs.Io.{ReadsAtMost};
+ghost use Rattle.std.specs.Io.KnownBytes.{Consumes, IsAtEnd, Keeps, ReadConsumes};
+ghost use Rattle.histogram.specs.Counting.{ConsumesFewer, failures_of, inner_of};
+
+use super::Counted;
+use std::alloc::{AllocError, Allocator};
+use std::io;
+use std::io::Read;
+use thiserror::Error;
+
+/// Why the bytes of a reader could not be had.
+#[derive(Clone, Copy, PartialEq, Eq, Debug, Error)]
+pub enum ReaderRefusal {
+    /// A read failed. It was not tried again, whatever its kind.
+    #[error("a read failed")]
+    ReadFault,
+    /// The memory for the bytes was refused.
+    #[error("out of memory")]
+    OutOfMemory,
+}
+
+/// How many bytes one read asks for at most, and room for how many is taken where none is left.
+const CHUNK: usize = 262_144;
+
+impl<R: Read> Counted<R> {
+    /// One read, as the wrapped reader makes it.
+    pub fn read(&mut self, buf: &mut [u8]) -> io::Result<usize>
+        requires { failures_of self.old < 2 ^ 64 - 1 }
+        ensures bound { ReadsAtMost result buf.new }
+        ensures bytes { ReadConsumes (R.remaining (inner_of self.old)) (R.remaining (inner_of self.new)) result buf.new }
+        ensures counts { failures_of self.new ≡ (if is_err result then failures_of self.old + 1 else failures_of self.old) }
+    {
+        let outcome = self.inner.read(buf);
+        self.count_if(outcome.is_err());
+        outcome
+    }
+
+    /// Reads until a read answers 0 or `limit` bytes are there, straight into the answer.
+    ///
+    /// A read that fails ends the call, and is not tried again. A refusal tells nothing of the bytes read before it.
+    pub fn read_to_limit<A: Allocator>(
+        &mut self,
+        alloc: A,
+        limit: usize,
+    ) -> Result<Vec<u8, A>, ReaderRefusal>
+        requires { failures_of self.old < 2 ^ 64 - 1 }
+        ensures bytes { IfOk result (λ v. IfSome (R.remaining (inner_of self.old)) (λ xs. v.items ≡ take limit xs)) }
+        ensures consumed { IfOk result (λ v.
+            Consumes (R.remaining (inner_of self.old)) (R.remaining (inner_of self.new)) v.items) }
+        ensures size { IfOk result (λ v. vec_len v ≤ limit) }
+
+        // The count rises where a read failed, and there alone.
+        ensures fault { IsErrOf result ReaderRefusal.ReadFault ↔ (failures_of self.new ≡ failures_of self.old + 1) }
+        ensures no_fault { result ≢ Err ReaderRefusal.ReadFault → failures_of self.new ≡ failures_of self.old }
+
+        // No read is made once the limit is reached: before the one that failed fewer bytes had come.
+        ensures below { result ≡ Err ReaderRefusal.ReadFault
+            → ConsumesFewer limit (R.remaining (inner_of self.old)) (R.remaining (inner_of self.new)) }
+    {
+        let Ok(mut bytes) = Vec::with_capacity(alloc, self.expected.min(limit)) else {
+            return Err(ReaderRefusal::OutOfMemory);
+        };
+        let mut filled = 0;
+        while filled < limit {
+            if make_room(&mut bytes, filled, limit).is_err() {
+                return Err(ReaderRefusal::OutOfMemory);
+            }
+            match self.read_behind(bytes.as_mut_slice(), filled) {
+                Ok(0) => break,
+                Ok(count) => filled += count,
+                Err(_) => return Err(ReaderRefusal::ReadFault),
+            }
+        }
+        bytes.truncate(filled);
+        Ok(bytes)
+    }
+
+    /// One read into what stands behind the first `filled` bytes.
+    fn read_behind(&mut self, bytes: &mut [u8], filled: usize) -> io::Result<usize>
+        requires below { failures_of self.old < 2 ^ 64 - 1 }
+        requires room { filled < length bytes.old }
+        ensures front { take filled bytes.new ≡ take filled bytes.old }
+        ensures fits { IfOk result (λ n. filled + n ≤ length bytes.new) }
+        ensures grown { IfOk result (λ n.
+            Consumes (R.remaining (inner_of self.old)) (R.remaining (inner_of self.new)) (take n (drop filled bytes.new))) }
+        ensures end { IfOk result (λ n. n ≡ 0 → IsAtEnd (R.remaining (inner_of self.new))) }
+        ensures kept { OnErr result (Keeps (R.remaining (inner_of self.old)) (R.remaining (inner_of self.new))) }
+        ensures counts { failures_of self.new ≡ (if is_err result then failures_of self.old + 1 else failures_of self.old) }
+    {
+        self.read(&mut bytes[filled..])
+    }
+}
+
+/// Makes room behind the first `filled` bytes: some of it is zeroed, and `limit` bytes are there at most.
+fn make_room<A: Allocator>(
+    bytes: &mut Vec<u8, A>,
+    filled: usize,
+    limit: usize,
+) -> Result<(), AllocError>
+    requires filled { filled ≤ vec_len bytes.old }
+    requires below { filled < limit }
+    requires within { vec_len bytes.old ≤ limit }
+    ensures room { OnOk result (filled < vec_len bytes.new) }
+    ensures within { vec_len bytes.new ≤ limit }
+    ensures front { take filled bytes.new.items ≡ take filled bytes.old.items }
+{
+    if filled == bytes.capacity() {
+        bytes.reserve(CHUNK.min(limit - filled))?;
+    }
+    let end = bytes
+        .capacity()
+        .min(filled.saturating_add(CHUNK))
+        .min(limit);
+    if bytes.len() < end {
+        bytes.resize(end, 0)?;
+    }
+    Ok(())
+}
