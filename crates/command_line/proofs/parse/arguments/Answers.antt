@@ -1,0 +1,33 @@
+use Rattle.std.proofs.Common.{ap, arith, codes, map, refl, ◌≡◌, ◌≢◌, ◌∙◌}
+use Rattle.clap.specs.Words.{App, found_of, is_simple, matches_of}
+use Rattle.clap.specs.Walk.{rows_of}
+use Rattle.command_line.specs.Line.{heapmark_line, texts_of}
+use Rattle.command_line.proofs.Given.{file_held, given_of, is_simple_line, number_held, only_buffer, only_buffers, only_first_tag, only_workers}
+use Rattle.command_line.proofs.parse.arguments.Goals as goal
+
+pub values-requires : goal.values-requires
+values-requires c =
+    let held = number_held c.in-Ok.command c.in-Ok.ensures c.in-Ok-try_get_matches_from.matches c.in-Ok-try_get_matches_from.ensures.parsed in
+    record {
+      file = file_held c.in-Ok.command c.in-Ok.ensures c.in-Ok-try_get_matches_from.matches c.in-Ok-try_get_matches_from.ensures.parsed;
+      workers = held 1 (codes "workers") 1 64 (codes "4") 119 (λ r. refl) (omega arith) only_workers refl (λ e. omega (arith, e)) (λ e. omega (arith, e)) (λ e. omega (arith, e));
+      buffer = held 2 (codes "buffer") 2 4096 (codes "256") 98 (λ r. refl) (omega arith) only_buffer refl (λ e. omega (arith, e)) (λ e. omega (arith, e)) (λ e. omega (arith, e));
+      buffers = held 3 (codes "buffers") 4 65534 (codes "1024") 98 (λ r. refl) (omega arith) only_buffers refl (λ e. omega (arith, e)) (λ e. omega (arith, e)) (λ e. omega (arith, e));
+      first_tag = held 4 (codes "first-tag") 0 281474976710655 (codes "0") 102 (λ r. refl) (omega arith) only_first_tag refl (λ e. omega (arith, e)) (λ e. omega (arith, e)) (λ e. omega (arith, e));
+    }
+
+pub returns-in-Ok-try_get_matches_from-clause-given : goal.returns-in-Ok-try_get_matches_from-clause-given
+returns-in-Ok-try_get_matches_from-clause-given c =
+    let m = c.in-Ok-try_get_matches_from.matches in
+    let words = texts_of c.args.words.now in
+    let rows : rows_of (found_of m) ≡ matches_of heapmark_line words =
+    (c.in-Ok-try_get_matches_from.ensures.matches (ap is_simple c.in-Ok.ensures ∙ is_simple_line)).0 ∙ ap (λ (a : App). matches_of a words) c.in-Ok.ensures in
+    let given = given_of m words rows in
+    let read = c.values.ensures in
+    record {
+      file = given (codes "file") c.values.result.file.now read.file;
+      workers = record { text = read.workers.text; given = given (codes "workers") _ read.workers.first; numeral = read.workers.numeral; spelled = read.workers.spelled };
+      buffer = record { text = read.buffer.text; given = given (codes "buffer") _ read.buffer.first; numeral = read.buffer.numeral; spelled = read.buffer.spelled };
+      buffers = record { text = read.buffers.text; given = given (codes "buffers") _ read.buffers.first; numeral = read.buffers.numeral; spelled = read.buffers.spelled };
+      first_tag = record { text = read.first_tag.text; given = given (codes "first-tag") _ read.first_tag.first; numeral = read.first_tag.numeral; spelled = read.first_tag.spelled };
+    }

@@ -1,0 +1,90 @@
+//! The command line in clap's words.
+ghost use Rattle.std.specs.Prelude.{◌≡◌, IfOk, codes, false};
+ghost use Rattle.clap.specs.Words.{app_of, rule_of};
+ghost use Rattle.command_line.specs.Line.{file_rule, heapmark_line, number_rule, option_rule};
+
+use crate::help;
+use clap::builder::ValueParser;
+use clap::{Arg, ArgAction, Command, value_parser};
+use std::alloc::{AllocError, Global};
+
+/// `heapmark FILE --workers N --buffer N --buffers N --first-tag N`.
+pub(crate) fn command<'a>(alloc: Global) -> Result<Command<'a>, AllocError>
+    ensures { IfOk result (λ c. app_of c ≡ heapmark_line) }
+{
+    let command = Command::new(alloc, "heapmark")
+        .about(help::ABOUT)
+        .after_help(help::AFTER);
+    let command = command.arg(file(alloc))?;
+    let command = command.arg(workers(alloc))?;
+    let command = command.arg(buffer(alloc))?;
+    let command = command.arg(buffers(alloc))?;
+    let command = command.arg(first_tag(alloc))?;
+    Ok(command)
+}
+
+/// The heap dump.
+fn file<'a>(alloc: Global) -> Arg<'a>
+    ensures rule { rule_of result ≡ file_rule }
+    ensures local { result.global ≡ false }
+{
+    Arg::new(alloc, "file")
+        .required(true)
+        .action(ArgAction::Set)
+        .value_name("FILE")
+        .help(help::FILE)
+}
+
+/// How many threads mark.
+fn workers<'a>(alloc: Global) -> Arg<'a>
+    ensures rule { rule_of result ≡ number_rule (codes "workers") 1 64 (codes "4") }
+    ensures local { result.global ≡ false }
+{
+    let values = value_parser!(u64).range(1..=64);
+    option(alloc, "workers", values, "4").help(help::WORKERS)
+}
+
+/// How many objects a buffer holds.
+fn buffer<'a>(alloc: Global) -> Arg<'a>
+    ensures rule { rule_of result ≡ number_rule (codes "buffer") 2 4096 (codes "256") }
+    ensures local { result.global ≡ false }
+{
+    let values = value_parser!(u64).range(2..=4096);
+    option(alloc, "buffer", values, "256").help(help::BUFFER)
+}
+
+/// How many buffers there are.
+fn buffers<'a>(alloc: Global) -> Arg<'a>
+    ensures rule { rule_of result ≡ number_rule (codes "buffers") 4 65534 (codes "1024") }
+    ensures local { result.global ≡ false }
+{
+    let values = value_parser!(u64).range(4..=65_534);
+    option(alloc, "buffers", values, "1024").help(help::BUFFERS)
+}
+
+/// The first tag of the two stacks of buffers.
+fn first_tag<'a>(alloc: Global) -> Arg<'a>
+    ensures rule { rule_of result ≡ number_rule (codes "first-tag") 0 281474976710655 (codes "0") }
+    ensures local { result.global ≡ false }
+{
+    let values = value_parser!(u64).range(0..=281_474_976_710_655);
+    option(alloc, "first-tag", values, "0").help(help::FIRST_TAG)
+}
+
+/// An option with one of these values, and a default.
+fn option<'a>(
+    alloc: Global,
+    name: &'a str,
+    values: ValueParser<'a>,
+    default: &'a str,
+) -> Arg<'a>
+    ensures rule { rule_of result ≡ option_rule name.entry.now values.entry default.entry.now }
+    ensures local { result.global ≡ false }
+{
+    Arg::new(alloc, name)
+        .long(name)
+        .action(ArgAction::Set)
+        .value_name("N")
+        .value_parser(values)
+        .default_value(default)
+}

@@ -1,0 +1,65 @@
+//! From words to the file and the options.
+ghost use Rattle.std.specs.Prelude.{◌≡◌, ◌≤◌, IfErr, IfOk, codes, true, ℕ};
+ghost use Rattle.clap.specs.Words.{first_value, found_of, kind_of, takes};
+ghost use Rattle.command_line.specs.Line.{AreGiven, AreInRange, heapmark_line, texts_of};
+ghost use Rattle.command_line.specs.working.Held.{HoldsAll, HoldsNumber, ReadsNumber};
+
+use crate::line::command;
+use crate::values::Arguments;
+use clap::error::ErrorKind;
+use clap::{ArgMatches, Error};
+use std::alloc::Global;
+
+/// What the words of a command line give, the program's own name first.
+///
+/// An error is a fault of the words, a wish for help, or want of memory, as its kind says. Its text is for the user.
+pub fn arguments<'a>(alloc: Global, words: &'a [&'a str]) -> Result<Arguments<'a>, Error>
+    ensures given { IfOk result (AreGiven (texts_of words.entry.now)) }
+    ensures ranges { IfOk result AreInRange }
+    ensures taken { IfErr result (λ e.
+        takes heapmark_line (texts_of words.entry.now) ≡ true → kind_of e ≡ ErrorKind.OutOfMemory) }
+{
+    let command = match command(alloc) {
+        Ok(command) => command,
+        Err(refused) => return Err(Error::from(refused)),
+    };
+    match command.try_get_matches_from(words) {
+        Ok(matches) => Ok(values(&matches)),
+        Err(error) => Err(error),
+    }
+}
+
+/// The values of a parse that succeeded.
+fn values<'a>(matches: &ArgMatches<'a>) -> Arguments<'a>
+    requires { HoldsAll (found_of matches.now) }
+    ensures file { first_value (found_of matches.now) (codes "file") ≡ Some result.file.now }
+    ensures workers { ReadsNumber (found_of matches.now) (codes "workers") result.workers }
+    ensures buffer { ReadsNumber (found_of matches.now) (codes "buffer") result.buffer }
+    ensures buffers { ReadsNumber (found_of matches.now) (codes "buffers") result.buffers }
+    ensures first_tag { ReadsNumber (found_of matches.now) (codes "first-tag") result.first_tag }
+    ensures ranges { AreInRange result }
+{
+    let Some(file) = matches.get_str("file") else {
+        unreachable!();
+    };
+    Arguments {
+        file,
+        workers: number(matches, "workers") as u32,
+        buffer: number(matches, "buffer") as u32,
+        buffers: number(matches, "buffers") as u32,
+        first_tag: number(matches, "first-tag"),
+    }
+}
+
+/// The number of an option.
+fn number(matches: &ArgMatches<'_>, name: &str) -> u64
+    requires { (least : ℕ) × (most : ℕ) × HoldsNumber (found_of matches.now) name.now least most }
+    ensures value { ReadsNumber (found_of matches.now) name.now result }
+    ensures range { (least most : ℕ) → HoldsNumber (found_of matches.now) name.now least most
+        → (least ≤ result) × (result ≤ most) }
+{
+    let Some(number) = matches.get_one::<u64>(name) else {
+        unreachable!();
+    };
+    number
+}

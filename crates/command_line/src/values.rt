@@ -1,0 +1,16 @@
+//! What the words of a command line give.
+
+/// The file and the options of a command line.
+#[derive(Clone, Copy, Debug, PartialEq, Eq)]
+pub struct Arguments<'a> {
+    /// The name of the heap dump.
+    pub file: &'a str,
+    /// How many threads mark: 1 to 64.
+    pub workers: u32,
+    /// How many objects a buffer holds: 2 to 4096.
+    pub buffer: u32,
+    /// How many buffers there are: 4 to 65534.
+    pub buffers: u32,
+    /// The first tag of the two stacks of buffers: 0 to 281474976710655.
+    pub first_tag: u64,
+}
