@@ -9,7 +9,7 @@ use Rattle.clap.specs.Facts.{args_of, groups_of, least_values, WantsDefault, unw
 use Rattle.clap.specs.Matches.{first_value, found_of, one_text}
 use Rattle.clap.specs.Simple.{app_of, shape_of}
 use Rattle.clap.specs.Walk.{Rule, is_free_arg, is_simple_arg, rows_of, rule_of, texts}
-use Rattle.clap.specs.Words.{App, Text, first_of, is_simple, matches_of}
+use Rattle.clap.specs.Words.{App, Text, first_of, is_simple, is_simple_and_free, matches_of}
 use Rattle.clap.specs.Texts.{items_of}
 use Rattle.clap.specs.declared.builder.arg.Arg.{Arg}
 use Rattle.clap.specs.declared.builder.command.Command.{Command}
@@ -33,6 +33,10 @@ rules = file_rule ∷ number_rule (codes "workers") 1 64 (codes "4") ∷ number_
 pub is_simple_line : is_simple heapmark_line ≡ true
 unfolding heapmark_line clap_on_literals
 is_simple_line = refl
+
+pub is_free_line : is_simple_and_free heapmark_line ≡ true
+unfolding heapmark_line clap_on_literals
+is_free_line = refl
 
 rules_of_line : heapmark_line.top.rules ≡ rules
 unfolding heapmark_line

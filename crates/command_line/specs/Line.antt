@@ -1,11 +1,13 @@
 -- The command line of heapmark in clap's words, and what its words give.
-use Rattle.std.specs.Prelude.{List, None, Option, Some, [], codes, length, map, true, ℕ, ◌∷◌, ◌≡◌, ◌≤◌}
+use Rattle.std.specs.Prelude.{List, Option, Some, [], codes, map, true, ℕ, ◌∷◌, ◌≡◌, ◌≢◌, ◌≤◌}
 use Rattle.std.specs.Borrow.{Bor}
 use Rattle.std.specs.Str.Parse.{IsNumeral, digits_value, without_leading_plus}
-use Rattle.clap.specs.Words.{App, Rule, Text, first_of, matches_of, new_app, new_rule, with_rule}
+use Rattle.clap.specs.Words.{App, IsAmong, Kinds, Rule, Text, fault_of, first_of, matches_of, new_app, new_rule, with_rule}
 use Rattle.clap.specs.declared.builder.action.ArgAction.TheVariants.{Set}
 use Rattle.clap.specs.declared.builder.value_parser.ValueParser.{ValueParser}
 use Rattle.clap.specs.declared.builder.value_parser.ValueParser.TheVariants as parser
+use Rattle.clap.specs.declared.error.kind.ErrorKind.{ErrorKind}
+use Rattle.clap.specs.declared.error.kind.ErrorKind.TheVariants as variant
 use Rattle.command_line.specs.declared.values.Arguments.{Arguments}
 
 -- the file, which has to be there
@@ -46,6 +48,22 @@ texts_of = map (λ word. word.now)
 -- what the words give for the file or an option: the text that stands there, or the option's default
 abbrev pub text_given : Text → List Text → Option Text
 text_given name words = first_of name (matches_of heapmark_line words)
+
+-- What is wrong with the words, or that they ask for help: the kinds of error that a parse may have.
+abbrev pub faults_of : List Text → Kinds
+faults_of words = fault_of heapmark_line words
+
+-- nothing is wrong with the words
+abbrev pub IsTaken : List Text → Type 0
+IsTaken words = faults_of words ≡ []
+
+-- the words ask for help
+abbrev pub AsksForHelp : List Text → Type 0
+AsksForHelp words = IsAmong variant.DisplayHelp (faults_of words)
+
+-- something else is wrong with the words
+abbrev pub IsWrong : List Text → Type 0
+IsWrong words = (kind : ErrorKind) × IsAmong kind (faults_of words) × (kind ≢ variant.DisplayHelp)
 
 -- the words give an option this number: its text is a decimal numeral that spells it
 pub record GivesNumber (name : Text) (words : List Text) (number : ℕ) : Type 0 where

@@ -1,7 +1,7 @@
 //! From words to the file and the options.
 ghost use Rattle.std.specs.Prelude.{◌≡◌, ◌≤◌, IfErr, IfOk, codes, true, ℕ};
-ghost use Rattle.clap.specs.Words.{first_value, found_of, kind_of, takes};
-ghost use Rattle.command_line.specs.Line.{AreGiven, AreInRange, heapmark_line, texts_of};
+ghost use Rattle.clap.specs.Words.{FailsBy, first_value, found_of, kind_of, takes};
+ghost use Rattle.command_line.specs.Line.{AreGiven, AreInRange, faults_of, heapmark_line, texts_of};
 ghost use Rattle.command_line.specs.working.Held.{HoldsAll, HoldsNumber, ReadsNumber};
 
 use crate::line::command;
@@ -18,6 +18,9 @@ pub fn arguments<'a>(alloc: Global, words: &'a [&'a str]) -> Result<Arguments<'a
     ensures ranges { IfOk result AreInRange }
     ensures taken { IfErr result (λ e.
         takes heapmark_line (texts_of words.entry.now) ≡ true → kind_of e ≡ ErrorKind.OutOfMemory) }
+
+    // Words are taken only where nothing is wrong with them, and else the error has one of the kinds of what is wrong.
+    ensures faults { FailsBy (faults_of (texts_of words.entry.now)) result }
 {
     let command = match command(alloc) {
         Ok(command) => command,

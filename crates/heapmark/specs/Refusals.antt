@@ -33,6 +33,9 @@ run_refusal marking.WorkerRefused = worker_refused
 abbrev pub read_fault : Refusal
 read_fault = record { code = 19; offset = None }
 
+abbrev pub bad_options_refusal : Refusal
+bad_options_refusal = record { code = 21; offset = None }
+
 -- refused with that code
 abbrev pub HasCode : {X : Type 0} → Result X Refusal → ℕ → Type 0
 HasCode result code = IsErrAnd result (λ refusal. refusal.code ≡ code)

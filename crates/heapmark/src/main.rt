@@ -8,8 +8,10 @@ mod command;
 mod laws;
 mod pipeline;
 mod refusal;
+mod trouble;
 
 pub use command::program;
+pub use command_line::{Arguments, arguments};
 pub use drain::{Gate, NoGate, Options};
 pub use histogram::{Counted, one_report};
 pub use laws::{accepted_or_fault, one_first_fault};

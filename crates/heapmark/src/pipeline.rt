@@ -1,9 +1,9 @@
 //! From the bytes of a dump to its report.
 
-ghost use Rattle.std.specs.Prelude.{◌≡◌, ◌≢◌, ◌+◌, ◌-◌, ◌^◌, ◌<◌, ◌≤◌, ◌↔◌, ◌⊎◌, IfErr, IfOk, IfSome, IsErrAnd, OnOk};
+ghost use Rattle.std.specs.Prelude.{◌≡◌, ◌≢◌, ◌+◌, ◌-◌, ◌^◌, ◌<◌, ◌≤◌, ◌↔◌, ◌⊎◌, IfErr, IfOk, IfSome, IsErrAnd, OnOk, true};
 ghost use Rattle.std.specs.Io.KnownBytes.{Keeps};
 ghost use Rattle.histogram.specs.Report.{IsReport, report_of};
-ghost use Rattle.histogram.specs.Counting.{failures_of, inner_of};
+ghost use Rattle.histogram.specs.Counting.{failures_of, inner_of, is_flushed};
 ghost use Rattle.histogram.specs.Lines.{histogram_of};
 ghost use Rattle.heapmark.specs.Answer.{IsAcceptedText, IsKnown, IsRefusalOf, TellsFirstFault, WritesBeginning, WritesReport, WritesSomeBeginning, WritesSomeReport, bytes_read};
 ghost use Rattle.heapmark.specs.Refusals.{HasCode, out_of_memory, worker_refused};
@@ -48,6 +48,8 @@ where
 
     // Of any reader, also one whose bytes no contract can name, as a file: what was written is the report of a text.
     ensures report_of_a_text { OnOk result (WritesSomeReport (W.contents (inner_of writer.old)) (W.contents (inner_of writer.new))) }
+
+    ensures flushed { OnOk result (is_flushed writer.new ≡ true) }
 
     // The other side: a fault is told only where it is the first one, and where there is one nothing else is told but
     // want of memory or of the reader.

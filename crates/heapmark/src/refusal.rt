@@ -43,6 +43,12 @@ impl Refusal {
         offset: None,
     };
 
+    /// There are too few buffers for the workers.
+    pub const BAD_OPTIONS: Refusal = Refusal {
+        code: 21,
+        offset: None,
+    };
+
     /// The name of the code.
     pub fn name(&self) -> &'static str
         ensures { result.now ≡ name_of self.now.code }

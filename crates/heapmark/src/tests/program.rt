@@ -1,6 +1,6 @@
 //! What the program prints, and its exit status.
 
-use super::dumps::{Bytes, TWO_OBJECTS, dump_of, two_objects};
+use super::dumps::{Bytes, NOTHING, TWO_OBJECTS, dump_of, two_objects};
 use crate::{Counted, Refusal, program};
 use std::io::{ErrorKind, Write};
 use std::path::PathBuf;
@@ -80,27 +80,124 @@ fn a_file_is_reported_or_refused(rt: HostRuntime) -> Result<(), Fail> {
     let (status, out, err) = printed(&rt, &["heapmark", "/nowhere/heapmark.hprof"]);
     assert_eq!(rt; status, 1);
     assert!(rt; out.is_empty());
-    assert_eq!(rt;
-        err.as_slice(),
-        "heapmark: refused 19 ReadFault\n".as_bytes()
-    );
+    let want = "heapmark: refused 19 ReadFault
+heapmark: /nowhere/heapmark.hprof: No such file or directory (os error 2)
+";
+    assert_eq!(rt; err.as_slice(), want.as_bytes());
+    Ok(())
+}
+
+/// The program's words, its exit status, and what it prints on standard error at a refusal.
+type Case<'a> = (&'a [&'a str], u8, &'static str);
+
+#[test]
+fn options_are_taken_or_refused(rt: HostRuntime) -> Result<(), Fail> {
+    let alloc = rt.alloc();
+    let path = file_of(
+        &rt,
+        "heapmark_nothing.hprof",
+        &dump_of(alloc, &Bytes::new(alloc))?,
+    )?;
+    let file = path.to_str().ok_or("the name of the file is not text")?;
+    let gone = "/nowhere/heapmark.hprof";
+    let bad_options = "heapmark: refused 21 BadOptions\n";
+    let cases: [Case<'_>; 14] = [
+        (&["--workers", "64", "--buffers", "130", file], 0, ""),
+        (
+            &["--workers", "64", "--buffers", "129", file],
+            1,
+            bad_options,
+        ),
+        (&["--workers", "4", "--buffers", "9", file], 1, bad_options),
+        (&["--workers", "4", "--buffers", "9", gone], 1, bad_options),
+        (
+            &[
+                file,
+                "--workers=1",
+                "--buffer=2",
+                "--buffers=4",
+                "--first-tag=0",
+            ],
+            0,
+            "",
+        ),
+        (&[file, "--buffer", "4096", "--buffers", "65534"], 0, ""),
+        (&[file, "--workers", "0"], 2, ""),
+        (&[file, "--workers", "65"], 2, ""),
+        (&[file, "--buffer", "1"], 2, ""),
+        (&[file, "--buffer", "4097"], 2, ""),
+        (&[file, "--buffers", "3"], 2, ""),
+        (&[file, "--buffers", "65535"], 2, ""),
+        (&[file, "--first-tag", "281474976710656"], 2, ""),
+        (&[file, "--first-tag", "0x10"], 2, ""),
+    ];
+    for (number, (given, want, told)) in cases.iter().enumerate() {
+        let mut words = vec![in alloc; "heapmark"]?;
+        words.extend_from_slice(given)?;
+        let (status, out, err) = printed(&rt, words.as_slice());
+        assert_eq!(rt; status, *want, "case {number}");
+        let report = if *want == 0 { NOTHING } else { "" };
+        assert_eq!(rt; out.as_slice(), report.as_bytes(), "case {number}");
+        if *want == 2 {
+            assert!(rt;
+                err.as_slice().starts_with(b"error: invalid value"),
+                "case {number}"
+            );
+        } else {
+            assert_eq!(rt; err.as_slice(), told.as_bytes(), "case {number}");
+        }
+    }
+    fs::remove_file(&rt, path.as_path())?;
     Ok(())
 }
 
 #[test]
-fn other_words_get_the_usage(rt: HostRuntime) {
-    let one = ["heapmark"];
-    let three = ["heapmark", "a", "b"];
-    for words in [&[], one.as_slice(), three.as_slice()] {
+fn wrong_words_are_told(rt: HostRuntime) {
+    let cases: [(&[&str], &str); 5] = [
+        (
+            &[],
+            "error: the following required arguments were not provided:",
+        ),
+        (
+            &["heapmark"],
+            "error: the following required arguments were not provided:",
+        ),
+        (
+            &["heapmark", "a", "b"],
+            "error: unexpected argument 'b' found",
+        ),
+        (
+            &["heapmark", "--treads", "2", "a"],
+            "error: unexpected argument '--treads' found",
+        ),
+        (
+            &["heapmark", "a", "--workers", "1", "--workers", "2"],
+            "error: the argument '--workers <N>' cannot be used",
+        ),
+    ];
+    for (words, begins) in cases {
         let (status, out, err) = printed(&rt, words);
         assert_eq!(rt; status, 2);
         assert!(rt; out.is_empty());
-        assert_eq!(rt;
-            err.as_slice(),
-            "heapmark: usage: heapmark FILE\n".as_bytes()
-        );
+        assert!(rt; err.as_slice().starts_with(begins.as_bytes()), "{begins}");
         let mut out = Counted::new(Vec::new(rt.alloc()));
         assert_eq!(rt; program(&rt, words, &mut out, &mut Broken), 2);
+    }
+}
+
+#[test]
+fn help_is_printed_on_the_output(rt: HostRuntime) {
+    for word in ["--help", "-h"] {
+        let (status, out, err) = printed(&rt, &["heapmark", word]);
+        assert_eq!(rt; status, 0);
+        assert!(rt;
+            out.as_slice()
+                .starts_with(b"Marks the objects of a Java heap dump")
+        );
+        assert!(rt; err.is_empty());
+        let mut out = Counted::new(Broken);
+        assert_eq!(rt; program(&rt, &["heapmark", word], &mut out, &mut Broken), 0);
+        assert_eq!(rt; out.failures(), 1);
     }
 }
 

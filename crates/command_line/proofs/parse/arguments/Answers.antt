@@ -1,8 +1,8 @@
-use Rattle.std.proofs.Common.{ap, arith, codes, map, refl, ◌≡◌, ◌≢◌, ◌∙◌}
-use Rattle.clap.specs.Words.{App, found_of, is_simple, matches_of}
+use Rattle.std.proofs.Common.{[], ap, arith, codes, map, refl, subst, ◌≡◌, ◌≢◌, ◌∙◌}
+use Rattle.clap.specs.Words.{App, HasKind, fault_of, found_of, is_simple, is_simple_and_free, matches_of}
 use Rattle.clap.specs.Walk.{rows_of}
 use Rattle.command_line.specs.Line.{heapmark_line, texts_of}
-use Rattle.command_line.proofs.Given.{file_held, given_of, is_simple_line, number_held, only_buffer, only_buffers, only_first_tag, only_workers}
+use Rattle.command_line.proofs.Given.{file_held, given_of, is_free_line, is_simple_line, number_held, only_buffer, only_buffers, only_first_tag, only_workers}
 use Rattle.command_line.proofs.parse.arguments.Goals as goal
 
 pub values-requires : goal.values-requires
@@ -31,3 +31,13 @@ returns-in-Ok-try_get_matches_from-clause-given c =
       buffers = record { text = read.buffers.text; given = given (codes "buffers") _ read.buffers.first; numeral = read.buffers.numeral; spelled = read.buffers.spelled };
       first_tag = record { text = read.first_tag.text; given = given (codes "first-tag") _ read.first_tag.first; numeral = read.first_tag.numeral; spelled = read.first_tag.spelled };
     }
+
+pub returns-in-Ok-try_get_matches_from-clause-faults : goal.returns-in-Ok-try_get_matches_from-clause-faults
+returns-in-Ok-try_get_matches_from-clause-faults c =
+    let kinds = c.in-Ok-try_get_matches_from.ensures.kinds (ap is_simple_and_free c.in-Ok.ensures ∙ is_free_line) in
+    subst (λ (a : App). fault_of a (texts_of c.args.words.now) ≡ []) c.in-Ok.ensures kinds
+
+pub returns-in-Err-try_get_matches_from-clause-faults : goal.returns-in-Err-try_get_matches_from-clause-faults
+returns-in-Err-try_get_matches_from-clause-faults c =
+    let kinds = c.in-Err-try_get_matches_from.ensures.kinds (ap is_simple_and_free c.in-Ok.ensures ∙ is_free_line) in
+    subst (λ (a : App). HasKind (fault_of a (texts_of c.args.words.now)) c.in-Err-try_get_matches_from.error) c.in-Ok.ensures kinds

@@ -1,0 +1,8 @@
+use Rattle.std.proofs.Common.{inl, inr}
+use Rattle.clap.specs.Words.{kind_of}
+use Rattle.heapmark.proofs.command.program.Goals as goal
+
+pub returns-in-Err-clause-usage : goal.returns-in-Err-clause-usage
+returns-in-Err-clause-usage g c = λ two.
+    let usage = c.answer_words.ensures.usage two in
+    (kind_of c.in-Err.error, elim c.in-Err.ensures.faults [ inl memory ↦ absurd (usage.1 memory) | inr among ↦ among ], usage.0)

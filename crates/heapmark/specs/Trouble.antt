@@ -1,0 +1,14 @@
+-- Why the program has no report of a file.
+use Rattle.std.specs.Prelude.{◌*◌, ◌+◌, ◌<◌}
+use Rattle.command_line.specs.declared.values.Arguments.{Arguments}
+use Rattle.heapmark.specs.Refusals.{bad_options_refusal}
+use Rattle.heapmark.specs.declared.trouble.Trouble.{Trouble}
+use Rattle.heapmark.specs.declared.trouble.Trouble.TheVariants as trouble
+
+-- fewer than two buffers for each worker and two more
+abbrev pub HasTooFewBuffers : Arguments → Type 0
+HasTooFewBuffers a = a.buffers < 2 * a.workers + 2
+
+-- the options are refused
+abbrev pub bad_options : Trouble
+bad_options = trouble.Refused bad_options_refusal
