@@ -72,7 +72,7 @@ impl<A: Allocator + Clone> Pool<A> {
         size: u32,
         first_tag: u64,
     ) -> Result<(Pool<A>, Worker<A>), PoolFault>
-        ensures { MatchResult result (λ p. IsInside (E.count edges.now) buffers size first_tag × (p.1.pool ≡ p.0) × (p.1.log ≡ first_log) × (p.1.book ≡ new_book (record { objects = E.count edges.now; buffers = buffers; size = size; first_tag = first_tag; roots = E.roots edges.now; pairs = E.pairs edges.now }) whole)) (Refuses (IsInside (E.count edges.now) buffers size first_tag)) }
+        ensures { MatchResult result (λ p. IsInside (E.count edges.now) buffers size first_tag × (p.1.pool ≡ p.0) × (p.1.book ≡ new_book (record { objects = E.count edges.now; buffers = buffers; size = size; first_tag = first_tag; roots = E.roots edges.now; pairs = E.pairs edges.now }) whole) × (p.1.log ≡ first_log)) (Refuses (IsInside (E.count edges.now) buffers size first_tag)) }
     {
         let objects = edges.objects();
         if !is_inside(objects, buffers, size, first_tag) {

@@ -27,7 +27,7 @@ pub returns : goal.returns
 returns g c =
     let graph = c.args.graph.now in
     let leader = c.in-Ok.opened.1 in
-    let is = c.in-Ok.ensures.3 in
+    let is = c.in-Ok.ensures.2 in
     let setup = opened_setup graph c.buffers.result c.buffer.result c.first_tag.result whole leader.book is in
     let some : 0 < c.workers-workers.result = omega (arith, c.workers-workers.ensures.value, c.workers-workers.ensures.allowed.some_worker) in
     let exact = exactly_marked graph leader.book.setup setup c.workers-workers.result c.in_ok-leader.leader c.close.result some c.in_ok-leader.ensures.taken c.close.ensures.0 in
