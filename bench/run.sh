@@ -6,7 +6,8 @@
 # RUNS: how often each program runs on each dump (5); the best wall time of them counts, and the largest peak of
 # memory. DUMP..: those of /tmp/heapmark-bench if none is given (bench/dumps.sh makes them). Prints Markdown tables:
 # whole programs first, then the dumps, then the phases of the plain marker. heapmark is the binary that `rt run` in
-# crates/heapmark made, or what the variable HEAPMARK names. Built with rustc: bench/plain.
+# crates/heapmark made, or what the variable HEAPMARK names. The words of the variable STARTER start each run: on a busy
+# machine 'chrt -f 10' of root keeps other work off the processors.
 set -euo pipefail
 
 top=$(cd "$(dirname "$0")/.." && pwd)
@@ -43,7 +44,8 @@ timed() {
     local start end
     command_of "$1" "$2"
     start=${EPOCHREALTIME/./}
-    /usr/bin/time -q -f %M -o "$room/peak" "${command[@]}" > "$room/$1.report" 2>> "$room/$1.told" || true
+    # shellcheck disable=SC2086 # the starter may be several words
+    ${STARTER:-} /usr/bin/time -q -f %M -o "$room/peak" "${command[@]}" > "$room/$1.report" 2>> "$room/$1.told" || true
     end=${EPOCHREALTIME/./}
     echo "$((end - start)) $(tail -n 1 "$room/peak")" >> "$room/$1.times"
 }

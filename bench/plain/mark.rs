@@ -67,7 +67,7 @@ pub fn mark(edges: &impl Successors, objects: usize, roots: &[u32]) -> Vec<bool>
     marks
 }
 
-const CHUNK: usize = 512;
+const CHUNK: usize = 64;
 
 /// Chunks of objects that are marked and not scanned yet.
 struct Waiting {
