@@ -1,5 +1,10 @@
 pub mod Cutting
 pub mod Naming
+pub mod IndexAscending
+pub mod IndexBuckets
+pub mod IndexHalving
+pub mod IndexBearers
+pub mod IndexNumbering
 pub mod Firsts
 pub mod Standings
 pub mod FieldLaws

@@ -2,6 +2,8 @@
 pub mod CutLists
 pub mod Refinement
 pub mod Resolving
+pub mod IndexPairs
+pub mod IndexBeginnings
 pub mod PlacedObjects
 pub mod PlacedNames
 pub mod Values

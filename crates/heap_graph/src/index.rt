@@ -1,46 +1,107 @@
 //! The objects by their identifiers.
 
-ghost use Rattle.std.specs.Prelude.{Contains, IfOk, IsTrue, ◌<◌, ◌==◌, ◌^◌, ◌≡◌, ◌≤◌, ◌↔◌, length, position, take};
+mod beginnings;
+mod builder;
+#[cfg(test)]
+mod tests;
+
+ghost use Rattle.std.specs.Prelude.{Contains, IfOk, IsSorted, IsTrue, ◌==◌, ◌≡◌, ◌↔◌, position, take};
+ghost use Rattle.heap_graph.specs.working.IndexBeginnings.{AreBeginnings, IsAround};
+ghost use Rattle.heap_graph.specs.working.IndexPairs.{IsFirstBearer, IsFirstFrom, pair_cmp};
 ghost use Rattle.heap_graph.specs.working.Resolving.{Resolves, ResolvesOne};
 
+use self::beginnings::Beginnings;
+pub(crate) use self::builder::IndexBuilder;
 use std::alloc::{AllocError, Allocator};
 use std::marker::Model;
 
-/// The identifiers of the objects, in the order of the file. An identifier names the first object that bears it.
+/// The objects by their identifiers. An identifier names the first object that bears it.
 #[derive(Drop)]
 pub(crate) struct Index<A: Allocator> {
-    ids: Vec<u64, A>,
+    /// The identifier and the number of each object, in ascending order.
+    pairs: Vec<(u64, u32), A>,
+    beginnings: Beginnings<A>,
 }
 
 impl<A: Allocator> Model for Index<A> {
     ghost use Rattle.std.specs.Prelude.{List, ℕ};
+    ghost use Rattle.heap_graph.specs.working.IndexBeginnings.{AreBeginnings};
+    ghost use Rattle.heap_graph.specs.working.IndexPairs.{IsIndexOf, ids_of};
 
     ghost Value = { List ℕ };
 
-    ghost view = { λ index. index.ids.items };
+    ghost view = { λ i. ids_of i.pairs.items };
+
+    ghost invariant = { λ i. record {
+      sound : IsIndexOf i.pairs.items (ids_of i.pairs.items);
+      begun : AreBeginnings i.pairs.items i.beginnings;
+    } };
+}
+
+/// So many pairs are looked at in turn: for a few that is quicker than halving.
+const FEW_PAIRS: usize = 8;
+
+/// The place of the first of ascending pairs whose identifier is not below that one, which stands between two places.
+fn first_from(pairs: &[(u64, u32)], begin: usize, end: usize, id: u64) -> usize
+    requires sorted { IsSorted pair_cmp pairs.now }
+    requires around { IsAround pairs.now id begin end }
+    ensures { IsFirstFrom pairs.now id result }
+{
+    let mut low = begin;
+    let mut high = end;
+    while high - low > FEW_PAIRS {
+        let middle = low + (high - low) / 2;
+        if pairs[middle].0 < id {
+            low = middle + 1;
+        } else {
+            high = middle;
+        }
+    }
+    for at in low..high {
+        if pairs[at].0 >= id {
+            return at;
+        }
+    }
+    high
+}
+
+/// The number of the first of ascending pairs with that identifier.
+fn first_bearer<A: Allocator>(
+    pairs: &[(u64, u32)],
+    beginnings: &Beginnings<A>,
+    id: u64,
+) -> Option<u32>
+    requires sorted { IsSorted pair_cmp pairs.now }
+    requires begun { AreBeginnings pairs.now beginnings.now }
+    ensures { IsFirstBearer pairs.now id result }
+{
+    let (begin, end) = match beginnings.around(pairs, id) {
+        Some(range) => range,
+        None => return None,
+    };
+    let at = first_from(pairs, begin, end, id);
+    if at == pairs.len() || pairs[at].0 != id {
+        return None;
+    }
+    Some(pairs[at].1)
 }
 
 impl<A: Allocator> Index<A> {
-    /// The index of objects with these identifiers.
-    pub(crate) fn new(ids: Vec<u64, A>) -> Self
-        ensures { result ≡ ids.items }
-    {
-        Index { ids }
-    }
-
     /// The number of the object that an identifier names.
-    pub(crate) fn find(&self, id: u64) -> Option<usize>
+    pub(crate) fn find(&self, id: u64) -> Option<u32>
         ensures { result ≡ position (λ x. x == id) self.now }
     {
-        self.ids.iter().position(|x| *x == id)
+        first_bearer(&self.pairs, &self.beginnings, id)
     }
 
     /// Whether an object before that number bears the identifier.
     pub(crate) fn is_repeated(&self, id: u64, number: usize) -> bool
-        requires { number ≤ length self.now }
         ensures { IsTrue result ↔ Contains (take number self.now) id }
     {
-        self.ids[..number].contains(&id)
+        match self.find(id) {
+            Some(first) => return (first as usize) < number,
+            None => return false,
+        }
     }
 
     /// Appends the object that an identifier names, and says whether it is another than 0 and names none.
@@ -49,7 +110,6 @@ impl<A: Allocator> Index<A> {
         id: u64,
         targets: &mut Vec<u32, B>,
     ) -> Result<bool, AllocError>
-        requires { length self.now ≤ 2 ^ 32 }
         ensures { IfOk result (λ missing. ResolvesOne self.now id targets.old.items targets.new.items missing) }
     {
         if id == 0 {
@@ -57,7 +117,7 @@ impl<A: Allocator> Index<A> {
         }
         match self.find(id) {
             Some(number) => {
-                targets.push(number as u32)?;
+                targets.push(number)?;
                 return Ok(false);
             }
             None => return Ok(true),
@@ -70,7 +130,6 @@ impl<A: Allocator> Index<A> {
         ids: &[u64],
         targets: &mut Vec<u32, B>,
     ) -> Result<u64, AllocError>
-        requires { length self.now ≤ 2 ^ 32 }
         ensures { IfOk result (λ missing. Resolves self.now ids.now targets.old.items targets.new.items missing) }
     {
         let mut missing = 0;

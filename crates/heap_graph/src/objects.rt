@@ -10,7 +10,7 @@ ghost use Rattle.hprof_grammar.specs.SubRecord.{SubRecord};
 ghost use Rattle.hprof_grammar.specs.Standing.{StandInTurn, Stands, id_of};
 ghost use Rattle.std.specs.Prelude.{IfOk, List, map, ◌≡◌};
 
-use crate::index::Index;
+use crate::index::{Index, IndexBuilder};
 use hprof_grammar::{ObjectKind, View};
 use std::alloc::{AllocError, Allocator};
 
@@ -37,7 +37,7 @@ impl<'d, A: Allocator> Objects<'d, A> {
             Some(number) => number,
             None => return None,
         };
-        let place = self.places[number];
+        let place = self.places[number as usize];
         match self.view.kind(place) {
             ObjectKind::Class => return Some(place),
             _ => return None,
@@ -59,4 +59,20 @@ pub(crate) fn read_ids<B: Allocator>(
         ids.push(view.object_id(*at))?;
     }
     Ok(ids)
+}
+
+/// The index of the objects at these places.
+pub(crate) fn index_of<B: Allocator + Copy>(
+    alloc: B,
+    view: &View<'_>,
+    places: &[u32],
+) -> Result<Index<B>, AllocError>
+    requires { (subs : List SubRecord) × StandInTurn (Stands view.now) places.now subs }
+    ensures { IfOk result (λ index. (subs : List SubRecord) → StandInTurn (Stands view.now) places.now subs → index ≡ map id_of subs) }
+{
+    let mut builder = IndexBuilder::with_capacity(alloc, places.len())?;
+    for at in places {
+        builder.push(view.object_id(*at))?;
+    }
+    builder.finish(alloc)
 }

@@ -13,15 +13,14 @@ ghost use Rattle.heap_graph.specs.working.PlacedNames.{AreNamesOf};
 ghost use Rattle.heap_graph.specs.working.PlacedObjects.{AreOf, IsReadFrom};
 
 use crate::graph::Graph;
-use crate::index::Index;
 use crate::names::Names;
-use crate::objects::{Objects, read_ids};
+use crate::objects::{Objects, index_of, read_ids};
 use crate::rule::LinkRefusal;
 use hprof_grammar::{Dump, View, dump_is_placed, stands_within};
 use std::alloc::{AllocError, Allocator};
 
 /// The objects of a dump, by their identifiers.
-fn read_objects<'d, A: Allocator, B: Allocator>(
+fn read_objects<'d, A: Allocator + Copy, B: Allocator>(
     alloc: A,
     bytes: &'d [u8],
     dump: &'d Dump<B>,
@@ -31,11 +30,11 @@ fn read_objects<'d, A: Allocator, B: Allocator>(
 {
     dump_is_placed();
     let view = View::new(bytes, dump.id_size());
-    let ids = read_ids(alloc, &view, dump.objects())?;
+    let index = index_of(alloc, &view, dump.objects())?;
     Ok(Objects {
         view,
         places: dump.objects(),
-        index: Index::new(ids),
+        index,
     })
 }
 

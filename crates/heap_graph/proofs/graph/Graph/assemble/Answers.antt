@@ -9,7 +9,6 @@ use Rattle.heap_graph.specs.Linked.{most_objects}
 use Rattle.heap_graph.specs.working.Resolving.{is_missing}
 use Rattle.heap_graph.specs.Roots.{root_ids}
 use Rattle.heap_graph.proofs.Building.{AreRootsOf, class_ids_are, few_class_entries, graph_is, roots_resolved}
-use Rattle.heap_graph.proofs.Standings.{same_count}
 use Rattle.heap_graph.proofs.Wholeness.{AreAll, all_of, few_objects, is_whole}
 use Rattle.heap_graph.proofs.graph.Graph.assemble.Goals as goal
 
@@ -20,9 +19,6 @@ entries-requires-clause-few g c =
 
 pub links-requires-clause-few : goal.links-requires-clause-few
 links-requires-clause-few g c = omega (arith, few_objects c.args.objects.now.view.id_size (heap_of c.requires.0) c.requires.1.linked, c.requires.1.are.stand.count)
-
-pub resolve-requires : goal.resolve-requires
-resolve-requires g c = omega (arith, few_objects c.args.objects.now.view.id_size (heap_of c.requires.0) c.requires.1.linked, c.requires.1.are.stand.count, same_count c.args.objects.now.view c.args.objects.now.places.now c.args.objects.now.index (heap_of c.requires.0) c.requires.1.are)
 
 pub overflow_add-result : goal.overflow_add-result
 overflow_add-result g c =

@@ -1,0 +1,20 @@
+use Rattle.std.proofs.Common.{List, [], ap, arith, length, length-append, slice_index, subst, sym, ℕ, ◌++◌, ◌<◌, ◌∷◌, ◌≡◌}
+use Rattle.heap_graph.specs.working.IndexBeginnings.{IsBeginning, bucket_of}
+use Rattle.heap_graph.specs.working.IndexPairs.{id_at}
+use Rattle.heap_graph.proofs.IndexBuckets.{one_more}
+use Rattle.heap_graph.proofs.index.beginnings.Beginnings.of.Goals as goal
+
+pub loop-bucket-preserved : goal.loop-bucket-preserved
+loop-bucket-preserved g c =
+    let pairs = c.args.pairs.now in
+    let least = c.ends_of-least.result.0 in
+    let shift = c.shift_for-shift.result in
+    let bucket = c.loop-bucket.bucket in
+    let starts = c.loop-bucket.starts.items in
+    let pushed : c.push.new.self.items ≡ starts ++ c.start_of-at.result ∷ [] = c.in_ok-push.ensures.items in
+    record {
+      within = c.start_of-at.ensures.within;
+      passed = λ k h. let less : bucket_of least shift (id_at pairs k) < bucket = c.start_of-at.ensures.before k h in omega (arith, less);
+      count = omega (arith, ap (λ (xs : List ℕ). length xs) pushed, length-append starts (c.start_of-at.result ∷ []), c.loop-bucket.invariant.count);
+      each = λ b h. subst (λ (xs : List ℕ). IsBeginning pairs least shift b (slice_index xs b)) (sym pushed) (one_more pairs least shift bucket c.start_of-at.result starts c.loop-bucket.invariant.count c.start_of-at.ensures c.loop-bucket.invariant.each b h);
+    }

@@ -1,0 +1,56 @@
+-- Pairs of an identifier and the number of an object that bears it.
+use Rattle.std.specs.Prelude.{Contains, IsSorted, List, None, Option, Some, length, map, slice_get, slice_index_or, ◌<◌, ◌==◌, ◌^◌, ◌≡◌, ◌≢◌, ◌≤◌, ℕ}
+use Rattle.std.specs.List.{find, range_with_len}
+use Rattle.std.specs.Ordering.{nat_cmp, ordering_then}
+use Rattle.std.specs.Option.{option_map_or}
+use Rattle.std.specs.declared.cmp.Ordering.{Ordering}
+
+-- as Rust compares a pair of numbers: by the identifiers, and where they are equal by the numbers
+abbrev pub pair_cmp : ℕ × ℕ → ℕ × ℕ → Ordering
+pair_cmp x y = ordering_then (nat_cmp x.0 y.0) (nat_cmp x.1 y.1)
+
+abbrev pub pair_at : List (ℕ × ℕ) → ℕ → ℕ × ℕ
+pair_at pairs k = slice_index_or pairs k (0, 0)
+
+abbrev pub id_at : List (ℕ × ℕ) → ℕ → ℕ
+id_at pairs k = (pair_at pairs k).0
+
+-- the identifier that is paired with a number
+abbrev pub id_of_number : List (ℕ × ℕ) → ℕ → ℕ
+id_of_number pairs number = option_map_or (λ pair. pair.0) (find (λ pair. pair.1 == number) pairs) 0
+
+-- the identifiers in the order of the numbers
+abbrev pub ids_of : List (ℕ × ℕ) → List ℕ
+ids_of pairs = map (id_of_number pairs) (range_with_len 0 (length pairs))
+
+-- the pairs stand in the order of their numbers, which fit 32 bits, as their count does
+pub record AreNumbered (pairs : List (ℕ × ℕ)) : Type 0 where
+  pub few : length pairs < 2 ^ 32
+  pub each : (k : ℕ) → k < length pairs → (pair_at pairs k).1 ≡ k
+
+-- ascending pairs of the objects with these identifiers
+pub record IsIndexOf (pairs : List (ℕ × ℕ)) (ids : List ℕ) : Type 0 where
+  pub sorted : IsSorted pair_cmp pairs
+  pub sound : (id n : ℕ) → Contains pairs (id, n) → slice_get ids n ≡ Some id
+  pub complete : (id n : ℕ) → slice_get ids n ≡ Some id → Contains pairs (id, n)
+
+-- the pairs before the place have smaller identifiers, and no others
+pub record IsFirstFrom (pairs : List (ℕ × ℕ)) (id at : ℕ) : Type 0 where
+  pub within : at ≤ length pairs
+  pub below : (k : ℕ) → k < at → id_at pairs k < id
+  pub above : (k : ℕ) → at ≤ k → k < length pairs → id ≤ id_at pairs k
+
+-- no pair has the identifier
+abbrev pub IsNoBearer : List (ℕ × ℕ) → ℕ → Type 0
+IsNoBearer pairs id = (k : ℕ) → k < length pairs → id_at pairs k ≢ id
+
+-- the pair of the identifier and this number stands at a place, and no pair before it has the identifier
+pub record IsBearerAt (pairs : List (ℕ × ℕ)) (id number at : ℕ) : Type 0 where
+  pub within : at < length pairs
+  pub here : pair_at pairs at ≡ (id, number)
+  pub first : (k : ℕ) → k < at → id_at pairs k ≢ id
+
+-- the number of the first pair with the identifier
+abbrev pub IsFirstBearer : List (ℕ × ℕ) → ℕ → Option ℕ → Type 0
+IsFirstBearer pairs id None = IsNoBearer pairs id
+IsFirstBearer pairs id (Some number) = (at : ℕ) × IsBearerAt pairs id number at
