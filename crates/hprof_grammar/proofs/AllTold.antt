@@ -91,12 +91,12 @@ order_told : (was : Order) (tag : ℕ) → (next : Option Order) × StepsTo was 
 order_told was tag = elim (is_or_not tag 0x0C) [
   | inl e ↦ subst (λ (t : ℕ). (next : Option Order) × StepsTo was t next) (sym e) (dump was)
   | inr no_dump ↦ elim (is_or_not tag 0x1C) [
-      | inl e ↦ subst (λ (t : ℕ). (next : Option Order) × StepsTo was t next) (sym e) (segment was)
-      | inr no_segment ↦ elim (is_or_not tag 0x2C) [
-          | inl e ↦ subst (λ (t : ℕ). (next : Option Order) × StepsTo was t next) (sym e) (end was)
-          | inr no_end ↦ (Some was, λ tags h. others_keep was tags tag (other no_dump no_segment no_end) h)
-        ]
+    | inl e ↦ subst (λ (t : ℕ). (next : Option Order) × StepsTo was t next) (sym e) (segment was)
+    | inr no_segment ↦ elim (is_or_not tag 0x2C) [
+      | inl e ↦ subst (λ (t : ℕ). (next : Option Order) × StepsTo was t next) (sym e) (end was)
+      | inr no_end ↦ (Some was, λ tags h. others_keep was tags tag (other no_dump no_segment no_end) h)
     ]
+  ]
 ] where
   dump : (order : Order) → (next : Option Order) × StepsTo order 0x0C next
   dump Before = (Some Whole, λ tags h. whole_comes tags h)
@@ -130,9 +130,9 @@ body_told : (at tag time : ℕ) (body : List ℕ) (was next : Order) (old : Plac
 body_told at tag time body was next old frame = elim (is_or_not tag 0x01) [
   | inl e ↦ inl (next, with_string old at, string_framed at tag time body was next old (with_string old at) e frame refl)
   | inr no_string ↦ elim (is_or_not tag 0x02) [
-      | inl e ↦ inl (next, with_loaded old at, load_framed at tag time body was next old (with_loaded old at) e frame refl)
-      | inr no_load ↦ heap_or_other no_string no_load (is_heap_tag tag) refl
-    ]
+    | inl e ↦ inl (next, with_loaded old at, load_framed at tag time body was next old (with_loaded old at) e frame refl)
+    | inr no_load ↦ heap_or_other no_string no_load (is_heap_tag tag) refl
+  ]
 ] where
   heap_or_other : (tag ≡ 0x01 → ⊥) → (tag ≡ 0x02 → ⊥) → (b : Bool) → is_heap_tag tag ≡ b → FrameTold at tag time body was old
   heap_or_other no_string no_load false e = inl (next, old, other_framed at tag time body was next old frame (no_string, no_load, e))
@@ -231,8 +231,8 @@ all_told text h =
     let bytes = all_bytes text h in
     elim (header_told text bytes) [
       | inl head ↦ elim (records_told (length (drop 31 text)) (drop 31 text) (drop 31 text) Before (nothing_of head.0) (nothing_of head.0) (omega arith) (bytes-drop 31 text bytes) (records_begin (drop 31 text) (nothing_of head.0))) [
-          | inl dump ↦ inl (dump.0, dump_read text head.0 dump.0 head.1 dump.1)
-          | inr wrong ↦ inr (wrong.0.code, wrong.0.offset, record_fault_read text head.0 wrong.0 head.1 wrong.1)
-        ]
+        | inl dump ↦ inl (dump.0, dump_read text head.0 dump.0 head.1 dump.1)
+        | inr wrong ↦ inr (wrong.0.code, wrong.0.offset, record_fault_read text head.0 wrong.0 head.1 wrong.1)
+      ]
       | inr wrong ↦ inr wrong
     ]

@@ -1,5 +1,9 @@
 //! Rows of bytes with the places or the fault that they have to give.
 
+mod dumps;
+mod fields;
+mod tables;
+
 use crate::{FormatFault, ReadRefusal, read};
 use linked_list_allocator::LocalHeap;
 use std::test::Fail;

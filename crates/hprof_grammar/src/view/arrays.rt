@@ -51,7 +51,11 @@ impl<'a> View<'a> {
     {
         let count = self.element_count(at) as usize;
         let size = self.size_of(self.element_type(at)) as usize;
-        bytes_at(self.bytes, at as usize + 10 + self.id_size as usize, count * size)
+        bytes_at(
+            self.bytes,
+            at as usize + 10 + self.id_size as usize,
+            count * size,
+        )
     }
 }
 

@@ -16,10 +16,15 @@ const INDEX_SIZE: u8 = 2;
 
 /// The identifiers of a class dump behind its stack trace, by their places among them.
 const SUPERCLASS: usize = 0;
+
 const LOADER: usize = 1;
+
 const SIGNERS: usize = 2;
+
 const PROTECTION_DOMAIN: usize = 3;
+
 const RESERVED: usize = 4;
+
 const RESERVED_TOO: usize = 5;
 
 impl<'a> View<'a> {

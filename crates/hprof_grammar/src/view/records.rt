@@ -11,13 +11,18 @@ const HEADER_TIME: usize = 23;
 
 /// Where the fields of a record stand behind its tag: its time, its length, its body.
 const TIME: usize = 1;
+
 const LENGTH: usize = 5;
+
 const BODY: usize = 9;
 
 /// Where the fields of a LOAD CLASS stand, each but for an identifier that stands before it.
 const SERIAL: usize = BODY;
+
 const CLASS: usize = SERIAL + 4;
+
 const STACK_TRACE: usize = CLASS;
+
 const NAME: usize = STACK_TRACE + 4;
 
 impl<'a> View<'a> {
@@ -87,7 +92,10 @@ impl<'a> View<'a> {
         ensures { (time serial class stack name : ℕ) → LoadStands self.now at time serial class stack name
             → result ≡ stack }
     {
-        u32_at(self.bytes, at as usize + STACK_TRACE + self.id_size as usize)
+        u32_at(
+            self.bytes,
+            at as usize + STACK_TRACE + self.id_size as usize,
+        )
     }
 
     /// The identifier of the string that names a loaded class.

@@ -26,7 +26,11 @@ impl<'a> View<'a> {
         requires { (n : ℕ) × RootSays self.now at reference_of n }
         ensures { (n : ℕ) → RootSays self.now at reference_of n → result ≡ n }
     {
-        number_at(self.bytes, origin_at(at, self.id_size), self.id_size as usize)
+        number_at(
+            self.bytes,
+            origin_at(at, self.id_size),
+            self.id_size as usize,
+        )
     }
 
     /// The serial number of the thread of a root: JNI local, Java frame, native stack, thread block, thread object.

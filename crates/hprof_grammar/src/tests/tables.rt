@@ -1,0 +1,174 @@
+//! Each tag and each type code, in each place that one has, and each order of the snapshot's records.
+
+use super::fault;
+use crate::read;
+use std::alloc::{AllocError, Global};
+use std::test::Fail;
+
+/// The bytes of each sub-record with its tag, with identifiers of 4 bytes and no entries.
+const SUB_RECORDS: [(u8, usize); 13] = [
+    (0xff, 5),
+    (0x01, 9),
+    (0x02, 13),
+    (0x03, 13),
+    (0x04, 9),
+    (0x05, 5),
+    (0x06, 9),
+    (0x07, 5),
+    (0x08, 13),
+    (0x20, 43),
+    (0x21, 17),
+    (0x22, 17),
+    (0x23, 14),
+];
+
+/// The bytes of a value of each type, with identifiers of 4 bytes.
+const TYPES: [(u8, usize); 9] = [
+    (2, 4),
+    (4, 1),
+    (5, 2),
+    (6, 4),
+    (7, 8),
+    (8, 1),
+    (9, 2),
+    (10, 4),
+    (11, 8),
+];
+
+/// Tags of records with empty bodies, and the fault that they make, if any.
+const ORDERS: [(&[u8], Option<(u8, u64)>); 14] = [
+    (&[], Some((8, 31))),
+    (&[0x0c], None),
+    (&[0x0c, 0x0c], Some((8, 40))),
+    (&[0x0c, 0x1c], Some((8, 40))),
+    (&[0x0c, 0x2c], Some((8, 40))),
+    (&[0x2c], Some((8, 31))),
+    (&[0x1c], Some((8, 40))),
+    (&[0x1c, 0x0c], Some((8, 40))),
+    (&[0x1c, 0x1c], Some((8, 49))),
+    (&[0x1c, 0x2c], None),
+    (&[0x1c, 0x1c, 0x2c], None),
+    (&[0x1c, 0x2c, 0x1c], Some((8, 49))),
+    (&[0x1c, 0x2c, 0x2c], Some((8, 49))),
+    (&[0x1c, 0x2c, 0x0c], Some((8, 49))),
+];
+
+/// What the table has for a code.
+fn entry(table: &[(u8, usize)], code: u8) -> Option<usize> {
+    for (known, size) in table {
+        if *known == code {
+            return Some(*size);
+        }
+    }
+    None
+}
+
+/// The header, with identifiers of 4 bytes.
+fn header(alloc: Global) -> Result<Vec<u8>, AllocError> {
+    let mut file = b"JAVA PROFILE 1.0.2\0".to_vec(alloc)?;
+    file.extend_from_slice(&[0, 0, 0, 4, 0, 0, 0, 0, 0, 0, 0, 0])?;
+    Ok(file)
+}
+
+/// Appends a record, of which the body has fewer than 256 bytes.
+fn push_record(file: &mut Vec<u8>, tag: u8, body: &[u8]) -> Result<(), AllocError> {
+    file.extend_from_slice(&[tag, 0, 0, 0, 0, 0, 0, 0, (body.len() % 256) as u8])?;
+    file.extend_from_slice(body)
+}
+
+/// The fault of a file with one heap dump.
+fn heap_fault(alloc: Global, body: &[u8]) -> Result<Option<(u8, u64)>, AllocError> {
+    let mut file = header(alloc)?;
+    push_record(&mut file, 0x0c, body)?;
+    Ok(fault(read(alloc, &file)))
+}
+
+/// So many zero bytes behind these.
+fn padded(alloc: Global, first: &[u8], zeros: usize) -> Result<Vec<u8>, AllocError> {
+    let mut bytes = first.to_vec(alloc)?;
+    for _i in 0..zeros {
+        bytes.push(0)?;
+    }
+    Ok(bytes)
+}
+
+#[test]
+fn orders_of_the_snapshot(rt: HostRuntime) -> Result<(), Fail> {
+    for (tags, expected) in &ORDERS {
+        let mut file = header(rt.alloc())?;
+        for tag in tags.iter() {
+            push_record(&mut file, *tag, &[])?;
+        }
+        assert_eq!(rt; fault(read(rt.alloc(), &file)), *expected, "{tags:?}");
+    }
+    Ok(())
+}
+
+#[test]
+fn tags_of_records(rt: HostRuntime) -> Result<(), Fail> {
+    for tag in 0..=255u8 {
+        let mut file = header(rt.alloc())?;
+        push_record(&mut file, tag, &[0, 0, 0])?;
+        push_record(&mut file, 0x0c, &[])?;
+        let expected = match tag {
+            0x01 | 0x02 | 0x2c => Some((4, 31)),
+            0x0c | 0x1c => Some((5, 40)),
+            _ => None,
+        };
+        assert_eq!(rt; fault(read(rt.alloc(), &file)), expected, "{tag}");
+    }
+    Ok(())
+}
+
+#[test]
+fn tags_of_sub_records(rt: HostRuntime) -> Result<(), Fail> {
+    for tag in 0..=255u8 {
+        let Some(size) = entry(&SUB_RECORDS, tag) else {
+            let body = padded(rt.alloc(), &[tag], 60)?;
+            assert_eq!(rt; heap_fault(rt.alloc(), &body)?, Some((5, 40)), "{tag}");
+            continue;
+        };
+        assert!(rt; size > 1);
+        let mut body = padded(rt.alloc(), &[tag], size - 1)?;
+        if tag == 0x23 {
+            body.pop();
+            body.push(8)?;
+        }
+        assert_eq!(rt; heap_fault(rt.alloc(), &body)?, None, "{tag}");
+        body.pop();
+        assert_eq!(rt; heap_fault(rt.alloc(), &body)?, Some((6, 40)), "{tag}");
+    }
+    Ok(())
+}
+
+#[test]
+fn type_codes(rt: HostRuntime) -> Result<(), Fail> {
+    let alloc = rt.alloc();
+    for code in 0..=255u8 {
+        let known = entry(&TYPES, code);
+        let size = known.unwrap_or(8);
+        assert!(rt; size <= 8);
+        let told = if known.is_some() { None } else { Some((7, 40)) };
+
+        let mut constant = padded(alloc, &[0x20], 36)?;
+        constant.extend_from_slice(&[0, 1, 0, 1, code])?;
+        let constant = padded(alloc, &constant, size + 4)?;
+        assert_eq!(rt; heap_fault(alloc, &constant)?, told, "constant {code}");
+
+        let mut field = padded(alloc, &[0x20], 38)?;
+        field.extend_from_slice(&[0, 1, 0, 0, 0, 1, code])?;
+        let field = padded(alloc, &field, size + 2)?;
+        assert_eq!(rt; heap_fault(alloc, &field)?, told, "static field {code}");
+
+        let mut member = padded(alloc, &[0x20], 40)?;
+        member.extend_from_slice(&[0, 1, 0, 0, 0, 1, code])?;
+        assert_eq!(rt; heap_fault(alloc, &member)?, told, "instance field {code}");
+
+        let mut array = padded(alloc, &[0x23], 8)?;
+        array.extend_from_slice(&[0, 0, 0, 1, code])?;
+        let array = padded(alloc, &array, size)?;
+        let told = if code == 2 { Some((7, 40)) } else { told };
+        assert_eq!(rt; heap_fault(alloc, &array)?, told, "array {code}");
+    }
+    Ok(())
+}
