@@ -9,10 +9,10 @@ use Rattle.byteorder.specs.Numbers.{length-bytes_high_first}
 use Rattle.hprof_grammar.specs.Dump.{IsDumpOf, Places, limit, magic}
 use Rattle.hprof_grammar.specs.Fault.{AreBytes, FirstFault, HasFirstFault, SpellsDump}
 use Rattle.hprof_grammar.specs.Fault.FirstFault.{bad_header, short_header, too_large}
-use Rattle.hprof_grammar.specs.Joining.{AddsAll, AddsRecord, AddsRecords, AddsSubs, FrameFault, HasHeader, HasRecordFault, HasSubFault, noted, nothing_of, with_loaded, with_string}
-use Rattle.hprof_grammar.specs.Joining.FrameFault.{wrong_length, wrong_order}
-use Rattle.hprof_grammar.specs.Orders.{IsAt, StepsTo, is_done}
-use Rattle.hprof_grammar.specs.Reading.{behind, code_of, frame_at, sub_record_at}
+use Rattle.hprof_grammar.specs.working.Joining.{AddsAll, AddsRecord, AddsRecords, AddsSubs, FrameFault, HasHeader, HasRecordFault, HasSubFault, noted, nothing_of, with_loaded, with_string}
+use Rattle.hprof_grammar.specs.working.Joining.FrameFault.{wrong_length, wrong_order}
+use Rattle.hprof_grammar.specs.working.Orders.{IsAt, StepsTo, is_done}
+use Rattle.hprof_grammar.specs.working.Reading.{behind, code_of, frame_at, sub_record_at}
 use Rattle.hprof_grammar.specs.Record.{IsOther, framed}
 use Rattle.hprof_grammar.specs.SubRecord.{IsSubRecord, SubRecord, origin_kind, spelling_of, tag_of}
 use Rattle.hprof_grammar.specs.SubRecord.SubRecord.{class_dump, instance_dump, object_array_dump, primitive_array_dump, root}

@@ -13,7 +13,7 @@ use Rattle.hprof_grammar.specs.Tables.{size_of}
 use Rattle.hprof_grammar.specs.declared.tables.TypePlace.TheVariants.{InConstant, InStatic}
 use Rattle.hprof_grammar.specs.Standing.{Sight, Stands}
 use Rattle.hprof_grammar.specs.Series.{HasCountedValues, LabelledValue, behind_counted_values, count_in, counted_values_in, members_in, of_constant, of_static}
-use Rattle.hprof_grammar.specs.ClassParts.{IsPartOf, counted_fields, fields_from_constants, fields_from_members, fields_from_statics}
+use Rattle.hprof_grammar.specs.working.ClassParts.{IsPartOf, counted_fields, fields_from_constants, fields_from_members, fields_from_statics}
 use Rattle.hprof_grammar.proofs.Fields.{spelled_then}
 use Rattle.hprof_grammar.proofs.Places.{Spell, fields_stand, in_sight, length-spelled}
 use Rattle.hprof_grammar.proofs.FieldsStand.{class_stands}

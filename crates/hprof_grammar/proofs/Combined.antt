@@ -1,7 +1,7 @@
 -- Formats made of others: one behind the other, lists, the same as something else, a count and that many.
 use Rattle.std.proofs.Common.{Err, List, Ok, Result, [], ap, arith, inl, inr, length, refl, replicate, subst, suc, sym, zero, ℕ, ◌++◌, ◌<◌, ◌^◌, ◌∙◌, ◌∷◌, ◌≡◌}
 use Rattle.std.specs.List.{AllByRecursion, flat_map}
-use Rattle.hprof_grammar.specs.Reading.{as_at, counted_at, list_at, pair_at, ◌>>=◌}
+use Rattle.hprof_grammar.specs.working.Reading.{as_at, counted_at, list_at, pair_at, ◌>>=◌}
 use Rattle.hprof_grammar.specs.Spelling.{AreAllowed, Field, IsAllowed, spelled}
 use Rattle.hprof_grammar.specs.Spelling.Field.{number}
 use Rattle.hprof_grammar.specs.declared.flaw.Flaw.{Flaw}

@@ -1,6 +1,6 @@
 -- Reading one thing after the other, a known number of times: what is left to read at each turn.
 use Rattle.std.proofs.Common.{Err, List, Ok, Result, arith, ap, refl, suc, zero, ℕ, ◌+◌, ◌-◌, ◌<◌, ◌∙◌, ◌∷◌, ◌≡◌}
-use Rattle.hprof_grammar.specs.Reading.{behind, list_at, ◌>>=◌}
+use Rattle.hprof_grammar.specs.working.Reading.{behind, list_at, ◌>>=◌}
 use Rattle.hprof_grammar.specs.declared.flaw.Flaw.{Flaw}
 
 -- what is made of a part does not change what is left behind it

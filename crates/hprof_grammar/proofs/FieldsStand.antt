@@ -7,7 +7,7 @@ use Rattle.hprof_grammar.specs.declared.tables.TypePlace.TheVariants.{InArray}
 use Rattle.hprof_grammar.specs.SubRecord.{Class, Instance, ObjectArray, PrimitiveArray, SubRecord, class_fields, fields_of, tag_of, instance_fields, object_array_fields, primitive_array_fields}
 use Rattle.hprof_grammar.specs.SubRecord.SubRecord.{class_dump, instance_dump, object_array_dump, primitive_array_dump, root}
 use Rattle.hprof_grammar.specs.Standing.{Sight, Stands, StandsAt, id_of, stack_of}
-use Rattle.hprof_grammar.specs.ClassParts.{leading_ids}
+use Rattle.hprof_grammar.specs.working.ClassParts.{leading_ids}
 use Rattle.hprof_grammar.specs.Dump.{is_object}
 use Rattle.hprof_grammar.specs.Series.{numbers_in}
 use Rattle.hprof_grammar.proofs.SeriesRead.{numbers_again, widths-numbers}

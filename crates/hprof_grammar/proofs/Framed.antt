@@ -4,9 +4,9 @@ use Rattle.std.proofs.Math.ListN.{drop_of_length-le}
 use Rattle.std.proofs.lemmas.List.{append-nil, length-drop}
 use Rattle.byteorder.specs.Endian.{big_bytes, big_number}
 use Rattle.hprof_grammar.specs.Dump.{Places}
-use Rattle.hprof_grammar.specs.Joining.{AddsRecord, AddsSubs, FrameFault, HasSubFault, with_loaded, with_string}
-use Rattle.hprof_grammar.specs.Joining.FrameFault.{wrong_heap}
-use Rattle.hprof_grammar.specs.Orders.{IsAt}
+use Rattle.hprof_grammar.specs.working.Joining.{AddsRecord, AddsSubs, FrameFault, HasSubFault, with_loaded, with_string}
+use Rattle.hprof_grammar.specs.working.Joining.FrameFault.{wrong_heap}
+use Rattle.hprof_grammar.specs.working.Orders.{IsAt}
 use Rattle.hprof_grammar.specs.Record.{IsOther}
 use Rattle.hprof_grammar.specs.Record.Record.{heap, load_class, other, string}
 use Rattle.hprof_grammar.specs.Tables.{is_heap_tag, is_length_of}

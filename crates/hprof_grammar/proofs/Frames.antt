@@ -3,7 +3,7 @@ use Rattle.std.proofs.Common.{Err, List, Ok, Result, [], ap, append_assoc, arith
 use Rattle.std.proofs.lemmas.List.{append-nil, length-append}
 use Rattle.byteorder.specs.Endian.{big_bytes}
 use Rattle.hprof_grammar.specs.Fault.{RunsPastEnd}
-use Rattle.hprof_grammar.specs.Reading.{block_at, frame_at, number_at, pair_at}
+use Rattle.hprof_grammar.specs.working.Reading.{block_at, frame_at, number_at, pair_at}
 use Rattle.hprof_grammar.specs.Record.{framed}
 use Rattle.hprof_grammar.specs.Spelling.{EndsShort, Field, spelled}
 use Rattle.hprof_grammar.specs.Spelling.Field.{number, raw, type_code}

@@ -10,7 +10,7 @@ use Rattle.byteorder.specs.Endian.{big_bytes, big_number}
 use Rattle.hprof_grammar.specs.Dump.{IsDumpOf, Places, header, limit, magic, spellings}
 use Rattle.hprof_grammar.specs.Fault.{FirstFault, HasMagic}
 use Rattle.hprof_grammar.specs.Fault.FirstFault.{bad_header, bad_id_size, in_records, short_header, too_large}
-use Rattle.hprof_grammar.specs.Joining.{AddsAll, HasHeader, HasRecordFault, nothing_of}
+use Rattle.hprof_grammar.specs.working.Joining.{AddsAll, HasHeader, HasRecordFault, nothing_of}
 use Rattle.hprof_grammar.specs.Record.{tag_of}
 use Rattle.hprof_grammar.specs.Tables.{is_id_size}
 use Rattle.hprof_grammar.specs.declared.flaw.FormatFault.{FormatFault}

@@ -7,8 +7,8 @@ use Rattle.std.proofs.lemmas.List.Elements.{filter-append}
 use Rattle.std.proofs.lemmas.Grind.{flat_map-append}
 use Rattle.hprof_grammar.specs.Dump.{Places, is_object, is_root, placed_subs, places_where}
 use Rattle.hprof_grammar.specs.Fault.{LongestSubs, SubFault}
-use Rattle.hprof_grammar.specs.Joining.{AddsSubs, HasSubFault, noted, with_subs}
-use Rattle.hprof_grammar.specs.Reading.{behind, code_of, sub_record_at}
+use Rattle.hprof_grammar.specs.working.Joining.{AddsSubs, HasSubFault, noted, with_subs}
+use Rattle.hprof_grammar.specs.working.Reading.{behind, code_of, sub_record_at}
 use Rattle.hprof_grammar.specs.SubRecord.{IsSubRecord, SubRecord, origin_kind, spelling_of, tag_of}
 use Rattle.hprof_grammar.specs.SubRecord.SubRecord.{class_dump, instance_dump, object_array_dump, primitive_array_dump, root}
 use Rattle.hprof_grammar.specs.Tables.{kind_of}

@@ -4,7 +4,7 @@ use Rattle.std.proofs.lemmas.List.{append-nil, replicate_more}
 use Rattle.std.proofs.lemmas.List.Elements.{filter-append}
 use Rattle.hprof_grammar.specs.Record.{CanGoOn, IsOrderly, snapshot_tags}
 use Rattle.hprof_grammar.specs.Tables.{IsSnapshot, is_snapshot_tag}
-use Rattle.hprof_grammar.specs.Orders.{IsAt, is_done}
+use Rattle.hprof_grammar.specs.working.Orders.{IsAt, is_done}
 use Rattle.hprof_grammar.specs.declared.order.Order.{Order}
 use Rattle.hprof_grammar.specs.declared.order.Order.TheVariants.{Before, Ended, Segments, Whole}
 

@@ -2,7 +2,7 @@
 use Rattle.std.proofs.Common.{Err, List, None, Ok, Option, Result, Some, [], ap, inl, inr, length, refl, subst, sym, ℕ, ◌++◌, ◌∙◌, ◌∷◌, ◌≡◌}
 use Rattle.hprof_grammar.specs.Fault.{SubFault}
 use Rattle.hprof_grammar.specs.Fault.SubFault.{short, unknown_tag, wrong_type}
-use Rattle.hprof_grammar.specs.Reading.{as_at, body_at, code_of, lone_root, root_at, root_with, root_with_two, sub_record_at}
+use Rattle.hprof_grammar.specs.working.Reading.{as_at, body_at, code_of, lone_root, root_at, root_with, root_with_two, sub_record_at}
 use Rattle.hprof_grammar.specs.Spelling.{AreAllowed, Field, spelled}
 use Rattle.hprof_grammar.specs.SubRecord.{HasKind, IsFormed, IsRoot, IsSubRecord, RootOrigin, SubRecord, fields_of, origin_kind, root_fields, spelling_of, tag_of}
 use Rattle.hprof_grammar.specs.SubRecord.RootOrigin.{java_frame, jni_global, jni_local, monitor_used, native_stack, sticky_class, thread_block, thread_object, unknown}

@@ -6,9 +6,9 @@ use Rattle.hprof_grammar.specs.Dump.{Places, spellings}
 use Rattle.hprof_grammar.specs.Fault.{LongestRecords, RecordFault, RunsPastEnd, SubFault}
 use Rattle.hprof_grammar.specs.Fault.RecordFault.{bad_length, in_heap, no_snapshot, out_of_order, truncated}
 use Rattle.hprof_grammar.specs.Fault.SubFault.{short, unknown_tag, wrong_type}
-use Rattle.hprof_grammar.specs.Joining.{AddsRecords, FrameFault, HasRecordFault}
-use Rattle.hprof_grammar.specs.Joining.FrameFault.{wrong_heap, wrong_length, wrong_order}
-use Rattle.hprof_grammar.specs.Orders.{IsAt, is_done}
+use Rattle.hprof_grammar.specs.working.Joining.{AddsRecords, FrameFault, HasRecordFault}
+use Rattle.hprof_grammar.specs.working.Joining.FrameFault.{wrong_heap, wrong_length, wrong_order}
+use Rattle.hprof_grammar.specs.working.Orders.{IsAt, is_done}
 use Rattle.hprof_grammar.specs.Record.{CanGoOn, IsOrderly, IsRecord, Record, body_of, framed, record_spelling, tag_of, time_of}
 use Rattle.hprof_grammar.specs.Record.Record.{heap, load_class, other, string}
 use Rattle.hprof_grammar.specs.SubRecord.{IsSubRecord, SubRecord, spelling_of}

@@ -9,26 +9,32 @@ use Rattle.hprof_grammar.specs.SubRecord.{IsFormed, IsSubRecord, SubRecord, fiel
 use Rattle.hprof_grammar.specs.SubRecord as sub
 use Rattle.hprof_grammar.specs.Spelling.{EndsShort, HasWrongType}
 
--- What is wrong at a place where no whole sub-record stands: 5, its tag is in no table; 6, the first field that does not
--- fit; 7, a type code that is not allowed, as soon as it is read. What would follow 6 and 7 may be anything that has the
--- right size.
+-- What is wrong at a place where no whole sub-record stands: 5, its tag is in no table; 6, the first field that does
+-- not fit; 7, a type code that is not allowed, as soon as it is read. What would follow 6 and 7 may be anything that
+-- has the right size.
 pub data SubFault (s : ℕ) : List ℕ → ℕ → Type 0 where
   unknown_tag : (tag : ℕ) (rest : List ℕ) → kind_of tag ≡ None → SubFault s (tag ∷ rest) 5
-  short : (x : SubRecord) (rest : List ℕ) → IsFormed s x → EndsShort (fields_of s x) rest → SubFault s (sub.tag_of x ∷ rest) 6
-  wrong_type : (x : SubRecord) (rest : List ℕ) → IsFormed s x → HasWrongType (fields_of s x) rest → SubFault s (sub.tag_of x ∷ rest) 7
+  short : (x : SubRecord) (rest : List ℕ) → IsFormed s x
+      → EndsShort (fields_of s x) rest → SubFault s (sub.tag_of x ∷ rest) 6
+  wrong_type : (x : SubRecord) (rest : List ℕ) → IsFormed s x
+      → HasWrongType (fields_of s x) rest → SubFault s (sub.tag_of x ∷ rest) 7
 
 -- The longest beginning of a heap record's body that whole sub-records spell, and what is left.
 pub record LongestSubs (s : ℕ) (body : List ℕ) (subs : List SubRecord) (rest : List ℕ) : Type 0 where
   pub parts : body ≡ flat_map (spelling_of s) subs ++ rest
   pub each : AllByRecursion (IsSubRecord s) subs
-  pub longest : (others : List SubRecord) (left : List ℕ) → body ≡ flat_map (spelling_of s) others ++ left → AllByRecursion (IsSubRecord s) others → length others ≤ length subs
+  pub longest : (others : List SubRecord) (left : List ℕ)
+      → body ≡ flat_map (spelling_of s) others ++ left → AllByRecursion (IsSubRecord s) others
+      → length others ≤ length subs
 
 -- The longest list of whole records that spells a beginning and can go on to an orderly list, and what is left.
 pub record LongestRecords (s : ℕ) (body : List ℕ) (records : List Record) (rest : List ℕ) : Type 0 where
   pub parts : body ≡ spellings s records ++ rest
   pub each : AllByRecursion (IsRecord s) records
   pub goes_on : CanGoOn (map tag_of records)
-  pub longest : (others : List Record) (left : List ℕ) → body ≡ spellings s others ++ left → AllByRecursion (IsRecord s) others → CanGoOn (map tag_of others) → length others ≤ length records
+  pub longest : (others : List Record) (left : List ℕ)
+      → body ≡ spellings s others ++ left → AllByRecursion (IsRecord s) others → CanGoOn (map tag_of others)
+      → length others ≤ length records
 
 -- less than a whole record: the record runs past the end
 pub record RunsPastEnd (rest : List ℕ) : Type 0 where
@@ -40,28 +46,37 @@ pub record RunsPastEnd (rest : List ℕ) : Type 0 where
   pub begins : framed tag time body ≡ rest ++ missing
   pub not_whole : 0 < length missing
 
--- What is wrong with what is left behind these records, which end at place `at`: the code and the place. 8 at the end, where
--- the snapshot is missing or has no end; else 3, 4 and 8 in this order, at the record; else the fault of its sub-records.
+-- What is wrong with what is left behind these records, which end at place `at`: the code and the place. 8 at the end,
+-- where the snapshot is missing or has no end; else 3, 4 and 8 in this order, at the record; else the fault of its
+-- sub-records.
 pub data RecordFault (s : ℕ) (records : List Record) (at : ℕ) : List ℕ → ℕ → ℕ → Type 0 where
   no_snapshot : (IsOrderly (map tag_of records) → ⊥) → RecordFault s records at [] 8 at
   truncated : (rest : List ℕ) → 0 < length rest → RunsPastEnd rest → RecordFault s records at rest 3 at
-  bad_length : (tag time : ℕ) (body after : List ℕ) → length body < 256 ^ 4 → is_length_of s tag (length body) ≡ false → RecordFault s records at (framed tag time body ++ after) 4 at
-  out_of_order : (tag time : ℕ) (body after : List ℕ) → length body < 256 ^ 4 → is_length_of s tag (length body) ≡ true → (CanGoOn (map tag_of records ++ tag ∷ []) → ⊥) → RecordFault s records at (framed tag time body ++ after) 8 at
-  in_heap : (tag time : ℕ) (body after : List ℕ) (subs : List SubRecord) (rest : List ℕ) (code : ℕ) → length body < 256 ^ 4 → is_heap_tag tag ≡ true → CanGoOn (map tag_of records ++ tag ∷ [])
+  bad_length : (tag time : ℕ) (body after : List ℕ) → length body < 256 ^ 4
+      → is_length_of s tag (length body) ≡ false
+      → RecordFault s records at (framed tag time body ++ after) 4 at
+  out_of_order : (tag time : ℕ) (body after : List ℕ) → length body < 256 ^ 4
+      → is_length_of s tag (length body) ≡ true → (CanGoOn (map tag_of records ++ tag ∷ []) → ⊥)
+      → RecordFault s records at (framed tag time body ++ after) 8 at
+  in_heap : (tag time : ℕ) (body after : List ℕ) (subs : List SubRecord) (rest : List ℕ) (code : ℕ)
+      → length body < 256 ^ 4 → is_heap_tag tag ≡ true → CanGoOn (map tag_of records ++ tag ∷ [])
       → LongestSubs s body subs rest → SubFault s rest code
       → RecordFault s records at (framed tag time body ++ after) code (at + 9 + length (flat_map (spelling_of s) subs))
 
 abbrev pub HasMagic : List ℕ → Type 0
 HasMagic text = (rest : List ℕ) × (text ≡ magic ++ rest)
 
--- The first fault of a text: its code and its place. 14 for too many bytes; 1 where the first 19 bytes are not the header's
--- text; 3 for fewer than 31 bytes; 2 for a size of identifiers that is not read; else the first fault of its records.
+-- The first fault of a text: its code and its place. 14 for too many bytes; 1 where the first 19 bytes are not the
+-- header's text; 3 for fewer than 31 bytes; 2 for a size of identifiers that is not read; else the first fault of its
+-- records.
 pub data FirstFault (text : List ℕ) : ℕ → ℕ → Type 0 where
   too_large : limit < length text → FirstFault text 14 limit
   bad_header : length text ≤ limit → (HasMagic text → ⊥) → FirstFault text 1 0
   short_header : HasMagic text → length text < 31 → FirstFault text 3 0
-  bad_id_size : (s : ℕ) (rest : List ℕ) → length text ≤ limit → 31 ≤ length text → s < 256 ^ 4 → text ≡ magic ++ (big_bytes 4 s ++ rest) → is_id_size s ≡ false → FirstFault text 2 19
-  in_records : (s time : ℕ) (body : List ℕ) (records : List Record) (rest : List ℕ) (code place : ℕ) → length text ≤ limit → is_id_size s ≡ true → text ≡ header s time ++ body
+  bad_id_size : (s : ℕ) (rest : List ℕ) → length text ≤ limit → 31 ≤ length text → s < 256 ^ 4
+      → text ≡ magic ++ (big_bytes 4 s ++ rest) → is_id_size s ≡ false → FirstFault text 2 19
+  in_records : (s time : ℕ) (body : List ℕ) (records : List Record) (rest : List ℕ) (code place : ℕ)
+      → length text ≤ limit → is_id_size s ≡ true → text ≡ header s time ++ body
       → LongestRecords s body records rest → RecordFault s records (31 + length (spellings s records)) rest code place
       → FirstFault text code place
 

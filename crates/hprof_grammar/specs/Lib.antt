@@ -4,13 +4,10 @@ pub mod SubRecord
 pub mod Record
 pub mod Dump
 pub mod Fault
-pub mod Reading
-pub mod Orders
-pub mod Joining
 pub mod Series
 pub mod Standing
 pub mod ObjectKinds
 pub mod MemberFields
-pub mod ClassParts
 pub mod Refusal
 pub mod RootFields
+pub mod working

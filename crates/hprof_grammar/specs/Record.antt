@@ -39,7 +39,8 @@ subs_of (other tag time body) = []
 
 abbrev pub body_of : ℕ → Record → List ℕ
 body_of s (string time id text) = big_bytes s id ++ text
-body_of s (load_class time serial class stack name) = big_bytes 4 serial ++ (big_bytes s class ++ (big_bytes 4 stack ++ big_bytes s name))
+body_of s (load_class time serial class stack name) =
+    big_bytes 4 serial ++ (big_bytes s class ++ (big_bytes 4 stack ++ big_bytes s name))
 body_of s (heap tag time subs) = flat_map (spelling_of s) subs
 body_of s (other tag time body) = body
 
@@ -54,7 +55,8 @@ IsOther tag = (tag ≡ 0x01 → ⊥) × (tag ≡ 0x02 → ⊥) × (is_heap_tag t
 -- the numbers fit their bytes, and what stands in a heap record are sub-records
 abbrev pub HasParts : ℕ → Record → Type 0
 HasParts s (string time id text) = id < 256 ^ s
-HasParts s (load_class time serial class stack name) = (serial < 256 ^ 4) × (class < 256 ^ s) × (stack < 256 ^ 4) × (name < 256 ^ s)
+HasParts s (load_class time serial class stack name) =
+    (serial < 256 ^ 4) × (class < 256 ^ s) × (stack < 256 ^ 4) × (name < 256 ^ s)
 HasParts s (heap tag time subs) = (is_heap_tag tag ≡ true) × AllByRecursion (IsSubRecord s) subs
 HasParts s (other tag time body) = IsOther tag
 

@@ -18,7 +18,8 @@ pub record HasNumbers (width n : ℕ) (bytes : List ℕ) : Type 0 where
 -- n instance fields: a name of s bytes and a type code each
 abbrev pub members_in : ℕ → ℕ → List ℕ → List Member
 members_in s zero bytes = []
-members_in s (suc n) bytes = record { name = big_number s bytes; type = slice_index bytes s } ∷ members_in s n (drop (s + 1) bytes)
+members_in s (suc n) bytes =
+    record { name = big_number s bytes; type = slice_index bytes s } ∷ members_in s n (drop (s + 1) bytes)
 
 -- the bytes have room for that many instance fields
 pub record HasMembers (s n : ℕ) (bytes : List ℕ) : Type 0 where
@@ -62,7 +63,8 @@ behind_values s front (suc n) bytes = behind_values s front n (drop (value_end s
 -- the bytes have room for n such
 abbrev pub HasValues : ℕ → ℕ → ℕ → List ℕ → Type 0
 HasValues s front zero bytes = Unit {0}
-HasValues s front (suc n) bytes = (value_end s front bytes ≤ length bytes) × HasValues s front n (drop (value_end s front bytes) bytes)
+HasValues s front (suc n) bytes =
+    (value_end s front bytes ≤ length bytes) × HasValues s front n (drop (value_end s front bytes) bytes)
 
 -- the same, and the numbers in front can be read
 pub record HasLabelledValues (s front n : ℕ) (bytes : List ℕ) : Type 0 where

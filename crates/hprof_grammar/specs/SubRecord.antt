@@ -114,19 +114,23 @@ member_fields s m = number s m.name ∷ type_code InMember m.type ∷ []
 -- what stands behind the tag
 abbrev pub class_fields : ℕ → Class → List Field
 class_fields s c =
-    number s c.object ∷ number 4 c.stack ∷ number s c.super ∷ number s c.loader ∷ number s c.signers ∷ number s c.domain ∷ number s c.reserved ∷ number s c.reserved_too ∷ number 4 c.instance_size
+    number s c.object ∷ number 4 c.stack ∷ number s c.super ∷ number s c.loader ∷ number s c.signers
+    ∷ number s c.domain ∷ number s c.reserved ∷ number s c.reserved_too ∷ number 4 c.instance_size
     ∷ (number 2 (length c.constants) ∷ flat_map constant_fields c.constants)
     ++ ((number 2 (length c.statics) ∷ flat_map (static_fields s) c.statics)
     ++ (number 2 (length c.members) ∷ flat_map (member_fields s) c.members))
 
 abbrev pub instance_fields : ℕ → Instance → List Field
-instance_fields s i = number s i.object ∷ number 4 i.stack ∷ number s i.class ∷ number 4 (length i.values) ∷ raw i.values ∷ []
+instance_fields s i =
+    number s i.object ∷ number 4 i.stack ∷ number s i.class ∷ number 4 (length i.values) ∷ raw i.values ∷ []
 
 abbrev pub object_array_fields : ℕ → ObjectArray → List Field
-object_array_fields s a = number s a.object ∷ number 4 a.stack ∷ number 4 (length a.elements) ∷ number s a.class ∷ map (number s) a.elements
+object_array_fields s a =
+    number s a.object ∷ number 4 a.stack ∷ number 4 (length a.elements) ∷ number s a.class ∷ map (number s) a.elements
 
 abbrev pub primitive_array_fields : ℕ → PrimitiveArray → List Field
-primitive_array_fields s a = number s a.object ∷ number 4 a.stack ∷ number 4 a.count ∷ type_code InArray a.type ∷ raw a.values ∷ []
+primitive_array_fields s a =
+    number s a.object ∷ number 4 a.stack ∷ number 4 a.count ∷ type_code InArray a.type ∷ raw a.values ∷ []
 
 abbrev pub origin_fields : ℕ → RootOrigin → List Field
 origin_fields s unknown = []

@@ -25,7 +25,13 @@ is_type_at InArray t = is_primitive t
 
 -- the bytes of a value of a basic type, with identifiers of s bytes; 0 for a code that is no type
 unfoldable pub size_of : ℕ → ℕ → ℕ
-size_of s t = if t == 2 then s else if (t == 4) || (t == 8) then 1 else if (t == 5) || (t == 9) then 2 else if (t == 6) || (t == 10) then 4 else if (t == 7) || (t == 11) then 8 else 0
+size_of s t =
+    if t == 2 then s
+    else if (t == 4) || (t == 8) then 1
+    else if (t == 5) || (t == 9) then 2
+    else if (t == 6) || (t == 10) then 4
+    else if (t == 7) || (t == 11) then 8
+    else 0
 
 -- the kind of a root, by its tag
 unfoldable pub root_kind : ℕ → Option RootKind
@@ -69,7 +75,11 @@ kind_of tag =
 -- the lengths that the body of a record may have: STRING IN UTF8 (0x01) has at least its ID, LOAD CLASS (0x02) two IDs
 -- and two u4, HEAP DUMP END (0x2C) nothing; any other record any length
 unfoldable pub is_length_of : ℕ → ℕ → ℕ → Bool
-is_length_of s tag n = if tag == 0x01 then nat_le s n else if tag == 0x02 then n == 8 + 2 * s else if tag == 0x2C then n == 0 else true
+is_length_of s tag n =
+    if tag == 0x01 then nat_le s n
+    else if tag == 0x02 then n == 8 + 2 * s
+    else if tag == 0x2C then n == 0
+    else true
 
 -- HEAP DUMP and HEAP DUMP SEGMENT
 abbrev pub is_heap_tag : ℕ → Bool

@@ -1,7 +1,7 @@
 //! A dump, as places in its bytes.
 
 ghost use Rattle.std.specs.Prelude.{◌≡◌, IfErr, IfOk, OnOk};
-ghost use Rattle.hprof_grammar.specs.Joining.{noted, nothing_of, with_loaded, with_string};
+ghost use Rattle.hprof_grammar.specs.working.Joining.{noted, nothing_of, with_loaded, with_string};
 
 use crate::flaw::ReadRefusal;
 use crate::tables::Kind;
@@ -24,7 +24,13 @@ impl<A: Allocator> Model for Dump<A> {
 
     ghost Value = { Places };
 
-    ghost view = { λ d. record { id_size = d.id_size; strings = d.strings.items; loaded = d.loaded.items; roots = d.roots.items; objects = d.objects.items } };
+    ghost view = { λ d. record {
+      id_size = d.id_size;
+      strings = d.strings.items;
+      loaded = d.loaded.items;
+      roots = d.roots.items;
+      objects = d.objects.items;
+    } };
 }
 
 impl<A: Allocator> Dump<A> {

@@ -17,7 +17,7 @@ pub enum Flaw {
 
 impl Flaw {
     ghost use Rattle.std.specs.Prelude.{◌≡◌};
-    ghost use Rattle.hprof_grammar.specs.Reading as reading;
+    ghost use Rattle.hprof_grammar.specs.working.Reading as reading;
 
     /// The code by which it is told.
     pub fn code(self) -> u8

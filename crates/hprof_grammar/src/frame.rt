@@ -1,7 +1,7 @@
 //! What every record of a dump has: a tag, a time, a length, and a body of so many bytes.
 
 ghost use Rattle.std.specs.Prelude.{◌≡◌};
-ghost use Rattle.hprof_grammar.specs.Reading.{GivesAs, frame_at};
+ghost use Rattle.hprof_grammar.specs.working.Reading.{GivesAs, frame_at};
 
 use crate::flaw::Flaw;
 use crate::reader::Reader;
@@ -16,7 +16,7 @@ pub struct Frame<'a> {
 }
 
 /// The record that the bytes begin with.
-#[tactic(auto, unfolding(crate::specs::Reading::frame_at))]
+#[tactic(auto, unfolding(crate::specs::working::Reading::frame_at))]
 pub fn next_frame<'a>(reader: &mut Reader<'a>) -> Result<Frame<'a>, Flaw>
     ensures { GivesAs (λ frame. (frame.tag, frame.time, frame.body.now))
         result reader.new.rest.now (frame_at reader.old.rest.now) }

@@ -1,7 +1,7 @@
 //! The sub-records of a heap record.
 
 ghost use Rattle.std.specs.Prelude.{◌≡◌, ◌+◌, ◌<◌, ◌≤◌, ◌^◌, OnOk, [], length};
-ghost use Rattle.hprof_grammar.specs.Joining.{AddsSubs, HasSubFault};
+ghost use Rattle.hprof_grammar.specs.working.Joining.{AddsSubs, HasSubFault};
 ghost use Rattle.hprof_grammar.specs.Refusal.{IfFault};
 
 use crate::dump::Dump;

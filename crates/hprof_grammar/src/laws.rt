@@ -7,7 +7,8 @@ ghost use Rattle.hprof_grammar.specs.Record.{Record};
 
 /// A text spells at most one list of records, with identifiers of one size.
 pub fn one_list_of_records()
-    ensures { (text : List ℕ) (id_size other_size : ℕ) (records others : List Record) → Spells text id_size records → Spells text other_size others
+    ensures { (text : List ℕ) (id_size other_size : ℕ) (records others : List Record) → Spells text id_size records
+        → Spells text other_size others
         → (id_size ≡ other_size) × (records ≡ others) }
 {}
 
@@ -18,7 +19,8 @@ pub fn one_dump()
 
 /// A text has at most one first fault: its code, and its place.
 pub fn one_fault()
-    ensures { (text : List ℕ) (code place other_code other_place : ℕ) → FirstFault text code place → FirstFault text other_code other_place
+    ensures { (text : List ℕ) (code place other_code other_place : ℕ) → FirstFault text code place
+        → FirstFault text other_code other_place
         → (code ≡ other_code) × (place ≡ other_place) }
 {}
 

@@ -1,7 +1,7 @@
 //! The order of the records that make a snapshot.
 
 ghost use Rattle.std.specs.Prelude.{◌≡◌};
-ghost use Rattle.hprof_grammar.specs.Orders as orders;
+ghost use Rattle.hprof_grammar.specs.working.Orders as orders;
 
 use crate::tags;
 

@@ -3,7 +3,7 @@
 ghost use Rattle.std.specs.Prelude.{◌≡◌, ◌≤◌, IfOk, length};
 ghost use Rattle.hprof_grammar.specs.Dump.{IsDumpOf};
 ghost use Rattle.hprof_grammar.specs.Fault.{FirstFault};
-ghost use Rattle.hprof_grammar.specs.Joining.{HasHeader};
+ghost use Rattle.hprof_grammar.specs.working.Joining.{HasHeader};
 ghost use Rattle.hprof_grammar.specs.Refusal.{IfFault};
 
 use crate::codes;

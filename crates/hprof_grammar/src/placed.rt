@@ -12,5 +12,6 @@ pub fn dump_is_placed()
 
 /// A sub-record that stands at a place ends within the bytes.
 pub fn stands_within()
-    ensures { (v : Sight) (at : ℕ) (sub : SubRecord) → Stands v at sub → at + length (spelling_of v.id_size sub) ≤ length v.bytes }
+    ensures { (v : Sight) (at : ℕ) (sub : SubRecord) → Stands v at sub
+        → at + length (spelling_of v.id_size sub) ≤ length v.bytes }
 {}

@@ -2,7 +2,7 @@
 
 ghost use Rattle.std.specs.Prelude.{◌≡◌, ◌<◌, ◌≤◌, ◌^◌, ◌==◌, IfOk, IsTrue, drop, length};
 ghost use Rattle.byteorder.specs.Endian.{big_number};
-ghost use Rattle.hprof_grammar.specs.Reading.{Gives, GivesAs, Passes, number_at, raw_at, type_at};
+ghost use Rattle.hprof_grammar.specs.working.Reading.{Gives, GivesAs, Passes, number_at, raw_at, type_at};
 
 use crate::flaw::Flaw;
 use crate::tables::{TypePlace, is_type_at};

@@ -1,7 +1,7 @@
 //! The records of a dump, behind its header.
 
 ghost use Rattle.std.specs.Prelude.{◌≡◌, ◌+◌, ◌<◌, ◌≤◌, ◌^◌, IfOk, OnOk, ℕ, length};
-ghost use Rattle.hprof_grammar.specs.Joining.{AddsAll, AddsRecord, FrameFault, HasRecordFault};
+ghost use Rattle.hprof_grammar.specs.working.Joining.{AddsAll, AddsRecord, FrameFault, HasRecordFault};
 ghost use Rattle.hprof_grammar.specs.Refusal.{IfFault};
 
 use crate::dump::Dump;

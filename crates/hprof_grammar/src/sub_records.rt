@@ -4,7 +4,7 @@
 ghost use Rattle.std.specs.Prelude.{◌≡◌, ◌≤◌, IfOk, Some, slice_get, ℕ};
 ghost use Rattle.std.specs.Option.{option_and_then};
 ghost use Rattle.hprof_grammar.specs.Tables as tables;
-ghost use Rattle.hprof_grammar.specs.Reading.{Passes, class_at, constant_at, counted_at, instance_at, list_at, member_at, number_at, object_array_at, pair_at, primitive_array_at, raw_at, root_at, static_at, sub_record_at, type_at};
+ghost use Rattle.hprof_grammar.specs.working.Reading.{Passes, class_at, constant_at, counted_at, instance_at, list_at, member_at, number_at, object_array_at, pair_at, primitive_array_at, raw_at, root_at, static_at, sub_record_at, type_at};
 
 use crate::flaw::Flaw;
 use crate::reader::Reader;
@@ -93,7 +93,7 @@ fn members(reader: &mut Reader<'_>, id_size: u8) -> Result<(), Flaw>
 }
 
 /// Behind the tag of a CLASS DUMP.
-#[tactic(auto, unfolding(crate::specs::Reading::class_at))]
+#[tactic(auto, unfolding(crate::specs::working::Reading::class_at))]
 fn class(reader: &mut Reader<'_>, id_size: u8) -> Result<(), Flaw>
     requires low { 1 ≤ id_size }
     requires high { id_size ≤ 8 }
@@ -114,7 +114,7 @@ fn class(reader: &mut Reader<'_>, id_size: u8) -> Result<(), Flaw>
 }
 
 /// Behind the tag of an INSTANCE DUMP.
-#[tactic(auto, unfolding(crate::specs::Reading::instance_at))]
+#[tactic(auto, unfolding(crate::specs::working::Reading::instance_at))]
 fn instance(reader: &mut Reader<'_>, id_size: u8) -> Result<(), Flaw>
     requires low { 1 ≤ id_size }
     requires high { id_size ≤ 8 }
@@ -129,7 +129,7 @@ fn instance(reader: &mut Reader<'_>, id_size: u8) -> Result<(), Flaw>
 }
 
 /// Behind the tag of an OBJECT ARRAY DUMP.
-#[tactic(auto, unfolding(crate::specs::Reading::object_array_at))]
+#[tactic(auto, unfolding(crate::specs::working::Reading::object_array_at))]
 fn object_array(reader: &mut Reader<'_>, id_size: u8) -> Result<(), Flaw>
     requires low { 1 ≤ id_size }
     requires high { id_size ≤ 8 }
@@ -156,7 +156,7 @@ fn elements(reader: &mut Reader<'_>, id_size: u8, count: u64) -> Result<(), Flaw
 }
 
 /// Behind the tag of a PRIMITIVE ARRAY DUMP.
-#[tactic(auto, unfolding(crate::specs::Reading::primitive_array_at))]
+#[tactic(auto, unfolding(crate::specs::working::Reading::primitive_array_at))]
 fn primitive_array(reader: &mut Reader<'_>, id_size: u8) -> Result<(), Flaw>
     requires low { 1 ≤ id_size }
     requires high { id_size ≤ 8 }
@@ -194,7 +194,7 @@ fn root(reader: &mut Reader<'_>, id_size: u8, kind: RootKind) -> Result<(), Flaw
 }
 
 /// A whole sub-record, of which the tag says the kind.
-#[tactic(auto, unfolding(crate::specs::Reading::sub_record_at))]
+#[tactic(auto, unfolding(crate::specs::working::Reading::sub_record_at))]
 pub fn sub_record(reader: &mut Reader<'_>, id_size: u8) -> Result<Kind, Flaw>
     requires low { 1 ≤ id_size }
     requires high { id_size ≤ 8 }

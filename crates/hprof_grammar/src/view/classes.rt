@@ -5,7 +5,7 @@ ghost use Rattle.hprof_grammar.specs.SubRecord.{Class};
 ghost use Rattle.hprof_grammar.specs.SubRecord.SubRecord.{class_dump};
 ghost use Rattle.hprof_grammar.specs.Standing.{Stands};
 ghost use Rattle.hprof_grammar.specs.Series.{of_constant, of_static};
-ghost use Rattle.hprof_grammar.specs.ClassParts.{IsPartOf, leading_ids, fields_from_constants, fields_from_statics};
+ghost use Rattle.hprof_grammar.specs.working.ClassParts.{IsPartOf, leading_ids, fields_from_constants, fields_from_statics};
 
 use crate::view::members::Members;
 use crate::view::values::{Values, skip_values};
@@ -122,7 +122,8 @@ impl<'a> View<'a> {
     /// The bytes from the count of a class's constants on.
     fn constants_from(&self, at: u32) -> &'a [u8]
         requires { (c : Class) × Stands self.now at (class_dump c) }
-        ensures { (c : Class) → Stands self.now at (class_dump c) → IsPartOf self.now.id_size c (fields_from_constants self.now.id_size c) result.now }
+        ensures { (c : Class) → Stands self.now at (class_dump c)
+            → IsPartOf self.now.id_size c (fields_from_constants self.now.id_size c) result.now }
     {
         bytes_from(self.bytes, behind_ids(at, self.id_size) + 4)
     }
@@ -130,7 +131,8 @@ impl<'a> View<'a> {
     /// The bytes from the count of a class's static fields on.
     fn statics_from(&self, at: u32) -> &'a [u8]
         requires { (c : Class) × Stands self.now at (class_dump c) }
-        ensures { (c : Class) → Stands self.now at (class_dump c) → IsPartOf self.now.id_size c (fields_from_statics self.now.id_size c) result.now }
+        ensures { (c : Class) → Stands self.now at (class_dump c)
+            → IsPartOf self.now.id_size c (fields_from_statics self.now.id_size c) result.now }
     {
         skip_values(self.constants_from(at), self.id_size, INDEX_SIZE)
     }

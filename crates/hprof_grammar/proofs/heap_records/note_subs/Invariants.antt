@@ -1,5 +1,5 @@
 use Rattle.std.proofs.Common.{length}
-use Rattle.hprof_grammar.specs.Joining.{AddsSubs}
+use Rattle.hprof_grammar.specs.working.Joining.{AddsSubs}
 use Rattle.hprof_grammar.proofs.heap_records.note_subs.Given as goal
 
 abbrev pub invariant-loop-reader : goal.invariant-loop-reader

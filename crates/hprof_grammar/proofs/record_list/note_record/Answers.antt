@@ -3,7 +3,7 @@ use Rattle.std.proofs.lemmas.Bool.Decides.{nat_tests}
 use Rattle.std.proofs.lemmas.Result.{err_from_is_err_and}
 use Rattle.hprof_grammar.specs.Record.{IsOther}
 use Rattle.hprof_grammar.specs.Tables.{is_heap_tag}
-use Rattle.hprof_grammar.specs.Joining.{FrameFault, HasSubFault}
+use Rattle.hprof_grammar.specs.working.Joining.{FrameFault, HasSubFault}
 use Rattle.hprof_grammar.proofs.Refusals.{fault_passes}
 use Rattle.hprof_grammar.proofs.Framed.{heap_broken, heap_framed, load_framed, other_framed, placed_frame, string_framed}
 use Rattle.hprof_grammar.proofs.record_list.note_record.Goals as goal

@@ -2,8 +2,8 @@ use Rattle.std.proofs.Common.{arith, false, length, refl, sym, ◌+◌, ◌-◌,
 use Rattle.std.proofs.lemmas.Bool.Decides.{nat_tests}
 use Rattle.std.proofs.lemmas.List.{nil_from_length}
 use Rattle.std.proofs.lemmas.Result.{err_from_is_err_and}
-use Rattle.hprof_grammar.specs.Joining.{FrameFault, HasRecordFault}
-use Rattle.hprof_grammar.specs.Orders.{is_done}
+use Rattle.hprof_grammar.specs.working.Joining.{FrameFault, HasRecordFault}
+use Rattle.hprof_grammar.specs.working.Orders.{is_done}
 use Rattle.hprof_grammar.specs.declared.order.Order.{Order}
 use Rattle.hprof_grammar.proofs.Refusals.{fault_passes}
 use Rattle.hprof_grammar.proofs.Bytes.{IsBytes, in_bytes}

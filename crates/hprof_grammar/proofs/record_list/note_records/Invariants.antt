@@ -1,5 +1,5 @@
 use Rattle.std.proofs.Common.{length}
-use Rattle.hprof_grammar.specs.Joining.{AddsRecords}
+use Rattle.hprof_grammar.specs.working.Joining.{AddsRecords}
 use Rattle.hprof_grammar.proofs.record_list.note_records.Given as goal
 
 abbrev pub invariant-loop-reader : goal.invariant-loop-reader

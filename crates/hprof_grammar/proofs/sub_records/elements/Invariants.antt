@@ -1,5 +1,5 @@
 use Rattle.std.proofs.Common.{◌-◌, ◌≡◌}
-use Rattle.hprof_grammar.specs.Reading.{behind, list_at, number_at}
+use Rattle.hprof_grammar.specs.working.Reading.{behind, list_at, number_at}
 use Rattle.hprof_grammar.proofs.sub_records.elements.Given as goal
 
 abbrev pub invariant-loop-i : goal.invariant-loop-i

@@ -1,5 +1,5 @@
 use Rattle.std.proofs.Common.{arith, ◌<◌}
-use Rattle.hprof_grammar.specs.Reading.{static_at}
+use Rattle.hprof_grammar.specs.working.Reading.{static_at}
 use Rattle.hprof_grammar.proofs.Counts.{list_stops}
 use Rattle.hprof_grammar.proofs.sub_records.statics.Goals as goal
 

@@ -1,5 +1,5 @@
 use Rattle.std.proofs.Common.{[], inl, inr, refl, subst, sym, true, ℕ, ◌++◌, ◌∷◌, ◌≡◌, ◌⊎◌}
-use Rattle.hprof_grammar.specs.Orders.{IsAt, is_done}
+use Rattle.hprof_grammar.specs.working.Orders.{IsAt, is_done}
 use Rattle.hprof_grammar.specs.Record.{CanGoOn}
 use Rattle.hprof_grammar.specs.Tables.{is_snapshot_tag}
 use Rattle.hprof_grammar.specs.declared.order.Order.{Order}

@@ -1,5 +1,5 @@
 use Rattle.std.proofs.Common.{List, ap, arith, drop, subst, sym, ℕ, ◌*◌, ◌+◌, ◌∙◌, ◌≡◌}
-use Rattle.hprof_grammar.specs.ClassParts.{IsPartOf, fields_from_constants}
+use Rattle.hprof_grammar.specs.working.ClassParts.{IsPartOf, fields_from_constants}
 use Rattle.hprof_grammar.proofs.ClassPartsRead.{constants_part, constants_stand}
 use Rattle.hprof_grammar.proofs.view.View.constants_from.Goals as goal
 

@@ -1,5 +1,5 @@
 use Rattle.std.proofs.Common.{List, arith, subst, sym, ℕ}
-use Rattle.hprof_grammar.specs.ClassParts.{IsPartOf, fields_from_members}
+use Rattle.hprof_grammar.specs.working.ClassParts.{IsPartOf, fields_from_members}
 use Rattle.hprof_grammar.proofs.ClassPartsRead.{behind_statics, members_read, members_room, statics_room, statics_seen}
 use Rattle.hprof_grammar.proofs.view.View.members.Goals as goal
 

@@ -1,5 +1,5 @@
 use Rattle.std.proofs.Common.{List, subst, sym, ℕ}
-use Rattle.hprof_grammar.specs.ClassParts.{IsPartOf, fields_from_statics}
+use Rattle.hprof_grammar.specs.working.ClassParts.{IsPartOf, fields_from_statics}
 use Rattle.hprof_grammar.proofs.ClassPartsRead.{behind_constants, constants_room, constants_seen, statics_shown}
 use Rattle.hprof_grammar.proofs.view.View.statics_from.Goals as goal
 

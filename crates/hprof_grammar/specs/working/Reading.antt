@@ -31,7 +31,8 @@ type_at place [] = Err Short
 type_at place (t ∷ rest) = if is_type_at place t then Ok (t, rest) else Err WrongType
 
 -- one after the other, where the second may depend on what the first gave
-abbrev pub pair_at : {A B : Type 0} → (List ℕ → Result (A × List ℕ) Flaw) → (A → List ℕ → Result (B × List ℕ) Flaw) → List ℕ → Result ((A × B) × List ℕ) Flaw
+abbrev pub pair_at : {A B : Type 0} → (List ℕ → Result (A × List ℕ) Flaw)
+    → (A → List ℕ → Result (B × List ℕ) Flaw) → List ℕ → Result ((A × B) × List ℕ) Flaw
 pair_at first second bytes = first bytes >>= λ x. second x.0 x.1 >>= λ y. Ok ((x.0, y.0), y.1)
 
 -- n times
@@ -55,31 +56,53 @@ behind (Err e) = Err e
 -- ---- the parts of sub-records, field by field
 
 abbrev pub constant_at : ℕ → List ℕ → Result (Constant × List ℕ) Flaw
-constant_at s = as_at (λ p. record { index = p.0; type = p.1.0; value = p.1.1 }) (pair_at (number_at 2) (λ _. pair_at (type_at InConstant) (λ t. raw_at (size_of s t))))
+constant_at s = as_at (λ p. record { index = p.0; type = p.1.0; value = p.1.1 })
+    (pair_at (number_at 2) (λ _. pair_at (type_at InConstant) (λ t. raw_at (size_of s t))))
 
 abbrev pub static_at : ℕ → List ℕ → Result (Static × List ℕ) Flaw
-static_at s = as_at (λ p. record { name = p.0; type = p.1.0; value = p.1.1 }) (pair_at (number_at s) (λ _. pair_at (type_at InStatic) (λ t. raw_at (size_of s t))))
+static_at s = as_at (λ p. record { name = p.0; type = p.1.0; value = p.1.1 })
+    (pair_at (number_at s) (λ _. pair_at (type_at InStatic) (λ t. raw_at (size_of s t))))
 
 abbrev pub member_at : ℕ → List ℕ → Result (Member × List ℕ) Flaw
 member_at s = as_at (λ p. record { name = p.0; type = p.1 }) (pair_at (number_at s) (λ _. type_at InMember))
 
 unfoldable pub class_at : ℕ → List ℕ → Result (Class × List ℕ) Flaw
 class_at s = as_at
-    (λ p. record { object = p.0; stack = p.1.0; super = p.1.1.0; loader = p.1.1.1.0; signers = p.1.1.1.1.0; domain = p.1.1.1.1.1.0; reserved = p.1.1.1.1.1.1.0; reserved_too = p.1.1.1.1.1.1.1.0; instance_size = p.1.1.1.1.1.1.1.1.0; constants = p.1.1.1.1.1.1.1.1.1.0; statics = p.1.1.1.1.1.1.1.1.1.1.0; members = p.1.1.1.1.1.1.1.1.1.1.1 })
-    (pair_at (number_at s) (λ _. pair_at (number_at 4) (λ _. pair_at (number_at s) (λ _. pair_at (number_at s) (λ _. pair_at (number_at s) (λ _. pair_at (number_at s) (λ _. pair_at (number_at s) (λ _. pair_at (number_at s) (λ _. pair_at (number_at 4)
-    (λ _. pair_at (counted_at 2 (constant_at s)) (λ _. pair_at (counted_at 2 (static_at s)) (λ _. counted_at 2 (member_at s)))))))))))))
+    (λ p. record {
+      object = p.0;
+      stack = p.1.0;
+      super = p.1.1.0;
+      loader = p.1.1.1.0;
+      signers = p.1.1.1.1.0;
+      domain = p.1.1.1.1.1.0;
+      reserved = p.1.1.1.1.1.1.0;
+      reserved_too = p.1.1.1.1.1.1.1.0;
+      instance_size = p.1.1.1.1.1.1.1.1.0;
+      constants = p.1.1.1.1.1.1.1.1.1.0;
+      statics = p.1.1.1.1.1.1.1.1.1.1.0;
+      members = p.1.1.1.1.1.1.1.1.1.1.1;
+    })
+    (pair_at (number_at s) (λ _. pair_at (number_at 4) (λ _. pair_at (number_at s)
+    (λ _. pair_at (number_at s) (λ _. pair_at (number_at s) (λ _. pair_at (number_at s)
+    (λ _. pair_at (number_at s) (λ _. pair_at (number_at s) (λ _. pair_at (number_at 4)
+    (λ _. pair_at (counted_at 2 (constant_at s))
+    (λ _. pair_at (counted_at 2 (static_at s)) (λ _. counted_at 2 (member_at s)))))))))))))
 
 unfoldable pub instance_at : ℕ → List ℕ → Result (Instance × List ℕ) Flaw
 instance_at s = as_at (λ p. record { object = p.0; stack = p.1.0; class = p.1.1.0; values = p.1.1.1.1 })
-    (pair_at (number_at s) (λ _. pair_at (number_at 4) (λ _. pair_at (number_at s) (λ _. pair_at (number_at 4) (λ n. raw_at n)))))
+    (pair_at (number_at s) (λ _. pair_at (number_at 4) (λ _. pair_at (number_at s)
+    (λ _. pair_at (number_at 4) (λ n. raw_at n)))))
 
 unfoldable pub object_array_at : ℕ → List ℕ → Result (ObjectArray × List ℕ) Flaw
 object_array_at s = as_at (λ p. record { object = p.0; stack = p.1.0; class = p.1.1.1.0; elements = p.1.1.1.1 })
-    (pair_at (number_at s) (λ _. pair_at (number_at 4) (λ _. pair_at (number_at 4) (λ n. pair_at (number_at s) (λ _. list_at (number_at s) n)))))
+    (pair_at (number_at s) (λ _. pair_at (number_at 4)
+    (λ _. pair_at (number_at 4) (λ n. pair_at (number_at s) (λ _. list_at (number_at s) n)))))
 
 unfoldable pub primitive_array_at : ℕ → List ℕ → Result (PrimitiveArray × List ℕ) Flaw
-primitive_array_at s = as_at (λ p. record { object = p.0; stack = p.1.0; count = p.1.1.0; type = p.1.1.1.0; values = p.1.1.1.1 })
-    (pair_at (number_at s) (λ _. pair_at (number_at 4) (λ _. pair_at (number_at 4) (λ n. pair_at (type_at InArray) (λ t. raw_at (n * size_of s t))))))
+primitive_array_at s = as_at
+    (λ p. record { object = p.0; stack = p.1.0; count = p.1.1.0; type = p.1.1.1.0; values = p.1.1.1.1 })
+    (pair_at (number_at s) (λ _. pair_at (number_at 4)
+    (λ _. pair_at (number_at 4) (λ n. pair_at (type_at InArray) (λ t. raw_at (n * size_of s t))))))
 
 -- a root of one kind
 abbrev pub lone_root : RootOrigin → ℕ → SubRecord

@@ -6,7 +6,7 @@ use Rattle.hprof_grammar.specs.Tables.{is_heap_tag, is_id_size, is_length_of}
 use Rattle.hprof_grammar.specs.Dump.{Places, header, heap_list, is_load, is_object, is_root, is_string, limit, placed, placed_subs, places_where, spellings}
 use Rattle.hprof_grammar.specs.Fault.{LongestRecords, LongestSubs, RecordFault, SubFault}
 use Rattle.hprof_grammar.specs.SubRecord.{IsSubRecord, SubRecord, spelling_of}
-use Rattle.hprof_grammar.specs.Orders.{IsAt, is_done}
+use Rattle.hprof_grammar.specs.working.Orders.{IsAt, is_done}
 use Rattle.hprof_grammar.specs.declared.tables.Kind.{Kind}
 use Rattle.hprof_grammar.specs.declared.tables.Kind.TheVariants as kinds
 use Rattle.hprof_grammar.specs.declared.order.Order.{Order}
@@ -17,17 +17,17 @@ nothing_of s = record { id_size = s; strings = []; loaded = []; roots = []; obje
 
 -- with the place of one more sub-record
 abbrev pub noted : Places → Kind → ℕ → Places
-noted p (kinds.Root kind) at = record { id_size = p.id_size; strings = p.strings; loaded = p.loaded; roots = p.roots ++ at ∷ []; objects = p.objects }
-noted p kinds.Class at = record { id_size = p.id_size; strings = p.strings; loaded = p.loaded; roots = p.roots; objects = p.objects ++ at ∷ [] }
-noted p kinds.Instance at = record { id_size = p.id_size; strings = p.strings; loaded = p.loaded; roots = p.roots; objects = p.objects ++ at ∷ [] }
-noted p kinds.ObjectArray at = record { id_size = p.id_size; strings = p.strings; loaded = p.loaded; roots = p.roots; objects = p.objects ++ at ∷ [] }
-noted p kinds.PrimitiveArray at = record { id_size = p.id_size; strings = p.strings; loaded = p.loaded; roots = p.roots; objects = p.objects ++ at ∷ [] }
+noted p (kinds.Root kind) at = record p { roots = p.roots ++ at ∷ [] }
+noted p kinds.Class at = record p { objects = p.objects ++ at ∷ [] }
+noted p kinds.Instance at = record p { objects = p.objects ++ at ∷ [] }
+noted p kinds.ObjectArray at = record p { objects = p.objects ++ at ∷ [] }
+noted p kinds.PrimitiveArray at = record p { objects = p.objects ++ at ∷ [] }
 
 abbrev pub with_string : Places → ℕ → Places
-with_string p at = record { id_size = p.id_size; strings = p.strings ++ at ∷ []; loaded = p.loaded; roots = p.roots; objects = p.objects }
+with_string p at = record p { strings = p.strings ++ at ∷ [] }
 
 abbrev pub with_loaded : Places → ℕ → Places
-with_loaded p at = record { id_size = p.id_size; strings = p.strings; loaded = p.loaded ++ at ∷ []; roots = p.roots; objects = p.objects }
+with_loaded p at = record p { loaded = p.loaded ++ at ∷ [] }
 
 -- the places of these sub-records join those that were there
 abbrev pub with_subs : Places → ℕ → List SubRecord → Places
@@ -77,9 +77,14 @@ pub record AddsRecord (at tag time : ℕ) (body : List ℕ) (before after : Orde
 
 -- what stands in a frame is no record here
 pub data FrameFault (s at tag : ℕ) (body : List ℕ) (before : Order) (fault : FormatFault) : Type 0 where
-  wrong_length : fault.code ≡ 4 → fault.offset ≡ at → is_length_of s tag (length body) ≡ false → FrameFault s at tag body before fault
-  wrong_order : fault.code ≡ 8 → fault.offset ≡ at → is_length_of s tag (length body) ≡ true → ((tags : List ℕ) → IsAt before tags → CanGoOn (tags ++ tag ∷ []) → ⊥) → FrameFault s at tag body before fault
-  wrong_heap : is_heap_tag tag ≡ true → is_length_of s tag (length body) ≡ true → ((tags : List ℕ) → IsAt before tags → CanGoOn (tags ++ tag ∷ [])) → HasSubFault s (at + 9) body fault → FrameFault s at tag body before fault
+  wrong_length : fault.code ≡ 4 → fault.offset ≡ at → is_length_of s tag (length body) ≡ false
+      → FrameFault s at tag body before fault
+  wrong_order : fault.code ≡ 8 → fault.offset ≡ at → is_length_of s tag (length body) ≡ true
+      → ((tags : List ℕ) → IsAt before tags → CanGoOn (tags ++ tag ∷ []) → ⊥)
+      → FrameFault s at tag body before fault
+  wrong_heap : is_heap_tag tag ≡ true → is_length_of s tag (length body) ≡ true
+      → ((tags : List ℕ) → IsAt before tags → CanGoOn (tags ++ tag ∷ []))
+      → HasSubFault s (at + 9) body fault → FrameFault s at tag body before fault
 
 -- the places of these records, from place 31 on, join those that were there
 abbrev pub with_records : Places → List Record → Places
