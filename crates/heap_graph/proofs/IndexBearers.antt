@@ -92,14 +92,17 @@ earlier ids id number first e =
     )
 
 -- nobody bears an identifier that has no position
-pub nowhere : (ids : List ℕ) (id number : ℕ) → None ≡ position (λ x. x == id) ids → Contains (take number ids) id → ⊥
-nowhere ids id number e has =
+pub absent : (ids : List ℕ) (id k : ℕ) → None ≡ position (λ x. x == id) ids → k < length ids → get_or ids k 0 ≡ id → ⊥
+absent ids id k e within =
     let test : ℕ → Bool = λ x. x == id in
     let place : ℕ = position_or_len test ids in
     let late : ¬ (place + 1 ≤ length ids) = λ (le : place + 1 ≤ length ids).
     let found : Some place ≡ position test ids = cond_below place (length ids) (Some place) None (omega (arith, le)) in cc
     in
+    eqb-false (get_or ids k 0) id (fails_before_first test ids k 0 (omega (arith, within, lt_of_not-le {n = place + 1} {m = length ids} late)))
+
+pub nowhere : (ids : List ℕ) (id number : ℕ) → None ≡ position (λ x. x == id) ids → Contains (take number ids) id → ⊥
+nowhere ids id number e has =
     let within : has.0 < length ids = omega (arith, has.1, length-take number ids) in
     let below : has.0 < number = omega (arith, has.1, length-take number ids) in
-    let there : get_or ids has.0 0 ≡ id = sym (get_or_default_zero ids has.0 id within) ∙ sym (get_or-take number ids has.0 id below) ∙ has.2 in
-    eqb-false (get_or ids has.0 0) id (fails_before_first test ids has.0 0 (omega (arith, within, lt_of_not-le {n = place + 1} {m = length ids} late))) there
+    absent ids id has.0 e within (sym (get_or_default_zero ids has.0 id within) ∙ sym (get_or-take number ids has.0 id below) ∙ has.2)

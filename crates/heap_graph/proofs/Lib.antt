@@ -15,6 +15,7 @@ pub mod Adding
 pub mod Lookups
 pub mod GrowingLaws
 pub mod EntryLaws
+pub mod NameLookups
 pub mod ClassLaws
 pub mod Sizes
 pub mod Wholeness

@@ -1,10 +1,14 @@
 //! The texts that name classes.
 
-ghost use Rattle.std.specs.Prelude.{List, ◌≡◌, option_copied};
+ghost use Rattle.std.specs.Prelude.{IfOk, List, filter, map, ◌≡◌, option_copied};
+ghost use Rattle.hprof_grammar.specs.Dump.{is_load, is_string};
 ghost use Rattle.hprof_grammar.specs.Record.{Record};
 ghost use Rattle.heap_graph.specs.ClassNames as named;
+ghost use Rattle.heap_graph.specs.working.PlacedNames.{AreNamesByIdOf, AreNamesOf, loaded_id, string_id};
 
+use crate::index::{Index, IndexBuilder};
 use hprof_grammar::View;
+use std::alloc::{AllocError, Allocator};
 
 /// The strings and the loaded classes of a dump, at their places.
 #[derive(Drop)]
@@ -14,39 +18,89 @@ pub(crate) struct Names<'a, 'd> {
     pub(crate) loaded: &'d [u32],
 }
 
-impl<'a, 'd> Names<'a, 'd> {
-    ghost use Rattle.heap_graph.specs.working.PlacedNames.{AreNamesOf};
+/// The strings and the loaded classes of a dump, by their identifiers. The first one of an identifier counts.
+#[derive(Drop)]
+pub(crate) struct NamesById<'n, 'a, A: Allocator> {
+    pub(crate) names: &'n Names<'a, 'n>,
+    pub(crate) strings: Index<A>,
+    pub(crate) loaded: Index<A>,
+}
 
+impl<'a, 'd> Names<'a, 'd> {
+    /// The strings by their identifiers.
+    fn strings_by_id<B: Allocator + Copy>(&self, alloc: B) -> Result<Index<B>, AllocError>
+        requires { (records : List Record) × AreNamesOf self.now records }
+        ensures { IfOk result (λ index. (records : List Record) → AreNamesOf self.now records → index ≡ map string_id (filter is_string records)) }
+    {
+        let mut builder = IndexBuilder::with_capacity(alloc, self.strings.len())?;
+        for at in self.strings {
+            builder.push(self.view.string_id(*at))?;
+        }
+        builder.finish(alloc)
+    }
+
+    /// The loaded classes by their identifiers.
+    fn loaded_by_id<B: Allocator + Copy>(&self, alloc: B) -> Result<Index<B>, AllocError>
+        requires { (records : List Record) × AreNamesOf self.now records }
+        ensures { IfOk result (λ index. (records : List Record) → AreNamesOf self.now records → index ≡ map loaded_id (filter is_load records)) }
+    {
+        let mut builder = IndexBuilder::with_capacity(alloc, self.loaded.len())?;
+        for at in self.loaded {
+            builder.push(self.view.loaded_class_id(*at))?;
+        }
+        builder.finish(alloc)
+    }
+}
+
+impl<'n, 'a, A: Allocator + Copy> NamesById<'n, 'a, A> {
+    /// These strings and loaded classes, by their identifiers.
+    pub(crate) fn new(alloc: A, names: &'n Names<'a, 'n>) -> Result<Self, AllocError>
+        requires { (records : List Record) × AreNamesOf names.now records }
+        ensures { IfOk result (λ n. (records : List Record) → AreNamesOf names.now records → AreNamesByIdOf n records) }
+    {
+        let strings = names.strings_by_id(alloc)?;
+        let loaded = names.loaded_by_id(alloc)?;
+        Ok(NamesById {
+            names,
+            strings,
+            loaded,
+        })
+    }
+}
+
+impl<'n, 'a, A: Allocator> NamesById<'n, 'a, A> {
     /// The identifier of the string that names a loaded class: that of the first such class.
     fn name_of(&self, class: u64) -> Option<u64>
-        requires { (records : List Record) × AreNamesOf self.now records }
-        ensures { (records : List Record) → AreNamesOf self.now records → result ≡ named.name_of records class }
+        requires { (records : List Record) × AreNamesByIdOf self.now records }
+        ensures { (records : List Record) → AreNamesByIdOf self.now records → result ≡ named.name_of records class }
     {
-        for at in self.loaded {
-            if self.view.loaded_class_id(*at) == class {
-                return Some(self.view.loaded_class_name(*at));
+        match self.loaded.find(class) {
+            Some(number) => {
+                let place = self.names.loaded[number as usize];
+                return Some(self.names.view.loaded_class_name(place));
             }
+            None => return None,
         }
-        None
     }
 
     /// The text of the first string with that identifier.
     fn string_named(&self, id: u64) -> Option<&'a [u8]>
-        requires { (records : List Record) × AreNamesOf self.now records }
-        ensures { (records : List Record) → AreNamesOf self.now records → option_copied result ≡ named.string_named records id }
+        requires { (records : List Record) × AreNamesByIdOf self.now records }
+        ensures { (records : List Record) → AreNamesByIdOf self.now records → option_copied result ≡ named.string_named records id }
     {
-        for at in self.strings {
-            if self.view.string_id(*at) == id {
-                return Some(self.view.string_text(*at));
+        match self.strings.find(id) {
+            Some(number) => {
+                let place = self.names.strings[number as usize];
+                return Some(self.names.view.string_text(place));
             }
+            None => return None,
         }
-        None
     }
 
     /// The text that names a class, if the dump has one.
     pub(crate) fn class_text(&self, class: u64) -> Option<&'a [u8]>
-        requires { (records : List Record) × AreNamesOf self.now records }
-        ensures { (records : List Record) → AreNamesOf self.now records → option_copied result ≡ named.class_text records class }
+        requires { (records : List Record) × AreNamesByIdOf self.now records }
+        ensures { (records : List Record) → AreNamesByIdOf self.now records → option_copied result ≡ named.class_text records class }
     {
         match self.name_of(class) {
             Some(name) => return self.string_named(name),

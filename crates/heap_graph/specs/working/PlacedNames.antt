@@ -1,9 +1,11 @@
 -- The strings and the loaded classes of a dump at their places.
-use Rattle.std.specs.Prelude.{List, filter, ℕ}
+use Rattle.std.specs.Prelude.{List, filter, map, ℕ, ◌≡◌}
 use Rattle.hprof_grammar.specs.Dump.{is_load, is_string}
 use Rattle.hprof_grammar.specs.Record.{Record}
+use Rattle.hprof_grammar.specs.Record.Record.{heap, load_class, other, string}
 use Rattle.hprof_grammar.specs.Standing.{RecordStands, Sight, StandInTurn}
 use Rattle.heap_graph.specs.declared.names.Names.{Names}
+use Rattle.heap_graph.specs.declared.names.NamesById.{NamesById}
 
 pub record AreNames (v : Sight) (strings loaded : List ℕ) (records : List Record) : Type 0 where
   pub string_each : StandInTurn (RecordStands v) strings (filter is_string records)
@@ -11,3 +13,27 @@ pub record AreNames (v : Sight) (strings loaded : List ℕ) (records : List Reco
 
 abbrev pub AreNamesOf : Names → List Record → Type 0
 AreNamesOf n records = AreNames n.view n.strings.now n.loaded.now records
+
+-- the identifier of a string
+abbrev pub string_id : Record → ℕ
+string_id (string time id text) = id
+string_id (load_class time serial class stack name) = 0
+string_id (heap tag time subs) = 0
+string_id (other tag time body) = 0
+
+-- the identifier of a loaded class
+abbrev pub loaded_id : Record → ℕ
+loaded_id (string time id text) = 0
+loaded_id (load_class time serial class stack name) = class
+loaded_id (heap tag time subs) = 0
+loaded_id (other tag time body) = 0
+
+-- the strings and the loaded classes stand at these places, and these are their identifiers
+pub record AreNamesById (v : Sight) (strings loaded string_ids loaded_ids : List ℕ) (records : List Record) : Type 0 where
+  pub names : AreNames v strings loaded records
+  pub strings_are : string_ids ≡ map string_id (filter is_string records)
+  pub loaded_are : loaded_ids ≡ map loaded_id (filter is_load records)
+
+abbrev pub AreNamesByIdOf : {A : Type 0} → NamesById A → List Record → Type 0
+AreNamesByIdOf n records =
+    AreNamesById n.names.now.view n.names.now.strings.now n.names.now.loaded.now n.strings n.loaded records
