@@ -10,10 +10,12 @@ pub struct Buffer<A: Allocator> {
     pub(crate) size: u32,
     ghost fits: { vec_len items ≤ size },
     ghost roomy: { size ≤ vec_capacity items },
+    ghost some: { 0 < size },
 }
 
 impl<A: Allocator> Buffer<A> {
     pub(crate) fn new(alloc: A, size: u32) -> Result<Self, AllocError>
+        requires { 0 < size }
         ensures { IfOk result (λ b. (b.items.items ≡ []) × (b.size ≡ size)) }
     {
         let items = Vec::with_capacity(alloc, size as usize)?;
@@ -29,7 +31,8 @@ impl<A: Allocator> Buffer<A> {
     }
 
     pub(crate) fn is_full(&self) -> bool
-        ensures { IsTrue result ↔ (vec_len self.now.items ≡ self.now.size) }
+        ensures full { IsTrue result ↔ (vec_len self.now.items ≡ self.now.size) }
+        ensures some { 0 < self.now.size }
     {
         self.items.len() == self.size as usize
     }

@@ -32,6 +32,7 @@ impl<A: Allocator> Held<A> {
     pub fn put(&mut self, object: u32) -> Result<(), u32>
         ensures ok { OnOk result ((length self.old.items < self.old.size) × (self.new ≡ record self.old { items = self.old.items ++ object ∷ [] })) }
         ensures full { IfErr result (λ back. (back ≡ object) × (length self.old.items ≡ self.old.size) × (self.new ≡ self.old)) }
+        ensures some { 0 < self.old.size }
     {
         if self.buffer.is_full() {
             return Err(object);

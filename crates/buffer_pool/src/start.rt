@@ -37,6 +37,7 @@ pub(crate) fn first_buffers<A: Allocator + Clone>(
     buffers: u32,
     size: u32,
 ) -> Result<Vec<Option<Buffer<A>>, A>, AllocError>
+    requires { 0 < size }
     ensures { IfOk result (λ s. (length s.items ≡ buffers) × All (IsFirstSlot buffer_reading size) s.items) }
 {
     let mut slots = Vec::with_capacity(alloc.clone()?, buffers as usize)?;

@@ -1,0 +1,111 @@
+-- What the calls of a pair tell, from what their parts tell.
+use Rattle.std.proofs.Common.{◌≡◌, ◌≢◌, ◌⊎◌, ℕ, ◌<◌, ◌≤◌, Bool, true, false, List, [], ◌∷◌, ◌++◌, length, Option, Some, None, Result, Ok, Err, refl, sym, ap, subst, ◌∙◌, inl, inr, ⊎_elim, arith}
+use Rattle.mark_core.specs.declared.which.Which.TheVariants.{Empty}
+use Rattle.mark_core.specs.Lists.{times}
+use Rattle.buffer_pool.specs.Book.{Book}
+use Rattle.buffer_pool.specs.Calls.{Load}
+use Rattle.work_pair.specs.Deals.{HasMore}
+use Rattle.work_pair.specs.Moves.{HasPushOnFull, WasSeenEmpty}
+use Rattle.work_pair.specs.Places.{items_at, number_at, items_of, IsOfSize, AreOfSize, AreAlike, IsBacked}
+use Rattle.work_pair.specs.declared.stop.Stop.{Stop}
+use Rattle.work_pair.specs.declared.stop.Stop.TheVariants.{TagSpent, NoBuffer}
+use Rattle.work_pair.specs.working.Steps.{Ends, Halts, PublishTells, PublishesAt, Renews, RenewTells, Trades, places}
+use Rattle.work_pair.proofs.Effects.{moves_effect}
+use Rattle.work_pair.proofs.Locals.{put_first, swapped}
+use Rattle.work_pair.proofs.Trading.{backed_after, end_on, first_renewed, items_sum, numbers_sum, on_and_on, second_renewed, sized_after, still}
+
+some_items : (xs : List ℕ) → 0 < length xs → xs ≢ []
+some_items xs some none = omega (arith, some, ap length none)
+
+module _ (f s t : Option Load) (b : Book) (vacant : t ≡ None) (sized : AreOfSize b.setup.size (places f s t)) where
+  -- both buffers were full, and changed places; then the first was renewed
+  module _ (p y : Option Load) (p_is : p ≡ s) (y_is : y ≡ f) (n third : Option Load) (c : Book) where
+    abbrev pub turned : Trades (places f s t) b [] [] (places p y t) b
+    turned = still (places f s t) b [] [] (places p y t) (swapped f s t p y p_is y_is) sized
+
+    abbrev renewed_then : Renews b.setup.size p b n third c → Trades (places f s t) b [] [] (places n y third) c
+    renewed_then r = on_and_on (places f s t) b (places p y t) b [] [] (places n y third) c turned (first_renewed p y t n third b c vacant r (subst (IsOfSize b.setup.size) (sym y_is) sized.first))
+
+    pub put_third : (h : Load) (o : ℕ) (g : Option Load) → Renews b.setup.size p b n third c → n ≡ Some h → g ≡ Some (record h { items = h.items ++ o ∷ [] }) → Trades (places f s t) b (o ∷ []) [] (places g y third) c
+    put_third h o g r n_is g_is =
+        let so_far = renewed_then r in
+        let last = still (places n y third) c (o ∷ []) [] (places g y third) (put_first n y third h o g n_is g_is) (sized_after (places f s t) b [] [] (places n y third) c so_far) in
+        on_and_on (places f s t) b (places n y third) c (o ∷ []) [] (places g y third) c so_far last
+
+    pub put_refused : RenewTells b.setup.size p b n third c (Ok false) → Halts (places f s t) b (places n y third) c NoBuffer
+    put_refused told =
+        let alike : AreAlike (places f s t) (places n y third) =
+        record {
+          items = λ o. omega (arith, items_sum o (places f s t), items_sum o (places n y third), ap (λ (q : Option Load). times o (items_at q)) (told.2 ∙ p_is), ap (λ (q : Option Load). times o (items_at q)) y_is, ap (λ (q : Option Load). times o (items_at q)) (told.1 ∙ sym vacant));
+          buffers = λ i. omega (arith, numbers_sum i (places f s t), numbers_sum i (places n y third), ap (λ (q : Option Load). times i (number_at q)) (told.2 ∙ p_is), ap (λ (q : Option Load). times i (number_at q)) y_is, ap (λ (q : Option Load). times i (number_at q)) (told.1 ∙ sym vacant));
+        } in (renewed_then told.0, told.1, told.3, alike)
+
+    pub put_stopped : (stop : Stop) → RenewTells b.setup.size p b n third c (Err stop) → Halts (places f s t) b (places n y third) c stop
+    put_stopped TagSpent told = (renewed_then told.0, told.1)
+    put_stopped NoBuffer none = absurd none
+
+  module _ (n third : Option Load) (c : Book) where
+    pub second_stopped : (stop : Stop) → RenewTells b.setup.size s b n third c (Err stop) → Ends (places f s t) b (places f n third) c stop
+    second_stopped TagSpent told = (second_renewed f s t n third b c vacant told.0 sized.first, told.1)
+    second_stopped NoBuffer none = absurd none
+
+    pub first_stopped : (stop : Stop) → RenewTells b.setup.size f b n third c (Err stop) → Ends (places f s t) b (places n s third) c stop
+    first_stopped TagSpent told = (first_renewed f s t n third b c vacant told.0 sized.second, told.1)
+    first_stopped NoBuffer none = absurd none
+
+    pub second_balanced : (done : Bool) → RenewTells b.setup.size s b n third c (Ok done) → 0 < length (items_at s)
+        → (u : Trades (places f s t) b [] [] (places f n third) c) × (third ≡ None) × (HasMore (places f s t) → WasSeenEmpty Empty b c ⊎ HasPushOnFull u.moves)
+    second_balanced true told some = (second_renewed f s t n third b c vacant told.0 sized.first, told.1, λ more. inr (told.2 (some_items (items_at s) some)))
+    second_balanced false told some = (second_renewed f s t n third b c vacant told.0 sized.first, told.1, λ more. inl told.3)
+
+    pub first_balanced : (done : Bool) → RenewTells b.setup.size f b n third c (Ok done) → 4 < length (items_at f)
+        → (u : Trades (places f s t) b [] [] (places n s third) c) × (third ≡ None) × (HasMore (places f s t) → WasSeenEmpty Empty b c ⊎ HasPushOnFull u.moves)
+    first_balanced true told some = (first_renewed f s t n third b c vacant told.0 sized.second, told.1, λ more. inr (told.2 (some_items (items_at f) (omega (arith, some)))))
+    first_balanced false told some = (first_renewed f s t n third b c vacant told.0 sized.second, told.1, λ more. inl told.3)
+
+  -- nothing was to be done
+  pub few_left : length (items_at s) ≤ 0 → length (items_at f) ≤ 4
+      → (u : Trades (places f s t) b [] [] (places f s t) b) × (t ≡ None) × (HasMore (places f s t) → WasSeenEmpty Empty b b ⊎ HasPushOnFull u.moves)
+  few_left none few = (
+    still (places f s t) b [] [] (places f s t) (record { items = λ o. omega arith; buffers = λ i. refl; sized = λ size of. of }) sized,
+    vacant,
+    λ more. absurd (⊎_elim (λ some. some (empty (items_at s) none)) (λ many. omega (arith, many, few)) more),
+  )
+    where
+      empty : (xs : List ℕ) → length xs ≤ 0 → xs ≡ []
+      empty [] h = refl
+      empty (x ∷ xs) h = absurd (omega (arith, h))
+
+none_of : (xs ys zs : List ℕ) → xs ≡ [] → ys ≡ [] → zs ≡ [] → xs ++ ys ++ zs ≡ []
+none_of xs ys zs x y z = ap (λ (l : List ℕ). l ++ ys ++ zs) x ∙ ap (λ (l : List ℕ). l ++ zs) y ∙ z
+
+-- the first buffer was published, and then the second
+module _ (f s t n third : Option Load) (b c : Book) (vacant : t ≡ None) (sized : AreOfSize b.setup.size (places f s t)) where
+  pub publish_stopped : (stop : Stop) → PublishesAt b.setup.size f b n third c (Err stop) → Ends (places f s t) b (places n s third) c stop
+  publish_stopped TagSpent told = (first_renewed f s t n third b c vacant told.0 sized.second, told.1)
+  publish_stopped NoBuffer none = absurd none
+
+  module _ (done : Unit) (first : PublishesAt b.setup.size f b n third c (Ok done)) where
+    abbrev pub first_published : Trades (places f s t) b [] [] (places n s third) c
+    first_published = first_renewed f s t n third b c vacant first.0 sized.second
+
+    pub published_backed : IsBacked (places f s t) [] b → IsBacked (places n s third) [] c
+    published_backed backed = backed_after (places f s t) b [] [] (places n s third) c backed first_published
+
+    now_sized : AreOfSize c.setup.size (places n s third)
+    now_sized = sized_after (places f s t) b [] [] (places n s third) c first_published
+
+    pub both_published : (m last : Option Load) (d : Book) (r : Result Unit Stop) → PublishesAt c.setup.size s c m last d r → PublishTells (places f s t) b (places n m last) d r
+    both_published m last d (Ok again) second =
+        let t₂ = second_renewed n s third m last c d first.1 second.0 now_sized.first in
+        let all = on_and_on (places f s t) b (places n s third) c [] [] (places n m last) d first_published t₂ in
+        let e₁ = moves_effect first.0.moves b c first.0.books in
+        let e₂ = moves_effect second.0.moves c d second.0.books in
+        let seen : WasSeenEmpty Empty b d ⊎ (items_of (places n m last) ≡ []) =
+        ⊎_elim (λ saw. inl (omega (arith, saw, e₂.empties)))
+        (λ none. ⊎_elim (λ saw. inl (omega (arith, saw, e₁.empties))) (λ none₂. inr (none_of (items_at n) (items_at m) (items_at last) none none₂ (ap items_at second.1))) second.2) first.2 in
+        (all, second.1, seen)
+    both_published m last d (Err TagSpent) second =
+        let t₂ = second_renewed n s third m last c d first.1 second.0 now_sized.first in
+        (on_and_on (places f s t) b (places n s third) c [] [] (places n m last) d first_published t₂, end_on first.0.moves second.0.moves second.1)
+    both_published m last d (Err NoBuffer) none = absurd none

@@ -1,0 +1,149 @@
+-- What moves do to the book of the worker that makes them.
+use Rattle.std.proofs.Common.{◌≡◌, ℕ, ◌+◌, ◌<◌, ◌≤◌, Bool, true, false, ◌&&◌, List, [], ◌∷◌, ◌++◌, Option, is_some, is_none, if◌then◌else◌, refl, sym, ap, subst, ◌∙◌, inl, inr, ⊎_elim, arith}
+use Rattle.tagged_index.specs.Head.{Head}
+use Rattle.mark_core.specs.declared.which.Which.{Which}
+use Rattle.mark_core.specs.declared.which.Which.TheVariants.{Full, Empty}
+use Rattle.mark_core.specs.Lists.{times, only, IsPart}
+use Rattle.mark_core.proofs.Sums.{total-append, times-remove_one, times-without, stands_times}
+use Rattle.buffer_pool.specs.Book.{Book, loaded, link_loaded, popped, pushed, empties_of, none_found}
+use Rattle.buffer_pool.specs.Calls.{Load}
+use Rattle.work_pair.specs.Moves.{Move, Took, Gave, FoundNone, Ended, Moved, Moves, taken_items, taken_number, given_items, given_number, popped_items, popped_numbers, pushed_items, pushed_numbers, IsOnFull, HasPushOnFull}
+use Rattle.work_pair.proofs.Looks.{IsLook, look_again, look_at_all, look_head, look_top, lost_pops, lost_pushes}
+
+-- what a worker has after moves, by the buffers that it popped and pushed
+pub record IsEffect (old new : Book) (given taken given_numbers taken_numbers : List ℕ) : Type 0 where
+  pub setup : new.setup ≡ old.setup
+  pub share : new.account.share ≡ old.account.share
+  pub seen : new.account.seen ≡ old.account.seen
+  pub finished : new.account.finished ≡ old.account.finished
+  pub charge : (o : ℕ) → times o new.account.charge + times o given ≡ times o old.account.charge + times o taken
+  pub held : (i : ℕ) → times i new.account.held + times i given_numbers ≡ times i old.account.held + times i taken_numbers
+  pub fulls : old.full_empties ≤ new.full_empties
+  pub empties : old.empty_empties ≤ new.empty_empties
+
+look_effect : (old new : Book) → IsLook old new → IsEffect old new [] [] [] []
+look_effect old new l =
+    record {
+      setup = l.setup;
+      share = l.share;
+      seen = l.seen;
+      finished = l.finished;
+      charge = λ o. ap (λ xs. times o xs + 0) l.charge;
+      held = λ i. ap (λ xs. times i xs + 0) l.held;
+      fulls = l.fulls;
+      empties = l.empties;
+    }
+
+module _ (q : Which) (h : Load) (old new : Book) where
+  -- a buffer was popped after a look
+  pop_effect : (b : Book) → IsLook old b → new ≡ popped h.index h.items b → IsEffect old new [] h.items [] (h.index ∷ [])
+  pop_effect b l is =
+      record {
+        setup = ap (λ (c : Book). c.setup) is ∙ l.setup;
+        share = ap (λ (c : Book). c.account.share) is ∙ l.share;
+        seen = ap (λ (c : Book). c.account.seen) is ∙ l.seen;
+        finished = ap (λ (c : Book). c.account.finished) is ∙ l.finished;
+        charge = λ o. omega (arith, ap (λ (c : Book). times o c.account.charge) is, total-append (only o) b.account.charge h.items, ap (times o) l.charge);
+        held = λ i. omega (arith, ap (λ (c : Book). times i c.account.held) is, total-append (only i) b.account.held (h.index ∷ []), ap (times i) l.held);
+        fulls = omega (arith, ap (λ (c : Book). c.full_empties) is, l.fulls);
+        empties = omega (arith, ap (λ (c : Book). c.empty_empties) is, l.empties);
+      }
+
+  -- a buffer was pushed after a look
+  push_effect : (b : Book) → IsLook old b → new ≡ pushed q h.index h.items b → 0 < times h.index old.account.held → IsPart h.items old.account.charge
+      → IsEffect old new h.items [] (h.index ∷ []) []
+  push_effect b l is there part =
+      let here : 0 < times h.index b.account.held = omega (arith, there, ap (times h.index) l.held) in
+      let among : IsPart h.items b.account.charge = λ x. omega (arith, part x, ap (times x) l.charge) in
+      record {
+        setup = ap (λ (c : Book). c.setup) is ∙ l.setup;
+        share = ap (λ (c : Book). c.account.share) is ∙ l.share;
+        seen = ap (λ (c : Book). c.account.seen) is ∙ l.seen;
+        finished = ap (λ (c : Book). c.account.finished) is ∙ l.finished;
+        charge = λ o. omega (arith, ap (λ (c : Book). times o c.account.charge) is, times-without h.items b.account.charge among o, ap (times o) l.charge);
+        held = λ i. omega (arith, ap (λ (c : Book). times i c.account.held) is, times-remove_one i h.index b.account.held here, ap (times i) l.held);
+        fulls = omega (arith, ap (λ (c : Book). c.full_empties) is, l.fulls);
+        empties = omega (arith, ap (λ (c : Book). c.empty_empties) is, l.empties);
+      }
+
+looked : (q : Which) (head : Head) (old mid new : Book) → IsLook old mid → new ≡ loaded q head mid → IsLook old new
+looked q head old mid new l is = subst (λ (c : Book). IsLook old c) (sym is) (look_again old mid (loaded q head mid) l (look_head q head mid))
+
+-- a look that ended a call
+pub ended_look : (q : Which) (old new : Book) → Moved (Ended q) old new → IsLook old new
+ended_look q old new moved = ⊎_elim
+    (λ p. looked q p.2.0 old p.0 new (lost_pops q old p.0 p.1) p.2.4)
+    (λ p. looked q p.2.2.0 old p.2.0 new (lost_pushes q p.0 old p.2.0 p.2.1) p.2.2.3)
+    moved
+
+pub empty_look : (q : Which) (old new : Book) → Moved (FoundNone q) old new → IsLook old new
+empty_look q old new p = looked q p.2.0 old p.0 new (lost_pops q old p.0 p.1) p.2.2
+
+pub move_effect : (move : Move) (old new : Book) → Moved move old new → IsEffect old new (given_items move) (taken_items move) (given_number move) (taken_number move)
+move_effect (Took q h) old new p =
+    let top = link_loaded q p.2.1 (loaded q p.2.0 p.0) in
+    pop_effect q h old new top (look_again old p.0 top (lost_pops q old p.0 p.1) (look_top q p.2.0 p.2.1 p.0)) p.2.5
+move_effect (Gave q h) old new p =
+    let t = p.1 in
+    let b = loaded q t.2.0 t.0 in
+    push_effect q h old new b (look_again old t.0 b (lost_pushes q h old t.0 t.1) (look_head q t.2.0 t.0)) t.2.2 (stands_times old.account.held h.index p.0.held) p.0.charged
+move_effect (FoundNone q) old new p = look_effect old new (empty_look q old new p)
+move_effect (Ended q) old new p = look_effect old new (ended_look q old new p)
+
+-- one effect after another
+effect_again : (a b c : Book) (g₀ t₀ gn₀ tn₀ g₁ t₁ gn₁ tn₁ : List ℕ) → IsEffect a b g₀ t₀ gn₀ tn₀ → IsEffect b c g₁ t₁ gn₁ tn₁ → IsEffect a c (g₀ ++ g₁) (t₀ ++ t₁) (gn₀ ++ gn₁) (tn₀ ++ tn₁)
+effect_again a b c g₀ t₀ gn₀ tn₀ g₁ t₁ gn₁ tn₁ s t =
+    record {
+      setup = t.setup ∙ s.setup;
+      share = t.share ∙ s.share;
+      seen = t.seen ∙ s.seen;
+      finished = t.finished ∙ s.finished;
+      charge = λ o. omega (arith, s.charge o, t.charge o, total-append (only o) g₀ g₁, total-append (only o) t₀ t₁);
+      held = λ i. omega (arith, s.held i, t.held i, total-append (only i) gn₀ gn₁, total-append (only i) tn₀ tn₁);
+      fulls = omega (arith, s.fulls, t.fulls);
+      empties = omega (arith, s.empties, t.empties);
+    }
+
+pub moves_effect : (moves : List Move) (old new : Book) → Moves old moves new → IsEffect old new (pushed_items moves) (popped_items moves) (pushed_numbers moves) (popped_numbers moves)
+moves_effect [] old new same = subst (λ (c : Book). IsEffect old c [] [] [] []) (sym same) (look_effect old old (look_at_all old))
+moves_effect (move ∷ moves) old new p =
+    effect_again old p.0 new (given_items move) (taken_items move) (given_number move) (taken_number move) (pushed_items moves) (popped_items moves) (pushed_numbers moves) (popped_numbers moves)
+    (move_effect move old p.0 p.1) (moves_effect moves p.0 new p.2)
+
+-- without a push on full no push opens
+move_closed : (move : Move) (old new : Book) → Moved move old new → (IsOnFull move → ⊥) → old.account.open_push ≡ false → new.account.open_push ≡ false
+move_closed (Took q h) old new p quiet closed =
+    let top = link_loaded q p.2.1 (loaded q p.2.0 p.0) in
+    ap (λ (c : Book). c.account.open_push) p.2.5 ∙ (look_again old p.0 top (lost_pops q old p.0 p.1) (look_top q p.2.0 p.2.1 p.0)).closed closed
+move_closed (Gave Full h) old new p quiet closed = absurd (quiet tt)
+move_closed (Gave Empty h) old new p quiet closed =
+    let t = p.1 in
+    let b = loaded Empty t.2.0 t.0 in
+    ap (λ (c : Book). c.account.open_push) t.2.2 ∙ (look_again old t.0 b (lost_pushes Empty h old t.0 t.1) (look_head Empty t.2.0 t.0)).closed closed
+move_closed (FoundNone q) old new p quiet closed = (empty_look q old new p).closed closed
+move_closed (Ended q) old new p quiet closed = (ended_look q old new p).closed closed
+
+pub moves_closed : (moves : List Move) (old new : Book) → Moves old moves new → (HasPushOnFull moves → ⊥) → old.account.open_push ≡ false → new.account.open_push ≡ false
+moves_closed [] old new same quiet closed = ap (λ (c : Book). c.account.open_push) same ∙ closed
+moves_closed (move ∷ moves) old new p quiet closed =
+    moves_closed moves p.0 new p.2 (λ h. quiet (inr h)) (move_closed move old p.0 p.1 (λ h. quiet (inl h)) closed)
+
+-- a head without a buffer raises the count of its stack
+pub found_none : (q : Which) (old new : Book) → Moved (FoundNone q) old new → empties_of old q < empties_of new q
+found_none Full old new p =
+    let l = lost_pops Full old p.0 p.1 in
+    let one : none_found p.2.0 ≡ 1 = ap (λ (i : Option ℕ). if is_none i then 1 else 0) p.2.1 in
+    omega (arith, l.fulls, one, ap (λ (c : Book). c.full_empties) p.2.2)
+found_none Empty old new p =
+    let l = lost_pops Empty old p.0 p.1 in
+    let one : none_found p.2.0 ≡ 1 = ap (λ (i : Option ℕ). if is_none i then 1 else 0) p.2.1 in
+    omega (arith, l.empties, one, ap (λ (c : Book). c.empty_empties) p.2.2)
+
+and_false : (b : Bool) → b && false ≡ false
+and_false true = refl
+and_false false = refl
+
+-- a full head without a buffer ends an open push
+pub found_none_closes : (old new : Book) → Moved (FoundNone Full) old new → new.account.open_push ≡ false
+found_none_closes old new p =
+    ap (λ (c : Book). c.account.open_push) p.2.2 ∙ ap (λ (i : Option ℕ). p.0.account.open_push && is_some i) p.2.1 ∙ and_false p.0.account.open_push

@@ -1,0 +1,10 @@
+pub mod Looks
+pub mod Effects
+pub mod Trading
+pub mod Renewing
+pub mod Locals
+pub mod Calls
+pub mod Clearing
+pub mod Getting
+pub mod Pairs
+pub mod Opening

@@ -1,0 +1,69 @@
+use Rattle.std.proofs.Common.{[], Ok, Option, refl, subst, ◌∙◌, arith}
+use Rattle.std.proofs.lemmas.Result.{err_from_is_err_and}
+use Rattle.mark_core.specs.declared.which.Which.TheVariants.{Full}
+use Rattle.buffer_pool.specs.Calls.{Load}
+use Rattle.work_pair.specs.working.Steps.{PopsOne, places}
+use Rattle.work_pair.proofs.Getting.{charged_here, got, held_here, none_got, of_size_here, pop_stopped, put_stopped, turned}
+use Rattle.work_pair.proofs.Trading.{still}
+use Rattle.work_pair.proofs.buffers.Buffers.get.Goals as goal
+
+pub loop-init : goal.loop-init
+loop-init g c =
+    let m = c.args.self.now in
+    let p = places m.first m.second m.third in
+    record {
+      pool = refl;
+      third = c.requires.third;
+      trades = still p c.args.worker.now.book [] [] p (record { items = λ o. omega arith; buffers = λ i. refl; sized = λ size of. of }) c.requires.backed.sized;
+    }
+
+pub returns-in-Some-take-clause-tells : goal.returns-in-Some-take-clause-tells
+returns-in-Some-take-clause-tells g c =
+    got (places c.args.self.now.first c.args.self.now.second c.args.self.now.third) c.args.worker.now.book c.requires.backed c.loop.self.first c.loop.self.second c.loop.self.third c.loop.worker.book c.loop.invariant.trades c.loop.invariant.third
+    c.take.new.self.first c.take.new.self.second c.take.new.self.third c.in-Some-take.object c.in-Some-take.ensures
+
+pub returns-in_err-next-clause-tells : goal.returns-in_err-next-clause-tells
+returns-in_err-next-clause-tells g c =
+    let p = err_from_is_err_and c.from_residual.result c.from_residual.ensures.1 in
+    rw (p.1, p.2)
+    (pop_stopped (places c.args.self.now.first c.args.self.now.second c.args.self.now.third) c.args.worker.now.book c.requires.backed c.loop.self.first c.loop.self.second c.loop.self.third c.loop.worker.book c.loop.invariant.trades c.loop.invariant.third
+    c.take.new.self.first c.take.new.self.second c.take.new.self.third c.in_default.ensures c.pop_one.new.worker.book c.in_err-next.field-0.0 c.in_err-next.ensures.pops)
+
+pub returns-in_default-2-clause-tells : goal.returns-in_default-2-clause-tells
+returns-in_default-2-clause-tells g c =
+    none_got (places c.args.self.now.first c.args.self.now.second c.args.self.now.third) c.args.worker.now.book c.requires.backed c.loop.self.first c.loop.self.second c.loop.self.third c.loop.worker.book c.loop.invariant.trades c.loop.invariant.third
+    c.take.new.self.first c.take.new.self.second c.take.new.self.third c.in_default.ensures c.pop_one.new.worker.book (subst (λ (r : Option Load). PopsOne Full c.loop.worker.book c.pop_one.new.worker.book (Ok r)) c.in_default-2.is c.in_ok-next.ensures.pops)
+
+pub put_out-requires-clause-held : goal.put_out-requires-clause-held
+put_out-requires-clause-held g c =
+    held_here (places c.args.self.now.first c.args.self.now.second c.args.self.now.third) c.args.worker.now.book c.requires.backed c.loop.self.first c.loop.self.second c.loop.self.third c.loop.worker.book c.loop.invariant.trades c.loop.invariant.third
+    c.take.new.self.first c.take.new.self.second c.take.new.self.third c.in_default.ensures c.in-Some-2.next c.pop_one.new.worker.book
+    (subst (λ (r : Option Load). PopsOne Full c.loop.worker.book c.pop_one.new.worker.book (Ok r)) c.in-Some-2.is c.in_ok-next.ensures.pops)
+
+pub put_out-requires-clause-charged : goal.put_out-requires-clause-charged
+put_out-requires-clause-charged g c =
+    charged_here (places c.args.self.now.first c.args.self.now.second c.args.self.now.third) c.args.worker.now.book c.requires.backed c.loop.self.first c.loop.self.second c.loop.self.third c.loop.worker.book c.loop.invariant.trades c.loop.invariant.third
+    c.take.new.self.first c.take.new.self.second c.take.new.self.third c.in_default.ensures c.in-Some-2.next c.pop_one.new.worker.book
+    (subst (λ (r : Option Load). PopsOne Full c.loop.worker.book c.pop_one.new.worker.book (Ok r)) c.in-Some-2.is c.in_ok-next.ensures.pops)
+
+pub put_out-requires-clause-sized : goal.put_out-requires-clause-sized
+put_out-requires-clause-sized g c =
+    of_size_here (places c.args.self.now.first c.args.self.now.second c.args.self.now.third) c.args.worker.now.book c.requires.backed c.loop.self.first c.loop.self.second c.loop.self.third c.loop.worker.book c.loop.invariant.trades c.loop.invariant.third
+    c.take.new.self.first c.take.new.self.second c.take.new.self.third c.in_default.ensures c.in-Some-2.next c.pop_one.new.worker.book
+    (subst (λ (r : Option Load). PopsOne Full c.loop.worker.book c.pop_one.new.worker.book (Ok r)) c.in-Some-2.is c.in_ok-next.ensures.pops)
+
+pub loop-preserved : goal.loop-preserved
+loop-preserved g c =
+    let both =
+    turned (places c.args.self.now.first c.args.self.now.second c.args.self.now.third) c.args.worker.now.book c.requires.backed c.loop.self.first c.loop.self.second c.loop.self.third c.loop.worker.book c.loop.invariant.trades c.loop.invariant.third
+    c.take.new.self.first c.take.new.self.second c.take.new.self.third c.in_default.ensures c.in-Some-2.next c.pop_one.new.worker.book
+    (subst (λ (r : Option Load). PopsOne Full c.loop.worker.book c.pop_one.new.worker.book (Ok r)) c.in-Some-2.is c.in_ok-next.ensures.pops) c.put_out.new.place c.put_out.new.third c.put_out.new.worker.book c.in_ok-put_out.field-0 c.in_ok-put_out.ensures.out in
+    record { pool = c.put_out.ensures.pool ∙ c.pop_one.ensures.pool ∙ c.loop.invariant.pool; third = both.1; trades = both.0 }
+
+pub returns-in_err-put_out-clause-tells : goal.returns-in_err-put_out-clause-tells
+returns-in_err-put_out-clause-tells g c =
+    let p = err_from_is_err_and c.from_residual-in_err-put_out.result c.from_residual-in_err-put_out.ensures.1 in
+    rw (p.1, p.2)
+    (put_stopped (places c.args.self.now.first c.args.self.now.second c.args.self.now.third) c.args.worker.now.book c.requires.backed c.loop.self.first c.loop.self.second c.loop.self.third c.loop.worker.book c.loop.invariant.trades c.loop.invariant.third
+    c.take.new.self.first c.take.new.self.second c.take.new.self.third c.in_default.ensures c.in-Some-2.next c.pop_one.new.worker.book
+    (subst (λ (r : Option Load). PopsOne Full c.loop.worker.book c.pop_one.new.worker.book (Ok r)) c.in-Some-2.is c.in_ok-next.ensures.pops) c.put_out.new.place c.put_out.new.third c.put_out.new.worker.book c.in_err-put_out.field-0.0 c.in_err-put_out.ensures.out)

@@ -1,0 +1,38 @@
+use Rattle.std.proofs.Common.{[]}
+use Rattle.std.proofs.lemmas.Result.{err_from_is_err_and}
+use Rattle.work_pair.specs.working.Steps.{places}
+use Rattle.work_pair.proofs.Calls.{both_published, publish_stopped, published_backed}
+use Rattle.work_pair.proofs.Trading.{first_charged, second_charged, second_held}
+use Rattle.work_pair.proofs.buffers.Buffers.publish.Goals as goal
+
+pub publish_at-requires-clause-charged : goal.publish_at-requires-clause-charged
+publish_at-requires-clause-charged g c =
+    let m = c.args.self.now in
+    first_charged (places m.first m.second m.third) [] c.args.worker.now.book c.requires.backed
+
+pub returns-in_err-publish_at-clause-tells : goal.returns-in_err-publish_at-clause-tells
+returns-in_err-publish_at-clause-tells g c =
+    let m = c.args.self.now in
+    let p = err_from_is_err_and c.from_residual.result c.from_residual.ensures.1 in
+    rw (p.1, p.2)
+    (publish_stopped m.first m.second m.third c.publish_at.new.place c.publish_at.new.third c.args.worker.now.book c.publish_at.new.worker.book c.requires.third c.requires.backed.sized c.in_err-publish_at.field-0.0 c.in_err-publish_at.ensures.publishes)
+
+pub publish_at-requires-2-clause-held : goal.publish_at-requires-2-clause-held
+publish_at-requires-2-clause-held g c =
+    second_held (places c.publish_at.new.place c.args.self.now.second c.publish_at.new.third) [] c.publish_at.new.worker.book (published_backed c.args.self.now.first c.args.self.now.second c.args.self.now.third c.publish_at.new.place c.publish_at.new.third c.args.worker.now.book c.publish_at.new.worker.book c.requires.third c.requires.backed.sized c.in_ok-publish_at.field-0
+    c.in_ok-publish_at.ensures.publishes c.requires.backed)
+
+pub publish_at-requires-2-clause-charged : goal.publish_at-requires-2-clause-charged
+publish_at-requires-2-clause-charged g c =
+    second_charged (places c.publish_at.new.place c.args.self.now.second c.publish_at.new.third) [] c.publish_at.new.worker.book (published_backed c.args.self.now.first c.args.self.now.second c.args.self.now.third c.publish_at.new.place c.publish_at.new.third c.args.worker.now.book c.publish_at.new.worker.book c.requires.third c.requires.backed.sized c.in_ok-publish_at.field-0
+    c.in_ok-publish_at.ensures.publishes c.requires.backed)
+
+pub publish_at-requires-2-clause-sized : goal.publish_at-requires-2-clause-sized
+publish_at-requires-2-clause-sized g c = (published_backed c.args.self.now.first c.args.self.now.second c.args.self.now.third c.publish_at.new.place c.publish_at.new.third c.args.worker.now.book c.publish_at.new.worker.book c.requires.third c.requires.backed.sized c.in_ok-publish_at.field-0
+    c.in_ok-publish_at.ensures.publishes c.requires.backed).sized.second
+
+pub returns-clause-tells : goal.returns-clause-tells
+returns-clause-tells g c =
+    let m = c.args.self.now in
+    both_published m.first m.second m.third c.publish_at.new.place c.publish_at.new.third c.args.worker.now.book c.publish_at.new.worker.book c.requires.third c.requires.backed.sized c.in_ok-publish_at.field-0 c.in_ok-publish_at.ensures.publishes
+    c.publish_at-2.new.place c.publish_at-2.new.third c.publish_at-2.new.worker.book c.publish_at-2.result c.publish_at-2.ensures.publishes

@@ -1,0 +1,70 @@
+use Rattle.std.proofs.Common.{ap, refl, subst, Bool, Ok, Option, Some, ◌++◌, [], ◌∷◌, ◌∙◌, ◌≡◌, arith}
+use Rattle.std.specs.Bool.{OnTrue}
+use Rattle.mark_core.specs.Lists.{times}
+use Rattle.buffer_pool.specs.Calls.{Load}
+use Rattle.work_pair.specs.Places.{items_at}
+use Rattle.work_pair.specs.working.Steps.{RenewTells, places}
+use Rattle.work_pair.proofs.Calls.{put_refused, put_stopped, put_third}
+use Rattle.work_pair.proofs.Locals.{local_again, put_first, swapped}
+use Rattle.work_pair.proofs.Trading.{second_charged, still}
+use Rattle.work_pair.proofs.buffers.Buffers.put.Goals as goal
+
+pub returns-then-put_at-clause-tells : goal.returns-then-put_at-clause-tells
+returns-then-put_at-clause-tells g c =
+    let m = c.args.self.now in
+    let put = c.if-put_at.ensures.put in
+    (still (places m.first m.second m.third) c.args.worker.now.book (c.args.object ∷ []) [] (places c.put_at.new.place m.second m.third) (put_first m.first m.second m.third put.0 c.args.object c.put_at.new.place put.1 put.2) c.requires.backed.sized, c.requires.third)
+
+pub returns-then-put_at-2-clause-tells : goal.returns-then-put_at-2-clause-tells
+returns-then-put_at-2-clause-tells g c =
+    let m = c.args.self.now in
+    let put = c.if-put_at-2.ensures.put in
+    let x = c.swap.new.x in
+    let y = c.swap.new.y in
+    let turned = swapped m.first m.second m.third x y c.swap.ensures.x_after (c.swap.ensures.y_after ∙ c.if-put_at.ensures.full) in
+    let more = put_first x y m.third put.0 c.args.object c.put_at-2.new.place put.1 put.2 in
+    let both = local_again m.first m.second m.third x y m.third c.put_at-2.new.place y (c.args.object ∷ []) [] turned more in
+    (still (places m.first m.second m.third) c.args.worker.now.book (c.args.object ∷ []) [] (places c.put_at-2.new.place y m.third) both c.requires.backed.sized, c.requires.third)
+
+pub renew-requires-clause-charged : goal.renew-requires-clause-charged
+renew-requires-clause-charged g c =
+    let m = c.args.self.now in
+    let part = second_charged (places m.first m.second m.third) (c.args.object ∷ []) c.args.worker.now.book c.requires.backed in
+    let is = c.if-put_at-2.ensures.full ∙ c.swap.ensures.x_after in
+    λ x. omega (arith, part x, ap (λ (p : Option Load). times x (items_at p)) is)
+
+pub returns-in-Ok-true-clause-tells : goal.returns-in-Ok-true-clause-tells
+returns-in-Ok-true-clause-tells g c =
+    let m = c.args.self.now in
+    let b = c.args.worker.now.book in
+    let p = c.put_at-2.new.place in
+    let y = c.swap.new.y in
+    let n = c.renew.new.place in
+    let third = c.renew.new.third in
+    let after = c.renew.new.worker.book in
+    let told = subst (λ (done : Bool). RenewTells b.setup.size p b n third after (Ok done)) c.in-Ok-true.field-0-test c.in-Ok-true.ensures.renews in
+    let bare = subst (λ (done : Bool). OnTrue done ((h : Load) × (n ≡ Some h) × (h.items ≡ []))) c.in-Ok-true.field-0-test c.in-Ok-true.ensures.bare in
+    let last = c.put_at-in-Ok-true.ensures in
+    let fits = last.room bare.0 bare.1 bare.2 in
+    let put = subst (λ (done : Bool). OnTrue done ((h : Load) × (n ≡ Some h) × (c.put_at-in-Ok-true.new.place ≡ Some (record h { items = h.items ++ c.args.object ∷ [] })))) fits last.put in
+    (put_third m.first m.second m.third b c.requires.third c.requires.backed.sized p y (c.if-put_at-2.ensures.full ∙ c.swap.ensures.x_after) (c.swap.ensures.y_after ∙ c.if-put_at.ensures.full) n third after put.0 c.args.object c.put_at-in-Ok-true.new.place told.0 put.1 put.2, told.1)
+
+pub returns-in-Ok-false-clause-tells : goal.returns-in-Ok-false-clause-tells
+returns-in-Ok-false-clause-tells g c =
+    let m = c.args.self.now in
+    let b = c.args.worker.now.book in
+    let p = c.put_at-2.new.place in
+    let n = c.renew.new.place in
+    let third = c.renew.new.third in
+    let after = c.renew.new.worker.book in
+    let told = subst (λ (done : Bool). RenewTells b.setup.size p b n third after (Ok done)) c.in-Ok-false.field-0-test c.in-Ok-false.ensures.renews in
+    let refused = put_refused m.first m.second m.third b c.requires.third c.requires.backed.sized p c.swap.new.y (c.if-put_at-2.ensures.full ∙ c.swap.ensures.x_after) (c.swap.ensures.y_after ∙ c.if-put_at.ensures.full) n third after told in
+    (refl, refused)
+
+pub returns-in-Err-clause-tells : goal.returns-in-Err-clause-tells
+returns-in-Err-clause-tells g c =
+    let m = c.args.self.now in (
+      refl,
+      put_stopped m.first m.second m.third c.args.worker.now.book c.requires.third c.requires.backed.sized c.put_at-2.new.place c.swap.new.y (c.if-put_at-2.ensures.full ∙ c.swap.ensures.x_after) (c.swap.ensures.y_after ∙ c.if-put_at.ensures.full) c.renew.new.place c.renew.new.third
+          c.renew.new.worker.book c.in-Err.stop c.in-Err.ensures.renews,
+    )

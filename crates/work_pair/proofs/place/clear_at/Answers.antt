@@ -1,0 +1,6 @@
+use Rattle.std.proofs.Common.{sym, ◌∙◌}
+use Rattle.work_pair.proofs.Renewing.{stands_held}
+use Rattle.work_pair.proofs.place.clear_at.Goals as goal
+
+pub shelve-requires-clause-held : goal.shelve-requires-clause-held
+shelve-requires-clause-held g c = stands_held c.args.place.now c.in-Some.held c.args.worker.now.book.account.held (sym c.take.ensures.value ∙ c.in-Some.is) c.requires.held

@@ -1,0 +1,65 @@
+-- A pair of buffers as a contract sees it.
+use Rattle.std.specs.Prelude.{◌≡◌, ℕ, Bool, false, List, [], ◌∷◌, ◌++◌, Option, Some, None}
+use Rattle.mark_core.specs.Lists.{times, IsPart}
+use Rattle.buffer_pool.specs.Book.{Book}
+use Rattle.buffer_pool.specs.Calls.{Load}
+
+-- a pair: its first and its second buffer, one that a stopped call left over, and whether a call was stopped by a last tag
+pub record Places : Type 0 where
+  pub first : Option Load
+  pub second : Option Load
+  pub third : Option Load
+  pub stopped : Bool
+
+-- the items of the buffer at a place, and its number
+abbrev pub items_at : Option Load → List ℕ
+items_at None = []
+items_at (Some h) = h.items
+
+abbrev pub number_at : Option Load → List ℕ
+number_at None = []
+number_at (Some h) = h.index ∷ []
+
+-- the items of a pair, and the numbers of the buffers that it holds, without order
+abbrev pub items_of : Places → List ℕ
+items_of p = items_at p.first ++ items_at p.second ++ items_at p.third
+
+abbrev pub numbers_of : Places → List ℕ
+numbers_of p = number_at p.first ++ number_at p.second ++ number_at p.third
+
+-- a pair that holds nothing
+abbrev pub no_places : Places
+no_places = record { first = None; second = None; third = None; stopped = false }
+
+-- no call was stopped, and no buffer is left over
+pub record IsOpen (p : Places) : Type 0 where
+  pub going : p.stopped ≡ false
+  pub third : p.third ≡ None
+
+-- two pairs with the same items and the same buffers
+pub record AreAlike (one other : Places) : Type 0 where
+  pub items : (o : ℕ) → times o (items_of other) ≡ times o (items_of one)
+  pub buffers : (i : ℕ) → times i (numbers_of other) ≡ times i (numbers_of one)
+
+-- a new pair: two buffers without items
+pub record IsNew (p : Places) : Type 0 where
+  pub going : IsOpen p
+  pub first : (h : Load) × (p.first ≡ Some h) × (h.items ≡ [])
+  pub second : (h : Load) × (p.second ≡ Some h) × (h.items ≡ [])
+
+-- the buffer at a place takes as many items as those of a pool
+abbrev pub IsOfSize : ℕ → Option Load → Type 0
+IsOfSize size None = Unit {0}
+IsOfSize size (Some h) = h.size ≡ size
+
+-- the buffers of a pair do
+pub record AreOfSize (size : ℕ) (p : Places) : Type 0 where
+  pub first : IsOfSize size p.first
+  pub second : IsOfSize size p.second
+  pub third : IsOfSize size p.third
+
+-- the worker of this book holds the buffers of the pair, which are of its pool, and answers for its items and for these besides
+pub record IsBacked (p : Places) (besides : List ℕ) (b : Book) : Type 0 where
+  pub held : IsPart (numbers_of p) b.account.held
+  pub charged : IsPart (items_of p ++ besides) b.account.charge
+  pub sized : AreOfSize b.setup.size p

@@ -1,0 +1,150 @@
+//! The buffers of a pair, and what its calls do with them.
+ghost use Rattle.std.specs.Prelude.{◌≡◌, None};
+
+use crate::place::{clear_at, halve, len_at, publish_at, put_at, put_out, renew, take_at};
+use crate::steps::pop_one;
+use crate::stop::Stop;
+use buffer_pool::{Held, Pool, Which, Worker};
+use std::alloc::Allocator;
+use std::mem::swap;
+use std::sync::Wait;
+
+/// Above so many objects the first buffer is halved.
+const FEW: u32 = 4;
+
+/// Two buffers, and one that a stopped call left over.
+#[derive(Drop)]
+pub(crate) struct Buffers<A: Allocator> {
+    pub(crate) first: Option<Held<A>>,
+    pub(crate) second: Option<Held<A>>,
+    pub(crate) third: Option<Held<A>>,
+}
+
+impl<A: Allocator> Buffers<A> {
+    ghost use Rattle.std.specs.Prelude.{◌≡◌, None, [], ◌∷◌};
+    ghost use Rattle.work_pair.specs.Places.{IsBacked};
+    ghost use Rattle.work_pair.specs.working.Steps.{BalanceTells, ClearTells, GetTells, PublishTells, PutTells, Takes, places};
+
+    /// Puts an object into the first buffer, or into the second, which is the first then, or into an empty one.
+    pub(crate) fn put<R: Wait>(
+        &mut self,
+        rt: &R,
+        pool: &Pool<A>,
+        worker: &mut Worker<A>,
+        object: u32,
+    ) -> Result<(), (u32, Stop)>
+        requires pool { worker.old.pool ≡ pool.now }
+        requires third { self.old.third ≡ None }
+        requires backed { IsBacked (places self.old.first self.old.second self.old.third) (object ∷ []) worker.old.book }
+        ensures pool { worker.new.pool ≡ worker.old.pool }
+        ensures tells { PutTells object (places self.old.first self.old.second self.old.third) worker.old.book (places self.new.first self.new.second self.new.third) worker.new.book result }
+    {
+        if put_at(&mut self.first, object) {
+            return Ok(());
+        }
+        swap(&mut self.first, &mut self.second);
+        if put_at(&mut self.first, object) {
+            return Ok(());
+        }
+        match renew(rt, pool, worker, &mut self.first, &mut self.third) {
+            Ok(true) => {
+                put_at(&mut self.first, object);
+                Ok(())
+            }
+            Ok(false) => Err((object, Stop::NoBuffer)),
+            Err(stop) => Err((object, stop)),
+        }
+    }
+
+    /// Takes an object from the first buffer, or from the second, which is the first then.
+    fn take(&mut self) -> Option<u32>
+        ensures { Takes (places self.old.first self.old.second self.old.third) (places self.new.first self.new.second self.new.third) result }
+    {
+        if let Some(object) = take_at(&mut self.first) {
+            return Some(object);
+        }
+        swap(&mut self.first, &mut self.second);
+        take_at(&mut self.first)
+    }
+
+    /// Takes an object from these buffers, or from those of the full stack. A buffer that was pushed there without
+    /// items is passed over.
+    pub(crate) fn get<R: Wait>(
+        &mut self,
+        rt: &R,
+        pool: &Pool<A>,
+        worker: &mut Worker<A>,
+    ) -> Result<Option<u32>, Stop>
+        requires pool { worker.old.pool ≡ pool.now }
+        requires third { self.old.third ≡ None }
+        requires backed { IsBacked (places self.old.first self.old.second self.old.third) [] worker.old.book }
+        ensures pool { worker.new.pool ≡ worker.old.pool }
+        ensures tells { GetTells (places self.old.first self.old.second self.old.third) worker.old.book (places self.new.first self.new.second self.new.third) worker.new.book result }
+    {
+        for _ in rt.forever() {
+            if let Some(object) = self.take() {
+                return Ok(Some(object));
+            }
+            let Some(next) = pop_one(rt, pool, worker, Which::Full)? else {
+                return Ok(None);
+            };
+            put_out(rt, pool, worker, &mut self.first, &mut self.third, next)?;
+        }
+        unreachable!()
+    }
+
+    /// Pushes the second buffer if it has items, or else the lower part of the first if that has more than a few.
+    pub(crate) fn balance<R: Wait>(
+        &mut self,
+        rt: &R,
+        pool: &Pool<A>,
+        worker: &mut Worker<A>,
+    ) -> Result<(), Stop>
+        requires pool { worker.old.pool ≡ pool.now }
+        requires third { self.old.third ≡ None }
+        requires backed { IsBacked (places self.old.first self.old.second self.old.third) [] worker.old.book }
+        ensures pool { worker.new.pool ≡ worker.old.pool }
+        ensures tells { BalanceTells (places self.old.first self.old.second self.old.third) worker.old.book (places self.new.first self.new.second self.new.third) worker.new.book result }
+    {
+        if len_at(&self.second) > 0 {
+            renew(rt, pool, worker, &mut self.second, &mut self.third)?;
+        } else if len_at(&self.first) > FEW {
+            halve(rt, pool, worker, &mut self.first, &mut self.third)?;
+        }
+        Ok(())
+    }
+
+    /// Pushes each buffer that has items.
+    pub(crate) fn publish<R: Wait>(
+        &mut self,
+        rt: &R,
+        pool: &Pool<A>,
+        worker: &mut Worker<A>,
+    ) -> Result<(), Stop>
+        requires pool { worker.old.pool ≡ pool.now }
+        requires third { self.old.third ≡ None }
+        requires backed { IsBacked (places self.old.first self.old.second self.old.third) [] worker.old.book }
+        ensures pool { worker.new.pool ≡ worker.old.pool }
+        ensures tells { PublishTells (places self.old.first self.old.second self.old.third) worker.old.book (places self.new.first self.new.second self.new.third) worker.new.book result }
+    {
+        publish_at(rt, pool, worker, &mut self.first, &mut self.third)?;
+        publish_at(rt, pool, worker, &mut self.second, &mut self.third)
+    }
+
+    /// Pushes all buffers, those with items on full and the others on empty. Where a last tag was loaded the rest stays.
+    pub(crate) fn clear<R: Wait>(
+        &mut self,
+        rt: &R,
+        pool: &Pool<A>,
+        worker: &mut Worker<A>,
+    ) -> Result<(), Stop>
+        requires pool { worker.old.pool ≡ pool.now }
+        requires backed { IsBacked (places self.old.first self.old.second self.old.third) [] worker.old.book }
+        ensures pool { worker.new.pool ≡ worker.old.pool }
+        ensures tells { ClearTells (places self.old.first self.old.second self.old.third) worker.old.book (places self.new.first self.new.second self.new.third) worker.new.book result }
+    {
+        clear_at(rt, pool, worker, &mut self.first)?;
+        clear_at(rt, pool, worker, &mut self.second)?;
+        clear_at(rt, pool, worker, &mut self.third)
+    }
+}

@@ -1,0 +1,191 @@
+//! A place for a buffer in a pair. It is vacant only once a call was stopped.
+ghost use Rattle.std.specs.Prelude.{◌≡◌, ◌≢◌, ◌+◌, ◌↔◌, ◌<◌, ℕ, [], ◌∷◌, ◌++◌, Some, None, IsTrue, IfOk, length, MatchOption};
+ghost use Rattle.std.specs.Bool.{OnTrue, OnFalse};
+ghost use Rattle.mark_core.specs.Lists.{times, IsPart};
+ghost use Rattle.buffer_pool.specs.Calls.{Load};
+ghost use Rattle.work_pair.specs.Places.{items_at, number_at, IsOfSize};
+ghost use Rattle.work_pair.specs.working.Steps.{ClearsAt, PublishesAt, PutsOut, RenewTells};
+
+use crate::steps::{pop_one, shelve};
+use crate::stop::Stop;
+use buffer_pool::{Held, Pool, Which, Worker};
+use std::alloc::Allocator;
+use std::sync::Wait;
+
+/// How many objects the buffer has.
+pub(crate) fn len_at<A: Allocator>(place: &Option<Held<A>>) -> u32
+    ensures { result ≡ length (items_at place.now) }
+{
+    match place {
+        Some(held) => held.len(),
+        None => 0,
+    }
+}
+
+/// Puts an object into the buffer. False where it is full.
+pub(crate) fn put_at<A: Allocator>(place: &mut Option<Held<A>>, object: u32) -> bool
+    ensures put { OnTrue result ((h : Load) × (place.old ≡ Some h) × (place.new ≡ Some (record h { items = h.items ++ object ∷ [] }))) }
+    ensures full { OnFalse result (place.new ≡ place.old) }
+    ensures room { (h : Load) → place.old ≡ Some h → h.items ≡ [] → IsTrue result }
+{
+    match place {
+        Some(held) => held.put(object).is_ok(),
+        None => false,
+    }
+}
+
+/// Takes the object that was put last.
+pub(crate) fn take_at<A: Allocator>(place: &mut Option<Held<A>>) -> Option<u32>
+    ensures { MatchOption result ((items_at place.old ≡ []) × (place.new ≡ place.old)) (λ o. (h : Load) × (k : Load) × (place.old ≡ Some h) × (place.new ≡ Some k) × (h.items ≡ k.items ++ o ∷ []) × (k ≡ record h { items = k.items })) }
+{
+    match place {
+        Some(held) => held.take(),
+        None => None,
+    }
+}
+
+/// Moves the upper half of the objects, rounded down, into an empty buffer.
+fn split_at<A: Allocator>(place: &mut Option<Held<A>>, upper: &mut Held<A>)
+    requires empty { upper.old.items ≡ [] }
+    requires room { IsOfSize upper.old.size place.old }
+    ensures shared { (o : ℕ) → times o (items_at place.new) + times o upper.new.items ≡ times o (items_at place.old) }
+    ensures some { items_at place.old ≢ [] → items_at place.new ≢ [] }
+    ensures number { number_at place.new ≡ number_at place.old }
+    ensures sized { (size : ℕ) → IsOfSize size place.old → IsOfSize size place.new }
+    ensures upper { (upper.new.index ≡ upper.old.index) × (upper.new.size ≡ upper.old.size) }
+{
+    if let Some(held) = place {
+        held.split_upper_into(upper);
+    }
+}
+
+/// Pushes the buffer at a place, and puts the next one there. Where a last tag was loaded the next one goes to the
+/// third place.
+pub(crate) fn put_out<R: Wait, A: Allocator>(
+    rt: &R,
+    pool: &Pool<A>,
+    worker: &mut Worker<A>,
+    place: &mut Option<Held<A>>,
+    third: &mut Option<Held<A>>,
+    next: Held<A>,
+) -> Result<(), Stop>
+    requires pool { worker.old.pool ≡ pool.now }
+    requires third { third.old ≡ None }
+    requires held { IsPart (number_at place.old) worker.old.book.account.held }
+    requires charged { IsPart (items_at place.old) worker.old.book.account.charge }
+    requires sized { IsOfSize worker.old.book.setup.size place.old }
+    ensures pool { worker.new.pool ≡ worker.old.pool }
+    ensures out { PutsOut place.old next worker.old.book place.new third.new worker.new.book result }
+{
+    let Some(held) = place.replace(next) else {
+        return Ok(());
+    };
+    match shelve(rt, pool, worker, held) {
+        Ok(()) => Ok(()),
+        Err(back) => {
+            *third = place.replace(back);
+            Err(Stop::TagSpent)
+        }
+    }
+}
+
+/// Pushes the buffer at a place. Where a last tag was loaded it stays.
+pub(crate) fn clear_at<R: Wait, A: Allocator>(
+    rt: &R,
+    pool: &Pool<A>,
+    worker: &mut Worker<A>,
+    place: &mut Option<Held<A>>,
+) -> Result<(), Stop>
+    requires pool { worker.old.pool ≡ pool.now }
+    requires held { IsPart (number_at place.old) worker.old.book.account.held }
+    requires charged { IsPart (items_at place.old) worker.old.book.account.charge }
+    requires sized { IsOfSize worker.old.book.setup.size place.old }
+    ensures pool { worker.new.pool ≡ worker.old.pool }
+    ensures clears { ClearsAt place.old worker.old.book place.new worker.new.book result }
+{
+    let Some(held) = place.take() else {
+        return Ok(());
+    };
+    match shelve(rt, pool, worker, held) {
+        Ok(()) => Ok(()),
+        Err(back) => {
+            *place = Some(back);
+            Err(Stop::TagSpent)
+        }
+    }
+}
+
+/// Pops an empty buffer, pushes the one at a place, and puts the popped one there. False where the stack of empty
+/// buffers was seen empty: then nothing changes.
+pub(crate) fn renew<R: Wait, A: Allocator>(
+    rt: &R,
+    pool: &Pool<A>,
+    worker: &mut Worker<A>,
+    place: &mut Option<Held<A>>,
+    third: &mut Option<Held<A>>,
+) -> Result<bool, Stop>
+    requires pool { worker.old.pool ≡ pool.now }
+    requires third { third.old ≡ None }
+    requires held { IsPart (number_at place.old) worker.old.book.account.held }
+    requires charged { IsPart (items_at place.old) worker.old.book.account.charge }
+    requires sized { IsOfSize worker.old.book.setup.size place.old }
+    ensures pool { worker.new.pool ≡ worker.old.pool }
+    ensures renews { RenewTells worker.old.book.setup.size place.old worker.old.book place.new third.new worker.new.book result }
+    ensures bare { IfOk result (λ done. OnTrue done ((h : Load) × (place.new ≡ Some h) × (h.items ≡ []))) }
+{
+    let Some(next) = pop_one(rt, pool, worker, Which::Empty)? else {
+        return Ok(false);
+    };
+    put_out(rt, pool, worker, place, third, next)?;
+    Ok(true)
+}
+
+/// Pops an empty buffer, moves the upper half of the objects at a place into it, pushes the lower part, and puts the
+/// popped one there. False where the stack of empty buffers was seen empty: then nothing changes.
+pub(crate) fn halve<R: Wait, A: Allocator>(
+    rt: &R,
+    pool: &Pool<A>,
+    worker: &mut Worker<A>,
+    place: &mut Option<Held<A>>,
+    third: &mut Option<Held<A>>,
+) -> Result<bool, Stop>
+    requires pool { worker.old.pool ≡ pool.now }
+    requires third { third.old ≡ None }
+    requires held { IsPart (number_at place.old) worker.old.book.account.held }
+    requires charged { IsPart (items_at place.old) worker.old.book.account.charge }
+    requires sized { IsOfSize worker.old.book.setup.size place.old }
+    ensures pool { worker.new.pool ≡ worker.old.pool }
+    ensures renews { RenewTells worker.old.book.setup.size place.old worker.old.book place.new third.new worker.new.book result }
+{
+    let Some(mut upper) = pop_one(rt, pool, worker, Which::Empty)? else {
+        return Ok(false);
+    };
+    split_at(place, &mut upper);
+    put_out(rt, pool, worker, place, third, upper)?;
+    Ok(true)
+}
+
+/// Renews a place whose buffer has items, as [`renew`] does.
+pub(crate) fn publish_at<R: Wait, A: Allocator>(
+    rt: &R,
+    pool: &Pool<A>,
+    worker: &mut Worker<A>,
+    place: &mut Option<Held<A>>,
+    third: &mut Option<Held<A>>,
+) -> Result<(), Stop>
+    requires pool { worker.old.pool ≡ pool.now }
+    requires third { third.old ≡ None }
+    requires held { IsPart (number_at place.old) worker.old.book.account.held }
+    requires charged { IsPart (items_at place.old) worker.old.book.account.charge }
+    requires sized { IsOfSize worker.old.book.setup.size place.old }
+    ensures pool { worker.new.pool ≡ worker.old.pool }
+    ensures publishes { PublishesAt worker.old.book.setup.size place.old worker.old.book place.new third.new worker.new.book result }
+{
+    if len_at(place) == 0 {
+        return Ok(());
+    }
+    match renew(rt, pool, worker, place, third) {
+        Ok(_) => Ok(()),
+        Err(stop) => Err(stop),
+    }
+}

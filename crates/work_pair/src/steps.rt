@@ -1,0 +1,49 @@
+//! One pop, and one push to the stack that a buffer belongs on.
+ghost use Rattle.std.specs.Prelude.{◌≡◌, Contains};
+ghost use Rattle.mark_core.specs.Lists.{IsPart};
+ghost use Rattle.work_pair.specs.working.Steps.{PopsOne, Shelves};
+
+use crate::stop::Stop;
+use buffer_pool::{Held, Pool, Popped, Which, Worker};
+use std::alloc::Allocator;
+use std::sync::Wait;
+
+/// Pops a buffer. `None` where the stack was seen empty.
+pub(crate) fn pop_one<R: Wait, A: Allocator>(
+    rt: &R,
+    pool: &Pool<A>,
+    worker: &mut Worker<A>,
+    which: Which,
+) -> Result<Option<Held<A>>, Stop>
+    requires { worker.old.pool ≡ pool.now }
+    ensures pool { worker.new.pool ≡ worker.old.pool }
+    ensures pops { PopsOne which worker.old.book worker.new.book result }
+{
+    match pool.pop(rt, worker, which) {
+        Popped::Took(held) => Ok(Some(held)),
+        Popped::Empty => Ok(None),
+        Popped::Spent => Err(Stop::TagSpent),
+    }
+}
+
+/// Pushes a buffer on full if it has items, else on empty. It comes back where that stack's last tag was loaded.
+pub(crate) fn shelve<R: Wait, A: Allocator>(
+    rt: &R,
+    pool: &Pool<A>,
+    worker: &mut Worker<A>,
+    held: Held<A>,
+) -> Result<(), Held<A>>
+    requires pool { worker.old.pool ≡ pool.now }
+    requires held { Contains worker.old.book.account.held held.index }
+    requires charged { IsPart held.items worker.old.book.account.charge }
+    requires size { held.size ≡ worker.old.book.setup.size }
+    ensures pool { worker.new.pool ≡ worker.old.pool }
+    ensures shelves { Shelves held worker.old.book worker.new.book result }
+{
+    let which = if held.len() == 0 {
+        Which::Empty
+    } else {
+        Which::Full
+    };
+    pool.push(rt, worker, which, held)
+}
