@@ -3,9 +3,10 @@ use Rattle.std.proofs.Common.{◌≡◌, ℕ, ◌+◌, ◌<◌, ◌≤◌, Bool,
 use Rattle.tagged_index.specs.Head.{Head}
 use Rattle.mark_core.specs.declared.which.Which.{Which}
 use Rattle.mark_core.specs.declared.which.Which.TheVariants.{Full, Empty}
+use Rattle.mark_core.specs.Counts.{none_found}
 use Rattle.mark_core.specs.Lists.{times, only, IsPart}
 use Rattle.mark_core.proofs.Sums.{total-append, times-remove_one, times-without, stands_times}
-use Rattle.buffer_pool.specs.Book.{Book, loaded, link_loaded, popped, pushed, empties_of, none_found}
+use Rattle.buffer_pool.specs.Book.{Book, loaded, link_loaded, popped, pushed, empties_of}
 use Rattle.buffer_pool.specs.Calls.{Load}
 use Rattle.work_pair.specs.Moves.{Move, Took, Gave, FoundNone, Ended, Moved, Moves, taken_items, taken_number, given_items, given_number, popped_items, popped_numbers, pushed_items, pushed_numbers, IsOnFull, HasPushOnFull}
 use Rattle.work_pair.proofs.Looks.{IsLook, look_again, look_at_all, look_head, look_top, lost_pops, lost_pushes}

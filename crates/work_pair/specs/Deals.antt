@@ -3,7 +3,8 @@ use Rattle.std.specs.Prelude.{◌≡◌, ◌≢◌, ◌⊎◌, ℕ, ◌+◌, ◌
 use Rattle.mark_core.specs.declared.which.Which.TheVariants.{Empty}
 use Rattle.mark_core.specs.Lists.{times}
 use Rattle.buffer_pool.specs.Book.{Book}
-use Rattle.work_pair.specs.Moves.{Move, Moves, popped_items, popped_numbers, pushed_items, pushed_numbers, AreFilled, HasPushOnFull, EndAtLastTag, WasSeenEmpty}
+use Rattle.work_pair.specs.Moves.{Move, Moves, popped_items, popped_numbers, pushed_items, pushed_numbers, AreFilled}
+use Rattle.work_pair.specs.Moves.{HasPushOnFull, EndAtLastTag, WasSeenEmpty}
 use Rattle.work_pair.specs.Places.{Places, items_of, items_at, numbers_of, IsBacked}
 
 -- the worker has the same share, saw the same objects and finished the same, and its pool was made for the same
@@ -19,14 +20,18 @@ pub record Deals (old : Places) (before : Book) (put got : List ℕ) (new : Plac
   pub moves : List Move
   pub books : Moves before moves after
   -- the items after: those before, those of buffers popped and those put, without those of buffers pushed and those got
-  pub items : (o : ℕ) → times o (items_of new) + times o got + times o (pushed_items moves) ≡ times o (items_of old) + times o put + times o (popped_items moves)
+  pub items : (o : ℕ) → times o (items_of new) + times o got + times o (pushed_items moves)
+      ≡ times o (items_of old) + times o put + times o (popped_items moves)
   -- the buffers after: those before and those popped, without those pushed
-  pub buffers : (i : ℕ) → times i (numbers_of new) + times i (pushed_numbers moves) ≡ times i (numbers_of old) + times i (popped_numbers moves)
+  pub buffers : (i : ℕ) → times i (numbers_of new) + times i (pushed_numbers moves)
+      ≡ times i (numbers_of old) + times i (popped_numbers moves)
   -- only a buffer with items is pushed on full
   pub filled : AreFilled moves
   -- the charge and the held buffers change by the buffers popped and pushed, and all else stays
-  pub charge : (o : ℕ) → times o after.account.charge + times o (pushed_items moves) ≡ times o before.account.charge + times o (popped_items moves)
-  pub held : (i : ℕ) → times i after.account.held + times i (pushed_numbers moves) ≡ times i before.account.held + times i (popped_numbers moves)
+  pub charge : (o : ℕ) → times o after.account.charge + times o (pushed_items moves)
+      ≡ times o before.account.charge + times o (popped_items moves)
+  pub held : (i : ℕ) → times i after.account.held + times i (pushed_numbers moves)
+      ≡ times i before.account.held + times i (popped_numbers moves)
   pub kept : Keeps before after
   -- the worker still holds the pair's buffers and answers for its items, and for those got
   pub backed : IsBacked new got after
@@ -43,10 +48,14 @@ HasMore p = (items_at p.second ≢ []) ⊎ (4 < length (items_at p.first))
 abbrev pub DealsQuietly : Places → Book → Places → Book → Type 0
 DealsQuietly old before new after = (deals : Deals old before [] [] new after) × (HasPushOnFull deals.moves → ⊥)
 
--- a balance that pushed a buffer with items on full where there was more than a few, or saw that there was no empty buffer
+-- a balance that pushed a buffer with items on full where there was more than a few, or saw that there was no empty
+-- buffer
 abbrev pub Balances : Places → Book → Places → Book → Type 0
-Balances old before new after = (deals : Deals old before [] [] new after) × (HasMore old → WasSeenEmpty Empty before after ⊎ HasPushOnFull deals.moves)
+Balances old before new after =
+    (deals : Deals old before [] [] new after)
+    × (HasMore old → WasSeenEmpty Empty before after ⊎ HasPushOnFull deals.moves)
 
 -- a call that gave buffers back, none of them on full where there were no items
 abbrev pub Disposes : Places → Book → Places → Book → Type 0
-Disposes old before new after = (deals : Deals old before [] [] new after) × (items_of old ≡ [] → HasPushOnFull deals.moves → ⊥)
+Disposes old before new after =
+    (deals : Deals old before [] [] new after) × (items_of old ≡ [] → HasPushOnFull deals.moves → ⊥)

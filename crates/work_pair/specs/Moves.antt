@@ -22,7 +22,8 @@ abbrev pub Moved : Move → Book → Book → Type 0
 Moved (Took q h) old new = PopsAtLast q old new (pop.Took h)
 Moved (Gave q h) old new = MayPush q h old × PushesAtLast q h old new try_push.Done
 Moved (FoundNone q) old new = PopsAtLast q old new pop.Empty
-Moved (Ended q) old new = PopsAtLast q old new pop.Spent ⊎ ((h : Load) × MayPush q h old × PushesAtLast q h old new (try_push.Spent h))
+Moved (Ended q) old new = PopsAtLast q old new pop.Spent ⊎ ((h : Load) × MayPush q h old
+    × PushesAtLast q h old new (try_push.Spent h))
 
 -- moves one after the other
 abbrev pub Moves : Book → List Move → Book → Type 0

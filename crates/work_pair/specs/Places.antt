@@ -4,7 +4,8 @@ use Rattle.mark_core.specs.Lists.{times, IsPart}
 use Rattle.buffer_pool.specs.Book.{Book}
 use Rattle.buffer_pool.specs.Calls.{Load}
 
--- a pair: its first and its second buffer, one that a stopped call left over, and whether a call was stopped by a last tag
+-- a pair: its first and its second buffer, one that a stopped call left over, and whether a call was stopped by a
+-- last tag
 pub record Places : Type 0 where
   pub first : Option Load
   pub second : Option Load
@@ -58,7 +59,8 @@ pub record AreOfSize (size : ℕ) (p : Places) : Type 0 where
   pub second : IsOfSize size p.second
   pub third : IsOfSize size p.third
 
--- the worker of this book holds the buffers of the pair, which are of its pool, and answers for its items and for these besides
+-- the worker of this book holds the buffers of the pair, which are of its pool, and answers for its items and for
+-- these besides
 pub record IsBacked (p : Places) (besides : List ℕ) (b : Book) : Type 0 where
   pub held : IsPart (numbers_of p) b.account.held
   pub charged : IsPart (items_of p ++ besides) b.account.charge

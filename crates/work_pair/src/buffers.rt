@@ -23,7 +23,8 @@ pub(crate) struct Buffers<A: Allocator> {
 impl<A: Allocator> Buffers<A> {
     ghost use Rattle.std.specs.Prelude.{◌≡◌, None, [], ◌∷◌};
     ghost use Rattle.work_pair.specs.Places.{IsBacked};
-    ghost use Rattle.work_pair.specs.working.Steps.{BalanceTells, ClearTells, GetTells, PublishTells, PutTells, Takes, places};
+    ghost use Rattle.work_pair.specs.working.Steps.{BalanceTells, ClearTells, GetTells, PublishTells, PutTells};
+    ghost use Rattle.work_pair.specs.working.Steps.{Takes, places};
 
     /// Puts an object into the first buffer, or into the second, which is the first then, or into an empty one.
     pub(crate) fn put<R: Wait>(
@@ -35,9 +36,11 @@ impl<A: Allocator> Buffers<A> {
     ) -> Result<(), (u32, Stop)>
         requires pool { worker.old.pool ≡ pool.now }
         requires third { self.old.third ≡ None }
-        requires backed { IsBacked (places self.old.first self.old.second self.old.third) (object ∷ []) worker.old.book }
+        requires backed { IsBacked (places self.old.first self.old.second self.old.third) (object ∷ [])
+            worker.old.book }
         ensures pool { worker.new.pool ≡ worker.old.pool }
-        ensures tells { PutTells object (places self.old.first self.old.second self.old.third) worker.old.book (places self.new.first self.new.second self.new.third) worker.new.book result }
+        ensures tells { PutTells object (places self.old.first self.old.second self.old.third) worker.old.book
+            (places self.new.first self.new.second self.new.third) worker.new.book result }
     {
         if put_at(&mut self.first, object) {
             return Ok(());
@@ -58,7 +61,8 @@ impl<A: Allocator> Buffers<A> {
 
     /// Takes an object from the first buffer, or from the second, which is the first then.
     fn take(&mut self) -> Option<u32>
-        ensures { Takes (places self.old.first self.old.second self.old.third) (places self.new.first self.new.second self.new.third) result }
+        ensures { Takes (places self.old.first self.old.second self.old.third)
+            (places self.new.first self.new.second self.new.third) result }
     {
         if let Some(object) = take_at(&mut self.first) {
             return Some(object);
@@ -79,7 +83,8 @@ impl<A: Allocator> Buffers<A> {
         requires third { self.old.third ≡ None }
         requires backed { IsBacked (places self.old.first self.old.second self.old.third) [] worker.old.book }
         ensures pool { worker.new.pool ≡ worker.old.pool }
-        ensures tells { GetTells (places self.old.first self.old.second self.old.third) worker.old.book (places self.new.first self.new.second self.new.third) worker.new.book result }
+        ensures tells { GetTells (places self.old.first self.old.second self.old.third) worker.old.book
+            (places self.new.first self.new.second self.new.third) worker.new.book result }
     {
         for _ in rt.forever() {
             if let Some(object) = self.take() {
@@ -104,7 +109,8 @@ impl<A: Allocator> Buffers<A> {
         requires third { self.old.third ≡ None }
         requires backed { IsBacked (places self.old.first self.old.second self.old.third) [] worker.old.book }
         ensures pool { worker.new.pool ≡ worker.old.pool }
-        ensures tells { BalanceTells (places self.old.first self.old.second self.old.third) worker.old.book (places self.new.first self.new.second self.new.third) worker.new.book result }
+        ensures tells { BalanceTells (places self.old.first self.old.second self.old.third) worker.old.book
+            (places self.new.first self.new.second self.new.third) worker.new.book result }
     {
         if len_at(&self.second) > 0 {
             renew(rt, pool, worker, &mut self.second, &mut self.third)?;
@@ -125,13 +131,15 @@ impl<A: Allocator> Buffers<A> {
         requires third { self.old.third ≡ None }
         requires backed { IsBacked (places self.old.first self.old.second self.old.third) [] worker.old.book }
         ensures pool { worker.new.pool ≡ worker.old.pool }
-        ensures tells { PublishTells (places self.old.first self.old.second self.old.third) worker.old.book (places self.new.first self.new.second self.new.third) worker.new.book result }
+        ensures tells { PublishTells (places self.old.first self.old.second self.old.third) worker.old.book
+            (places self.new.first self.new.second self.new.third) worker.new.book result }
     {
         publish_at(rt, pool, worker, &mut self.first, &mut self.third)?;
         publish_at(rt, pool, worker, &mut self.second, &mut self.third)
     }
 
-    /// Pushes all buffers, those with items on full and the others on empty. Where a last tag was loaded the rest stays.
+    /// Pushes all buffers, those with items on full and the others on empty. Where a last tag was loaded the rest
+    /// stays.
     pub(crate) fn clear<R: Wait>(
         &mut self,
         rt: &R,
@@ -141,7 +149,8 @@ impl<A: Allocator> Buffers<A> {
         requires pool { worker.old.pool ≡ pool.now }
         requires backed { IsBacked (places self.old.first self.old.second self.old.third) [] worker.old.book }
         ensures pool { worker.new.pool ≡ worker.old.pool }
-        ensures tells { ClearTells (places self.old.first self.old.second self.old.third) worker.old.book (places self.new.first self.new.second self.new.third) worker.new.book result }
+        ensures tells { ClearTells (places self.old.first self.old.second self.old.third) worker.old.book
+            (places self.new.first self.new.second self.new.third) worker.new.book result }
     {
         clear_at(rt, pool, worker, &mut self.first)?;
         clear_at(rt, pool, worker, &mut self.second)?;

@@ -27,7 +27,12 @@ impl<A: Allocator> Model for Pair<A> {
 
     ghost Value = { Places };
 
-    ghost view = { λ p. record { first = p.buffers.first; second = p.buffers.second; third = p.buffers.third; stopped = p.stopped } };
+    ghost view = { λ p. record {
+      first = p.buffers.first;
+      second = p.buffers.second;
+      third = p.buffers.third;
+      stopped = p.stopped;
+    } };
 }
 
 impl<A: Allocator> Pair<A> {
@@ -61,9 +66,12 @@ impl<A: Allocator> Pair<A> {
     ) -> Result<Option<Pair<A>>, Stop>
         requires { worker.old.pool ≡ pool.now }
         ensures pool { worker.new.pool ≡ worker.old.pool }
-        ensures opened { IfOk result (λ r. IfSome r (λ p. IsNew p × DealsQuietly no_places worker.old.book p worker.new.book)) }
-        ensures none { IfOk result (λ r. IfNone r (DealsQuietly no_places worker.old.book no_places worker.new.book × WasSeenEmpty Empty worker.old.book worker.new.book)) }
-        ensures spent { IfErr result (λ s. (s ≡ TagSpent) × ((left : Places) × (left.stopped ≡ true) × DealsQuietly no_places worker.old.book left worker.new.book)) }
+        ensures opened { IfOk result (λ r. IfSome r (λ p. IsNew p × DealsQuietly no_places worker.old.book p
+            worker.new.book)) }
+        ensures none { IfOk result (λ r. IfNone r (DealsQuietly no_places worker.old.book no_places worker.new.book
+            × WasSeenEmpty Empty worker.old.book worker.new.book)) }
+        ensures spent { IfErr result (λ s. (s ≡ TagSpent) × ((left : Places) × (left.stopped ≡ true)
+            × DealsQuietly no_places worker.old.book left worker.new.book)) }
     {
         let Some(first) = pop_one(rt, pool, worker, Which::Empty)? else {
             return Ok(None);
@@ -91,8 +99,10 @@ impl<A: Allocator> Pair<A> {
         ensures pool { worker.new.pool ≡ worker.old.pool }
         ensures put { OnOk result (Deals self.old worker.old.book (object ∷ []) [] self.new worker.new.book) }
         ensures going { OnOk result (IsOpen self.new) }
-        ensures back { IfErr result (λ e. (e.0 ≡ object) × Deals self.old worker.old.book [] [] self.new worker.new.book) }
-        ensures no_buffer { IfErr result (λ e. e.1 ≡ NoBuffer → IsOpen self.new × AreAlike self.old self.new × WasSeenEmpty Empty worker.old.book worker.new.book) }
+        ensures back { IfErr result (λ e. (e.0 ≡ object) × Deals self.old worker.old.book [] [] self.new
+            worker.new.book) }
+        ensures no_buffer { IfErr result (λ e. e.1 ≡ NoBuffer → IsOpen self.new × AreAlike self.old self.new
+            × WasSeenEmpty Empty worker.old.book worker.new.book) }
         ensures spent { IfErr result (λ e. e.1 ≡ TagSpent → self.new.stopped ≡ true) }
     {
         match self.buffers.put(rt, pool, worker, object) {
@@ -117,11 +127,14 @@ impl<A: Allocator> Pair<A> {
         requires going { IsOpen self.old }
         requires backed { IsBacked self.old [] worker.old.book }
         ensures pool { worker.new.pool ≡ worker.old.pool }
-        ensures got { IfOk result (λ r. IfSome r (λ o. Deals self.old worker.old.book [] (o ∷ []) self.new worker.new.book)) }
-        ensures none { IfOk result (λ r. IfNone r (Deals self.old worker.old.book [] [] self.new worker.new.book × (items_of self.new ≡ []) × WasSeenEmpty Full worker.old.book worker.new.book)) }
+        ensures got { IfOk result (λ r. IfSome r (λ o. Deals self.old worker.old.book [] (o ∷ []) self.new
+            worker.new.book)) }
+        ensures none { IfOk result (λ r. IfNone r (Deals self.old worker.old.book [] [] self.new worker.new.book
+            × (items_of self.new ≡ []) × WasSeenEmpty Full worker.old.book worker.new.book)) }
         ensures closed { IfOk result (λ r. IfNone r (worker.new.book.account.open_push ≡ false)) }
         ensures going { OnOk result (IsOpen self.new) }
-        ensures spent { IfErr result (λ s. (s ≡ TagSpent) × (self.new.stopped ≡ true) × Deals self.old worker.old.book [] [] self.new worker.new.book) }
+        ensures spent { IfErr result (λ s. (s ≡ TagSpent) × (self.new.stopped ≡ true) × Deals self.old
+            worker.old.book [] [] self.new worker.new.book) }
     {
         match self.buffers.get(rt, pool, worker) {
             Ok(got) => Ok(got),
@@ -146,7 +159,8 @@ impl<A: Allocator> Pair<A> {
         ensures pool { worker.new.pool ≡ worker.old.pool }
         ensures balances { OnOk result (Balances self.old worker.old.book self.new worker.new.book) }
         ensures going { OnOk result (IsOpen self.new) }
-        ensures spent { IfErr result (λ s. (s ≡ TagSpent) × (self.new.stopped ≡ true) × Deals self.old worker.old.book [] [] self.new worker.new.book) }
+        ensures spent { IfErr result (λ s. (s ≡ TagSpent) × (self.new.stopped ≡ true) × Deals self.old
+            worker.old.book [] [] self.new worker.new.book) }
     {
         match self.buffers.balance(rt, pool, worker) {
             Ok(()) => Ok(()),
@@ -170,9 +184,11 @@ impl<A: Allocator> Pair<A> {
         requires backed { IsBacked self.old [] worker.old.book }
         ensures pool { worker.new.pool ≡ worker.old.pool }
         ensures published { OnOk result (Deals self.old worker.old.book [] [] self.new worker.new.book) }
-        ensures none_left { OnOk result (WasSeenEmpty Empty worker.old.book worker.new.book ⊎ (items_of self.new ≡ [])) }
+        ensures none_left { OnOk result (WasSeenEmpty Empty worker.old.book worker.new.book ⊎ (items_of self.new
+            ≡ [])) }
         ensures going { OnOk result (IsOpen self.new) }
-        ensures spent { IfErr result (λ s. (s ≡ TagSpent) × (self.new.stopped ≡ true) × Deals self.old worker.old.book [] [] self.new worker.new.book) }
+        ensures spent { IfErr result (λ s. (s ≡ TagSpent) × (self.new.stopped ≡ true) × Deals self.old
+            worker.old.book [] [] self.new worker.new.book) }
     {
         match self.buffers.publish(rt, pool, worker) {
             Ok(()) => Ok(()),
@@ -195,7 +211,8 @@ impl<A: Allocator> Pair<A> {
         requires backed { IsBacked self [] worker.old.book }
         ensures pool { worker.new.pool ≡ worker.old.pool }
         ensures gone { OnOk result (Disposes self worker.old.book no_places worker.new.book) }
-        ensures spent { IfErr result (λ e. (e.1 ≡ TagSpent) × (e.0.stopped ≡ true) × Disposes self worker.old.book e.0 worker.new.book) }
+        ensures spent { IfErr result (λ e. (e.1 ≡ TagSpent) × (e.0.stopped ≡ true) × Disposes self worker.old.book e.0
+            worker.new.book) }
     {
         let Pair { mut buffers, .. } = self;
         match buffers.clear(rt, pool, worker) {

@@ -1,5 +1,6 @@
 //! A place for a buffer in a pair. It is vacant only once a call was stopped.
-ghost use Rattle.std.specs.Prelude.{◌≡◌, ◌≢◌, ◌+◌, ◌↔◌, ◌<◌, ℕ, [], ◌∷◌, ◌++◌, Some, None, IsTrue, IfOk, length, MatchOption};
+ghost use Rattle.std.specs.Prelude.{◌≡◌, ◌≢◌, ◌+◌, ◌↔◌, ◌<◌, ℕ, [], ◌∷◌, ◌++◌, Some, None, IsTrue, IfOk, length};
+ghost use Rattle.std.specs.Prelude.{MatchOption};
 ghost use Rattle.std.specs.Bool.{OnTrue, OnFalse};
 ghost use Rattle.mark_core.specs.Lists.{times, IsPart};
 ghost use Rattle.buffer_pool.specs.Calls.{Load};
@@ -24,7 +25,8 @@ pub(crate) fn len_at<A: Allocator>(place: &Option<Held<A>>) -> u32
 
 /// Puts an object into the buffer. False where it is full.
 pub(crate) fn put_at<A: Allocator>(place: &mut Option<Held<A>>, object: u32) -> bool
-    ensures put { OnTrue result ((h : Load) × (place.old ≡ Some h) × (place.new ≡ Some (record h { items = h.items ++ object ∷ [] }))) }
+    ensures put { OnTrue result ((h : Load) × (place.old ≡ Some h) × (place.new
+        ≡ Some (record h { items = h.items ++ object ∷ [] }))) }
     ensures full { OnFalse result (place.new ≡ place.old) }
     ensures room { (h : Load) → place.old ≡ Some h → h.items ≡ [] → IsTrue result }
 {
@@ -36,7 +38,9 @@ pub(crate) fn put_at<A: Allocator>(place: &mut Option<Held<A>>, object: u32) -> 
 
 /// Takes the object that was put last.
 pub(crate) fn take_at<A: Allocator>(place: &mut Option<Held<A>>) -> Option<u32>
-    ensures { MatchOption result ((items_at place.old ≡ []) × (place.new ≡ place.old)) (λ o. (h : Load) × (k : Load) × (place.old ≡ Some h) × (place.new ≡ Some k) × (h.items ≡ k.items ++ o ∷ []) × (k ≡ record h { items = k.items })) }
+    ensures { MatchOption result ((items_at place.old ≡ []) × (place.new ≡ place.old)) (λ o. (h : Load) × (k : Load)
+        × (place.old ≡ Some h) × (place.new ≡ Some k) × (h.items ≡ k.items ++ o ∷ []) × (k
+        ≡ record h { items = k.items })) }
 {
     match place {
         Some(held) => held.take(),
@@ -130,7 +134,8 @@ pub(crate) fn renew<R: Wait, A: Allocator>(
     requires charged { IsPart (items_at place.old) worker.old.book.account.charge }
     requires sized { IsOfSize worker.old.book.setup.size place.old }
     ensures pool { worker.new.pool ≡ worker.old.pool }
-    ensures renews { RenewTells worker.old.book.setup.size place.old worker.old.book place.new third.new worker.new.book result }
+    ensures renews { RenewTells worker.old.book.setup.size place.old worker.old.book place.new third.new
+        worker.new.book result }
     ensures bare { IfOk result (λ done. OnTrue done ((h : Load) × (place.new ≡ Some h) × (h.items ≡ []))) }
 {
     let Some(next) = pop_one(rt, pool, worker, Which::Empty)? else {
@@ -155,7 +160,8 @@ pub(crate) fn halve<R: Wait, A: Allocator>(
     requires charged { IsPart (items_at place.old) worker.old.book.account.charge }
     requires sized { IsOfSize worker.old.book.setup.size place.old }
     ensures pool { worker.new.pool ≡ worker.old.pool }
-    ensures renews { RenewTells worker.old.book.setup.size place.old worker.old.book place.new third.new worker.new.book result }
+    ensures renews { RenewTells worker.old.book.setup.size place.old worker.old.book place.new third.new
+        worker.new.book result }
 {
     let Some(mut upper) = pop_one(rt, pool, worker, Which::Empty)? else {
         return Ok(false);
@@ -179,7 +185,8 @@ pub(crate) fn publish_at<R: Wait, A: Allocator>(
     requires charged { IsPart (items_at place.old) worker.old.book.account.charge }
     requires sized { IsOfSize worker.old.book.setup.size place.old }
     ensures pool { worker.new.pool ≡ worker.old.pool }
-    ensures publishes { PublishesAt worker.old.book.setup.size place.old worker.old.book place.new third.new worker.new.book result }
+    ensures publishes { PublishesAt worker.old.book.setup.size place.old worker.old.book place.new third.new
+        worker.new.book result }
 {
     if len_at(place) == 0 {
         return Ok(());

@@ -1,13 +1,16 @@
 -- What the parts of a call of a pair tell.
-use Rattle.std.specs.Prelude.{◌≡◌, ◌≢◌, ◌⊎◌, ℕ, ◌+◌, false, Bool, true, List, [], ◌∷◌, Option, Some, None, Result, Ok, Err}
+use Rattle.std.specs.Prelude.{◌≡◌, ◌≢◌, ◌⊎◌, ℕ, ◌+◌, false, Bool, true, List, [], ◌∷◌, Option, Some, None, Result, Ok}
+use Rattle.std.specs.Prelude.{Err}
 use Rattle.mark_core.specs.declared.which.Which.{Which}
 use Rattle.mark_core.specs.declared.which.Which.TheVariants.{Full, Empty}
 use Rattle.mark_core.specs.Lists.{times}
 use Rattle.buffer_pool.specs.Book.{Book}
 use Rattle.buffer_pool.specs.Calls.{Load}
 use Rattle.work_pair.specs.Deals.{HasMore}
-use Rattle.work_pair.specs.Moves.{Move, Took, Gave, FoundNone, Ended, Moved, Moves, popped_items, popped_numbers, pushed_items, pushed_numbers, AreFilled, HasPushOnFull, EndAtLastTag, WasSeenEmpty}
-use Rattle.work_pair.specs.Places.{Places, items_at, number_at, items_of, numbers_of, no_places, IsOfSize, AreOfSize, AreAlike}
+use Rattle.work_pair.specs.Moves.{Move, Took, Gave, FoundNone, Ended, Moved, Moves, popped_items, popped_numbers}
+use Rattle.work_pair.specs.Moves.{pushed_items, pushed_numbers, AreFilled, HasPushOnFull, EndAtLastTag, WasSeenEmpty}
+use Rattle.work_pair.specs.Places.{Places, items_at, number_at, items_of, numbers_of, no_places, IsOfSize, AreOfSize}
+use Rattle.work_pair.specs.Places.{AreAlike}
 use Rattle.work_pair.specs.declared.stop.Stop.{Stop}
 use Rattle.work_pair.specs.declared.stop.Stop.TheVariants.{TagSpent, NoBuffer}
 
@@ -37,10 +40,12 @@ abbrev pub Leaves : Option Load → Book → Book → Type 0
 Leaves None old new = new ≡ old
 Leaves (Some h) old new = Moved (Gave (shelf_of h.items) h) old new
 
--- the buffer at a place was pushed, and the next one took its place; or a last tag was loaded, and the next one is left over
+-- the buffer at a place was pushed, and the next one took its place; or a last tag was loaded, and the next one is
+-- left over
 abbrev pub PutsOut : Option Load → Load → Book → Option Load → Option Load → Book → Result Unit Stop → Type 0
 PutsOut old next before new third after (Ok done) = (new ≡ Some next) × (third ≡ None) × Leaves old before after
-PutsOut old next before new third after (Err TagSpent) = (new ≡ old) × (third ≡ Some next) × ((q : Which) × Moved (Ended q) before after)
+PutsOut old next before new third after (Err TagSpent) = (new ≡ old) × (third ≡ Some next) × ((q : Which)
+    × Moved (Ended q) before after)
 PutsOut old next before new third after (Err NoBuffer) = ⊥
 
 -- the buffer at a place, if there is one, was pushed; or a last tag was loaded, and it is still there
@@ -57,36 +62,46 @@ pub record IsLocal (old new : Places) (put got : List ℕ) : Type 0 where
 
 abbrev pub Takes : Places → Places → Option ℕ → Type 0
 Takes old new (Some object) = IsLocal old new [] (object ∷ []) × (new.third ≡ old.third)
-Takes old new None = IsLocal old new [] [] × (new.third ≡ old.third) × (items_at new.first ≡ []) × (items_at new.second ≡ [])
+Takes old new None = IsLocal old new [] [] × (new.third ≡ old.third) × (items_at new.first ≡ [])
+    × (items_at new.second ≡ [])
 
 -- what was done with one place: its buffer before, the buffer there after, and the one left over
 pub record Renews (size : ℕ) (old : Option Load) (before : Book) (new third : Option Load) (after : Book) : Type 0 where
   pub moves : List Move
   pub books : Moves before moves after
-  pub items : (o : ℕ) → times o (items_at new) + times o (items_at third) + times o (pushed_items moves) ≡ times o (items_at old) + times o (popped_items moves)
-  pub buffers : (i : ℕ) → times i (number_at new) + times i (number_at third) + times i (pushed_numbers moves) ≡ times i (number_at old) + times i (popped_numbers moves)
+  pub items : (o : ℕ) → times o (items_at new) + times o (items_at third) + times o (pushed_items moves)
+      ≡ times o (items_at old) + times o (popped_items moves)
+  pub buffers : (i : ℕ) → times i (number_at new) + times i (number_at third) + times i (pushed_numbers moves)
+      ≡ times i (number_at old) + times i (popped_numbers moves)
   pub filled : AreFilled moves
   pub sized : IsOfSize size new
   pub left_sized : IsOfSize size third
 
 abbrev pub RenewTells : ℕ → Option Load → Book → Option Load → Option Load → Book → Result Bool Stop → Type 0
-RenewTells size old before new third after (Ok true) = (r : Renews size old before new third after) × (third ≡ None) × ((items_at old ≢ []) → HasPushOnFull r.moves)
-RenewTells size old before new third after (Ok false) = Renews size old before new third after × (third ≡ None) × (new ≡ old) × WasSeenEmpty Empty before after
-RenewTells size old before new third after (Err TagSpent) = (r : Renews size old before new third after) × EndAtLastTag r.moves
+RenewTells size old before new third after (Ok true) = (r : Renews size old before new third after) × (third ≡ None)
+    × ((items_at old ≢ []) → HasPushOnFull r.moves)
+RenewTells size old before new third after (Ok false) = Renews size old before new third after × (third ≡ None) × (new
+    ≡ old) × WasSeenEmpty Empty before after
+RenewTells size old before new third after (Err TagSpent) = (r : Renews size old before new third after)
+    × EndAtLastTag r.moves
 RenewTells size old before new third after (Err NoBuffer) = ⊥
 
 -- a place whose buffer has items was renewed
 abbrev pub PublishesAt : ℕ → Option Load → Book → Option Load → Option Load → Book → Result Unit Stop → Type 0
-PublishesAt size old before new third after (Ok done) = Renews size old before new third after × (third ≡ None) × (WasSeenEmpty Empty before after ⊎ (items_at new ≡ []))
-PublishesAt size old before new third after (Err TagSpent) = (r : Renews size old before new third after) × EndAtLastTag r.moves
+PublishesAt size old before new third after (Ok done) = Renews size old before new third after × (third ≡ None)
+    × (WasSeenEmpty Empty before after ⊎ (items_at new ≡ []))
+PublishesAt size old before new third after (Err TagSpent) = (r : Renews size old before new third after)
+    × EndAtLastTag r.moves
 PublishesAt size old before new third after (Err NoBuffer) = ⊥
 
 -- what was done with all three places
 pub record Trades (old : Places) (before : Book) (put got : List ℕ) (new : Places) (after : Book) : Type 0 where
   pub moves : List Move
   pub books : Moves before moves after
-  pub items : (o : ℕ) → times o (items_of new) + times o got + times o (pushed_items moves) ≡ times o (items_of old) + times o put + times o (popped_items moves)
-  pub buffers : (i : ℕ) → times i (numbers_of new) + times i (pushed_numbers moves) ≡ times i (numbers_of old) + times i (popped_numbers moves)
+  pub items : (o : ℕ) → times o (items_of new) + times o got + times o (pushed_items moves)
+      ≡ times o (items_of old) + times o put + times o (popped_items moves)
+  pub buffers : (i : ℕ) → times i (numbers_of new) + times i (pushed_numbers moves)
+      ≡ times i (numbers_of old) + times i (popped_numbers moves)
   pub filled : AreFilled moves
   pub sized : AreOfSize before.setup.size new
 
@@ -108,16 +123,19 @@ PutTells object old before new after (Err back) = (back.0 ≡ object) × Halts o
 abbrev pub GetTells : Places → Book → Places → Book → Result (Option ℕ) Stop → Type 0
 GetTells old before new after (Ok (Some object)) = Trades old before [] (object ∷ []) new after × (new.third ≡ None)
 GetTells old before new after (Ok None) =
-    Trades old before [] [] new after × (new.third ≡ None) × (items_of new ≡ []) × WasSeenEmpty Full before after × (after.account.open_push ≡ false)
+    Trades old before [] [] new after × (new.third ≡ None) × (items_of new ≡ []) × WasSeenEmpty Full before after
+    × (after.account.open_push ≡ false)
 GetTells old before new after (Err stop) = Ends old before new after stop
 
 abbrev pub BalanceTells : Places → Book → Places → Book → Result Unit Stop → Type 0
 BalanceTells old before new after (Ok done) =
-    (t : Trades old before [] [] new after) × (new.third ≡ None) × (HasMore old → WasSeenEmpty Empty before after ⊎ HasPushOnFull t.moves)
+    (t : Trades old before [] [] new after) × (new.third ≡ None) × (HasMore old → WasSeenEmpty Empty before after
+    ⊎ HasPushOnFull t.moves)
 BalanceTells old before new after (Err stop) = Ends old before new after stop
 
 abbrev pub PublishTells : Places → Book → Places → Book → Result Unit Stop → Type 0
-PublishTells old before new after (Ok done) = Trades old before [] [] new after × (new.third ≡ None) × (WasSeenEmpty Empty before after ⊎ (items_of new ≡ []))
+PublishTells old before new after (Ok done) = Trades old before [] [] new after × (new.third ≡ None)
+    × (WasSeenEmpty Empty before after ⊎ (items_of new ≡ []))
 PublishTells old before new after (Err stop) = Ends old before new after stop
 
 -- buffers were put back, and these are left
