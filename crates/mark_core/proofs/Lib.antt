@@ -10,6 +10,7 @@ pub mod Openings
 pub mod Runs
 pub mod Counting
 pub mod Changes
+pub mod Firsts
 pub mod Closing
 pub mod Taking
 pub mod Tables

@@ -1,11 +1,11 @@
 -- From what one account does to a step of a world, and the law after it.
-use Rattle.std.proofs.Common.{◌≡◌, ℕ, ◌<◌, ◌≤◌, Bool, true, false, Result, Ok, Err, IfOk, All, ap, sym, subst, ◌∙◌}
+use Rattle.std.proofs.Common.{◌≡◌, ℕ, ◌<◌, ◌≤◌, Bool, true, false, Result, Ok, Err, IfErr, IfOk, All, ap, sym, subst, ◌∙◌}
 use Rattle.std.proofs.lemmas.List.{get_or_default}
 use Rattle.mark_core.specs.Account.{Account, spent}
 use Rattle.mark_core.specs.World.{Setup, account_at, IsThere}
 use Rattle.mark_core.specs.Event.{Kind, Event, Allows}
 use Rattle.mark_core.specs.Law.{Law}
-use Rattle.mark_core.specs.Step.{Listing, IsLawful, HasAccount, HasNumber, CanStep, Tries, Follows, Steps, marking_of}
+use Rattle.mark_core.specs.Step.{Listing, IsLawful, HasAccount, HasNumber, CanStep, MayDo, Tries, Follows, Steps, marking_of}
 use Rattle.mark_core.proofs.Places.{at_get_or}
 use Rattle.mark_core.proofs.Runs.{happens_keeps}
 use Rattle.mark_core.proofs.Within.{stands_here, is_there}
@@ -39,6 +39,21 @@ pub steps_ok :
     → IfOk answer (λ done. Tries old w kind done new) → IfOk answer (λ done. Steps old (record { worker = w; kind = kind }) done new)
 steps_ok old new w kind (Ok done) there number tries = steps_of old new w kind done there number tries
 steps_ok old new w kind (Err e) there number tries = tt
+
+-- a refusal is told where this holds
+pub always : {T E : Type 0} (P : Type 0) (answer : Result T E) → P → IfErr answer (λ _. P)
+always P (Ok x) holds = tt
+always P (Err e) holds = holds
+
+-- where memory is refused the step was possible
+pub steps_refused :
+    {E : Type 0} (old : Listing) (w : ℕ) (kind : Kind) (answer : Result Bool E) → HasAccount old w → HasNumber kind old.accounts
+    → IfErr answer (λ _. MayDo old w kind) → IfErr answer (λ _. CanStep old (record { worker = w; kind = kind }))
+steps_refused old w kind (Ok done) there number may = tt
+steps_refused old w kind (Err e) there number may =
+    let a : Account = account_at old.accounts w in
+    let stands : IsThere old.accounts w a = (stands_here old.accounts w a there.0 (get_or_default old.accounts w spent a there.0), there.1) in
+    ((a, stands, may), number)
 
 -- after a step the law holds
 pub lawful_after : (old new : Listing) (event : Event) → IsLawful old → Follows old event new → IsLawful new

@@ -8,4 +8,5 @@ pub mod Shares
 pub mod Law
 pub mod Runs
 pub mod Counts
+pub mod Conclusions
 pub mod Step

@@ -78,9 +78,13 @@ pub record Does (old : Listing) (w : ℕ) (kind : Kind) (new : Listing) : Type 0
   pub slots : length new.slots ≡ length old.slots
   pub marks : length new.marks ≡ length old.marks
 
+-- the account w may do this
+abbrev pub MayDo : Listing → ℕ → Kind → Type 0
+MayDo l w kind = Allows l.setup (marking_of l) w (account_at l.accounts w) kind
+
 -- the account w does this, or it may not
 abbrev pub Tries : Listing → ℕ → Kind → Bool → Listing → Type 0
-Tries old w kind done new = MatchBool done (Does old w kind new) (¬ Allows old.setup (marking_of old) w (account_at old.accounts w) kind)
+Tries old w kind done new = MatchBool done (Does old w kind new) (¬ MayDo old w kind)
 
 -- what a push asks, but that the items are part of the charge and that the tag is not the last
 pub record MayPush (l : Listing) (w : ℕ) (q : Which) (i : ℕ) (items : List ℕ) : Type 0 where

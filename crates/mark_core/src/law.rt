@@ -2,6 +2,7 @@
 ghost use Rattle.mark_core.specs.Runs.{RunsKeepLaw, EventsKeepLaw, StacksChange, TagsRise};
 ghost use Rattle.mark_core.specs.Runs.{PopsFindLinks, MarksRise, ClosedIsTold};
 ghost use Rattle.mark_core.specs.Runs.{AccountsHaveEachOnce, AccountsAreApart};
+ghost use Rattle.mark_core.specs.Conclusions.{FailuresFollowChanges, ListsKeepLaw, LoadedHeadsWere, PushesFollowChanges};
 
 /// The law of a marking, after every list of events of any number of workers, splits and joins
 /// included. It does nothing: its contract is the law.
@@ -18,6 +19,10 @@ ghost use Rattle.mark_core.specs.Runs.{AccountsHaveEachOnce, AccountsAreApart};
 ///   finished list.
 /// - `apart`: two accounts, as those that meet in a join, have nothing in common.
 /// - `closed`: what one account with the whole share and nothing in charge may conclude.
+/// - `lists`: what a list of events leads to from the opening, counts beside it, is lawful.
+/// - `loaded`: a head that an account loaded last is one that the stack had in the run.
+/// - `failures`, `pushes`: an account counts a failed exchange only where a head has changed since
+///   the opening, and has an open push only where the full head has.
 pub fn all_runs_keep_law()
     ensures law { RunsKeepLaw }
     ensures events { EventsKeepLaw }
@@ -28,4 +33,8 @@ pub fn all_runs_keep_law()
     ensures once { AccountsHaveEachOnce }
     ensures apart { AccountsAreApart }
     ensures closed { ClosedIsTold }
+    ensures lists { ListsKeepLaw }
+    ensures loaded { LoadedHeadsWere }
+    ensures failures { FailuresFollowChanges }
+    ensures pushes { PushesFollowChanges }
 {}

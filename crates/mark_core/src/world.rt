@@ -1,8 +1,8 @@
 //! A world, which keeps the law from one event to the next.
-ghost use Rattle.std.specs.Prelude.{◌≡◌, ◌↔◌, ◌<◌, ◌≤◌, All, IfOk, IsSome, IfSome, length};
+ghost use Rattle.std.specs.Prelude.{◌≡◌, ◌↔◌, ◌<◌, ◌≤◌, All, IfErr, IfOk, IsSome, IfSome, length};
 ghost use Rattle.std.specs.Prelude.{vec_items};
 ghost use Rattle.mark_core.specs.Runs.{opening};
-ghost use Rattle.mark_core.specs.Step.{Answers, HasAccount, IsLawful, event_of, marking_of};
+ghost use Rattle.mark_core.specs.Step.{Answers, CanStep, HasAccount, IsLawful, event_of, marking_of};
 ghost use Rattle.mark_core.specs.World.{account_at};
 
 use crate::event::Event;
@@ -119,13 +119,15 @@ impl<A: Allocator> World<A> {
 }
 
 /// The world after this event, None exactly where the event is not possible, or is a split and
-/// 4,294,967,295 accounts were made. At None and where memory is refused the world is given up.
+/// 4,294,967,295 accounts were made. Memory is asked for only where the
+/// event is possible. At None and where memory is refused the world is given up.
 pub fn step<A: Allocator + Copy>(
     alloc: A,
     world: World<A>,
     event: Event<A>,
 ) -> Result<Option<World<A>>, OutOfMemory>
-    ensures { IfOk result (λ r. Answers r world (event_of event)) }
+    ensures done { IfOk result (λ r. Answers r world (event_of event)) }
+    ensures refused { IfErr result (λ _. CanStep world (event_of event)) }
 {
     let mut state = world.state;
     if state.act(alloc, event)? {

@@ -1,6 +1,6 @@
 //! One step of one worker.
-ghost use Rattle.std.specs.Prelude.{IfOk};
-ghost use Rattle.mark_core.specs.Step.{IsLawful, Steps, event_of};
+ghost use Rattle.std.specs.Prelude.{IfErr, IfOk};
+ghost use Rattle.mark_core.specs.Step.{CanStep, IsLawful, Steps, event_of};
 
 use crate::event::{Event, Kind};
 use crate::numbers::Numbers;
@@ -12,7 +12,8 @@ impl<A: Allocator + Copy> State<A> {
     /// Does the event, where there is such a step.
     pub fn act(&mut self, alloc: A, event: Event<A>) -> Result<bool, OutOfMemory>
         requires { IsLawful self.old }
-        ensures { IfOk result (λ done. Steps self.old (event_of event) done self.new) }
+        ensures done { IfOk result (λ done. Steps self.old (event_of event) done self.new) }
+        ensures refused { IfErr result (λ _. CanStep self.old (event_of event)) }
     {
         let Event { worker, kind } = event;
         if !self.is_there(worker) {

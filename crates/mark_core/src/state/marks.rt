@@ -1,7 +1,7 @@
 //! Claim and finish.
-ghost use Rattle.std.specs.Prelude.{◌≡◌, ◌<◌, IfOk, length, max, slice_index, slice_set, vec_len};
+ghost use Rattle.std.specs.Prelude.{◌≡◌, ◌<◌, IfErr, IfOk, length, max, slice_index, slice_set, vec_len};
 ghost use Rattle.mark_core.specs.Event.{Claim, Finish};
-ghost use Rattle.mark_core.specs.Step.{IsLawful, Tries};
+ghost use Rattle.mark_core.specs.Step.{IsLawful, MayDo, Tries};
 
 use crate::out_of_memory::OutOfMemory;
 use crate::state::State;
@@ -12,7 +12,8 @@ impl<A: Allocator> State<A> {
     pub fn claim(&mut self, w: usize, object: u32) -> Result<bool, OutOfMemory>
         requires there { w < length self.old.accounts }
         requires lawful { IsLawful self.old }
-        ensures { IfOk result (λ done. Tries self.old w (Claim object) done self.new) }
+        ensures done { IfOk result (λ done. Tries self.old w (Claim object) done self.new) }
+        ensures refused { IfErr result (λ _. MayDo self.old w (Claim object)) }
     {
         if !self.accounts[w].may_claim(&self.setup, object) {
             return Ok(false);
@@ -26,7 +27,8 @@ impl<A: Allocator> State<A> {
     pub fn finish(&mut self, w: usize, object: u32) -> Result<bool, OutOfMemory>
         requires there { w < length self.old.accounts }
         requires lawful { IsLawful self.old }
-        ensures { IfOk result (λ done. Tries self.old w (Finish object) done self.new) }
+        ensures done { IfOk result (λ done. Tries self.old w (Finish object) done self.new) }
+        ensures refused { IfErr result (λ _. MayDo self.old w (Finish object)) }
     {
         if !self.accounts[w].may_finish(&self.setup, object) {
             return Ok(false);

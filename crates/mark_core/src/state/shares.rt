@@ -1,7 +1,7 @@
 //! Split and join.
-ghost use Rattle.std.specs.Prelude.{◌<◌, ◌↔◌, IfOk, IsTrue, length};
+ghost use Rattle.std.specs.Prelude.{◌<◌, ◌↔◌, IfErr, IfOk, IsTrue, length};
 ghost use Rattle.mark_core.specs.Event.{Split, Join};
-ghost use Rattle.mark_core.specs.Step.{IsLawful, Tries};
+ghost use Rattle.mark_core.specs.Step.{IsLawful, MayDo, Tries};
 
 use crate::account::Account;
 use crate::out_of_memory::OutOfMemory;
@@ -25,7 +25,8 @@ impl<A: Allocator + Copy> State<A> {
     /// The account `w` gives units to a new account, where it may.
     pub fn split(&mut self, alloc: A, w: usize, units: u32) -> Result<bool, OutOfMemory>
         requires { w < length self.old.accounts }
-        ensures { IfOk result (λ done. Tries self.old w (Split units) done self.new) }
+        ensures done { IfOk result (λ done. Tries self.old w (Split units) done self.new) }
+        ensures refused { IfErr result (λ _. MayDo self.old w (Split units)) }
     {
         if !self.accounts[w].may_split(units) {
             return Ok(false);
@@ -39,7 +40,8 @@ impl<A: Allocator + Copy> State<A> {
     pub fn join(&mut self, alloc: A, w: usize, other: u32) -> Result<bool, OutOfMemory>
         requires there { w < length self.old.accounts }
         requires lawful { IsLawful self.old }
-        ensures { IfOk result (λ done. Tries self.old w (Join other) done self.new) }
+        ensures done { IfOk result (λ done. Tries self.old w (Join other) done self.new) }
+        ensures refused { IfErr result (λ _. MayDo self.old w (Join other)) }
     {
         let place = other as usize;
         if place == w {

@@ -1,9 +1,9 @@
 //! Stores of links, pops and pushes.
-ghost use Rattle.std.specs.Prelude.{◌≡◌, ◌<◌, ◌≤◌, ◌↔◌, IfOk, IsTrue, length, slice_index_or};
+ghost use Rattle.std.specs.Prelude.{◌≡◌, ◌<◌, ◌≤◌, ◌↔◌, IfErr, IfOk, IsTrue, length, slice_index_or};
 ghost use Rattle.std.specs.Bool.{OnTrue};
 ghost use Rattle.std.specs.Option.{ForSome};
 ghost use Rattle.mark_core.specs.Event.{StoreLink, Pop, Push};
-ghost use Rattle.mark_core.specs.Step.{IsLawful, MayPush, Tries, exchanged, heads_of};
+ghost use Rattle.mark_core.specs.Step.{IsLawful, MayDo, MayPush, Tries, exchanged, heads_of};
 
 use crate::numbers::Numbers;
 use crate::out_of_memory::OutOfMemory;
@@ -30,7 +30,8 @@ impl<A: Allocator> State<A> {
     pub fn pop(&mut self, w: usize, which: Which) -> Result<bool, OutOfMemory>
         requires there { w < length self.old.accounts }
         requires lawful { IsLawful self.old }
-        ensures { IfOk result (λ done. Tries self.old w (Pop which) done self.new) }
+        ensures done { IfOk result (λ done. Tries self.old w (Pop which) done self.new) }
+        ensures refused { IfErr result (λ _. MayDo self.old w (Pop which)) }
     {
         let now = self.head(which);
         let look = self.accounts[w].look(which);
@@ -43,6 +44,10 @@ impl<A: Allocator> State<A> {
         let Some(link) = look.link() else {
             return Ok(false);
         };
+        // Before memory is asked for, so that want of memory is told of a possible pop alone.
+        if now.tag() == LAST_TAG {
+            return Ok(false);
+        }
         let slot = self.slots[buffer as usize].take();
         self.accounts[w].pop(buffer, slot)?;
         Ok(self.exchange(which, link))

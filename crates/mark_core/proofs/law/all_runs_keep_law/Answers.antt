@@ -2,6 +2,8 @@
 use Rattle.mark_core.proofs.Runs.{runs_keep_law, happens_keeps}
 use Rattle.mark_core.proofs.Changes.{stacks_change, tags_rise, pops_find_links, marks_rise}
 use Rattle.mark_core.proofs.Closing.{each_once, apart, closed_is_told}
+use Rattle.mark_core.proofs.Counting.{lawful_where}
+use Rattle.mark_core.proofs.Firsts.{failures_follow_changes, loaded_heads_were, pushes_follow_changes}
 use Rattle.mark_core.proofs.law.all_runs_keep_law.Goals as goal
 
 pub returns-clause-law : goal.returns-clause-law
@@ -30,3 +32,15 @@ returns-clause-apart c = apart
 
 pub returns-clause-closed : goal.returns-clause-closed
 returns-clause-closed c = closed_is_told
+
+pub returns-clause-lists : goal.returns-clause-lists
+returns-clause-lists c = lawful_where
+
+pub returns-clause-loaded : goal.returns-clause-loaded
+returns-clause-loaded c = loaded_heads_were
+
+pub returns-clause-failures : goal.returns-clause-failures
+returns-clause-failures c = failures_follow_changes
+
+pub returns-clause-pushes : goal.returns-clause-pushes
+returns-clause-pushes c = pushes_follow_changes

@@ -1,11 +1,13 @@
 use Rattle.std.proofs.Common.{sym, subst, refl}
+use Rattle.mark_core.specs.Event.{CanClaim}
 use Rattle.mark_core.specs.Step.{IsLawful}
-use Rattle.mark_core.proofs.Tables.{does_claim}
+use Rattle.mark_core.proofs.Steps.{always}
+use Rattle.mark_core.proofs.Tables.{account_here, does_claim}
 use Rattle.mark_core.proofs.Within.{claim_within}
 use Rattle.mark_core.proofs.state.State.claim.Goals as goal
 
-pub returns : goal.returns
-returns g c =
+pub returns-clause-done : goal.returns-clause-done
+returns-clause-done g c =
     let lawful = subst IsLawful (sym c.self.view_is) c.requires.lawful in
     let there = rw (← c.self.view_is) at c.requires.there in
     let asked = c.index.result.now in
@@ -14,3 +16,9 @@ returns g c =
     let inside = claim_within _ lawful c.args.w asked there c.index.ensures c.args.object can in
     rw (← c.self.view_is)
     (does_claim _ c.args.w asked changed _ there c.index.ensures c.index_mut.ensures.value c.args.object c.fetch_max-found.result _ inside can c.fetch_max-found.ensures.found c.fetch_max-found.ensures.raised c.in_ok-claim.ensures)
+
+pub returns-in_err-claim-clause-refused : goal.returns-in_err-claim-clause-refused
+returns-in_err-claim-clause-refused g c =
+    let there = rw (← c.self.view_is) at c.requires.there in
+    let same = account_here _ c.args.w c.index.result.now there c.index.ensures in
+    rw (← c.self.view_is) (always _ c.from_residual.result (subst (CanClaim c.self.inside.setup c.args.object) same (c.if-not-may_claim.ensures.0 refl)))

@@ -1,13 +1,16 @@
 use Rattle.std.proofs.Common.{◌≡◌, ◌<◌, get_or, sym, subst, refl, ◌∙◌}
-use Rattle.mark_core.specs.Account.{Account}
+use Rattle.std.proofs.lemmas.List.{get_or_default}
+use Rattle.mark_core.specs.Account.{Account, spent}
+use Rattle.mark_core.specs.World.{account_at}
 use Rattle.mark_core.specs.Step.{IsLawful}
+use Rattle.mark_core.proofs.Steps.{always}
 use Rattle.mark_core.proofs.Taking.{false_is_not_true}
 use Rattle.mark_core.proofs.Tables.{account_here, does_join}
-use Rattle.mark_core.proofs.Within.{is_there, read_past, shares_within}
+use Rattle.mark_core.proofs.Within.{is_there, read_past, shares_within, stands_here}
 use Rattle.mark_core.proofs.state.State.join.Goals as goal
 
-pub returns-then-not-is_there : goal.returns-then-not-is_there
-returns-then-not-is_there g c = λ can. false_is_not_true (c.if-not-is_there.ensures.1 (is_there _ _ can.1.0 can.1.1))
+pub returns-then-not-is_there-clause-done : goal.returns-then-not-is_there-clause-done
+returns-then-not-is_there-clause-done g c = λ can. false_is_not_true (c.if-not-is_there.ensures.1 (is_there _ _ can.1.0 can.1.1))
 
 pub join-requires : goal.join-requires
 join-requires g c =
@@ -17,8 +20,8 @@ join-requires g c =
     let mine = read_past c.self.inside.accounts.items c.args.other c.args.w _ _ (λ e. c.if-place-w.false (sym e)) c.index_mut-2.ensures.value in
     rw c.replace-other.ensures.value (shares_within _ lawful c.args.w c.index_mut-2.result.now there mine c.args.other c.index_mut.result.now c.if-place-w.false found.0 c.index_mut.ensures.value)
 
-pub returns : goal.returns
-returns g c =
+pub returns-clause-done : goal.returns-clause-done
+returns-clause-done g c =
     let there = rw (← c.self.view_is) at c.requires.there in
     let found = rw (← c.self.view_is) at (c.if-not-is_there.ensures.0 refl) in
     let mine = read_past c.self.inside.accounts.items c.args.other c.args.w _ _ (λ e. c.if-place-w.false (sym e)) c.index_mut-2.ensures.value in
@@ -28,3 +31,11 @@ returns g c =
     does_join _ c.args.w c.index_mut-2.result.now c.index_mut-2.result.now _ there mine mine
     c.args.other c.replace-other.result _ c.if-place-w.false found.0 taken (subst (λ (x : Account). 0 < x.share) (sym same) found.1) (c.replace-other.ensures.after ∙ c.new.ensures) c.in_ok-join.ensures
     )
+
+pub returns-in_err-join-clause-refused : goal.returns-in_err-join-clause-refused
+returns-in_err-join-clause-refused g c =
+    let found = rw (← c.self.view_is) at (c.if-not-is_there.ensures.0 refl) in
+    let accounts = c.self.inside.accounts.items in
+    let b = account_at accounts c.args.other in
+    rw (← c.self.view_is)
+    (always _ c.from_residual.result (c.if-place-w.false, (b, (stands_here accounts c.args.other b found.0 (get_or_default accounts c.args.other spent b found.0), found.1))))

@@ -23,8 +23,8 @@ index_mut-requires g c =
     let now = rw (← c.self.view_is) at c.head-now.ensures in
     omega (arith, buffer_within _ lawful c.args.which c.in-Some.buffer (sym (ap (λ (h : Head). h.index) now) ∙ sym c.index-2.ensures.same ∙ c.in-Some.is))
 
-pub returns : goal.returns
-returns g c =
+pub returns-clause-done : goal.returns-clause-done
+returns-clause-done g c =
     let lawful = subst IsLawful (sym c.self.view_is) c.requires.lawful in
     let there = rw (← c.self.view_is) at c.requires.there in
     let now = rw (← c.self.view_is) at c.head-now.ensures in
