@@ -8,7 +8,7 @@ use std::test::Fail;
 use tagged_index::LAST_TAG;
 
 /// Objects, buffers, size and first tag, and whether they are inside.
-const SIZES: [(u32, u32, u32, u64, bool); 9] = [
+const SIZES: [(u32, u32, u32, u64, bool); 10] = [
     (0, 4, 2, 0, true),
     (16_777_216, 4, 2, LAST_TAG, true),
     (16_777_217, 4, 2, 0, false),
@@ -17,6 +17,7 @@ const SIZES: [(u32, u32, u32, u64, bool); 9] = [
     (0, 65_535, 2, 0, false),
     (0, 4, 1, 0, false),
     (0, 4, 4_096, 0, true),
+    (0, 65_534, 4_096, 0, true),
     (0, 4, 4_097, 0, false),
 ];
 
