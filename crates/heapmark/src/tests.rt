@@ -1,10 +1,14 @@
-//! What no contract says: the worked rows, streams and memory that fail, and what the program prints.
+//! What no contract says: the worked rows, damaged dumps, streams and memory that fail, and what the program prints.
 
+mod damage;
 mod dumps;
+mod memory;
 mod program;
 mod rows;
 mod streams;
 mod workers;
+
+ghost use Rattle.std.specs.Prelude.{◌≤◌};
 
 use crate::{Counted, NoGate, Options, Refusal, run};
 use std::alloc::Allocator;
@@ -12,13 +16,36 @@ use std::io::{Read, Write};
 use std::sync::Wait;
 use std::thread::Threads;
 
-/// 2 workers, buffer 256, 1024 buffers, first tag 0.
-fn options() -> Options {
-    Options::new(2, 256, 1024, 0).unwrap()
+/// The program's options for this number of workers, 1 to 64.
+fn usual(workers: u32) -> Options
+    requires some { 1 ≤ workers }
+    requires most { workers ≤ 64 }
+{
+    let Ok(options) = Options::new(workers, 256, 1024, 0) else {
+        unreachable!();
+    };
+    options
 }
 
-/// A run with those options and a gate that does nothing.
-fn run_on<T, A, R, W>(rt: &T, alloc: A, reader: R, writer: W) -> (Result<(), Refusal>, W)
+/// The least buffers for this number of workers, 1 to 64.
+fn least(workers: u32) -> Options
+    requires some { 1 ≤ workers }
+    requires most { workers ≤ 64 }
+{
+    let Ok(options) = Options::new(workers, 2, 2 * workers + 2, 0) else {
+        unreachable!();
+    };
+    options
+}
+
+/// A run with these options and a gate that does nothing.
+fn run_with<T, A, R, W>(
+    rt: &T,
+    alloc: A,
+    options: &Options,
+    reader: R,
+    writer: W,
+) -> (Result<(), Refusal>, W)
 where
     T: Threads + Wait + Sync,
     A: Allocator + Sync,
@@ -27,7 +54,7 @@ where
 {
     let mut reader = Counted::new(reader);
     let mut writer = Counted::new(writer);
-    let outcome = run(rt, alloc, &mut reader, &mut writer, &options(), &NoGate);
+    let outcome = run(rt, alloc, &mut reader, &mut writer, options, &NoGate);
     (outcome, writer.into_inner())
 }
 

@@ -1,9 +1,12 @@
 //! What the program prints, and its exit status.
 
-use super::dumps::{Bytes, NOTHING, TWO_OBJECTS, dump_of, two_objects};
+use super::dumps::Record::Heap;
+use super::dumps::Sub::Raw;
+use super::dumps::{Bytes, NOTHING, NOTHING_REPORT, TWO_OBJECTS, TWO_OBJECTS_REPORT};
 use crate::{Counted, Refusal, program};
 use std::io::{ErrorKind, Write};
 use std::path::PathBuf;
+use std::process::Abort;
 use std::rt::Files;
 use std::sync::Wait;
 use std::test::Fail;
@@ -27,7 +30,7 @@ impl Write for Broken {
 /// A file of these bytes.
 fn file_of(rt: &HostRuntime, name: &str, dump: &Bytes) -> io::Result<PathBuf> {
     let path = env::temp_dir(rt)?.join(rt.alloc(), name)?;
-    fs::write(rt, path.as_path(), dump.0.as_slice())?;
+    fs::write(rt, path.as_path(), dump.bytes.as_slice())?;
     Ok(path)
 }
 
@@ -45,11 +48,15 @@ fn printed<T: Files + AllocGlobal + Threads + Wait + Sync>(
 #[test]
 fn a_file_is_reported_or_refused(rt: HostRuntime) -> Result<(), Fail> {
     let alloc = rt.alloc();
-    let path = file_of(&rt, "heapmark_two_objects.hprof", &two_objects(alloc)?)?;
+    let path = file_of(
+        &rt,
+        "heapmark_two_objects.hprof",
+        &Bytes::dump(alloc, 4, &TWO_OBJECTS)?,
+    )?;
     let name = path.to_str().ok_or("the name of the file is not text")?;
     let (status, out, err) = printed(&rt, &["heapmark", name]);
     assert_eq!(rt; status, 0);
-    assert_eq!(rt; out.as_slice(), TWO_OBJECTS.as_bytes());
+    assert_eq!(rt; out.as_slice(), TWO_OBJECTS_REPORT.as_bytes());
     assert!(rt; err.is_empty());
     let mut out = Counted::new(Vec::new(alloc));
     assert_eq!(rt; program(&rt, &["heapmark", name], &mut out, &mut Broken), 0);
@@ -63,10 +70,12 @@ fn a_file_is_reported_or_refused(rt: HostRuntime) -> Result<(), Fail> {
     fs::remove_file(&rt, path.as_path())?;
 
     // a root, and behind it a tag that no table has
-    let mut heap = Bytes::new(alloc);
-    heap.root(0)?;
-    heap.raw(&[0x7a])?;
-    let path = file_of(&rt, "heapmark_bad_tag.hprof", &dump_of(alloc, &heap)?)?;
+    let records = [Heap(&[Raw(&[0xff, 0, 0, 0, 0, 0x7a])])];
+    let path = file_of(
+        &rt,
+        "heapmark_bad_tag.hprof",
+        &Bytes::dump(alloc, 4, &records)?,
+    )?;
     let name = path.to_str().ok_or("the name of the file is not text")?;
     let (status, out, err) = printed(&rt, &["heapmark", name]);
     assert_eq!(rt; status, 1);
@@ -87,8 +96,21 @@ heapmark: /nowhere/heapmark.hprof: No such file or directory (os error 2)
     Ok(())
 }
 
-/// The program's words, its exit status, and what it prints on standard error at a refusal.
-type Case<'a> = (&'a [&'a str], u8, &'static str);
+/// For these words the program answers this status: with the report of nothing at 0, and else with a text that begins
+/// so on standard error.
+fn answers<T: Abort + Files + AllocGlobal + Threads + Wait + Sync>(
+    rt: &T,
+    words: &[&str],
+    want: u8,
+    begins: &str,
+) {
+    let (status, out, err) = printed(rt, words);
+    assert_eq!(rt; status, want, "{begins}");
+    let report = if want == 0 { NOTHING_REPORT } else { "" };
+    assert_eq!(rt; out.as_slice(), report.as_bytes(), "{begins}");
+    assert!(rt; err.as_slice().starts_with(begins.as_bytes()), "{begins}");
+    assert_eq!(rt; err.is_empty(), want == 0);
+}
 
 #[test]
 fn options_are_taken_or_refused(rt: HostRuntime) -> Result<(), Fail> {
@@ -96,57 +118,68 @@ fn options_are_taken_or_refused(rt: HostRuntime) -> Result<(), Fail> {
     let path = file_of(
         &rt,
         "heapmark_nothing.hprof",
-        &dump_of(alloc, &Bytes::new(alloc))?,
+        &Bytes::dump(alloc, 4, &NOTHING)?,
     )?;
     let file = path.to_str().ok_or("the name of the file is not text")?;
     let gone = "/nowhere/heapmark.hprof";
     let bad_options = "heapmark: refused 21 BadOptions\n";
-    let cases: [Case<'_>; 14] = [
-        (&["--workers", "64", "--buffers", "130", file], 0, ""),
-        (
-            &["--workers", "64", "--buffers", "129", file],
-            1,
-            bad_options,
-        ),
-        (&["--workers", "4", "--buffers", "9", file], 1, bad_options),
-        (&["--workers", "4", "--buffers", "9", gone], 1, bad_options),
-        (
-            &[
-                file,
-                "--workers=1",
-                "--buffer=2",
-                "--buffers=4",
-                "--first-tag=0",
-            ],
-            0,
-            "",
-        ),
-        (&[file, "--buffer", "4096", "--buffers", "65534"], 0, ""),
-        (&[file, "--workers", "0"], 2, ""),
-        (&[file, "--workers", "65"], 2, ""),
-        (&[file, "--buffer", "1"], 2, ""),
-        (&[file, "--buffer", "4097"], 2, ""),
-        (&[file, "--buffers", "3"], 2, ""),
-        (&[file, "--buffers", "65535"], 2, ""),
-        (&[file, "--first-tag", "281474976710656"], 2, ""),
-        (&[file, "--first-tag", "0x10"], 2, ""),
-    ];
-    for (number, (given, want, told)) in cases.iter().enumerate() {
-        let mut words = vec![in alloc; "heapmark"]?;
-        words.extend_from_slice(given)?;
-        let (status, out, err) = printed(&rt, words.as_slice());
-        assert_eq!(rt; status, *want, "case {number}");
-        let report = if *want == 0 { NOTHING } else { "" };
-        assert_eq!(rt; out.as_slice(), report.as_bytes(), "case {number}");
-        if *want == 2 {
-            assert!(rt;
-                err.as_slice().starts_with(b"error: invalid value"),
-                "case {number}"
-            );
-        } else {
-            assert_eq!(rt; err.as_slice(), told.as_bytes(), "case {number}");
-        }
-    }
+    let invalid = "error: invalid value";
+    answers(
+        &rt,
+        &["heapmark", "--workers", "64", "--buffers", "130", file],
+        0,
+        "",
+    );
+    answers(
+        &rt,
+        &["heapmark", "--workers", "64", "--buffers", "129", file],
+        1,
+        bad_options,
+    );
+    answers(
+        &rt,
+        &["heapmark", "--workers", "4", "--buffers", "9", file],
+        1,
+        bad_options,
+    );
+    answers(
+        &rt,
+        &["heapmark", "--workers", "4", "--buffers", "9", gone],
+        1,
+        bad_options,
+    );
+    answers(
+        &rt,
+        &[
+            "heapmark",
+            file,
+            "--workers=1",
+            "--buffer=2",
+            "--buffers=4",
+            "--first-tag=0",
+        ],
+        0,
+        "",
+    );
+    answers(
+        &rt,
+        &["heapmark", file, "--buffer", "4096", "--buffers", "65534"],
+        0,
+        "",
+    );
+    answers(&rt, &["heapmark", file, "--workers", "0"], 2, invalid);
+    answers(&rt, &["heapmark", file, "--workers", "65"], 2, invalid);
+    answers(&rt, &["heapmark", file, "--buffer", "1"], 2, invalid);
+    answers(&rt, &["heapmark", file, "--buffer", "4097"], 2, invalid);
+    answers(&rt, &["heapmark", file, "--buffers", "3"], 2, invalid);
+    answers(&rt, &["heapmark", file, "--buffers", "65535"], 2, invalid);
+    answers(
+        &rt,
+        &["heapmark", file, "--first-tag", "281474976710656"],
+        2,
+        invalid,
+    );
+    answers(&rt, &["heapmark", file, "--first-tag", "0x10"], 2, invalid);
     fs::remove_file(&rt, path.as_path())?;
     Ok(())
 }

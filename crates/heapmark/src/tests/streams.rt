@@ -1,15 +1,13 @@
 //! Readers, writers and memory that fail, each at every call in turn.
 
-use super::dumps::{TWO_OBJECTS, two_objects};
-use super::{refused, run_on};
-use crate::{Counted, NoGate, Options, run};
-use limited_heap::LimitedHeap;
+use super::dumps::{Bytes, NOTHING, TWO_OBJECTS_REPORT, two_objects};
+use super::{least, refused, run_with};
 use std::alloc::Global;
 use std::io;
 use std::io::{ErrorKind, Read, Write};
 use std::test::Fail;
 
-/// Gives its bytes one at a call, and fails at one call.
+/// Gives its bytes one at a call, and fails at one call alone.
 #[derive(Drop)]
 struct Drip<'a> {
     bytes: &'a [u8],
@@ -19,10 +17,11 @@ struct Drip<'a> {
 
 impl Read for Drip<'_> {
     fn read(&mut self, buf: &mut [u8]) -> io::Result<usize> {
-        if self.calls_left == 0 {
+        let call = self.calls_left;
+        self.calls_left = call.wrapping_sub(1);
+        if call == 0 {
             return Err(io::Error::from(self.kind));
         }
-        self.calls_left -= 1;
         let (Some((first, rest)), Some(place)) = (self.bytes.split_first(), buf.first_mut()) else {
             return Ok(0);
         };
@@ -39,7 +38,7 @@ enum Failure {
     TakesNothing,
 }
 
-/// Takes some bytes at a call, and fails at one write, or at the flush.
+/// Takes some bytes at a call, and fails at one write alone, or at the first flush.
 #[derive(Drop)]
 struct Tray {
     taken: Vec<u8>,
@@ -63,20 +62,23 @@ impl Tray {
 
 impl Write for Tray {
     fn write(&mut self, buf: &[u8]) -> io::Result<usize> {
-        if self.writes_left == 0 {
+        let write = self.writes_left;
+        self.writes_left = write.wrapping_sub(1);
+        if write == 0 {
             return match self.failure {
                 Failure::Fault(kind) => Err(io::Error::from(kind)),
                 Failure::TakesNothing => Ok(0),
             };
         }
-        self.writes_left -= 1;
         let count = buf.len().min(self.step);
         self.taken.extend_from_slice(&buf[..count])?;
         Ok(count)
     }
 
     fn flush(&mut self) -> io::Result<()> {
-        if self.flushes {
+        let works = self.flushes;
+        self.flushes = true;
+        if works {
             Ok(())
         } else {
             Err(io::Error::from(ErrorKind::Other))
@@ -95,18 +97,18 @@ fn a_read_fault_is_told_and_not_tried_again(rt: HostRuntime) -> Result<(), Fail>
     ] {
         for calls_left in 0..176usize {
             let drip = Drip {
-                bytes: dump.0.as_slice(),
+                bytes: dump.bytes.as_slice(),
                 calls_left,
                 kind,
             };
-            let (outcome, written) = run_on(&rt, alloc, drip, Vec::new(alloc));
+            let (outcome, written) = run_with(&rt, alloc, &least(2), drip, Vec::new(alloc));
             // 174 reads give a byte, and one more finds the end
             if calls_left < 175 {
                 assert_eq!(rt; outcome, refused(19, None), "{calls_left} reads");
                 assert!(rt; written.is_empty());
             } else {
                 assert_eq!(rt; outcome, Ok(()), "{calls_left} reads");
-                assert_eq!(rt; written.as_slice(), TWO_OBJECTS.as_bytes());
+                assert_eq!(rt; written.as_slice(), TWO_OBJECTS_REPORT.as_bytes());
             }
         }
     }
@@ -117,7 +119,7 @@ fn a_read_fault_is_told_and_not_tried_again(rt: HostRuntime) -> Result<(), Fail>
 fn a_write_fault_leaves_a_beginning(rt: HostRuntime) -> Result<(), Fail> {
     let alloc = rt.alloc();
     let dump = two_objects(alloc)?;
-    let report = TWO_OBJECTS.as_bytes();
+    let report = TWO_OBJECTS_REPORT.as_bytes();
     let failures = [
         Failure::Fault(ErrorKind::Interrupted),
         Failure::Fault(ErrorKind::WriteZero),
@@ -126,7 +128,7 @@ fn a_write_fault_leaves_a_beginning(rt: HostRuntime) -> Result<(), Fail> {
     for failure in failures {
         for writes_left in 0..32usize {
             let tray = Tray::new(alloc, 10, writes_left, failure);
-            let (outcome, tray) = run_on(&rt, alloc, dump.0.as_slice(), tray);
+            let (outcome, tray) = run_with(&rt, alloc, &least(2), dump.bytes.as_slice(), tray);
             let taken = writes_left * 10;
             if taken < report.len() {
                 assert_eq!(rt; outcome, refused(20, None), "{writes_left} writes");
@@ -139,32 +141,14 @@ fn a_write_fault_leaves_a_beginning(rt: HostRuntime) -> Result<(), Fail> {
     }
     let mut tray = Tray::new(alloc, 1000, 1000, Failure::TakesNothing);
     tray.flushes = false;
-    let (outcome, tray) = run_on(&rt, alloc, dump.0.as_slice(), tray);
+    let (outcome, tray) = run_with(&rt, alloc, &least(2), dump.bytes.as_slice(), tray);
     assert_eq!(rt; outcome, refused(20, None), "the flush");
     assert_eq!(rt; tray.taken.as_slice(), report);
-    Ok(())
-}
 
-#[test]
-fn want_of_memory_is_told_at_each_request(rt: HostRuntime) -> Result<(), Fail> {
-    let alloc = rt.alloc();
-    let dump = two_objects(alloc)?;
-    let few = Options::new(2, 2, 6, 0).map_err(|_| "the options are in range")?;
-    for requests in 0..512u64 {
-        let heap = LimitedHeap::new(alloc, requests);
-        let mut reader = Counted::new(dump.0.as_slice());
-        let mut writer = Counted::new(Vec::new(alloc));
-        let outcome = run(&rt, &heap, &mut reader, &mut writer, &few, &NoGate);
-        let written = writer.into_inner();
-        if heap.refusals() == 0 {
-            assert_eq!(rt; outcome, Ok(()));
-            assert_eq!(rt; written.as_slice(), TWO_OBJECTS.as_bytes());
-            assert!(rt; requests > 8, "some requests were refused");
-            return Ok(());
-        }
-        assert_eq!(rt; outcome, refused(15, None), "{requests} requests");
-        assert!(rt; written.is_empty());
-    }
-    assert!(rt; false, "512 requests are too few");
+    let nothing = Bytes::dump(alloc, 4, &NOTHING)?;
+    let tray = Tray::new(alloc, 10, 1, Failure::Fault(ErrorKind::Other));
+    let (outcome, tray) = run_with(&rt, alloc, &least(2), nothing.bytes.as_slice(), tray);
+    assert_eq!(rt; outcome, refused(20, None));
+    assert_eq!(rt; tray.taken.as_slice(), b"         0".as_slice());
     Ok(())
 }

@@ -1,8 +1,7 @@
 //! Runs with several workers: their calls of the gate, and that their number changes no report.
 
-use super::dumps::{Bytes, NOTHING, TWO_OBJECTS, dump_of, named_class, two_objects};
-use crate::{Counted, Gate, NoGate, Options, run};
-use std::alloc::{AllocError, Global};
+use super::dumps::roots_alone;
+use crate::{Counted, Gate, Options, run};
 use std::sync::atomic::{AtomicU64, Ordering};
 use std::test::Fail;
 use std::thread;
@@ -16,23 +15,16 @@ const EIGHT_ROOTS: &str = "         8               0  A
          0               0  (unresolved)
 ";
 
+/// As many as eight workers with buffers of two objects share.
+const MANY_ROOTS: &str = "        60               0  A
+         1               0  <class>
+        61               0  (reachable)
+         0               0  (unreachable)
+         0               0  (unresolved)
+";
+
 /// How often a worker that waits looks whether the others have come, 1 ms apart.
 const TURNS: u32 = 2_000;
-
-/// A class without fields, and eight instances of it, each a root. Nine objects.
-fn eight_roots(alloc: Global) -> Result<Bytes, AllocError> {
-    let mut heap = Bytes::new(alloc);
-    heap.class(0x100, &[])?;
-    for id in 0x201..0x209 {
-        heap.instance(id, 0x100, &[])?;
-    }
-    for id in 0x201..0x209 {
-        heap.root(id)?;
-    }
-    let mut dump = named_class(alloc)?;
-    dump.record(0x0C, &heap)?;
-    Ok(dump)
-}
 
 /// Holds each worker at its first scan until all have come to one, and notes each call.
 #[derive(Drop)]
@@ -91,41 +83,25 @@ impl<C: Clock + Sync> Gate for Meeting<C> {
 #[test]
 fn workers_meet_at_the_gate(rt: HostRuntime) -> Result<(), Fail> {
     let alloc = rt.alloc();
-    let dump = eight_roots(alloc)?;
-    for workers in [2, 4] {
+    let cases: [(u32, u32, &str); 3] = [
+        (2, 8, EIGHT_ROOTS),
+        (4, 8, EIGHT_ROOTS),
+        (8, 60, MANY_ROOTS),
+    ];
+    for (workers, roots, report) in cases {
+        let dump = roots_alone(alloc, u64::from(roots))?;
         let options = Options::new(workers, 2, 1024, 0).map_err(|_| "the options are in range")?;
         let gate = Meeting::new(rt, workers);
-        let mut reader = Counted::new(dump.0.as_slice());
+        let mut reader = Counted::new(dump.bytes.as_slice());
         let mut writer = Counted::new(Vec::new(alloc));
         let outcome = run(&rt, alloc, &mut reader, &mut writer, &options, &gate);
         assert_eq!(rt; outcome, Ok(()), "{workers} workers");
-        assert_eq!(rt; writer.into_inner().as_slice(), EIGHT_ROOTS.as_bytes());
+        assert_eq!(rt; writer.into_inner().as_slice(), report.as_bytes());
         assert_eq!(rt; gate.late.load(Ordering::SeqCst), 0, "{workers} workers");
-        assert_eq!(rt; gate.calls.load(Ordering::SeqCst), 9);
-        assert_eq!(rt; gate.objects.load(Ordering::SeqCst), 0x1ff);
+        assert_eq!(rt; gate.calls.load(Ordering::SeqCst), u64::from(roots) + 1);
+        let all = 2u64.wrapping_shl(roots).wrapping_sub(1);
+        assert_eq!(rt; gate.objects.load(Ordering::SeqCst), all);
         assert_eq!(rt; gate.by_others.load(Ordering::SeqCst), 0);
-    }
-    Ok(())
-}
-
-#[test]
-fn the_number_of_workers_changes_no_report(rt: HostRuntime) -> Result<(), Fail> {
-    let alloc = rt.alloc();
-    let mut dumps = Vec::new(alloc);
-    dumps.push((dump_of(alloc, &Bytes::new(alloc))?, NOTHING))?;
-    dumps.push((two_objects(alloc)?, TWO_OBJECTS))?;
-    dumps.push((eight_roots(alloc)?, EIGHT_ROOTS))?;
-    for (dump, report) in dumps.iter() {
-        for workers in [1, 2, 4, 64] {
-            let options = Options::new(workers, 256, 1024, 0).map_err(
-                |_| "the options are in range",
-            )?;
-            let mut reader = Counted::new(dump.0.as_slice());
-            let mut writer = Counted::new(Vec::new(alloc));
-            let outcome = run(&rt, alloc, &mut reader, &mut writer, &options, &NoGate);
-            assert_eq!(rt; outcome, Ok(()), "{workers} workers");
-            assert_eq!(rt; writer.into_inner().as_slice(), report.as_bytes());
-        }
     }
     Ok(())
 }

@@ -1,0 +1,151 @@
+//! The dump of two objects cut, and changed byte by byte.
+
+use super::dumps::{NOTHING_REPORT, TWO_OBJECTS_REPORT, two_objects};
+use super::{least, refused, run_with};
+use crate::Refusal;
+use std::test::Fail;
+
+/// The lengths from the first to the last, and the code and place of their refusal.
+type Cut = (usize, usize, u8, u64);
+
+/// The file cut to each length below 174.
+static CUTS: [Cut; 8] = [
+    (0, 18, 1, 0),
+    (19, 30, 3, 0),
+    (31, 31, 8, 31),
+    (32, 44, 3, 31),
+    (45, 45, 8, 45),
+    (46, 69, 3, 45),
+    (70, 70, 8, 70),
+    (71, 173, 3, 70),
+];
+
+/// The body of the heap record cut to each length that ends within a sub-record, and the record's length lowered to it.
+static BODIES: [Cut; 4] = [
+    (1, 47, 6, 79),
+    (49, 68, 6, 127),
+    (70, 89, 6, 148),
+    (91, 94, 6, 169),
+];
+
+/// The body cut behind a sub-record, and its report.
+static WHOLE_BODIES: [(usize, &str); 5] = [
+    (0, NOTHING_REPORT),
+    (
+        48,
+        "         0               0  (reachable)
+         1               0  (unreachable)
+         0               0  (unresolved)
+",
+    ),
+    (
+        69,
+        "         0               0  (reachable)
+         2               4  (unreachable)
+         1               0  (unresolved)
+",
+    ),
+    (
+        90,
+        "         0               0  (reachable)
+         3               8  (unreachable)
+         0               0  (unresolved)
+",
+    ),
+    (95, TWO_OBJECTS_REPORT),
+];
+
+fn front(bytes: &[u8], length: usize) -> &[u8] {
+    &bytes[..length.min(bytes.len())]
+}
+
+fn put(bytes: &mut Vec<u8>, place: usize, value: u8) {
+    if let Some(byte) = bytes.get_mut(place) {
+        *byte = value;
+    }
+}
+
+/// The dump with so much of its heap record's body, which that record says.
+fn with_body(dump: &mut Vec<u8>, length: usize) -> &[u8] {
+    put(dump, 78, u8::try_from(length).unwrap_or(u8::MAX));
+    front(dump.as_slice(), length.saturating_add(79))
+}
+
+#[test]
+fn a_file_that_is_cut_is_refused(rt: HostRuntime) -> Result<(), Fail> {
+    let alloc = rt.alloc();
+    let dump = two_objects(alloc)?;
+    assert_eq!(rt; dump.bytes.len(), 174);
+    for (from, to, code, place) in &CUTS {
+        for length in *from..=*to {
+            let (outcome, written) = run_with(
+                &rt,
+                alloc,
+                &least(2),
+                front(dump.bytes.as_slice(), length),
+                Vec::new(alloc),
+            );
+            assert_eq!(rt; outcome, refused(*code, Some(*place)), "{length} bytes");
+            assert!(rt; written.is_empty());
+        }
+    }
+    Ok(())
+}
+
+#[test]
+fn a_heap_record_that_is_cut_ends_at_a_sub_record(rt: HostRuntime) -> Result<(), Fail> {
+    let alloc = rt.alloc();
+    let mut dump = two_objects(alloc)?;
+    for (from, to, code, place) in &BODIES {
+        for length in *from..=*to {
+            let cut = with_body(&mut dump.bytes, length);
+            let (outcome, written) = run_with(&rt, alloc, &least(2), cut, Vec::new(alloc));
+            assert_eq!(rt; outcome, refused(*code, Some(*place)), "{length} bytes");
+            assert!(rt; written.is_empty());
+        }
+    }
+    for (length, report) in &WHOLE_BODIES {
+        let cut = with_body(&mut dump.bytes, *length);
+        let (outcome, written) = run_with(&rt, alloc, &least(2), cut, Vec::new(alloc));
+        assert_eq!(rt; outcome, Ok(()), "{length} bytes");
+        assert_eq!(rt; written.as_slice(), report.as_bytes(), "{length} bytes");
+    }
+    Ok(())
+}
+
+#[test]
+fn a_changed_byte_changes_no_answer_with_the_workers(rt: HostRuntime) -> Result<(), Fail> {
+    let alloc = rt.alloc();
+    let mut dump = two_objects(alloc)?;
+    for place in 0..174usize {
+        let right = dump.bytes.get(place).copied().unwrap_or(0);
+        for value in 0..=255u8 {
+            put(&mut dump.bytes, place, value);
+            let (one, report) = run_with(
+                &rt,
+                alloc,
+                &least(1),
+                dump.bytes.as_slice(),
+                Vec::new(alloc),
+            );
+            let (two, other) = run_with(
+                &rt,
+                alloc,
+                &least(2),
+                dump.bytes.as_slice(),
+                Vec::new(alloc),
+            );
+            assert_eq!(rt; one, two, "{value} at {place}");
+            assert_eq!(rt; report.as_slice(), other.as_slice(), "{value} at {place}");
+            match one {
+                Ok(()) => assert!(rt; !report.is_empty(), "{value} at {place}"),
+                Err(Refusal { code, offset }) => {
+                    assert!(rt; code <= 14 && offset.is_some(), "{value} at {place}");
+                    assert!(rt; report.is_empty(), "{value} at {place}");
+                }
+            }
+        }
+        put(&mut dump.bytes, place, right);
+    }
+    Ok(())
+}
