@@ -8,14 +8,11 @@ use Rattle.hprof_grammar.specs.SubRecord.{Class, Constant, Instance, IsClass, Is
 use Rattle.hprof_grammar.specs.SubRecord.SubRecord.{class_dump, instance_dump, object_array_dump, primitive_array_dump}
 use Rattle.hprof_grammar.specs.Series.{of_constant, of_static}
 use Rattle.hprof_grammar.specs.Tables.{size_of}
-use Rattle.heap_graph.specs.Heap.{class_named}
 use Rattle.heap_graph.specs.working.HeldIds.{AddsIds}
 use Rattle.heap_graph.specs.Layout.{field_ids, layout}
-use Rattle.heap_graph.specs.Linked.{IsLinked}
 use Rattle.heap_graph.specs.References.{class_ids, constant_ids, instance_ids, static_ids}
 use Rattle.heap_graph.specs.working.Values.{IsIdValue, values_ids}
 use Rattle.heap_graph.proofs.FieldLaws.{size_of_id_type}
-use Rattle.heap_graph.proofs.Linking.{no_super}
 
 pub on_ok : {X E : Type 0} {P Q : Type 0} (r : Result X E) → (P → Q) → OnOk r P → OnOk r Q
 on_ok (Ok x) f h = f h
@@ -88,17 +85,6 @@ class_adds s heap c old a b d e f g is ea eb ed ee ef eg = record {
       eg ∙ ap (λ (xs : List ℕ). f ++ xs) (statics_are s c.statics is.statics) ∙ ap (λ (xs : List ℕ). xs ++ static_ids s c.statics) (ef ∙ ap (λ (xs : List ℕ). e ++ xs) (constants_are s c.constants is.constants))
       ∙ append_assoc e (constant_ids s c.constants) (static_ids s c.statics) ∙ ap (λ (xs : List ℕ). xs ++ (constant_ids s c.constants ++ static_ids s c.statics)) four
       ∙ append_assoc old (c.super ∷ c.loader ∷ c.signers ∷ c.domain ∷ []) (constant_ids s c.constants ++ static_ids s c.statics);
-}
-
-pub instance_adds : (s : ℕ) (heap : List SubRecord) (i : Instance) (c : Class) (old a b : List ℕ) → IsLinked s heap → class_named heap i.class ≡ Some c → length c.members < 256 ^ 2
-    → a ≡ old ++ i.class ∷ [] → b ≡ a ++ field_ids s c.members i.values → AddsIds s heap (instance_dump i) old b
-instance_adds s heap i c old a b linked named few ea eb = record {
-  ids = instance_ids s i (c ∷ []);
-  are = (c ∷ [], (named, no_super s heap i.class c linked named), refl);
-  few = omega (arith, few_fields s (layout (c ∷ [])) i.values, few, length-append c.members []);
-  added =
-      eb ∙ ap (λ (xs : List ℕ). xs ++ field_ids s c.members i.values) ea ∙ append_assoc old (i.class ∷ []) (field_ids s c.members i.values)
-      ∙ ap (λ (ms : List Member). old ++ (i.class ∷ field_ids s ms i.values)) (sym (append-nil c.members));
 }
 
 pub array_adds : (s : ℕ) (heap : List SubRecord) (a : ObjectArray) (old b d : List ℕ) → length a.elements < 256 ^ 4 → b ≡ old ++ a.class ∷ [] → d ≡ b ++ a.elements → AddsIds s heap (object_array_dump a) old d

@@ -35,6 +35,9 @@ seen v bytes s places known subs bytes_are size_is places_are stand =
     subst (λ (xs : List ℕ). StandInTurn (Stands v) xs subs) (sym places_are)
     (subst (λ (n : ℕ). StandInTurn (StandsAt n v.bytes) known subs) (sym size_is) (subst (λ (bs : List ℕ). StandInTurn (StandsAt s bs) known subs) (sym bytes_are) stand))
 
+pub same_sight : (v w : Sight) → v.bytes ≡ w.bytes → v.id_size ≡ w.id_size → v ≡ w
+same_sight v w e f = λ i. record { bytes = e i; id_size = f i }
+
 pub seen_records : (v : Sight) (bytes : List ℕ) (s : ℕ) (places known : List ℕ) (rs : List Record) → v.bytes ≡ bytes → v.id_size ≡ s → places ≡ known → StandInTurn (RecordStandsAt s bytes) known rs → StandInTurn (RecordStands v) places rs
 seen_records v bytes s places known rs bytes_are size_is places_are stand =
     subst (λ (xs : List ℕ). StandInTurn (RecordStands v) xs rs) (sym places_are)

@@ -8,7 +8,16 @@ pub mod IndexNumbering
 pub mod Firsts
 pub mod Standings
 pub mod FieldLaws
-pub mod SuperRuleLaws
+pub mod PathLaws
+pub mod ChainLaws
+pub mod FateLaws
+pub mod LayoutLaws
+pub mod ClimbLaws
+pub mod ClassTableLaws
+pub mod RuleLaws
+pub mod InstanceLaws
+pub mod TableGrowth
+pub mod Counting
 pub mod Testing
 pub mod Linking
 pub mod Adding

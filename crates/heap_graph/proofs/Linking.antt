@@ -5,12 +5,10 @@ use Rattle.std.proofs.lemmas.Bool.{cases_order, eqb-true}
 use Rattle.hprof_grammar.specs.Standing.{id_of}
 use Rattle.hprof_grammar.specs.SubRecord.{Class, Instance, SubRecord}
 use Rattle.hprof_grammar.specs.SubRecord.SubRecord.{class_dump, instance_dump, object_array_dump, primitive_array_dump, root}
-use Rattle.heap_graph.specs.declared.rule.LinkRule.TheVariants.{InstanceSize, SuperChain, UnknownClass}
+use Rattle.heap_graph.specs.declared.rule.LinkRule.TheVariants.{UnknownClass}
 use Rattle.heap_graph.specs.Heap.{as_class, class_named, number_named, objects}
-use Rattle.heap_graph.specs.Layout.{layout_size}
 use Rattle.heap_graph.specs.Linked.{IsLinked}
 use Rattle.heap_graph.proofs.Firsts.{IsHit, position_hit}
-use Rattle.heap_graph.proofs.SuperRuleLaws.{measured_alone, not_bad_super}
 
 -- the class that an identifier names is an object of the heap list, and bears that identifier
 pub record IsClassThere (heap : List SubRecord) (id : ℕ) (c : Class) : Type 0 where
@@ -42,20 +40,6 @@ there_if heap id c false h = there_named heap id c (number_named heap id) refl h
 
 pub class_there : (heap : List SubRecord) (id : ℕ) (c : Class) → class_named heap id ≡ Some c → IsClassThere heap id c
 class_there heap id c h = there_if heap id c (id == 0) h
-
--- its superclass is that of no class
-pub no_super : (s : ℕ) (heap : List SubRecord) (id : ℕ) (c : Class) → IsLinked s heap → class_named heap id ≡ Some c → c.super ≡ 0
-no_super s heap id c linked named =
-    let it : IsClassThere heap id c = class_there heap id c named in
-    not_bad_super heap c.super (λ bad. linked it.number SuperChain (class_dump c, it.is, bad))
-
-equal_numbers : (a b : ℕ) → ((a ≡ b → ⊥) → ⊥) → a ≡ b
-equal_numbers a b h = ⊎_elim (λ e. e) (⊎_elim (λ l. absurd (h (λ e. omega (arith, e, l)))) (λ l. absurd (h (λ e. omega (arith, e, l))))) (cases_order a b)
-
--- an instance has as many bytes as the fields of its class
-pub right_size : (s : ℕ) (heap : List SubRecord) (n : ℕ) (i : Instance) (c : Class) → IsLinked s heap → slice_get (objects heap) n ≡ Some (instance_dump i) → class_named heap i.class ≡ Some c → length i.values ≡ layout_size s (c ∷ [])
-right_size s heap n i c linked is named =
-    equal_numbers (length i.values) (layout_size s (c ∷ [])) (λ other. linked n InstanceSize (instance_dump i, is, (c ∷ [], (named, no_super s heap i.class c linked named), measured_alone c, other)))
 
 -- the class of an instance is there
 pub no_unknown : (s : ℕ) (heap : List SubRecord) (n : ℕ) (i : Instance) → IsLinked s heap → slice_get (objects heap) n ≡ Some (instance_dump i) → class_named heap i.class ≡ None → ⊥

@@ -12,95 +12,12 @@ use Rattle.heap_graph.specs.Layout.{IsChain, layout_size}
 use Rattle.heap_graph.specs.LinkFault.{IsLeastFault, code_of}
 use Rattle.heap_graph.specs.Linked.{Breaks, Fails, most_objects}
 use Rattle.heap_graph.specs.working.RuleAnswers.{BreaksLate, IsLateRule, IsLeastRule}
-use Rattle.heap_graph.proofs.SuperRuleLaws.{bad_super, fine_super, measured_alone, only_one_measured}
 
 some_inj : {X : Type 0} {x y : X} → Some x ≡ Some y → x ≡ y
 some_inj {X} {x} {y} e = cc
 
 some_none : {X : Type 0} {x : X} → Some x ≡ None → ⊥
 some_none {X} {x} e = cc
-
--- ---- the rules on classes, superclasses and sizes
-
-class_least : (s : ℕ) (heap : List SubRecord) (c : Class) (rule : LinkRule) → BreaksLate s heap (class_dump c) rule → code_of SuperChain ≤ code_of rule
-class_least s heap c ZeroObject h = absurd h
-class_least s heap c DuplicateObject h = absurd h
-class_least s heap c UnknownClass h = absurd h
-class_least s heap c SuperChain h = omega arith
-class_least s heap c InstanceSize h = absurd h
-class_least s heap c TooLarge h = absurd h
-
-pub class_bad : (s : ℕ) (heap : List SubRecord) (c : Class) → (c.super ≡ 0 → ⊥) → IsLateRule s heap (class_dump c) (Some SuperChain)
-class_bad s heap c other = (bad_super heap c.super other, class_least s heap c)
-
-pub class_fine : (s : ℕ) (heap : List SubRecord) (c : Class) → c.super ≡ 0 → IsLateRule s heap (class_dump c) None
-class_fine s heap c e ZeroObject h = h
-class_fine s heap c e DuplicateObject h = h
-class_fine s heap c e UnknownClass h = h
-class_fine s heap c e SuperChain h = fine_super heap c.super e h
-class_fine s heap c e InstanceSize h = h
-class_fine s heap c e TooLarge h = h
-
--- a chain that is measured is that of the class alone
-pub record IsAlone (heap : List SubRecord) (id : ℕ) (chain : List Class) : Type 0 where
-  pub class : Class
-  pub only : chain ≡ class ∷ []
-  pub named : class_named heap id ≡ Some class
-  pub top : class.super ≡ 0
-
-pub alone : (heap : List SubRecord) (id : ℕ) (chain : List Class) → length chain ≡ 1 → IsChain heap id chain → IsAlone heap id chain
-alone heap id [] e h = absurd (omega (arith, e))
-alone heap id (c ∷ []) e h = record { class = c; only = refl; named = h.0; top = h.1 }
-alone heap id (c ∷ d ∷ more) e h = absurd (omega (arith, e))
-
-eleven_least : (s : ℕ) (heap : List SubRecord) (o : SubRecord) (rule : LinkRule) → BreaksLate s heap o rule → code_of UnknownClass ≤ code_of rule
-eleven_least s heap o ZeroObject h = absurd h
-eleven_least s heap o DuplicateObject h = absurd h
-eleven_least s heap o UnknownClass h = omega arith
-eleven_least s heap o SuperChain h = omega arith
-eleven_least s heap o InstanceSize h = omega arith
-eleven_least s heap o TooLarge h = absurd h
-
-pub instance_unknown : (s : ℕ) (heap : List SubRecord) (i : Instance) → class_named heap i.class ≡ None → IsLateRule s heap (instance_dump i) (Some UnknownClass)
-instance_unknown s heap i e = (e, eleven_least s heap (instance_dump i))
-
--- an instance whose class is there: only its size is left
-sized_least : (s : ℕ) (heap : List SubRecord) (i : Instance) (c : Class) → class_named heap i.class ≡ Some c → (rule : LinkRule) → BreaksLate s heap (instance_dump i) rule → code_of InstanceSize ≤ code_of rule
-sized_least s heap i c named ZeroObject h = absurd h
-sized_least s heap i c named DuplicateObject h = absurd h
-sized_least s heap i c named UnknownClass h = absurd (some_none (sym named ∙ h))
-sized_least s heap i c named SuperChain h = absurd h
-sized_least s heap i c named InstanceSize h = omega arith
-sized_least s heap i c named TooLarge h = absurd h
-
-pub instance_wrong : (s : ℕ) (heap : List SubRecord) (i : Instance) (c : Class) → class_named heap i.class ≡ Some c → c.super ≡ 0 → (length i.values ≡ layout_size s (c ∷ []) → ⊥) → IsLateRule s heap (instance_dump i) (Some InstanceSize)
-instance_wrong s heap i c named top wrong = ((c ∷ [], (named, top), measured_alone c, wrong), sized_least s heap i c named)
-
-pub instance_fine : (s : ℕ) (heap : List SubRecord) (i : Instance) (c : Class) → class_named heap i.class ≡ Some c → (c.super ≡ 0 → length i.values ≡ layout_size s (c ∷ [])) → IsLateRule s heap (instance_dump i) None
-instance_fine s heap i c named right ZeroObject h = h
-instance_fine s heap i c named right DuplicateObject h = h
-instance_fine s heap i c named right UnknownClass h = some_none (sym named ∙ h)
-instance_fine s heap i c named right SuperChain h = h
-instance_fine s heap i c named right InstanceSize h =
-    let one : IsAlone heap i.class h.0 = alone heap i.class h.0 (only_one_measured h.0 h.2) h.1 in
-    let same : one.class ≡ c = some_inj (sym one.named ∙ named) in
-    h.3 (right (sym (ap (λ (d : Class). d.super) same) ∙ one.top) ∙ ap (λ (d : Class). layout_size s (d ∷ [])) (sym same) ∙ ap (λ (ds : List Class). layout_size s ds) (sym one.only))
-instance_fine s heap i c named right TooLarge h = h
-
-pub array_unknown : (s : ℕ) (heap : List SubRecord) (a : ObjectArray) → class_named heap a.class ≡ None → IsLateRule s heap (object_array_dump a) (Some UnknownClass)
-array_unknown s heap a e = (e, eleven_least s heap (object_array_dump a))
-
-pub array_fine : (s : ℕ) (heap : List SubRecord) (a : ObjectArray) (c : Class) → class_named heap a.class ≡ Some c → IsLateRule s heap (object_array_dump a) None
-array_fine s heap a c named ZeroObject h = h
-array_fine s heap a c named DuplicateObject h = h
-array_fine s heap a c named UnknownClass h = some_none (sym named ∙ h)
-array_fine s heap a c named SuperChain h = h
-array_fine s heap a c named InstanceSize h = h
-array_fine s heap a c named TooLarge h = h
-
--- the layout of a class alone
-pub layout_alone : (s : ℕ) (c : Class) → sum_by (λ m. size_of s m.type) c.members ≡ layout_size s (c ∷ [])
-layout_alone s c = sym (ap (λ ms. sum_by (λ m. size_of s m.type) ms) (append-nil c.members))
 
 -- ---- all rules, of the object of that number
 

@@ -1,6 +1,6 @@
 -- When a heap list is linked.
 use Rattle.std.specs.Prelude.{Contains, List, None, Some, length, map, slice_get, take, ℕ, ◌≡◌, ◌≢◌, ◌≤◌}
-use Rattle.heap_graph.specs.SuperRule.{IsBadSuper, IsMeasured}
+use Rattle.heap_graph.specs.SuperRule.{IsBadSuper}
 use Rattle.heap_graph.specs.Layout.{IsChain, layout_size}
 use Rattle.heap_graph.specs.Heap.{class_named, heap_of, id_of, objects}
 use Rattle.hprof_grammar.specs.Record.{IsOrderly, Record, tag_of}
@@ -33,7 +33,7 @@ HasBadChain heap (primitive_array_dump a) = ⊥
 abbrev pub HasWrongSize : ℕ → List SubRecord → SubRecord → Type 0
 HasWrongSize s heap (root r) = ⊥
 HasWrongSize s heap (class_dump c) = ⊥
-HasWrongSize s heap (instance_dump i) = (chain : List Class) × IsChain heap i.class chain × IsMeasured chain × (length i.values ≢ layout_size s chain)
+HasWrongSize s heap (instance_dump i) = (chain : List Class) × IsChain heap i.class chain × (length i.values ≢ layout_size s chain)
 HasWrongSize s heap (object_array_dump a) = ⊥
 HasWrongSize s heap (primitive_array_dump a) = ⊥
 

@@ -1,14 +1,10 @@
--- The rule for superclasses. For now a class has none: a superclass identifier other than 0 is a fault, and an instance
--- is measured where its class has no superclass. This module alone says so. For classes below classes it becomes
---   IsBadSuper heap super = ((super ≢ 0) × (class_named heap super ≡ None)) ⊎ NeverEnds heap super
---   IsMeasured chain = Unit
-use Rattle.std.specs.Prelude.{List, length, ℕ, ◌≡◌, ◌≢◌}
-use Rattle.hprof_grammar.specs.SubRecord.{Class, SubRecord}
+-- The rule for superclasses: each is there, and following them comes to an end.
+use Rattle.std.specs.Prelude.{List, None, ℕ, ◌≡◌, ◌≢◌, ◌⊎◌}
+use Rattle.heap_graph.specs.Heap.{class_named}
+use Rattle.heap_graph.specs.Layout.{NeverEnds}
+use Rattle.hprof_grammar.specs.SubRecord.{SubRecord}
 
--- what is wrong with the superclass identifier of a class
-unfoldable pub IsBadSuper : List SubRecord → ℕ → Type 0
-IsBadSuper heap super = super ≢ 0
-
--- the instances of a class with this chain of superclasses have to be as large as their layout
-unfoldable pub IsMeasured : List Class → Type 0
-IsMeasured chain = length chain ≡ 1
+-- What is wrong with the superclass identifier of a class: it is not 0 and names no class, or following superclasses
+-- never ends. A superclass that is missing further up is the fault of the class that names it.
+abbrev pub IsBadSuper : List SubRecord → ℕ → Type 0
+IsBadSuper heap super = ((super ≢ 0) × (class_named heap super ≡ None)) ⊎ NeverEnds heap super

@@ -11,3 +11,7 @@ pub mod HeldIds
 pub mod GrowingLinks
 pub mod Entries
 pub mod RuleAnswers
+pub mod ClassTable
+pub mod Chains
+pub mod ToldClasses
+pub mod TypedFields

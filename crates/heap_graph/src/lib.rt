@@ -1,6 +1,7 @@
 //! The objects of a heap dump: their references, roots, rows and bytes, and the rules that link them.
 #![tactic(auto)]
 
+mod classes;
 mod entry;
 mod fields;
 mod graph;

@@ -5,44 +5,26 @@ mod classes;
 pub(crate) mod entries;
 mod links;
 mod references;
+pub(crate) mod table;
 
 ghost use Rattle.hprof_grammar.specs.SubRecord.{SubRecord};
 ghost use Rattle.hprof_grammar.specs.Standing.{StandInTurn, Stands, id_of};
 ghost use Rattle.std.specs.Prelude.{IfOk, List, map, ◌≡◌};
 
+use crate::classes::{Classes, Fate};
 use crate::index::{Index, IndexBuilder};
-use hprof_grammar::{ObjectKind, View};
+use hprof_grammar::View;
 use std::alloc::{AllocError, Allocator};
 
-/// The places of the objects of a dump in the order of the file, and their identifiers.
+/// The places of the objects of a dump in the order of the file, their identifiers, and their classes.
 #[derive(Drop)]
 pub(crate) struct Objects<'d, A: Allocator> {
     pub(crate) view: View<'d>,
     pub(crate) places: &'d [u32],
     pub(crate) index: Index<A>,
-}
-
-impl<'d, A: Allocator> Objects<'d, A> {
-    ghost use Rattle.heap_graph.specs.working.PlacedObjects.{AreOf, IsClassAt};
-
-    /// The place of the class dump that an identifier names.
-    pub(crate) fn class_named(&self, id: u64) -> Option<u32>
-        requires { (heap : List SubRecord) × AreOf self.now heap }
-        ensures { (heap : List SubRecord) → AreOf self.now heap → IsClassAt self.now.view heap id result }
-    {
-        if id == 0 {
-            return None;
-        }
-        let number = match self.index.find(id) {
-            Some(number) => number,
-            None => return None,
-        };
-        let place = self.places[number as usize];
-        match self.view.kind(place) {
-            ObjectKind::Class => return Some(place),
-            _ => return None,
-        }
-    }
+    pub(crate) classes: Classes<'d, A>,
+    /// What becomes of the chain of each class.
+    pub(crate) fates: Vec<Fate, A>,
 }
 
 /// The identifiers of the objects or roots at these places.

@@ -1,5 +1,5 @@
 -- What is known while the references of linked objects are read.
-use Rattle.std.specs.Prelude.{List, Some, length, slice_get, ℕ, ◌++◌, ◌^◌, ◌≡◌, ◌≤◌}
+use Rattle.std.specs.Prelude.{List, Option, Some, length, slice_get, sum_by, ℕ, ◌++◌, ◌^◌, ◌≡◌, ◌≤◌}
 use Rattle.hprof_grammar.specs.SubRecord.{SubRecord}
 use Rattle.hprof_grammar.specs.Dump.{limit}
 use Rattle.hprof_grammar.specs.Standing.{Sight, Stands}
@@ -8,6 +8,9 @@ use Rattle.heap_graph.specs.Heap.{objects}
 use Rattle.heap_graph.specs.Linked.{IsLinked}
 use Rattle.heap_graph.specs.working.PlacedObjects.{AreObjects}
 use Rattle.heap_graph.specs.References.{AreIdsIn}
+use Rattle.heap_graph.specs.working.Chains.{IsFirst}
+use Rattle.heap_graph.specs.working.ClassTable.{ids_of}
+use Rattle.hprof_grammar.specs.Tables.{size_of}
 
 -- the objects stand at their places and are linked, and their identifiers have 1 to 8 bytes
 pub record AreLinked (v : Sight) (places ids : List ℕ) (heap : List SubRecord) : Type 0 where
@@ -37,3 +40,8 @@ pub record AddsIdsOf (s : ℕ) (heap : List SubRecord) (n : ℕ) (old new : List
   pub object : SubRecord
   pub is : slice_get (objects heap) n ≡ Some object
   pub adds : AddsIds s heap object old new
+
+-- the layout of these types begins at that class, and the values are as many bytes
+pub record IsLayoutFrom {A : Type 0} (o : Objects A) (heap : List SubRecord) (types : List ℕ) (first : Option ℕ) (values : List ℕ) : Type 0 where
+  pub begins : IsFirst heap (ids_of o.classes.table.entries) types first
+  pub room : sum_by (λ t. size_of o.view.id_size t) types ≤ length values

@@ -11,30 +11,42 @@ ghost use Rattle.heap_graph.specs.Refusal.{IfLinkFault};
 ghost use Rattle.heap_graph.specs.working.HeldIds.{AreLinkedOf};
 ghost use Rattle.heap_graph.specs.working.PlacedNames.{AreNamesOf};
 ghost use Rattle.heap_graph.specs.working.PlacedObjects.{AreOf, IsReadFrom};
+ghost use Rattle.heap_graph.specs.working.ToldClasses.{AreToldOf};
 
 use crate::graph::Graph;
 use crate::names::Names;
+use crate::objects::table::class_table;
 use crate::objects::{Objects, index_of, read_ids};
 use crate::rule::LinkRefusal;
 use hprof_grammar::{Dump, View, dump_is_placed, stands_within};
 use std::alloc::{AllocError, Allocator};
 
-/// The objects of a dump, by their identifiers.
+/// The objects of a dump, by their identifiers, and its classes.
 fn read_objects<'d, A: Allocator + Copy, B: Allocator>(
     alloc: A,
     bytes: &'d [u8],
     dump: &'d Dump<B>,
 ) -> Result<Objects<'d, A>, AllocError>
     requires { IsDumpOf bytes.now dump.now }
-    ensures { IfOk result (λ o. IsReadFrom o bytes.now dump.now) }
+    ensures objects { IfOk result (λ o. IsReadFrom o bytes.now dump.now) }
+    ensures told { IfOk result (λ o. (is : IsDumpOf bytes.now dump.now) → AreToldOf o (heap_of is.records)) }
 {
     dump_is_placed();
     let view = View::new(bytes, dump.id_size());
     let index = index_of(alloc, &view, dump.objects())?;
+    let classes = class_table(
+        alloc,
+        View::new(bytes, dump.id_size()),
+        dump.objects(),
+        &index,
+    )?;
+    let fates = classes.settle_all(alloc)?;
     Ok(Objects {
         view,
         places: dump.objects(),
         index,
+        classes,
+        fates,
     })
 }
 
@@ -46,8 +58,8 @@ impl<'a, A: Allocator + Copy> Graph<'a, A> {
         names: &Names<'a, '_>,
         root_places: &[u32],
     ) -> Result<Graph<'a, A>, AllocError>
-        requires { (records : List Record) × AreLinkedOf objects.now (heap_of records) × AreNamesOf names.now records × StandInTurn (Stands objects.now.view) root_places.now (filter is_root (heap_of records)) }
-        ensures { IfOk result (λ g. (records : List Record) → AreLinkedOf objects.now (heap_of records) → AreNamesOf names.now records → StandInTurn (Stands objects.now.view) root_places.now (filter is_root (heap_of records)) → IsGraphOf objects.now.view.id_size records g) }
+        requires { (records : List Record) × AreLinkedOf objects.now (heap_of records) × AreToldOf objects.now (heap_of records) × AreNamesOf names.now records × StandInTurn (Stands objects.now.view) root_places.now (filter is_root (heap_of records)) }
+        ensures { IfOk result (λ g. (records : List Record) → AreLinkedOf objects.now (heap_of records) → AreToldOf objects.now (heap_of records) → AreNamesOf names.now records → StandInTurn (Stands objects.now.view) root_places.now (filter is_root (heap_of records)) → IsGraphOf objects.now.view.id_size records g) }
     {
         stands_within();
         let classes = objects.classes(alloc, names)?;

@@ -1,12 +1,12 @@
 //! The rules that the objects of a dump are tested by.
 
-ghost use Rattle.std.specs.Prelude.{IfErr, List, OnOk, [], length, true, ◌<◌, ◌∷◌, ◌≡◌};
+ghost use Rattle.std.specs.Prelude.{IfErr, List, OnOk, length, true, ◌<◌, ◌≡◌};
 ghost use Rattle.hprof_grammar.specs.Dump.{is_object};
 ghost use Rattle.hprof_grammar.specs.Standing.{Stands};
 ghost use Rattle.hprof_grammar.specs.SubRecord.{Class, Instance, ObjectArray, SubRecord};
 ghost use Rattle.hprof_grammar.specs.SubRecord.SubRecord.{class_dump, instance_dump, object_array_dump};
 
-use crate::fields::size_together;
+use crate::classes::Fate;
 use crate::objects::Objects;
 use crate::rule::{LinkFault, LinkRule};
 use hprof_grammar::ObjectKind;
@@ -16,56 +16,59 @@ use std::alloc::Allocator;
 const MOST_OBJECTS: usize = 16_777_216;
 
 impl<'d, A: Allocator> Objects<'d, A> {
-    ghost use Rattle.heap_graph.specs.Layout.{layout_size};
     ghost use Rattle.heap_graph.specs.Linked.{IsLinked};
     ghost use Rattle.heap_graph.specs.working.PlacedObjects.{AreOf};
+    ghost use Rattle.heap_graph.specs.working.ToldClasses.{AreToldOf};
     ghost use Rattle.heap_graph.specs.working.RuleAnswers.{IsFaultOf, IsLateRule, IsLeastRule};
-
-    /// The bytes of an instance of a class that has no superclass.
-    fn own_size(&self, at: u32) -> u64
-        requires { (c : Class) × Stands self.now.view at (class_dump c) }
-        ensures { (c : Class) → Stands self.now.view at (class_dump c) → result ≡ layout_size self.now.view.id_size (c ∷ []) }
-    {
-        size_together(&self.view, self.view.members(at))
-    }
 
     /// The rule on superclasses, if a class dump breaks it.
     fn class_rule(&self, at: u32) -> Option<LinkRule>
-        requires { (c : Class) × Stands self.now.view at (class_dump c) }
-        ensures { (heap : List SubRecord) (c : Class) → Stands self.now.view at (class_dump c) → IsLateRule self.now.view.id_size heap (class_dump c) result }
+        requires object { (c : Class) × Stands self.now.view at (class_dump c) }
+        requires heap { (heap : List SubRecord) × AreToldOf self.now heap }
+        ensures { (heap : List SubRecord) (c : Class) → AreToldOf self.now heap → Stands self.now.view at (class_dump c) → IsLateRule self.now.view.id_size heap (class_dump c) result }
     {
-        if self.view.superclass(at) != 0 {
-            return Some(LinkRule::SuperChain);
+        let superclass = self.view.superclass(at);
+        if superclass == 0 {
+            return None;
         }
-        None
+        let number = match self.classes.find(superclass) {
+            Some(number) => number,
+            None => return Some(LinkRule::SuperChain),
+        };
+        match self.fates[number as usize] {
+            Fate::Endless => return Some(LinkRule::SuperChain),
+            _ => return None,
+        }
     }
 
     /// The first of the rules on the class and the size of an instance that it breaks.
     fn instance_rule(&self, at: u32) -> Option<LinkRule>
         requires object { (i : Instance) × Stands self.now.view at (instance_dump i) }
-        requires heap { (heap : List SubRecord) × AreOf self.now heap }
-        ensures { (heap : List SubRecord) (i : Instance) → AreOf self.now heap → Stands self.now.view at (instance_dump i) → IsLateRule self.now.view.id_size heap (instance_dump i) result }
+        requires heap { (heap : List SubRecord) × AreToldOf self.now heap }
+        ensures { (heap : List SubRecord) (i : Instance) → AreToldOf self.now heap → Stands self.now.view at (instance_dump i) → IsLateRule self.now.view.id_size heap (instance_dump i) result }
     {
-        let class = match self.class_named(self.view.instance_class(at)) {
-            Some(class) => class,
+        let number = match self.classes.find(self.view.instance_class(at)) {
+            Some(number) => number,
             None => return Some(LinkRule::UnknownClass),
         };
-        if self.view.superclass(class) != 0 {
-            return None;
+        match self.fates[number as usize] {
+            Fate::Whole(layout) => {
+                if layout.size != self.view.instance_values(at).len() as u64 {
+                    return Some(LinkRule::InstanceSize);
+                }
+                return None;
+            }
+            _ => return None,
         }
-        if self.own_size(class) != self.view.instance_values(at).len() as u64 {
-            return Some(LinkRule::InstanceSize);
-        }
-        None
     }
 
     /// The rule on the class of an object array, if it is broken.
     fn array_rule(&self, at: u32) -> Option<LinkRule>
         requires object { (a : ObjectArray) × Stands self.now.view at (object_array_dump a) }
-        requires heap { (heap : List SubRecord) × AreOf self.now heap }
-        ensures { (heap : List SubRecord) (a : ObjectArray) → AreOf self.now heap → Stands self.now.view at (object_array_dump a) → IsLateRule self.now.view.id_size heap (object_array_dump a) result }
+        requires heap { (heap : List SubRecord) × AreToldOf self.now heap }
+        ensures { (heap : List SubRecord) (a : ObjectArray) → AreToldOf self.now heap → Stands self.now.view at (object_array_dump a) → IsLateRule self.now.view.id_size heap (object_array_dump a) result }
     {
-        match self.class_named(self.view.array_class(at)) {
+        match self.classes.find(self.view.array_class(at)) {
             Some(_) => return None,
             None => return Some(LinkRule::UnknownClass),
         }
@@ -74,8 +77,8 @@ impl<'d, A: Allocator> Objects<'d, A> {
     /// The first of the rules on classes, superclasses and sizes that an object breaks.
     fn late_rule(&self, at: u32) -> Option<LinkRule>
         requires object { (o : SubRecord) × Stands self.now.view at o × (is_object o ≡ true) }
-        requires heap { (heap : List SubRecord) × AreOf self.now heap }
-        ensures { (heap : List SubRecord) (o : SubRecord) → AreOf self.now heap → Stands self.now.view at o → is_object o ≡ true → IsLateRule self.now.view.id_size heap o result }
+        requires heap { (heap : List SubRecord) × AreToldOf self.now heap }
+        ensures { (heap : List SubRecord) (o : SubRecord) → AreToldOf self.now heap → Stands self.now.view at o → is_object o ≡ true → IsLateRule self.now.view.id_size heap o result }
     {
         match self.view.kind(at) {
             ObjectKind::Class => return self.class_rule(at),
@@ -88,8 +91,8 @@ impl<'d, A: Allocator> Objects<'d, A> {
     /// The first rule that an object breaks.
     fn broken_rule(&self, number: usize) -> Option<LinkRule>
         requires below { number < length self.now.places.now }
-        requires heap { (heap : List SubRecord) × AreOf self.now heap }
-        ensures { (heap : List SubRecord) → AreOf self.now heap → IsLeastRule self.now.view.id_size heap number result }
+        requires heap { (heap : List SubRecord) × AreOf self.now heap × AreToldOf self.now heap }
+        ensures { (heap : List SubRecord) → AreOf self.now heap → AreToldOf self.now heap → IsLeastRule self.now.view.id_size heap number result }
     {
         let place = self.places[number];
         let id = self.view.object_id(place);
@@ -110,9 +113,9 @@ impl<'d, A: Allocator> Objects<'d, A> {
 
     /// Tests each object in turn, up to the first fault.
     pub(crate) fn check(&self) -> Result<(), LinkFault>
-        requires { (heap : List SubRecord) × AreOf self.now heap }
-        ensures linked { OnOk result ((heap : List SubRecord) → AreOf self.now heap → IsLinked self.now.view.id_size heap) }
-        ensures fault { IfErr result (λ f. (heap : List SubRecord) → AreOf self.now heap → IsFaultOf self.now.view.id_size heap self.now.places.now f) }
+        requires { (heap : List SubRecord) × AreOf self.now heap × AreToldOf self.now heap }
+        ensures linked { OnOk result ((heap : List SubRecord) → AreOf self.now heap → AreToldOf self.now heap → IsLinked self.now.view.id_size heap) }
+        ensures fault { IfErr result (λ f. (heap : List SubRecord) → AreOf self.now heap → AreToldOf self.now heap → IsFaultOf self.now.view.id_size heap self.now.places.now f) }
     {
         for number in 0..self.places.len() {
             if let Some(rule) = self.broken_rule(number) {

@@ -48,13 +48,14 @@ impl<B: Allocator> Links<B> {
 
 impl<'d, A: Allocator> Objects<'d, A> {
     ghost use Rattle.heap_graph.specs.working.HeldIds.{AreLinkedOf};
+    ghost use Rattle.heap_graph.specs.working.ToldClasses.{AreToldOf};
     ghost use Rattle.heap_graph.specs.working.GrowingLinks.{AreLinks};
 
     /// The references of all objects.
     pub(crate) fn links<B: Allocator + Copy>(&self, alloc: B) -> Result<Links<B>, AllocError>
         requires few { length self.now.places.now ≤ 2 ^ 24 }
-        requires heap { (heap : List SubRecord) × AreLinkedOf self.now heap }
-        ensures { IfOk result (λ links. (heap : List SubRecord) → AreLinkedOf self.now heap → AreLinks self.now.view.id_size heap (length self.now.places.now) links.cuts.items links.targets.items links.unresolved) }
+        requires heap { (heap : List SubRecord) × AreLinkedOf self.now heap × AreToldOf self.now heap }
+        ensures { IfOk result (λ links. (heap : List SubRecord) → AreLinkedOf self.now heap → AreToldOf self.now heap → AreLinks self.now.view.id_size heap (length self.now.places.now) links.cuts.items links.targets.items links.unresolved) }
     {
         let mut links = Links::new(alloc)?;
         let mut ids = Vec::new(alloc);

@@ -8,24 +8,25 @@ use Rattle.heap_graph.proofs.Building.{are_linked, are_names, has_fault, seen, t
 use Rattle.heap_graph.proofs.graph.Graph.build.Goals as goal
 
 pub check-requires : goal.check-requires
-check-requires g c = (heap_of c.requires.records, c.in-Ok.ensures.are c.requires)
+check-requires g c = (heap_of c.requires.records, c.in-Ok.ensures.objects.are c.requires, c.in-Ok.ensures.told c.requires)
 
 pub returns-in-Err-check-clause-fault : goal.returns-in-Err-check-clause-fault
-returns-in-Err-check-clause-fault g c = has_fault c.args.bytes.now c.args.dump c.requires c.in-Ok.objects.view.id_size c.in-Ok.objects.places.now c.in-Err-check.fault c.in-Ok.ensures.size_is c.in-Ok.ensures.places_are (c.in-Err-check.ensures.fault (heap_of c.requires.records) (c.in-Ok.ensures.are c.requires))
+returns-in-Err-check-clause-fault g c = has_fault c.args.bytes.now c.args.dump c.requires c.in-Ok.objects.view.id_size c.in-Ok.objects.places.now c.in-Err-check.fault c.in-Ok.ensures.objects.size_is c.in-Ok.ensures.objects.places_are (c.in-Err-check.ensures.fault (heap_of c.requires.records) (c.in-Ok.ensures.objects.are c.requires) (c.in-Ok.ensures.told c.requires))
 
 pub assemble-requires : goal.assemble-requires
 assemble-requires g c =
     let placed : IsPlaced c.args.bytes.now c.args.dump c.requires.records = c.dump_is_placed.ensures c.args.bytes.now c.args.dump c.requires in (
       c.requires.records,
-      are_linked c.args.bytes.now c.args.dump c.requires c.in-Ok.objects.view c.in-Ok.objects.places.now c.in-Ok.objects.index c.in-Ok.ensures.bytes_are c.in-Ok.ensures.size_is (c.in-Ok.ensures.are c.requires) (c.in_default.ensures.linked (heap_of c.requires.records) (c.in-Ok.ensures.are c.requires)),
+      are_linked c.args.bytes.now c.args.dump c.requires c.in-Ok.objects.view c.in-Ok.objects.places.now c.in-Ok.objects.index c.in-Ok.ensures.objects.bytes_are c.in-Ok.ensures.objects.size_is (c.in-Ok.ensures.objects.are c.requires) (c.in_default.ensures.linked (heap_of c.requires.records) (c.in-Ok.ensures.objects.are c.requires) (c.in-Ok.ensures.told c.requires)),
+      c.in-Ok.ensures.told c.requires,
       are_names c.args.bytes.now c.args.dump c.requires c.new.result c.strings.result.now c.loaded.result.now c.new.ensures.bytes (c.new.ensures.size ∙ c.id_size.ensures) c.strings.ensures c.loaded.ensures placed,
-      seen c.in-Ok.objects.view c.args.bytes.now c.args.dump.id_size c.roots.result.now c.args.dump.roots (filter is_root (heap_of c.requires.records)) c.in-Ok.ensures.bytes_are c.in-Ok.ensures.size_is c.roots.ensures placed.roots,
+      seen c.in-Ok.objects.view c.args.bytes.now c.args.dump.id_size c.roots.result.now c.args.dump.roots (filter is_root (heap_of c.requires.records)) c.in-Ok.ensures.objects.bytes_are c.in-Ok.ensures.objects.size_is c.roots.ensures placed.roots,
     )
 
 pub returns-in-Ok-assemble-clause-graph : goal.returns-in-Ok-assemble-clause-graph
 returns-in-Ok-assemble-clause-graph g c =
     let placed : IsPlaced c.args.bytes.now c.args.dump c.requires.records = c.dump_is_placed.ensures c.args.bytes.now c.args.dump c.requires in
-    let linked : AreLinked c.in-Ok.objects.view c.in-Ok.objects.places.now c.in-Ok.objects.index (heap_of c.requires.records) = are_linked c.args.bytes.now c.args.dump c.requires c.in-Ok.objects.view c.in-Ok.objects.places.now c.in-Ok.objects.index c.in-Ok.ensures.bytes_are c.in-Ok.ensures.size_is (c.in-Ok.ensures.are c.requires) (c.in_default.ensures.linked (heap_of c.requires.records) (c.in-Ok.ensures.are c.requires)) in
+    let linked : AreLinked c.in-Ok.objects.view c.in-Ok.objects.places.now c.in-Ok.objects.index (heap_of c.requires.records) = are_linked c.args.bytes.now c.args.dump c.requires c.in-Ok.objects.view c.in-Ok.objects.places.now c.in-Ok.objects.index c.in-Ok.ensures.objects.bytes_are c.in-Ok.ensures.objects.size_is (c.in-Ok.ensures.objects.are c.requires) (c.in_default.ensures.linked (heap_of c.requires.records) (c.in-Ok.ensures.objects.are c.requires) (c.in-Ok.ensures.told c.requires)) in
     let names : AreNames c.new.result c.strings.result.now c.loaded.result.now c.requires.records = are_names c.args.bytes.now c.args.dump c.requires c.new.result c.strings.result.now c.loaded.result.now c.new.ensures.bytes (c.new.ensures.size ∙ c.id_size.ensures) c.strings.ensures c.loaded.ensures placed in
-    text_graph c.args.bytes.now c.args.dump c.requires c.in-Ok.objects.view.id_size c.in-Ok-assemble.graph c.in-Ok.ensures.size_is linked.linked
-    (c.in-Ok-assemble.ensures c.requires.records linked names (seen c.in-Ok.objects.view c.args.bytes.now c.args.dump.id_size c.roots.result.now c.args.dump.roots (filter is_root (heap_of c.requires.records)) c.in-Ok.ensures.bytes_are c.in-Ok.ensures.size_is c.roots.ensures placed.roots))
+    text_graph c.args.bytes.now c.args.dump c.requires c.in-Ok.objects.view.id_size c.in-Ok-assemble.graph c.in-Ok.ensures.objects.size_is linked.linked
+    (c.in-Ok-assemble.ensures c.requires.records linked (c.in-Ok.ensures.told c.requires) names (seen c.in-Ok.objects.view c.args.bytes.now c.args.dump.id_size c.roots.result.now c.args.dump.roots (filter is_root (heap_of c.requires.records)) c.in-Ok.ensures.objects.bytes_are c.in-Ok.ensures.objects.size_is c.roots.ensures placed.roots))

@@ -1,13 +1,17 @@
-use Rattle.std.proofs.Common.{Some, None, subst, ◌≡◌, ℕ}
+use Rattle.std.proofs.Common.{None, Some, subst, sym, ◌≡◌, ℕ}
 use Rattle.heap_graph.specs.Heap.{class_named}
-use Rattle.heap_graph.specs.working.PlacedObjects.{IsClassAt}
-use Rattle.heap_graph.proofs.Testing.{array_fine, array_unknown}
+use Rattle.heap_graph.specs.working.ClassTable.{ids_of}
+use Rattle.heap_graph.proofs.ClassTableLaws.{not_found}
+use Rattle.heap_graph.proofs.RuleLaws.{IsFateFound, array_fine, array_unknown, fate_found}
 use Rattle.heap_graph.proofs.objects.Objects.array_rule.Goals as goal
 
+pub find-requires : goal.find-requires
+find-requires g c = c.requires.heap.1.few
+
 pub returns-in-Some : goal.returns-in-Some
-returns-in-Some g c = λ heap a are st.
-    let it : IsClassAt c.args.self.now.view heap a.class (Some c.in-Some.field-0) = subst (λ (id : ℕ). IsClassAt c.args.self.now.view heap id (Some c.in-Some.field-0)) (c.array_class.ensures a st) (c.in-Some.ensures heap are) in
-    array_fine c.args.self.now.view.id_size heap a it.0 it.1
+returns-in-Some g c = λ heap a told st.
+    let it : IsFateFound c.args.self.now.view.id_size heap (ids_of c.args.self.now.classes.table.entries) c.args.self.now.fates.items c.array_class.result c.in-Some.field-0 = fate_found c.args.self.now.view heap c.args.self.now.classes.table.entries c.args.self.now.classes.types.items c.args.self.now.fates.items c.array_class.result c.in-Some.field-0 told (sym c.in-Some.ensures) in
+    array_fine c.args.self.now.view.id_size heap a it.class (subst (λ (id : ℕ). class_named heap id ≡ Some it.class) (c.array_class.ensures a st) it.named)
 
 pub returns-in-None : goal.returns-in-None
-returns-in-None g c = λ heap a are st. array_unknown c.args.self.now.view.id_size heap a (subst (λ (id : ℕ). class_named heap id ≡ None) (c.array_class.ensures a st) (c.in-None.ensures heap are))
+returns-in-None g c = λ heap a told st. array_unknown c.args.self.now.view.id_size heap a (subst (λ (id : ℕ). class_named heap id ≡ None) (c.array_class.ensures a st) (not_found c.args.self.now.view heap c.args.self.now.classes.table.entries c.args.self.now.classes.types.items c.array_class.result told.classes (sym c.in-None.ensures)))

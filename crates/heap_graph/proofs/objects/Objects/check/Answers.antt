@@ -5,19 +5,19 @@ use Rattle.heap_graph.proofs.Testing.{none_before}
 use Rattle.heap_graph.proofs.objects.Objects.check.Goals as goal
 
 pub loop-number-init : goal.loop-number-init
-loop-number-init g c = λ heap are k rule h f. omega (arith, h)
+loop-number-init g c = λ heap are told k rule h f. omega (arith, h)
 
 pub returns-in-Some-clause-fault : goal.returns-in-Some-clause-fault
-returns-in-Some-clause-fault g c = λ heap are. record {
+returns-in-Some-clause-fault g c = λ heap are told. record {
   number = c.loop-number.number;
   rule = c.in-Some.rule;
-  first = record { here = c.in-Some.ensures heap are; first = λ before other h f. c.loop-number.invariant heap are before other h f };
+  first = record { here = c.in-Some.ensures heap are told; first = λ before other h f. c.loop-number.invariant heap are told before other h f };
   code_is = c.code.ensures;
   place_is = slice_get-get_or c.args.self.now.places.now c.loop-number.number 0 c.loop-number-test.true ∙ ap (λ (n : ℕ). Some n) (sym c.from.ensures);
 }
 
 pub loop-number-preserved : goal.loop-number-preserved
-loop-number-preserved g c = λ heap are. none_before c.args.self.now.view.id_size heap c.loop-number.number (c.loop-number.invariant heap are) (c.in_default.ensures heap are)
+loop-number-preserved g c = λ heap are told. none_before c.args.self.now.view.id_size heap c.loop-number.number (c.loop-number.invariant heap are told) (c.in_default.ensures heap are told)
 
 pub returns-clause-linked : goal.returns-clause-linked
-returns-clause-linked g c = λ heap are n rule f. c.loop-number.invariant heap are n rule (omega (arith, number_below c.args.self.now.view c.args.self.now.places.now c.args.self.now.index heap n f.0 are f.1)) f
+returns-clause-linked g c = λ heap are told n rule f. c.loop-number.invariant heap are told n rule (omega (arith, number_below c.args.self.now.view c.args.self.now.places.now c.args.self.now.index heap n f.0 are f.1)) f

@@ -3,7 +3,8 @@ use Rattle.hprof_grammar.specs.SubRecord.{SubRecord}
 use Rattle.heap_graph.specs.declared.rule.LinkRule.{LinkRule}
 use Rattle.heap_graph.specs.Linked.{Fails}
 use Rattle.heap_graph.specs.working.PlacedObjects.{AreOf}
+use Rattle.heap_graph.specs.working.ToldClasses.{AreToldOf}
 use Rattle.heap_graph.proofs.objects.Objects.check.Given as goal
 
 abbrev pub invariant-loop-number : goal.invariant-loop-number
-invariant-loop-number g l = (heap : List SubRecord) → AreOf l.self heap → (k : ℕ) (rule : LinkRule) → k < l.number → Fails l.self.view.id_size heap k rule → ⊥
+invariant-loop-number g l = (heap : List SubRecord) → AreOf l.self heap → AreToldOf l.self heap → (k : ℕ) (rule : LinkRule) → k < l.number → Fails l.self.view.id_size heap k rule → ⊥

@@ -1,0 +1,149 @@
+-- What the table of classes says of one class, and how it grows.
+use Rattle.std.proofs.Common.{Bool, Contains, List, None, Option, Some, [], ap, arith, cond, false, length, map, not, refl, slice_get, subst, suc, sym, true, zero, ℕ, ◌+◌, ◌<◌, ◌^◌, ◌++◌, ◌∙◌, ◌∷◌, ◌≡◌, ◌≤◌}
+use Rattle.std.specs.Prelude.{if◌then◌else◌, nat_eq, position, slice_index, slice_index_or, slice_range, ◌==◌}
+use Rattle.std.specs.List.{position_or_len}
+use Rattle.std.proofs.lemmas.Bool.{eq-eqb, eqb-true, ne_eqb}
+use Rattle.std.proofs.lemmas.List.{length-map}
+use Rattle.std.proofs.lemmas.Option.{get_or_from_slice_get}
+use Rattle.std.proofs.lemmas.List.Elements.{Contains-append_right}
+use Rattle.indexmap.specs.IndexMap.{insert_entry}
+use Rattle.hprof_grammar.specs.Standing.{Sight, Stands}
+use Rattle.hprof_grammar.specs.SubRecord.{Class, Member, SubRecord}
+use Rattle.hprof_grammar.specs.SubRecord.SubRecord.{class_dump}
+use Rattle.heap_graph.specs.Heap.{class_named}
+use Rattle.heap_graph.specs.working.Chains.{IsUnder}
+use Rattle.heap_graph.specs.working.ClassTable.{AreClasses, Entry, IsEntry, ids_of, own_types}
+use Rattle.heap_graph.specs.declared.classes.ClassPlaces.{ClassPlaces}
+use Rattle.heap_graph.proofs.Firsts.{IsHit, position_hit, position_past}
+
+-- the class of a number
+pub record IsNumbered (v : Sight) (heap : List SubRecord) (entries : List Entry) (types : List ℕ) (k : ℕ) : Type 0 where
+  pub entry : Entry
+  pub is : slice_get entries k ≡ Some entry
+  pub id_is : slice_index (ids_of entries) k ≡ entry.0
+  pub holds : IsEntry v heap types entry
+
+there_is : {X : Type 0} (xs : List X) (k : ℕ) → k < length xs → (x : X) × (slice_get xs k ≡ Some x)
+there_is [] k h = absurd (omega (arith, h))
+there_is (x ∷ xs) zero h = (x, refl)
+there_is (x ∷ xs) (suc k) h = there_is xs k (omega (arith, h))
+
+id_at : (entries : List Entry) (k : ℕ) (e : Entry) → slice_get entries k ≡ Some e → slice_index (ids_of entries) k ≡ e.0
+id_at [] k e is = absurd (let wrong : None ≡ Some e = is in cc)
+id_at (x ∷ xs) zero e is = let same : x ≡ e = cc in ap (λ (y : Entry). y.0) same
+id_at (x ∷ xs) (suc k) e is = id_at xs k e is
+
+pub numbered : (v : Sight) (heap : List SubRecord) (entries : List Entry) (types : List ℕ) (k : ℕ) → AreClasses v heap entries types → k < length entries → IsNumbered v heap entries types k
+numbered v heap entries types k are h =
+    let it = there_is entries k h in
+    record { entry = it.0; is = it.1; id_is = id_at entries k it.0 it.1; holds = are.each k it.0 it.1 }
+
+pub same_count : (entries : List Entry) → length (ids_of entries) ≡ length entries
+same_count entries = length-map entries (λ (e : Entry). e.0)
+
+pub named_at : (v : Sight) (heap : List SubRecord) (entries : List Entry) (types : List ℕ) (k : ℕ) (it : IsNumbered v heap entries types k) → class_named heap (slice_index (ids_of entries) k) ≡ Some it.holds.class
+named_at v heap entries types k it = ap (λ (id : ℕ). class_named heap id) it.id_is ∙ it.holds.named
+
+-- what a class of the table has above it
+pub under : (v : Sight) (heap : List SubRecord) (entries : List Entry) (types : List ℕ) (k : ℕ) (it : IsNumbered v heap entries types k) → k < length entries → IsUnder heap (ids_of entries) k it.holds.class.super
+under v heap entries types k it h = record { class = it.holds.class; below = omega (arith, same_count entries, h); named = named_at v heap entries types k it; super_is = refl }
+
+some_inj : {X : Type 0} {x y : X} → Some x ≡ Some y → x ≡ y
+some_inj {X} {x} {y} e = cc
+
+-- and it is the class of that number, however it is told
+pub same_class : (v : Sight) (heap : List SubRecord) (entries : List Entry) (types : List ℕ) (k : ℕ) (c : Class) (it : IsNumbered v heap entries types k) → class_named heap (slice_index (ids_of entries) k) ≡ Some c → it.holds.class ≡ c
+same_class v heap entries types k c it named = some_inj (sym (named_at v heap entries types k it) ∙ named)
+
+-- ---- what a look-up finds
+
+pub record IsFound (ids : List ℕ) (id k : ℕ) : Type 0 where
+  pub below : k < length ids
+  pub is : slice_index ids k ≡ id
+
+pub found : (ids : List ℕ) (id k : ℕ) → position (λ x. x == id) ids ≡ Some k → IsFound ids id k
+found ids id k e =
+    let hit : IsHit (λ x. x == id) ids k = position_hit (λ x. x == id) ids k e in
+    record { below = hit.below; is = get_or_from_slice_get ids k hit.what 0 hit.here ∙ eqb-true hit.what id hit.passes }
+
+passed : (ids : List ℕ) (id x n : ℕ) (b : Bool) → (x == id) ≡ b → n < length ids → cond (not b) (1 + n) 0 < length (x ∷ ids)
+passed ids id x n true e h = omega arith
+passed ids id x n false e h = omega (arith, h)
+
+before_end : (ids : List ℕ) (id k : ℕ) → k < length ids → slice_index ids k ≡ id → position_or_len (λ x. x == id) ids < length ids
+before_end [] id k h e = absurd (omega (arith, h))
+before_end (x ∷ ids) id zero h e = subst (λ (b : Bool). cond (not b) (1 + position_or_len (λ y. y == id) ids) 0 < length (x ∷ ids)) (sym (eq-eqb x id e)) (omega arith)
+before_end (x ∷ ids) id (suc k) h e = passed ids id x (position_or_len (λ y. y == id) ids) (x == id) refl (before_end ids id k (omega (arith, h)) e)
+
+pub not_there : (ids : List ℕ) (id : ℕ) → position (λ x. x == id) ids ≡ None → Contains ids id → ⊥
+not_there ids id none c = omega (arith, before_end ids id c.0 c.1 (at_place ids id c.0 c.1 c.2), position_past (λ x. x == id) ids (sym none))
+  where
+    at_place : (xs : List ℕ) (id k : ℕ) → k < length xs → slice_index_or xs k id ≡ id → slice_index xs k ≡ id
+    at_place [] id k h e = absurd (omega (arith, h))
+    at_place (x ∷ xs) id zero h e = e
+    at_place (x ∷ xs) id (suc k) h e = at_place xs id k (omega (arith, h)) e
+
+no_class : (heap : List SubRecord) (id : ℕ) (o : Option Class) → class_named heap id ≡ o → ((c : Class) → class_named heap id ≡ Some c → ⊥) → class_named heap id ≡ None
+no_class heap id None e none = e
+no_class heap id (Some c) e none = absurd (none c e)
+
+pub not_found : (v : Sight) (heap : List SubRecord) (entries : List Entry) (types : List ℕ) (id : ℕ) → AreClasses v heap entries types → position (λ x. x == id) (ids_of entries) ≡ None → class_named heap id ≡ None
+not_found v heap entries types id are none = no_class heap id (class_named heap id) refl (λ c named. not_there (ids_of entries) id none (are.complete id c named))
+
+-- ---- what is read of a class
+
+-- these are the places of that entry
+abbrev pub AreEntryOf : List Entry → ℕ → ClassPlaces → Type 0
+AreEntryOf entries k places = (e : Entry) → slice_get entries k ≡ Some e → places ≡ e.1
+
+pub stands_at : (v : Sight) (heap : List SubRecord) (entries : List Entry) (types : List ℕ) (k : ℕ) (places : ClassPlaces) → AreClasses v heap entries types → k < length entries → AreEntryOf entries k places
+    → (c : Class) × Stands v places.place (class_dump c)
+stands_at v heap entries types k places are h read =
+    let it : IsNumbered v heap entries types k = numbered v heap entries types k are h in
+    (it.holds.class, subst (λ (p : ClassPlaces). Stands v p.place (class_dump it.holds.class)) (sym (read it.entry it.is)) it.holds.stands)
+
+pub read_super : (v : Sight) (heap : List SubRecord) (entries : List Entry) (types : List ℕ) (k : ℕ) (places : ClassPlaces) (super got : ℕ) → AreClasses v heap entries types → k < length entries → AreEntryOf entries k places
+    → IsUnder heap (ids_of entries) k super → ((c : Class) → Stands v places.place (class_dump c) → got ≡ c.super) → got ≡ super
+read_super v heap entries types k places super got are h read under says =
+    let it : IsNumbered v heap entries types k = numbered v heap entries types k are h in
+    let same : it.holds.class ≡ under.class = same_class v heap entries types k under.class it under.named in
+    says it.holds.class (subst (λ (p : ClassPlaces). Stands v p.place (class_dump it.holds.class)) (sym (read it.entry it.is)) it.holds.stands)
+    ∙ ap (λ (c : Class). c.super) same ∙ under.super_is
+
+pub record HasTypes (entries : List Entry) (types : List ℕ) (places : ClassPlaces) (c : Class) : Type 0 where
+  pub rising : places.start ≤ places.end
+  pub within : places.end ≤ length types
+  pub types_are : slice_range types places.start places.end ≡ own_types c
+
+pub has_types : (v : Sight) (heap : List SubRecord) (entries : List Entry) (types : List ℕ) (k : ℕ) (places : ClassPlaces) (c : Class) → AreClasses v heap entries types → k < length entries → AreEntryOf entries k places
+    → class_named heap (slice_index (ids_of entries) k) ≡ Some c → HasTypes entries types places c
+has_types v heap entries types k places c are h read named =
+    let it : IsNumbered v heap entries types k = numbered v heap entries types k are h in
+    let same : it.holds.class ≡ c = same_class v heap entries types k c it named in
+    subst (λ (p : ClassPlaces). HasTypes entries types p c) (sym (read it.entry it.is))
+    (record { rising = it.holds.rising; within = it.holds.within; types_are = it.holds.types_are ∙ ap (λ (d : Class). own_types d) same })
+
+pub few_types : (v : Sight) (heap : List SubRecord) (entries : List Entry) (types : List ℕ) (k : ℕ) (c : Class) → AreClasses v heap entries types → k < length entries → class_named heap (slice_index (ids_of entries) k) ≡ Some c → length (own_types c) < 2 ^ 16
+few_types v heap entries types k c are h named =
+    let it : IsNumbered v heap entries types k = numbered v heap entries types k are h in
+    let same : it.holds.class ≡ c = same_class v heap entries types k c it named in
+    let few : length it.holds.class.members < 256 ^ 2 = it.holds.stands.is.formed.1.member_count in
+    let count : length (own_types c) ≡ length it.holds.class.members = ap (λ (d : Class). length (own_types d)) (sym same) ∙ length-map it.holds.class.members (λ (m : Member). m.type) in
+    omega (arith, few, count)
+
+-- of some class, where only the table is known
+pub types_there : (v : Sight) (heap : List SubRecord) (entries : List Entry) (types : List ℕ) (k : ℕ) (places : ClassPlaces) → AreClasses v heap entries types → k < length entries → AreEntryOf entries k places → (c : Class) × HasTypes entries types places c
+types_there v heap entries types k places are h read =
+    let it : IsNumbered v heap entries types k = numbered v heap entries types k are h in
+    (it.holds.class, has_types v heap entries types k places it.holds.class are h read (named_at v heap entries types k it))
+
+-- a new identifier goes last
+insert_if : (e : Entry) (es : List Entry) (id : ℕ) (p : ClassPlaces) (b : Bool) → nat_eq id e.0 ≡ b → b ≡ false → insert_entry nat_eq es id p ≡ es ++ (id, p) ∷ [] → (if b then (e.0, p) ∷ es else e ∷ insert_entry nat_eq es id p) ≡ (e ∷ es) ++ (id, p) ∷ []
+insert_if e es id p true is f rest = absurd (cc f)
+insert_if e es id p false is f rest = ap (λ (xs : List Entry). e ∷ xs) rest
+
+pub insert_last : (es : List Entry) (id : ℕ) (p : ClassPlaces) → (Contains (ids_of es) id → ⊥) → insert_entry nat_eq es id p ≡ es ++ (id, p) ∷ []
+insert_last [] id p new = refl
+insert_last (e ∷ es) id p new =
+    insert_if e es id p (nat_eq id e.0) refl (ne_eqb id e.0 (λ same. new (0, omega arith, sym same)))
+    (insert_last es id p (λ c. new (Contains-append_right (e.0 ∷ []) (ids_of es) id c)))

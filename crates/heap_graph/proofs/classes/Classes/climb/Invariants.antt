@@ -1,0 +1,14 @@
+use Rattle.std.proofs.Common.{List, count_by, length, ◌<◌, ◌≡◌}
+use Rattle.hprof_grammar.specs.SubRecord.{SubRecord}
+use Rattle.heap_graph.specs.working.ClassTable.{AreClassesOf}
+use Rattle.heap_graph.specs.working.Chains.{DoesStay, IsClimbOf, is_unknown}
+use Rattle.heap_graph.proofs.classes.Classes.climb.Given as goal
+
+abbrev pub invariant-up : goal.invariant-up
+invariant-up g l = record {
+  stays : DoesStay l.initial.known l.known;
+  climbs : (heap : List SubRecord) → AreClassesOf l.self heap → IsClimbOf l.self heap l.fn.first l.initial.path.items l.initial.known l.fn.first → IsClimbOf l.self heap l.fn.first l.path.items l.known l.at;
+}
+
+abbrev pub decreases-up : goal.decreases-up
+decreases-up g l = count_by is_unknown l.known

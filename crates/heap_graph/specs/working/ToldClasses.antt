@@ -1,0 +1,16 @@
+-- What is told of the classes of a dump: their table and their fates.
+use Rattle.std.specs.Prelude.{List, length, ℕ, ◌<◌, ◌^◌}
+use Rattle.hprof_grammar.specs.Standing.{Sight}
+use Rattle.hprof_grammar.specs.SubRecord.{SubRecord}
+use Rattle.heap_graph.specs.declared.classes.fate.Fate.{Fate}
+use Rattle.heap_graph.specs.declared.objects.Objects.{Objects}
+use Rattle.heap_graph.specs.working.Chains.{AreSettled}
+use Rattle.heap_graph.specs.working.ClassTable.{AreClasses, Entry, ids_of}
+
+pub record AreTold (v : Sight) (heap : List SubRecord) (entries : List Entry) (types : List ℕ) (fates : List Fate) : Type 0 where
+  pub classes : AreClasses v heap entries types
+  pub settled : AreSettled v.id_size heap (ids_of entries) fates
+  pub few : length entries < 2 ^ 32
+
+abbrev pub AreToldOf : {A : Type 0} → Objects A → List SubRecord → Type 0
+AreToldOf o heap = AreTold o.view heap o.classes.table.entries o.classes.types.items o.fates.items

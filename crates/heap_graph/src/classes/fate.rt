@@ -1,0 +1,27 @@
+//! What becomes of a class's chain of superclasses.
+
+/// The layout of the instances of a class.
+#[derive(Clone, Copy)]
+pub(crate) struct Layout {
+    /// Its bytes. Sizes from 2^32 on are told as 2^32: no instance has so many.
+    pub(crate) size: u64,
+    /// The first class that declares fields, of the class and the classes above it.
+    pub(crate) first: Option<u32>,
+    /// The first of the classes above it that declares fields.
+    pub(crate) next: Option<u32>,
+}
+
+/// What is known of a class's chain of superclasses.
+#[derive(Clone, Copy)]
+pub(crate) enum Fate {
+    /// Nothing yet.
+    Unknown,
+    /// It is being followed.
+    OnPath,
+    /// It ends at a class without a superclass.
+    Whole(Layout),
+    /// It ends at a superclass that is not there.
+    Broken,
+    /// It comes back, and never ends.
+    Endless,
+}
