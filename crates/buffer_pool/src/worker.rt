@@ -20,3 +20,15 @@ impl<A: Allocator> Model for Worker<A> {
 
     ghost invariant = { λ w. IsSound w.seat.table_id w.seat.me };
 }
+
+impl<A: Allocator> Worker<A> {
+    ghost use Rattle.buffer_pool.specs.Laid.{IsWithin};
+
+    /// What each worker keeps, said of this one: the buffers that it holds are the pool's, and what it answers for are
+    /// objects. Nothing is done.
+    pub fn stays_within(&self)
+        ensures { IsWithin self.now.book.setup self.now.book.account }
+    {
+        let _seat = &self.seat;
+    }
+}

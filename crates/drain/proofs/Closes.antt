@@ -1,5 +1,5 @@
 -- The marks at the close are exactly at the reachable objects.
-use Rattle.std.proofs.Common.{◌≡◌, ◌↔◌, ℕ, zero, suc, ◌<◌, ◌≤◌, List, [], ◌∷◌, map, slice_index, Contains, ap, sym, subst, ◌∙◌, leb-true, le-leb, arith}
+use Rattle.std.proofs.Common.{◌≡◌, ◌↔◌, false, ℕ, zero, suc, ◌<◌, ◌≤◌, List, [], ◌∷◌, map, slice_index, Contains, ap, sym, subst, ◌∙◌, leb-true, le-leb, arith}
 use Rattle.std.proofs.lemmas.Bool.{false≢true}
 use Rattle.std.proofs.lemmas.List.{length-map}
 use Rattle.mark_core.specs.World.{Setup}
@@ -10,11 +10,10 @@ use Rattle.buffer_pool.specs.Book.{Book, new_book}
 use Rattle.buffer_pool.specs.Calls.{Holder}
 use Rattle.buffer_pool.specs.Closing.{Ends}
 use Rattle.drain.specs.Marks.{is_set}
-use Rattle.drain.specs.Pairs.{pairs_of}
-use Rattle.drain.specs.Working.{HasTakenIn, IsSetupOf}
+use Rattle.drain.specs.working.Pairs.{pairs_of}
+use Rattle.drain.specs.working.AtWork.{IsSetupOf, SawRoots}
 use Rattle.drain.proofs.Exact.{exactly_reachable, next_reachable, root_reachable}
 use Rattle.drain.proofs.Pairs.{pair_is_reference}
-use Rattle.drain.proofs.RootParts.{all_parts}
 
 -- a mark that is set is at least that of a claimed object
 pub marked_where_set : (marks : List ℕ) (o : ℕ) → IsMarked (map is_set marks) o ↔ (1 ≤ slice_index marks o)
@@ -39,9 +38,9 @@ module _ (g : ObjectGraph) (e : Setup) (setup : IsSetupOf (object_count g) g.roo
   path_there (p ∷ back) o leads =
       next_reachable (IsRootOf g) (IsReferenceOf g) p o (path_there back p leads.1) ((pair_is_reference g p o).1 (subst (λ (ps : List (ℕ × ℕ)). Contains ps (p, o)) setup.pairs leads.0))
 
-  pub exactly_marked : (workers : ℕ) (w : Holder) (marks : List ℕ) → 0 < workers → HasTakenIn workers workers e w → Ends w.book marks → MarksReachableOf g (map is_set marks)
-  exactly_marked workers w marks some taken ends = record {
-    one_each = length-map marks is_set ∙ ends.count ∙ ap (λ (s : Setup). s.objects) taken.setup ∙ setup.objects;
+  pub exactly_marked : (w : Holder) (marks : List ℕ) → w.book.setup ≡ e → w.book.account.open_push ≡ false → SawRoots w → Ends w.book marks → MarksReachableOf g (map is_set marks)
+  exactly_marked w marks made closed_push saw ends = record {
+    one_each = length-map marks is_set ∙ ends.count ∙ ap (λ (s : Setup). s.objects) made ∙ setup.objects;
     exact = λ o.
         let both = exactly_reachable (IsRootOf g) (IsReferenceOf g) holds closed roots sound o in
         (λ h. both.0 ((marked_where_set marks o).0 h), λ h. (marked_where_set marks o).1 (both.1 h));
@@ -53,13 +52,13 @@ module _ (g : ObjectGraph) (e : Setup) (setup : IsSetupOf (object_count g) g.roo
       closed : (a b : ℕ) → holds a → IsReferenceOf g a b → holds b
       closed a b here refers =
           let pair : Contains (pairs_of g) (a, b) = (pair_is_reference g a b).0 refers in
-          let there : Contains w.book.setup.pairs (a, b) = subst (λ (ps : List (ℕ × ℕ)). Contains ps (a, b)) (sym (ap (λ (s : Setup). s.pairs) taken.setup ∙ setup.pairs)) pair in
-          ends.successors a b (ends.emptied taken.open_push a here) there
+          let there : Contains w.book.setup.pairs (a, b) = subst (λ (ps : List (ℕ × ℕ)). Contains ps (a, b)) (sym (ap (λ (s : Setup). s.pairs) made ∙ setup.pairs)) pair in
+          ends.successors a b (ends.emptied closed_push a here) there
 
       roots : (o : ℕ) → IsRootOf g o → holds o
       roots o root =
-          let there : Contains w.book.setup.roots o = subst (λ (rs : List ℕ). Contains rs o) (sym (ap (λ (s : Setup). s.roots) taken.setup ∙ setup.roots)) root in
-          ends.seen o (all_parts workers w some taken.saw o there)
+          let there : Contains w.book.setup.roots o = subst (λ (rs : List ℕ). Contains rs o) (sym (ap (λ (s : Setup). s.roots) made ∙ setup.roots)) root in
+          ends.seen o (saw o there)
 
       sound : (o : ℕ) → holds o → IsReachable (IsRootOf g) (IsReferenceOf g) o
-      sound o here = let path = subst (λ (s : Setup). colours.IsReachable s o) taken.setup (ends.reachable o here) in path_there path.0 o path.1
+      sound o here = let path = subst (λ (s : Setup). colours.IsReachable s o) made (ends.reachable o here) in path_there path.0 o path.1

@@ -1,12 +1,10 @@
-pub mod Claims
+pub mod AtHand
 pub mod Closes
 pub mod Counts
+pub mod Each
 pub mod Exact
-pub mod Few
-pub mod Joins
-pub mod Numbered
+pub mod Leading
 pub mod OneMarking
+pub mod Outcomes
 pub mod Pairs
-pub mod RootParts
 pub mod Runs
-pub mod Scans

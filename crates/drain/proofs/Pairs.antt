@@ -3,7 +3,7 @@ use Rattle.std.proofs.Common.{◌≡◌, ◌↔◌, ◌⊎◌, ℕ, zero, suc, �
 use Rattle.std.proofs.lemmas.List.{get_or-map, length-map}
 use Rattle.std.proofs.lemmas.List.Elements.{All-contains, All-from_get_or, Contains-append_cases, Contains-append_left, Contains-append_right, Contains-get_or}
 use Rattle.heap_graph.specs.ObjectGraph.{IsWhole, ObjectGraph, object_count, references_of}
-use Rattle.drain.specs.Pairs.{pairs_from, pairs_of}
+use Rattle.drain.specs.working.Pairs.{pairs_from, pairs_of}
 
 -- the pairs of one object
 abbrev pair : ℕ → ℕ → ℕ × ℕ

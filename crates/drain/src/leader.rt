@@ -1,23 +1,63 @@
-//! The call that marks a graph.
-
-ghost use Rattle.std.specs.Prelude.{IfOk};
+//! The call that marks a graph, and the thread that leads.
+ghost use Rattle.std.specs.Prelude.{◌≡◌, ◌<◌, IfOk};
+ghost use Rattle.mark_core.specs.Shares.{whole};
 ghost use Rattle.heap_graph.specs.Reachable.{MarksReachableOf};
+ghost use Rattle.drain.specs.working.AtWork.{HasLed, IsFree, IsSetupOf};
 
 use crate::gate::Gate;
-use crate::linked::Linked;
 use crate::marked::{Marked, RunFault};
 use crate::options::Options;
-use crate::workers::mark_together;
-use buffer_pool::{Pool, PoolFault};
+use crate::scan::Scan;
+use crate::walk::Walk;
+use crate::walked_graph::WalkedGraph;
+use crate::workers::run_workers;
+use buffer_pool::{Pool, PoolFault, Worker};
 use heap_graph::Graph;
 use std::alloc::Allocator;
 use std::sync::Wait;
 use std::thread::Threads;
 
+/// Claims the roots and gives them to the workers, runs these, and then scans what is left.
+fn lead<T, A, V, G>(
+    rt: &T,
+    alloc: A,
+    graph: &V,
+    pool: &Pool<A>,
+    gate: &G,
+    leader: Worker<A>,
+    workers: u32,
+) -> Result<Worker<A>, RunFault>
+where
+    T: Threads + Wait + Sync,
+    A: Allocator + Send + Sync,
+    V: Walk,
+    G: Gate,
+    requires pool { leader.pool ≡ pool.now }
+    requires setup { IsSetupOf (V.count graph.now) (V.roots graph.now) (V.pairs graph.now) leader.book.setup }
+    requires free { IsFree leader }
+    requires share { workers < leader.book.account.share }
+    ensures { IfOk result (HasLed leader.book.account.share leader) }
+{
+    let threads = Vec::with_capacity(alloc, workers as usize)?;
+    let mut scan = match Scan::open(rt, pool, leader)? {
+        Ok(scan) => scan,
+        Err(_) => return Err(RunFault::NoBuffer),
+    };
+    scan.claim_roots(rt, pool, graph.roots())?;
+    scan.publish(rt, pool)?;
+    let Scan { worker, pair } = scan;
+    let worker = run_workers(rt, graph, pool, gate, worker, workers, threads)?;
+    let mut scan = Scan { worker, pair };
+    scan.drain(rt, graph, pool, gate, workers)?;
+    Ok(scan.close(rt, pool)?)
+}
+
 /// Marks the objects that a path of references joins to a root, with a thread for each worker.
 ///
-/// Where a thread cannot be started it answers `WorkerRefused`; else, where memory is wanting, `OutOfMemory`. No thread
-/// that it started is left when it answers.
+/// `OutOfMemory`: a growth was refused, before any thread was started. `WorkerRefused`: a thread could not be started.
+/// `TagSpent` and `NoBuffer`: a stack's last tag was loaded where an exchange was due, or there was no empty buffer; of
+/// the workers that were refused so the one with the least number is told, and the leader last. No thread that it
+/// started is left when it answers.
 pub fn mark<T, A, B, G>(
     rt: &T,
     alloc: A,
@@ -34,10 +74,10 @@ where
 {
     let workers = options.workers();
     let objects = graph.len();
-    let linked = Linked { graph };
+    let walked = WalkedGraph { graph };
     let (pool, leader) = match Pool::new(
         alloc,
-        &linked,
+        &walked,
         options.buffers(),
         options.buffer(),
         options.first_tag(),
@@ -46,6 +86,6 @@ where
         Err(PoolFault::OutOfMemory) => return Err(RunFault::OutOfMemory),
         Err(PoolFault::BadOptions) => unreachable!(),
     };
-    let leader = mark_together(rt, alloc, &linked, &pool, gate, leader, workers)?;
+    let leader = lead(rt, alloc, &walked, &pool, gate, leader, workers)?;
     Ok(Marked::new(pool.close(leader), objects))
 }

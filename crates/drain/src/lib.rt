@@ -4,11 +4,11 @@
 mod gate;
 mod laws;
 mod leader;
-mod linked;
 mod marked;
 mod options;
 mod scan;
 mod walk;
+mod walked_graph;
 mod workers;
 
 pub use gate::{Gate, NoGate};

@@ -4,6 +4,7 @@ use buffer_pool::Marks;
 use std::alloc::{AllocError, AllocFailed, Allocator};
 use std::marker::Model;
 use thiserror::Error;
+use work_pair::Stop;
 
 /// Why a graph was not marked.
 #[derive(Clone, Copy, Debug, PartialEq, Eq, Error)]
@@ -11,6 +12,12 @@ pub enum RunFault {
     /// A growth was refused.
     #[error("out of memory")]
     OutOfMemory,
+    /// A stack's last tag was loaded where an exchange was due.
+    #[error("a stack's last tag was loaded")]
+    TagSpent,
+    /// There was no empty buffer.
+    #[error("there is no empty buffer")]
+    NoBuffer,
     /// A worker's thread could not be started.
     #[error("a worker could not be started")]
     WorkerRefused,
@@ -24,6 +31,20 @@ impl From<AllocError> for RunFault {
 
     fn from(_e: AllocError) -> RunFault {
         RunFault::OutOfMemory
+    }
+}
+
+impl From<Stop> for RunFault {
+    ghost use Rattle.drain.specs.working.Stops.{stopped};
+    ghost use Rattle.std.specs.Prelude.{◌≡◌};
+
+    ghost from_gives = { λ stop e. e ≡ stopped stop };
+
+    fn from(stop: Stop) -> RunFault {
+        match stop {
+            Stop::TagSpent => RunFault::TagSpent,
+            Stop::NoBuffer => RunFault::NoBuffer,
+        }
     }
 }
 

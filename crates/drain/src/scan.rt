@@ -1,129 +1,213 @@
-//! What one worker does: it claims objects, keeps those that were white on a list of its own, and scans these.
-ghost use Rattle.std.specs.Prelude.{◌≡◌, ◌<◌, IfOk};
-ghost use Rattle.buffer_pool.specs.Book.{new_book};
-ghost use Rattle.drain.specs.Working.{HasDone, IsSetupOf};
+//! A worker at its pair: it claims objects, puts those that were white into its pair, and scans these and what others
+//! gave to the full stack.
 
 use crate::gate::Gate;
 use crate::walk::Walk;
-use buffer_pool::{Pool, Worker};
-use std::alloc::{AllocError, Allocator};
+use buffer_pool::{Pool, Which, Worker};
+use std::alloc::Allocator;
+use std::sync::Wait;
+use work_pair::{Pair, Stop};
 
-/// A worker, and the objects that it claimed and has not scanned yet.
+/// A worker and its two buffers.
 #[derive(Drop)]
-struct Scan<A: Allocator> {
-    worker: Worker<A>,
-    list: Vec<u32, A>,
+pub(crate) struct Scan<A: Allocator> {
+    pub(crate) worker: Worker<A>,
+    pub(crate) pair: Pair<A>,
 }
 
 impl<A: Allocator> Scan<A> {
-    ghost use Rattle.std.specs.Prelude.{◌≡◌, ◌<◌, ◌∷◌, [], ℕ, All, List, OnOk};
+    ghost use Rattle.std.specs.Prelude.{◌≡◌, ◌⊎◌, ◌∷◌, [], ℕ, All, IfErr, IfOk, List, OnOk, false};
+    ghost use Rattle.mark_core.specs.declared.which.Which.TheVariants.{Empty};
+    ghost use Rattle.work_pair.specs.Moves.{WasSeenEmpty};
+    ghost use Rattle.work_pair.specs.Places.{items_of};
     ghost use Rattle.std.specs.Iterator.{AlwaysYields, IsFinite};
-    ghost use Rattle.mark_core.specs.Event.{CanClaim};
-    ghost use Rattle.drain.specs.Working.{AreClaimed, GoesOn, IsScanning, IsSetupOf, SawPart};
+    ghost use Rattle.drain.specs.working.AtWork.{AreClaimed, GoesOn, HasAtHand, HasNoneLeft, IsFree, IsSetupOf, IsThrough, MayClaim, SawRoots};
 
-    /// Claims an object, and lists it if it was white. Room in the list is got before the claim.
-    fn claim(&mut self, pool: &Pool<A>, object: u32) -> Result<(), AllocError>
-        requires pool { self.old.worker.pool ≡ pool.now }
-        requires can { CanClaim self.old.worker.book.setup object self.old.worker.book.account }
-        ensures { OnOk result (AreClaimed (object ∷ []) self.old.worker self.old.list.items self.new.worker self.new.list.items) }
+    /// A pair for a worker that has none yet. `None` where there were not two empty buffers.
+    pub(crate) fn open<R: Wait>(
+        rt: &R,
+        pool: &Pool<A>,
+        worker: Worker<A>,
+    ) -> Result<Result<Scan<A>, Worker<A>>, Stop>
+        requires pool { worker.pool ≡ pool.now }
+        requires free { IsFree worker }
+        ensures opened { IfOk result (λ r. IfOk r (λ s. GoesOn worker s.worker × HasAtHand s.pair [] s.worker)) }
+        ensures none { IfOk result (λ r. IfErr r (IsThrough worker)) }
     {
-        self.list.reserve(1)?;
-        if pool.claim(&mut self.worker, object) {
-            self.list.push_reserved(object);
+        let mut worker = worker;
+        match Pair::open(rt, pool, &mut worker)? {
+            Some(pair) => Ok(Ok(Scan { worker, pair })),
+            None => Ok(Err(worker)),
         }
-        Ok(())
     }
 
-    /// Claims each object that the iterator gives.
-    fn claim_all<I: Iterator<Item = u32> + Drop>(
+    /// Claims an object, and puts it into the pair if it was white.
+    fn claim<R: Wait>(&mut self, rt: &R, pool: &Pool<A>, object: u32) -> Result<(), Stop>
+        requires pool { self.old.worker.pool ≡ pool.now }
+        requires may { (besides : List ℕ) × HasAtHand self.old.pair besides self.old.worker × MayClaim self.old.worker.book.setup besides object }
+        ensures { OnOk result (AreClaimed (object ∷ []) self.old.pair self.old.worker self.new.pair self.new.worker) }
+    {
+        if !pool.claim(&mut self.worker, object) {
+            return Ok(());
+        }
+        match self.pair.put(rt, pool, &mut self.worker, object) {
+            Ok(()) => Ok(()),
+            Err((_, stop)) => Err(stop),
+        }
+    }
+
+    /// Claims each object that the iterator gives, and puts those that were white into the pair.
+    fn claim_all<R: Wait, I: Iterator<Item = u32> + Drop>(
         &mut self,
+        rt: &R,
         pool: &Pool<A>,
         objects: I,
-    ) -> Result<(), AllocError>
+    ) -> Result<(), Stop>
         requires pool { self.old.worker.pool ≡ pool.now }
         requires can { I.can_next objects }
         requires ends { IsFinite (I.remaining objects) }
-        requires may { (given : List ℕ) × AlwaysYields I.next_gives (λ o. o) objects given × All (λ o. CanClaim self.old.worker.book.setup o self.old.worker.book.account) given }
+        requires may { (given : List ℕ) × (besides : List ℕ) × AlwaysYields I.next_gives (λ o. o) objects given
+            × HasAtHand self.old.pair besides self.old.worker × All (MayClaim self.old.worker.book.setup besides) given }
         ensures { OnOk result ((given : List ℕ) → AlwaysYields I.next_gives (λ o. o) objects given
-            → AreClaimed given self.old.worker self.old.list.items self.new.worker self.new.list.items) }
+            → AreClaimed given self.old.pair self.old.worker self.new.pair self.new.worker) }
     {
         for object in objects {
-            self.claim(pool, object)?;
+            self.claim(rt, pool, object)?;
         }
         Ok(())
     }
 
-    /// Claims each root whose place, counted from 0, has this remainder when it is divided by the number of workers.
-    fn claim_part(
+    /// Claims each root, and puts those that were white into the pair.
+    pub(crate) fn claim_roots<R: Wait>(
         &mut self,
+        rt: &R,
         pool: &Pool<A>,
         roots: &[u32],
-        number: u32,
-        workers: u32,
-    ) -> Result<(), AllocError>
+    ) -> Result<(), Stop>
         requires pool { self.old.worker.pool ≡ pool.now }
         requires roots { roots.now ≡ self.old.worker.book.setup.roots }
-        requires within { All (λ o. o < self.old.worker.book.setup.objects) roots.now }
-        requires some { 0 < workers }
-        requires scanning { IsScanning self.old.worker self.old.list.items }
+        requires hand { HasAtHand self.old.pair [] self.old.worker }
         ensures goes_on { OnOk result (GoesOn self.old.worker self.new.worker) }
-        ensures scanning { OnOk result (IsScanning self.new.worker self.new.list.items) }
-        ensures saw { OnOk result (SawPart number workers self.new.worker) }
+        ensures hand { OnOk result (HasAtHand self.new.pair [] self.new.worker) }
+        ensures saw { OnOk result (SawRoots self.new.worker) }
     {
-        let mut at = number as usize;
-        while at < roots.len() {
-            self.claim(pool, roots[at])?;
-            at += workers as usize;
+        for root in roots {
+            self.claim(rt, pool, *root)?;
         }
         Ok(())
     }
 
-    /// Scans the listed objects, and those that it lists on the way.
-    fn scan_all<V: Walk, G: Gate>(
+    /// Gives what is in the pair to others, as far as there are empty buffers.
+    pub(crate) fn publish<R: Wait>(&mut self, rt: &R, pool: &Pool<A>) -> Result<(), Stop>
+        requires pool { self.old.worker.pool ≡ pool.now }
+        requires hand { HasAtHand self.old.pair [] self.old.worker }
+        ensures goes_on { OnOk result (GoesOn self.old.worker self.new.worker) }
+        ensures hand { OnOk result (HasAtHand self.new.pair [] self.new.worker) }
+        ensures given { OnOk result (WasSeenEmpty Empty self.old.worker.book self.new.worker.book ⊎ (items_of self.new.pair ≡ [])) }
+    {
+        self.pair.publish(rt, pool, &mut self.worker)
+    }
+
+    /// Gives some of what is in the pair to others, if the full stack is seen empty.
+    fn share<R: Wait>(&mut self, rt: &R, pool: &Pool<A>) -> Result<(), Stop>
+        requires pool { self.old.worker.pool ≡ pool.now }
+        requires hand { HasAtHand self.old.pair [] self.old.worker }
+        ensures goes_on { OnOk result (GoesOn self.old.worker self.new.worker) }
+        ensures hand { OnOk result (HasAtHand self.new.pair [] self.new.worker) }
+    {
+        if pool.sees_empty(&mut self.worker, Which::Full) {
+            self.pair.balance(rt, pool, &mut self.worker)?;
+        }
+        Ok(())
+    }
+
+    /// Scans an object of the pair, or of the full stack: claims what it refers to, and finishes it. False where none
+    /// is left.
+    fn scan_next<R: Wait, V: Walk, G: Gate>(
         &mut self,
+        rt: &R,
         graph: &V,
         pool: &Pool<A>,
         gate: &G,
         number: u32,
-    ) -> Result<(), AllocError>
+    ) -> Result<bool, Stop>
         requires pool { self.old.worker.pool ≡ pool.now }
         requires setup { IsSetupOf (V.count graph.now) (V.roots graph.now) (V.pairs graph.now) self.old.worker.book.setup }
-        requires scanning { IsScanning self.old.worker self.old.list.items }
+        requires hand { HasAtHand self.old.pair [] self.old.worker }
         ensures goes_on { OnOk result (GoesOn self.old.worker self.new.worker) }
-        ensures scanning { OnOk result (IsScanning self.new.worker []) }
+        ensures hand { OnOk result (HasAtHand self.new.pair [] self.new.worker) }
+        ensures none { IfOk result (λ more. more ≡ false → HasNoneLeft self.new.pair self.new.worker) }
     {
-        while let Some(object) = self.list.pop() {
-            gate.before_scan(number, object);
-            self.claim_all(pool, graph.successors(object))?;
-            pool.finish(&mut self.worker, object);
-        }
-        Ok(())
+        let Some(object) = self.pair.get(rt, pool, &mut self.worker)? else {
+            return Ok(false);
+        };
+        self.worker.stays_within();
+        gate.before_scan(number, object);
+        self.claim_all(rt, pool, graph.successors(object))?;
+        pool.finish(&mut self.worker, object);
+        Ok(true)
     }
-}
 
-/// The work of one worker: it claims its part of the roots, and scans what it claimed until nothing is left. Its
-/// private list takes its memory from `alloc`.
-pub(crate) fn work<A: Allocator, V: Walk, G: Gate>(
-    alloc: A,
-    graph: &V,
-    pool: &Pool<A>,
-    gate: &G,
-    worker: Worker<A>,
-    number: u32,
-    workers: u32,
-) -> Result<Worker<A>, AllocError>
-    requires pool { worker.pool ≡ pool.now }
-    requires setup { IsSetupOf (V.count graph.now) (V.roots graph.now) (V.pairs graph.now) worker.book.setup }
-    requires new { worker.book ≡ new_book worker.book.setup worker.book.account.share }
-    requires some { 0 < workers }
-    ensures { IfOk result (HasDone number workers worker) }
-{
-    let mut scan = Scan {
-        worker,
-        list: Vec::new(alloc),
-    };
-    scan.claim_part(pool, graph.roots(), number, workers)?;
-    scan.scan_all(graph, pool, gate, number)?;
-    let Scan { worker, list: _ } = scan;
-    Ok(worker)
+    /// Scans until no object is left, and gives to others what it has too much of.
+    pub(crate) fn work_off<R: Wait, V: Walk, G: Gate>(
+        &mut self,
+        rt: &R,
+        graph: &V,
+        pool: &Pool<A>,
+        gate: &G,
+        number: u32,
+    ) -> Result<(), Stop>
+        requires pool { self.old.worker.pool ≡ pool.now }
+        requires setup { IsSetupOf (V.count graph.now) (V.roots graph.now) (V.pairs graph.now) self.old.worker.book.setup }
+        requires hand { HasAtHand self.old.pair [] self.old.worker }
+        ensures goes_on { OnOk result (GoesOn self.old.worker self.new.worker) }
+        ensures hand { OnOk result (HasAtHand self.new.pair [] self.new.worker) }
+        ensures none { OnOk result (HasNoneLeft self.new.pair self.new.worker) }
+    {
+        for _ in rt.forever() {
+            self.share(rt, pool)?;
+            if !self.scan_next(rt, graph, pool, gate, number)? {
+                return Ok(());
+            }
+        }
+        unreachable!()
+    }
+
+    /// Scans until no object is left.
+    pub(crate) fn drain<R: Wait, V: Walk, G: Gate>(
+        &mut self,
+        rt: &R,
+        graph: &V,
+        pool: &Pool<A>,
+        gate: &G,
+        number: u32,
+    ) -> Result<(), Stop>
+        requires pool { self.old.worker.pool ≡ pool.now }
+        requires setup { IsSetupOf (V.count graph.now) (V.roots graph.now) (V.pairs graph.now) self.old.worker.book.setup }
+        requires hand { HasAtHand self.old.pair [] self.old.worker }
+        ensures goes_on { OnOk result (GoesOn self.old.worker self.new.worker) }
+        ensures hand { OnOk result (HasAtHand self.new.pair [] self.new.worker) }
+        ensures none { OnOk result (HasNoneLeft self.new.pair self.new.worker) }
+    {
+        for _ in rt.forever() {
+            if !self.scan_next(rt, graph, pool, gate, number)? {
+                return Ok(());
+            }
+        }
+        unreachable!()
+    }
+
+    /// Gives the buffers back. The pair has no items.
+    pub(crate) fn close<R: Wait>(self, rt: &R, pool: &Pool<A>) -> Result<Worker<A>, Stop>
+        requires pool { self.worker.pool ≡ pool.now }
+        requires hand { HasAtHand self.pair [] self.worker }
+        requires none { HasNoneLeft self.pair self.worker }
+        ensures { IfOk result (IsThrough self.worker) }
+    {
+        let Scan { mut worker, pair } = self;
+        match pair.dispose(rt, pool, &mut worker) {
+            Ok(()) => Ok(worker),
+            Err((_, stop)) => Err(stop),
+        }
+    }
 }

@@ -5,7 +5,7 @@ use buffer_pool::Edges;
 /// A graph whose roots and references can be walked, by many workers at a time.
 pub trait Walk: Edges + Sync {
     ghost use Rattle.std.specs.Prelude.{◌≡◌, ◌<◌, All, Contains};
-    ghost use Rattle.drain.specs.Walk.{GivesReferences};
+    ghost use Rattle.drain.specs.working.Walk.{GivesReferences};
 
     type Successors: Iterator<Item = u32> + Drop + Send;
 

@@ -1,106 +1,128 @@
-//! A thread for each worker, and the leader that starts and joins them.
-ghost use Rattle.std.specs.Prelude.{◌≡◌, ◌<◌, ◌-◌, ℕ, IfOk, get_or, vec_len};
-ghost use Rattle.mark_core.specs.Shares.{whole};
-ghost use Rattle.buffer_pool.specs.Book.{new_book};
-ghost use Rattle.drain.specs.Working.{HasDone, HasTakenIn, IsSetupOf};
-ghost use Rattle.drain.specs.Parts.{IsPartOf};
+//! A thread for each worker: what it does, how it is started, and how it is joined.
+ghost use Rattle.std.specs.Prelude.{◌≡◌, ◌<◌, ◌≤◌, ◌+◌, ◌⊎◌, ℕ, IfErr, IfOk, get_or, vec_capacity, vec_len};
+ghost use Rattle.drain.specs.declared.marked.RunFault.TheVariants as fault;
+ghost use Rattle.drain.specs.working.AtWork.{IsFree, IsSetupOf, IsThrough, Leads};
+ghost use Rattle.drain.specs.working.Duties.{IsDutyUnder};
 
 use crate::gate::Gate;
 use crate::marked::RunFault;
-use crate::scan::work;
+use crate::scan::Scan;
 use crate::walk::Walk;
 use buffer_pool::{Pool, Worker};
-use std::alloc::{AllocError, Allocator};
+use std::alloc::Allocator;
 use std::snapshot::Snapshot;
 use std::sync::Wait;
 use std::thread;
 use std::thread::{Promise, PromisedHandle, Scope, Threads};
+use work_pair::Stop;
 
-/// What the thread of a worker owes: that it is through with its part.
+/// What the thread of a worker owes: the worker that it began with, through with its work.
 #[derive(Drop)]
-struct Part<A: Allocator> {
-    number: u32,
-    workers: u32,
+pub(crate) struct Duty<A: Allocator> {
     begun: Snapshot<Worker<A>>,
 }
 
-impl<A: Allocator> Promise<Result<Worker<A>, AllocError>> for Part<A> {
+impl<A: Allocator> Promise<Result<Worker<A>, Stop>> for Duty<A> {
     ghost use Rattle.std.specs.Prelude.{IfOk};
-    ghost use Rattle.drain.specs.Working.{HasDone};
+    ghost use Rattle.drain.specs.working.AtWork.{IsThrough};
 
-    ghost kept_by = { λ part outcome. IfOk outcome (HasDone part.number part.workers part.begun.value) };
+    ghost kept_by = { λ duty outcome. IfOk outcome (IsThrough duty.begun.value) };
 }
 
 /// A worker that was started.
-type Started<A> = PromisedHandle<Result<Worker<A>, AllocError>, Part<A>>;
+pub(crate) type Started<A> = PromisedHandle<Result<Worker<A>, Stop>, Duty<A>>;
+
+/// The work of one worker: it scans until the full stack is seen empty and it has nothing left. It has none to do
+/// where there are not two empty buffers for it.
+fn work<T: Wait, A: Allocator, V: Walk, G: Gate>(
+    rt: &T,
+    graph: &V,
+    pool: &Pool<A>,
+    gate: &G,
+    worker: Worker<A>,
+    number: u32,
+) -> Result<Worker<A>, Stop>
+    requires pool { worker.pool ≡ pool.now }
+    requires setup { IsSetupOf (V.count graph.now) (V.roots graph.now) (V.pairs graph.now) worker.book.setup }
+    requires free { IsFree worker }
+    ensures { IfOk result (IsThrough worker) }
+{
+    let mut scan = match Scan::open(rt, pool, worker)? {
+        Ok(scan) => scan,
+        Err(worker) => return Ok(worker),
+    };
+    scan.work_off(rt, graph, pool, gate, number)?;
+    scan.close(rt, pool)
+}
 
 /// Starts the thread of a worker.
-fn start<'s, E, A, V, G>(
+fn start<'s, E, T, A, V, G>(
+    rt: &'s T,
     scope: &'s Scope<'s, E>,
-    alloc: A,
     graph: &'s V,
     pool: &'s Pool<A>,
     gate: &'s G,
     worker: Worker<A>,
     number: u32,
-    workers: u32,
 ) -> Result<Started<A>, RunFault>
 where
-    A: Allocator + Copy + Send + Sync + 's,
+    T: Wait + Sync,
+    A: Allocator + Send + Sync + 's,
     V: Walk,
     G: Gate,
     requires pool { worker.pool ≡ pool.now }
     requires setup { IsSetupOf (V.count graph.now) (V.roots graph.now) (V.pairs graph.now) worker.book.setup }
-    requires new { worker.book ≡ new_book worker.book.setup worker.book.account.share }
-    requires some { 0 < workers }
-    ensures { IfOk result (λ t. IsPartOf number workers worker t.promise) }
+    requires free { IsFree worker }
+    ensures owes { IfOk result (λ t. t.promise.begun.value ≡ worker) }
+    ensures refused { IfErr result (λ e. e ≡ fault.WorkerRefused) }
 {
-    let part = Part {
-        number,
-        workers,
+    let duty = Duty {
         begun: Snapshot::of(&worker),
     };
-    let run = move || -> Result<Worker<A>, AllocError>
+    let run = move || -> Result<Worker<A>, Stop>
         requires pool { worker.pool ≡ pool.now }
         requires setup { IsSetupOf (V.count graph.now) (V.roots graph.now) (V.pairs graph.now) worker.book.setup }
-        requires new { worker.book ≡ new_book worker.book.setup worker.book.account.share }
-        requires some { 0 < workers }
-        ensures { IfOk result (HasDone number workers worker) }
-    { work(alloc, graph, pool, gate, worker, number, workers) };
-    match scope.spawn_with(part, run) {
+        requires free { IsFree worker }
+        ensures { IfOk result (IsThrough worker) }
+    { work(rt, graph, pool, gate, worker, number) };
+    match scope.spawn_with(duty, run) {
         Ok(thread) => Ok(thread),
         Err(_) => Err(RunFault::WorkerRefused),
     }
 }
 
 /// Splits off one unit for each worker, and starts its thread. What the leader has left comes back with the threads.
-fn start_all<'s, E, A, V, G>(
+fn start_all<'s, E, T, A, V, G>(
+    rt: &'s T,
     scope: &'s Scope<'s, E>,
-    alloc: A,
     graph: &'s V,
     pool: &'s Pool<A>,
     gate: &'s G,
     leader: Worker<A>,
     workers: u32,
+    threads: Vec<Started<A>, A>,
 ) -> Result<(Worker<A>, Vec<Started<A>, A>), RunFault>
 where
-    A: Allocator + Copy + Send + Sync + 's,
+    T: Wait + Sync,
+    A: Allocator + Send + Sync + 's,
     V: Walk,
     G: Gate,
     requires pool { leader.pool ≡ pool.now }
     requires setup { IsSetupOf (V.count graph.now) (V.roots graph.now) (V.pairs graph.now) leader.book.setup }
-    requires new { leader.book ≡ new_book leader.book.setup whole }
-    requires workers { workers < whole }
-    ensures leader { IfOk result (λ s. s.0 ≡ record leader { book = new_book leader.book.setup (whole - workers); log = s.0.log }) }
+    requires share { workers < leader.book.account.share }
+    requires room { (vec_len threads ≡ 0) × (workers ≤ vec_capacity threads) }
+    ensures leads { IfOk result (λ s. Leads leader s.0) }
+    ensures share { IfOk result (λ s. s.0.book.account.share + workers ≡ leader.book.account.share) }
     ensures count { IfOk result (λ s. vec_len s.1 ≡ workers) }
-    ensures threads { IfOk result (λ s. (number : ℕ) (t : _) → number < workers → IsPartOf number workers (record leader { book = new_book leader.book.setup 1 }) (get_or s.1.items number t).promise) }
+    ensures threads { IfOk result (λ s. (number : ℕ) (t : _) → number < workers → IsDutyUnder leader (get_or s.1.items number t).promise) }
+    ensures refused { IfErr result (λ e. e ≡ fault.WorkerRefused) }
 {
-    let mut threads = Vec::with_capacity(alloc, workers as usize)?;
     let mut leader = leader;
+    let mut threads = threads;
     for number in 0..workers {
         let (rest, worker) = pool.split(leader, 1);
         leader = rest;
-        let thread = start(scope, alloc, graph, pool, gate, worker, number, workers)?;
+        let thread = start(rt, scope, graph, pool, gate, worker, number)?;
         threads.push_reserved(thread);
     }
     Ok((leader, threads))
@@ -114,12 +136,10 @@ fn join_all<T: Threads, A: Allocator>(
     threads: Vec<Started<A>, A>,
 ) -> Result<Worker<A>, RunFault>
     requires pool { leader.pool ≡ pool.now }
-    requires workers { vec_len threads < whole }
-    requires leader { leader.book ≡ new_book leader.book.setup (whole - vec_len threads) }
-    requires threads { (number : ℕ) (t : _) → number < vec_len threads → IsPartOf number (vec_len threads) (record leader { book = new_book leader.book.setup 1 }) (get_or threads.items number t).promise }
-    ensures pool { IfOk result (λ w. w.pool ≡ leader.pool) }
-    ensures whole { IfOk result (λ w. w.book.account.share ≡ whole) }
-    ensures taken { IfOk result (HasTakenIn (vec_len threads) (vec_len threads) leader.book.setup) }
+    requires threads { (number : ℕ) (t : _) → number < vec_len threads → IsDutyUnder leader (get_or threads.items number t).promise }
+    ensures leads { IfOk result (Leads leader) }
+    ensures share { IfOk result (λ w. w.book.account.share ≡ leader.book.account.share + vec_len threads) }
+    ensures refused { IfErr result (λ e. (e ≡ fault.TagSpent) ⊎ (e ≡ fault.NoBuffer)) }
 {
     let mut leader = leader;
     for thread in threads {
@@ -128,28 +148,27 @@ fn join_all<T: Threads, A: Allocator>(
     Ok(leader)
 }
 
-/// Marks with a thread for each worker, each over its part of the roots, and takes all of them in.
-pub(crate) fn mark_together<T, A, V, G>(
+/// Runs so many workers, and takes all of them in.
+pub(crate) fn run_workers<T, A, V, G>(
     rt: &T,
-    alloc: A,
     graph: &V,
     pool: &Pool<A>,
     gate: &G,
     leader: Worker<A>,
     workers: u32,
+    threads: Vec<Started<A>, A>,
 ) -> Result<Worker<A>, RunFault>
 where
     T: Threads + Wait + Sync,
-    A: Allocator + Copy + Send + Sync,
+    A: Allocator + Send + Sync,
     V: Walk,
     G: Gate,
     requires pool { leader.pool ≡ pool.now }
     requires setup { IsSetupOf (V.count graph.now) (V.roots graph.now) (V.pairs graph.now) leader.book.setup }
-    requires new { leader.book ≡ new_book leader.book.setup whole }
-    requires workers { workers < whole }
-    ensures pool { IfOk result (λ w. w.pool ≡ leader.pool) }
-    ensures whole { IfOk result (λ w. w.book.account.share ≡ whole) }
-    ensures taken { IfOk result (HasTakenIn workers workers leader.book.setup) }
+    requires share { workers < leader.book.account.share }
+    requires room { (vec_len threads ≡ 0) × (workers ≤ vec_capacity threads) }
+    ensures leads { IfOk result (Leads leader) }
+    ensures share { IfOk result (λ w. w.book.account.share ≡ leader.book.account.share) }
 {
     thread::scope(
         thread::scope_env(),
@@ -157,13 +176,14 @@ where
         move |scope| -> Result<Worker<A>, RunFault>
             requires pool { leader.pool ≡ pool.now }
             requires setup { IsSetupOf (V.count graph.now) (V.roots graph.now) (V.pairs graph.now) leader.book.setup }
-            requires new { leader.book ≡ new_book leader.book.setup whole }
-            requires workers { workers < whole }
-            ensures pool { IfOk result (λ w. w.pool ≡ leader.pool) }
-            ensures whole { IfOk result (λ w. w.book.account.share ≡ whole) }
-            ensures taken { IfOk result (HasTakenIn workers workers leader.book.setup) }
+            requires share { workers < leader.book.account.share }
+            requires room { (vec_len threads ≡ 0) × (workers ≤ vec_capacity threads) }
+            ensures leads { IfOk result (Leads leader) }
+            ensures share { IfOk result (λ w. w.book.account.share ≡ leader.book.account.share) }
         {
-            let (leader, threads) = start_all(scope, alloc, graph, pool, gate, leader, workers)?;
+            let (leader, threads) = start_all(
+                rt, scope, graph, pool, gate, leader, workers, threads,
+            )?;
             join_all(rt, pool, leader, threads)
         },
     )

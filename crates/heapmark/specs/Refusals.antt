@@ -1,5 +1,5 @@
 -- What is told of each fault.
-use Rattle.std.specs.Prelude.{IsErrAnd, List, None, Option, Result, Some, codes, decimal, if◌then◌else◌, ℕ, ◌++◌, ◌==◌, ◌≡◌}
+use Rattle.std.specs.Prelude.{IsErrAnd, List, None, Option, Result, Some, codes, decimal, if◌then◌else◌, ℕ, ◌++◌, ◌==◌, ◌≡◌, ◌⊎◌}
 use Rattle.drain.specs.declared.marked.RunFault.{RunFault}
 use Rattle.drain.specs.declared.marked.RunFault.TheVariants as marking
 use Rattle.heap_graph.specs.declared.rule.LinkRefusal.{LinkRefusal}
@@ -23,12 +23,24 @@ abbrev pub link_refusal : LinkRefusal → Refusal
 link_refusal (link.Fault f) = told f.code f.offset
 link_refusal link.OutOfMemory = out_of_memory
 
+abbrev pub tag_spent : Refusal
+tag_spent = record { code = 16; offset = None }
+
+abbrev pub no_buffer : Refusal
+no_buffer = record { code = 17; offset = None }
+
 abbrev pub worker_refused : Refusal
 worker_refused = record { code = 18; offset = None }
 
 abbrev pub run_refusal : RunFault → Refusal
 run_refusal marking.OutOfMemory = out_of_memory
+run_refusal marking.TagSpent = tag_spent
+run_refusal marking.NoBuffer = no_buffer
 run_refusal marking.WorkerRefused = worker_refused
+
+-- what a marking alone refuses: a last tag, no buffer, or no thread
+abbrev pub IsOfMarking : Refusal → Type 0
+IsOfMarking refusal = (refusal ≡ tag_spent) ⊎ (refusal ≡ no_buffer) ⊎ (refusal ≡ worker_refused)
 
 abbrev pub read_fault : Refusal
 read_fault = record { code = 19; offset = None }

@@ -6,7 +6,7 @@ ghost use Rattle.histogram.specs.Report.{IsReport, report_of};
 ghost use Rattle.histogram.specs.Counting.{failures_of, inner_of, is_flushed};
 ghost use Rattle.histogram.specs.Lines.{histogram_of};
 ghost use Rattle.heapmark.specs.Answer.{IsAcceptedText, IsKnown, IsRefusalOf, TellsFirstFault, WritesBeginning, WritesReport, WritesSomeBeginning, WritesSomeReport, bytes_read};
-ghost use Rattle.heapmark.specs.Refusals.{HasCode, out_of_memory, worker_refused};
+ghost use Rattle.heapmark.specs.Refusals.{HasCode, IsOfMarking, out_of_memory};
 
 use crate::refusal::Refusal;
 use drain::{Gate, Options, mark};
@@ -103,7 +103,7 @@ where
     G: Gate,
     ensures report { IfOk result (λ report. IsReport bytes.now (report_of (histogram_of report))) }
     ensures refusal { IfErr result (λ refusal. TellsFirstFault bytes.now refusal ⊎ (refusal ≡ out_of_memory)
-        ⊎ (IsAcceptedText bytes.now × (refusal ≡ worker_refused))) }
+        ⊎ (IsAcceptedText bytes.now × IsOfMarking refusal)) }
     ensures known { IfErr result (λ refusal. IsKnown refusal × (refusal.code ≤ 18)) }
 {
     let dump = match read(alloc, bytes) {

@@ -25,6 +25,18 @@ impl Refusal {
         offset: None,
     };
 
+    /// A stack's last tag was loaded where an exchange was due.
+    pub const TAG_SPENT: Refusal = Refusal {
+        code: 16,
+        offset: None,
+    };
+
+    /// There was no empty buffer.
+    pub const NO_BUFFER: Refusal = Refusal {
+        code: 17,
+        offset: None,
+    };
+
     /// A worker's thread could not be started.
     pub const WORKER_REFUSED: Refusal = Refusal {
         code: 18,
@@ -138,6 +150,8 @@ impl From<RunFault> for Refusal {
     fn from(fault: RunFault) -> Refusal {
         match fault {
             RunFault::OutOfMemory => Refusal::OUT_OF_MEMORY,
+            RunFault::TagSpent => Refusal::TAG_SPENT,
+            RunFault::NoBuffer => Refusal::NO_BUFFER,
             RunFault::WorkerRefused => Refusal::WORKER_REFUSED,
         }
     }

@@ -2,6 +2,7 @@
 
 mod damage;
 mod dumps;
+mod marking;
 mod memory;
 mod program;
 mod rows;

@@ -1,4 +1,4 @@
-use Rattle.std.proofs.Common.{sym, subst, ◌<◌, arith}
+use Rattle.std.proofs.Common.{sym, subst, ◌<◌, ◌∙◌, arith}
 use Rattle.mark_core.specs.Shares.{whole}
 use Rattle.buffer_pool.specs.Faults.{Refuses}
 use Rattle.buffer_pool.specs.Laid.{IsInside}
@@ -20,15 +20,11 @@ unreachable-requires g c =
       tag = omega (arith, c.first_tag.ensures, allowed.last_tag);
     })
 
-pub mark_together-requires-clause-workers : goal.mark_together-requires-clause-workers
-mark_together-requires-clause-workers g c κs within = omega (arith, c.workers-workers.ensures.value, c.workers-workers.ensures.allowed.most_workers)
-
 pub returns : goal.returns
 returns g c =
     let graph = c.args.graph.now in
     let leader = c.in-Ok.opened.1 in
-    let is = c.in-Ok.ensures.2 in
-    let setup = opened_setup graph c.buffers.result c.buffer.result c.first_tag.result whole leader.book is in
-    let some : 0 < c.workers-workers.result = omega (arith, c.workers-workers.ensures.value, c.workers-workers.ensures.allowed.some_worker) in
-    let exact = exactly_marked graph leader.book.setup setup c.workers-workers.result c.in_ok-leader.leader c.close.result some c.in_ok-leader.ensures.taken c.close.ensures.0 in
+    let setup = opened_setup graph c.buffers.result c.buffer.result c.first_tag.result whole leader.book c.in-Ok.ensures.2 in
+    let led = c.in_ok-leader.ensures in
+    let exact = exactly_marked graph leader.book.setup setup c.in_ok-leader.leader c.close.result led.setup led.free.open_push led.saw c.close.ensures.0 in
     subst (MarksReachableOf graph) (sym c.new-2.ensures) exact

@@ -1,23 +1,25 @@
-use Rattle.std.proofs.Common.{ap, sym, subst, List, ℕ, ◌++◌, ◌∷◌, [], ◌∙◌, ◌≡◌}
+use Rattle.std.proofs.Common.{sym, ◌∷◌, [], ◌∙◌}
 use Rattle.std.proofs.lemmas.Bool.{false≢true}
-use Rattle.drain.specs.Working.{AreClaimed}
-use Rattle.drain.proofs.Claims.{marked_claimed, white_claimed}
+use Rattle.drain.proofs.AtHand.{backs, can_claim, marked_claimed, white_at_hand, white_claimed}
 use Rattle.drain.proofs.scan.Scan.claim.Goals as goal
 
-pub returns-then-claim : goal.returns-then-claim
-returns-then-claim g c =
-    let told = c.claim.ensures in
-    let list : List ℕ = c.args.self.now.list.items in
-    let claimed = white_claimed c.args.self.now.worker c.claim.new.worker told.pool c.args.object told.event.0 told.event.1 (told.event.2.0 c.if-claim.true) list in
-    let room : c.reserve.new.self.items ++ c.args.object ∷ [] ≡ list ++ c.args.object ∷ [] = ap (λ (xs : List ℕ). xs ++ c.args.object ∷ []) c.reserve.ensures.items in
-    let pushed : c.push_reserved.new.self.items ≡ c.reserve.new.self.items ++ c.args.object ∷ [] = c.push_reserved.ensures.items in
-    let grown : c.push_reserved.new.self.items ≡ list ++ c.args.object ∷ [] = ◌∙◌ {A = List ℕ} pushed room in
-    subst (AreClaimed (c.args.object ∷ []) c.args.self.now.worker list c.claim.new.worker) (sym grown) claimed
+pub claim-requires-clause-can : goal.claim-requires-clause-can
+claim-requires-clause-can g c = can_claim c.args.self.now.pair c.requires.may.0 c.args.self.now.worker c.args.object c.requires.may.1 c.requires.may.2
 
-pub returns-else-claim : goal.returns-else-claim
-returns-else-claim g c =
+pub returns-then-not-claim : goal.returns-then-not-claim
+returns-then-not-claim g c =
     let told = c.claim.ensures in
-    let list : List ℕ = c.args.self.now.list.items in
-    let claimed = marked_claimed c.args.self.now.worker c.claim.new.worker told.pool c.args.object told.event.0 told.event.1 (λ white. false≢true (sym c.if-claim.false ∙ told.event.2.1 white)) list in
-    let same : c.reserve.new.self.items ≡ list = c.reserve.ensures.items in
-    subst (AreClaimed (c.args.object ∷ []) c.args.self.now.worker list c.claim.new.worker) (sym same) claimed
+    marked_claimed c.args.self.now.worker c.claim.new.worker told.pool c.args.object told.event.0 told.event.1 (λ white. false≢true (sym c.if-not-claim.true ∙ told.event.2.1 white)) c.args.self.now.pair
+
+pub put-requires-clause-backed : goal.put-requires-clause-backed
+put-requires-clause-backed g c =
+    let told = c.claim.ensures in
+    let white = told.event.2.0 c.if-not-claim.false in
+    let hand = white_at_hand c.args.self.now.worker c.claim.new.worker told.pool c.args.object told.event.0 told.event.1 white c.args.self.now.pair c.requires.may.0 c.requires.may.1 in
+    backs c.args.self.now.pair (c.args.object ∷ []) c.requires.may.0 c.claim.new.worker hand
+
+pub returns-in-Ok : goal.returns-in-Ok
+returns-in-Ok g c =
+    let told = c.claim.ensures in
+    let white = told.event.2.0 c.if-not-claim.false in
+    white_claimed c.args.self.now.worker c.claim.new.worker told.pool c.args.object told.event.0 told.event.1 white c.args.self.now.pair c.put.new.self c.put.new.worker c.in-Ok.ensures.pool c.in-Ok.ensures.put c.in-Ok.ensures.going

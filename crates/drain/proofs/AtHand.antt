@@ -1,0 +1,181 @@
+-- What a worker with its pair has after each call.
+use Rattle.std.proofs.Common.{◌≡◌, ◌≢◌, ℕ, ◌+◌, ◌<◌, List, [], ◌∷◌, ◌++◌, All, Contains, false, get_or, if◌then◌else◌, ◌==◌, cond, eq-eqb, ne_eqb, ap, sym, refl, subst, ◌∙◌, inl, inr, ⊎_elim, arith}
+use Rattle.std.proofs.lemmas.List.Elements.{All-from_get_or, Contains-append_cases, Contains-append_left, Contains-get_or, Contains-push, Contains-push_cases}
+use Rattle.mark_core.specs.Lists.{times, only}
+use Rattle.mark_core.specs.World.{Setup}
+use Rattle.mark_core.specs.Event.{CanClaim, CanFinish}
+use Rattle.mark_core.proofs.Sums.{only-same, stands_times, times-remove_one, times_stands, total-append}
+use Rattle.buffer_pool.specs.Book.{Book, claimed, finished}
+use Rattle.buffer_pool.specs.Calls.{Holder}
+use Rattle.work_pair.specs.Deals.{Deals}
+use Rattle.work_pair.specs.Places.{AreOfSize, IsBacked, IsOpen, Places, items_of, no_places, numbers_of}
+use Rattle.drain.specs.working.AtWork.{AreClaimed, GoesOn, HasAtHand, IsFree, IsThrough, MayClaim}
+
+pub goes_on_at_all : (w : Holder) → GoesOn w w
+goes_on_at_all w = record { pool = refl; setup = refl; share = refl; seen = λ o h. h }
+
+pub goes_on_again : (a b c : Holder) → GoesOn a b → GoesOn b c → GoesOn a c
+goes_on_again a b c s t = record {
+  pool = t.pool ∙ s.pool;
+  setup = t.setup ∙ s.setup;
+  share = t.share ∙ s.share;
+  seen = λ o h. t.seen o (s.seen o h);
+}
+
+-- a list in which nothing stands is empty
+pub nothing : (xs : List ℕ) → ((o : ℕ) → times o xs ≡ 0) → xs ≡ []
+nothing [] none = refl
+nothing (x ∷ xs) none = absurd (omega (arith, none x, only-same x x refl))
+
+-- an object of a list of one
+pub only_member : (a o : ℕ) → Contains (a ∷ []) o → a ≡ o
+only_member a o h = ⊎_elim (λ e. absurd (omega (arith, e.1))) (λ e. e) (Contains-push_cases [] a o h)
+
+-- a free worker before it has a pair
+pub free_hand : (w : Holder) → IsFree w → HasAtHand no_places [] w
+free_hand w free = record {
+  going = record { going = refl; third = refl };
+  sized = record { first = tt; second = tt; third = tt };
+  held = λ i. ap (times i) free.held;
+  charge = λ o. ap (times o) free.charge;
+}
+
+-- and once its pair is gone
+pub gone_free : (w : Holder) → HasAtHand no_places [] w → w.book.account.open_push ≡ false → IsFree w
+gone_free w hand closed = record {
+  held = nothing w.book.account.held hand.held;
+  charge = nothing w.book.account.charge (λ o. hand.charge o);
+  open_push = closed;
+}
+
+-- the worker holds the buffers of its pair, and answers for the items and for what it puts
+pub backs : (p : Places) (put rest : List ℕ) (w : Holder) → HasAtHand p (put ++ rest) w → IsBacked p put w.book
+backs p put rest w hand = record {
+  held = λ i. omega (arith, hand.held i);
+  charged = λ o. omega (arith, hand.charge o, total-append (only o) (items_of p) put, total-append (only o) put rest);
+  sized = hand.sized;
+}
+
+module _ (old : Places) (before : Holder) (put got : List ℕ) (new : Places) (after : Holder) (deals : Deals old before.book put got new after.book) where
+  -- what was put is in the pair, or went with a buffer of it, and what was got is not
+  pub dealt : (rest : List ℕ) → IsOpen new → HasAtHand old (put ++ rest) before → HasAtHand new (got ++ rest) after
+  dealt rest going was = record {
+    going = going;
+    sized = deals.backed.sized;
+    held = λ i. omega (arith, deals.held i, deals.buffers i, was.held i);
+    charge = λ o. omega (arith, deals.charge o, deals.items o, was.charge o, total-append (only o) put rest, total-append (only o) got rest);
+  }
+
+  pub dealt_goes_on : after.pool ≡ before.pool → GoesOn before after
+  dealt_goes_on pool = record {
+    pool = pool;
+    setup = deals.kept.setup;
+    share = deals.kept.share;
+    seen = λ o h. subst (λ (xs : List ℕ). Contains xs o) (sym deals.kept.seen) h;
+  }
+
+-- what may be claimed by what the worker has at hand
+pub can_claim : (p : Places) (besides : List ℕ) (w : Holder) (o : ℕ) → HasAtHand p besides w → MayClaim w.book.setup besides o → CanClaim w.book.setup o w.book.account
+can_claim p besides w o hand may = ⊎_elim inl
+    (λ by.
+    let here = stands_times besides by.0 by.1 in
+    inr (by.0, times_stands w.book.account.charge by.0 (omega (arith, here, hand.charge by.0)), by.2))
+    may
+
+module _ (old new : Holder) (pool : new.pool ≡ old.pool) (o found : ℕ) (is : new.book ≡ claimed o found old.book) where
+  seen_is : new.book.account.seen ≡ old.book.account.seen ++ o ∷ []
+  seen_is = ap (λ (c : Book). c.account.seen) is
+
+  setup_is : new.book.setup ≡ old.book.setup
+  setup_is = ap (λ (c : Book). c.setup) is
+
+  charge_is : new.book.account.charge ≡ (if found == 0 then old.book.account.charge ++ o ∷ [] else old.book.account.charge)
+  charge_is = ap (λ (c : Book). c.account.charge) is
+
+  pub claimed_goes_on : GoesOn old new
+  claimed_goes_on = record {
+    pool = pool;
+    setup = setup_is;
+    share = ap (λ (c : Book). c.account.share) is;
+    seen = λ x h. subst (λ xs. Contains xs x) (sym seen_is) (Contains-append_left old.book.account.seen (o ∷ []) x h);
+  }
+
+  pub saw_it : (x : ℕ) → Contains (o ∷ []) x → Contains new.book.account.seen x
+  saw_it x h = subst (λ xs. Contains xs x) (sym seen_is) (subst (Contains (old.book.account.seen ++ o ∷ [])) (only_member o x h) (Contains-push old.book.account.seen o))
+
+  -- a white object is answered for
+  pub white_at_hand : found ≡ 0 → (p : Places) (besides : List ℕ) → HasAtHand p besides old → HasAtHand p (o ∷ besides) new
+  white_at_hand white p besides was =
+      let charge : new.book.account.charge ≡ old.book.account.charge ++ o ∷ [] = charge_is ∙ ap (λ t. cond t (old.book.account.charge ++ o ∷ []) old.book.account.charge) (eq-eqb found 0 white) in
+      record {
+        going = was.going;
+        sized = subst (λ (e : Setup). AreOfSize e.size p) (sym setup_is) was.sized;
+        held = λ i. ap (λ (c : Book). times i c.account.held) is ∙ was.held i;
+        charge = λ x. omega (arith, ap (times x) charge, total-append (only x) old.book.account.charge (o ∷ []), total-append (only x) (o ∷ []) besides, was.charge x);
+      }
+
+  -- a marked one is not
+  pub marked_at_hand : found ≢ 0 → (p : Places) (besides : List ℕ) → HasAtHand p besides old → HasAtHand p besides new
+  marked_at_hand marked p besides was =
+      let charge : new.book.account.charge ≡ old.book.account.charge = charge_is ∙ ap (λ t. cond t (old.book.account.charge ++ o ∷ []) old.book.account.charge) (ne_eqb found 0 marked) in
+      record {
+        going = was.going;
+        sized = subst (λ (e : Setup). AreOfSize e.size p) (sym setup_is) was.sized;
+        held = λ i. ap (λ (c : Book). times i c.account.held) is ∙ was.held i;
+        charge = λ x. ap (times x) charge ∙ was.charge x;
+      }
+
+  pub marked_claimed : found ≢ 0 → (p : Places) → AreClaimed (o ∷ []) p old p new
+  marked_claimed marked p = record { goes_on = claimed_goes_on; saw = saw_it; hand = marked_at_hand marked p }
+
+  pub white_claimed : found ≡ 0 → (p q : Places) (end : Holder) → end.pool ≡ new.pool → Deals p new.book (o ∷ []) [] q end.book → IsOpen q → AreClaimed (o ∷ []) p old q end
+  white_claimed white p q end same deals going =
+      let on = dealt_goes_on p new (o ∷ []) [] q end deals same in
+      record {
+        goes_on = goes_on_again old new end claimed_goes_on on;
+        saw = λ x h. on.seen x (saw_it x h);
+        hand = λ besides was. dealt p new (o ∷ []) [] q end deals besides going (white_at_hand white p besides was);
+      }
+
+pub none_claimed : (p : Places) (w : Holder) → AreClaimed [] p w p w
+none_claimed p w = record { goes_on = goes_on_at_all w; saw = λ o h. absurd (omega (arith, h.1)); hand = λ besides was. was }
+
+-- some objects, and then others
+pub more_claimed : (xs ys : List ℕ) (p q r : Places) (a b c : Holder) → AreClaimed xs p a q b → AreClaimed ys q b r c → AreClaimed (xs ++ ys) p a r c
+more_claimed xs ys p q r a b c first next = record {
+  goes_on = goes_on_again a b c first.goes_on next.goes_on;
+  saw = λ o h. ⊎_elim (λ k. next.goes_on.seen o (first.saw o k)) (next.saw o) (Contains-append_cases xs ys o h);
+  hand = λ besides was. next.hand besides (first.hand besides was);
+}
+
+-- the scanned object may be finished once all that it refers to was claimed, and then it is no longer at hand
+module _ (o : ℕ) (p : Places) (mid : Holder) (hand : HasAtHand p (o ∷ []) mid) where
+  charged : 0 < times o mid.book.account.charge
+  charged = omega (arith, hand.charge o, only-same o o refl)
+
+  pub may_finish : ((s : ℕ) → Contains mid.book.setup.pairs (o, s) → Contains mid.book.account.seen s) → CanFinish mid.book.setup o mid.book.account
+  may_finish saw = (times_stands mid.book.account.charge o charged, saw)
+
+  pub scanned : (new : Holder) → new.pool ≡ mid.pool → new.book ≡ finished o mid.book → GoesOn mid new × HasAtHand p [] new
+  scanned new pool is = (
+    record {
+      pool = pool;
+      setup = ap (λ (c : Book). c.setup) is;
+      share = ap (λ (c : Book). c.account.share) is;
+      seen = λ x h. subst (λ xs. Contains xs x) (sym (ap (λ (c : Book). c.account.seen) is)) h;
+    },
+    record {
+      going = hand.going;
+      sized = subst (λ (e : Setup). AreOfSize e.size p) (sym (ap (λ (c : Book). c.setup) is)) hand.sized;
+      held = λ i. ap (λ (c : Book). times i c.account.held) is ∙ hand.held i;
+      charge = λ x. ap (λ (c : Book). times x c.account.charge) is ∙ omega (arith, times-remove_one x o mid.book.account.charge charged, hand.charge x);
+    },
+  )
+
+-- all that the scanned object refers to may be claimed
+pub all_claimable : (o : ℕ) (nexts : List ℕ) (e : Setup) → ((s : ℕ) → Contains nexts s → Contains e.pairs (o, s)) → All (MayClaim e (o ∷ [])) nexts
+all_claimable o nexts e pairs = All-from_get_or (MayClaim e (o ∷ [])) nexts 0 (λ k inside. inr (o, Contains-push [] o, pairs (get_or nexts k 0) (Contains-get_or nexts k 0 inside)))
+
+-- an object that was got
+pub got_is_object : (o : ℕ) (p : Places) (w : Holder) → HasAtHand p (o ∷ []) w → ((x : ℕ) → Contains w.book.account.charge x → x < w.book.setup.objects) → o < w.book.setup.objects
+got_is_object o p w hand within = within o (times_stands w.book.account.charge o (charged o p w hand))

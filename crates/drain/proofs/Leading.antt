@@ -1,0 +1,59 @@
+-- The leader, as it gives away units and takes workers in.
+use Rattle.std.proofs.Common.{◌≡◌, ℕ, ◌+◌, ◌<◌, List, [], ◌++◌, Contains, ap, sym, refl, subst, ◌∙◌, arith}
+use Rattle.std.proofs.lemmas.List.Elements.{Contains-append_left}
+use Rattle.mark_core.specs.Lists.{times, only}
+use Rattle.mark_core.specs.World.{Setup}
+use Rattle.mark_core.proofs.Sums.{total-append}
+use Rattle.buffer_pool.specs.Book.{Book, joined, new_book, parted}
+use Rattle.buffer_pool.specs.Calls.{Holder}
+use Rattle.work_pair.specs.Places.{AreOfSize, Places}
+use Rattle.drain.specs.working.AtWork.{HasAtHand, IsFree, Leads}
+
+pub leads_at_all : (w : Holder) → Leads w w
+leads_at_all w = record { pool = refl; setup = refl; seen = λ o h. h; held = λ i. refl; charge = λ o. refl }
+
+pub leads_again : (a b c : Holder) → Leads a b → Leads b c → Leads a c
+leads_again a b c s t = record {
+  pool = t.pool ∙ s.pool;
+  setup = t.setup ∙ s.setup;
+  seen = λ o h. t.seen o (s.seen o h);
+  held = λ i. t.held i ∙ s.held i;
+  charge = λ o. t.charge o ∙ s.charge o;
+}
+
+-- it gave units away
+pub gave_away : (old new : Holder) (units : ℕ) → new.pool ≡ old.pool → new.book ≡ parted units old.book → Leads old new
+gave_away old new units pool is = record {
+  pool = pool;
+  setup = ap (λ (b : Book). b.setup) is;
+  seen = λ o h. subst (λ (xs : List ℕ). Contains xs o) (sym (ap (λ (b : Book). b.account.seen) is)) h;
+  held = λ i. ap (λ (b : Book). times i b.account.held) is;
+  charge = λ o. ap (λ (b : Book). times o b.account.charge) is;
+}
+
+-- it took in a worker that is free
+pub took_in : (old other new : Holder) → new.pool ≡ old.pool → new.book ≡ joined old.book other.book → IsFree other → Leads old new
+took_in old other new pool is free = record {
+  pool = pool;
+  setup = ap (λ (b : Book). b.setup) is;
+  seen = λ o h. subst (λ (xs : List ℕ). Contains xs o) (sym (ap (λ (b : Book). b.account.seen) is)) (Contains-append_left old.book.account.seen other.book.account.seen o h);
+  held = λ i. omega (arith, ap (λ (b : Book). times i b.account.held) is, total-append (only i) old.book.account.held other.book.account.held, ap (times i) free.held);
+  charge = λ o. omega (arith, ap (λ (b : Book). times o b.account.charge) is, total-append (only o) old.book.account.charge other.book.account.charge, ap (times o) free.charge);
+}
+
+-- its pair is its pair still
+pub leads_on : (p : Places) (old new : Holder) → Leads old new → HasAtHand p [] old → HasAtHand p [] new
+leads_on p old new leads was = record {
+  going = was.going;
+  sized = subst (λ (e : Setup). AreOfSize e.size p) (sym leads.setup) was.sized;
+  held = λ i. leads.held i ∙ was.held i;
+  charge = λ o. leads.charge o ∙ was.charge o;
+}
+
+-- a worker that was just made is free
+pub new_free : (w : Holder) (e : Setup) (units : ℕ) → w.book ≡ new_book e units → IsFree w
+new_free w e units is = record {
+  held = ap (λ (b : Book). b.account.held) is;
+  charge = ap (λ (b : Book). b.account.charge) is;
+  open_push = ap (λ (b : Book). b.account.open_push) is;
+}

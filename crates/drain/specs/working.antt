@@ -1,0 +1,5 @@
+pub mod AtWork
+pub mod Duties
+pub mod Pairs
+pub mod Stops
+pub mod Walk

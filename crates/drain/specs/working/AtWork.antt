@@ -1,0 +1,75 @@
+-- What a worker has between its calls.
+use Rattle.std.specs.Prelude.{Contains, List, [], false, ℕ, ◌+◌, ◌≡◌, ◌⊎◌}
+use Rattle.mark_core.specs.Lists.{times}
+use Rattle.mark_core.specs.World.{Setup}
+use Rattle.buffer_pool.specs.Calls.{Holder}
+use Rattle.work_pair.specs.Places.{AreOfSize, IsOpen, Places, items_of, numbers_of}
+
+-- These are the objects, the roots and the references of a graph.
+pub record IsSetupOf (count : ℕ) (root_list : List ℕ) (pair_list : List (ℕ × ℕ)) (e : Setup) : Type 0 where
+  pub objects : e.objects ≡ count
+  pub roots : e.roots ≡ root_list
+  pub pairs : e.pairs ≡ pair_list
+
+-- The worker is of the same pool, has the same share, and has seen what it saw before.
+pub record GoesOn (old new : Holder) : Type 0 where
+  pub pool : new.pool ≡ old.pool
+  pub setup : new.book.setup ≡ old.book.setup
+  pub share : new.book.account.share ≡ old.book.account.share
+  pub seen : (o : ℕ) → Contains old.book.account.seen o → Contains new.book.account.seen o
+
+-- A worker with its pair: it holds the pair's buffers and no others, and answers for the pair's items and for these
+-- objects, which it is about to put or to finish, and for no others.
+pub record HasAtHand (p : Places) (besides : List ℕ) (w : Holder) : Type 0 where
+  pub going : IsOpen p
+  pub sized : AreOfSize w.book.setup.size p
+  pub held : (i : ℕ) → times i w.book.account.held ≡ times i (numbers_of p)
+  pub charge : (o : ℕ) → times o w.book.account.charge ≡ times o (items_of p) + times o besides
+
+-- What it answered for beside the pair's items it answers for still.
+abbrev pub StaysAtHand : Places → Holder → Places → Holder → Type 0
+StaysAtHand old_pair old new_pair new = (besides : List ℕ) → HasAtHand old_pair besides old → HasAtHand new_pair besides new
+
+-- A worker that answers for these objects may claim this one: it is a root, or one of them refers to it.
+abbrev pub MayClaim : Setup → List ℕ → ℕ → Type 0
+MayClaim e besides o = Contains e.roots o ⊎ ((p : ℕ) × Contains besides p × Contains e.pairs (p, o))
+
+-- These objects were claimed: they were seen, and those that were white are in the pair, or went with a buffer of it.
+pub record AreClaimed (objects : List ℕ) (old_pair : Places) (old : Holder) (new_pair : Places) (new : Holder) : Type 0 where
+  pub goes_on : GoesOn old new
+  pub saw : (o : ℕ) → Contains objects o → Contains new.book.account.seen o
+  pub hand : StaysAtHand old_pair old new_pair new
+
+-- It holds no buffer, answers for nothing, and has no open push.
+pub record IsFree (w : Holder) : Type 0 where
+  pub held : w.book.account.held ≡ []
+  pub charge : w.book.account.charge ≡ []
+  pub open_push : w.book.account.open_push ≡ false
+
+-- Its pair has no items, and it has no open push.
+abbrev pub HasNoneLeft : Places → Holder → Type 0
+HasNoneLeft p w = (items_of p ≡ []) × (w.book.account.open_push ≡ false)
+
+-- A worker is through: it went on from where it began, and is free.
+abbrev pub IsThrough : Holder → Holder → Type 0
+IsThrough begun w = GoesOn begun w × IsFree w
+
+-- It saw each root marked.
+abbrev pub SawRoots : Holder → Type 0
+SawRoots w = (o : ℕ) → Contains w.book.setup.roots o → Contains w.book.account.seen o
+
+-- The leader, while others have parts of its share: it holds the same buffers, and answers for the same objects.
+pub record Leads (old new : Holder) : Type 0 where
+  pub pool : new.pool ≡ old.pool
+  pub setup : new.book.setup ≡ old.book.setup
+  pub seen : (o : ℕ) → Contains old.book.account.seen o → Contains new.book.account.seen o
+  pub held : (i : ℕ) → times i new.book.account.held ≡ times i old.book.account.held
+  pub charge : (o : ℕ) → times o new.book.account.charge ≡ times o old.book.account.charge
+
+-- The leader at the end: it has these units, is free, and saw each root.
+pub record HasLed (units : ℕ) (begun w : Holder) : Type 0 where
+  pub pool : w.pool ≡ begun.pool
+  pub setup : w.book.setup ≡ begun.book.setup
+  pub share : w.book.account.share ≡ units
+  pub free : IsFree w
+  pub saw : SawRoots w
