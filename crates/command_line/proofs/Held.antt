@@ -129,8 +129,7 @@ module _ (old : Command) (m : ArgMatches) (p : IsParsedFrom old m) (no_groups : 
           ] in
           let reading : x.reading ≡ reading_of q = ap (λ (y : MatchedArg). y.reading) (sym got.1) ∙ how in
           let some : 0 < length x.vals.items = subst (λ (y : MatchedArg). 0 < length y.vals.items) got.1 (filled got.0 key pass) in
-          let head = first (λ v. PassesArg p.built id v.now) (reading_of q) x.vals.items some values in
-          (
+          let head = first (λ v. PassesArg p.built id v.now) (reading_of q) x.vals.items some values in (
             head.0.now,
             first_at (found_of m) id x head.0.now found head.1,
             read_at (found_of m) id x (reading_of q) (read_as (reading_of q) head.0.now) found reading head.2,

@@ -72,12 +72,7 @@ fn first_tag<'a>(alloc: Global) -> Arg<'a>
 }
 
 /// An option with one of these values, and a default.
-fn option<'a>(
-    alloc: Global,
-    name: &'a str,
-    values: ValueParser<'a>,
-    default: &'a str,
-) -> Arg<'a>
+fn option<'a>(alloc: Global, name: &'a str, values: ValueParser<'a>, default: &'a str) -> Arg<'a>
     ensures rule { rule_of result ≡ option_rule name.entry.now values.entry default.entry.now }
     ensures local { result.global ≡ false }
 {

@@ -58,12 +58,20 @@ fn last_tags_and_least_buffers(rt: HostRuntime) -> Result<(), Fail> {
     // the first exchange is one too many
     rows.push(refusal(two_objects(alloc)?, (4, 256, 1024, LAST_TAG), 16))?;
     // without objects the leader and the worker pop two buffers each, and push them again: eight exchanges
-    rows.push(reported(no_objects(alloc)?, (1, 256, 1024, LAST_TAG - 8), NOTHING_REPORT))?;
+    rows.push(reported(
+        no_objects(alloc)?,
+        (1, 256, 1024, LAST_TAG - 8),
+        NOTHING_REPORT,
+    ))?;
     rows.push(refusal(no_objects(alloc)?, (1, 256, 1024, LAST_TAG - 7), 16))?;
     // 64 successors do not find room in four buffers of two
     rows.push(refusal(wide_array(alloc)?, (1, 2, 4, 0), 17))?;
     for workers in [1, 2, 64] {
-        rows.push(reported(wide_array(alloc)?, (workers, 256, 1024, 0), WIDE_ARRAY_REPORT))?;
+        rows.push(reported(
+            wide_array(alloc)?,
+            (workers, 256, 1024, 0),
+            WIDE_ARRAY_REPORT,
+        ))?;
     }
     // seven roots take all four buffers: the worker has no pair, and the leader scans what it could not give away
     rows.push(reported(roots_alone(alloc, 7)?, (1, 2, 4, 0), SEVEN_ROOTS))?;
