@@ -1,8 +1,7 @@
-//! The dump of two objects cut, and changed byte by byte.
+//! The dump of two objects cut at each length.
 
 use super::dumps::{NOTHING_REPORT, TWO_OBJECTS_REPORT, two_objects};
 use super::{least, refused, run_with};
-use crate::Refusal;
 use std::test::Fail;
 
 /// The lengths from the first to the last, and the code and place of their refusal.
@@ -109,43 +108,6 @@ fn a_heap_record_that_is_cut_ends_at_a_sub_record(rt: HostRuntime) -> Result<(),
         let (outcome, written) = run_with(&rt, alloc, &least(2), cut, Vec::new(alloc));
         assert_eq!(rt; outcome, Ok(()), "{length} bytes");
         assert_eq!(rt; written.as_slice(), report.as_bytes(), "{length} bytes");
-    }
-    Ok(())
-}
-
-#[test]
-fn a_changed_byte_changes_no_answer_with_the_workers(rt: HostRuntime) -> Result<(), Fail> {
-    let alloc = rt.alloc();
-    let mut dump = two_objects(alloc)?;
-    for place in 0..174usize {
-        let right = dump.bytes.get(place).copied().unwrap_or(0);
-        for value in 0..=255u8 {
-            put(&mut dump.bytes, place, value);
-            let (one, report) = run_with(
-                &rt,
-                alloc,
-                &least(1),
-                dump.bytes.as_slice(),
-                Vec::new(alloc),
-            );
-            let (two, other) = run_with(
-                &rt,
-                alloc,
-                &least(2),
-                dump.bytes.as_slice(),
-                Vec::new(alloc),
-            );
-            assert_eq!(rt; one, two, "{value} at {place}");
-            assert_eq!(rt; report.as_slice(), other.as_slice(), "{value} at {place}");
-            match one {
-                Ok(()) => assert!(rt; !report.is_empty(), "{value} at {place}"),
-                Err(Refusal { code, offset }) => {
-                    assert!(rt; code <= 14 && offset.is_some(), "{value} at {place}");
-                    assert!(rt; report.is_empty(), "{value} at {place}");
-                }
-            }
-        }
-        put(&mut dump.bytes, place, right);
     }
     Ok(())
 }
