@@ -1,3 +1,4 @@
 pub mod Accepted
 pub mod Codes
 pub mod Faults
+mod OfMarking

@@ -114,6 +114,9 @@ where
         Ok(graph) => graph,
         Err(refusal) => return Err(Refusal::from(refusal)),
     };
-    let marked = mark(rt, alloc, &graph, options, gate)?;
+    let marked = match mark(rt, alloc, &graph, options, gate) {
+        Ok(marked) => marked,
+        Err(fault) => return Err(Refusal::from(fault)),
+    };
     Ok(rows(alloc, &graph, &marked)?)
 }
