@@ -55,7 +55,7 @@ fn check<T: Abort + Threads + Wait + Sync>(
     }
 }
 
-static REPORTED: [Reported; 10] = [
+static REPORTED: [Reported; 12] = [
     (
         "two more that no root reaches",
         4,
@@ -273,6 +273,52 @@ static REPORTED: [Reported; 10] = [
             (1, 2, "char[]"),
             (1, 1, "boolean[]"),
             (8, 60, "(reachable)"),
+            (0, 0, "(unreachable)"),
+            (0, 0, "(unresolved)"),
+        ],
+    ),
+    (
+        "a class before its superclass",
+        4,
+        &[
+            Text(1, b"A"),
+            Text(3, b"B"),
+            Load(0x100, 1),
+            Load(0x110, 3),
+            Heap(&[
+                Class(0x110, 0x100, &[10]),
+                Class(0x100, 0, &[2]),
+                Instance(0x301, 0x110, &[0, 0, 0, 5, 0, 0, 2, 2]),
+                Instance(0x202, 0x100, &[0, 0, 0, 0]),
+                Root(0x301),
+            ]),
+        ],
+        &[
+            (1, 8, "B"),
+            (1, 4, "A"),
+            (2, 0, "<class>"),
+            (4, 12, "(reachable)"),
+            (0, 0, "(unreachable)"),
+            (0, 0, "(unresolved)"),
+        ],
+    ),
+    (
+        "three classes, each above the one before it",
+        4,
+        &[Heap(&[
+            Class(0x120, 0x110, &[9]),
+            Class(0x110, 0x100, &[2]),
+            Class(0x100, 0, &[8, 2]),
+            Instance(0x201, 0x120, &[0, 7, 0, 0, 2, 2, 5, 0, 0, 2, 3]),
+            Instance(0x202, 0x100, &[0, 0, 0, 0, 0]),
+            Instance(0x203, 0x100, &[1, 0, 0, 2, 1]),
+            Root(0x201),
+        ])],
+        &[
+            (1, 11, "?0x120"),
+            (2, 10, "?0x100"),
+            (3, 0, "<class>"),
+            (6, 21, "(reachable)"),
             (0, 0, "(unreachable)"),
             (0, 0, "(unresolved)"),
         ],
