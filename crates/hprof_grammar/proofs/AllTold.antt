@@ -1,19 +1,17 @@
 -- A text spells a dump or has a first fault: the parser's steps on lists, told for every text of bytes.
-use Rattle.std.proofs.Common.{Bool, Err, List, None, Ok, Option, Result, Some, [], ap, append-nil, append_assoc, arith, drop, false, flat_map, inl, inr, length, length-append, map, refl, slice_index, subst, suc, sym, take, true, zero, ℕ, ◌++◌, ◌+◌, ◌-◌, ◌<◌, ◌^◌, ◌∙◌, ◌∷◌, ◌≡◌, ◌≤◌, ◌⊎◌}
-use Rattle.std.specs.List.{AllByRecursion, starts_with}
+use Rattle.std.proofs.Common.{Bool, Err, List, None, Ok, Option, Result, Some, [], ap, append-nil, arith, drop, false, flat_map, inl, inr, length, length-append, refl, subst, suc, sym, true, zero, ℕ, ◌++◌, ◌+◌, ◌-◌, ◌<◌, ◌∷◌, ◌≡◌, ◌≤◌, ◌⊎◌}
+use Rattle.std.specs.List.{starts_with}
 use Rattle.std.specs.Prelude.{nat_eq, nat_lt, ◌==◌}
 use Rattle.std.proofs.lemmas.Bool.Decides.{nat_tests}
-use Rattle.std.proofs.Math.Seq.{take-append_seam}
 use Rattle.byteorder.specs.Endian.{big_bytes, big_number}
-use Rattle.byteorder.specs.Numbers.{length-bytes_high_first}
-use Rattle.hprof_grammar.specs.Dump.{IsDumpOf, Places, limit, magic}
-use Rattle.hprof_grammar.specs.Fault.{AreBytes, FirstFault, HasFirstFault, SpellsDump}
+use Rattle.hprof_grammar.specs.Dump.{Places, limit, magic}
+use Rattle.hprof_grammar.specs.Fault.{AreBytes, HasFirstFault, SpellsDump}
 use Rattle.hprof_grammar.specs.Fault.FirstFault.{bad_header, short_header, too_large}
 use Rattle.hprof_grammar.specs.working.Joining.{AddsAll, AddsRecord, AddsRecords, AddsSubs, FrameFault, HasHeader, HasRecordFault, HasSubFault, noted, nothing_of, with_loaded, with_string}
 use Rattle.hprof_grammar.specs.working.Joining.FrameFault.{wrong_length, wrong_order}
-use Rattle.hprof_grammar.specs.working.Orders.{IsAt, StepsTo, is_done}
+use Rattle.hprof_grammar.specs.working.Orders.{StepsTo, is_done}
 use Rattle.hprof_grammar.specs.working.Reading.{behind, code_of, frame_at, sub_record_at}
-use Rattle.hprof_grammar.specs.Record.{IsOther, framed}
+use Rattle.hprof_grammar.specs.Record.{framed}
 use Rattle.hprof_grammar.specs.SubRecord.{IsSubRecord, SubRecord, origin_kind, spelling_of, tag_of}
 use Rattle.hprof_grammar.specs.SubRecord.SubRecord.{class_dump, instance_dump, object_array_dump, primitive_array_dump, root}
 use Rattle.hprof_grammar.specs.Tables.{is_heap_tag, is_id_size, is_length_of, is_snapshot_tag, kind_of}
@@ -23,7 +21,7 @@ use Rattle.hprof_grammar.specs.declared.order.Order.{Order}
 use Rattle.hprof_grammar.specs.declared.order.Order.TheVariants.{Before, Ended, Segments, Whole}
 use Rattle.hprof_grammar.specs.declared.tables.Kind.{Kind}
 use Rattle.hprof_grammar.specs.declared.tables.Kind.TheVariants as kinds
-use Rattle.hprof_grammar.proofs.Bytes.{IsBytes, bytes-behind, bytes-drop, bytes-front, bytes-tail}
+use Rattle.hprof_grammar.proofs.Bytes.{IsBytes, bytes-behind, bytes-drop, bytes-front}
 use Rattle.hprof_grammar.proofs.Framed.{IsPlacedFrame, heap_broken, heap_framed, load_framed, other_framed, string_framed}
 use Rattle.hprof_grammar.proofs.Frames.{FrameTaken, cut_record, frame_takes}
 use Rattle.hprof_grammar.proofs.Headers.{begins_with_magic, dump_read, header_stands, id_size_wrong, magic_is_found, record_fault_read}

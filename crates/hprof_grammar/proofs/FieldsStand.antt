@@ -60,10 +60,10 @@ instance_count {v} {w} e at i h =
     let s = w.id_size in
     number_stands w.bytes at 0x21 (at + 5 + 2 * s) (number s i.object ∷ number 4 i.stack ∷ number s i.class ∷ []) 4 (length i.values) (raw i.values ∷ []) (instance_stands e at i h) (in_sight v w at (instance_dump i) e h).is.formed.1.values (omega arith)
 
-pub instance_values : {v w : Sight} → w ≡ v → (at : ℕ) (i : Instance) → Stands v at (instance_dump i) → Spell w.bytes (at + 5 + 2 * w.id_size + 4) i.values
+pub instance_values : {v w : Sight} → w ≡ v → (at : ℕ) (i : Instance) → Stands v at (instance_dump i) → Spell w.bytes (at + 9 + 2 * w.id_size) i.values
 instance_values {v} {w} e at i h =
     let s = w.id_size in
-    first_stands w.bytes (at + 5 + 2 * s + 4) i.values [] (fields_stand w.bytes at 0x21 (at + 5 + 2 * s + 4) (number s i.object ∷ number 4 i.stack ∷ number s i.class ∷ number 4 (length i.values) ∷ []) (raw i.values ∷ []) (instance_stands e at i h) (omega arith))
+    first_stands w.bytes (at + 9 + 2 * s) i.values [] (fields_stand w.bytes at 0x21 (at + 9 + 2 * s) (number s i.object ∷ number 4 i.stack ∷ number s i.class ∷ number 4 (length i.values) ∷ []) (raw i.values ∷ []) (instance_stands e at i h) (omega arith))
 
 -- ---- object arrays
 

@@ -1,5 +1,5 @@
 -- The formats of the parts of sub-records, one for each kind of part.
-use Rattle.std.proofs.Common.{List, [], length, refl, ℕ, ◌*◌, ◌<◌, ◌^◌, ◌∷◌, ◌≡◌}
+use Rattle.std.proofs.Common.{List, [], length, refl, ℕ, ◌*◌, ◌<◌, ◌^◌, ◌∷◌}
 use Rattle.std.proofs.lemmas.List.Concat.{flat_map_single}
 use Rattle.hprof_grammar.specs.working.Reading.{class_at, constant_at, instance_at, member_at, number_at, numbers_at, object_array_at, pair_at, primitive_array_at, static_at}
 use Rattle.hprof_grammar.specs.Spelling.Field.{number}

@@ -1,10 +1,10 @@
 -- The fields of roots, each at its place.
-use Rattle.std.proofs.Common.{List, None, Option, Some, [], arith, refl, subst, ℕ, ◌+◌, ◌<◌, ◌^◌, ◌∷◌, ◌≡◌}
+use Rattle.std.proofs.Common.{List, Some, [], arith, refl, subst, ℕ, ◌+◌, ◌<◌, ◌^◌, ◌∷◌, ◌≡◌}
 use Rattle.hprof_grammar.specs.RootFields.{RootSays, frame_of, reference_of, thread_of, trace_of}
 use Rattle.hprof_grammar.specs.Spelling.{Field, spelled}
 use Rattle.hprof_grammar.specs.Spelling.Field.{number}
 use Rattle.hprof_grammar.specs.Standing.{Sight, Stands, StandsAt}
-use Rattle.hprof_grammar.specs.SubRecord.{Root, RootOrigin, SubRecord, origin_kind, root_fields, spelling_of, tag_of}
+use Rattle.hprof_grammar.specs.SubRecord.{Root, RootOrigin, SubRecord, origin_kind, root_fields, tag_of}
 use Rattle.hprof_grammar.specs.SubRecord.RootOrigin.{java_frame, jni_global, jni_local, monitor_used, native_stack, sticky_class, thread_block, thread_object, unknown}
 use Rattle.hprof_grammar.specs.SubRecord.SubRecord.{root}
 use Rattle.hprof_grammar.specs.Tables.{kind_of, root_tag}

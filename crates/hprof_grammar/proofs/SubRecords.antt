@@ -1,5 +1,5 @@
 -- Sub-records: what is read was spelled, what is spelled is read, and a flaw shows the fault.
-use Rattle.std.proofs.Common.{Err, List, None, Ok, Option, Result, Some, [], ap, inl, inr, length, refl, subst, sym, ℕ, ◌++◌, ◌∙◌, ◌∷◌, ◌≡◌}
+use Rattle.std.proofs.Common.{Err, List, None, Ok, Option, Result, Some, [], ap, inl, inr, refl, subst, sym, ℕ, ◌++◌, ◌∙◌, ◌∷◌, ◌≡◌}
 use Rattle.hprof_grammar.specs.Fault.{SubFault}
 use Rattle.hprof_grammar.specs.Fault.SubFault.{short, unknown_tag, wrong_type}
 use Rattle.hprof_grammar.specs.working.Reading.{as_at, body_at, code_of, lone_root, root_at, root_with, root_with_two, sub_record_at}

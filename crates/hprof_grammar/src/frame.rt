@@ -11,7 +11,7 @@ use crate::reader::Reader;
 pub struct Frame<'a> {
     pub tag: u8,
     /// Microseconds since the time of the header.
-    pub time: u64,
+    pub time: u32,
     pub body: &'a [u8],
 }
 
@@ -26,8 +26,8 @@ pub fn next_frame<'a>(reader: &mut Reader<'a>) -> Result<Frame<'a>, Flaw>
     };
     let tag = *tag;
     reader.rest = behind;
-    let time = reader.number(4)?;
-    let length = reader.number(4)?;
-    let body = reader.raw(length)?;
+    let time = reader.u32()?;
+    let length = reader.u32()?;
+    let body = reader.raw(u64::from(length))?;
     Ok(Frame { tag, time, body })
 }

@@ -1,8 +1,7 @@
 //! Bytes that are read from left to right.
 
-ghost use Rattle.std.specs.Prelude.{◌≡◌, ◌<◌, ◌≤◌, ◌^◌, ◌==◌, IfOk, IsTrue, drop, length};
-ghost use Rattle.byteorder.specs.Endian.{big_number};
-ghost use Rattle.hprof_grammar.specs.working.Reading.{Gives, GivesAs, Passes, number_at, raw_at, type_at};
+ghost use Rattle.std.specs.Prelude.{◌≡◌, ◌==◌, length};
+ghost use Rattle.hprof_grammar.specs.working.Reading.{Gives, GivesAs, Passes, list_at, number_at, raw_at, type_at};
 
 use crate::flaw::Flaw;
 use crate::tables::{TypePlace, is_type_at};
@@ -12,17 +11,6 @@ use byteorder::{BigEndian, ByteOrder};
 #[derive(Clone, Copy)]
 pub struct Reader<'a> {
     pub rest: &'a [u8],
-}
-
-/// The number in the first `width` bytes.
-fn first_number(bytes: &[u8], width: u8) -> u64
-    requires low { 1 ≤ width }
-    requires high { width ≤ 8 }
-    requires room { width ≤ length bytes.now }
-    ensures value { result ≡ big_number width bytes.now }
-    ensures fits { result < 256 ^ width }
-{
-    BigEndian::read_uint(bytes, usize::from(width))
 }
 
 impl<'a> Reader<'a> {
@@ -40,22 +28,6 @@ impl<'a> Reader<'a> {
         self.rest.is_empty()
     }
 
-    /// A number of `width` bytes.
-    pub fn number(&mut self, width: u8) -> Result<u64, Flaw>
-        requires low { 1 ≤ width }
-        requires high { width ≤ 8 }
-        ensures reads { Gives result self.new.rest.now (number_at width self.old.rest.now) }
-        ensures fits { IfOk result (λ n. n < 256 ^ width) }
-    {
-        let bytes = self.rest;
-        let end = usize::from(width);
-        if bytes.len() < end {
-            return Err(Flaw::Short);
-        }
-        self.rest = &bytes[end..];
-        Ok(first_number(bytes, width))
-    }
-
     /// So many bytes, as they are.
     pub fn raw(&mut self, count: u64) -> Result<&'a [u8], Flaw>
         ensures { GivesAs (λ x. x.now) result self.new.rest.now (raw_at count self.old.rest.now) }
@@ -68,6 +40,41 @@ impl<'a> Reader<'a> {
         let (first, behind) = bytes.split_at(end);
         self.rest = behind;
         Ok(first)
+    }
+
+    /// A number of `width` bytes, passed and not looked at.
+    pub fn pass(&mut self, width: u8) -> Result<(), Flaw>
+        ensures { Passes result self.new.rest.now (number_at width self.old.rest.now) }
+    {
+        self.raw(u64::from(width))?;
+        Ok(())
+    }
+
+    /// So many numbers of `width` bytes, passed at once.
+    #[tactic(auto, using(crate::proofs::Counts::numbers_are_bytes))]
+    pub fn pass_all(&mut self, count: u32, width: u8) -> Result<(), Flaw>
+        ensures { Passes result self.new.rest.now (list_at (number_at width) count self.old.rest.now) }
+    {
+        self.raw(u64::from(count) * u64::from(width))?;
+        Ok(())
+    }
+
+    /// A number of 2 bytes.
+    pub fn u16(&mut self) -> Result<u16, Flaw>
+        ensures { Gives result self.new.rest.now (number_at 2 self.old.rest.now) }
+    {
+        let bytes = self.rest;
+        self.raw(2)?;
+        Ok(BigEndian::read_u16(bytes))
+    }
+
+    /// A number of 4 bytes.
+    pub fn u32(&mut self) -> Result<u32, Flaw>
+        ensures { Gives result self.new.rest.now (number_at 4 self.old.rest.now) }
+    {
+        let bytes = self.rest;
+        self.raw(4)?;
+        Ok(BigEndian::read_u32(bytes))
     }
 
     /// A type code that may stand there.

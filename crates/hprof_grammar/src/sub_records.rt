@@ -24,7 +24,7 @@ fn typed_value(reader: &mut Reader<'_>, id_size: u8, place: TypePlace) -> Result
 fn constant(reader: &mut Reader<'_>, id_size: u8) -> Result<(), Flaw>
     ensures { Passes result reader.new.rest.now (constant_at id_size reader.old.rest.now) }
 {
-    reader.number(2)?;
+    reader.pass(2)?;
     typed_value(reader, id_size, TypePlace::InConstant)
 }
 
@@ -34,7 +34,7 @@ fn static_field(reader: &mut Reader<'_>, id_size: u8) -> Result<(), Flaw>
     requires high { id_size ≤ 8 }
     ensures { Passes result reader.new.rest.now (static_at id_size reader.old.rest.now) }
 {
-    reader.number(id_size)?;
+    reader.pass(id_size)?;
     typed_value(reader, id_size, TypePlace::InStatic)
 }
 
@@ -44,7 +44,7 @@ fn member(reader: &mut Reader<'_>, id_size: u8) -> Result<(), Flaw>
     requires high { id_size ≤ 8 }
     ensures { Passes result reader.new.rest.now (member_at id_size reader.old.rest.now) }
 {
-    reader.number(id_size)?;
+    reader.pass(id_size)?;
     reader.type_code(TypePlace::InMember)?;
     Ok(())
 }
@@ -55,7 +55,7 @@ fn constants(reader: &mut Reader<'_>, id_size: u8) -> Result<(), Flaw>
     ensures { Passes result reader.new.rest.now
         (counted_at 2 (constant_at id_size) reader.old.rest.now) }
 {
-    let count = reader.number(2)?;
+    let count = reader.u16()?;
     for _i in 0..count {
         constant(reader, id_size)?;
     }
@@ -70,7 +70,7 @@ fn statics(reader: &mut Reader<'_>, id_size: u8) -> Result<(), Flaw>
     ensures { Passes result reader.new.rest.now
         (counted_at 2 (static_at id_size) reader.old.rest.now) }
 {
-    let count = reader.number(2)?;
+    let count = reader.u16()?;
     for _i in 0..count {
         static_field(reader, id_size)?;
     }
@@ -85,7 +85,7 @@ fn members(reader: &mut Reader<'_>, id_size: u8) -> Result<(), Flaw>
     ensures { Passes result reader.new.rest.now
         (counted_at 2 (member_at id_size) reader.old.rest.now) }
 {
-    let count = reader.number(2)?;
+    let count = reader.u16()?;
     for _i in 0..count {
         member(reader, id_size)?;
     }
@@ -99,15 +99,15 @@ fn class(reader: &mut Reader<'_>, id_size: u8) -> Result<(), Flaw>
     requires high { id_size ≤ 8 }
     ensures { Passes result reader.new.rest.now (class_at id_size reader.old.rest.now) }
 {
-    reader.number(id_size)?; // the object
-    reader.number(4)?; // the stack trace
-    reader.number(id_size)?; // the superclass
-    reader.number(id_size)?; // the class loader
-    reader.number(id_size)?; // the signers
-    reader.number(id_size)?; // the protection domain
-    reader.number(id_size)?; // reserved
-    reader.number(id_size)?; // reserved
-    reader.number(4)?; // the instance size
+    reader.pass(id_size)?; // the object
+    reader.pass(4)?; // the stack trace
+    reader.pass(id_size)?; // the superclass
+    reader.pass(id_size)?; // the class loader
+    reader.pass(id_size)?; // the signers
+    reader.pass(id_size)?; // the protection domain
+    reader.pass(id_size)?; // reserved
+    reader.pass(id_size)?; // reserved
+    reader.pass(4)?; // the instance size
     constants(reader, id_size)?;
     statics(reader, id_size)?;
     members(reader, id_size)
@@ -120,11 +120,11 @@ fn instance(reader: &mut Reader<'_>, id_size: u8) -> Result<(), Flaw>
     requires high { id_size ≤ 8 }
     ensures { Passes result reader.new.rest.now (instance_at id_size reader.old.rest.now) }
 {
-    reader.number(id_size)?; // the object
-    reader.number(4)?; // the stack trace
-    reader.number(id_size)?; // the class
-    let size = reader.number(4)?;
-    reader.raw(size)?;
+    reader.pass(id_size)?; // the object
+    reader.pass(4)?; // the stack trace
+    reader.pass(id_size)?; // the class
+    let size = reader.u32()?;
+    reader.raw(u64::from(size))?;
     Ok(())
 }
 
@@ -135,24 +135,11 @@ fn object_array(reader: &mut Reader<'_>, id_size: u8) -> Result<(), Flaw>
     requires high { id_size ≤ 8 }
     ensures { Passes result reader.new.rest.now (object_array_at id_size reader.old.rest.now) }
 {
-    reader.number(id_size)?; // the object
-    reader.number(4)?; // the stack trace
-    let count = reader.number(4)?;
-    reader.number(id_size)?; // the class
-    elements(reader, id_size, count)
-}
-
-#[tactic(auto, using(crate::proofs::Counts::turns))]
-fn elements(reader: &mut Reader<'_>, id_size: u8, count: u64) -> Result<(), Flaw>
-    requires low { 1 ≤ id_size }
-    requires high { id_size ≤ 8 }
-    ensures { Passes result reader.new.rest.now
-        (list_at (number_at id_size) count reader.old.rest.now) }
-{
-    for _i in 0..count {
-        reader.number(id_size)?;
-    }
-    Ok(())
+    reader.pass(id_size)?; // the object
+    reader.pass(4)?; // the stack trace
+    let count = reader.u32()?;
+    reader.pass(id_size)?; // the class
+    reader.pass_all(count, id_size)
 }
 
 /// Behind the tag of a PRIMITIVE ARRAY DUMP.
@@ -162,11 +149,11 @@ fn primitive_array(reader: &mut Reader<'_>, id_size: u8) -> Result<(), Flaw>
     requires high { id_size ≤ 8 }
     ensures { Passes result reader.new.rest.now (primitive_array_at id_size reader.old.rest.now) }
 {
-    reader.number(id_size)?; // the object
-    reader.number(4)?; // the stack trace
-    let count = reader.number(4)?;
+    reader.pass(id_size)?; // the object
+    reader.pass(4)?; // the stack trace
+    let count = reader.u32()?;
     let code = reader.type_code(TypePlace::InArray)?;
-    reader.raw(count * u64::from(size_of(id_size, code)))?;
+    reader.raw(u64::from(count) * u64::from(size_of(id_size, code)))?;
     Ok(())
 }
 
@@ -176,18 +163,18 @@ fn root(reader: &mut Reader<'_>, id_size: u8, kind: RootKind) -> Result<(), Flaw
     requires high { id_size ≤ 8 }
     ensures { Passes result reader.new.rest.now (root_at id_size kind reader.old.rest.now) }
 {
-    reader.number(id_size)?; // the object
+    reader.pass(id_size)?; // the object
     match kind {
         RootKind::Unknown | RootKind::StickyClass | RootKind::MonitorUsed => {}
         RootKind::JniGlobal => {
-            reader.number(id_size)?; // the reference
+            reader.pass(id_size)?; // the reference
         }
         RootKind::NativeStack | RootKind::ThreadBlock => {
-            reader.number(4)?; // the thread
+            reader.pass(4)?; // the thread
         }
         RootKind::JniLocal | RootKind::JavaFrame | RootKind::ThreadObject => {
-            reader.number(4)?; // the thread
-            reader.number(4)?; // the frame, or the stack trace
+            reader.pass(4)?; // the thread
+            reader.pass(4)?; // the frame, or the stack trace
         }
     }
     Ok(())

@@ -19,9 +19,17 @@ ghost use Rattle.hprof_grammar.specs.SubRecord.{SubRecord};
 ghost use Rattle.hprof_grammar.specs.Tables as tables;
 ghost use Rattle.hprof_grammar.specs.Standing.{Stands, id_of, stack_of};
 
-use crate::tables;
+use crate::{tables, tags};
 use byteorder::{BigEndian, ByteOrder};
 use std::marker::Model;
+
+/// Where the fields of a sub-record stand behind the place of its tag, each but for the identifiers before it.
+const OBJECT: usize = 1;
+
+/// In the dump of an object.
+const STACK_TRACE: usize = OBJECT;
+
+const BEHIND_STACK_TRACE: usize = STACK_TRACE + 4;
 
 /// The kind of a sub-record that describes an object.
 #[derive(Clone, Copy, Debug, PartialEq, Eq)]
@@ -85,9 +93,9 @@ impl<'a> View<'a> {
         ensures { (sub : SubRecord) → Stands self.now at sub → is_object sub ≡ true → object_kind sub ≡ Some result }
     {
         match self.bytes[at as usize] {
-            0x20 => ObjectKind::Class,
-            0x21 => ObjectKind::Instance,
-            0x22 => ObjectKind::ObjectArray,
+            tags::CLASS_DUMP => ObjectKind::Class,
+            tags::INSTANCE_DUMP => ObjectKind::Instance,
+            tags::OBJECT_ARRAY_DUMP => ObjectKind::ObjectArray,
             _ => ObjectKind::PrimitiveArray,
         }
     }
@@ -97,7 +105,7 @@ impl<'a> View<'a> {
         requires { (sub : SubRecord) × Stands self.now at sub }
         ensures { (sub : SubRecord) → Stands self.now at sub → result ≡ id_of sub }
     {
-        number_at(self.bytes, at as usize + 1, self.id_size as usize)
+        number_at(self.bytes, at as usize + OBJECT, self.id_size as usize)
     }
 
     /// The serial number of the stack trace in the dump of an object.
@@ -105,18 +113,25 @@ impl<'a> View<'a> {
         requires { (sub : SubRecord) × Stands self.now at sub × (is_object sub ≡ true) }
         ensures { (sub : SubRecord) → Stands self.now at sub → is_object sub ≡ true → stack_of sub ≡ Some result }
     {
-        u32_at(self.bytes, at as usize + 1 + self.id_size as usize)
+        let size = self.id_size as usize;
+        u32_at(self.bytes, at as usize + STACK_TRACE + size)
     }
 }
 
-/// The number of `width` bytes at a place.
+/// The number of `width` bytes at a place. Each width that a field has is read at a width that is known here.
 fn number_at(bytes: &[u8], at: usize, width: usize) -> u64
     requires low { 1 ≤ width }
     requires high { width ≤ 8 }
     requires room { at + width ≤ length bytes.now }
     ensures { result ≡ big_number width (drop at bytes.now) }
 {
-    BigEndian::read_uint(&bytes[at..], width)
+    let (_, behind) = bytes.split_at(at);
+    match width {
+        2 => u64::from(BigEndian::read_u16(behind)),
+        4 => u64::from(BigEndian::read_u32(behind)),
+        8 => BigEndian::read_u64(behind),
+        _ => BigEndian::read_uint(behind, width),
+    }
 }
 
 /// The number of 4 bytes at a place.

@@ -1,4 +1,5 @@
--- What a clause reads of a `LimitedHeap`. How many requests were made is no part of it: threads count them through a `&`.
+-- What a clause reads of a `LimitedHeap`. How many requests were made is no part of it: threads count them through a
+-- `&`.
 use Rattle.std.specs.Prelude.{ℕ}
 use Rattle.limited_heap.specs.declared.heap.LimitedHeap.{LimitedHeap}
 

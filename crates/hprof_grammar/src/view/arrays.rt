@@ -6,7 +6,20 @@ ghost use Rattle.hprof_grammar.specs.SubRecord.SubRecord.{object_array_dump, pri
 ghost use Rattle.hprof_grammar.specs.Standing.{Stands};
 
 use crate::view::ids::Ids;
-use crate::view::{View, bytes_at, number_at, u32_at};
+use crate::view::{BEHIND_STACK_TRACE, View, bytes_at, number_at, u32_at};
+
+/// Where the fields of array dumps stand, each but for the identifiers before it.
+const COUNT: usize = BEHIND_STACK_TRACE;
+
+/// In an object array.
+const CLASS: usize = COUNT + 4;
+
+const ELEMENTS: usize = CLASS;
+
+/// In a primitive array.
+const TYPE: usize = COUNT + 4;
+
+const PACKED_ELEMENTS: usize = TYPE + 1;
 
 impl<'a> View<'a> {
     /// The identifier of an object array's class.
@@ -15,7 +28,7 @@ impl<'a> View<'a> {
         ensures { (a : ObjectArray) → Stands self.now at (object_array_dump a) → result ≡ a.class }
     {
         let size = self.id_size as usize;
-        number_at(self.bytes, at as usize + 9 + size, size)
+        number_at(self.bytes, at as usize + CLASS + size, size)
     }
 
     /// The identifiers that an object array holds.
@@ -24,8 +37,9 @@ impl<'a> View<'a> {
         ensures { (a : ObjectArray) → Stands self.now at (object_array_dump a) → result ≡ a.elements }
     {
         let size = self.id_size as usize;
-        let count = u32_at(self.bytes, array_count(at, self.id_size));
-        Ids::new(self.bytes, at as usize + 9 + 2 * size, self.id_size, count)
+        let count = u32_at(self.bytes, at as usize + COUNT + size);
+        let elements = at as usize + ELEMENTS + 2 * size;
+        Ids::new(self.bytes, elements, self.id_size, count)
     }
 
     /// The type code of a primitive array's elements.
@@ -33,7 +47,8 @@ impl<'a> View<'a> {
         requires { (a : PrimitiveArray) × Stands self.now at (primitive_array_dump a) }
         ensures { (a : PrimitiveArray) → Stands self.now at (primitive_array_dump a) → result ≡ a.type }
     {
-        self.bytes[at as usize + 9 + self.id_size as usize]
+        let size = self.id_size as usize;
+        self.bytes[at as usize + TYPE + size]
     }
 
     /// The number of a primitive array's elements.
@@ -41,7 +56,8 @@ impl<'a> View<'a> {
         requires { (a : PrimitiveArray) × Stands self.now at (primitive_array_dump a) }
         ensures { (a : PrimitiveArray) → Stands self.now at (primitive_array_dump a) → result ≡ a.count }
     {
-        u32_at(self.bytes, array_count(at, self.id_size))
+        let size = self.id_size as usize;
+        u32_at(self.bytes, at as usize + COUNT + size)
     }
 
     /// The elements of a primitive array, packed, of the size that their type has.
@@ -53,15 +69,8 @@ impl<'a> View<'a> {
         let size = self.size_of(self.element_type(at)) as usize;
         bytes_at(
             self.bytes,
-            at as usize + 10 + self.id_size as usize,
+            at as usize + PACKED_ELEMENTS + self.id_size as usize,
             count * size,
         )
     }
-}
-
-/// Where the number of an array's elements stands.
-fn array_count(at: u32, id_size: u8) -> usize
-    ensures { result ≡ at + 5 + id_size }
-{
-    at as usize + 5 + id_size as usize
 }

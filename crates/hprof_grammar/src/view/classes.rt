@@ -9,7 +9,17 @@ ghost use Rattle.hprof_grammar.specs.working.ClassParts.{IsPartOf, leading_ids, 
 
 use crate::view::members::Members;
 use crate::view::values::{Values, skip_values};
-use crate::view::{View, bytes_from, number_at, u32_at};
+use crate::view::{BEHIND_STACK_TRACE, View, bytes_from, number_at, u32_at};
+
+/// Where the fields of a class dump stand, each but for the identifiers before it.
+const FIRST_ID: usize = BEHIND_STACK_TRACE;
+
+const INSTANCE_SIZE: usize = FIRST_ID;
+
+const CONSTANTS: usize = INSTANCE_SIZE + 4;
+
+/// The identifiers that stand before its instance size: the object, and those behind the stack trace.
+const IDS: usize = 7;
 
 /// The bytes of a constant's index.
 const INDEX_SIZE: u8 = 2;
@@ -81,7 +91,8 @@ impl<'a> View<'a> {
         requires { (c : Class) × Stands self.now at (class_dump c) }
         ensures { (c : Class) → Stands self.now at (class_dump c) → result ≡ c.instance_size }
     {
-        u32_at(self.bytes, behind_ids(at, self.id_size))
+        let size = self.id_size as usize;
+        u32_at(self.bytes, at as usize + INSTANCE_SIZE + IDS * size)
     }
 
     /// A class's constants: their indexes, types and values.
@@ -116,7 +127,7 @@ impl<'a> View<'a> {
         ensures { (c : Class) → Stands self.now at (class_dump c) → result ≡ slice_index (leading_ids c) nth }
     {
         let size = self.id_size as usize;
-        number_at(self.bytes, at as usize + 5 + size + nth * size, size)
+        number_at(self.bytes, at as usize + FIRST_ID + size + nth * size, size)
     }
 
     /// The bytes from the count of a class's constants on.
@@ -125,7 +136,8 @@ impl<'a> View<'a> {
         ensures { (c : Class) → Stands self.now at (class_dump c)
             → IsPartOf self.now.id_size c (fields_from_constants self.now.id_size c) result.now }
     {
-        bytes_from(self.bytes, behind_ids(at, self.id_size) + 4)
+        let size = self.id_size as usize;
+        bytes_from(self.bytes, at as usize + CONSTANTS + IDS * size)
     }
 
     /// The bytes from the count of a class's static fields on.
@@ -136,11 +148,4 @@ impl<'a> View<'a> {
     {
         skip_values(self.constants_from(at), self.id_size, INDEX_SIZE)
     }
-}
-
-/// Where what follows the identifiers of a class dump begins: the instance size, and then the constants.
-fn behind_ids(at: u32, id_size: u8) -> usize
-    ensures { result ≡ at + 5 + 7 * id_size }
-{
-    at as usize + 5 + 7 * id_size as usize
 }

@@ -5,7 +5,14 @@ ghost use Rattle.hprof_grammar.specs.SubRecord.{Instance};
 ghost use Rattle.hprof_grammar.specs.SubRecord.SubRecord.{instance_dump};
 ghost use Rattle.hprof_grammar.specs.Standing.{Stands};
 
-use crate::view::{View, bytes_at, number_at, u32_at};
+use crate::view::{BEHIND_STACK_TRACE, View, bytes_at, number_at, u32_at};
+
+/// Where the fields of an instance dump stand, each but for the identifiers before it.
+const CLASS: usize = BEHIND_STACK_TRACE;
+
+const COUNT: usize = CLASS;
+
+const VALUES: usize = COUNT + 4;
 
 impl<'a> View<'a> {
     /// The identifier of an instance's class.
@@ -14,7 +21,7 @@ impl<'a> View<'a> {
         ensures { (i : Instance) → Stands self.now at (instance_dump i) → result ≡ i.class }
     {
         let size = self.id_size as usize;
-        number_at(self.bytes, at as usize + 5 + size, size)
+        number_at(self.bytes, at as usize + CLASS + size, size)
     }
 
     /// The values of an instance's fields: those of its class, then those of its superclass, and so on.
@@ -22,8 +29,8 @@ impl<'a> View<'a> {
         requires { (i : Instance) × Stands self.now at (instance_dump i) }
         ensures { (i : Instance) → Stands self.now at (instance_dump i) → result.now ≡ i.values }
     {
-        let count_at = at as usize + 5 + 2 * self.id_size as usize;
-        let count = u32_at(self.bytes, count_at) as usize;
-        bytes_at(self.bytes, count_at + 4, count)
+        let size = self.id_size as usize;
+        let count = u32_at(self.bytes, at as usize + COUNT + 2 * size) as usize;
+        bytes_at(self.bytes, at as usize + VALUES + 2 * size, count)
     }
 }

@@ -7,7 +7,17 @@ ghost use Rattle.hprof_grammar.specs.SubRecord.{Root, origin_kind};
 ghost use Rattle.hprof_grammar.specs.SubRecord.SubRecord.{root};
 
 use crate::tables::{Kind, RootKind, kind_of};
-use crate::view::{View, number_at, u32_at};
+use crate::view::{OBJECT, View, number_at, u32_at};
+
+/// Where the fields of a root behind its object stand, each but for the identifier of the object. A kind of root
+/// has the reference, or the thread and behind it the frame or the stack trace, or none of them.
+const REFERENCE: usize = OBJECT;
+
+const THREAD: usize = OBJECT;
+
+const FRAME: usize = THREAD + 4;
+
+const STACK_TRACE: usize = THREAD + 4;
 
 impl<'a> View<'a> {
     /// The kind of a root.
@@ -26,11 +36,8 @@ impl<'a> View<'a> {
         requires { (n : ℕ) × RootSays self.now at reference_of n }
         ensures { (n : ℕ) → RootSays self.now at reference_of n → result ≡ n }
     {
-        number_at(
-            self.bytes,
-            origin_at(at, self.id_size),
-            self.id_size as usize,
-        )
+        let size = self.id_size as usize;
+        number_at(self.bytes, at as usize + REFERENCE + size, size)
     }
 
     /// The serial number of the thread of a root: JNI local, Java frame, native stack, thread block, thread object.
@@ -38,7 +45,8 @@ impl<'a> View<'a> {
         requires { (n : ℕ) × RootSays self.now at thread_of n }
         ensures { (n : ℕ) → RootSays self.now at thread_of n → result ≡ n }
     {
-        u32_at(self.bytes, origin_at(at, self.id_size))
+        let size = self.id_size as usize;
+        u32_at(self.bytes, at as usize + THREAD + size)
     }
 
     /// The number of the frame of a JNI local or a Java frame root, in the stack trace of its thread.
@@ -46,7 +54,8 @@ impl<'a> View<'a> {
         requires { (n : ℕ) × RootSays self.now at frame_of n }
         ensures { (n : ℕ) → RootSays self.now at frame_of n → result ≡ n }
     {
-        u32_at(self.bytes, behind_thread(at, self.id_size))
+        let size = self.id_size as usize;
+        u32_at(self.bytes, at as usize + FRAME + size)
     }
 
     /// The serial number of the stack trace of a thread object root.
@@ -54,20 +63,7 @@ impl<'a> View<'a> {
         requires { (n : ℕ) × RootSays self.now at trace_of n }
         ensures { (n : ℕ) → RootSays self.now at trace_of n → result ≡ n }
     {
-        u32_at(self.bytes, behind_thread(at, self.id_size))
+        let size = self.id_size as usize;
+        u32_at(self.bytes, at as usize + STACK_TRACE + size)
     }
-}
-
-/// Where the fields behind the object of a root begin.
-fn origin_at(at: u32, id_size: u8) -> usize
-    ensures { result ≡ at + 1 + id_size }
-{
-    at as usize + 1 + id_size as usize
-}
-
-/// Where the field behind the thread of a root stands.
-fn behind_thread(at: u32, id_size: u8) -> usize
-    ensures { result ≡ at + 5 + id_size }
-{
-    origin_at(at, id_size) + 4
 }

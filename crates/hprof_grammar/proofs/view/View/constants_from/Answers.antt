@@ -1,4 +1,4 @@
-use Rattle.std.proofs.Common.{List, ap, arith, drop, subst, sym, ℕ, ◌*◌, ◌+◌, ◌∙◌, ◌≡◌}
+use Rattle.std.proofs.Common.{List, arith, subst, sym, ℕ}
 use Rattle.hprof_grammar.specs.working.ClassParts.{IsPartOf, fields_from_constants}
 use Rattle.hprof_grammar.proofs.ClassPartsRead.{constants_part, constants_stand}
 use Rattle.hprof_grammar.proofs.view.View.constants_from.Goals as goal
@@ -6,11 +6,10 @@ use Rattle.hprof_grammar.proofs.view.View.constants_from.Goals as goal
 pub bytes_from-requires : goal.bytes_from-requires
 bytes_from-requires c =
     let there = constants_stand c.self.view_is c.args.at c.requires.0 c.requires.1 in
-    omega (arith, there.inside, c.behind_ids.ensures)
+    omega (arith, there.inside)
 
 pub returns : goal.returns
 returns c = λ k h.
     let s = c.args.self.now.id_size in
     let bytes = c.self.inside.bytes.now in
-    let place : c.behind_ids.result + 4 ≡ c.args.at + 9 + 7 * c.self.inside.id_size = omega (arith, c.behind_ids.ensures) in
-    subst (λ (l : List ℕ). IsPartOf s k (fields_from_constants s k) l) (sym (c.bytes_from.ensures ∙ ap (λ (n : ℕ). drop n bytes) place)) (constants_part c.self.view_is c.args.at k h)
+    subst (λ (l : List ℕ). IsPartOf s k (fields_from_constants s k) l) (sym c.bytes_from.ensures) (constants_part c.self.view_is c.args.at k h)

@@ -5,9 +5,9 @@ use Rattle.hprof_grammar.proofs.view.View.instance_size.Goals as goal
 pub u32_at-requires : goal.u32_at-requires
 u32_at-requires c =
     let there = instance_size c.self.view_is c.args.at c.requires.0 c.requires.1 in
-    omega (arith, there.room, c.behind_ids.ensures)
+    omega (arith, there.room)
 
 pub returns : goal.returns
 returns c = λ a h.
     let there = instance_size c.self.view_is c.args.at a h in
-    cc (c.u32_at.ensures, c.behind_ids.ensures, there.value)
+    cc (c.u32_at.ensures, there.value)

@@ -17,5 +17,5 @@ bytes_at-requires c =
 pub returns : goal.returns
 returns c = λ i h.
     let count = instance_count c.self.view_is c.args.at i h in
-    let values = raw_read c.self.inside.bytes.now (c.args.at + 5 + 2 * c.self.inside.id_size + 4) i.values (instance_values c.self.view_is c.args.at i h) in
+    let values = raw_read c.self.inside.bytes.now (c.args.at + 9 + 2 * c.self.inside.id_size) i.values (instance_values c.self.view_is c.args.at i h) in
     cc (c.u32_at-count.ensures, count.value, c.bytes_at.ensures, values)

@@ -5,9 +5,9 @@ use Rattle.hprof_grammar.proofs.view.View.root_frame.Goals as goal
 pub u32_at-requires : goal.u32_at-requires
 u32_at-requires c =
     let there = root_frame c.self.view_is c.args.at c.requires.0 c.requires.1 in
-    omega (arith, there.room, c.behind_thread.ensures)
+    omega (arith, there.room)
 
 pub returns : goal.returns
 returns c = λ n h.
     let there = root_frame c.self.view_is c.args.at n h in
-    cc (c.u32_at.ensures, c.behind_thread.ensures, there.value)
+    cc (c.u32_at.ensures, there.value)

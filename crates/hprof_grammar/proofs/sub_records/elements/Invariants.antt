@@ -1,6 +1,0 @@
-use Rattle.std.proofs.Common.{◌-◌, ◌≡◌}
-use Rattle.hprof_grammar.specs.working.Reading.{behind, list_at, number_at}
-use Rattle.hprof_grammar.proofs.sub_records.elements.Given as goal
-
-abbrev pub invariant-loop-i : goal.invariant-loop-i
-invariant-loop-i l = behind (list_at (number_at l.id_size) (l.count - l._i) l.reader.rest.now) ≡ behind (list_at (number_at l.id_size) l.count l.fn.reader.rest.now)

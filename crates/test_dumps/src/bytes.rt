@@ -1,0 +1,198 @@
+//! The bytes of a dump.
+
+ghost use Rattle.std.specs.Prelude.{◌≡◌, ◌++◌, OnOk};
+
+use crate::record::Record;
+use crate::sub::{ClassParts, Sub};
+use std::alloc::{AllocError, Global};
+
+/// Bytes that grow by numbers, records and sub-records, with identifiers of this size.
+#[derive(Drop)]
+pub struct Bytes {
+    /// What was put so far.
+    pub bytes: Vec<u8>,
+    id_size: u32,
+}
+
+impl Bytes {
+    /// Nothing, with identifiers of 8 bytes, or else of 4.
+    pub fn new(alloc: Global, id_size: u32) -> Self {
+        Bytes {
+            bytes: Vec::new(alloc),
+            id_size,
+        }
+    }
+
+    /// The header, with both time words 0.
+    pub fn header(alloc: Global, id_size: u32) -> Result<Self, AllocError> {
+        let mut dump = Bytes::new(alloc, id_size);
+        dump.raw(b"JAVA PROFILE 1.0.2\0")?;
+        dump.number(id_size)?;
+        dump.raw(&[0; 8])?;
+        Ok(dump)
+    }
+
+    /// A dump of these records.
+    pub fn dump(alloc: Global, id_size: u32, records: &[Record]) -> Result<Self, AllocError> {
+        let mut dump = Bytes::header(alloc, id_size)?;
+        for record in records {
+            dump.push(record)?;
+        }
+        Ok(dump)
+    }
+
+    /// Puts these bytes.
+    pub fn raw(&mut self, bytes: &[u8]) -> Result<(), AllocError>
+        ensures { OnOk result (self.new.bytes.items ≡ self.old.bytes.items ++ bytes.now) }
+    {
+        self.bytes.extend_from_slice(bytes)
+    }
+
+    /// Puts a number of 4 bytes.
+    pub fn number(&mut self, value: u32) -> Result<(), AllocError> {
+        self.raw(&value.to_be_bytes())
+    }
+
+    /// Puts how many there are, as a number of 2 bytes.
+    fn count(&mut self, count: usize) -> Result<(), AllocError> {
+        self.raw(&u16::try_from(count).unwrap_or(u16::MAX).to_be_bytes())
+    }
+
+    /// Puts an identifier.
+    fn id(&mut self, value: u64) -> Result<(), AllocError> {
+        let bytes = value.to_be_bytes();
+        let front = if self.id_size == 8 { 0 } else { 4 };
+        self.raw(&bytes[front..])
+    }
+
+    /// Puts a record of this tag and body.
+    pub fn record(&mut self, tag: u8, body: &[u8]) -> Result<(), AllocError> {
+        self.raw(&[tag, 0, 0, 0, 0])?;
+        self.number(u32::try_from(body.len()).unwrap_or(u32::MAX))?;
+        self.raw(body)
+    }
+
+    fn push(&mut self, record: &Record) -> Result<(), AllocError> {
+        let mut body = Bytes::new(*self.bytes.allocator(), self.id_size);
+        let tag = match *record {
+            Record::Text(id, text) => {
+                body.id(id)?;
+                body.raw(text)?;
+                0x01
+            }
+            Record::Load(class, name) => {
+                body.number(1)?;
+                body.id(class)?;
+                body.number(0)?;
+                body.id(name)?;
+                0x02
+            }
+            Record::Heap(subs) => {
+                body.subs(subs)?;
+                0x0C
+            }
+            Record::Segment(subs) => {
+                body.subs(subs)?;
+                0x1C
+            }
+            Record::Other(tag, bytes) => {
+                body.raw(bytes)?;
+                tag
+            }
+        };
+        self.record(tag, body.bytes.as_slice())
+    }
+
+    /// Puts these sub-records.
+    pub fn subs(&mut self, subs: &[Sub]) -> Result<(), AllocError> {
+        for sub in subs {
+            self.sub(*sub)?;
+        }
+        Ok(())
+    }
+
+    /// Puts a sub-record.
+    pub fn sub(&mut self, sub: Sub) -> Result<(), AllocError> {
+        match sub {
+            Sub::Class(id, above, fields) => self.class(&ClassParts::plain(id, above, fields)),
+            Sub::Static(id, code, value) => self.class_with_static(id, code, value),
+            Sub::Whole(parts) => self.class(&parts),
+            Sub::Instance(id, class, values) => {
+                self.head(0x21, id)?;
+                self.id(class)?;
+                self.number(u32::try_from(values.len()).unwrap_or(u32::MAX))?;
+                self.raw(values)
+            }
+            Sub::Objects(id, class, elements) => self.objects(id, class, elements),
+            Sub::Values(id, code, count, elements) => {
+                self.head(0x23, id)?;
+                self.number(count)?;
+                self.raw(&[code])?;
+                self.raw(elements)
+            }
+            Sub::Root(id) => {
+                self.raw(&[0xFF])?;
+                self.id(id)
+            }
+            Sub::Raw(bytes) => self.raw(bytes),
+        }
+    }
+
+    /// Puts what an object sub-record begins with.
+    fn head(&mut self, tag: u8, id: u64) -> Result<(), AllocError> {
+        self.raw(&[tag])?;
+        self.id(id)?;
+        self.number(0)
+    }
+
+    /// Puts a class as far as its instance size.
+    fn class_head(&mut self, id: u64, others: &[u64]) -> Result<(), AllocError> {
+        self.head(0x20, id)?;
+        for other in others {
+            self.id(*other)?;
+        }
+        self.number(0)
+    }
+
+    fn class(&mut self, class: &ClassParts) -> Result<(), AllocError> {
+        self.class_head(class.id, &class.others)?;
+        self.count(class.constants.len())?;
+        for (index, code, value) in class.constants {
+            self.raw(&index.to_be_bytes())?;
+            self.raw(&[*code])?;
+            self.raw(value)?;
+        }
+        self.count(class.statics.len())?;
+        for (code, value) in class.statics {
+            self.id(2)?;
+            self.raw(&[*code])?;
+            self.raw(value)?;
+        }
+        self.count(class.fields.len())?;
+        for code in class.fields {
+            self.id(2)?;
+            self.raw(&[*code])?;
+        }
+        Ok(())
+    }
+
+    fn class_with_static(&mut self, id: u64, code: u8, value: &[u8]) -> Result<(), AllocError> {
+        self.class_head(id, &[0; 6])?;
+        self.raw(&[0, 0, 0, 1])?;
+        self.id(2)?;
+        self.raw(&[code])?;
+        self.raw(value)?;
+        self.raw(&[0, 0])
+    }
+
+    /// Puts an object array of these elements.
+    pub fn objects(&mut self, id: u64, class: u64, elements: &[u64]) -> Result<(), AllocError> {
+        self.head(0x22, id)?;
+        self.number(u32::try_from(elements.len()).unwrap_or(u32::MAX))?;
+        self.id(class)?;
+        for element in elements {
+            self.id(*element)?;
+        }
+        Ok(())
+    }
+}

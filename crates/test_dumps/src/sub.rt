@@ -1,0 +1,50 @@
+//! The sub-records of a heap dump.
+
+/// A sub-record of a heap dump. All serials are 0.
+#[derive(Clone, Copy)]
+pub enum Sub {
+    /// A class, its superclass, and the types of its fields.
+    Class(u64, u64, &'static [u8]),
+    /// A class without fields, and the type and the value of its one static field.
+    Static(u64, u8, &'static [u8]),
+    /// A class with any of its parts.
+    Whole(ClassParts),
+    /// An instance, its class, and its values.
+    Instance(u64, u64, &'static [u8]),
+    /// An object array, its class, and its elements.
+    Objects(u64, u64, &'static [u64]),
+    /// A primitive array, the type and number of its elements, and these.
+    Values(u64, u8, u32, &'static [u8]),
+    /// A root of unknown kind.
+    Root(u64),
+    /// Any bytes.
+    Raw(&'static [u8]),
+}
+
+/// The parts of a class dump. The name of each field is 2, and its instance size is 0.
+#[derive(Clone, Copy)]
+pub struct ClassParts {
+    /// The identifier of the class itself.
+    pub id: u64,
+    /// Superclass, loader, signers, protection domain, and the two that are reserved.
+    pub others: [u64; 6],
+    /// The index, the type and the value of each constant.
+    pub constants: &'static [(u16, u8, &'static [u8])],
+    /// The type and the value of each static field.
+    pub statics: &'static [(u8, &'static [u8])],
+    /// The types of the fields that it declares.
+    pub fields: &'static [u8],
+}
+
+impl ClassParts {
+    /// A class with a superclass and these fields.
+    pub(crate) fn plain(id: u64, superclass: u64, fields: &'static [u8]) -> ClassParts {
+        ClassParts {
+            id,
+            others: [superclass, 0, 0, 0, 0, 0],
+            constants: &[],
+            statics: &[],
+            fields,
+        }
+    }
+}

@@ -1,0 +1,20 @@
+//! Dumps that several crates test.
+
+use crate::record::Record;
+use crate::sub::Sub;
+
+/// No object.
+pub const NOTHING: &[Record] = &[Record::Heap(&[])];
+
+/// Two instances of a class with one field, which refer to each other. The first is a root. With identifiers of 4 bytes
+/// it has 174 bytes.
+pub const TWO_OBJECTS: &[Record] = &[
+    Record::Text(1, b"A"),
+    Record::Load(0x100, 1),
+    Record::Heap(&[
+        Sub::Class(0x100, 0, &[2]),
+        Sub::Instance(0x201, 0x100, &[0, 0, 2, 2]),
+        Sub::Instance(0x202, 0x100, &[0, 0, 2, 1]),
+        Sub::Root(0x201),
+    ]),
+];
