@@ -5,7 +5,7 @@ use Rattle.tagged_index.specs.Head.{Head, after}
 use Rattle.mark_core.specs.declared.which.Which.{Which}
 use Rattle.mark_core.specs.declared.which.Which.TheVariants.{Full, Empty}
 use Rattle.mark_core.specs.Lists.{times}
-use Rattle.mark_core.specs.Account.{Account, look_of, spent}
+use Rattle.mark_core.specs.Account.{Account, look_of, no_share}
 use Rattle.mark_core.specs.World.{Setup, Marking, account_at, IsThere, put, put_which}
 use Rattle.mark_core.specs.Event.{Kind, Claim, Finish, Split, Join, Load, LoadLink, StoreLink, Pop, Push, Fail, Allows, effect, popped}
 use Rattle.mark_core.specs.Ownership.{Chain}
@@ -81,7 +81,7 @@ module _ (e : Setup) (m : Marking) (law : Law e m) (w : ℕ) (a : Account) (ther
           let t : times b old ≡ times i (law.stack q) = ap (λ j. times j old) s ∙ ap (times i) was in
           absurd (omega (arith, on_no q))
 
-  effect_changes : (kind : Kind) → Allows e m w a kind → (q : Which) (old new : List ℕ) → IsListOf m q old → IsListOf (effect m w a kind) q new → Changes q kind old new
+  pub effect_changes : (kind : Kind) → Allows e m w a kind → (q : Which) (old new : List ℕ) → IsListOf m q old → IsListOf (effect m w a kind) q new → Changes q kind old new
   effect_changes (Claim o) can q old new c n = chain_one m.link (m.head q).index new old n c
   effect_changes (Finish o) can q old new c n = chain_one m.link (m.head q).index new old n c
   effect_changes (Split units) can q old new c n = chain_one m.link (m.head q).index new old n c
@@ -98,7 +98,7 @@ module _ (e : Setup) (m : Marking) (law : Law e m) (w : ℕ) (a : Account) (ther
 pub stacks_change : StacksChange
 stacks_change e m event law can q old new c n =
     effect_changes e m law event.worker can.0 can.1 event.kind can.2 q old new c
-    (subst (λ x. IsListOf (effect m event.worker x event.kind) q new) (at_get_or m.accounts event.worker can.0 spent can.1.0) n)
+    (subst (λ x. IsListOf (effect m event.worker x event.kind) q new) (at_get_or m.accounts event.worker can.0 no_share can.1.0) n)
 
 -- the head that an exchange writes has the next tag
 tag_after : (m : Marking) (p q : Which) (i : Option ℕ) → (put_which p (after (m.head p) i) m.head q ≡ m.head q) ⊎ ((put_which p (after (m.head p) i) m.head q).tag ≡ (m.head q).tag + 1)
@@ -155,5 +155,5 @@ effect_marks e m law w a there (Fail p) can o = omega arith
 
 pub marks_rise : MarksRise
 marks_rise e m event law can o =
-    subst (λ x. m.mark o ≤ (effect m event.worker x event.kind).mark o) (sym (at_get_or m.accounts event.worker can.0 spent can.1.0))
+    subst (λ x. m.mark o ≤ (effect m event.worker x event.kind).mark o) (sym (at_get_or m.accounts event.worker can.0 no_share can.1.0))
     (effect_marks e m law event.worker can.0 can.1 event.kind can.2 o)

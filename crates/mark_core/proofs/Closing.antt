@@ -49,7 +49,7 @@ module _ (e : Setup) (m : Marking) (law : Law e m) where
 
   module _ (w : ℕ) (a : Account) (is : StandsAt m.accounts w a) (all : a.share ≡ whole) where
     pub others_nothing : (v : ℕ) (b : Account) → v ≢ w → StandsAt m.accounts v b → HasNothing b
-    others_nothing v b n at = law.shared.spent v b at (omega (arith, law.shared.sum, terms_le (λ (x : Account). x.share) m.accounts w v a b n is at))
+    others_nothing v b n at = law.shared.no_share v b at (omega (arith, law.shared.sum, terms_le (λ (x : Account). x.share) m.accounts w v a b n is at))
 
     pub alone_held : (i : ℕ) → held_times i m.accounts ≡ times i a.held
     alone_held i = total-alone (λ (x : Account). times i x.held) m.accounts w a is (λ v b n at. ap (times i) (others_nothing v b n at).held)

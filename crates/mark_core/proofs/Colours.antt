@@ -3,7 +3,7 @@ use Rattle.std.proofs.Common.{◌≡◌, ◌≢◌, ◌⊎◌, ℕ, zero, suc, �
 use native.Mathlib.Decide.{ℕ_discrete}
 use Rattle.mark_core.specs.declared.which.Which.{Which}
 use Rattle.mark_core.specs.Lists.{StandsAt, times, only, IsPart}
-use Rattle.mark_core.specs.Account.{Account, part, spent, after_join, after_pop, after_push}
+use Rattle.mark_core.specs.Account.{Account, part, no_share, after_join, after_pop, after_push}
 use Rattle.mark_core.specs.World.{Setup, items_of, put}
 use Rattle.mark_core.specs.Colours.{IsColoured, Tells, IsReachable, stacked_times, charged_times, finished_times}
 use Rattle.mark_core.proofs.Places.{at_set, at_push, set_else, put_here, put_else}
@@ -145,21 +145,21 @@ module _ (e : Setup) (mark : ℕ → ℕ) (slots : List (Option (List ℕ))) (ac
         (keeps_seen (after_push q i items a) refl)
 
     -- two accounts are put together
-    pub coloured_join : (v : ℕ) (b : Account) → v ≢ w → StandsAt accounts v b → IsColoured e mark slots (set (set accounts w (after_join a b)) v spent)
+    pub coloured_join : (v : ℕ) (b : Account) → v ≢ w → StandsAt accounts v b → IsColoured e mark slots (set (set accounts w (after_join a b)) v no_share)
     coloured_join v b apart at =
-        coloured_recount slots (set (set accounts w both) v spent)
+        coloured_recount slots (set (set accounts w both) v no_share)
         (λ o.
         omega (
           arith,
           total-set (λ (x : Account). times o x.charge) accounts w a both is,
-          total-set (λ (x : Account). times o x.charge) (set accounts w both) v b spent still,
+          total-set (λ (x : Account). times o x.charge) (set accounts w both) v b no_share still,
           total-append (only o) a.charge b.charge,
         ))
         (λ o.
         omega (
           arith,
           total-set (λ (x : Account). times o x.finished) accounts w a both is,
-          total-set (λ (x : Account). times o x.finished) (set accounts w both) v b spent still,
+          total-set (λ (x : Account). times o x.finished) (set accounts w both) v b no_share still,
           total-append (only o) a.finished b.finished,
         ))
         saw
@@ -173,9 +173,9 @@ module _ (e : Setup) (mark : ℕ → ℕ) (slots : List (Option (List ℕ))) (ac
         mine : (o : ℕ) → Contains (a.seen ++ b.seen) o → 1 ≤ mark o
         mine o k = ⊎_elim (c.saw w a is o) (c.saw v b at o) (stands_append a.seen b.seen o k)
 
-        saw : (u : ℕ) (x : Account) → StandsAt (set (set accounts w both) v spent) u x → (o : ℕ) → Contains x.seen o → 1 ≤ mark o
-        saw u x s o k = go (at_set (set accounts w both) v u spent x s)
+        saw : (u : ℕ) (x : Account) → StandsAt (set (set accounts w both) v no_share) u x → (o : ℕ) → Contains x.seen o → 1 ≤ mark o
+        saw u x s o k = go (at_set (set accounts w both) v u no_share x s)
           where
-            go : ((u ≡ v) × (spent ≡ x)) ⊎ ((u ≢ v) × StandsAt (set accounts w both) u x) → 1 ≤ mark o
+            go : ((u ≡ v) × (no_share ≡ x)) ⊎ ((u ≢ v) × StandsAt (set accounts w both) u x) → 1 ≤ mark o
             go (inl p) = let none : Contains [] o = subst (λ (y : Account). Contains y.seen o) (sym p.1) k in absurd (omega (arith, none.1))
             go (inr p) = saw_set both mine u x p.1 o k

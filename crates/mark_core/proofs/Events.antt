@@ -5,7 +5,7 @@ use Rattle.tagged_index.specs.Head.{Head, after}
 use Rattle.mark_core.specs.declared.which.Which.{Which}
 use Rattle.mark_core.specs.declared.which.Which.TheVariants.{Full, Empty}
 use Rattle.mark_core.specs.Lists.{StandsAt, times, only, IsPart}
-use Rattle.mark_core.specs.Account.{Account, look_of, part, spent, after_claim, after_finish, after_split, after_join, after_load, after_load_link, after_pop, after_push}
+use Rattle.mark_core.specs.Account.{Account, look_of, part, no_share, after_claim, after_finish, after_split, after_join, after_load, after_load_link, after_pop, after_push}
 use Rattle.mark_core.specs.World.{Setup, Marking, put, put_which}
 use Rattle.mark_core.specs.Event.{CanClaim, CanFinish}
 use Rattle.mark_core.specs.Ownership.{IsRecent, IsOwned}
@@ -275,7 +275,7 @@ module _ (e : Setup) (m : Marking) (law : Law e m) (w : ℕ) (a : Account) (is :
       b : Account
       b = after_split units a
 
-  pub join_keeps : (v : ℕ) (b : Account) → v ≢ w → StandsAt m.accounts v b → Law e (record m { accounts = set (set m.accounts w (after_join a b)) v spent })
+  pub join_keeps : (v : ℕ) (b : Account) → v ≢ w → StandsAt m.accounts v b → Law e (record m { accounts = set (set m.accounts w (after_join a b)) v no_share })
   join_keeps v b apart at =
       record {
         stack = law.stack;

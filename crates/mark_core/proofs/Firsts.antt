@@ -1,19 +1,19 @@
 -- Heads in a run: which heads accounts have loaded, and that a failed exchange and an open push are found only where a head has changed.
-use Rattle.std.proofs.Common.{◌≡◌, ◌≢◌, ◌⊎◌, ℕ, zero, suc, ◌+◌, ◌<◌, ◌≤◌, Bool, true, false, ◌&&◌, ◌||◌, is_some, List, [], ◌∷◌, ◌++◌, Option, Some, None, set, slice_index_or, ap, sym, refl, subst, ◌∙◌, inl, inr, ⊎_elim, arith}
+use Rattle.std.proofs.Common.{◌≡◌, ◌⊎◌, ℕ, zero, suc, ◌<◌, ◌≤◌, Bool, true, false, ◌&&◌, ◌||◌, is_some, List, [], ◌∷◌, ◌++◌, Option, Some, None, set, slice_index_or, ap, sym, refl, subst, ◌∙◌, inl, inr, ⊎_elim, arith}
 use Rattle.std.proofs.lemmas.Bool.{false≢true}
 use mathlib.Core.Option.{some-ne-none}
-use native.Mathlib.Decide.{dec_le, ℕ_discrete}
-use Rattle.tagged_index.specs.Head.{Head, after}
+use native.Mathlib.Decide.{dec_le}
+use Rattle.tagged_index.specs.Head.{Head}
 use Rattle.mark_core.specs.declared.which.Which.{Which}
 use Rattle.mark_core.specs.declared.which.Which.TheVariants.{Full, Empty}
 use Rattle.mark_core.specs.Lists.{StandsAt}
-use Rattle.mark_core.specs.Account.{Account, look_of, part, spent, after_claim, after_finish, after_split, after_join, after_load, after_load_link, after_pop, after_push}
-use Rattle.mark_core.specs.World.{Setup, Marking, account_at, items_of, IsThere, put_which}
+use Rattle.mark_core.specs.Account.{Account, look_of, part, no_share, after_claim, after_finish, after_split, after_join, after_load, after_load_link, after_push}
+use Rattle.mark_core.specs.World.{Setup, Marking, account_at}
 use Rattle.mark_core.specs.Event.{Kind, Claim, Finish, Split, Join, Load, LoadLink, StoreLink, Pop, Push, Fail, Event, Allows, IsPossible, effect, happens, popped, last_link}
 use Rattle.mark_core.specs.Shares.{whole}
 use Rattle.mark_core.specs.Runs.{Run, first_heads, opening}
 use Rattle.mark_core.specs.Counts.{Counts, LeadTo, add_counts, all_counted, count_failure, count_load, counted, counts_at, no_counts}
-use Rattle.mark_core.specs.Conclusions.{FailuresFollowChanges, HadHead, HasChanged, LoadedHeadsWere, PushesFollowChanges}
+use Rattle.mark_core.specs.Conclusions.{FailuresFollowChanges, FirstTagsAreFirst, HadHead, HasChanged, LoadedHeadsWere, PushesFollowChanges}
 use Rattle.mark_core.proofs.Places.{at_get_or, at_push, at_set}
 use Rattle.mark_core.proofs.Changes.{tags_rise}
 
@@ -63,7 +63,7 @@ module _ (S : Which → Head → Type 0) where
   effect_knows m w a (Split units) all own heads =
       push_all Knows (set m.accounts w (after_split units a)) (part units) (set_all Knows m.accounts w (after_split units a) all own) (knows_nothing units)
   effect_knows m w a (Join v) all own heads =
-      set_all Knows (set m.accounts w (after_join a (account_at m.accounts v))) v spent (set_all Knows m.accounts w (after_join a (account_at m.accounts v)) all own) (knows_nothing 0)
+      set_all Knows (set m.accounts w (after_join a (account_at m.accounts v))) v no_share (set_all Knows m.accounts w (after_join a (account_at m.accounts v)) all own) (knows_nothing 0)
   effect_knows m w a (Load Full) all own heads = set_all Knows m.accounts w (after_load Full (m.head Full) a) all ((λ h e. loaded_one Full (m.head Full) h (heads Full) e), own.1)
   effect_knows m w a (Load Empty) all own heads = set_all Knows m.accounts w (after_load Empty (m.head Empty) a) all (own.0, (λ h e. loaded_one Empty (m.head Empty) h (heads Empty) e))
   effect_knows m w a (LoadLink Full) all own heads = set_all Knows m.accounts w (after_load_link Full (last_link m.link a.full.head) a) all own
@@ -75,7 +75,7 @@ module _ (S : Which → Head → Type 0) where
 
   happens_knows : (e : Setup) (m : Marking) (event : Event) → IsPossible e m event → OfEach Knows m.accounts → ((q : Which) → S q (m.head q)) → OfEach Knows (happens m event).accounts
   happens_knows e m event can all heads =
-      subst (λ x. OfEach Knows (effect m event.worker x event.kind).accounts) (sym (at_get_or m.accounts event.worker can.0 spent can.1.0))
+      subst (λ x. OfEach Knows (effect m event.worker x event.kind).accounts) (sym (at_get_or m.accounts event.worker can.0 no_share can.1.0))
       (effect_knows m event.worker can.0 event.kind all (all event.worker can.0 can.1.0) heads)
 
 -- a head that the stack has now, it had
@@ -158,7 +158,7 @@ module _ (C : Type 0) where
   effect_pushed m w a (Split units) all own others push =
       push_all Pushed (set m.accounts w (after_split units a)) (part units) (set_all Pushed m.accounts w (after_split units a) all own) (λ h. absurd (false≢true h))
   effect_pushed m w a (Join v) all own others push =
-      set_all Pushed (set m.accounts w (after_join a (account_at m.accounts v))) v spent
+      set_all Pushed (set m.accounts w (after_join a (account_at m.accounts v))) v no_share
       (set_all Pushed m.accounts w (after_join a (account_at m.accounts v)) all (λ h. or_cases a.open_push (account_at m.accounts v).open_push h own (others v))) (λ h. absurd (false≢true h))
   effect_pushed m w a (Load Full) all own others push = set_all Pushed m.accounts w (after_load Full (m.head Full) a) all (λ h. own (and_left a.open_push (is_some (m.head Full).index) h))
   effect_pushed m w a (Load Empty) all own others push = set_all Pushed m.accounts w (after_load Empty (m.head Empty) a) all own
@@ -245,7 +245,7 @@ module _ (e : Setup) (m : Marking) (counts : List Counts) (event : Event) (can :
       old k a at h = still Full (was.pushes k a at h)
 
       others : (v : ℕ) → Pushed (HasChanged e (happens m event) Full) (account_at m.accounts v)
-      others v = or_default (Pushed (HasChanged e (happens m event) Full)) m.accounts v spent old (λ h. absurd (false≢true h))
+      others v = or_default (Pushed (HasChanged e (happens m event) Full)) m.accounts v no_share old (λ h. absurd (false≢true h))
 
   firsts_next : Firsts e (happens m event) (counted m counts event.worker event.kind)
   firsts_next = record { heads = heads_now; looks = looks_now; failures = failures_now; pushes = pushes_now }
@@ -267,6 +267,18 @@ firsts_open e =
     heads : (q : Which) → IsFirstOr e q (first_heads e.first_tag q)
     heads Full = (omega arith, (λ same. refl))
     heads Empty = (omega arith, (λ same. refl))
+
+-- each head that a stack had is one of these
+had_first :
+    (e : Setup) (events : List Event) (first last : Marking) (counts : List Counts) (q : Which) (h : Head) → Firsts e first counts → Run e first events last
+    → HadHead first events q h → IsFirstOr e q h
+had_first e [] first last counts q h was run had = subst (IsFirstOr e q) had (was.heads q)
+had_first e (event ∷ events) first last counts q h was run had =
+    ⊎_elim (λ here. subst (IsFirstOr e q) here (was.heads q))
+    (λ later. had_first e events (happens first event) last (counted first counts event.worker event.kind) q h (firsts_next e first counts event run.0 was) run.1 later) had
+
+pub first_tags_are_first : FirstTagsAreFirst
+first_tags_are_first e events m run q h had same = (had_first e events (opening e e.first_tag) m (no_counts ∷ []) q h (firsts_open e) run had).1 same
 
 pub firsts_where : (e : Setup) (events : List Event) (m : Marking) (counts : List Counts) → LeadTo e events m counts → Firsts e m counts
 firsts_where e events m counts led = subst (Firsts e m) (sym led.counts) (firsts_run e events (opening e e.first_tag) m (no_counts ∷ []) (firsts_open e) led.run)

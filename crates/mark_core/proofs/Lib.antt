@@ -11,9 +11,10 @@ pub mod Runs
 pub mod Counting
 pub mod Changes
 pub mod Firsts
+pub mod Parity
 pub mod Closing
 pub mod Taking
-pub mod Tables
+pub mod Vectors
 pub mod Within
 pub mod Steps
 pub mod Begins

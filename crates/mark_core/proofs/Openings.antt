@@ -1,5 +1,5 @@
 -- The law holds of an opening marking.
-use Rattle.std.proofs.Common.{◌≡◌, ◌⊎◌, ℕ, zero, suc, ◌+◌, ◌<◌, ◌≤◌, nat_lt, List, [], ◌∷◌, Option, Some, None, Contains, if◌then◌else◌, replicate, ap, sym, refl, subst, inl, inr, lt-ltb, le-ltb, arith}
+use Rattle.std.proofs.Common.{◌≡◌, ◌⊎◌, ℕ, zero, suc, ◌+◌, ◌<◌, ◌≤◌, nat_lt, List, [], ◌∷◌, Option, Some, None, Contains, if◌then◌else◌, length, replicate, ap, sym, refl, subst, inl, inr, lt-ltb, le-ltb, arith}
 use mathlib.Core.Option.{some-injective, some-ne-none}
 use native.Mathlib.Decide.{dec_le, ℕ_discrete}
 use lib.ListN.{length-replicate}
@@ -13,6 +13,7 @@ use Rattle.mark_core.specs.Colours.{IsColoured, stacked_times}
 use Rattle.mark_core.specs.Shares.{IsShared, whole}
 use Rattle.mark_core.specs.Law.{Law}
 use Rattle.mark_core.specs.Runs.{first_heads, first_link, opening}
+use Rattle.mark_core.specs.Conclusions.{first_length}
 use Rattle.mark_core.proofs.Sums.{total-nothing, only-same, only-other}
 use Rattle.mark_core.proofs.Chains.{recent_blank}
 
@@ -40,6 +41,10 @@ numbers_counted n b = go (dec_le n b)
     go : Dec (n ≤ b) → times b (numbers 0 n) ≡ one_where (nat_lt b n)
     go (yes h) = omega (arith, numbers_none n 0 b (inr (omega arith)), ap one_where (le-ltb b n h))
     go (no d) = omega (arith, numbers_once n 0 b (omega arith) (omega arith), ap one_where (lt-ltb b n (omega arith)))
+
+numbers_length : (n k : ℕ) → length (numbers k n) ≡ n
+numbers_length zero k = refl
+numbers_length (suc n) k = ap suc (numbers_length n (suc k))
 
 -- the number k, while it is below the buffers
 abbrev below : ℕ → ℕ → Option ℕ
@@ -122,7 +127,13 @@ module _ (e : Setup) (tag : ℕ) (some_buffer : 0 < e.buffers) where
       bare o = total-nothing (λ slot. times o (items_of slot)) (replicate e.buffers (Some [])) (λ i slot at. sym (ap (λ s. times o (items_of s)) (in_replicate e.buffers i (Some []) slot at)))
 
   first_shared : IsShared (part whole ∷ [])
-  first_shared = record { sum = omega arith; spent = λ w a at none. let t : whole ≡ a.share = ap (λ (x : Account). x.share) (alone w (part whole) a at) in absurd (omega arith) }
+  first_shared = record { sum = omega arith; no_share = λ w a at none. let t : whole ≡ a.share = ap (λ (x : Account). x.share) (alone w (part whole) a at) in absurd (omega arith) }
 
   pub opening_keeps : Law e (opening e tag)
   opening_keeps = record { stack = first_stack; owned = first_owned; shelved = first_shelved; coloured = first_coloured; shared = first_shared }
+
+  -- how many buffers each stack has
+  pub opening_length : (q : Which) → length (opening_keeps.stack q) ≡ first_length e q
+  unfolding first_stack opening_keeps
+  opening_length Full = refl
+  opening_length Empty = numbers_length e.buffers 0

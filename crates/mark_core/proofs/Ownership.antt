@@ -5,7 +5,7 @@ use Rattle.tagged_index.specs.Head.{Head, after}
 use Rattle.mark_core.specs.declared.which.Which.{Which}
 use Rattle.mark_core.specs.declared.which.Which.TheVariants.{Full, Empty}
 use Rattle.mark_core.specs.Lists.{StandsAt, times, one_where, only}
-use Rattle.mark_core.specs.Account.{Account, look_of, part, spent, after_pop, after_push, after_join}
+use Rattle.mark_core.specs.Account.{Account, look_of, part, no_share, after_pop, after_push, after_join}
 use Rattle.mark_core.specs.World.{put_which}
 use Rattle.mark_core.specs.Ownership.{Chain, IsRecent, IsOwned, HasOpenPush, held_times}
 use Rattle.mark_core.proofs.Places.{at_set, at_push, at_longer, at_one, set_here, set_else, put_one, put_two}
@@ -222,7 +222,7 @@ module _ (buffers : ℕ) (head : Which → Head) (link : ℕ → Option ℕ) (ac
         owed Empty (inr e) = inr (open_set accounts w a (after_push Empty i items a) is (λ t. t) e)
 
     -- two accounts are put together
-    pub owned_join : (v : ℕ) (b : Account) → v ≢ w → StandsAt accounts v b → IsOwned buffers head link (set (set accounts w (after_join a b)) v spent) stack
+    pub owned_join : (v : ℕ) (b : Account) → v ≢ w → StandsAt accounts v b → IsOwned buffers head link (set (set accounts w (after_join a b)) v no_share) stack
     owned_join v b apart at = record { chain = o.chain; once = once; recent = recent; owed = owed o.owed }
       where
         both : Account
@@ -231,35 +231,35 @@ module _ (buffers : ℕ) (head : Which → Head) (link : ℕ → Option ℕ) (ac
         still : StandsAt (set accounts w both) v b
         still = set_else accounts w v both apart ∙ at
 
-        once : (x : ℕ) → times x (stack Full) + times x (stack Empty) + held_times x (set (set accounts w both) v spent) ≡ one_where (nat_lt x buffers)
+        once : (x : ℕ) → times x (stack Full) + times x (stack Empty) + held_times x (set (set accounts w both) v no_share) ≡ one_where (nat_lt x buffers)
         once x =
             omega (
               arith,
               o.once x,
               total-set (λ (y : Account). times x y.held) accounts w a both is,
-              total-set (λ (y : Account). times x y.held) (set accounts w both) v b spent still,
+              total-set (λ (y : Account). times x y.held) (set accounts w both) v b no_share still,
               total-append (only x) a.held b.held,
             )
 
-        recent : (q : Which) (u : ℕ) (x : Account) → StandsAt (set (set accounts w both) v spent) u x → IsRecent link (head q) (look_of x q)
-        recent q u x e = go (at_set (set accounts w both) v u spent x e)
+        recent : (q : Which) (u : ℕ) (x : Account) → StandsAt (set (set accounts w both) v no_share) u x → IsRecent link (head q) (look_of x q)
+        recent q u x e = go (at_set (set accounts w both) v u no_share x e)
           where
-            blank : (p : Which) → IsRecent link (head p) (look_of spent p)
+            blank : (p : Which) → IsRecent link (head p) (look_of no_share p)
             blank Full = recent_blank link (head Full)
             blank Empty = recent_blank link (head Empty)
 
-            go : ((u ≡ v) × (spent ≡ x)) ⊎ ((u ≢ v) × StandsAt (set accounts w both) u x) → IsRecent link (head q) (look_of x q)
+            go : ((u ≡ v) × (no_share ≡ x)) ⊎ ((u ≢ v) × StandsAt (set accounts w both) u x) → IsRecent link (head q) (look_of x q)
             go (inl p) = subst (λ y. IsRecent link (head q) (look_of y q)) p.1 (blank q)
             go (inr p) = recent_set both (keeps_looks both refl refl) q u x p.1
 
-        first : Account → Account → StandsAt (set (set accounts w both) v spent) w both
-        first x y = set_else (set accounts w both) v w spent (λ e. apart (sym e)) ∙ set_here accounts w both a is
+        first : Account → Account → StandsAt (set (set accounts w both) v no_share) w both
+        first x y = set_else (set accounts w both) v w no_share (λ e. apart (sym e)) ∙ set_here accounts w both a is
 
-        owed : (stack Full ≡ []) ⊎ HasOpenPush accounts → (stack Full ≡ []) ⊎ HasOpenPush (set (set accounts w both) v spent)
+        owed : (stack Full ≡ []) ⊎ HasOpenPush accounts → (stack Full ≡ []) ⊎ HasOpenPush (set (set accounts w both) v no_share)
         owed (inl p) = inl p
         owed (inr p) = go (ℕ_discrete p.0 w) (ℕ_discrete p.0 v)
           where
-            go : Dec (p.0 ≡ w) → Dec (p.0 ≡ v) → (stack Full ≡ []) ⊎ HasOpenPush (set (set accounts w both) v spent)
+            go : Dec (p.0 ≡ w) → Dec (p.0 ≡ v) → (stack Full ≡ []) ⊎ HasOpenPush (set (set accounts w both) v no_share)
             go (yes e) d =
                 let s : p.1 ≡ a = at_one accounts w p.1 a (subst (λ u. StandsAt accounts u p.1) e p.2) is in
                 let t : p.1.open_push ≡ a.open_push = ap (λ (x : Account). x.open_push) s in
@@ -268,4 +268,4 @@ module _ (buffers : ℕ) (head : Which → Head) (link : ℕ → Option ℕ) (ac
                 let s : p.1 ≡ b = at_one accounts v p.1 b (subst (λ u. StandsAt accounts u p.1) e p.2) at in
                 let t : p.1.open_push ≡ b.open_push = ap (λ (x : Account). x.open_push) s in
                 inr (w, both, first a a, or_second a.open_push b.open_push (sym t ∙ p.3))
-            go (no n) (no k) = inr (p.0, p.1, set_else (set accounts w both) v p.0 spent k ∙ (set_else accounts w p.0 both n ∙ p.2), p.3)
+            go (no n) (no k) = inr (p.0, p.1, set_else (set accounts w both) v p.0 no_share k ∙ (set_else accounts w p.0 both n ∙ p.2), p.3)

@@ -1,7 +1,7 @@
 -- Every run from an opening marking keeps the law.
 use Rattle.std.proofs.Common.{◌≡◌, ℕ, List, [], ◌∷◌, Some, None, slice_set, slice_index_or, ap, sym, subst, ◌∙◌}
 use Rattle.mark_core.specs.Lists.{StandsAt}
-use Rattle.mark_core.specs.Account.{Account, look_of, spent, after_join, after_load_link}
+use Rattle.mark_core.specs.Account.{Account, look_of, no_share, after_join, after_load_link}
 use Rattle.mark_core.specs.World.{Setup, Marking, items_of, IsThere}
 use Rattle.mark_core.specs.Event.{Kind, Claim, Finish, Split, Join, Load, LoadLink, StoreLink, Pop, Push, Fail, Event, Allows, effect, happens, popped, last_link, link_from}
 use Rattle.mark_core.specs.Law.{Law}
@@ -18,7 +18,7 @@ effect_keeps e m law w a there (Claim o) can = claim_keeps e m law w a there.0 t
 effect_keeps e m law w a there (Finish o) can = finish_keeps e m law w a there.0 there.1 o can
 effect_keeps e m law w a there (Split units) can = split_keeps e m law w a there.0 there.1 units can.0 can.1
 effect_keeps e m law w a there (Join v) can =
-    subst (λ x. Law e (record m { accounts = slice_set (slice_set m.accounts w (after_join a x)) v spent })) (sym (at_get_or m.accounts v can.1.0 spent can.1.1.0))
+    subst (λ x. Law e (record m { accounts = slice_set (slice_set m.accounts w (after_join a x)) v no_share })) (sym (at_get_or m.accounts v can.1.0 no_share can.1.1.0))
     (join_keeps e m law w a there.0 there.1 v can.1.0 can.0 can.1.1.0)
 effect_keeps e m law w a there (Load q) can = load_keeps e m law w a there.0 there.1 q
 effect_keeps e m law w a there (LoadLink q) can =
@@ -39,7 +39,7 @@ effect_keeps e m law w a there (Fail q) can = law
 -- each possible event keeps the law
 pub happens_keeps : EventsKeepLaw
 happens_keeps e m event law can =
-    subst (λ x. Law e (effect m event.worker x event.kind)) (sym (at_get_or m.accounts event.worker can.0 spent can.1.0)) (effect_keeps e m law event.worker can.0 can.1 event.kind can.2)
+    subst (λ x. Law e (effect m event.worker x event.kind)) (sym (at_get_or m.accounts event.worker can.0 no_share can.1.0)) (effect_keeps e m law event.worker can.0 can.1 event.kind can.2)
 
 run_keeps : (e : Setup) (events : List Event) (first last : Marking) → Law e first → Run e first events last → Law e last
 run_keeps e [] first last law run = subst (Law e) (sym run) law

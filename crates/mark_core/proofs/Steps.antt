@@ -1,7 +1,7 @@
 -- From what one account does to a step of a world, and the law after it.
 use Rattle.std.proofs.Common.{◌≡◌, ℕ, ◌<◌, ◌≤◌, Bool, true, false, Result, Ok, Err, IfErr, IfOk, All, ap, sym, subst, ◌∙◌}
 use Rattle.std.proofs.lemmas.List.{get_or_default}
-use Rattle.mark_core.specs.Account.{Account, spent}
+use Rattle.mark_core.specs.Account.{Account, no_share}
 use Rattle.mark_core.specs.World.{Setup, account_at, IsThere}
 use Rattle.mark_core.specs.Event.{Kind, Event, Allows}
 use Rattle.mark_core.specs.Law.{Law}
@@ -21,7 +21,7 @@ no_number l w kind none can = none can.1
 pub steps_of : (old new : Listing) (w : ℕ) (kind : Kind) (done : Bool) → HasAccount old w → HasNumber kind old.accounts → Tries old w kind done new → Steps old (record { worker = w; kind = kind }) done new
 steps_of old new w kind true there number does =
     let a : Account = account_at old.accounts w in
-    let stands : IsThere old.accounts w a = (stands_here old.accounts w a there.0 (get_or_default old.accounts w spent a there.0), there.1) in
+    let stands : IsThere old.accounts w a = (stands_here old.accounts w a there.0 (get_or_default old.accounts w no_share a there.0), there.1) in
     record {
       possible = ((a, stands, does.allowed), number);
       marking = does.marking;
@@ -31,7 +31,7 @@ steps_of old new w kind true there number does =
       marks = does.marks;
     }
 steps_of old new w kind false there number may_not =
-    λ can. may_not (subst (λ (x : Account). Allows old.setup (marking_of old) w x kind) (sym (at_get_or old.accounts w can.0.0 spent can.0.1.0)) can.0.2)
+    λ can. may_not (subst (λ (x : Account). Allows old.setup (marking_of old) w x kind) (sym (at_get_or old.accounts w can.0.0 no_share can.0.1.0)) can.0.2)
 
 -- the same of an answer that may be a refusal
 pub steps_ok :
@@ -52,7 +52,7 @@ pub steps_refused :
 steps_refused old w kind (Ok done) there number may = tt
 steps_refused old w kind (Err e) there number may =
     let a : Account = account_at old.accounts w in
-    let stands : IsThere old.accounts w a = (stands_here old.accounts w a there.0 (get_or_default old.accounts w spent a there.0), there.1) in
+    let stands : IsThere old.accounts w a = (stands_here old.accounts w a there.0 (get_or_default old.accounts w no_share a there.0), there.1) in
     ((a, stands, may), number)
 
 -- after a step the law holds

@@ -7,7 +7,7 @@ use native.Mathlib.Decide.{dec_le}
 use mathlib.Core.Option.{some}
 use Rattle.mark_core.specs.declared.which.Which.{Which}
 use Rattle.mark_core.specs.Lists.{StandsAt, times}
-use Rattle.mark_core.specs.Account.{Account, look_of, spent}
+use Rattle.mark_core.specs.Account.{Account, look_of, no_share}
 use Rattle.mark_core.specs.World.{account_at, IsThere}
 use Rattle.mark_core.specs.Event.{CanClaim}
 use Rattle.mark_core.specs.Step.{Listing, IsLawful, heads_of, marking_of}
@@ -27,7 +27,7 @@ stands_here xs i a h e = stands_at xs i a h ∙ ap some (sym e)
 
 -- an account that stands at v with a share is there
 pub is_there : (accounts : List Account) (v : ℕ) (a : Account) → IsThere accounts v a → (v < length accounts) × (0 < (account_at accounts v).share)
-is_there accounts v a t = (at_below accounts v a t.0, subst (λ (x : Account). 0 < x.share) (sym (at_get_or accounts v a spent t.0)) t.1)
+is_there accounts v a t = (at_below accounts v a t.0, subst (λ (x : Account). 0 < x.share) (sym (at_get_or accounts v a no_share t.0)) t.1)
 
 -- what is read at w after a write at another place stood there before
 pub read_past : (accounts : List Account) (v w : ℕ) (x a : Account) → w ≢ v → a ≡ get_or (set accounts v x) w a → a ≡ get_or accounts w a

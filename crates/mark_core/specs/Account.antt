@@ -5,7 +5,8 @@ use Rattle.mark_core.specs.declared.which.Which.{Which}
 use Rattle.mark_core.specs.declared.which.Which.TheVariants.{Full, Empty}
 use Rattle.mark_core.specs.Lists.{remove_one, without}
 
--- what an account last loaded of a stack: its head, and after that the link of the buffer on top, which is None where that buffer is the last
+-- what an account last loaded of a stack: its head, and after that the link of the buffer on top, which is None where
+-- that buffer is the last
 pub record Look : Type 0 where
   pub head : Option Head
   pub link : Option (Option ℕ)
@@ -37,15 +38,26 @@ blank = record { head = None; link = None }
 
 -- an account with these units and nothing else
 abbrev pub part : ℕ → Account
-part units = record { share = units; held = []; charge = []; seen = []; finished = []; full = blank; empty = blank; open_push = false }
+part units =
+    record {
+      share = units;
+      held = [];
+      charge = [];
+      seen = [];
+      finished = [];
+      full = blank;
+      empty = blank;
+      open_push = false;
+    }
 
 -- what is left of an account that was put into another
-abbrev pub spent : Account
-spent = part 0
+abbrev pub no_share : Account
+no_share = part 0
 
 -- a claim of the object o, whose mark was found so: o is seen, and where it was not marked the account answers for it
 abbrev pub after_claim : ℕ → ℕ → Account → Account
-after_claim o found a = record a { charge = if found == 0 then a.charge ++ o ∷ [] else a.charge; seen = a.seen ++ o ∷ [] }
+after_claim o found a =
+    record a { charge = if found == 0 then a.charge ++ o ∷ [] else a.charge; seen = a.seen ++ o ∷ [] }
 
 -- the object o leaves the charge and is finished
 abbrev pub after_finish : ℕ → Account → Account
@@ -55,7 +67,8 @@ after_finish o a = record a { charge = remove_one o a.charge; finished = a.finis
 abbrev pub after_split : ℕ → Account → Account
 after_split units a = record a { share = a.share - units }
 
--- two accounts put together: lists and shares are added, the first's last heads and links stay, and so does an open push of either
+-- two accounts put together: lists and shares are added, the first's last heads and links stay, and so does an open
+-- push of either
 abbrev pub after_join : Account → Account → Account
 after_join a b =
     record {
@@ -69,9 +82,11 @@ after_join a b =
       open_push = a.open_push || b.open_push;
     }
 
--- the head of a stack was loaded: the link loaded before is forgotten, and a full head without a buffer ends an open push
+-- the head of a stack was loaded: the link loaded before is forgotten, and a full head without a buffer ends an open
+-- push
 abbrev pub after_load : Which → Head → Account → Account
-after_load Full h a = record a { full = record { head = Some h; link = None }; open_push = a.open_push && is_some h.index }
+after_load Full h a =
+    record a { full = record { head = Some h; link = None }; open_push = a.open_push && is_some h.index }
 after_load Empty h a = record a { empty = record { head = Some h; link = None } }
 
 -- the link of the last head's buffer was loaded
@@ -90,4 +105,5 @@ opened Empty was = was
 
 -- the buffer i was pushed with these items: it is no longer held, and they leave the charge
 abbrev pub after_push : Which → ℕ → List ℕ → Account → Account
-after_push q i items a = record a { held = remove_one i a.held; charge = without items a.charge; open_push = opened q a.open_push }
+after_push q i items a =
+    record a { held = remove_one i a.held; charge = without items a.charge; open_push = opened q a.open_push }

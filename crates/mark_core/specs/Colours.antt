@@ -1,4 +1,5 @@
--- Colours: the mark of an object tells where it stands, what is marked is reachable, and a finished object has no white successor.
+-- Colours: the mark of an object tells where it stands, what is marked is reachable, and a finished object has no white
+-- successor.
 use Rattle.std.specs.Prelude.{◌≡◌, ◌⊎◌, ℕ, ◌+◌, ◌≤◌, List, [], ◌∷◌, Option, Contains}
 use Rattle.mark_core.specs.Lists.{StandsAt, total, times}
 use Rattle.mark_core.specs.Account.{Account}
@@ -14,7 +15,8 @@ charged_times o accounts = total (λ a. times o a.charge) accounts
 abbrev pub finished_times : ℕ → List Account → ℕ
 finished_times o accounts = total (λ a. times o a.finished) accounts
 
--- a path leads to the object: a root first, and each object behind one of its predecessors. The list has those before the object, the nearest first
+-- a path leads to the object: a root first, and each object behind one of its predecessors. The list has those before
+-- the object, the nearest first
 abbrev pub Leads : Setup → List ℕ → ℕ → Type 0
 Leads e [] o = Contains e.roots o
 Leads e (p ∷ back) o = Contains e.pairs (p, o) × Leads e back p
@@ -38,7 +40,8 @@ IsFinished mark working done = (mark ≡ 2) × (working ≡ 0) × (done ≡ 1)
 abbrev pub Tells : ℕ → ℕ → ℕ → Type 0
 Tells mark working done = IsWhite mark working done ⊎ (IsClaimed mark working done ⊎ IsFinished mark working done)
 
-pub record IsColoured (e : Setup) (mark : ℕ → ℕ) (slots : List (Option (List ℕ))) (accounts : List Account) : Type 0 where
+pub record IsColoured
+    (e : Setup) (mark : ℕ → ℕ) (slots : List (Option (List ℕ))) (accounts : List Account) : Type 0 where
   pub tells : (o : ℕ) → Tells (mark o) (stacked_times o slots + charged_times o accounts) (finished_times o accounts)
   pub closed : (o s : ℕ) → mark o ≡ 2 → Contains e.pairs (o, s) → 1 ≤ mark s
   pub reachable : (o : ℕ) → 1 ≤ mark o → IsReachable e o

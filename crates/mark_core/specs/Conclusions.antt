@@ -1,19 +1,22 @@
--- What a run lets one conclude: of heads that were loaded, of exchanges that failed, and of pushes that are open.
-use Rattle.std.specs.Prelude.{◌≡◌, ◌⊎◌, ℕ, ◌+◌, ◌%◌, ◌<◌, true, List, [], ◌∷◌, length, Option, Some}
+-- What a run lets one conclude: of heads that were loaded, of first tags, of tags and lengths, of exchanges that
+-- failed, and of pushes that are open.
+use Rattle.std.specs.Prelude.{◌≡◌, ◌⊎◌, ℕ, ◌+◌, ◌*◌, ◌<◌, true, List, [], ◌∷◌, length, Some}
 use Rattle.tagged_index.specs.Head.{Head}
 use Rattle.mark_core.specs.declared.which.Which.{Which}
 use Rattle.mark_core.specs.declared.which.Which.TheVariants.{Full, Empty}
-use Rattle.mark_core.specs.Lists.{StandsAt}
+use Rattle.mark_core.specs.Lists.{StandsAt, total}
 use Rattle.mark_core.specs.Account.{Account, look_of}
 use Rattle.mark_core.specs.World.{Setup, Marking}
-use Rattle.mark_core.specs.Event.{Event, happens}
+use Rattle.mark_core.specs.Event.{Kind, Push, Event, happens}
 use Rattle.mark_core.specs.Law.{Law}
-use Rattle.mark_core.specs.Runs.{IsListOf, Run, opening}
+use Rattle.mark_core.specs.Runs.{IsListOf, Run, first_heads, opening}
 use Rattle.mark_core.specs.Counts.{Counts, LeadTo}
 
 -- what events lead to from the opening is lawful
 abbrev pub ListsKeepLaw : Type 0
-ListsKeepLaw = (e : Setup) (events : List Event) (m : Marking) (counts : List Counts) → 0 < e.buffers → LeadTo e events m counts → Law e m
+ListsKeepLaw =
+    (e : Setup) (events : List Event) (m : Marking) (counts : List Counts)
+    → 0 < e.buffers → LeadTo e events m counts → Law e m
 
 -- while these events happened, the first of them to this marking, the stack had this head
 abbrev pub HadHead : Marking → List Event → Which → Head → Type 0
@@ -24,7 +27,42 @@ HadHead m (event ∷ events) q h = (m.head q ≡ h) ⊎ HadHead (happens m event
 abbrev pub LoadedHeadsWere : Type 0
 LoadedHeadsWere =
     (e : Setup) (events : List Event) (m : Marking) → Run e (opening e e.first_tag) events m
-    → (w : ℕ) (a : Account) (q : Which) (h : Head) → StandsAt m.accounts w a → (look_of a q).head ≡ Some h → HadHead (opening e e.first_tag) events q h
+    → (w : ℕ) (a : Account) (q : Which) (h : Head) → StandsAt m.accounts w a → (look_of a q).head ≡ Some h
+    → HadHead (opening e e.first_tag) events q h
+
+-- of all heads that a stack has in a run, the first one alone bears the first tag
+abbrev pub FirstTagsAreFirst : Type 0
+FirstTagsAreFirst =
+    (e : Setup) (events : List Event) (m : Marking) → Run e (opening e e.first_tag) events m
+    → (q : Which) (h : Head) → HadHead (opening e e.first_tag) events q h
+    → h.tag ≡ e.first_tag → h ≡ first_heads e.first_tag q
+
+-- how many buffers a stack has at the opening
+abbrev pub first_length : Setup → Which → ℕ
+first_length e Full = 0
+first_length e Empty = e.buffers
+
+-- 1 for two stacks that are one, else 0
+abbrev pub one_stack : Which → Which → ℕ
+one_stack Full Full = 1
+one_stack Empty Empty = 1
+one_stack p q = 0
+
+-- how many of these events push on the stack
+abbrev pub push_count : Kind → Which → ℕ
+push_count (Push p i items) q = one_stack p q
+push_count kind q = 0
+
+abbrev pub pushes_among : List Event → Which → ℕ
+pushes_among events q = total (λ event. push_count event.kind q) events
+
+-- Tag and length of a stack have one parity: a pop raises the tag by one and takes one buffer, a push raises it by one
+-- and puts one. So the two together rise by two at each push, and at nothing else
+abbrev pub TagsKeepParity : Type 0
+TagsKeepParity =
+    (e : Setup) (events : List Event) (m : Marking) → 0 < e.buffers → Run e (opening e e.first_tag) events m
+    → (q : Which) (list : List ℕ) → IsListOf m q list
+    → (m.head q).tag + length list ≡ e.first_tag + first_length e q + 2 * pushes_among events q
 
 -- the head of the stack was exchanged: its tag is above the first
 abbrev pub HasChanged : Setup → Marking → Which → Type 0

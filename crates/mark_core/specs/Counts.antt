@@ -51,7 +51,8 @@ abbrev pub counted : Marking → List Counts → ℕ → Kind → List Counts
 counted m counts w (Load q) = slice_set counts w (count_load q (m.head q) (counts_at counts w))
 counted m counts w (Fail q) = slice_set counts w (count_failure (counts_at counts w))
 counted m counts w (Split units) = counts ++ no_counts ∷ []
-counted m counts w (Join v) = slice_set (slice_set counts w (add_counts (counts_at counts w) (counts_at counts v))) v no_counts
+counted m counts w (Join v) =
+    slice_set (slice_set counts w (add_counts (counts_at counts w) (counts_at counts v))) v no_counts
 counted m counts w kind = counts
 
 -- the counts of all accounts after these events, the first of which happens to this marking

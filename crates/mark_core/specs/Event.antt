@@ -1,10 +1,11 @@
--- The events: when each is possible, and what it does. Each is one step on a shared word, but for split and join, which touch none.
+-- The events: when each is possible, and what it does. Each is one step on a shared word, but for split and join, which
+-- touch none.
 use Rattle.std.specs.Prelude.{◌≡◌, ◌≢◌, ◌⊎◌, ℕ, ◌<◌, ◌≤◌, max, List, [], ◌∷◌, ◌++◌, length, Option, Some, None, Contains, slice_set, slice_index_or}
 use Rattle.tagged_index.specs.Head.{Head, after, last_tag}
 use Rattle.mark_core.specs.declared.which.Which.{Which}
 use Rattle.mark_core.specs.declared.which.Which.TheVariants.{Empty}
 use Rattle.mark_core.specs.Lists.{IsPart}
-use Rattle.mark_core.specs.Account.{Account, Look, look_of, part, spent, after_claim, after_finish, after_split, after_join, after_load, after_load_link, after_pop, after_push}
+use Rattle.mark_core.specs.Account.{Account, Look, look_of, part, no_share, after_claim, after_finish, after_split, after_join, after_load, after_load_link, after_pop, after_push}
 use Rattle.mark_core.specs.World.{Setup, Marking, items_of, account_at, IsThere, put, put_which}
 
 pub data Kind : Type 0 where
@@ -54,7 +55,8 @@ CanExchange now look = (look.head ≡ Some now) × (now.tag < last_tag)
 abbrev pub CanPop : Head → Look → Type 0
 CanPop now look = CanExchange now look × ((i : ℕ) × (now.index ≡ Some i)) × ((l : Option ℕ) × (look.link ≡ Some l))
 
--- an account may push a buffer that it holds with items of its charge, at most as many as a buffer takes, and none on the empty stack
+-- an account may push a buffer that it holds with items of its charge, at most as many as a buffer takes, and none on
+-- the empty stack
 abbrev pub CanGive : Setup → Which → ℕ → List ℕ → Account → Type 0
 CanGive e q i items a = Contains a.held i × IsPart items a.charge × (length items ≤ e.size) × (q ≡ Empty → items ≡ [])
 
@@ -68,7 +70,8 @@ Allows e m w a (Load q) = Unit {0}
 Allows e m w a (LoadLink q) = (h : Head) × (i : ℕ) × ((look_of a q).head ≡ Some h) × (h.index ≡ Some i)
 Allows e m w a (StoreLink i l) = Contains a.held i
 Allows e m w a (Pop q) = CanPop (m.head q) (look_of a q)
-Allows e m w a (Push q i items) = CanExchange (m.head q) (look_of a q) × CanGive e q i items a × (m.link i ≡ (m.head q).index)
+Allows e m w a (Push q i items) =
+    CanExchange (m.head q) (look_of a q) × CanGive e q i items a × (m.link i ≡ (m.head q).index)
 Allows e m w a (Fail q) = (h : Head) × ((look_of a q).head ≡ Some h) × (m.head q ≢ h)
 
 -- the link that a head leads to
@@ -94,12 +97,15 @@ popped m w a q (Some i) None = m
 
 -- the marking after the account w, which is a, did this
 abbrev pub effect : Marking → ℕ → Account → Kind → Marking
-effect m w a (Claim o) = record m { mark = put o (max (m.mark o) 1) m.mark; accounts = slice_set m.accounts w (after_claim o (m.mark o) a) }
+effect m w a (Claim o) =
+    record m { mark = put o (max (m.mark o) 1) m.mark; accounts = slice_set m.accounts w (after_claim o (m.mark o) a) }
 effect m w a (Finish o) = record m { mark = put o 2 m.mark; accounts = slice_set m.accounts w (after_finish o a) }
 effect m w a (Split units) = record m { accounts = slice_set m.accounts w (after_split units a) ++ part units ∷ [] }
-effect m w a (Join v) = record m { accounts = slice_set (slice_set m.accounts w (after_join a (account_at m.accounts v))) v spent }
+effect m w a (Join v) =
+    record m { accounts = slice_set (slice_set m.accounts w (after_join a (account_at m.accounts v))) v no_share }
 effect m w a (Load q) = record m { accounts = slice_set m.accounts w (after_load q (m.head q) a) }
-effect m w a (LoadLink q) = record m { accounts = slice_set m.accounts w (after_load_link q (last_link m.link (look_of a q).head) a) }
+effect m w a (LoadLink q) =
+    record m { accounts = slice_set m.accounts w (after_load_link q (last_link m.link (look_of a q).head) a) }
 effect m w a (StoreLink i l) = record m { link = put i l m.link }
 effect m w a (Pop q) = popped m w a q (m.head q).index (look_of a q).link
 effect m w a (Push q i items) =

@@ -1,4 +1,5 @@
--- Ownership: each buffer is on one of the two stacks or held by one account, and what an account loaded of a stack stands or is outdated by the tag.
+-- Ownership: each buffer is on one of the two stacks or held by one account, and what an account loaded of a stack
+-- stands or is outdated by the tag.
 use Rattle.std.specs.Prelude.{◌≡◌, ◌⊎◌, ℕ, ◌+◌, ◌<◌, nat_lt, true, List, [], ◌∷◌, length, Option, Some, None}
 use Rattle.tagged_index.specs.Head.{Head}
 use Rattle.mark_core.specs.declared.which.Which.{Which}
@@ -11,10 +12,13 @@ abbrev pub Chain : (ℕ → Option ℕ) → Option ℕ → List ℕ → Type 0
 Chain link index [] = index ≡ None
 Chain link index (i ∷ is) = (index ≡ Some i) × Chain link (link i) is
 
--- what was loaded of a stack: the stack's tag is larger now, or its head is the one loaded and the link, where it was loaded, is as it was loaded
+-- what was loaded of a stack: the stack's tag is larger now, or its head is the one loaded and the link, where it was
+-- loaded, is as it was loaded
 abbrev pub IsRecent : (ℕ → Option ℕ) → Head → Look → Type 0
 IsRecent link now look =
-    (h : Head) → look.head ≡ Some h → (h.tag < now.tag) ⊎ ((now ≡ h) × ((i : ℕ) (l : Option ℕ) → h.index ≡ Some i → look.link ≡ Some l → link i ≡ l))
+    (h : Head) → look.head ≡ Some h
+    → (h.tag < now.tag)
+    ⊎ ((now ≡ h) × ((i : ℕ) (l : Option ℕ) → h.index ≡ Some i → look.link ≡ Some l → link i ≡ l))
 
 -- how often the accounts hold the buffer
 abbrev pub held_times : ℕ → List Account → ℕ
@@ -25,10 +29,13 @@ abbrev pub HasOpenPush : List Account → Type 0
 HasOpenPush accounts = (w : ℕ) × (a : Account) × StandsAt accounts w a × (a.open_push ≡ true)
 
 -- these are the two stacks, the first buffer on top
-pub record IsOwned (buffers : ℕ) (head : Which → Head) (link : ℕ → Option ℕ) (accounts : List Account) (stack : Which → List ℕ) : Type 0 where
+pub record IsOwned
+    (buffers : ℕ) (head : Which → Head) (link : ℕ → Option ℕ) (accounts : List Account) (stack : Which → List ℕ)
+    : Type 0 where
   pub chain : (q : Which) → Chain link (head q).index (stack q)
   -- each buffer stands once in both stacks and all held lists taken together, and nothing else does
-  pub once : (b : ℕ) → times b (stack Full) + times b (stack Empty) + held_times b accounts ≡ one_where (nat_lt b buffers)
+  pub once :
+      (b : ℕ) → times b (stack Full) + times b (stack Empty) + held_times b accounts ≡ one_where (nat_lt b buffers)
   pub recent : (q : Which) (w : ℕ) (a : Account) → StandsAt accounts w a → IsRecent link (head q) (look_of a q)
   -- while a buffer is on the full stack, some account has an open push
   pub owed : (stack Full ≡ []) ⊎ HasOpenPush accounts

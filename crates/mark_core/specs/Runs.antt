@@ -22,7 +22,14 @@ first_link buffers i = if nat_lt (i + 1) buffers then Some (i + 1) else None
 
 -- all objects are white, all buffers are on the empty stack, and one account has the whole share and nothing else
 abbrev pub opening : Setup → ℕ → Marking
-opening e tag = record { head = first_heads tag; link = first_link e.buffers; mark = λ o. 0; slots = replicate e.buffers (Some []); accounts = part whole ∷ [] }
+opening e tag =
+    record {
+      head = first_heads tag;
+      link = first_link e.buffers;
+      mark = λ o. 0;
+      slots = replicate e.buffers (Some []);
+      accounts = part whole ∷ [];
+    }
 
 -- this is an opening marking, and there is a buffer
 abbrev pub IsOpening : Setup → Marking → Type 0
@@ -49,7 +56,8 @@ EventsKeepLaw = (e : Setup) (m : Marking) (event : Event) → Law e m → IsPoss
 abbrev pub IsListOf : Marking → Which → List ℕ → Type 0
 IsListOf m q list = Chain m.link (m.head q).index list
 
--- what an event leaves of the list of a stack: a pop from it takes the first buffer off, a push puts one before it, and nothing else changes it
+-- what an event leaves of the list of a stack: a pop from it takes the first buffer off, a push puts one before it, and
+-- nothing else changes it
 abbrev pub Changes : Which → Kind → List ℕ → List ℕ → Type 0
 Changes q (Pop p) old new = (p ≡ q → (i : ℕ) × (old ≡ i ∷ new)) × (p ≢ q → new ≡ old)
 Changes q (Push p i items) old new = (p ≡ q → new ≡ i ∷ old) × (p ≢ q → new ≡ old)
@@ -59,11 +67,14 @@ Changes q kind old new = new ≡ old
 abbrev pub StacksChange : Type 0
 StacksChange =
     (e : Setup) (m : Marking) (event : Event) → Law e m → IsPossible e m event
-    → (q : Which) (old new : List ℕ) → IsListOf m q old → IsListOf (happens m event) q new → Changes q event.kind old new
+    → (q : Which) (old new : List ℕ)
+    → IsListOf m q old → IsListOf (happens m event) q new → Changes q event.kind old new
 
 -- a head stays as it is, or its tag rises by one
 abbrev pub TagsRise : Type 0
-TagsRise = (m : Marking) (event : Event) (q : Which) → ((happens m event).head q ≡ m.head q) ⊎ (((happens m event).head q).tag ≡ (m.head q).tag + 1)
+TagsRise =
+    (m : Marking) (event : Event) (q : Which)
+    → ((happens m event).head q ≡ m.head q) ⊎ (((happens m event).head q).tag ≡ (m.head q).tag + 1)
 
 -- a pop that is possible finds the very link that its account loaded
 abbrev pub PopsFindLinks : Type 0
@@ -74,7 +85,9 @@ PopsFindLinks =
 
 -- no event lets a mark fall
 abbrev pub MarksRise : Type 0
-MarksRise = (e : Setup) (m : Marking) (event : Event) → Law e m → IsPossible e m event → (o : ℕ) → m.mark o ≤ (happens m event).mark o
+MarksRise =
+    (e : Setup) (m : Marking) (event : Event) → Law e m → IsPossible e m event
+    → (o : ℕ) → m.mark o ≤ (happens m event).mark o
 
 -- it holds no buffer twice, and no object is twice in its charge and its finished list taken together
 pub record HasEachOnce (a : Account) : Type 0 where
@@ -83,7 +96,8 @@ pub record HasEachOnce (a : Account) : Type 0 where
 
 -- each account has a buffer or an object at most once
 abbrev pub AccountsHaveEachOnce : Type 0
-AccountsHaveEachOnce = (e : Setup) (m : Marking) → Law e m → (w : ℕ) (a : Account) → StandsAt m.accounts w a → HasEachOnce a
+AccountsHaveEachOnce =
+    (e : Setup) (m : Marking) → Law e m → (w : ℕ) (a : Account) → StandsAt m.accounts w a → HasEachOnce a
 
 -- no buffer is held by both, and no object stands in the charge or the finished list of both
 pub record AreApart (a b : Account) : Type 0 where
@@ -115,7 +129,8 @@ pub record IsClosed (e : Setup) (m : Marking) (w : ℕ) (a : Account) : Type 0 w
       → (b : ℕ) → times b full + times b empty + times b a.held ≡ one_where (nat_lt b e.buffers)
   pub others : (v : ℕ) (b : Account) → v ≢ w → StandsAt m.accounts v b → HasNothing b
 
--- where one account has the whole share and answers for nothing, the marks are told by its finished list and the full stack
+-- where one account has the whole share and answers for nothing, the marks are told by its finished list and the full
+-- stack
 abbrev pub ClosedIsTold : Type 0
 ClosedIsTold =
     (e : Setup) (m : Marking) → Law e m

@@ -19,4 +19,4 @@ pub record HasNothing (a : Account) : Type 0 where
 
 pub record IsShared (accounts : List Account) : Type 0 where
   pub sum : shares accounts ≡ whole
-  pub spent : (w : ℕ) (a : Account) → StandsAt accounts w a → a.share ≡ 0 → HasNothing a
+  pub no_share : (w : ℕ) (a : Account) → StandsAt accounts w a → a.share ≡ 0 → HasNothing a

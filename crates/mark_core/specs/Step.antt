@@ -26,7 +26,14 @@ heads_of l Empty = l.empty
 
 -- the marking that the lists show
 abbrev pub marking_of : Listing → Marking
-marking_of l = record { head = heads_of l; link = λ i. slice_index_or l.links i None; mark = λ o. slice_index l.marks o; slots = l.slots; accounts = l.accounts }
+marking_of l =
+    record {
+      head = heads_of l;
+      link = λ i. slice_index_or l.links i None;
+      mark = λ o. slice_index l.marks o;
+      slots = l.slots;
+      accounts = l.accounts;
+    }
 
 -- the event that a caller means
 abbrev pub kind_of : {A : Type 0} → given.Kind A → Kind
@@ -119,4 +126,5 @@ Steps old event done new = MatchBool done (Follows old event new) (¬ CanStep ol
 -- the lists after the event, of the same setup; or none, exactly where there is no step
 abbrev pub Answers : Option Listing → Listing → Event → Type 0
 Answers None old event = ¬ CanStep old event
-Answers (Some new) old event = CanStep old event × (new.setup ≡ old.setup) × (marking_of new ≡ happens (marking_of old) event)
+Answers (Some new) old event =
+    CanStep old event × (new.setup ≡ old.setup) × (marking_of new ≡ happens (marking_of old) event)

@@ -4,10 +4,10 @@ use Rattle.tagged_index.specs.Head.{Head}
 use Rattle.mark_core.specs.declared.which.Which.{Which}
 use Rattle.mark_core.specs.declared.which.Which.TheVariants.{Full, Empty}
 use Rattle.mark_core.specs.Lists.{StandsAt}
-use Rattle.mark_core.specs.Account.{Account, spent}
+use Rattle.mark_core.specs.Account.{Account, no_share}
 
--- what no event changes: the number of objects, the number of buffers, the most items of a buffer, the tag that both heads begin with, the roots,
--- and the pairs of an object and a successor
+-- what no event changes: the number of objects, the number of buffers, the most items of a buffer, the tag that both
+-- heads begin with, the roots, and the pairs of an object and a successor
 pub record Setup : Type 0 where
   pub objects : ℕ
   pub buffers : ℕ
@@ -32,9 +32,9 @@ pub record Marking : Type 0 where
 abbrev pub items_of : Option (List ℕ) → List ℕ
 items_of slot = unwrap_or slot []
 
--- the account of this number, spent where there is none
+-- the account of this number, one without a share where there is none
 abbrev pub account_at : List Account → ℕ → Account
-account_at accounts w = slice_index_or accounts w spent
+account_at accounts w = slice_index_or accounts w no_share
 
 -- the account of this number is a, and has a share
 abbrev pub IsThere : List Account → ℕ → Account → Type 0

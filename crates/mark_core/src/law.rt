@@ -2,7 +2,8 @@
 ghost use Rattle.mark_core.specs.Runs.{RunsKeepLaw, EventsKeepLaw, StacksChange, TagsRise};
 ghost use Rattle.mark_core.specs.Runs.{PopsFindLinks, MarksRise, ClosedIsTold};
 ghost use Rattle.mark_core.specs.Runs.{AccountsHaveEachOnce, AccountsAreApart};
-ghost use Rattle.mark_core.specs.Conclusions.{FailuresFollowChanges, ListsKeepLaw, LoadedHeadsWere, PushesFollowChanges};
+ghost use Rattle.mark_core.specs.Conclusions.{FailuresFollowChanges, FirstTagsAreFirst, ListsKeepLaw};
+ghost use Rattle.mark_core.specs.Conclusions.{LoadedHeadsWere, PushesFollowChanges, TagsKeepParity};
 
 /// The law of a marking, after every list of events of any number of workers, splits and joins
 /// included. It does nothing: its contract is the law.
@@ -21,6 +22,9 @@ ghost use Rattle.mark_core.specs.Conclusions.{FailuresFollowChanges, ListsKeepLa
 /// - `closed`: what one account with the whole share and nothing in charge may conclude.
 /// - `lists`: what a list of events leads to from the opening, counts beside it, is lawful.
 /// - `loaded`: a head that an account loaded last is one that the stack had in the run.
+/// - `first`: of all heads that a stack has in the run, the first one alone bears the first tag.
+/// - `parity`: tag and length of a stack have one parity in the run. Each exchange raises the tag by one, and
+///   makes the stack one buffer longer or shorter.
 /// - `failures`, `pushes`: an account counts a failed exchange only where a head has changed since
 ///   the opening, and has an open push only where the full head has.
 pub fn all_runs_keep_law()
@@ -35,6 +39,8 @@ pub fn all_runs_keep_law()
     ensures closed { ClosedIsTold }
     ensures lists { ListsKeepLaw }
     ensures loaded { LoadedHeadsWere }
+    ensures first { FirstTagsAreFirst }
+    ensures parity { TagsKeepParity }
     ensures failures { FailuresFollowChanges }
     ensures pushes { PushesFollowChanges }
 {}

@@ -22,7 +22,8 @@ head_of-spelled t l h =
 
 -- a head with an index of at most 65,534 is what its word spells
 pub head_of-word_of : (h : Head) → low_of h.index < 65536 → head_of (word_of h) ≡ h
-head_of-word_of h small = head_of-spelled h.tag (low_of h.index) small ∙ ap (λ i. record h { index = i }) (index_of-low_of h.index)
+head_of-word_of h small = head_of-spelled h.tag (low_of h.index) small
+    ∙ ap (λ i. record h { index = i }) (index_of-low_of h.index)
 
 -- two heads with indices of at most 65,534 have two words
 abbrev pub WordsTellHeads : Type 0

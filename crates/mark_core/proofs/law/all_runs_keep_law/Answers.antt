@@ -3,7 +3,8 @@ use Rattle.mark_core.proofs.Runs.{runs_keep_law, happens_keeps}
 use Rattle.mark_core.proofs.Changes.{stacks_change, tags_rise, pops_find_links, marks_rise}
 use Rattle.mark_core.proofs.Closing.{each_once, apart, closed_is_told}
 use Rattle.mark_core.proofs.Counting.{lawful_where}
-use Rattle.mark_core.proofs.Firsts.{failures_follow_changes, loaded_heads_were, pushes_follow_changes}
+use Rattle.mark_core.proofs.Firsts.{failures_follow_changes, first_tags_are_first, loaded_heads_were, pushes_follow_changes}
+use Rattle.mark_core.proofs.Parity.{tags_keep_parity}
 use Rattle.mark_core.proofs.law.all_runs_keep_law.Goals as goal
 
 pub returns-clause-law : goal.returns-clause-law
@@ -44,3 +45,9 @@ returns-clause-failures c = failures_follow_changes
 
 pub returns-clause-pushes : goal.returns-clause-pushes
 returns-clause-pushes c = pushes_follow_changes
+
+pub returns-clause-parity : goal.returns-clause-parity
+returns-clause-parity c = tags_keep_parity
+
+pub returns-clause-first : goal.returns-clause-first
+returns-clause-first c = first_tags_are_first

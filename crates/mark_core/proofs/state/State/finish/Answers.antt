@@ -3,7 +3,7 @@ use Rattle.mark_core.specs.Event.{CanFinish}
 use Rattle.mark_core.specs.Step.{IsLawful}
 use Rattle.mark_core.proofs.Steps.{always}
 use Rattle.mark_core.proofs.Taking.{false_is_not_true}
-use Rattle.mark_core.proofs.Tables.{account_here, does_finish}
+use Rattle.mark_core.proofs.Vectors.{account_here, does_finish}
 use Rattle.mark_core.proofs.Within.{charge_within}
 use Rattle.mark_core.proofs.state.State.finish.Goals as goal
 

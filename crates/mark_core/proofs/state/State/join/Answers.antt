@@ -1,11 +1,11 @@
 use Rattle.std.proofs.Common.{◌≡◌, ◌<◌, get_or, sym, subst, refl, ◌∙◌}
 use Rattle.std.proofs.lemmas.List.{get_or_default}
-use Rattle.mark_core.specs.Account.{Account, spent}
+use Rattle.mark_core.specs.Account.{Account, no_share}
 use Rattle.mark_core.specs.World.{account_at}
 use Rattle.mark_core.specs.Step.{IsLawful}
 use Rattle.mark_core.proofs.Steps.{always}
 use Rattle.mark_core.proofs.Taking.{false_is_not_true}
-use Rattle.mark_core.proofs.Tables.{account_here, does_join}
+use Rattle.mark_core.proofs.Vectors.{account_here, does_join}
 use Rattle.mark_core.proofs.Within.{is_there, read_past, shares_within, stands_here}
 use Rattle.mark_core.proofs.state.State.join.Goals as goal
 
@@ -38,4 +38,4 @@ returns-in_err-join-clause-refused g c =
     let accounts = c.self.inside.accounts.items in
     let b = account_at accounts c.args.other in
     rw (← c.self.view_is)
-    (always _ c.from_residual.result (c.if-place-w.false, (b, (stands_here accounts c.args.other b found.0 (get_or_default accounts c.args.other spent b found.0), found.1))))
+    (always _ c.from_residual.result (c.if-place-w.false, (b, (stands_here accounts c.args.other b found.0 (get_or_default accounts c.args.other no_share b found.0), found.1))))

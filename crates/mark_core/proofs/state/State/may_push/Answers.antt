@@ -1,6 +1,6 @@
 use Rattle.std.proofs.Common.{sym, ap, refl, ◌∙◌}
 use Rattle.tagged_index.specs.Head.{Head}
-use Rattle.mark_core.proofs.Tables.{may_push}
+use Rattle.mark_core.proofs.Vectors.{may_push}
 use Rattle.mark_core.proofs.state.State.may_push.Goals as goal
 
 pub returns : goal.returns

@@ -1,6 +1,6 @@
 use Rattle.std.proofs.Common.{◌≡◌, sym, subst, refl, arith}
 use Rattle.mark_core.specs.Step.{IsLawful}
-use Rattle.mark_core.proofs.Tables.{tries_push, push_within}
+use Rattle.mark_core.proofs.Vectors.{tries_push, push_within}
 use Rattle.mark_core.proofs.state.State.push.Goals as goal
 
 pub exchange-requires : goal.exchange-requires

@@ -1,4 +1,4 @@
--- What the tables of a world are after each event.
+-- What the vectors of a world are after each event.
 use Rattle.std.proofs.Common.{◌≡◌, ◌≢◌, ◌↔◌, Bool, true, false, IsTrue, ℕ, ◌<◌, ◌≤◌, max, List, [], length, get_or, set, Option, Some, None, Contains, ap, sym, subst, refl, ◌∙◌, get_or-set_same, get_or-set_other, length-set}
 use Rattle.std.proofs.lemmas.List.{get_or_default, set_comm}
 use native.Mathlib.Decide.{ℕ_discrete}
@@ -6,7 +6,7 @@ use Rattle.tagged_index.specs.Head.{Head, after, last_tag}
 use Rattle.mark_core.specs.declared.which.Which.{Which}
 use Rattle.mark_core.specs.declared.which.Which.TheVariants.{Full, Empty}
 use Rattle.mark_core.specs.Lists.{IsPart}
-use Rattle.mark_core.specs.Account.{Account, Look, look_of, spent, after_claim, after_finish, after_join, after_pop, after_push}
+use Rattle.mark_core.specs.Account.{Account, Look, look_of, no_share, after_claim, after_finish, after_join, after_pop, after_push}
 use Rattle.mark_core.specs.World.{Marking, items_of, account_at, put, put_which}
 use Rattle.mark_core.specs.Event.{Claim, Finish, Join, StoreLink, Pop, Push, popped, CanClaim, CanFinish, CanPop}
 use Rattle.mark_core.specs.Step.{Listing, IsLawful, Does, Tries, heads_of, with_head, exchanged, marking_of, MayPush}
@@ -53,7 +53,7 @@ tables_headed l Empty h = record { setup = refl; links = refl; slots = refl; mar
 
 -- the account read at w
 pub account_here : (accounts : List Account) (w : ℕ) (a : Account) → w < length accounts → a ≡ get_or accounts w a → a ≡ account_at accounts w
-account_here accounts w a inside is = is ∙ get_or_default accounts w a spent inside
+account_here accounts w a inside is = is ∙ get_or_default accounts w a no_share inside
 
 -- what the tests of a pop tell, where this is the stack's head
 pub record PopTold (head : Head) (a : Account) (q : Which) (i : ℕ) (l : Option ℕ) : Type 0 where
@@ -187,7 +187,7 @@ module _ (s : Listing) (w : ℕ) (a b c : Account) (there : w < length s.account
   tries_push q i items may part changed false new low next = λ can. false_is_not_true (low.1 can.0.1)
 
   pub does_join :
-      (v : ℕ) (d e : Account) → v ≢ w → v < length s.accounts → d ≡ get_or s.accounts v d → 0 < d.share → e ≡ spent → c ≡ after_join b d
+      (v : ℕ) (d e : Account) → v ≢ w → v < length s.accounts → d ≡ get_or s.accounts v d → 0 < d.share → e ≡ no_share → c ≡ after_join b d
       → Does s w (Join v) (record s { accounts = set (set s.accounts v e) w c })
   does_join v d e other inside read there bare new =
       let m : Marking = marking_of s in
@@ -198,7 +198,7 @@ module _ (s : Listing) (w : ℕ) (a b c : Account) (there : w < length s.account
         marking =
             ap (λ x. record m { accounts = x }) (set_comm s.accounts v w e c other)
             ∙ ap (λ x. record m { accounts = set (set s.accounts w c) v x }) bare
-            ∙ ap (λ x. record m { accounts = set (set s.accounts w x) v spent }) last;
+            ∙ ap (λ x. record m { accounts = set (set s.accounts w x) v no_share }) last;
         setup = refl;
         links = refl;
         slots = refl;
@@ -225,4 +225,4 @@ may_push s w a inside is q i items look now looked loaded shows held fits bare l
 pub push_within : (s : Listing) (w : ℕ) → IsLawful s → w < length s.accounts → (q : Which) (i : ℕ) (items : List ℕ) → MayPush s w q i items → i < s.setup.buffers
 push_within s w lawful there q i items may =
     let a : Account = account_at s.accounts w in
-    held_within s lawful w a there (get_or_default s.accounts w spent a there) i may.held
+    held_within s lawful w a there (get_or_default s.accounts w no_share a there) i may.held
