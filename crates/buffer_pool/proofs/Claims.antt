@@ -15,21 +15,21 @@ use Rattle.mark_core.specs.Counts.{counted}
 use Rattle.mark_core.proofs.Places.{at_below}
 use Rattle.mark_core.proofs.Sums.{stands_times}
 use Rattle.mark_core.proofs.Colours.{charged}
-use Rattle.buffer_pool.specs.declared.view.View.{View}
+use Rattle.buffer_pool.specs.declared.seat_view.SeatView.{SeatView}
 use Rattle.buffer_pool.specs.Book.{claimed, finished}
-use Rattle.buffer_pool.specs.Plays.{rested, claim_made, finish_made}
-use Rattle.buffer_pool.specs.Laid.{IsLaid}
-use Rattle.buffer_pool.specs.Table.{Reading, Rule, Carries, free, link_word, mark_word, marking_of, view_counts}
+use Rattle.buffer_pool.specs.working.Plays.{rested, claim_made, finish_made}
+use Rattle.buffer_pool.specs.working.Laid.{IsLaid}
+use Rattle.buffer_pool.specs.working.Table.{Reading, Rule, Carries, free, link_word, mark_word, marking_of, view_counts}
 use Rattle.buffer_pool.proofs.States.{agrees, lawful, cut_same, stands, accounts_set, counts_same, happened, log_after, told_after, did_after, freed}
 use Rattle.buffer_pool.specs.Story.{Did}
-use Rattle.buffer_pool.specs.Told.{IsSettled, noted}
+use Rattle.buffer_pool.specs.working.Told.{IsSettled, noted}
 use Rattle.buffer_pool.proofs.Loads.{noticed, each_once}
 use Rattle.buffer_pool.proofs.Words.{head_beside_mark, link_beside_mark, marks_after}
 
-module _ {B : Type 0} (r : Reading B) (e : Setup) (s : State (Option B) View) (rule : Rule r e s) (id : ℕ) (v : View) (is : get_elem? s.views id ≡ some v) (bare : v.out ≡ 0) (there : 0 < v.book.account.share) where
+module _ {B : Type 0} (r : Reading B) (e : Setup) (s : State (Option B) SeatView) (rule : Rule r e s) (id : ℕ) (v : SeatView) (is : get_elem? s.views id ≡ some v) (bare : v.out ≡ 0) (there : 0 < v.book.account.share) where
   -- the mark of an object changes, and the account of the seat
   marked :
-      (o x : ℕ) (w : View) (kind : Kind) → o < e.objects → w.out ≡ 0 → w.book.account.held ≡ v.book.account.held → w.book.setup ≡ v.book.setup → view_counts w ≡ view_counts v
+      (o x : ℕ) (w : SeatView) (kind : Kind) → o < e.objects → w.out ≡ 0 → w.book.account.held ≡ v.book.account.held → w.book.setup ≡ v.book.setup → view_counts w ≡ view_counts v
       → w.log ≡ log_after r e s rule id kind → w.unsaid ≡ [] → w.taken ≡ [] → w.named ≡ true
       → may.Allows e (marking_of r e s) id v.book.account kind
       → effect (marking_of r e s) id v.book.account kind ≡ record (marking_of r e s) { mark = put o x (marking_of r e s).mark; accounts = set (marking_of r e s).accounts id w.book.account }
@@ -45,7 +45,7 @@ module _ {B : Type 0} (r : Reading B) (e : Setup) (s : State (Option B) View) (r
       m : Marking
       m = marking_of r e s
 
-      t : State (Option B) View
+      t : State (Option B) SeatView
       t = record { words = set s.words (mark_word e o) x; homes = s.homes; views = set s.views id w }
 
       links : (i : ℕ) → (marking_of r e t).link i ≡ m.link i
@@ -53,13 +53,13 @@ module _ {B : Type 0} (r : Reading B) (e : Setup) (s : State (Option B) View) (r
 
 module _ {B : Type 0} (r : Reading B) (e : Setup) (slots id : ℕ) where
   pub claims :
-      (me : Me (Option B) View) (o : ℕ) → Carries me → 0 < me.0.book.account.share → IsSettled me.0 → CanClaim me.0.book.setup o me.0.book.account → o < e.objects
+      (me : Me (Option B) SeatView) (o : ℕ) → Carries me → 0 < me.0.book.account.share → IsSettled me.0 → CanClaim me.0.book.setup o me.0.book.account → o < e.objects
       → Allows (Rule r e) slots id me (mark_word e o) (λ n. max n 1) (claim_made (step slots (mark_word e o) 1 0 none) me)
   claims me o carries there done can below = freed r e slots id (mark_word e o) (λ n. max n 1) (claim_made (step slots (mark_word e o) 1 0 none) me) me carries (λ s rule count is fits.
       let n = slice_index s.words (mark_word e o) in
-      let v : View = free me.0 in
+      let v : SeatView = free me.0 in
       let log = log_after r e s rule id (Claim o) in
-      let w : View = record (noted log v) { book = claimed o n me.0.book } in
+      let w : SeatView = record (noted log v) { book = claimed o n me.0.book } in
       let a = me.0.book.account in
       let same : me.0.book.setup ≡ e = rule.same_setup id v is there in
       let can' : CanClaim e o a = subst (λ (g : Setup). CanClaim g o a) same can in (
@@ -72,13 +72,13 @@ module _ {B : Type 0} (r : Reading B) (e : Setup) (slots id : ℕ) where
       ))
 
   pub finishes :
-      (me : Me (Option B) View) (o : ℕ) → Carries me → 0 < me.0.book.account.share → IsSettled me.0 → CanFinish me.0.book.setup o me.0.book.account → o < e.objects
+      (me : Me (Option B) SeatView) (o : ℕ) → Carries me → 0 < me.0.book.account.share → IsSettled me.0 → CanFinish me.0.book.setup o me.0.book.account → o < e.objects
       → Allows (Rule r e) slots id me (mark_word e o) (λ n. max n 2) (finish_made (step slots (mark_word e o) 2 0 none) me)
   finishes me o carries there done can below = freed r e slots id (mark_word e o) (λ n. max n 2) (finish_made (step slots (mark_word e o) 2 0 none) me) me carries (λ s rule count is fits.
       let n = slice_index s.words (mark_word e o) in
-      let v : View = free me.0 in
+      let v : SeatView = free me.0 in
       let log = log_after r e s rule id (Finish o) in
-      let w : View = record (noted log v) { book = finished o me.0.book } in
+      let w : SeatView = record (noted log v) { book = finished o me.0.book } in
       let m = marking_of r e s in
       let a = me.0.book.account in
       let same : me.0.book.setup ≡ e = rule.same_setup id v is there in

@@ -17,12 +17,12 @@ use Rattle.mark_core.specs.Runs.{IsClosed, LiesIn}
 use Rattle.mark_core.proofs.Colours.{linear}
 use Rattle.mark_core.proofs.Closing.{closes}
 use Rattle.mark_core.proofs.Counting.{lawful_where}
-use Rattle.buffer_pool.specs.declared.view.View.{View}
+use Rattle.buffer_pool.specs.declared.seat_view.SeatView.{SeatView}
 use Rattle.buffer_pool.specs.Book.{Book, counts_of}
 use Rattle.buffer_pool.specs.Closing.{Ends}
 use Rattle.buffer_pool.specs.Story.{EndsStory, deeds}
-use Rattle.buffer_pool.specs.Told.{IsSettled, IsTold}
-use Rattle.buffer_pool.specs.Table.{Reading, Rule, marking_of, mark_word, view_counts}
+use Rattle.buffer_pool.specs.working.Told.{IsSettled, IsTold}
+use Rattle.buffer_pool.specs.working.Table.{Reading, Rule, marking_of, mark_word, view_counts}
 use Rattle.buffer_pool.proofs.States.{stands}
 
 -- of any marking with these marks
@@ -70,7 +70,7 @@ ends b marks events last counts w count some_buffer led own own_counts same all 
             omega (arith, k.1)
 
 pub ends_of :
-    {B : Type 0} (r : Reading B) (e : Setup) (id : ℕ) (v : View) (words : List ℕ) (slots : List (Option B)) (first : ℕ) → first ≡ 32 + e.buffers → Final (Seen (Rule r e) id v) words slots
+    {B : Type 0} (r : Reading B) (e : Setup) (id : ℕ) (v : SeatView) (words : List ℕ) (slots : List (Option B)) (first : ℕ) → first ≡ 32 + e.buffers → Final (Seen (Rule r e) id v) words slots
     → v.book.account.share ≡ whole → v.book.account.held ≡ [] → v.book.account.charge ≡ [] → IsSettled v
     → (ended : Ends v.book (drop first words)) × EndsStory v.log ended.events
 unfolding ends

@@ -1,14 +1,14 @@
 -- What the workers did, in stretches of a story; and each view is told of one event more.
-use Rattle.std.proofs.Common.{◌≡◌, ◌≢◌, ℕ, zero, suc, ◌+◌, ◌<◌, ◌≤◌, ◌==◌, if◌then◌else◌, true, false, List, [], ◌∷◌, ◌++◌, length, set, ap, sym, refl, subst, ◌∙◌, ⊎_elim, ◌⊎◌, inl, inr, eq-eqb, ne_eqb, arith}
+use Rattle.std.proofs.Common.{◌≡◌, ◌≢◌, ℕ, ◌<◌, if◌then◌else◌, true, List, [], ◌∷◌, ◌++◌, set, ap, sym, refl, subst, ◌∙◌, ⊎_elim, eq-eqb, ne_eqb}
 use Rattle.std.proofs.lemmas.Bool.{false≢true}
 use Rattle.std.proofs.lemmas.List.{append_assoc, append-nil}
-use mathlib.Core.Option.{some, some-injective, some-ne-none}
+use mathlib.Core.Option.{some}
 use native.Mathlib.Decide.{ℕ_discrete}
 use lib.ListN.{get_elem?}
 use Rattle.mark_core.specs.Event.{Event, Kind}
-use Rattle.buffer_pool.specs.declared.view.View.{View}
+use Rattle.buffer_pool.specs.declared.seat_view.SeatView.{SeatView}
 use Rattle.buffer_pool.specs.Story.{Log, Did, deeds}
-use Rattle.buffer_pool.specs.Told.{AreTold, IsTold}
+use Rattle.buffer_pool.specs.working.Told.{AreTold, IsTold}
 use Rattle.atomic_table.proofs.Lists.{at_set}
 
 -- of two stretches
@@ -53,7 +53,7 @@ did_nothing a = ([], ap (λ xs. record a { story = xs }) (sym (append-nil a.stor
 pub did_from : (a b c : Log) (ks : List Kind) → b ≡ a → Did b ks c → Did a ks c
 did_from a b c ks same did = subst (λ (x : Log). Did x ks c) same did
 
-module _ (events : List Event) (w : ℕ) (v : View) (told : IsTold events w v) where
+module _ (events : List Event) (w : ℕ) (v : SeatView) (told : IsTold events w v) where
   -- one event more, by another worker
   pub told_theirs : (event : Event) → event.worker ≢ w → IsTold (events ++ event ∷ []) w v
   told_theirs event other =
@@ -67,7 +67,7 @@ module _ (events : List Event) (w : ℕ) (v : View) (told : IsTold events w v) w
       }
 
   -- one event more, its own, which it notes
-  pub told_mine : (event : Event) (u : View) → v.named ≡ true → event.worker ≡ w → u.log ≡ v.log → u.named ≡ true → u.unsaid ≡ v.unsaid ++ event.kind ∷ []
+  pub told_mine : (event : Event) (u : SeatView) → v.named ≡ true → event.worker ≡ w → u.log ≡ v.log → u.named ≡ true → u.unsaid ≡ v.unsaid ++ event.kind ∷ []
       → (more : List Event) → events ++ event ∷ [] ≡ u.taken ++ more → IsTold (events ++ event ∷ []) w u
   told_mine event u known own log named unsaid more taken =
       record {
@@ -80,7 +80,7 @@ module _ (events : List Event) (w : ℕ) (v : View) (told : IsTold events w v) w
       }
 
   -- a view with the same log
-  pub told_same : (u : View) → u.log ≡ v.log → u.unsaid ≡ v.unsaid → u.taken ≡ v.taken → u.named ≡ v.named → IsTold events w u
+  pub told_same : (u : SeatView) → u.log ≡ v.log → u.unsaid ≡ v.unsaid → u.taken ≡ v.taken → u.named ≡ v.named → IsTold events w u
   told_same u log unsaid taken named =
       record {
         number = λ n. ap (λ (x : Log). x.number) log ∙ told.number (sym named ∙ n);
@@ -111,7 +111,7 @@ module _ (events : List Event) (w : ℕ) (v : View) (told : IsTold events w v) w
       (all.0, ap (λ xs. record { number = w; story = xs }) (sym (append-nil events)) ∙ all.1, all.2 ∙ append-nil v.unsaid)
 
 -- a view whose log has all events
-pub told_now : (events : List Event) (w : ℕ) (v : View) → v.log ≡ record { number = w; story = events } → v.unsaid ≡ [] → v.taken ≡ [] → v.named ≡ true → IsTold events w v
+pub told_now : (events : List Event) (w : ℕ) (v : SeatView) → v.log ≡ record { number = w; story = events } → v.unsaid ≡ [] → v.taken ≡ [] → v.named ≡ true → IsTold events w v
 told_now events w v log unsaid taken named =
     record {
       number = λ n. ap (λ (x : Log). x.number) log;
@@ -124,19 +124,19 @@ told_now events w v log unsaid taken named =
 
 -- all views after one of them changed
 pub told_set :
-    (events : List Event) (views : List View) (w : ℕ) (v : View)
-    → ((k : ℕ) (u : View) → k ≢ w → get_elem? views k ≡ some u → 0 < u.book.account.share → IsTold events k u) → (0 < v.book.account.share → IsTold events w v)
+    (events : List Event) (views : List SeatView) (w : ℕ) (v : SeatView)
+    → ((k : ℕ) (u : SeatView) → k ≢ w → get_elem? views k ≡ some u → 0 < u.book.account.share → IsTold events k u) → (0 < v.book.account.share → IsTold events w v)
     → AreTold events (set views w v)
 told_set events views w v others own k u at there =
     ⊎_elim
-    (λ t. subst (λ x. IsTold events x u) (sym t.0) (subst (IsTold events w) t.1 (own (subst (λ (x : View). 0 < x.book.account.share) (sym t.1) there))))
+    (λ t. subst (λ x. IsTold events x u) (sym t.0) (subst (IsTold events w) t.1 (own (subst (λ (x : SeatView). 0 < x.book.account.share) (sym t.1) there))))
     (λ t. others k u t.0 t.1 there)
     (at_set views w k v u at)
 
-module _ (events : List Event) (views : List View) (told : AreTold events views) (id : ℕ) (v : View) (is : get_elem? views id ≡ some v) (there : 0 < v.book.account.share) where
+module _ (events : List Event) (views : List SeatView) (told : AreTold events views) (id : ℕ) (v : SeatView) (is : get_elem? views id ≡ some v) (there : 0 < v.book.account.share) where
   -- an event of the worker happened, and its log has it
   pub told_step :
-      (kind : Kind) (w : View) → w.log ≡ record { number = id; story = events ++ record { worker = id; kind = kind } ∷ [] } → w.unsaid ≡ [] → w.taken ≡ [] → w.named ≡ true
+      (kind : Kind) (w : SeatView) → w.log ≡ record { number = id; story = events ++ record { worker = id; kind = kind } ∷ [] } → w.unsaid ≡ [] → w.taken ≡ [] → w.named ≡ true
       → AreTold (events ++ record { worker = id; kind = kind } ∷ []) (set views id w)
   told_step kind w log unsaid taken named =
       told_set (events ++ event ∷ []) views id w (λ k u other at share. told_theirs events k u (told k u at share) event (λ same. other (sym same)))
@@ -146,11 +146,11 @@ module _ (events : List Event) (views : List View) (told : AreTold events views)
       event = record { worker = id; kind = kind }
 
   -- nothing happened, and the worker's log is up to date
-  pub told_seen : (w : View) → w.log ≡ record { number = id; story = events } → w.unsaid ≡ [] → w.taken ≡ [] → w.named ≡ true → AreTold events (set views id w)
+  pub told_seen : (w : SeatView) → w.log ≡ record { number = id; story = events } → w.unsaid ≡ [] → w.taken ≡ [] → w.named ≡ true → AreTold events (set views id w)
   told_seen w log unsaid taken named = told_set events views id w (λ k u other at share. told k u at share) (λ share. told_now events id w log unsaid taken named)
 
   -- nothing happened, and the worker's log is as it was
-  pub told_kept : (w : View) → w.log ≡ v.log → w.unsaid ≡ v.unsaid → w.taken ≡ v.taken → w.named ≡ v.named → AreTold events (set views id w)
+  pub told_kept : (w : SeatView) → w.log ≡ v.log → w.unsaid ≡ v.unsaid → w.taken ≡ v.taken → w.named ≡ v.named → AreTold events (set views id w)
   told_kept w log unsaid taken named = told_set events views id w (λ k u other at share. told k u at share) (λ share. told_same events id v (told id v is there) w log unsaid taken named)
 
   -- what the worker may tell of its event

@@ -13,3 +13,5 @@ pub mod Closes
 pub mod Tries
 pub mod Rounds
 pub mod Worked
+pub mod Races
+pub mod Forged

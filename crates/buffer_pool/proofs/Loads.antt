@@ -17,12 +17,12 @@ use Rattle.mark_core.specs.Event.{Load, LoadLink, effect, last_link, link_from}
 use Rattle.mark_core.specs.Counts.{count_load}
 use Rattle.mark_core.proofs.Ownership.{stacked_below, top_stands}
 use Rattle.mark_core.proofs.Closing.{has_each_once}
-use Rattle.buffer_pool.specs.declared.view.View.{View}
+use Rattle.buffer_pool.specs.declared.seat_view.SeatView.{SeatView}
 use Rattle.buffer_pool.specs.Book.{Book, counts_of, loaded, link_loaded}
-use Rattle.buffer_pool.specs.Plays.{rested, head_seen, link_seen, set_aside, settled}
+use Rattle.buffer_pool.specs.working.Plays.{rested, head_seen, link_seen, set_aside, settled}
 use Rattle.buffer_pool.specs.Story.{Did}
-use Rattle.buffer_pool.specs.Told.{IsSettled, IsTold, noted}
-use Rattle.buffer_pool.specs.Table.{Reading, Reached, Rule, IsTied, Rests, Carries, free, head_word, link_word, marking_of}
+use Rattle.buffer_pool.specs.working.Told.{IsSettled, IsTold, noted}
+use Rattle.buffer_pool.specs.working.Table.{Reading, Reached, Rule, IsTied, Rests, Carries, free, head_word, link_word, marking_of}
 use Rattle.buffer_pool.proofs.States.{agrees, lawful, cut_below, stands, changed, accounts_set, accounts_same, counts_same, counts_changed, nothing_happened, happened, log_after, log_now, told_after, did_after, held_below, freed}
 use Rattle.buffer_pool.proofs.Deeds.{did_none, told_seen}
 
@@ -61,17 +61,17 @@ held_linked Empty l b = refl
 pub nothing_out : (n : ℕ) → n ≡ 0 → (i : ℕ) → n ≡ suc i → ⊥
 nothing_out n z i s = omega (arith, z, s)
 
-module _ {B : Type 0} (r : Reading B) (e : Setup) (s : State (Option B) View) (rule : Rule r e s) (id : ℕ) (v : View) (is : get_elem? s.views id ≡ some v) (bare : v.out ≡ 0) (there : 0 < v.book.account.share) where
+module _ {B : Type 0} (r : Reading B) (e : Setup) (s : State (Option B) SeatView) (rule : Rule r e s) (id : ℕ) (v : SeatView) (is : get_elem? s.views id ≡ some v) (bare : v.out ≡ 0) (there : 0 < v.book.account.share) where
   -- the seat learns something, no slot moves, and no link changes
   pub noticed :
-      (words : List ℕ) (w : View) → length words ≡ length s.words → ((i : ℕ) → i < e.buffers → slice_index words (link_word i) ≡ slice_index s.words (link_word i))
+      (words : List ℕ) (w : SeatView) → length words ≡ length s.words → ((i : ℕ) → i < e.buffers → slice_index words (link_word i) ≡ slice_index s.words (link_word i))
       → w.out ≡ 0 → w.book.account.held ≡ v.book.account.held → w.book.setup ≡ v.book.setup
       → Reached r e (record { words = words; homes = s.homes; views = set s.views id w }) → Rule r e (record { words = words; homes = s.homes; views = set s.views id w })
   noticed words w count links out held setup reached =
       changed r e s rule id v is words s.homes w count refl (λ i h. let l = links i h in omega (arith, rule.linked i h)) rule.sized (λ i o. absurd (nothing_out w.out out i o))
       (λ i mine o. rule.rests id v is i (subst (λ xs. 0 < times i xs) held mine) (nothing_out v.out bare i)) others (λ h. setup ∙ rule.same_setup id v is there) reached
     where
-      others : (k : ℕ) (u : View) → k ≢ id → get_elem? s.views k ≡ some u → IsTied words u × Rests s.homes u
+      others : (k : ℕ) (u : SeatView) → k ≢ id → get_elem? s.views k ≡ some u → IsTied words u × Rests s.homes u
       others k u other at = ((λ i o. let t = rule.tied k u at i o in (t.0, links i (held_below r e s rule k u at i t.0) ∙ t.1)), rule.rests k u at)
 
   -- the index of a loaded head is a buffer's
@@ -83,33 +83,33 @@ module _ {B : Type 0} (r : Reading B) (e : Setup) (s : State (Option B) View) (r
 
 -- a view with the same book whose log is up to date: nothing happened
 only_seen :
-    {B : Type 0} (r : Reading B) (e : Setup) (s : State (Option B) View) (rule : Rule r e s) (id : ℕ) (v : View) (is : get_elem? s.views id ≡ some v) → 0 < v.book.account.share
-    → (w : View) → w.book ≡ v.book → w.log ≡ log_now r e s rule id → w.unsaid ≡ [] → w.taken ≡ [] → w.named ≡ true
+    {B : Type 0} (r : Reading B) (e : Setup) (s : State (Option B) SeatView) (rule : Rule r e s) (id : ℕ) (v : SeatView) (is : get_elem? s.views id ≡ some v) → 0 < v.book.account.share
+    → (w : SeatView) → w.book ≡ v.book → w.log ≡ log_now r e s rule id → w.unsaid ≡ [] → w.taken ≡ [] → w.named ≡ true
     → Reached r e (record { words = s.words; homes = s.homes; views = set s.views id w })
 only_seen {B} r e s rule id v is there w same log unsaid taken named =
-    let t : State (Option B) View = record { words = s.words; homes = s.homes; views = set s.views id w } in
+    let t : State (Option B) SeatView = record { words = s.words; homes = s.homes; views = set s.views id w } in
     nothing_happened r e s rule t
     (agrees (marking_of r e t) (marking_of r e s) (λ q. refl) (λ i. refl) (λ o. refl) refl (accounts_same r e s rule id v is w (ap (λ (b : Book). b.account) same)))
     (counts_same r e s rule id v is w (ap counts_of same))
     (told_seen rule.reached.events s.views rule.reached.told id v is there w log unsaid taken named)
 
 -- an account has no buffer twice, and no object twice among those that it answers for and finished
-pub each_once : {B : Type 0} (r : Reading B) (e : Setup) (s : State (Option B) View) (rule : Rule r e s) (id : ℕ) (v : View) → get_elem? s.views id ≡ some v → HasEachOnce v.book.account
+pub each_once : {B : Type 0} (r : Reading B) (e : Setup) (s : State (Option B) SeatView) (rule : Rule r e s) (id : ℕ) (v : SeatView) → get_elem? s.views id ≡ some v → HasEachOnce v.book.account
 each_once r e s rule id v is = has_each_once e (marking_of r e s) (lawful r e s rule) id v.book.account (stands r e s rule id v is)
 
 module _ {B : Type 0} (r : Reading B) (e : Setup) (slots id : ℕ) where
   -- what stays as it is keeps the rule of a word written again
-  written_again : (s : State (Option B) View) (word : ℕ) (w : View) → Rule r e (record { words = s.words; homes = s.homes; views = set s.views id w }) → Rule r e (record { words = slice_set s.words word (slice_index s.words word); homes = s.homes; views = set s.views id w })
+  written_again : (s : State (Option B) SeatView) (word : ℕ) (w : SeatView) → Rule r e (record { words = s.words; homes = s.homes; views = set s.views id w }) → Rule r e (record { words = slice_set s.words word (slice_index s.words word); homes = s.homes; views = set s.views id w })
   written_again s word w rule = subst (λ ws. Rule r e (record { words = ws; homes = s.homes; views = set s.views id w })) (sym (set-get_or s.words word 0)) rule
 
-  pub sees_head : (me : Me (Option B) View) (q : Which) → Carries me → 0 < me.0.book.account.share → IsSettled me.0 → Allows (Rule r e) slots id me (head_word q) (λ n. n) (head_seen (step slots (head_word q) 0 0 none) me)
+  pub sees_head : (me : Me (Option B) SeatView) (q : Which) → Carries me → 0 < me.0.book.account.share → IsSettled me.0 → Allows (Rule r e) slots id me (head_word q) (λ n. n) (head_seen (step slots (head_word q) 0 0 none) me)
   sees_head me q carries there done = freed r e slots id (head_word q) (λ n. n) (head_seen (step slots (head_word q) 0 0 none) me) me carries (λ s rule count is fits.
       let n = slice_index s.words (head_word q) in
-      let v : View = free me.0 in
+      let v : SeatView = free me.0 in
       let log = log_after r e s rule id (Load q) in
-      let w : View = record (noted log v) { book = loaded q (head_of n) me.0.book } in
+      let w : SeatView = record (noted log v) { book = loaded q (head_of n) me.0.book } in
       let m = marking_of r e s in
-      let t : State (Option B) View = record { words = s.words; homes = s.homes; views = set s.views id w } in
+      let t : State (Option B) SeatView = record { words = s.words; homes = s.homes; views = set s.views id w } in
       let reached : Reached r e t =
       happened r e s rule id v is (Load q) there tt t
       (agrees (marking_of r e t) (record m { accounts = set m.accounts id (after_load q (m.head q) me.0.book.account) }) (λ p. refl) (λ i. refl) (λ o. refl) refl
@@ -125,19 +125,19 @@ module _ {B : Type 0} (r : Reading B) (e : Setup) (slots id : ℕ) where
       ))
 
   pub sees_link :
-      (me : Me (Option B) View) (q : Which) (h : Head) (i : ℕ) → Carries me → 0 < me.0.book.account.share → IsSettled me.0 → (look_of me.0.book.account q).head ≡ Some h → h.index ≡ Some i → i < me.0.book.setup.buffers
+      (me : Me (Option B) SeatView) (q : Which) (h : Head) (i : ℕ) → Carries me → 0 < me.0.book.account.share → IsSettled me.0 → (look_of me.0.book.account q).head ≡ Some h → h.index ≡ Some i → i < me.0.book.setup.buffers
       → Allows (Rule r e) slots id me (link_word i) (λ n. n) (link_seen q (step slots (link_word i) 0 0 none) me)
   sees_link me q h i carries there done last top below = freed r e slots id (link_word i) (λ n. n) (link_seen q (step slots (link_word i) 0 0 none) me) me carries (λ s rule count is fits.
       let n = slice_index s.words (link_word i) in
-      let v : View = free me.0 in
+      let v : SeatView = free me.0 in
       let log = log_after r e s rule id (LoadLink q) in
-      let w : View = record (noted log v) { book = link_loaded q (index_of n) me.0.book } in
+      let w : SeatView = record (noted log v) { book = link_loaded q (index_of n) me.0.book } in
       let m = marking_of r e s in
       let same : me.0.book.setup ≡ e = rule.same_setup id v is there in
       let small : i < e.buffers = subst (λ (x : Setup). i < x.buffers) same below in
       let found : last_link m.link (look_of me.0.book.account q).head ≡ index_of n =
       ap (last_link m.link) last ∙ ap (link_from m.link) top ∙ cut_below e.buffers (λ k. index_of (slice_index s.words (link_word k))) i small in
-      let t : State (Option B) View = record { words = s.words; homes = s.homes; views = set s.views id w } in
+      let t : State (Option B) SeatView = record { words = s.words; homes = s.homes; views = set s.views id w } in
       let reached : Reached r e t =
       happened r e s rule id v is (LoadLink q) there (h, i, last, top) t
       (agrees (marking_of r e t) (effect m id me.0.book.account (LoadLink q)) (λ p. refl) (λ j. refl) (λ o. refl) refl
@@ -151,12 +151,12 @@ module _ {B : Type 0} (r : Reading B) (e : Setup) (slots id : ℕ) where
       ))
 
   -- an exchange of a word for itself
-  pub sets_aside : (me : Me (Option B) View) (word units : ℕ) → Carries me → 0 < me.0.book.account.share → IsSettled me.0 → Allows (Rule r e) slots id me word (λ n. either (n == units) units n) (set_aside (step slots word units units none) me)
+  pub sets_aside : (me : Me (Option B) SeatView) (word units : ℕ) → Carries me → 0 < me.0.book.account.share → IsSettled me.0 → Allows (Rule r e) slots id me word (λ n. either (n == units) units n) (set_aside (step slots word units units none) me)
   sets_aside me word units carries there done = freed r e slots id word (λ n. either (n == units) units n) (set_aside (step slots word units units none) me) me carries (λ s rule count is fits.
       let n = slice_index s.words word in
-      let v : View = free me.0 in
+      let v : SeatView = free me.0 in
       let log = log_now r e s rule id in
-      let w : View = record (noted log v) { aside = units } in
+      let w : SeatView = record (noted log v) { aside = units } in
       let kept : Rule r e (record { words = slice_set s.words word n; homes = s.homes; views = set s.views id w }) =
       written_again s word w (noticed r e s rule id v is refl there s.words w refl (λ j b. refl) refl refl refl (only_seen r e s rule id v is there w refl refl refl refl refl)) in (
         w,
@@ -167,10 +167,10 @@ module _ {B : Type 0} (r : Reading B) (e : Setup) (slots id : ℕ) where
       ))
 
   -- a load that tells that the account has each thing once
-  pub settles : (me : Me (Option B) View) (word : ℕ) → Carries me → 0 < me.0.book.account.share → Allows (Rule r e) slots id me word (λ n. n) (settled (step slots word 0 0 none) me)
+  pub settles : (me : Me (Option B) SeatView) (word : ℕ) → Carries me → 0 < me.0.book.account.share → Allows (Rule r e) slots id me word (λ n. n) (settled (step slots word 0 0 none) me)
   settles me word carries there = freed r e slots id word (λ n. n) (settled (step slots word 0 0 none) me) me carries (λ s rule count is fits.
-      let v : View = free me.0 in
-      let w : View = noted (log_now r e s rule id) v in
+      let v : SeatView = free me.0 in
+      let w : SeatView = noted (log_now r e s rule id) v in
       let told : IsTold rule.reached.events id v = rule.reached.told id v is there in (
         w,
         keeps,

@@ -1,20 +1,19 @@
 -- A number that no account has yet did nothing, so the new worker of a split did nothing.
-use Rattle.std.proofs.Common.{◌≡◌, ◌≢◌, ◌⊎◌, ℕ, zero, suc, ◌<◌, ◌≤◌, ◌==◌, true, false, List, [], ◌∷◌, ◌++◌, length, Option, Some, None, set, slice_index_or, ap, sym, refl, subst, ◌∙◌, inl, inr, ⊎_elim, length-set, length-append, ne_eqb, cond, arith}
+use Rattle.std.proofs.Common.{◌≡◌, ◌≢◌, ◌⊎◌, ℕ, zero, suc, ◌<◌, ◌≤◌, true, List, [], ◌∷◌, ◌++◌, length, Option, Some, None, set, ap, sym, refl, subst, ◌∙◌, inl, inr, ⊎_elim, length-set, length-append, ne_eqb, cond, arith}
 use Rattle.std.proofs.lemmas.Bool.{false≢true}
 use Rattle.std.proofs.lemmas.List.{append_assoc}
 use mathlib.Core.Option.{some, some-injective, some-ne-none}
 use lib.ListN.{get_elem?}
-use Rattle.atomic_table.proofs.Lists.{at_set}
 use Rattle.mark_core.specs.declared.which.Which.{Which}
-use Rattle.mark_core.specs.Account.{Account, look_of, part, spent, after_split, after_join}
+use Rattle.mark_core.specs.Account.{Account, look_of, part, no_share, after_split, after_join}
 use Rattle.mark_core.specs.World.{Setup, Marking, account_at}
 use Rattle.mark_core.specs.Event.{Event, Kind, Claim, Finish, Split, Join, Load, LoadLink, StoreLink, Pop, Push, Fail, effect, happens, popped}
 use Rattle.mark_core.specs.Runs.{Run}
 use Rattle.mark_core.proofs.Places.{at_below}
-use Rattle.buffer_pool.specs.declared.view.View.{View}
+use Rattle.buffer_pool.specs.declared.seat_view.SeatView.{SeatView}
 use Rattle.buffer_pool.specs.Story.{deeds}
-use Rattle.buffer_pool.specs.Told.{AreTold, IsTold}
-use Rattle.buffer_pool.specs.Setups.{kept_part, given_part, joined_view, spent_view}
+use Rattle.buffer_pool.specs.working.Told.{AreTold, IsTold}
+use Rattle.buffer_pool.specs.working.Setups.{kept_part, given_part, joined_view, no_share_view}
 use Rattle.buffer_pool.proofs.Deeds.{deeds_on, no_deed, told_mine, told_theirs, told_set}
 
 -- accounts never become fewer
@@ -28,7 +27,7 @@ effect_long m w a (Claim o) = omega (arith, length-set m.accounts w)
 effect_long m w a (Finish o) = omega (arith, length-set m.accounts w)
 effect_long m w a (Split units) = omega (arith, length-set m.accounts w (after_split units a), length-append (set m.accounts w (after_split units a)) (part units ∷ []))
 effect_long m w a (Join v) =
-    omega (arith, length-set m.accounts w (after_join a (account_at m.accounts v)), length-set (set m.accounts w (after_join a (account_at m.accounts v))) v spent)
+    omega (arith, length-set m.accounts w (after_join a (account_at m.accounts v)), length-set (set m.accounts w (after_join a (account_at m.accounts v))) v no_share)
 effect_long m w a (Load q) = omega (arith, length-set m.accounts w)
 effect_long m w a (LoadLink q) = omega (arith, length-set m.accounts w)
 effect_long m w a (StoreLink i l) = omega arith
@@ -56,7 +55,7 @@ at_end [] x u (suc k) at = absurd (some-ne-none u (sym at))
 at_end (y ∷ ys) x u zero at = inl at
 at_end (y ∷ ys) x u (suc k) at = ⊎_elim (λ t. inl t) (λ t. inr (omega (arith, t.0), t.1)) (at_end ys x u k at)
 
-module _ (events : List Event) (views : List View) (told : AreTold events views) (id : ℕ) (v : View) (is : get_elem? views id ≡ some v) (there : 0 < v.book.account.share) (known : v.named ≡ true) where
+module _ (events : List Event) (views : List SeatView) (told : AreTold events views) (id : ℕ) (v : SeatView) (is : get_elem? views id ≡ some v) (there : 0 < v.book.account.share) (known : v.named ≡ true) where
   own : IsTold events id v
   own = told id v is there
 
@@ -99,10 +98,10 @@ module _ (events : List Event) (views : List View) (told : AreTold events views)
 
   -- after a join: the worker that took the other in notes it, and has the other's story
   pub told_join :
-      (other : ℕ) (w : View) → other ≢ id → get_elem? views other ≡ some w → 0 < w.book.account.share → w.named ≡ true
-      → AreTold (events ++ record { worker = id; kind = Join other } ∷ []) (set (set views id (joined_view v w)) other spent_view)
+      (other : ℕ) (w : SeatView) → other ≢ id → get_elem? views other ≡ some w → 0 < w.book.account.share → w.named ≡ true
+      → AreTold (events ++ record { worker = id; kind = Join other } ∷ []) (set (set views id (joined_view v w)) other no_share_view)
   told_join other w apart at theirs_there theirs_known =
-      told_set later (set views id (joined_view v w)) other spent_view
+      told_set later (set views id (joined_view v w)) other no_share_view
       (λ k u differ here share. told_set later views id (joined_view v w) (λ j x apart_too stood x_share. told_theirs events j x (told j x stood x_share) event (λ same. apart_too (sym same))) (λ h. both) k u here share)
       (λ h. absurd (omega (arith, h)))
     where

@@ -8,7 +8,7 @@ use lib.ListN.{get_elem?}
 use prog.Atomic.{either}
 use Rattle.atomic_table.specs.Table.{State, Me, Act, Allows, Valid, step, stepped, carried_after, keeps, takes}
 use Rattle.atomic_table.proofs.Lists.{at_map, at_set, set_else}
-use Rattle.tagged_index.specs.Head.{Head, head_of, index_of, after, last_tag}
+use Rattle.tagged_index.specs.Head.{Head, head_of, after, last_tag}
 use Rattle.mark_core.specs.declared.which.Which.{Which}
 use Rattle.mark_core.specs.declared.which.Which.TheVariants.{Full, Empty}
 use Rattle.mark_core.specs.Lists.{StandsAt, times, only}
@@ -20,12 +20,12 @@ use Rattle.mark_core.specs.Counts.{count_failure}
 use Rattle.mark_core.proofs.Colours.{linear}
 use Rattle.mark_core.proofs.Sums.{stands_times, total-append, term_le, only-same, only-other}
 use Rattle.mark_core.proofs.Ownership.{place_one, top_stands}
-use Rattle.buffer_pool.specs.declared.view.View.{View}
+use Rattle.buffer_pool.specs.declared.seat_view.SeatView.{SeatView}
 use Rattle.buffer_pool.specs.Book.{popped, failed}
-use Rattle.buffer_pool.specs.Plays.{HasMissed, HasTaken, IsOurs, pop_tried}
-use Rattle.buffer_pool.specs.Table.{Reading, Reached, Rule, IsTied, Rests, Carries, account_of, free, head_word, link_word, mark_word, marking_of, slot_of, view_counts}
-use Rattle.buffer_pool.proofs.States.{agrees, lawful, stands, changed, accounts_set, accounts_same, counts_same, counts_changed, slots_set, happened, log_after, told_after, did_after, freed}
-use Rattle.buffer_pool.specs.Told.{IsSettled, noted}
+use Rattle.buffer_pool.specs.working.Plays.{HasMissed, HasTaken, IsOurs, pop_tried}
+use Rattle.buffer_pool.specs.working.Table.{Reading, Reached, Rule, IsTied, Rests, Carries, account_of, free, head_word, link_word, mark_word, marking_of, slot_of, view_counts}
+use Rattle.buffer_pool.proofs.States.{agrees, lawful, changed, accounts_set, accounts_same, counts_same, counts_changed, slots_set, happened, log_after, told_after, did_after, freed}
+use Rattle.buffer_pool.specs.working.Told.{IsSettled, noted}
 use Rattle.mark_core.proofs.Places.{at_one, at_get_or}
 use Rattle.buffer_pool.proofs.Loads.{noticed, same_head}
 use Rattle.buffer_pool.proofs.Words.{one_head, exchange_hit, exchange_miss, link_beside_head, links_beside_head, mark_beside_head, heads_after}
@@ -39,7 +39,7 @@ buffer_there r (some (Some b) ∷ hs) zero items at = (b, refl, cc)
 buffer_there r (h ∷ hs) (suc i) items at = buffer_there r hs i items at
 
 -- a stacked buffer is held by no account
-pub stacked_free : {B : Type 0} (r : Reading B) (e : Setup) (s : State (Option B) View) (rule : Rule r e s) (k : ℕ) (u : View) (q : Which) (i : ℕ) → get_elem? s.views k ≡ some u → 0 < times i ((lawful r e s rule).stack q) → 0 < times i u.book.account.held → ⊥
+pub stacked_free : {B : Type 0} (r : Reading B) (e : Setup) (s : State (Option B) SeatView) (rule : Rule r e s) (k : ℕ) (u : SeatView) (q : Which) (i : ℕ) → get_elem? s.views k ≡ some u → 0 < times i ((lawful r e s rule).stack q) → 0 < times i u.book.account.held → ⊥
 stacked_free r e s rule k u Full i at on mine =
     let m = marking_of r e s in
     omega (arith, place_one e.buffers m.head m.link m.accounts (lawful r e s rule).stack (lawful r e s rule).owned i, term_le (λ (a : Account). times i a.held) m.accounts k u.book.account (at_map account_of s.views k u at))
@@ -48,7 +48,7 @@ stacked_free r e s rule k u Empty i at on mine =
     omega (arith, place_one e.buffers m.head m.link m.accounts (lawful r e s rule).stack (lawful r e s rule).owned i, term_le (λ (a : Account). times i a.held) m.accounts k u.book.account (at_map account_of s.views k u at))
 
 -- the items of a stacked buffer are objects, since their marks are not 0
-items_within : {B : Type 0} (r : Reading B) (e : Setup) (s : State (Option B) View) (rule : Rule r e s) (i : ℕ) (b : B) → get_elem? s.homes i ≡ some (some (Some b)) → (o : ℕ) → Contains (r.items b) o → o < e.objects
+items_within : {B : Type 0} (r : Reading B) (e : Setup) (s : State (Option B) SeatView) (rule : Rule r e s) (i : ℕ) (b : B) → get_elem? s.homes i ≡ some (some (Some b)) → (o : ℕ) → Contains (r.items b) o → o < e.objects
 items_within r e s rule i b home o here = go (dec_le (length s.words) (mark_word e o))
   where
     m : Marking
@@ -63,7 +63,7 @@ items_within r e s rule i b home o here = go (dec_le (length s.words) (mark_word
 
 -- a buffer on the empty stack has no items
 bare_on_empty :
-    {B : Type 0} (r : Reading B) (e : Setup) (s : State (Option B) View) (rule : Rule r e s) (q : Which) (i : ℕ) (b : B) → (head_of (slice_index s.words (head_word q))).index ≡ Some i → get_elem? s.homes i ≡ some (some (Some b))
+    {B : Type 0} (r : Reading B) (e : Setup) (s : State (Option B) SeatView) (rule : Rule r e s) (q : Which) (i : ℕ) (b : B) → (head_of (slice_index s.words (head_word q))).index ≡ Some i → get_elem? s.homes i ≡ some (some (Some b))
     → q ≡ Empty → r.items b ≡ []
 bare_on_empty r e s rule q i b top home empty =
     let m = marking_of r e s in
@@ -72,26 +72,26 @@ bare_on_empty r e s rule q i b top home empty =
 
 -- a failed exchange: the account is as it was, and the failure is counted
 pub lost :
-    {B : Type 0} (r : Reading B) (e : Setup) (s : State (Option B) View) (rule : Rule r e s) (id : ℕ) (v : View) (is : get_elem? s.views id ≡ some v) → 0 < v.book.account.share
-    → (w : View) (q : Which) → w.book.account ≡ v.book.account → view_counts w ≡ count_failure (view_counts v) → w.log ≡ log_after r e s rule id (Fail q) → w.unsaid ≡ [] → w.taken ≡ [] → w.named ≡ true
+    {B : Type 0} (r : Reading B) (e : Setup) (s : State (Option B) SeatView) (rule : Rule r e s) (id : ℕ) (v : SeatView) (is : get_elem? s.views id ≡ some v) → 0 < v.book.account.share
+    → (w : SeatView) (q : Which) → w.book.account ≡ v.book.account → view_counts w ≡ count_failure (view_counts v) → w.log ≡ log_after r e s rule id (Fail q) → w.unsaid ≡ [] → w.taken ≡ [] → w.named ≡ true
     → (h : Head) → (look_of v.book.account q).head ≡ Some h → (head_of (slice_index s.words (head_word q)) ≡ h → ⊥)
     → Reached r e (record { words = s.words; homes = s.homes; views = set s.views id w })
 lost {B} r e s rule id v is there w q account counts log unsaid taken named h last other =
-    let t : State (Option B) View = record { words = s.words; homes = s.homes; views = set s.views id w } in
+    let t : State (Option B) SeatView = record { words = s.words; homes = s.homes; views = set s.views id w } in
     happened r e s rule id v is (Fail q) there (h, last, other) t
     (agrees (marking_of r e t) (marking_of r e s) (λ p. refl) (λ j. refl) (λ o. refl) refl (accounts_same r e s rule id v is w account)) (counts_changed r e s rule id v is w count_failure counts)
     (told_after r e s rule id v is there (Fail q) w log unsaid taken named)
 
 -- where the head is the one loaded
-module _ {B : Type 0} (r : Reading B) (e : Setup) (s : State (Option B) View) (rule : Rule r e s) (id : ℕ) (v : View) (is : get_elem? s.views id ≡ some v) (bare : v.out ≡ 0) (there : 0 < v.book.account.share) where
-  abbrev pop_view : Which → ℕ → B → View
+module _ {B : Type 0} (r : Reading B) (e : Setup) (s : State (Option B) SeatView) (rule : Rule r e s) (id : ℕ) (v : SeatView) (is : get_elem? s.views id ≡ some v) (bare : v.out ≡ 0) (there : 0 < v.book.account.share) where
+  abbrev pop_view : Which → ℕ → B → SeatView
   pop_view q i b = record (noted (log_after r e s rule id (Pop q)) v) { book = popped i (r.items b) v.book; out = suc i; out_link = slice_index s.words (link_word i) }
 
   module _ (q : Which) (i : ℕ) (b : B) (top : (head_of (slice_index s.words (head_word q))).index ≡ Some i) (home : get_elem? s.homes i ≡ some (some (Some b))) where
     on_stack : 0 < times i ((lawful r e s rule).stack q)
     on_stack = let m = marking_of r e s in top_stands e.buffers m.head m.link m.accounts (lawful r e s rule).stack (lawful r e s rule).owned q i top
 
-    elsewhere : (k : ℕ) (u : View) (j : ℕ) → get_elem? s.views k ≡ some u → 0 < times j u.book.account.held → get_elem? (set s.homes i none) j ≡ get_elem? s.homes j
+    elsewhere : (k : ℕ) (u : SeatView) (j : ℕ) → get_elem? s.views k ≡ some u → 0 < times j u.book.account.held → get_elem? (set s.homes i none) j ≡ get_elem? s.homes j
     elsewhere k u j at mine = set_else s.homes i j none (λ same. stacked_free r e s rule k u q i at on_stack (subst (λ x. 0 < times x u.book.account.held) same mine))
 
     pub popped_rule :
@@ -110,7 +110,7 @@ module _ {B : Type 0} (r : Reading B) (e : Setup) (s : State (Option B) View) (r
         homes : List (maybe.Option (Option B))
         homes = set s.homes i none
 
-        w : View
+        w : SeatView
         w = pop_view q i b
 
         sized : (j : ℕ) (c : B) → get_elem? homes j ≡ some (some (Some c)) → r.size c ≡ e.size
@@ -127,11 +127,11 @@ module _ {B : Type 0} (r : Reading B) (e : Setup) (s : State (Option B) View) (r
             let old : 0 < times j v.book.account.held = omega (arith, total-append (only j) v.book.account.held (i ∷ []), only-other j i (λ t. other (sym t))) in
             set_else s.homes i j none other ∙ rule.rests id v is j old (λ o. omega (arith, o, bare))
 
-        others : (k : ℕ) (u : View) → k ≢ id → get_elem? s.views k ≡ some u → IsTied words u × Rests homes u
+        others : (k : ℕ) (u : SeatView) → k ≢ id → get_elem? s.views k ≡ some u → IsTied words u × Rests homes u
         others k u other at =
             ((λ j out. let t = rule.tied k u at j out in (t.0, link_beside_head e s.words q x j ∙ t.1)), (λ j mine not_out. elsewhere k u j at mine ∙ rule.rests k u at j mine not_out))
 
-        t : State (Option B) View
+        t : State (Option B) SeatView
         t = record { words = words; homes = homes; views = set s.views id w }
 
         -- what the event leaves: the items of the account are those in the slot
@@ -160,7 +160,7 @@ module _ {B : Type 0} (r : Reading B) (e : Setup) (s : State (Option B) View) (r
       let at = (lawful r e s rule).shelved.stacked q i (top_stands e.buffers m.head m.link m.accounts (lawful r e s rule).stack (lawful r e s rule).owned q i top) in
       let found = buffer_there r s.homes i at.0 at.1 in (found.0, found.1)
 
-  abbrev missed_view : Which → View
+  abbrev missed_view : Which → SeatView
   missed_view q = record (noted (log_after r e s rule id (Fail q)) v) { book = failed v.book }
 
   -- where it is another, only the failure is counted
@@ -168,30 +168,30 @@ module _ {B : Type 0} (r : Reading B) (e : Setup) (s : State (Option B) View) (r
       (q : Which) (h : Head) (word : ℕ) → (look_of v.book.account q).head ≡ Some h → (head_of (slice_index s.words (head_word q)) ≡ h → ⊥)
       → Rule r e (record { words = slice_set s.words word (slice_index s.words word); homes = s.homes; views = set s.views id (missed_view q) })
   failed_rule q h word last other =
-      let w : View = missed_view q in
+      let w : SeatView = missed_view q in
       subst (λ ws. Rule r e (record { words = ws; homes = s.homes; views = set s.views id w })) (sym (set-get_or s.words word 0)) (noticed r e s rule id v is bare there s.words w refl (λ j b. refl) bare refl refl (lost r e s rule id v is there w q refl refl refl refl refl refl h last other))
 
 module _ {B : Type 0} (r : Reading B) (e : Setup) (slots id : ℕ) where
   -- what the play tells of the stack k, where the number found is n
-  abbrev pop_told : Me (Option B) View → ℕ → Which → ℕ → Me (Option B) View → Type 0
+  abbrev pop_told : Me (Option B) SeatView → ℕ → Which → ℕ → Me (Option B) SeatView → Type 0
   pop_told me old k n after =
       (n ≡ old → (j : ℕ) → (head_of n).index ≡ Some j → (b : B) × HasTaken r k j (Some b) me after b) × ((n ≡ old → ⊥) → HasMissed k me after)
 
   pub pops :
-      (me : Me (Option B) View) (q : Which) (old new i : ℕ) (l : Option ℕ) → Carries me → 0 < me.0.book.account.share → IsSettled me.0
+      (me : Me (Option B) SeatView) (q : Which) (old new i : ℕ) (l : Option ℕ) → Carries me → 0 < me.0.book.account.share → IsSettled me.0
       → (look_of me.0.book.account q).head ≡ Some (head_of old) → (head_of old).tag < last_tag → (head_of old).index ≡ Some i → (look_of me.0.book.account q).link ≡ Some l → head_of new ≡ after (head_of old) l
       → Allows (Rule r e) slots id me (head_word q) (λ n. either (n == old) new n) (pop_tried r (step slots (head_word q) old new none) me)
   pops me q old new i l carries there done last short top linked next = freed r e slots id (head_word q) (λ n. either (n == old) new n) (pop_tried r (step slots (head_word q) old new none) me) me carries (λ s rule count is fits. go s rule is (ℕ_discrete (slice_index s.words (head_word q)) old))
     where
-      v : View
+      v : SeatView
       v = free me.0
 
-      Goal : State (Option B) View → Type 0
+      Goal : State (Option B) SeatView → Type 0
       Goal s =
-          (w : View) × (a : Act (Option B)) × Valid s.homes [] a × Rule r e (stepped s (head_word q) (either (slice_index s.words (head_word q) == old) new (slice_index s.words (head_word q))) id [] w a)
+          (w : SeatView) × (a : Act (Option B)) × Valid s.homes [] a × Rule r e (stepped s (head_word q) (either (slice_index s.words (head_word q) == old) new (slice_index s.words (head_word q))) id [] w a)
           × pop_tried r (step slots (head_word q) old new none) me (slice_index s.words (head_word q)) (w, carried_after [] a)
 
-      go : (s : State (Option B) View) → Rule r e s → get_elem? s.views id ≡ some v → Dec (slice_index s.words (head_word q) ≡ old) → Goal s
+      go : (s : State (Option B) SeatView) → Rule r e s → get_elem? s.views id ≡ some v → Dec (slice_index s.words (head_word q) ≡ old) → Goal s
       go s rule is (yes hit) =
           let n = slice_index s.words (head_word q) in
           let same : head_of old ≡ head_of n = ap head_of (sym hit) in
@@ -225,7 +225,7 @@ module _ {B : Type 0} (r : Reading B) (e : Setup) (slots id : ℕ) where
           )
       go s rule is (no miss) =
           let n = slice_index s.words (head_word q) in
-          let w : View = missed_view r e s rule id v is refl there q in (
+          let w : SeatView = missed_view r e s rule id v is refl there q in (
             w,
             keeps,
             tt,

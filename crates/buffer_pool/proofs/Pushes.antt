@@ -14,16 +14,16 @@ use Rattle.mark_core.specs.declared.which.Which.{Which}
 use Rattle.mark_core.specs.declared.which.Which.TheVariants.{Full, Empty}
 use Rattle.mark_core.specs.Lists.{times, remove_one, IsPart}
 use Rattle.mark_core.specs.Account.{look_of, after_push}
-use Rattle.mark_core.specs.World.{Setup, Marking, put, put_which}
+use Rattle.mark_core.specs.World.{Setup, Marking, put}
 use Rattle.mark_core.specs.Event.{StoreLink, Push, Fail, effect}
 use Rattle.mark_core.proofs.Sums.{times-remove_one, times_stands, only-same, only-other}
-use Rattle.buffer_pool.specs.declared.view.View.{View}
+use Rattle.buffer_pool.specs.declared.seat_view.SeatView.{SeatView}
 use Rattle.buffer_pool.specs.Book.{Book, pushed, failed}
-use Rattle.buffer_pool.specs.Plays.{HasPushed, rested, link_stored, push_tried}
-use Rattle.buffer_pool.specs.Story.{Log, Did}
-use Rattle.buffer_pool.specs.Told.{IsSettled, noted}
-use Rattle.buffer_pool.specs.Table.{Reading, Reached, Rule, IsTied, Rests, Carries, free, head_word, link_word, marking_of}
-use Rattle.buffer_pool.proofs.States.{agrees, cut_below, cut_put, stands, changed, accounts_set, accounts_same, counts_same, slots_set, happened, log_after, told_after, did_after, held_alone, held_below, held_away, freed}
+use Rattle.buffer_pool.specs.working.Plays.{HasPushed, rested, link_stored, push_tried}
+use Rattle.buffer_pool.specs.Story.{Did}
+use Rattle.buffer_pool.specs.working.Told.{IsSettled, noted}
+use Rattle.buffer_pool.specs.working.Table.{Reading, Reached, Rule, IsTied, Rests, Carries, free, head_word, link_word, marking_of}
+use Rattle.buffer_pool.proofs.States.{agrees, cut_below, cut_put, changed, accounts_set, accounts_same, counts_same, slots_set, happened, log_after, told_after, did_after, held_alone, held_below, held_away, freed}
 use Rattle.buffer_pool.proofs.Pops.{lost}
 use Rattle.buffer_pool.proofs.Loads.{each_once}
 use Rattle.buffer_pool.proofs.Words.{one_head, exchange_hit, exchange_miss, link_beside_head, links_beside_head, mark_beside_head, heads_after, head_beside_link, link_beside_link, link_here, mark_beside_link, links_after}
@@ -45,23 +45,23 @@ share_pushed Full i items b = refl
 share_pushed Empty i items b = refl
 
 -- a seat that carries one slot, after the slot's value was exchanged
-pub carried_with : {B : Type 0} (m n : Me (Option B) View) (i j : ℕ) (b : B) → n ≡ (m.0, (i, Some b) ∷ rest m.1) → m.1 ≡ (j, None) ∷ [] → n ≡ (m.0, (i, Some b) ∷ [])
-carried_with {B} m n i j b exchanged carried = exchanged ∙ ap {B = Me (Option B) View} (λ (xs : List (ℕ × Option B)). (m.0, (i, Some b) ∷ rest xs)) carried
+pub carried_with : {B : Type 0} (m n : Me (Option B) SeatView) (i j : ℕ) (b : B) → n ≡ (m.0, (i, Some b) ∷ rest m.1) → m.1 ≡ (j, None) ∷ [] → n ≡ (m.0, (i, Some b) ∷ [])
+carried_with {B} m n i j b exchanged carried = exchanged ∙ ap {B = Me (Option B) SeatView} (λ (xs : List (ℕ × Option B)). (m.0, (i, Some b) ∷ rest xs)) carried
 
 -- a seat stays at its table in two steps
 pub stays : (a b c d : TableId) → b ≡ a → c ≡ b → d ≡ c → d ≡ a
 stays a b c d first second third = third ∙ second ∙ first
 
 -- it still carries that slot after a step that left its slots as they were
-pub still_carried : {B : Type 0} (m n : Me (Option B) View) (i : ℕ) (b : B) → n.1 ≡ m.1 → m.1 ≡ (i, Some b) ∷ [] → n.1 ≡ (i, Some b) ∷ rest n.1
+pub still_carried : {B : Type 0} (m n : Me (Option B) SeatView) (i : ℕ) (b : B) → n.1 ≡ m.1 → m.1 ≡ (i, Some b) ∷ [] → n.1 ≡ (i, Some b) ∷ rest n.1
 still_carried {B} m n i b same carried = let now = same ∙ carried in now ∙ ap (λ (xs : List (ℕ × Option B)). (i, Some b) ∷ rest xs) (sym now)
 
 -- what a push told, of other names for what was pushed
 pub told_of :
-    {B : Type 0} (m n o : Me (Option B) View) (q : Which) (i j : ℕ) (xs ys : List ℕ) → m.0 ≡ n.0 → i ≡ j → xs ≡ ys → HasPushed q i xs m o → HasPushed q j ys n o
+    {B : Type 0} (m n o : Me (Option B) SeatView) (q : Which) (i j : ℕ) (xs ys : List ℕ) → m.0 ≡ n.0 → i ≡ j → xs ≡ ys → HasPushed q i xs m o → HasPushed q j ys n o
 told_of {B} m n o q i j xs ys same index items told = (
   told.0 ∙ (λ k. rested {B = B} (same k, []) o.0.log (pushed q (index k) (items k) (same k).book)),
-  subst (λ (x : View). Did x.log (Push q j ys ∷ []) o.0.log) same (subst (λ x. Did m.0.log (Push q x ys ∷ []) o.0.log) index (subst (λ zs. Did m.0.log (Push q i zs ∷ []) o.0.log) items told.1)),
+  subst (λ (x : SeatView). Did x.log (Push q j ys ∷ []) o.0.log) same (subst (λ x. Did m.0.log (Push q x ys ∷ []) o.0.log) index (subst (λ zs. Did m.0.log (Push q i zs ∷ []) o.0.log) items told.1)),
 )
 
 -- a slot that a seat carries alone is the one that it took
@@ -70,12 +70,12 @@ one_carried {B = B} i j b c e =
     let first : i ≡ j = ap (λ (xs : List (ℕ × Option B)). (get_or xs 0 (0, None)).0) e in
     let second : Some b ≡ Some c = ap (λ (xs : List (ℕ × Option B)). (get_or xs 0 (0, None)).1) e in (first, cc)
 
-module _ {B : Type 0} (r : Reading B) (e : Setup) (s : State (Option B) View) (rule : Rule r e s) (id : ℕ) (v : View) (is : get_elem? s.views id ≡ some v) (there : 0 < v.book.account.share) (i : ℕ) (mine : 0 < times i v.book.account.held) where
+module _ {B : Type 0} (r : Reading B) (e : Setup) (s : State (Option B) SeatView) (rule : Rule r e s) (id : ℕ) (v : SeatView) (is : get_elem? s.views id ≡ some v) (there : 0 < v.book.account.share) (i : ℕ) (mine : 0 < times i v.book.account.held) where
   -- other seats hold other buffers, so a write at this one's slot leaves theirs
-  beside_mine : (k : ℕ) (u : View) (j : ℕ) (h : maybe.Option (Option B)) → k ≢ id → get_elem? s.views k ≡ some u → 0 < times j u.book.account.held → get_elem? (set s.homes i h) j ≡ get_elem? s.homes j
+  beside_mine : (k : ℕ) (u : SeatView) (j : ℕ) (h : maybe.Option (Option B)) → k ≢ id → get_elem? s.views k ≡ some u → 0 < times j u.book.account.held → get_elem? (set s.homes i h) j ≡ get_elem? s.homes j
   beside_mine k u j h other at theirs = set_else s.homes i j h (λ same. held_alone r e s rule id v is k u i other at mine (subst (λ x. 0 < times x u.book.account.held) same theirs))
 
-  abbrev stored_view : ℕ → View
+  abbrev stored_view : ℕ → SeatView
   stored_view x = record (noted (log_after r e s rule id (StoreLink i (index_of x))) v) { out = suc i; out_link = x }
 
   -- the link of a held buffer is stored, and its slot comes out
@@ -93,7 +93,7 @@ module _ {B : Type 0} (r : Reading B) (e : Setup) (s : State (Option B) View) (r
       homes : List (maybe.Option (Option B))
       homes = set s.homes i none
 
-      w : View
+      w : SeatView
       w = stored_view x
 
       below : i < e.buffers
@@ -118,14 +118,14 @@ module _ {B : Type 0} (r : Reading B) (e : Setup) (s : State (Option B) View) (r
       rests : Rests homes w
       rests j held not_out = set_else s.homes i j none (λ same. not_out (ap suc (sym same))) ∙ rule.rests id v is j held (λ o. omega (arith, o, bare))
 
-      others : (k : ℕ) (u : View) → k ≢ id → get_elem? s.views k ≡ some u → IsTied words u × Rests homes u
+      others : (k : ℕ) (u : SeatView) → k ≢ id → get_elem? s.views k ≡ some u → IsTied words u × Rests homes u
       others k u other at = (
         (λ j out. let t = rule.tied k u at j out in
             (t.0, link_beside_link e s.words i x j (λ same. held_alone r e s rule id v is k u i other at mine (subst (λ y. 0 < times y u.book.account.held) same t.0)) ∙ t.1)),
         (λ j theirs not_out. beside_mine k u j none other at theirs ∙ rule.rests k u at j theirs not_out),
       )
 
-      t : State (Option B) View
+      t : State (Option B) SeatView
       t = record { words = words; homes = homes; views = set s.views id w }
 
       links : (j : ℕ) → (marking_of r e t).link j ≡ put i (index_of x) m.link j
@@ -141,7 +141,7 @@ module _ {B : Type 0} (r : Reading B) (e : Setup) (s : State (Option B) View) (r
           (counts_same r e s rule id v is w refl) (told_after r e s rule id v is there (StoreLink i (index_of x)) w refl refl refl refl)
 
   module _ (b : B) (out : v.out ≡ suc i) (q : Which) where
-    abbrev push_view : View
+    abbrev push_view : SeatView
     push_view = record (noted (log_after r e s rule id (Push q i (r.items b))) (free v)) { book = pushed q i (r.items b) v.book }
 
     -- the head is exchanged for the buffer, and its slot goes home with it
@@ -163,7 +163,7 @@ module _ {B : Type 0} (r : Reading B) (e : Setup) (s : State (Option B) View) (r
         homes : List (maybe.Option (Option B))
         homes = set s.homes i (some (Some b))
 
-        w : View
+        w : SeatView
         w = push_view
 
         right : r.size b ≡ e.size
@@ -179,11 +179,11 @@ module _ {B : Type 0} (r : Reading B) (e : Setup) (s : State (Option B) View) (r
             let other : j ≢ i = λ same. let k : times j v.book.account.held ≤ 1 = (each_once r e s rule id v is).held j in omega (arith, only-same j i (sym same)) in
             let old : 0 < times j v.book.account.held = omega (arith, only-other j i (λ t. other (sym t))) in set_else s.homes i j (some (Some b)) other ∙ rule.rests id v is j old (λ o. other (omega (arith, o, out)))
 
-        others : (k : ℕ) (u : View) → k ≢ id → get_elem? s.views k ≡ some u → IsTied words u × Rests homes u
+        others : (k : ℕ) (u : SeatView) → k ≢ id → get_elem? s.views k ≡ some u → IsTied words u × Rests homes u
         others k u other at =
             ((λ j o. let t = rule.tied k u at j o in (t.0, link_beside_head e s.words q x j ∙ t.1)), (λ j theirs not_out. beside_mine k u j (some (Some b)) other at theirs ∙ rule.rests k u at j theirs not_out))
 
-        t : State (Option B) View
+        t : State (Option B) SeatView
         t = record { words = words; homes = homes; views = set s.views id w }
 
         follows : m.link i ≡ (m.head q).index
@@ -200,7 +200,7 @@ module _ {B : Type 0} (r : Reading B) (e : Setup) (s : State (Option B) View) (r
             (links_beside_head e s.words q x) (mark_beside_head e s.words q x) (slots_set r s.homes i (some (Some b))) (accounts_set s.views id w))
             (counts_same r e s rule id v is w refl) (told_after r e s rule id v is there (Push q i (r.items b)) w refl refl refl refl)
 
-    abbrev kept_view : View
+    abbrev kept_view : SeatView
     kept_view = record (noted (log_after r e s rule id (Fail q)) v) { book = failed v.book }
 
     -- the head was another: only the failure is counted, and the slot stays out
@@ -211,17 +211,17 @@ module _ {B : Type 0} (r : Reading B) (e : Setup) (s : State (Option B) View) (r
         subst (λ ws. Rule r e (record { words = ws; homes = s.homes; views = set s.views id w })) (sym (set-get_or s.words word 0))
         (changed r e s rule id v is s.words s.homes w refl refl rule.linked rule.sized (rule.tied id v is) (rule.rests id v is) (λ k u other at. (rule.tied k u at, rule.rests k u at)) (rule.same_setup id v is) (lost r e s rule id v is there w q refl refl refl refl refl refl h last other))
       where
-        w : View
+        w : SeatView
         w = kept_view
 
 module _ {B : Type 0} (r : Reading B) (e : Setup) (slots id : ℕ) where
   pub stores :
-      (me : Me (Option B) View) (i x : ℕ) → Carries me → 0 < me.0.book.account.share → IsSettled me.0 → 0 < times i me.0.book.account.held → x ≤ e.buffers
+      (me : Me (Option B) SeatView) (i x : ℕ) → Carries me → 0 < me.0.book.account.share → IsSettled me.0 → 0 < times i me.0.book.account.held → x ≤ e.buffers
       → Allows (Rule r e) slots id me (link_word i) (λ n. x) (λ n. link_stored (step slots (link_word i) x 0 none) me x)
   stores me i x carries there done mine small = freed r e slots id (link_word i) (λ n. x) (λ n. link_stored (step slots (link_word i) x 0 none) me x) me carries (λ s rule count is fits.
-      let v : View = free me.0 in
+      let v : SeatView = free me.0 in
       let log = log_after r e s rule id (StoreLink i (index_of x)) in
-      let w : View = stored_view r e s rule id v is there i mine x in (
+      let w : SeatView = stored_view r e s rule id v is there i mine x in (
         w,
         takes i None,
         rule.rests id v is i mine (λ o. let z : ◌≡◌ {A = ℕ} 0 (suc i) = o in absurd (omega arith)),
@@ -230,25 +230,25 @@ module _ {B : Type 0} (r : Reading B) (e : Setup) (slots id : ℕ) where
       ))
 
   pub pushes :
-      (me : Me (Option B) View) (q : Which) (old new i : ℕ) (b : B) → me.1 ≡ (i, Some b) ∷ [] → me.0.out ≡ suc i → 0 < me.0.book.account.share → IsSettled me.0 → 0 < times i me.0.book.account.held
+      (me : Me (Option B) SeatView) (q : Which) (old new i : ℕ) (b : B) → me.1 ≡ (i, Some b) ∷ [] → me.0.out ≡ suc i → 0 < me.0.book.account.share → IsSettled me.0 → 0 < times i me.0.book.account.held
       → (look_of me.0.book.account q).head ≡ Some (head_of old) → (head_of old).tag < last_tag → head_of new ≡ after (head_of old) (Some i) → index_of me.0.out_link ≡ (head_of old).index
       → IsPart (r.items b) me.0.book.account.charge → (q ≡ Empty → r.items b ≡ []) → r.size b ≡ me.0.book.setup.size → length (r.items b) ≤ me.0.book.setup.size
       → Allows (Rule r e) slots id me (head_word q) (λ n. either (n == old) new n) (push_tried r q (step slots (head_word q) old new none) me)
   pushes me q old new i b carried out there done mine last short next leads part none_empty size fits = λ s rule count is fits. go s rule is (ℕ_discrete (slice_index s.words (head_word q)) old)
     where
-      v : View
+      v : SeatView
       v = me.0
 
-      Goal : State (Option B) View → Type 0
+      Goal : State (Option B) SeatView → Type 0
       Goal s =
-          (w : View) × (a : Act (Option B)) × Valid s.homes me.1 a × Rule r e (stepped s (head_word q) (either (slice_index s.words (head_word q) == old) new (slice_index s.words (head_word q))) id me.1 w a)
+          (w : SeatView) × (a : Act (Option B)) × Valid s.homes me.1 a × Rule r e (stepped s (head_word q) (either (slice_index s.words (head_word q) == old) new (slice_index s.words (head_word q))) id me.1 w a)
           × push_tried r q (step slots (head_word q) old new none) me (slice_index s.words (head_word q)) (w, carried_after me.1 a)
 
-      go : (s : State (Option B) View) → Rule r e s → get_elem? s.views id ≡ some v → Dec (slice_index s.words (head_word q) ≡ old) → Goal s
+      go : (s : State (Option B) SeatView) → Rule r e s → get_elem? s.views id ≡ some v → Dec (slice_index s.words (head_word q) ≡ old) → Goal s
       go s rule is (yes hit) =
           let n = slice_index s.words (head_word q) in
           let same : head_of old ≡ head_of n = ap head_of (sym hit) in
-          let w : View = push_view r e s rule id v is there i mine b out q in
+          let w : SeatView = push_view r e s rule id v is there i mine b out q in
           let log = w.log in
           let after_it : Rule r e (record { words = set s.words (head_word q) new; homes = set s.homes i (some (Some b)); views = set s.views id w }) =
           pushed_rule r e s rule id v is there i mine b out q new (last ∙ ap {B = Option Head} Some same) (subst (λ (h : Head). h.tag < last_tag) same short) (next ∙ ap (λ (h : Head). after h (Some i)) same) (leads ∙ ap (λ (h : Head). h.index) same) part none_empty size fits in
@@ -267,7 +267,7 @@ module _ {B : Type 0} (r : Reading B) (e : Setup) (slots id : ℕ) where
           )
       go s rule is (no miss) =
           let n = slice_index s.words (head_word q) in
-          let w : View = kept_view r e s rule id v is there i mine b out q in (
+          let w : SeatView = kept_view r e s rule id v is there i mine b out q in (
             w,
             keeps,
             tt,

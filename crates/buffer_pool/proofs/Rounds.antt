@@ -10,8 +10,8 @@ use Rattle.mark_core.specs.World.{Setup}
 use Rattle.mark_core.specs.Event.{CanClaim, CanFinish}
 use Rattle.mark_core.proofs.Sums.{total-append, only-same, remove_one-same, times-remove_one, times-without, times_stands}
 use Rattle.buffer_pool.specs.Book.{Book, loaded, link_loaded, failed, claimed, finished}
-use Rattle.buffer_pool.specs.Calls.{Holder, Load, MayPush, Pops, Pushes}
-use Rattle.buffer_pool.specs.Rounds.{HasNone, HasOne, HasRoots, IsSameWorker, numbers}
+use Rattle.buffer_pool.specs.Calls.{Holder, HeldBuffer, MayPush, Pops, Pushes}
+use Rattle.buffer_pool.specs.tests.Rounds.{HasNone, HasOne, HasRoots, IsSameWorker, numbers}
 use Rattle.buffer_pool.specs.declared.answers.TryPopped.TheVariants as try_pop
 use Rattle.buffer_pool.specs.declared.answers.TryPushed.TheVariants as try_push
 
@@ -73,7 +73,7 @@ module _ (old new : Holder) (pool : new.pool ≡ old.pool) where
       record { held = ap (λ (c : Book). c.account.held) is ∙ l.held ∙ none.held; charge = ap (λ (c : Book). c.account.charge) is ∙ l.charge ∙ none.charge }
 
   -- a pop took this buffer
-  pub took : (q : Which) (h : Load) → HasNone old → Pops q old.book new.book (try_pop.Took h) → IsSameWorker old new × HasOne new h
+  pub took : (q : Which) (h : HeldBuffer) → HasNone old → Pops q old.book new.book (try_pop.Took h) → IsSameWorker old new × HasOne new h
   took q h none p =
       let l = look_link q p.0 p.1 old.book in
       let setup : new.book.setup ≡ old.book.setup = ap (λ (c : Book). c.setup) p.5 ∙ l.setup in (
@@ -95,7 +95,7 @@ module _ (old new : Holder) (pool : new.pool ≡ old.pool) where
       let l : IsLook old.book b = record { setup = k.setup; share = k.share; held = k.held; charge = k.charge } in (looked b l p.5, none_still b l p.5 none)
 
   -- a push put this buffer on a stack
-  pub done : (q : Which) (h : Load) → HasOne old h → Pushes q h old.book new.book try_push.Done → IsSameWorker old new × HasNone new
+  pub done : (q : Which) (h : HeldBuffer) → HasOne old h → Pushes q h old.book new.book try_push.Done → IsSameWorker old new × HasNone new
   done q h one p =
       let l = look_head q p.0 old.book in
       let before = (loaded q p.0 old.book).account in
@@ -109,7 +109,7 @@ module _ (old new : Holder) (pool : new.pool ≡ old.pool) where
       )
 
   -- a push was lost, and its buffer came back
-  pub lost_push : (q : Which) (h back : Load) → HasOne old h → Pushes q h old.book new.book (try_push.Lost back) → IsSameWorker old new × HasOne new back × (back ≡ h)
+  pub lost_push : (q : Which) (h back : HeldBuffer) → HasOne old h → Pushes q h old.book new.book (try_push.Lost back) → IsSameWorker old new × HasOne new back × (back ≡ h)
   lost_push q h back one p =
       let k = look_head q p.0 old.book in
       let setup : new.book.setup ≡ old.book.setup = ap (λ (c : Book). c.setup) p.3 ∙ k.setup in (
@@ -124,7 +124,7 @@ module _ (old new : Holder) (pool : new.pool ≡ old.pool) where
       )
 
   -- a claim of a white object, which went into the buffer
-  pub put_in : (h : Load) (o found : ℕ) → HasOne old h → new.book ≡ claimed o found old.book → found ≡ 0 → HasOne new (record h { items = h.items ++ o ∷ [] })
+  pub put_in : (h : HeldBuffer) (o found : ℕ) → HasOne old h → new.book ≡ claimed o found old.book → found ≡ 0 → HasOne new (record h { items = h.items ++ o ∷ [] })
   put_in h o found one is white =
       record {
         held = ap (λ (c : Book). c.account.held) is ∙ one.held;
@@ -134,7 +134,7 @@ module _ (old new : Holder) (pool : new.pool ≡ old.pool) where
         size = one.size ∙ ap (λ (c : Book). c.setup.size) (sym is);
       }
 
-  pub left_out : (h : Load) (o found : ℕ) → HasOne old h → new.book ≡ claimed o found old.book → found ≢ 0 → HasOne new h
+  pub left_out : (h : HeldBuffer) (o found : ℕ) → HasOne old h → new.book ≡ claimed o found old.book → found ≢ 0 → HasOne new h
   left_out h o found one is marked =
       record {
         held = ap (λ (c : Book). c.account.held) is ∙ one.held;
@@ -149,21 +149,21 @@ module _ (old new : Holder) (pool : new.pool ≡ old.pool) where
   same_finished o is = record { pool = pool; setup = ap (λ (c : Book). c.setup) is; share = ap (λ (c : Book). c.account.share) is }
 
   -- the object that was taken last out of the buffer is finished
-  pub taken : (h rest : Load) (o : ℕ) → HasOne old h → h.items ≡ rest.items ++ o ∷ [] → rest ≡ record h { items = rest.items } → new.book ≡ finished o old.book → HasOne new rest
+  pub taken : (h rest : HeldBuffer) (o : ℕ) → HasOne old h → h.items ≡ rest.items ++ o ∷ [] → rest ≡ record h { items = rest.items } → new.book ≡ finished o old.book → HasOne new rest
   taken h rest o one last same is =
       let before : (x : ℕ) → times x old.book.account.charge ≡ times x rest.items + times x (o ∷ []) =
       λ x. one.charge x ∙ ap (times x) last ∙ total-append (only x) rest.items (o ∷ []) in
       let here : 0 < times o old.book.account.charge = omega (arith, before o, only-same o o refl) in
       record {
-        held = ap (λ (c : Book). c.account.held) is ∙ one.held ∙ ap (λ (k : Load). k.index ∷ []) (sym same);
+        held = ap (λ (c : Book). c.account.held) is ∙ one.held ∙ ap (λ (k : HeldBuffer). k.index ∷ []) (sym same);
         charge = λ x. ap (λ (c : Book). times x c.account.charge) is ∙ omega (arith, times-remove_one x o old.book.account.charge here, before x);
-        size = ap (λ (k : Load). k.size) same ∙ one.size ∙ ap (λ (c : Book). c.setup.size) (sym is);
+        size = ap (λ (k : HeldBuffer). k.size) same ∙ one.size ∙ ap (λ (c : Book). c.setup.size) (sym is);
       }
 
 pub not_white : (b : Bool) (found : ℕ) → (IsTrue b ↔ (found ≡ 0)) → b ≡ false → found ≢ 0
 not_white b found white is zero = false≢true (sym is ∙ white.1 zero)
 
-pub may_finish : (n : ℕ) (w : Holder) (h rest : Load) (o : ℕ) → HasRoots n w → HasOne w h → h.items ≡ rest.items ++ o ∷ [] → CanFinish w.book.setup o w.book.account
+pub may_finish : (n : ℕ) (w : Holder) (h rest : HeldBuffer) (o : ℕ) → HasRoots n w → HasOne w h → h.items ≡ rest.items ++ o ∷ [] → CanFinish w.book.setup o w.book.account
 may_finish n w h rest o roots one last = (times_stands w.book.account.charge o here, λ s pair. absurd (no_pair s pair))
   where
     here : 0 < times o w.book.account.charge
@@ -175,7 +175,7 @@ may_finish n w h rest o roots one last = (times_stands w.book.account.charge o h
 pub may_claim : (n : ℕ) (w : Holder) (o : ℕ) → HasRoots n w → o < n → CanClaim w.book.setup o w.book.account
 may_claim n w o roots below = inl (subst (λ (rs : List ℕ). Contains rs o) (sym roots.roots) (is_root n o below))
 
-pub may_push : (q : Which) (w : Holder) (h : Load) → HasOne w h → (q ≡ Empty → h.items ≡ []) → MayPush q h w.book
+pub may_push : (q : Which) (w : Holder) (h : HeldBuffer) → HasOne w h → (q ≡ Empty → h.items ≡ []) → MayPush q h w.book
 may_push q w h one bare =
     record {
       held = times_stands w.book.account.held h.index (omega (arith, ap (times h.index) one.held, only-same h.index h.index refl));

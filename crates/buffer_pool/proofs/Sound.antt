@@ -8,15 +8,16 @@ use Rattle.mark_core.specs.declared.which.Which.TheVariants.{Full, Empty}
 use Rattle.mark_core.specs.Lists.{times, remove_one, without, IsPart}
 use Rattle.mark_core.specs.World.{Setup}
 use Rattle.mark_core.proofs.Sums.{stands_times, times_stands, stands_push, stands_append, times-remove_one, times-without}
-use Rattle.buffer_pool.specs.declared.view.View.{View}
+use Rattle.buffer_pool.specs.declared.seat_view.SeatView.{SeatView}
 use Rattle.buffer_pool.specs.Book.{Book, loaded, link_loaded, failed, popped, pushed, claimed, finished}
-use Rattle.buffer_pool.specs.Laid.{IsBare, IsLaid, IsSound, IsWithin}
-use Rattle.buffer_pool.specs.Plays.{rested}
+use Rattle.buffer_pool.specs.Ranges.{IsWithin}
+use Rattle.buffer_pool.specs.working.Laid.{IsBare, IsLaid, IsSound}
+use Rattle.buffer_pool.specs.working.Plays.{rested}
 use Rattle.buffer_pool.specs.Story.{Log}
-use Rattle.buffer_pool.specs.Told.{IsSettled, noted}
-use Rattle.buffer_pool.specs.Table.{slots_of}
+use Rattle.buffer_pool.specs.working.Told.{IsSettled, noted}
+use Rattle.buffer_pool.specs.working.Table.{slots_of}
 
-module _ {B : Type 0} (t : TableId) (m : Me (Option B) View) (sound : IsSound t m) where
+module _ {B : Type 0} (t : TableId) (m : Me (Option B) SeatView) (sound : IsSound t m) where
   -- nothing that is kept changed but the view's book
   pub sound_rested : (log : Log) (b : Book) → b.setup ≡ m.0.book.setup → b.account.share ≡ m.0.book.account.share → IsWithin m.0.book.setup b.account → IsSound t (rested m log b)
   sound_rested log b setup share within =
@@ -52,7 +53,7 @@ module _ {B : Type 0} (t : TableId) (m : Me (Option B) View) (sound : IsSound t 
           sound.within.charge x (times_stands m.0.book.account.charge x (omega (arith, times-remove_one x o m.0.book.account.charge mine)))
 
   pub sound_popped :
-      (after : Me (Option B) View) (i : ℕ) (items : List ℕ) → i < m.0.book.setup.buffers → ((o : ℕ) → Contains items o → o < m.0.book.setup.objects)
+      (after : Me (Option B) SeatView) (i : ℕ) (items : List ℕ) → i < m.0.book.setup.buffers → ((o : ℕ) → Contains items o → o < m.0.book.setup.objects)
       → after.1 ≡ (i, None) ∷ [] → after.0.out ≡ suc i → after.0.book ≡ popped i items m.0.book → IsSettled after.0 → IsSound t after
   sound_popped after i items below objects carried out book done =
       record {
@@ -88,14 +89,14 @@ module _ {B : Type 0} (t : TableId) (m : Me (Option B) View) (sound : IsSound t 
       go Empty = sound_rested log (pushed Empty i items m.0.book) refl refl (record { held = held; charge = charge })
 
 -- a seat that is the same, and one that rests
-pub sound_same : {B : Type 0} (t u : TableId) (m n : Me (Option B) View) → IsSound t n → u ≡ t → m ≡ n → IsSound u m
+pub sound_same : {B : Type 0} (t u : TableId) (m n : Me (Option B) SeatView) → IsSound t n → u ≡ t → m ≡ n → IsSound u m
 sound_same t u m n sound table same = subst (λ k. IsSound k m) (sym table) (subst (IsSound t) (sym same) sound)
 
-pub bare_rested : {B : Type 0} (m n : Me (Option B) View) (log : Log) (b : Book) → m ≡ rested n log b → IsBare m
+pub bare_rested : {B : Type 0} (m n : Me (Option B) SeatView) (log : Log) (b : Book) → m ≡ rested n log b → IsBare m
 bare_rested m n log b same = subst IsBare (sym same) (record { slots = refl; out = refl })
 
 -- the slot of a held buffer came out, and an exchange failed while it was out
-module _ {B : Type 0} (t : TableId) (m : Me (Option B) View) (sound : IsSound t m) (log : Log) (i n : ℕ) where
+module _ {B : Type 0} (t : TableId) (m : Me (Option B) SeatView) (sound : IsSound t m) (log : Log) (i n : ℕ) where
   pub sound_stored : IsSound {B = B} t (record (noted log m.0) { out = suc i; out_link = n }, (i, None) ∷ [])
   sound_stored = record { laid = sound.laid; share = sound.share; carries = refl; within = sound.within; settled = record { named = refl; unsaid = refl } }
 

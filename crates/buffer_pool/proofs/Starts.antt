@@ -13,15 +13,16 @@ use Rattle.mark_core.specs.declared.which.Which.TheVariants.{Full, Empty}
 use Rattle.mark_core.specs.World.{Setup}
 use Rattle.mark_core.specs.Runs.{first_heads, first_link}
 use Rattle.mark_core.specs.Runs as runs
-use Rattle.buffer_pool.specs.declared.view.View.{View}
-use Rattle.buffer_pool.specs.Laid.{IsInside, IsLaid, IsSound}
-use Rattle.buffer_pool.specs.Setups.{first_view}
-use Rattle.buffer_pool.specs.Opening.{HasFirstWords, IsFirstSlot}
-use Rattle.buffer_pool.specs.Table.{Reading, Rule, IsTied, Rests, cut, head_word, link_word, mark_word, marking_of, slot_of}
+use Rattle.buffer_pool.specs.declared.seat_view.SeatView.{SeatView}
+use Rattle.buffer_pool.specs.Ranges.{IsInside}
+use Rattle.buffer_pool.specs.working.Laid.{IsLaid, IsSound}
+use Rattle.buffer_pool.specs.working.Setups.{first_view}
+use Rattle.buffer_pool.specs.working.Opening.{HasFirstWords, IsFirstSlot}
+use Rattle.buffer_pool.specs.working.Table.{Reading, Rule, IsTied, Rests, cut, head_word, link_word, mark_word, marking_of, slot_of}
 use Rattle.buffer_pool.proofs.States.{agrees, cut_below}
 use Rattle.buffer_pool.proofs.Loads.{nothing_out}
 use Rattle.buffer_pool.proofs.Deeds.{told_now}
-use Rattle.buffer_pool.specs.Told.{IsTold}
+use Rattle.buffer_pool.specs.working.Told.{IsTold}
 use Rattle.buffer_pool.proofs.Words.{head_below}
 
 zeros : (n i : ℕ) → slice_index (replicate n 0) i ≡ 0
@@ -87,11 +88,11 @@ module _ {B : Type 0} (r : Reading B) (size : ℕ) where
   slots_sized (s ∷ ss) (suc i) b all at = slots_sized ss i b (λ k d low. all (suc k) d (omega (arith, low))) at
 
 -- the one view
-one_view : (w : ℕ) (v u : View) → get_elem? (v ∷ []) w ≡ some u → v ≡ u
+one_view : (w : ℕ) (v u : SeatView) → get_elem? (v ∷ []) w ≡ some u → v ≡ u
 one_view zero v u at = some-injective v u at
 one_view (suc w) v u at = absurd (some-ne-none u (sym at))
 
-one_told : (w : ℕ) (v u : View) → get_elem? (v ∷ []) w ≡ some u → IsTold [] 0 v → IsTold [] w u
+one_told : (w : ℕ) (v u : SeatView) → get_elem? (v ∷ []) w ≡ some u → IsTold [] 0 v → IsTold [] w u
 one_told zero v u at told = subst (IsTold [] 0) (some-injective v u at) told
 one_told (suc w) v u at told = absurd (some-ne-none u (sym at))
 
@@ -107,7 +108,7 @@ starts {B} r e words slots some_buffer first count all =
       linked = linked;
       tied = λ w v at. subst (IsTied words) (one_view w (first_view e) v at) (λ i out. absurd (nothing_out 0 refl i out));
       rests = λ w v at. subst (Rests (map some slots)) (one_view w (first_view e) v at) (λ i mine out. absurd (omega (arith, mine)));
-      same_setup = λ w v at. subst (λ (x : View). 0 < x.book.account.share → x.book.setup ≡ e) (one_view w (first_view e) v at) (λ h. refl);
+      same_setup = λ w v at. subst (λ (x : SeatView). 0 < x.book.account.share → x.book.setup ≡ e) (one_view w (first_view e) v at) (λ h. refl);
       some_buffer = some_buffer;
       reached =
           record {
@@ -158,9 +159,9 @@ slot_pushed r size slots b all bare sized = All-append (IsFirstSlot r size) slot
 
 -- a table of these words and slots is laid for the setup
 pub laid_first :
-    (t : TableId) (e : Setup) (tag : ℕ) (words : List ℕ) (slots : ℕ) → t.words ≡ length words → t.slots ≡ slots → HasFirstWords (32 + e.buffers + e.objects) tag e.buffers words → slots ≡ e.buffers
-    → IsInside e.objects e.buffers e.size tag → All (λ o. o < e.objects) e.roots → All (λ p. (p.0 < e.objects) × (p.1 < e.objects)) e.pairs → IsLaid t e
-laid_first t e tag words slots word_count slot_count first count inside roots pairs =
+    (t : TableId) (e : Setup) (tag asked : ℕ) (words : List ℕ) (slots : ℕ) → t.words ≡ length words → t.slots ≡ slots → HasFirstWords (32 + e.buffers + e.objects) tag e.buffers words → slots ≡ e.buffers
+    → IsInside e.objects e.buffers e.size asked → All (λ o. o < e.objects) e.roots → All (λ p. (p.0 < e.objects) × (p.1 < e.objects)) e.pairs → IsLaid t e
+laid_first t e tag asked words slots word_count slot_count first count inside roots pairs =
     record { words = word_count ∙ first.word_count; slots = slot_count ∙ count; few = inside.few; many = inside.many; objects = inside.objects; roots = roots; pairs = pairs }
 
 -- the first seat is sound

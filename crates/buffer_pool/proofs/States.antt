@@ -9,7 +9,7 @@ use Rattle.atomic_table.specs.Table.{State, Me, Allows, put_back, stepped, gives
 use Rattle.atomic_table.proofs.Lists.{at_map, at_set, set_here, set_else, set_again}
 use Rattle.mark_core.specs.declared.which.Which.{Which}
 use Rattle.mark_core.specs.Lists.{StandsAt, times}
-use Rattle.mark_core.specs.Account.{Account, spent}
+use Rattle.mark_core.specs.Account.{Account, no_share}
 use Rattle.mark_core.specs.World.{Setup, Marking, account_at, put}
 use Rattle.mark_core.specs.Event.{Event, Kind, effect}
 use Rattle.mark_core.specs.Event as may
@@ -20,11 +20,11 @@ use Rattle.mark_core.proofs.Places.{at_below, at_get_or, put_here, put_else}
 use Rattle.mark_core.proofs.Counting.{lawful_where, leads_on}
 use Rattle.mark_core.proofs.Sums.{terms_le}
 use Rattle.mark_core.proofs.Ownership.{held_apart, place_one}
-use Rattle.buffer_pool.specs.declared.view.View.{View}
+use Rattle.buffer_pool.specs.declared.seat_view.SeatView.{SeatView}
 use Rattle.buffer_pool.proofs.Deeds.{told_set, told_same, told_step, did_step}
-use Rattle.buffer_pool.specs.Told.{AreTold}
+use Rattle.buffer_pool.specs.working.Told.{AreTold}
 use Rattle.buffer_pool.specs.Story.{Log, Did}
-use Rattle.buffer_pool.specs.Table.{Reading, Reached, Rule, IsTied, Rests, Carries, account_of, cut, free, link_word, marking_of, slot_of, slots_of, view_counts}
+use Rattle.buffer_pool.specs.working.Table.{Reading, Reached, Rule, IsTied, Rests, Carries, account_of, cut, free, link_word, marking_of, slot_of, slots_of, view_counts}
 
 -- markings that agree in each part are one
 pub agrees :
@@ -52,16 +52,16 @@ cut_put buffers f i x below j = go (ℕ_discrete j i)
     go (no other) = ap (λ y. if nat_lt j buffers then y else None) (put_else i j x f other) ∙ sym (put_else i j x (cut buffers f) other)
 
 -- what a list of events led to is lawful
-pub lawful : {B : Type 0} (r : Reading B) (e : Setup) (s : State (Option B) View) → Rule r e s → Law e (marking_of r e s)
+pub lawful : {B : Type 0} (r : Reading B) (e : Setup) (s : State (Option B) SeatView) → Rule r e s → Law e (marking_of r e s)
 lawful r e s rule = lawful_where e rule.reached.events (marking_of r e s) (map view_counts s.views) rule.some_buffer rule.reached.led
 
-module _ {B : Type 0} (r : Reading B) (e : Setup) (s : State (Option B) View) (rule : Rule r e s) (id : ℕ) (v : View) (is : get_elem? s.views id ≡ some v) where
+module _ {B : Type 0} (r : Reading B) (e : Setup) (s : State (Option B) SeatView) (rule : Rule r e s) (id : ℕ) (v : SeatView) (is : get_elem? s.views id ≡ some v) where
   -- the account of the view stands among the accounts
   pub stands : StandsAt (marking_of r e s).accounts id v.book.account
   stands = at_map account_of s.views id v is
 
   -- a buffer that the account holds is no other's, and is one
-  pub held_alone : (k : ℕ) (u : View) (i : ℕ) → k ≢ id → get_elem? s.views k ≡ some u → 0 < times i v.book.account.held → 0 < times i u.book.account.held → ⊥
+  pub held_alone : (k : ℕ) (u : SeatView) (i : ℕ) → k ≢ id → get_elem? s.views k ≡ some u → 0 < times i v.book.account.held → 0 < times i u.book.account.held → ⊥
   held_alone k u i other at mine theirs =
       let m = marking_of r e s in
       let two : times i v.book.account.held + times i u.book.account.held ≤ held_times i m.accounts = terms_le (λ (a : Account). times i a.held) m.accounts id k v.book.account u.book.account other stands (at_map account_of s.views k u at) in
@@ -78,11 +78,11 @@ module _ {B : Type 0} (r : Reading B) (e : Setup) (s : State (Option B) View) (r
 
   -- the rule after the seat's view became w
   pub changed :
-      (words : List ℕ) (homes : List (maybe.Option (Option B))) (w : View) → length words ≡ length s.words → length homes ≡ length s.homes
+      (words : List ℕ) (homes : List (maybe.Option (Option B))) (w : SeatView) → length words ≡ length s.words → length homes ≡ length s.homes
       → ((i : ℕ) → i < e.buffers → slice_index words (link_word i) ≤ e.buffers)
       → ((i : ℕ) (b : B) → get_elem? homes i ≡ some (some (Some b)) → r.size b ≡ e.size)
       → IsTied words w → Rests homes w
-      → ((k : ℕ) (u : View) → k ≢ id → get_elem? s.views k ≡ some u → IsTied words u × Rests homes u)
+      → ((k : ℕ) (u : SeatView) → k ≢ id → get_elem? s.views k ≡ some u → IsTied words u × Rests homes u)
       → (0 < w.book.account.share → w.book.setup ≡ e)
       → Reached r e (record { words = words; homes = homes; views = set s.views id w })
       → Rule r e (record { words = words; homes = homes; views = set s.views id w })
@@ -94,22 +94,22 @@ module _ {B : Type 0} (r : Reading B) (e : Setup) (s : State (Option B) View) (r
         linked = linked;
         tied = λ k u at. ⊎_elim (λ t. subst (IsTied words) t.1 tied) (λ t. (others k u t.0 t.1).0) (at_set s.views id k w u at);
         rests = λ k u at. ⊎_elim (λ t. subst (Rests homes) t.1 rests) (λ t. (others k u t.0 t.1).1) (at_set s.views id k w u at);
-        same_setup = λ k u at. ⊎_elim (λ t. subst (λ (x : View). 0 < x.book.account.share → x.book.setup ≡ e) t.1 setup) (λ t. rule.same_setup k u t.1) (at_set s.views id k w u at);
+        same_setup = λ k u at. ⊎_elim (λ t. subst (λ (x : SeatView). 0 < x.book.account.share → x.book.setup ≡ e) t.1 setup) (λ t. rule.same_setup k u t.1) (at_set s.views id k w u at);
         some_buffer = rule.some_buffer;
         reached = reached;
       }
 
 -- the log of a seat after a step: with the event of the step, or without one
-module _ {B : Type 0} (r : Reading B) (e : Setup) (s : State (Option B) View) (rule : Rule r e s) (id : ℕ) where
+module _ {B : Type 0} (r : Reading B) (e : Setup) (s : State (Option B) SeatView) (rule : Rule r e s) (id : ℕ) where
   abbrev pub log_after : Kind → Log
   log_after kind = record { number = id; story = rule.reached.events ++ record { worker = id; kind = kind } ∷ [] }
 
   abbrev pub log_now : Log
   log_now = record { number = id; story = rule.reached.events }
 
-  module _ (v : View) (is : get_elem? s.views id ≡ some v) (there : 0 < v.book.account.share) where
+  module _ (v : SeatView) (is : get_elem? s.views id ≡ some v) (there : 0 < v.book.account.share) where
     -- each log is told, where the seat's has its event
-    pub told_after : (kind : Kind) (w : View) → w.log ≡ log_after kind → w.unsaid ≡ [] → w.taken ≡ [] → w.named ≡ true → AreTold (rule.reached.events ++ record { worker = id; kind = kind } ∷ []) (set s.views id w)
+    pub told_after : (kind : Kind) (w : SeatView) → w.log ≡ log_after kind → w.unsaid ≡ [] → w.taken ≡ [] → w.named ≡ true → AreTold (rule.reached.events ++ record { worker = id; kind = kind } ∷ []) (set s.views id w)
     told_after = told_step rule.reached.events s.views rule.reached.told id v is there
 
     -- and the seat did this alone
@@ -120,16 +120,16 @@ module _ {B : Type 0} (r : Reading B) (e : Setup) (s : State (Option B) View) (r
 pub slots_set : {B : Type 0} (r : Reading B) (homes : List (maybe.Option (Option B))) (i : ℕ) (h : maybe.Option (Option B)) → map (slot_of r) (set homes i h) ≡ set (map (slot_of r) homes) i (slot_of r h)
 slots_set r homes i h = map-set (slot_of r) homes i h
 
-pub accounts_set : (views : List View) (id : ℕ) (w : View) → map account_of (set views id w) ≡ set (map account_of views) id w.book.account
+pub accounts_set : (views : List SeatView) (id : ℕ) (w : SeatView) → map account_of (set views id w) ≡ set (map account_of views) id w.book.account
 accounts_set views id w = map-set account_of views id w
 
-pub counts_set : (views : List View) (id : ℕ) (w : View) → map view_counts (set views id w) ≡ set (map view_counts views) id (view_counts w)
+pub counts_set : (views : List SeatView) (id : ℕ) (w : SeatView) → map view_counts (set views id w) ≡ set (map view_counts views) id (view_counts w)
 counts_set views id w = map-set view_counts views id w
 
-module _ {B : Type 0} (r : Reading B) (e : Setup) (s : State (Option B) View) (rule : Rule r e s) where
+module _ {B : Type 0} (r : Reading B) (e : Setup) (s : State (Option B) SeatView) (rule : Rule r e s) where
   -- the list of events that led here leads to each table with the same marking and the same counts
   pub nothing_happened :
-      (t : State (Option B) View) → marking_of r e t ≡ marking_of r e s → map view_counts t.views ≡ map view_counts s.views → AreTold rule.reached.events t.views
+      (t : State (Option B) SeatView) → marking_of r e t ≡ marking_of r e s → map view_counts t.views ≡ map view_counts s.views → AreTold rule.reached.events t.views
       → Reached r e t
   nothing_happened t marking counts told =
       record {
@@ -138,19 +138,19 @@ module _ {B : Type 0} (r : Reading B) (e : Setup) (s : State (Option B) View) (r
         told = told;
       }
 
-  module _ (id : ℕ) (v : View) (is : get_elem? s.views id ≡ some v) where
+  module _ (id : ℕ) (v : SeatView) (is : get_elem? s.views id ≡ some v) where
     -- accounts and counts after the seat's view became one with the same account, or with the same counts
-    pub accounts_same : (w : View) → w.book.account ≡ v.book.account → map account_of (set s.views id w) ≡ map account_of s.views
+    pub accounts_same : (w : SeatView) → w.book.account ≡ v.book.account → map account_of (set s.views id w) ≡ map account_of s.views
     accounts_same w same =
         accounts_set s.views id w ∙ ap (set (map account_of s.views) id) same ∙ set_again (map account_of s.views) id v.book.account (stands r e s rule id v is)
 
-    pub counts_same : (w : View) → view_counts w ≡ view_counts v → map view_counts (set s.views id w) ≡ map view_counts s.views
+    pub counts_same : (w : SeatView) → view_counts w ≡ view_counts v → map view_counts (set s.views id w) ≡ map view_counts s.views
     counts_same w same =
         counts_set s.views id w ∙ ap (set (map view_counts s.views) id) same ∙ set_again (map view_counts s.views) id (view_counts v) (at_map view_counts s.views id v is)
 
     -- the counts after one that the event changes
     pub counts_changed :
-        (w : View) (f : Counts → Counts) → view_counts w ≡ f (view_counts v)
+        (w : SeatView) (f : Counts → Counts) → view_counts w ≡ f (view_counts v)
         → map view_counts (set s.views id w) ≡ set (map view_counts s.views) id (f (counts_at (map view_counts s.views) id))
     counts_changed w f new =
         counts_set s.views id w
@@ -158,14 +158,14 @@ module _ {B : Type 0} (r : Reading B) (e : Setup) (s : State (Option B) View) (r
 
     -- an event of the seat happened: it may do this, and the table stands for what comes of it
     pub happened :
-        (kind : Kind) → 0 < v.book.account.share → may.Allows e (marking_of r e s) id v.book.account kind → (t : State (Option B) View)
+        (kind : Kind) → 0 < v.book.account.share → may.Allows e (marking_of r e s) id v.book.account kind → (t : State (Option B) SeatView)
         → marking_of r e t ≡ effect (marking_of r e s) id v.book.account kind → map view_counts t.views ≡ counted (marking_of r e s) (map view_counts s.views) id kind
         → AreTold (rule.reached.events ++ record { worker = id; kind = kind } ∷ []) t.views → Reached r e t
     happened kind there can t marking counts told =
         let m = marking_of r e s in
         let event : Event = record { worker = id; kind = kind } in
         let at = stands r e s rule id v is in
-        let same : account_at m.accounts id ≡ v.book.account = at_get_or m.accounts id v.book.account spent at in
+        let same : account_at m.accounts id ≡ v.book.account = at_get_or m.accounts id v.book.account no_share at in
         let all = marking ∙ ap (λ a. effect m id a kind) (sym same) in
         record {
           events = rule.reached.events ++ event ∷ [];
@@ -176,10 +176,10 @@ module _ {B : Type 0} (r : Reading B) (e : Setup) (s : State (Option B) View) (r
         }
 
 -- a slot that is out goes home without its buffer, and the rule still holds
-module _ {B : Type 0} (r : Reading B) (e : Setup) (s : State (Option B) View) (rule : Rule r e s) (id : ℕ) (v : View) (is : get_elem? s.views id ≡ some v) where
+module _ {B : Type 0} (r : Reading B) (e : Setup) (s : State (Option B) SeatView) (rule : Rule r e s) (id : ℕ) (v : SeatView) (is : get_elem? s.views id ≡ some v) where
   given_reached : (homes : List (maybe.Option (Option B))) → map (slot_of r) homes ≡ map (slot_of r) s.homes → Reached r e (record { words = s.words; homes = homes; views = set s.views id (free v) })
   given_reached homes same =
-      let t : State (Option B) View = record { words = s.words; homes = homes; views = set s.views id (free v) } in
+      let t : State (Option B) SeatView = record { words = s.words; homes = homes; views = set s.views id (free v) } in
       nothing_happened r e s rule t
       (agrees (marking_of r e t) (marking_of r e s) (λ q. refl) (λ i. refl) (λ o. refl) same (accounts_same r e s rule id v is (free v) refl)) (counts_same r e s rule id v is (free v) refl)
       (told_set rule.reached.events s.views id (free v) (λ k u other at share. rule.reached.told k u at share)
@@ -216,7 +216,7 @@ module _ {B : Type 0} (r : Reading B) (e : Setup) (s : State (Option B) View) (r
           go (yes same) = here j same
           go (no other) = set_else s.homes i j (some None) other ∙ rule.rests id v is j held (λ o. other (omega (arith, o, out)))
 
-      others : (k : ℕ) (u : View) → k ≢ id → get_elem? s.views k ≡ some u → Rests homes u
+      others : (k : ℕ) (u : SeatView) → k ≢ id → get_elem? s.views k ≡ some u → Rests homes u
       others k u other at j held not_out = go (ℕ_discrete j i)
         where
           go : Dec (j ≡ i) → get_elem? homes j ≡ some (some None)
@@ -224,16 +224,16 @@ module _ {B : Type 0} (r : Reading B) (e : Setup) (s : State (Option B) View) (r
           go (no differ) = set_else s.homes i j (some None) differ ∙ rule.rests k u at j held not_out
 
 -- The first step of a call gives the slot back that is out, at no cost: what a seat with nothing out may do, each seat may do.
-module _ {B : Type 0} (r : Reading B) (e : Setup) (slots id word : ℕ) (f : ℕ → ℕ) (tells : ℕ → Me (Option B) View → Type 0) where
-  freed_at : (v : View) (n : ℕ) → v.out ≡ n → Allows (Rule r e) slots id (free v, []) word f tells → Allows (Rule r e) slots id (v, slots_of n) word f tells
+module _ {B : Type 0} (r : Reading B) (e : Setup) (slots id word : ℕ) (f : ℕ → ℕ) (tells : ℕ → Me (Option B) SeatView → Type 0) where
+  freed_at : (v : SeatView) (n : ℕ) → v.out ≡ n → Allows (Rule r e) slots id (free v, []) word f tells → Allows (Rule r e) slots id (v, slots_of n) word f tells
   freed_at v zero out allows = λ s rule count is fits.
-      let t : State (Option B) View = record { words = s.words; homes = s.homes; views = set s.views id (free v) } in
+      let t : State (Option B) SeatView = record { words = s.words; homes = s.homes; views = set s.views id (free v) } in
       let a = allows t (given_back r e s rule id v is zero out) count (set_here s.views id (free v) (at_below s.views id v is)) fits in
       (a.0, chain gives a.1, (tt, a.2), subst (λ vs. Rule r e (record (stepped t word (f (slice_index s.words word)) id [] a.0 a.1) { views = vs })) (set-set s.views id (free v) a.0) a.3, a.4)
   freed_at v (suc i) out allows = λ s rule count is fits.
-      let t : State (Option B) View = record { words = s.words; homes = set s.homes i (some None); views = set s.views id (free v) } in
+      let t : State (Option B) SeatView = record { words = s.words; homes = set s.homes i (some None); views = set s.views id (free v) } in
       let a = allows t (given_back r e s rule id v is (suc i) out) (length-set s.homes i (some None) ∙ count) (set_here s.views id (free v) (at_below s.views id v is)) fits in
       (a.0, chain gives a.1, (tt, a.2), subst (λ vs. Rule r e (record (stepped t word (f (slice_index s.words word)) id [] a.0 a.1) { views = vs })) (set-set s.views id (free v) a.0) a.3, a.4)
 
-  pub freed : (me : Me (Option B) View) → Carries me → Allows (Rule r e) slots id (free me.0, []) word f tells → Allows (Rule r e) slots id me word f tells
+  pub freed : (me : Me (Option B) SeatView) → Carries me → Allows (Rule r e) slots id (free me.0, []) word f tells → Allows (Rule r e) slots id me word f tells
   freed me carries allows = subst (λ c. Allows (Rule r e) slots id (me.0, c) word f tells) (sym carries) (freed_at me.0 me.0.out refl allows)

@@ -9,7 +9,7 @@ use Rattle.mark_core.specs.declared.which.Which.{Which}
 use Rattle.mark_core.specs.declared.which.Which.TheVariants.{Full, Empty}
 use Rattle.mark_core.specs.World.{Setup, put, put_which}
 use Rattle.mark_core.proofs.Places.{put_here, put_else}
-use Rattle.buffer_pool.specs.Table.{cut, head_word, link_word, mark_word}
+use Rattle.buffer_pool.specs.working.Table.{cut, head_word, link_word, mark_word}
 
 -- a head has one word
 pub one_head : (m n : ℕ) → head_of m ≡ head_of n → m ≡ n

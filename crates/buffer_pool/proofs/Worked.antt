@@ -6,10 +6,10 @@ use Rattle.mark_core.specs.Event.{CanClaim}
 use Rattle.mark_core.specs.Lists.{times, remove_one, without}
 use Rattle.mark_core.specs.World.{Setup}
 use Rattle.buffer_pool.specs.Book.{Book, loaded, link_loaded, failed, popped, pushed, finished}
-use Rattle.buffer_pool.specs.Calls.{Holder, Load, LostPops, LostPushes, MayPush, PopsAtLast, PushesAtLast}
+use Rattle.buffer_pool.specs.Calls.{Holder, HeldBuffer, LostPops, LostPushes, MayPush, PopsAtLast, PushesAtLast}
 use Rattle.buffer_pool.specs.Calls.LostPops.{none as no_pop, more as more_pops}
 use Rattle.buffer_pool.specs.Calls.LostPushes.{none as no_push, more as more_pushes}
-use Rattle.buffer_pool.specs.Worked.{Holds, bare, root_finished}
+use Rattle.buffer_pool.specs.tests.Worked.{Holds, bare, root_finished}
 use Rattle.buffer_pool.specs.declared.answers.Popped.TheVariants as pop
 use Rattle.buffer_pool.specs.declared.answers.TryPushed.TheVariants as try_push
 use Rattle.buffer_pool.proofs.Rounds.{IsLook, look_head, look_link}
@@ -17,19 +17,19 @@ use Rattle.buffer_pool.proofs.Rounds.{IsLook, look_head, look_link}
 look_same : (b : Book) → IsLook b b
 look_same b = record { setup = refl; share = refl; held = refl; charge = refl }
 
-look_then : (a b c : Book) → IsLook a b → IsLook b c → IsLook a c
+pub look_then : (a b c : Book) → IsLook a b → IsLook b c → IsLook a c
 look_then a b c first second = record { setup = second.setup ∙ first.setup; share = second.share ∙ first.share; held = second.held ∙ first.held; charge = second.charge ∙ first.charge }
 
-look_failed : (a b c : Book) → IsLook a b → c ≡ failed b → IsLook a c
+pub look_failed : (a b c : Book) → IsLook a b → c ≡ failed b → IsLook a c
 look_failed a b c look is = subst (IsLook a) (sym is) (record { setup = look.setup; share = look.share; held = look.held; charge = look.charge })
 
 -- tries that were lost only look
-lost_pops : (q : Which) (old new : Book) → LostPops q old new → IsLook old new
+pub lost_pops : (q : Which) (old new : Book) → LostPops q old new → IsLook old new
 lost_pops q old new (no_pop b) = look_same b
 lost_pops q old new (more_pops a mid b before last) =
     look_then a mid b (lost_pops q a mid before) (look_failed mid (link_loaded q last.2 (loaded q last.0 mid)) b (look_link q last.0 last.2 mid) last.5)
 
-lost_pushes : (q : Which) (h : Load) (old new : Book) → LostPushes q h old new → IsLook old new
+lost_pushes : (q : Which) (h : HeldBuffer) (old new : Book) → LostPushes q h old new → IsLook old new
 lost_pushes q h old new (no_push b) = look_same b
 lost_pushes q h old new (more_pushes a mid b before last) =
     look_then a mid b (lost_pushes q h a mid before) (look_failed mid (loaded q last.0 mid) b (look_head q last.0 mid) last.3)
@@ -37,7 +37,7 @@ lost_pushes q h old new (more_pushes a mid b before last) =
 module _ (old new : Holder) (n : ℕ) (list : List ℕ) (was : Holds n list old) where
   -- a buffer without items was popped
   pub pops_bare :
-      (q : Which) (h : Load) (wanted : ℕ) → PopsAtLast q old.book new.book (pop.Took h) → h.index ≡ wanted → length h.items ≡ 0
+      (q : Which) (h : HeldBuffer) (wanted : ℕ) → PopsAtLast q old.book new.book (pop.Took h) → h.index ≡ wanted → length h.items ≡ 0
       → Holds n (list ++ wanted ∷ []) new × (h ≡ bare n wanted)
   pops_bare q h wanted p index none = (
     record {
@@ -70,7 +70,7 @@ module _ (old new : Holder) (n : ℕ) (list : List ℕ) (was : Holds n list old)
       size = p.2.4 ∙ ap (λ (e : Setup). e.size) lost.setup ∙ was.room
 
   -- a buffer without items was pushed
-  pub pushes_bare : (q : Which) (h : Load) → PushesAtLast q h old.book new.book try_push.Done → h.items ≡ [] → Holds n (remove_one h.index list) new
+  pub pushes_bare : (q : Which) (h : HeldBuffer) → PushesAtLast q h old.book new.book try_push.Done → h.items ≡ [] → Holds n (remove_one h.index list) new
   pushes_bare q h p none =
       record {
         held = ap (λ (b : Book). b.account.held) is ∙ ap (remove_one h.index) (look.held ∙ was.held);
@@ -90,18 +90,18 @@ module _ (old new : Holder) (n : ℕ) (list : List ℕ) (was : Holds n list old)
       is : new.book ≡ pushed q h.index h.items head_loaded
       is = p.2.2
 
-pub may_push_bare : (q : Which) (w : Holder) (n : ℕ) (list : List ℕ) (h : Load) → Holds n list w → Contains list h.index → h ≡ bare n h.index → MayPush q h w.book
+pub may_push_bare : (q : Which) (w : Holder) (n : ℕ) (list : List ℕ) (h : HeldBuffer) → Holds n list w → Contains list h.index → h ≡ bare n h.index → MayPush q h w.book
 may_push_bare q w n list h was here is =
     record {
       held = subst (λ xs. Contains xs h.index) (sym was.held) here;
-      size = ap (λ (l : Load). l.size) is ∙ sym was.room;
-      charged = λ x. omega (arith, ap (λ (l : Load). times x l.items) is);
-      bare = λ empty. ap (λ (l : Load). l.items) is;
+      size = ap (λ (l : HeldBuffer). l.size) is ∙ sym was.room;
+      charged = λ x. omega (arith, ap (λ (l : HeldBuffer). times x l.items) is);
+      bare = λ empty. ap (λ (l : HeldBuffer). l.items) is;
     }
 
 -- a buffer of this number is one of its own number
-pub by_number : (n i : ℕ) (list : List ℕ) (h : Load) → h ≡ bare n i → Contains list i → Contains list h.index × (h ≡ bare n h.index)
-by_number n i list h is here = let index : h.index ≡ i = ap (λ (l : Load). l.index) is in (subst (Contains list) (sym index) here, is ∙ ap (bare n) (sym index))
+pub by_number : (n i : ℕ) (list : List ℕ) (h : HeldBuffer) → h ≡ bare n i → Contains list i → Contains list h.index × (h ≡ bare n h.index)
+by_number n i list h is here = let index : h.index ≡ i = ap (λ (l : HeldBuffer). l.index) is in (subst (Contains list) (sym index) here, is ∙ ap (bare n) (sym index))
 
 -- object 2 is answered for and refers to the class
 pub may_claim_again : (b : Book) → b ≡ finished 0 root_finished → CanClaim b.setup 0 b.account

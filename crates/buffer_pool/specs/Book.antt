@@ -1,9 +1,10 @@
--- A book: the account of one worker, what its pool was made for, and counts of what it did. What each step does to a book.
+-- A book: the account of one worker, what its pool was made for, and counts of what it did. What each step does to a
+-- book.
 use Rattle.std.specs.Prelude.{ℕ, ◌+◌, List, [], Option}
 use Rattle.mark_core.specs.declared.which.Which.{Which}
 use Rattle.mark_core.specs.declared.which.Which.TheVariants.{Full, Empty}
 use Rattle.tagged_index.specs.Head.{Head}
-use Rattle.mark_core.specs.Account.{Account, part, spent, after_claim, after_finish, after_split, after_join, after_load, after_load_link, after_pop, after_push}
+use Rattle.mark_core.specs.Account.{Account, part, no_share, after_claim, after_finish, after_split, after_join, after_load, after_load_link, after_pop, after_push}
 use Rattle.mark_core.specs.World.{Setup}
 use Rattle.mark_core.specs.Counts.{Counts, none_found}
 
@@ -24,16 +25,33 @@ empties_of b Empty = b.empty_empties
 
 -- a book with these units and nothing else
 abbrev pub new_book : Setup → ℕ → Book
-new_book e units = record { setup = e; account = part units; loads = 0; full_empties = 0; empty_empties = 0; failures = 0 }
+new_book e units =
+    record { setup = e; account = part units; loads = 0; full_empties = 0; empty_empties = 0; failures = 0 }
 
 -- the counts of a book
 abbrev pub counts_of : Book → Counts
-counts_of b = record { loads = b.loads; full_empties = b.full_empties; empty_empties = b.empty_empties; failures = b.failures }
+counts_of b =
+    record {
+      loads = b.loads;
+      full_empties = b.full_empties;
+      empty_empties = b.empty_empties;
+      failures = b.failures;
+    }
 
 -- the head of a stack was loaded
 abbrev pub loaded : Which → Head → Book → Book
-loaded Full h b = record b { account = after_load Full h b.account; loads = b.loads + 1; full_empties = b.full_empties + none_found h }
-loaded Empty h b = record b { account = after_load Empty h b.account; loads = b.loads + 1; empty_empties = b.empty_empties + none_found h }
+loaded Full h b =
+    record b {
+      account = after_load Full h b.account;
+      loads = b.loads + 1;
+      full_empties = b.full_empties + none_found h;
+    }
+loaded Empty h b =
+    record b {
+      account = after_load Empty h b.account;
+      loads = b.loads + 1;
+      empty_empties = b.empty_empties + none_found h;
+    }
 
 -- the link of the last head's buffer was loaded
 abbrev pub link_loaded : Which → Option ℕ → Book → Book
@@ -80,5 +98,6 @@ abbrev pub no_setup : Setup
 no_setup = record { objects = 0; buffers = 0; size = 0; first_tag = 0; roots = []; pairs = [] }
 
 -- what is left of a book that was put into another
-abbrev pub spent_book : Book
-spent_book = record { setup = no_setup; account = spent; loads = 0; full_empties = 0; empty_empties = 0; failures = 0 }
+abbrev pub no_share_book : Book
+no_share_book =
+    record { setup = no_setup; account = no_share; loads = 0; full_empties = 0; empty_empties = 0; failures = 0 }

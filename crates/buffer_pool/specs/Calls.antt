@@ -21,33 +21,42 @@ pub record Holder : Type 0 where
   pub log : Log
 
 -- a held buffer: its number, its items with the last put at the end, and the most that it takes
-pub record Load : Type 0 where
+pub record HeldBuffer : Type 0 where
   pub index : ℕ
   pub items : List ℕ
   pub size : ℕ
 
--- a try of a pop. Took: the head was loaded and its link, and the exchange won; a buffer of the empty stack has no items. Empty: the head loaded has no buffer. Lost: the exchange failed. Spent: the head loaded has a buffer and the last tag.
-abbrev pub Pops : Which → Book → Book → TryPopped Load → Type 0
+-- a try of a pop. Took: the head was loaded and its link, and the exchange won; a buffer of the empty stack has no
+-- items. Empty: the head loaded has no buffer. Lost: the exchange failed. Spent: the head loaded has a buffer and the
+-- last tag.
+abbrev pub Pops : Which → Book → Book → TryPopped HeldBuffer → Type 0
 Pops q old new (try_pop.Took h) =
     (head : Head) × (link : Option ℕ) × (head.index ≡ Some h.index) × (head.tag < last_tag) × (h.size ≡ old.setup.size)
     × (new ≡ popped h.index h.items (link_loaded q link (loaded q head old))) × (q ≡ Empty → h.items ≡ [])
 Pops q old new try_pop.Empty = (head : Head) × (head.index ≡ None) × (new ≡ loaded q head old)
 Pops q old new try_pop.Lost =
-    (head : Head) × (i : ℕ) × (link : Option ℕ) × (head.index ≡ Some i) × (head.tag < last_tag) × (new ≡ failed (link_loaded q link (loaded q head old)))
-Pops q old new try_pop.Spent = (head : Head) × (i : ℕ) × (head.index ≡ Some i) × (head.tag ≡ last_tag) × (new ≡ loaded q head old)
+    (head : Head) × (i : ℕ) × (link : Option ℕ) × (head.index ≡ Some i) × (head.tag < last_tag)
+    × (new ≡ failed (link_loaded q link (loaded q head old)))
+Pops q old new try_pop.Spent =
+    (head : Head) × (i : ℕ) × (head.index ≡ Some i) × (head.tag ≡ last_tag) × (new ≡ loaded q head old)
 
--- the worker holds the buffer, it is one of the pool's, its items are part of the charge, and there are none for the empty stack
-pub record MayPush (q : Which) (h : Load) (b : Book) : Type 0 where
+-- the worker holds the buffer, it is one of the pool's, its items are part of the charge, and there are none for the
+-- empty stack
+pub record MayPush (q : Which) (h : HeldBuffer) (b : Book) : Type 0 where
   pub held : Contains b.account.held h.index
   pub size : h.size ≡ b.setup.size
   pub charged : IsPart h.items b.account.charge
   pub bare : q ≡ Empty → h.items ≡ []
 
--- a try of a push. Done: the head was loaded, the link stored, and the exchange won. Lost: the exchange failed. Spent: the head loaded has the last tag.
-abbrev pub Pushes : Which → Load → Book → Book → TryPushed Load → Type 0
-Pushes q h old new try_push.Done = (head : Head) × (head.tag < last_tag) × (new ≡ pushed q h.index h.items (loaded q head old))
-Pushes q h old new (try_push.Lost back) = (head : Head) × (back ≡ h) × (head.tag < last_tag) × (new ≡ failed (loaded q head old))
-Pushes q h old new (try_push.Spent back) = (head : Head) × (back ≡ h) × (head.tag ≡ last_tag) × (new ≡ loaded q head old)
+-- a try of a push. Done: the head was loaded, the link stored, and the exchange won. Lost: the exchange failed. Spent:
+-- the head loaded has the last tag.
+abbrev pub Pushes : Which → HeldBuffer → Book → Book → TryPushed HeldBuffer → Type 0
+Pushes q h old new try_push.Done =
+    (head : Head) × (head.tag < last_tag) × (new ≡ pushed q h.index h.items (loaded q head old))
+Pushes q h old new (try_push.Lost back) =
+    (head : Head) × (back ≡ h) × (head.tag < last_tag) × (new ≡ failed (loaded q head old))
+Pushes q h old new (try_push.Spent back) =
+    (head : Head) × (back ≡ h) × (head.tag ≡ last_tag) × (new ≡ loaded q head old)
 
 -- tries of a pop that were all lost, from one book to another
 pub data LostPops (q : Which) : Book → Book → Type 0 where
@@ -55,18 +64,18 @@ pub data LostPops (q : Which) : Book → Book → Type 0 where
   more : (old mid new : Book) → LostPops q old mid → Pops q mid new try_pop.Lost → LostPops q old new
 
 -- tries until one is not lost
-abbrev pub PopsAtLast : Which → Book → Book → Popped Load → Type 0
+abbrev pub PopsAtLast : Which → Book → Book → Popped HeldBuffer → Type 0
 PopsAtLast q old new (pop.Took h) = (mid : Book) × LostPops q old mid × Pops q mid new (try_pop.Took h)
 PopsAtLast q old new pop.Empty = (mid : Book) × LostPops q old mid × Pops q mid new try_pop.Empty
 PopsAtLast q old new pop.Spent = (mid : Book) × LostPops q old mid × Pops q mid new try_pop.Spent
 
 -- tries of a push that were all lost
-pub data LostPushes (q : Which) (h : Load) : Book → Book → Type 0 where
+pub data LostPushes (q : Which) (h : HeldBuffer) : Book → Book → Type 0 where
   none : (b : Book) → LostPushes q h b b
   more : (old mid new : Book) → LostPushes q h old mid → Pushes q h mid new (try_push.Lost h) → LostPushes q h old new
 
 -- tries until one is not lost, and that one ended so
-abbrev pub PushesAtLast : Which → Load → Book → Book → TryPushed Load → Type 0
+abbrev pub PushesAtLast : Which → HeldBuffer → Book → Book → TryPushed HeldBuffer → Type 0
 PushesAtLast q h old new last = (mid : Book) × LostPushes q h old mid × Pushes q h mid new last
 
 -- one load of the head told this

@@ -34,7 +34,9 @@ pub record Ends (b : Book) (marks : List ℕ) : Type 0 where
   -- and there are none where no push on full is open
   pub emptied : b.account.open_push ≡ false → (o : ℕ) → 1 ≤ slice_index marks o → slice_index marks o ≡ 2
   -- each buffer is on one of the stacks
-  pub buffers : (full empty : List ℕ) → IsListOf last Full full → IsListOf last Empty empty → (i : ℕ) → times i full + times i empty ≡ one_where (nat_lt i b.setup.buffers)
+  pub buffers :
+      (full empty : List ℕ) → IsListOf last Full full → IsListOf last Empty empty
+      → (i : ℕ) → times i full + times i empty ≡ one_where (nat_lt i b.setup.buffers)
   -- what was seen marked is marked, successors of finished objects are marked, and what is marked can be reached
   pub seen : (o : ℕ) → Contains b.account.seen o → 1 ≤ slice_index marks o
   pub successors : (o s : ℕ) → slice_index marks o ≡ 2 → Contains b.setup.pairs (o, s) → 1 ≤ slice_index marks s

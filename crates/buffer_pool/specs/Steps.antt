@@ -2,7 +2,7 @@
 use Rattle.std.specs.Prelude.{ℕ, zero, suc, List, [], ◌∷◌, ◌++◌, Option, Result, Ok, Err}
 use Rattle.mark_core.specs.declared.which.Which.{Which}
 use Rattle.mark_core.specs.Event.{Kind, Load, LoadLink, StoreLink, Pop, Push, Fail}
-use Rattle.buffer_pool.specs.Calls.{Load as Held}
+use Rattle.buffer_pool.specs.Calls.{HeldBuffer as Held}
 use Rattle.buffer_pool.specs.declared.answers.TryPopped.{TryPopped}
 use Rattle.buffer_pool.specs.declared.answers.TryPopped.TheVariants as try_pop
 use Rattle.buffer_pool.specs.declared.answers.TryPushed.{TryPushed}

@@ -15,7 +15,8 @@ deeds w (event ∷ events) = if event.worker == w then event.kind ∷ deeds w ev
 
 -- the story went on, and of what came the worker did just this
 abbrev pub Did : Log → List Kind → Log → Type 0
-Did old kinds new = (since : List Event) × (new ≡ record old { story = old.story ++ since }) × (deeds old.number since ≡ kinds)
+Did old kinds new =
+    (since : List Event) × (new ≡ record old { story = old.story ++ since }) × (deeds old.number since ≡ kinds)
 
 -- the log of the first worker of a new pool
 abbrev pub first_log : Log

@@ -48,7 +48,8 @@ impl<A: Allocator> Buffer<A> {
 
     /// Takes the object that was put last.
     pub(crate) fn pop(&mut self) -> Option<u32>
-        ensures items { MatchOption result ((self.old.items.items ≡ []) × (self.new.items.items ≡ [])) (λ o. self.old.items.items ≡ self.new.items.items ++ o ∷ []) }
+        ensures items { MatchOption result ((self.old.items.items ≡ []) × (self.new.items.items ≡ []))
+            (λ o. self.old.items.items ≡ self.new.items.items ++ o ∷ []) }
         ensures size { self.new.size ≡ self.old.size }
     {
         self.items.pop()
@@ -58,8 +59,10 @@ impl<A: Allocator> Buffer<A> {
     pub(crate) fn split_upper_into(&mut self, other: &mut Buffer<A>)
         requires empty { other.old.items.items ≡ [] }
         requires room { self.old.size ≤ other.old.size }
-        ensures lower { self.new.items.items ≡ take (vec_len self.old.items - vec_len self.old.items / 2) self.old.items.items }
-        ensures upper { other.new.items.items ≡ drop (vec_len self.old.items - vec_len self.old.items / 2) self.old.items.items }
+        ensures lower { self.new.items.items
+            ≡ take (vec_len self.old.items - vec_len self.old.items / 2) self.old.items.items }
+        ensures upper { other.new.items.items
+            ≡ drop (vec_len self.old.items - vec_len self.old.items / 2) self.old.items.items }
         ensures sizes { (self.new.size ≡ self.old.size) × (other.new.size ≡ other.old.size) }
     {
         let len = self.items.len();

@@ -13,9 +13,9 @@ pub struct Held<A: Allocator> {
 }
 
 impl<A: Allocator> Model for Held<A> {
-    ghost use Rattle.buffer_pool.specs.Calls.{Load};
+    ghost use Rattle.buffer_pool.specs.Calls.{HeldBuffer};
 
-    ghost Value = { Load };
+    ghost Value = { HeldBuffer };
 
     ghost view = { λ h. record { index = h.index; items = h.buffer.items.items; size = h.buffer.size } };
 }
@@ -30,8 +30,10 @@ impl<A: Allocator> Held<A> {
 
     /// Puts an object into the buffer. A full buffer gives it back.
     pub fn put(&mut self, object: u32) -> Result<(), u32>
-        ensures ok { OnOk result ((length self.old.items < self.old.size) × (self.new ≡ record self.old { items = self.old.items ++ object ∷ [] })) }
-        ensures full { IfErr result (λ back. (back ≡ object) × (length self.old.items ≡ self.old.size) × (self.new ≡ self.old)) }
+        ensures ok { OnOk result ((length self.old.items < self.old.size)
+            × (self.new ≡ record self.old { items = self.old.items ++ object ∷ [] })) }
+        ensures full { IfErr result (λ back. (back ≡ object) × (length self.old.items ≡ self.old.size)
+            × (self.new ≡ self.old)) }
         ensures some { 0 < self.old.size }
     {
         if self.buffer.is_full() {
@@ -43,7 +45,9 @@ impl<A: Allocator> Held<A> {
 
     /// Takes the object that was put last.
     pub fn take(&mut self) -> Option<u32>
-        ensures { MatchOption result ((self.old.items ≡ []) × (self.new ≡ self.old)) (λ o. (self.old.items ≡ self.new.items ++ o ∷ []) × (self.new ≡ record self.old { items = self.new.items })) }
+        ensures { MatchOption result ((self.old.items ≡ []) × (self.new ≡ self.old))
+            (λ o. (self.old.items ≡ self.new.items ++ o ∷ [])
+            × (self.new ≡ record self.old { items = self.new.items })) }
     {
         self.buffer.pop()
     }
@@ -52,8 +56,10 @@ impl<A: Allocator> Held<A> {
     pub fn split_upper_into(&mut self, other: &mut Held<A>)
         requires empty { other.old.items ≡ [] }
         requires room { self.old.size ≤ other.old.size }
-        ensures lower { self.new ≡ record self.old { items = take (length self.old.items - length self.old.items / 2) self.old.items } }
-        ensures upper { other.new ≡ record other.old { items = drop (length self.old.items - length self.old.items / 2) self.old.items } }
+        ensures lower { self.new
+            ≡ record self.old { items = take (length self.old.items - length self.old.items / 2) self.old.items } }
+        ensures upper { other.new
+            ≡ record other.old { items = drop (length self.old.items - length self.old.items / 2) self.old.items } }
     {
         self.buffer.split_upper_into(&mut other.buffer);
     }

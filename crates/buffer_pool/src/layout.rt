@@ -10,7 +10,7 @@ const EMPTY_HEAD: usize = 16;
 pub(crate) const FIRST_LINK: usize = 32;
 
 ghost use Rattle.std.specs.Prelude.{◌≡◌, ◌+◌, ◌≤◌};
-ghost use Rattle.buffer_pool.specs.Table.{head_word, link_word};
+ghost use Rattle.buffer_pool.specs.working.Table.{head_word, link_word};
 
 /// The word of a stack's head.
 pub(crate) fn head_word(which: Which) -> usize

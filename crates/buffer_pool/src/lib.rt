@@ -6,27 +6,20 @@ mod buffer;
 mod held;
 mod key;
 mod layout;
-mod marking;
-mod marks;
-mod opening;
 mod plays;
 mod pool;
-mod pop_try;
-mod push_try;
 mod rules;
-mod shares;
-mod stacks;
-mod start;
-mod steps;
-mod view;
+mod seat_view;
 mod worker;
 
 pub use answers::{Popped, TryPopped, TryPushed};
 pub use held::Held;
 pub use mark_core::{Edges, Which};
-pub use marks::Marks;
-pub use opening::{LEAST_BUFFERS, LEAST_SIZE, MOST_BUFFERS, MOST_OBJECTS, MOST_SIZE, PoolFault};
 pub use pool::Pool;
+pub use pool::limits::{
+    LEAST_BUFFERS, LEAST_SIZE, MOST_BUFFERS, MOST_OBJECTS, MOST_SIZE, PoolFault,
+};
+pub use pool::marks::Marks;
 pub use worker::Worker;
 
 #[cfg(test)]

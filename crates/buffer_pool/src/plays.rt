@@ -1,86 +1,86 @@
 //! What each step on the table tells, as types that the steps name.
-ghost use Rattle.buffer_pool.specs.Buffers.{buffer_reading};
-ghost use Rattle.buffer_pool.specs.Plays.{claim_made, finish_made, head_seen, link_seen, link_stored, pop_tried, push_tried, set_aside, settled};
+ghost use Rattle.buffer_pool.specs.working.Buffers.{buffer_reading};
+ghost use Rattle.buffer_pool.specs.working.Plays.{claim_made, finish_made, head_seen, link_seen, link_stored, pop_tried, push_tried, set_aside, settled};
 ghost use Rattle.mark_core.specs.declared.which.Which.TheVariants.{Full, Empty};
 
 use crate::buffer::Buffer;
-use crate::view::View;
+use crate::seat_view::SeatView;
 use atomic_table::Play;
 use std::alloc::Allocator;
 
 /// A load of a head.
 pub struct SeeHead;
 
-impl<A: Allocator> Play<Option<Buffer<A>>, View> for SeeHead {
+impl<A: Allocator> Play<Option<Buffer<A>>, SeatView> for SeeHead {
     ghost then = { head_seen };
 }
 
 /// A load of the link of the buffer that the full head loaded last names.
 pub struct SeeFullLink;
 
-impl<A: Allocator> Play<Option<Buffer<A>>, View> for SeeFullLink {
+impl<A: Allocator> Play<Option<Buffer<A>>, SeatView> for SeeFullLink {
     ghost then = { link_seen Full };
 }
 
 /// A load of the link of the buffer that the empty head loaded last names.
 pub struct SeeEmptyLink;
 
-impl<A: Allocator> Play<Option<Buffer<A>>, View> for SeeEmptyLink {
+impl<A: Allocator> Play<Option<Buffer<A>>, SeatView> for SeeEmptyLink {
     ghost then = { link_seen Empty };
 }
 
 /// A store of the link of a held buffer.
 pub struct StoreLink;
 
-impl<A: Allocator> Play<Option<Buffer<A>>, View> for StoreLink {
+impl<A: Allocator> Play<Option<Buffer<A>>, SeatView> for StoreLink {
     ghost then = { link_stored };
 }
 
 /// An exchange of a head for the link of its buffer.
 pub struct TryPop;
 
-impl<A: Allocator> Play<Option<Buffer<A>>, View> for TryPop {
+impl<A: Allocator> Play<Option<Buffer<A>>, SeatView> for TryPop {
     ghost then = { pop_tried buffer_reading };
 }
 
 /// An exchange of the full head for a held buffer.
 pub struct TryPushFull;
 
-impl<A: Allocator> Play<Option<Buffer<A>>, View> for TryPushFull {
+impl<A: Allocator> Play<Option<Buffer<A>>, SeatView> for TryPushFull {
     ghost then = { push_tried buffer_reading Full };
 }
 
 /// An exchange of the empty head for a held buffer.
 pub struct TryPushEmpty;
 
-impl<A: Allocator> Play<Option<Buffer<A>>, View> for TryPushEmpty {
+impl<A: Allocator> Play<Option<Buffer<A>>, SeatView> for TryPushEmpty {
     ghost then = { push_tried buffer_reading Empty };
 }
 
 /// A claim of an object.
 pub struct Claim;
 
-impl<A: Allocator> Play<Option<Buffer<A>>, View> for Claim {
+impl<A: Allocator> Play<Option<Buffer<A>>, SeatView> for Claim {
     ghost then = { claim_made };
 }
 
 /// A finish of an object.
 pub struct Finish;
 
-impl<A: Allocator> Play<Option<Buffer<A>>, View> for Finish {
+impl<A: Allocator> Play<Option<Buffer<A>>, SeatView> for Finish {
     ghost then = { finish_made };
 }
 
 /// A step that changes nothing and notes how many units are given away.
 pub struct SetAside;
 
-impl<A: Allocator> Play<Option<Buffer<A>>, View> for SetAside {
+impl<A: Allocator> Play<Option<Buffer<A>>, SeatView> for SetAside {
     ghost then = { set_aside };
 }
 
 /// A load that only brings a slot home.
 pub struct Settle;
 
-impl<A: Allocator> Play<Option<Buffer<A>>, View> for Settle {
+impl<A: Allocator> Play<Option<Buffer<A>>, SeatView> for Settle {
     ghost then = { settled };
 }

@@ -1,10 +1,31 @@
-//! A pool of buffers and marks, which many workers share.
+//! A pool of buffers and marks, which many workers share, and how it is made.
+ghost use Rattle.std.specs.Prelude.{◌≡◌, MatchResult};
+ghost use Rattle.mark_core.specs.Shares.{whole};
+ghost use Rattle.mark_core.specs.World.{Setup};
+ghost use Rattle.buffer_pool.specs.Book.{new_book};
+ghost use Rattle.buffer_pool.specs.Faults.{Refuses};
+ghost use Rattle.buffer_pool.specs.Ranges.{IsInside};
+ghost use Rattle.buffer_pool.specs.Story.{first_log};
+
+mod first;
+pub(crate) mod limits;
+mod marking;
+pub(crate) mod marks;
+mod pop_try;
+mod push_try;
+mod shares;
+mod stacks;
+mod steps;
 
 use crate::buffer::Buffer;
-use crate::key::Key;
+use crate::key::{Key, Named};
 use crate::rules::MarkingRule;
-use crate::view::View;
+use crate::seat_view::SeatView;
+use crate::worker::Worker;
 use atomic_table::Table;
+use first::{first_buffers, first_words};
+use limits::{PoolFault, is_inside};
+use mark_core::Edges;
 use std::alloc::Allocator;
 use std::marker::Model;
 
@@ -12,19 +33,63 @@ use std::marker::Model;
 /// takes the worker that makes it.
 #[derive(Drop)]
 pub struct Pool<A: Allocator> {
-    pub(crate) table: Table<Option<Buffer<A>>, View, Key, MarkingRule, A>,
+    pub(crate) table: Table<Option<Buffer<A>>, SeatView, Key, MarkingRule, A>,
     pub(crate) buffers: u32,
 }
 
 impl<A: Allocator> Model for Pool<A> {
     ghost use Rattle.std.specs.Prelude.{◌≡◌};
     ghost use Rattle.atomic_table.specs.Seated.{TableId};
-    ghost use Rattle.buffer_pool.specs.Laid.{IsLaid};
-    ghost use Rattle.buffer_pool.specs.Setups.{setup_of};
+    ghost use Rattle.buffer_pool.specs.working.Laid.{IsLaid};
+    ghost use Rattle.buffer_pool.specs.working.Setups.{setup_of};
 
     ghost Value = { TableId };
 
     ghost view = { λ p. p.table.shared.table_id };
 
-    ghost invariant = { λ p. IsLaid p.table.shared.table_id (setup_of p.table.shared.key) × (p.buffers ≡ p.table.shared.key.buffers) };
+    ghost invariant = { λ p. IsLaid p.table.shared.table_id (setup_of p.table.shared.key)
+        × (p.buffers ≡ p.table.shared.key.buffers) };
+}
+
+impl<A: Allocator + Clone> Pool<A> {
+    /// A pool for at most 16,777,216 objects, of 4 to 65,534 buffers for 2 to 4,096 objects each, whose
+    /// stacks' heads begin with a tag of at most 281,474,976,710,655. No object is marked, all buffers are on
+    /// the empty stack, and the worker has the whole share. All memory of the pool is taken here.
+    pub fn new<E: Edges>(
+        alloc: A,
+        edges: &E,
+        buffers: u32,
+        size: u32,
+        first_tag: u64,
+    ) -> Result<(Pool<A>, Worker<A>), PoolFault>
+        ensures { let e : Setup = record {
+          objects = E.count edges.now;
+          buffers = buffers;
+          size = size;
+          first_tag = first_tag;
+          roots = E.roots edges.now;
+          pairs = E.pairs edges.now;
+        } in
+            MatchResult result (λ p. IsInside e.objects buffers size first_tag × (p.1.pool ≡ p.0)
+            × (p.1.book ≡ new_book e whole) × (p.1.log ≡ first_log))
+            (Refuses (IsInside e.objects buffers size first_tag)) }
+    {
+        let objects = edges.objects();
+        if !is_inside(objects, buffers, size, first_tag) {
+            return Err(PoolFault::BadOptions);
+        }
+        let words = first_words(alloc.clone()?, objects, buffers, first_tag)?;
+        let slots = first_buffers(alloc.clone()?, buffers, size)?;
+        let key = Key {
+            named: Named::of(edges),
+            objects,
+            buffers,
+            size,
+            first_tag,
+        };
+        let Ok((table, seat)) = Table::new(alloc, words.as_slice(), slots, &key) else {
+            return Err(PoolFault::OutOfMemory);
+        };
+        Ok((Pool { table, buffers }, Worker { seat }))
+    }
 }

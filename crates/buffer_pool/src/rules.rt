@@ -1,18 +1,18 @@
 //! The rule of the pool's table, how a worker's view is cut in two, and how two are put together.
-ghost use Rattle.buffer_pool.specs.Buffers.{buffer_reading};
-ghost use Rattle.buffer_pool.specs.Setups.{first_view, setup_of, given_part, joined_view, kept_part, spent_view};
-ghost use Rattle.buffer_pool.specs.Table.{Rule};
+ghost use Rattle.buffer_pool.specs.working.Buffers.{buffer_reading};
+ghost use Rattle.buffer_pool.specs.working.Setups.{first_view, setup_of, given_part, joined_view, kept_part, no_share_view};
+ghost use Rattle.buffer_pool.specs.working.Table.{Rule};
 
 use crate::buffer::Buffer;
 use crate::key::Key;
-use crate::view::View;
+use crate::seat_view::SeatView;
 use atomic_table::{Join, Seat, Shared, Split, TableRule};
 use std::alloc::Allocator;
 
 /// The law of a marking, between any two steps.
 pub struct MarkingRule;
 
-impl<A: Allocator> TableRule<Option<Buffer<A>>, View, Key> for MarkingRule {
+impl<A: Allocator> TableRule<Option<Buffer<A>>, SeatView, Key> for MarkingRule {
     ghost holds = { λ key. Rule buffer_reading (setup_of key) };
 
     ghost first = { λ key. first_view (setup_of key) };
@@ -21,7 +21,7 @@ impl<A: Allocator> TableRule<Option<Buffer<A>>, View, Key> for MarkingRule {
 /// The units that were set aside go to a new worker.
 pub struct GivePart;
 
-impl Split<View> for GivePart {
+impl Split<SeatView> for GivePart {
     ghost left = { kept_part };
 
     ghost right = { given_part };
@@ -30,14 +30,14 @@ impl Split<View> for GivePart {
 /// One worker takes in another.
 pub struct TakeIn;
 
-impl Join<View> for TakeIn {
+impl Join<SeatView> for TakeIn {
     ghost both = { joined_view };
 
-    ghost spent = { spent_view };
+    ghost spent = { no_share_view };
 }
 
 /// The table as workers share it.
-pub(crate) type Words<A> = Shared<Option<Buffer<A>>, View, Key, MarkingRule>;
+pub(crate) type Words<A> = Shared<Option<Buffer<A>>, SeatView, Key, MarkingRule>;
 
 /// What a worker steps with.
-pub(crate) type Token<A> = Seat<Option<Buffer<A>>, View>;
+pub(crate) type Token<A> = Seat<Option<Buffer<A>>, SeatView>;

@@ -2,8 +2,10 @@
 
 mod claims;
 mod edges;
+mod forged;
 mod graph;
 mod opening;
+mod race;
 mod rounds;
 mod tags;
 mod waiting;

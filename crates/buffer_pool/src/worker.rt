@@ -12,7 +12,7 @@ pub struct Worker<A: Allocator> {
 
 impl<A: Allocator> Model for Worker<A> {
     ghost use Rattle.buffer_pool.specs.Calls.{Holder};
-    ghost use Rattle.buffer_pool.specs.Laid.{IsSound};
+    ghost use Rattle.buffer_pool.specs.working.Laid.{IsSound};
 
     ghost Value = { Holder };
 
@@ -22,7 +22,7 @@ impl<A: Allocator> Model for Worker<A> {
 }
 
 impl<A: Allocator> Worker<A> {
-    ghost use Rattle.buffer_pool.specs.Laid.{IsWithin};
+    ghost use Rattle.buffer_pool.specs.Ranges.{IsWithin};
 
     /// What each worker keeps, said of this one: the buffers that it holds are the pool's, and what it answers for are
     /// objects. Nothing is done.

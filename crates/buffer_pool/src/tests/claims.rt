@@ -1,6 +1,6 @@
 //! Claims of the same objects by two threads.
 ghost use Rattle.std.specs.Prelude.{◌≡◌};
-ghost use Rattle.buffer_pool.specs.Rounds.{HasRoots};
+ghost use Rattle.buffer_pool.specs.tests.Rounds.{HasRoots};
 
 use super::edges::pool_of_roots;
 use crate::{Pool, Worker};

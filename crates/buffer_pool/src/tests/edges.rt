@@ -1,7 +1,7 @@
 //! Pools over small heaps.
 ghost use Rattle.std.specs.Prelude.{◌≡◌, ℕ, [], IfOk};
 ghost use Rattle.mark_core.specs.Shares.{whole};
-ghost use Rattle.buffer_pool.specs.Rounds.{HasNone, HasRoots, numbers};
+ghost use Rattle.buffer_pool.specs.tests.Rounds.{HasNone, HasRoots, numbers};
 
 use crate::{Edges, Pool, PoolFault, Worker};
 use std::alloc::Global;

@@ -2,7 +2,7 @@
 ghost use Rattle.std.specs.Prelude.{◌≡◌, ◌≢◌, ℕ, [], ◌∷◌, IfOk};
 ghost use Rattle.mark_core.specs.Event.{CanClaim};
 ghost use Rattle.buffer_pool.specs.Book.{claimed};
-ghost use Rattle.buffer_pool.specs.Worked.{all_finished, begun, claimed_again, references, root_finished};
+ghost use Rattle.buffer_pool.specs.tests.Worked.{all_finished, begun, claimed_again, references, root_finished};
 
 use crate::{Edges, Pool, PoolFault, Worker};
 use std::alloc::{Allocator, Global};

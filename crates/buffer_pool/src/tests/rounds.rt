@@ -1,7 +1,7 @@
 //! Four threads that fill buffers, push them, pop them and finish what they find, all at the same time.
 ghost use Rattle.std.specs.Prelude.{◌≡◌, ◌≤◌, ◌+◌, ◌*◌, [], MatchOption};
 ghost use Rattle.mark_core.specs.declared.which.Which.TheVariants.{Empty};
-ghost use Rattle.buffer_pool.specs.Rounds.{HasNone, HasOne, HasRoots, IsSameWorker};
+ghost use Rattle.buffer_pool.specs.tests.Rounds.{HasNone, HasOne, HasRoots, IsSameWorker};
 
 use super::edges::pool_of_roots;
 use crate::{Held, Pool, TryPopped, TryPushed, Which, Worker};

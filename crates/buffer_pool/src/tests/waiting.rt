@@ -2,7 +2,7 @@
 ghost use Rattle.std.specs.Prelude.{◌≡◌, ℕ, ◌<◌, List, [], ◌∷◌, ◌++◌, Contains, IfOk};
 ghost use Rattle.mark_core.specs.Lists.{remove_one};
 ghost use Rattle.mark_core.specs.Shares.{whole};
-ghost use Rattle.buffer_pool.specs.Worked.{Holds, bare};
+ghost use Rattle.buffer_pool.specs.tests.Worked.{Holds, bare};
 
 use super::edges::Roots;
 use crate::layout::{FIRST_LINK, head_word};
@@ -13,10 +13,13 @@ use std::sync::Wait;
 use std::test::Fail;
 use tagged_index::HeadWord;
 
-const BUFFERS: u32 = 4;
+pub(super) const BUFFERS: u32 = 4;
 
 /// A pool without objects, of four buffers for two objects each.
-fn bare_pool(alloc: Global, first_tag: u64) -> Result<(Pool<Global>, Worker<Global>), PoolFault>
+pub(super) fn bare_pool(
+    alloc: Global,
+    first_tag: u64,
+) -> Result<(Pool<Global>, Worker<Global>), PoolFault>
     ensures pool { IfOk result (λ p. p.1.pool ≡ p.0) }
     ensures none { IfOk result (λ p. Holds 2 [] p.1) }
     ensures share { IfOk result (λ p. p.1.book.account.share ≡ whole) }
@@ -25,7 +28,7 @@ fn bare_pool(alloc: Global, first_tag: u64) -> Result<(Pool<Global>, Worker<Glob
 }
 
 /// The index and the tag of a head, as they stand in the table.
-fn head<A: Allocator>(pool: &Pool<A>, which: Which) -> (Option<u32>, u64) {
+pub(super) fn head<A: Allocator>(pool: &Pool<A>, which: Which) -> (Option<u32>, u64) {
     let head = HeadWord::from_word(pool.table.shared.peek(head_word(which)));
     (head.index(), head.tag())
 }
@@ -51,7 +54,8 @@ fn pop_bare<R: Wait + Abort, A: Allocator>(
 ) -> Held<A>
     requires pool { worker.old.pool ≡ pool.now }
     ensures pool { worker.new.pool ≡ worker.old.pool }
-    ensures held { (n : ℕ) (list : List ℕ) → Holds n list worker.old → Holds n (list ++ wanted ∷ []) worker.new × (result ≡ bare n wanted) }
+    ensures held { (n : ℕ) (list : List ℕ) → Holds n list worker.old
+        → Holds n (list ++ wanted ∷ []) worker.new × (result ≡ bare n wanted) }
 {
     let Popped::Took(held) = pool.pop(rt, worker, which) else {
         panic!(rt; "there is a buffer, and a tag");
@@ -62,7 +66,7 @@ fn pop_bare<R: Wait + Abort, A: Allocator>(
 }
 
 /// Pushes a buffer without items.
-fn push_bare<R: Wait + Abort, A: Allocator>(
+pub(super) fn push_bare<R: Wait + Abort, A: Allocator>(
     rt: &R,
     pool: &Pool<A>,
     worker: &mut Worker<A>,
@@ -70,7 +74,8 @@ fn push_bare<R: Wait + Abort, A: Allocator>(
     held: Held<A>,
 )
     requires pool { worker.old.pool ≡ pool.now }
-    requires held { (n : ℕ) × (list : List ℕ) × Holds n list worker.old × Contains list held.index × (held ≡ bare n held.index) }
+    requires held { (n : ℕ) × (list : List ℕ) × Holds n list worker.old
+        × Contains list held.index × (held ≡ bare n held.index) }
     ensures pool { worker.new.pool ≡ worker.old.pool }
     ensures held { (n : ℕ) (list : List ℕ) → Holds n list worker.old → Holds n (remove_one held.index list) worker.new }
 {

@@ -1,10 +1,10 @@
 use Rattle.std.proofs.Common.{◌∙◌, ℕ, ◌+◌, List, drop, ap, subst, sym}
 use Rattle.std.specs.Slots.{slots_items}
-use Rattle.buffer_pool.specs.Buffers.{buffer_reading}
+use Rattle.buffer_pool.specs.working.Buffers.{buffer_reading}
 use Rattle.buffer_pool.specs.Calls.{Holder}
 use Rattle.buffer_pool.specs.Closing.{Ends}
 use Rattle.buffer_pool.specs.Story.{EndsStory}
-use Rattle.buffer_pool.specs.Setups.{setup_of}
+use Rattle.buffer_pool.specs.working.Setups.{setup_of}
 use Rattle.buffer_pool.proofs.Closes.{ends_of}
 use Rattle.buffer_pool.proofs.pool.Pool.close.Goals as goal
 

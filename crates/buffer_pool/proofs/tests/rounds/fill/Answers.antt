@@ -1,7 +1,7 @@
 -- Each object is a root, and a white one went into the buffer.
 use Rattle.std.proofs.Common.{◌∙◌, sym, subst, arith}
-use Rattle.buffer_pool.specs.Calls.{Load}
-use Rattle.buffer_pool.specs.Rounds.{HasOne}
+use Rattle.buffer_pool.specs.Calls.{HeldBuffer}
+use Rattle.buffer_pool.specs.tests.Rounds.{HasOne}
 use Rattle.buffer_pool.proofs.Rounds.{left_out, may_claim, not_white, put_in, same_again, same_claimed, same_roots}
 use Rattle.buffer_pool.proofs.tests.rounds.fill.Goals as goal
 use Rattle.buffer_pool.proofs.tests.rounds.fill.Goals.{then-claim+in-Ok, else-claim}
@@ -22,7 +22,7 @@ loop-object-preserved g c =
     let one : HasOne new c.if-claim.held =
     elim c.if-claim.branch [
       | then-claim+in-Ok w ↦
-          subst (λ (h : Load). HasOne new h) (sym (w.held-is ∙ w.in-Ok.ensures.ok.1)) (put_in old new pool c.loop-object.held o event.0 was.1 event.1 (event.2.0 w.if-claim.true))
-      | else-claim w ↦ subst (λ (h : Load). HasOne new h) (sym w.held-is) (left_out old new pool c.loop-object.held o event.0 was.1 event.1 (not_white c.claim.result event.0 event.2 w.if-claim.false))
+          subst (λ (h : HeldBuffer). HasOne new h) (sym (w.held-is ∙ w.in-Ok.ensures.ok.1)) (put_in old new pool c.loop-object.held o event.0 was.1 event.1 (event.2.0 w.if-claim.true))
+      | else-claim w ↦ subst (λ (h : HeldBuffer). HasOne new h) (sym w.held-is) (left_out old new pool c.loop-object.held o event.0 was.1 event.1 (not_white c.claim.result event.0 event.2 w.if-claim.false))
     ] in
     (same_again c.args.worker.now old new was.0 (same_claimed old new pool o event.0 event.1), one)

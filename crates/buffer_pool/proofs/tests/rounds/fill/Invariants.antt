@@ -1,5 +1,5 @@
 -- the buffer has what the worker claimed
-use Rattle.buffer_pool.specs.Rounds.{HasOne, IsSameWorker}
+use Rattle.buffer_pool.specs.tests.Rounds.{HasOne, IsSameWorker}
 use Rattle.buffer_pool.proofs.tests.rounds.fill.Given as goal
 
 abbrev pub invariant-loop-object : goal.invariant-loop-object

@@ -1,6 +1,6 @@
 -- the buffer has what the worker still answers for
 use Rattle.std.proofs.Common.{length}
-use Rattle.buffer_pool.specs.Rounds.{HasOne, IsSameWorker}
+use Rattle.buffer_pool.specs.tests.Rounds.{HasOne, IsSameWorker}
 use Rattle.buffer_pool.proofs.tests.rounds.finish_items.Given as goal
 
 abbrev pub decreases-loop-object : goal.decreases-loop-object

@@ -1,5 +1,5 @@
 -- between two buffers nothing is held
-use Rattle.buffer_pool.specs.Rounds.{HasNone, IsSameWorker}
+use Rattle.buffer_pool.specs.tests.Rounds.{HasNone, IsSameWorker}
 use Rattle.buffer_pool.proofs.tests.rounds.finish_rest.Given as goal
 
 abbrev pub invariant-loop : goal.invariant-loop

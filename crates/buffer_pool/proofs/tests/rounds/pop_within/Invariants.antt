@@ -1,5 +1,5 @@
 -- the tries so far took nothing
-use Rattle.buffer_pool.specs.Rounds.{HasNone, IsSameWorker}
+use Rattle.buffer_pool.specs.tests.Rounds.{HasNone, IsSameWorker}
 use Rattle.buffer_pool.proofs.tests.rounds.pop_within.Given as goal
 
 abbrev pub invariant-loop : goal.invariant-loop

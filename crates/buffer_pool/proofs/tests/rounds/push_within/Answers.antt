@@ -1,6 +1,6 @@
 -- A try that was lost gives the buffer back.
 use Rattle.std.proofs.Common.{◌∙◌, refl, ap}
-use Rattle.buffer_pool.specs.Calls.{Load}
+use Rattle.buffer_pool.specs.Calls.{HeldBuffer}
 use Rattle.buffer_pool.proofs.Rounds.{done, lost_push, may_push, same_again, same_worker}
 use Rattle.buffer_pool.proofs.tests.rounds.push_within.Goals as goal
 
@@ -18,7 +18,7 @@ try_push-requires g c =
     let was = c.loop.invariant in
     record {
       pool = was.0.pool ∙ c.requires.pool;
-      may = may_push c.args.which c.loop.worker c.loop.held was.1 (λ empty. ap (λ (h : Load). h.items) was.2 ∙ c.requires.bare empty);
+      may = may_push c.args.which c.loop.worker c.loop.held was.1 (λ empty. ap (λ (h : HeldBuffer). h.items) was.2 ∙ c.requires.bare empty);
     }
 
 pub returns-in-Done : goal.returns-in-Done

@@ -1,0 +1,15 @@
+use Rattle.std.proofs.Common.{◌∙◌, All, subst, sym, arith}
+use Rattle.buffer_pool.specs.working.Buffers.{buffer_reading}
+use Rattle.buffer_pool.specs.working.Opening.{IsFirstSlot}
+use Rattle.buffer_pool.proofs.Starts.{slot_pushed}
+use Rattle.buffer_pool.proofs.pool.first.first_buffers.Goals as goal
+
+pub loop-slots-preserved : goal.loop-slots-preserved
+loop-slots-preserved g c =
+    record {
+      room = c.push_reserved.ensures.capacity ∙ c.loop-slots.invariant.room;
+      within = omega (arith, c.push_reserved.ensures.len, c.loop-slots-test.true);
+      slots =
+          subst (All (IsFirstSlot buffer_reading c.args.size)) (sym c.push_reserved.ensures.items)
+          (slot_pushed buffer_reading c.args.size c.loop-slots.slots.items c.in_ok-new.field-0 c.loop-slots.invariant.slots c.in_ok-new.ensures.0 c.in_ok-new.ensures.1);
+    }

@@ -1,0 +1,72 @@
+use Rattle.std.proofs.Common.{◌∙◌, ap, refl, Option, arith}
+use Rattle.atomic_table.specs.Table.{Me}
+use Rattle.atomic_table.specs.Seated.{TableId}
+use Rattle.buffer_pool.specs.declared.buffer.Buffer.{Buffer}
+use Rattle.buffer_pool.specs.declared.seat_view.SeatView.{SeatView}
+use Rattle.buffer_pool.specs.working.Buffers.{buffer_reading}
+use Rattle.buffer_pool.specs.working.Setups.{setup_of}
+use Rattle.buffer_pool.proofs.Loads.{sets_aside, settles}
+use Rattle.buffer_pool.proofs.Parts.{noted_units, splits, kept_may, given_may, keeps_part, has_part}
+use Rattle.buffer_pool.proofs.pool.shares.give_part.Given as given
+use Rattle.buffer_pool.proofs.pool.shares.give_part.Goals as goal
+
+abbrev Token : given.Over → Type 0
+Token g = Me (Option (Buffer g.row.A.Denot)) SeatView
+
+pub compare_exchange-requires : goal.compare_exchange-requires
+compare_exchange-requires g c = (
+  c.requires.table,
+  omega (arith, c.requires.sound.laid.words, ap (λ (t : TableId). t.words) c.requires.table),
+  sets_aside buffer_reading (setup_of c.args.words.now.key) c.args.words.now.table_id.slots c.args.seat.now.id c.args.seat.now.me 0 c.args.units c.requires.sound.carries c.requires.sound.share c.requires.sound.settled,
+)
+
+pub split_seat-other-requires : goal.split_seat-other-requires
+split_seat-other-requires g c =
+    let told = c.compare_exchange.ensures.2 in
+    let noted = noted_units c.args.seat.now.me c.compare_exchange.new.seat.me c.compare_exchange.new.seat.me.0.log c.args.units told.0 c.requires.units.0 c.requires.units.1 in (
+      c.compare_exchange.ensures.0 ∙ c.requires.table,
+      omega (arith, c.requires.sound.laid.words, ap (λ (t : TableId). t.words) c.requires.table),
+      splits buffer_reading (setup_of c.args.words.now.key) c.compare_exchange.new.seat.id c.compare_exchange.new.seat.me.0 noted.0 noted.1 noted.2,
+    )
+
+pub load-requires : goal.load-requires
+load-requires g c =
+    let told = c.compare_exchange.ensures.2 in
+    let may =
+    kept_may c.args.seat.now.table_id c.args.seat.now.table_id c.args.seat.now.me c.compare_exchange.new.seat.me c.args.units refl c.compare_exchange.new.seat.me.0.log c.requires.sound told.0 told.1
+    c.split_seat-other.new.seat.me c.split_seat-other.ensures.2 c.requires.units.1 in (
+      c.split_seat-other.ensures.0 ∙ c.compare_exchange.ensures.0 ∙ c.requires.table,
+      omega (arith, c.requires.sound.laid.words, ap (λ (t : TableId). t.words) c.requires.table),
+      settles buffer_reading (setup_of c.args.words.now.key) c.args.words.now.table_id.slots c.split_seat-other.new.seat.id c.split_seat-other.new.seat.me 0 may.0 may.1,
+    )
+
+pub load-requires-2 : goal.load-requires-2
+load-requires-2 g c =
+    let told = c.compare_exchange.ensures.2 in
+    let may =
+    given_may c.args.seat.now.table_id c.args.seat.now.table_id c.args.seat.now.me c.compare_exchange.new.seat.me c.args.units refl c.compare_exchange.new.seat.me.0.log c.requires.sound told.0 told.1
+    c.split_seat-other.result.me c.split_seat-other.ensures.4 c.requires.units.0 in (
+      c.split_seat-other.ensures.3 ∙ c.compare_exchange.ensures.0 ∙ c.requires.table,
+      omega (arith, c.requires.sound.laid.words, ap (λ (t : TableId). t.words) c.requires.table),
+      settles buffer_reading (setup_of c.args.words.now.key) c.args.words.now.table_id.slots c.split_seat-other.result.id c.split_seat-other.result.me 0 may.0 may.1,
+    )
+
+pub returns : goal.returns
+returns g c =
+    let told = c.compare_exchange.ensures.2 in
+    let log = c.compare_exchange.new.seat.me.0.log in
+    let one = c.compare_exchange.ensures.0 in
+    let t = c.args.seat.now.table_id in
+    let kept =
+    keeps_part t c.load.new.seat.table_id c.args.seat.now.me c.compare_exchange.new.seat.me c.args.units (c.load.ensures.0 ∙ c.split_seat-other.ensures.0 ∙ one) log c.requires.sound told.0 told.1
+    c.split_seat-other.new.seat.me c.load.new.seat.me c.split_seat-other.ensures.2 c.load.ensures.2 c.requires.units.1 in
+    let given =
+    has_part t c.load-2.new.seat.table_id c.args.seat.now.me c.compare_exchange.new.seat.me c.args.units (c.load-2.ensures.0 ∙ c.split_seat-other.ensures.3 ∙ one) log c.requires.sound told.0 told.1
+    c.split_seat-other.result.me c.load-2.new.seat.me c.split_seat-other.ensures.4 c.load-2.ensures.2 c.requires.units.0 in
+    record {
+      same = (c.load.ensures.0 ∙ c.split_seat-other.ensures.0 ∙ one, c.load-2.ensures.0 ∙ c.split_seat-other.ensures.3 ∙ one);
+      kept = kept.0;
+      given = given.0;
+      did = kept.1;
+      new = given.1;
+    }

@@ -1,6 +1,0 @@
--- How the pool's buffers are read.
-use Rattle.buffer_pool.specs.declared.buffer.Buffer.{Buffer}
-use Rattle.buffer_pool.specs.Table.{Reading}
-
-abbrev pub buffer_reading : {A : Type 0} → Reading (Buffer A)
-buffer_reading = record { items = λ b. b.items.items; size = λ b. b.size }

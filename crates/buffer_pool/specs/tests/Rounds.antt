@@ -1,0 +1,32 @@
+-- What is asked of a worker that goes through its part of the objects in rounds.
+use Rattle.std.specs.Prelude.{◌≡◌, ℕ, List, [], ◌∷◌}
+use Rattle.std.specs.List.{range_with_len}
+use Rattle.mark_core.specs.Lists.{times}
+use Rattle.buffer_pool.specs.Calls.{Holder, HeldBuffer}
+
+-- the numbers below n
+unfoldable pub numbers : ℕ → List ℕ
+numbers n = range_with_len 0 n
+
+-- a worker of the same pool, with the same share
+pub record IsSameWorker (old new : Holder) : Type 0 where
+  pub pool : new.pool ≡ old.pool
+  pub setup : new.book.setup ≡ old.book.setup
+  pub share : new.book.account.share ≡ old.book.account.share
+
+-- there are n objects, which are all roots, and none has a successor
+pub record HasRoots (n : ℕ) (w : Holder) : Type 0 where
+  pub objects : w.book.setup.objects ≡ n
+  pub roots : w.book.setup.roots ≡ numbers n
+  pub pairs : w.book.setup.pairs ≡ []
+
+-- it holds no buffer, and answers for no object
+pub record HasNone (w : Holder) : Type 0 where
+  pub held : w.book.account.held ≡ []
+  pub charge : w.book.account.charge ≡ []
+
+-- it holds this buffer alone, and answers for the buffer's items
+pub record HasOne (w : Holder) (h : HeldBuffer) : Type 0 where
+  pub held : w.book.account.held ≡ h.index ∷ []
+  pub charge : (o : ℕ) → times o w.book.account.charge ≡ times o h.items
+  pub size : h.size ≡ w.book.setup.size

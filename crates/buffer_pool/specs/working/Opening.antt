@@ -1,0 +1,18 @@
+-- The words and slots of a pool that nobody has used.
+use Rattle.std.specs.Prelude.{◌≡◌, ℕ, ◌+◌, ◌<◌, ◌≤◌, List, [], length, Option, Some, slice_index}
+use Rattle.tagged_index.specs.Head.{head_of}
+use Rattle.mark_core.specs.declared.which.Which.{Which}
+use Rattle.mark_core.specs.Runs.{first_heads}
+use Rattle.buffer_pool.specs.working.Table.{Reading, head_word, link_word}
+
+-- the full stack has no buffer, each of the first buffers of the empty stack links to the next one, and every later
+-- word is 0
+pub record HasFirstWords (count tag linked : ℕ) (words : List ℕ) : Type 0 where
+  pub word_count : length words ≡ count
+  pub heads : (q : Which) → head_of (slice_index words (head_word q)) ≡ first_heads tag q
+  pub links : (i : ℕ) → i + 1 < linked → slice_index words (link_word i) ≡ i + 2
+  pub rest : (k : ℕ) → 31 + linked ≤ k → slice_index words k ≡ 0
+
+-- a slot with a buffer of this size that has no items
+abbrev pub IsFirstSlot : {B : Type 0} → Reading B → ℕ → Option B → Type 0
+IsFirstSlot {B} r size slot = (b : B) × (slot ≡ Some b) × (r.items b ≡ []) × (r.size b ≡ size)

@@ -1,0 +1,136 @@
+-- What each step on the table tells the worker that makes it: of the step, the seat before, the number found and the
+-- seat after.
+use Rattle.std.specs.Prelude.{Contains, ◌≡◌, ℕ, suc, ◌<◌, ◌≤◌, true, false, List, [], ◌∷◌, ◌++◌, length, Option, Some, None}
+use Rattle.atomic_table.specs.Table.{Me, Step}
+use Rattle.tagged_index.specs.Head.{head_of, index_of, after, last_tag}
+use Rattle.mark_core.specs.declared.which.Which.{Which}
+use Rattle.mark_core.specs.declared.which.Which.TheVariants.{Empty}
+use Rattle.mark_core.specs.Lists.{times, IsPart}
+use Rattle.mark_core.specs.Account.{look_of}
+use Rattle.mark_core.specs.World.{Setup}
+use Rattle.mark_core.specs.Event.{Kind, Event, Claim, Finish, Load, LoadLink, StoreLink, Pop, Push, Fail}
+use Rattle.mark_core.specs.Runs.{HasEachOnce}
+use Rattle.buffer_pool.specs.declared.seat_view.SeatView.{SeatView}
+use Rattle.buffer_pool.specs.Book.{Book, loaded, link_loaded, failed, popped, pushed, claimed, finished}
+use Rattle.buffer_pool.specs.Story.{Log, Did, deeds}
+use Rattle.buffer_pool.specs.working.Told.{IsSettled, noted}
+use Rattle.buffer_pool.specs.working.Table.{Reading, head_word, link_word, mark_word, free}
+
+-- the seat between two calls, with this log and this book and no slot out
+abbrev pub rested : {B : Type 0} → Me (Option B) SeatView → Log → Book → Me (Option B) SeatView
+rested m log b = (record (noted log (free m.0)) { book = b }, [])
+
+-- a buffer of this setup: it takes as many items, and its items are objects
+pub record IsOurs {B : Type 0} (r : Reading B) (e : Setup) (b : B) : Type 0 where
+  pub size : r.size b ≡ e.size
+  pub objects : (o : ℕ) → Contains (r.items b) o → o < e.objects
+
+-- the seat may exchange the head `old` for the buffer b of number i, whose slot is out and has it
+pub record CanPut
+    {B : Type 0} (r : Reading B) (q : Which) (m : Me (Option B) SeatView) (old new i : ℕ) (b : B) : Type 0 where
+  pub carried : m.1 ≡ (i, Some b) ∷ []
+  pub out : m.0.out ≡ suc i
+  pub share : 0 < m.0.book.account.share
+  pub settled : IsSettled m.0
+  pub held : 0 < times i m.0.book.account.held
+  pub last : (look_of m.0.book.account q).head ≡ Some (head_of old)
+  pub short : (head_of old).tag < last_tag
+  pub next : head_of new ≡ after (head_of old) (Some i)
+  pub leads : index_of m.0.out_link ≡ (head_of old).index
+  pub part : IsPart (r.items b) m.0.book.account.charge
+  pub bare : q ≡ Empty → r.items b ≡ []
+  pub size : r.size b ≡ m.0.book.setup.size
+  pub fits : length (r.items b) ≤ m.0.book.setup.size
+
+-- the seat did just this, which its log tells after it
+abbrev pub Tells : {B : Type 0} → Me (Option B) SeatView → List Kind → Me (Option B) SeatView → Type 0
+Tells m kinds after = Did m.0.log kinds after.0.log
+
+module _ {B : Type 0} where
+  -- a load of a head: the slot that was out goes home
+  abbrev pub head_seen : Step (Option B) → Me (Option B) SeatView → ℕ → Me (Option B) SeatView → Type 0
+  head_seen st m n after =
+      (q : Which) → st.word ≡ head_word q
+      → (after ≡ rested m after.0.log (loaded q (head_of n) m.0.book))
+      × ((i : ℕ) → (head_of n).index ≡ Some i → i < m.0.book.setup.buffers) × Tells m (Load q ∷ []) after
+
+  -- a load of the link of the last head's buffer
+  abbrev pub link_seen : Which → Step (Option B) → Me (Option B) SeatView → ℕ → Me (Option B) SeatView → Type 0
+  link_seen q st m n after =
+      (after ≡ rested m after.0.log (link_loaded q (index_of n) m.0.book)) × (n ≤ m.0.book.setup.buffers)
+      × Tells m (LoadLink q ∷ []) after
+
+  -- a store of the link of a held buffer: its slot comes out
+  abbrev pub link_stored : Step (Option B) → Me (Option B) SeatView → ℕ → Me (Option B) SeatView → Type 0
+  link_stored st m n after =
+      (i : ℕ) → st.word ≡ link_word i
+      → (after ≡ (record (noted after.0.log m.0) { out = suc i; out_link = n }, (i, None) ∷ []))
+      × Tells m (StoreLink i (index_of n) ∷ []) after
+
+  -- an exchange of a head for the link of its buffer i has won: the buffer comes out, and its slot has this value
+  pub record HasTaken
+      (r : Reading B) (q : Which) (i : ℕ) (value : Option B) (m after : Me (Option B) SeatView) (b : B) : Type 0 where
+    pub slots : after.1 ≡ (i, value) ∷ []
+    pub out : after.0.out ≡ suc i
+    pub book : after.0.book ≡ popped i (r.items b) m.0.book
+    pub ours : IsOurs r m.0.book.setup b
+    pub bare : q ≡ Empty → r.items b ≡ []
+    pub settled : IsSettled after.0
+    pub did : Tells m (Pop q ∷ []) after
+
+  -- an exchange of a head has failed, and the seat has no slot out
+  abbrev pub HasMissed : Which → Me (Option B) SeatView → Me (Option B) SeatView → Type 0
+  HasMissed q m after = (after ≡ rested m after.0.log (failed m.0.book)) × Tells m (Fail q ∷ []) after
+
+  -- an exchange of a head for its buffer's link: it pops, or it has failed
+  abbrev pub pop_tried : Reading B → Step (Option B) → Me (Option B) SeatView → ℕ → Me (Option B) SeatView → Type 0
+  pop_tried r st m n after =
+      (q : Which) → st.word ≡ head_word q
+      → (n ≡ st.first → (i : ℕ) → (head_of n).index ≡ Some i → (b : B) × HasTaken r q i (Some b) m after b)
+      × ((n ≡ st.first → ⊥) → HasMissed q m after)
+
+  -- an exchange of a head for the buffer i has won: its slot goes home with it
+  abbrev pub HasPushed : Which → ℕ → List ℕ → Me (Option B) SeatView → Me (Option B) SeatView → Type 0
+  HasPushed q i items m after =
+      (after ≡ rested m after.0.log (pushed q i items m.0.book)) × Tells m (Push q i items ∷ []) after
+
+  -- it has failed, and the slots that are out stay out
+  abbrev pub HasKept : Which → List (ℕ × Option B) → Me (Option B) SeatView → Me (Option B) SeatView → Type 0
+  HasKept q slots m after =
+      (after ≡ (record (noted after.0.log m.0) { book = failed m.0.book }, slots)) × Tells m (Fail q ∷ []) after
+
+  -- an exchange of a head for a held buffer: the slot goes home with it, or the exchange has failed
+  abbrev pub push_tried :
+      Reading B → Which → Step (Option B) → Me (Option B) SeatView → ℕ → Me (Option B) SeatView → Type 0
+  push_tried r q st m n after =
+      (n ≡ st.first → (i : ℕ) (b : B) → m.1 ≡ (i, Some b) ∷ [] → HasPushed q i (r.items b) m after)
+      × ((n ≡ st.first → ⊥) → HasKept q m.1 m after)
+
+  -- a claim
+  abbrev pub claim_made : Step (Option B) → Me (Option B) SeatView → ℕ → Me (Option B) SeatView → Type 0
+  claim_made st m n after =
+      (o : ℕ) → st.word ≡ mark_word m.0.book.setup o
+      → (after ≡ rested m after.0.log (claimed o n m.0.book)) × Tells m (Claim o ∷ []) after
+
+  -- a finish
+  abbrev pub finish_made : Step (Option B) → Me (Option B) SeatView → ℕ → Me (Option B) SeatView → Type 0
+  finish_made st m n after =
+      (o : ℕ) → st.word ≡ mark_word m.0.book.setup o
+      → (after ≡ rested m after.0.log (finished o m.0.book)) × ((p : ℕ) → times p after.0.book.account.finished ≤ 1)
+      × Tells m (Finish o ∷ []) after
+
+  -- the units of a split were noted
+  abbrev pub set_aside : Step (Option B) → Me (Option B) SeatView → ℕ → Me (Option B) SeatView → Type 0
+  set_aside st m n after = (after ≡ (record (noted after.0.log (free m.0)) { aside = st.first }, [])) × Tells m [] after
+
+  -- The slot that was out went home, and the account has each thing once. The log is up to date: it tells what was
+  -- noted, and goes on from the story that was taken in; and a worker that learns its number just now did nothing
+  pub record IsUpToDate (m after : Me (Option B) SeatView) : Type 0 where
+    pub same : after ≡ (noted after.0.log (free m.0), [])
+    pub each : HasEachOnce m.0.book.account
+    pub did : m.0.named ≡ true → Tells m m.0.unsaid after
+    pub knows : (more : List Event) × (after.0.log.story ≡ m.0.taken ++ more)
+    pub fresh : m.0.named ≡ false → deeds after.0.log.number after.0.log.story ≡ []
+
+  abbrev pub settled : Step (Option B) → Me (Option B) SeatView → ℕ → Me (Option B) SeatView → Type 0
+  settled st m n after = IsUpToDate m after

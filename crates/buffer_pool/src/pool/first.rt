@@ -1,0 +1,48 @@
+//! The words and the buffers that a pool begins with.
+ghost use Rattle.std.specs.Prelude.{◌≡◌, ℕ, ◌+◌, ◌<◌, ◌≤◌, All, IfOk, length};
+ghost use Rattle.buffer_pool.specs.working.Buffers.{buffer_reading};
+ghost use Rattle.buffer_pool.specs.working.Opening.{HasFirstWords, IsFirstSlot};
+
+use crate::buffer::Buffer;
+use crate::layout::{FIRST_LINK, head_word};
+use mark_core::Which;
+use std::alloc::{AllocError, Allocator};
+use tagged_index::HeadWord;
+
+/// The words of a pool that nobody has used: all buffers on the empty stack, with buffer 0 on top, and all marks 0.
+#[tactic(auto, using(crate::proofs::Starts::heads_alone, crate::proofs::Starts::link_laid))]
+pub(crate) fn first_words<A: Allocator>(
+    alloc: A,
+    objects: u32,
+    buffers: u32,
+    first_tag: u64,
+) -> Result<Vec<u64, A>, AllocError>
+    requires some { 0 < buffers }
+    requires tag { first_tag ≤ 281474976710655 }
+    ensures { IfOk result (λ w. HasFirstWords (32 + buffers + objects) first_tag buffers w.items) }
+{
+    let count = FIRST_LINK + buffers as usize + objects as usize;
+    let mut words = vec![in alloc; 0; count]?;
+    words[head_word(Which::Full)] = HeadWord::none(first_tag).word();
+    words[head_word(Which::Empty)] = HeadWord::of(0, first_tag).word();
+    for next in 1..buffers {
+        words[FIRST_LINK + next as usize - 1] = u64::from(next) + 1;
+    }
+    Ok(words)
+}
+
+/// For each buffer a slot with it, without items.
+pub(crate) fn first_buffers<A: Allocator + Clone>(
+    alloc: A,
+    buffers: u32,
+    size: u32,
+) -> Result<Vec<Option<Buffer<A>>, A>, AllocError>
+    requires { 0 < size }
+    ensures { IfOk result (λ s. (length s.items ≡ buffers) × All (IsFirstSlot buffer_reading size) s.items) }
+{
+    let mut slots = Vec::with_capacity(alloc.clone()?, buffers as usize)?;
+    while slots.len() < buffers as usize {
+        slots.push_reserved(Some(Buffer::new(alloc.clone()?, size)?));
+    }
+    Ok(slots)
+}

@@ -1,0 +1,92 @@
+//! Claims and finishes: the marks of objects.
+ghost use Rattle.std.specs.Prelude.{◌≡◌, ◌↔◌, ◌≤◌, ℕ, [], ◌∷◌, IsTrue};
+ghost use Rattle.mark_core.specs.Event.{CanClaim, CanFinish};
+ghost use Rattle.mark_core.specs.Event as events;
+ghost use Rattle.mark_core.specs.Lists.{times};
+ghost use Rattle.buffer_pool.specs.Book.{claimed, finished};
+ghost use Rattle.buffer_pool.specs.working.Laid.{IsLaid, IsSound};
+ghost use Rattle.buffer_pool.specs.working.Plays.{Tells, rested};
+ghost use Rattle.buffer_pool.specs.working.Setups.{setup_of};
+ghost use Rattle.buffer_pool.specs.Story.{Did};
+
+use crate::layout::FIRST_LINK;
+use crate::plays::{Claim, Finish};
+use crate::pool::Pool;
+use crate::rules::{Token, Words};
+use crate::worker::Worker;
+use std::alloc::Allocator;
+
+// The mark of a claimed object, and that of a finished one. A white object has mark 0.
+const CLAIMED: u64 = 1;
+
+const FINISHED: u64 = 2;
+
+/// Raises the mark of an object to claimed, and answers the mark found.
+fn raise_to_claimed<A: Allocator>(
+    words: &Words<A>,
+    seat: &mut Token<A>,
+    buffers: u32,
+    object: u32,
+) -> u64
+    requires table { (seat.old.table_id ≡ words.now.table_id) × IsLaid words.now.table_id (setup_of words.now.key)
+        × (buffers ≡ words.now.key.buffers) }
+    requires sound { IsSound seat.old.table_id seat.old.me }
+    requires can { CanClaim seat.old.me.0.book.setup object seat.old.me.0.book.account }
+    ensures same { seat.new.table_id ≡ seat.old.table_id }
+    ensures sound { IsSound seat.new.table_id seat.new.me }
+    ensures told { seat.new.me ≡ rested seat.old.me seat.new.me.0.log (claimed object result seat.old.me.0.book) }
+    ensures did { Tells seat.old.me (events.Claim object ∷ []) seat.new.me }
+{
+    words.fetch_max::<Claim>(
+        seat,
+        FIRST_LINK + buffers as usize + object as usize,
+        CLAIMED,
+    )
+}
+
+/// Raises the mark of an object to finished.
+fn raise_to_finished<A: Allocator>(words: &Words<A>, seat: &mut Token<A>, buffers: u32, object: u32)
+    requires table { (seat.old.table_id ≡ words.now.table_id) × IsLaid words.now.table_id (setup_of words.now.key)
+        × (buffers ≡ words.now.key.buffers) }
+    requires sound { IsSound seat.old.table_id seat.old.me }
+    requires can { CanFinish seat.old.me.0.book.setup object seat.old.me.0.book.account }
+    ensures same { seat.new.table_id ≡ seat.old.table_id }
+    ensures sound { IsSound seat.new.table_id seat.new.me }
+    ensures told { seat.new.me ≡ rested seat.old.me seat.new.me.0.log (finished object seat.old.me.0.book) }
+    ensures did { Tells seat.old.me (events.Finish object ∷ []) seat.new.me }
+    ensures once { (o : ℕ) → times o seat.new.me.0.book.account.finished ≤ 1 }
+{
+    words.fetch_max::<Finish>(
+        seat,
+        FIRST_LINK + buffers as usize + object as usize,
+        FINISHED,
+    );
+}
+
+impl<A: Allocator> Pool<A> {
+    /// Claims an object: true exactly where it was white. Then the worker answers for it. One atomic step;
+    /// waits for nobody.
+    pub fn claim(&self, worker: &mut Worker<A>, object: u32) -> bool
+        requires pool { worker.old.pool ≡ self.now }
+        requires can { CanClaim worker.old.book.setup object worker.old.book.account }
+        ensures pool { worker.new.pool ≡ worker.old.pool }
+        ensures event { (found : ℕ) × (worker.new.book ≡ claimed object found worker.old.book)
+            × (IsTrue result ↔ (found ≡ 0)) }
+        ensures did { Did worker.old.log (events.Claim object ∷ []) worker.new.log }
+    {
+        raise_to_claimed(&self.table.shared, &mut worker.seat, self.buffers, object) == 0
+    }
+
+    /// Finishes an object that the worker answers for and of which it has seen each successor marked. One
+    /// atomic step; waits for nobody.
+    pub fn finish(&self, worker: &mut Worker<A>, object: u32)
+        requires pool { worker.old.pool ≡ self.now }
+        requires can { CanFinish worker.old.book.setup object worker.old.book.account }
+        ensures pool { worker.new.pool ≡ worker.old.pool }
+        ensures event { worker.new.book ≡ finished object worker.old.book }
+        ensures did { Did worker.old.log (events.Finish object ∷ []) worker.new.log }
+        ensures once { (o : ℕ) → times o worker.new.book.account.finished ≤ 1 }
+    {
+        raise_to_finished(&self.table.shared, &mut worker.seat, self.buffers, object);
+    }
+}

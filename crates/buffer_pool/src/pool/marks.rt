@@ -1,0 +1,101 @@
+//! The marks of a pool that is closed.
+ghost use Rattle.std.specs.Prelude.{◌≡◌, ◌↔◌, ℕ, ◌+◌, ◌<◌, ◌≤◌, [], length, slice_index, IsTrue};
+ghost use Rattle.mark_core.specs.Shares.{whole};
+ghost use Rattle.std.specs.Slots.{IsFull, slots_filled, slots_len};
+ghost use Rattle.buffer_pool.specs.Closing.{Ends, IsEmptied};
+ghost use Rattle.buffer_pool.specs.Story.{EndsStory};
+
+use crate::buffer::Buffer;
+use crate::layout::FIRST_LINK;
+use crate::pool::Pool;
+use crate::worker::Worker;
+use atomic_table::Closed;
+use std::alloc::Allocator;
+use std::marker::Model;
+
+/// Which objects were claimed and which were finished. No worker steps any more.
+pub struct Marks<A: Allocator> {
+    closed: Closed<Option<Buffer<A>>, A>,
+    first_mark: usize,
+}
+
+impl<A: Allocator> Model for Marks<A> {
+    ghost use Rattle.std.specs.Prelude.{ℕ, List, drop};
+    ghost use Rattle.std.specs.Slots.{IsFull, slots_filled, slots_items, slots_len};
+    ghost use Rattle.buffer_pool.specs.Closing.{IsEmptied};
+
+    ghost Value = { List ℕ };
+
+    ghost view = { λ m. drop m.first_mark (slots_items m.closed.words) };
+
+    ghost invariant = { λ m. IsFull m.closed.words
+        × IsEmptied (slots_len m.closed.slots) (slots_filled m.closed.slots) };
+}
+
+// Drops each buffer.
+fn empty_slots<A: Allocator>(closed: &mut Closed<Option<Buffer<A>>, A>)
+    requires full { IsFull closed.old.slots }
+    ensures words { closed.new.words ≡ closed.old.words }
+    ensures empty { IsEmptied (slots_len closed.new.slots) (slots_filled closed.new.slots) }
+{
+    for slot in 0..closed.slot_count() {
+        drop(closed.take(slot));
+    }
+}
+
+impl<A: Allocator> Marks<A> {
+    #[tactic(auto, using(crate::proofs::Closes::mark_there))]
+    fn mark(&self, object: u32) -> u64
+        requires { object < length self.now }
+        ensures { result ≡ slice_index self.now object }
+    {
+        self.closed.word(self.first_mark + object as usize)
+    }
+
+    /// Whether an object was claimed. A finished object was claimed, too.
+    pub fn is_claimed(&self, object: u32) -> bool
+        requires { object < length self.now }
+        ensures { IsTrue result ↔ (1 ≤ slice_index self.now object) }
+    {
+        self.mark(object) >= 1
+    }
+
+    /// Whether an object was finished.
+    pub fn is_finished(&self, object: u32) -> bool
+        requires { object < length self.now }
+        ensures { IsTrue result ↔ (slice_index self.now object ≡ 2) }
+    {
+        self.mark(object) == 2
+    }
+}
+
+impl<A: Allocator> Drop for Marks<A> {
+    fn drop(self) {
+        let Self {
+            closed,
+            first_mark: _,
+        } = self;
+        closed.free();
+    }
+}
+
+impl<A: Allocator> Pool<A> {
+    /// Ends the marking. The worker has the whole share, no buffer and no charge, so no other worker has
+    /// anything. The buffers are given back.
+    pub fn close(self, worker: Worker<A>) -> Marks<A>
+        requires pool { worker.pool ≡ self }
+        requires share { worker.book.account.share ≡ whole }
+        requires held { worker.book.account.held ≡ [] }
+        requires charge { worker.book.account.charge ≡ [] }
+        ensures { (ends : Ends worker.book result) × EndsStory worker.log ends.events }
+    {
+        let Pool { table, buffers } = self;
+        let Worker { seat } = worker;
+        let mut closed = table.close_with(seat);
+        empty_slots(&mut closed);
+        Marks {
+            closed,
+            first_mark: FIRST_LINK + buffers as usize,
+        }
+    }
+}

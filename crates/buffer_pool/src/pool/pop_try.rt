@@ -1,0 +1,46 @@
+//! A try of a pop, over its steps.
+ghost use Rattle.std.specs.Prelude.{◌≡◌};
+ghost use Rattle.buffer_pool.specs.Calls.{Pops};
+ghost use Rattle.buffer_pool.specs.working.Laid.{IsLaid, IsSound};
+ghost use Rattle.buffer_pool.specs.working.Setups.{setup_of};
+ghost use Rattle.buffer_pool.specs.Steps.{pop_steps};
+ghost use Rattle.buffer_pool.specs.Story.{Did};
+
+use crate::answers::TryPopped;
+use crate::held::Held;
+use crate::pool::steps::{load_head, load_link, take_top};
+use crate::rules::{Token, Words};
+use mark_core::Which;
+use std::alloc::Allocator;
+use tagged_index::LAST_TAG;
+
+/// Loads the head and its link, and exchanges the head for the link. The tag is tested first: a head with the last tag
+/// is exchanged no more, so its link serves nothing, and such a try has the same one event as a push has there.
+pub(crate) fn pop_from<A: Allocator>(
+    words: &Words<A>,
+    seat: &mut Token<A>,
+    which: Which,
+) -> TryPopped<Held<A>>
+    requires table { (seat.old.table_id ≡ words.now.table_id) × IsLaid words.now.table_id (setup_of words.now.key) }
+    requires sound { IsSound seat.old.table_id seat.old.me }
+    ensures same { seat.new.table_id ≡ seat.old.table_id }
+    ensures sound { IsSound seat.new.table_id seat.new.me }
+    ensures pops { Pops which seat.old.me.0.book seat.new.me.0.book result }
+    ensures did { Did seat.old.me.0.log (pop_steps which result) seat.new.me.0.log }
+{
+    let head = load_head(words, seat, which);
+    let Some(index) = head.index() else {
+        return TryPopped::Empty;
+    };
+    if head.tag() == LAST_TAG {
+        return TryPopped::Spent;
+    }
+    let link = load_link(words, seat, which, index);
+    let Some(next) = head.next(link) else {
+        unreachable!()
+    };
+    match take_top(words, seat, which, head, next, index) {
+        Some(buffer) => TryPopped::Took(Held { index, buffer }),
+        None => TryPopped::Lost,
+    }
+}

@@ -1,0 +1,41 @@
+//! A try of a push, over its steps.
+ghost use Rattle.std.specs.Prelude.{◌≡◌, ℕ, Option};
+ghost use Rattle.buffer_pool.specs.Calls.{MayPush, Pushes};
+ghost use Rattle.buffer_pool.specs.working.Laid.{IsLaid, IsSound};
+ghost use Rattle.buffer_pool.specs.working.Setups.{setup_of};
+ghost use Rattle.buffer_pool.specs.Steps.{push_steps};
+ghost use Rattle.buffer_pool.specs.Story.{Did};
+
+use crate::answers::TryPushed;
+use crate::held::Held;
+use crate::pool::steps::{load_head, put_top, store_link};
+use crate::rules::{Token, Words};
+use mark_core::Which;
+use std::alloc::Allocator;
+
+/// Loads the head, stores it as the buffer's link, and exchanges it for the buffer.
+pub(crate) fn push_to<A: Allocator>(
+    words: &Words<A>,
+    seat: &mut Token<A>,
+    which: Which,
+    held: Held<A>,
+) -> TryPushed<Held<A>>
+    requires table { (seat.old.table_id ≡ words.now.table_id) × IsLaid words.now.table_id (setup_of words.now.key) }
+    requires sound { IsSound seat.old.table_id seat.old.me }
+    requires may { MayPush which held seat.old.me.0.book }
+    ensures same { seat.new.table_id ≡ seat.old.table_id }
+    ensures sound { IsSound seat.new.table_id seat.new.me }
+    ensures pushes { Pushes which held seat.old.me.0.book seat.new.me.0.book result }
+    ensures did { (link : Option ℕ) × Did seat.old.me.0.log (push_steps which held link result) seat.new.me.0.log }
+{
+    let index = held.index;
+    let head = load_head(words, seat, which);
+    let Some(next) = head.next(Some(index)) else {
+        return TryPushed::Spent(held);
+    };
+    store_link(words, seat, head, index);
+    match put_top(words, seat, which, head, next, held) {
+        Ok(()) => TryPushed::Done,
+        Err(held) => TryPushed::Lost(held),
+    }
+}

@@ -1,0 +1,84 @@
+//! How a worker's share is cut in two, and how two workers become one.
+ghost use Rattle.std.specs.Prelude.{◌≡◌, ℕ, ◌<◌, ◌≤◌, List, [], ◌∷◌, ◌++◌};
+ghost use Rattle.mark_core.specs.Event.{Event, Split, Join};
+ghost use Rattle.mark_core.specs.Lists.{times};
+ghost use Rattle.mark_core.specs.Runs.{AreApart};
+ghost use Rattle.buffer_pool.specs.Book.{joined, new_book, parted};
+ghost use Rattle.buffer_pool.specs.working.Laid.{IsSound};
+ghost use Rattle.buffer_pool.specs.Story.{Did, IsNewcomer};
+
+use crate::plays::{SetAside, Settle};
+use crate::pool::Pool;
+use crate::rules::{GivePart, TakeIn, Token, Words};
+use crate::worker::Worker;
+use std::alloc::Allocator;
+
+// A view changes only at a step on a word, and a split sees only the view: so the units are noted first, by
+// an exchange that changes nothing. Nor does it see what happened in the table: so each of the two tells the
+// split by a load of its own.
+fn give_part<A: Allocator>(words: &Words<A>, seat: &mut Token<A>, units: u64) -> Token<A>
+    requires table { seat.old.table_id ≡ words.now.table_id }
+    requires sound { IsSound seat.old.table_id seat.old.me }
+    requires units { (0 < units) × (units < seat.old.me.0.book.account.share) }
+    ensures same { (seat.new.table_id ≡ seat.old.table_id) × (result.table_id ≡ seat.old.table_id) }
+    ensures kept { IsSound seat.new.table_id seat.new.me × (seat.new.me.0.book ≡ parted units seat.old.me.0.book) }
+    ensures given { IsSound result.table_id result.me × (result.me.0.book ≡ new_book seat.old.me.0.book.setup units) }
+    ensures did { Did seat.old.me.0.log (Split units ∷ []) seat.new.me.0.log }
+    ensures new { IsNewcomer seat.old.me.0.log result.me.0.log }
+{
+    words.compare_exchange::<SetAside>(seat, 0, units, units);
+    let mut other = words.split_seat::<GivePart>(seat);
+    words.load::<Settle>(seat, 0);
+    words.load::<Settle>(&mut other, 0);
+    other
+}
+
+// The second seat's slot goes home before it is given up, and the last load tells that the two had nothing in common.
+fn take_in<A: Allocator>(words: &Words<A>, seat: &mut Token<A>, mut other: Token<A>)
+    requires table { (seat.old.table_id ≡ words.now.table_id) × (other.table_id ≡ words.now.table_id) }
+    requires sound { IsSound seat.old.table_id seat.old.me × IsSound other.table_id other.me }
+    ensures same { seat.new.table_id ≡ seat.old.table_id }
+    ensures joined { IsSound seat.new.table_id seat.new.me
+        × (seat.new.me.0.book ≡ joined seat.old.me.0.book other.me.0.book) }
+    ensures apart { AreApart seat.old.me.0.book.account other.me.0.book.account }
+    ensures once { (o : ℕ) → times o seat.new.me.0.book.account.finished ≤ 1 }
+    ensures did { Did seat.old.me.0.log (Join other.me.0.log.number ∷ []) seat.new.me.0.log }
+    ensures knows { (more : List Event) × (seat.new.me.0.log.story ≡ other.me.0.log.story ++ more) }
+{
+    words.load::<Settle>(&mut other, 0);
+    words.join_seat::<TakeIn>(seat, other);
+    words.load::<Settle>(seat, 0);
+}
+
+impl<A: Allocator> Pool<A> {
+    /// Gives units of a worker's share to a new worker, which has no buffer and answers for no object. The
+    /// first keeps all else.
+    pub fn split(&self, worker: Worker<A>, units: u32) -> (Worker<A>, Worker<A>)
+        requires pool { worker.pool ≡ self.now }
+        requires units { (0 < units) × (units < worker.book.account.share) }
+        ensures first { result.0 ≡ record worker { book = parted units worker.book; log = result.0.log } }
+        ensures second { result.1 ≡ record worker { book = new_book worker.book.setup units; log = result.1.log } }
+        ensures did { Did worker.log (Split units ∷ []) result.0.log }
+        ensures new { IsNewcomer worker.log result.1.log }
+    {
+        let Worker { mut seat } = worker;
+        let other = give_part(&self.table.shared, &mut seat, u64::from(units));
+        (Worker { seat }, Worker { seat: other })
+    }
+
+    /// Puts two workers together: shares and counts are added, and so are buffers, charges, objects seen and
+    /// objects finished. What the first loaded of the stacks stays. They had nothing in common.
+    pub fn join(&self, worker: Worker<A>, other: Worker<A>) -> Worker<A>
+        requires pool { (worker.pool ≡ self.now) × (other.pool ≡ self.now) }
+        ensures together { result ≡ record worker { book = joined worker.book other.book; log = result.log } }
+        ensures apart { AreApart worker.book.account other.book.account }
+        ensures once { (o : ℕ) → times o result.book.account.finished ≤ 1 }
+        ensures did { Did worker.log (Join other.log.number ∷ []) result.log }
+        ensures knows { (more : List Event) × (result.log.story ≡ other.log.story ++ more) }
+    {
+        let Worker { mut seat } = worker;
+        let Worker { seat: other } = other;
+        take_in(&self.table.shared, &mut seat, other);
+        Worker { seat }
+    }
+}

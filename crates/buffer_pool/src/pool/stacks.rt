@@ -1,0 +1,112 @@
+//! The two stacks, as workers use them.
+ghost use Rattle.std.specs.Prelude.{◌≡◌, ℕ, List, [], ◌∷◌, ◌++◌, Option, MatchResult};
+ghost use Rattle.mark_core.specs.Event.{Load};
+ghost use Rattle.buffer_pool.specs.Calls.{LostPops, LostPushes, MayPush, Pops, PopsAtLast, Pushes, PushesAtLast, Sees};
+ghost use Rattle.buffer_pool.specs.Steps.{last_pop, last_push, lost_pops, lost_pushes, pop_steps, push_steps};
+ghost use Rattle.buffer_pool.specs.Story.{Did};
+ghost use Rattle.buffer_pool.specs.declared.answers.TryPushed.TheVariants as try_push;
+
+use crate::answers::{Popped, TryPopped, TryPushed};
+use crate::held::Held;
+use crate::pool::Pool;
+use crate::pool::pop_try::pop_from;
+use crate::pool::push_try::push_to;
+use crate::pool::steps::load_head;
+use crate::worker::Worker;
+use crossbeam_utils::Backoff;
+use mark_core::Which;
+use std::alloc::Allocator;
+use std::sync::Wait;
+
+impl<A: Allocator> Pool<A> {
+    /// True exactly where the head that it loads has no buffer. One atomic step; waits for nobody.
+    pub fn sees_empty(&self, worker: &mut Worker<A>, which: Which) -> bool
+        requires { worker.old.pool ≡ self.now }
+        ensures pool { worker.new.pool ≡ worker.old.pool }
+        ensures sees { Sees which worker.old.book worker.new.book result }
+        ensures did { Did worker.old.log (Load which ∷ []) worker.new.log }
+    {
+        load_head(&self.table.shared, &mut worker.seat, which)
+            .index()
+            .is_none()
+    }
+
+    /// Tries once to take the buffer on top of a stack. Waits for nobody and takes no memory. An empty stack answers
+    /// `Empty` also at the last tag.
+    pub fn try_pop(&self, worker: &mut Worker<A>, which: Which) -> TryPopped<Held<A>>
+        requires { worker.old.pool ≡ self.now }
+        ensures pool { worker.new.pool ≡ worker.old.pool }
+        ensures pops { Pops which worker.old.book worker.new.book result }
+        ensures did { Did worker.old.log (pop_steps which result) worker.new.log }
+    {
+        pop_from(&self.table.shared, &mut worker.seat, which)
+    }
+
+    /// Tries once to put a held buffer on a stack. Waits for nobody and takes no memory. Its items have to be
+    /// part of what the worker answers for; on the empty stack it has none.
+    pub fn try_push(
+        &self,
+        worker: &mut Worker<A>,
+        which: Which,
+        held: Held<A>,
+    ) -> TryPushed<Held<A>>
+        requires pool { worker.old.pool ≡ self.now }
+        requires may { MayPush which held worker.old.book }
+        ensures pool { worker.new.pool ≡ worker.old.pool }
+        ensures pushes { Pushes which held worker.old.book worker.new.book result }
+        ensures did { (link : Option ℕ) × Did worker.old.log (push_steps which held link result) worker.new.log }
+    {
+        push_to(&self.table.shared, &mut worker.seat, which, held)
+    }
+
+    /// Tries to take the buffer on top of a stack until a try is not lost.
+    pub fn pop<R: Wait>(&self, rt: &R, worker: &mut Worker<A>, which: Which) -> Popped<Held<A>>
+        requires { worker.old.pool ≡ self.now }
+        ensures pool { worker.new.pool ≡ worker.old.pool }
+        ensures pops { PopsAtLast which worker.old.book worker.new.book result }
+        ensures did { (lost : ℕ) × Did worker.old.log (lost_pops which lost ++ last_pop which result) worker.new.log }
+    {
+        let backoff = Backoff::new();
+        for _ in rt.forever() {
+            match self.try_pop(worker, which) {
+                TryPopped::Took(held) => return Popped::Took(held),
+                TryPopped::Empty => return Popped::Empty,
+                TryPopped::Spent => return Popped::Spent,
+                TryPopped::Lost => backoff.spin(),
+            }
+        }
+        unreachable!()
+    }
+
+    /// Tries to put a held buffer on a stack until a try is not lost. The buffer comes back where the stack's
+    /// last tag was loaded.
+    pub fn push<R: Wait>(
+        &self,
+        rt: &R,
+        worker: &mut Worker<A>,
+        which: Which,
+        held: Held<A>,
+    ) -> Result<(), Held<A>>
+        requires pool { worker.old.pool ≡ self.now }
+        requires may { MayPush which held worker.old.book }
+        ensures pool { worker.new.pool ≡ worker.old.pool }
+        ensures pushes { MatchResult result (λ _. PushesAtLast which held worker.old.book worker.new.book try_push.Done)
+            (λ back. PushesAtLast which held worker.old.book worker.new.book (try_push.Spent back)) }
+        ensures did { (links : List (Option ℕ)) × (link : Option ℕ)
+            × Did worker.old.log (lost_pushes which held links ++ last_push which held link result) worker.new.log }
+    {
+        let backoff = Backoff::new();
+        let mut held = held;
+        for _ in rt.forever() {
+            match self.try_push(worker, which, held) {
+                TryPushed::Done => return Ok(()),
+                TryPushed::Spent(back) => return Err(back),
+                TryPushed::Lost(back) => {
+                    held = back;
+                    backoff.spin();
+                }
+            }
+        }
+        unreachable!()
+    }
+}

@@ -1,0 +1,35 @@
+//! What a worker knows of its pool between two steps.
+ghost use Rattle.std.specs.Borrow.{ftrue};
+ghost use Rattle.std.specs.Prelude.{ℕ, Bool, List};
+ghost use Rattle.std.specs.Coded.{coded_bool, coded_list, coded_ℕ};
+ghost use Rattle.mark_core.specs.Event.{Event, Kind};
+ghost use Rattle.buffer_pool.specs.Book.{Book};
+ghost use Rattle.buffer_pool.specs.working.Codes.{book_code, event_code, kind_code, log_code};
+ghost use Rattle.buffer_pool.specs.Story.{Log};
+
+use std::marker::{Model, PhantomData};
+
+/// The view of a seat at the pool's table. It has no bytes.
+pub struct SeatView {
+    marker: PhantomData<()>,
+    /// The worker's account, with its counts.
+    pub ghost book: { Book } by { book_code },
+    /// What all workers did up to its last step.
+    pub ghost log: { Log } by { log_code },
+    /// What it did since: a split or a join.
+    pub ghost unsaid: { List Kind } by { coded_list kind_code },
+    /// The story of a worker that it came from, or that it took in.
+    pub ghost taken: { List Event } by { coded_list event_code },
+    /// Whether the log has its number, as from its first step on.
+    pub ghost named: { Bool } by { coded_bool },
+    /// The units that it is about to give away.
+    pub ghost aside: { ℕ } by { coded_ℕ },
+    /// One more than the held buffer whose slot is out with the seat, 0 where none is.
+    pub ghost out: { ℕ } by { coded_ℕ },
+    /// The link word of that buffer.
+    pub ghost out_link: { ℕ } by { coded_ℕ },
+}
+
+impl Model for SeatView {
+    ghost also_owns = { λ _. ftrue };
+}
