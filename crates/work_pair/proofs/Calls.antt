@@ -3,10 +3,10 @@ use Rattle.std.proofs.Common.{◌≡◌, ◌≢◌, ◌⊎◌, ℕ, ◌<◌, ◌
 use Rattle.mark_core.specs.declared.which.Which.TheVariants.{Empty}
 use Rattle.mark_core.specs.Lists.{times}
 use Rattle.buffer_pool.specs.Book.{Book}
-use Rattle.buffer_pool.specs.Calls.{Load}
+use Rattle.buffer_pool.specs.Calls.{HeldBuffer}
 use Rattle.work_pair.specs.Deals.{HasMore}
 use Rattle.work_pair.specs.Moves.{HasPushOnFull, WasSeenEmpty}
-use Rattle.work_pair.specs.Places.{items_at, number_at, items_of, IsOfSize, AreOfSize, AreAlike, IsBacked}
+use Rattle.work_pair.specs.Places.{items_at, number_at, items_of, HasRoom, HasRoomAt, IsOfSize, AreOfSize, AreAlike, IsBacked}
 use Rattle.work_pair.specs.declared.stop.Stop.{Stop}
 use Rattle.work_pair.specs.declared.stop.Stop.TheVariants.{TagSpent, NoBuffer}
 use Rattle.work_pair.specs.working.Steps.{Ends, Halts, PublishTells, PublishesAt, Renews, RenewTells, Trades, places}
@@ -14,19 +14,23 @@ use Rattle.work_pair.proofs.Effects.{moves_effect}
 use Rattle.work_pair.proofs.Locals.{put_first, swapped}
 use Rattle.work_pair.proofs.Trading.{backed_after, end_on, first_renewed, items_sum, numbers_sum, on_and_on, second_renewed, sized_after, still}
 
+-- both buffers were full
+pub full_told : (f s t x : Option HeldBuffer) → x ≡ s → (HasRoomAt f → ⊥) → (HasRoomAt x → ⊥) → {P : Type 0} → HasRoom (places f s t) → P
+full_told f s t x is no_first no_second room = absurd (⊎_elim no_first (λ r. no_second (subst HasRoomAt (sym is) r)) room)
+
 some_items : (xs : List ℕ) → 0 < length xs → xs ≢ []
 some_items xs some none = omega (arith, some, ap length none)
 
-module _ (f s t : Option Load) (b : Book) (vacant : t ≡ None) (sized : AreOfSize b.setup.size (places f s t)) where
+module _ (f s t : Option HeldBuffer) (b : Book) (vacant : t ≡ None) (sized : AreOfSize b.setup.size (places f s t)) where
   -- both buffers were full, and changed places; then the first was renewed
-  module _ (p y : Option Load) (p_is : p ≡ s) (y_is : y ≡ f) (n third : Option Load) (c : Book) where
+  module _ (p y : Option HeldBuffer) (p_is : p ≡ s) (y_is : y ≡ f) (n third : Option HeldBuffer) (c : Book) where
     abbrev pub turned : Trades (places f s t) b [] [] (places p y t) b
     turned = still (places f s t) b [] [] (places p y t) (swapped f s t p y p_is y_is) sized
 
     abbrev renewed_then : Renews b.setup.size p b n third c → Trades (places f s t) b [] [] (places n y third) c
     renewed_then r = on_and_on (places f s t) b (places p y t) b [] [] (places n y third) c turned (first_renewed p y t n third b c vacant r (subst (IsOfSize b.setup.size) (sym y_is) sized.first))
 
-    pub put_third : (h : Load) (o : ℕ) (g : Option Load) → Renews b.setup.size p b n third c → n ≡ Some h → g ≡ Some (record h { items = h.items ++ o ∷ [] }) → Trades (places f s t) b (o ∷ []) [] (places g y third) c
+    pub put_third : (h : HeldBuffer) (o : ℕ) (g : Option HeldBuffer) → Renews b.setup.size p b n third c → n ≡ Some h → g ≡ Some (record h { items = h.items ++ o ∷ [] }) → Trades (places f s t) b (o ∷ []) [] (places g y third) c
     put_third h o g r n_is g_is =
         let so_far = renewed_then r in
         let last = still (places n y third) c (o ∷ []) [] (places g y third) (put_first n y third h o g n_is g_is) (sized_after (places f s t) b [] [] (places n y third) c so_far) in
@@ -36,15 +40,15 @@ module _ (f s t : Option Load) (b : Book) (vacant : t ≡ None) (sized : AreOfSi
     put_refused told =
         let alike : AreAlike (places f s t) (places n y third) =
         record {
-          items = λ o. omega (arith, items_sum o (places f s t), items_sum o (places n y third), ap (λ (q : Option Load). times o (items_at q)) (told.2 ∙ p_is), ap (λ (q : Option Load). times o (items_at q)) y_is, ap (λ (q : Option Load). times o (items_at q)) (told.1 ∙ sym vacant));
-          buffers = λ i. omega (arith, numbers_sum i (places f s t), numbers_sum i (places n y third), ap (λ (q : Option Load). times i (number_at q)) (told.2 ∙ p_is), ap (λ (q : Option Load). times i (number_at q)) y_is, ap (λ (q : Option Load). times i (number_at q)) (told.1 ∙ sym vacant));
+          items = λ o. omega (arith, items_sum o (places f s t), items_sum o (places n y third), ap (λ (q : Option HeldBuffer). times o (items_at q)) (told.2 ∙ p_is), ap (λ (q : Option HeldBuffer). times o (items_at q)) y_is, ap (λ (q : Option HeldBuffer). times o (items_at q)) (told.1 ∙ sym vacant));
+          buffers = λ i. omega (arith, numbers_sum i (places f s t), numbers_sum i (places n y third), ap (λ (q : Option HeldBuffer). times i (number_at q)) (told.2 ∙ p_is), ap (λ (q : Option HeldBuffer). times i (number_at q)) y_is, ap (λ (q : Option HeldBuffer). times i (number_at q)) (told.1 ∙ sym vacant));
         } in (renewed_then told.0, told.1, told.3, alike)
 
     pub put_stopped : (stop : Stop) → RenewTells b.setup.size p b n third c (Err stop) → Halts (places f s t) b (places n y third) c stop
     put_stopped TagSpent told = (renewed_then told.0, told.1)
     put_stopped NoBuffer none = absurd none
 
-  module _ (n third : Option Load) (c : Book) where
+  module _ (n third : Option HeldBuffer) (c : Book) where
     pub second_stopped : (stop : Stop) → RenewTells b.setup.size s b n third c (Err stop) → Ends (places f s t) b (places f n third) c stop
     second_stopped TagSpent told = (second_renewed f s t n third b c vacant told.0 sized.first, told.1)
     second_stopped NoBuffer none = absurd none
@@ -76,11 +80,25 @@ module _ (f s t : Option Load) (b : Book) (vacant : t ≡ None) (sized : AreOfSi
       empty [] h = refl
       empty (x ∷ xs) h = absurd (omega (arith, h))
 
+none_first : (xs ys : List ℕ) → xs ++ ys ≡ [] → xs ≡ []
+none_first [] ys none = refl
+none_first (x ∷ xs) ys none = absurd (omega (arith, ap length none))
+
+none_last : (xs ys : List ℕ) → xs ++ ys ≡ [] → ys ≡ []
+none_last [] ys none = none
+none_last (x ∷ xs) ys none = absurd (omega (arith, ap length none))
+
+-- a pair without items has none at its first place, and none at its second
+pub none_at : (f s t : Option HeldBuffer) → items_of (places f s t) ≡ [] → (items_at f ≡ []) × (items_at s ≡ [])
+none_at f s t none =
+    let both = none_first (items_at f ++ items_at s) (items_at t) none in
+    (none_first (items_at f) (items_at s) both, none_last (items_at f) (items_at s) both)
+
 none_of : (xs ys zs : List ℕ) → xs ≡ [] → ys ≡ [] → zs ≡ [] → xs ++ ys ++ zs ≡ []
 none_of xs ys zs x y z = ap (λ (l : List ℕ). l ++ ys ++ zs) x ∙ ap (λ (l : List ℕ). l ++ zs) y ∙ z
 
 -- the first buffer was published, and then the second
-module _ (f s t n third : Option Load) (b c : Book) (vacant : t ≡ None) (sized : AreOfSize b.setup.size (places f s t)) where
+module _ (f s t n third : Option HeldBuffer) (b c : Book) (vacant : t ≡ None) (sized : AreOfSize b.setup.size (places f s t)) where
   pub publish_stopped : (stop : Stop) → PublishesAt b.setup.size f b n third c (Err stop) → Ends (places f s t) b (places n s third) c stop
   publish_stopped TagSpent told = (first_renewed f s t n third b c vacant told.0 sized.second, told.1)
   publish_stopped NoBuffer none = absurd none
@@ -95,7 +113,7 @@ module _ (f s t n third : Option Load) (b c : Book) (vacant : t ≡ None) (sized
     now_sized : AreOfSize c.setup.size (places n s third)
     now_sized = sized_after (places f s t) b [] [] (places n s third) c first_published
 
-    pub both_published : (m last : Option Load) (d : Book) (r : Result Unit Stop) → PublishesAt c.setup.size s c m last d r → PublishTells (places f s t) b (places n m last) d r
+    pub both_published : (m last : Option HeldBuffer) (d : Book) (r : Result Unit Stop) → PublishesAt c.setup.size s c m last d r → PublishTells (places f s t) b (places n m last) d r
     both_published m last d (Ok again) second =
         let t₂ = second_renewed n s third m last c d first.1 second.0 now_sized.first in
         let all = on_and_on (places f s t) b (places n s third) c [] [] (places n m last) d first_published t₂ in

@@ -1,7 +1,7 @@
 -- What it tells that all buffers of a pair were given back.
 use Rattle.std.proofs.Common.{◌≡◌, ℕ, List, [], ◌∷◌, ◌++◌, Option, None, Result, Ok, Err, refl, sym, subst, ⊎_elim}
 use Rattle.buffer_pool.specs.Book.{Book}
-use Rattle.buffer_pool.specs.Calls.{Load}
+use Rattle.buffer_pool.specs.Calls.{HeldBuffer}
 use Rattle.work_pair.specs.Moves.{HasPushOnFull, EndAtLastTag}
 use Rattle.work_pair.specs.Places.{Places, items_at, items_of, AreOfSize, IsBacked}
 use Rattle.work_pair.specs.declared.stop.Stop.{Stop}
@@ -19,7 +19,7 @@ right_empty : (xs ys : List ℕ) → xs ++ ys ≡ [] → ys ≡ []
 right_empty [] ys e = e
 right_empty (x ∷ xs) ys e = cc
 
-module _ (f s t : Option Load) (none : items_of (places f s t) ≡ []) where
+module _ (f s t : Option HeldBuffer) (none : items_of (places f s t) ≡ []) where
   none_first : items_at f ≡ []
   none_first = left_empty (items_at f) (items_at s) (left_empty (items_at f ++ items_at s) (items_at t) none)
 
@@ -41,9 +41,9 @@ stops_on : (p : Places) (b : Book) (q : Places) (c : Book) (r : Places) (d : Boo
 unfolding clears_on
 stops_on p b q c r d first t quiet ends = (clears_on p b q c r d first t (λ none. quiet), end_on first.trades.moves t.moves ends)
 
-module _ (f s t : Option Load) (b : Book) (sized : AreOfSize b.setup.size (places f s t)) where
+module _ (f s t : Option HeldBuffer) (b : Book) (sized : AreOfSize b.setup.size (places f s t)) where
   -- after the first buffer, and after the second
-  pub first_cleared : (c : Book) (n : Option Load) (done : Unit) → ClearsAt f b n c (Ok done) → Clears (places f s t) b (places None s t) c
+  pub first_cleared : (c : Book) (n : Option HeldBuffer) (done : Unit) → ClearsAt f b n c (Ok done) → Clears (places f s t) b (places None s t) c
   first_cleared c n done told =
       let r = cleared b.setup.size f b c told.1 in
       record { trades = at_first f s t None b c r.0 sized; quiet = λ none push. r.1 (none_first f s t none) push }
@@ -51,28 +51,28 @@ module _ (f s t : Option Load) (b : Book) (sized : AreOfSize b.setup.size (place
   pub backed_then : (c : Book) (q : Places) → IsBacked (places f s t) [] b → Clears (places f s t) b q c → IsBacked q [] c
   backed_then c q backed first = backed_after (places f s t) b [] [] q c backed first.trades
 
-  pub second_cleared : (c d : Book) (n : Option Load) (done : Unit) → Clears (places f s t) b (places None s t) c → ClearsAt s c n d (Ok done) → Clears (places f s t) b (places None None t) d
+  pub second_cleared : (c d : Book) (n : Option HeldBuffer) (done : Unit) → Clears (places f s t) b (places None s t) c → ClearsAt s c n d (Ok done) → Clears (places f s t) b (places None None t) d
   second_cleared c d n done first told =
       let r = cleared c.setup.size s c d told.1 in
       clears_on (places f s t) b (places None s t) c (places None None t) d first (at_second None s t None c d r.0 (sized_after (places f s t) b [] [] (places None s t) c first.trades)) (λ none. r.1 (none_second f s t none))
 
-  pub first_stuck : (c : Book) (n : Option Load) (stop : Stop) → ClearsAt f b n c (Err stop) → ClearTells (places f s t) b (places n s t) c (Err stop)
+  pub first_stuck : (c : Book) (n : Option HeldBuffer) (stop : Stop) → ClearsAt f b n c (Err stop) → ClearTells (places f s t) b (places n s t) c (Err stop)
   first_stuck c n NoBuffer none = absurd none
   first_stuck c n TagSpent told =
       let r = clear_stopped b.setup.size f b c sized.first told.1.0 told.1.1 in
       let one : Clears (places f s t) b (places f s t) c = record { trades = at_first f s t f b c r.0 sized; quiet = λ none. r.1 } in
-      subst (λ (x : Option Load). (all : Clears (places f s t) b (places x s t) c) × EndAtLastTag all.trades.moves) (sym told.0) (one, r.2)
+      subst (λ (x : Option HeldBuffer). (all : Clears (places f s t) b (places x s t) c) × EndAtLastTag all.trades.moves) (sym told.0) (one, r.2)
 
-  pub second_stuck : (c d : Book) (n m : Option Load) (stop : Stop) → n ≡ None → Clears (places f s t) b (places None s t) c → ClearsAt s c m d (Err stop) → ClearTells (places f s t) b (places n m t) d (Err stop)
+  pub second_stuck : (c d : Book) (n m : Option HeldBuffer) (stop : Stop) → n ≡ None → Clears (places f s t) b (places None s t) c → ClearsAt s c m d (Err stop) → ClearTells (places f s t) b (places n m t) d (Err stop)
   second_stuck c d n m NoBuffer vacant first none = absurd none
   second_stuck c d n m TagSpent vacant first told =
       let now = sized_after (places f s t) b [] [] (places None s t) c first.trades in
       let r = clear_stopped c.setup.size s c d now.second told.1.0 told.1.1 in
       let all = stops_on (places f s t) b (places None s t) c (places None s t) d first (at_second None s t s c d r.0 now) r.1 r.2 in
-      subst (λ (x : Option Load). (k : Clears (places f s t) b (places x m t) d) × EndAtLastTag k.trades.moves) (sym vacant)
-      (subst (λ (y : Option Load). (k : Clears (places f s t) b (places None y t) d) × EndAtLastTag k.trades.moves) (sym told.0) all)
+      subst (λ (x : Option HeldBuffer). (k : Clears (places f s t) b (places x m t) d) × EndAtLastTag k.trades.moves) (sym vacant)
+      (subst (λ (y : Option HeldBuffer). (k : Clears (places f s t) b (places None y t) d) × EndAtLastTag k.trades.moves) (sym told.0) all)
 
-  pub third_told : (c d : Book) (n m k : Option Load) (r : Result Unit Stop) → n ≡ None → m ≡ None → Clears (places f s t) b (places None None t) c → ClearsAt t c k d r → ClearTells (places f s t) b (places n m k) d r
+  pub third_told : (c d : Book) (n m k : Option HeldBuffer) (r : Result Unit Stop) → n ≡ None → m ≡ None → Clears (places f s t) b (places None None t) c → ClearsAt t c k d r → ClearTells (places f s t) b (places n m k) d r
   third_told c d n m k (Ok done) vacant empty second told =
       let now = sized_after (places f s t) b [] [] (places None None t) c second.trades in
       let r = cleared c.setup.size t c d told.1 in
@@ -82,6 +82,6 @@ module _ (f s t : Option Load) (b : Book) (sized : AreOfSize b.setup.size (place
       let now = sized_after (places f s t) b [] [] (places None None t) c second.trades in
       let r = clear_stopped c.setup.size t c d now.third told.1.0 told.1.1 in
       let all = stops_on (places f s t) b (places None None t) c (places None None t) d second (at_third None None t t c d r.0 now) r.1 r.2 in
-      subst (λ (x : Option Load). (z : Clears (places f s t) b (places x m k) d) × EndAtLastTag z.trades.moves) (sym vacant)
-      (subst (λ (y : Option Load). (z : Clears (places f s t) b (places None y k) d) × EndAtLastTag z.trades.moves) (sym empty)
-      (subst (λ (w : Option Load). (z : Clears (places f s t) b (places None None w) d) × EndAtLastTag z.trades.moves) (sym told.0) all))
+      subst (λ (x : Option HeldBuffer). (z : Clears (places f s t) b (places x m k) d) × EndAtLastTag z.trades.moves) (sym vacant)
+      (subst (λ (y : Option HeldBuffer). (z : Clears (places f s t) b (places None y k) d) × EndAtLastTag z.trades.moves) (sym empty)
+      (subst (λ (w : Option HeldBuffer). (z : Clears (places f s t) b (places None None w) d) × EndAtLastTag z.trades.moves) (sym told.0) all))

@@ -7,7 +7,7 @@ use Rattle.mark_core.specs.Counts.{none_found}
 use Rattle.mark_core.specs.Lists.{times, only, IsPart}
 use Rattle.mark_core.proofs.Sums.{total-append, times-remove_one, times-without, stands_times}
 use Rattle.buffer_pool.specs.Book.{Book, loaded, link_loaded, popped, pushed, empties_of}
-use Rattle.buffer_pool.specs.Calls.{Load}
+use Rattle.buffer_pool.specs.Calls.{HeldBuffer}
 use Rattle.work_pair.specs.Moves.{Move, Took, Gave, FoundNone, Ended, Moved, Moves, taken_items, taken_number, given_items, given_number, popped_items, popped_numbers, pushed_items, pushed_numbers, IsOnFull, HasPushOnFull}
 use Rattle.work_pair.proofs.Looks.{IsLook, look_again, look_at_all, look_head, look_top, lost_pops, lost_pushes}
 
@@ -35,7 +35,7 @@ look_effect old new l =
       empties = l.empties;
     }
 
-module _ (q : Which) (h : Load) (old new : Book) where
+module _ (q : Which) (h : HeldBuffer) (old new : Book) where
   -- a buffer was popped after a look
   pop_effect : (b : Book) → IsLook old b → new ≡ popped h.index h.items b → IsEffect old new [] h.items [] (h.index ∷ [])
   pop_effect b l is =

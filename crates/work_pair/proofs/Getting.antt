@@ -3,9 +3,9 @@ use Rattle.std.proofs.Common.{◌≡◌, ℕ, List, [], ◌∷◌, ◌++◌, Opt
 use Rattle.mark_core.specs.declared.which.Which.TheVariants.{Full}
 use Rattle.mark_core.specs.Lists.{IsPart}
 use Rattle.buffer_pool.specs.Book.{Book}
-use Rattle.buffer_pool.specs.Calls.{Load}
+use Rattle.buffer_pool.specs.Calls.{HeldBuffer}
 use Rattle.work_pair.specs.Moves.{Ended}
-use Rattle.work_pair.specs.Places.{Places, items_at, number_at, AreOfSize, IsOfSize, IsBacked}
+use Rattle.work_pair.specs.Places.{Places, items_at, items_of, number_at, AreOfSize, IsOfSize, IsBacked}
 use Rattle.work_pair.specs.declared.stop.Stop.{Stop}
 use Rattle.work_pair.specs.declared.stop.Stop.TheVariants.{TagSpent, NoBuffer}
 use Rattle.work_pair.specs.working.Steps.{Ends, GetTells, PopsOne, PutsOut, Takes, Trades, places}
@@ -13,16 +13,21 @@ use Rattle.work_pair.proofs.Effects.{found_none, found_none_closes, moves_effect
 use Rattle.work_pair.proofs.Renewing.{put_out_done, put_out_stopped, still_charged, still_held, still_sized, took_size}
 use Rattle.work_pair.proofs.Trading.{backed_after, ended_at, end_on, first_charged, first_held, first_renewed, found_none_at, on_and_on, sized_after, still}
 
-module _ (old : Places) (b₀ : Book) (backed : IsBacked old [] b₀) (f s t : Option Load) (b : Book) (so_far : Trades old b₀ [] [] (places f s t) b) (vacant : t ≡ None) where
+-- where no object was taken there was none
+pub all_taken : (f s t x y z : Option HeldBuffer) → Takes (places f s t) (places x y z) None → t ≡ None → items_of (places f s t) ≡ []
+all_taken f s t x y z took vacant =
+    ap (λ (l : List ℕ). l ++ items_at s ++ items_at t) took.4 ∙ ap (λ (l : List ℕ). l ++ items_at t) took.5 ∙ ap items_at vacant
+
+module _ (old : Places) (b₀ : Book) (backed : IsBacked old [] b₀) (f s t : Option HeldBuffer) (b : Book) (so_far : Trades old b₀ [] [] (places f s t) b) (vacant : t ≡ None) where
   pub now_sized : AreOfSize b.setup.size (places f s t)
   now_sized = sized_after old b₀ [] [] (places f s t) b so_far
 
   -- an object was found
-  pub got : (x y z : Option Load) (o : ℕ) → Takes (places f s t) (places x y z) (Some o) → GetTells old b₀ (places x y z) b (Ok (Some o))
+  pub got : (x y z : Option HeldBuffer) (o : ℕ) → Takes (places f s t) (places x y z) (Some o) → GetTells old b₀ (places x y z) b (Ok (Some o))
   got x y z o took =
       (on_and_on old b₀ (places f s t) b [] (o ∷ []) (places x y z) b so_far (still (places f s t) b [] (o ∷ []) (places x y z) took.0 now_sized), took.1 ∙ vacant)
 
-  module _ (x y z : Option Load) (took : Takes (places f s t) (places x y z) None) where
+  module _ (x y z : Option HeldBuffer) (took : Takes (places f s t) (places x y z) None) where
     abbrev pub looked : Trades old b₀ [] [] (places x y z) b
     looked = on_and_on old b₀ (places f s t) b [] [] (places x y z) b so_far (still (places f s t) b [] [] (places x y z) took.0 now_sized)
 
@@ -52,7 +57,7 @@ module _ (old : Places) (b₀ : Book) (backed : IsBacked old [] b₀) (f s t : O
         (on_and_on old b₀ (places x y z) b [] [] (places x y z) c looked (ended_at (places x y z) Full b c moved sized_here), end_on looked.moves (Ended Full ∷ []) ([], Full, refl))
 
     -- a buffer was popped, and takes the place of the first
-    module _ (h : Load) (mid : Book) (popped : PopsOne Full b mid (Ok (Some h))) where
+    module _ (h : HeldBuffer) (mid : Book) (popped : PopsOne Full b mid (Ok (Some h))) where
       pub held_here : IsPart (number_at x) mid.account.held
       held_here = still_held x Full h b mid popped (first_held (places x y z) [] b backed_here)
 
@@ -62,7 +67,7 @@ module _ (old : Places) (b₀ : Book) (backed : IsBacked old [] b₀) (f s t : O
       pub of_size_here : IsOfSize mid.setup.size x
       of_size_here = still_sized x Full h b mid popped sized_here.first
 
-      module _ (n third : Option Load) (c : Book) where
+      module _ (n third : Option HeldBuffer) (c : Book) where
         pub turned : (done : Unit) → PutsOut x h mid n third c (Ok done) → Trades old b₀ [] [] (places n y third) c × (third ≡ None)
         turned done out =
             let told = put_out_done b.setup.size x b Full h mid popped x h (λ o. refl) refl refl sized_here.first (took_size x Full h b mid popped) c n third done (λ some. some) out in

@@ -8,3 +8,4 @@ pub mod Clearing
 pub mod Getting
 pub mod Pairs
 pub mod Opening
+pub mod Readiness

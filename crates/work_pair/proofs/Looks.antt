@@ -4,7 +4,7 @@ use Rattle.tagged_index.specs.Head.{Head}
 use Rattle.mark_core.specs.declared.which.Which.{Which}
 use Rattle.mark_core.specs.declared.which.Which.TheVariants.{Full, Empty}
 use Rattle.buffer_pool.specs.Book.{Book, loaded, link_loaded, failed}
-use Rattle.buffer_pool.specs.Calls.{Load, LostPops, LostPushes}
+use Rattle.buffer_pool.specs.Calls.{HeldBuffer, LostPops, LostPushes}
 use Rattle.buffer_pool.specs.Calls.LostPops.{none as no_pop, more as more_pops}
 use Rattle.buffer_pool.specs.Calls.LostPushes.{none as no_push, more as more_pushes}
 
@@ -76,7 +76,7 @@ lost_pops q old new (more_pops first mid last rest lost) =
     let one = look_again mid b (failed b) (look_top q lost.0 lost.2 mid) (look_failed b) in
     look_again first mid last (lost_pops q first mid rest) (subst (λ (c : Book). IsLook mid c) (sym lost.5) one)
 
-pub lost_pushes : (q : Which) (h : Load) (old new : Book) → LostPushes q h old new → IsLook old new
+pub lost_pushes : (q : Which) (h : HeldBuffer) (old new : Book) → LostPushes q h old new → IsLook old new
 lost_pushes q h old new (no_push b) = look_at_all b
 lost_pushes q h old new (more_pushes first mid last rest lost) =
     let b = loaded q lost.0 mid in

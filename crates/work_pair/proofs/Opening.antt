@@ -3,7 +3,7 @@ use Rattle.std.proofs.Common.{◌≡◌, true, false, [], ◌∷◌, Option, Som
 use Rattle.mark_core.specs.declared.which.Which.{Which}
 use Rattle.mark_core.specs.declared.which.Which.TheVariants.{Empty}
 use Rattle.buffer_pool.specs.Book.{Book}
-use Rattle.buffer_pool.specs.Calls.{Load}
+use Rattle.buffer_pool.specs.Calls.{HeldBuffer}
 use Rattle.work_pair.specs.Deals.{DealsQuietly}
 use Rattle.work_pair.specs.Moves.{Took, Gave, FoundNone, Ended, HasPushOnFull, WasSeenEmpty}
 use Rattle.work_pair.specs.Places.{Places, no_places, IsBacked, IsNew}
@@ -25,7 +25,7 @@ alone_quiet q push = ⊎_elim (λ x. x) (λ x. x) push
 none_quiet : HasPushOnFull (FoundNone Empty ∷ []) → ⊥
 none_quiet push = ⊎_elim (λ x. x) (λ x. x) push
 
-took_quiet : (h : Load) → HasPushOnFull (Took Empty h ∷ []) → ⊥
+took_quiet : (h : HeldBuffer) → HasPushOnFull (Took Empty h ∷ []) → ⊥
 took_quiet h push = ⊎_elim (λ x. x) (λ x. x) push
 
 module _ (b : Book) where
@@ -40,7 +40,7 @@ module _ (b : Book) where
       let u = found_none_at no_places Empty b c moved (nothing_backed b).sized in
       (quietly no_places b c false u none_quiet (λ h. cc), found_none Empty b c moved)
 
-  module _ (h : Load) (mid : Book) (took : PopsOne Empty b mid (Ok (Some h))) where
+  module _ (h : HeldBuffer) (mid : Book) (took : PopsOne Empty b mid (Ok (Some h))) where
     abbrev one : Trades no_places b [] [] (places (Some h) None None) mid
     one = taken_first Empty h b mid took
 
@@ -55,7 +55,7 @@ module _ (b : Book) where
         let u = on_and_on no_places b p mid [] [] p c one last in
         (refl, (record p { stopped = true }, refl, quietly p b c true u (quiet_on one.moves last.moves (took_quiet h) (alone_quiet Empty)) (λ x. end_on one.moves last.moves ([], Empty, refl))))
 
-    pub both_taken : (k : Load) (c : Book) → PopsOne Empty mid c (Ok (Some k)) → IsNew (places (Some h) (Some k) None) × DealsQuietly no_places b (places (Some h) (Some k) None) c
+    pub both_taken : (k : HeldBuffer) (c : Book) → PopsOne Empty mid c (Ok (Some k)) → IsNew (places (Some h) (Some k) None) × DealsQuietly no_places b (places (Some h) (Some k) None) c
     both_taken k c moved =
         let p = places (Some h) None None in
         let last = taken_second Empty k mid c moved h size_now in
@@ -75,7 +75,7 @@ module _ (b : Book) where
       pub back_backed : IsBacked (places (Some h) None None) [] c
       back_backed = backed_after no_places b [] [] (places (Some h) None None) c (nothing_backed b) two
 
-      pub given_back : (n : Option Load) (d : Book) (done : Unit) → ClearsAt (Some h) c n d (Ok done) → DealsQuietly no_places b no_places d × WasSeenEmpty Empty b d
+      pub given_back : (n : Option HeldBuffer) (d : Book) (done : Unit) → ClearsAt (Some h) c n d (Ok done) → DealsQuietly no_places b no_places d × WasSeenEmpty Empty b d
       given_back n d done told =
           let p = places (Some h) None None in
           let r = cleared c.setup.size (Some h) c d told.1 in
@@ -86,7 +86,7 @@ module _ (b : Book) where
           let e₃ = move_effect (Gave (shelf_of h.items) h) c d told.1 in
           (quietly (places None None None) b d false u (quiet_on two.moves last.moves two_quiet (r.1 (took_bare h b mid took))) (λ x. cc), omega (arith, e₁.empties, seen, e₃.empties))
 
-      pub back_stopped : (n : Option Load) (d : Book) (stop : Stop) → ClearsAt (Some h) c n d (Err stop) → StopsWith b d stop
+      pub back_stopped : (n : Option HeldBuffer) (d : Book) (stop : Stop) → ClearsAt (Some h) c n d (Err stop) → StopsWith b d stop
       back_stopped n d NoBuffer none_such = absurd none_such
       back_stopped n d TagSpent told =
           let p = places (Some h) None None in

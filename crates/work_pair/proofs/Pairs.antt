@@ -7,7 +7,7 @@ use Rattle.mark_core.specs.Lists.{only}
 use Rattle.mark_core.specs.World.{Setup}
 use Rattle.mark_core.proofs.Sums.{total-append}
 use Rattle.buffer_pool.specs.Book.{Book}
-use Rattle.buffer_pool.specs.Calls.{Load}
+use Rattle.buffer_pool.specs.Calls.{HeldBuffer}
 use Rattle.work_pair.specs.Deals.{Balances, Deals, DealsQuietly, Disposes, HasMore}
 use Rattle.work_pair.specs.Moves.{Move, Took, Ended, Moved, HasPushOnFull, EndAtLastTag, WasSeenEmpty}
 use Rattle.work_pair.specs.Places.{Places, items_of, no_places, IsBacked}
@@ -18,15 +18,15 @@ use Rattle.work_pair.proofs.Looks.{lost_pops}
 use Rattle.work_pair.proofs.Trading.{dealt, items_sum, numbers_sum, on_full_of, stopped_backed}
 
 -- a pair that a contract sees as v, with these three places
-module _ (v : Places) (f s t : Option Load) (was : Bool) (is : record { first = f; second = s; third = t; stopped = was } ≡ v) where
+module _ (v : Places) (f s t : Option HeldBuffer) (was : Bool) (is : record { first = f; second = s; third = t; stopped = was } ≡ v) where
   pub inner : (put : List ℕ) (b : Book) → IsBacked v put b → IsBacked (places f s t) put b
   inner put b backed = stopped_backed v (places f s t) put b (ap (λ (p : Places). p.first) is) (ap (λ (p : Places). p.second) is) (ap (λ (p : Places). p.third) is) backed
 
-  module _ (put got : List ℕ) (b : Book) (backed : IsBacked v put b) (x y z : Option Load) (now : Bool) (c : Book) (u : Trades (places f s t) b put got (places x y z) c) where
+  module _ (put got : List ℕ) (b : Book) (backed : IsBacked v put b) (x y z : Option HeldBuffer) (now : Bool) (c : Book) (u : Trades (places f s t) b put got (places x y z) c) where
     pub deals : (now ≡ true → EndAtLastTag u.moves) → Deals v b put got (record { first = x; second = y; third = z; stopped = now }) c
     deals ends = subst (λ (p : Places). Deals p b put got (record { first = x; second = y; third = z; stopped = now }) c) is (dealt (places f s t) b put got (places x y z) c was now (inner put b backed) u ends)
 
-  module _ (b : Book) (backed : IsBacked v [] b) (x y z : Option Load) (now : Bool) (c : Book) (u : Trades (places f s t) b [] [] (places x y z) c) (ends : now ≡ true → EndAtLastTag u.moves) where
+  module _ (b : Book) (backed : IsBacked v [] b) (x y z : Option HeldBuffer) (now : Bool) (c : Book) (u : Trades (places f s t) b [] [] (places x y z) c) (ends : now ≡ true → EndAtLastTag u.moves) where
     pub balances : (HasMore (places f s t) → WasSeenEmpty Empty b c ⊎ HasPushOnFull u.moves) → Balances v b (record { first = x; second = y; third = z; stopped = now }) c
     balances more =
         subst (λ (p : Places). Balances p b (record { first = x; second = y; third = z; stopped = now }) c) is (dealt (places f s t) b [] [] (places x y z) c was now (inner [] b backed) u ends, more)
@@ -39,7 +39,7 @@ pub not_stopped : (P : Type 0) (was : Bool) → was ≡ false → was ≡ true �
 not_stopped P was going stopped = absurd (false≢true (sym going ∙ stopped))
 
 -- a buffer was popped, and lies at a place that was vacant
-module _ (q : Which) (h : Load) (b c : Book) (took : Moved (Took q h) b c) where
+module _ (q : Which) (h : HeldBuffer) (b c : Book) (took : Moved (Took q h) b c) where
   pub size_of_taken : h.size ≡ b.setup.size
   size_of_taken = took.2.4 ∙ ap (λ (e : Setup). e.size) (lost_pops q b took.0 took.1).setup
 
@@ -54,7 +54,7 @@ module _ (q : Which) (h : Load) (b c : Book) (took : Moved (Took q h) b c) where
         sized = record { first = size_of_taken; second = tt; third = tt };
       }
 
-  abbrev pub taken_second : (k : Load) → k.size ≡ b.setup.size → Trades (places (Some k) None None) b [] [] (places (Some k) (Some h) None) c
+  abbrev pub taken_second : (k : HeldBuffer) → k.size ≡ b.setup.size → Trades (places (Some k) None None) b [] [] (places (Some k) (Some h) None) c
   taken_second k size =
       record {
         moves = Took q h ∷ [];
@@ -89,7 +89,7 @@ clears_told p b q c TagSpent told = (refl, told)
 clears_told p b q c NoBuffer none = absurd none
 
 -- what a call that got an object tells, and one that did not
-module _ (v : Places) (f s t : Option Load) (was : Bool) (is : record { first = f; second = s; third = t; stopped = was } ≡ v) (b : Book) (backed : IsBacked v [] b) (x y z : Option Load) (now : Bool) (c : Book) (going : now ≡ false) where
+module _ (v : Places) (f s t : Option HeldBuffer) (was : Bool) (is : record { first = f; second = s; third = t; stopped = was } ≡ v) (b : Book) (backed : IsBacked v [] b) (x y z : Option HeldBuffer) (now : Bool) (c : Book) (going : now ≡ false) where
   pub got_told : (r : Option ℕ) → GetTells (places f s t) b (places x y z) c (Ok r) → IfSome r (λ o. Deals v b [] (o ∷ []) (record { first = x; second = y; third = z; stopped = now }) c)
   got_told (Some o) told = deals v f s t was is [] (o ∷ []) b backed x y z now c told.0 (not_stopped (EndAtLastTag told.0.moves) now going)
   got_told None told = tt

@@ -6,7 +6,7 @@ use Rattle.mark_core.specs.Lists.{times, only, IsPart}
 use Rattle.mark_core.specs.World.{Setup}
 use Rattle.mark_core.proofs.Sums.{only-same, times_stands, total-append}
 use Rattle.buffer_pool.specs.Book.{Book}
-use Rattle.buffer_pool.specs.Calls.{Load}
+use Rattle.buffer_pool.specs.Calls.{HeldBuffer}
 use Rattle.work_pair.specs.Moves.{Move, Took, Gave, FoundNone, Ended, Moved, IsFilled, HasPushOnFull, EndAtLastTag, IsOnFull, given_items, given_number, taken_items, taken_number}
 use Rattle.work_pair.specs.Places.{items_at, number_at, IsOfSize}
 use Rattle.work_pair.specs.declared.stop.Stop.{Stop}
@@ -16,33 +16,33 @@ use Rattle.work_pair.proofs.Looks.{lost_pops}
 use Rattle.work_pair.proofs.Effects.{found_none, move_effect}
 
 -- a buffer goes on full only with items, and with items it goes there
-pub filled_shelf : (h : Load) → IsFilled (Gave (shelf_of h.items) h)
+pub filled_shelf : (h : HeldBuffer) → IsFilled (Gave (shelf_of h.items) h)
 filled_shelf h = go h.items refl
   where
     go : (items : List ℕ) → h.items ≡ items → IsFilled (Gave (shelf_of items) h)
     go [] is = tt
     go (o ∷ os) is = λ none. let e : [] ≡ o ∷ os = sym none ∙ is in cc
 
-pub shelf_full : (h : Load) → h.items ≢ [] → IsOnFull (Gave (shelf_of h.items) h)
+pub shelf_full : (h : HeldBuffer) → h.items ≢ [] → IsOnFull (Gave (shelf_of h.items) h)
 shelf_full h some = go h.items refl
   where
     go : (items : List ℕ) → h.items ≡ items → IsOnFull (Gave (shelf_of items) h)
     go [] is = absurd (some is)
     go (o ∷ os) is = tt
 
-pub shelf_quiet : (h : Load) → h.items ≡ [] → IsOnFull (Gave (shelf_of h.items) h) → ⊥
+pub shelf_quiet : (h : HeldBuffer) → h.items ≡ [] → IsOnFull (Gave (shelf_of h.items) h) → ⊥
 shelf_quiet h none = subst (λ (items : List ℕ). IsOnFull (Gave (shelf_of items) h) → ⊥) (sym none) (λ x. x)
 
-module _ (size : ℕ) (old : Option Load) (b c : Book) (sized : IsOfSize size old) where
+module _ (size : ℕ) (old : Option HeldBuffer) (b c : Book) (sized : IsOfSize size old) where
   -- nothing was done
-  module _ (new third : Option Load) (same : new ≡ old) (vacant : third ≡ None) where
+  module _ (new third : Option HeldBuffer) (same : new ≡ old) (vacant : third ≡ None) where
     unchanged : (move : Move) → Moved move b c → ((o : ℕ) → times o (given_items move) ≡ times o (taken_items move)) → ((i : ℕ) → times i (given_number move) ≡ times i (taken_number move)) → IsFilled move → Renews size old b new third c
     unchanged move moved items numbers filled =
         record {
           moves = move ∷ [];
           books = (c, moved, refl);
-          items = λ o. omega (arith, items o, ap (λ (p : Option Load). times o (items_at p)) same, ap (λ (p : Option Load). times o (items_at p)) vacant, total-append (only o) (given_items move) [], total-append (only o) (taken_items move) []);
-          buffers = λ i. omega (arith, numbers i, ap (λ (p : Option Load). times i (number_at p)) same, ap (λ (p : Option Load). times i (number_at p)) vacant, total-append (only i) (given_number move) [], total-append (only i) (taken_number move) []);
+          items = λ o. omega (arith, items o, ap (λ (p : Option HeldBuffer). times o (items_at p)) same, ap (λ (p : Option HeldBuffer). times o (items_at p)) vacant, total-append (only o) (given_items move) [], total-append (only o) (taken_items move) []);
+          buffers = λ i. omega (arith, numbers i, ap (λ (p : Option HeldBuffer). times i (number_at p)) same, ap (λ (p : Option HeldBuffer). times i (number_at p)) vacant, total-append (only i) (given_number move) [], total-append (only i) (taken_number move) []);
           filled = (filled, tt);
           sized = subst (IsOfSize size) (sym same) sized;
           left_sized = subst (IsOfSize size) (sym vacant) tt;
@@ -57,8 +57,8 @@ module _ (size : ℕ) (old : Option Load) (b c : Book) (sized : IsOfSize size ol
         record {
           moves = Ended Empty ∷ [];
           books = (c, moved, refl);
-          items = λ o. omega (arith, ap (λ (p : Option Load). times o (items_at p)) same, ap (λ (p : Option Load). times o (items_at p)) vacant);
-          buffers = λ i. omega (arith, ap (λ (p : Option Load). times i (number_at p)) same, ap (λ (p : Option Load). times i (number_at p)) vacant);
+          items = λ o. omega (arith, ap (λ (p : Option HeldBuffer). times o (items_at p)) same, ap (λ (p : Option HeldBuffer). times o (items_at p)) vacant);
+          buffers = λ i. omega (arith, ap (λ (p : Option HeldBuffer). times i (number_at p)) same, ap (λ (p : Option HeldBuffer). times i (number_at p)) vacant);
           filled = (tt, tt);
           sized = subst (IsOfSize size) (sym same) sized;
           left_sized = subst (IsOfSize size) (sym vacant) tt;
@@ -66,26 +66,26 @@ module _ (size : ℕ) (old : Option Load) (b c : Book) (sized : IsOfSize size ol
     stopped_at_once NoBuffer none = absurd none
 
 -- the buffer h was popped, and its items and those at the place before are those of the place now and of the next one
-module _ (size : ℕ) (old : Option Load) (b : Book) (q : Which) (h : Load) (mid : Book) (took : Moved (Took q h) b mid) (place : Option Load) (next : Load)
+module _ (size : ℕ) (old : Option HeldBuffer) (b : Book) (q : Which) (h : HeldBuffer) (mid : Book) (took : Moved (Took q h) b mid) (place : Option HeldBuffer) (next : HeldBuffer)
     (shared : (o : ℕ) → times o (items_at place) + times o next.items ≡ times o (items_at old) + times o h.items)
-    (number : number_at place ≡ number_at old) (index : next.index ≡ h.index) (place_sized : IsOfSize size place) (next_sized : next.size ≡ size) (c : Book) (new third : Option Load) where
+    (number : number_at place ≡ number_at old) (index : next.index ≡ h.index) (place_sized : IsOfSize size place) (next_sized : next.size ≡ size) (c : Book) (new third : Option HeldBuffer) where
   pub put_out_done : (done : Unit) → ((items_at old ≢ []) → (items_at place ≢ [])) → PutsOut place next mid new third c (Ok done) → RenewTells size old b new third c (Ok true)
   put_out_done done more out = go place refl (out.2)
     where
       item_new : (o : ℕ) → times o (items_at new) + times o (items_at third) ≡ times o next.items
-      item_new o = omega (arith, ap (λ (p : Option Load). times o (items_at p)) out.0, ap (λ (p : Option Load). times o (items_at p)) out.1)
+      item_new o = omega (arith, ap (λ (p : Option HeldBuffer). times o (items_at p)) out.0, ap (λ (p : Option HeldBuffer). times o (items_at p)) out.1)
 
       number_new : (i : ℕ) → times i (number_at new) + times i (number_at third) ≡ times i (h.index ∷ [])
-      number_new i = omega (arith, ap (λ (p : Option Load). times i (number_at p)) out.0, ap (λ (p : Option Load). times i (number_at p)) out.1, ap (λ (n : ℕ). times i (n ∷ [])) index)
+      number_new i = omega (arith, ap (λ (p : Option HeldBuffer). times i (number_at p)) out.0, ap (λ (p : Option HeldBuffer). times i (number_at p)) out.1, ap (λ (n : ℕ). times i (n ∷ [])) index)
 
-      go : (p : Option Load) → place ≡ p → Leaves p mid c → RenewTells size old b new third c (Ok true)
+      go : (p : Option HeldBuffer) → place ≡ p → Leaves p mid c → RenewTells size old b new third c (Ok true)
       go None is left =
           let r : Renews size old b new third c =
           record {
             moves = Took q h ∷ [];
             books = (mid, took, left);
-            items = λ o. omega (arith, item_new o, shared o, ap (λ (p : Option Load). times o (items_at p)) is, total-append (only o) h.items []);
-            buffers = λ i. omega (arith, number_new i, ap (times i) number, ap (λ (p : Option Load). times i (number_at p)) is, total-append (only i) (h.index ∷ []) []);
+            items = λ o. omega (arith, item_new o, shared o, ap (λ (p : Option HeldBuffer). times o (items_at p)) is, total-append (only o) h.items []);
+            buffers = λ i. omega (arith, number_new i, ap (times i) number, ap (λ (p : Option HeldBuffer). times i (number_at p)) is, total-append (only i) (h.index ∷ []) []);
             filled = (tt, tt);
             sized = subst (IsOfSize size) (sym out.0) next_sized;
             left_sized = subst (IsOfSize size) (sym out.1) tt;
@@ -95,8 +95,8 @@ module _ (size : ℕ) (old : Option Load) (b : Book) (q : Which) (h : Load) (mid
           record {
             moves = Took q h ∷ Gave (shelf_of k.items) k ∷ [];
             books = (mid, took, (c, left, refl));
-            items = λ o. omega (arith, item_new o, shared o, ap (λ (p : Option Load). times o (items_at p)) is, total-append (only o) h.items [], total-append (only o) k.items []);
-            buffers = λ i. omega (arith, number_new i, ap (times i) number, ap (λ (p : Option Load). times i (number_at p)) is, total-append (only i) (h.index ∷ []) [], total-append (only i) (k.index ∷ []) []);
+            items = λ o. omega (arith, item_new o, shared o, ap (λ (p : Option HeldBuffer). times o (items_at p)) is, total-append (only o) h.items [], total-append (only o) k.items []);
+            buffers = λ i. omega (arith, number_new i, ap (times i) number, ap (λ (p : Option HeldBuffer). times i (number_at p)) is, total-append (only i) (h.index ∷ []) [], total-append (only i) (k.index ∷ []) []);
             filled = (tt, (filled_shelf k, tt));
             sized = subst (IsOfSize size) (sym out.0) next_sized;
             left_sized = subst (IsOfSize size) (sym out.1) tt;
@@ -109,15 +109,15 @@ module _ (size : ℕ) (old : Option Load) (b : Book) (q : Which) (h : Load) (mid
       record {
         moves = Took q h ∷ Ended out.2.0 ∷ [];
         books = (mid, took, (c, out.2.1, refl));
-        items = λ o. omega (arith, shared o, ap (λ (p : Option Load). times o (items_at p)) out.0, ap (λ (p : Option Load). times o (items_at p)) out.1, total-append (only o) h.items []);
-        buffers = λ i. omega (arith, ap (times i) number, ap (λ (p : Option Load). times i (number_at p)) out.0, ap (λ (p : Option Load). times i (number_at p)) out.1, ap (λ (n : ℕ). times i (n ∷ [])) index, total-append (only i) (h.index ∷ []) []);
+        items = λ o. omega (arith, shared o, ap (λ (p : Option HeldBuffer). times o (items_at p)) out.0, ap (λ (p : Option HeldBuffer). times o (items_at p)) out.1, total-append (only o) h.items []);
+        buffers = λ i. omega (arith, ap (times i) number, ap (λ (p : Option HeldBuffer). times i (number_at p)) out.0, ap (λ (p : Option HeldBuffer). times i (number_at p)) out.1, ap (λ (n : ℕ). times i (n ∷ [])) index, total-append (only i) (h.index ∷ []) []);
         filled = (tt, (tt, tt));
         sized = subst (IsOfSize size) (sym out.0) place_sized;
         left_sized = subst (IsOfSize size) (sym out.1) next_sized;
       } in (r, (Took q h ∷ [], out.2.0, refl))
 
 -- what the pop leaves of what the place needs
-module _ (old : Option Load) (q : Which) (h : Load) (b mid : Book) (took : Moved (Took q h) b mid) where
+module _ (old : Option HeldBuffer) (q : Which) (h : HeldBuffer) (b mid : Book) (took : Moved (Took q h) b mid) where
   pub still_held : IsPart (number_at old) b.account.held → IsPart (number_at old) mid.account.held
   still_held held i = omega (arith, held i, (move_effect (Took q h) b mid took).held i)
 
@@ -131,16 +131,16 @@ module _ (old : Option Load) (q : Which) (h : Load) (b mid : Book) (took : Moved
   took_size = took.2.4 ∙ ap (λ (e : Setup). e.size) (lost_pops q b took.0 took.1).setup
 
 -- a buffer of the empty stack has no items
-pub took_bare : (h : Load) (b mid : Book) → Moved (Took Empty h) b mid → h.items ≡ []
+pub took_bare : (h : HeldBuffer) (b mid : Book) → Moved (Took Empty h) b mid → h.items ≡ []
 took_bare h b mid took = took.2.6 refl
 
 -- the buffer at a place is held
-pub stands_held : (place : Option Load) (h : Load) (held : List ℕ) → place ≡ Some h → IsPart (number_at place) held → Contains held h.index
+pub stands_held : (place : Option HeldBuffer) (h : HeldBuffer) (held : List ℕ) → place ≡ Some h → IsPart (number_at place) held → Contains held h.index
 stands_held place h held is part =
-    times_stands held h.index (omega (arith, part h.index, ap (λ (p : Option Load). times h.index (number_at p)) is, only-same h.index h.index refl))
+    times_stands held h.index (omega (arith, part h.index, ap (λ (p : Option HeldBuffer). times h.index (number_at p)) is, only-same h.index h.index refl))
 
 -- the buffer at a place was pushed
-pub cleared : (size : ℕ) (f : Option Load) (b c : Book) → Leaves f b c → (r : Renews size f b None None c) × (items_at f ≡ [] → HasPushOnFull r.moves → ⊥)
+pub cleared : (size : ℕ) (f : Option HeldBuffer) (b c : Book) → Leaves f b c → (r : Renews size f b None None c) × (items_at f ≡ [] → HasPushOnFull r.moves → ⊥)
 cleared size None b c same =
     let r : Renews size None b None None c =
     record { moves = []; books = same; items = λ o. omega arith; buffers = λ i. omega arith; filled = tt; sized = tt; left_sized = tt } in (r, λ none push. push)
@@ -157,7 +157,7 @@ cleared size (Some h) b c moved =
     } in (r, λ none push. ⊎_elim (shelf_quiet h none) (λ x. x) push)
 
 -- or it is still there
-pub clear_stopped : (size : ℕ) (f : Option Load) (b c : Book) → IsOfSize size f → (q : Which) → Moved (Ended q) b c → (r : Renews size f b f None c) × (HasPushOnFull r.moves → ⊥) × EndAtLastTag r.moves
+pub clear_stopped : (size : ℕ) (f : Option HeldBuffer) (b c : Book) → IsOfSize size f → (q : Which) → Moved (Ended q) b c → (r : Renews size f b f None c) × (HasPushOnFull r.moves → ⊥) × EndAtLastTag r.moves
 clear_stopped size f b c sized q moved =
     let r : Renews size f b f None c =
     record { moves = Ended q ∷ []; books = (c, moved, refl); items = λ o. omega arith; buffers = λ i. omega arith; filled = (tt, tt); sized = sized; left_sized = tt } in

@@ -5,7 +5,7 @@ use Rattle.mark_core.specs.Lists.{times, only, IsPart}
 use Rattle.mark_core.specs.World.{Setup}
 use Rattle.mark_core.proofs.Sums.{total-append}
 use Rattle.buffer_pool.specs.Book.{Book}
-use Rattle.buffer_pool.specs.Calls.{Load}
+use Rattle.buffer_pool.specs.Calls.{HeldBuffer}
 use Rattle.work_pair.specs.Moves.{Move, FoundNone, Ended, Moved, Moves, popped_items, popped_numbers, pushed_items, pushed_numbers, taken_items, taken_number, given_items, given_number, AreFilled, HasPushOnFull, EndAtLastTag}
 use Rattle.work_pair.specs.Places.{Places, items_at, number_at, items_of, numbers_of, IsOfSize, AreOfSize, IsBacked}
 use Rattle.work_pair.specs.Deals.{Deals}
@@ -97,24 +97,24 @@ on_and_on old b mid c put got new d s t =
     }
 
 -- what was done with the first place, and with the second
-abbrev pub first_renewed : (f s t g third : Option Load) (b c : Book) → t ≡ None → Renews b.setup.size f b g third c → IsOfSize b.setup.size s → Trades (places f s t) b [] [] (places g s third) c
+abbrev pub first_renewed : (f s t g third : Option HeldBuffer) (b c : Book) → t ≡ None → Renews b.setup.size f b g third c → IsOfSize b.setup.size s → Trades (places f s t) b [] [] (places g s third) c
 first_renewed f s t g third b c vacant r sized =
     record {
       moves = r.moves;
       books = r.books;
-      items = λ o. omega (arith, r.items o, items_sum o (places f s t), items_sum o (places g s third), ap (λ (p : Option Load). times o (items_at p)) vacant);
-      buffers = λ i. omega (arith, r.buffers i, numbers_sum i (places f s t), numbers_sum i (places g s third), ap (λ (p : Option Load). times i (number_at p)) vacant);
+      items = λ o. omega (arith, r.items o, items_sum o (places f s t), items_sum o (places g s third), ap (λ (p : Option HeldBuffer). times o (items_at p)) vacant);
+      buffers = λ i. omega (arith, r.buffers i, numbers_sum i (places f s t), numbers_sum i (places g s third), ap (λ (p : Option HeldBuffer). times i (number_at p)) vacant);
       filled = r.filled;
       sized = record { first = r.sized; second = sized; third = r.left_sized };
     }
 
-abbrev pub second_renewed : (f s t g third : Option Load) (b c : Book) → t ≡ None → Renews b.setup.size s b g third c → IsOfSize b.setup.size f → Trades (places f s t) b [] [] (places f g third) c
+abbrev pub second_renewed : (f s t g third : Option HeldBuffer) (b c : Book) → t ≡ None → Renews b.setup.size s b g third c → IsOfSize b.setup.size f → Trades (places f s t) b [] [] (places f g third) c
 second_renewed f s t g third b c vacant r sized =
     record {
       moves = r.moves;
       books = r.books;
-      items = λ o. omega (arith, r.items o, items_sum o (places f s t), items_sum o (places f g third), ap (λ (p : Option Load). times o (items_at p)) vacant);
-      buffers = λ i. omega (arith, r.buffers i, numbers_sum i (places f s t), numbers_sum i (places f g third), ap (λ (p : Option Load). times i (number_at p)) vacant);
+      items = λ o. omega (arith, r.items o, items_sum o (places f s t), items_sum o (places f g third), ap (λ (p : Option HeldBuffer). times o (items_at p)) vacant);
+      buffers = λ i. omega (arith, r.buffers i, numbers_sum i (places f s t), numbers_sum i (places f g third), ap (λ (p : Option HeldBuffer). times i (number_at p)) vacant);
       filled = r.filled;
       sized = record { first = sized; second = r.sized; third = r.left_sized };
     }
@@ -162,8 +162,8 @@ backed_less p besides b backed =
 pub stopped_backed : (p q : Places) (besides : List ℕ) (b : Book) → q.first ≡ p.first → q.second ≡ p.second → q.third ≡ p.third → IsBacked p besides b → IsBacked q besides b
 stopped_backed p q besides b first second third backed =
     record {
-      held = λ x. omega (arith, backed.held x, numbers_sum x p, numbers_sum x q, ap (λ (h : Option Load). times x (number_at h)) first, ap (λ (h : Option Load). times x (number_at h)) second, ap (λ (h : Option Load). times x (number_at h)) third);
-      charged = λ x. omega (arith, backed.charged x, items_sum x p, items_sum x q, total-append (only x) (items_of p) besides, total-append (only x) (items_of q) besides, ap (λ (h : Option Load). times x (items_at h)) first, ap (λ (h : Option Load). times x (items_at h)) second, ap (λ (h : Option Load). times x (items_at h)) third);
+      held = λ x. omega (arith, backed.held x, numbers_sum x p, numbers_sum x q, ap (λ (h : Option HeldBuffer). times x (number_at h)) first, ap (λ (h : Option HeldBuffer). times x (number_at h)) second, ap (λ (h : Option HeldBuffer). times x (number_at h)) third);
+      charged = λ x. omega (arith, backed.charged x, items_sum x p, items_sum x q, total-append (only x) (items_of p) besides, total-append (only x) (items_of q) besides, ap (λ (h : Option HeldBuffer). times x (items_at h)) first, ap (λ (h : Option HeldBuffer). times x (items_at h)) second, ap (λ (h : Option HeldBuffer). times x (items_at h)) third);
       sized =
           record {
             first = subst (IsOfSize b.setup.size) (sym first) backed.sized.first;
@@ -193,7 +193,7 @@ dealt old b put got new c was now backed t ends =
     }
 
 -- what was done with one place while the third stayed
-module _ (f s t g : Option Load) (b c : Book) where
+module _ (f s t g : Option HeldBuffer) (b c : Book) where
   abbrev pub at_first : Renews b.setup.size f b g None c → AreOfSize b.setup.size (places f s t) → Trades (places f s t) b [] [] (places g s t) c
   at_first r sized =
       record {

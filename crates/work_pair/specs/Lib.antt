@@ -2,3 +2,4 @@ pub mod Places
 pub mod Moves
 pub mod Deals
 pub mod working
+pub mod tests

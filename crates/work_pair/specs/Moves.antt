@@ -3,15 +3,15 @@ use Rattle.std.specs.Prelude.{◌≡◌, ◌≢◌, ◌⊎◌, ℕ, ◌<◌, Lis
 use Rattle.mark_core.specs.declared.which.Which.{Which}
 use Rattle.mark_core.specs.declared.which.Which.TheVariants.{Full, Empty}
 use Rattle.buffer_pool.specs.Book.{Book, empties_of}
-use Rattle.buffer_pool.specs.Calls.{Load, MayPush, PopsAtLast, PushesAtLast}
+use Rattle.buffer_pool.specs.Calls.{HeldBuffer, MayPush, PopsAtLast, PushesAtLast}
 use Rattle.buffer_pool.specs.declared.answers.Popped.TheVariants as pop
 use Rattle.buffer_pool.specs.declared.answers.TryPushed.TheVariants as try_push
 
 pub data Move : Type 0 where
   -- this buffer was popped from the stack
-  Took : Which → Load → Move
+  Took : Which → HeldBuffer → Move
   -- this buffer was pushed on the stack
-  Gave : Which → Load → Move
+  Gave : Which → HeldBuffer → Move
   -- a pop saw the stack empty
   FoundNone : Which → Move
   -- a pop or a push loaded the stack's last tag
@@ -22,7 +22,7 @@ abbrev pub Moved : Move → Book → Book → Type 0
 Moved (Took q h) old new = PopsAtLast q old new (pop.Took h)
 Moved (Gave q h) old new = MayPush q h old × PushesAtLast q h old new try_push.Done
 Moved (FoundNone q) old new = PopsAtLast q old new pop.Empty
-Moved (Ended q) old new = PopsAtLast q old new pop.Spent ⊎ ((h : Load) × MayPush q h old
+Moved (Ended q) old new = PopsAtLast q old new pop.Spent ⊎ ((h : HeldBuffer) × MayPush q h old
     × PushesAtLast q h old new (try_push.Spent h))
 
 -- moves one after the other

@@ -1,23 +1,23 @@
 -- A pair of buffers as a contract sees it.
-use Rattle.std.specs.Prelude.{◌≡◌, ℕ, Bool, false, List, [], ◌∷◌, ◌++◌, Option, Some, None}
+use Rattle.std.specs.Prelude.{◌≡◌, ◌⊎◌, ℕ, ◌<◌, Bool, false, List, [], ◌∷◌, ◌++◌, length, Option, Some, None}
 use Rattle.mark_core.specs.Lists.{times, IsPart}
 use Rattle.buffer_pool.specs.Book.{Book}
-use Rattle.buffer_pool.specs.Calls.{Load}
+use Rattle.buffer_pool.specs.Calls.{HeldBuffer}
 
 -- a pair: its first and its second buffer, one that a stopped call left over, and whether a call was stopped by a
 -- last tag
 pub record Places : Type 0 where
-  pub first : Option Load
-  pub second : Option Load
-  pub third : Option Load
+  pub first : Option HeldBuffer
+  pub second : Option HeldBuffer
+  pub third : Option HeldBuffer
   pub stopped : Bool
 
 -- the items of the buffer at a place, and its number
-abbrev pub items_at : Option Load → List ℕ
+abbrev pub items_at : Option HeldBuffer → List ℕ
 items_at None = []
 items_at (Some h) = h.items
 
-abbrev pub number_at : Option Load → List ℕ
+abbrev pub number_at : Option HeldBuffer → List ℕ
 number_at None = []
 number_at (Some h) = h.index ∷ []
 
@@ -37,6 +37,15 @@ pub record IsOpen (p : Places) : Type 0 where
   pub going : p.stopped ≡ false
   pub third : p.third ≡ None
 
+-- there is a buffer at a place that takes a further item
+abbrev pub HasRoomAt : Option HeldBuffer → Type 0
+HasRoomAt None = ⊥
+HasRoomAt (Some h) = length h.items < h.size
+
+-- one of a pair's two buffers does
+abbrev pub HasRoom : Places → Type 0
+HasRoom p = HasRoomAt p.first ⊎ HasRoomAt p.second
+
 -- two pairs with the same items and the same buffers
 pub record AreAlike (one other : Places) : Type 0 where
   pub items : (o : ℕ) → times o (items_of other) ≡ times o (items_of one)
@@ -45,11 +54,11 @@ pub record AreAlike (one other : Places) : Type 0 where
 -- a new pair: two buffers without items
 pub record IsNew (p : Places) : Type 0 where
   pub going : IsOpen p
-  pub first : (h : Load) × (p.first ≡ Some h) × (h.items ≡ [])
-  pub second : (h : Load) × (p.second ≡ Some h) × (h.items ≡ [])
+  pub first : (h : HeldBuffer) × (p.first ≡ Some h) × (h.items ≡ [])
+  pub second : (h : HeldBuffer) × (p.second ≡ Some h) × (h.items ≡ [])
 
 -- the buffer at a place takes as many items as those of a pool
-abbrev pub IsOfSize : ℕ → Option Load → Type 0
+abbrev pub IsOfSize : ℕ → Option HeldBuffer → Type 0
 IsOfSize size None = Unit {0}
 IsOfSize size (Some h) = h.size ≡ size
 

@@ -21,8 +21,9 @@ pub(crate) struct Buffers<A: Allocator> {
 }
 
 impl<A: Allocator> Buffers<A> {
-    ghost use Rattle.std.specs.Prelude.{◌≡◌, None, [], ◌∷◌};
-    ghost use Rattle.work_pair.specs.Places.{IsBacked};
+    ghost use Rattle.std.specs.Prelude.{◌≡◌, ◌≢◌, None, [], ◌∷◌, IsOk};
+    ghost use Rattle.work_pair.specs.Deals.{HasMore};
+    ghost use Rattle.work_pair.specs.Places.{HasRoom, IsBacked, items_of};
     ghost use Rattle.work_pair.specs.working.Steps.{BalanceTells, ClearTells, GetTells, PublishTells, PutTells};
     ghost use Rattle.work_pair.specs.working.Steps.{Takes, places};
 
@@ -41,6 +42,8 @@ impl<A: Allocator> Buffers<A> {
         ensures pool { worker.new.pool ≡ worker.old.pool }
         ensures tells { PutTells object (places self.old.first self.old.second self.old.third) worker.old.book
             (places self.new.first self.new.second self.new.third) worker.new.book result }
+        ensures room { HasRoom (places self.old.first self.old.second self.old.third)
+            → (worker.new ≡ worker.old) × IsOk result }
     {
         if put_at(&mut self.first, object) {
             return Ok(());
@@ -85,6 +88,8 @@ impl<A: Allocator> Buffers<A> {
         ensures pool { worker.new.pool ≡ worker.old.pool }
         ensures tells { GetTells (places self.old.first self.old.second self.old.third) worker.old.book
             (places self.new.first self.new.second self.new.third) worker.new.book result }
+        ensures own { items_of (places self.old.first self.old.second self.old.third) ≢ []
+            → (worker.new ≡ worker.old) × IsOk result }
     {
         for _ in rt.forever() {
             if let Some(object) = self.take() {
@@ -111,6 +116,9 @@ impl<A: Allocator> Buffers<A> {
         ensures pool { worker.new.pool ≡ worker.old.pool }
         ensures tells { BalanceTells (places self.old.first self.old.second self.old.third) worker.old.book
             (places self.new.first self.new.second self.new.third) worker.new.book result }
+        ensures few { (HasMore (places self.old.first self.old.second self.old.third) → ⊥)
+            → (places self.new.first self.new.second self.new.third
+            ≡ places self.old.first self.old.second self.old.third) × (worker.new ≡ worker.old) × IsOk result }
     {
         if len_at(&self.second) > 0 {
             renew(rt, pool, worker, &mut self.second, &mut self.third)?;
@@ -133,6 +141,9 @@ impl<A: Allocator> Buffers<A> {
         ensures pool { worker.new.pool ≡ worker.old.pool }
         ensures tells { PublishTells (places self.old.first self.old.second self.old.third) worker.old.book
             (places self.new.first self.new.second self.new.third) worker.new.book result }
+        ensures nothing { items_of (places self.old.first self.old.second self.old.third) ≡ []
+            → (places self.new.first self.new.second self.new.third
+            ≡ places self.old.first self.old.second self.old.third) × (worker.new ≡ worker.old) × IsOk result }
     {
         publish_at(rt, pool, worker, &mut self.first, &mut self.third)?;
         publish_at(rt, pool, worker, &mut self.second, &mut self.third)

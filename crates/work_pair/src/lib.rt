@@ -9,3 +9,6 @@ mod stop;
 
 pub use pair::Pair;
 pub use stop::Stop;
+
+#[cfg(test)]
+mod tests;

@@ -36,11 +36,11 @@ impl<A: Allocator> Model for Pair<A> {
 }
 
 impl<A: Allocator> Pair<A> {
-    ghost use Rattle.std.specs.Prelude.{◌≡◌, ◌⊎◌, true, false, [], ◌∷◌, IfErr, IfNone, IfOk, IfSome, OnOk};
+    ghost use Rattle.std.specs.Prelude.{◌≡◌, ◌≢◌, ◌⊎◌, true, false, [], ◌∷◌, IfErr, IfNone, IfOk, IfSome, IsOk, OnOk};
     ghost use Rattle.mark_core.specs.declared.which.Which.TheVariants.{Empty, Full};
-    ghost use Rattle.work_pair.specs.Deals.{Balances, Deals, DealsQuietly, Disposes};
+    ghost use Rattle.work_pair.specs.Deals.{Balances, Deals, DealsQuietly, Disposes, HasMore};
     ghost use Rattle.work_pair.specs.Moves.{WasSeenEmpty};
-    ghost use Rattle.work_pair.specs.Places.{AreAlike, IsBacked, IsNew, IsOpen, Places, items_of, no_places};
+    ghost use Rattle.work_pair.specs.Places.{AreAlike, HasRoom, IsBacked, IsNew, IsOpen, Places, items_of, no_places};
     ghost use Rattle.work_pair.specs.declared.stop.Stop.TheVariants.{NoBuffer, TagSpent};
 
     fn of(first: Held<A>, second: Held<A>) -> Self
@@ -84,8 +84,8 @@ impl<A: Allocator> Pair<A> {
         Ok(None)
     }
 
-    /// Puts an object into the pair. It comes back where both buffers are full and a last tag was loaded, or no empty
-    /// buffer was found.
+    /// Puts an object into the pair, and leaves the stacks alone where one of its buffers has room. The object comes
+    /// back where both are full and a last tag was loaded, or no empty buffer was found.
     pub fn put<R: Wait>(
         &mut self,
         rt: &R,
@@ -99,10 +99,11 @@ impl<A: Allocator> Pair<A> {
         ensures pool { worker.new.pool ≡ worker.old.pool }
         ensures put { OnOk result (Deals self.old worker.old.book (object ∷ []) [] self.new worker.new.book) }
         ensures going { OnOk result (IsOpen self.new) }
-        ensures back { IfErr result (λ e. (e.0 ≡ object) × Deals self.old worker.old.book [] [] self.new
-            worker.new.book) }
+        ensures room { HasRoom self.old → (worker.new ≡ worker.old) × IsOk result }
         ensures no_buffer { IfErr result (λ e. e.1 ≡ NoBuffer → IsOpen self.new × AreAlike self.old self.new
             × WasSeenEmpty Empty worker.old.book worker.new.book) }
+        ensures back { IfErr result (λ e. (e.0 ≡ object) × Deals self.old worker.old.book [] [] self.new
+            worker.new.book) }
         ensures spent { IfErr result (λ e. e.1 ≡ TagSpent → self.new.stopped ≡ true) }
     {
         match self.buffers.put(rt, pool, worker, object) {
@@ -115,8 +116,8 @@ impl<A: Allocator> Pair<A> {
         }
     }
 
-    /// Gets an object from the pair, or from a buffer of the full stack. `None` where none is left and that stack was
-    /// seen empty.
+    /// Gets an object from the pair, or where it has none from a buffer of the full stack. `None` where none is left
+    /// and that stack was seen empty.
     pub fn get<R: Wait>(
         &mut self,
         rt: &R,
@@ -131,6 +132,7 @@ impl<A: Allocator> Pair<A> {
             worker.new.book)) }
         ensures none { IfOk result (λ r. IfNone r (Deals self.old worker.old.book [] [] self.new worker.new.book
             × (items_of self.new ≡ []) × WasSeenEmpty Full worker.old.book worker.new.book)) }
+        ensures own { items_of self.old ≢ [] → (worker.new ≡ worker.old) × IsOk result }
         ensures closed { IfOk result (λ r. IfNone r (worker.new.book.account.open_push ≡ false)) }
         ensures going { OnOk result (IsOpen self.new) }
         ensures spent { IfErr result (λ s. (s ≡ TagSpent) × (self.new.stopped ≡ true) × Deals self.old
@@ -146,7 +148,7 @@ impl<A: Allocator> Pair<A> {
     }
 
     /// Gives work to others: pushes the second buffer on full if it has items, or else the lower part of the first if
-    /// that has more than four. Nothing is done where no empty buffer was found.
+    /// that has more than four. Nothing is done where neither is so, or no empty buffer was found.
     pub fn balance<R: Wait>(
         &mut self,
         rt: &R,
@@ -158,6 +160,7 @@ impl<A: Allocator> Pair<A> {
         requires backed { IsBacked self.old [] worker.old.book }
         ensures pool { worker.new.pool ≡ worker.old.pool }
         ensures balances { OnOk result (Balances self.old worker.old.book self.new worker.new.book) }
+        ensures few { (HasMore self.old → ⊥) → (self.new ≡ self.old) × (worker.new ≡ worker.old) × IsOk result }
         ensures going { OnOk result (IsOpen self.new) }
         ensures spent { IfErr result (λ s. (s ≡ TagSpent) × (self.new.stopped ≡ true) × Deals self.old
             worker.old.book [] [] self.new worker.new.book) }
@@ -183,9 +186,10 @@ impl<A: Allocator> Pair<A> {
         requires going { IsOpen self.old }
         requires backed { IsBacked self.old [] worker.old.book }
         ensures pool { worker.new.pool ≡ worker.old.pool }
-        ensures published { OnOk result (Deals self.old worker.old.book [] [] self.new worker.new.book) }
         ensures none_left { OnOk result (WasSeenEmpty Empty worker.old.book worker.new.book ⊎ (items_of self.new
             ≡ [])) }
+        ensures published { OnOk result (Deals self.old worker.old.book [] [] self.new worker.new.book) }
+        ensures nothing { items_of self.old ≡ [] → (self.new ≡ self.old) × (worker.new ≡ worker.old) × IsOk result }
         ensures going { OnOk result (IsOpen self.new) }
         ensures spent { IfErr result (λ s. (s ≡ TagSpent) × (self.new.stopped ≡ true) × Deals self.old
             worker.old.book [] [] self.new worker.new.book) }
@@ -225,5 +229,20 @@ impl<A: Allocator> Pair<A> {
                 Err((left, stop))
             }
         }
+    }
+
+    /// How many objects each of its places has, and `None` for a place without a buffer.
+    #[cfg(test)]
+    pub(crate) fn lens(&self) -> [Option<u32>; 3] {
+        let Buffers {
+            first,
+            second,
+            third,
+        } = &self.buffers;
+        [
+            first.as_ref().map(|held| held.len()),
+            second.as_ref().map(|held| held.len()),
+            third.as_ref().map(|held| held.len()),
+        ]
     }
 }

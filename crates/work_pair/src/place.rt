@@ -1,10 +1,10 @@
 //! A place for a buffer in a pair. It is vacant only once a call was stopped.
 ghost use Rattle.std.specs.Prelude.{◌≡◌, ◌≢◌, ◌+◌, ◌↔◌, ◌<◌, ℕ, [], ◌∷◌, ◌++◌, Some, None, IsTrue, IfOk, length};
-ghost use Rattle.std.specs.Prelude.{MatchOption};
+ghost use Rattle.std.specs.Prelude.{IsOk, MatchOption};
 ghost use Rattle.std.specs.Bool.{OnTrue, OnFalse};
 ghost use Rattle.mark_core.specs.Lists.{times, IsPart};
-ghost use Rattle.buffer_pool.specs.Calls.{Load};
-ghost use Rattle.work_pair.specs.Places.{items_at, number_at, IsOfSize};
+ghost use Rattle.buffer_pool.specs.Calls.{HeldBuffer};
+ghost use Rattle.work_pair.specs.Places.{items_at, number_at, HasRoomAt, IsOfSize};
 ghost use Rattle.work_pair.specs.working.Steps.{ClearsAt, PublishesAt, PutsOut, RenewTells};
 
 use crate::steps::{pop_one, shelve};
@@ -25,10 +25,11 @@ pub(crate) fn len_at<A: Allocator>(place: &Option<Held<A>>) -> u32
 
 /// Puts an object into the buffer. False where it is full.
 pub(crate) fn put_at<A: Allocator>(place: &mut Option<Held<A>>, object: u32) -> bool
-    ensures put { OnTrue result ((h : Load) × (place.old ≡ Some h) × (place.new
+    ensures put { OnTrue result ((h : HeldBuffer) × (place.old ≡ Some h) × (place.new
         ≡ Some (record h { items = h.items ++ object ∷ [] }))) }
     ensures full { OnFalse result (place.new ≡ place.old) }
-    ensures room { (h : Load) → place.old ≡ Some h → h.items ≡ [] → IsTrue result }
+    ensures no_room { OnFalse result (HasRoomAt place.old → ⊥) }
+    ensures room { (h : HeldBuffer) → place.old ≡ Some h → h.items ≡ [] → IsTrue result }
 {
     match place {
         Some(held) => held.put(object).is_ok(),
@@ -38,8 +39,8 @@ pub(crate) fn put_at<A: Allocator>(place: &mut Option<Held<A>>, object: u32) -> 
 
 /// Takes the object that was put last.
 pub(crate) fn take_at<A: Allocator>(place: &mut Option<Held<A>>) -> Option<u32>
-    ensures { MatchOption result ((items_at place.old ≡ []) × (place.new ≡ place.old)) (λ o. (h : Load) × (k : Load)
-        × (place.old ≡ Some h) × (place.new ≡ Some k) × (h.items ≡ k.items ++ o ∷ []) × (k
+    ensures { MatchOption result ((items_at place.old ≡ []) × (place.new ≡ place.old)) (λ o. (h : HeldBuffer)
+        × (k : HeldBuffer) × (place.old ≡ Some h) × (place.new ≡ Some k) × (h.items ≡ k.items ++ o ∷ []) × (k
         ≡ record h { items = k.items })) }
 {
     match place {
@@ -136,7 +137,7 @@ pub(crate) fn renew<R: Wait, A: Allocator>(
     ensures pool { worker.new.pool ≡ worker.old.pool }
     ensures renews { RenewTells worker.old.book.setup.size place.old worker.old.book place.new third.new
         worker.new.book result }
-    ensures bare { IfOk result (λ done. OnTrue done ((h : Load) × (place.new ≡ Some h) × (h.items ≡ []))) }
+    ensures bare { IfOk result (λ done. OnTrue done ((h : HeldBuffer) × (place.new ≡ Some h) × (h.items ≡ []))) }
 {
     let Some(next) = pop_one(rt, pool, worker, Which::Empty)? else {
         return Ok(false);
@@ -187,6 +188,8 @@ pub(crate) fn publish_at<R: Wait, A: Allocator>(
     ensures pool { worker.new.pool ≡ worker.old.pool }
     ensures publishes { PublishesAt worker.old.book.setup.size place.old worker.old.book place.new third.new
         worker.new.book result }
+    ensures none { items_at place.old ≡ [] → (place.new ≡ place.old) × (third.new ≡ third.old)
+        × (worker.new ≡ worker.old) × IsOk result }
 {
     if len_at(place) == 0 {
         return Ok(());

@@ -5,7 +5,7 @@ use Rattle.mark_core.specs.declared.which.Which.{Which}
 use Rattle.mark_core.specs.declared.which.Which.TheVariants.{Full, Empty}
 use Rattle.mark_core.specs.Lists.{times}
 use Rattle.buffer_pool.specs.Book.{Book}
-use Rattle.buffer_pool.specs.Calls.{Load}
+use Rattle.buffer_pool.specs.Calls.{HeldBuffer}
 use Rattle.work_pair.specs.Deals.{HasMore}
 use Rattle.work_pair.specs.Moves.{Move, Took, Gave, FoundNone, Ended, Moved, Moves, popped_items, popped_numbers}
 use Rattle.work_pair.specs.Moves.{pushed_items, pushed_numbers, AreFilled, HasPushOnFull, EndAtLastTag, WasSeenEmpty}
@@ -15,7 +15,7 @@ use Rattle.work_pair.specs.declared.stop.Stop.{Stop}
 use Rattle.work_pair.specs.declared.stop.Stop.TheVariants.{TagSpent, NoBuffer}
 
 -- a pair with these three places
-abbrev pub places : Option Load → Option Load → Option Load → Places
+abbrev pub places : Option HeldBuffer → Option HeldBuffer → Option HeldBuffer → Places
 places first second third = record { first = first; second = second; third = third; stopped = false }
 
 -- the stack for a buffer with these items
@@ -24,32 +24,33 @@ shelf_of [] = Empty
 shelf_of (o ∷ os) = Full
 
 -- one pop
-abbrev pub PopsOne : Which → Book → Book → Result (Option Load) Stop → Type 0
+abbrev pub PopsOne : Which → Book → Book → Result (Option HeldBuffer) Stop → Type 0
 PopsOne q old new (Ok (Some h)) = Moved (Took q h) old new
 PopsOne q old new (Ok None) = Moved (FoundNone q) old new
 PopsOne q old new (Err TagSpent) = Moved (Ended q) old new
 PopsOne q old new (Err NoBuffer) = ⊥
 
 -- one push
-abbrev pub Shelves : Load → Book → Book → Result Unit Load → Type 0
+abbrev pub Shelves : HeldBuffer → Book → Book → Result Unit HeldBuffer → Type 0
 Shelves h old new (Ok done) = Moved (Gave (shelf_of h.items) h) old new
 Shelves h old new (Err back) = (back ≡ h) × Moved (Ended (shelf_of h.items)) old new
 
 -- the buffer at a place, if there is one, was pushed
-abbrev pub Leaves : Option Load → Book → Book → Type 0
+abbrev pub Leaves : Option HeldBuffer → Book → Book → Type 0
 Leaves None old new = new ≡ old
 Leaves (Some h) old new = Moved (Gave (shelf_of h.items) h) old new
 
 -- the buffer at a place was pushed, and the next one took its place; or a last tag was loaded, and the next one is
 -- left over
-abbrev pub PutsOut : Option Load → Load → Book → Option Load → Option Load → Book → Result Unit Stop → Type 0
+abbrev pub PutsOut : Option HeldBuffer → HeldBuffer → Book → Option HeldBuffer → Option HeldBuffer → Book
+    → Result Unit Stop → Type 0
 PutsOut old next before new third after (Ok done) = (new ≡ Some next) × (third ≡ None) × Leaves old before after
 PutsOut old next before new third after (Err TagSpent) = (new ≡ old) × (third ≡ Some next) × ((q : Which)
     × Moved (Ended q) before after)
 PutsOut old next before new third after (Err NoBuffer) = ⊥
 
 -- the buffer at a place, if there is one, was pushed; or a last tag was loaded, and it is still there
-abbrev pub ClearsAt : Option Load → Book → Option Load → Book → Result Unit Stop → Type 0
+abbrev pub ClearsAt : Option HeldBuffer → Book → Option HeldBuffer → Book → Result Unit Stop → Type 0
 ClearsAt old before new after (Ok done) = (new ≡ None) × Leaves old before after
 ClearsAt old before new after (Err TagSpent) = (new ≡ old) × ((q : Which) × Moved (Ended q) before after)
 ClearsAt old before new after (Err NoBuffer) = ⊥
@@ -63,10 +64,11 @@ pub record IsLocal (old new : Places) (put got : List ℕ) : Type 0 where
 abbrev pub Takes : Places → Places → Option ℕ → Type 0
 Takes old new (Some object) = IsLocal old new [] (object ∷ []) × (new.third ≡ old.third)
 Takes old new None = IsLocal old new [] [] × (new.third ≡ old.third) × (items_at new.first ≡ [])
-    × (items_at new.second ≡ [])
+    × (items_at new.second ≡ []) × (items_at old.first ≡ []) × (items_at old.second ≡ [])
 
 -- what was done with one place: its buffer before, the buffer there after, and the one left over
-pub record Renews (size : ℕ) (old : Option Load) (before : Book) (new third : Option Load) (after : Book) : Type 0 where
+pub record Renews (size : ℕ) (old : Option HeldBuffer) (before : Book) (new third : Option HeldBuffer) (after : Book)
+    : Type 0 where
   pub moves : List Move
   pub books : Moves before moves after
   pub items : (o : ℕ) → times o (items_at new) + times o (items_at third) + times o (pushed_items moves)
@@ -77,7 +79,8 @@ pub record Renews (size : ℕ) (old : Option Load) (before : Book) (new third : 
   pub sized : IsOfSize size new
   pub left_sized : IsOfSize size third
 
-abbrev pub RenewTells : ℕ → Option Load → Book → Option Load → Option Load → Book → Result Bool Stop → Type 0
+abbrev pub RenewTells : ℕ → Option HeldBuffer → Book → Option HeldBuffer → Option HeldBuffer → Book
+    → Result Bool Stop → Type 0
 RenewTells size old before new third after (Ok true) = (r : Renews size old before new third after) × (third ≡ None)
     × ((items_at old ≢ []) → HasPushOnFull r.moves)
 RenewTells size old before new third after (Ok false) = Renews size old before new third after × (third ≡ None) × (new
@@ -87,7 +90,8 @@ RenewTells size old before new third after (Err TagSpent) = (r : Renews size old
 RenewTells size old before new third after (Err NoBuffer) = ⊥
 
 -- a place whose buffer has items was renewed
-abbrev pub PublishesAt : ℕ → Option Load → Book → Option Load → Option Load → Book → Result Unit Stop → Type 0
+abbrev pub PublishesAt : ℕ → Option HeldBuffer → Book → Option HeldBuffer → Option HeldBuffer → Book
+    → Result Unit Stop → Type 0
 PublishesAt size old before new third after (Ok done) = Renews size old before new third after × (third ≡ None)
     × (WasSeenEmpty Empty before after ⊎ (items_at new ≡ []))
 PublishesAt size old before new third after (Err TagSpent) = (r : Renews size old before new third after)

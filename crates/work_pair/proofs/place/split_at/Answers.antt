@@ -2,7 +2,7 @@ use Rattle.std.proofs.Common.{ap, length, take, drop, ℕ, List, ◌-◌, ◌/�
 use Rattle.std.proofs.lemmas.List.{take-append-drop}
 use Rattle.mark_core.specs.Lists.{only, times}
 use Rattle.mark_core.proofs.Sums.{total-append}
-use Rattle.buffer_pool.specs.Calls.{Load}
+use Rattle.buffer_pool.specs.Calls.{HeldBuffer}
 use Rattle.work_pair.specs.Places.{items_at}
 use Rattle.work_pair.proofs.place.split_at.Goals as goal
 
@@ -12,9 +12,9 @@ returns-in-Some-clause-shared g c o =
     let low = length all - length all / 2 in
     omega (
       arith,
-      ap (λ (h : Load). times o h.items) c.split_upper_into.ensures.lower,
-      ap (λ (h : Load). times o h.items) c.split_upper_into.ensures.upper,
+      ap (λ (h : HeldBuffer). times o h.items) c.split_upper_into.ensures.lower,
+      ap (λ (h : HeldBuffer). times o h.items) c.split_upper_into.ensures.upper,
       total-append (only o) (take low all) (drop low all),
       ap (times o) (take-append-drop low all),
-      ap (λ (p : Option Load). times o (items_at p)) c.in-Some.is,
+      ap (λ (p : Option HeldBuffer). times o (items_at p)) c.in-Some.is,
     )

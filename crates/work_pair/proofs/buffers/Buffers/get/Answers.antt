@@ -1,9 +1,9 @@
 use Rattle.std.proofs.Common.{[], Ok, Option, refl, subst, ◌∙◌, arith}
 use Rattle.std.proofs.lemmas.Result.{err_from_is_err_and}
 use Rattle.mark_core.specs.declared.which.Which.TheVariants.{Full}
-use Rattle.buffer_pool.specs.Calls.{Load}
+use Rattle.buffer_pool.specs.Calls.{HeldBuffer}
 use Rattle.work_pair.specs.working.Steps.{PopsOne, places}
-use Rattle.work_pair.proofs.Getting.{charged_here, got, held_here, none_got, of_size_here, pop_stopped, put_stopped, turned}
+use Rattle.work_pair.proofs.Getting.{all_taken, charged_here, got, held_here, none_got, of_size_here, pop_stopped, put_stopped, turned}
 use Rattle.work_pair.proofs.Trading.{still}
 use Rattle.work_pair.proofs.buffers.Buffers.get.Goals as goal
 
@@ -15,6 +15,7 @@ loop-init g c =
       pool = refl;
       third = c.requires.third;
       trades = still p c.args.worker.now.book [] [] p (record { items = λ o. omega arith; buffers = λ i. refl; sized = λ size of. of }) c.requires.backed.sized;
+      own = λ some. (refl, some);
     }
 
 pub returns-in-Some-take-clause-tells : goal.returns-in-Some-take-clause-tells
@@ -32,33 +33,38 @@ returns-in_err-next-clause-tells g c =
 pub returns-in_default-2-clause-tells : goal.returns-in_default-2-clause-tells
 returns-in_default-2-clause-tells g c =
     none_got (places c.args.self.now.first c.args.self.now.second c.args.self.now.third) c.args.worker.now.book c.requires.backed c.loop.self.first c.loop.self.second c.loop.self.third c.loop.worker.book c.loop.invariant.trades c.loop.invariant.third
-    c.take.new.self.first c.take.new.self.second c.take.new.self.third c.in_default.ensures c.pop_one.new.worker.book (subst (λ (r : Option Load). PopsOne Full c.loop.worker.book c.pop_one.new.worker.book (Ok r)) c.in_default-2.is c.in_ok-next.ensures.pops)
+    c.take.new.self.first c.take.new.self.second c.take.new.self.third c.in_default.ensures c.pop_one.new.worker.book (subst (λ (r : Option HeldBuffer). PopsOne Full c.loop.worker.book c.pop_one.new.worker.book (Ok r)) c.in_default-2.is c.in_ok-next.ensures.pops)
 
 pub put_out-requires-clause-held : goal.put_out-requires-clause-held
 put_out-requires-clause-held g c =
     held_here (places c.args.self.now.first c.args.self.now.second c.args.self.now.third) c.args.worker.now.book c.requires.backed c.loop.self.first c.loop.self.second c.loop.self.third c.loop.worker.book c.loop.invariant.trades c.loop.invariant.third
     c.take.new.self.first c.take.new.self.second c.take.new.self.third c.in_default.ensures c.in-Some-2.next c.pop_one.new.worker.book
-    (subst (λ (r : Option Load). PopsOne Full c.loop.worker.book c.pop_one.new.worker.book (Ok r)) c.in-Some-2.is c.in_ok-next.ensures.pops)
+    (subst (λ (r : Option HeldBuffer). PopsOne Full c.loop.worker.book c.pop_one.new.worker.book (Ok r)) c.in-Some-2.is c.in_ok-next.ensures.pops)
 
 pub put_out-requires-clause-charged : goal.put_out-requires-clause-charged
 put_out-requires-clause-charged g c =
     charged_here (places c.args.self.now.first c.args.self.now.second c.args.self.now.third) c.args.worker.now.book c.requires.backed c.loop.self.first c.loop.self.second c.loop.self.third c.loop.worker.book c.loop.invariant.trades c.loop.invariant.third
     c.take.new.self.first c.take.new.self.second c.take.new.self.third c.in_default.ensures c.in-Some-2.next c.pop_one.new.worker.book
-    (subst (λ (r : Option Load). PopsOne Full c.loop.worker.book c.pop_one.new.worker.book (Ok r)) c.in-Some-2.is c.in_ok-next.ensures.pops)
+    (subst (λ (r : Option HeldBuffer). PopsOne Full c.loop.worker.book c.pop_one.new.worker.book (Ok r)) c.in-Some-2.is c.in_ok-next.ensures.pops)
 
 pub put_out-requires-clause-sized : goal.put_out-requires-clause-sized
 put_out-requires-clause-sized g c =
     of_size_here (places c.args.self.now.first c.args.self.now.second c.args.self.now.third) c.args.worker.now.book c.requires.backed c.loop.self.first c.loop.self.second c.loop.self.third c.loop.worker.book c.loop.invariant.trades c.loop.invariant.third
     c.take.new.self.first c.take.new.self.second c.take.new.self.third c.in_default.ensures c.in-Some-2.next c.pop_one.new.worker.book
-    (subst (λ (r : Option Load). PopsOne Full c.loop.worker.book c.pop_one.new.worker.book (Ok r)) c.in-Some-2.is c.in_ok-next.ensures.pops)
+    (subst (λ (r : Option HeldBuffer). PopsOne Full c.loop.worker.book c.pop_one.new.worker.book (Ok r)) c.in-Some-2.is c.in_ok-next.ensures.pops)
 
 pub loop-preserved : goal.loop-preserved
 loop-preserved g c =
     let both =
     turned (places c.args.self.now.first c.args.self.now.second c.args.self.now.third) c.args.worker.now.book c.requires.backed c.loop.self.first c.loop.self.second c.loop.self.third c.loop.worker.book c.loop.invariant.trades c.loop.invariant.third
     c.take.new.self.first c.take.new.self.second c.take.new.self.third c.in_default.ensures c.in-Some-2.next c.pop_one.new.worker.book
-    (subst (λ (r : Option Load). PopsOne Full c.loop.worker.book c.pop_one.new.worker.book (Ok r)) c.in-Some-2.is c.in_ok-next.ensures.pops) c.put_out.new.place c.put_out.new.third c.put_out.new.worker.book c.in_ok-put_out.field-0 c.in_ok-put_out.ensures.out in
-    record { pool = c.put_out.ensures.pool ∙ c.pop_one.ensures.pool ∙ c.loop.invariant.pool; third = both.1; trades = both.0 }
+    (subst (λ (r : Option HeldBuffer). PopsOne Full c.loop.worker.book c.pop_one.new.worker.book (Ok r)) c.in-Some-2.is c.in_ok-next.ensures.pops) c.put_out.new.place c.put_out.new.third c.put_out.new.worker.book c.in_ok-put_out.field-0 c.in_ok-put_out.ensures.out in
+    record {
+      pool = c.put_out.ensures.pool ∙ c.pop_one.ensures.pool ∙ c.loop.invariant.pool;
+      third = both.1;
+      trades = both.0;
+      own = λ some. absurd ((c.loop.invariant.own some).1 (all_taken c.loop.self.first c.loop.self.second c.loop.self.third c.take.new.self.first c.take.new.self.second c.take.new.self.third c.in_default.ensures c.loop.invariant.third));
+    }
 
 pub returns-in_err-put_out-clause-tells : goal.returns-in_err-put_out-clause-tells
 returns-in_err-put_out-clause-tells g c =
@@ -66,4 +72,19 @@ returns-in_err-put_out-clause-tells g c =
     rw (p.1, p.2)
     (put_stopped (places c.args.self.now.first c.args.self.now.second c.args.self.now.third) c.args.worker.now.book c.requires.backed c.loop.self.first c.loop.self.second c.loop.self.third c.loop.worker.book c.loop.invariant.trades c.loop.invariant.third
     c.take.new.self.first c.take.new.self.second c.take.new.self.third c.in_default.ensures c.in-Some-2.next c.pop_one.new.worker.book
-    (subst (λ (r : Option Load). PopsOne Full c.loop.worker.book c.pop_one.new.worker.book (Ok r)) c.in-Some-2.is c.in_ok-next.ensures.pops) c.put_out.new.place c.put_out.new.third c.put_out.new.worker.book c.in_err-put_out.field-0.0 c.in_err-put_out.ensures.out)
+    (subst (λ (r : Option HeldBuffer). PopsOne Full c.loop.worker.book c.pop_one.new.worker.book (Ok r)) c.in-Some-2.is c.in_ok-next.ensures.pops) c.put_out.new.place c.put_out.new.third c.put_out.new.worker.book c.in_err-put_out.field-0.0 c.in_err-put_out.ensures.out)
+
+pub returns-in-Some-take-clause-own : goal.returns-in-Some-take-clause-own
+returns-in-Some-take-clause-own g c some = ((c.loop.invariant.own some).0, refl)
+
+pub returns-in_err-next-clause-own : goal.returns-in_err-next-clause-own
+returns-in_err-next-clause-own g c some =
+    absurd ((c.loop.invariant.own some).1 (all_taken c.loop.self.first c.loop.self.second c.loop.self.third c.take.new.self.first c.take.new.self.second c.take.new.self.third c.in_default.ensures c.loop.invariant.third))
+
+pub returns-in_default-2-clause-own : goal.returns-in_default-2-clause-own
+returns-in_default-2-clause-own g c some =
+    absurd ((c.loop.invariant.own some).1 (all_taken c.loop.self.first c.loop.self.second c.loop.self.third c.take.new.self.first c.take.new.self.second c.take.new.self.third c.in_default.ensures c.loop.invariant.third))
+
+pub returns-in_err-put_out-clause-own : goal.returns-in_err-put_out-clause-own
+returns-in_err-put_out-clause-own g c some =
+    absurd ((c.loop.invariant.own some).1 (all_taken c.loop.self.first c.loop.self.second c.loop.self.third c.take.new.self.first c.take.new.self.second c.take.new.self.third c.in_default.ensures c.loop.invariant.third))

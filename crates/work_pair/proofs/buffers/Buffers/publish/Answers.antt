@@ -1,7 +1,7 @@
-use Rattle.std.proofs.Common.{[]}
+use Rattle.std.proofs.Common.{[], ◌∙◌}
 use Rattle.std.proofs.lemmas.Result.{err_from_is_err_and}
 use Rattle.work_pair.specs.working.Steps.{places}
-use Rattle.work_pair.proofs.Calls.{both_published, publish_stopped, published_backed}
+use Rattle.work_pair.proofs.Calls.{both_published, none_at, publish_stopped, published_backed}
 use Rattle.work_pair.proofs.Trading.{first_charged, second_charged, second_held}
 use Rattle.work_pair.proofs.buffers.Buffers.publish.Goals as goal
 
@@ -36,3 +36,11 @@ returns-clause-tells g c =
     let m = c.args.self.now in
     both_published m.first m.second m.third c.publish_at.new.place c.publish_at.new.third c.args.worker.now.book c.publish_at.new.worker.book c.requires.third c.requires.backed.sized c.in_ok-publish_at.field-0 c.in_ok-publish_at.ensures.publishes
     c.publish_at-2.new.place c.publish_at-2.new.third c.publish_at-2.new.worker.book c.publish_at-2.result c.publish_at-2.ensures.publishes
+
+pub returns-clause-nothing : goal.returns-clause-nothing
+returns-clause-nothing g c none =
+    let m = c.args.self.now in
+    let empty = none_at m.first m.second m.third none in
+    let first = c.in_ok-publish_at.ensures.none empty.0 in
+    let second = c.publish_at-2.ensures.none empty.1 in
+    (λ k. places (first.0 k) (second.0 k) ((second.1 ∙ first.1) k), second.2 ∙ first.2, second.3)

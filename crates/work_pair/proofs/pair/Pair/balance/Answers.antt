@@ -1,4 +1,5 @@
-use Rattle.std.proofs.Common.{◌∙◌, [], true, ap, refl}
+use Rattle.std.proofs.Common.{◌∙◌, [], true, ap, refl, subst}
+use Rattle.work_pair.specs.Deals.{HasMore}
 use Rattle.work_pair.specs.Moves.{EndAtLastTag}
 use Rattle.work_pair.specs.Places.{Places}
 use Rattle.work_pair.specs.working.Steps.{places}
@@ -19,3 +20,8 @@ returns-in-Err-clause-spent g c =
       deals c.args.self.now c.self.inside.buffers.first c.self.inside.buffers.second c.self.inside.buffers.third c.self.inside.stopped c.self.view_is
           [] [] c.args.worker.now.book c.requires.backed c.balance.new.self.first c.balance.new.self.second c.balance.new.self.third true c.balance.new.worker.book told.1.0 (λ stopped. told.1.1),
     )
+
+pub returns-in-Ok-clause-few : goal.returns-in-Ok-clause-few
+returns-in-Ok-clause-few g c few =
+    let same = c.in-Ok.ensures.few (λ more. few (subst HasMore c.self.view_is more)) in
+    (ap (λ (p : Places). record p { stopped = c.self.inside.stopped }) same.0 ∙ c.self.view_is, same.1, refl)

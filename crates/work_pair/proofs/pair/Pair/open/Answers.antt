@@ -1,7 +1,7 @@
 use Rattle.std.proofs.Common.{Ok, None, Option, Some, [], sym, subst}
 use Rattle.std.proofs.lemmas.Result.{err_from_is_err_and}
 use Rattle.mark_core.specs.declared.which.Which.TheVariants.{Empty}
-use Rattle.buffer_pool.specs.Calls.{Load}
+use Rattle.buffer_pool.specs.Calls.{HeldBuffer}
 use Rattle.work_pair.specs.Places.{Places, IsNew, no_places}
 use Rattle.work_pair.specs.Deals.{DealsQuietly}
 use Rattle.work_pair.specs.working.Steps.{PopsOne, places}
@@ -16,41 +16,41 @@ returns-in_err-first-clause-spent g c =
 
 pub returns-in_default-clause-none : goal.returns-in_default-clause-none
 returns-in_default-clause-none g c =
-    first_missing c.args.worker.now.book c.pop_one.new.worker.book (subst (λ (r : Option Load). PopsOne Empty c.args.worker.now.book c.pop_one.new.worker.book (Ok r)) c.in_default.is c.in_ok-first.ensures.pops)
+    first_missing c.args.worker.now.book c.pop_one.new.worker.book (subst (λ (r : Option HeldBuffer). PopsOne Empty c.args.worker.now.book c.pop_one.new.worker.book (Ok r)) c.in_default.is c.in_ok-first.ensures.pops)
 
 pub returns-in_err-second-clause-spent : goal.returns-in_err-second-clause-spent
 returns-in_err-second-clause-spent g c =
     let p = err_from_is_err_and c.from_residual-in_err-second.result c.from_residual-in_err-second.ensures.1 in
     rw (p.1, p.2)
-    (second_stopped c.args.worker.now.book c.in-Some.first c.pop_one.new.worker.book (subst (λ (r : Option Load). PopsOne Empty c.args.worker.now.book c.pop_one.new.worker.book (Ok r)) c.in-Some.is c.in_ok-first.ensures.pops)
+    (second_stopped c.args.worker.now.book c.in-Some.first c.pop_one.new.worker.book (subst (λ (r : Option HeldBuffer). PopsOne Empty c.args.worker.now.book c.pop_one.new.worker.book (Ok r)) c.in-Some.is c.in_ok-first.ensures.pops)
     c.pop_one-2.new.worker.book c.in_err-second.field-0.0 c.in_err-second.ensures.pops)
 
 pub returns-in-Some-2-clause-opened : goal.returns-in-Some-2-clause-opened
 returns-in-Some-2-clause-opened g c =
     let told =
-    both_taken c.args.worker.now.book c.in-Some.first c.pop_one.new.worker.book (subst (λ (r : Option Load). PopsOne Empty c.args.worker.now.book c.pop_one.new.worker.book (Ok r)) c.in-Some.is c.in_ok-first.ensures.pops)
-    c.in-Some-2.second c.pop_one-2.new.worker.book (subst (λ (r : Option Load). PopsOne Empty c.pop_one.new.worker.book c.pop_one-2.new.worker.book (Ok r)) c.in-Some-2.is c.in_ok-second.ensures.pops) in
+    both_taken c.args.worker.now.book c.in-Some.first c.pop_one.new.worker.book (subst (λ (r : Option HeldBuffer). PopsOne Empty c.args.worker.now.book c.pop_one.new.worker.book (Ok r)) c.in-Some.is c.in_ok-first.ensures.pops)
+    c.in-Some-2.second c.pop_one-2.new.worker.book (subst (λ (r : Option HeldBuffer). PopsOne Empty c.pop_one.new.worker.book c.pop_one-2.new.worker.book (Ok r)) c.in-Some-2.is c.in_ok-second.ensures.pops) in
     subst (λ (p : Places). IsNew p × DealsQuietly no_places c.args.worker.now.book p c.pop_one-2.new.worker.book) (sym c.of.ensures) told
 
 pub clear_at-requires-clause-held : goal.clear_at-requires-clause-held
 clear_at-requires-clause-held g c =
-    first_held (places (Some c.in-Some.first) None None) [] c.pop_one-2.new.worker.book (back_backed c.args.worker.now.book c.in-Some.first c.pop_one.new.worker.book (subst (λ (r : Option Load). PopsOne Empty c.args.worker.now.book c.pop_one.new.worker.book (Ok r)) c.in-Some.is c.in_ok-first.ensures.pops)
-    c.pop_one-2.new.worker.book (subst (λ (r : Option Load). PopsOne Empty c.pop_one.new.worker.book c.pop_one-2.new.worker.book (Ok r)) c.in_default-2.is c.in_ok-second.ensures.pops))
+    first_held (places (Some c.in-Some.first) None None) [] c.pop_one-2.new.worker.book (back_backed c.args.worker.now.book c.in-Some.first c.pop_one.new.worker.book (subst (λ (r : Option HeldBuffer). PopsOne Empty c.args.worker.now.book c.pop_one.new.worker.book (Ok r)) c.in-Some.is c.in_ok-first.ensures.pops)
+    c.pop_one-2.new.worker.book (subst (λ (r : Option HeldBuffer). PopsOne Empty c.pop_one.new.worker.book c.pop_one-2.new.worker.book (Ok r)) c.in_default-2.is c.in_ok-second.ensures.pops))
 
 pub clear_at-requires-clause-sized : goal.clear_at-requires-clause-sized
-clear_at-requires-clause-sized g c = (back_backed c.args.worker.now.book c.in-Some.first c.pop_one.new.worker.book (subst (λ (r : Option Load). PopsOne Empty c.args.worker.now.book c.pop_one.new.worker.book (Ok r)) c.in-Some.is c.in_ok-first.ensures.pops)
-    c.pop_one-2.new.worker.book (subst (λ (r : Option Load). PopsOne Empty c.pop_one.new.worker.book c.pop_one-2.new.worker.book (Ok r)) c.in_default-2.is c.in_ok-second.ensures.pops)).sized.first
+clear_at-requires-clause-sized g c = (back_backed c.args.worker.now.book c.in-Some.first c.pop_one.new.worker.book (subst (λ (r : Option HeldBuffer). PopsOne Empty c.args.worker.now.book c.pop_one.new.worker.book (Ok r)) c.in-Some.is c.in_ok-first.ensures.pops)
+    c.pop_one-2.new.worker.book (subst (λ (r : Option HeldBuffer). PopsOne Empty c.pop_one.new.worker.book c.pop_one-2.new.worker.book (Ok r)) c.in_default-2.is c.in_ok-second.ensures.pops)).sized.first
 
 pub returns-in_err-clear_at-clause-spent : goal.returns-in_err-clear_at-clause-spent
 returns-in_err-clear_at-clause-spent g c =
     let p = err_from_is_err_and c.from_residual-in_err-clear_at.result c.from_residual-in_err-clear_at.ensures.1 in
     rw (p.1, p.2)
-    (back_stopped c.args.worker.now.book c.in-Some.first c.pop_one.new.worker.book (subst (λ (r : Option Load). PopsOne Empty c.args.worker.now.book c.pop_one.new.worker.book (Ok r)) c.in-Some.is c.in_ok-first.ensures.pops)
-    c.pop_one-2.new.worker.book (subst (λ (r : Option Load). PopsOne Empty c.pop_one.new.worker.book c.pop_one-2.new.worker.book (Ok r)) c.in_default-2.is c.in_ok-second.ensures.pops)
+    (back_stopped c.args.worker.now.book c.in-Some.first c.pop_one.new.worker.book (subst (λ (r : Option HeldBuffer). PopsOne Empty c.args.worker.now.book c.pop_one.new.worker.book (Ok r)) c.in-Some.is c.in_ok-first.ensures.pops)
+    c.pop_one-2.new.worker.book (subst (λ (r : Option HeldBuffer). PopsOne Empty c.pop_one.new.worker.book c.pop_one-2.new.worker.book (Ok r)) c.in_default-2.is c.in_ok-second.ensures.pops)
     c.clear_at.new.place c.clear_at.new.worker.book c.in_err-clear_at.field-0.0 c.in_err-clear_at.ensures.clears)
 
 pub returns-clause-none : goal.returns-clause-none
 returns-clause-none g c =
-    given_back c.args.worker.now.book c.in-Some.first c.pop_one.new.worker.book (subst (λ (r : Option Load). PopsOne Empty c.args.worker.now.book c.pop_one.new.worker.book (Ok r)) c.in-Some.is c.in_ok-first.ensures.pops)
-    c.pop_one-2.new.worker.book (subst (λ (r : Option Load). PopsOne Empty c.pop_one.new.worker.book c.pop_one-2.new.worker.book (Ok r)) c.in_default-2.is c.in_ok-second.ensures.pops)
+    given_back c.args.worker.now.book c.in-Some.first c.pop_one.new.worker.book (subst (λ (r : Option HeldBuffer). PopsOne Empty c.args.worker.now.book c.pop_one.new.worker.book (Ok r)) c.in-Some.is c.in_ok-first.ensures.pops)
+    c.pop_one-2.new.worker.book (subst (λ (r : Option HeldBuffer). PopsOne Empty c.pop_one.new.worker.book c.pop_one-2.new.worker.book (Ok r)) c.in_default-2.is c.in_ok-second.ensures.pops)
     c.clear_at.new.place c.clear_at.new.worker.book c.in_ok-clear_at.field-0 c.in_ok-clear_at.ensures.clears

@@ -1,0 +1,25 @@
+-- What the tests ask of a worker and its pair.
+use Rattle.std.specs.Prelude.{◌≡◌, ℕ, List, []}
+use Rattle.std.specs.List.{range_with_len}
+use Rattle.atomic_table.specs.Seated.{TableId}
+use Rattle.buffer_pool.specs.Calls.{Holder}
+use Rattle.work_pair.specs.Places.{Places, IsOpen, IsBacked}
+
+-- the numbers below n
+unfoldable pub numbers : ℕ → List ℕ
+numbers n = range_with_len 0 n
+
+-- a worker of the pool, which was made for n objects that are all roots
+pub record IsWorker (n : ℕ) (pool : TableId) (w : Holder) : Type 0 where
+  pub same : w.pool ≡ pool
+  pub roots : w.book.setup.roots ≡ numbers n
+
+-- and with a pair that it backs, and with these objects besides
+pub record HasBesides (n : ℕ) (pool : TableId) (w : Holder) (p : Places) (besides : List ℕ) : Type 0 where
+  pub worker : IsWorker n pool w
+  pub going : IsOpen p
+  pub backed : IsBacked p besides w.book
+
+-- and with none
+abbrev pub IsReady : ℕ → TableId → Holder → Places → Type 0
+IsReady n pool w p = HasBesides n pool w p []
