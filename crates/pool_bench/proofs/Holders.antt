@@ -6,7 +6,7 @@ use Rattle.mark_core.specs.declared.which.Which.TheVariants.{Empty}
 use Rattle.mark_core.specs.Lists.{times}
 use Rattle.mark_core.specs.Event.{CanClaim}
 use Rattle.buffer_pool.specs.Book.{Book, claimed}
-use Rattle.buffer_pool.specs.Calls.{Holder, Load, MayPush, PopsAtLast}
+use Rattle.buffer_pool.specs.Calls.{Holder, HeldBuffer, MayPush, PopsAtLast}
 use Rattle.buffer_pool.specs.declared.answers.Popped.TheVariants as pop
 use Rattle.pool_bench.specs.Holders.{AreRoots, HasSeen, SamePool, numbers}
 
@@ -38,7 +38,7 @@ one_more_seen from o found old new is seen x low high = subst (λ (b : Book). Co
     last l = Contains-append_right old.book.account.seen (o ∷ []) o (0, omega arith, refl)
 
 -- the buffer that the last pop took from the empty stack has no items
-pub may_push : (old new : Book) (h : Load) → PopsAtLast Empty old new (pop.Took h) → MayPush Empty h new
+pub may_push : (old new : Book) (h : HeldBuffer) → PopsAtLast Empty old new (pop.Took h) → MayPush Empty h new
 may_push old new h p =
     let q = p.2 in
     record {

@@ -2,7 +2,7 @@
 ghost use Rattle.std.specs.Prelude.{◌≡◌, ℕ, [], IfErr, IfOk};
 ghost use Rattle.mark_core.specs.Shares.{whole};
 ghost use Rattle.buffer_pool.specs.Faults.{Refuses};
-ghost use Rattle.buffer_pool.specs.Laid.{IsInside};
+ghost use Rattle.buffer_pool.specs.Ranges.{IsInside};
 ghost use Rattle.pool_bench.specs.Holders.{AreRoots, numbers};
 
 use buffer_pool::{Edges, Pool, PoolFault, Worker};
