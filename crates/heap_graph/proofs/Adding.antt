@@ -1,16 +1,16 @@
 -- The identifiers that an object holds, one part after the other.
 use Rattle.std.proofs.Common.{Bool, List, [], append-nil, append_assoc, ap, arith, false, filter, length, length-append, map, refl, sym, true, ℕ, ◌++◌, ◌+◌, ◌<◌, ◌^◌, ◌∙◌, ◌∷◌, ◌≡◌, ◌≤◌}
-use Rattle.std.specs.Prelude.{Err, Ok, OnOk, Result, Some, if◌then◌else◌, take, drop, ◌==◌}
+use Rattle.std.specs.Prelude.{Err, Ok, OnOk, Result, if◌then◌else◌, take, drop, ◌==◌}
 use Rattle.std.specs.List.{AllByRecursion}
 use Rattle.std.proofs.lemmas.Bool.{eqb-true}
 use Rattle.byteorder.specs.Endian.{big_number}
-use Rattle.hprof_grammar.specs.SubRecord.{Class, Constant, Instance, IsClass, IsConstant, IsStatic, Member, ObjectArray, PrimitiveArray, Static, SubRecord}
-use Rattle.hprof_grammar.specs.SubRecord.SubRecord.{class_dump, instance_dump, object_array_dump, primitive_array_dump}
+use Rattle.hprof_grammar.specs.SubRecord.{Class, Constant, IsClass, IsConstant, IsStatic, Member, ObjectArray, PrimitiveArray, Static, SubRecord}
+use Rattle.hprof_grammar.specs.SubRecord.SubRecord.{class_dump, object_array_dump, primitive_array_dump}
 use Rattle.hprof_grammar.specs.Series.{of_constant, of_static}
 use Rattle.hprof_grammar.specs.Tables.{size_of}
 use Rattle.heap_graph.specs.working.HeldIds.{AddsIds}
-use Rattle.heap_graph.specs.Layout.{field_ids, layout}
-use Rattle.heap_graph.specs.References.{class_ids, constant_ids, instance_ids, static_ids}
+use Rattle.heap_graph.specs.Layout.{field_ids}
+use Rattle.heap_graph.specs.References.{class_ids, constant_ids, static_ids}
 use Rattle.heap_graph.specs.working.Values.{IsIdValue, values_ids}
 use Rattle.heap_graph.proofs.FieldLaws.{size_of_id_type}
 

@@ -1,32 +1,30 @@
 -- From a dump to its graph.
-use Rattle.std.proofs.Common.{List, [], ap, arith, cond, count_by, filter, length, map, refl, slice_get, subst, sym, take, ℕ, ◌++◌, ◌+◌, ◌∙◌, ◌∷◌, ◌≡◌, ◌≤◌}
+use Rattle.std.proofs.Common.{List, [], ap, arith, cond, count_by, filter, length, map, slice_get, subst, sym, ℕ, ◌++◌, ◌+◌, ◌∙◌, ◌≡◌}
 use Rattle.std.specs.Prelude.{filter_map}
 use Rattle.std.specs.List.{concat}
-use Rattle.std.proofs.lemmas.List.{length-map, length-take}
 use Rattle.std.proofs.lemmas.List.Sums.{sum_by-append}
 use Rattle.hprof_grammar.specs.Dump.{IsDumpOf, Places, is_load, is_string}
 use Rattle.hprof_grammar.specs.Record.{Record}
 use Rattle.hprof_grammar.specs.Standing.{IsPlaced, RecordStands, RecordStandsAt, Sight, StandInTurn, Stands, StandsAt, id_of}
-use Rattle.hprof_grammar.specs.SubRecord.{Class, SubRecord}
+use Rattle.hprof_grammar.specs.SubRecord.{SubRecord}
 use Rattle.heap_graph.specs.declared.entry.ClassEntry.{ClassEntry}
 use Rattle.heap_graph.specs.declared.entry.ObjectEntry.{ObjectEntry}
 use Rattle.heap_graph.specs.declared.rule.LinkFault.{LinkFault}
-use Rattle.heap_graph.specs.working.Entries.{AreClasses, AreClassesOf}
-use Rattle.heap_graph.specs.Heap.{as_class, heap_of, objects}
+use Rattle.heap_graph.specs.Heap.{heap_of, objects}
 use Rattle.heap_graph.specs.working.HeldIds.{AreLinked}
 use Rattle.heap_graph.specs.LinkFault.{HasLinkFault, IsFirstFault}
-use Rattle.heap_graph.specs.Linked.{IsLinked, most_objects}
+use Rattle.heap_graph.specs.Linked.{IsLinked}
 use Rattle.heap_graph.specs.working.Resolving.{Resolves, target_in}
 use Rattle.heap_graph.specs.working.PlacedNames.{AreNames}
-use Rattle.heap_graph.specs.ObjectGraph.{IsGraphOf, IsGraphOfText, NamedClass, ObjectGraph, named_in}
+use Rattle.heap_graph.specs.ObjectGraph.{IsGraphOf, IsGraphOfText, ObjectGraph}
 use Rattle.heap_graph.specs.working.PlacedObjects.{AreObjects}
 use Rattle.heap_graph.specs.References.{is_unresolved, targets}
 use Rattle.heap_graph.specs.Roots.{root_ids}
-use Rattle.heap_graph.specs.working.Refinement.{graph_of, named_class}
+use Rattle.heap_graph.specs.working.Refinement.{graph_of}
 use Rattle.heap_graph.specs.working.RuleAnswers.{IsFaultOf}
 use Rattle.heap_graph.proofs.GrowingLaws.{same_missing, same_targets}
 use Rattle.heap_graph.proofs.Sizes.{id_size_range}
-use Rattle.heap_graph.proofs.Wholeness.{AreAll, few_classes, few_objects, same_classes, take_all}
+use Rattle.heap_graph.proofs.Wholeness.{AreAll}
 
 -- ---- what stands in the bytes, seen by a view of them
 
@@ -71,10 +69,6 @@ has_fault bytes dump is s places fault size_is places_are f = record {
 
 -- ---- the graph
 
-pub few_class_entries : (v : Sight) (places ids : List ℕ) (records : List Record) (classes : List ClassEntry) → AreLinked v places ids (heap_of records) → AreClassesOf records (length places) classes → length classes ≤ most_objects
-few_class_entries v places ids records classes linked are =
-    omega (arith, length-map classes named_class, ap length are, length-map (filter_map as_class (take (length places) (objects (heap_of records)))) (named_in records), few_classes (take (length places) (objects (heap_of records))), length-take (length places) (objects (heap_of records)), few_objects v.id_size (heap_of records) linked.linked)
-
 -- the roots that were resolved, and how many were not
 pub record AreRootsOf (heap : List SubRecord) (roots : List ℕ) (missing : ℕ) : Type 0 where
   pub roots_are : roots ≡ targets heap (root_ids heap)
@@ -107,21 +101,3 @@ text_graph bytes dump is s g size_is linked graph = record {
   accepted = record { spells = is.spells; orderly = is.orderly; linked = subst (λ (n : ℕ). IsLinked n (heap_of is.records)) size_is linked };
   graph = subst (λ (n : ℕ). IsGraphOf n is.records g) size_is graph;
 }
-
--- the identifiers in the table of classes
-same_ids : (classes : List ClassEntry) → map (λ (c : ClassEntry). c.id) classes ≡ map (λ (n : NamedClass). n.id) (map named_class classes)
-same_ids [] = refl
-same_ids (c ∷ cs) = ap (λ (ids : List ℕ). c.id ∷ ids) (same_ids cs)
-
-dump_ids : (records : List Record) (dumps : List Class) → map (λ (c : Class). c.object) dumps ≡ map (λ (n : NamedClass). n.id) (map (named_in records) dumps)
-dump_ids records [] = refl
-dump_ids records (c ∷ cs) = ap (λ (ids : List ℕ). c.object ∷ ids) (dump_ids records cs)
-
-ids_kept : (records : List Record) (classes : List ClassEntry) (dumps : List Class) → map named_class classes ≡ map (named_in records) dumps → map (λ (c : ClassEntry). c.id) classes ≡ map (λ (c : Class). c.object) dumps
-ids_kept records classes dumps e = same_ids classes ∙ ap (λ (ns : List NamedClass). map (λ (n : NamedClass). n.id) ns) e ∙ sym (dump_ids records dumps)
-
-pub class_ids_are : (v : Sight) (places ids : List ℕ) (records : List Record) (classes : List ClassEntry) → AreLinked v places ids (heap_of records) → AreClassesOf records (length places) classes → AreClasses (heap_of records) classes
-class_ids_are v places ids records classes linked are =
-    let whole : take (length places) (objects (heap_of records)) ≡ objects (heap_of records) = take_all (objects (heap_of records)) (length places) (omega (arith, linked.are.stand.count)) in
-    ids_kept records classes (filter_map as_class (take (length places) (objects (heap_of records)))) are
-    ∙ ap (λ (os : List SubRecord). map (λ (c : Class). c.object) (filter_map as_class os)) whole ∙ ap (λ (cs : List Class). map (λ (c : Class). c.object) cs) (same_classes (heap_of records))

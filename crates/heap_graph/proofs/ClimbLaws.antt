@@ -1,14 +1,13 @@
 -- One step of a climb, and of the way back.
-use Rattle.std.proofs.Common.{Contains, List, Some, [], arith, inl, inr, length, set, slice_get, subst, sym, ⊎_elim, ℕ, ◌++◌, ◌<◌, ◌∷◌, ◌≡◌, ◌⊎◌}
+use Rattle.std.proofs.Common.{Contains, List, [], arith, inl, inr, length, set, subst, ⊎_elim, ℕ, ◌++◌, ◌<◌, ◌∷◌, ◌≡◌, ◌⊎◌}
 use Rattle.std.specs.Prelude.{slice_index}
 use Rattle.std.proofs.lemmas.List.Elements.{Contains-append_cases}
 use Rattle.hprof_grammar.specs.Standing.{Sight}
 use Rattle.hprof_grammar.specs.SubRecord.{SubRecord}
-use Rattle.heap_graph.specs.declared.classes.chains.Step.{Step}
 use Rattle.heap_graph.specs.declared.classes.chains.Step.TheVariants as steps
 use Rattle.heap_graph.specs.declared.classes.fate.Fate.{Fate}
 use Rattle.heap_graph.specs.declared.classes.fate.Fate.TheVariants as fates
-use Rattle.heap_graph.specs.working.Chains.{AreFates, AreSettled, DoesStay, IsClimb, IsFate, IsKnown, IsPath, IsSettled, IsStep, IsTop, IsUnder}
+use Rattle.heap_graph.specs.working.Chains.{AreFates, IsClimb, IsFate, IsKnown, IsPath, IsSettled, IsStep, IsTop, IsUnder}
 use Rattle.heap_graph.specs.working.ClassTable.{AreClasses, Entry, ids_of}
 use Rattle.heap_graph.proofs.ClassTableLaws.{numbered, same_count, under}
 use Rattle.heap_graph.proofs.FateLaws.{climb_on, fates_off, fates_on, set_here, stay_known, top_off, top_under}

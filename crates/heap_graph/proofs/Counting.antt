@@ -1,9 +1,9 @@
 -- A dump has fewer objects than bytes.
 use Rattle.std.specs.Prelude.{if◌then◌else◌}
-use Rattle.std.proofs.Common.{Bool, List, [], ap, arith, false, filter, flat_map, length, length-append, true, ℕ, ◌++◌, ◌+◌, ◌∷◌, ◌≡◌, ◌≤◌}
+use Rattle.std.proofs.Common.{Bool, List, [], ap, arith, false, flat_map, length, length-append, true, ℕ, ◌++◌, ◌+◌, ◌∷◌, ◌≤◌}
 use Rattle.byteorder.specs.Endian.{big_bytes}
 use Rattle.hprof_grammar.specs.Dump.{IsDumpOf, Places, header, is_object, limit, spellings}
-use Rattle.hprof_grammar.specs.Record.{Record, body_of, record_spelling, subs_of, tag_of, time_of}
+use Rattle.hprof_grammar.specs.Record.{Record, body_of, record_spelling, subs_of, time_of}
 use Rattle.hprof_grammar.specs.Record.Record.{heap, load_class, other, string}
 use Rattle.hprof_grammar.specs.SubRecord.{SubRecord, spelling_of}
 use Rattle.heap_graph.specs.Heap.{heap_of, objects}

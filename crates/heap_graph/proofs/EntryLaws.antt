@@ -6,18 +6,28 @@ use Rattle.std.proofs.lemmas.List.Sums.{sum_by-cons}
 use Rattle.hprof_grammar.specs.SubRecord.{Class, Static, SubRecord}
 use Rattle.hprof_grammar.specs.Series.{LabelledValue, of_static}
 use Rattle.hprof_grammar.specs.Tables.{size_of}
-use Rattle.heap_graph.specs.declared.entry.ClassEntry.{ClassEntry}
 use Rattle.heap_graph.specs.declared.entry.ObjectEntry.{ObjectEntry}
-use Rattle.heap_graph.specs.working.Entries.{AreClasses, AreEntries, IsEntry}
+use Rattle.heap_graph.specs.working.Entries.{AreEntries, IsEntry}
 use Rattle.heap_graph.specs.Heap.{class_dumps, class_number, objects}
 use Rattle.heap_graph.specs.Rows.{bytes_of, row_of}
-use Rattle.heap_graph.proofs.Firsts.{position_or_len-map}
+use Rattle.hprof_grammar.specs.Standing.{Sight}
+use Rattle.std.specs.Prelude.{position}
+use Rattle.heap_graph.specs.Linked.{IsLinked}
+use Rattle.heap_graph.specs.declared.classes.fate.Fate.{Fate}
+use Rattle.heap_graph.specs.working.ClassTable.{Entry, ids_of}
+use Rattle.heap_graph.specs.working.ToldClasses.{AreTold}
+use Rattle.heap_graph.proofs.Firsts.{position_at, position_or_len-map}
 
-pub same_number : (heap : List SubRecord) (classes : List ClassEntry) (id : ℕ) → AreClasses heap classes → position_or_len (λ (c : ClassEntry). c.id == id) classes ≡ class_number heap id
-same_number heap classes id are =
-    sym (position_or_len-map (λ (c : ClassEntry). c.id) (λ x. x == id) classes)
-    ∙ ap (λ (ids : List ℕ). position_or_len (λ x. x == id) ids) are
+-- the number of a class, from the identifiers of the classes by their numbers
+pub same_number : (heap : List SubRecord) (ids : List ℕ) (id : ℕ) → ids ≡ map (λ (c : Class). c.object) (class_dumps heap) → position_or_len (λ x. x == id) ids ≡ class_number heap id
+same_number heap ids id are =
+    ap (λ (xs : List ℕ). position_or_len (λ x. x == id) xs) are
     ∙ position_or_len-map (λ (c : Class). c.object) (λ x. x == id) (class_dumps heap)
+
+-- and of the class that was found in the table
+pub number_told : (v : Sight) (heap : List SubRecord) (entries : List Entry) (types : List ℕ) (fates : List Fate) (id class k : ℕ) → AreTold v heap entries types fates → Some k ≡ position (λ x. x == id) (ids_of entries) → id ≡ class → IsLinked v.id_size heap → k ≡ class_number heap class
+number_told v heap entries types fates id class k told found same linked =
+    position_at (λ x. x == id) (ids_of entries) k found ∙ same_number heap (ids_of entries) id (told.classes.in_order linked) ∙ ap (λ (x : ℕ). class_number heap x) same
 
 pub static_bytes : (s : ℕ) (fs : List Static) → sum_by (λ v. size_of s v.type) (map of_static fs) ≡ sum_by (λ f. size_of s f.type) fs
 static_bytes s [] = refl

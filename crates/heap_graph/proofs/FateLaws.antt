@@ -1,9 +1,9 @@
 -- What is known of chains, while a path of classes is followed.
-use Rattle.std.proofs.Common.{Contains, List, None, Option, Some, [], ap, arith, cond, count_by, get_or, inl, inr, length, map, refl, set, slice_get, subst, suc, sym, zero, ⊎_elim, ℕ, ◌++◌, ◌+◌, ◌<◌, ◌∙◌, ◌∷◌, ◌≡◌, ◌⊎◌}
-use Rattle.std.specs.Prelude.{slice_index, sum_by}
+use Rattle.std.proofs.Common.{Contains, List, None, Some, [], ap, arith, cond, count_by, get_or, length, refl, set, slice_get, subst, suc, sym, zero, ⊎_elim, ℕ, ◌++◌, ◌<◌, ◌∙◌, ◌∷◌, ◌≡◌}
+use Rattle.std.specs.Prelude.{slice_index}
 use Rattle.std.proofs.Math.ListN.{length-set}
 use Rattle.std.proofs.lemmas.Bool.{cases_order}
-use Rattle.std.proofs.lemmas.List.{get_or-set_other, get_or-set_same}
+use Rattle.std.proofs.lemmas.List.{get_or-set_same}
 use Rattle.std.proofs.lemmas.List.Elements.{Contains-append_cases, Contains-append_left}
 use Rattle.std.proofs.lemmas.List.Sums.{sum_by-set}
 use Rattle.std.proofs.lemmas.Option.{get_or_from_slice_get, slice_get-get_or, slice_get_within}
@@ -12,7 +12,7 @@ use Rattle.heap_graph.specs.declared.classes.fate.Fate.{Fate}
 use Rattle.heap_graph.specs.declared.classes.fate.Fate.TheVariants as fates
 use Rattle.heap_graph.specs.Layout.{IsChain, NeverEnds}
 use Rattle.heap_graph.specs.declared.classes.fate.Layout.{Layout}
-use Rattle.heap_graph.specs.working.Chains.{AreFates, AreSettled, DoesStay, IsChainAt, IsClimb, IsCut, IsFate, IsKnown, IsPath, IsSettled, IsTop, IsUnder, is_unknown}
+use Rattle.heap_graph.specs.working.Chains.{AreFates, DoesStay, IsChainAt, IsClimb, IsCut, IsFate, IsKnown, IsPath, IsSettled, IsTop, IsUnder, is_unknown}
 use Rattle.heap_graph.proofs.ChainLaws.{never_below, some_inj}
 use Rattle.heap_graph.proofs.PathLaws.{contains_cases, contains_last, contains_none, never_around, path_end, path_off, path_on}
 

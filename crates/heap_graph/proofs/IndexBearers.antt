@@ -74,7 +74,7 @@ bearer pairs id at it inside same = record {
   first = λ k h e. let less : id_at pairs k < id = it.below k h in omega (arith, less, e);
 }
 
-get_or_id : (ids : List ℕ) (k id : ℕ) → k < length ids → get_or ids k 0 ≡ id → get_or ids k id ≡ id
+pub get_or_id : (ids : List ℕ) (k id : ℕ) → k < length ids → get_or ids k 0 ≡ id → get_or ids k id ≡ id
 get_or_id ids k id h e = get_or_default_zero ids k id h ∙ e
 
 -- an earlier object bears the identifier exactly where the first one that bears it is earlier

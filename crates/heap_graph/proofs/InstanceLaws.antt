@@ -1,7 +1,6 @@
 -- The identifiers that an instance holds, up the chain of its class.
-use Rattle.std.proofs.Common.{Bool, List, None, Option, Some, [], append-nil, append_assoc, ap, arith, drop, inl, inr, length, length-append, map, refl, slice_get, subst, sum_by, sym, take, true, false, ⊎_elim, ℕ, ◌++◌, ◌+◌, ◌^◌, ◌∙◌, ◌<◌, ◌∷◌, ◌≡◌, ◌≤◌}
+use Rattle.std.proofs.Common.{Bool, List, None, Option, Some, [], append_assoc, ap, arith, drop, inl, inr, length, refl, slice_get, subst, sum_by, sym, take, true, false, ⊎_elim, ℕ, ◌++◌, ◌+◌, ◌^◌, ◌∙◌, ◌∷◌, ◌≡◌, ◌≤◌}
 use Rattle.std.specs.Prelude.{if◌then◌else◌, slice_index, ◌==◌}
-use Rattle.std.proofs.lemmas.List.{length-drop}
 use Rattle.std.proofs.lemmas.Bool.{cases_order, eqb-true}
 use Rattle.std.proofs.lemmas.List.Sums.{sum_by-append, sum_by-cons}
 use Rattle.byteorder.specs.Endian.{big_number}
@@ -14,7 +13,7 @@ use Rattle.heap_graph.specs.declared.classes.fate.Fate.TheVariants as fates
 use Rattle.heap_graph.specs.declared.classes.fate.Layout.{Layout}
 use Rattle.heap_graph.specs.declared.rule.LinkRule.TheVariants.{InstanceSize, SuperChain}
 use Rattle.heap_graph.specs.Heap.{class_named, objects}
-use Rattle.heap_graph.specs.Layout.{IsChain, IsLine, NeverEnds, field_ids, layout, layout_size}
+use Rattle.heap_graph.specs.Layout.{IsChain, IsLine, NeverEnds, layout, layout_size}
 use Rattle.heap_graph.specs.Linked.{IsLinked}
 use Rattle.heap_graph.specs.SuperRule.{IsBadSuper}
 use Rattle.heap_graph.specs.References.{instance_ids}
@@ -26,7 +25,6 @@ use Rattle.heap_graph.specs.working.TypedFields.{typed_ids}
 use Rattle.heap_graph.proofs.ChainLaws.{one_chain, some_inj, some_none}
 use Rattle.heap_graph.proofs.ClassTableLaws.{IsNumbered, numbered, same_class, same_count}
 use Rattle.heap_graph.proofs.FieldLaws.{ids_of_both, own_size, same_ids, size_of_id_type}
-use Rattle.heap_graph.proofs.LayoutLaws.{size_by_types}
 use Rattle.heap_graph.proofs.Linking.{IsClassThere, class_there}
 use Rattle.heap_graph.proofs.RuleLaws.{no_chain}
 

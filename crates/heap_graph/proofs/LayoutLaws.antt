@@ -1,13 +1,12 @@
 -- The layout of a class, from that of its superclass.
-use Rattle.std.proofs.Common.{List, None, Option, Some, [], append_assoc, ap, arith, flat_map, length, map, min, refl, sum_by, sym, ℕ, ◌++◌, ◌+◌, ◌∙◌, ◌∷◌, ◌≡◌, ◌≤◌}
-use Rattle.std.specs.Prelude.{slice_index}
+use Rattle.std.proofs.Common.{List, None, Option, Some, [], ap, arith, length, map, min, refl, sum_by, sym, ℕ, ◌++◌, ◌+◌, ◌∙◌, ◌∷◌, ◌≡◌}
 use Rattle.std.proofs.lemmas.List.{map-append}
 use Rattle.std.proofs.lemmas.List.Sums.{sum_by-append, sum_by-cons}
 use Rattle.hprof_grammar.specs.SubRecord.{Class, Member, SubRecord}
 use Rattle.hprof_grammar.specs.Tables.{size_of}
-use Rattle.heap_graph.specs.Layout.{IsChain, layout, layout_size}
+use Rattle.heap_graph.specs.Layout.{layout, layout_size}
 use Rattle.heap_graph.specs.working.ClassTable.{own_types}
-use Rattle.heap_graph.specs.working.Chains.{BeginsAt, IsChainAt, IsFirst, IsLayoutOf, layout_types, most_size}
+use Rattle.heap_graph.specs.working.Chains.{IsChainAt, IsFirst, layout_types, most_size}
 
 -- ---- types in place of fields
 

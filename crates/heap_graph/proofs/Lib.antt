@@ -4,6 +4,7 @@ pub mod IndexAscending
 pub mod IndexBuckets
 pub mod IndexHalving
 pub mod IndexBearers
+pub mod IndexRepeats
 pub mod IndexNumbering
 pub mod Firsts
 pub mod Standings

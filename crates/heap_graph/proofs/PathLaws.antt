@@ -1,9 +1,8 @@
 -- Paths of classes that stand below one another.
-use Rattle.std.proofs.Common.{Contains, List, Some, [], ap, arith, inl, inr, length, refl, subst, suc, sym, zero, ⊎_elim, ℕ, ◌++◌, ◌+◌, ◌<◌, ◌∙◌, ◌∷◌, ◌≡◌, ◌⊎◌}
+use Rattle.std.proofs.Common.{Contains, List, [], arith, inl, inr, length, refl, subst, suc, sym, zero, ⊎_elim, ℕ, ◌++◌, ◌<◌, ◌∙◌, ◌∷◌, ◌≡◌, ◌⊎◌}
 use Rattle.std.specs.Prelude.{slice_index, slice_index_or}
-use Rattle.std.proofs.lemmas.List.Elements.{Contains-append_cases, Contains-append_left, Contains-append_right}
+use Rattle.std.proofs.lemmas.List.Elements.{Contains-append_right}
 use Rattle.hprof_grammar.specs.SubRecord.{Class, SubRecord}
-use Rattle.heap_graph.specs.Heap.{class_named}
 use Rattle.heap_graph.specs.Layout.{IsLine, NeverEnds}
 use Rattle.heap_graph.specs.working.Chains.{IsPath, IsUnder}
 

@@ -12,8 +12,8 @@ use Rattle.hprof_grammar.specs.declared.view.ObjectKind.{ObjectKind}
 use Rattle.hprof_grammar.specs.declared.view.ObjectKind.TheVariants as kinds
 use Rattle.heap_graph.specs.Heap.{as_class, class_named, number_named, object_named, objects}
 use Rattle.heap_graph.specs.working.HeldIds.{IsObjectAt}
-use Rattle.heap_graph.specs.working.PlacedObjects.{AreObjects, IsClassAt}
-use Rattle.heap_graph.proofs.Firsts.{filter_passes, position-map, position_hit}
+use Rattle.heap_graph.specs.working.PlacedObjects.{AreObjects}
+use Rattle.heap_graph.proofs.Firsts.{filter_passes, position-map}
 
 pub slice_get_below : {X : Type 0} (xs : List X) (n : ℕ) (x : X) → slice_get xs n ≡ Some x → n < length xs
 slice_get_below [] n x h = absurd (let wrong : None ≡ Some x = h in cc)
@@ -49,9 +49,6 @@ class_if heap id false o e f named =
 pub class_is : (heap : List SubRecord) (id : ℕ) (o : Option ℕ) → (id == 0) ≡ false → number_named heap id ≡ o → class_named heap id ≡ option_and_then as_class (option_and_then (λ n. slice_get (objects heap) n) o)
 class_is heap id o e named = class_if heap id false o e refl named
 
-pub no_class_0 : (heap : List SubRecord) (id : ℕ) → (id == 0) ≡ true → class_named heap id ≡ None
-no_class_0 heap id e = ap (λ (b : Bool). cond b None (option_and_then as_class (object_named heap id))) e
-
 pub record IsDumpOfClass (o : SubRecord) : Type 0 where
   pub class : Class
   pub same : o ≡ class_dump class
@@ -69,31 +66,6 @@ no_class_dump (class_dump c) kind h other = absurd (other (cc h))
 no_class_dump (instance_dump i) kind h other = refl
 no_class_dump (object_array_dump a) kind h other = refl
 no_class_dump (primitive_array_dump a) kind h other = refl
-
-pub found_below : (v : Sight) (places ids : List ℕ) (heap : List SubRecord) (id n : ℕ) → AreObjects v places ids heap → position (λ x. x == id) ids ≡ Some n → n < length places
-found_below v places ids heap id n are h = omega (arith, same_count v places ids heap are, (position_hit (λ x. x == id) ids n h).below)
-
--- what `class_named` answers where the index finds a class dump, something else, or nothing
-pub class_found : (v : Sight) (places ids : List ℕ) (heap : List SubRecord) (id n : ℕ) → AreObjects v places ids heap → (id == 0) ≡ false → position (λ x. x == id) ids ≡ Some n
-    → ((sub : SubRecord) → Stands v (get_or places n 0) sub → is_object sub ≡ true → object_kind sub ≡ Some kinds.Class) → IsClassAt v heap id (Some (get_or places n 0))
-class_found v places ids heap id n are e h kind =
-    let it : IsThere v heap n (get_or places n 0) = there v places ids heap n are (found_below v places ids heap id n are h) in
-    let dump : IsDumpOfClass it.object = is_class_dump it.object (kind it.object it.stands it.describes) in (
-      dump.class,
-      class_is heap id (Some n) e (number_is v places ids heap id are ∙ h) ∙ ap (λ (o : Option SubRecord). option_and_then as_class o) (it.is ∙ ap (λ (x : SubRecord). Some x) dump.same),
-      subst (λ (x : SubRecord). Stands v (get_or places n 0) x) dump.same it.stands,
-    )
-
-pub class_not_found : (v : Sight) (places ids : List ℕ) (heap : List SubRecord) (id n : ℕ) (found : ObjectKind) → AreObjects v places ids heap → (id == 0) ≡ false → position (λ x. x == id) ids ≡ Some n
-    → ((sub : SubRecord) → Stands v (get_or places n 0) sub → is_object sub ≡ true → object_kind sub ≡ Some found) → (found ≡ kinds.Class → ⊥) → class_named heap id ≡ None
-class_not_found v places ids heap id n found are e h kind other =
-    let it : IsThere v heap n (get_or places n 0) = there v places ids heap n are (found_below v places ids heap id n are h) in
-    class_is heap id (Some n) e (number_is v places ids heap id are ∙ h)
-    ∙ ap (λ (o : Option SubRecord). option_and_then as_class o) it.is
-    ∙ no_class_dump it.object found (kind it.object it.stands it.describes) other
-
-pub class_not_named : (v : Sight) (places ids : List ℕ) (heap : List SubRecord) (id : ℕ) → AreObjects v places ids heap → (id == 0) ≡ false → position (λ x. x == id) ids ≡ None → class_named heap id ≡ None
-class_not_named v places ids heap id are e h = class_is heap id None e (number_is v places ids heap id are ∙ h)
 
 -- the number of an object is below the number of places
 pub number_below : (v : Sight) (places ids : List ℕ) (heap : List SubRecord) (n : ℕ) (o : SubRecord) → AreObjects v places ids heap → slice_get (objects heap) n ≡ Some o → n < length places

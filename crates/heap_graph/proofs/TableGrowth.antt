@@ -1,5 +1,5 @@
 -- The table of classes: one more object.
-use Rattle.std.proofs.Common.{Bool, Contains, List, None, Option, Some, [], append-nil, ap, arith, cond, drop, false, filter, inl, inr, length, length-append, map, not, refl, slice_get, subst, suc, sym, take, true, zero, ⊎_elim, ℕ, ◌++◌, ◌+◌, ◌-◌, ◌<◌, ◌∙◌, ◌∷◌, ◌≡◌, ◌≤◌, ◌⊎◌}
+use Rattle.std.proofs.Common.{Bool, Contains, List, None, Option, Some, [], append-nil, ap, arith, cond, drop, false, inl, inr, length, length-append, map, not, refl, slice_get, subst, suc, sym, take, true, zero, ⊎_elim, ℕ, ◌++◌, ◌+◌, ◌-◌, ◌<◌, ◌∙◌, ◌∷◌, ◌≡◌, ◌≤◌, ◌⊎◌}
 use Rattle.std.specs.Prelude.{filter_map, nat_lt, option_and_then, position, slice_index, slice_index_or, slice_range, ◌==◌}
 use Rattle.std.specs.List.{cons_option, position_or_len}
 use Rattle.std.proofs.lemmas.Bool.{cases_order, eq-eqb, eqb-true, lt-ltb, ne_eqb}
@@ -9,17 +9,15 @@ use Rattle.std.proofs.Math.Seq.{drop-append_seam, take-length}
 use Rattle.hprof_grammar.specs.Standing.{Sight, Stands, id_of}
 use Rattle.hprof_grammar.specs.SubRecord.{Class, SubRecord}
 use Rattle.hprof_grammar.specs.SubRecord.SubRecord.{class_dump}
-use Rattle.heap_graph.specs.declared.classes.ClassPlaces.{ClassPlaces}
 use Rattle.heap_graph.specs.declared.rule.LinkRule.TheVariants.{DuplicateObject, ZeroObject}
-use Rattle.heap_graph.specs.Heap.{as_class, class_dumps, class_named, number_named, objects}
+use Rattle.heap_graph.specs.Heap.{as_class, class_named, number_named, objects}
 use Rattle.heap_graph.specs.Linked.{IsLinked}
 use Rattle.heap_graph.specs.working.ClassTable.{AddsEntry, AreClasses, AreClassesAmong, Entry, IsEntry, ids_of, own_types}
 use Rattle.heap_graph.specs.working.PlacedObjects.{AreObjects}
 use Rattle.heap_graph.proofs.ChainLaws.{some_inj, some_none}
 use Rattle.heap_graph.proofs.ClassTableLaws.{IsFound, found}
 use Rattle.heap_graph.proofs.EntryLaws.{take_one}
-use Rattle.heap_graph.proofs.Firsts.{IsHit, position-map, position_at, position_hit}
-use Rattle.heap_graph.proofs.Linking.{IsClassThere, class_there}
+use Rattle.heap_graph.proofs.Firsts.{IsHit, position_at, position_hit}
 use Rattle.heap_graph.proofs.PathLaws.{contains_cases, contains_none}
 use Rattle.heap_graph.proofs.Standings.{class_is, number_is, slice_get_below}
 use Rattle.heap_graph.proofs.Wholeness.{same_classes, take_all}

@@ -1,16 +1,17 @@
 -- What the tests of one object show.
-use Rattle.std.proofs.Common.{Contains, List, None, Some, [], ap, append-nil, arith, length, map, refl, slice_get, subst, sum_by, sym, take, ⊎_elim, ℕ, ◌+◌, ◌∙◌, ◌<◌, ◌∷◌, ◌≡◌, ◌≤◌}
+use Rattle.std.proofs.Common.{Contains, List, None, Option, Some, ap, arith, map, slice_get, subst, sym, take, ⊎_elim, ℕ, ◌+◌, ◌∙◌, ◌<◌, ◌≡◌, ◌≤◌}
+use Rattle.std.specs.Prelude.{Err, IfErr, IfOk, Ok, Result}
+use Rattle.std.specs.Option.{option_map}
 use Rattle.std.proofs.lemmas.Bool.{cases_order}
+use Rattle.std.proofs.lemmas.Option.{slice_get-map}
 use Rattle.hprof_grammar.specs.Standing.{id_of}
-use Rattle.hprof_grammar.specs.SubRecord.{Class, Instance, ObjectArray, SubRecord}
-use Rattle.hprof_grammar.specs.SubRecord.SubRecord.{class_dump, instance_dump, object_array_dump}
-use Rattle.hprof_grammar.specs.Tables.{size_of}
+use Rattle.hprof_grammar.specs.SubRecord.{SubRecord}
 use Rattle.heap_graph.specs.declared.rule.LinkRule.{LinkRule}
 use Rattle.heap_graph.specs.declared.rule.LinkRule.TheVariants.{DuplicateObject, InstanceSize, SuperChain, TooLarge, UnknownClass, ZeroObject}
-use Rattle.heap_graph.specs.Heap.{class_named, objects}
-use Rattle.heap_graph.specs.Layout.{IsChain, layout_size}
+use Rattle.heap_graph.specs.Heap.{objects}
 use Rattle.heap_graph.specs.LinkFault.{IsLeastFault, code_of}
 use Rattle.heap_graph.specs.Linked.{Breaks, Fails, most_objects}
+use Rattle.heap_graph.specs.working.IndexPairs.{IsFirstRepeat}
 use Rattle.heap_graph.specs.working.RuleAnswers.{BreaksLate, IsLateRule, IsLeastRule}
 
 some_inj : {X : Type 0} {x y : X} → Some x ≡ Some y → x ≡ y
@@ -18,6 +19,13 @@ some_inj {X} {x} {y} e = cc
 
 some_none : {X : Type 0} {x : X} → Some x ≡ None → ⊥
 some_none {X} {x} e = cc
+
+-- a fact of a result, where it is known which one that is
+pub if_ok : {X E : Type 0} {r : Result X E} {x : X} (P : X → Type 0) → r ≡ Ok x → IfOk r P → P x
+if_ok {X} {E} {r} {x} P e h = subst (λ (q : Result X E). IfOk q P) e h
+
+pub if_err : {X E : Type 0} {r : Result X E} {x : E} (P : E → Type 0) → r ≡ Err x → IfErr r P → P x
+if_err {X} {E} {r} {x} P e h = subst (λ (q : Result X E). IfErr q P) e h
 
 -- ---- all rules, of the object of that number
 
@@ -121,6 +129,14 @@ own_object heap ids n id o is ids_are id_is not_zero not_again = record {
   not_zero = λ e. not_zero (id_is ∙ e);
   first = λ h. not_again (subst (λ (x : ℕ). Contains (take n ids) x) (sym id_is) (subst (λ (xs : List ℕ). Contains (take n xs) (id_of o)) (sym ids_are) h));
 }
+
+-- what the identifiers say of an object
+pub own_id : (heap : List SubRecord) (ids : List ℕ) (n id : ℕ) (o : SubRecord) → slice_get (objects heap) n ≡ Some o → ids ≡ map id_of (objects heap) → id ≡ id_of o → slice_get ids n ≡ Some id
+own_id heap ids n id o is ids_are id_is =
+    ap (λ (xs : List ℕ). slice_get xs n) ids_are ∙ slice_get-map id_of (objects heap) n ∙ ap (λ (x : Option SubRecord). option_map id_of x) is ∙ ap (λ (x : ℕ). Some x) (sym id_is)
+
+pub is_repeat : (ids : List ℕ) (n number id : ℕ) → IsFirstRepeat ids number → n ≡ number → slice_get ids n ≡ Some id → Contains (take n ids) id
+is_repeat ids n number id first same e = subst (λ (k : ℕ). slice_get ids k ≡ Some id → Contains (take k ids) id) (sym same) (first.repeated id) e
 
 pub repeated_object : (s : ℕ) (heap : List SubRecord) (ids : List ℕ) (n id : ℕ) (o : SubRecord) → slice_get (objects heap) n ≡ Some o → ids ≡ map id_of (objects heap) → id ≡ id_of o → (id ≡ 0 → ⊥) → Contains (take n ids) id → IsLeastFault s heap n DuplicateObject
 repeated_object s heap ids n id o is ids_are id_is not_zero again =

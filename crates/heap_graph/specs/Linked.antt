@@ -33,7 +33,8 @@ HasBadChain heap (primitive_array_dump a) = ⊥
 abbrev pub HasWrongSize : ℕ → List SubRecord → SubRecord → Type 0
 HasWrongSize s heap (root r) = ⊥
 HasWrongSize s heap (class_dump c) = ⊥
-HasWrongSize s heap (instance_dump i) = (chain : List Class) × IsChain heap i.class chain × (length i.values ≢ layout_size s chain)
+HasWrongSize s heap (instance_dump i) = (chain : List Class) × IsChain heap i.class chain
+    × (length i.values ≢ layout_size s chain)
 HasWrongSize s heap (object_array_dump a) = ⊥
 HasWrongSize s heap (primitive_array_dump a) = ⊥
 

@@ -57,7 +57,8 @@ IsRowIn g (keys.Class n) = n < class_count g
 IsRowIn g (keys.Primitive t) = (4 ≤ t) × (t ≤ 11)
 IsRowIn g keys.ClassObject = Unit {0}
 
--- What holds of each graph of a linked heap list: an object has one row and one number of bytes, and what is named is there.
+-- What holds of each graph of a linked heap list: an object has one row and one number of bytes, and what is named is
+-- there.
 pub record IsWhole (g : ObjectGraph) : Type 0 where
   pub row_each : length g.rows ≡ object_count g
   pub bytes_each : length g.bytes ≡ object_count g

@@ -26,7 +26,8 @@ abbrev pub IsMarked : List Bool → ℕ → Type 0
 IsMarked marks o = slice_index_or marks o false ≡ true
 
 -- true exactly at the reachable objects
-pub record MarksReachable (count : ℕ) (is_root : ℕ → Type 0) (refers : ℕ → ℕ → Type 0) (marks : List Bool) : Type 0 where
+pub record MarksReachable (count : ℕ) (is_root : ℕ → Type 0) (refers : ℕ → ℕ → Type 0)
+    (marks : List Bool) : Type 0 where
   pub one_each : length marks ≡ count
   pub exact : (o : ℕ) → IsMarked marks o ↔ IsReachable is_root refers o
 

@@ -27,14 +27,16 @@ instance_ids s i chain = i.class ∷ field_ids s (layout chain) i.values
 abbrev pub AreIdsIn : ℕ → List SubRecord → SubRecord → List ℕ → Type 0
 AreIdsIn s heap (root r) ids = ids ≡ []
 AreIdsIn s heap (class_dump c) ids = ids ≡ class_ids s c
-AreIdsIn s heap (instance_dump i) ids = (chain : List Class) × IsChain heap i.class chain × (ids ≡ instance_ids s i chain)
+AreIdsIn s heap (instance_dump i) ids = (chain : List Class) × IsChain heap i.class chain
+    × (ids ≡ instance_ids s i chain)
 AreIdsIn s heap (object_array_dump a) ids = ids ≡ a.class ∷ a.elements
 AreIdsIn s heap (primitive_array_dump a) ids = ids ≡ []
 
 -- a list of identifiers for each object
 pub record AreIdLists (s : ℕ) (heap : List SubRecord) (lists : List (List ℕ)) : Type 0 where
   pub one_each : length lists ≡ length (objects heap)
-  pub each : (n : ℕ) (o : SubRecord) (ids : List ℕ) → slice_get (objects heap) n ≡ Some o → slice_get lists n ≡ Some ids → AreIdsIn s heap o ids
+  pub each : (n : ℕ) (o : SubRecord) (ids : List ℕ) → slice_get (objects heap) n ≡ Some o
+      → slice_get lists n ≡ Some ids → AreIdsIn s heap o ids
 
 -- 0 is null, and what names no object is not followed
 abbrev pub target_of : List SubRecord → ℕ → Option ℕ

@@ -1,5 +1,5 @@
--- A fact of the fault that refuses a graph.
-use Rattle.std.specs.Prelude.{Err, Ok, Result}
+-- What a refusal says of the links, and how it is shown.
+use Rattle.std.specs.Prelude.{Err, List, Ok, Result, codes, decimal, ℕ, ◌++◌}
 use Rattle.heap_graph.specs.declared.rule.LinkFault.{LinkFault}
 use Rattle.heap_graph.specs.declared.rule.LinkRefusal.{LinkRefusal}
 use Rattle.heap_graph.specs.declared.rule.LinkRefusal.TheVariants as refusals
@@ -9,3 +9,11 @@ abbrev pub IfLinkFault : {X : Type 0} → Result X LinkRefusal → (LinkFault �
 IfLinkFault (Ok x) P = Unit {0}
 IfLinkFault (Err (refusals.Fault f)) P = P f
 IfLinkFault (Err refusals.OutOfMemory) P = Unit {0}
+
+-- the code and the place
+abbrev pub fault_text : LinkFault → List ℕ
+fault_text fault = codes "fault " ++ (decimal fault.code ++ (codes " at " ++ decimal fault.offset))
+
+abbrev pub link_refusal_text : LinkRefusal → List ℕ
+link_refusal_text (refusals.Fault fault) = codes "the objects of the heap dump are not linked: " ++ fault_text fault
+link_refusal_text refusals.OutOfMemory = codes "out of memory"

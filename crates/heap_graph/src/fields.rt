@@ -2,6 +2,7 @@
 
 ghost use Rattle.std.specs.Prelude.{IfOk, OnOk, ◌++◌, ◌≡◌, ◌≤◌, drop, length, sum_by};
 ghost use Rattle.std.specs.List.{AllByRecursion};
+ghost use Rattle.byteorder.specs.Endian.{big_number};
 ghost use Rattle.hprof_grammar.specs.Tables as tables;
 ghost use Rattle.heap_graph.specs.working.TypedFields.{typed_ids};
 ghost use Rattle.heap_graph.specs.working.Values.{IsIdValue, value_ids, values_ids};
@@ -13,6 +14,19 @@ use std::alloc::{AllocError, Allocator};
 /// The type code of an identifier.
 pub(crate) const OBJECT_TYPE: u8 = 2;
 
+/// The identifier that these bytes are.
+fn identifier(bytes: &[u8]) -> u64
+    requires low { 1 ≤ length bytes.now }
+    requires high { length bytes.now ≤ 8 }
+    ensures { result ≡ big_number (length bytes.now) bytes.now }
+{
+    match bytes.len() {
+        4 => return u64::from(BigEndian::read_u32(bytes)),
+        8 => return BigEndian::read_u64(bytes),
+        width => return BigEndian::read_uint(bytes, width),
+    }
+}
+
 /// Appends the identifier that a value is, if its type is that of identifiers.
 fn push_value<B: Allocator>(
     ids: &mut Vec<u64, B>,
@@ -23,7 +37,7 @@ fn push_value<B: Allocator>(
     ensures { OnOk result (ids.new.items ≡ ids.old.items ++ value_ids type_code value.now) }
 {
     if type_code == OBJECT_TYPE {
-        ids.push(BigEndian::read_uint(value, value.len()))?;
+        ids.push(identifier(value))?;
     }
     Ok(())
 }
@@ -54,7 +68,8 @@ pub(crate) fn push_fields<'v, B: Allocator>(
     requires high { view.now.id_size ≤ 8 }
     requires room { sum_by (λ t. tables.size_of view.now.id_size t) types.now ≤ length values.now }
     ensures pushed { OnOk result (ids.new.items ≡ ids.old.items ++ typed_ids view.now.id_size types.now values.now) }
-    ensures behind { IfOk result (λ left. left.now ≡ drop (sum_by (λ t. tables.size_of view.now.id_size t) types.now) values.now) }
+    ensures behind { IfOk result (λ left. left.now
+        ≡ drop (sum_by (λ t. tables.size_of view.now.id_size t) types.now) values.now) }
 {
     let mut left = values;
     for type_code in types {

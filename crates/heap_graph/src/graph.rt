@@ -7,7 +7,7 @@ ghost use Rattle.hprof_grammar.specs.Dump.{limit};
 ghost use Rattle.heap_graph.specs.ObjectGraph.{IsRowIn, IsWhole, bytes_at, class_at, class_count, object_count, references_of, row_at};
 
 use crate::entry::{ClassEntry, ObjectEntry};
-use crate::pieces::piece_at;
+use crate::cut_lists::piece_at;
 use crate::row::RowKey;
 use crate::successors::Successors;
 use std::alloc::Allocator;
@@ -17,7 +17,7 @@ use std::marker::Model;
 #[derive(Drop)]
 pub struct Graph<'a, A: Allocator> {
     /// What object `o` refers to stands in `targets` from `cuts[o]` to `cuts[o + 1]`.
-    cuts: Vec<usize, A>,
+    cuts: Vec<u32, A>,
     targets: Vec<u32, A>,
     roots: Vec<u32, A>,
     objects: Vec<ObjectEntry, A>,
@@ -33,11 +33,13 @@ impl<'a, A: Allocator> Model for Graph<'a, A> {
 
     ghost Value = { ObjectGraph };
 
-    ghost view = { λ g. graph_of g.cuts.items g.targets.items g.roots.items g.objects.items g.classes.items g.unresolved };
+    ghost view = { λ g.
+        graph_of g.cuts.items g.targets.items g.roots.items g.objects.items g.classes.items g.unresolved };
 
     ghost invariant = { λ g. record {
       cut : AreCuts g.cuts.items g.targets.items;
-      whole : IsWhole (graph_of g.cuts.items g.targets.items g.roots.items g.objects.items g.classes.items g.unresolved);
+      whole : IsWhole
+          (graph_of g.cuts.items g.targets.items g.roots.items g.objects.items g.classes.items g.unresolved);
     } };
 }
 

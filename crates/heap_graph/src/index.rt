@@ -5,9 +5,9 @@ mod builder;
 #[cfg(test)]
 mod tests;
 
-ghost use Rattle.std.specs.Prelude.{Contains, IfOk, IsSorted, IsTrue, ◌==◌, ◌≡◌, ◌↔◌, position, take};
+ghost use Rattle.std.specs.Prelude.{Contains, IfOk, IsSorted, IsTrue, ◌==◌, ◌≡◌, ◌↔◌, length, position, take};
 ghost use Rattle.heap_graph.specs.working.IndexBeginnings.{AreBeginnings, IsAround};
-ghost use Rattle.heap_graph.specs.working.IndexPairs.{IsFirstBearer, IsFirstFrom, pair_cmp};
+ghost use Rattle.heap_graph.specs.working.IndexPairs.{IsFirstBearer, IsFirstFrom, IsFirstRepeat, IsLeastRepeat, pair_cmp};
 ghost use Rattle.heap_graph.specs.working.Resolving.{Resolves, ResolvesOne};
 
 use self::beginnings::Beginnings;
@@ -86,6 +86,22 @@ fn first_bearer<A: Allocator>(
     Some(pairs[at].1)
 }
 
+/// The least number of a pair whose identifier a pair of a smaller number has, and how many pairs there are where no
+/// pair has such a one.
+fn least_repeat(pairs: &[(u64, u32)]) -> usize
+    requires { IsSorted pair_cmp pairs.now }
+    ensures { IsLeastRepeat pairs.now (length pairs.now) result }
+{
+    let mut least = pairs.len();
+    for at in 1..pairs.len() {
+        let (before, pair) = (pairs[at - 1], pairs[at]);
+        if before.0 == pair.0 && before.1 < pair.1 {
+            least = least.min(pair.1 as usize);
+        }
+    }
+    least
+}
+
 impl<A: Allocator> Index<A> {
     /// The number of the object that an identifier names.
     pub(crate) fn find(&self, id: u64) -> Option<u32>
@@ -102,6 +118,14 @@ impl<A: Allocator> Index<A> {
             Some(first) => return (first as usize) < number,
             None => return false,
         }
+    }
+
+    /// The number of the first object whose identifier an earlier one bears, and how many objects there are where no
+    /// object bears such a one.
+    pub(crate) fn first_repeat(&self) -> usize
+        ensures { IsFirstRepeat self.now result }
+    {
+        least_repeat(&self.pairs)
     }
 
     /// Appends the object that an identifier names, and says whether it is another than 0 and names none.

@@ -5,5 +5,6 @@ ghost use Rattle.heap_graph.specs.ObjectGraph.{IsGraphOfText, ObjectGraph};
 
 /// A text has at most one graph.
 pub fn one_graph()
-    ensures { (text : List ℕ) (graph other : ObjectGraph) → IsGraphOfText text graph → IsGraphOfText text other → graph ≡ other }
+    ensures { (text : List ℕ) (graph other : ObjectGraph) → IsGraphOfText text graph → IsGraphOfText text other
+        → graph ≡ other }
 {}

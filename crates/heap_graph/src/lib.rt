@@ -2,6 +2,7 @@
 #![tactic(auto)]
 
 mod classes;
+mod cut_lists;
 mod entry;
 mod fields;
 mod graph;
@@ -9,7 +10,6 @@ mod index;
 mod laws;
 mod names;
 mod objects;
-mod pieces;
 mod row;
 mod rule;
 mod successors;

@@ -30,7 +30,8 @@ impl<'a, 'd> Names<'a, 'd> {
     /// The strings by their identifiers.
     fn strings_by_id<B: Allocator + Copy>(&self, alloc: B) -> Result<Index<B>, AllocError>
         requires { (records : List Record) × AreNamesOf self.now records }
-        ensures { IfOk result (λ index. (records : List Record) → AreNamesOf self.now records → index ≡ map string_id (filter is_string records)) }
+        ensures { IfOk result (λ index. (records : List Record) → AreNamesOf self.now records
+            → index ≡ map string_id (filter is_string records)) }
     {
         let mut builder = IndexBuilder::with_capacity(alloc, self.strings.len())?;
         for at in self.strings {
@@ -42,7 +43,8 @@ impl<'a, 'd> Names<'a, 'd> {
     /// The loaded classes by their identifiers.
     fn loaded_by_id<B: Allocator + Copy>(&self, alloc: B) -> Result<Index<B>, AllocError>
         requires { (records : List Record) × AreNamesOf self.now records }
-        ensures { IfOk result (λ index. (records : List Record) → AreNamesOf self.now records → index ≡ map loaded_id (filter is_load records)) }
+        ensures { IfOk result (λ index. (records : List Record) → AreNamesOf self.now records
+            → index ≡ map loaded_id (filter is_load records)) }
     {
         let mut builder = IndexBuilder::with_capacity(alloc, self.loaded.len())?;
         for at in self.loaded {
@@ -86,7 +88,8 @@ impl<'n, 'a, A: Allocator> NamesById<'n, 'a, A> {
     /// The text of the first string with that identifier.
     fn string_named(&self, id: u64) -> Option<&'a [u8]>
         requires { (records : List Record) × AreNamesByIdOf self.now records }
-        ensures { (records : List Record) → AreNamesByIdOf self.now records → option_copied result ≡ named.string_named records id }
+        ensures { (records : List Record) → AreNamesByIdOf self.now records
+            → option_copied result ≡ named.string_named records id }
     {
         match self.strings.find(id) {
             Some(number) => {
@@ -100,7 +103,8 @@ impl<'n, 'a, A: Allocator> NamesById<'n, 'a, A> {
     /// The text that names a class, if the dump has one.
     pub(crate) fn class_text(&self, class: u64) -> Option<&'a [u8]>
         requires { (records : List Record) × AreNamesByIdOf self.now records }
-        ensures { (records : List Record) → AreNamesByIdOf self.now records → option_copied result ≡ named.class_text records class }
+        ensures { (records : List Record) → AreNamesByIdOf self.now records
+            → option_copied result ≡ named.class_text records class }
     {
         match self.name_of(class) {
             Some(name) => return self.string_named(name),

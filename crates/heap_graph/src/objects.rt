@@ -2,7 +2,6 @@
 
 mod check;
 mod classes;
-pub(crate) mod entries;
 mod links;
 mod references;
 pub(crate) mod table;
@@ -34,7 +33,8 @@ pub(crate) fn read_ids<B: Allocator>(
     places: &[u32],
 ) -> Result<Vec<u64, B>, AllocError>
     requires { (subs : List SubRecord) × StandInTurn (Stands view.now) places.now subs }
-    ensures { IfOk result (λ v. (subs : List SubRecord) → StandInTurn (Stands view.now) places.now subs → v.items ≡ map id_of subs) }
+    ensures { IfOk result (λ v. (subs : List SubRecord) → StandInTurn (Stands view.now) places.now subs
+        → v.items ≡ map id_of subs) }
 {
     let mut ids = Vec::new(alloc);
     for at in places {
@@ -50,7 +50,8 @@ pub(crate) fn index_of<B: Allocator + Copy>(
     places: &[u32],
 ) -> Result<Index<B>, AllocError>
     requires { (subs : List SubRecord) × StandInTurn (Stands view.now) places.now subs }
-    ensures { IfOk result (λ index. (subs : List SubRecord) → StandInTurn (Stands view.now) places.now subs → index ≡ map id_of subs) }
+    ensures { IfOk result (λ index. (subs : List SubRecord) → StandInTurn (Stands view.now) places.now subs
+        → index ≡ map id_of subs) }
 {
     let mut builder = IndexBuilder::with_capacity(alloc, places.len())?;
     for at in places {

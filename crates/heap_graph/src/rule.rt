@@ -3,7 +3,8 @@
 ghost use Rattle.std.specs.Prelude.{◌≡◌};
 ghost use Rattle.heap_graph.specs.LinkFault.{code_of};
 
-use thiserror::Error;
+use std::error::Error;
+use std::fmt;
 
 /// The rules that each object is tested by, in this order.
 #[derive(Clone, Copy, Debug, PartialEq, Eq)]
@@ -39,8 +40,7 @@ impl LinkRule {
 }
 
 /// The first fault in the links of a dump.
-#[derive(Clone, Copy, Debug, PartialEq, Eq, Error)]
-#[error("fault {code} at {offset}")]
+#[derive(Clone, Copy, Debug, PartialEq, Eq)]
 pub struct LinkFault {
     /// 9 to 14.
     pub code: u8,
@@ -48,13 +48,44 @@ pub struct LinkFault {
     pub offset: u64,
 }
 
+impl fmt::Display for LinkFault {
+    ghost use Rattle.std.specs.Prelude.{Some};
+    ghost use Rattle.heap_graph.specs.Refusal.{fault_text};
+
+    ghost output = { λ fault. Some (fault_text fault) };
+
+    fn fmt<W: fmt::Write>(&self, f: &mut fmt::Formatter<W>) -> fmt::Result {
+        let code = self.code;
+        let offset = self.offset;
+        write!(f, "fault {code} at {offset}")
+    }
+}
+
+impl Error for LinkFault {}
+
 /// Why no graph was built.
-#[derive(Clone, Copy, Debug, PartialEq, Eq, Error)]
+#[derive(Clone, Copy, Debug, PartialEq, Eq)]
 pub enum LinkRefusal {
     /// The objects of the dump are not linked.
-    #[error("the objects of the heap dump are not linked: {0}")]
     Fault(LinkFault),
     /// A growth was refused.
-    #[error("out of memory")]
     OutOfMemory,
 }
+
+impl fmt::Display for LinkRefusal {
+    ghost use Rattle.std.specs.Prelude.{Some};
+    ghost use Rattle.heap_graph.specs.Refusal.{link_refusal_text};
+
+    ghost output = { λ refusal. Some (link_refusal_text refusal) };
+
+    fn fmt<W: fmt::Write>(&self, f: &mut fmt::Formatter<W>) -> fmt::Result {
+        match self {
+            LinkRefusal::Fault(fault) => {
+                write!(f, "the objects of the heap dump are not linked: {fault}")
+            }
+            LinkRefusal::OutOfMemory => write!(f, "out of memory"),
+        }
+    }
+}
+
+impl Error for LinkRefusal {}

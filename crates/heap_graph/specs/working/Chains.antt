@@ -104,11 +104,13 @@ pub record IsTop (s : ℕ) (heap : List SubRecord) (ids path : List ℕ) (fate :
 
 -- what a climb does above a class with that superclass identifier
 abbrev pub IsStep : ℕ → List SubRecord → List ℕ → List Fate → ℕ → Step → Type 0
-IsStep s heap ids known super (steps.Up next) = (next < length ids) × (slice_index ids next ≡ super) × (slice_get known next ≡ Some fates.Unknown)
+IsStep s heap ids known super (steps.Up next) = (next < length ids) × (slice_index ids next ≡ super)
+    × (slice_get known next ≡ Some fates.Unknown)
 IsStep s heap ids known super (steps.End fate) = IsFate s heap ids super fate × IsSettled fate
 
 -- a climb from the class `first` has come to the class `at`, of which nothing is known; those before it are the path
-pub record IsClimb (s : ℕ) (heap : List SubRecord) (ids : List ℕ) (first : ℕ) (path : List ℕ) (known : List Fate) (at : ℕ) : Type 0 where
+pub record IsClimb (s : ℕ) (heap : List SubRecord) (ids : List ℕ) (first : ℕ) (path : List ℕ) (known : List Fate)
+    (at : ℕ) : Type 0 where
   pub fates_are : AreFates s heap ids path known
   pub path_is : IsPath heap ids path (slice_index ids at)
   pub below : at < length ids

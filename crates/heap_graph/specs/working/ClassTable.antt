@@ -38,15 +38,20 @@ abbrev pub AreClassesOf : {A : Type 0} → Classes A → List SubRecord → Type
 AreClassesOf o heap = AreClasses o.view heap o.table.entries o.types.items
 
 -- the classes among the first n objects
-pub record AreClassesAmong (v : Sight) (heap : List SubRecord) (n : ℕ) (entries : List Entry) (types : List ℕ) : Type 0 where
+pub record AreClassesAmong (v : Sight) (heap : List SubRecord) (n : ℕ) (entries : List Entry)
+    (types : List ℕ) : Type 0 where
   pub each : (k : ℕ) (e : Entry) → slice_get entries k ≡ Some e → IsEntry v heap types e
-  pub complete : (id number : ℕ) (c : Class) → class_named heap id ≡ Some c → number_named heap id ≡ Some number → number < n → Contains (ids_of entries) id
-  pub only : (id : ℕ) → Contains (ids_of entries) id → (number : ℕ) × (number_named heap id ≡ Some number) × (number < n)
-  pub in_order : IsLinked v.id_size heap → ids_of entries ≡ map (λ c. c.object) (filter_map as_class (take n (objects heap)))
+  pub complete : (id number : ℕ) (c : Class) → class_named heap id ≡ Some c → number_named heap id ≡ Some number
+      → number < n → Contains (ids_of entries) id
+  pub only : (id : ℕ) → Contains (ids_of entries) id → (number : ℕ) × (number_named heap id ≡ Some number)
+      × (number < n)
+  pub in_order : IsLinked v.id_size heap
+      → ids_of entries ≡ map (λ c. c.object) (filter_map as_class (take n (objects heap)))
   pub few : length entries ≤ n
 
 -- the class was added behind the others, with the types of its fields
-pub record AddsEntry (c : Class) (id place : ℕ) (old : List Entry) (old_types : List ℕ) (new : List Entry) (types : List ℕ) : Type 0 where
+pub record AddsEntry (c : Class) (id place : ℕ) (old : List Entry) (old_types : List ℕ) (new : List Entry)
+    (types : List ℕ) : Type 0 where
   pub entry : ClassPlaces
   pub place_is : entry.place ≡ place
   pub start_is : entry.start ≡ length old_types

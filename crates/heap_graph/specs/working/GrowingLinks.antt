@@ -14,7 +14,8 @@ pub record IsStart (cuts all : List ℕ) (unresolved : ℕ) : Type 0 where
   pub none : unresolved ≡ 0
 
 -- one more piece, for an object that holds these identifiers
-pub record AddsLinks (index ids old_cuts old_all : List ℕ) (old_unresolved : ℕ) (cuts all : List ℕ) (unresolved : ℕ) : Type 0 where
+pub record AddsLinks (index ids old_cuts old_all : List ℕ) (old_unresolved : ℕ) (cuts all : List ℕ)
+    (unresolved : ℕ) : Type 0 where
   pub all_are : all ≡ old_all ++ filter_map (target_in index) ids
   pub cuts_are : cuts ≡ old_cuts ++ length all ∷ []
   pub counted : unresolved ≡ old_unresolved + count_by (is_missing index) ids
@@ -23,7 +24,8 @@ pub record AddsLinks (index ids old_cuts old_all : List ℕ) (old_unresolved : �
 pub record AreLinks (s : ℕ) (heap : List SubRecord) (n : ℕ) (cuts all : List ℕ) (unresolved : ℕ) : Type 0 where
   pub lists : List (List ℕ)
   pub one_each : length lists ≡ n
-  pub each : (k : ℕ) (o : SubRecord) (ids : List ℕ) → slice_get (objects heap) k ≡ Some o → slice_get lists k ≡ Some ids → AreIdsIn s heap o ids
+  pub each : (k : ℕ) (o : SubRecord) (ids : List ℕ) → slice_get (objects heap) k ≡ Some o
+      → slice_get lists k ≡ Some ids → AreIdsIn s heap o ids
   pub pieces_are : pieces cuts all ≡ map (targets heap) lists
   pub cut : AreCuts cuts all
   pub cut_count : length cuts ≡ n + 1

@@ -42,6 +42,7 @@ pub record AddsIdsOf (s : ℕ) (heap : List SubRecord) (n : ℕ) (old new : List
   pub adds : AddsIds s heap object old new
 
 -- the layout of these types begins at that class, and the values are as many bytes
-pub record IsLayoutFrom {A : Type 0} (o : Objects A) (heap : List SubRecord) (types : List ℕ) (first : Option ℕ) (values : List ℕ) : Type 0 where
+pub record IsLayoutFrom {A : Type 0} (o : Objects A) (heap : List SubRecord) (types : List ℕ) (first : Option ℕ)
+    (values : List ℕ) : Type 0 where
   pub begins : IsFirst heap (ids_of o.classes.table.entries) types first
   pub room : sum_by (λ t. size_of o.view.id_size t) types ≤ length values

@@ -1,5 +1,5 @@
 -- Pairs of an identifier and the number of an object that bears it.
-use Rattle.std.specs.Prelude.{Contains, IsSorted, List, None, Option, Some, length, map, slice_get, slice_index_or, ◌<◌, ◌==◌, ◌^◌, ◌≡◌, ◌≢◌, ◌≤◌, ℕ}
+use Rattle.std.specs.Prelude.{Contains, IsSorted, List, None, Option, Some, length, map, slice_get, slice_index_or, take, ◌<◌, ◌==◌, ◌^◌, ◌≡◌, ◌≢◌, ◌≤◌, ◌⊎◌, ℕ}
 use Rattle.std.specs.List.{find, range_with_len}
 use Rattle.std.specs.Ordering.{nat_cmp, ordering_then}
 use Rattle.std.specs.Option.{option_map_or}
@@ -54,3 +54,21 @@ pub record IsBearerAt (pairs : List (ℕ × ℕ)) (id number at : ℕ) : Type 0 
 abbrev pub IsFirstBearer : List (ℕ × ℕ) → ℕ → Option ℕ → Type 0
 IsFirstBearer pairs id None = IsNoBearer pairs id
 IsFirstBearer pairs id (Some number) = (at : ℕ) × IsBearerAt pairs id number at
+
+-- the pairs at these two places have one identifier, and the first of them has the smaller number
+pub record IsRepeatAt (pairs : List (ℕ × ℕ)) (first second : ℕ) : Type 0 where
+  pub order : first < second
+  pub within : second < length pairs
+  pub same : id_at pairs first ≡ id_at pairs second
+  pub earlier : (pair_at pairs first).1 < (pair_at pairs second).1
+
+-- the least number of a repeat before that place, or how many pairs there are
+pub record IsLeastRepeat (pairs : List (ℕ × ℕ)) (end number : ℕ) : Type 0 where
+  pub least : (first second : ℕ) → IsRepeatAt pairs first second → second < end → number ≤ (pair_at pairs second).1
+  pub found : (number ≡ length pairs) ⊎ ((first : ℕ) × (second : ℕ) × IsRepeatAt pairs first second
+      × (number ≡ (pair_at pairs second).1))
+
+-- the first object whose identifier an earlier one bears has that number, or there is no such object
+pub record IsFirstRepeat (ids : List ℕ) (number : ℕ) : Type 0 where
+  pub first : (k id : ℕ) → k < number → slice_get ids k ≡ Some id → Contains (take k ids) id → ⊥
+  pub repeated : (id : ℕ) → slice_get ids number ≡ Some id → Contains (take number ids) id

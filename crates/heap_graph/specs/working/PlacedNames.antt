@@ -29,7 +29,8 @@ loaded_id (heap tag time subs) = 0
 loaded_id (other tag time body) = 0
 
 -- the strings and the loaded classes stand at these places, and these are their identifiers
-pub record AreNamesById (v : Sight) (strings loaded string_ids loaded_ids : List ℕ) (records : List Record) : Type 0 where
+pub record AreNamesById (v : Sight) (strings loaded string_ids loaded_ids : List ℕ)
+    (records : List Record) : Type 0 where
   pub names : AreNames v strings loaded records
   pub strings_are : string_ids ≡ map string_id (filter is_string records)
   pub loaded_are : loaded_ids ≡ map loaded_id (filter is_load records)

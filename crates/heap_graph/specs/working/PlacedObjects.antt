@@ -1,11 +1,10 @@
 -- A heap list whose objects stand at places of the bytes.
-use Rattle.std.specs.Prelude.{List, None, Option, Some, map, ℕ, ◌≡◌}
-use Rattle.hprof_grammar.specs.SubRecord.{Class, SubRecord}
-use Rattle.hprof_grammar.specs.SubRecord.SubRecord.{class_dump}
+use Rattle.std.specs.Prelude.{List, map, ℕ, ◌≡◌}
+use Rattle.hprof_grammar.specs.SubRecord.{SubRecord}
 use Rattle.hprof_grammar.specs.Standing.{Sight, StandInTurn, Stands, id_of}
 use Rattle.heap_graph.specs.declared.objects.Objects.{Objects}
 use Rattle.hprof_grammar.specs.Dump.{IsDumpOf, Places}
-use Rattle.heap_graph.specs.Heap.{class_named, heap_of, objects}
+use Rattle.heap_graph.specs.Heap.{heap_of, objects}
 
 -- at these places stand the objects of the heap list, and these are their identifiers
 pub record AreObjects (v : Sight) (places ids : List ℕ) (heap : List SubRecord) : Type 0 where
@@ -21,8 +20,3 @@ pub record IsReadFrom {A : Type 0} (o : Objects A) (bytes : List ℕ) (dump : Pl
   pub size_is : o.view.id_size ≡ dump.id_size
   pub places_are : o.places.now ≡ dump.objects
   pub are : (is : IsDumpOf bytes dump) → AreOf o (heap_of is.records)
-
--- where the class dump stands that an identifier names
-abbrev pub IsClassAt : Sight → List SubRecord → ℕ → Option ℕ → Type 0
-IsClassAt v heap id None = class_named heap id ≡ None
-IsClassAt v heap id (Some at) = (c : Class) × (class_named heap id ≡ Some c) × Stands v at (class_dump c)

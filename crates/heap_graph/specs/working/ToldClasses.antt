@@ -7,7 +7,8 @@ use Rattle.heap_graph.specs.declared.objects.Objects.{Objects}
 use Rattle.heap_graph.specs.working.Chains.{AreSettled}
 use Rattle.heap_graph.specs.working.ClassTable.{AreClasses, Entry, ids_of}
 
-pub record AreTold (v : Sight) (heap : List SubRecord) (entries : List Entry) (types : List ℕ) (fates : List Fate) : Type 0 where
+pub record AreTold (v : Sight) (heap : List SubRecord) (entries : List Entry) (types : List ℕ)
+    (fates : List Fate) : Type 0 where
   pub classes : AreClasses v heap entries types
   pub settled : AreSettled v.id_size heap (ids_of entries) fates
   pub few : length entries < 2 ^ 32

@@ -5,4 +5,5 @@ use Rattle.hprof_grammar.specs.Tables.{size_of}
 
 abbrev pub typed_ids : ℕ → List ℕ → List ℕ → List ℕ
 typed_ids s [] values = []
-typed_ids s (t ∷ ts) values = (if t == 2 then big_number s (take s values) ∷ [] else []) ++ typed_ids s ts (drop (size_of s t) values)
+typed_ids s (t ∷ ts) values = (if t == 2 then big_number s (take s values) ∷ [] else [])
+    ++ typed_ids s ts (drop (size_of s t) values)

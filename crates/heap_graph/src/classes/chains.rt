@@ -54,7 +54,8 @@ impl<'d, A: Allocator> Classes<'d, A> {
         requires below { number < length self.now.table.entries }
         requires few { length self.now.table.entries < 2 ^ 32 }
         requires heap { (heap : List SubRecord) × AreClassesOf self.now heap }
-        ensures { (heap : List SubRecord) (super : ℕ) → AreClassesOf self.now heap → IsUnderOf self.now heap number super → IsAboveOf self.now heap super result }
+        ensures { (heap : List SubRecord) (super : ℕ) → AreClassesOf self.now heap
+            → IsUnderOf self.now heap number super → IsAboveOf self.now heap super result }
     {
         let superclass = self.view.superclass(self.entry(number).place);
         if superclass == 0 {
@@ -72,7 +73,9 @@ impl<'d, A: Allocator> Classes<'d, A> {
         requires few { length self.now.table.entries < 2 ^ 32 }
         requires each { length known.now ≡ length self.now.table.entries }
         requires heap { (heap : List SubRecord) × AreClassesOf self.now heap }
-        ensures { (heap : List SubRecord) (path : List ℕ) (super : ℕ) → AreClassesOf self.now heap → AreFatesOf self.now heap path known.now → IsUnderOf self.now heap at super → IsPathOf self.now heap path super → IsStepOf self.now heap known.now super result }
+        ensures { (heap : List SubRecord) (path : List ℕ) (super : ℕ) → AreClassesOf self.now heap
+            → AreFatesOf self.now heap path known.now → IsUnderOf self.now heap at super
+            → IsPathOf self.now heap path super → IsStepOf self.now heap known.now super result }
     {
         match self.above(at) {
             Above::Nothing => return Step::End(Fate::Whole(NO_LAYOUT)),
@@ -94,9 +97,13 @@ impl<'d, A: Allocator> Classes<'d, A> {
         path: &mut Vec<u32, B>,
     ) -> Result<Fate, AllocError>
         requires few { length self.now.table.entries < 2 ^ 32 }
-        requires heap { (heap : List SubRecord) × AreClassesOf self.now heap × IsClimbOf self.now heap first path.old.items known.old first }
+        requires heap { (heap : List SubRecord) × AreClassesOf self.now heap
+            × IsClimbOf self.now heap first path.old.items known.old first }
         ensures stays { OnOk result (DoesStay known.old known.new) }
-        ensures top { IfOk result (λ fate. (heap : List SubRecord) → AreClassesOf self.now heap → IsClimbOf self.now heap first path.old.items known.old first → AreFatesOf self.now heap path.new.items known.new × IsTopOf self.now heap path.new.items fate × Contains path.new.items first) }
+        ensures top { IfOk result (λ fate. (heap : List SubRecord) → AreClassesOf self.now heap
+            → IsClimbOf self.now heap first path.old.items known.old first
+            → AreFatesOf self.now heap path.new.items known.new × IsTopOf self.now heap path.new.items fate
+            × Contains path.new.items first) }
     {
         let mut at = first;
         'up: loop {
@@ -111,11 +118,14 @@ impl<'d, A: Allocator> Classes<'d, A> {
 
     /// Settles the classes of a path from its end to its start, below a fate.
     fn unwind<B: Allocator>(&self, above: Fate, known: &mut [Fate], path: &mut Vec<u32, B>)
-        requires heap { (heap : List SubRecord) × AreClassesOf self.now heap × AreFatesOf self.now heap path.old.items known.old × IsTopOf self.now heap path.old.items above }
+        requires heap { (heap : List SubRecord) × AreClassesOf self.now heap
+            × AreFatesOf self.now heap path.old.items known.old × IsTopOf self.now heap path.old.items above }
         ensures stays { DoesStay known.old known.new }
         ensures done { path.new.items ≡ [] }
         ensures known { (k : ℕ) → Contains path.old.items k → IsKnown known.new k }
-        ensures fates { (heap : List SubRecord) → AreClassesOf self.now heap → AreFatesOf self.now heap path.old.items known.old → IsTopOf self.now heap path.old.items above → AreFatesOf self.now heap [] known.new }
+        ensures fates { (heap : List SubRecord) → AreClassesOf self.now heap
+            → AreFatesOf self.now heap path.old.items known.old → IsTopOf self.now heap path.old.items above
+            → AreFatesOf self.now heap [] known.new }
     {
         let mut fate = above;
         while let Some(number) = path.pop() {
@@ -138,7 +148,8 @@ impl<'d, A: Allocator> Classes<'d, A> {
         ensures stays { OnOk result (DoesStay known.old known.new) }
         ensures path { OnOk result (path.new.items ≡ []) }
         ensures known { OnOk result (IsKnown known.new first) }
-        ensures fates { OnOk result ((heap : List SubRecord) → AreClassesOf self.now heap → AreFatesOf self.now heap [] known.old → AreFatesOf self.now heap [] known.new) }
+        ensures fates { OnOk result ((heap : List SubRecord) → AreClassesOf self.now heap
+            → AreFatesOf self.now heap [] known.old → AreFatesOf self.now heap [] known.new) }
     {
         match known[first as usize] {
             Fate::Unknown => {
@@ -157,7 +168,8 @@ impl<'d, A: Allocator> Classes<'d, A> {
     ) -> Result<Vec<Fate, B>, AllocError>
         requires few { length self.now.table.entries < 2 ^ 32 }
         requires heap { (heap : List SubRecord) × AreClassesOf self.now heap }
-        ensures { IfOk result (λ known. (heap : List SubRecord) → AreClassesOf self.now heap → AreSettledOf self.now heap known.items) }
+        ensures { IfOk result (λ known. (heap : List SubRecord) → AreClassesOf self.now heap
+            → AreSettledOf self.now heap known.items) }
     {
         let count = self.table.len();
         let mut known = unknown(alloc, count)?;

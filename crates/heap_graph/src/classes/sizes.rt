@@ -33,8 +33,12 @@ impl<'d, A: Allocator> Classes<'d, A> {
     /// The types of the fields that a class declares.
     pub(crate) fn types_of(&self, number: u32) -> &[u8]
         requires below { number < length self.now.table.entries }
-        requires heap { (v : Sight) × (heap : List SubRecord) × AreClasses v heap self.now.table.entries self.now.types.items }
-        ensures { (v : Sight) (heap : List SubRecord) (c : Class) → AreClasses v heap self.now.table.entries self.now.types.items → class_named heap (slice_index (ids_of self.now.table.entries) number) ≡ Some c → result.now ≡ own_types c }
+        requires heap { (v : Sight) × (heap : List SubRecord)
+            × AreClasses v heap self.now.table.entries self.now.types.items }
+        ensures { (v : Sight) (heap : List SubRecord) (c : Class)
+            → AreClasses v heap self.now.table.entries self.now.types.items
+            → class_named heap (slice_index (ids_of self.now.table.entries) number) ≡ Some c
+            → result.now ≡ own_types c }
     {
         let entry = self.entry(number);
         &self.types[entry.start..entry.end]
@@ -44,7 +48,9 @@ impl<'d, A: Allocator> Classes<'d, A> {
     fn first_of(&self, number: u32, above: Option<u32>) -> Option<u32>
         requires below { number < length self.now.table.entries }
         requires heap { (heap : List SubRecord) × AreClassesOf self.now heap }
-        ensures { (heap : List SubRecord) (c : Class) (rest : List Class) → AreClassesOf self.now heap → IsChainAtOf self.now heap number c rest → IsFirstOf self.now heap rest above → IsFirstOf self.now heap (c ∷ rest) result }
+        ensures { (heap : List SubRecord) (c : Class) (rest : List Class) → AreClassesOf self.now heap
+            → IsChainAtOf self.now heap number c rest → IsFirstOf self.now heap rest above
+            → IsFirstOf self.now heap (c ∷ rest) result }
     {
         if self.types_of(number).is_empty() {
             return above;
@@ -55,8 +61,11 @@ impl<'d, A: Allocator> Classes<'d, A> {
     /// The layout of a class, from that of its superclass.
     fn layout_below(&self, number: u32, above: Layout) -> Layout
         requires below { number < length self.now.table.entries }
-        requires heap { (heap : List SubRecord) × (c : Class) × (rest : List Class) × AreClassesOf self.now heap × IsChainAtOf self.now heap number c rest × IsLayoutAtOf self.now heap rest above }
-        ensures { (heap : List SubRecord) (c : Class) (rest : List Class) → AreClassesOf self.now heap → IsChainAtOf self.now heap number c rest → IsLayoutAtOf self.now heap rest above → IsLayoutAtOf self.now heap (c ∷ rest) result }
+        requires heap { (heap : List SubRecord) × (c : Class) × (rest : List Class) × AreClassesOf self.now heap
+            × IsChainAtOf self.now heap number c rest × IsLayoutAtOf self.now heap rest above }
+        ensures { (heap : List SubRecord) (c : Class) (rest : List Class) → AreClassesOf self.now heap
+            → IsChainAtOf self.now heap number c rest → IsLayoutAtOf self.now heap rest above
+            → IsLayoutAtOf self.now heap (c ∷ rest) result }
     {
         let bytes = size_together(&self.view, self.types_of(number)) + above.size;
         Layout {
@@ -69,9 +78,12 @@ impl<'d, A: Allocator> Classes<'d, A> {
     /// The fate of a class, from that of its superclass.
     pub(crate) fn fate_below(&self, number: u32, above: Fate) -> Fate
         requires below { number < length self.now.table.entries }
-        requires heap { (heap : List SubRecord) × (super : ℕ) × AreClassesOf self.now heap × IsUnderOf self.now heap number super × IsFateOf self.now heap super above }
+        requires heap { (heap : List SubRecord) × (super : ℕ) × AreClassesOf self.now heap
+            × IsUnderOf self.now heap number super × IsFateOf self.now heap super above }
         ensures settled { IsSettled above → IsSettled result }
-        ensures fate { (heap : List SubRecord) (super : ℕ) → AreClassesOf self.now heap → IsUnderOf self.now heap number super → IsFateOf self.now heap super above → IsFateOf self.now heap (slice_index (ids_of self.now.table.entries) number) result }
+        ensures fate { (heap : List SubRecord) (super : ℕ) → AreClassesOf self.now heap
+            → IsUnderOf self.now heap number super → IsFateOf self.now heap super above
+            → IsFateOf self.now heap (slice_index (ids_of self.now.table.entries) number) result }
     {
         match above {
             Fate::Whole(layout) => return Fate::Whole(self.layout_below(number, layout)),

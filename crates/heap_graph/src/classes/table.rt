@@ -43,7 +43,9 @@ impl<'d, A: Allocator> Classes<'d, A> {
         requires dump { (c : Class) × Stands self.old.view place (class_dump c) }
         requires new { position (λ x. x == id) (ids_of self.old.table.entries) ≡ None }
         ensures view { OnOk result (self.new.view ≡ self.old.view) }
-        ensures added { OnOk result ((c : Class) → Stands self.old.view place (class_dump c) → AddsEntry c id place self.old.table.entries self.old.types.items self.new.table.entries self.new.types.items) }
+        ensures added { OnOk result ((c : Class) → Stands self.old.view place (class_dump c)
+            → AddsEntry c id place self.old.table.entries self.old.types.items
+            self.new.table.entries self.new.types.items) }
     {
         let start = self.types.len();
         push_types(&mut self.types, self.view.members(place))?;

@@ -8,11 +8,13 @@ ghost use Rattle.heap_graph.specs.Heap.{heap_of};
 ghost use Rattle.heap_graph.specs.LinkFault.{HasLinkFault};
 ghost use Rattle.heap_graph.specs.ObjectGraph.{IsGraphOf, IsGraphOfText};
 ghost use Rattle.heap_graph.specs.Refusal.{IfLinkFault};
+ghost use Rattle.heap_graph.specs.working.Entries.{AreEntriesOf};
 ghost use Rattle.heap_graph.specs.working.HeldIds.{AreLinkedOf};
 ghost use Rattle.heap_graph.specs.working.PlacedNames.{AreNamesOf};
 ghost use Rattle.heap_graph.specs.working.PlacedObjects.{AreOf, IsReadFrom};
 ghost use Rattle.heap_graph.specs.working.ToldClasses.{AreToldOf};
 
+use crate::entry::ObjectEntry;
 use crate::graph::Graph;
 use crate::names::Names;
 use crate::objects::table::class_table;
@@ -55,15 +57,22 @@ impl<'a, A: Allocator + Copy> Graph<'a, A> {
     fn assemble<C: Allocator>(
         alloc: A,
         objects: &Objects<'_, C>,
+        entries: Vec<ObjectEntry, A>,
         names: &Names<'a, '_>,
         root_places: &[u32],
     ) -> Result<Graph<'a, A>, AllocError>
-        requires { (records : List Record) × AreLinkedOf objects.now (heap_of records) × AreToldOf objects.now (heap_of records) × AreNamesOf names.now records × StandInTurn (Stands objects.now.view) root_places.now (filter is_root (heap_of records)) }
-        ensures { IfOk result (λ g. (records : List Record) → AreLinkedOf objects.now (heap_of records) → AreToldOf objects.now (heap_of records) → AreNamesOf names.now records → StandInTurn (Stands objects.now.view) root_places.now (filter is_root (heap_of records)) → IsGraphOf objects.now.view.id_size records g) }
+        requires { (records : List Record) × AreLinkedOf objects.now (heap_of records)
+            × AreToldOf objects.now (heap_of records) × AreEntriesOf objects.now (heap_of records) entries.items
+            × AreNamesOf names.now records
+            × StandInTurn (Stands objects.now.view) root_places.now (filter is_root (heap_of records)) }
+        ensures { IfOk result (λ g. (records : List Record) → AreLinkedOf objects.now (heap_of records)
+            → AreToldOf objects.now (heap_of records) → AreEntriesOf objects.now (heap_of records) entries.items
+            → AreNamesOf names.now records
+            → StandInTurn (Stands objects.now.view) root_places.now (filter is_root (heap_of records))
+            → IsGraphOf objects.now.view.id_size records g) }
     {
         stands_within();
         let classes = objects.classes(alloc, names)?;
-        let entries = objects.entries(alloc, &classes)?;
         let links = objects.links(alloc)?;
         let root_ids = read_ids(alloc, &objects.view, root_places)?;
         let mut roots = Vec::new(alloc);
@@ -94,15 +103,20 @@ impl<'a, A: Allocator + Copy> Graph<'a, A> {
             Ok(objects) => objects,
             Err(_) => return Err(LinkRefusal::OutOfMemory),
         };
-        if let Err(fault) = objects.check() {
-            return Err(LinkRefusal::Fault(fault));
-        }
+        let tested = match objects.entries(alloc) {
+            Ok(tested) => tested,
+            Err(_) => return Err(LinkRefusal::OutOfMemory),
+        };
+        let entries = match tested {
+            Ok(entries) => entries,
+            Err(fault) => return Err(LinkRefusal::Fault(fault)),
+        };
         let names = Names {
             view: View::new(bytes, dump.id_size()),
             strings: dump.strings(),
             loaded: dump.loaded(),
         };
-        match Graph::assemble(alloc, &objects, &names, dump.roots()) {
+        match Graph::assemble(alloc, &objects, entries, &names, dump.roots()) {
             Ok(graph) => return Ok(graph),
             Err(_) => return Err(LinkRefusal::OutOfMemory),
         }

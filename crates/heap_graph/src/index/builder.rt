@@ -55,7 +55,7 @@ impl<A: Allocator> IndexBuilder<A> {
         ensures { IfOk result (λ index. index ≡ self) }
     {
         let mut pairs = self.pairs;
-        pairs.sort_unstable();
+        pairs.sort()?;
         let beginnings = Beginnings::of(alloc, &pairs)?;
         Ok(Index { pairs, beginnings })
     }

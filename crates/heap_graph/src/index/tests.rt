@@ -1,7 +1,7 @@
 //! Look-ups beside a search one by one.
 
 use crate::index::{Index, IndexBuilder};
-use linked_list_allocator::LocalHeap;
+use limited_heap::LimitedHeap;
 use std::alloc::{AllocError, Allocator, Global};
 use std::process::Abort;
 use std::test::Fail;
@@ -118,24 +118,23 @@ fn many_identifiers(rt: HostRuntime) -> Result<(), Fail> {
     Ok(())
 }
 
-/// Heaps of every size up to one that is large enough: an index is whole, or there is none.
+/// From the first request on until nothing is refused: there is no index, and then a whole one.
 #[test]
 fn memory_refused_in_turn(rt: HostRuntime) -> Result<(), Fail> {
-    let mut refused = 0u32;
-    let mut built = 0u32;
-    for size in 1..60usize {
-        let heap = LocalHeap::new(rt.alloc(), size * 16)?;
+    for requests in 0..64u64 {
+        let heap = LimitedHeap::new(rt.alloc(), requests);
         match index_of(&heap, &[9, 3, 9, 3, 1, 1, 9]) {
             Ok(index) => {
+                assert_eq!(rt; heap.refusals(), 0);
                 assert_eq!(rt; index.find(9), Some(0));
                 assert_eq!(rt; index.find(1), Some(4));
                 assert_eq!(rt; index.find(2), None);
-                built = built.saturating_add(1);
+                assert!(rt; requests > 1);
+                return Ok(());
             }
-            Err(_) => refused = refused.saturating_add(1),
+            Err(_) => assert!(rt; heap.refusals() > 0, "{requests} requests"),
         }
     }
-    assert!(rt; refused > 0);
-    assert!(rt; built > 0);
+    assert!(rt; false, "64 requests are too few");
     Ok(())
 }

@@ -23,8 +23,10 @@ impl<'d, A: Allocator> Objects<'d, A> {
         classes: &mut Vec<ClassEntry<'a>, B>,
     ) -> Result<(), AllocError>
         requires below { number < length self.now.places.now }
-        requires records { (records : List Record) × AreOf self.now (heap_of records) × AreNamesByIdOf names.now records }
-        ensures { OnOk result ((records : List Record) → AreOf self.now (heap_of records) → AreNamesByIdOf names.now records → AddsClass records number classes.old.items classes.new.items) }
+        requires records { (records : List Record) × AreOf self.now (heap_of records)
+            × AreNamesByIdOf names.now records }
+        ensures { OnOk result ((records : List Record) → AreOf self.now (heap_of records)
+            → AreNamesByIdOf names.now records → AddsClass records number classes.old.items classes.new.items) }
     {
         let place = self.places[number];
         match self.view.kind(place) {
@@ -45,7 +47,8 @@ impl<'d, A: Allocator> Objects<'d, A> {
         names: &Names<'a, '_>,
     ) -> Result<Vec<ClassEntry<'a>, B>, AllocError>
         requires { (records : List Record) × AreOf self.now (heap_of records) × AreNamesOf names.now records }
-        ensures { IfOk result (λ v. (records : List Record) → AreOf self.now (heap_of records) → AreNamesOf names.now records → AreClassesOf records (length self.now.places.now) v.items) }
+        ensures { IfOk result (λ v. (records : List Record) → AreOf self.now (heap_of records)
+            → AreNamesOf names.now records → AreClassesOf records (length self.now.places.now) v.items) }
     {
         let by_id = NamesById::new(alloc, names)?;
         let mut classes = Vec::new(alloc);

@@ -18,8 +18,11 @@ impl<'d, A: Allocator> Objects<'d, A> {
 
     /// Appends the identifiers that a class dump holds. The two reserved ones are not followed.
     fn push_class_ids<B: Allocator>(&self, at: u32, ids: &mut Vec<u64, B>) -> Result<(), AllocError>
-        requires { (heap : List SubRecord) × (n : ℕ) × (c : Class) × AreLinkedOf self.now heap × IsObjectAt self.now.view heap n at (class_dump c) }
-        ensures { OnOk result ((heap : List SubRecord) (n : ℕ) (c : Class) → AreLinkedOf self.now heap → IsObjectAt self.now.view heap n at (class_dump c) → AddsIds self.now.view.id_size heap (class_dump c) ids.old.items ids.new.items) }
+        requires { (heap : List SubRecord) × (n : ℕ) × (c : Class) × AreLinkedOf self.now heap
+            × IsObjectAt self.now.view heap n at (class_dump c) }
+        ensures { OnOk result ((heap : List SubRecord) (n : ℕ) (c : Class) → AreLinkedOf self.now heap
+            → IsObjectAt self.now.view heap n at (class_dump c)
+            → AddsIds self.now.view.id_size heap (class_dump c) ids.old.items ids.new.items) }
     {
         ids.push(self.view.superclass(at))?;
         ids.push(self.view.loader(at))?;
@@ -33,7 +36,8 @@ impl<'d, A: Allocator> Objects<'d, A> {
     /// The first of the classes above a class that declares fields.
     fn next_of(&self, number: u32) -> Option<u32>
         requires below { number < length self.now.fates.items }
-        ensures { (heap : List SubRecord) (c : Class) (rest : List Class) → AreToldOf self.now heap → IsChainAtOf self.now.classes heap number c rest → IsFirstOf self.now.classes heap rest result }
+        ensures { (heap : List SubRecord) (c : Class) (rest : List Class) → AreToldOf self.now heap
+            → IsChainAtOf self.now.classes heap number c rest → IsFirstOf self.now.classes heap rest result }
     {
         match self.fates[number as usize] {
             Fate::Whole(layout) => return layout.next,
@@ -49,8 +53,11 @@ impl<'d, A: Allocator> Objects<'d, A> {
         ids: &mut Vec<u64, B>,
     ) -> Result<(), AllocError>
         requires size { (1 ≤ self.now.view.id_size) × (self.now.view.id_size ≤ 8) }
-        requires heap { (heap : List SubRecord) × (types : List ℕ) × AreToldOf self.now heap × IsLayoutFrom self.now heap types first values.now }
-        ensures { OnOk result ((heap : List SubRecord) (types : List ℕ) → AreToldOf self.now heap → IsLayoutFrom self.now heap types first values.now → ids.new.items ≡ ids.old.items ++ typed_ids self.now.view.id_size types values.now) }
+        requires heap { (heap : List SubRecord) × (types : List ℕ) × AreToldOf self.now heap
+            × IsLayoutFrom self.now heap types first values.now }
+        ensures { OnOk result ((heap : List SubRecord) (types : List ℕ) → AreToldOf self.now heap
+            → IsLayoutFrom self.now heap types first values.now
+            → ids.new.items ≡ ids.old.items ++ typed_ids self.now.view.id_size types values.now) }
     {
         let mut at = first;
         let mut left = values;
@@ -67,8 +74,11 @@ impl<'d, A: Allocator> Objects<'d, A> {
         at: u32,
         ids: &mut Vec<u64, B>,
     ) -> Result<(), AllocError>
-        requires { (heap : List SubRecord) × (n : ℕ) × (i : Instance) × AreLinkedOf self.now heap × AreToldOf self.now heap × IsObjectAt self.now.view heap n at (instance_dump i) }
-        ensures { OnOk result ((heap : List SubRecord) (n : ℕ) (i : Instance) → AreLinkedOf self.now heap → AreToldOf self.now heap → IsObjectAt self.now.view heap n at (instance_dump i) → AddsIds self.now.view.id_size heap (instance_dump i) ids.old.items ids.new.items) }
+        requires { (heap : List SubRecord) × (n : ℕ) × (i : Instance) × AreLinkedOf self.now heap
+            × AreToldOf self.now heap × IsObjectAt self.now.view heap n at (instance_dump i) }
+        ensures { OnOk result ((heap : List SubRecord) (n : ℕ) (i : Instance) → AreLinkedOf self.now heap
+            → AreToldOf self.now heap → IsObjectAt self.now.view heap n at (instance_dump i)
+            → AddsIds self.now.view.id_size heap (instance_dump i) ids.old.items ids.new.items) }
     {
         let class = self.view.instance_class(at);
         ids.push(class)?;
@@ -86,8 +96,11 @@ impl<'d, A: Allocator> Objects<'d, A> {
 
     /// Appends the identifiers that an object array holds: its class, and then its elements.
     fn push_array_ids<B: Allocator>(&self, at: u32, ids: &mut Vec<u64, B>) -> Result<(), AllocError>
-        requires { (heap : List SubRecord) × (n : ℕ) × (a : ObjectArray) × AreLinkedOf self.now heap × IsObjectAt self.now.view heap n at (object_array_dump a) }
-        ensures { OnOk result ((heap : List SubRecord) (n : ℕ) (a : ObjectArray) → AreLinkedOf self.now heap → IsObjectAt self.now.view heap n at (object_array_dump a) → AddsIds self.now.view.id_size heap (object_array_dump a) ids.old.items ids.new.items) }
+        requires { (heap : List SubRecord) × (n : ℕ) × (a : ObjectArray) × AreLinkedOf self.now heap
+            × IsObjectAt self.now.view heap n at (object_array_dump a) }
+        ensures { OnOk result ((heap : List SubRecord) (n : ℕ) (a : ObjectArray) → AreLinkedOf self.now heap
+            → IsObjectAt self.now.view heap n at (object_array_dump a)
+            → AddsIds self.now.view.id_size heap (object_array_dump a) ids.old.items ids.new.items) }
     {
         ids.push(self.view.array_class(at))?;
         push_all(ids, self.view.array_elements(at))?;
@@ -102,7 +115,8 @@ impl<'d, A: Allocator> Objects<'d, A> {
     ) -> Result<(), AllocError>
         requires below { number < length self.now.places.now }
         requires heap { (heap : List SubRecord) × AreLinkedOf self.now heap × AreToldOf self.now heap }
-        ensures { OnOk result ((heap : List SubRecord) → AreLinkedOf self.now heap → AreToldOf self.now heap → AddsIdsOf self.now.view.id_size heap number ids.old.items ids.new.items) }
+        ensures { OnOk result ((heap : List SubRecord) → AreLinkedOf self.now heap → AreToldOf self.now heap
+            → AddsIdsOf self.now.view.id_size heap number ids.old.items ids.new.items) }
     {
         let place = self.places[number];
         match self.view.kind(place) {

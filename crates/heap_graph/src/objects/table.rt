@@ -18,9 +18,12 @@ fn add_object<A: Allocator, B: Allocator>(
     number: usize,
 ) -> Result<(), AllocError>
     requires below { number < length places.now }
-    requires heap { (heap : List SubRecord) × AreObjects classes.old.view places.now index.now heap × AreClassesAmong classes.old.view heap number classes.old.table.entries classes.old.types.items }
+    requires heap { (heap : List SubRecord) × AreObjects classes.old.view places.now index.now heap
+        × AreClassesAmong classes.old.view heap number classes.old.table.entries classes.old.types.items }
     ensures view { OnOk result (classes.new.view ≡ classes.old.view) }
-    ensures among { OnOk result ((heap : List SubRecord) → AreObjects classes.old.view places.now index.now heap → AreClassesAmong classes.old.view heap number classes.old.table.entries classes.old.types.items → AreClassesAmong classes.old.view heap (number + 1) classes.new.table.entries classes.new.types.items) }
+    ensures among { OnOk result ((heap : List SubRecord) → AreObjects classes.old.view places.now index.now heap
+        → AreClassesAmong classes.old.view heap number classes.old.table.entries classes.old.types.items
+        → AreClassesAmong classes.old.view heap (number + 1) classes.new.table.entries classes.new.types.items) }
 {
     let place = places[number];
     match classes.view.kind(place) {
@@ -47,7 +50,8 @@ pub(crate) fn class_table<'d, A: Allocator + Copy, B: Allocator>(
 ) -> Result<Classes<'d, A>, AllocError>
     requires { (heap : List SubRecord) × AreObjects view places.now index.now heap }
     ensures view { IfOk result (λ classes. classes.view ≡ view.entry) }
-    ensures classes { IfOk result (λ classes. (heap : List SubRecord) → AreObjects view.entry places.now index.now heap → AreClassesOf classes heap) }
+    ensures classes { IfOk result (λ classes. (heap : List SubRecord)
+        → AreObjects view.entry places.now index.now heap → AreClassesOf classes heap) }
     ensures few { IfOk result (λ classes. length classes.table.entries ≤ length places.now) }
 {
     let mut classes = Classes::new(alloc, view);

@@ -1,4 +1,4 @@
-use Rattle.std.proofs.Common.{List, ap, refl, sym, ◌++◌, ◌∙◌, ℕ}
+use Rattle.std.proofs.Common.{List, ap, refl, ◌++◌, ◌∙◌}
 use Rattle.hprof_grammar.specs.SubRecord.{Member}
 use Rattle.std.proofs.Common.{arith, map}
 use Rattle.std.proofs.lemmas.Grind.{common_steps}

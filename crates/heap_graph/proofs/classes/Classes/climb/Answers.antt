@@ -1,4 +1,4 @@
-use Rattle.std.proofs.Common.{Contains, List, Some, [], length, set, slice_get, subst, sym, ℕ, ◌++◌, ◌∷◌, ◌≡◌}
+use Rattle.std.proofs.Common.{Contains, List, [], set, subst, sym, ℕ, ◌++◌, ◌∷◌}
 use Rattle.heap_graph.specs.declared.classes.fate.Fate.TheVariants as fates
 use Rattle.heap_graph.specs.working.ClassTable.{ids_of}
 use Rattle.heap_graph.specs.working.Chains.{AreFates, IsClimb, IsTop}

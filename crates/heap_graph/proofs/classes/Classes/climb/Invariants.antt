@@ -1,4 +1,4 @@
-use Rattle.std.proofs.Common.{List, count_by, length, ◌<◌, ◌≡◌}
+use Rattle.std.proofs.Common.{List, count_by}
 use Rattle.hprof_grammar.specs.SubRecord.{SubRecord}
 use Rattle.heap_graph.specs.working.ClassTable.{AreClassesOf}
 use Rattle.heap_graph.specs.working.Chains.{DoesStay, IsClimbOf, is_unknown}

@@ -1,6 +1,6 @@
-use Rattle.std.proofs.Common.{List, [], ap, arith, length, refl, sym, true≢false, ◌∙◌, ◌≡◌, ℕ}
+use Rattle.std.proofs.Common.{ap, length, sym, true≢false, ◌∙◌}
 use Rattle.std.proofs.lemmas.Bool.{eq-eqb, eqb-true}
-use Rattle.heap_graph.specs.working.ClassTable.{ids_of, own_types}
+use Rattle.heap_graph.specs.working.ClassTable.{ids_of}
 use Rattle.heap_graph.proofs.LayoutLaws.{empty_list, first_above, first_here}
 use Rattle.heap_graph.proofs.classes.Classes.first_of.Goals as goal
 

@@ -1,7 +1,7 @@
-use Rattle.std.proofs.Common.{List, ap, arith, length, min, refl, sum_by, sym, ◌+◌, ◌∙◌, ◌<◌, ◌^◌, ◌∷◌, ◌≡◌, ◌≤◌, ℕ}
+use Rattle.std.proofs.Common.{List, ap, arith, length, min, sum_by, sym, ◌+◌, ◌∙◌, ◌<◌, ◌^◌, ◌≡◌, ℕ}
 use Rattle.hprof_grammar.specs.Tables.{size_of}
 use Rattle.heap_graph.specs.Layout.{layout_size}
-use Rattle.heap_graph.specs.working.Chains.{IsLayoutOf, most_size}
+use Rattle.heap_graph.specs.working.Chains.{most_size}
 use Rattle.heap_graph.specs.working.ClassTable.{own_types}
 use Rattle.heap_graph.proofs.ClassTableLaws.{few_types}
 use Rattle.heap_graph.proofs.LayoutLaws.{size_more, size_told}

@@ -1,4 +1,4 @@
-use Rattle.std.proofs.Common.{List, Some, [], arith, get_or, length, refl, slice_get, ◌<◌, ◌≡◌, ℕ}
+use Rattle.std.proofs.Common.{[], arith, get_or, refl}
 use Rattle.heap_graph.specs.declared.classes.fate.Fate.TheVariants as fates
 use Rattle.heap_graph.specs.working.ClassTable.{ids_of}
 use Rattle.heap_graph.proofs.ClassTableLaws.{numbered, same_count, under}

@@ -1,7 +1,6 @@
-use Rattle.std.proofs.Common.{List, Some, [], arith, get_or, length, refl, subst, sym, ℕ, ◌≡◌}
+use Rattle.std.proofs.Common.{arith, get_or, refl}
 use Rattle.heap_graph.specs.declared.classes.fate.Fate.TheVariants as fates
 use Rattle.heap_graph.specs.working.ClassTable.{ids_of}
-use Rattle.heap_graph.specs.working.Chains.{AreFates}
 use Rattle.heap_graph.proofs.ClassTableLaws.{same_count}
 use Rattle.heap_graph.proofs.FateLaws.{first_climb, known_here, read_fate}
 use Rattle.heap_graph.proofs.PathLaws.{contains_none}

@@ -1,4 +1,4 @@
-use Rattle.std.proofs.Common.{List, ap, arith, length, subst, sym, ◌∙◌, ◌≡◌, ◌≤◌, ℕ}
+use Rattle.std.proofs.Common.{List, ap, arith, length, ◌∙◌, ℕ}
 use Rattle.std.specs.Prelude.{slice_range}
 use Rattle.heap_graph.proofs.ClassTableLaws.{HasTypes, has_types, types_there}
 use Rattle.heap_graph.proofs.classes.Classes.types_of.Goals as goal

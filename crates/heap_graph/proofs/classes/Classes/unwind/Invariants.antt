@@ -1,4 +1,4 @@
-use Rattle.std.proofs.Common.{Contains, List, length, ℕ, ⊎_elim, ◌⊎◌}
+use Rattle.std.proofs.Common.{Contains, List, length, ℕ, ◌⊎◌}
 use Rattle.hprof_grammar.specs.SubRecord.{SubRecord}
 use Rattle.heap_graph.specs.working.ClassTable.{AreClassesOf}
 use Rattle.heap_graph.specs.working.Chains.{AreFatesOf, DoesStay, IsKnown, IsTopOf}

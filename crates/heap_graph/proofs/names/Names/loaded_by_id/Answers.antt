@@ -1,4 +1,4 @@
-use Rattle.std.proofs.Common.{get_or, filter, ℕ}
+use Rattle.std.proofs.Common.{get_or, filter}
 use Rattle.hprof_grammar.specs.Dump.{is_load}
 use Rattle.heap_graph.proofs.Lookups.{LoadedAt, loaded_at}
 use Rattle.heap_graph.proofs.NameLookups.{name_ids_more}

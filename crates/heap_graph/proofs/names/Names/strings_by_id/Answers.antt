@@ -1,4 +1,4 @@
-use Rattle.std.proofs.Common.{get_or, filter, ℕ}
+use Rattle.std.proofs.Common.{get_or, filter}
 use Rattle.hprof_grammar.specs.Dump.{is_string}
 use Rattle.heap_graph.proofs.Lookups.{TextAt, text_at}
 use Rattle.heap_graph.proofs.NameLookups.{text_ids_more}

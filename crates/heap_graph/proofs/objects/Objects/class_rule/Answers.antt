@@ -1,7 +1,6 @@
 use Rattle.std.proofs.Common.{None, Some, arith, length, subst, sym, ◌<◌, ◌∙◌, ◌≡◌, ℕ}
 use Rattle.std.proofs.lemmas.Grind.{common_steps}
 use Rattle.heap_graph.specs.declared.classes.fate.Fate.{Fate}
-use Rattle.heap_graph.specs.declared.classes.fate.Fate.TheVariants as fates
 use Rattle.heap_graph.specs.Heap.{class_named}
 use Rattle.heap_graph.specs.Layout.{NeverEnds}
 use Rattle.heap_graph.specs.working.Chains.{IsFate}

@@ -1,8 +1,15 @@
-use Rattle.std.proofs.Common.{List}
+use Rattle.std.proofs.Common.{List, ℕ, ◌<◌, ◌≤◌}
 use Rattle.hprof_grammar.specs.SubRecord.{SubRecord}
-use Rattle.heap_graph.specs.working.Entries.{AreClasses, AreEntries}
-use Rattle.heap_graph.specs.working.HeldIds.{AreLinkedOf}
+use Rattle.heap_graph.specs.declared.rule.LinkRule.{LinkRule}
+use Rattle.heap_graph.specs.Linked.{Fails, IsLinked}
+use Rattle.heap_graph.specs.working.Entries.{AreEntries}
+use Rattle.heap_graph.specs.working.PlacedObjects.{AreOf}
+use Rattle.heap_graph.specs.working.ToldClasses.{AreToldOf}
 use Rattle.heap_graph.proofs.objects.Objects.entries.Given as goal
 
 abbrev pub invariant-loop-number : goal.invariant-loop-number
-invariant-loop-number g l = (heap : List SubRecord) → AreLinkedOf l.self heap → AreClasses heap l.classes → AreEntries l.self.view.id_size heap l.number l.entries.items
+invariant-loop-number g l = record {
+  fine : (heap : List SubRecord) → AreOf l.self heap → AreToldOf l.self heap → (k : ℕ) (rule : LinkRule) → k < l.number → Fails l.self.view.id_size heap k rule → ⊥;
+  entries_are : (heap : List SubRecord) → AreOf l.self heap → AreToldOf l.self heap → IsLinked l.self.view.id_size heap → AreEntries l.self.view.id_size heap l.number l.entries.items;
+  first : l.number ≤ l.repeat;
+}

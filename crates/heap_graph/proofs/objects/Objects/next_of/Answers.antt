@@ -1,4 +1,4 @@
-use Rattle.std.proofs.Common.{Some, arith, get_or, length, sym, ap, ◌<◌, ◌∙◌, ◌≡◌, slice_get}
+use Rattle.std.proofs.Common.{Some, sym, ap, ◌∙◌, ◌≡◌, slice_get}
 use Rattle.std.proofs.lemmas.Option.{slice_get-get_or}
 use Rattle.heap_graph.specs.declared.classes.fate.Fate.{Fate}
 use Rattle.heap_graph.specs.declared.classes.fate.Fate.TheVariants as fates

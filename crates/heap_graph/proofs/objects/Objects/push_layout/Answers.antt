@@ -1,5 +1,4 @@
 use Rattle.std.proofs.Common.{List, Option, [], append-nil, ap, arith, drop, length, refl, subst, sum_by, sym, ℕ, ◌++◌, ◌∙◌, ◌≡◌}
-use Rattle.std.proofs.lemmas.Grind.{common_steps}
 use Rattle.std.proofs.lemmas.List.{length-drop}
 use Rattle.hprof_grammar.specs.Tables.{size_of}
 use Rattle.heap_graph.specs.working.Chains.{BeginsAt, IsFirst, layout_types}

@@ -1,6 +1,6 @@
 use Rattle.std.proofs.Common.{length, sum_by, ◌*◌, ◌+◌, ◌≡◌, ◌≤◌}
 use Rattle.hprof_grammar.specs.Tables.{size_of}
-use Rattle.heap_graph.proofs.objects.entries.bytes_together.Given as goal
+use Rattle.heap_graph.proofs.objects.check.bytes_together.Given as goal
 
 abbrev pub invariant-loop-value : goal.invariant-loop-value
 invariant-loop-value l = record {

@@ -1,0 +1,187 @@
+//! Dumps that are not linked, with the code and the place of their first fault.
+
+use super::chains::{CHAINS, SIZES};
+use crate::{Graph, LinkFault, LinkRefusal};
+use hprof_grammar::read;
+use std::alloc::Allocator;
+use std::test::Fail;
+use test_dumps::Sub::{Class, Instance, Objects, Values};
+use test_dumps::{Bytes, Record, Sub, TWO_OBJECTS};
+
+/// The name of a heap dump, its sub-records, and the code and the place of its first fault.
+pub type Faulty = (&'static str, &'static [Sub], u8, u64);
+
+/// Identifiers: 0, those that come again, and classes that are not there.
+static IDENTIFIERS: [Faulty; 17] = [
+    (
+        "a class with ID 0 and a missing superclass",
+        &[Class(0, 0x999, &[])],
+        9,
+        40,
+    ),
+    (
+        "an instance with ID 0 of a missing class",
+        &[Class(0x100, 0, &[]), Instance(0, 0x999, &[])],
+        9,
+        83,
+    ),
+    (
+        "an object array with ID 0",
+        &[Class(0x100, 0, &[]), Objects(0, 0x100, &[])],
+        9,
+        83,
+    ),
+    (
+        "a primitive array with ID 0",
+        &[Values(0, 8, 0, &[])],
+        9,
+        40,
+    ),
+    (
+        "a class that comes again",
+        &[Class(0x100, 0, &[]), Class(0x100, 0, &[])],
+        10,
+        83,
+    ),
+    (
+        "a class that comes again behind others, with a missing superclass",
+        &[
+            Class(0x100, 0, &[]),
+            Class(0x110, 0, &[]),
+            Instance(0x201, 0x100, &[]),
+            Class(0x100, 0x999, &[]),
+        ],
+        10,
+        143,
+    ),
+    (
+        "an instance that comes again behind another, with a missing class",
+        &[
+            Class(0x100, 0, &[]),
+            Instance(0x201, 0x100, &[]),
+            Instance(0x202, 0x100, &[]),
+            Instance(0x201, 0x999, &[1]),
+        ],
+        10,
+        117,
+    ),
+    (
+        "a primitive array that comes again behind another",
+        &[
+            Values(0x201, 8, 1, &[0]),
+            Values(0x202, 8, 0, &[]),
+            Values(0x201, 8, 0, &[]),
+        ],
+        10,
+        69,
+    ),
+    (
+        "an object array with the ID of a class",
+        &[Class(0x100, 0, &[]), Objects(0x100, 0x999, &[])],
+        10,
+        83,
+    ),
+    (
+        "an instance of a missing class",
+        &[Instance(0x201, 0x100, &[])],
+        11,
+        40,
+    ),
+    (
+        "an instance of class 0",
+        &[Instance(0x201, 0, &[]), Class(0x100, 0, &[])],
+        11,
+        40,
+    ),
+    (
+        "an instance of a class with ID 0",
+        &[Instance(0x201, 0, &[]), Class(0, 0, &[])],
+        11,
+        40,
+    ),
+    (
+        "an instance with the ID of its class",
+        &[Instance(0x100, 0x100, &[]), Class(0x100, 0, &[])],
+        11,
+        40,
+    ),
+    (
+        "an instance whose class ID is an array's",
+        &[Values(0x300, 8, 0, &[]), Instance(0x201, 0x300, &[])],
+        11,
+        54,
+    ),
+    (
+        "an array of a missing class",
+        &[Objects(0x201, 0x999, &[])],
+        11,
+        40,
+    ),
+    (
+        "an array that is its own class",
+        &[Objects(0x201, 0x201, &[])],
+        11,
+        40,
+    ),
+    (
+        "an array whose class ID is an instance's",
+        &[
+            Class(0x100, 0, &[]),
+            Instance(0x201, 0x100, &[]),
+            Objects(0x202, 0x201, &[]),
+        ],
+        11,
+        100,
+    ),
+];
+
+/// The first fault of the two instances with one byte changed: place, byte, code, place of the fault.
+static CHANGES: [(usize, u8, u8, u64); 5] = [
+    (82, 0, 9, 79),
+    (152, 1, 10, 148),
+    (138, 2, 11, 127),
+    (91, 1, 12, 79),
+    (126, 5, 13, 127),
+];
+
+/// The code and the place of the fault that refuses a graph.
+pub fn fault_of<A: Allocator>(outcome: Result<Graph<'_, A>, LinkRefusal>) -> Option<(u8, u64)> {
+    match outcome {
+        Err(LinkRefusal::Fault(LinkFault { code, offset })) => Some((code, offset)),
+        _ => None,
+    }
+}
+
+#[test]
+fn first_faults(rt: HostRuntime) -> Result<(), Fail> {
+    let alloc = rt.alloc();
+    for table in [&IDENTIFIERS[..], &CHAINS[..], &SIZES[..]] {
+        for (name, subs, code, place) in table {
+            let file = Bytes::dump(alloc, 4, &[Record::Heap(subs)])?;
+            let dump = read(alloc, &file.bytes)?;
+            assert_eq!(rt;
+                fault_of(Graph::build(alloc, &file.bytes, dump)),
+                Some((*code, *place)),
+                "{name}"
+            );
+        }
+    }
+    Ok(())
+}
+
+#[test]
+fn first_faults_of_changed_bytes(rt: HostRuntime) -> Result<(), Fail> {
+    let alloc = rt.alloc();
+    for (at, byte, code, place) in &CHANGES {
+        let mut file = Bytes::dump(alloc, 4, TWO_OBJECTS)?;
+        assert!(rt; *at < file.bytes.len());
+        file.bytes[*at] = *byte;
+        let dump = read(alloc, &file.bytes)?;
+        assert_eq!(rt;
+            fault_of(Graph::build(alloc, &file.bytes, dump)),
+            Some((*code, *place)),
+            "{byte} at {at}"
+        );
+    }
+    Ok(())
+}
