@@ -8,7 +8,8 @@ pub record Choice : Type 0 where
   pub first_tag : ℕ
 
 abbrev pub choice : ℕ → ℕ → ℕ → ℕ → Choice
-choice workers buffer buffers first_tag = record { workers = workers; buffer = buffer; buffers = buffers; first_tag = first_tag }
+choice workers buffer buffers first_tag =
+    record { workers = workers; buffer = buffer; buffers = buffers; first_tag = first_tag }
 
 -- Each value is in its range, and there are two buffers for each worker and two more.
 pub record IsAllowed (c : Choice) : Type 0 where

@@ -6,5 +6,6 @@ ghost use Rattle.heap_graph.specs.Reachable.{MarksReachableOf};
 
 /// A graph has one list of marks that are exactly at its reachable objects, whoever sets them and in whatever order.
 pub fn one_marking()
-    ensures { (graph : ObjectGraph) (marks other : List Bool) → MarksReachableOf graph marks → MarksReachableOf graph other → marks ≡ other }
+    ensures { (graph : ObjectGraph) (marks other : List Bool) → MarksReachableOf graph marks
+        → MarksReachableOf graph other → marks ≡ other }
 {}

@@ -8,6 +8,7 @@ use crate::gate::Gate;
 use crate::marked::{Marked, RunFault};
 use crate::options::Options;
 use crate::scan::Scan;
+use crate::starts::{EachStarts, Starts};
 use crate::walk::Walk;
 use crate::walked_graph::WalkedGraph;
 use crate::workers::run_workers;
@@ -17,13 +18,17 @@ use std::alloc::Allocator;
 use std::sync::Wait;
 use std::thread::Threads;
 
+#[cfg(test)]
+mod tests;
+
 /// Claims the roots and gives them to the workers, runs these, and then scans what is left.
-fn lead<T, A, V, G>(
+fn lead<T, A, V, G, S>(
     rt: &T,
     alloc: A,
     graph: &V,
     pool: &Pool<A>,
     gate: &G,
+    starts: &S,
     leader: Worker<A>,
     workers: u32,
 ) -> Result<Worker<A>, RunFault>
@@ -32,6 +37,7 @@ where
     A: Allocator + Send + Sync,
     V: Walk,
     G: Gate,
+    S: Starts,
     requires pool { leader.pool ≡ pool.now }
     requires setup { IsSetupOf (V.count graph.now) (V.roots graph.now) (V.pairs graph.now) leader.book.setup }
     requires free { IsFree leader }
@@ -45,9 +51,7 @@ where
     };
     scan.claim_roots(rt, pool, graph.roots())?;
     scan.publish(rt, pool)?;
-    let Scan { worker, pair } = scan;
-    let worker = run_workers(rt, graph, pool, gate, worker, workers, threads)?;
-    let mut scan = Scan { worker, pair };
+    let mut scan = run_workers(rt, graph, pool, gate, starts, scan, workers, threads)?;
     scan.drain(rt, graph, pool, gate, workers)?;
     Ok(scan.close(rt, pool)?)
 }
@@ -72,6 +76,26 @@ where
     G: Gate,
     ensures { IfOk result (MarksReachableOf graph.now) }
 {
+    mark_where(rt, alloc, graph, options, gate, &EachStarts)
+}
+
+/// The same, where the thread of each worker has to be allowed.
+pub(crate) fn mark_where<T, A, B, G, S>(
+    rt: &T,
+    alloc: A,
+    graph: &Graph<'_, B>,
+    options: &Options,
+    gate: &G,
+    starts: &S,
+) -> Result<Marked<A>, RunFault>
+where
+    T: Threads + Wait + Sync,
+    A: Allocator + Copy + Send + Sync,
+    B: Allocator + Sync,
+    G: Gate,
+    S: Starts,
+    ensures { IfOk result (MarksReachableOf graph.now) }
+{
     let workers = options.workers();
     let objects = graph.len();
     let walked = WalkedGraph { graph };
@@ -86,6 +110,6 @@ where
         Err(PoolFault::OutOfMemory) => return Err(RunFault::OutOfMemory),
         Err(PoolFault::BadOptions) => unreachable!(),
     };
-    let leader = lead(rt, alloc, &walked, &pool, gate, leader, workers)?;
+    let leader = lead(rt, alloc, &walked, &pool, gate, starts, leader, workers)?;
     Ok(Marked::new(pool.close(leader), objects))
 }

@@ -7,6 +7,7 @@ mod leader;
 mod marked;
 mod options;
 mod scan;
+mod starts;
 mod walk;
 mod walked_graph;
 mod workers;

@@ -18,15 +18,16 @@ pub struct Options {
 }
 
 impl Model for Options {
-    ghost use Rattle.drain.specs.Options.{Choice, IsAllowed};
+    ghost use Rattle.drain.specs.Options.{Choice, IsAllowed, choice};
 
     ghost Value = { Choice };
 
-    ghost view = { λ o. record { workers = o.workers; buffer = o.buffer; buffers = o.buffers; first_tag = o.first_tag } };
+    ghost view = { λ o. choice o.workers o.buffer o.buffers o.first_tag };
 
-    ghost invariant = { λ o. IsAllowed (record { workers = o.workers; buffer = o.buffer; buffers = o.buffers; first_tag = o.first_tag }) };
+    ghost invariant = { λ o. IsAllowed (choice o.workers o.buffer o.buffers o.first_tag) };
 
-    ghost inverse = { λ c. record { workers = c.workers; buffer = c.buffer; buffers = c.buffers; first_tag = c.first_tag } };
+    ghost inverse = { λ c.
+        record { workers = c.workers; buffer = c.buffer; buffers = c.buffers; first_tag = c.first_tag } };
 }
 
 impl Options {

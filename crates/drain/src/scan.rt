@@ -21,7 +21,8 @@ impl<A: Allocator> Scan<A> {
     ghost use Rattle.work_pair.specs.Moves.{WasSeenEmpty};
     ghost use Rattle.work_pair.specs.Places.{items_of};
     ghost use Rattle.std.specs.Iterator.{AlwaysYields, IsFinite};
-    ghost use Rattle.drain.specs.working.AtWork.{AreClaimed, GoesOn, HasAtHand, HasNoneLeft, IsFree, IsSetupOf, IsThrough, MayClaim, SawRoots};
+    ghost use Rattle.drain.specs.working.AtWork.{AreClaimed, GoesOn, HasAtHand, HasNoneLeft};
+    ghost use Rattle.drain.specs.working.AtWork.{IsFree, IsSetupOf, IsThrough, MayClaim, SawRoots};
 
     /// A pair for a worker that has none yet. `None` where there were not two empty buffers.
     pub(crate) fn open<R: Wait>(
@@ -44,7 +45,8 @@ impl<A: Allocator> Scan<A> {
     /// Claims an object, and puts it into the pair if it was white.
     fn claim<R: Wait>(&mut self, rt: &R, pool: &Pool<A>, object: u32) -> Result<(), Stop>
         requires pool { self.old.worker.pool ≡ pool.now }
-        requires may { (besides : List ℕ) × HasAtHand self.old.pair besides self.old.worker × MayClaim self.old.worker.book.setup besides object }
+        requires may { (besides : List ℕ) × HasAtHand self.old.pair besides self.old.worker
+            × MayClaim self.old.worker.book.setup besides object }
         ensures { OnOk result (AreClaimed (object ∷ []) self.old.pair self.old.worker self.new.pair self.new.worker) }
     {
         if !pool.claim(&mut self.worker, object) {
@@ -67,7 +69,8 @@ impl<A: Allocator> Scan<A> {
         requires can { I.can_next objects }
         requires ends { IsFinite (I.remaining objects) }
         requires may { (given : List ℕ) × (besides : List ℕ) × AlwaysYields I.next_gives (λ o. o) objects given
-            × HasAtHand self.old.pair besides self.old.worker × All (MayClaim self.old.worker.book.setup besides) given }
+            × HasAtHand self.old.pair besides self.old.worker
+            × All (MayClaim self.old.worker.book.setup besides) given }
         ensures { OnOk result ((given : List ℕ) → AlwaysYields I.next_gives (λ o. o) objects given
             → AreClaimed given self.old.pair self.old.worker self.new.pair self.new.worker) }
     {
@@ -103,7 +106,8 @@ impl<A: Allocator> Scan<A> {
         requires hand { HasAtHand self.old.pair [] self.old.worker }
         ensures goes_on { OnOk result (GoesOn self.old.worker self.new.worker) }
         ensures hand { OnOk result (HasAtHand self.new.pair [] self.new.worker) }
-        ensures given { OnOk result (WasSeenEmpty Empty self.old.worker.book self.new.worker.book ⊎ (items_of self.new.pair ≡ [])) }
+        ensures given { OnOk result
+            (WasSeenEmpty Empty self.old.worker.book self.new.worker.book ⊎ (items_of self.new.pair ≡ [])) }
     {
         self.pair.publish(rt, pool, &mut self.worker)
     }
@@ -132,7 +136,8 @@ impl<A: Allocator> Scan<A> {
         number: u32,
     ) -> Result<bool, Stop>
         requires pool { self.old.worker.pool ≡ pool.now }
-        requires setup { IsSetupOf (V.count graph.now) (V.roots graph.now) (V.pairs graph.now) self.old.worker.book.setup }
+        requires setup { IsSetupOf (V.count graph.now) (V.roots graph.now) (V.pairs graph.now)
+            self.old.worker.book.setup }
         requires hand { HasAtHand self.old.pair [] self.old.worker }
         ensures goes_on { OnOk result (GoesOn self.old.worker self.new.worker) }
         ensures hand { OnOk result (HasAtHand self.new.pair [] self.new.worker) }
@@ -158,7 +163,8 @@ impl<A: Allocator> Scan<A> {
         number: u32,
     ) -> Result<(), Stop>
         requires pool { self.old.worker.pool ≡ pool.now }
-        requires setup { IsSetupOf (V.count graph.now) (V.roots graph.now) (V.pairs graph.now) self.old.worker.book.setup }
+        requires setup { IsSetupOf (V.count graph.now) (V.roots graph.now) (V.pairs graph.now)
+            self.old.worker.book.setup }
         requires hand { HasAtHand self.old.pair [] self.old.worker }
         ensures goes_on { OnOk result (GoesOn self.old.worker self.new.worker) }
         ensures hand { OnOk result (HasAtHand self.new.pair [] self.new.worker) }
@@ -183,7 +189,8 @@ impl<A: Allocator> Scan<A> {
         number: u32,
     ) -> Result<(), Stop>
         requires pool { self.old.worker.pool ≡ pool.now }
-        requires setup { IsSetupOf (V.count graph.now) (V.roots graph.now) (V.pairs graph.now) self.old.worker.book.setup }
+        requires setup { IsSetupOf (V.count graph.now) (V.roots graph.now) (V.pairs graph.now)
+            self.old.worker.book.setup }
         requires hand { HasAtHand self.old.pair [] self.old.worker }
         ensures goes_on { OnOk result (GoesOn self.old.worker self.new.worker) }
         ensures hand { OnOk result (HasAtHand self.new.pair [] self.new.worker) }

@@ -18,5 +18,6 @@ pub trait Walk: Edges + Sync {
     fn successors(&self, object: u32) -> Self::Successors
         requires { object < Self.count self.now }
         ensures can { Self.Successors.can_next result }
-        ensures exact { GivesReferences Self.Successors.next_gives Self.Successors.remaining result (λ next. Contains (Self.pairs self.now) (object, next)) (Self.count self.now) };
+        ensures exact { GivesReferences Self.Successors.next_gives Self.Successors.remaining result
+            (λ next. Contains (Self.pairs self.now) (object, next)) (Self.count self.now) };
 }

@@ -1,12 +1,13 @@
 //! A thread for each worker: what it does, how it is started, and how it is joined.
 ghost use Rattle.std.specs.Prelude.{◌≡◌, ◌<◌, ◌≤◌, ◌+◌, ◌⊎◌, ℕ, IfErr, IfOk, get_or, vec_capacity, vec_len};
 ghost use Rattle.drain.specs.declared.marked.RunFault.TheVariants as fault;
-ghost use Rattle.drain.specs.working.AtWork.{IsFree, IsSetupOf, IsThrough, Leads};
+ghost use Rattle.drain.specs.working.AtWork.{HasGiven, IsFree, IsSetupOf, IsThrough, Leads};
 ghost use Rattle.drain.specs.working.Duties.{IsDutyUnder};
 
 use crate::gate::Gate;
 use crate::marked::RunFault;
 use crate::scan::Scan;
+use crate::starts::Starts;
 use crate::walk::Walk;
 use buffer_pool::{Pool, Worker};
 use std::alloc::Allocator;
@@ -15,6 +16,9 @@ use std::sync::Wait;
 use std::thread;
 use std::thread::{Promise, PromisedHandle, Scope, Threads};
 use work_pair::Stop;
+
+#[cfg(test)]
+mod tests;
 
 /// What the thread of a worker owes: the worker that it began with, through with its work.
 #[derive(Drop)]
@@ -56,12 +60,13 @@ fn work<T: Wait, A: Allocator, V: Walk, G: Gate>(
 }
 
 /// Starts the thread of a worker.
-fn start<'s, E, T, A, V, G>(
+fn start<'s, E, T, A, V, G, S>(
     rt: &'s T,
     scope: &'s Scope<'s, E>,
     graph: &'s V,
     pool: &'s Pool<A>,
     gate: &'s G,
+    starts: &S,
     worker: Worker<A>,
     number: u32,
 ) -> Result<Started<A>, RunFault>
@@ -70,12 +75,16 @@ where
     A: Allocator + Send + Sync + 's,
     V: Walk,
     G: Gate,
+    S: Starts,
     requires pool { worker.pool ≡ pool.now }
     requires setup { IsSetupOf (V.count graph.now) (V.roots graph.now) (V.pairs graph.now) worker.book.setup }
     requires free { IsFree worker }
     ensures owes { IfOk result (λ t. t.promise.begun.value ≡ worker) }
     ensures refused { IfErr result (λ e. e ≡ fault.WorkerRefused) }
 {
+    if !starts.may_start(number) {
+        return Err(RunFault::WorkerRefused);
+    }
     let duty = Duty {
         begun: Snapshot::of(&worker),
     };
@@ -92,12 +101,13 @@ where
 }
 
 /// Splits off one unit for each worker, and starts its thread. What the leader has left comes back with the threads.
-fn start_all<'s, E, T, A, V, G>(
+fn start_all<'s, E, T, A, V, G, S>(
     rt: &'s T,
     scope: &'s Scope<'s, E>,
     graph: &'s V,
     pool: &'s Pool<A>,
     gate: &'s G,
+    starts: &S,
     leader: Worker<A>,
     workers: u32,
     threads: Vec<Started<A>, A>,
@@ -107,6 +117,7 @@ where
     A: Allocator + Send + Sync + 's,
     V: Walk,
     G: Gate,
+    S: Starts,
     requires pool { leader.pool ≡ pool.now }
     requires setup { IsSetupOf (V.count graph.now) (V.roots graph.now) (V.pairs graph.now) leader.book.setup }
     requires share { workers < leader.book.account.share }
@@ -114,7 +125,8 @@ where
     ensures leads { IfOk result (λ s. Leads leader s.0) }
     ensures share { IfOk result (λ s. s.0.book.account.share + workers ≡ leader.book.account.share) }
     ensures count { IfOk result (λ s. vec_len s.1 ≡ workers) }
-    ensures threads { IfOk result (λ s. (number : ℕ) (t : _) → number < workers → IsDutyUnder leader (get_or s.1.items number t).promise) }
+    ensures threads { IfOk result (λ s. (number : ℕ) (t : _) → number < workers
+        → IsDutyUnder leader (get_or s.1.items number t).promise) }
     ensures refused { IfErr result (λ e. e ≡ fault.WorkerRefused) }
 {
     let mut leader = leader;
@@ -122,7 +134,7 @@ where
     for number in 0..workers {
         let (rest, worker) = pool.split(leader, 1);
         leader = rest;
-        let thread = start(rt, scope, graph, pool, gate, worker, number)?;
+        let thread = start(rt, scope, graph, pool, gate, starts, worker, number)?;
         threads.push_reserved(thread);
     }
     Ok((leader, threads))
@@ -136,7 +148,8 @@ fn join_all<T: Threads, A: Allocator>(
     threads: Vec<Started<A>, A>,
 ) -> Result<Worker<A>, RunFault>
     requires pool { leader.pool ≡ pool.now }
-    requires threads { (number : ℕ) (t : _) → number < vec_len threads → IsDutyUnder leader (get_or threads.items number t).promise }
+    requires threads { (number : ℕ) (t : _) → number < vec_len threads
+        → IsDutyUnder leader (get_or threads.items number t).promise }
     ensures leads { IfOk result (Leads leader) }
     ensures share { IfOk result (λ w. w.book.account.share ≡ leader.book.account.share + vec_len threads) }
     ensures refused { IfErr result (λ e. (e ≡ fault.TagSpent) ⊎ (e ≡ fault.NoBuffer)) }
@@ -148,29 +161,37 @@ fn join_all<T: Threads, A: Allocator>(
     Ok(leader)
 }
 
-/// Runs so many workers, and takes all of them in.
-pub(crate) fn run_workers<T, A, V, G>(
+/// Runs so many workers for a leader that has given them what it has to do, and takes all of them in.
+pub(crate) fn run_workers<T, A, V, G, S>(
     rt: &T,
     graph: &V,
     pool: &Pool<A>,
     gate: &G,
-    leader: Worker<A>,
+    starts: &S,
+    scan: Scan<A>,
     workers: u32,
     threads: Vec<Started<A>, A>,
-) -> Result<Worker<A>, RunFault>
+) -> Result<Scan<A>, RunFault>
 where
     T: Threads + Wait + Sync,
     A: Allocator + Send + Sync,
     V: Walk,
     G: Gate,
-    requires pool { leader.pool ≡ pool.now }
-    requires setup { IsSetupOf (V.count graph.now) (V.roots graph.now) (V.pairs graph.now) leader.book.setup }
-    requires share { workers < leader.book.account.share }
+    S: Starts,
+    requires pool { scan.worker.pool ≡ pool.now }
+    requires setup { IsSetupOf (V.count graph.now) (V.roots graph.now) (V.pairs graph.now) scan.worker.book.setup }
+    requires given { HasGiven scan.pair scan.worker }
+    requires share { workers < scan.worker.book.account.share }
     requires room { (vec_len threads ≡ 0) × (workers ≤ vec_capacity threads) }
-    ensures leads { IfOk result (Leads leader) }
-    ensures share { IfOk result (λ w. w.book.account.share ≡ leader.book.account.share) }
+    ensures leads { IfOk result (λ s. Leads scan.worker s.worker) }
+    ensures pair { IfOk result (λ s. s.pair ≡ scan.pair) }
+    ensures share { IfOk result (λ s. s.worker.book.account.share ≡ scan.worker.book.account.share) }
 {
-    thread::scope(
+    let Scan {
+        worker: leader,
+        pair,
+    } = scan;
+    let worker = thread::scope(
         thread::scope_env(),
         rt,
         move |scope| -> Result<Worker<A>, RunFault>
@@ -182,9 +203,10 @@ where
             ensures share { IfOk result (λ w. w.book.account.share ≡ leader.book.account.share) }
         {
             let (leader, threads) = start_all(
-                rt, scope, graph, pool, gate, leader, workers, threads,
+                rt, scope, graph, pool, gate, starts, leader, workers, threads,
             )?;
             join_all(rt, pool, leader, threads)
         },
-    )
+    )?;
+    Ok(Scan { worker, pair })
 }

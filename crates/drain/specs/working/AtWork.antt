@@ -1,7 +1,9 @@
 -- What a worker has between its calls.
-use Rattle.std.specs.Prelude.{Contains, List, [], false, ℕ, ◌+◌, ◌≡◌, ◌⊎◌}
+use Rattle.std.specs.Prelude.{Contains, List, [], false, ℕ, ◌+◌, ◌<◌, ◌≡◌, ◌⊎◌}
 use Rattle.mark_core.specs.Lists.{times}
 use Rattle.mark_core.specs.World.{Setup}
+use Rattle.mark_core.specs.declared.which.Which.TheVariants.{Empty}
+use Rattle.buffer_pool.specs.Book.{empties_of}
 use Rattle.buffer_pool.specs.Calls.{Holder}
 use Rattle.work_pair.specs.Places.{AreOfSize, IsOpen, Places, items_of, numbers_of}
 
@@ -28,14 +30,16 @@ pub record HasAtHand (p : Places) (besides : List ℕ) (w : Holder) : Type 0 whe
 
 -- What it answered for beside the pair's items it answers for still.
 abbrev pub StaysAtHand : Places → Holder → Places → Holder → Type 0
-StaysAtHand old_pair old new_pair new = (besides : List ℕ) → HasAtHand old_pair besides old → HasAtHand new_pair besides new
+StaysAtHand old_pair old new_pair new =
+    (besides : List ℕ) → HasAtHand old_pair besides old → HasAtHand new_pair besides new
 
 -- A worker that answers for these objects may claim this one: it is a root, or one of them refers to it.
 abbrev pub MayClaim : Setup → List ℕ → ℕ → Type 0
 MayClaim e besides o = Contains e.roots o ⊎ ((p : ℕ) × Contains besides p × Contains e.pairs (p, o))
 
 -- These objects were claimed: they were seen, and those that were white are in the pair, or went with a buffer of it.
-pub record AreClaimed (objects : List ℕ) (old_pair : Places) (old : Holder) (new_pair : Places) (new : Holder) : Type 0 where
+pub record AreClaimed (objects : List ℕ) (old_pair : Places) (old : Holder) (new_pair : Places) (new : Holder)
+    : Type 0 where
   pub goes_on : GoesOn old new
   pub saw : (o : ℕ) → Contains objects o → Contains new.book.account.seen o
   pub hand : StaysAtHand old_pair old new_pair new
@@ -53,6 +57,10 @@ HasNoneLeft p w = (items_of p ≡ []) × (w.book.account.open_push ≡ false)
 -- A worker is through: it went on from where it began, and is free.
 abbrev pub IsThrough : Holder → Holder → Type 0
 IsThrough begun w = GoesOn begun w × IsFree w
+
+-- Others have what it had to do: its pair has no items, or it saw that no empty buffer was left.
+abbrev pub HasGiven : Places → Holder → Type 0
+HasGiven p w = (items_of p ≡ []) ⊎ (0 < empties_of w.book Empty)
 
 -- It saw each root marked.
 abbrev pub SawRoots : Holder → Type 0

@@ -1,11 +1,11 @@
 use Rattle.std.proofs.Common.{sym, subst, ◌<◌, ◌∙◌, arith}
 use Rattle.mark_core.specs.Shares.{whole}
 use Rattle.buffer_pool.specs.Faults.{Refuses}
-use Rattle.buffer_pool.specs.Laid.{IsInside}
+use Rattle.buffer_pool.specs.Ranges.{IsInside}
 use Rattle.heap_graph.specs.ObjectGraph.{object_count}
 use Rattle.heap_graph.specs.Reachable.{MarksReachableOf}
 use Rattle.drain.proofs.Closes.{exactly_marked, opened_setup}
-use Rattle.drain.proofs.leader.mark.Goals as goal
+use Rattle.drain.proofs.leader.mark_where.Goals as goal
 
 pub unreachable-requires : goal.unreachable-requires
 unreachable-requires g c =

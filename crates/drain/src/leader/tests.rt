@@ -1,0 +1,179 @@
+//! What no clause of a marking says: which refusal is told where a thread is not started, and when the gate is told of
+//! an object.
+
+use super::*;
+use crate::gate::NoGate;
+use buffer_pool::Edges;
+use heap_graph::Successors;
+use hprof_grammar::read;
+use std::alloc::{AllocError, Global};
+use std::sync::atomic::{AtomicU64, Ordering};
+use std::test::Fail;
+
+/// A dump with an array that is the root, and the 60 instances that it refers to.
+fn wide_array(alloc: Global) -> Result<Vec<u8>, AllocError> {
+    let mut heap = Vec::new(alloc);
+    // class 0x100, without a superclass, fields and values
+    heap.extend_from_slice(&[0x20, 0, 0, 1, 0])?;
+    heap.extend_from_slice(&[0; 38])?;
+    // array 0x200 of that class
+    heap.extend_from_slice(&[0x22, 0, 0, 2, 0, 0, 0, 0, 0, 0, 0, 0, 60, 0, 0, 1, 0])?;
+    for id in 0..60u8 {
+        heap.extend_from_slice(&[0, 0, 3, id])?;
+    }
+    for id in 0..60u8 {
+        heap.extend_from_slice(&[0x21, 0, 0, 3, id, 0, 0, 0, 0, 0, 0, 1, 0, 0, 0, 0, 0])?;
+    }
+    heap.extend_from_slice(&[0xff, 0, 0, 2, 0])?;
+    let mut dump = Vec::new(alloc);
+    dump.extend_from_slice(b"JAVA PROFILE 1.0.2\0\0\0\0\x04")?;
+    dump.extend_from_slice(&[0; 8])?;
+    dump.extend_from_slice(&[0x0c, 0, 0, 0, 0])?;
+    let length = u32::try_from(heap.len()).unwrap_or(u32::MAX);
+    dump.extend_from_slice(&length.to_be_bytes())?;
+    dump.extend_from_slice(heap.as_slice())?;
+    Ok(dump)
+}
+
+/// Refuses the thread of the worker of one number.
+#[derive(Drop)]
+struct AllBut {
+    refused: u32,
+}
+
+impl Starts for AllBut {
+    fn may_start(&self, worker: u32) -> bool {
+        worker != self.refused
+    }
+}
+
+/// Marks the dump, without the thread of one worker, and answers how many objects are marked, or why none is.
+fn marked_without<T: Threads + Wait + Sync>(
+    rt: &T,
+    alloc: Global,
+    options: (u32, u32, u32),
+    refused: u32,
+) -> Result<Result<u64, RunFault>, Fail> {
+    let dump = wide_array(alloc)?;
+    let places = read(alloc, dump.as_slice()).map_err(|_| "the dump is whole")?;
+    let graph = Graph::build(alloc, dump.as_slice(), places).map_err(|_| "the dump is linked")?;
+    let (workers, buffer, buffers) = options;
+    let options = Options::new(workers, buffer, buffers, 0).map_err(|_| "they are in range")?;
+    let starts = AllBut { refused };
+    Ok(mark_where(rt, alloc, &graph, &options, &NoGate, &starts).map(|marked| marked.len()))
+}
+
+#[test]
+fn a_thread_that_cannot_be_started_is_told(rt: HostRuntime) -> Result<(), Fail> {
+    let alloc = rt.alloc();
+    for refused in 0..4 {
+        let outcome = marked_without(&rt, alloc, (4, 256, 1024), refused)?;
+        assert_eq!(rt; outcome, Err(RunFault::WorkerRefused), "worker {refused}");
+    }
+    assert_eq!(rt; marked_without(&rt, alloc, (4, 256, 1024), 4)?, Ok(62));
+    // 60 references find no room: a worker or the leader is refused, and with a refused start that is told
+    assert_eq!(rt;
+        marked_without(&rt, alloc, (2, 2, 6), 2)?,
+        Err(RunFault::NoBuffer)
+    );
+    assert_eq!(rt;
+        marked_without(&rt, alloc, (2, 2, 6), 1)?,
+        Err(RunFault::WorkerRefused)
+    );
+    Ok(())
+}
+
+/// The graph of a dump with at most 64 objects, and of which of them the gate was told.
+#[derive(Drop)]
+struct Watched<'a> {
+    walked: WalkedGraph<'a, Global>,
+    told: &'a AtomicU64,
+    /// How often the references of an object were asked for of which the gate was not told.
+    early: &'a AtomicU64,
+}
+
+impl Edges for Watched<'_> {
+    ghost use Rattle.heap_graph.specs.ObjectGraph.{object_count};
+    ghost use Rattle.drain.specs.working.Pairs.{pairs_of};
+
+    ghost count = { λ w. object_count w.walked.graph.now };
+
+    ghost roots = { λ w. w.walked.graph.now.roots };
+
+    ghost pairs = { λ w. pairs_of w.walked.graph.now };
+
+    fn objects(&self) -> u32 {
+        self.walked.objects()
+    }
+}
+
+impl<'a> Walk for Watched<'a> {
+    type Successors = Successors<'a>;
+
+    fn roots(&self) -> &[u32] {
+        self.walked.roots()
+    }
+
+    fn successors(&self, object: u32) -> Successors<'a> {
+        if self.told.load(Ordering::SeqCst) & (1 << (object % 64)) == 0 {
+            self.early.fetch_add(1, Ordering::SeqCst);
+        }
+        self.walked.successors(object)
+    }
+}
+
+/// Notes each object that it is told of.
+#[derive(Drop)]
+struct Told<'a> {
+    told: &'a AtomicU64,
+}
+
+impl Gate for Told<'_> {
+    fn before_scan(&self, _worker: u32, object: u32) {
+        self.told.fetch_or(1 << (object % 64), Ordering::SeqCst);
+    }
+}
+
+/// Marks the graph with two workers, noting what the gate was told of, and whether that was done.
+fn mark_watched<T: Threads + Wait + Sync>(
+    rt: &T,
+    alloc: Global,
+    graph: &Graph<'_, Global>,
+    told: &AtomicU64,
+    early: &AtomicU64,
+) -> bool {
+    let walked = WalkedGraph { graph };
+    let watched = Watched {
+        walked,
+        told,
+        early,
+    };
+    let Ok((pool, leader)) = Pool::new(alloc, &watched, 1024, 2, 0) else {
+        return false;
+    };
+    lead(
+        rt,
+        alloc,
+        &watched,
+        &pool,
+        &Told { told },
+        &EachStarts,
+        leader,
+        2,
+    )
+    .is_ok()
+}
+
+#[test]
+fn the_gate_is_told_before_references_are_asked_for(rt: HostRuntime) -> Result<(), Fail> {
+    let alloc = rt.alloc();
+    let dump = wide_array(alloc)?;
+    let places = read(alloc, dump.as_slice()).map_err(|_| "the dump is whole")?;
+    let graph = Graph::build(alloc, dump.as_slice(), places).map_err(|_| "the dump is linked")?;
+    let told = AtomicU64::new(0);
+    let early = AtomicU64::new(0);
+    assert!(rt; mark_watched(&rt, alloc, &graph, &told, &early));
+    assert_eq!(rt; told.load(Ordering::SeqCst).count_ones(), 62);
+    assert_eq!(rt; early.load(Ordering::SeqCst), 0);
+    Ok(())
+}
