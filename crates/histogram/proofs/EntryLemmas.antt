@@ -10,7 +10,7 @@ use Rattle.heap_graph.specs.ObjectGraph.{ObjectGraph, class_count}
 use Rattle.heap_graph.specs.declared.row.RowKey.{RowKey}
 use Rattle.heap_graph.specs.declared.row.RowKey.TheVariants as keys
 use Rattle.histogram.specs.declared.tally.Tally.{Tally}
-use Rattle.histogram.specs.Tallies.{AreTallies, entries_below, no_object, numbered_row, row_count, row_entry}
+use Rattle.histogram.specs.working.Tallies.{AreTallies, entries_below, no_object, numbered_row, row_count, row_entry}
 use Rattle.histogram.proofs.RowLemmas.{at_class, at_objects, at_primitive, number_kinds}
 
 -- the row at each number: of the classes, of the primitive types, of the class objects

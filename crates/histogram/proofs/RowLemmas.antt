@@ -9,7 +9,7 @@ use Rattle.heap_graph.specs.ObjectGraph.{IsRowIn, IsWhole, object_count, ObjectG
 use Rattle.heap_graph.specs.declared.row.RowKey.{RowKey}
 use Rattle.heap_graph.specs.declared.row.RowKey.TheVariants as keys
 use Rattle.histogram.specs.declared.tally.Tally.{Tally}
-use Rattle.histogram.specs.Tallies.{AreTallies, chosen_below, no_object, numbered_row, one_more, row_count, row_number, tally_of}
+use Rattle.histogram.specs.working.Tallies.{AreTallies, chosen_below, no_object, numbered_row, one_more, row_count, row_number, tally_of}
 use Rattle.hprof_grammar.specs.Dump.{limit}
 use Rattle.histogram.proofs.TallyLemmas.{bytes_fit, chosen_no, chosen_yes, count_fits, length-filter-le, tally_push}
 

@@ -7,7 +7,7 @@ use Rattle.std.proofs.lemmas.List.Sums.{count_by-le-length, length-filter, sum_b
 use Rattle.heap_graph.specs.ObjectGraph.{IsWhole, ObjectGraph, bytes_at, object_count}
 use Rattle.hprof_grammar.specs.Dump.{limit}
 use Rattle.histogram.specs.declared.tally.Tally.{Tally}
-use Rattle.histogram.specs.Tallies.{chosen_below, one_more, tally_of}
+use Rattle.histogram.specs.working.Tallies.{chosen_below, one_more, tally_of}
 
 pub range_suc : (a n : ℕ) → range_with_len a (suc n) ≡ range_with_len a n ++ (a + n) ∷ []
 range_suc a zero = rw add-zero refl

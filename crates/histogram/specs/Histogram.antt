@@ -1,5 +1,6 @@
 -- The histogram of a graph with marks: how many objects each row has, and how many bytes.
-use Rattle.std.specs.Prelude.{Bool, IsPermutation, IsSorted, List, [], false, filter, length, map, nat_lt, not, slice_index_or, sum_by, true, ℕ, ◌++◌, ◌==◌, ◌∷◌, ◌≡◌}
+use Rattle.std.specs.Prelude.{Bool, IsPermutation, IsSorted, List, [], false, filter, length, map, nat_lt, not}
+use Rattle.std.specs.Prelude.{slice_index_or, sum_by, true, ℕ, ◌++◌, ◌==◌, ◌∷◌, ◌≡◌}
 use Rattle.std.specs.List.{range_with_len}
 use Rattle.heap_graph.specs.ObjectGraph.{ObjectGraph, bytes_at, class_count, object_count, row_at}
 use Rattle.histogram.specs.ShownRows.{row_id, shown_row}
@@ -23,7 +24,9 @@ same_row keys.ClassObject keys.ClassObject = true
 
 -- all rows: the classes by their numbers, the eight primitive types, the class objects
 abbrev pub all_rows : ObjectGraph → List RowKey
-all_rows g = map keys.Class (range_with_len 0 (class_count g)) ++ (map keys.Primitive (range_with_len 4 8) ++ keys.ClassObject ∷ [])
+all_rows g =
+    map keys.Class (range_with_len 0 (class_count g))
+    ++ (map keys.Primitive (range_with_len 4 8) ++ keys.ClassObject ∷ [])
 
 -- the objects that are marked, and those that are not
 abbrev pub marked_objects : ObjectGraph → List Bool → List ℕ
@@ -61,7 +64,11 @@ entries g numbers = filter (λ e. nat_lt 0 e.count) (map (entry g numbers) (all_
 
 -- bytes falling, count falling, shown name rising (a beginning before its extension), class identifier rising
 abbrev pub compare : Entry → Entry → Ordering
-compare a b = ordering_then (nat_cmp b.bytes a.bytes) (ordering_then (nat_cmp b.count a.count) (ordering_then (slice_cmp nat_cmp a.name b.name) (nat_cmp a.class b.class)))
+compare a b =
+    ordering_then (nat_cmp b.bytes a.bytes) (
+    ordering_then (nat_cmp b.count a.count) (
+    ordering_then (slice_cmp nat_cmp a.name b.name) (
+    nat_cmp a.class b.class)))
 
 -- the rows in order, and the pairs of count and bytes over all marked and all other objects
 pub record Histogram : Type 0 where

@@ -8,4 +8,10 @@ abbrev pub entry_of : {A : Type 0} → Line A → Entry
 entry_of l = record { name = l.name.items; class = l.class; count = l.count; bytes = l.bytes }
 
 abbrev pub histogram_of : {A : Type 0} → Report A → Histogram
-histogram_of r = record { rows = map entry_of r.rows.items; reachable = r.reachable; unreachable = r.unreachable; unresolved = r.unresolved }
+histogram_of r =
+    record {
+      rows = map entry_of r.rows.items;
+      reachable = r.reachable;
+      unreachable = r.unreachable;
+      unresolved = r.unresolved;
+    }

@@ -10,7 +10,8 @@ right_in width text = replicate (width - length text) 32 ++ text
 
 -- the count right in 10 places, two spaces, the bytes right in 14 places, two spaces, the name, a newline
 unfoldable pub line : ℕ → ℕ → List ℕ → List ℕ
-line count bytes name = right_in 10 (decimal count) ++ 32 ∷ 32 ∷ right_in 14 (decimal bytes) ++ 32 ∷ 32 ∷ name ++ 10 ∷ []
+line count bytes name =
+    right_in 10 (decimal count) ++ 32 ∷ 32 ∷ right_in 14 (decimal bytes) ++ 32 ∷ 32 ∷ name ++ 10 ∷ []
 
 abbrev pub line_of : Entry → List ℕ
 line_of e = line e.count e.bytes e.name
@@ -22,8 +23,8 @@ report_of h =
     ++ (line h.reachable.0 h.reachable.1 (codes "(reachable)")
     ++ (line h.unreachable.0 h.unreachable.1 (codes "(unreachable)") ++ line h.unresolved 0 (codes "(unresolved)")))
 
--- The report of a text: the text is accepted, and this is what is written of the histogram of its graph with exactly the
--- reachable objects marked.
+-- The report of a text: the text is accepted, and this is what is written of the histogram of its graph with exactly
+-- the reachable objects marked.
 pub record IsReport (text report : List ℕ) : Type 0 where
   pub graph : ObjectGraph
   pub graph_is : IsGraphOfText text graph

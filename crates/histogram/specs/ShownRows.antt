@@ -1,5 +1,6 @@
 -- The names that a report shows.
-use Rattle.std.specs.Prelude.{Bool, List, None, Option, Some, [], codes, false, flat_map, if◌then◌else◌, nat_le, nat_lt, not, ℕ, ◌%◌, ◌&&◌, ◌++◌, ◌+◌, ◌/◌, ◌==◌, ◌∷◌}
+use Rattle.std.specs.Prelude.{Bool, List, None, Option, Some, [], codes, false, flat_map, if◌then◌else◌, nat_le}
+use Rattle.std.specs.Prelude.{nat_lt, not, ℕ, ◌%◌, ◌&&◌, ◌++◌, ◌+◌, ◌/◌, ◌==◌, ◌∷◌}
 use Rattle.heap_graph.specs.ObjectGraph.{ObjectGraph, class_at}
 use Rattle.std.specs.Fmt.{digits}
 use Rattle.heap_graph.specs.declared.row.RowKey.{RowKey}
@@ -30,7 +31,15 @@ shown_class id (Some text) = shown_text text
 
 -- primitive arrays, by their type code
 abbrev pub shown_primitive : ℕ → List ℕ
-shown_primitive t = if t == 4 then codes "boolean[]" else if t == 5 then codes "char[]" else if t == 6 then codes "float[]" else if t == 7 then codes "double[]" else if t == 8 then codes "byte[]" else if t == 9 then codes "short[]" else if t == 10 then codes "int[]" else codes "long[]"
+shown_primitive t =
+    if t == 4 then codes "boolean[]" else (
+    if t == 5 then codes "char[]" else (
+    if t == 6 then codes "float[]" else (
+    if t == 7 then codes "double[]" else (
+    if t == 8 then codes "byte[]" else (
+    if t == 9 then codes "short[]" else (
+    if t == 10 then codes "int[]" else (
+    codes "long[]")))))))
 
 abbrev pub shown_row : ObjectGraph → RowKey → List ℕ
 shown_row g (keys.Class n) = shown_class (class_at g n).id (class_at g n).text

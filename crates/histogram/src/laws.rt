@@ -12,7 +12,8 @@ use heap_graph::one_graph;
 /// The histogram is defined as a relation: its rows are some arrangement in order. Only one arrangement is in
 /// order, since the order tells any two rows apart.
 pub fn one_histogram()
-    ensures { (g : ObjectGraph) (marks : List Bool) (h k : Histogram) → IsHistogram g marks h → IsHistogram g marks k → h ≡ k }
+    ensures { (g : ObjectGraph) (marks : List Bool) (h k : Histogram) → IsHistogram g marks h → IsHistogram g marks k
+        → h ≡ k }
 {}
 
 /// A text has at most one report.

@@ -3,7 +3,7 @@ ghost use Rattle.std.specs.Prelude.{◌≡◌, IfOk, IsPermutation, IsSorted, ma
 ghost use Rattle.histogram.specs.Histogram.{IsHistogram, compare, entries, marked_objects};
 ghost use Rattle.heap_graph.specs.ObjectGraph.{IsRowIn};
 ghost use Rattle.histogram.specs.Lines.{entry_of, histogram_of};
-ghost use Rattle.histogram.specs.Tallies.{row_entry};
+ghost use Rattle.histogram.specs.working.Tallies.{row_entry};
 
 use crate::names::{row_class, row_name};
 use crate::report::{Line, Report};
@@ -39,7 +39,8 @@ fn lines_in_order<A: Allocator + Clone, B: Allocator, C: Allocator>(
     graph: &Graph<'_, B>,
     marks: &Marked<C>,
 ) -> Result<Vec<Line<A>, A>, AllocError>
-    ensures each_once { IfOk result (λ v. IsPermutation (entries graph.now (marked_objects graph.now marks.now)) (map entry_of v.items)) }
+    ensures each_once { IfOk result (λ v.
+        IsPermutation (entries graph.now (marked_objects graph.now marks.now)) (map entry_of v.items)) }
     ensures in_order { IfOk result (λ v. IsSorted compare (map entry_of v.items)) }
 {
     let mut lines = lines_by_number(alloc, graph, marks)?;

@@ -1,7 +1,8 @@
 //! The names that a report shows.
 ghost use Rattle.std.specs.Prelude.{◌≡◌, ◌<◌, ◌++◌, IfOk, OnOk};
 ghost use Rattle.heap_graph.specs.ObjectGraph.{IsRowIn, class_at, class_count};
-ghost use Rattle.histogram.specs.ShownRows.{is_plain, row_id, shown_byte, shown_class, shown_primitive, shown_row, shown_text, unnamed};
+ghost use Rattle.histogram.specs.ShownRows.{is_plain, row_id, shown_byte, shown_class};
+ghost use Rattle.histogram.specs.ShownRows.{shown_primitive, shown_row, shown_text, unnamed};
 
 use heap_graph::{Graph, RowKey};
 use std::alloc::{AllocError, Allocator};
@@ -42,7 +43,8 @@ fn class_name<A: Allocator, B: Allocator>(
     class: u32,
 ) -> Result<Vec<u8, B>, AllocError>
     requires { class < class_count graph.now }
-    ensures { IfOk result (λ name. name.items ≡ shown_class (class_at graph.now class).id (class_at graph.now class).text) }
+    ensures { IfOk result (λ name.
+        name.items ≡ shown_class (class_at graph.now class).id (class_at graph.now class).text) }
 {
     let mut name = Vec::new(alloc);
     match graph.class_text(class) {

@@ -2,7 +2,8 @@
 ghost use Rattle.std.specs.Prelude.{◌≡◌, ◌+◌, ◌^◌, ◌<◌, IfOk, length};
 ghost use Rattle.histogram.specs.Histogram.{marked_objects, unmarked_objects};
 ghost use Rattle.heap_graph.specs.ObjectGraph.{IsRowIn, class_count};
-ghost use Rattle.histogram.specs.Tallies.{AreTallies, no_object, numbered_row, one_more, row_count, row_number, tally_of};
+ghost use Rattle.histogram.specs.working.Tallies.{AreTallies, no_object, numbered_row, one_more};
+ghost use Rattle.histogram.specs.working.Tallies.{row_count, row_number, tally_of};
 
 use drain::Marked;
 use heap_graph::{Graph, RowKey};

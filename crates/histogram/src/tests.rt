@@ -116,11 +116,17 @@ impl Write for Trickle {
     }
 }
 
-const NO_OBJECT: &str =
-    "         0               0  (reachable)\n         0               0  (unreachable)\n         0               0  (unresolved)\n";
+const NO_OBJECT: &str = "         0               0  (reachable)
+         0               0  (unreachable)
+         0               0  (unresolved)
+";
 
-const TWO_OBJECTS: &str =
-    "         2               8  A\n         1               0  <class>\n         3               8  (reachable)\n         0               0  (unreachable)\n         0               0  (unresolved)\n";
+const TWO_OBJECTS: &str = "         2               8  A
+         1               0  <class>
+         3               8  (reachable)
+         0               0  (unreachable)
+         0               0  (unresolved)
+";
 
 fn no_object(rt: &HostRuntime) -> Report<Global> {
     Report {

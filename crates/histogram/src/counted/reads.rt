@@ -30,8 +30,10 @@ impl<R: Read> Counted<R> {
     pub fn read(&mut self, buf: &mut [u8]) -> io::Result<usize>
         requires { failures_of self.old < 2 ^ 64 - 1 }
         ensures bound { ReadsAtMost result buf.new }
-        ensures bytes { ReadConsumes (R.remaining (inner_of self.old)) (R.remaining (inner_of self.new)) result buf.new }
-        ensures counts { failures_of self.new ≡ (if is_err result then failures_of self.old + 1 else failures_of self.old) }
+        ensures bytes { ReadConsumes (R.remaining (inner_of self.old)) (R.remaining (inner_of self.new))
+            result buf.new }
+        ensures counts { failures_of self.new
+            ≡ (if is_err result then failures_of self.old + 1 else failures_of self.old) }
     {
         let outcome = self.inner.read(buf);
         self.count_if(outcome.is_err());
@@ -85,10 +87,12 @@ impl<R: Read> Counted<R> {
         ensures front { take filled bytes.new ≡ take filled bytes.old }
         ensures fits { IfOk result (λ n. filled + n ≤ length bytes.new) }
         ensures grown { IfOk result (λ n.
-            Consumes (R.remaining (inner_of self.old)) (R.remaining (inner_of self.new)) (take n (drop filled bytes.new))) }
+            Consumes (R.remaining (inner_of self.old)) (R.remaining (inner_of self.new))
+            (take n (drop filled bytes.new))) }
         ensures end { IfOk result (λ n. n ≡ 0 → IsAtEnd (R.remaining (inner_of self.new))) }
         ensures kept { OnErr result (Keeps (R.remaining (inner_of self.old)) (R.remaining (inner_of self.new))) }
-        ensures counts { failures_of self.new ≡ (if is_err result then failures_of self.old + 1 else failures_of self.old) }
+        ensures counts { failures_of self.new
+            ≡ (if is_err result then failures_of self.old + 1 else failures_of self.old) }
     {
         self.read(&mut bytes[filled..])
     }

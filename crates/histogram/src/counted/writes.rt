@@ -2,7 +2,8 @@
 ghost use Rattle.std.specs.Prelude.{◌≡◌, ◌+◌, ◌-◌, ◌^◌, ◌<◌, ◌&&◌, if◌then◌else◌, is_err, true, OnErr, OnOk};
 ghost use Rattle.std.specs.Io.{WritesAtMost};
 ghost use Rattle.std.specs.Io.KnownBytes.{Appends, Keeps, WriteAppends};
-ghost use Rattle.histogram.specs.Counting.{AppendsBeginning, failures_of, inner_of, is_failed_write, is_flushed, takes_nothing};
+ghost use Rattle.histogram.specs.Counting.{AppendsBeginning, is_failed_write, takes_nothing};
+ghost use Rattle.histogram.specs.Counting.{failures_of, inner_of, is_flushed};
 
 use super::Counted;
 use std::io;
@@ -33,7 +34,8 @@ impl<W: Write> Counted<W> {
     pub fn flush(&mut self) -> io::Result<()>
         requires { failures_of self.old < 2 ^ 64 - 1 }
         ensures bytes { Keeps (W.contents (inner_of self.old)) (W.contents (inner_of self.new)) }
-        ensures counts { failures_of self.new ≡ (if is_err result then failures_of self.old + 1 else failures_of self.old) }
+        ensures counts { failures_of self.new
+            ≡ (if is_err result then failures_of self.old + 1 else failures_of self.old) }
         ensures flushed { is_flushed self.new ≡ (if is_err result then is_flushed self.old else true) }
     {
         let outcome = self.inner.flush();
@@ -47,10 +49,12 @@ impl<W: Write> Counted<W> {
     /// Writes all these bytes and flushes. A call that fails ends it, and is not tried again.
     pub fn write_whole(&mut self, bytes: &[u8]) -> Result<(), WriteFault>
         requires { failures_of self.old < 2 ^ 64 - 1 }
-        ensures written { OnOk result (Appends (W.contents (inner_of self.old)) (W.contents (inner_of self.new)) bytes.now) }
+        ensures written { OnOk result
+            (Appends (W.contents (inner_of self.old)) (W.contents (inner_of self.new)) bytes.now) }
         ensures beginning { OnErr result
             (AppendsBeginning (W.contents (inner_of self.old)) (W.contents (inner_of self.new)) bytes.now) }
-        ensures counts { failures_of self.new ≡ (if is_err result then failures_of self.old + 1 else failures_of self.old) }
+        ensures counts { failures_of self.new
+            ≡ (if is_err result then failures_of self.old + 1 else failures_of self.old) }
         ensures flushed { OnOk result (is_flushed self.new ≡ true) }
     {
         let mut at = 0;

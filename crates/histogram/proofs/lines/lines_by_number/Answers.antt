@@ -2,7 +2,7 @@ use Rattle.std.proofs.Common.{ap, arith, get_or, length, map, ◌<◌, ◌≡◌
 use Rattle.histogram.specs.Histogram.{marked_objects}
 use Rattle.histogram.specs.declared.tally.Tally.{Tally}
 use Rattle.histogram.specs.Lines.{entry_of}
-use Rattle.histogram.specs.Tallies.{no_object, row_count}
+use Rattle.histogram.specs.working.Tallies.{no_object, row_count}
 use Rattle.histogram.proofs.EntryLemmas.{all_entries, line_less, line_more}
 use Rattle.histogram.proofs.lines.lines_by_number.Goals as goal
 use Rattle.histogram.proofs.lines.lines_by_number.Goals.{else-tally-gt0, then-tally-gt0+in_ok-clone-2+in_ok-line+in_ok-push}

@@ -1,7 +1,7 @@
 use Rattle.std.proofs.Common.{map, ◌≡◌}
 use Rattle.histogram.specs.Histogram.{marked_objects}
 use Rattle.histogram.specs.Lines.{entry_of}
-use Rattle.histogram.specs.Tallies.{entries_below}
+use Rattle.histogram.specs.working.Tallies.{entries_below}
 use Rattle.histogram.proofs.lines.lines_by_number.Given as goal
 
 -- the rows so far that have a marked object have their lines

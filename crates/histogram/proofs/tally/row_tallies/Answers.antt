@@ -1,6 +1,6 @@
 use Rattle.std.proofs.Common.{Bool, ap, arith, false, get_or, length, ℕ, ◌<◌}
 use Rattle.heap_graph.specs.ObjectGraph.{object_count}
-use Rattle.histogram.specs.Tallies.{chosen_below}
+use Rattle.histogram.specs.working.Tallies.{chosen_below}
 use Rattle.histogram.proofs.TallyLemmas.{length-chosen-le, says_no, says_yes}
 use Rattle.histogram.proofs.RowLemmas.{row_bytes_fit, row_count_fits, row_leaves_out, row_takes_in}
 use Rattle.histogram.proofs.tally.row_tallies.Goals as goal

@@ -1,5 +1,5 @@
 use Rattle.std.proofs.Common.{false, get_or}
-use Rattle.histogram.specs.Tallies.{AreTallies, chosen_below}
+use Rattle.histogram.specs.working.Tallies.{AreTallies, chosen_below}
 use Rattle.histogram.proofs.tally.row_tallies.Given as goal
 
 -- the marked objects so far are in the tallies

@@ -1,5 +1,5 @@
 use Rattle.std.proofs.Common.{◌≡◌, Bool, List, ap, arith, false, get_or, not, true, ℕ, ◌∙◌}
-use Rattle.histogram.specs.Tallies.{chosen_below}
+use Rattle.histogram.specs.working.Tallies.{chosen_below}
 use Rattle.histogram.proofs.TallyLemmas.{bytes_fit, count_fits, leaves_out, length-chosen-le, says_no, says_yes, takes_in}
 use Rattle.histogram.proofs.tally.total_tallies.Goals as goal
 use Rattle.histogram.proofs.tally.total_tallies.Goals.{then-is_marked, else-is_marked}

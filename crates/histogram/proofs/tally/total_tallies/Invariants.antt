@@ -1,5 +1,5 @@
 use Rattle.std.proofs.Common.{◌≡◌, false, get_or, not}
-use Rattle.histogram.specs.Tallies.{chosen_below, tally_of}
+use Rattle.histogram.specs.working.Tallies.{chosen_below, tally_of}
 use Rattle.histogram.proofs.tally.total_tallies.Given as goal
 
 -- the objects so far are in the tallies

@@ -1,5 +1,6 @@
 -- The numbers of rows, and how many objects a row has.
-use Rattle.std.specs.Prelude.{Bool, List, filter, if◌then◌else◌, length, map, nat_lt, slice_index_or, sum_by, ℕ, ◌+◌, ◌-◌, ◌<◌, ◌≡◌}
+use Rattle.std.specs.Prelude.{Bool, List, filter, if◌then◌else◌, length, map, nat_lt, slice_index_or, sum_by}
+use Rattle.std.specs.Prelude.{ℕ, ◌+◌, ◌-◌, ◌<◌, ◌≡◌}
 use Rattle.std.specs.List.{range_with_len}
 use Rattle.histogram.specs.Histogram.{Entry, entry, of_row}
 use Rattle.histogram.specs.ShownRows.{row_id, shown_row}
@@ -31,7 +32,10 @@ row_number classes keys.ClassObject = classes + 8
 
 -- the row of that number
 abbrev pub numbered_row : ℕ → ℕ → RowKey
-numbered_row classes n = if nat_lt n classes then keys.Class n else if nat_lt n (classes + 8) then keys.Primitive (n - classes + 4) else keys.ClassObject
+numbered_row classes n =
+    if nat_lt n classes then keys.Class n else (
+    if nat_lt n (classes + 8) then keys.Primitive (n - classes + 4) else (
+    keys.ClassObject))
 
 abbrev pub row_count : ObjectGraph → ℕ
 row_count g = class_count g + 9
@@ -39,7 +43,8 @@ row_count g = class_count g + 9
 -- at the number of each row stands the tally of those of these objects that belong to it
 pub record AreTallies (g : ObjectGraph) (objects : List ℕ) (tallies : List Tally) : Type 0 where
   pub each : length tallies ≡ row_count g
-  pub right : (n : ℕ) → n < row_count g → slice_index_or tallies n no_object ≡ tally_of g (of_row g (numbered_row (class_count g) n) objects)
+  pub right : (n : ℕ) → n < row_count g
+      → slice_index_or tallies n no_object ≡ tally_of g (of_row g (numbered_row (class_count g) n) objects)
 
 -- what a row with this tally shows
 abbrev pub row_entry : ObjectGraph → RowKey → Tally → Entry
@@ -47,4 +52,5 @@ row_entry g row t = record { name = shown_row g row; class = row_id g row; count
 
 -- the entries of the rows with a number below n
 abbrev pub entries_below : ObjectGraph → List ℕ → ℕ → List Entry
-entries_below g objects n = filter (λ e. nat_lt 0 e.count) (map (λ k. entry g objects (numbered_row (class_count g) k)) (range_with_len 0 n))
+entries_below g objects n =
+    filter (λ e. nat_lt 0 e.count) (map (λ k. entry g objects (numbered_row (class_count g) k)) (range_with_len 0 n))
