@@ -1,3 +1,3 @@
 pub mod Answer
 pub mod Refusals
-pub mod Trouble
+pub mod working

@@ -1,5 +1,6 @@
 -- What is told of each fault.
-use Rattle.std.specs.Prelude.{IsErrAnd, List, None, Option, Result, Some, codes, decimal, if◌then◌else◌, ℕ, ◌++◌, ◌==◌, ◌≡◌, ◌⊎◌}
+use Rattle.std.specs.Prelude.{IsErrAnd, List, None, Option, Result, Some, codes, decimal, if◌then◌else◌, ℕ}
+use Rattle.std.specs.Prelude.{◌++◌, ◌==◌, ◌≡◌, ◌⊎◌}
 use Rattle.drain.specs.declared.marked.RunFault.{RunFault}
 use Rattle.drain.specs.declared.marked.RunFault.TheVariants as marking
 use Rattle.heap_graph.specs.declared.rule.LinkRefusal.{LinkRefusal}
@@ -80,7 +81,8 @@ name_of code =
 -- what is shown of a refusal: its code, the name of that, and the place if there is one
 abbrev pub text_of : ℕ → Option ℕ → List ℕ
 text_of code None = codes "refused " ++ decimal code ++ codes " " ++ name_of code
-text_of code (Some place) = codes "refused " ++ decimal code ++ codes " " ++ name_of code ++ codes " at " ++ decimal place
+text_of code (Some place) =
+    codes "refused " ++ decimal code ++ codes " " ++ name_of code ++ codes " at " ++ decimal place
 
 abbrev pub refusal_text : Refusal → List ℕ
 refusal_text refusal = text_of refusal.code refusal.offset

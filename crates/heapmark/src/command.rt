@@ -1,11 +1,12 @@
 //! The program over its words, and its exit status.
 
-ghost use Rattle.std.specs.Prelude.{◌≡◌, ◌≢◌, ◌*◌, ◌+◌, ◌-◌, ◌^◌, ◌<◌, ◌≤◌, IfErr, OnErr, OnOk, true, ℕ, codes};
+ghost use Rattle.std.specs.Prelude.{◌≡◌, ◌≢◌, ◌↔◌, ◌*◌, ◌+◌, ◌-◌, ◌^◌, ◌<◌, ◌≤◌, IfErr, IfOk, IsOk, OnErr, OnOk, true, ℕ, codes};
 ghost use Rattle.std.specs.Io.KnownBytes.{Keeps};
 ghost use Rattle.clap.specs.Words.{kind_of};
 ghost use Rattle.command_line.specs.Line.{AreInRange, AsksForHelp, GivesNumber, IsTaken, IsWrong, texts_of};
 ghost use Rattle.heapmark.specs.Answer.{WritesSomeBeginning, WritesSomeReport};
-ghost use Rattle.heapmark.specs.Trouble.{HasTooFewBuffers, bad_options};
+ghost use Rattle.drain.specs.Options.{IsAllowed};
+ghost use Rattle.heapmark.specs.working.Trouble.{HasTooFewBuffers, bad_options, wanted};
 ghost use Rattle.histogram.specs.Counting.{failures_of, inner_of, is_flushed};
 
 use crate::pipeline::run;
@@ -13,7 +14,7 @@ use crate::refusal::Refusal;
 use crate::trouble::Trouble;
 use clap::error::ErrorKind;
 use command_line::{Arguments, Error, arguments};
-use drain::{NoGate, Options};
+use drain::{BadOptions, NoGate, Options};
 use histogram::Counted;
 use std::alloc::Global;
 use std::fs;
@@ -58,7 +59,8 @@ pub fn program<T: Files + AllocGlobal + Threads + Wait + Sync, W: Write, E: Writ
         → Keeps (W.contents (inner_of out.old)) (W.contents (inner_of out.new)) }
     ensures beginning { result ≡ 1 → failures_of out.new ≡ failures_of out.old + 1
         → WritesSomeBeginning (W.contents (inner_of out.old)) (W.contents (inner_of out.new)) }
-    ensures no_failure { result ≢ 1 → (AsksForHelp (texts_of words.now) → ⊥) → failures_of out.new ≡ failures_of out.old }
+    ensures no_failure { result ≢ 1 → (AsksForHelp (texts_of words.now) → ⊥)
+        → failures_of out.new ≡ failures_of out.old }
     ensures failures { failures_of out.new ≤ failures_of out.old + 1 }
 {
     let arguments = match arguments(rt.alloc(), words) {
@@ -81,7 +83,8 @@ fn answer_words<W: Write, E: Write>(
     requires { failures_of out.old < 2 ^ 64 - 1 }
     ensures status { result ≤ 2 }
     ensures helped { result ≡ 0 → kind_of error.now ≡ ErrorKind.DisplayHelp }
-    ensures usage { result ≡ 2 → (kind_of error.now ≢ ErrorKind.DisplayHelp) × (kind_of error.now ≢ ErrorKind.OutOfMemory) }
+    ensures usage { result ≡ 2
+        → (kind_of error.now ≢ ErrorKind.DisplayHelp) × (kind_of error.now ≢ ErrorKind.OutOfMemory) }
     ensures told { kind_of error.now ≢ ErrorKind.DisplayHelp → kind_of error.now ≢ ErrorKind.OutOfMemory → result ≡ 2 }
     ensures silent { result ≡ 0 → Keeps (E.contents err.old) (E.contents err.new) }
     ensures untouched { result ≢ 0 → Keeps (W.contents (inner_of out.old)) (W.contents (inner_of out.new)) }
@@ -126,6 +129,21 @@ pub fn refused<E: Write>(err: &mut E, refusal: &Refusal) -> u8
     1
 }
 
+/// How the words want the heap to be marked.
+fn options_of(arguments: &Arguments<'_>) -> Result<Options, BadOptions>
+    ensures allowed { IsOk result ↔ IsAllowed (wanted arguments.now) }
+    ensures value { IfOk result (λ options. options ≡ wanted arguments.now) }
+{
+    let Arguments {
+        file: _,
+        workers,
+        buffer,
+        buffers,
+        first_tag,
+    } = *arguments;
+    Options::new(workers, buffer, buffers, first_tag)
+}
+
 /// Runs on a file with these options. The options are tested before the file is opened.
 fn report_file<T: Files + AllocGlobal + Threads + Wait + Sync, W: Write>(
     rt: &T,
@@ -146,17 +164,10 @@ fn report_file<T: Files + AllocGlobal + Threads + Wait + Sync, W: Write>(
     ensures bad_options { result ≡ Err bad_options → failures_of out.new ≡ failures_of out.old }
     ensures failures { failures_of out.new ≤ failures_of out.old + 1 }
 {
-    let Arguments {
-        file,
-        workers,
-        buffer,
-        buffers,
-        first_tag,
-    } = *arguments;
-    let Ok(options) = Options::new(workers, buffer, buffers, first_tag) else {
+    let Ok(options) = options_of(arguments) else {
         return Err(Trouble::Refused(Refusal::BAD_OPTIONS));
     };
-    let mut reader = match fs::open(rt, file) {
+    let mut reader = match fs::open(rt, arguments.file) {
         Ok(dump) => {
             let size = expected_size(&dump);
             Counted::of_size(dump, size)

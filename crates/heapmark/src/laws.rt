@@ -15,8 +15,8 @@ pub fn accepted_or_fault()
 
 /// A text has at most one first fault: its code, and its place.
 pub fn one_first_fault()
-    ensures { (text : List ℕ) (code place other_code other_place : ℕ) → FirstFaultOf text code place → FirstFaultOf text other_code other_place
-        → (code ≡ other_code) × (place ≡ other_place) }
+    ensures { (text : List ℕ) (code place other_code other_place : ℕ) → FirstFaultOf text code place
+        → FirstFaultOf text other_code other_place → (code ≡ other_code) × (place ≡ other_place) }
 {
     dump_or_fault();
     one_fault();

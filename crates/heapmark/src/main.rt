@@ -1,8 +1,10 @@
 //! Marks the reachable objects of a Java heap dump and prints a histogram by class.
 #![tactic(auto)]
 
-ghost use Rattle.std.specs.Prelude.{◌-◌, ◌^◌, ◌<◌};
-ghost use Rattle.histogram.specs.Counting.{failures_of};
+ghost use Rattle.std.specs.Prelude.{◌≡◌, ◌+◌, ◌-◌, ◌^◌, ◌<◌, ◌≤◌};
+ghost use Rattle.std.specs.Io.KnownBytes.{Keeps};
+ghost use Rattle.heapmark.specs.Answer.{WritesSomeBeginning};
+ghost use Rattle.histogram.specs.Counting.{failures_of, inner_of};
 
 mod command;
 mod laws;
@@ -31,29 +33,48 @@ use std::sync::Wait;
 use std::thread::Threads;
 
 fn main(rt: HostRuntime) -> ExitCode {
-    let mut out = Counted::new(rt.stdout());
-    let mut err = rt.stderr();
-    let status = match start(&rt, &mut out, &mut err) {
-        Ok(status) => status,
-        Err(_) => refused(&mut err, &Refusal::OUT_OF_MEMORY),
-    };
-    ExitCode::from(status)
+    ExitCode::from(start(&rt, &mut Counted::new(rt.stdout()), &mut rt.stderr()))
 }
 
-/// Hands the words of the command line to the program. Words that are not text are wrong ones.
-fn start<T, W, E>(rt: &T, out: &mut Counted<W>, err: &mut E) -> Result<u8, AllocError>
+/// Hands the words of the command line to the program, and answers the exit status. No contract knows these words, so
+/// the clauses say what each status means for the streams.
+fn start<T, W, E>(rt: &T, out: &mut Counted<W>, err: &mut E) -> u8
 where
     T: Env + Files + AllocGlobal + Threads + Wait + Sync,
     W: Write,
     E: Write,
     requires { failures_of out.old < 2 ^ 64 - 1 }
+    ensures status { result ≤ 2 }
+
+    // At 0 no refusal was told, and at 2 nothing was written.
+    ensures silent { result ≡ 0 → Keeps (E.contents err.old) (E.contents err.new) }
+    ensures untouched { result ≡ 2 → Keeps (W.contents (inner_of out.old)) (W.contents (inner_of out.new)) }
+
+    // At 1 nothing was written, but for a beginning of a report where the writer failed.
+    ensures unwritten { result ≡ 1 → failures_of out.new ≡ failures_of out.old
+        → Keeps (W.contents (inner_of out.old)) (W.contents (inner_of out.new)) }
+    ensures beginning { result ≡ 1 → failures_of out.new ≡ failures_of out.old + 1
+        → WritesSomeBeginning (W.contents (inner_of out.old)) (W.contents (inner_of out.new)) }
+    ensures failures { failures_of out.new ≤ failures_of out.old + 1 }
 {
-    let args = match env::args(rt) {
-        Ok(args) => args,
-        Err(fault) if fault.kind() == ErrorKind::OutOfMemory => return Err(AllocError),
-        Err(_) => return Ok(program(rt, &[], out, err)),
+    let Ok(args) = args_of(rt) else {
+        return refused(err, &Refusal::OUT_OF_MEMORY);
     };
-    let args: Vec<String> = args.collect(rt.alloc())?;
-    let words: Vec<&str> = args.iter().map(|arg| arg.as_str()).collect(rt.alloc())?;
-    Ok(program(rt, words.as_slice(), out, err))
+    let words: Result<Vec<&str>, AllocError> = args
+        .iter()
+        .map(|arg| arg.as_str())
+        .collect(rt.alloc());
+    match words {
+        Ok(words) => program(rt, words.as_slice(), out, err),
+        Err(_) => refused(err, &Refusal::OUT_OF_MEMORY),
+    }
+}
+
+/// The words of the command line. Words that are not text are answered as none are.
+fn args_of<T: Env + AllocGlobal>(rt: &T) -> Result<Vec<String>, AllocError> {
+    match env::args(rt) {
+        Ok(args) => args.collect(rt.alloc()),
+        Err(fault) if fault.kind() == ErrorKind::OutOfMemory => Err(AllocError),
+        Err(_) => Ok(Vec::new(rt.alloc())),
+    }
 }

@@ -1,11 +1,13 @@
 //! From the bytes of a dump to its report.
 
-ghost use Rattle.std.specs.Prelude.{◌≡◌, ◌≢◌, ◌+◌, ◌-◌, ◌^◌, ◌<◌, ◌≤◌, ◌↔◌, ◌⊎◌, IfErr, IfOk, IfSome, IsErrAnd, OnOk, true};
+ghost use Rattle.std.specs.Prelude.{◌≡◌, ◌≢◌, ◌+◌, ◌-◌, ◌^◌, ◌<◌, ◌≤◌, ◌↔◌, ◌⊎◌};
+ghost use Rattle.std.specs.Prelude.{IfErr, IfOk, IfSome, IsErrAnd, OnOk, true};
 ghost use Rattle.std.specs.Io.KnownBytes.{Keeps};
 ghost use Rattle.histogram.specs.Report.{IsReport, report_of};
 ghost use Rattle.histogram.specs.Counting.{failures_of, inner_of, is_flushed};
 ghost use Rattle.histogram.specs.Lines.{histogram_of};
-ghost use Rattle.heapmark.specs.Answer.{IsAcceptedText, IsKnown, IsRefusalOf, TellsFirstFault, WritesBeginning, WritesReport, WritesSomeBeginning, WritesSomeReport, bytes_read};
+ghost use Rattle.heapmark.specs.Answer.{IsAcceptedText, IsKnown, IsRefusalOf, TellsFirstFault, bytes_read};
+ghost use Rattle.heapmark.specs.Answer.{WritesBeginning, WritesReport, WritesSomeBeginning, WritesSomeReport};
 ghost use Rattle.heapmark.specs.Refusals.{HasCode, IsOfMarking, out_of_memory};
 
 use crate::refusal::Refusal;
@@ -47,14 +49,15 @@ where
         WritesReport (bytes_read given) (W.contents (inner_of writer.old)) (W.contents (inner_of writer.new)))) }
 
     // Of any reader, also one whose bytes no contract can name, as a file: what was written is the report of a text.
-    ensures report_of_a_text { OnOk result (WritesSomeReport (W.contents (inner_of writer.old)) (W.contents (inner_of writer.new))) }
+    ensures report_of_a_text { OnOk result
+        (WritesSomeReport (W.contents (inner_of writer.old)) (W.contents (inner_of writer.new))) }
 
     ensures flushed { OnOk result (is_flushed writer.new ≡ true) }
 
     // The other side: a fault is told only where it is the first one, and where there is one nothing else is told but
     // want of memory or of the reader.
-    ensures first_fault { IfErr result (λ refusal. refusal.code ≤ 14 → IfSome (R.remaining (inner_of reader.old)) (λ given.
-        TellsFirstFault (bytes_read given) refusal)) }
+    ensures first_fault { IfErr result (λ refusal. refusal.code ≤ 14
+        → IfSome (R.remaining (inner_of reader.old)) (λ given. TellsFirstFault (bytes_read given) refusal)) }
     ensures not_accepted { IfSome (R.remaining (inner_of reader.old)) (λ given.
         (IsAcceptedText (bytes_read given) → ⊥) → IsErrAnd result (IsRefusalOf (bytes_read given))) }
     ensures known { IfErr result IsKnown }

@@ -48,7 +48,7 @@ fn refusal(dump: Bytes, options: (u32, u32, u32, u64), code: u8) -> Row {
 }
 
 fn no_objects(alloc: Global) -> Result<Bytes, AllocError> {
-    Bytes::dump(alloc, 4, &NOTHING)
+    Bytes::dump(alloc, 4, NOTHING)
 }
 
 #[test]

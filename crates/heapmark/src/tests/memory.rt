@@ -11,6 +11,15 @@ use std::sync::Wait;
 use std::test::Fail;
 use std::thread::Threads;
 
+/// Both kinds of array.
+static ARRAYS: [Record; 1] = [Record::Heap(&[
+    Class(0x100, 0, &[]),
+    Objects(0x201, 0x100, &[0, 0x201, 0x999]),
+    Values(0x202, 11, 0, &[]),
+    Root(0x201),
+    Root(0x202),
+])];
+
 /// With few buffers, so that few requests are made.
 fn check<T: Abort + Threads + Wait + Sync>(
     rt: &T,
@@ -44,14 +53,7 @@ fn want_of_memory_is_told_at_each_request(rt: HostRuntime) -> Result<(), Fail> {
     let dump = two_objects(alloc)?;
     check(&rt, alloc, dump.bytes.as_slice(), &few, TWO_OBJECTS_REPORT);
 
-    let arrays = [Record::Heap(&[
-        Class(0x100, 0, &[]),
-        Objects(0x201, 0x100, &[0, 0x201, 0x999]),
-        Values(0x202, 11, 0, &[]),
-        Root(0x201),
-        Root(0x202),
-    ])];
-    let dump = Bytes::dump(alloc, 8, &arrays)?;
+    let dump = Bytes::dump(alloc, 8, &ARRAYS)?;
     let report = "         1              24  ?0x100
          1               0  <class>
          1               0  long[]

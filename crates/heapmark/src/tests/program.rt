@@ -2,7 +2,10 @@
 
 use super::dumps::Record::Heap;
 use super::dumps::Sub::Raw;
-use super::dumps::{Bytes, NOTHING, NOTHING_REPORT, TWO_OBJECTS, TWO_OBJECTS_REPORT};
+use super::dumps::{
+    Bytes, NOTHING, NOTHING_REPORT, Record, TWO_OBJECTS, TWO_OBJECTS_REPORT, WIDE_ARRAY_REPORT,
+    wide_array,
+};
 use crate::{Counted, Refusal, program};
 use std::io::{ErrorKind, Write};
 use std::path::PathBuf;
@@ -26,6 +29,9 @@ impl Write for Broken {
         Err(io::Error::from(ErrorKind::BrokenPipe))
     }
 }
+
+/// A root, and behind it a tag that no table has.
+static BAD_TAG: [Record; 1] = [Heap(&[Raw(&[0xff, 0, 0, 0, 0, 0x7a])])];
 
 /// A file of these bytes.
 fn file_of(rt: &HostRuntime, name: &str, dump: &Bytes) -> io::Result<PathBuf> {
@@ -51,7 +57,7 @@ fn a_file_is_reported_or_refused(rt: HostRuntime) -> Result<(), Fail> {
     let path = file_of(
         &rt,
         "heapmark_two_objects.hprof",
-        &Bytes::dump(alloc, 4, &TWO_OBJECTS)?,
+        &Bytes::dump(alloc, 4, TWO_OBJECTS)?,
     )?;
     let name = path.to_str().ok_or("the name of the file is not text")?;
     let (status, out, err) = printed(&rt, &["heapmark", name]);
@@ -69,12 +75,10 @@ fn a_file_is_reported_or_refused(rt: HostRuntime) -> Result<(), Fail> {
     );
     fs::remove_file(&rt, path.as_path())?;
 
-    // a root, and behind it a tag that no table has
-    let records = [Heap(&[Raw(&[0xff, 0, 0, 0, 0, 0x7a])])];
     let path = file_of(
         &rt,
         "heapmark_bad_tag.hprof",
-        &Bytes::dump(alloc, 4, &records)?,
+        &Bytes::dump(alloc, 4, &BAD_TAG)?,
     )?;
     let name = path.to_str().ok_or("the name of the file is not text")?;
     let (status, out, err) = printed(&rt, &["heapmark", name]);
@@ -118,7 +122,7 @@ fn options_are_taken_or_refused(rt: HostRuntime) -> Result<(), Fail> {
     let path = file_of(
         &rt,
         "heapmark_nothing.hprof",
-        &Bytes::dump(alloc, 4, &NOTHING)?,
+        &Bytes::dump(alloc, 4, NOTHING)?,
     )?;
     let file = path.to_str().ok_or("the name of the file is not text")?;
     let gone = "/nowhere/heapmark.hprof";
@@ -180,6 +184,86 @@ fn options_are_taken_or_refused(rt: HostRuntime) -> Result<(), Fail> {
         invalid,
     );
     answers(&rt, &["heapmark", file, "--first-tag", "0x10"], 2, invalid);
+    fs::remove_file(&rt, path.as_path())?;
+    Ok(())
+}
+
+#[test]
+fn the_heap_is_marked_as_the_words_say(rt: HostRuntime) -> Result<(), Fail> {
+    let alloc = rt.alloc();
+    let path = file_of(&rt, "heapmark_wide_array.hprof", &wide_array(alloc)?)?;
+    let file = path.to_str().ok_or("the name of the file is not text")?;
+    // 64 objects do not find room in four buffers of two: so both numbers are those of the words
+    let (status, _, err) = printed(
+        &rt,
+        &[
+            "heapmark",
+            file,
+            "--workers",
+            "1",
+            "--buffer",
+            "2",
+            "--buffers",
+            "4",
+        ],
+    );
+    assert_eq!(rt;
+        (status, err.as_slice()),
+        (1, "heapmark: refused 17 NoBuffer\n".as_bytes())
+    );
+    for (buffer, buffers) in [("2", "128"), ("64", "8")] {
+        let (status, out, _) = printed(
+            &rt,
+            &[
+                "heapmark",
+                file,
+                "--workers",
+                "1",
+                "--buffer",
+                buffer,
+                "--buffers",
+                buffers,
+            ],
+        );
+        assert_eq!(rt; (status, out.as_slice()), (0, WIDE_ARRAY_REPORT.as_bytes()));
+    }
+    fs::remove_file(&rt, path.as_path())?;
+
+    // without objects the leader and each worker make four exchanges of one head
+    let path = file_of(
+        &rt,
+        "heapmark_last_tags.hprof",
+        &Bytes::dump(alloc, 4, NOTHING)?,
+    )?;
+    let file = path.to_str().ok_or("the name of the file is not text")?;
+    let eight_are_left = "281474976710647";
+    answers(
+        &rt,
+        &[
+            "heapmark",
+            file,
+            "--workers",
+            "1",
+            "--first-tag",
+            eight_are_left,
+        ],
+        0,
+        "",
+    );
+    let spent = "heapmark: refused 16 TagSpent\n";
+    answers(
+        &rt,
+        &[
+            "heapmark",
+            file,
+            "--workers",
+            "2",
+            "--first-tag",
+            eight_are_left,
+        ],
+        1,
+        spent,
+    );
     fs::remove_file(&rt, path.as_path())?;
     Ok(())
 }

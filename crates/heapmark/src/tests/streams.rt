@@ -145,7 +145,7 @@ fn a_write_fault_leaves_a_beginning(rt: HostRuntime) -> Result<(), Fail> {
     assert_eq!(rt; outcome, refused(20, None), "the flush");
     assert_eq!(rt; tray.taken.as_slice(), report);
 
-    let nothing = Bytes::dump(alloc, 4, &NOTHING)?;
+    let nothing = Bytes::dump(alloc, 4, NOTHING)?;
     let tray = Tray::new(alloc, 10, 1, Failure::Fault(ErrorKind::Other));
     let (outcome, tray) = run_with(&rt, alloc, &least(2), nothing.bytes.as_slice(), tray);
     assert_eq!(rt; outcome, refused(20, None));

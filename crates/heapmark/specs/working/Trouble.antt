@@ -1,9 +1,14 @@
 -- Why the program has no report of a file.
 use Rattle.std.specs.Prelude.{◌*◌, ◌+◌, ◌<◌}
 use Rattle.command_line.specs.declared.values.Arguments.{Arguments}
+use Rattle.drain.specs.Options.{Choice, choice}
 use Rattle.heapmark.specs.Refusals.{bad_options_refusal}
 use Rattle.heapmark.specs.declared.trouble.Trouble.{Trouble}
 use Rattle.heapmark.specs.declared.trouble.Trouble.TheVariants as trouble
+
+-- the options of the words
+abbrev pub wanted : Arguments → Choice
+wanted a = choice a.workers a.buffer a.buffers a.first_tag
 
 -- fewer than two buffers for each worker and two more
 abbrev pub HasTooFewBuffers : Arguments → Type 0

@@ -1,0 +1,158 @@
+//! Dumps with a fault, and the code and place of their refusals.
+
+use super::Refused;
+use crate::tests::dumps::Record::{Heap, Other, Segment};
+use crate::tests::dumps::Sub::{Class, Instance, Raw, Static, Values};
+
+pub static REFUSED: [Refused; 27] = [
+    ("no record", 4, &[], 8, 31),
+    ("identifiers of 2 bytes", 2, &[Heap(&[])], 2, 19),
+    (
+        "segments without an end",
+        4,
+        &[Segment(&[]), Segment(&[])],
+        8,
+        49,
+    ),
+    (
+        "a segment behind the end",
+        4,
+        &[Segment(&[]), Other(0x2C, &[]), Segment(&[])],
+        8,
+        49,
+    ),
+    ("two heap dumps", 4, &[Heap(&[]), Heap(&[])], 8, 40),
+    (
+        "a segment behind a heap dump",
+        4,
+        &[Heap(&[]), Segment(&[])],
+        8,
+        40,
+    ),
+    ("an end without a segment", 4, &[Other(0x2C, &[])], 8, 31),
+    ("an end with a body", 4, &[Other(0x2C, &[0])], 4, 31),
+    ("a string without its ID", 4, &[Other(0x01, &[0; 3])], 4, 31),
+    ("a short loaded class", 4, &[Other(0x02, &[0; 15])], 4, 31),
+    (
+        "a short loaded class with wide identifiers",
+        8,
+        &[Other(0x02, &[0; 16])],
+        4,
+        31,
+    ),
+    (
+        "superclasses in a circle",
+        4,
+        &[Heap(&[Class(0x100, 0x110, &[]), Class(0x110, 0x100, &[])])],
+        12,
+        40,
+    ),
+    (
+        "an instance that is too short",
+        4,
+        &[Heap(&[Class(0x100, 0, &[2]), Instance(0x201, 0x100, &[0, 0, 2])])],
+        13,
+        88,
+    ),
+    (
+        "a long array in a short file",
+        4,
+        &[Heap(&[Values(0x201, 11, u32::MAX, &[])])],
+        6,
+        40,
+    ),
+    (
+        "a long instance in a short file",
+        8,
+        &[Heap(&[Raw(&[
+            0x21, 0, 0, 0, 0, 0, 0, 2, 1, 0, 0, 0, 0, 0, 0, 0, 0, 0, 0, 1, 0, 0xff, 0xff, 0xff,
+            0xff,
+        ])])],
+        6,
+        40,
+    ),
+    (
+        "a long object array in a short file",
+        8,
+        &[Heap(&[Raw(&[
+            0x22, 0, 0, 0, 0, 0, 0, 2, 1, 0, 0, 0, 0, 0xff, 0xff, 0xff, 0xff, 0, 0, 0, 0, 0, 0, 1,
+            0,
+        ])])],
+        6,
+        40,
+    ),
+    (
+        "many constants in a short file",
+        4,
+        &[Heap(&[Raw(&[
+            0x20, 0, 0, 1, 0, 0, 0, 0, 0, 0, 0, 0, 0, 0, 0, 0, 0, 0, 0, 0, 0, 0, 0, 0, 0, 0, 0, 0,
+            0, 0, 0, 0, 0, 0, 0, 0, 0, 0xff, 0xff,
+        ])])],
+        6,
+        40,
+    ),
+    ("a class with ID 0", 4, &[Heap(&[Class(0, 0, &[])])], 9, 40),
+    (
+        "a class that comes again",
+        4,
+        &[Heap(&[Class(0x100, 0, &[]), Class(0x100, 0, &[])])],
+        10,
+        83,
+    ),
+    (
+        "a class that comes again, and whose superclass is missing",
+        4,
+        &[Heap(&[Class(0x100, 0, &[]), Class(0x100, 0x999, &[])])],
+        10,
+        83,
+    ),
+    (
+        "an instance without a class",
+        4,
+        &[Heap(&[Instance(0x201, 0x100, &[])])],
+        11,
+        40,
+    ),
+    (
+        "an instance before a class whose superclass is missing",
+        4,
+        &[Heap(&[Instance(0x201, 0x100, &[]), Class(0x100, 0x999, &[])])],
+        12,
+        57,
+    ),
+    (
+        "a tag that no table has",
+        4,
+        &[Heap(&[Raw(&[0x01, 0, 0, 0, 0, 0, 0, 0, 0, 0x7a])])],
+        5,
+        49,
+    ),
+    (
+        "a primitive array of objects",
+        4,
+        &[Heap(&[Values(0x201, 2, 0, &[])])],
+        7,
+        40,
+    ),
+    (
+        "a static field of type 3",
+        4,
+        &[Heap(&[Static(0x100, 3, &[0])])],
+        7,
+        40,
+    ),
+    (
+        "a field of type 12",
+        4,
+        &[Heap(&[Class(0x100, 0, &[12])])],
+        7,
+        40,
+    ),
+    (
+        "a record that is cut behind a whole one",
+        4,
+        &[Heap(&[]), Other(0x01, &[0; 3])],
+        4,
+        40,
+    ),
+];
