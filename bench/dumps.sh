@@ -104,7 +104,7 @@ jshell_and_agent() {
 # between its histogram and its dump.
 javac_at_work() {
     local number compiler
-    for number in $(seq 600); do
+    for number in $(seq 1500); do
         mkdir -p "$room/sources/p$number"
         { echo "package p$number;"; cat "$top/bench/java/Filler.java"; } > "$room/sources/p$number/Filler.java"
     done

@@ -5,7 +5,8 @@
 #
 # COUNT: objects, classes or the like of the smaller file of each kind (500000). Prints a Markdown table: for each kind
 # the size of the larger file, both programs' seconds on the smaller and the larger, and whether they wrote the same. A
-# run is given up after a minute. heapmark is the binary of crates/heapmark/out, or what the variable HEAPMARK names.
+# run is given up after a minute. heapmark is the binary of crates/heapmark/out, or what the variable HEAPMARK names; the
+# words of the variable OPTIONS go to it, as in OPTIONS='--buffer 4096', without which `names` has too many roots for it.
 set -euo pipefail
 
 top=$(cd "$(dirname "$0")/.." && pwd)
@@ -36,7 +37,8 @@ for kind; do
     times=() same=same
     for number in "$count" $((2 * count)); do
         "$room/hostile" "$kind" "$number" > "$room/dump"
-        times+=("$(seconds "$heapmark")")
+        # shellcheck disable=SC2086 # the options may be several words
+        times+=("$(seconds "$heapmark" ${OPTIONS:-})")
         mv "$room/out" "$room/first"
         times+=("$(seconds "$room/plain")")
         cmp -s "$room/first" "$room/out" || same=DIFFERENT

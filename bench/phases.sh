@@ -5,23 +5,18 @@
 #
 # RUNS: how often for each number of workers (3); the least of each phase counts. DUMP..: those of /tmp/heapmark-bench if
 # none is given. Prints a Markdown table in milliseconds: read, until the file's end was met; build, until the first
-# worker's thread starts (parse, index, links, references); mark, until the last of them ends; report, until the program
-# ends (with what the leader drains after the workers). heapmark as in bench/run.sh, and so is the variable STARTER.
-set -euo pipefail
-
-top=$(cd "$(dirname "$0")/.." && pwd)
-runs=${1:-3}
-[ $# -eq 0 ] || shift
-[ $# -gt 0 ] || set -- /tmp/heapmark-bench/*.hprof
-heapmark=${HEAPMARK:-$top/crates/heapmark/out/heapmark}
-room=$(mktemp -d)
-trap 'rm -rf "$room"' EXIT
+# worker's thread starts (parse, index, links, references, pool); mark, until the last of them ends; report, until the
+# program ends (with what the leader drains after the workers). heapmark and the variable STARTER as in bench/run.sh; the
+# words of the variable OPTIONS go to heapmark, as in OPTIONS='--buffer 64'.
+runs=3
+# shellcheck source=bench/head.sh
+. "$(dirname "$0")/head.sh"
 
 # traced WORKERS DUMP: one run; adds "READ BUILD MARK REPORT", in seconds, to what is kept.
 traced() {
-    # shellcheck disable=SC2086 # the starter may be several words
-    ${STARTER:-} strace -f --seccomp-bpf -qq -ttt -e trace=openat,read,clone3,exit,exit_group -o "$room/trace" \
-        "$heapmark" "$2" --workers "$1" > "$room/report"
+    # shellcheck disable=SC2086 # the starter and the options may be several words
+    $starter strace -f --seccomp-bpf -qq -ttt -e trace=openat,read,clone3,exit,exit_group -o "$room/trace" \
+        "$heapmark" "$2" --workers "$1" ${OPTIONS:-} > "$room/report"
     awk -v dump="$2" '
         index($0, "\"" dump "\"") { opened = $2 }
         opened && !started && / read\(.* = 0$/ { read = $2 }
@@ -33,7 +28,7 @@ traced() {
 
 echo '| Dump | Workers | read | build | mark | report |'
 echo '|---|---|---|---|---|---|'
-for dump; do
+for dump in "${dumps[@]}"; do
     for workers in 1 2 4; do
         rm -f "$room/times"
         for _ in $(seq "$runs"); do traced "$workers" "$dump"; done
@@ -41,7 +36,7 @@ for dump; do
             { for (at = 1; at <= 4; at++) if (NR == 1 || $at < best[at]) best[at] = $at }
             END {
                 printf "| %s | %d |", name, workers
-                for (at = 1; at <= 4; at++) printf " %.0f |", 1000 * best[at]
+                for (at = 1; at <= 4; at++) printf " %.1f |", 1000 * best[at]
                 print ""
             }' "$room/times"
     done

@@ -8,15 +8,9 @@
 # whole programs first, then the dumps, then the phases of the plain marker. heapmark is the binary that `rt run` in
 # crates/heapmark made, or what the variable HEAPMARK names. The words of the variable STARTER start each run: on a busy
 # machine 'chrt -f 10' of root keeps other work off the processors.
-set -euo pipefail
-
-top=$(cd "$(dirname "$0")/.." && pwd)
-runs=${1:-5}
-[ $# -eq 0 ] || shift
-[ $# -gt 0 ] || set -- /tmp/heapmark-bench/*.hprof
-heapmark=${HEAPMARK:-$top/crates/heapmark/out/heapmark}
-room=$(mktemp -d)
-trap 'rm -rf "$room"' EXIT
+runs=5
+# shellcheck source=bench/head.sh
+. "$(dirname "$0")/head.sh"
 
 rustc --edition 2024 -O -o "$room/plain" "$top/bench/plain/main.rs"
 
@@ -45,7 +39,7 @@ timed() {
     command_of "$1" "$2"
     start=${EPOCHREALTIME/./}
     # shellcheck disable=SC2086 # the starter may be several words
-    ${STARTER:-} /usr/bin/time -q -f %M -o "$room/peak" "${command[@]}" > "$room/$1.report" 2>> "$room/$1.told" || true
+    $starter /usr/bin/time -q -f %M -o "$room/peak" "${command[@]}" > "$room/$1.report" 2>> "$room/$1.told" || true
     end=${EPOCHREALTIME/./}
     echo "$((end - start)) $(tail -n 1 "$room/peak")" >> "$room/$1.times"
 }
@@ -89,21 +83,26 @@ phases() {
     done
 }
 
+# sizes DUMP BYTES OBJECTS REFERENCES: with the most memory that heapmark is to take for them.
+sizes() {
+    echo "| $1 | $2 | $3 | $4 | $((($2 + 44 * $3 + 4 * $4) >> 20)) |"
+}
+
 processor=$(sed -n 's/^model name.*: //p' /proc/cpuinfo | head -n 1)
 load=$(cut -d ' ' -f 1 /proc/loadavg)
 echo "Measured on $(date -u +'%-d %B %Y') on $(nproc) processors ($processor), load $load," \
     "$(rustc --version | cut -d ' ' -f 1,2), the best of $runs runs."
 printf '\n| Dump | Program | Wall, s | MB/s | Mobjects/s | Peak, MiB | To plain: wall | peak | Report |\n'
 echo '|---|---|---|---|---|---|---|---|---|'
-for dump; do
+for dump in "${dumps[@]}"; do
     name=$(basename "$dump" .hprof)
     measure "$dump"
     [ -n "$(told plain objects)" ] || { echo "$name: $(tail -n 1 "$room/plain.told")" >&2; continue; }
     for way in $(ways); do row "$name" "$way"; done
     phases "$name" >> "$room/phases"
-    echo "| $name | $(told plain file) | $(told plain objects) | $(told plain references) |" >> "$room/sizes"
+    sizes "$name" "$(told plain file)" "$(told plain objects)" "$(told plain references)" >> "$room/sizes"
 done
-printf '\n| Dump | Bytes | Objects | References |\n|---|---|---|---|\n'
+printf '\n| Dump | Bytes | Objects | References | Most memory wanted, MiB |\n|---|---|---|---|---|\n'
 cat "$room/sizes"
 printf '\n| Dump | Program, ms by phase | read | parse | index | link | references | mark | report |\n'
 echo '|---|---|---|---|---|---|---|---|---|'
