@@ -1,5 +1,5 @@
 -- The fields of sub-records, each at its place.
-use Rattle.std.proofs.Common.{List, Some, [], ap, arith, drop, length, map, refl, slice_index, suc, true, zero, ℕ, ◌*◌, ◌+◌, ◌<◌, ◌^◌, ◌∙◌, ◌∷◌, ◌≡◌, ◌≤◌}
+use Rattle.std.proofs.Common.{List, Some, [], ap, arith, drop, length, map, refl, slice_index, suc, true, zero, ℕ, ◌*◌, ◌++◌, ◌+◌, ◌<◌, ◌^◌, ◌∙◌, ◌∷◌, ◌≡◌, ◌≤◌}
 use Rattle.hprof_grammar.specs.Spelling.{Field, spelled}
 use Rattle.hprof_grammar.specs.Spelling.Field.{number, raw, type_code}
 use Rattle.hprof_grammar.specs.Tables.{size_of}
@@ -7,9 +7,10 @@ use Rattle.hprof_grammar.specs.declared.tables.TypePlace.TheVariants.{InArray}
 use Rattle.hprof_grammar.specs.SubRecord.{Class, Instance, ObjectArray, PrimitiveArray, SubRecord, class_fields, fields_of, tag_of, instance_fields, object_array_fields, primitive_array_fields}
 use Rattle.hprof_grammar.specs.SubRecord.SubRecord.{class_dump, instance_dump, object_array_dump, primitive_array_dump, root}
 use Rattle.hprof_grammar.specs.Standing.{Sight, Stands, StandsAt, id_of, stack_of}
-use Rattle.hprof_grammar.specs.working.ClassParts.{leading_ids}
+use Rattle.hprof_grammar.specs.working.ClassParts.{ids_behind_stack}
 use Rattle.hprof_grammar.specs.Dump.{is_object}
 use Rattle.hprof_grammar.specs.Series.{numbers_in}
+use Rattle.hprof_grammar.proofs.Fields.{spelled-append}
 use Rattle.hprof_grammar.proofs.SeriesRead.{numbers_again, widths-numbers}
 use Rattle.hprof_grammar.proofs.Places.{ByteAt, NumberAt, Spell, byte_read, fields_stand, first_stands, in_sight, length-spelled, number_stands, sub_stands}
 
@@ -123,7 +124,7 @@ packed_size e at a h = h.is.formed.1.values
 pub class_stands : {v w : Sight} → w ≡ v → (at : ℕ) (c : Class) → Stands v at (class_dump c) → Spell w.bytes at (0x20 ∷ spelled (class_fields w.id_size c))
 class_stands {v} {w} e at c h = sub_stands w.id_size w.bytes at (class_dump c) (in_sight v w at (class_dump c) e h)
 
-class_id_stands : (s : ℕ) (bytes : List ℕ) (at n : ℕ) (c : Class) → n < 6 → StandsAt s bytes at (class_dump c) → NumberAt bytes (at + 5 + s + n * s) s (slice_index (leading_ids c) n)
+class_id_stands : (s : ℕ) (bytes : List ℕ) (at n : ℕ) (c : Class) → n < 6 → StandsAt s bytes at (class_dump c) → NumberAt bytes (at + 5 + s + n * s) s (slice_index (ids_behind_stack c) n)
 class_id_stands s bytes at zero c below h =
     number_stands bytes at 0x20 (at + 5 + s + 0 * s) (number s c.object ∷ number 4 c.stack ∷ []) s c.super (drop 3 (class_fields s c)) (sub_stands s bytes at (class_dump c) h) h.is.formed.1.super (omega arith)
 class_id_stands s bytes at (suc zero) c below h =
@@ -138,8 +139,30 @@ class_id_stands s bytes at (suc (suc (suc (suc (suc zero))))) c below h =
     number_stands bytes at 0x20 (at + 5 + s + 5 * s) (number s c.object ∷ number 4 c.stack ∷ number s c.super ∷ number s c.loader ∷ number s c.signers ∷ number s c.domain ∷ number s c.reserved ∷ []) s c.reserved_too (drop 8 (class_fields s c)) (sub_stands s bytes at (class_dump c) h) h.is.formed.1.reserved_too (omega arith)
 class_id_stands s bytes at (suc (suc (suc (suc (suc (suc n)))))) c below h = absurd (omega (arith, below))
 
-pub class_id : {v w : Sight} → w ≡ v → (at n : ℕ) (c : Class) → n < 6 → Stands v at (class_dump c) → NumberAt w.bytes (at + 5 + w.id_size + n * w.id_size) w.id_size (slice_index (leading_ids c) n)
+pub class_id : {v w : Sight} → w ≡ v → (at n : ℕ) (c : Class) → n < 6 → Stands v at (class_dump c) → NumberAt w.bytes (at + 5 + w.id_size + n * w.id_size) w.id_size (slice_index (ids_behind_stack c) n)
 class_id {v} {w} e at n c below h = class_id_stands w.id_size w.bytes at n c below (in_sight v w at (class_dump c) e h)
+
+leading_ids_stand : {v w : Sight} → w ≡ v → (at : ℕ) (c : Class) → Stands v at (class_dump c)
+    → Spell w.bytes (at + 5 + w.id_size) (spelled (map (number w.id_size) (c.super ∷ c.loader ∷ c.signers ∷ c.domain ∷ [])))
+leading_ids_stand {v} {w} e at c h =
+    let s = w.id_size in
+    let place = at + 5 + s in
+    let ids = map (number s) (c.super ∷ c.loader ∷ c.signers ∷ c.domain ∷ []) in
+    let more = drop 6 (class_fields s c) in
+    let there : Spell w.bytes place (spelled (ids ++ more)) = fields_stand w.bytes at 0x20 place (number s c.object ∷ number 4 c.stack ∷ []) (ids ++ more) (class_stands e at c h) (omega arith) in
+    first_stands w.bytes place (spelled ids) (spelled more) (rw spelled-append at there)
+
+pub leading_ids_room : {v w : Sight} → w ≡ v → (at : ℕ) (c : Class) → Stands v at (class_dump c) → at + 5 + w.id_size + 4 * w.id_size ≤ length w.bytes
+leading_ids_room {v} {w} e at c h =
+    let ids = c.super ∷ c.loader ∷ c.signers ∷ c.domain ∷ [] in
+    omega (arith, (leading_ids_stand e at c h).inside, length-spelled (map (number w.id_size) ids))
+
+pub leading_ids : {v w : Sight} → w ≡ v → (at : ℕ) (c : Class) → Stands v at (class_dump c)
+    → numbers_in w.id_size 4 (drop (at + 5 + w.id_size) w.bytes) ≡ c.super ∷ c.loader ∷ c.signers ∷ c.domain ∷ []
+leading_ids {v} {w} e at c h =
+    let there = leading_ids_stand e at c h in
+    let is = (in_sight v w at (class_dump c) e h).is.formed.1 in
+    ap (numbers_in w.id_size 4) there.bytes_are ∙ numbers_again w.id_size (c.super ∷ c.loader ∷ c.signers ∷ c.domain ∷ []) there.rest (is.super, (is.loader, (is.signers, (is.domain, tt))))
 
 pub instance_size : {v w : Sight} → w ≡ v → (at : ℕ) (c : Class) → Stands v at (class_dump c) → NumberAt w.bytes (at + 5 + 7 * w.id_size) 4 c.instance_size
 instance_size {v} {w} e at c h =

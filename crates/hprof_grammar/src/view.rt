@@ -1,7 +1,8 @@
 //! The fields of a dump's parts, read at the places of the parts.
 //!
 //! Each reader takes a place of a `Dump` and needs that such a part stands there, as `dump_is_placed` says of all
-//! places of a dump. No reader takes memory.
+//! places of a dump. Only `View::identifier_at` reads in bytes that it is given, and needs room. No reader takes
+//! memory.
 
 mod arrays;
 mod classes;
@@ -106,6 +107,14 @@ impl<'a> View<'a> {
         ensures { (sub : SubRecord) → Stands self.now at sub → result ≡ id_of sub }
     {
         number_at(self.bytes, at as usize + OBJECT, self.id_size as usize)
+    }
+
+    /// The identifier at a place of bytes of a dump, such as the values of an instance.
+    pub fn identifier_at(&self, bytes: &[u8], at: usize) -> u64
+        requires room { at + self.now.id_size ≤ length bytes.now }
+        ensures { result ≡ big_number self.now.id_size (drop at bytes.now) }
+    {
+        number_at(bytes, at, self.id_size as usize)
     }
 
     /// The serial number of the stack trace in the dump of an object.

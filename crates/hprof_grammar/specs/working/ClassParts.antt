@@ -5,8 +5,8 @@ use Rattle.hprof_grammar.specs.Spelling.Field.{number}
 use Rattle.hprof_grammar.specs.SubRecord.{Class, IsClass, constant_fields, member_fields, static_fields}
 
 -- the IDs behind the stack trace
-abbrev pub leading_ids : Class → List ℕ
-leading_ids c = c.super ∷ c.loader ∷ c.signers ∷ c.domain ∷ c.reserved ∷ c.reserved_too ∷ []
+abbrev pub ids_behind_stack : Class → List ℕ
+ids_behind_stack c = c.super ∷ c.loader ∷ c.signers ∷ c.domain ∷ c.reserved ∷ c.reserved_too ∷ []
 
 -- a count of 2 bytes, and the fields of that many things
 abbrev pub counted_fields : {X : Type 0} → (X → List Field) → List X → List Field

@@ -56,6 +56,18 @@ fn two_members(view: &View<'_>, at: u32) -> Option<[(u64, u8); 2]>
     ])
 }
 
+/// The identifiers of a class dump that are followed.
+fn followed_ids(view: &View<'_>, at: u32) -> Option<[u64; 4]>
+    requires { (c : Class) × Stands view.now at (class_dump c) }
+{
+    let mut ids = view.leading_ids(at);
+    let followed = [ids.next()?, ids.next()?, ids.next()?, ids.next()?];
+    if !ids.is_empty() {
+        return None;
+    }
+    Some(followed)
+}
+
 #[test]
 fn places_with_ids_of_four(rt: HostRuntime) -> Result<(), Fail> {
     let dump = read(rt.alloc(), &WITH_FOUR)?;
@@ -228,5 +240,33 @@ fn roots_with_ids_of_eight(rt: HostRuntime) -> Result<(), Fail> {
     assert_eq!(rt; view.root_kind(429), RootKind::ThreadObject);
     assert_eq!(rt; view.root_thread(429), 19);
     assert_eq!(rt; view.root_stack_trace(429), 20);
+    Ok(())
+}
+
+#[test]
+fn leading_ids(rt: HostRuntime) -> Result<(), Fail> {
+    let with_four = View::new(&WITH_FOUR, 4);
+    assert_eq!(rt;
+        followed_ids(&with_four, 79),
+        Some([0x200, 0x201, 0x202, 0x203])
+    );
+    let with_eight = View::new(&WITH_EIGHT, 8);
+    assert_eq!(rt;
+        followed_ids(&with_eight, 91),
+        Some([0x200, 0x201, 0x202, 0x203])
+    );
+    Ok(())
+}
+
+#[test]
+fn identifiers_in_values(rt: HostRuntime) -> Result<(), Fail> {
+    let with_four = View::new(&WITH_FOUR, 4);
+    let values = with_four.instance_values(162);
+    assert_eq!(rt; with_four.identifier_at(values, 0), 0x302);
+    assert_eq!(rt; with_four.identifier_at(values, 1), 0x30201);
+    let with_eight = View::new(&WITH_EIGHT, 8);
+    let values = with_eight.instance_values(226);
+    assert_eq!(rt; with_eight.identifier_at(values, 0), 0x302);
+    assert_eq!(rt; with_eight.identifier_at(values, 1), 0x30201);
     Ok(())
 }

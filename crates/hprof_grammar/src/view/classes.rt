@@ -1,12 +1,14 @@
 //! The fields of class dumps.
 
-ghost use Rattle.std.specs.Prelude.{map, slice_index, ◌*◌, ◌+◌, ◌<◌, ◌≡◌};
+ghost use Rattle.std.specs.Prelude.{[], map, slice_index, ◌*◌, ◌+◌, ◌<◌, ◌∷◌, ◌≡◌};
 ghost use Rattle.hprof_grammar.specs.SubRecord.{Class};
 ghost use Rattle.hprof_grammar.specs.SubRecord.SubRecord.{class_dump};
 ghost use Rattle.hprof_grammar.specs.Standing.{Stands};
 ghost use Rattle.hprof_grammar.specs.Series.{of_constant, of_static};
-ghost use Rattle.hprof_grammar.specs.working.ClassParts.{IsPartOf, leading_ids, fields_from_constants, fields_from_statics};
+ghost use Rattle.hprof_grammar.specs.working.ClassParts.{IsPartOf, ids_behind_stack};
+ghost use Rattle.hprof_grammar.specs.working.ClassParts.{fields_from_constants, fields_from_statics};
 
+use crate::view::ids::Ids;
 use crate::view::members::Members;
 use crate::view::values::{Values, skip_values};
 use crate::view::{BEHIND_STACK_TRACE, View, bytes_from, number_at, u32_at};
@@ -36,6 +38,9 @@ const PROTECTION_DOMAIN: usize = 3;
 const RESERVED: usize = 4;
 
 const RESERVED_TOO: usize = 5;
+
+/// Those of them that are followed. They are the first, and those that the manual reserves stand behind them.
+const LEADING_IDS: u32 = 4;
 
 impl<'a> View<'a> {
     /// The identifier of a class's superclass, 0 for none.
@@ -86,6 +91,18 @@ impl<'a> View<'a> {
         self.class_id(at, RESERVED_TOO)
     }
 
+    /// The identifiers of a class dump that are followed and stand one after the other: superclass, loader, signers,
+    /// protection domain.
+    pub fn leading_ids(&self, at: u32) -> Ids<'a>
+        requires { (c : Class) × Stands self.now at (class_dump c) }
+        ensures { (c : Class) → Stands self.now at (class_dump c)
+            → result ≡ c.super ∷ c.loader ∷ c.signers ∷ c.domain ∷ [] }
+    {
+        let size = self.id_size as usize;
+        let first = at as usize + FIRST_ID + size;
+        Ids::new(self.bytes, first, self.id_size, LEADING_IDS)
+    }
+
     /// The bytes of an instance of a class, as the dump says. Nothing rests on it.
     pub fn instance_size(&self, at: u32) -> u32
         requires { (c : Class) × Stands self.now at (class_dump c) }
@@ -124,7 +141,7 @@ impl<'a> View<'a> {
     fn class_id(&self, at: u32, nth: usize) -> u64
         requires stands { (c : Class) × Stands self.now at (class_dump c) }
         requires nth { nth < 6 }
-        ensures { (c : Class) → Stands self.now at (class_dump c) → result ≡ slice_index (leading_ids c) nth }
+        ensures { (c : Class) → Stands self.now at (class_dump c) → result ≡ slice_index (ids_behind_stack c) nth }
     {
         let size = self.id_size as usize;
         number_at(self.bytes, at as usize + FIRST_ID + size + nth * size, size)

@@ -56,6 +56,18 @@ impl<'a> Values<'a> {
         }
     }
 
+    /// Those that are left once more.
+    pub fn again(&self) -> Values<'a>
+        ensures { result ≡ self.now }
+    {
+        Values {
+            bytes: self.bytes,
+            id_size: self.id_size,
+            front: self.front,
+            left: self.left,
+        }
+    }
+
     /// How many are left.
     pub fn len(&self) -> usize
         ensures { result ≡ length self.now }

@@ -1,0 +1,11 @@
+use Rattle.std.proofs.Common.{arith, ◌∙◌}
+use Rattle.hprof_grammar.proofs.FieldsStand.{leading_ids, leading_ids_room}
+use Rattle.hprof_grammar.proofs.view.View.leading_ids.Goals as goal
+
+pub new-requires-clause-room : goal.new-requires-clause-room
+new-requires-clause-room c =
+    let there = leading_ids_room c.self.view_is c.args.at c.requires.0 c.requires.1 in
+    omega (arith, there)
+
+pub returns : goal.returns
+returns c = λ d h. c.new.ensures ∙ leading_ids c.self.view_is c.args.at d h
