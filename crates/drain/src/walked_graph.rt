@@ -27,13 +27,13 @@ impl<'a, A: Allocator> Edges for WalkedGraph<'a, A> {
 }
 
 impl<'a, A: Allocator + Sync> Walk for WalkedGraph<'a, A> {
-    type Successors = Successors<'a>;
+    type Successors = Successors<'a, A>;
 
     fn roots(&self) -> &[u32] {
         self.graph.roots()
     }
 
-    fn successors(&self, object: u32) -> Successors<'a> {
+    fn successors(&self, object: u32) -> Successors<'a, A> {
         self.graph.successors(object)
     }
 }

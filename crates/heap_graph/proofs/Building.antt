@@ -1,30 +1,35 @@
 -- From a dump to its graph.
-use Rattle.std.proofs.Common.{List, [], ap, arith, cond, count_by, filter, length, map, slice_get, subst, sym, ℕ, ◌++◌, ◌+◌, ◌∙◌, ◌≡◌}
+use Rattle.std.proofs.Common.{List, [], ap, arith, cond, count_by, filter, length, map, refl, slice_get, subst, sym, ℕ, ◌++◌, ◌+◌, ◌∙◌, ◌≡◌, ◌≤◌}
 use Rattle.std.specs.Prelude.{filter_map}
 use Rattle.std.specs.List.{concat}
 use Rattle.std.proofs.lemmas.List.Sums.{sum_by-append}
 use Rattle.hprof_grammar.specs.Dump.{IsDumpOf, Places, is_load, is_string}
 use Rattle.hprof_grammar.specs.Record.{Record}
 use Rattle.hprof_grammar.specs.Standing.{IsPlaced, RecordStands, RecordStandsAt, Sight, StandInTurn, Stands, StandsAt, id_of}
-use Rattle.hprof_grammar.specs.SubRecord.{SubRecord}
+use Rattle.hprof_grammar.specs.SubRecord.{SubRecord, spelling_of}
 use Rattle.heap_graph.specs.declared.entry.ClassEntry.{ClassEntry}
-use Rattle.heap_graph.specs.declared.entry.ObjectEntry.{ObjectEntry}
+use Rattle.heap_graph.specs.declared.objects.Objects.{Objects}
 use Rattle.heap_graph.specs.declared.rule.LinkFault.{LinkFault}
 use Rattle.heap_graph.specs.Heap.{heap_of, objects}
-use Rattle.heap_graph.specs.working.HeldIds.{AreLinked}
+use Rattle.heap_graph.specs.working.CountedIds.{AreCounted}
+use Rattle.heap_graph.specs.working.HeldIds.{AreLinked, AreLinkedOf}
 use Rattle.heap_graph.specs.LinkFault.{HasLinkFault, IsFirstFault}
 use Rattle.heap_graph.specs.Linked.{IsLinked}
+use Rattle.heap_graph.specs.working.OnlyGraph.{GraphOf, GraphOf-prop}
+use Rattle.heap_graph.specs.working.ReadObjects.{IsReadOf}
 use Rattle.heap_graph.specs.working.Resolving.{Resolves, target_in}
 use Rattle.heap_graph.specs.working.PlacedNames.{AreNames}
-use Rattle.heap_graph.specs.ObjectGraph.{IsGraphOf, IsGraphOfText, ObjectGraph}
+use Rattle.heap_graph.specs.ObjectGraph.{IsGraphOf, IsGraphOfText, ObjectGraph, named_classes, unresolved_in}
 use Rattle.heap_graph.specs.working.PlacedObjects.{AreObjects}
-use Rattle.heap_graph.specs.References.{is_unresolved, targets}
-use Rattle.heap_graph.specs.Roots.{root_ids}
-use Rattle.heap_graph.specs.working.Refinement.{graph_of}
+use Rattle.heap_graph.specs.References.{AreIdLists, is_unresolved, targets}
+use Rattle.heap_graph.specs.Roots.{root_ids, root_objects}
+use Rattle.heap_graph.specs.Rows.{bytes_of, row_of}
+use Rattle.heap_graph.specs.working.Refinement.{StandFor, named_class}
 use Rattle.heap_graph.specs.working.RuleAnswers.{IsFaultOf}
-use Rattle.heap_graph.proofs.GrowingLaws.{same_missing, same_targets}
+use Rattle.heap_graph.specs.working.ToldClasses.{AreToldOf}
 use Rattle.heap_graph.proofs.Sizes.{id_size_range}
-use Rattle.heap_graph.proofs.Wholeness.{AreAll}
+use Rattle.heap_graph.proofs.Targets.{same_missing, same_targets}
+use Rattle.heap_graph.proofs.Wholeness.{is_whole}
 
 -- ---- what stands in the bytes, seen by a view of them
 
@@ -80,19 +85,23 @@ roots_resolved heap ids wanted old new missing ids_are none wanted_are r = recor
   missing_is = r.counted ∙ same_missing heap ids wanted ids_are ∙ ap (λ (ws : List ℕ). count_by (is_unresolved heap) ws) wanted_are;
 }
 
-pub graph_is : (v : Sight) (records : List Record) (cuts all roots : List ℕ) (entries : List ObjectEntry) (classes : List ClassEntry) (unresolved missing : ℕ) → AreAll v records cuts all roots (root_ids (heap_of records)) entries classes unresolved → AreRootsOf (heap_of records) roots missing
-    → IsGraphOf v.id_size records (graph_of cuts all roots entries classes (unresolved + missing))
-graph_is v records cuts all roots entries classes unresolved missing are found = record {
-  id_lists = are.links.lists;
-  id_lists_are = record { one_each = are.links.one_each; each = are.links.each };
-  references_are = are.links.pieces_are;
-  roots_are = are.roots_are;
-  rows_are = are.rows_are;
-  bytes_are = are.bytes_are;
-  classes_are = are.classes_are;
-  unresolved_is = ap (λ (n : ℕ). n + missing) are.links.counted ∙ ap (λ (n : ℕ). count_by (is_unresolved (heap_of records)) (concat are.links.lists) + n) found.missing_is
-      ∙ sym (sum_by-append (λ x. cond (is_unresolved (heap_of records) x) 1 0) (concat are.links.lists) (root_ids (heap_of records)));
+-- the graph, with the identifiers that the objects hold
+abbrev pub graph_with : ℕ → List Record → List (List ℕ) → ObjectGraph
+graph_with s records held = record {
+  held = held;
+  references = map (targets (heap_of records)) held;
+  roots = root_objects (heap_of records);
+  rows = map (row_of (heap_of records)) (objects (heap_of records));
+  bytes = map (bytes_of s) (objects (heap_of records));
+  classes = named_classes records;
+  unresolved = unresolved_in (heap_of records) held;
 }
+
+pub graph_is : (s : ℕ) (records : List Record) (held : List (List ℕ)) → AreIdLists s (heap_of records) held → IsGraphOf s records (graph_with s records held)
+graph_is s records held are = record { held_are = are; references_are = refl; roots_are = refl; rows_are = refl; bytes_are = refl; classes_are = refl; unresolved_is = refl }
+
+pub counted_lists : (s : ℕ) (heap : List SubRecord) (n unresolved : ℕ) → n ≡ length (objects heap) → (counted : AreCounted s heap n unresolved) → AreIdLists s heap counted.lists
+counted_lists s heap n unresolved all counted = record { one_each = counted.one_each ∙ all; each = counted.each }
 
 pub text_graph : (bytes : List ℕ) (dump : Places) (is : IsDumpOf bytes dump) (s : ℕ) (g : ObjectGraph) → s ≡ dump.id_size → IsLinked s (heap_of is.records) → IsGraphOf s is.records g → IsGraphOfText bytes g
 text_graph bytes dump is s g size_is linked graph = record {
@@ -101,3 +110,41 @@ text_graph bytes dump is s g size_is linked graph = record {
   accepted = record { spells = is.spells; orderly = is.orderly; linked = subst (λ (n : ℕ). IsLinked n (heap_of is.records)) size_is linked };
   graph = subst (λ (n : ℕ). IsGraphOf n is.records g) size_is graph;
 }
+
+-- what is told of the objects of a dump that were read, and of what was made from them
+pub record AreMade {A : Type 0} (o : Objects A) (records : List Record) (roots : List ℕ) (classes : List ClassEntry) (unresolved missing : ℕ) : Type 0 where
+  pub linked : AreLinkedOf o (heap_of records)
+  pub told : AreToldOf o (heap_of records)
+  pub counted : AreCounted o.view.id_size (heap_of records) (length o.places.items) unresolved
+  pub classes_are : map named_class classes ≡ named_classes records
+  pub found : AreRootsOf (heap_of records) roots missing
+
+pub graph_made : {A : Type 0} (o : Objects A) (records : List Record) (roots : List ℕ) (classes : List ClassEntry) (unresolved missing : ℕ) → (made : AreMade o records roots classes unresolved missing)
+    → IsGraphOf o.view.id_size records (graph_with o.view.id_size records made.counted.lists)
+graph_made o records roots classes unresolved missing made =
+    graph_is o.view.id_size records made.counted.lists (counted_lists o.view.id_size (heap_of records) (length o.places.items) unresolved made.linked.are.stand.count made.counted)
+
+pub stand_for : {A : Type 0} (o : Objects A) (records : List Record) (roots : List ℕ) (classes : List ClassEntry) (unresolved missing : ℕ) → ((at : ℕ) (sub : SubRecord) → Stands o.view at sub → at + length (spelling_of o.view.id_size sub) ≤ length o.view.bytes)
+    → (made : AreMade o records roots classes unresolved missing) → StandFor o roots classes (unresolved + missing) (graph_with o.view.id_size records made.counted.lists)
+stand_for o records roots classes unresolved missing within made = record {
+  records = records;
+  linked = made.linked;
+  told = made.told;
+  graph = graph_made o records roots classes unresolved missing made;
+  whole = is_whole o.view o.places.items o.index records (graph_with o.view.id_size records made.counted.lists) made.linked within (graph_made o records roots classes unresolved missing made);
+  roots_are = sym made.found.roots_are;
+  classes_are = sym made.classes_are;
+  unresolved_is = sum_by-append (λ x. cond (is_unresolved (heap_of records) x) 1 0) (concat made.counted.lists) (root_ids (heap_of records))
+      ∙ ap (λ (n : ℕ). n + count_by (is_unresolved (heap_of records)) (root_ids (heap_of records))) (sym made.counted.counted)
+      ∙ ap (λ (n : ℕ). unresolved + n) (sym made.found.missing_is);
+}
+
+pub text_graph_made : {A : Type 0} (o : Objects A) (text : List ℕ) (dump : Places) (is : IsDumpOf text dump) (roots : List ℕ) (classes : List ClassEntry) (unresolved missing : ℕ) → IsReadOf text dump is o → (made : AreMade o is.records roots classes unresolved missing)
+    → IsGraphOfText o.view.bytes (graph_with o.view.id_size is.records made.counted.lists)
+text_graph_made o text dump is roots classes unresolved missing read made =
+    subst (λ (bytes : List ℕ). IsGraphOfText bytes (graph_with o.view.id_size is.records made.counted.lists)) (sym read.bytes_are)
+    (text_graph text dump is o.view.id_size (graph_with o.view.id_size is.records made.counted.lists) read.size_is made.linked.linked (graph_made o is.records roots classes unresolved missing made))
+
+-- a text has one graph, so what holds of one holds of each
+pub given_graph : (text : List ℕ) (P : ObjectGraph → Type 0) (g : ObjectGraph) → IsGraphOfText text g → P g → (other : ObjectGraph) → ∥ IsGraphOfText text other ∥₁ → P other
+given_graph text P g is holds other given = subst P (ap (λ (x : GraphOf text). x.0) (GraphOf-prop text (g, ∣ is ∣₁) (other, given))) holds

@@ -1,41 +1,46 @@
--- The classes among the objects: one more object.
-use Rattle.std.proofs.Common.{List, None, Option, Some, [], append-nil, ap, map, refl, slice_get, sym, take, ℕ, ◌++◌, ◌+◌, ◌∙◌, ◌∷◌, ◌≡◌}
-use Rattle.std.specs.Prelude.{filter_map, option_to_list}
-use Rattle.std.specs.List.{cons_option}
-use Rattle.std.proofs.lemmas.List.{map-append}
-use Rattle.std.proofs.lemmas.List.Elements.{filter_map-append}
+-- The classes of the table, with the texts that name them.
+use Rattle.std.proofs.Common.{List, Option, [], ap, length, map, sym, take, ℕ, ◌++◌, ◌+◌, ◌<◌, ◌∙◌, ◌∷◌, ◌≡◌, ◌≤◌}
+use Rattle.std.specs.Prelude.{option_copied, slice_index}
+use Rattle.std.proofs.lemmas.List.{take_all}
+use Rattle.std.proofs.lemmas.Option.{slice_get-get_or}
+use Rattle.std.proofs.lemmas.Simd.{map-map}
 use Rattle.hprof_grammar.specs.Record.{Record}
-use Rattle.hprof_grammar.specs.SubRecord.{Class, SubRecord}
+use Rattle.hprof_grammar.specs.SubRecord.{Class}
 use Rattle.heap_graph.specs.declared.entry.ClassEntry.{ClassEntry}
-use Rattle.heap_graph.specs.working.Entries.{AddsClass, AreClassesOf}
-use Rattle.heap_graph.specs.Heap.{as_class, heap_of, objects}
-use Rattle.heap_graph.specs.ObjectGraph.{NamedClass, named_in}
+use Rattle.heap_graph.specs.ClassNames.{class_text}
+use Rattle.heap_graph.specs.Heap.{class_dumps, heap_of}
+use Rattle.heap_graph.specs.ObjectGraph.{NamedClass, named_classes}
 use Rattle.heap_graph.specs.working.Refinement.{named_class}
 use Rattle.heap_graph.proofs.EntryLaws.{map_one, take_one}
 
-one_kept : {X Y : Type 0} (h : X → Option Y) (x : X) → filter_map h (x ∷ []) ≡ option_to_list (h x)
-one_kept h x = elim (h x) as (λ o. cons_option o [] ≡ option_to_list o) [ None ↦ refl | Some y ↦ refl ]
+-- the class of that identifier, with the text that names it
+abbrev named_by : List Record → ℕ → NamedClass
+named_by records id = record { id = id; text = class_text records id }
 
-pub classes_more : (records : List Record) (n : ℕ) (old new : List ClassEntry) → AreClassesOf records n old → AddsClass records n old new → AreClassesOf records (n + 1) new
-classes_more records n old new are adds =
-    adds.added ∙ ap (λ (xs : List NamedClass). xs ++ map (named_in records) (option_to_list (as_class adds.object))) are
-    ∙ sym (map-append (named_in records) (filter_map as_class (take n (objects (heap_of records)))) (option_to_list (as_class adds.object)))
-    ∙ ap (λ (cs : List Class). map (named_in records) cs)
-    (ap (λ (cs : List Class). filter_map as_class (take n (objects (heap_of records))) ++ cs) (sym (one_kept as_class adds.object))
-    ∙ sym (filter_map-append as_class (take n (objects (heap_of records))) (adds.object ∷ []))
-    ∙ ap (λ (os : List SubRecord). filter_map as_class os) (sym (take_one (objects (heap_of records)) n adds.object adds.is)))
+-- the first n classes of these identifiers were named
+abbrev pub AreNamed : List Record → List ℕ → ℕ → List ClassEntry → Type 0
+AreNamed records ids n classes = map named_class classes ≡ map (named_by records) (take n ids)
 
-pub no_class_adds : (records : List Record) (n : ℕ) (old : List ClassEntry) (o : SubRecord) → slice_get (objects (heap_of records)) n ≡ Some o → as_class o ≡ None → AddsClass records n old old
-no_class_adds records n old o is none = record {
-  object = o;
-  is = is;
-  added = sym (ap (λ (c : Option Class). map named_class old ++ map (named_in records) (option_to_list c)) none ∙ append-nil (map named_class old));
-}
+pub none_named : (records : List Record) (ids : List ℕ) (classes : List ClassEntry) → classes ≡ [] → AreNamed records ids 0 classes
+none_named records [] classes none = ap (λ (es : List ClassEntry). map named_class es) none
+none_named records (id ∷ ids) classes none = ap (λ (es : List ClassEntry). map named_class es) none
 
-pub class_adds_one : (records : List Record) (n : ℕ) (old new : List ClassEntry) (o : SubRecord) (c : Class) (e : ClassEntry) → slice_get (objects (heap_of records)) n ≡ Some o → as_class o ≡ Some c → new ≡ old ++ e ∷ [] → named_class e ≡ named_in records c → AddsClass records n old new
-class_adds_one records n old new o c e is class added named = record {
-  object = o;
-  is = is;
-  added = ap (λ (es : List ClassEntry). map named_class es) added ∙ map_one named_class old e ∙ ap (λ (d : NamedClass). map named_class old ++ d ∷ []) named
-      ∙ sym (ap (λ (k : Option Class). map named_class old ++ map (named_in records) (option_to_list k)) class);
-}
+named_is : (records : List Record) (e : ClassEntry) (id : ℕ) → e.id ≡ id → option_copied e.text ≡ class_text records e.id → named_class e ≡ named_by records id
+named_is records e id same text =
+    ap (λ (t : Option (List ℕ)). let named : NamedClass = record { id = e.id; text = t } in named) text ∙ ap (λ (i : ℕ). named_by records i) same
+
+pub one_more_named : (records : List Record) (ids : List ℕ) (n : ℕ) (old new : List ClassEntry) (e : ClassEntry) → n < length ids → e.id ≡ slice_index ids n → option_copied e.text ≡ class_text records e.id
+    → new ≡ old ++ e ∷ [] → AreNamed records ids n old → AreNamed records ids (n + 1) new
+one_more_named records ids n old new e below id text added are =
+    ap (λ (es : List ClassEntry). map named_class es) added ∙ map_one named_class old e
+    ∙ ap (λ (ds : List NamedClass). ds ++ named_class e ∷ []) are
+    ∙ ap (λ (d : NamedClass). map (named_by records) (take n ids) ++ d ∷ []) (named_is records e (slice_index ids n) id text)
+    ∙ sym (map_one (named_by records) (take n ids) (slice_index ids n))
+    ∙ sym (ap (λ (xs : List ℕ). map (named_by records) xs) (take_one ids n (slice_index ids n) (slice_get-get_or ids n 0 below)))
+
+-- and these are all, where the identifiers are those of the class dumps
+pub all_named : (records : List Record) (ids : List ℕ) (n : ℕ) (classes : List ClassEntry) → length ids ≤ n → ids ≡ map (λ (c : Class). c.object) (class_dumps (heap_of records)) → AreNamed records ids n classes
+    → map named_class classes ≡ named_classes records
+all_named records ids n classes all in_order are =
+    are ∙ ap (λ (xs : List ℕ). map (named_by records) xs) (take_all n ids all ∙ in_order)
+    ∙ map-map (named_by records) (λ (c : Class). c.object) (class_dumps (heap_of records))

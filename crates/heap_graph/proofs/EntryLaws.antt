@@ -1,15 +1,12 @@
 -- The rows and the bytes of objects.
-use Rattle.std.proofs.Common.{List, None, Some, [], ap, arith, map, refl, slice_get, subst, suc, sum_by, sym, take, zero, ℕ, ◌++◌, ◌+◌, ◌∙◌, ◌∷◌, ◌≡◌}
+use Rattle.std.proofs.Common.{List, None, Some, [], ap, arith, map, refl, slice_get, suc, sum_by, sym, take, zero, ℕ, ◌++◌, ◌+◌, ◌∙◌, ◌∷◌, ◌≡◌}
 use Rattle.std.specs.Prelude.{◌==◌}
 use Rattle.std.specs.List.{position_or_len}
 use Rattle.std.proofs.lemmas.List.Sums.{sum_by-cons}
 use Rattle.hprof_grammar.specs.SubRecord.{Class, Static, SubRecord}
 use Rattle.hprof_grammar.specs.Series.{LabelledValue, of_static}
 use Rattle.hprof_grammar.specs.Tables.{size_of}
-use Rattle.heap_graph.specs.declared.entry.ObjectEntry.{ObjectEntry}
-use Rattle.heap_graph.specs.working.Entries.{AreEntries, IsEntry}
-use Rattle.heap_graph.specs.Heap.{class_dumps, class_number, objects}
-use Rattle.heap_graph.specs.Rows.{bytes_of, row_of}
+use Rattle.heap_graph.specs.Heap.{class_dumps, class_number}
 use Rattle.hprof_grammar.specs.Standing.{Sight}
 use Rattle.std.specs.Prelude.{position}
 use Rattle.heap_graph.specs.Linked.{IsLinked}
@@ -45,17 +42,3 @@ take_one (y ∷ ys) (suc n) x h = let e : suc n + 1 ≡ suc (n + 1) = omega arit
 pub map_one : {X Y : Type 0} (f : X → Y) (xs : List X) (x : X) → map f (xs ++ x ∷ []) ≡ map f xs ++ f x ∷ []
 map_one f [] x = refl
 map_one f (y ∷ ys) x = ap (λ zs. f y ∷ zs) (map_one f ys x)
-
-pub entries_none : (s : ℕ) (heap : List SubRecord) → AreEntries s heap 0 []
-entries_none s heap = record { rows_are = refl; bytes_are = refl }
-
-entries_with : (s : ℕ) (heap : List SubRecord) (n : ℕ) (entries : List ObjectEntry) (e : ObjectEntry) → AreEntries s heap n entries → IsEntry s heap n e → AreEntries s heap (n + 1) (entries ++ e ∷ [])
-entries_with s heap n entries e are is = record {
-  rows_are = map_one (λ (x : ObjectEntry). x.row) entries e ∙ ap (λ rows. rows ++ e.row ∷ []) are.rows_are ∙ ap (λ row. map (row_of heap) (take n (objects heap)) ++ row ∷ []) is.row_is
-      ∙ sym (map_one (row_of heap) (take n (objects heap)) is.object) ∙ ap (λ os. map (row_of heap) os) (sym (take_one (objects heap) n is.object is.is));
-  bytes_are = map_one (λ (x : ObjectEntry). x.bytes) entries e ∙ ap (λ bytes. bytes ++ e.bytes ∷ []) are.bytes_are ∙ ap (λ bytes. map (bytes_of s) (take n (objects heap)) ++ bytes ∷ []) is.bytes_is
-      ∙ sym (map_one (bytes_of s) (take n (objects heap)) is.object) ∙ ap (λ os. map (bytes_of s) os) (sym (take_one (objects heap) n is.object is.is));
-}
-
-pub entries_more : (s : ℕ) (heap : List SubRecord) (n : ℕ) (old : List ObjectEntry) (e : ObjectEntry) (new : List ObjectEntry) → AreEntries s heap n old → IsEntry s heap n e → new ≡ old ++ e ∷ [] → AreEntries s heap (n + 1) new
-entries_more s heap n old e new are is added = subst (λ (es : List ObjectEntry). AreEntries s heap (n + 1) es) (sym added) (entries_with s heap n old e are is)

@@ -133,16 +133,6 @@ first_climb s heap ids path known first none are below unknown =
     subst (λ (p : List ℕ). IsClimb s heap ids first p known first) (sym none)
     (record { fates_are = are; path_is = tt; below = below; unknown = unknown; from = contains_last [] first })
 
-nothing_known : (f : Fate) → f ≡ fates.Unknown → f ≡ fates.OnPath → ⊥
-nothing_known f e g = let wrong : fates.Unknown ≡ fates.OnPath = sym e ∙ g in cc
-
-pub fates_unknown : (s : ℕ) (heap : List SubRecord) (ids : List ℕ) (known : List Fate) → length known ≡ length ids → ((k : ℕ) (f : Fate) → slice_get known k ≡ Some f → f ≡ fates.Unknown) → AreFates s heap ids [] known
-fates_unknown s heap ids known count each = record {
-  one_each = count;
-  each = λ k f is. subst (λ (x : Fate). IsFate s heap ids (slice_index ids k) x) (sym (each k f is)) tt;
-  on_path = λ k is. absurd (nothing_known fates.OnPath (each k fates.OnPath is) refl);
-}
-
 pub settled_fate : (f : Fate) → (f ≡ fates.Unknown → ⊥) → (f ≡ fates.OnPath → ⊥) → IsSettled f
 settled_fate fates.Unknown a b = a refl
 settled_fate fates.OnPath a b = b refl

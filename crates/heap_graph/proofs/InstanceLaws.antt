@@ -1,10 +1,9 @@
--- The identifiers that an instance holds, up the chain of its class.
-use Rattle.std.proofs.Common.{Bool, List, None, Option, Some, [], append_assoc, ap, arith, drop, inl, inr, length, refl, slice_get, subst, sum_by, sym, take, true, false, ⊎_elim, ℕ, ◌++◌, ◌+◌, ◌^◌, ◌∙◌, ◌∷◌, ◌≡◌, ◌≤◌}
-use Rattle.std.specs.Prelude.{if◌then◌else◌, slice_index, ◌==◌}
+-- The layout of an instance, and the chain of its class.
+use Rattle.std.proofs.Common.{Bool, List, Some, [], arith, drop, inl, inr, length, refl, slice_get, subst, sum_by, sym, take, true, false, ⊎_elim, ℕ, ◌++◌, ◌+◌, ◌∙◌, ◌∷◌, ◌≡◌, ◌≤◌}
+use Rattle.std.specs.Prelude.{if◌then◌else◌, ◌==◌}
 use Rattle.std.proofs.lemmas.Bool.{cases_order, eqb-true}
-use Rattle.std.proofs.lemmas.List.Sums.{sum_by-append, sum_by-cons}
+use Rattle.std.proofs.lemmas.List.Sums.{sum_by-cons}
 use Rattle.byteorder.specs.Endian.{big_number}
-use Rattle.hprof_grammar.specs.Standing.{Sight}
 use Rattle.hprof_grammar.specs.SubRecord.{Class, Instance, SubRecord}
 use Rattle.hprof_grammar.specs.SubRecord.SubRecord.{class_dump, instance_dump}
 use Rattle.hprof_grammar.specs.Tables.{size_of}
@@ -13,59 +12,14 @@ use Rattle.heap_graph.specs.declared.classes.fate.Fate.TheVariants as fates
 use Rattle.heap_graph.specs.declared.classes.fate.Layout.{Layout}
 use Rattle.heap_graph.specs.declared.rule.LinkRule.TheVariants.{InstanceSize, SuperChain}
 use Rattle.heap_graph.specs.Heap.{class_named, objects}
-use Rattle.heap_graph.specs.Layout.{IsChain, IsLine, NeverEnds, layout, layout_size}
+use Rattle.heap_graph.specs.Layout.{IsChain, IsLine, NeverEnds, layout_size}
 use Rattle.heap_graph.specs.Linked.{IsLinked}
 use Rattle.heap_graph.specs.SuperRule.{IsBadSuper}
-use Rattle.heap_graph.specs.References.{instance_ids}
-use Rattle.heap_graph.specs.working.Chains.{BeginsAt, IsChainAt, IsCut, IsFate, IsFirst, IsKnown, IsSettled, layout_types, tail}
-use Rattle.heap_graph.specs.working.ClassTable.{Entry, ids_of, own_types}
-use Rattle.heap_graph.specs.working.HeldIds.{AddsIds}
-use Rattle.heap_graph.specs.working.ToldClasses.{AreTold}
+use Rattle.heap_graph.specs.working.Chains.{IsCut, IsFate, IsSettled}
 use Rattle.heap_graph.specs.working.TypedFields.{typed_ids}
-use Rattle.heap_graph.proofs.ChainLaws.{one_chain, some_inj, some_none}
-use Rattle.heap_graph.proofs.ClassTableLaws.{IsNumbered, numbered, same_class, same_count}
-use Rattle.heap_graph.proofs.FieldLaws.{ids_of_both, own_size, same_ids, size_of_id_type}
+use Rattle.heap_graph.proofs.ChainLaws.{some_inj, some_none}
+use Rattle.heap_graph.proofs.FieldLaws.{size_of_id_type}
 use Rattle.heap_graph.proofs.Linking.{IsClassThere, class_there}
-use Rattle.heap_graph.proofs.RuleLaws.{no_chain}
-
--- ---- the classes above a class
-
-next_is : (s : ℕ) (heap : List SubRecord) (ids : List ℕ) (k : ℕ) (c : Class) (rest : List Class) (l : Layout) → IsChainAt heap ids k c rest → IsFate s heap ids (slice_index ids k) (fates.Whole l) → IsFirst heap ids (layout_types rest) l.next
-next_is s heap ids k c rest l at fate =
-    let same : fate.0 ≡ c ∷ rest = one_chain heap (slice_index ids k) fate.0 (c ∷ rest) fate.1 (at.named, at.chain) in
-    subst (λ (cs : List Class). IsFirst heap ids (layout_types (tail cs)) l.next) same fate.2.next_is
-
-pub next_first : (v : Sight) (heap : List SubRecord) (entries : List Entry) (types : List ℕ) (known : List Fate) (k : ℕ) (c : Class) (rest : List Class) (l : Layout) → AreTold v heap entries types known → IsChainAt heap (ids_of entries) k c rest → slice_get known k ≡ Some (fates.Whole l) → IsFirst heap (ids_of entries) (layout_types rest) l.next
-next_first v heap entries types known k c rest l told at is = next_is v.id_size heap (ids_of entries) k c rest l at (told.settled.fates_are.each k (fates.Whole l) is)
-
--- a class with a chain has a layout
-pub is_whole_fate : (v : Sight) (heap : List SubRecord) (entries : List Entry) (types : List ℕ) (known : List Fate) (k : ℕ) (c : Class) (rest : List Class) (f : Fate) → AreTold v heap entries types known → IsChainAt heap (ids_of entries) k c rest → slice_get known k ≡ Some f → ((l : Layout) → f ≡ fates.Whole l → ⊥) → ⊥
-is_whole_fate v heap entries types known k c rest f told at is other =
-    let it : IsKnown known k = told.settled.each_known k at.below in
-    let same : it.fate ≡ f = some_inj (sym it.is ∙ is) in
-    no_chain v.id_size heap (ids_of entries) (slice_index (ids_of entries) k) f (c ∷ rest) (subst (λ (x : Fate). IsSettled x) same it.settled) other (told.settled.fates_are.each k f is) (at.named, at.chain)
-
--- ---- one class of a layout
-
-pub chain_of_first : (heap : List SubRecord) (ids types : List ℕ) (k : ℕ) (b : BeginsAt heap ids types k) → IsChainAt heap ids k b.class b.rest
-chain_of_first heap ids types k b = record { below = b.below; named = b.named; chain = b.chain }
-
-pub some_bytes : (v : Sight) (heap : List SubRecord) (entries : List Entry) (types wanted : List ℕ) (known : List Fate) (k : ℕ) → 1 ≤ v.id_size → AreTold v heap entries types known → (b : BeginsAt heap (ids_of entries) wanted k) → 1 ≤ sum_by (λ t. size_of v.id_size t) (own_types b.class)
-some_bytes v heap entries types wanted known k low told b =
-    let it : IsNumbered v heap entries types k = numbered v heap entries types k told.classes (omega (arith, b.below, same_count entries)) in
-    let same : it.holds.class ≡ b.class = same_class v heap entries types k b.class it b.named in
-    subst (λ (c : Class). 1 ≤ sum_by (λ t. size_of v.id_size t) (own_types c)) same
-    (own_size v.id_size it.holds.class low it.holds.stands.is.allowed (λ e. b.some_field (sym (ap (λ (c : Class). c.members) same) ∙ e)))
-
-pub size_split : (s : ℕ) (heap : List SubRecord) (ids types : List ℕ) (k : ℕ) (b : BeginsAt heap ids types k) → sum_by (λ t. size_of s t) types ≡ sum_by (λ t. size_of s t) (own_types b.class) + sum_by (λ t. size_of s t) (layout_types b.rest)
-size_split s heap ids types k b = ap (λ (ts : List ℕ). sum_by (λ t. size_of s t) ts) b.types_are ∙ sum_by-append (λ t. size_of s t) (own_types b.class) (layout_types b.rest)
-
-pub ids_split : (s : ℕ) (heap : List SubRecord) (ids types : List ℕ) (k : ℕ) (b : BeginsAt heap ids types k) (values old now left : List ℕ) → now ≡ old ++ typed_ids s (own_types b.class) values → left ≡ drop (sum_by (λ t. size_of s t) (own_types b.class)) values
-    → now ++ typed_ids s (layout_types b.rest) left ≡ old ++ typed_ids s types values
-ids_split s heap ids types k b values old now left e f =
-    ap (λ (xs : List ℕ). xs ++ typed_ids s (layout_types b.rest) left) e ∙ ap (λ (xs : List ℕ). (old ++ typed_ids s (own_types b.class) values) ++ typed_ids s (layout_types b.rest) xs) f
-    ∙ append_assoc old (typed_ids s (own_types b.class) values) (typed_ids s (layout_types b.rest) (drop (sum_by (λ t. size_of s t) (own_types b.class)) values))
-    ∙ ap (λ (xs : List ℕ). old ++ xs) (sym (ap (λ (ts : List ℕ). typed_ids s ts values) b.types_are ∙ ids_of_both s (own_types b.class) (layout_types b.rest) values))
 
 -- ---- a whole instance
 
@@ -86,16 +40,6 @@ few_typed s [] values low = omega arith
 few_typed s (t ∷ ts) values low =
     let h = few_if s t (typed_ids s ts (drop (size_of s t) values)) values (sum_by (λ x. size_of s x) ts) (t == 2) refl low (few_typed s ts (drop (size_of s t) values) low) in
     omega (arith, h, sum_by-cons (λ x. size_of s x) t ts)
-
-pub instance_adds : (s : ℕ) (heap : List SubRecord) (i : Instance) (chain : List Class) (old a b : List ℕ) → IsChain heap i.class chain → length (typed_ids s (layout_types chain) i.values) ≤ 2 ^ 32 → a ≡ old ++ i.class ∷ [] → b ≡ a ++ typed_ids s (layout_types chain) i.values → AddsIds s heap (instance_dump i) old b
-instance_adds s heap i chain old a b is few ea eb = record {
-  ids = instance_ids s i chain;
-  are = (chain, is, refl);
-  few = omega (arith, few, ap length (same_ids s (layout chain) i.values));
-  added =
-      eb ∙ ap (λ (xs : List ℕ). xs ++ typed_ids s (layout_types chain) i.values) ea ∙ append_assoc old (i.class ∷ []) (typed_ids s (layout_types chain) i.values)
-      ∙ ap (λ (xs : List ℕ). old ++ (i.class ∷ xs)) (sym (same_ids s (layout chain) i.values));
-}
 
 -- ---- in a linked heap list each chain is whole
 
@@ -120,7 +64,3 @@ linked_whole s heap ids id c fates.OnPath linked named settled other fate = sett
 linked_whole s heap ids id c (fates.Whole l) linked named settled other fate = other l refl
 linked_whole s heap ids id c fates.Broken linked named settled other fate = cut_not_linked s heap id c fate.0 linked named fate.1
 linked_whole s heap ids id c fates.Endless linked named settled other fate = bad_not_linked s heap id c linked named (inr (never_up heap id c named fate))
-
-pub first_none : (heap : List SubRecord) (ids types : List ℕ) (first : Option ℕ) → ((k : ℕ) → first ≡ Some k → ⊥) → IsFirst heap ids types first → types ≡ []
-first_none heap ids types None other is = is
-first_none heap ids types (Some k) other is = absurd (other k refl)

@@ -1,5 +1,5 @@
 -- The layout of a class, from that of its superclass.
-use Rattle.std.proofs.Common.{List, None, Option, Some, [], ap, arith, length, map, min, refl, sum_by, sym, ℕ, ◌++◌, ◌+◌, ◌∙◌, ◌∷◌, ◌≡◌}
+use Rattle.std.proofs.Common.{List, None, Option, Some, [], ap, arith, map, min, refl, sum_by, sym, ℕ, ◌++◌, ◌+◌, ◌∙◌, ◌∷◌, ◌≡◌}
 use Rattle.std.proofs.lemmas.List.{map-append}
 use Rattle.std.proofs.lemmas.List.Sums.{sum_by-append, sum_by-cons}
 use Rattle.hprof_grammar.specs.SubRecord.{Class, Member, SubRecord}
@@ -56,7 +56,3 @@ first_here heap ids k c rest some at = record {
 
 pub size_told : (own above size told : ℕ) → above ≡ min most_size size → told ≡ min (own + above) most_size → told ≡ min most_size (own + size)
 size_told own above size told e f = omega (arith, e, f)
-
-pub empty_list : (xs : List ℕ) → length xs ≡ 0 → xs ≡ []
-empty_list [] e = refl
-empty_list (x ∷ xs) e = absurd (omega (arith, e))

@@ -1,4 +1,3 @@
-pub mod Cutting
 pub mod Naming
 pub mod IndexAscending
 pub mod IndexBuckets
@@ -17,17 +16,21 @@ pub mod ClimbLaws
 pub mod ClassTableLaws
 pub mod RuleLaws
 pub mod InstanceLaws
+pub mod FieldsUpLaws
 pub mod TableGrowth
 pub mod Counting
 pub mod Testing
 pub mod Linking
 pub mod Adding
+pub mod HeldLaws
 pub mod Lookups
-pub mod GrowingLaws
 pub mod EntryLaws
 pub mod NameLookups
 pub mod ClassLaws
 pub mod Sizes
+pub mod Targets
+pub mod CountedLaws
+pub mod Walking
+pub mod Answering
 pub mod Wholeness
 pub mod Building
-mod OneGraph

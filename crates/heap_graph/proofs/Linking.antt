@@ -3,7 +3,7 @@ use Rattle.std.proofs.Common.{Bool, List, None, Option, Some, ap, cond, false, r
 use Rattle.std.specs.Prelude.{option_and_then, ◌==◌}
 use Rattle.std.proofs.lemmas.Bool.{eqb-true}
 use Rattle.hprof_grammar.specs.Standing.{id_of}
-use Rattle.hprof_grammar.specs.SubRecord.{Class, Instance, SubRecord}
+use Rattle.hprof_grammar.specs.SubRecord.{Class, Instance, ObjectArray, SubRecord}
 use Rattle.hprof_grammar.specs.SubRecord.SubRecord.{class_dump, instance_dump, object_array_dump, primitive_array_dump, root}
 use Rattle.heap_graph.specs.declared.rule.LinkRule.TheVariants.{UnknownClass}
 use Rattle.heap_graph.specs.Heap.{as_class, class_named, number_named, objects}
@@ -44,3 +44,7 @@ class_there heap id c h = there_if heap id c (id == 0) h
 -- the class of an instance is there
 pub no_unknown : (s : ℕ) (heap : List SubRecord) (n : ℕ) (i : Instance) → IsLinked s heap → slice_get (objects heap) n ≡ Some (instance_dump i) → class_named heap i.class ≡ None → ⊥
 no_unknown s heap n i linked is missing = linked n UnknownClass (instance_dump i, is, missing)
+
+-- and that of an array
+pub no_unknown_array : (s : ℕ) (heap : List SubRecord) (n : ℕ) (a : ObjectArray) → IsLinked s heap → slice_get (objects heap) n ≡ Some (object_array_dump a) → class_named heap a.class ≡ None → ⊥
+no_unknown_array s heap n a linked is missing = linked n UnknownClass (object_array_dump a, is, missing)

@@ -3,8 +3,8 @@ use Rattle.std.proofs.Common.{List, None, Some, [], ap, arith, inl, inr, get_or,
 use Rattle.std.specs.Prelude.{position, ◌==◌}
 use Rattle.std.proofs.lemmas.Option.{get_or_from_slice_get}
 use Rattle.hprof_grammar.specs.Standing.{Sight}
-use Rattle.hprof_grammar.specs.SubRecord.{Class, Instance, ObjectArray, PrimitiveArray, SubRecord}
-use Rattle.hprof_grammar.specs.SubRecord.SubRecord.{class_dump, instance_dump, object_array_dump, primitive_array_dump}
+use Rattle.hprof_grammar.specs.SubRecord.{Class, Instance, ObjectArray, SubRecord}
+use Rattle.hprof_grammar.specs.SubRecord.SubRecord.{class_dump, instance_dump, object_array_dump}
 use Rattle.heap_graph.specs.declared.classes.fate.Fate.{Fate}
 use Rattle.heap_graph.specs.declared.classes.fate.Fate.TheVariants as fates
 use Rattle.heap_graph.specs.declared.classes.fate.Layout.{Layout}
@@ -131,14 +131,6 @@ array_fine s heap a c named UnknownClass h = some_none (sym named ∙ h)
 array_fine s heap a c named SuperChain h = h
 array_fine s heap a c named InstanceSize h = h
 array_fine s heap a c named TooLarge h = h
-
-pub primitives_fine : (s : ℕ) (heap : List SubRecord) (a : PrimitiveArray) → IsLateRule s heap (primitive_array_dump a) None
-primitives_fine s heap a ZeroObject h = h
-primitives_fine s heap a DuplicateObject h = h
-primitives_fine s heap a UnknownClass h = h
-primitives_fine s heap a SuperChain h = h
-primitives_fine s heap a InstanceSize h = h
-primitives_fine s heap a TooLarge h = h
 
 -- a size that is told is the size, where it is one that an instance can have
 pub size_right : (s : ℕ) (heap : List SubRecord) (ids : List ℕ) (id n : ℕ) (l : Layout) → IsFate s heap ids id (fates.Whole l) → n < 2 ^ 32 → l.size ≡ n → (chain : List Class) → IsChain heap id chain → n ≡ layout_size s chain

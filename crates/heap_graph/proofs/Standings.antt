@@ -35,6 +35,16 @@ there v places ids heap n are h =
     let it = are.stand.each n (get_or places n 0) (slice_get-get_or places n 0 h) in
     record { object = it.0; is = it.1; stands = it.2; describes = filter_passes is_object heap n it.0 it.1 }
 
+-- the same of a place that was read
+pub there_at : (v : Sight) (places ids : List ℕ) (heap : List SubRecord) (n at : ℕ) → AreObjects v places ids heap → n < length places → at ≡ get_or places n at → IsThere v heap n at
+there_at v places ids heap n at are h read =
+    let it = are.stand.each n at (slice_get-get_or places n at h ∙ ap (λ (m : ℕ). Some m) (sym read)) in
+    record { object = it.0; is = it.1; stands = it.2; describes = filter_passes is_object heap n it.0 it.1 }
+
+-- a number has one object
+pub one_object : (heap : List SubRecord) (n : ℕ) (o x : SubRecord) → slice_get (objects heap) n ≡ Some o → slice_get (objects heap) n ≡ Some x → o ≡ x
+one_object heap n o x e f = let both : Some o ≡ Some x = sym e ∙ f in cc
+
 -- an identifier names what the index finds
 pub number_is : (v : Sight) (places ids : List ℕ) (heap : List SubRecord) (id : ℕ) → AreObjects v places ids heap → number_named heap id ≡ position (λ x. x == id) ids
 number_is v places ids heap id are = sym (ap (λ (xs : List ℕ). position (λ x. x == id) xs) are.ids_are ∙ position-map id_of (λ x. x == id) (objects heap))
@@ -104,5 +114,22 @@ is_primitives_dump (instance_dump i) h = absurd (cc h)
 is_primitives_dump (object_array_dump a) h = absurd (cc h)
 is_primitives_dump (primitive_array_dump a) h = record { array = a; same = refl }
 
-pub object_at : (v : Sight) (heap : List SubRecord) (n at : ℕ) (it : IsThere v heap n at) (o : SubRecord) → it.object ≡ o → IsObjectAt v heap n at o
+object_at : (v : Sight) (heap : List SubRecord) (n at : ℕ) (it : IsThere v heap n at) (o : SubRecord) → it.object ≡ o → IsObjectAt v heap n at o
 object_at v heap n at it o same = record { is = it.is ∙ ap (λ (x : SubRecord). Some x) same; stands = subst (λ (x : SubRecord). Stands v at x) same it.stands }
+
+-- ---- the object of that number, by the kind that is read at its place
+
+abbrev pub IsKindRead : Sight → ℕ → ObjectKind → Type 0
+IsKindRead v at kind = (o : SubRecord) → Stands v at o → is_object o ≡ true → object_kind o ≡ Some kind
+
+pub class_at : (v : Sight) (heap : List SubRecord) (n at : ℕ) → IsThere v heap n at → IsKindRead v at kinds.Class → (c : Class) × IsObjectAt v heap n at (class_dump c)
+class_at v heap n at it read = let dump : IsDumpOfClass it.object = is_class_dump it.object (read it.object it.stands it.describes) in (dump.class, object_at v heap n at it (class_dump dump.class) dump.same)
+
+pub instance_at : (v : Sight) (heap : List SubRecord) (n at : ℕ) → IsThere v heap n at → IsKindRead v at kinds.Instance → (i : Instance) × IsObjectAt v heap n at (instance_dump i)
+instance_at v heap n at it read = let dump : IsDumpOfInstance it.object = is_instance_dump it.object (read it.object it.stands it.describes) in (dump.instance, object_at v heap n at it (instance_dump dump.instance) dump.same)
+
+pub array_at : (v : Sight) (heap : List SubRecord) (n at : ℕ) → IsThere v heap n at → IsKindRead v at kinds.ObjectArray → (a : ObjectArray) × IsObjectAt v heap n at (object_array_dump a)
+array_at v heap n at it read = let dump : IsDumpOfArray it.object = is_array_dump it.object (read it.object it.stands it.describes) in (dump.array, object_at v heap n at it (object_array_dump dump.array) dump.same)
+
+pub primitives_at : (v : Sight) (heap : List SubRecord) (n at : ℕ) → IsThere v heap n at → IsKindRead v at kinds.PrimitiveArray → (a : PrimitiveArray) × IsObjectAt v heap n at (primitive_array_dump a)
+primitives_at v heap n at it read = let dump : IsDumpOfPrimitives it.object = is_primitives_dump it.object (read it.object it.stands it.describes) in (dump.array, object_at v heap n at it (primitive_array_dump dump.array) dump.same)

@@ -3,7 +3,7 @@ use Rattle.std.proofs.Common.{Bool, Contains, List, None, Option, Some, [], appe
 use Rattle.std.specs.Prelude.{filter_map, nat_lt, option_and_then, position, slice_index, slice_index_or, slice_range, ◌==◌}
 use Rattle.std.specs.List.{cons_option, position_or_len}
 use Rattle.std.proofs.lemmas.Bool.{cases_order, eq-eqb, eqb-true, lt-ltb, ne_eqb}
-use Rattle.std.proofs.lemmas.List.{drop-append-le, length-drop, map-append, take-append-le}
+use Rattle.std.proofs.lemmas.List.{drop-append-le, length-drop, map-append, take-append-le, take_all}
 use Rattle.std.proofs.lemmas.List.Elements.{Contains-append_cases, Contains-append_left, Contains-append_right, filter_map-append}
 use Rattle.std.proofs.Math.Seq.{drop-append_seam, take-length}
 use Rattle.hprof_grammar.specs.Standing.{Sight, Stands, id_of}
@@ -13,6 +13,7 @@ use Rattle.heap_graph.specs.declared.rule.LinkRule.TheVariants.{DuplicateObject,
 use Rattle.heap_graph.specs.Heap.{as_class, class_named, number_named, objects}
 use Rattle.heap_graph.specs.Linked.{IsLinked}
 use Rattle.heap_graph.specs.working.ClassTable.{AddsEntry, AreClasses, AreClassesAmong, Entry, IsEntry, ids_of, own_types}
+use Rattle.heap_graph.specs.working.IdPlaces.{id_places}
 use Rattle.heap_graph.specs.working.PlacedObjects.{AreObjects}
 use Rattle.heap_graph.proofs.ChainLaws.{some_inj, some_none}
 use Rattle.heap_graph.proofs.ClassTableLaws.{IsFound, found}
@@ -20,7 +21,7 @@ use Rattle.heap_graph.proofs.EntryLaws.{take_one}
 use Rattle.heap_graph.proofs.Firsts.{IsHit, position_at, position_hit}
 use Rattle.heap_graph.proofs.PathLaws.{contains_cases, contains_none}
 use Rattle.heap_graph.proofs.Standings.{class_is, number_is, slice_get_below}
-use Rattle.heap_graph.proofs.Wholeness.{same_classes, take_all}
+use Rattle.heap_graph.proofs.Wholeness.{same_classes}
 
 -- ---- the first that bears an identifier
 
@@ -59,24 +60,11 @@ class_of_number heap id n o c named e is =
 below_next : (k n : ℕ) → k < n + 1 → (k < n) ⊎ (k ≡ n)
 below_next k n h = ⊎_elim (λ e. inr e) (⊎_elim (λ l. inl l) (λ l. absurd (omega (arith, h, l)))) (cases_order k n)
 
--- ---- no class yet
-
-pub among_none : (v : Sight) (heap : List SubRecord) (entries : List Entry) (types : List ℕ) → entries ≡ [] → types ≡ [] → AreClassesAmong v heap 0 entries types
-among_none v heap entries types e f =
-    subst (λ (es : List Entry). AreClassesAmong v heap 0 es types) (sym e)
-    (record {
-      each = λ k x is. absurd (some_none (sym is));
-      complete = λ id number c named at h. absurd (omega (arith, h));
-      only = λ id c. absurd (contains_none id c);
-      in_order = λ linked. refl;
-      few = omega arith;
-    })
-
 -- ---- an object that is no class, or that its identifier does not name
 
-pub among_skip : (v : Sight) (heap : List SubRecord) (n : ℕ) (entries : List Entry) (types : List ℕ) (o : SubRecord) → AreClassesAmong v heap n entries types → slice_get (objects heap) n ≡ Some o
-    → ((id : ℕ) (c : Class) → class_named heap id ≡ Some c → number_named heap id ≡ Some n → ⊥) → (IsLinked v.id_size heap → as_class o ≡ None) → AreClassesAmong v heap (n + 1) entries types
-among_skip v heap n entries types o among is none no_class = record {
+pub among_skip : (v : Sight) (heap : List SubRecord) (n : ℕ) (entries : List Entry) (places : List ℕ) (o : SubRecord) → AreClassesAmong v heap n entries places → slice_get (objects heap) n ≡ Some o
+    → ((id : ℕ) (c : Class) → class_named heap id ≡ Some c → number_named heap id ≡ Some n → ⊥) → (IsLinked v.id_size heap → as_class o ≡ None) → AreClassesAmong v heap (n + 1) entries places
+among_skip v heap n entries places o among is none no_class = record {
   each = among.each;
   complete = λ id number c named at h. ⊎_elim (λ l. among.complete id number c named at l) (λ e. absurd (none id c named (at ∙ ap (λ (k : ℕ). Some k) e))) (below_next number n h);
   only = λ id c. let it = among.only id c in (it.0, it.1, omega (arith, it.2));
@@ -117,24 +105,26 @@ repeated_linked v places ids heap n o are is again linked = linked n DuplicateOb
 
 -- ---- a class is added
 
-kept_types : (all more : List ℕ) (a b : ℕ) → a ≤ b → b ≤ length all → slice_range (all ++ more) a b ≡ slice_range all a b
-kept_types all more a b h k =
+kept_places : (all more : List ℕ) (a b : ℕ) → a ≤ b → b ≤ length all → slice_range (all ++ more) a b ≡ slice_range all a b
+kept_places all more a b h k =
     ap (λ (xs : List ℕ). take (b - a) xs) (drop-append-le a all more (omega (arith, h, k)))
     ∙ take-append-le (b - a) (drop a all) more (omega (arith, length-drop a all, h, k))
 
-last_types : (all more : List ℕ) (a b : ℕ) → a ≡ length all → b ≡ length (all ++ more) → slice_range (all ++ more) a b ≡ more
-last_types all more a b e f =
+last_places : (all more : List ℕ) (a b : ℕ) → a ≡ length all → b ≡ length (all ++ more) → slice_range (all ++ more) a b ≡ more
+last_places all more a b e f =
     let size : b - a ≡ length more = omega (arith, e, f, length-append all more) in
     ap (λ (n : ℕ). take n (drop a (all ++ more))) size ∙ ap (λ (n : ℕ). take (length more) (drop n (all ++ more))) e ∙ ap (λ (xs : List ℕ). take (length more) xs) (drop-append_seam all more) ∙ take-length more
 
-old_entry : (v : Sight) (heap : List SubRecord) (types more : List ℕ) (e : Entry) → IsEntry v heap types e → IsEntry v heap (types ++ more) e
-old_entry v heap types more e is = record {
+old_entry : (v : Sight) (heap : List SubRecord) (places more : List ℕ) (e : Entry) → IsEntry v heap places e → IsEntry v heap (places ++ more) e
+old_entry v heap places more e is = record {
   class = is.class;
   named = is.named;
   stands = is.stands;
   rising = is.rising;
-  within = omega (arith, is.within, length-append types more);
-  types_are = kept_types types more e.1.start e.1.end is.rising is.within ∙ is.types_are;
+  within = omega (arith, is.within, length-append places more);
+  places_are = kept_places places more e.1.start e.1.end is.rising is.within ∙ is.places_are;
+  size_is = is.size_is;
+  few_bytes = is.few_bytes;
 }
 
 pub each_more : (v : Sight) (heap : List SubRecord) (entries : List Entry) (P : Entry → Type 0) (new : Entry) → ((k : ℕ) (e : Entry) → slice_get entries k ≡ Some e → P e) → P new → (k : ℕ) (e : Entry) → slice_get (entries ++ new ∷ []) k ≡ Some e → P e
@@ -143,20 +133,23 @@ each_more v heap [] P new each last (suc k) e is = absurd (some_none (sym is))
 each_more v heap (x ∷ xs) P new each last zero e is = each zero e is
 each_more v heap (x ∷ xs) P new each last (suc k) e is = each_more v heap xs P new (λ j y h. each (suc j) y h) last k e is
 
-pub among_more : (v : Sight) (heap : List SubRecord) (n id place : ℕ) (old new : List Entry) (old_types types : List ℕ) (c : Class) → AreClassesAmong v heap n old old_types → slice_get (objects heap) n ≡ Some (class_dump c) → c.object ≡ id → number_named heap id ≡ Some n → class_named heap id ≡ Some c → Stands v place (class_dump c)
-    → AddsEntry c id place old old_types new types → AreClassesAmong v heap (n + 1) new types
-among_more v heap n id place old new old_types types c among is id_is at named stands adds =
-    subst (λ (es : List Entry). AreClassesAmong v heap (n + 1) es types) (sym adds.entries_are)
-    (subst (λ (ts : List ℕ). AreClassesAmong v heap (n + 1) (old ++ (id, adds.entry) ∷ []) ts) (sym adds.types_are)
+pub among_more : (v : Sight) (heap : List SubRecord) (n id place : ℕ) (old new : List Entry) (old_places places : List ℕ) (c : Class) → AreClassesAmong v heap n old old_places → slice_get (objects heap) n ≡ Some (class_dump c) → c.object ≡ id → number_named heap id ≡ Some n → class_named heap id ≡ Some c → Stands v place (class_dump c)
+    → AddsEntry v.id_size c id place old old_places new places → AreClassesAmong v heap (n + 1) new places
+among_more v heap n id place old new old_places places c among is id_is at named stands adds =
+    let more : List ℕ = id_places v.id_size 0 (own_types c) in
+    subst (λ (es : List Entry). AreClassesAmong v heap (n + 1) es places) (sym adds.entries_are)
+    (subst (λ (ps : List ℕ). AreClassesAmong v heap (n + 1) (old ++ (id, adds.entry) ∷ []) ps) (sym adds.places_are)
     (record {
-      each = each_more v heap old (λ e. IsEntry v heap (old_types ++ own_types c) e) (id, adds.entry) (λ k e h. old_entry v heap old_types (own_types c) e (among.each k e h))
+      each = each_more v heap old (λ e. IsEntry v heap (old_places ++ more) e) (id, adds.entry) (λ k e h. old_entry v heap old_places more e (among.each k e h))
           (record {
             class = c;
             named = named;
             stands = subst (λ (p : ℕ). Stands v p (class_dump c)) (sym adds.place_is) stands;
-            rising = omega (arith, adds.start_is, adds.end_is, ap length adds.types_are, length-append old_types (own_types c));
-            within = omega (arith, adds.end_is, ap length adds.types_are);
-            types_are = last_types old_types (own_types c) adds.entry.start adds.entry.end adds.start_is (adds.end_is ∙ ap length adds.types_are);
+            rising = omega (arith, adds.start_is, adds.end_is, ap length adds.places_are, length-append old_places more);
+            within = omega (arith, adds.end_is, ap length adds.places_are);
+            places_are = last_places old_places more adds.entry.start adds.entry.end adds.start_is (adds.end_is ∙ ap length adds.places_are);
+            size_is = adds.size_is;
+            few_bytes = adds.few_bytes;
           });
       complete = λ wanted number d other there h.
           ⊎_elim (λ l. subst (λ (xs : List ℕ). Contains xs wanted) (sym (ids_more old (id, adds.entry))) (Contains-append_left (ids_of old) (id ∷ []) wanted (among.complete wanted number d other there l)))
@@ -189,11 +182,12 @@ bearer_there heap id c named = at (number_named heap id) refl
     at None e = absurd (some_none (sym named ∙ class_is heap id None (not_0 heap id c named) e))
     at (Some n) e = (n, e, (position_hit (λ x. id_of x == id) (objects heap) n e).below)
 
-pub among_all : (v : Sight) (heap : List SubRecord) (n : ℕ) (entries : List Entry) (types : List ℕ) → AreClassesAmong v heap n entries types → length (objects heap) ≤ n → AreClasses v heap entries types
-among_all v heap n entries types among all = record {
+pub among_all : (v : Sight) (heap : List SubRecord) (n : ℕ) (entries : List Entry) (places : List ℕ) → 1 ≤ v.id_size → AreClassesAmong v heap n entries places → length (objects heap) ≤ n → AreClasses v heap entries places
+among_all v heap n entries places low among all = record {
+  low = low;
   each = among.each;
   complete = λ id c named. let it = bearer_there heap id c named in among.complete id it.0 c named it.1 (omega (arith, it.2, all));
-  in_order = λ linked. among.in_order linked ∙ ap (λ (os : List SubRecord). map (λ (c : Class). c.object) (filter_map as_class os)) (take_all (objects heap) n all) ∙ ap (λ (cs : List Class). map (λ (c : Class). c.object) cs) (same_classes heap);
+  in_order = λ linked. among.in_order linked ∙ ap (λ (os : List SubRecord). map (λ (c : Class). c.object) (filter_map as_class os)) (take_all n (objects heap) all) ∙ ap (λ (cs : List Class). map (λ (c : Class). c.object) cs) (same_classes heap);
 }
 
 -- ---- what a new identifier is
@@ -220,6 +214,6 @@ first_number v places ids heap n id o are is id_is new =
     number_is v places ids heap id are
     ∙ first_bearer ids n id (ap (λ (xs : List ℕ). slice_get xs n) are.ids_are ∙ get_map id_of (objects heap) n o is ∙ ap (λ (k : ℕ). Some k) (sym id_is)) new
 
-pub new_identifier : (v : Sight) (heap : List SubRecord) (n id : ℕ) (entries : List Entry) (types : List ℕ) → AreClassesAmong v heap n entries types → number_named heap id ≡ Some n → position (λ x. x == id) (ids_of entries) ≡ None
-new_identifier v heap n id entries types among first =
+pub new_identifier : (v : Sight) (heap : List SubRecord) (n id : ℕ) (entries : List Entry) (places : List ℕ) → AreClassesAmong v heap n entries places → number_named heap id ≡ Some n → position (λ x. x == id) (ids_of entries) ≡ None
+new_identifier v heap n id entries places among first =
     no_position (ids_of entries) id (λ c. let it = among.only id c in let same : it.0 ≡ n = some_inj (sym it.1 ∙ first) in omega (arith, it.2, same))

@@ -1,6 +1,5 @@
 -- What the tests of one object show.
 use Rattle.std.proofs.Common.{Contains, List, None, Option, Some, ap, arith, map, slice_get, subst, sym, take, ⊎_elim, ℕ, ◌+◌, ◌∙◌, ◌<◌, ◌≡◌, ◌≤◌}
-use Rattle.std.specs.Prelude.{Err, IfErr, IfOk, Ok, Result}
 use Rattle.std.specs.Option.{option_map}
 use Rattle.std.proofs.lemmas.Bool.{cases_order}
 use Rattle.std.proofs.lemmas.Option.{slice_get-map}
@@ -20,25 +19,15 @@ some_inj {X} {x} {y} e = cc
 some_none : {X : Type 0} {x : X} → Some x ≡ None → ⊥
 some_none {X} {x} e = cc
 
--- a fact of a result, where it is known which one that is
-pub if_ok : {X E : Type 0} {r : Result X E} {x : X} (P : X → Type 0) → r ≡ Ok x → IfOk r P → P x
-if_ok {X} {E} {r} {x} P e h = subst (λ (q : Result X E). IfOk q P) e h
-
-pub if_err : {X E : Type 0} {r : Result X E} {x : E} (P : E → Type 0) → r ≡ Err x → IfErr r P → P x
-if_err {X} {E} {r} {x} P e h = subst (λ (q : Result X E). IfErr q P) e h
-
 -- ---- all rules, of the object of that number
-
-pub record IsNumber (heap : List SubRecord) (n : ℕ) (o : SubRecord) : Type 0 where
-  pub is : slice_get (objects heap) n ≡ Some o
 
 the_object : (s : ℕ) (heap : List SubRecord) (n : ℕ) (o : SubRecord) (rule : LinkRule) → slice_get (objects heap) n ≡ Some o → Fails s heap n rule → Breaks s heap n o rule
 the_object s heap n o rule e f = subst (λ (x : SubRecord). Breaks s heap n x rule) (some_inj (sym f.1 ∙ e)) f.2
 
-pub none_fails : (s : ℕ) (heap : List SubRecord) (n : ℕ) (o : SubRecord) → slice_get (objects heap) n ≡ Some o → ((rule : LinkRule) → Breaks s heap n o rule → ⊥) → IsLeastRule s heap n None
+none_fails : (s : ℕ) (heap : List SubRecord) (n : ℕ) (o : SubRecord) → slice_get (objects heap) n ≡ Some o → ((rule : LinkRule) → Breaks s heap n o rule → ⊥) → IsLeastRule s heap n None
 none_fails s heap n o e fine rule f = fine rule (the_object s heap n o rule e f)
 
-pub least_fails : (s : ℕ) (heap : List SubRecord) (n : ℕ) (o : SubRecord) (rule : LinkRule) → slice_get (objects heap) n ≡ Some o → Breaks s heap n o rule → ((other : LinkRule) → Breaks s heap n o other → code_of rule ≤ code_of other) → IsLeastFault s heap n rule
+least_fails : (s : ℕ) (heap : List SubRecord) (n : ℕ) (o : SubRecord) (rule : LinkRule) → slice_get (objects heap) n ≡ Some o → Breaks s heap n o rule → ((other : LinkRule) → Breaks s heap n o other → code_of rule ≤ code_of other) → IsLeastFault s heap n rule
 least_fails s heap n o rule e breaks least = record { fails = (o, e, breaks); least = λ other f. least other (the_object s heap n o other e f) }
 
 nine_least : (rule : LinkRule) → 9 ≤ code_of rule
@@ -68,7 +57,7 @@ ten_least s heap n o own SuperChain b = omega arith
 ten_least s heap n o own InstanceSize b = omega arith
 ten_least s heap n o own TooLarge b = omega arith
 
-pub duplicate_fails : (s : ℕ) (heap : List SubRecord) (n : ℕ) (o : SubRecord) → slice_get (objects heap) n ≡ Some o → (id_of o ≡ 0 → ⊥) → Contains (take n (map id_of (objects heap))) (id_of o) → IsLeastFault s heap n DuplicateObject
+duplicate_fails : (s : ℕ) (heap : List SubRecord) (n : ℕ) (o : SubRecord) → slice_get (objects heap) n ≡ Some o → (id_of o ≡ 0 → ⊥) → Contains (take n (map id_of (objects heap))) (id_of o) → IsLeastFault s heap n DuplicateObject
 duplicate_fails s heap n o e own again = least_fails s heap n o DuplicateObject e again (ten_least s heap n o own)
 
 -- a rule that is broken is 9, 10, 14 or one of the others
@@ -123,21 +112,24 @@ pub none_before : (s : ℕ) (heap : List SubRecord) (n : ℕ) → ((k : ℕ) (ru
 none_before s heap n below here k rule h f =
     ⊎_elim (λ e. here rule (subst (λ (m : ℕ). Fails s heap m rule) e f)) (⊎_elim (λ l. below k rule l f) (λ l. omega (arith, h, l))) (cases_order k n)
 
-pub own_object : (heap : List SubRecord) (ids : List ℕ) (n id : ℕ) (o : SubRecord) → slice_get (objects heap) n ≡ Some o → ids ≡ map id_of (objects heap) → id ≡ id_of o → (id ≡ 0 → ⊥) → (Contains (take n ids) id → ⊥) → IsOwn heap n o
-own_object heap ids n id o is ids_are id_is not_zero not_again = record {
-  is = is;
-  not_zero = λ e. not_zero (id_is ∙ e);
-  first = λ h. not_again (subst (λ (x : ℕ). Contains (take n ids) x) (sym id_is) (subst (λ (xs : List ℕ). Contains (take n xs) (id_of o)) (sym ids_are) h));
-}
-
 -- what the identifiers say of an object
-pub own_id : (heap : List SubRecord) (ids : List ℕ) (n id : ℕ) (o : SubRecord) → slice_get (objects heap) n ≡ Some o → ids ≡ map id_of (objects heap) → id ≡ id_of o → slice_get ids n ≡ Some id
+own_id : (heap : List SubRecord) (ids : List ℕ) (n id : ℕ) (o : SubRecord) → slice_get (objects heap) n ≡ Some o → ids ≡ map id_of (objects heap) → id ≡ id_of o → slice_get ids n ≡ Some id
 own_id heap ids n id o is ids_are id_is =
     ap (λ (xs : List ℕ). slice_get xs n) ids_are ∙ slice_get-map id_of (objects heap) n ∙ ap (λ (x : Option SubRecord). option_map id_of x) is ∙ ap (λ (x : ℕ). Some x) (sym id_is)
 
-pub is_repeat : (ids : List ℕ) (n number id : ℕ) → IsFirstRepeat ids number → n ≡ number → slice_get ids n ≡ Some id → Contains (take n ids) id
+-- that it stands before the first repeat
+pub own_object : (heap : List SubRecord) (ids : List ℕ) (n id repeat : ℕ) (o : SubRecord) → slice_get (objects heap) n ≡ Some o → ids ≡ map id_of (objects heap) → id ≡ id_of o → (id ≡ 0 → ⊥) → IsFirstRepeat ids repeat → n < repeat → IsOwn heap n o
+own_object heap ids n id repeat o is ids_are id_is not_zero first before = record {
+  is = is;
+  not_zero = λ e. not_zero (id_is ∙ e);
+  first = λ h. first.first n id before (own_id heap ids n id o is ids_are id_is) (subst (λ (x : ℕ). Contains (take n ids) x) (sym id_is) (subst (λ (xs : List ℕ). Contains (take n xs) (id_of o)) (sym ids_are) h));
+}
+
+is_repeat : (ids : List ℕ) (n number id : ℕ) → IsFirstRepeat ids number → n ≡ number → slice_get ids n ≡ Some id → Contains (take n ids) id
 is_repeat ids n number id first same e = subst (λ (k : ℕ). slice_get ids k ≡ Some id → Contains (take k ids) id) (sym same) (first.repeated id) e
 
-pub repeated_object : (s : ℕ) (heap : List SubRecord) (ids : List ℕ) (n id : ℕ) (o : SubRecord) → slice_get (objects heap) n ≡ Some o → ids ≡ map id_of (objects heap) → id ≡ id_of o → (id ≡ 0 → ⊥) → Contains (take n ids) id → IsLeastFault s heap n DuplicateObject
-repeated_object s heap ids n id o is ids_are id_is not_zero again =
+-- and that it is that repeat
+pub repeated_object : (s : ℕ) (heap : List SubRecord) (ids : List ℕ) (n id repeat : ℕ) (o : SubRecord) → slice_get (objects heap) n ≡ Some o → ids ≡ map id_of (objects heap) → id ≡ id_of o → (id ≡ 0 → ⊥) → IsFirstRepeat ids repeat → n ≡ repeat → IsLeastFault s heap n DuplicateObject
+repeated_object s heap ids n id repeat o is ids_are id_is not_zero first same =
+    let again : Contains (take n ids) id = is_repeat ids n repeat id first same (own_id heap ids n id o is ids_are id_is) in
     duplicate_fails s heap n o is (λ e. not_zero (id_is ∙ e)) (subst (λ (x : ℕ). Contains (take n (map id_of (objects heap))) x) id_is (subst (λ (xs : List ℕ). Contains (take n xs) id) ids_are again))

@@ -1,6 +1,6 @@
 -- The graph of a linked heap list is whole.
-use Rattle.std.proofs.Common.{All, Bool, List, None, Option, Some, [], ap, arith, cond, false, get_or, length, map, not, refl, slice_get, subst, suc, sym, take, true, zero, ⊎_elim, ℕ, ◌+◌, ◌<◌, ◌∙◌, ◌∷◌, ◌≡◌, ◌≤◌}
-use Rattle.std.specs.Prelude.{filter_map, slice_index, ◌==◌}
+use Rattle.std.proofs.Common.{All, Bool, List, None, Option, Some, [], ap, arith, cond, false, get_or, length, map, not, refl, slice_get, subst, suc, sym, true, zero, ⊎_elim, ℕ, ◌+◌, ◌<◌, ◌∙◌, ◌∷◌, ◌≡◌, ◌≤◌}
+use Rattle.std.specs.Prelude.{filter_map, ◌==◌}
 use Rattle.std.specs.List.{cons_option, position_or_len}
 use Rattle.std.proofs.lemmas.Bool.{cases_lt, eq-eqb}
 use Rattle.std.proofs.lemmas.List.{get_or_past, length-map}
@@ -11,21 +11,16 @@ use Rattle.hprof_grammar.specs.Record.{Record}
 use Rattle.hprof_grammar.specs.Standing.{Sight, Stands, id_of}
 use Rattle.hprof_grammar.specs.SubRecord.{Class, IsSubRecord, SubRecord, spelling_of}
 use Rattle.hprof_grammar.specs.SubRecord.SubRecord.{class_dump, instance_dump, object_array_dump, primitive_array_dump, root}
-use Rattle.heap_graph.specs.declared.entry.ClassEntry.{ClassEntry}
-use Rattle.heap_graph.specs.declared.entry.ObjectEntry.{ObjectEntry}
 use Rattle.heap_graph.specs.declared.row.RowKey.{RowKey}
-use Rattle.heap_graph.specs.declared.row.RowKey.TheVariants as keys
 use Rattle.heap_graph.specs.declared.rule.LinkRule.TheVariants.{TooLarge, UnknownClass}
-use Rattle.heap_graph.specs.working.Entries.{AreClassesOf, AreEntries}
-use Rattle.heap_graph.specs.working.GrowingLinks.{AreLinks}
 use Rattle.heap_graph.specs.Heap.{as_class, class_dumps, class_named, class_number, heap_of, number_named, objects}
 use Rattle.heap_graph.specs.working.HeldIds.{AreLinked}
 use Rattle.heap_graph.specs.Linked.{IsLinked, most_objects}
-use Rattle.heap_graph.specs.ObjectGraph.{IsRowIn, IsWhole, ObjectGraph, bytes_at, class_count, named_classes, named_in, references_of, row_at}
-use Rattle.heap_graph.specs.working.CutLists.{pieces}
+use Rattle.heap_graph.specs.ObjectGraph.{IsGraphOf, IsRowIn, IsWhole, ObjectGraph, bytes_at, class_count, named_in, object_count, references_of}
 use Rattle.heap_graph.specs.References.{target_of, targets}
+use Rattle.heap_graph.specs.Roots.{root_ids}
 use Rattle.heap_graph.specs.Rows.{bytes_of, row_of}
-use Rattle.heap_graph.specs.working.Refinement.{graph_of, named_class}
+use Rattle.heap_graph.proofs.Answering.{bytes_here, count_of, row_here}
 use Rattle.heap_graph.proofs.Firsts.{position_hit}
 use Rattle.heap_graph.proofs.Linking.{IsClassThere, class_there}
 use Rattle.heap_graph.proofs.Sizes.{array_type_range, bytes_width}
@@ -117,71 +112,34 @@ few_objects s heap linked =
     ⊎_elim (λ l. absurd (linked most_objects TooLarge (get_or (objects heap) most_objects (class_dump no_class), slice_get-get_or (objects heap) most_objects (class_dump no_class) l, omega arith)))
     (λ l. l) (cases_lt most_objects (length (objects heap)))
 
-pub take_all : {X : Type 0} (xs : List X) (n : ℕ) → length xs ≤ n → take n xs ≡ xs
-take_all [] zero h = refl
-take_all [] (suc n) h = refl
-take_all (x ∷ xs) zero h = absurd (omega (arith, h))
-take_all (x ∷ xs) (suc n) h = ap (λ ys. x ∷ ys) (take_all xs n (omega (arith, h)))
-
--- what the tables of a graph are, of all objects
-pub record AreAll (v : Sight) (records : List Record) (cuts all roots root_ids : List ℕ) (entries : List ObjectEntry) (classes : List ClassEntry) (unresolved : ℕ) : Type 0 where
-  pub links : AreLinks v.id_size (heap_of records) (length (objects (heap_of records))) cuts all unresolved
-  pub rows_are : map (λ e. e.row) entries ≡ map (row_of (heap_of records)) (objects (heap_of records))
-  pub bytes_are : map (λ e. e.bytes) entries ≡ map (bytes_of v.id_size) (objects (heap_of records))
-  pub classes_are : map named_class classes ≡ named_classes records
-  pub roots_are : roots ≡ targets (heap_of records) root_ids
-
-pub all_of : (v : Sight) (places ids : List ℕ) (records : List Record) (cuts all roots root_ids : List ℕ) (entries : List ObjectEntry) (classes : List ClassEntry) (unresolved : ℕ) → AreLinked v places ids (heap_of records)
-    → AreLinks v.id_size (heap_of records) (length places) cuts all unresolved → AreEntries v.id_size (heap_of records) (length places) entries → AreClassesOf records (length places) classes → roots ≡ targets (heap_of records) root_ids
-    → AreAll v records cuts all roots root_ids entries classes unresolved
-all_of v places ids records cuts all roots root_ids entries classes unresolved linked links are classes_are roots_are =
-    let whole : take (length places) (objects (heap_of records)) ≡ objects (heap_of records) = take_all (objects (heap_of records)) (length places) (omega (arith, linked.are.stand.count)) in
-    record {
-      links = subst (λ (n : ℕ). AreLinks v.id_size (heap_of records) n cuts all unresolved) linked.are.stand.count links;
-      rows_are = are.rows_are ∙ ap (λ (os : List SubRecord). map (row_of (heap_of records)) os) whole;
-      bytes_are = are.bytes_are ∙ ap (λ (os : List SubRecord). map (bytes_of v.id_size) os) whole;
-      classes_are = classes_are ∙ ap (λ (os : List SubRecord). map (named_in records) (filter_map as_class os)) whole ∙ ap (λ (cs : List Class). map (named_in records) cs) (same_classes (heap_of records));
-      roots_are = roots_are;
-    }
-
-some_of : (v : Sight) (places ids : List ℕ) (heap : List SubRecord) (n : ℕ) → AreLinked v places ids heap → n < length (objects heap) → IsThere v heap n (get_or places n 0)
-some_of v places ids heap n linked h = there v places ids heap n linked.are (omega (arith, h, linked.are.stand.count))
-
-here_is : {X Y : Type 0} (f : X → Y) (xs : List X) (n : ℕ) (x : X) (e : Y) → slice_get xs n ≡ Some x → get_or (map f xs) n e ≡ f x
-here_is f [] n x e h = absurd (let wrong : None ≡ Some x = h in cc)
-here_is f (y ∷ ys) zero x e h = let same : y ≡ x = cc in ap f same
-here_is f (y ∷ ys) (suc n) x e h = here_is f ys n x e h
-
 refs_within : (heap : List SubRecord) (lists : List (List ℕ)) (o : ℕ) → All (λ t. t < length (objects heap)) (get_or (map (targets heap) lists) o [])
 refs_within heap [] o = targets_within heap []
 refs_within heap (ids ∷ lists) zero = targets_within heap ids
 refs_within heap (ids ∷ lists) (suc o) = refs_within heap lists o
 
-pub is_whole : (v : Sight) (places ids : List ℕ) (records : List Record) (cuts all roots root_ids : List ℕ) (entries : List ObjectEntry) (classes : List ClassEntry) (old unresolved : ℕ) → AreLinked v places ids (heap_of records)
-    → ((at : ℕ) (sub : SubRecord) → Stands v at sub → at + length (spelling_of v.id_size sub) ≤ length v.bytes) → AreAll v records cuts all roots root_ids entries classes old → IsWhole (graph_of cuts all roots entries classes unresolved)
-is_whole v places ids records cuts all roots root_ids entries classes old unresolved linked within are =
+pub is_whole : (v : Sight) (places ids : List ℕ) (records : List Record) (g : ObjectGraph) → AreLinked v places ids (heap_of records)
+    → ((at : ℕ) (sub : SubRecord) → Stands v at sub → at + length (spelling_of v.id_size sub) ≤ length v.bytes) → IsGraphOf v.id_size records g → IsWhole g
+is_whole v places ids records g linked within graph =
     let heap : List SubRecord = heap_of records in
-    let g : ObjectGraph = graph_of cuts all roots entries classes unresolved in
-    let count : length (pieces cuts all) ≡ length (objects heap) = ap length are.links.pieces_are ∙ length-map are.links.lists (targets heap) ∙ are.links.one_each in
-    let class_total : class_count g ≡ length (class_dumps heap) = ap length are.classes_are ∙ length-map (class_dumps heap) (named_in records) in
+    let count : object_count g ≡ length (objects heap) = count_of v.id_size records g graph in
+    let class_total : class_count g ≡ length (class_dumps heap) = ap length graph.classes_are ∙ length-map (class_dumps heap) (named_in records) in
     record {
-      row_each = ap length are.rows_are ∙ length-map (objects heap) (row_of heap) ∙ sym count;
-      bytes_each = ap length are.bytes_are ∙ length-map (objects heap) (bytes_of v.id_size) ∙ sym count;
+      held_each = graph.held_are.one_each ∙ sym count;
+      row_each = ap length graph.rows_are ∙ length-map (objects heap) (row_of heap) ∙ sym count;
+      bytes_each = ap length graph.bytes_are ∙ length-map (objects heap) (bytes_of v.id_size) ∙ sym count;
       few_objects = omega (arith, few_objects v.id_size heap linked.linked, count);
       few_classes = omega (arith, class_total, count, few_classes (objects heap), ap length (same_classes heap));
-      roots_within = subst (λ (n : ℕ). All (λ o. o < n) roots) (sym count) (subst (λ (xs : List ℕ). All (λ t. t < length (objects heap)) xs) (sym are.roots_are) (targets_within heap root_ids));
-      references_within = λ o. subst (λ (n : ℕ). All (λ b. b < n) (references_of g o)) (sym count) (subst (λ (xs : List (List ℕ)). All (λ t. t < length (objects heap)) (get_or xs o [])) (sym are.links.pieces_are) (refs_within heap are.links.lists o));
+      roots_within = subst (λ (n : ℕ). All (λ o. o < n) g.roots) (sym count) (subst (λ (xs : List ℕ). All (λ t. t < length (objects heap)) xs) (sym graph.roots_are) (targets_within heap (root_ids heap)));
+      references_within = λ o. subst (λ (n : ℕ). All (λ b. b < n) (references_of g o)) (sym count) (subst (λ (xs : List (List ℕ)). All (λ t. t < length (objects heap)) (get_or xs o [])) (sym graph.references_are) (refs_within heap g.held o));
       rows_within = λ o h.
-          let it : IsThere v heap o (get_or places o 0) = some_of v places ids heap o linked (omega (arith, h, count)) in
-          let row : row_at g o ≡ row_of heap it.object = ap (λ (rs : List RowKey). get_or rs o keys.ClassObject) are.rows_are ∙ here_is (row_of heap) (objects heap) o it.object keys.ClassObject it.is in
-          subst (λ (r : RowKey). IsRowIn g r) (sym row) (row_there v.id_size heap o it.object g class_total linked.linked it.is it.stands.is);
+          let it : IsThere v heap o (get_or places o 0) = there v places ids heap o linked.are (omega (arith, h, count, linked.are.stand.count)) in
+          subst (λ (r : RowKey). IsRowIn g r) (sym (row_here v.id_size records g o it.object graph it.is)) (row_there v.id_size heap o it.object g class_total linked.linked it.is it.stands.is);
       few_bytes = λ o. ⊎_elim
           (λ l.
-          let it : IsThere v heap o (get_or places o 0) = some_of v places ids heap o linked l in
-          let bytes : bytes_at g o ≡ bytes_of v.id_size it.object = ap (λ (bs : List ℕ). slice_index bs o) are.bytes_are ∙ here_is (bytes_of v.id_size) (objects heap) o it.object 0 it.is in
-          omega (arith, bytes, bytes_width v.id_size it.object it.stands.is, within (get_or places o 0) it.object it.stands, linked.short))
+          let it : IsThere v heap o (get_or places o 0) = there v places ids heap o linked.are (omega (arith, l, linked.are.stand.count)) in
+          omega (arith, bytes_here v.id_size records g o it.object graph it.is, bytes_width v.id_size it.object it.stands.is, within (get_or places o 0) it.object it.stands, linked.short))
           (λ l.
-          let none : bytes_at g o ≡ 0 = get_or_past (map (λ (e : ObjectEntry). e.bytes) entries) o 0 (omega (arith, ap length are.bytes_are, length-map (objects heap) (bytes_of v.id_size), l)) in
+          let none : bytes_at g o ≡ 0 = get_or_past g.bytes o 0 (omega (arith, ap length graph.bytes_are, length-map (objects heap) (bytes_of v.id_size), l)) in
           omega (arith, none))
           (cases_lt o (length (objects heap)));
     }

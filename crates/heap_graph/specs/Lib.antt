@@ -3,6 +3,7 @@ pub mod Layout
 pub mod SuperRule
 pub mod References
 pub mod Roots
+pub mod Walks
 pub mod Rows
 pub mod ClassNames
 pub mod Linked

@@ -19,7 +19,8 @@ pub record NamedClass : Type 0 where
   pub text : Option (List ℕ)
 
 pub record ObjectGraph : Type 0 where
-  -- of each object: the objects that it refers to, in order, repeats kept
+  -- of each object: the identifiers that it holds, in order, and the objects that they name, repeats kept
+  pub held : List (List ℕ)
   pub references : List (List ℕ)
   -- the objects that are roots, in order, repeats kept
   pub roots : List ℕ
@@ -37,7 +38,10 @@ object_count g = length g.references
 abbrev pub class_count : ObjectGraph → ℕ
 class_count g = length g.classes
 
--- of an object by its number: the objects that it refers to, its row, its bytes
+-- of an object by its number: the identifiers that it holds, the objects that it refers to, its row, its bytes
+abbrev pub held_by : ObjectGraph → ℕ → List ℕ
+held_by g o = slice_index_or g.held o []
+
 abbrev pub references_of : ObjectGraph → ℕ → List ℕ
 references_of g o = slice_index_or g.references o []
 
@@ -60,6 +64,7 @@ IsRowIn g keys.ClassObject = Unit {0}
 -- What holds of each graph of a linked heap list: an object has one row and one number of bytes, and what is named is
 -- there.
 pub record IsWhole (g : ObjectGraph) : Type 0 where
+  pub held_each : length g.held ≡ object_count g
   pub row_each : length g.rows ≡ object_count g
   pub bytes_each : length g.bytes ≡ object_count g
   pub few_objects : object_count g ≤ most_objects
@@ -82,14 +87,13 @@ unresolved_in heap lists = count_by (is_unresolved heap) (concat lists ++ root_i
 
 -- This is the graph of the heap list of these records.
 pub record IsGraphOf (s : ℕ) (records : List Record) (g : ObjectGraph) : Type 0 where
-  pub id_lists : List (List ℕ)
-  pub id_lists_are : AreIdLists s (heap_of records) id_lists
-  pub references_are : g.references ≡ map (targets (heap_of records)) id_lists
+  pub held_are : AreIdLists s (heap_of records) g.held
+  pub references_are : g.references ≡ map (targets (heap_of records)) g.held
   pub roots_are : g.roots ≡ root_objects (heap_of records)
   pub rows_are : g.rows ≡ map (row_of (heap_of records)) (objects (heap_of records))
   pub bytes_are : g.bytes ≡ map (bytes_of s) (objects (heap_of records))
   pub classes_are : g.classes ≡ named_classes records
-  pub unresolved_is : g.unresolved ≡ unresolved_in (heap_of records) id_lists
+  pub unresolved_is : g.unresolved ≡ unresolved_in (heap_of records) g.held
 
 -- The text is accepted, and this is the graph of the dump that it spells.
 pub record IsGraphOfText (text : List ℕ) (g : ObjectGraph) : Type 0 where

@@ -1,5 +1,4 @@
 -- Words that only private clauses use.
-pub mod CutLists
 pub mod Refinement
 pub mod Resolving
 pub mod IndexPairs
@@ -8,10 +7,15 @@ pub mod PlacedObjects
 pub mod PlacedNames
 pub mod Values
 pub mod HeldIds
-pub mod GrowingLinks
-pub mod Entries
 pub mod RuleAnswers
 pub mod ClassTable
 pub mod Chains
 pub mod ToldClasses
 pub mod TypedFields
+pub mod IdPlaces
+pub mod FieldsUp
+pub mod Rests
+pub mod CountedIds
+pub mod ReadObjects
+pub mod OnlyGraph
+pub mod OneGraph

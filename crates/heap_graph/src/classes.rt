@@ -11,12 +11,14 @@ use indexmap::IndexMap;
 use std::alloc::Allocator;
 use std::hash::{BuildHasherDefault, FoldHasher};
 
-/// What is kept of a class: the place of its dump, and where the types of the fields that it declares stand.
+/// What is kept of a class: the place of its dump, where the places of its fields of type 2 stand, and how many bytes
+/// the values of all fields have that it declares.
 #[derive(Clone, Copy)]
 pub(crate) struct ClassPlaces {
     pub(crate) place: u32,
     pub(crate) start: usize,
     pub(crate) end: usize,
+    pub(crate) size: u64,
 }
 
 /// The classes that identifiers name, in the order of their dumps. A class's number is its position.
@@ -24,6 +26,7 @@ pub(crate) struct ClassPlaces {
 pub(crate) struct Classes<'d, A: Allocator> {
     pub(crate) view: View<'d>,
     pub(crate) table: IndexMap<u64, ClassPlaces, BuildHasherDefault<FoldHasher>, A>,
-    /// The types of the fields that the classes declare, one class after the other.
-    pub(crate) types: Vec<u8, A>,
+    /// The places of the fields of type 2 that the classes declare, one class after the other. A field's place is how
+    /// many bytes the values of the class's fields before it have.
+    pub(crate) id_places: Vec<u32, A>,
 }

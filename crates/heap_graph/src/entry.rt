@@ -1,13 +1,4 @@
-//! What a graph keeps of an object and of a class.
-
-use crate::row::RowKey;
-
-/// An object's row and its bytes.
-#[derive(Clone, Copy)]
-pub(crate) struct ObjectEntry {
-    pub(crate) row: RowKey,
-    pub(crate) bytes: u64,
-}
+//! What a graph keeps of a class.
 
 /// A class's identifier, and the text that names it.
 #[derive(Clone, Copy)]

@@ -4,43 +4,38 @@ mod build;
 
 ghost use Rattle.std.specs.Prelude.{All, ◌<◌, ◌≡◌, ◌≤◌, option_copied};
 ghost use Rattle.hprof_grammar.specs.Dump.{limit};
-ghost use Rattle.heap_graph.specs.ObjectGraph.{IsRowIn, IsWhole, bytes_at, class_at, class_count, object_count, references_of, row_at};
+ghost use Rattle.heap_graph.specs.ObjectGraph.{IsRowIn, IsWhole, bytes_at, class_at, class_count, held_by, object_count, references_of, row_at};
+ghost use Rattle.heap_graph.specs.Walks.{ids_in, references_in};
+ghost use Rattle.heap_graph.specs.working.OnlyGraph.{GraphOf, GraphOf-prop};
 
-use crate::entry::{ClassEntry, ObjectEntry};
-use crate::cut_lists::piece_at;
+use crate::entry::ClassEntry;
+use crate::objects::Objects;
 use crate::row::RowKey;
 use crate::successors::Successors;
 use std::alloc::Allocator;
 use std::marker::Model;
 
-/// The objects of a linked dump, numbered from 0 in the order of their sub-records.
+/// The objects of a linked dump, numbered from 0 in the order of their sub-records. Of each object its place in the
+/// bytes is kept, and its number by its identifier.
 #[derive(Drop)]
 pub struct Graph<'a, A: Allocator> {
-    /// What object `o` refers to stands in `targets` from `cuts[o]` to `cuts[o + 1]`.
-    cuts: Vec<u32, A>,
-    targets: Vec<u32, A>,
+    objects: Objects<'a, A>,
     roots: Vec<u32, A>,
-    objects: Vec<ObjectEntry, A>,
     classes: Vec<ClassEntry<'a>, A>,
     unresolved: u64,
+    /// The graph of the bytes, which there is once.
+    ghost graph: { GraphOf objects.view.bytes } by { GraphOf-prop objects.view.bytes },
 }
 
 impl<'a, A: Allocator> Model for Graph<'a, A> {
-    ghost use Rattle.std.specs.Prelude.{length, ◌+◌, ◌≡◌};
-    ghost use Rattle.heap_graph.specs.ObjectGraph.{IsWhole, ObjectGraph};
-    ghost use Rattle.heap_graph.specs.working.CutLists.{AreCuts};
-    ghost use Rattle.heap_graph.specs.working.Refinement.{graph_of};
+    ghost use Rattle.heap_graph.specs.ObjectGraph.{ObjectGraph};
+    ghost use Rattle.heap_graph.specs.working.Refinement.{StandFor};
 
     ghost Value = { ObjectGraph };
 
-    ghost view = { λ g.
-        graph_of g.cuts.items g.targets.items g.roots.items g.objects.items g.classes.items g.unresolved };
+    ghost view = { λ g. g.graph.0 };
 
-    ghost invariant = { λ g. record {
-      cut : AreCuts g.cuts.items g.targets.items;
-      whole : IsWhole
-          (graph_of g.cuts.items g.targets.items g.roots.items g.objects.items g.classes.items g.unresolved);
-    } };
+    ghost invariant = { λ g. StandFor g.objects g.roots.items g.classes.items g.unresolved g.graph.0 };
 }
 
 impl<'a, A: Allocator> Graph<'a, A> {
@@ -49,7 +44,7 @@ impl<'a, A: Allocator> Graph<'a, A> {
         ensures value { result ≡ object_count self.now }
         ensures whole { IsWhole self.now }
     {
-        self.objects.len() as u32
+        self.objects.places.len() as u32
     }
 
     /// The objects that root sub-records name, in order, repeats kept.
@@ -60,13 +55,14 @@ impl<'a, A: Allocator> Graph<'a, A> {
         &self.roots
     }
 
-    /// The objects that an object refers to, in order, repeats kept.
-    pub fn successors(&self, object: u32) -> Successors<'_>
+    /// The objects that an object refers to, in order, repeats kept. They are found as they are asked for.
+    pub fn successors(&self, object: u32) -> Successors<'_, A>
         requires { object < object_count self.now }
-        ensures value { result ≡ references_of self.now object }
+        ensures value { references_in result ≡ references_of self.now object }
+        ensures held { ids_in result ≡ held_by self.now object }
         ensures within { All (λ o. o < object_count self.now) (references_of self.now object) }
     {
-        Successors::new(piece_at(&self.cuts, &self.targets, object as usize))
+        Successors::new(&self.objects.index, self.objects.ids_of(object as usize))
     }
 
     /// The row of an object in the histogram.
@@ -75,7 +71,7 @@ impl<'a, A: Allocator> Graph<'a, A> {
         ensures value { result ≡ row_at self.now object }
         ensures within { IsRowIn self.now result }
     {
-        self.objects[object as usize].row
+        self.objects.row_of(object as usize)
     }
 
     /// The bytes of an object.
@@ -84,7 +80,7 @@ impl<'a, A: Allocator> Graph<'a, A> {
         ensures value { result ≡ bytes_at self.now object }
         ensures within { result ≤ limit }
     {
-        self.objects[object as usize].bytes
+        self.objects.bytes_of(object as usize)
     }
 
     /// How many identifiers other than 0, in all objects and in roots, name no object.

@@ -8,7 +8,7 @@ mod tests;
 ghost use Rattle.std.specs.Prelude.{Contains, IfOk, IsSorted, IsTrue, ◌==◌, ◌≡◌, ◌↔◌, length, position, take};
 ghost use Rattle.heap_graph.specs.working.IndexBeginnings.{AreBeginnings, IsAround};
 ghost use Rattle.heap_graph.specs.working.IndexPairs.{IsFirstBearer, IsFirstFrom, IsFirstRepeat, IsLeastRepeat, pair_cmp};
-ghost use Rattle.heap_graph.specs.working.Resolving.{Resolves, ResolvesOne};
+ghost use Rattle.heap_graph.specs.working.Resolving.{Resolves, ResolvesOne, is_missing, target_in};
 
 use self::beginnings::Beginnings;
 pub(crate) use self::builder::IndexBuilder;
@@ -110,6 +110,23 @@ impl<A: Allocator> Index<A> {
         first_bearer(&self.pairs, &self.beginnings, id)
     }
 
+    /// The number of the object that an identifier names, none for 0.
+    pub(crate) fn target(&self, id: u64) -> Option<u32>
+        ensures { result ≡ target_in self.now id }
+    {
+        if id == 0 {
+            return None;
+        }
+        self.find(id)
+    }
+
+    /// Whether an identifier is another than 0 and names no object.
+    pub(crate) fn is_missing(&self, id: u64) -> bool
+        ensures { result ≡ is_missing self.now id }
+    {
+        id != 0 && self.find(id).is_none()
+    }
+
     /// Whether an object before that number bears the identifier.
     pub(crate) fn is_repeated(&self, id: u64, number: usize) -> bool
         ensures { IsTrue result ↔ Contains (take number self.now) id }
@@ -136,15 +153,12 @@ impl<A: Allocator> Index<A> {
     ) -> Result<bool, AllocError>
         ensures { IfOk result (λ missing. ResolvesOne self.now id targets.old.items targets.new.items missing) }
     {
-        if id == 0 {
-            return Ok(false);
-        }
-        match self.find(id) {
+        match self.target(id) {
             Some(number) => {
                 targets.push(number)?;
                 return Ok(false);
             }
-            None => return Ok(true),
+            None => return Ok(id != 0),
         }
     }
 

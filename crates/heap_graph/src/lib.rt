@@ -2,10 +2,9 @@
 #![tactic(auto)]
 
 mod classes;
-mod cut_lists;
 mod entry;
-mod fields;
 mod graph;
+mod held;
 mod index;
 mod laws;
 mod names;
@@ -13,6 +12,7 @@ mod objects;
 mod row;
 mod rule;
 mod successors;
+mod types;
 
 pub use graph::Graph;
 pub use laws::one_graph;

@@ -2,9 +2,9 @@
 
 mod check;
 mod classes;
-mod links;
-mod references;
+mod rows;
 pub(crate) mod table;
+mod unresolved;
 
 ghost use Rattle.hprof_grammar.specs.SubRecord.{SubRecord};
 ghost use Rattle.hprof_grammar.specs.Standing.{StandInTurn, Stands, id_of};
@@ -19,7 +19,7 @@ use std::alloc::{AllocError, Allocator};
 #[derive(Drop)]
 pub(crate) struct Objects<'d, A: Allocator> {
     pub(crate) view: View<'d>,
-    pub(crate) places: &'d [u32],
+    pub(crate) places: Vec<u32, A>,
     pub(crate) index: Index<A>,
     pub(crate) classes: Classes<'d, A>,
     /// What becomes of the chain of each class.

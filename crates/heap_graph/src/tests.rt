@@ -4,4 +4,5 @@ mod chains;
 mod faults;
 mod graphs;
 mod memory;
+mod walks;
 mod worked;

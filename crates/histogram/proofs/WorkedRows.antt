@@ -40,6 +40,7 @@ two = string 0 1 (codes "A") ∷ load_class 0 1 0x100 0 1 ∷ heap 0x0C 0 (class
 
 abbrev graph_of_two : ObjectGraph
 graph_of_two = record {
+  held = (0 ∷ 0 ∷ 0 ∷ 0 ∷ []) ∷ (0x100 ∷ 0x202 ∷ []) ∷ (0x100 ∷ 0x201 ∷ []) ∷ [];
   references = [] ∷ (0 ∷ 2 ∷ []) ∷ (0 ∷ 1 ∷ []) ∷ [];
   roots = 1 ∷ [];
   rows = keys.ClassObject ∷ keys.Class 0 ∷ keys.Class 0 ∷ [];
@@ -77,8 +78,7 @@ two_id_lists (suc (suc (suc n))) o ids e f = cc
 two_is_its_graph : IsGraphOf 4 two graph_of_two
 unfolding size_of
 two_is_its_graph = record {
-  id_lists = (0 ∷ 0 ∷ 0 ∷ 0 ∷ []) ∷ (0x100 ∷ 0x202 ∷ []) ∷ (0x100 ∷ 0x201 ∷ []) ∷ [];
-  id_lists_are = record { one_each = refl; each = two_id_lists };
+  held_are = record { one_each = refl; each = two_id_lists };
   references_are = refl;
   roots_are = refl;
   rows_are = refl;
@@ -91,6 +91,7 @@ two_is_its_graph = record {
 
 abbrev graph_of_four : ObjectGraph
 graph_of_four = record {
+  held = (0 ∷ 0 ∷ 0 ∷ 0 ∷ []) ∷ (0x100 ∷ 0x202 ∷ []) ∷ (0x100 ∷ 0x201 ∷ []) ∷ (0x100 ∷ 0x204 ∷ []) ∷ (0x100 ∷ 0x203 ∷ []) ∷ [];
   references = [] ∷ (0 ∷ 2 ∷ []) ∷ (0 ∷ 1 ∷ []) ∷ (0 ∷ 4 ∷ []) ∷ (0 ∷ 3 ∷ []) ∷ [];
   roots = 1 ∷ [];
   rows = keys.ClassObject ∷ keys.Class 0 ∷ keys.Class 0 ∷ keys.Class 0 ∷ keys.Class 0 ∷ [];

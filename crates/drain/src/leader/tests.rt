@@ -108,13 +108,13 @@ impl Edges for Watched<'_> {
 }
 
 impl<'a> Walk for Watched<'a> {
-    type Successors = Successors<'a>;
+    type Successors = Successors<'a, Global>;
 
     fn roots(&self) -> &[u32] {
         self.walked.roots()
     }
 
-    fn successors(&self, object: u32) -> Successors<'a> {
+    fn successors(&self, object: u32) -> Successors<'a, Global> {
         if self.told.load(Ordering::SeqCst) & (1 << (object % 64)) == 0 {
             self.early.fetch_add(1, Ordering::SeqCst);
         }

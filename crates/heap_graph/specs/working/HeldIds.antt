@@ -1,14 +1,15 @@
 -- What is known while the references of linked objects are read.
-use Rattle.std.specs.Prelude.{List, Option, Some, length, slice_get, sum_by, ℕ, ◌++◌, ◌^◌, ◌≡◌, ◌≤◌}
-use Rattle.hprof_grammar.specs.SubRecord.{SubRecord}
+use Rattle.std.specs.Prelude.{List, Option, Some, length, slice_get, sum_by, ℕ, ◌^◌, ◌≡◌, ◌≤◌}
+use Rattle.hprof_grammar.specs.SubRecord.{Class, Instance, SubRecord}
 use Rattle.hprof_grammar.specs.Dump.{limit}
 use Rattle.hprof_grammar.specs.Standing.{Sight, Stands}
 use Rattle.heap_graph.specs.declared.objects.Objects.{Objects}
 use Rattle.heap_graph.specs.Heap.{objects}
+use Rattle.heap_graph.specs.Layout.{IsChain, layout_size}
 use Rattle.heap_graph.specs.Linked.{IsLinked}
 use Rattle.heap_graph.specs.working.PlacedObjects.{AreObjects}
 use Rattle.heap_graph.specs.References.{AreIdsIn}
-use Rattle.heap_graph.specs.working.Chains.{IsFirst}
+use Rattle.heap_graph.specs.working.Chains.{IsFirst, layout_types}
 use Rattle.heap_graph.specs.working.ClassTable.{ids_of}
 use Rattle.hprof_grammar.specs.Tables.{size_of}
 
@@ -21,25 +22,30 @@ pub record AreLinked (v : Sight) (places ids : List ℕ) (heap : List SubRecord)
   pub linked : IsLinked v.id_size heap
 
 abbrev pub AreLinkedOf : {A : Type 0} → Objects A → List SubRecord → Type 0
-AreLinkedOf o heap = AreLinked o.view o.places.now o.index heap
+AreLinkedOf o heap = AreLinked o.view o.places.items o.index heap
 
 -- the object of that number stands at that place
 pub record IsObjectAt (v : Sight) (heap : List SubRecord) (n at : ℕ) (o : SubRecord) : Type 0 where
   pub is : slice_get (objects heap) n ≡ Some o
   pub stands : Stands v at o
 
--- the identifiers that the object holds were appended
-pub record AddsIds (s : ℕ) (heap : List SubRecord) (o : SubRecord) (old new : List ℕ) : Type 0 where
-  pub ids : List ℕ
+-- these are the identifiers that the object holds
+pub record AreIdsOf (s : ℕ) (heap : List SubRecord) (o : SubRecord) (ids : List ℕ) : Type 0 where
   pub are : AreIdsIn s heap o ids
   pub few : length ids ≤ 2 ^ 33
-  pub added : new ≡ old ++ ids
 
--- those of the object of that number were appended
-pub record AddsIdsOf (s : ℕ) (heap : List SubRecord) (n : ℕ) (old new : List ℕ) : Type 0 where
+-- and these those of the object of that number
+pub record AreIdsOfNumber (s : ℕ) (heap : List SubRecord) (n : ℕ) (ids : List ℕ) : Type 0 where
   pub object : SubRecord
   pub is : slice_get (objects heap) n ≡ Some object
-  pub adds : AddsIds s heap object old new
+  pub are : AreIdsOf s heap object ids
+
+-- the layout of the instance begins at that class
+pub record IsFirstOfInstance (s : ℕ) (heap : List SubRecord) (ids : List ℕ) (i : Instance) (first : Option ℕ) : Type 0 where
+  pub chain : List Class
+  pub is : IsChain heap i.class chain
+  pub begins : IsFirst heap ids (layout_types chain) first
+  pub size_is : length i.values ≡ layout_size s chain
 
 -- the layout of these types begins at that class, and the values are as many bytes
 pub record IsLayoutFrom {A : Type 0} (o : Objects A) (heap : List SubRecord) (types : List ℕ) (first : Option ℕ)

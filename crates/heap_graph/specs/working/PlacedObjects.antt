@@ -12,11 +12,11 @@ pub record AreObjects (v : Sight) (places ids : List ℕ) (heap : List SubRecord
   pub ids_are : ids ≡ map id_of (objects heap)
 
 abbrev pub AreOf : {A : Type 0} → Objects A → List SubRecord → Type 0
-AreOf o heap = AreObjects o.view o.places.now o.index heap
+AreOf o heap = AreObjects o.view o.places.items o.index heap
 
 -- the objects were read at the places of the dump that these bytes spell
 pub record IsReadFrom {A : Type 0} (o : Objects A) (bytes : List ℕ) (dump : Places) : Type 0 where
   pub bytes_are : o.view.bytes ≡ bytes
   pub size_is : o.view.id_size ≡ dump.id_size
-  pub places_are : o.places.now ≡ dump.objects
+  pub places_are : o.places.items ≡ dump.objects
   pub are : (is : IsDumpOf bytes dump) → AreOf o (heap_of is.records)

@@ -1,21 +1,25 @@
--- What the tables of a graph stand for.
-use Rattle.std.specs.Prelude.{List, map, option_copied, ℕ}
-use Rattle.heap_graph.specs.working.CutLists.{pieces}
-use Rattle.heap_graph.specs.Heap.{objects}
-use Rattle.heap_graph.specs.References.{targets}
-use Rattle.heap_graph.specs.ObjectGraph.{NamedClass, ObjectGraph}
-use Rattle.heap_graph.specs.declared.entry.ObjectEntry.{ObjectEntry}
+-- What a graph keeps, and what it stands for.
+use Rattle.std.specs.Prelude.{List, map, option_copied, ℕ, ◌≡◌}
+use Rattle.hprof_grammar.specs.Record.{Record}
+use Rattle.heap_graph.specs.Heap.{heap_of}
+use Rattle.heap_graph.specs.ObjectGraph.{IsGraphOf, IsWhole, NamedClass, ObjectGraph}
+use Rattle.heap_graph.specs.working.HeldIds.{AreLinkedOf}
+use Rattle.heap_graph.specs.working.ToldClasses.{AreToldOf}
 use Rattle.heap_graph.specs.declared.entry.ClassEntry.{ClassEntry}
+use Rattle.heap_graph.specs.declared.objects.Objects.{Objects}
 
 abbrev pub named_class : ClassEntry → NamedClass
 named_class c = record { id = c.id; text = option_copied c.text }
 
-abbrev pub graph_of : List ℕ → List ℕ → List ℕ → List ObjectEntry → List ClassEntry → ℕ → ObjectGraph
-graph_of cuts targets roots objects classes unresolved = record {
-  references = pieces cuts targets;
-  roots = roots;
-  rows = map (λ o. o.row) objects;
-  bytes = map (λ o. o.bytes) objects;
-  classes = map named_class classes;
-  unresolved = unresolved;
-}
+-- the objects of a linked dump with their classes, its roots, the names of its classes, and how many identifiers name
+-- no object: this is the graph that they stand for
+pub record StandFor {A : Type 0} (objects : Objects A) (roots : List ℕ) (classes : List ClassEntry)
+    (unresolved : ℕ) (g : ObjectGraph) : Type 0 where
+  pub records : List Record
+  pub linked : AreLinkedOf objects (heap_of records)
+  pub told : AreToldOf objects (heap_of records)
+  pub graph : IsGraphOf objects.view.id_size records g
+  pub whole : IsWhole g
+  pub roots_are : g.roots ≡ roots
+  pub classes_are : g.classes ≡ map named_class classes
+  pub unresolved_is : g.unresolved ≡ unresolved

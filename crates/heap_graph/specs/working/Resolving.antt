@@ -1,8 +1,13 @@
 -- What identifiers name, from the identifiers of the objects in their order.
 use Rattle.std.specs.Prelude.{Bool, List, None, Option, count_by, false, filter_map, if◌then◌else◌, is_none, option_to_list, position, ℕ, ◌++◌, ◌==◌, ◌≡◌}
+use Rattle.heap_graph.specs.Walks.{Step}
 
 abbrev pub target_in : List ℕ → ℕ → Option ℕ
 target_in all id = if id == 0 then None else position (λ x. x == id) all
+
+-- an identifier, and the object that it names
+abbrev pub step_in : List ℕ → ℕ → Step
+step_in all id = record { id = id; names = target_in all id }
 
 abbrev pub is_missing : List ℕ → ℕ → Bool
 is_missing all id = if id == 0 then false else is_none (position (λ x. x == id) all)

@@ -1,5 +1,6 @@
 -- Values with their type codes: the identifiers among them.
-use Rattle.std.specs.Prelude.{List, [], flat_map, if◌then◌else◌, length, ℕ, ◌==◌, ◌≡◌, ◌≤◌, ◌∷◌}
+use Rattle.std.specs.Prelude.{List, [], flat_map, if◌then◌else◌, length, ℕ, ◌<◌, ◌==◌, ◌^◌, ◌≡◌, ◌≤◌, ◌∷◌}
+use Rattle.std.specs.List.{AllByRecursion}
 use Rattle.byteorder.specs.Endian.{big_number}
 use Rattle.hprof_grammar.specs.Series.{LabelledValue}
 
@@ -12,3 +13,11 @@ value_ids type value = if type == 2 then big_number (length value) value ∷ [] 
 
 abbrev pub values_ids : List LabelledValue → List ℕ
 values_ids values = flat_map (λ v. value_ids v.type v.value) values
+
+abbrev pub AreIdValues : List LabelledValue → Type 0
+AreIdValues values = AllByRecursion (λ v. IsIdValue v.type v.value) values
+
+-- the values of the constants or of the static fields of a class, of which there are less than 2^16
+pub record AreClassValues (values : List LabelledValue) : Type 0 where
+  pub few : length values < 2 ^ 16
+  pub fit : AreIdValues values

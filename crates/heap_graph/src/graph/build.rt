@@ -1,20 +1,17 @@
 //! A graph from a dump.
 
-ghost use Rattle.std.specs.Prelude.{IfOk, List, filter, ◌≡◌};
-ghost use Rattle.hprof_grammar.specs.Dump.{IsDumpOf, is_root};
-ghost use Rattle.hprof_grammar.specs.Record.{Record};
+ghost use Rattle.std.specs.Prelude.{IfOk, List, filter, ◌≡◌, ℕ};
+ghost use Rattle.hprof_grammar.specs.Dump.{IsDumpOf, Places, is_root};
 ghost use Rattle.hprof_grammar.specs.Standing.{StandInTurn, Stands};
 ghost use Rattle.heap_graph.specs.Heap.{heap_of};
 ghost use Rattle.heap_graph.specs.LinkFault.{HasLinkFault};
-ghost use Rattle.heap_graph.specs.ObjectGraph.{IsGraphOf, IsGraphOfText};
+ghost use Rattle.heap_graph.specs.ObjectGraph.{IsGraphOfText};
 ghost use Rattle.heap_graph.specs.Refusal.{IfLinkFault};
-ghost use Rattle.heap_graph.specs.working.Entries.{AreEntriesOf};
-ghost use Rattle.heap_graph.specs.working.HeldIds.{AreLinkedOf};
 ghost use Rattle.heap_graph.specs.working.PlacedNames.{AreNamesOf};
-ghost use Rattle.heap_graph.specs.working.PlacedObjects.{AreOf, IsReadFrom};
+ghost use Rattle.heap_graph.specs.working.PlacedObjects.{IsReadFrom};
+ghost use Rattle.heap_graph.specs.working.ReadObjects.{IsReadOf};
 ghost use Rattle.heap_graph.specs.working.ToldClasses.{AreToldOf};
 
-use crate::entry::ObjectEntry;
 use crate::graph::Graph;
 use crate::names::Names;
 use crate::objects::table::class_table;
@@ -24,11 +21,11 @@ use hprof_grammar::{Dump, View, dump_is_placed, stands_within};
 use std::alloc::{AllocError, Allocator};
 
 /// The objects of a dump, by their identifiers, and its classes.
-fn read_objects<'d, A: Allocator + Copy, B: Allocator>(
+fn read_objects<'a, A: Allocator + Copy, B: Allocator>(
     alloc: A,
-    bytes: &'d [u8],
-    dump: &'d Dump<B>,
-) -> Result<Objects<'d, A>, AllocError>
+    bytes: &'a [u8],
+    dump: &Dump<B>,
+) -> Result<Objects<'a, A>, AllocError>
     requires { IsDumpOf bytes.now dump.now }
     ensures objects { IfOk result (λ o. IsReadFrom o bytes.now dump.now) }
     ensures told { IfOk result (λ o. (is : IsDumpOf bytes.now dump.now) → AreToldOf o (heap_of is.records)) }
@@ -43,9 +40,10 @@ fn read_objects<'d, A: Allocator + Copy, B: Allocator>(
         &index,
     )?;
     let fates = classes.settle_all(alloc)?;
+    let places = dump.objects().to_vec(alloc)?;
     Ok(Objects {
         view,
-        places: dump.objects(),
+        places,
         index,
         classes,
         fates,
@@ -54,36 +52,28 @@ fn read_objects<'d, A: Allocator + Copy, B: Allocator>(
 
 impl<'a, A: Allocator + Copy> Graph<'a, A> {
     /// The graph of linked objects.
-    fn assemble<C: Allocator>(
+    fn assemble(
         alloc: A,
-        objects: &Objects<'_, C>,
-        entries: Vec<ObjectEntry, A>,
+        objects: Objects<'a, A>,
         names: &Names<'a, '_>,
         root_places: &[u32],
     ) -> Result<Graph<'a, A>, AllocError>
-        requires { (records : List Record) × AreLinkedOf objects.now (heap_of records)
-            × AreToldOf objects.now (heap_of records) × AreEntriesOf objects.now (heap_of records) entries.items
-            × AreNamesOf names.now records
-            × StandInTurn (Stands objects.now.view) root_places.now (filter is_root (heap_of records)) }
-        ensures { IfOk result (λ g. (records : List Record) → AreLinkedOf objects.now (heap_of records)
-            → AreToldOf objects.now (heap_of records) → AreEntriesOf objects.now (heap_of records) entries.items
-            → AreNamesOf names.now records
-            → StandInTurn (Stands objects.now.view) root_places.now (filter is_root (heap_of records))
-            → IsGraphOf objects.now.view.id_size records g) }
+        requires { (text : List ℕ) × (dump : Places) × (is : IsDumpOf text dump)
+            × IsReadOf text dump is objects × AreNamesOf names.now is.records
+            × StandInTurn (Stands objects.view) root_places.now (filter is_root (heap_of is.records)) }
+        ensures { IfOk result (λ g. IsGraphOfText objects.entry.view.bytes g) }
     {
         stands_within();
         let classes = objects.classes(alloc, names)?;
-        let links = objects.links(alloc)?;
         let root_ids = read_ids(alloc, &objects.view, root_places)?;
         let mut roots = Vec::new(alloc);
         let missing = objects.index.resolve(&root_ids, &mut roots)?;
+        let unresolved = objects.unresolved() + missing;
         Ok(Graph {
-            cuts: links.cuts,
-            targets: links.targets,
+            objects,
             roots,
-            objects: entries,
             classes,
-            unresolved: links.unresolved + missing,
+            unresolved,
         })
     }
 
@@ -103,20 +93,15 @@ impl<'a, A: Allocator + Copy> Graph<'a, A> {
             Ok(objects) => objects,
             Err(_) => return Err(LinkRefusal::OutOfMemory),
         };
-        let tested = match objects.entries(alloc) {
-            Ok(tested) => tested,
-            Err(_) => return Err(LinkRefusal::OutOfMemory),
-        };
-        let entries = match tested {
-            Ok(entries) => entries,
-            Err(fault) => return Err(LinkRefusal::Fault(fault)),
-        };
+        if let Err(fault) = objects.check() {
+            return Err(LinkRefusal::Fault(fault));
+        }
         let names = Names {
             view: View::new(bytes, dump.id_size()),
             strings: dump.strings(),
             loaded: dump.loaded(),
         };
-        match Graph::assemble(alloc, &objects, entries, &names, dump.roots()) {
+        match Graph::assemble(alloc, objects, &names, dump.roots()) {
             Ok(graph) => return Ok(graph),
             Err(_) => return Err(LinkRefusal::OutOfMemory),
         }

@@ -19,11 +19,11 @@ fn add_object<A: Allocator, B: Allocator>(
 ) -> Result<(), AllocError>
     requires below { number < length places.now }
     requires heap { (heap : List SubRecord) × AreObjects classes.old.view places.now index.now heap
-        × AreClassesAmong classes.old.view heap number classes.old.table.entries classes.old.types.items }
+        × AreClassesAmong classes.old.view heap number classes.old.table.entries classes.old.id_places.items }
     ensures view { OnOk result (classes.new.view ≡ classes.old.view) }
     ensures among { OnOk result ((heap : List SubRecord) → AreObjects classes.old.view places.now index.now heap
-        → AreClassesAmong classes.old.view heap number classes.old.table.entries classes.old.types.items
-        → AreClassesAmong classes.old.view heap (number + 1) classes.new.table.entries classes.new.types.items) }
+        → AreClassesAmong classes.old.view heap number classes.old.table.entries classes.old.id_places.items
+        → AreClassesAmong classes.old.view heap (number + 1) classes.new.table.entries classes.new.id_places.items) }
 {
     let place = places[number];
     match classes.view.kind(place) {
@@ -48,7 +48,8 @@ pub(crate) fn class_table<'d, A: Allocator + Copy, B: Allocator>(
     places: &[u32],
     index: &Index<B>,
 ) -> Result<Classes<'d, A>, AllocError>
-    requires { (heap : List SubRecord) × AreObjects view places.now index.now heap }
+    requires low { 1 ≤ view.id_size }
+    requires heap { (heap : List SubRecord) × AreObjects view places.now index.now heap }
     ensures view { IfOk result (λ classes. classes.view ≡ view.entry) }
     ensures classes { IfOk result (λ classes. (heap : List SubRecord)
         → AreObjects view.entry places.now index.now heap → AreClassesOf classes heap) }

@@ -67,3 +67,30 @@ pub const WIDE_ARRAY_REPORT: &str = "         1             256  [LL;
          0               0  (unreachable)
          0               0  (unresolved)
 ";
+
+/// The two instances, and an array that has the second of them as each of its 100,000 elements, which is a root too.
+pub fn long_array(alloc: Global) -> Result<Bytes, AllocError> {
+    let mut elements = Vec::new(alloc);
+    for _ in 0..100_000 {
+        elements.push(0x202u64)?;
+    }
+    let mut heap = Bytes::new(alloc, 4);
+    heap.subs(&[
+        Sub::Class(0x100, 0, &[2]),
+        Sub::Instance(0x201, 0x100, &[0, 0, 2, 2]),
+        Sub::Instance(0x202, 0x100, &[0, 0, 2, 1]),
+    ])?;
+    heap.objects(0x203, 0x100, elements.as_slice())?;
+    heap.subs(&[Sub::Root(0x201), Sub::Root(0x203)])?;
+    let mut dump = Bytes::dump(alloc, 4, &TWO_OBJECTS[..2])?;
+    dump.record(0x0C, heap.bytes.as_slice())?;
+    Ok(dump)
+}
+
+/// The report of these.
+pub const LONG_ARRAY_REPORT: &str = "         3          400008  A
+         1               0  <class>
+         4          400008  (reachable)
+         0               0  (unreachable)
+         0               0  (unresolved)
+";

@@ -1,7 +1,8 @@
 //! Runs at the ends of what a pool has: its last tags, and its least buffers.
 
 use super::dumps::{
-    Bytes, NOTHING, NOTHING_REPORT, WIDE_ARRAY_REPORT, roots_alone, two_objects, wide_array,
+    Bytes, LONG_ARRAY_REPORT, NOTHING, NOTHING_REPORT, WIDE_ARRAY_REPORT, long_array, roots_alone,
+    two_objects, wide_array,
 };
 use super::{refused, run_with};
 use crate::{Options, Refusal};
@@ -71,6 +72,11 @@ fn last_tags_and_least_buffers(rt: HostRuntime) -> Result<(), Fail> {
             wide_array(alloc)?,
             (workers, 256, 1024, 0),
             WIDE_ARRAY_REPORT,
+        ))?;
+        rows.push(reported(
+            long_array(alloc)?,
+            (workers, 256, 1024, 0),
+            LONG_ARRAY_REPORT,
         ))?;
     }
     // seven roots take all four buffers: the worker has no pair, and the leader scans what it could not give away

@@ -1,4 +1,4 @@
-use Rattle.heap_graph.proofs.OneGraph.{one_graph}
+use Rattle.heap_graph.specs.working.OneGraph.{one_graph}
 use Rattle.heap_graph.proofs.laws.one_graph.Goals as goal
 
 pub returns : goal.returns

@@ -1,16 +1,16 @@
-use Rattle.std.proofs.Common.{ap, length, sym, true≢false, ◌∙◌}
-use Rattle.std.proofs.lemmas.Bool.{eq-eqb, eqb-true}
+use Rattle.std.proofs.Common.{ap, sym, ◌∙◌}
 use Rattle.heap_graph.specs.working.ClassTable.{ids_of}
-use Rattle.heap_graph.proofs.LayoutLaws.{empty_list, first_above, first_here}
+use Rattle.heap_graph.specs.declared.classes.ClassPlaces.{ClassPlaces}
+use Rattle.heap_graph.proofs.ClassTableLaws.{no_fields, read_entry, some_fields}
+use Rattle.heap_graph.proofs.LayoutLaws.{first_above, first_here}
 use Rattle.heap_graph.proofs.classes.Classes.first_of.Goals as goal
 
-pub types_of-requires-clause-heap : goal.types_of-requires-clause-heap
-types_of-requires-clause-heap g c = (c.args.self.now.view, c.requires.heap.0, c.requires.heap.1)
-
-pub returns-then-is_empty : goal.returns-then-is_empty
-returns-then-is_empty g c = λ heap dump rest are at first.
-    first_above heap (ids_of c.args.self.now.table.entries) dump rest c.args.above (sym (c.types_of.ensures c.args.self.now.view heap dump are at.named) ∙ empty_list c.types_of.result.now (eqb-true (length c.types_of.result.now) 0 (sym c.if-is_empty.ensures))) first
+pub returns-then-entry-eq0 : goal.returns-then-entry-eq0
+returns-then-entry-eq0 g c = λ heap dump rest are at first.
+    let is = read_entry c.args.self.now.table.entries c.args.number c.entry.result c.requires.below c.entry.ensures in
+    first_above heap (ids_of c.args.self.now.table.entries) dump rest c.args.above (no_fields c.args.self.now.view heap c.args.self.now.table.entries c.args.self.now.id_places.items c.args.number dump are c.requires.below at.named (ap (λ (p : ClassPlaces). p.size) (sym is) ∙ c.if-entry-eq0.true)) first
 
 pub returns : goal.returns
 returns g c = λ heap dump rest are at first.
-    first_here heap (ids_of c.args.self.now.table.entries) c.args.number dump rest (λ e. true≢false (sym (eq-eqb (length c.types_of.result.now) 0 (ap length (c.types_of.ensures c.args.self.now.view heap dump are at.named ∙ e))) ∙ sym c.if-is_empty.ensures)) at
+    let is = read_entry c.args.self.now.table.entries c.args.number c.entry.result c.requires.below c.entry.ensures in
+    first_here heap (ids_of c.args.self.now.table.entries) c.args.number dump rest (some_fields c.args.self.now.view heap c.args.self.now.table.entries c.args.self.now.id_places.items c.args.number dump are c.requires.below at.named (λ e. c.if-entry-eq0.false (ap (λ (p : ClassPlaces). p.size) is ∙ e))) at

@@ -1,11 +1,18 @@
-use Rattle.std.proofs.Common.{arith, subst, sym, ◌≡◌, ◌≤◌, ℕ}
-use Rattle.std.proofs.lemmas.Grind.{common_steps}
-use Rattle.hprof_grammar.specs.Dump.{limit}
-use Rattle.heap_graph.specs.ObjectGraph.{ObjectGraph, bytes_at}
+use Rattle.std.proofs.Common.{arith, subst, sym, ◌∙◌, ◌≡◌}
+use Rattle.heap_graph.specs.Heap.{heap_of}
+use Rattle.heap_graph.specs.ObjectGraph.{IsGraphOf, IsWhole, ObjectGraph, bytes_at}
+use Rattle.heap_graph.proofs.Answering.{IsOneOf, bytes_here, one_of}
 use Rattle.heap_graph.proofs.graph.Graph.bytes_of.Goals as goal
+
+pub returns-clause-value : goal.returns-clause-value
+returns-clause-value g c =
+    let inv = c.self.invariant in
+    let graph : IsGraphOf c.self.inside.objects.view.id_size inv.records c.args.self.now = subst (λ (v : ObjectGraph). IsGraphOf c.self.inside.objects.view.id_size inv.records v) c.self.view_is inv.graph in
+    let it : IsOneOf (heap_of inv.records) c.args.object = one_of c.self.inside.objects.view.id_size inv.records c.args.self.now c.args.object graph c.requires in
+    c.bytes_of.ensures (heap_of inv.records) it.object inv.linked.are it.is ∙ sym (bytes_here c.self.inside.objects.view.id_size inv.records c.args.self.now c.args.object it.object graph it.is)
 
 pub returns-clause-within : goal.returns-clause-within
 returns-clause-within g c =
-    let h : bytes_at c.args.self.now c.args.object ≤ limit = subst (λ (v : ObjectGraph). bytes_at v c.args.object ≤ limit) c.self.view_is (c.self.invariant.whole.few_bytes c.args.object) in
-    let value : c.index.result.now.bytes ≡ bytes_at c.args.self.now c.args.object = grind (arith, common_steps) in
-    subst (λ (n : ℕ). n ≤ limit) (sym value) h
+    let whole : IsWhole c.args.self.now = subst (λ (v : ObjectGraph). IsWhole v) c.self.view_is c.self.invariant.whole in
+    let value : c.bytes_of.result ≡ bytes_at c.args.self.now c.args.object = returns-clause-value g c in
+    omega (arith, value, whole.few_bytes c.args.object)

@@ -1,13 +1,19 @@
-use Rattle.std.proofs.Common.{arith, subst, sym, ◌<◌, ◌≡◌}
-use Rattle.std.proofs.lemmas.Grind.{common_steps}
-use Rattle.heap_graph.specs.ObjectGraph.{IsRowIn, ObjectGraph, object_count, row_at}
+use Rattle.std.proofs.Common.{subst, sym, ◌∙◌, ◌≡◌}
+use Rattle.heap_graph.specs.Heap.{heap_of}
+use Rattle.heap_graph.specs.ObjectGraph.{IsGraphOf, IsRowIn, IsWhole, ObjectGraph, row_at}
 use Rattle.heap_graph.specs.declared.row.RowKey.{RowKey}
+use Rattle.heap_graph.proofs.Answering.{IsOneOf, one_of, row_here}
 use Rattle.heap_graph.proofs.graph.Graph.row_of.Goals as goal
+
+pub returns-clause-value : goal.returns-clause-value
+returns-clause-value g c =
+    let inv = c.self.invariant in
+    let graph : IsGraphOf c.self.inside.objects.view.id_size inv.records c.args.self.now = subst (λ (v : ObjectGraph). IsGraphOf c.self.inside.objects.view.id_size inv.records v) c.self.view_is inv.graph in
+    let it : IsOneOf (heap_of inv.records) c.args.object = one_of c.self.inside.objects.view.id_size inv.records c.args.self.now c.args.object graph c.requires in
+    c.row_of.ensures (heap_of inv.records) it.object inv.linked inv.told it.is ∙ sym (row_here c.self.inside.objects.view.id_size inv.records c.args.self.now c.args.object it.object graph it.is)
 
 pub returns-clause-within : goal.returns-clause-within
 returns-clause-within g c =
-    let below : c.args.object < object_count c.args.self.now = c.requires in
-    let h : IsRowIn c.args.self.now (row_at c.args.self.now c.args.object) =
-    subst (λ (v : ObjectGraph). c.args.object < object_count v → IsRowIn v (row_at v c.args.object)) c.self.view_is (c.self.invariant.whole.rows_within c.args.object) below in
-    let value : c.index.result.now.row ≡ row_at c.args.self.now c.args.object = grind (arith, common_steps) in
-    subst (λ (r : RowKey). IsRowIn c.args.self.now r) (sym value) h
+    let whole : IsWhole c.args.self.now = subst (λ (v : ObjectGraph). IsWhole v) c.self.view_is c.self.invariant.whole in
+    let value : c.row_of.result ≡ row_at c.args.self.now c.args.object = returns-clause-value g c in
+    subst (λ (r : RowKey). IsRowIn c.args.self.now r) (sym value) (whole.rows_within c.args.object c.requires)

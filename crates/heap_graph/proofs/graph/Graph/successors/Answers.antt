@@ -1,19 +1,28 @@
-use Rattle.std.proofs.Common.{arith, ap, sym, subst, ◌∙◌, ℕ, ◌≡◌, length, ◌-◌, List}
-use Rattle.heap_graph.specs.ObjectGraph.{ObjectGraph, object_count, references_of}
-use Rattle.heap_graph.specs.working.CutLists.{piece}
-use Rattle.heap_graph.proofs.Cutting.{get_or-pieces, length-pieces}
+use Rattle.std.proofs.Common.{List, ap, subst, ◌∙◌}
+use Rattle.heap_graph.specs.Heap.{heap_of}
+use Rattle.heap_graph.specs.ObjectGraph.{IsGraphOf, ObjectGraph}
+use Rattle.heap_graph.specs.Walks.{Step, ids_in, references_in}
+use Rattle.heap_graph.specs.working.HeldIds.{AreIdsOfNumber}
+use Rattle.heap_graph.proofs.Answering.{held_here, references_here}
+use Rattle.heap_graph.proofs.Targets.{same_targets}
+use Rattle.heap_graph.proofs.Walking.{ids_of_steps, targets_of_steps}
 use Rattle.heap_graph.proofs.graph.Graph.successors.Goals as goal
-
-pub piece_at-requires-clause-below : goal.piece_at-requires-clause-below
-piece_at-requires-clause-below g c =
-    let few : object_count c.args.self.now ≡ length c.self.inside.cuts.items - 1 = sym (ap object_count c.self.view_is) ∙ length-pieces c.self.inside.cuts.items c.self.inside.targets.items in
-    omega (arith, ap length c.deref.ensures.value)
 
 pub returns-clause-value : goal.returns-clause-value
 returns-clause-value g c =
-    let few : object_count c.args.self.now ≡ length c.self.inside.cuts.items - 1 = sym (ap object_count c.self.view_is) ∙ length-pieces c.self.inside.cuts.items c.self.inside.targets.items in
-    let is : references_of c.args.self.now c.args.object ≡ piece c.self.inside.cuts.items c.self.inside.targets.items c.args.object =
-    sym (ap (λ (v : ObjectGraph). references_of v c.args.object) c.self.view_is) ∙ get_or-pieces c.self.inside.cuts.items c.self.inside.targets.items c.args.object (omega arith) in
-    let made : c.piece_at.result.now ≡ piece c.self.inside.cuts.items c.self.inside.targets.items c.args.object =
-    subst (λ (cuts : List ℕ). c.piece_at.result.now ≡ piece cuts c.self.inside.targets.items c.args.object) c.deref.ensures.value (subst (λ (all : List ℕ). c.piece_at.result.now ≡ piece c.deref.result.now all c.args.object) c.deref-2.ensures.value c.piece_at.ensures) in
-    c.new.ensures ∙ made ∙ sym is
+    let inv = c.self.invariant in
+    let graph : IsGraphOf c.self.inside.objects.view.id_size inv.records c.args.self.now = subst (λ (v : ObjectGraph). IsGraphOf c.self.inside.objects.view.id_size inv.records v) c.self.view_is inv.graph in
+    let held : AreIdsOfNumber c.self.inside.objects.view.id_size (heap_of inv.records) c.args.object c.ids_of.result = c.ids_of.ensures (heap_of inv.records) inv.linked inv.told in
+    ap (λ (steps : List Step). references_in steps) c.new.ensures
+    ∙ targets_of_steps c.self.inside.objects.index c.ids_of.result
+    ∙ same_targets (heap_of inv.records) c.self.inside.objects.index c.ids_of.result inv.linked.are.ids_are
+    ∙ references_here c.self.inside.objects.view.id_size inv.records c.args.self.now c.args.object held.object c.ids_of.result graph held.is held.are.are
+
+pub returns-clause-held : goal.returns-clause-held
+returns-clause-held g c =
+    let inv = c.self.invariant in
+    let graph : IsGraphOf c.self.inside.objects.view.id_size inv.records c.args.self.now = subst (λ (v : ObjectGraph). IsGraphOf c.self.inside.objects.view.id_size inv.records v) c.self.view_is inv.graph in
+    let held : AreIdsOfNumber c.self.inside.objects.view.id_size (heap_of inv.records) c.args.object c.ids_of.result = c.ids_of.ensures (heap_of inv.records) inv.linked inv.told in
+    ap (λ (steps : List Step). ids_in steps) c.new.ensures
+    ∙ ids_of_steps c.self.inside.objects.index c.ids_of.result
+    ∙ held_here c.self.inside.objects.view.id_size inv.records c.args.self.now c.args.object held.object c.ids_of.result graph held.is held.are.are

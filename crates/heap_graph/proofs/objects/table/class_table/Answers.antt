@@ -6,5 +6,5 @@ use Rattle.heap_graph.proofs.objects.table.class_table.Goals as goal
 
 pub returns-clause-classes : goal.returns-clause-classes
 returns-clause-classes g c = λ heap are.
-    subst (λ (v : Sight). AreClasses v heap c.loop-number.classes.table.entries c.loop-number.classes.types.items) (sym c.loop-number.invariant.view)
-    (among_all c.args.view heap c.loop-number.number c.loop-number.classes.table.entries c.loop-number.classes.types.items (c.loop-number.invariant.among heap are) (omega (arith, c.loop-number-test.false, are.stand.count)))
+    subst (λ (v : Sight). AreClasses v heap c.loop-number.classes.table.entries c.loop-number.classes.id_places.items) (sym c.loop-number.invariant.view)
+    (among_all c.args.view heap c.loop-number.number c.loop-number.classes.table.entries c.loop-number.classes.id_places.items c.requires.low (c.loop-number.invariant.among heap are) (omega (arith, c.loop-number-test.false, are.stand.count)))

@@ -1,0 +1,9 @@
+use Rattle.std.proofs.Common.{length, ◌+◌, ◌≡◌, ◌≤◌}
+use Rattle.heap_graph.specs.working.Values.{values_ids}
+use Rattle.heap_graph.proofs.held.class_ids.count_ids.Given as goal
+
+abbrev pub invariant-loop-value : goal.invariant-loop-value
+invariant-loop-value l = record {
+  counted : l.ids + length (values_ids l.value-iterator) ≡ length (values_ids l.fn.values);
+  few : l.ids + length l.value-iterator ≤ length l.fn.values;
+}

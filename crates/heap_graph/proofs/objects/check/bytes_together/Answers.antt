@@ -1,5 +1,0 @@
-use Rattle.std.proofs.Common.{ap, arith, length}
-use Rattle.heap_graph.proofs.objects.check.bytes_together.Goals as goal
-
-pub overflow_add-bytes : goal.overflow_add-bytes
-overflow_add-bytes c = omega (arith, ap length c.in-Some.ensures.steps)

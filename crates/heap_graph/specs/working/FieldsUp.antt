@@ -1,0 +1,78 @@
+-- The identifiers in the fields of an instance, by the numbers of the classes up its chain that declare fields.
+use Rattle.std.specs.Prelude.{List, None, Option, Some, [], drop, length, slice_get, slice_index_or, ℕ, ◌++◌, ◌+◌, ◌<◌, ◌∷◌, ◌≡◌, ◌≤◌}
+use Rattle.std.specs.Coded.{Coded-set, coded_option, coded_ℕ, ×_prop}
+use Rattle.std.proofs.Common.{refl, subst, sym, ◌∙◌}
+use Rattle.std.proofs.Math.Path.{Σ_path, to_path_p}
+use Rattle.heap_graph.specs.declared.classes.fate.Fate.{Fate}
+use Rattle.heap_graph.specs.declared.classes.fate.Fate.TheVariants as fates
+use Rattle.heap_graph.specs.working.ClassTable.{Entry, HasIdPlaces, entry_at, id_places_of}
+use Rattle.heap_graph.specs.working.IdPlaces.{ids_at}
+
+abbrev pub next_in : Fate → Option ℕ
+next_in fates.Unknown = None
+next_in fates.OnPath = None
+next_in (fates.Whole l) = l.next
+next_in fates.Broken = None
+next_in fates.Endless = None
+
+-- the first of the classes above that class that declares fields
+abbrev pub next_above : List Fate → ℕ → Option ℕ
+next_above known k = next_in (slice_index_or known k fates.Unknown)
+
+-- these are that class, the first above it that declares fields, and so on up
+abbrev pub AreUp : List Fate → Option ℕ → List ℕ → Type 0
+AreUp known first [] = first ≡ None
+AreUp known first (k ∷ ks) = (first ≡ Some k) × AreUp known (next_above known k) ks
+
+abbrev pub Up : List Fate → Option ℕ → Type 0
+Up known first = (classes : List ℕ) × AreUp known first classes
+
+-- there is one such list of classes
+option_set : (a b : Option ℕ) → IsProp (a ≡ b)
+option_set a b = Coded-set (coded_option coded_ℕ) a b
+
+AreUp-prop : (known : List Fate) (first : Option ℕ) (classes : List ℕ) → IsProp (AreUp known first classes)
+AreUp-prop known first [] = option_set first None
+AreUp-prop known first (k ∷ ks) = ×_prop (option_set first (Some k)) (AreUp-prop known (next_above known k) ks)
+
+one_up : (known : List Fate) (first : Option ℕ) (ks ms : List ℕ) → AreUp known first ks → AreUp known first ms → ks ≡ ms
+one_up known first [] [] h e = refl
+one_up known first [] (m ∷ ms) h e = let wrong : None ≡ Some m = sym h ∙ e.0 in absurd cc
+one_up known first (k ∷ ks) [] h e = let wrong : Some k ≡ None = sym h.0 ∙ e in absurd cc
+one_up known first (k ∷ ks) (m ∷ ms) h e =
+    let both : Some k ≡ Some m = sym h.0 ∙ e.0 in
+    let same : k ≡ m = cc in
+    let rest : ks ≡ ms = one_up known (next_above known k) ks ms h.1
+    (subst (λ (x : ℕ). AreUp known (next_above known x) ms) (sym same) e.1) in
+    λ i. same i ∷ rest i
+
+pub Up-prop : (known : List Fate) (first : Option ℕ) → IsProp (Up known first)
+Up-prop known first = λ x y.
+    let same : x.0 ≡ y.0 = one_up known first x.0 y.0 x.1 y.1 in
+    Σ_path same (to_path_p (λ i. AreUp known first (same i)) (AreUp-prop known first y.0 _ y.1))
+
+-- the identifiers in the fields that these classes declare, whose values stand one class after the other
+abbrev pub ids_up : ℕ → List Entry → List ℕ → List ℕ → List ℕ → List ℕ
+ids_up s entries places [] values = []
+ids_up s entries places (k ∷ ks) values =
+    ids_at s (id_places_of entries places k) values ++ ids_up s entries places ks (drop (entry_at entries k).size values)
+
+-- identifiers at these places stand among the first bytes of the values, no more of them than bytes
+pub record StandInside (s : ℕ) (places : List ℕ) (size : ℕ) (values : List ℕ) : Type 0 where
+  pub inside : (k place : ℕ) → slice_get places k ≡ Some place → place + s ≤ size
+  pub few : length places ≤ size
+  pub room : size ≤ length values
+
+-- the class is there, and the values have room for its fields
+pub record HasFields (s : ℕ) (entries : List Entry) (places : List ℕ) (known : List Fate) (values : List ℕ)
+    (k : ℕ) : Type 0 where
+  pub below : k < length entries
+  pub known_too : k < length known
+  pub has : HasIdPlaces entries places k
+  pub stand : StandInside s (id_places_of entries places k) (entry_at entries k).size values
+
+-- so are those above it
+abbrev pub HaveFields : ℕ → List Entry → List ℕ → List Fate → List ℕ → List ℕ → Type 0
+HaveFields s entries places known [] values = Unit {0}
+HaveFields s entries places known (k ∷ ks) values = HasFields s entries places known values k
+    × HaveFields s entries places known ks (drop (entry_at entries k).size values)

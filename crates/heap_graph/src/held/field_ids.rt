@@ -1,0 +1,127 @@
+//! The identifiers in the fields of an instance.
+
+ghost use Rattle.heap_graph.specs.working.FieldsUp.{Up, Up-prop};
+
+use crate::classes::Fate;
+use crate::objects::Objects;
+use std::alloc::Allocator;
+use std::marker::Model;
+
+/// The identifiers that are left in the fields of an instance: those of a class, and then those of the classes above
+/// it that declare fields.
+#[derive(Drop)]
+pub(crate) struct FieldIds<'g, A: Allocator> {
+    objects: &'g Objects<'g, A>,
+    /// Where those of the class stand in the values.
+    places: &'g [u32],
+    /// The values of the fields of the class, and of the classes above it.
+    values: &'g [u8],
+    /// How many bytes the values of the class have.
+    own: usize,
+    /// The first class above it that declares fields.
+    next: Option<u32>,
+    /// That class, the first above it, and so on up.
+    ghost up: { Up objects.now.fates.items next } by { Up-prop objects.now.fates.items next },
+}
+
+impl<'g, A: Allocator> Model for FieldIds<'g, A> {
+    ghost use Rattle.std.specs.Prelude.{List, drop, ℕ, ◌++◌};
+    ghost use Rattle.heap_graph.specs.working.FieldsUp.{HaveFields, StandInside, ids_up};
+    ghost use Rattle.heap_graph.specs.working.IdPlaces.{ids_at};
+
+    ghost Value = { List ℕ };
+
+    ghost view = { λ f. ids_at f.objects.now.view.id_size f.places.now f.values.now
+        ++ ids_up f.objects.now.view.id_size f.objects.now.classes.table.entries f.objects.now.classes.id_places.items
+        f.up.0 (drop f.own f.values.now) };
+
+    ghost invariant = { λ f. record {
+      stand : StandInside f.objects.now.view.id_size f.places.now f.own f.values.now;
+      above : HaveFields f.objects.now.view.id_size f.objects.now.classes.table.entries
+          f.objects.now.classes.id_places.items f.objects.now.fates.items f.up.0 (drop f.own f.values.now);
+    } };
+}
+
+impl<'d, A: Allocator> Objects<'d, A> {
+    ghost use Rattle.std.specs.Prelude.{length, ◌<◌, ◌≡◌};
+    ghost use Rattle.heap_graph.specs.working.FieldsUp.{next_above};
+
+    /// The first of the classes above a class that declares fields.
+    fn next_of(&self, number: u32) -> Option<u32>
+        requires { number < length self.now.fates.items }
+        ensures { result ≡ next_above self.now.fates.items number }
+    {
+        match self.fates[number as usize] {
+            Fate::Whole(layout) => return layout.next,
+            _ => return None,
+        }
+    }
+}
+
+impl<'g, A: Allocator> FieldIds<'g, A> {
+    ghost use Rattle.std.specs.Prelude.{List, length, ◌≡◌, ◌≤◌, ℕ};
+    ghost use Rattle.hprof_grammar.specs.SubRecord.{SubRecord};
+    ghost use Rattle.heap_graph.specs.working.HeldIds.{IsLayoutFrom};
+    ghost use Rattle.heap_graph.specs.working.ToldClasses.{AreToldOf};
+    ghost use Rattle.heap_graph.specs.working.TypedFields.{typed_ids};
+
+    /// Those of a layout, of an instance with these values. `first` is the first class with fields of that layout.
+    pub(crate) fn new(objects: &'g Objects<'g, A>, first: Option<u32>, values: &'g [u8]) -> Self
+        requires size { 1 ≤ objects.now.view.id_size }
+        requires heap { (heap : List SubRecord) × (types : List ℕ) × AreToldOf objects.now heap
+            × IsLayoutFrom objects.now heap types first values.now }
+        ensures { (heap : List SubRecord) (types : List ℕ) → AreToldOf objects.now heap
+            → IsLayoutFrom objects.now heap types first values.now
+            → result ≡ typed_ids objects.now.view.id_size types values.now }
+    {
+        FieldIds {
+            objects,
+            places: &[],
+            values,
+            own: 0,
+            next: first,
+        }
+    }
+
+    /// How many are left.
+    pub(crate) fn len(&self) -> u64
+        ensures { result ≡ length self.now }
+    {
+        let mut ids = self.places.len();
+        let mut above = self.next;
+        while let Some(number) = above {
+            ids += self.objects.classes.id_places(number).len();
+            above = self.objects.next_of(number);
+        }
+        ids as u64
+    }
+}
+
+impl<'g, A: Allocator> Iterator for FieldIds<'g, A> {
+    ghost use Rattle.std.specs.Iterator.{YieldsFirst, item_count};
+
+    type Item = u64;
+
+    ghost next_gives = { YieldsFirst (λ f. f) };
+
+    ghost remaining = { item_count (λ f. f) };
+
+    fn next(&mut self) -> Option<u64> {
+        loop {
+            if let Some((place, left)) = self.places.split_first() {
+                self.places = left;
+                return Some(
+                    self.objects
+                        .view
+                        .identifier_at(self.values, *place as usize),
+                );
+            }
+            let number = self.next?;
+            let (_, above) = self.values.split_at(self.own);
+            self.values = above;
+            self.own = self.objects.classes.entry(number).size as usize;
+            self.places = self.objects.classes.id_places(number);
+            self.next = self.objects.next_of(number);
+        }
+    }
+}

@@ -1,0 +1,4 @@
+//! The types of values.
+
+/// The type code of an identifier.
+pub(crate) const OBJECT_TYPE: u8 = 2;
