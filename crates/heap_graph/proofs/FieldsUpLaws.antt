@@ -130,7 +130,7 @@ have_fields v heap entries places known (k ∷ ks) types values first low told i
     let sizes : size_together v.id_size types ≡ size_together v.id_size (own_types b.class) + size_together v.id_size (layout_types b.rest) = both_sizes v.id_size heap (ids_of entries) types k b in (
       record {
         below = below;
-        known_too = omega (arith, b.below, told.settled.fates_are.one_each);
+        has_fate = omega (arith, b.below, told.settled.fates_are.one_each);
         has = own.has;
         stand = own_stand v.id_size entries places (own_types b.class) values k own low (omega (arith, sizes, room));
       },

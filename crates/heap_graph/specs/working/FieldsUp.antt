@@ -55,7 +55,8 @@ Up-prop known first = λ x y.
 abbrev pub ids_up : ℕ → List Entry → List ℕ → List ℕ → List ℕ → List ℕ
 ids_up s entries places [] values = []
 ids_up s entries places (k ∷ ks) values =
-    ids_at s (id_places_of entries places k) values ++ ids_up s entries places ks (drop (entry_at entries k).size values)
+    ids_at s (id_places_of entries places k) values
+    ++ ids_up s entries places ks (drop (entry_at entries k).size values)
 
 -- identifiers at these places stand among the first bytes of the values, no more of them than bytes
 pub record StandInside (s : ℕ) (places : List ℕ) (size : ℕ) (values : List ℕ) : Type 0 where
@@ -67,7 +68,7 @@ pub record StandInside (s : ℕ) (places : List ℕ) (size : ℕ) (values : List
 pub record HasFields (s : ℕ) (entries : List Entry) (places : List ℕ) (known : List Fate) (values : List ℕ)
     (k : ℕ) : Type 0 where
   pub below : k < length entries
-  pub known_too : k < length known
+  pub has_fate : k < length known
   pub has : HasIdPlaces entries places k
   pub stand : StandInside s (id_places_of entries places k) (entry_at entries k).size values
 

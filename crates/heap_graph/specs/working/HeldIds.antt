@@ -41,7 +41,8 @@ pub record AreIdsOfNumber (s : ℕ) (heap : List SubRecord) (n : ℕ) (ids : Lis
   pub are : AreIdsOf s heap object ids
 
 -- the layout of the instance begins at that class
-pub record IsFirstOfInstance (s : ℕ) (heap : List SubRecord) (ids : List ℕ) (i : Instance) (first : Option ℕ) : Type 0 where
+pub record IsFirstOfInstance (s : ℕ) (heap : List SubRecord) (ids : List ℕ) (i : Instance)
+    (first : Option ℕ) : Type 0 where
   pub chain : List Class
   pub is : IsChain heap i.class chain
   pub begins : IsFirst heap ids (layout_types chain) first

@@ -1,4 +1,5 @@
--- A text has at most one graph: its records are determined, so is the chain of a class, and so are the identifiers that an object holds.
+-- A text has at most one graph: its records are determined, so is the chain of a class, and so are the identifiers that
+-- an object holds. A graph has a field without bytes that rests on it, so it stands here and not among the proofs.
 use Rattle.std.proofs.Common.{◌≡◌, ℕ, suc, List, [], ◌∷◌, length, map, Some, None, slice_get, refl, sym, ap, subst, ◌∙◌, arith}
 use Rattle.hprof_grammar.specs.Record.{Record}
 use Rattle.hprof_grammar.specs.SubRecord.{Class, SubRecord}
@@ -11,30 +12,38 @@ use Rattle.heap_graph.specs.References.{AreIdLists, AreIdsIn, instance_ids, targ
 
 -- identifier 0 names no class
 no_class : (heap : List SubRecord) (id : ℕ) (c : Class) → id ≡ 0 → class_named heap id ≡ Some c → ⊥
-no_class heap id c zero_id named = let none : None ≡ Some c = subst (λ i. class_named heap i ≡ Some c) zero_id named in cc
+no_class heap id c zero_id named =
+    let none : None ≡ Some c = subst (λ i. class_named heap i ≡ Some c) zero_id named in
+    cc
 
 -- a class has one chain of superclasses
-pub one_chain : (heap : List SubRecord) (id : ℕ) (cs ds : List Class) → IsChain heap id cs → IsChain heap id ds → cs ≡ ds
+pub one_chain : (heap : List SubRecord) (id : ℕ) (cs ds : List Class) → IsChain heap id cs → IsChain heap id ds
+    → cs ≡ ds
 one_chain heap id [] [] h k = refl
 one_chain heap id [] (d ∷ ds) h k = absurd (no_class heap id d h k.0)
 one_chain heap id (c ∷ cs) [] h k = absurd (no_class heap id c k h.0)
 one_chain heap id (c ∷ cs) (d ∷ ds) h k =
     let both : Some c ≡ Some d = sym h.0 ∙ k.0 in
     let same : c ≡ d = cc in
-    let rest : cs ≡ ds = one_chain heap c.super cs ds h.1 (subst (λ (x : Class). IsChain heap x.super ds) (sym same) k.1) in λ i. same i ∷ rest i
+    let above : IsChain heap c.super ds = subst (λ (x : Class). IsChain heap x.super ds) (sym same) k.1 in
+    let rest : cs ≡ ds = one_chain heap c.super cs ds h.1 above in
+    λ i. same i ∷ rest i
 
 -- an object holds one list of identifiers
-pub one_ids : (s : ℕ) (heap : List SubRecord) (o : SubRecord) (ids others : List ℕ) → AreIdsIn s heap o ids → AreIdsIn s heap o others → ids ≡ others
+pub one_ids : (s : ℕ) (heap : List SubRecord) (o : SubRecord) (ids others : List ℕ) → AreIdsIn s heap o ids
+    → AreIdsIn s heap o others → ids ≡ others
 one_ids s heap (root r) ids others h k = h ∙ sym k
 one_ids s heap (class_dump c) ids others h k = h ∙ sym k
-one_ids s heap (instance_dump i) ids others h k = h.2 ∙ ap (instance_ids s i) (one_chain heap i.class h.0 k.0 h.1 k.1) ∙ sym k.2
+one_ids s heap (instance_dump i) ids others h k =
+    h.2 ∙ ap (instance_ids s i) (one_chain heap i.class h.0 k.0 h.1 k.1) ∙ sym k.2
 one_ids s heap (object_array_dump a) ids others h k = h ∙ sym k
 one_ids s heap (primitive_array_dump a) ids others h k = h ∙ sym k
 
 -- two lists that have at each place what goes with one element are the same
 module _ {O X : Type 0} (P : O → X → Type 0) (one : (o : O) (x y : X) → P o x → P o y → x ≡ y) where
   same_each :
-      (os : List O) (xs ys : List X) → length xs ≡ length os → length ys ≡ length os → ((n : ℕ) (o : O) (x : X) → slice_get os n ≡ Some o → slice_get xs n ≡ Some x → P o x)
+      (os : List O) (xs ys : List X) → length xs ≡ length os → length ys ≡ length os
+      → ((n : ℕ) (o : O) (x : X) → slice_get os n ≡ Some o → slice_get xs n ≡ Some x → P o x)
       → ((n : ℕ) (o : O) (y : X) → slice_get os n ≡ Some o → slice_get ys n ≡ Some y → P o y) → xs ≡ ys
   same_each [] [] [] h k p q = refl
   same_each [] (x ∷ xs) ys h k p q = absurd (omega (arith, h))
@@ -43,12 +52,17 @@ module _ {O X : Type 0} (P : O → X → Type 0) (one : (o : O) (x y : X) → P 
   same_each (o ∷ os) (x ∷ xs) [] h k p q = absurd (omega (arith, k))
   same_each (o ∷ os) (x ∷ xs) (y ∷ ys) h k p q =
       let first = one o x y (p 0 o x refl refl) (q 0 o y refl refl) in
-      let rest = same_each os xs ys (omega (arith, h)) (omega (arith, k)) (λ n a b at here. p (suc n) a b at here) (λ n a b at here. q (suc n) a b at here) in λ i. first i ∷ rest i
+      let rest = same_each os xs ys (omega (arith, h)) (omega (arith, k)) (λ n a b at here. p (suc n) a b at here)
+      (λ n a b at here. q (suc n) a b at here) in
+      λ i. first i ∷ rest i
 
-one_id_lists : (s : ℕ) (heap : List SubRecord) (xs ys : List (List ℕ)) → AreIdLists s heap xs → AreIdLists s heap ys → xs ≡ ys
-one_id_lists s heap xs ys h k = same_each (AreIdsIn s heap) (one_ids s heap) (objects heap) xs ys h.one_each k.one_each h.each k.each
+one_id_lists : (s : ℕ) (heap : List SubRecord) (xs ys : List (List ℕ)) → AreIdLists s heap xs → AreIdLists s heap ys
+    → xs ≡ ys
+one_id_lists s heap xs ys h k =
+    same_each (AreIdsIn s heap) (one_ids s heap) (objects heap) xs ys h.one_each k.one_each h.each k.each
 
-one_graph_of : (s : ℕ) (records : List Record) (g h : ObjectGraph) → IsGraphOf s records g → IsGraphOf s records h → g ≡ h
+one_graph_of : (s : ℕ) (records : List Record) (g h : ObjectGraph) → IsGraphOf s records g → IsGraphOf s records h
+    → g ≡ h
 one_graph_of s records g h p q =
     let heap = heap_of records in
     let lists = one_id_lists s heap g.held h.held p.held_are q.held_are in
@@ -65,4 +79,5 @@ one_graph_of s records g h p q =
 pub one_graph : (text : List ℕ) (g h : ObjectGraph) → IsGraphOfText text g → IsGraphOfText text h → g ≡ h
 one_graph text g h p q =
     let one = one_list text p.id_size q.id_size p.records q.records p.accepted.spells q.accepted.spells in
-    one_graph_of p.id_size p.records g h p.graph (subst (λ (s : ℕ). IsGraphOf s p.records h) (sym one.0) (subst (λ (rs : List Record). IsGraphOf q.id_size rs h) (sym one.1) q.graph))
+    let other = subst (λ (rs : List Record). IsGraphOf q.id_size rs h) (sym one.1) q.graph in
+    one_graph_of p.id_size p.records g h p.graph (subst (λ (s : ℕ). IsGraphOf s p.records h) (sym one.0) other)

@@ -7,7 +7,8 @@ use Rattle.heap_graph.specs.working.ToldClasses.{AreToldOf}
 use Rattle.heap_graph.specs.declared.objects.Objects.{Objects}
 
 -- they are those of the dump that these bytes spell, linked, and this is told of their classes
-pub record IsReadOf {A : Type 0} (text : List ℕ) (dump : Places) (is : IsDumpOf text dump) (o : Objects A) : Type 0 where
+pub record IsReadOf {A : Type 0} (text : List ℕ) (dump : Places) (is : IsDumpOf text dump)
+    (o : Objects A) : Type 0 where
   pub bytes_are : o.view.bytes ≡ text
   pub size_is : o.view.id_size ≡ dump.id_size
   pub linked : AreLinkedOf o (heap_of is.records)

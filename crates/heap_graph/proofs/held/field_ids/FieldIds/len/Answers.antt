@@ -23,7 +23,7 @@ overflow_add-ids g c =
 
 pub next_of-above-requires : goal.next_of-above-requires
 next_of-above-requires g c =
-    (next_counted _ _ _ _ _ _ _ _ _ _ c.loop-above.invariant c.in-Some.is).fields.known_too
+    (next_counted _ _ _ _ _ _ _ _ _ _ c.loop-above.invariant c.in-Some.is).fields.has_fate
 
 pub loop-above-smaller : goal.loop-above-smaller
 loop-above-smaller g c = fewer_steps _ _ _ _ _ _ _ _ _ _ _ c.loop-above.invariant c.in-Some.is c.next_of-above.ensures

@@ -41,7 +41,7 @@ id_places-self-inside-requires-clause-within g c =
 
 pub next_of-self-inside-requires : goal.next_of-self-inside-requires
 next_of-self-inside-requires g c =
-    (has_next _ _ _ _ _ _ _ _ c.in_ok-number.was c.loop-place.self-inside.up.1 c.loop-place.invariant.above).fields.known_too
+    (has_next _ _ _ _ _ _ _ _ c.in_ok-number.was c.loop-place.self-inside.up.1 c.loop-place.invariant.above).fields.has_fate
 
 pub invariant_of-self-inside-in-loop-place : goal.invariant_of-self-inside-in-loop-place
 invariant_of-self-inside-in-loop-place g c =
