@@ -9,7 +9,7 @@ use Rattle.atomic_table.proofs.Lists.{set_here}
 use Rattle.tagged_index.specs.Head.{head_of, index_of}
 use Rattle.mark_core.specs.Account.{Account}
 use Rattle.mark_core.specs.World.{Setup, Marking, put}
-use Rattle.mark_core.specs.Event.{Kind, Claim, Finish, CanClaim, CanFinish, effect}
+use Rattle.mark_core.specs.Event.{Kind, Claim, Finish, CanClaim, CanFinish, IsBusy, effect}
 use Rattle.mark_core.specs.Event as may
 use Rattle.mark_core.specs.Counts.{counted}
 use Rattle.mark_core.proofs.Places.{at_below}
@@ -24,7 +24,7 @@ use Rattle.buffer_pool.proofs.States.{agrees, lawful, cut_same, stands, accounts
 use Rattle.buffer_pool.specs.Story.{Did}
 use Rattle.buffer_pool.specs.working.Told.{IsSettled, noted}
 use Rattle.buffer_pool.proofs.Loads.{noticed, each_once}
-use Rattle.buffer_pool.proofs.Words.{head_beside_mark, link_beside_mark, marks_after}
+use Rattle.buffer_pool.proofs.Words.{head_beside_mark, idle_beside_mark, link_beside_mark, marks_after}
 
 module _ {B : Type 0} (r : Reading B) (e : Setup) (s : State (Option B) SeatView) (rule : Rule r e s) (id : ℕ) (v : SeatView) (is : get_elem? s.views id ≡ some v) (bare : v.out ≡ 0) (there : 0 < v.book.account.share) where
   -- the mark of an object changes, and the account of the seat
@@ -39,7 +39,7 @@ module _ {B : Type 0} (r : Reading B) (e : Setup) (s : State (Option B) SeatView
       noticed r e s rule id v is bare there (set s.words (mark_word e o) x) w (length-set s.words (mark_word e o) x) (link_beside_mark e s.words o x) out held setup
       (happened r e s rule id v is kind there can t
       (agrees (marking_of r e t) (record m { mark = put o x m.mark; accounts = set m.accounts id w.book.account }) (λ q. ap head_of (head_beside_mark e s.words o x q)) links
-      (marks_after e s.words o x (omega (arith, rule.word_count))) refl (accounts_set s.views id w) ∙ sym is_effect)
+      (marks_after e s.words o x (omega (arith, rule.word_count))) refl (idle_beside_mark e s.words o x) (accounts_set s.views id w) ∙ sym is_effect)
       (counts_same r e s rule id v is w counts ∙ sym is_counted) (told_after r e s rule id v is there kind w log unsaid taken named))
     where
       m : Marking
@@ -53,9 +53,9 @@ module _ {B : Type 0} (r : Reading B) (e : Setup) (s : State (Option B) SeatView
 
 module _ {B : Type 0} (r : Reading B) (e : Setup) (slots id : ℕ) where
   pub claims :
-      (me : Me (Option B) SeatView) (o : ℕ) → Carries me → 0 < me.0.book.account.share → IsSettled me.0 → CanClaim me.0.book.setup o me.0.book.account → o < e.objects
+      (me : Me (Option B) SeatView) (o : ℕ) → Carries me → 0 < me.0.book.account.share → IsSettled me.0 → CanClaim me.0.book.setup o me.0.book.account → IsBusy me.0.book.account → o < e.objects
       → Allows (Rule r e) slots id me (mark_word e o) (λ n. max n 1) (claim_made (step slots (mark_word e o) 1 0 none) me)
-  claims me o carries there done can below = freed r e slots id (mark_word e o) (λ n. max n 1) (claim_made (step slots (mark_word e o) 1 0 none) me) me carries (λ s rule count is fits.
+  claims me o carries there done can busy below = freed r e slots id (mark_word e o) (λ n. max n 1) (claim_made (step slots (mark_word e o) 1 0 none) me) me carries (λ s rule count is fits.
       let n = slice_index s.words (mark_word e o) in
       let v : SeatView = free me.0 in
       let log = log_after r e s rule id (Claim o) in
@@ -66,7 +66,7 @@ module _ {B : Type 0} (r : Reading B) (e : Setup) (slots id : ℕ) where
         w,
         keeps,
         tt,
-        marked r e s rule id v is refl there o (max n 1) w (Claim o) below refl refl refl refl refl refl refl refl can' refl refl,
+        marked r e s rule id v is refl there o (max n 1) w (Claim o) below refl refl refl refl refl refl refl refl (can', busy) refl refl,
         (λ p h. let b : me.0.book.setup.buffers ≡ e.buffers = ap (λ (x : Setup). x.buffers) same in
             let k : o ≡ p = omega (arith, h) in subst (λ x. ((w, []) ≡ rested me log (claimed x n me.0.book)) × Did me.0.log (Claim x ∷ []) log) k (refl, did_after r e s rule id v is there done.named done.unsaid (Claim o))),
       ))

@@ -4,6 +4,7 @@ pub mod States
 pub mod Loads
 pub mod Words
 pub mod Claims
+pub mod Idles
 pub mod Pops
 pub mod Pushes
 pub mod Parts

@@ -89,7 +89,7 @@ only_seen :
 only_seen {B} r e s rule id v is there w same log unsaid taken named =
     let t : State (Option B) SeatView = record { words = s.words; homes = s.homes; views = set s.views id w } in
     nothing_happened r e s rule t
-    (agrees (marking_of r e t) (marking_of r e s) (λ q. refl) (λ i. refl) (λ o. refl) refl (accounts_same r e s rule id v is w (ap (λ (b : Book). b.account) same)))
+    (agrees (marking_of r e t) (marking_of r e s) (λ q. refl) (λ i. refl) (λ o. refl) refl refl (accounts_same r e s rule id v is w (ap (λ (b : Book). b.account) same)))
     (counts_same r e s rule id v is w (ap counts_of same))
     (told_seen rule.reached.events s.views rule.reached.told id v is there w log unsaid taken named)
 
@@ -99,7 +99,7 @@ each_once r e s rule id v is = has_each_once e (marking_of r e s) (lawful r e s 
 
 module _ {B : Type 0} (r : Reading B) (e : Setup) (slots id : ℕ) where
   -- what stays as it is keeps the rule of a word written again
-  written_again : (s : State (Option B) SeatView) (word : ℕ) (w : SeatView) → Rule r e (record { words = s.words; homes = s.homes; views = set s.views id w }) → Rule r e (record { words = slice_set s.words word (slice_index s.words word); homes = s.homes; views = set s.views id w })
+  pub written_again : (s : State (Option B) SeatView) (word : ℕ) (w : SeatView) → Rule r e (record { words = s.words; homes = s.homes; views = set s.views id w }) → Rule r e (record { words = slice_set s.words word (slice_index s.words word); homes = s.homes; views = set s.views id w })
   written_again s word w rule = subst (λ ws. Rule r e (record { words = ws; homes = s.homes; views = set s.views id w })) (sym (set-get_or s.words word 0)) rule
 
   pub sees_head : (me : Me (Option B) SeatView) (q : Which) → Carries me → 0 < me.0.book.account.share → IsSettled me.0 → Allows (Rule r e) slots id me (head_word q) (λ n. n) (head_seen (step slots (head_word q) 0 0 none) me)
@@ -112,7 +112,7 @@ module _ {B : Type 0} (r : Reading B) (e : Setup) (slots id : ℕ) where
       let t : State (Option B) SeatView = record { words = s.words; homes = s.homes; views = set s.views id w } in
       let reached : Reached r e t =
       happened r e s rule id v is (Load q) there tt t
-      (agrees (marking_of r e t) (record m { accounts = set m.accounts id (after_load q (m.head q) me.0.book.account) }) (λ p. refl) (λ i. refl) (λ o. refl) refl
+      (agrees (marking_of r e t) (record m { accounts = set m.accounts id (after_load q (m.head q) me.0.book.account) }) (λ p. refl) (λ i. refl) (λ o. refl) refl refl
       (accounts_set s.views id w ∙ ap (set m.accounts id) (account_loaded q (head_of n) me.0.book)))
       (counts_changed r e s rule id v is w (count_load q (head_of n)) (counts_loaded q (head_of n) me.0.book)) (told_after r e s rule id v is there (Load q) w refl refl refl refl) in (
         w,
@@ -140,7 +140,7 @@ module _ {B : Type 0} (r : Reading B) (e : Setup) (slots id : ℕ) where
       let t : State (Option B) SeatView = record { words = s.words; homes = s.homes; views = set s.views id w } in
       let reached : Reached r e t =
       happened r e s rule id v is (LoadLink q) there (h, i, last, top) t
-      (agrees (marking_of r e t) (effect m id me.0.book.account (LoadLink q)) (λ p. refl) (λ j. refl) (λ o. refl) refl
+      (agrees (marking_of r e t) (effect m id me.0.book.account (LoadLink q)) (λ p. refl) (λ j. refl) (λ o. refl) refl refl
       (accounts_set s.views id w ∙ ap (λ l. set m.accounts id (after_load_link q l me.0.book.account)) (sym found)))
       (counts_same r e s rule id v is w refl) (told_after r e s rule id v is there (LoadLink q) w refl refl refl refl) in (
         w,

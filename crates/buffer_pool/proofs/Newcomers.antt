@@ -7,7 +7,7 @@ use lib.ListN.{get_elem?}
 use Rattle.mark_core.specs.declared.which.Which.{Which}
 use Rattle.mark_core.specs.Account.{Account, look_of, part, no_share, after_split, after_join}
 use Rattle.mark_core.specs.World.{Setup, Marking, account_at}
-use Rattle.mark_core.specs.Event.{Event, Kind, Claim, Finish, Split, Join, Load, LoadLink, StoreLink, Pop, Push, Fail, effect, happens, popped}
+use Rattle.mark_core.specs.Event.{Event, Kind, Claim, Finish, Split, Join, Load, LoadLink, StoreLink, Pop, Push, Fail, IdleUp, IdleDown, LoadIdle, effect, happens, popped}
 use Rattle.mark_core.specs.Runs.{Run}
 use Rattle.mark_core.proofs.Places.{at_below}
 use Rattle.buffer_pool.specs.declared.seat_view.SeatView.{SeatView}
@@ -34,6 +34,9 @@ effect_long m w a (StoreLink i l) = omega arith
 effect_long m w a (Pop q) = popped_long m w a q (m.head q).index (look_of a q).link
 effect_long m w a (Push q i items) = omega (arith, length-set m.accounts w)
 effect_long m w a (Fail q) = omega arith
+effect_long m w a IdleUp = omega (arith, length-set m.accounts w)
+effect_long m w a IdleDown = omega (arith, length-set m.accounts w)
+effect_long m w a LoadIdle = omega (arith, length-set m.accounts w)
 
 run_long : (e : Setup) (events : List Event) (first last : Marking) → Run e first events last → length first.accounts ≤ length last.accounts
 run_long e [] first last run = omega (arith, ap (λ (m : Marking). length m.accounts) run)

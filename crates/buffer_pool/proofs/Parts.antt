@@ -98,7 +98,7 @@ module _ {B : Type 0} (r : Reading B) (e : Setup) (id : ℕ) (v : SeatView) wher
       reached : Reached r e t
       reached =
           happened r e s rule id v is (Split v.aside) there (some_units, less) t
-          (agrees (marking_of r e t) (effect m id a (Split v.aside)) (λ q. refl) (λ i. refl) (λ o. refl) refl
+          (agrees (marking_of r e t) (effect m id a (Split v.aside)) (λ q. refl) (λ i. refl) (λ o. refl) refl refl
           (map-append account_of (set s.views id (kept_part v)) (given_part v ∷ []) ∙ ap (λ (xs : List Account). xs ++ part v.aside ∷ []) (accounts_set s.views id (kept_part v))))
           (map-append view_counts (set s.views id (kept_part v)) (given_part v ∷ []) ∙ ap (λ (xs : List Counts). xs ++ no_counts ∷ []) (counts_same r e s rule id v is (kept_part v) refl))
           (told_split rule.reached.events s.views rule.reached.told id v is there known nobody)
@@ -169,7 +169,7 @@ module _ {B : Type 0} (r : Reading B) (e : Setup) (id : ℕ) (v : SeatView) wher
         reached : Reached r e t
         reached =
             happened r e s rule id v is (Join other) there (apart, (w.book.account, (stands r e s rule other w at, theirs_there))) t
-            (agrees (marking_of r e t) (effect m id v.book.account (Join other)) (λ q. refl) (λ i. refl) (λ o. refl) refl
+            (agrees (marking_of r e t) (effect m id v.book.account (Join other)) (λ q. refl) (λ i. refl) (λ o. refl) refl refl
             (accounts_set (set s.views id both) other no_share_view ∙ ap (λ (xs : List Account). set xs other no_share) (accounts_set s.views id both)
             ∙ ap (λ a. set (set m.accounts id (after_join v.book.account a)) other no_share) (sym account)))
             (added ∙ (λ k. set (set counts id (add_counts (sym first k) (sym second k))) other no_counts))

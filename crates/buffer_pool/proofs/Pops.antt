@@ -14,7 +14,7 @@ use Rattle.mark_core.specs.declared.which.Which.TheVariants.{Full, Empty}
 use Rattle.mark_core.specs.Lists.{StandsAt, times, only}
 use Rattle.mark_core.specs.Account.{Account, look_of, after_pop}
 use Rattle.mark_core.specs.World.{Setup, Marking, items_of, put_which}
-use Rattle.mark_core.specs.Event.{Pop, Fail, effect}
+use Rattle.mark_core.specs.Event.{Pop, Fail, IsBusy, effect}
 use Rattle.mark_core.specs.Event.{popped as popped_event}
 use Rattle.mark_core.specs.Counts.{count_failure}
 use Rattle.mark_core.proofs.Colours.{linear}
@@ -28,7 +28,7 @@ use Rattle.buffer_pool.proofs.States.{agrees, lawful, changed, accounts_set, acc
 use Rattle.buffer_pool.specs.working.Told.{IsSettled, noted}
 use Rattle.mark_core.proofs.Places.{at_one, at_get_or}
 use Rattle.buffer_pool.proofs.Loads.{noticed, same_head}
-use Rattle.buffer_pool.proofs.Words.{one_head, exchange_hit, exchange_miss, link_beside_head, links_beside_head, mark_beside_head, heads_after}
+use Rattle.buffer_pool.proofs.Words.{one_head, exchange_hit, exchange_miss, link_beside_head, links_beside_head, mark_beside_head, heads_after, idle_beside_head}
 
 -- items at home are those of a buffer
 pub buffer_there : {B : Type 0} (r : Reading B) (homes : List (maybe.Option (Option B))) (i : ℕ) (items : List ℕ) → StandsAt (map (slot_of r) homes) i (Some items) → (b : B) × (get_elem? homes i ≡ some (some (Some b))) × (r.items b ≡ items)
@@ -79,7 +79,7 @@ pub lost :
 lost {B} r e s rule id v is there w q account counts log unsaid taken named h last other =
     let t : State (Option B) SeatView = record { words = s.words; homes = s.homes; views = set s.views id w } in
     happened r e s rule id v is (Fail q) there (h, last, other) t
-    (agrees (marking_of r e t) (marking_of r e s) (λ p. refl) (λ j. refl) (λ o. refl) refl (accounts_same r e s rule id v is w account)) (counts_changed r e s rule id v is w count_failure counts)
+    (agrees (marking_of r e t) (marking_of r e s) (λ p. refl) (λ j. refl) (λ o. refl) refl refl (accounts_same r e s rule id v is w account)) (counts_changed r e s rule id v is w count_failure counts)
     (told_after r e s rule id v is there (Fail q) w log unsaid taken named)
 
 -- where the head is the one loaded
@@ -96,9 +96,9 @@ module _ {B : Type 0} (r : Reading B) (e : Setup) (s : State (Option B) SeatView
 
     pub popped_rule :
         (x : ℕ) (l : Option ℕ) → (look_of v.book.account q).head ≡ Some (head_of (slice_index s.words (head_word q))) → (head_of (slice_index s.words (head_word q))).tag < last_tag
-        → (look_of v.book.account q).link ≡ Some l → head_of x ≡ after (head_of (slice_index s.words (head_word q))) l
+        → (look_of v.book.account q).link ≡ Some l → head_of x ≡ after (head_of (slice_index s.words (head_word q))) l → IsBusy v.book.account
         → Rule r e (record { words = set s.words (head_word q) x; homes = set s.homes i none; views = set s.views id (pop_view q i b) })
-    popped_rule x l hit short linked_to next =
+    popped_rule x l hit short linked_to next busy =
         changed r e s rule id v is words homes w (length-set s.words (head_word q) x) (length-set s.homes i none) (λ j h. let same = link_beside_head e s.words q x j in omega (arith, rule.linked j h)) sized tied rests others (λ h. rule.same_setup id v is there) reached
       where
         m : Marking
@@ -148,9 +148,9 @@ module _ {B : Type 0} (r : Reading B) (e : Setup) (s : State (Option B) SeatView
 
         reached : Reached r e t
         reached =
-            happened r e s rule id v is (Pop q) there ((hit, short), (i, top), (l, linked_to)) t
+            happened r e s rule id v is (Pop q) there (((hit, short), (i, top), (l, linked_to)), busy) t
             (agrees (marking_of r e t) left (heads_after e s.words q x (after (m.head q) l) (omega (arith, rule.word_count)) next) (links_beside_head e s.words q x)
-            (mark_beside_head e s.words q x) (slots_set r s.homes i none) (accounts_set s.views id w) ∙ sym pop_is)
+            (mark_beside_head e s.words q x) (slots_set r s.homes i none) (idle_beside_head e s.words q x) (accounts_set s.views id w) ∙ sym pop_is)
             (counts_same r e s rule id v is w refl) (told_after r e s rule id v is there (Pop q) w refl refl refl refl)
 
   -- the buffer on top of a stack lies at home
@@ -179,9 +179,9 @@ module _ {B : Type 0} (r : Reading B) (e : Setup) (slots id : ℕ) where
 
   pub pops :
       (me : Me (Option B) SeatView) (q : Which) (old new i : ℕ) (l : Option ℕ) → Carries me → 0 < me.0.book.account.share → IsSettled me.0
-      → (look_of me.0.book.account q).head ≡ Some (head_of old) → (head_of old).tag < last_tag → (head_of old).index ≡ Some i → (look_of me.0.book.account q).link ≡ Some l → head_of new ≡ after (head_of old) l
+      → (look_of me.0.book.account q).head ≡ Some (head_of old) → (head_of old).tag < last_tag → (head_of old).index ≡ Some i → (look_of me.0.book.account q).link ≡ Some l → head_of new ≡ after (head_of old) l → IsBusy me.0.book.account
       → Allows (Rule r e) slots id me (head_word q) (λ n. either (n == old) new n) (pop_tried r (step slots (head_word q) old new none) me)
-  pops me q old new i l carries there done last short top linked next = freed r e slots id (head_word q) (λ n. either (n == old) new n) (pop_tried r (step slots (head_word q) old new none) me) me carries (λ s rule count is fits. go s rule is (ℕ_discrete (slice_index s.words (head_word q)) old))
+  pops me q old new i l carries there done last short top linked next busy = freed r e slots id (head_word q) (λ n. either (n == old) new n) (pop_tried r (step slots (head_word q) old new none) me) me carries (λ s rule count is fits. go s rule is (ℕ_discrete (slice_index s.words (head_word q)) old))
     where
       v : SeatView
       v = free me.0
@@ -201,7 +201,7 @@ module _ {B : Type 0} (r : Reading B) (e : Setup) (slots id : ℕ) where
           let w = pop_view r e s rule id v is refl there q i b in
           let ours : IsOurs r me.0.book.setup b = subst (λ f. IsOurs r f b) (sym (rule.same_setup id v is there)) (record { size = rule.sized i b home.1; objects = items_within r e s rule i b home.1 }) in
           let after_it : Rule r e (record { words = set s.words (head_word q) new; homes = set s.homes i none; views = set s.views id w }) =
-          popped_rule r e s rule id v is refl there q i b top' home.1 new l (last ∙ ap {B = Option Head} Some same) (subst (λ (h : Head). h.tag < last_tag) same short) linked (next ∙ ap (λ (h : Head). after h l) same) in (
+          popped_rule r e s rule id v is refl there q i b top' home.1 new l (last ∙ ap {B = Option Head} Some same) (subst (λ (h : Head). h.tag < last_tag) same short) linked (next ∙ ap (λ (h : Head). after h l) same) busy in (
             w,
             takes i (Some b),
             home.1,

@@ -15,7 +15,7 @@ use Rattle.mark_core.specs.declared.which.Which.TheVariants.{Full, Empty}
 use Rattle.mark_core.specs.Lists.{times, remove_one, IsPart}
 use Rattle.mark_core.specs.Account.{look_of, after_push}
 use Rattle.mark_core.specs.World.{Setup, Marking, put}
-use Rattle.mark_core.specs.Event.{StoreLink, Push, Fail, effect}
+use Rattle.mark_core.specs.Event.{StoreLink, Push, Fail, IsBusy, effect}
 use Rattle.mark_core.proofs.Sums.{times-remove_one, times_stands, only-same, only-other}
 use Rattle.buffer_pool.specs.declared.seat_view.SeatView.{SeatView}
 use Rattle.buffer_pool.specs.Book.{Book, pushed, failed}
@@ -26,7 +26,7 @@ use Rattle.buffer_pool.specs.working.Table.{Reading, Reached, Rule, IsTied, Rest
 use Rattle.buffer_pool.proofs.States.{agrees, cut_below, cut_put, changed, accounts_set, accounts_same, counts_same, slots_set, happened, log_after, told_after, did_after, held_alone, held_below, held_away, freed}
 use Rattle.buffer_pool.proofs.Pops.{lost}
 use Rattle.buffer_pool.proofs.Loads.{each_once}
-use Rattle.buffer_pool.proofs.Words.{one_head, exchange_hit, exchange_miss, link_beside_head, links_beside_head, mark_beside_head, heads_after, head_beside_link, link_beside_link, link_here, mark_beside_link, links_after}
+use Rattle.buffer_pool.proofs.Words.{one_head, exchange_hit, exchange_miss, link_beside_head, links_beside_head, mark_beside_head, heads_after, idle_beside_head, idle_beside_link, head_beside_link, link_beside_link, link_here, mark_beside_link, links_after}
 
 -- the link word to an index of a buffer is at most the number of buffers
 pub low_small : (index : Option ℕ) (buffers : ℕ) → ((i : ℕ) → index ≡ Some i → i < buffers) → low_of index ≤ buffers
@@ -137,7 +137,7 @@ module _ {B : Type 0} (r : Reading B) (e : Setup) (s : State (Option B) SeatView
       reached =
           happened r e s rule id v is (StoreLink i (index_of x)) there (times_stands v.book.account.held i mine) t
           (agrees (marking_of r e t) (record m { link = put i (index_of x) m.link }) (λ q. ap head_of (head_beside_link e s.words i x q)) links (mark_beside_link e s.words i x below)
-          (slots_set r s.homes i none ∙ set_again m.slots i None (held_away r e s rule id v is i mine)) (accounts_same r e s rule id v is w refl))
+          (slots_set r s.homes i none ∙ set_again m.slots i None (held_away r e s rule id v is i mine)) (idle_beside_link e s.words i x) (accounts_same r e s rule id v is w refl))
           (counts_same r e s rule id v is w refl) (told_after r e s rule id v is there (StoreLink i (index_of x)) w refl refl refl refl)
 
   module _ (b : B) (out : v.out ≡ suc i) (q : Which) where
@@ -148,9 +148,9 @@ module _ {B : Type 0} (r : Reading B) (e : Setup) (s : State (Option B) SeatView
     pub pushed_rule :
         (x : ℕ) → (look_of v.book.account q).head ≡ Some (head_of (slice_index s.words (head_word q))) → (head_of (slice_index s.words (head_word q))).tag < last_tag → head_of x ≡ after (head_of (slice_index s.words (head_word q))) (Some i)
         → index_of v.out_link ≡ (head_of (slice_index s.words (head_word q))).index → IsPart (r.items b) v.book.account.charge → (q ≡ Empty → r.items b ≡ []) → r.size b ≡ v.book.setup.size
-        → length (r.items b) ≤ v.book.setup.size
+        → length (r.items b) ≤ v.book.setup.size → (q ≡ Full → IsBusy v.book.account)
         → Rule r e (record { words = set s.words (head_word q) x; homes = set s.homes i (some (Some b)); views = set s.views id push_view })
-    pushed_rule x hit short next leads part none_empty size fits =
+    pushed_rule x hit short next leads part none_empty size fits busy =
         changed r e s rule id v is words homes w (length-set s.words (head_word q) x) (length-set s.homes i (some (Some b))) (λ j h. let same = link_beside_head e s.words q x j in omega (arith, rule.linked j h)) sized
         (λ j o. let z : ◌≡◌ {A = ℕ} 0 (suc j) = o in absurd (omega arith)) rests others (λ h. rule.same_setup id v is there) reached
       where
@@ -195,9 +195,9 @@ module _ {B : Type 0} (r : Reading B) (e : Setup) (s : State (Option B) SeatView
 
         reached : Reached r e t
         reached =
-            happened r e s rule id v is (Push q i (r.items b)) there ((hit, short), (times_stands v.book.account.held i mine, part, room, none_empty), follows) t
+            happened r e s rule id v is (Push q i (r.items b)) there ((hit, short), (times_stands v.book.account.held i mine, part, room, none_empty), follows, busy) t
             (agrees (marking_of r e t) (effect m id v.book.account (Push q i (r.items b))) (heads_after e s.words q x (after (m.head q) (Some i)) (omega (arith, rule.word_count)) next)
-            (links_beside_head e s.words q x) (mark_beside_head e s.words q x) (slots_set r s.homes i (some (Some b))) (accounts_set s.views id w))
+            (links_beside_head e s.words q x) (mark_beside_head e s.words q x) (slots_set r s.homes i (some (Some b))) (idle_beside_head e s.words q x) (accounts_set s.views id w))
             (counts_same r e s rule id v is w refl) (told_after r e s rule id v is there (Push q i (r.items b)) w refl refl refl refl)
 
     abbrev kept_view : SeatView
@@ -232,9 +232,9 @@ module _ {B : Type 0} (r : Reading B) (e : Setup) (slots id : ℕ) where
   pub pushes :
       (me : Me (Option B) SeatView) (q : Which) (old new i : ℕ) (b : B) → me.1 ≡ (i, Some b) ∷ [] → me.0.out ≡ suc i → 0 < me.0.book.account.share → IsSettled me.0 → 0 < times i me.0.book.account.held
       → (look_of me.0.book.account q).head ≡ Some (head_of old) → (head_of old).tag < last_tag → head_of new ≡ after (head_of old) (Some i) → index_of me.0.out_link ≡ (head_of old).index
-      → IsPart (r.items b) me.0.book.account.charge → (q ≡ Empty → r.items b ≡ []) → r.size b ≡ me.0.book.setup.size → length (r.items b) ≤ me.0.book.setup.size
+      → IsPart (r.items b) me.0.book.account.charge → (q ≡ Empty → r.items b ≡ []) → r.size b ≡ me.0.book.setup.size → length (r.items b) ≤ me.0.book.setup.size → (q ≡ Full → IsBusy me.0.book.account)
       → Allows (Rule r e) slots id me (head_word q) (λ n. either (n == old) new n) (push_tried r q (step slots (head_word q) old new none) me)
-  pushes me q old new i b carried out there done mine last short next leads part none_empty size fits = λ s rule count is fits. go s rule is (ℕ_discrete (slice_index s.words (head_word q)) old)
+  pushes me q old new i b carried out there done mine last short next leads part none_empty size fits busy = λ s rule count is fits. go s rule is (ℕ_discrete (slice_index s.words (head_word q)) old)
     where
       v : SeatView
       v = me.0
@@ -251,7 +251,7 @@ module _ {B : Type 0} (r : Reading B) (e : Setup) (slots id : ℕ) where
           let w : SeatView = push_view r e s rule id v is there i mine b out q in
           let log = w.log in
           let after_it : Rule r e (record { words = set s.words (head_word q) new; homes = set s.homes i (some (Some b)); views = set s.views id w }) =
-          pushed_rule r e s rule id v is there i mine b out q new (last ∙ ap {B = Option Head} Some same) (subst (λ (h : Head). h.tag < last_tag) same short) (next ∙ ap (λ (h : Head). after h (Some i)) same) (leads ∙ ap (λ (h : Head). h.index) same) part none_empty size fits in
+          pushed_rule r e s rule id v is there i mine b out q new (last ∙ ap {B = Option Head} Some same) (subst (λ (h : Head). h.tag < last_tag) same short) (next ∙ ap (λ (h : Head). after h (Some i)) same) (leads ∙ ap (λ (h : Head). h.index) same) part none_empty size fits busy in
           let put : Rule r e (stepped s (head_word q) (either (n == old) new n) id ((i, Some b) ∷ []) w gives) = subst (λ x. Rule r e (record { words = set s.words (head_word q) x; homes = set s.homes i (some (Some b)); views = set s.views id w })) (sym (exchange_hit n old new hit)) after_it in (
             w,
             gives,

@@ -7,7 +7,7 @@ use Rattle.mark_core.specs.declared.which.Which.{Which}
 use Rattle.mark_core.specs.declared.which.Which.TheVariants.{Full, Empty}
 use Rattle.mark_core.specs.Lists.{times, only, remove_one, without}
 use Rattle.mark_core.specs.World.{Setup}
-use Rattle.mark_core.specs.Event.{CanClaim, CanFinish}
+use Rattle.mark_core.specs.Event.{IsBusy, CanClaim, CanFinish}
 use Rattle.mark_core.proofs.Sums.{total-append, only-same, remove_one-same, times-remove_one, times-without, times_stands}
 use Rattle.buffer_pool.specs.Book.{Book, loaded, link_loaded, failed, claimed, finished}
 use Rattle.buffer_pool.specs.Calls.{Holder, HeldBuffer, MayPush, Pops, Pushes}
@@ -175,11 +175,12 @@ may_finish n w h rest o roots one last = (times_stands w.book.account.charge o h
 pub may_claim : (n : ℕ) (w : Holder) (o : ℕ) → HasRoots n w → o < n → CanClaim w.book.setup o w.book.account
 may_claim n w o roots below = inl (subst (λ (rs : List ℕ). Contains rs o) (sym roots.roots) (is_root n o below))
 
-pub may_push : (q : Which) (w : Holder) (h : HeldBuffer) → HasOne w h → (q ≡ Empty → h.items ≡ []) → MayPush q h w.book
-may_push q w h one bare =
+pub may_push : (q : Which) (w : Holder) (h : HeldBuffer) → HasOne w h → (q ≡ Empty → h.items ≡ []) → (q ≡ Full → IsBusy w.book.account) → MayPush q h w.book
+may_push q w h one bare busy =
     record {
       held = times_stands w.book.account.held h.index (omega (arith, ap (times h.index) one.held, only-same h.index h.index refl));
       size = one.size;
       charged = λ o. omega (arith, one.charge o);
       bare = bare;
+      busy = busy;
     }

@@ -9,7 +9,7 @@ use Rattle.mark_core.specs.Lists.{times, remove_one, without, IsPart}
 use Rattle.mark_core.specs.World.{Setup}
 use Rattle.mark_core.proofs.Sums.{stands_times, times_stands, stands_push, stands_append, times-remove_one, times-without}
 use Rattle.buffer_pool.specs.declared.seat_view.SeatView.{SeatView}
-use Rattle.buffer_pool.specs.Book.{Book, loaded, link_loaded, failed, popped, pushed, claimed, finished}
+use Rattle.buffer_pool.specs.Book.{Book, loaded, link_loaded, failed, popped, pushed, claimed, finished, idled, woken, idle_loaded}
 use Rattle.buffer_pool.specs.Ranges.{IsWithin}
 use Rattle.buffer_pool.specs.working.Laid.{IsBare, IsLaid, IsSound}
 use Rattle.buffer_pool.specs.working.Plays.{rested}
@@ -33,6 +33,15 @@ module _ {B : Type 0} (t : TableId) (m : Me (Option B) SeatView) (sound : IsSoun
 
   pub sound_failed : (log : Log) → IsSound t (rested m log (failed m.0.book))
   sound_failed log = sound_rested log (failed m.0.book) refl refl (record { held = sound.within.held; charge = sound.within.charge })
+
+  pub sound_idled : (log : Log) → IsSound t (rested m log (idled m.0.book))
+  sound_idled log = sound_rested log (idled m.0.book) refl refl (record { held = sound.within.held; charge = sound.within.charge })
+
+  pub sound_woken : (log : Log) → IsSound t (rested m log (woken m.0.book))
+  sound_woken log = sound_rested log (woken m.0.book) refl refl (record { held = sound.within.held; charge = sound.within.charge })
+
+  pub sound_idle_loaded : (log : Log) (n : ℕ) → IsSound t (rested m log (idle_loaded n m.0.book))
+  sound_idle_loaded log n = sound_rested log (idle_loaded n m.0.book) refl refl (record { held = sound.within.held; charge = sound.within.charge })
 
   pub sound_claimed : (log : Log) (o found : ℕ) → o < m.0.book.setup.objects → IsSound t (rested m log (claimed o found m.0.book))
   sound_claimed log o found below = sound_rested log (claimed o found m.0.book) refl refl (record { held = sound.within.held; charge = either_way (found == 0) })

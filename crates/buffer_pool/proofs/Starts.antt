@@ -34,7 +34,7 @@ zeros (suc n) (suc i) = zeros n i
 pub heads_alone :
     (count tag x y : ℕ) → 32 ≤ count → head_of x ≡ first_heads tag Full → head_of y ≡ first_heads tag Empty
     → HasFirstWords count tag 1 (set (set (replicate count 0) 0 x) 16 y)
-heads_alone count tag x y long full empty = record { word_count = length-set bare 16 y ∙ long_as; heads = heads; links = λ i low. absurd (omega (arith, low)); rest = rest }
+heads_alone count tag x y long full empty = record { word_count = length-set bare 16 y ∙ long_as; heads = heads; idle = idle; links = λ i low. absurd (omega (arith, low)); rest = rest }
   where
     bare : List ℕ
     bare = set (replicate count 0) 0 x
@@ -46,12 +46,15 @@ heads_alone count tag x y long full empty = record { word_count = length-set bar
     heads Full = ap head_of (get_or-set_other bare 16 0 y 0 (λ f. omega (arith, f)) ∙ get_or-set_same (replicate count 0) 0 x 0 (omega (arith, long, length-replicate {A = ℕ} count 0))) ∙ full
     heads Empty = ap head_of (get_or-set_same bare 16 y 0 (omega (arith, long, long_as))) ∙ empty
 
+    idle : slice_index (set bare 16 y) 8 ≡ 0
+    idle = get_or-set_other bare 16 8 y 0 (λ f. omega (arith, f)) ∙ get_or-set_other (replicate count 0) 0 8 x 0 (λ f. omega (arith, f)) ∙ zeros count 8
+
     rest : (k : ℕ) → 31 + 1 ≤ k → slice_index (set bare 16 y) k ≡ 0
     rest k far = get_or-set_other bare 16 k y 0 (λ f. omega (arith, f, far)) ∙ get_or-set_other (replicate count 0) 0 k x 0 (λ f. omega (arith, f, far)) ∙ zeros count k
 
 -- one more link is laid
 pub link_laid : (count tag next at x : ℕ) (words : List ℕ) → HasFirstWords count tag next words → 0 < next → at ≡ 31 + next → at < count → x ≡ next + 1 → HasFirstWords count tag (next + 1) (set words at x)
-link_laid count tag next at x words first some_link place inside value = record { word_count = length-set words at x ∙ first.word_count; heads = heads; links = links; rest = rest }
+link_laid count tag next at x words first some_link place inside value = record { word_count = length-set words at x ∙ first.word_count; heads = heads; idle = get_or-set_other words at 8 x 0 (λ f. omega (arith, f, place)) ∙ first.idle; links = links; rest = rest }
   where
     heads : (q : Which) → head_of (slice_index (set words at x) (head_word q)) ≡ first_heads tag q
     heads q = ap head_of (get_or-set_other words at (head_word q) x 0 (λ f. omega (arith, f, head_below q))) ∙ first.heads q
@@ -147,7 +150,7 @@ starts {B} r e words slots some_buffer first count all =
     opened : marking_of r e (opening words slots (first_view e)) ≡ runs.opening e e.first_tag
     opened =
         agrees (marking_of r e (opening words slots (first_view e))) (runs.opening e e.first_tag) first.heads links (λ o. first.rest (mark_word e o) (omega arith))
-        (slots_bare r e.size slots all ∙ ap (λ n. replicate n (Some [])) count) refl
+        (slots_bare r e.size slots all ∙ ap (λ n. replicate n (Some [])) count) first.idle refl
 
 -- one more slot has its buffer
 pub slot_pushed : {B : Type 0} (r : Reading B) (size : ℕ) (slots : List (Option B)) (b : B) → All (IsFirstSlot r size) slots → r.items b ≡ [] → r.size b ≡ size → All (IsFirstSlot r size) (slots ++ Some b ∷ [])

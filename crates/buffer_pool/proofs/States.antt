@@ -29,8 +29,8 @@ use Rattle.buffer_pool.specs.working.Table.{Reading, Reached, Rule, IsTied, Rest
 -- markings that agree in each part are one
 pub agrees :
     (m n : Marking) → ((q : Which) → m.head q ≡ n.head q) → ((i : ℕ) → m.link i ≡ n.link i) → ((o : ℕ) → m.mark o ≡ n.mark o)
-    → m.slots ≡ n.slots → m.accounts ≡ n.accounts → m ≡ n
-agrees m n heads links marks slots accounts = λ k. record { head = λ q. heads q k; link = λ i. links i k; mark = λ o. marks o k; slots = slots k; accounts = accounts k }
+    → m.slots ≡ n.slots → m.idle ≡ n.idle → m.accounts ≡ n.accounts → m ≡ n
+agrees m n heads links marks slots idle accounts = λ k. record { head = λ q. heads q k; link = λ i. links i k; mark = λ o. marks o k; slots = slots k; idle = idle k; accounts = accounts k }
 
 -- links once cut: the same where they are the same for buffers, a buffer's is as it was, and a buffer's may be written before or after
 pub cut_below : (buffers : ℕ) (f : ℕ → Option ℕ) (i : ℕ) → i < buffers → cut buffers f i ≡ f i
@@ -157,23 +157,26 @@ module _ {B : Type 0} (r : Reading B) (e : Setup) (s : State (Option B) SeatView
         ∙ ap (set (map view_counts s.views) id) (new ∙ ap f (sym (at_get_or (map view_counts s.views) id (view_counts v) no_counts (at_map view_counts s.views id v is))))
 
     -- an event of the seat happened: it may do this, and the table stands for what comes of it
-    pub happened :
+    pub happened_led :
         (kind : Kind) → 0 < v.book.account.share → may.Allows e (marking_of r e s) id v.book.account kind → (t : State (Option B) SeatView)
         → marking_of r e t ≡ effect (marking_of r e s) id v.book.account kind → map view_counts t.views ≡ counted (marking_of r e s) (map view_counts s.views) id kind
-        → AreTold (rule.reached.events ++ record { worker = id; kind = kind } ∷ []) t.views → Reached r e t
-    happened kind there can t marking counts told =
+        → LeadTo e (rule.reached.events ++ record { worker = id; kind = kind } ∷ []) (marking_of r e t) (map view_counts t.views)
+    happened_led kind there can t marking counts =
         let m = marking_of r e s in
         let event : Event = record { worker = id; kind = kind } in
         let at = stands r e s rule id v is in
         let same : account_at m.accounts id ≡ v.book.account = at_get_or m.accounts id v.book.account no_share at in
         let all = marking ∙ ap (λ a. effect m id a kind) (sym same) in
-        record {
-          events = rule.reached.events ++ event ∷ [];
-          led = subst (λ cs. LeadTo e (rule.reached.events ++ event ∷ []) (marking_of r e t) cs) (sym counts)
-              (subst (λ x. LeadTo e (rule.reached.events ++ event ∷ []) x (counted m (map view_counts s.views) id kind)) (sym all)
-              (leads_on e event rule.reached.events m (map view_counts s.views) rule.reached.led (v.book.account, (at, there), can)));
-          told = told;
-        }
+        subst (λ cs. LeadTo e (rule.reached.events ++ event ∷ []) (marking_of r e t) cs) (sym counts)
+        (subst (λ x. LeadTo e (rule.reached.events ++ event ∷ []) x (counted m (map view_counts s.views) id kind)) (sym all)
+        (leads_on e event rule.reached.events m (map view_counts s.views) rule.reached.led (v.book.account, (at, there), can)))
+
+    pub happened :
+        (kind : Kind) → 0 < v.book.account.share → may.Allows e (marking_of r e s) id v.book.account kind → (t : State (Option B) SeatView)
+        → marking_of r e t ≡ effect (marking_of r e s) id v.book.account kind → map view_counts t.views ≡ counted (marking_of r e s) (map view_counts s.views) id kind
+        → AreTold (rule.reached.events ++ record { worker = id; kind = kind } ∷ []) t.views → Reached r e t
+    happened kind there can t marking counts told =
+        record { events = rule.reached.events ++ record { worker = id; kind = kind } ∷ []; led = happened_led kind there can t marking counts; told = told }
 
 -- a slot that is out goes home without its buffer, and the rule still holds
 module _ {B : Type 0} (r : Reading B) (e : Setup) (s : State (Option B) SeatView) (rule : Rule r e s) (id : ℕ) (v : SeatView) (is : get_elem? s.views id ≡ some v) where
@@ -181,7 +184,7 @@ module _ {B : Type 0} (r : Reading B) (e : Setup) (s : State (Option B) SeatView
   given_reached homes same =
       let t : State (Option B) SeatView = record { words = s.words; homes = homes; views = set s.views id (free v) } in
       nothing_happened r e s rule t
-      (agrees (marking_of r e t) (marking_of r e s) (λ q. refl) (λ i. refl) (λ o. refl) same (accounts_same r e s rule id v is (free v) refl)) (counts_same r e s rule id v is (free v) refl)
+      (agrees (marking_of r e t) (marking_of r e s) (λ q. refl) (λ i. refl) (λ o. refl) same refl (accounts_same r e s rule id v is (free v) refl)) (counts_same r e s rule id v is (free v) refl)
       (told_set rule.reached.events s.views id (free v) (λ k u other at share. rule.reached.told k u at share)
       (λ share. told_same rule.reached.events id v (rule.reached.told id v is share) (free v) refl refl refl refl))
 

@@ -38,6 +38,13 @@ module _ (e : Setup) (words : List ℕ) where
         → cut e.buffers (λ k. index_of (slice_index (set words (head_word q) x) (link_word k))) i ≡ cut e.buffers (λ k. index_of (slice_index words (link_word k))) i
     links_beside_head i = ap (λ y. if nat_lt i e.buffers then index_of y else None) (link_beside_head i)
 
+    pub idle_beside_head : slice_index (set words (head_word q) x) 8 ≡ slice_index words 8
+    idle_beside_head = go q
+      where
+        go : (p : Which) → slice_index (set words (head_word p) x) 8 ≡ slice_index words 8
+        go Full = get_or-set_other words 0 8 x 0 (λ h. omega (arith, h))
+        go Empty = get_or-set_other words 16 8 x 0 (λ h. omega (arith, h))
+
     pub mark_beside_head : (o : ℕ) → slice_index (set words (head_word q) x) (mark_word e o) ≡ slice_index words (mark_word e o)
     mark_beside_head o = get_or-set_other words (head_word q) (mark_word e o) x 0 (λ h. omega (arith, h, head_below q))
 
@@ -54,6 +61,9 @@ module _ (e : Setup) (words : List ℕ) where
   module _ (i x : ℕ) where
     pub head_beside_link : (q : Which) → slice_index (set words (link_word i) x) (head_word q) ≡ slice_index words (head_word q)
     head_beside_link q = get_or-set_other words (link_word i) (head_word q) x 0 (λ h. omega (arith, h, head_below q))
+
+    pub idle_beside_link : slice_index (set words (link_word i) x) 8 ≡ slice_index words 8
+    idle_beside_link = get_or-set_other words (link_word i) 8 x 0 (λ h. omega (arith, h))
 
     pub link_beside_link : (j : ℕ) → j ≢ i → slice_index (set words (link_word i) x) (link_word j) ≡ slice_index words (link_word j)
     link_beside_link j other = get_or-set_other words (link_word i) (link_word j) x 0 (λ h. other (omega (arith, h)))
@@ -76,6 +86,9 @@ module _ (e : Setup) (words : List ℕ) where
     pub head_beside_mark : (q : Which) → slice_index (set words (mark_word e o) x) (head_word q) ≡ slice_index words (head_word q)
     head_beside_mark q = get_or-set_other words (mark_word e o) (head_word q) x 0 (λ h. omega (arith, h, head_below q))
 
+    pub idle_beside_mark : slice_index (set words (mark_word e o) x) 8 ≡ slice_index words 8
+    idle_beside_mark = get_or-set_other words (mark_word e o) 8 x 0 (λ h. omega (arith, h))
+
     pub link_beside_mark : (i : ℕ) → i < e.buffers → slice_index (set words (mark_word e o) x) (link_word i) ≡ slice_index words (link_word i)
     link_beside_mark i below = get_or-set_other words (mark_word e o) (link_word i) x 0 (λ h. omega (arith, h, below))
 
@@ -85,3 +98,18 @@ module _ (e : Setup) (words : List ℕ) where
         go : Dec (p ≡ o) → slice_index (set words (mark_word e o) x) (mark_word e p) ≡ put o x (λ k. slice_index words (mark_word e k)) p
         go (yes same) = ap (λ k. slice_index (set words (mark_word e o) x) (mark_word e k)) same ∙ get_or-set_same words (mark_word e o) x 0 below ∙ sym (put_here o p x (λ k. slice_index words (mark_word e k)) same)
         go (no other) = get_or-set_other words (mark_word e o) (mark_word e p) x 0 (λ h. other (omega (arith, h))) ∙ sym (put_else o p x (λ k. slice_index words (mark_word e k)) other)
+
+  -- after a write of the idle word
+  module _ (x : ℕ) where
+    pub head_beside_idle : (q : Which) → slice_index (set words 8 x) (head_word q) ≡ slice_index words (head_word q)
+    head_beside_idle Full = get_or-set_other words 8 0 x 0 (λ h. omega (arith, h))
+    head_beside_idle Empty = get_or-set_other words 8 16 x 0 (λ h. omega (arith, h))
+
+    pub link_beside_idle : (i : ℕ) → slice_index (set words 8 x) (link_word i) ≡ slice_index words (link_word i)
+    link_beside_idle i = get_or-set_other words 8 (link_word i) x 0 (λ h. omega (arith, h))
+
+    pub mark_beside_idle : (o : ℕ) → slice_index (set words 8 x) (mark_word e o) ≡ slice_index words (mark_word e o)
+    mark_beside_idle o = get_or-set_other words 8 (mark_word e o) x 0 (λ h. omega (arith, h))
+
+    pub idle_here : 32 ≤ length words → slice_index (set words 8 x) 8 ≡ x
+    idle_here long = get_or-set_same words 8 x 0 (omega arith)

@@ -2,7 +2,8 @@
 use Rattle.std.proofs.Common.{◌≡◌, ℕ, List, [], ◌∷◌, ◌++◌, length, Contains, ap, sym, refl, subst, ◌∙◌, inr, arith}
 use Rattle.std.proofs.lemmas.List.{nil_from_length}
 use Rattle.mark_core.specs.declared.which.Which.{Which}
-use Rattle.mark_core.specs.Event.{CanClaim}
+use Rattle.mark_core.specs.declared.which.Which.TheVariants.{Full}
+use Rattle.mark_core.specs.Event.{IsBusy, CanClaim}
 use Rattle.mark_core.specs.Lists.{times, remove_one, without}
 use Rattle.mark_core.specs.World.{Setup}
 use Rattle.buffer_pool.specs.Book.{Book, loaded, link_loaded, failed, popped, pushed, finished}
@@ -90,13 +91,14 @@ module _ (old new : Holder) (n : ℕ) (list : List ℕ) (was : Holds n list old)
       is : new.book ≡ pushed q h.index h.items head_loaded
       is = p.2.2
 
-pub may_push_bare : (q : Which) (w : Holder) (n : ℕ) (list : List ℕ) (h : HeldBuffer) → Holds n list w → Contains list h.index → h ≡ bare n h.index → MayPush q h w.book
-may_push_bare q w n list h was here is =
+pub may_push_bare : (q : Which) (w : Holder) (n : ℕ) (list : List ℕ) (h : HeldBuffer) → Holds n list w → Contains list h.index → h ≡ bare n h.index → (q ≡ Full → IsBusy w.book.account) → MayPush q h w.book
+may_push_bare q w n list h was here is busy =
     record {
       held = subst (λ xs. Contains xs h.index) (sym was.held) here;
       size = ap (λ (l : HeldBuffer). l.size) is ∙ sym was.room;
       charged = λ x. omega (arith, ap (λ (l : HeldBuffer). times x l.items) is);
       bare = λ empty. ap (λ (l : HeldBuffer). l.items) is;
+      busy = busy;
     }
 
 -- a buffer of this number is one of its own number

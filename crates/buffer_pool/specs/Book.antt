@@ -4,14 +4,14 @@ use Rattle.std.specs.Prelude.{ℕ, ◌+◌, List, [], Option}
 use Rattle.mark_core.specs.declared.which.Which.{Which}
 use Rattle.mark_core.specs.declared.which.Which.TheVariants.{Full, Empty}
 use Rattle.tagged_index.specs.Head.{Head}
-use Rattle.mark_core.specs.Account.{Account, part, no_share, after_claim, after_finish, after_split, after_join, after_load, after_load_link, after_pop, after_push}
+use Rattle.mark_core.specs.Account.{Account, part, no_share, after_claim, after_finish, after_split, after_join, after_load, after_load_link, after_pop, after_push, after_idle_up, after_idle_down, after_load_idle}
 use Rattle.mark_core.specs.World.{Setup}
 use Rattle.mark_core.specs.Counts.{Counts, none_found}
 
 pub record Book : Type 0 where
   pub setup : Setup
   pub account : Account
-  -- loads of a head
+  -- loads of a head, and of the idle word
   pub loads : ℕ
   -- loads of the full head, and of the empty one, that found no buffer
   pub full_empties : ℕ
@@ -56,6 +56,17 @@ loaded Empty h b =
 -- the link of the last head's buffer was loaded
 abbrev pub link_loaded : Which → Option ℕ → Book → Book
 link_loaded q l b = record b { account = after_load_link q l b.account }
+
+-- the worker went idle, and came back
+abbrev pub idled : Book → Book
+idled b = record b { account = after_idle_up b.account }
+
+abbrev pub woken : Book → Book
+woken b = record b { account = after_idle_down b.account }
+
+-- the idle word was loaded
+abbrev pub idle_loaded : ℕ → Book → Book
+idle_loaded n b = record b { account = after_load_idle n b.account; loads = b.loads + 1 }
 
 -- an exchange failed
 abbrev pub failed : Book → Book

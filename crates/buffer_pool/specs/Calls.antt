@@ -3,8 +3,11 @@ use Rattle.std.specs.Prelude.{◌≡◌, ◌↔◌, ℕ, ◌<◌, List, [], Opti
 use Rattle.atomic_table.specs.Seated.{TableId}
 use Rattle.tagged_index.specs.Head.{Head, last_tag}
 use Rattle.mark_core.specs.declared.which.Which.{Which}
-use Rattle.mark_core.specs.declared.which.Which.TheVariants.{Empty}
+use Rattle.mark_core.specs.declared.which.Which.TheVariants.{Full, Empty}
 use Rattle.mark_core.specs.Lists.{IsPart}
+use Rattle.mark_core.specs.World.{Setup, Marking}
+use Rattle.mark_core.specs.Event.{Event, IsBusy}
+use Rattle.mark_core.specs.Counts.{Counts, LeadTo}
 use Rattle.buffer_pool.specs.Book.{Book, loaded, link_loaded, failed, popped, pushed}
 use Rattle.buffer_pool.specs.Story.{Log}
 use Rattle.buffer_pool.specs.declared.answers.TryPopped.{TryPopped}
@@ -41,12 +44,13 @@ Pops q old new try_pop.Spent =
     (head : Head) × (i : ℕ) × (head.index ≡ Some i) × (head.tag ≡ last_tag) × (new ≡ loaded q head old)
 
 -- the worker holds the buffer, it is one of the pool's, its items are part of the charge, and there are none for the
--- empty stack
+-- empty stack; and for the full one the worker is not idle
 pub record MayPush (q : Which) (h : HeldBuffer) (b : Book) : Type 0 where
   pub held : Contains b.account.held h.index
   pub size : h.size ≡ b.setup.size
   pub charged : IsPart h.items b.account.charge
   pub bare : q ≡ Empty → h.items ≡ []
+  pub busy : q ≡ Full → IsBusy b.account
 
 -- a try of a push. Done: the head was loaded, the link stored, and the exchange won. Lost: the exchange failed. Spent:
 -- the head loaded has the last tag.
@@ -83,3 +87,7 @@ pub record Sees (q : Which) (old new : Book) (answer : Bool) : Type 0 where
   pub head : Head
   pub book : new ≡ loaded q head old
   pub none : IsTrue answer ↔ (head.index ≡ None)
+
+-- these events led from the opening to a marking with this idle word
+abbrev pub Shows : Setup → List Event → ℕ → Type 0
+Shows e events word = (m : Marking) × (counts : List Counts) × LeadTo e events m counts × (m.idle ≡ word)

@@ -1,4 +1,4 @@
-//! Which word of the table is what: two heads, a link for each buffer, a mark for each object.
+//! Which word of the table is what: two heads, the idle word, a link for each buffer, a mark for each object.
 
 use mark_core::Which;
 
@@ -6,6 +6,9 @@ use mark_core::Which;
 const FULL_HEAD: usize = 0;
 
 const EMPTY_HEAD: usize = 16;
+
+/// The idle word, 64 bytes from each head.
+pub(crate) const IDLE: usize = 8;
 
 pub(crate) const FIRST_LINK: usize = 32;
 

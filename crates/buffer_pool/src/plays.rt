@@ -1,6 +1,6 @@
 //! What each step on the table tells, as types that the steps name.
 ghost use Rattle.buffer_pool.specs.working.Buffers.{buffer_reading};
-ghost use Rattle.buffer_pool.specs.working.Plays.{claim_made, finish_made, head_seen, link_seen, link_stored, pop_tried, push_tried, set_aside, settled};
+ghost use Rattle.buffer_pool.specs.working.Plays.{claim_made, came_back, finish_made, head_seen, idle_seen, link_seen, link_stored, pop_tried, push_tried, set_aside, settled, went_idle};
 ghost use Rattle.mark_core.specs.declared.which.Which.TheVariants.{Full, Empty};
 
 use crate::buffer::Buffer;
@@ -69,6 +69,27 @@ pub struct Finish;
 
 impl<A: Allocator> Play<Option<Buffer<A>>, SeatView> for Finish {
     ghost then = { finish_made };
+}
+
+/// The worker goes idle.
+pub struct GoIdle;
+
+impl<A: Allocator> Play<Option<Buffer<A>>, SeatView> for GoIdle {
+    ghost then = { went_idle };
+}
+
+/// The worker comes back.
+pub struct ComeBack;
+
+impl<A: Allocator> Play<Option<Buffer<A>>, SeatView> for ComeBack {
+    ghost then = { came_back };
+}
+
+/// A load of the idle word.
+pub struct SeeIdle;
+
+impl<A: Allocator> Play<Option<Buffer<A>>, SeatView> for SeeIdle {
+    ghost then = { idle_seen };
 }
 
 /// A step that changes nothing and notes how many units are given away.

@@ -8,6 +8,7 @@ ghost use Rattle.buffer_pool.specs.Ranges.{IsInside};
 ghost use Rattle.buffer_pool.specs.Story.{first_log};
 
 mod first;
+mod idle;
 pub(crate) mod limits;
 mod marking;
 pub(crate) mod marks;

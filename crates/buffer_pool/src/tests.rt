@@ -4,6 +4,7 @@ mod claims;
 mod edges;
 mod forged;
 mod graph;
+mod idle;
 mod opening;
 mod race;
 mod rounds;

@@ -1,15 +1,16 @@
 -- The tables of the opening.
-use Rattle.std.proofs.Common.{◌≡◌, ℕ, zero, suc, ◌+◌, ◌<◌, ◌≤◌, All, length, subst, List, [], ◌∷◌, ◌++◌, get_or, replicate, Some, None, ap, sym, refl, ◌∙◌}
+use Rattle.std.proofs.Common.{◌≡◌, ℕ, zero, suc, ◌+◌, ◌<◌, ◌≤◌, All, length, subst, List, [], ◌∷◌, ◌++◌, get_or, replicate, Some, None, ap, sym, refl, ◌∙◌, arith}
 use Rattle.std.proofs.lemmas.List.{replicate-append-replicate}
 use Rattle.mark_core.specs.declared.which.Which.{Which}
 use Rattle.mark_core.specs.declared.which.Which.TheVariants.{Full, Empty}
 use Rattle.mark_core.specs.Account.{part}
-use Rattle.mark_core.specs.World.{Setup}
+use Rattle.mark_core.specs.World.{Setup, Marking}
 use Rattle.mark_core.specs.Shares.{whole}
 use Rattle.mark_core.specs.Runs.{first_heads, first_link, opening}
 use Rattle.mark_core.specs.Step.{Listing, IsLawful, heads_of, marking_of}
 use Rattle.mark_core.specs.Law.{Law}
 use Rattle.mark_core.proofs.Openings.{opening_keeps}
+use Rattle.mark_core.proofs.Weights.{AreNumbered, numbered_opening}
 
 pub one_more : {X : Type 0} (xs ys : List X) (n : ℕ) (x : X) → xs ≡ replicate n x → ys ≡ xs ++ x ∷ [] → ys ≡ replicate (n + 1) x
 one_more xs ys n x before now = now ∙ ap (λ l. l ++ x ∷ []) before ∙ replicate-append-replicate n 1 x
@@ -28,9 +29,9 @@ heads_open s tag full empty = λ t q. at q t
 
 pub opens :
     (s : Listing) (d e : Setup) (tag : ℕ) → d ≡ e → s.full ≡ record { index = None; tag = tag } → s.empty ≡ record { index = Some 0; tag = tag }
-    → ((i : ℕ) → get_or s.links i None ≡ first_link d.buffers i) → s.marks ≡ replicate d.objects 0 → s.slots ≡ replicate d.buffers (Some []) → s.accounts ≡ part whole ∷ []
+    → ((i : ℕ) → get_or s.links i None ≡ first_link d.buffers i) → s.marks ≡ replicate d.objects 0 → s.slots ≡ replicate d.buffers (Some []) → s.idle ≡ 0 → s.accounts ≡ part whole ∷ []
     → marking_of s ≡ opening e tag
-opens s d e tag same full empty links marks slots accounts = opened ∙ ap (λ (x : Setup). opening x tag) same
+opens s d e tag same full empty links marks slots idle accounts = opened ∙ ap (λ (x : Setup). opening x tag) same
   where
     opened : marking_of s ≡ opening d tag
     opened = λ t. record {
@@ -38,6 +39,7 @@ opens s d e tag same full empty links marks slots accounts = opened ∙ ap (λ (
       link = λ i. links i t;
       mark = λ o. (ap (λ ms. get_or ms o 0) marks ∙ zero_at d.objects o) t;
       slots = slots t;
+      idle = idle t;
       accounts = accounts t;
     }
 
@@ -48,11 +50,14 @@ pub lawful_opening :
 lawful_opening s e tag opened same links slots marks some few rooted paired =
     let law : Law e (marking_of s) = subst (Law e) (sym opened) (opening_keeps e tag some) in
     let back : e ≡ s.setup = sym same in
+    let one : AreNumbered s.accounts = subst AreNumbered (sym (ap (λ (m : Marking). m.accounts) opened)) (numbered_opening whole (omega arith)) in
     record {
       law = subst (λ (x : Setup). Law x (marking_of s)) back law;
       links = links ∙ ap (λ (x : Setup). x.buffers) back;
       slots = slots ∙ ap (λ (x : Setup). x.buffers) back;
       marks = marks ∙ ap (λ (x : Setup). x.objects) back;
+      numbered = one.numbered;
+      weights = one.weights;
       few = subst (λ (x : Setup). x.buffers ≤ 65534) back few;
       rooted = subst (λ (x : Setup). All (λ o. o < x.objects) x.roots) back rooted;
       paired = subst (λ (x : Setup). All (λ p. (p.0 < x.objects) × (p.1 < x.objects)) x.pairs) back paired;

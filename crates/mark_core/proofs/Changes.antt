@@ -7,7 +7,7 @@ use Rattle.mark_core.specs.declared.which.Which.TheVariants.{Full, Empty}
 use Rattle.mark_core.specs.Lists.{times}
 use Rattle.mark_core.specs.Account.{Account, look_of, no_share}
 use Rattle.mark_core.specs.World.{Setup, Marking, account_at, IsThere, put, put_which}
-use Rattle.mark_core.specs.Event.{Kind, Claim, Finish, Split, Join, Load, LoadLink, StoreLink, Pop, Push, Fail, Allows, effect, popped}
+use Rattle.mark_core.specs.Event.{Kind, Claim, Finish, Split, Join, Load, LoadLink, StoreLink, Pop, Push, Fail, IdleUp, IdleDown, LoadIdle, Allows, effect, popped}
 use Rattle.mark_core.specs.Ownership.{Chain}
 use Rattle.mark_core.specs.Law.{Law}
 use Rattle.mark_core.specs.Runs.{IsListOf, Changes, StacksChange, TagsRise, PopsFindLinks, MarksRise}
@@ -90,10 +90,13 @@ module _ (e : Setup) (m : Marking) (law : Law e m) (w : ℕ) (a : Account) (ther
   effect_changes (LoadLink p) can q old new c n = chain_one m.link (m.head q).index new old n c
   effect_changes (StoreLink i l) can q old new c n = store_leaves q i l (stands_times a.held i can) old new c n
   effect_changes (Pop p) can q old new c n =
-      pop_takes p q can.1.0 can.2.0 can.0.0 can.1.1 can.2.1 old new c
-      (subst (λ k. IsListOf (popped m w a p (Some can.1.0) k) q new) can.2.1 (subst (λ x. IsListOf (popped m w a p x (look_of a p).link) q new) can.1.1 n))
+      pop_takes p q can.0.1.0 can.0.2.0 can.0.0.0 can.0.1.1 can.0.2.1 old new c
+      (subst (λ k. IsListOf (popped m w a p (Some can.0.1.0) k) q new) can.0.2.1 (subst (λ x. IsListOf (popped m w a p x (look_of a p).link) q new) can.0.1.1 n))
   effect_changes (Push p i items) can q old new c n = push_puts p q i can.2 old new c n
   effect_changes (Fail p) can q old new c n = chain_one m.link (m.head q).index new old n c
+  effect_changes IdleUp can q old new c n = chain_one m.link (m.head q).index new old n c
+  effect_changes IdleDown can q old new c n = chain_one m.link (m.head q).index new old n c
+  effect_changes LoadIdle can q old new c n = chain_one m.link (m.head q).index new old n c
 
 pub stacks_change : StacksChange
 stacks_change e m event law can q old new c n =
@@ -120,6 +123,9 @@ effect_rises m w a (Pop p) q = go (m.head p).index (look_of a p).link
     go None k = inl refl
 effect_rises m w a (Push p i items) q = tag_after m p q (Some i)
 effect_rises m w a (Fail p) q = inl refl
+effect_rises m w a IdleUp q = inl refl
+effect_rises m w a IdleDown q = inl refl
+effect_rises m w a LoadIdle q = inl refl
 
 pub tags_rise : TagsRise
 tags_rise m event q = effect_rises m event.worker (account_at m.accounts event.worker) event.kind q
@@ -152,6 +158,9 @@ effect_marks e m law w a there (Pop p) can o = go (m.head p).index (look_of a p)
     go None k = omega arith
 effect_marks e m law w a there (Push p i items) can o = omega arith
 effect_marks e m law w a there (Fail p) can o = omega arith
+effect_marks e m law w a there IdleUp can o = omega arith
+effect_marks e m law w a there IdleDown can o = omega arith
+effect_marks e m law w a there LoadIdle can o = omega arith
 
 pub marks_rise : MarksRise
 marks_rise e m event law can o =

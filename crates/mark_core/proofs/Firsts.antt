@@ -7,12 +7,12 @@ use Rattle.tagged_index.specs.Head.{Head}
 use Rattle.mark_core.specs.declared.which.Which.{Which}
 use Rattle.mark_core.specs.declared.which.Which.TheVariants.{Full, Empty}
 use Rattle.mark_core.specs.Lists.{StandsAt}
-use Rattle.mark_core.specs.Account.{Account, look_of, part, no_share, after_claim, after_finish, after_split, after_join, after_load, after_load_link, after_push}
+use Rattle.mark_core.specs.Account.{Account, look_of, part, no_share, after_claim, after_finish, after_split, after_join, after_load, after_load_link, after_push, after_idle_up, after_idle_down, after_load_idle}
 use Rattle.mark_core.specs.World.{Setup, Marking, account_at}
-use Rattle.mark_core.specs.Event.{Kind, Claim, Finish, Split, Join, Load, LoadLink, StoreLink, Pop, Push, Fail, Event, Allows, IsPossible, effect, happens, popped, last_link}
+use Rattle.mark_core.specs.Event.{Kind, Claim, Finish, Split, Join, Load, LoadLink, StoreLink, Pop, Push, Fail, IdleUp, IdleDown, LoadIdle, Event, Allows, IsPossible, effect, happens, popped, last_link}
 use Rattle.mark_core.specs.Shares.{whole}
 use Rattle.mark_core.specs.Runs.{Run, first_heads, opening}
-use Rattle.mark_core.specs.Counts.{Counts, LeadTo, add_counts, all_counted, count_failure, count_load, counted, counts_at, no_counts}
+use Rattle.mark_core.specs.Counts.{Counts, LeadTo, add_counts, all_counted, count_failure, count_load, count_load_idle, counted, counts_at, no_counts}
 use Rattle.mark_core.specs.Conclusions.{FailuresFollowChanges, FirstTagsAreFirst, HadHead, HasChanged, LoadedHeadsWere, PushesFollowChanges}
 use Rattle.mark_core.proofs.Places.{at_get_or, at_push, at_set}
 use Rattle.mark_core.proofs.Changes.{tags_rise}
@@ -72,6 +72,9 @@ module _ (S : Which → Head → Type 0) where
   effect_knows m w a (Pop q) all own heads = popped_knows m w a q (m.head q).index (look_of a q).link all own
   effect_knows m w a (Push q i items) all own heads = set_all Knows m.accounts w (after_push q i items a) all own
   effect_knows m w a (Fail q) all own heads = all
+  effect_knows m w a IdleUp all own heads = set_all Knows m.accounts w (after_idle_up a) all own
+  effect_knows m w a IdleDown all own heads = set_all Knows m.accounts w (after_idle_down a) all own
+  effect_knows m w a LoadIdle all own heads = set_all Knows m.accounts w (after_load_idle m.idle a) all own
 
   happens_knows : (e : Setup) (m : Marking) (event : Event) → IsPossible e m event → OfEach Knows m.accounts → ((q : Which) → S q (m.head q)) → OfEach Knows (happens m event).accounts
   happens_knows e m event can all heads =
@@ -132,6 +135,9 @@ module _ (C : Type 0) where
   counted_fails m counts w (StoreLink i l) all fail = all
   counted_fails m counts w (Pop q) all fail = all
   counted_fails m counts w (Push q i items) all fail = all
+  counted_fails m counts w IdleUp all fail = all
+  counted_fails m counts w IdleDown all fail = all
+  counted_fails m counts w LoadIdle all fail = set_all Failed counts w (count_load_idle (counts_at counts w)) all (at_fails counts w all)
 
   -- open pushes, after an event: those of before, or one on full
   abbrev Pushed : Account → Type 0
@@ -169,6 +175,9 @@ module _ (C : Type 0) where
   effect_pushed m w a (Push Full i items) all own others push = set_all Pushed m.accounts w (after_push Full i items a) all (λ h. push i items refl)
   effect_pushed m w a (Push Empty i items) all own others push = set_all Pushed m.accounts w (after_push Empty i items a) all own
   effect_pushed m w a (Fail q) all own others push = all
+  effect_pushed m w a IdleUp all own others push = set_all Pushed m.accounts w (after_idle_up a) all own
+  effect_pushed m w a IdleDown all own others push = set_all Pushed m.accounts w (after_idle_down a) all own
+  effect_pushed m w a LoadIdle all own others push = set_all Pushed m.accounts w (after_load_idle m.idle a) all own
 
 -- a head of the stack q: its tag is at least the first, and with the first tag it is the first head
 abbrev IsFirstOr : Setup → Which → Head → Type 0

@@ -12,9 +12,11 @@ pub mod Counting
 pub mod Changes
 pub mod Firsts
 pub mod Parity
+pub mod Quiet
 pub mod Closing
 pub mod Taking
 pub mod Vectors
 pub mod Within
+pub mod Weights
 pub mod Steps
 pub mod Begins

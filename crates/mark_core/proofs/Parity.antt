@@ -5,7 +5,7 @@ use Rattle.mark_core.specs.declared.which.Which.{Which}
 use Rattle.mark_core.specs.declared.which.Which.TheVariants.{Full, Empty}
 use Rattle.mark_core.specs.Account.{Account, look_of, no_share}
 use Rattle.mark_core.specs.World.{Setup, Marking, IsThere, put_which}
-use Rattle.mark_core.specs.Event.{Kind, Claim, Finish, Split, Join, Load, LoadLink, StoreLink, Pop, Push, Fail, Event, Allows, IsPossible, effect, happens, popped}
+use Rattle.mark_core.specs.Event.{Kind, Claim, Finish, Split, Join, Load, LoadLink, StoreLink, Pop, Push, Fail, IdleUp, IdleDown, LoadIdle, Event, Allows, IsPossible, effect, happens, popped}
 use Rattle.mark_core.specs.Law.{Law}
 use Rattle.mark_core.specs.Runs.{Changes, IsListOf, Run, opening}
 use Rattle.mark_core.specs.Conclusions.{TagsKeepParity, one_stack, push_count, pushes_among}
@@ -58,14 +58,17 @@ module _ (e : Setup) (m : Marking) (law : Law e m) (w : ℕ) (a : Account) (ther
   effect_parity (LoadLink p) can q old new c = same_list m q old new c
   effect_parity (StoreLink i l) can q old new c = same_list m q old new c
   effect_parity (Pop p) can q old new c =
-      let i = can.1.0 in
-      let l = can.2.0 in
+      let i = can.0.1.0 in
+      let l = can.0.2.0 in
       let first : popped m w a p (m.head p).index (look_of a p).link ≡ popped m w a p (Some i) (look_of a p).link =
-      ap (λ x. popped m w a p x (look_of a p).link) can.1.1 in
-      let second : popped m w a p (Some i) (look_of a p).link ≡ popped m w a p (Some i) (Some l) = ap (λ x. popped m w a p (Some i) x) can.2.1 in
+      ap (λ x. popped m w a p x (look_of a p).link) can.0.1.1 in
+      let second : popped m w a p (Some i) (look_of a p).link ≡ popped m w a p (Some i) (Some l) = ap (λ x. popped m w a p (Some i) x) can.0.2.1 in
       omega (arith, ap (λ (n : Marking). (n.head q).tag) (first ∙ second), pop_parity m.head p q l old new c)
   effect_parity (Push p i items) can q old new c = push_parity m.head p q i old new c
   effect_parity (Fail p) can q old new c = same_list m q old new c
+  effect_parity IdleUp can q old new c = same_list m q old new c
+  effect_parity IdleDown can q old new c = same_list m q old new c
+  effect_parity LoadIdle can q old new c = same_list m q old new c
 
 happens_parity :
     (e : Setup) (m : Marking) (event : Event) → Law e m → IsPossible e m event → (q : Which) (old new : List ℕ) → IsListOf m q old → IsListOf (happens m event) q new

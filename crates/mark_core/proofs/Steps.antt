@@ -2,13 +2,14 @@
 use Rattle.std.proofs.Common.{◌≡◌, ℕ, ◌<◌, ◌≤◌, Bool, true, false, Result, Ok, Err, IfErr, IfOk, All, ap, sym, subst, ◌∙◌}
 use Rattle.std.proofs.lemmas.List.{get_or_default}
 use Rattle.mark_core.specs.Account.{Account, no_share}
-use Rattle.mark_core.specs.World.{Setup, account_at, IsThere}
+use Rattle.mark_core.specs.World.{Setup, Marking, account_at, IsThere}
 use Rattle.mark_core.specs.Event.{Kind, Event, Allows}
 use Rattle.mark_core.specs.Law.{Law}
 use Rattle.mark_core.specs.Step.{Listing, IsLawful, HasAccount, HasNumber, CanStep, MayDo, Tries, Follows, Steps, marking_of}
 use Rattle.mark_core.proofs.Places.{at_get_or}
 use Rattle.mark_core.proofs.Runs.{happens_keeps}
 use Rattle.mark_core.proofs.Within.{stands_here, is_there}
+use Rattle.mark_core.proofs.Weights.{AreNumbered, happens_numbered}
 
 -- no step of an account that is not there
 pub no_account : (l : Listing) (w : ℕ) (kind : Kind) → ¬ HasAccount l w → ¬ CanStep l (record { worker = w; kind = kind })
@@ -60,11 +61,15 @@ pub lawful_after : (old new : Listing) (event : Event) → IsLawful old → Foll
 lawful_after old new event lawful f =
     let law : Law old.setup (marking_of new) = subst (Law old.setup) (sym f.marking) (happens_keeps old.setup (marking_of old) event lawful.law f.possible.0) in
     let same : old.setup ≡ new.setup = sym f.setup in
+    let before : AreNumbered old.accounts = record { numbered = lawful.numbered; weights = lawful.weights } in
+    let after = subst AreNumbered (sym (ap (λ (m : Marking). m.accounts) f.marking)) (happens_numbered old.setup (marking_of old) event before f.possible.0 f.possible.1) in
     record {
       law = subst (λ (e : Setup). Law e (marking_of new)) same law;
       links = f.links ∙ lawful.links ∙ ap (λ (e : Setup). e.buffers) same;
       slots = f.slots ∙ lawful.slots ∙ ap (λ (e : Setup). e.buffers) same;
       marks = f.marks ∙ lawful.marks ∙ ap (λ (e : Setup). e.objects) same;
+      numbered = after.numbered;
+      weights = after.weights;
       few = subst (λ (e : Setup). e.buffers ≤ 65534) same lawful.few;
       rooted = subst (λ (e : Setup). All (λ o. o < e.objects) e.roots) same lawful.rooted;
       paired = subst (λ (e : Setup). All (λ p. (p.0 < e.objects) × (p.1 < e.objects)) e.pairs) same lawful.paired;

@@ -8,7 +8,7 @@ use Rattle.mark_core.specs.declared.which.Which.TheVariants.{Full, Empty}
 use Rattle.mark_core.specs.Lists.{IsPart}
 use Rattle.mark_core.specs.Account.{Account, Look, look_of, no_share, after_claim, after_finish, after_join, after_pop, after_push}
 use Rattle.mark_core.specs.World.{Marking, items_of, account_at, put, put_which}
-use Rattle.mark_core.specs.Event.{Claim, Finish, Join, StoreLink, Pop, Push, popped, CanClaim, CanFinish, CanPop}
+use Rattle.mark_core.specs.Event.{Claim, Finish, Join, StoreLink, Pop, Push, popped, IsBusy, CanClaim, CanFinish, CanPop}
 use Rattle.mark_core.specs.Step.{Listing, IsLawful, Does, Tries, heads_of, with_head, exchanged, marking_of, MayPush}
 use Rattle.std.specs.Bool.{OnTrue}
 use Rattle.mark_core.proofs.Taking.{false_is_not_true}
@@ -60,15 +60,17 @@ pub record PopTold (head : Head) (a : Account) (q : Which) (i : ℕ) (l : Option
   pub shows : (look_of a q).head ≡ Some head
   pub top : head.index ≡ Some i
   pub link : (look_of a q).link ≡ Some l
+  pub busy : IsBusy a
 
 pub pop_told :
     (head : Head) (a : Account) (q : Which) (i : ℕ) (l : Option ℕ) (look : Look) (now : Head)
-    → look ≡ look_of a q → now ≡ head → look.head ≡ Some now → now.index ≡ Some i → look.link ≡ Some l → PopTold head a q i l
-pop_told head a q i l look now looked loaded shows top link =
+    → look ≡ look_of a q → now ≡ head → look.head ≡ Some now → now.index ≡ Some i → look.link ≡ Some l → IsBusy a → PopTold head a q i l
+pop_told head a q i l look now looked loaded shows top link busy =
     record {
       shows = sym (ap (λ (x : Look). x.head) looked) ∙ shows ∙ ap Some loaded;
       top = sym (ap (λ (x : Head). x.index) loaded) ∙ top;
       link = sym (ap (λ (x : Look). x.link) looked) ∙ link;
+      busy = busy;
     }
 
 module _ (s : Listing) (w : ℕ) (a b c : Account) (there : w < length s.accounts) (is_a : a ≡ get_or s.accounts w a) (is_b : b ≡ get_or s.accounts w b) where
@@ -78,13 +80,13 @@ module _ (s : Listing) (w : ℕ) (a b c : Account) (there : w < length s.account
   same_b : b ≡ account_at s.accounts w
   same_b = account_here s.accounts w b there is_b
 
-  pub does_claim : (o f : ℕ) (marks : List ℕ) → o < length s.marks → CanClaim s.setup o a → f ≡ get_or s.marks o 0 → marks ≡ set s.marks o (max f 1) → c ≡ after_claim o f b → Does s w (Claim o) (record s { marks = marks; accounts = set s.accounts w c })
+  pub does_claim : (o f : ℕ) (marks : List ℕ) → o < length s.marks → CanClaim s.setup o a × IsBusy a → f ≡ get_or s.marks o 0 → marks ≡ set s.marks o (max f 1) → c ≡ after_claim o f b → Does s w (Claim o) (record s { marks = marks; accounts = set s.accounts w c })
   does_claim o f marks inside can found raised new =
       let mark : ℕ = get_or s.marks o 0 in
       let written : marks ≡ set s.marks o (max mark 1) = raised ∙ ap (λ x. set s.marks o (max x 1)) found in
       let last : c ≡ after_claim o mark (account_at s.accounts w) = new ∙ ap (λ x. after_claim o x b) found ∙ ap (after_claim o mark) same_b in
       record {
-        allowed = subst (CanClaim s.setup o) same_a can;
+        allowed = subst (λ (x : Account). CanClaim s.setup o x × IsBusy x) same_a can;
         marking =
             ap (λ (ms : List ℕ). record (marking_of s) { mark = λ j. get_or ms j 0; accounts = set s.accounts w c }) written
             ∙ ap (λ f. record (marking_of s) { mark = f; accounts = set s.accounts w c }) (put_in s.marks o (max mark 1) 0 inside)
@@ -134,7 +136,7 @@ module _ (s : Listing) (w : ℕ) (a b c : Account) (there : w < length s.account
       let linked_here : (look_of here q).link ≡ Some l = subst (λ (x : Account). (look_of x q).link ≡ Some l) same_a told.link in
       let can : CanPop now (look_of a q) = ((told.shows, low), (i, told.top), (l, told.link)) in
       record {
-        allowed = subst (λ (x : Account). CanPop now (look_of x q)) same_a can;
+        allowed = subst (λ (x : Account). CanPop now (look_of x q) × IsBusy x) same_a (can, told.busy);
         marking =
             marking_headed tables q h
             ∙ ap (λ x. record (marking_of tables) { head = put_which q x (heads_of s) }) next
@@ -158,7 +160,7 @@ module _ (s : Listing) (w : ℕ) (a b c : Account) (there : w < length s.account
       let same = tables_headed tables q h in
       let part_here = subst (λ (x : Account). IsPart items x.charge) same_b part in
       record {
-        allowed = ((may.head, low), (may.held, part_here, may.fits, may.bare), may.link);
+        allowed = ((may.head, low), (may.held, part_here, may.fits, may.bare), may.link, may.busy);
         marking =
             marking_headed tables q h
             ∙ ap (λ x. record (marking_of tables) { head = put_which q x (heads_of s) }) next
@@ -177,7 +179,7 @@ module _ (s : Listing) (w : ℕ) (a b c : Account) (there : w < length s.account
       → Tries s w (Pop q) done new
   tries_pop q i l inside told slot emptied read gone changed true new low next =
       subst (Does s w (Pop q)) (sym next) (does_pop q i l inside told (low.0 refl) (after (heads_of s q) l) refl slot emptied read gone changed)
-  tries_pop q i l inside told slot emptied read gone changed false new low next = λ can. false_is_not_true (low.1 can.0.1)
+  tries_pop q i l inside told slot emptied read gone changed false new low next = λ can. false_is_not_true (low.1 can.0.0.1)
 
   pub tries_push :
       (q : Which) (i : ℕ) (items : List ℕ) → MayPush s w q i items → IsPart items b.charge → c ≡ after_push q i items b
@@ -209,8 +211,8 @@ module _ (s : Listing) (w : ℕ) (a b c : Account) (there : w < length s.account
 pub may_push :
     (s : Listing) (w : ℕ) (a : Account) → w < length s.accounts → a ≡ get_or s.accounts w a
     → (q : Which) (i : ℕ) (items : List ℕ) (look : Look) (now : Head) → look ≡ look_of a q → now ≡ heads_of s q → look.head ≡ Some now
-    → Contains a.held i → length items ≤ s.setup.size → (q ≡ Empty → items ≡ []) → get_or s.links i None ≡ now.index → MayPush s w q i items
-may_push s w a inside is q i items look now looked loaded shows held fits bare link =
+    → Contains a.held i → length items ≤ s.setup.size → (q ≡ Empty → items ≡ []) → get_or s.links i None ≡ now.index → (q ≡ Full → IsBusy a) → MayPush s w q i items
+may_push s w a inside is q i items look now looked loaded shows held fits bare link busy =
     let here : a ≡ account_at s.accounts w = account_here s.accounts w a inside is in
     let head : (look_of a q).head ≡ Some (heads_of s q) = sym (ap (λ (l : Look). l.head) looked) ∙ shows ∙ ap Some loaded in
     record {
@@ -219,6 +221,7 @@ may_push s w a inside is q i items look now looked loaded shows held fits bare l
       fits = fits;
       bare = bare;
       link = link ∙ ap (λ (h : Head). h.index) loaded;
+      busy = subst (λ (x : Account). q ≡ Full → IsBusy x) here busy;
     }
 
 -- a buffer that may be pushed is one that a head can hold

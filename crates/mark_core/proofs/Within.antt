@@ -10,7 +10,7 @@ use Rattle.mark_core.specs.Lists.{StandsAt, times}
 use Rattle.mark_core.specs.Account.{Account, look_of, no_share}
 use Rattle.mark_core.specs.World.{account_at, IsThere}
 use Rattle.mark_core.specs.Event.{CanClaim}
-use Rattle.mark_core.specs.Step.{Listing, IsLawful, heads_of, marking_of}
+use Rattle.mark_core.specs.Step.{Listing, IsLawful, heads_of, marking_of, weight}
 use Rattle.mark_core.proofs.Places.{at_below, at_get_or}
 use Rattle.mark_core.proofs.Sums.{stands_times, terms_le}
 use Rattle.mark_core.proofs.Chains.{chain_rest, recent_link}
@@ -73,6 +73,9 @@ module _ (s : Listing) (lawful : IsLawful s) where
         let in_rest = chain_top m.link (m.link i) rest.0 j rest.2 (same ∙ e) in
         let in_stack : 0 < times j (lawful.law.stack q) = omega (arith, ap (times j) rest.1) in
         omega (arith, lawful.few, stacked_below s.setup.buffers m.head m.link m.accounts lawful.law.stack o q j in_stack)
+
+    pub idles_within : (v : ℕ) (b : Account) → v ≢ w → v < length s.accounts → b ≡ get_or s.accounts v b → a.idle + b.idle < 2 ^ 32
+    idles_within v b other inside at = omega (arith, lawful.numbered, lawful.weights, terms_le weight s.accounts w v a b other here (stands_here s.accounts v b inside at))
 
     pub shares_within : (v : ℕ) (b : Account) → v ≢ w → v < length s.accounts → b ≡ get_or s.accounts v b → a.share + b.share < 2 ^ 32
     shares_within v b other inside at =

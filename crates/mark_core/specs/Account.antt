@@ -1,5 +1,5 @@
 -- An account: what one worker has, and what it knows. Then what each event does to the account that takes part in it.
-use Rattle.std.specs.Prelude.{ℕ, ◌+◌, ◌-◌, ◌==◌, if◌then◌else◌, Bool, true, false, ◌&&◌, ◌||◌, List, [], ◌∷◌, ◌++◌, Option, Some, None, is_some}
+use Rattle.std.specs.Prelude.{ℕ, ◌+◌, ◌-◌, ◌==◌, if◌then◌else◌, Bool, true, false, ◌&&◌, ◌||◌, List, [], ◌∷◌, ◌++◌, Option, Some, None, is_some, is_none}
 use Rattle.tagged_index.specs.Head.{Head}
 use Rattle.mark_core.specs.declared.which.Which.{Which}
 use Rattle.mark_core.specs.declared.which.Which.TheVariants.{Full, Empty}
@@ -27,6 +27,16 @@ pub record Account : Type 0 where
   pub empty : Look
   -- it pushed on full, and has not loaded a full head without a buffer since
   pub open_push : Bool
+  -- its idle number, and the idle word that it last loaded
+  pub idle : ℕ
+  pub last_idle : Option ℕ
+  -- it loaded a full head without a buffer, since it was split off and since its own last push on full
+  pub found : Bool
+  -- it gave units to another, and it pushed on full since it first did
+  pub parted : Bool
+  pub pushed : Bool
+  -- it was put together with another
+  pub joined : Bool
 
 abbrev pub look_of : Account → Which → Look
 look_of a Full = a.full
@@ -48,11 +58,17 @@ part units =
       full = blank;
       empty = blank;
       open_push = false;
+      idle = 0;
+      last_idle = None;
+      found = false;
+      parted = false;
+      pushed = false;
+      joined = false;
     }
 
 -- what is left of an account that was put into another
 abbrev pub no_share : Account
-no_share = part 0
+no_share = record (part 0) { joined = true }
 
 -- a claim of the object o, whose mark was found so: o is seen, and where it was not marked the account answers for it
 abbrev pub after_claim : ℕ → ℕ → Account → Account
@@ -65,10 +81,10 @@ after_finish o a = record a { charge = remove_one o a.charge; finished = a.finis
 
 -- units go to another account
 abbrev pub after_split : ℕ → Account → Account
-after_split units a = record a { share = a.share - units }
+after_split units a = record a { share = a.share - units; parted = true }
 
--- two accounts put together: lists and shares are added, the first's last heads and links stay, and so does an open
--- push of either
+-- two accounts put together: lists, shares and idle numbers are added, what the first last loaded and found stays, and
+-- so does an open push of either
 abbrev pub after_join : Account → Account → Account
 after_join a b =
     record {
@@ -80,13 +96,23 @@ after_join a b =
       full = a.full;
       empty = a.empty;
       open_push = a.open_push || b.open_push;
+      idle = a.idle + b.idle;
+      last_idle = a.last_idle;
+      found = a.found;
+      parted = a.parted;
+      pushed = a.pushed;
+      joined = true;
     }
 
--- the head of a stack was loaded: the link loaded before is forgotten, and a full head without a buffer ends an open
--- push
+-- the head of a stack was loaded: the link loaded before is forgotten, and a full head without a buffer is found, and
+-- ends an open push
 abbrev pub after_load : Which → Head → Account → Account
 after_load Full h a =
-    record a { full = record { head = Some h; link = None }; open_push = a.open_push && is_some h.index }
+    record a {
+      full = record { head = Some h; link = None };
+      open_push = a.open_push && is_some h.index;
+      found = a.found || is_none h.index;
+    }
 after_load Empty h a = record a { empty = record { head = Some h; link = None } }
 
 -- the link of the last head's buffer was loaded
@@ -98,12 +124,30 @@ after_load_link Empty l a = record a { empty = record { head = a.empty.head; lin
 abbrev pub after_pop : ℕ → List ℕ → Account → Account
 after_pop i items a = record a { held = a.held ++ i ∷ []; charge = a.charge ++ items }
 
--- whether a push is open after a push on this stack
-abbrev pub opened : Which → Bool → Bool
-opened Full was = true
-opened Empty was = was
+-- what a push on this stack leaves of a note: a push on full sets it so, and one on empty leaves it as it was
+abbrev pub on_full : Which → Bool → Bool → Bool
+on_full Full set was = set
+on_full Empty set was = was
 
--- the buffer i was pushed with these items: it is no longer held, and they leave the charge
+-- the buffer i was pushed with these items: it is no longer held, and they leave the charge. On full the push is open,
+-- what was found counts no more, and it is noted where units were given away before
 abbrev pub after_push : Which → ℕ → List ℕ → Account → Account
 after_push q i items a =
-    record a { held = remove_one i a.held; charge = without items a.charge; open_push = opened q a.open_push }
+    record a {
+      held = remove_one i a.held;
+      charge = without items a.charge;
+      open_push = on_full q true a.open_push;
+      found = on_full q false a.found;
+      pushed = on_full q (a.pushed || a.parted) a.pushed;
+    }
+
+-- the account went idle, and came back
+abbrev pub after_idle_up : Account → Account
+after_idle_up a = record a { idle = a.idle + 1 }
+
+abbrev pub after_idle_down : Account → Account
+after_idle_down a = record a { idle = a.idle - 1 }
+
+-- the idle word was loaded
+abbrev pub after_load_idle : ℕ → Account → Account
+after_load_idle n a = record a { last_idle = Some n }

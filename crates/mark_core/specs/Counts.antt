@@ -4,11 +4,11 @@ use Rattle.tagged_index.specs.Head.{Head}
 use Rattle.mark_core.specs.declared.which.Which.{Which}
 use Rattle.mark_core.specs.declared.which.Which.TheVariants.{Full, Empty}
 use Rattle.mark_core.specs.World.{Setup, Marking}
-use Rattle.mark_core.specs.Event.{Kind, Split, Join, Load, Fail, Event, happens}
+use Rattle.mark_core.specs.Event.{Kind, Split, Join, Load, Fail, LoadIdle, Event, happens}
 use Rattle.mark_core.specs.Runs.{opening, Run}
 
 pub record Counts : Type 0 where
-  -- loads of a head
+  -- loads of a head, and of the idle word
   pub loads : ℕ
   -- loads of the full head, and of the empty one, that found no buffer
   pub full_empties : ℕ
@@ -27,6 +27,10 @@ none_found h = if is_none h.index then 1 else 0
 abbrev pub count_load : Which → Head → Counts → Counts
 count_load Full h c = record c { loads = c.loads + 1; full_empties = c.full_empties + none_found h }
 count_load Empty h c = record c { loads = c.loads + 1; empty_empties = c.empty_empties + none_found h }
+
+-- the idle word was loaded
+abbrev pub count_load_idle : Counts → Counts
+count_load_idle c = record c { loads = c.loads + 1 }
 
 -- an exchange failed
 abbrev pub count_failure : Counts → Counts
@@ -53,6 +57,7 @@ counted m counts w (Fail q) = slice_set counts w (count_failure (counts_at count
 counted m counts w (Split units) = counts ++ no_counts ∷ []
 counted m counts w (Join v) =
     slice_set (slice_set counts w (add_counts (counts_at counts w) (counts_at counts v))) v no_counts
+counted m counts w LoadIdle = slice_set counts w (count_load_idle (counts_at counts w))
 counted m counts w kind = counts
 
 -- the counts of all accounts after these events, the first of which happens to this marking

@@ -1,11 +1,11 @@
 -- The events: when each is possible, and what it does. Each is one step on a shared word, but for split and join, which
 -- touch none.
-use Rattle.std.specs.Prelude.{◌≡◌, ◌≢◌, ◌⊎◌, ℕ, ◌<◌, ◌≤◌, max, List, [], ◌∷◌, ◌++◌, length, Option, Some, None, Contains, slice_set, slice_index_or}
+use Rattle.std.specs.Prelude.{◌≡◌, ◌≢◌, ◌⊎◌, ℕ, ◌+◌, ◌-◌, ◌%◌, ◌^◌, ◌<◌, ◌≤◌, max, true, List, [], ◌∷◌, ◌++◌, length, Option, Some, None, Contains, slice_set, slice_index_or}
 use Rattle.tagged_index.specs.Head.{Head, after, last_tag}
 use Rattle.mark_core.specs.declared.which.Which.{Which}
-use Rattle.mark_core.specs.declared.which.Which.TheVariants.{Empty}
+use Rattle.mark_core.specs.declared.which.Which.TheVariants.{Full, Empty}
 use Rattle.mark_core.specs.Lists.{IsPart}
-use Rattle.mark_core.specs.Account.{Account, Look, look_of, part, no_share, after_claim, after_finish, after_split, after_join, after_load, after_load_link, after_pop, after_push}
+use Rattle.mark_core.specs.Account.{Account, Look, look_of, part, no_share, after_claim, after_finish, after_split, after_join, after_load, after_load_link, after_pop, after_push, after_idle_up, after_idle_down, after_load_idle}
 use Rattle.mark_core.specs.World.{Setup, Marking, items_of, account_at, IsThere, put, put_which}
 
 pub data Kind : Type 0 where
@@ -29,11 +29,21 @@ pub data Kind : Type 0 where
   Push : Which → ℕ → List ℕ → Kind
   -- an exchange of the head that found another one
   Fail : Which → Kind
+  -- add one to the idle word
+  IdleUp : Kind
+  -- take one from the idle word
+  IdleDown : Kind
+  -- load the idle word
+  LoadIdle : Kind
 
 -- what the account of a worker does
 pub record Event : Type 0 where
   pub worker : ℕ
   pub kind : Kind
+
+-- an account with one unit and an idle number other than 0 is idle, and each other one is busy
+abbrev pub IsBusy : Account → Type 0
+IsBusy a = (a.share ≢ 1) ⊎ (a.idle ≡ 0)
 
 -- an account may claim a root, and a successor of an object that it answers for
 abbrev pub CanClaim : Setup → ℕ → Account → Type 0
@@ -60,19 +70,37 @@ CanPop now look = CanExchange now look × ((i : ℕ) × (now.index ≡ Some i)) 
 abbrev pub CanGive : Setup → Which → ℕ → List ℕ → Account → Type 0
 CanGive e q i items a = Contains a.held i × IsPart items a.charge × (length items ≤ e.size) × (q ≡ Empty → items ≡ [])
 
--- the account w, which is a, may do this
+-- an account of one unit that answers for nothing may go idle, once it found the full stack empty
+abbrev pub CanIdle : Account → Type 0
+CanIdle a = (a.share ≡ 1) × (a.idle ≡ 0) × (a.charge ≡ []) × (a.found ≡ true)
+
+-- and come back
+abbrev pub CanWake : Account → Type 0
+CanWake a = (a.share ≡ 1) × (a.idle ≡ 1)
+
+-- the account w, which is a, may do this. An idle account claims nothing, pops nothing, and pushes nothing on full
 abbrev pub Allows : Setup → Marking → ℕ → Account → Kind → Type 0
-Allows e m w a (Claim o) = CanClaim e o a
+Allows e m w a (Claim o) = CanClaim e o a × IsBusy a
 Allows e m w a (Finish o) = CanFinish e o a
 Allows e m w a (Split units) = CanSplit units a
 Allows e m w a (Join v) = (v ≢ w) × ((b : Account) × IsThere m.accounts v b)
 Allows e m w a (Load q) = Unit {0}
 Allows e m w a (LoadLink q) = (h : Head) × (i : ℕ) × ((look_of a q).head ≡ Some h) × (h.index ≡ Some i)
 Allows e m w a (StoreLink i l) = Contains a.held i
-Allows e m w a (Pop q) = CanPop (m.head q) (look_of a q)
+Allows e m w a (Pop q) = CanPop (m.head q) (look_of a q) × IsBusy a
 Allows e m w a (Push q i items) =
-    CanExchange (m.head q) (look_of a q) × CanGive e q i items a × (m.link i ≡ (m.head q).index)
+    CanExchange (m.head q) (look_of a q) × CanGive e q i items a × (m.link i ≡ (m.head q).index) × (q ≡ Full → IsBusy a)
 Allows e m w a (Fail q) = (h : Head) × ((look_of a q).head ≡ Some h) × (m.head q ≢ h)
+Allows e m w a IdleUp = CanIdle a
+Allows e m w a IdleDown = CanWake a
+Allows e m w a LoadIdle = Unit {0}
+
+-- a word with one added, and with one taken away
+abbrev pub word_up : ℕ → ℕ
+word_up n = (n + 1) % 2 ^ 64
+
+abbrev pub word_down : ℕ → ℕ
+word_down n = (n + (2 ^ 64 - 1)) % 2 ^ 64
 
 -- the link that a head leads to
 abbrev pub link_from : (ℕ → Option ℕ) → Option ℕ → Option ℕ
@@ -115,6 +143,9 @@ effect m w a (Push q i items) =
       accounts = slice_set m.accounts w (after_push q i items a);
     }
 effect m w a (Fail q) = m
+effect m w a IdleUp = record m { idle = word_up m.idle; accounts = slice_set m.accounts w (after_idle_up a) }
+effect m w a IdleDown = record m { idle = word_down m.idle; accounts = slice_set m.accounts w (after_idle_down a) }
+effect m w a LoadIdle = record m { accounts = slice_set m.accounts w (after_load_idle m.idle a) }
 
 -- an event is possible where its account is there and may do it
 abbrev pub IsPossible : Setup → Marking → Event → Type 0

@@ -9,4 +9,5 @@ pub mod Law
 pub mod Runs
 pub mod Counts
 pub mod Conclusions
+pub mod Quiet
 pub mod Step

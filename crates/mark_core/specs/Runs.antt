@@ -28,6 +28,7 @@ opening e tag =
       link = first_link e.buffers;
       mark = λ o. 0;
       slots = replicate e.buffers (Some []);
+      idle = 0;
       accounts = part whole ∷ [];
     }
 

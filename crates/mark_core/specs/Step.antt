@@ -1,13 +1,14 @@
 -- What `step` is given and what it answers.
-use Rattle.std.specs.Prelude.{◌≡◌, ℕ, ◌<◌, ◌≤◌, Bool, MatchBool, List, [], length, All, Contains, Option, Some, None, slice_index, slice_index_or, vec_items}
+use Rattle.std.specs.Prelude.{◌≡◌, ℕ, ◌<◌, ◌≤◌, max, min, Bool, MatchBool, List, [], length, All, Contains, Option, Some, None, slice_index, slice_index_or, vec_items}
 use Rattle.tagged_index.specs.Head.{Head, after}
 use Rattle.mark_core.specs.declared.which.Which.{Which}
 use Rattle.mark_core.specs.declared.which.Which.TheVariants.{Full, Empty}
+use Rattle.mark_core.specs.Lists.{total}
 use Rattle.mark_core.specs.declared.event.Kind as given
 use Rattle.mark_core.specs.declared.event.Event as given_event
 use Rattle.mark_core.specs.Account.{Account, look_of}
 use Rattle.mark_core.specs.World.{Setup, Marking, account_at}
-use Rattle.mark_core.specs.Event.{Kind, Claim, Finish, Split, Join, Load, LoadLink, StoreLink, Pop, Push, Fail, Event, Allows, effect, IsPossible, happens}
+use Rattle.mark_core.specs.Event.{Kind, Claim, Finish, Split, Join, Load, LoadLink, StoreLink, Pop, Push, Fail, IdleUp, IdleDown, LoadIdle, Event, IsBusy, Allows, effect, IsPossible, happens}
 use Rattle.mark_core.specs.Law.{Law}
 
 -- a marking as lists, with its setup: what callers see of a `World`
@@ -18,6 +19,7 @@ pub record Listing : Type 0 where
   pub links : List (Option ℕ)
   pub marks : List ℕ
   pub slots : List (Option (List ℕ))
+  pub idle : ℕ
   pub accounts : List Account
 
 abbrev pub heads_of : Listing → Which → Head
@@ -32,6 +34,7 @@ marking_of l =
       link = λ i. slice_index_or l.links i None;
       mark = λ o. slice_index l.marks o;
       slots = l.slots;
+      idle = l.idle;
       accounts = l.accounts;
     }
 
@@ -47,6 +50,9 @@ kind_of (given.TheVariants.StoreLink i l) = StoreLink i l
 kind_of (given.TheVariants.Pop q) = Pop q
 kind_of (given.TheVariants.Push q i items) = Push q i (vec_items items)
 kind_of (given.TheVariants.Fail q) = Fail q
+kind_of given.TheVariants.IdleUp = IdleUp
+kind_of given.TheVariants.IdleDown = IdleDown
+kind_of given.TheVariants.LoadIdle = LoadIdle
 
 abbrev pub event_of : {A : Type 0} → given_event.Event A → Event
 event_of event = record { worker = event.worker; kind = kind_of event.kind }
@@ -60,12 +66,19 @@ with_head l Empty h = record l { empty = h }
 abbrev pub exchanged : Listing → Which → Option ℕ → Listing
 exchanged l q index = with_head l q (after (heads_of l q) index)
 
+-- what an account counts for among the accounts that were made: one while it is there, and no less than its idle number
+abbrev pub weight : Account → ℕ
+weight a = max a.idle (min a.share 1)
+
 -- what holds between two events: the law, and a place for each buffer and each object
 pub record IsLawful (l : Listing) : Type 0 where
   pub law : Law l.setup (marking_of l)
   pub links : length l.links ≡ l.setup.buffers
   pub slots : length l.slots ≡ l.setup.buffers
   pub marks : length l.marks ≡ l.setup.objects
+  -- each account has a number, and the idle numbers together are no more than the accounts
+  pub numbered : length l.accounts ≤ 4294967295
+  pub weights : total weight l.accounts ≤ length l.accounts
   -- each buffer is an index that a head can hold
   pub few : l.setup.buffers ≤ 65534
   -- roots and pairs are of objects
@@ -100,6 +113,7 @@ pub record MayPush (l : Listing) (w : ℕ) (q : Which) (i : ℕ) (items : List �
   pub fits : length items ≤ l.setup.size
   pub bare : q ≡ Empty → items ≡ []
   pub link : slice_index_or l.links i None ≡ (heads_of l q).index
+  pub busy : q ≡ Full → IsBusy (account_at l.accounts w)
 
 -- a split needs a number for the new account, and 4,294,967,295 accounts have one
 abbrev pub HasNumber : Kind → List Account → Type 0

@@ -26,6 +26,8 @@ pub record Marking : Type 0 where
   pub mark : ℕ → ℕ
   -- for each buffer its items, and None while an account holds it
   pub slots : List (Option (List ℕ))
+  -- the idle word: the sum of the idle numbers, as a word has it
+  pub idle : ℕ
   pub accounts : List Account
 
 -- the items in a slot

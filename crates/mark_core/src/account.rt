@@ -1,10 +1,12 @@
 //! What one worker has, and what it knows.
 ghost use Rattle.std.specs.Prelude.{◌≡◌, ◌↔◌, ◌<◌, ◌≤◌, ◌+◌, ◌^◌, ℕ, IsTrue, OnOk, Contains};
 ghost use Rattle.std.specs.Bool.{OnTrue};
-ghost use Rattle.mark_core.specs.Account.{part, look_of, after_claim, after_finish};
+ghost use Rattle.mark_core.specs.Account.{part, no_share, look_of, after_claim, after_finish};
 ghost use Rattle.mark_core.specs.Account.{after_split, after_join, after_load, after_load_link};
 ghost use Rattle.mark_core.specs.Account.{after_pop, after_push};
-ghost use Rattle.mark_core.specs.Event.{CanClaim, CanFinish, CanSplit};
+ghost use Rattle.mark_core.specs.Account.{after_idle_up, after_idle_down, after_load_idle};
+ghost use Rattle.mark_core.specs.Event.{CanClaim, CanFinish, CanIdle, CanSplit, CanWake, IsBusy};
+ghost use Rattle.mark_core.specs.declared.which.Which.TheVariants.{Full};
 ghost use Rattle.mark_core.specs.Lists.{IsPart};
 ghost use Rattle.mark_core.specs.World.{items_of};
 
@@ -29,6 +31,12 @@ pub struct Account<A: Allocator> {
     full: Look,
     empty: Look,
     open_push: bool,
+    idle: u32,
+    last_idle: Option<u64>,
+    found: bool,
+    parted: bool,
+    pushed: bool,
+    joined: bool,
 }
 
 impl<A: Allocator> Model for Account<A> {
@@ -45,6 +53,12 @@ impl<A: Allocator> Model for Account<A> {
       full = a.full;
       empty = a.empty;
       open_push = a.open_push;
+      idle = a.idle;
+      last_idle = a.last_idle;
+      found = a.found;
+      parted = a.parted;
+      pushed = a.pushed;
+      joined = a.joined;
     } };
 }
 
@@ -62,7 +76,22 @@ impl<A: Allocator + Copy> Account<A> {
             full: Look::blank(),
             empty: Look::blank(),
             open_push: false,
+            idle: 0,
+            last_idle: None,
+            found: false,
+            parted: false,
+            pushed: false,
+            joined: false,
         }
+    }
+
+    /// What is left of an account that was put into another.
+    pub fn gone(alloc: A) -> Self
+        ensures { result ≡ no_share }
+    {
+        let mut account = Account::new(alloc, 0);
+        account.joined = true;
+        account
     }
 }
 
@@ -104,10 +133,34 @@ impl<A: Allocator> Account<A> {
         self.held.contains(buffer)
     }
 
-    pub fn may_claim(&self, setup: &Setup<A>, object: u32) -> bool
+    /// Whether the account is not idle.
+    pub fn is_busy(&self) -> bool
+        ensures { IsTrue result ↔ IsBusy self.now }
+    {
+        self.share != 1 || self.idle == 0
+    }
+
+    /// Whether the account may push on this stack: on full, it is not idle.
+    pub fn may_push_on(&self, which: Which) -> bool
+        ensures { IsTrue result ↔ (which ≡ Full → IsBusy self.now) }
+    {
+        match which {
+            Which::Full => self.is_busy(),
+            Which::Empty => true,
+        }
+    }
+
+    /// Whether the object is a root or a successor of an object that the account answers for.
+    fn reaches(&self, setup: &Setup<A>, object: u32) -> bool
         ensures { IsTrue result ↔ CanClaim setup.now object self.now }
     {
         setup.is_root(object) || setup.has_pair_from(self.charge.as_slice(), object)
+    }
+
+    pub fn may_claim(&self, setup: &Setup<A>, object: u32) -> bool
+        ensures { IsTrue result ↔ (CanClaim setup.now object self.now × IsBusy self.now) }
+    {
+        self.reaches(setup, object) && self.is_busy()
     }
 
     pub fn may_finish(&self, setup: &Setup<A>, object: u32) -> bool
@@ -120,6 +173,18 @@ impl<A: Allocator> Account<A> {
         ensures { IsTrue result ↔ CanSplit units self.now }
     {
         0 < units && units < self.share
+    }
+
+    pub fn may_idle(&self) -> bool
+        ensures { IsTrue result ↔ CanIdle self.now }
+    {
+        self.share == 1 && self.idle == 0 && self.charge.is_empty() && self.found
+    }
+
+    pub fn may_wake(&self) -> bool
+        ensures { IsTrue result ↔ CanWake self.now }
+    {
+        self.share == 1 && self.idle == 1
     }
 
     /// Sees an object marked whose mark was found so, and answers for it where it was white.
@@ -148,11 +213,13 @@ impl<A: Allocator> Account<A> {
         ensures { self.new ≡ after_split units self.old }
     {
         self.share -= units;
+        self.parted = true;
     }
 
     /// Takes another account in.
     pub fn join(&mut self, other: &Account<A>) -> Result<(), OutOfMemory>
-        requires { self.old.share + other.now.share < 2 ^ 32 }
+        requires shares { self.old.share + other.now.share < 2 ^ 32 }
+        requires idles { self.old.idle + other.now.idle < 2 ^ 32 }
         ensures { OnOk result (self.new ≡ after_join self.old other.now) }
     {
         self.held.append(other.held.as_slice())?;
@@ -161,6 +228,8 @@ impl<A: Allocator> Account<A> {
         self.finished.append(other.finished.as_slice())?;
         self.share += other.share;
         self.open_push = self.open_push || other.open_push;
+        self.idle += other.idle;
+        self.joined = true;
         Ok(())
     }
 
@@ -172,6 +241,7 @@ impl<A: Allocator> Account<A> {
             Which::Full => {
                 self.full = Look::of(head);
                 self.open_push = self.open_push && head.index().is_some();
+                self.found = self.found || head.index().is_none();
             }
             Which::Empty => self.empty = Look::of(head),
         }
@@ -210,7 +280,32 @@ impl<A: Allocator> Account<A> {
         let _ = self.held.take_one(buffer);
         if which == Which::Full {
             self.open_push = true;
+            self.found = false;
+            self.pushed = self.pushed || self.parted;
         }
         true
+    }
+
+    /// Goes idle.
+    pub fn idle_up(&mut self)
+        requires { self.old.idle ≡ 0 }
+        ensures { self.new ≡ after_idle_up self.old }
+    {
+        self.idle += 1;
+    }
+
+    /// Comes back.
+    pub fn idle_down(&mut self)
+        requires { self.old.idle ≡ 1 }
+        ensures { self.new ≡ after_idle_down self.old }
+    {
+        self.idle -= 1;
+    }
+
+    /// Notes that this idle word was loaded.
+    pub fn load_idle(&mut self, word: u64)
+        ensures { self.new ≡ after_load_idle word self.old }
+    {
+        self.last_idle = Some(word);
     }
 }

@@ -26,6 +26,13 @@ pub enum Kind<A: Allocator = Global> {
     Push(Which, u32, Vec<u32, A>),
     /// Tries an exchange of the head of a stack, and finds another head than the one loaded last.
     Fail(Which),
+    /// Goes idle: adds one to the idle word. The account has one unit and answers for nothing, and it found the full
+    /// stack empty since it was split off and since its own last push there.
+    IdleUp,
+    /// Comes back: takes one from the idle word.
+    IdleDown,
+    /// Loads the idle word.
+    LoadIdle,
 }
 
 /// One step of one worker.

@@ -4,6 +4,7 @@ ghost use Rattle.mark_core.specs.Runs.{PopsFindLinks, MarksRise, ClosedIsTold};
 ghost use Rattle.mark_core.specs.Runs.{AccountsHaveEachOnce, AccountsAreApart};
 ghost use Rattle.mark_core.specs.Conclusions.{FailuresFollowChanges, FirstTagsAreFirst, ListsKeepLaw};
 ghost use Rattle.mark_core.specs.Conclusions.{LoadedHeadsWere, PushesFollowChanges, TagsKeepParity};
+ghost use Rattle.mark_core.specs.Quiet.{QuietIsDone};
 
 /// The law of a marking, after every list of events of any number of workers, splits and joins
 /// included. It does nothing: its contract is the law.
@@ -27,6 +28,9 @@ ghost use Rattle.mark_core.specs.Conclusions.{LoadedHeadsWere, PushesFollowChang
 ///   makes the stack one buffer longer or shorter.
 /// - `failures`, `pushes`: an account counts a failed exchange only where a head has changed since
 ///   the opening, and has an open push only where the full head has.
+/// - `quiet`: where all accounts but the opening one are idle, no account was joined, and the opening one has pushed
+///   nothing on full since it first gave units away, the full stack has no buffer, and no account but the opening one
+///   answers for anything.
 pub fn all_runs_keep_law()
     ensures law { RunsKeepLaw }
     ensures events { EventsKeepLaw }
@@ -43,4 +47,5 @@ pub fn all_runs_keep_law()
     ensures parity { TagsKeepParity }
     ensures failures { FailuresFollowChanges }
     ensures pushes { PushesFollowChanges }
+    ensures quiet { QuietIsDone }
 {}

@@ -5,6 +5,7 @@ ghost use Rattle.mark_core.specs.Step.{HasAccount, heads_of, with_head};
 ghost use Rattle.mark_core.specs.World.{account_at};
 
 mod act;
+mod idle;
 mod loads;
 mod marks;
 mod opening;
@@ -28,6 +29,7 @@ pub struct State<A: Allocator> {
     links: Vec<Option<u32>, A>,
     marks: Vec<u8, A>,
     slots: Vec<Option<Numbers<A>>, A>,
+    idle: u64,
     accounts: Vec<Account<A>, A>,
 }
 
@@ -43,6 +45,7 @@ impl<A: Allocator> Model for State<A> {
       links = s.links.items;
       marks = s.marks.items;
       slots = s.slots.items;
+      idle = s.idle;
       accounts = s.accounts.items;
     } };
 }

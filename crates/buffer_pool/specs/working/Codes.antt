@@ -1,5 +1,5 @@
 -- How the logic stores an account, a setup, a book, an event and a log.
-use Rattle.std.specs.Prelude.{◌≡◌, ◌⊎◌, ℕ, Bool, true, false, List, Option, refl}
+use Rattle.std.specs.Prelude.{◌≡◌, ◌⊎◌, ℕ, Bool, true, false, List, Option, Some, None, refl}
 use Rattle.std.proofs.Common.{inl, inr}
 use Rattle.std.specs.Coded.{Coded, code_by, coded×, coded⊎, coded_ℕ, coded_bool, coded_list, coded_option}
 use Rattle.tagged_index.specs.Head.{Head}
@@ -7,7 +7,7 @@ use Rattle.mark_core.specs.Account.{Account, Look}
 use Rattle.mark_core.specs.World.{Setup}
 use Rattle.mark_core.specs.declared.which.Which.{Which}
 use Rattle.mark_core.specs.declared.which.Which.TheVariants.{Full, Empty}
-use Rattle.mark_core.specs.Event.{Kind, Claim, Finish, Split, Join, Load, LoadLink, StoreLink, Pop, Push, Fail, Event}
+use Rattle.mark_core.specs.Event.{Kind, Claim, Finish, Split, Join, Load, LoadLink, StoreLink, Pop, Push, Fail, IdleUp, IdleDown, LoadIdle, Event}
 use Rattle.buffer_pool.specs.Book.{Book}
 use Rattle.buffer_pool.specs.Story.{Log}
 
@@ -21,24 +21,35 @@ look_code =
     code_by (Option Head × Option (Option ℕ)) (coded× (coded_option head_code) (coded_option (coded_option coded_ℕ)))
     (λ l. (l.head, l.link)) (λ p. record { head = p.0; link = p.1 }) (λ _. refl)
 
--- the share and the open push, the lists, and what was loaded last
+-- the share and the open push, the lists, what was loaded last, and what is noted for going idle
 abbrev pub account_code : Coded Account
 account_code =
-    code_by ((ℕ × Bool) × ((List ℕ × List ℕ) × ((List ℕ × List ℕ) × (Look × Look))))
-    (coded× (coded× coded_ℕ coded_bool)
+    code_by (((ℕ × Bool) × ((List ℕ × List ℕ) × ((List ℕ × List ℕ) × (Look × Look)))) × ((ℕ × Option ℕ) × ((Bool × Bool) × (Bool × Bool))))
+    (coded× (coded× (coded× coded_ℕ coded_bool)
     (coded× (coded× (coded_list coded_ℕ) (coded_list coded_ℕ))
     (coded× (coded× (coded_list coded_ℕ) (coded_list coded_ℕ)) (coded× look_code look_code))))
-    (λ a. ((a.share, a.open_push), ((a.held, a.charge), ((a.seen, a.finished), (a.full, a.empty)))))
+    (coded× (coded× coded_ℕ (coded_option coded_ℕ)) (coded× (coded× coded_bool coded_bool) (coded× coded_bool coded_bool))))
+    (λ a.
+    (
+      ((a.share, a.open_push), ((a.held, a.charge), ((a.seen, a.finished), (a.full, a.empty)))),
+      ((a.idle, a.last_idle), ((a.found, a.parted), (a.pushed, a.joined))),
+    ))
     (λ p.
     record {
-      share = p.0.0;
-      open_push = p.0.1;
-      held = p.1.0.0;
-      charge = p.1.0.1;
-      seen = p.1.1.0.0;
-      finished = p.1.1.0.1;
-      full = p.1.1.1.0;
-      empty = p.1.1.1.1;
+      share = p.0.0.0;
+      open_push = p.0.0.1;
+      held = p.0.1.0.0;
+      charge = p.0.1.0.1;
+      seen = p.0.1.1.0.0;
+      finished = p.0.1.1.0.1;
+      full = p.0.1.1.1.0;
+      empty = p.0.1.1.1.1;
+      idle = p.1.0.0;
+      last_idle = p.1.0.1;
+      found = p.1.1.0.0;
+      parted = p.1.1.0.1;
+      pushed = p.1.1.1.0;
+      joined = p.1.1.1.1;
     })
     (λ _. refl)
 
@@ -98,8 +109,9 @@ Numbered = (ℕ ⊎ ℕ) ⊎ (ℕ ⊎ ℕ)
 abbrev Stacked : Type 0
 Stacked = (Which ⊎ Which) ⊎ (Which ⊎ Which)
 
+-- the last has an option of a truth value for each of the three kinds of the idle word
 abbrev Written : Type 0
-Written = (ℕ × Option ℕ) ⊎ ((Which × ℕ) × List ℕ)
+Written = ((ℕ × Option ℕ) ⊎ ((Which × ℕ) × List ℕ)) ⊎ Option Bool
 
 abbrev parts_of : Kind → Numbered ⊎ (Stacked ⊎ Written)
 parts_of (Claim o) = inl (inl (inl o))
@@ -110,8 +122,11 @@ parts_of (Load q) = inr (inl (inl (inl q)))
 parts_of (LoadLink q) = inr (inl (inl (inr q)))
 parts_of (Pop q) = inr (inl (inr (inl q)))
 parts_of (Fail q) = inr (inl (inr (inr q)))
-parts_of (StoreLink i l) = inr (inr (inl (i, l)))
-parts_of (Push q i items) = inr (inr (inr ((q, i), items)))
+parts_of (StoreLink i l) = inr (inr (inl (inl (i, l))))
+parts_of (Push q i items) = inr (inr (inl (inr ((q, i), items))))
+parts_of IdleUp = inr (inr (inr None))
+parts_of IdleDown = inr (inr (inr (Some false)))
+parts_of LoadIdle = inr (inr (inr (Some true)))
 
 abbrev kind_of : Numbered ⊎ (Stacked ⊎ Written) → Kind
 kind_of (inl (inl (inl o))) = Claim o
@@ -122,8 +137,11 @@ kind_of (inr (inl (inl (inl q)))) = Load q
 kind_of (inr (inl (inl (inr q)))) = LoadLink q
 kind_of (inr (inl (inr (inl q)))) = Pop q
 kind_of (inr (inl (inr (inr q)))) = Fail q
-kind_of (inr (inr (inl p))) = StoreLink p.0 p.1
-kind_of (inr (inr (inr p))) = Push p.0.0 p.0.1 p.1
+kind_of (inr (inr (inl (inl p)))) = StoreLink p.0 p.1
+kind_of (inr (inr (inl (inr p)))) = Push p.0.0 p.0.1 p.1
+kind_of (inr (inr (inr None))) = IdleUp
+kind_of (inr (inr (inr (Some false)))) = IdleDown
+kind_of (inr (inr (inr (Some true)))) = LoadIdle
 
 pub same_kind : (kind : Kind) → kind_of (parts_of kind) ≡ kind
 same_kind (Claim o) = refl
@@ -136,6 +154,9 @@ same_kind (Pop q) = refl
 same_kind (Fail q) = refl
 same_kind (StoreLink i l) = refl
 same_kind (Push q i items) = refl
+same_kind IdleUp = refl
+same_kind IdleDown = refl
+same_kind LoadIdle = refl
 
 abbrev numbered_code : Coded Numbered
 numbered_code = coded⊎ (coded⊎ coded_ℕ coded_ℕ) (coded⊎ coded_ℕ coded_ℕ)
@@ -144,7 +165,9 @@ abbrev stacked_code : Coded Stacked
 stacked_code = coded⊎ (coded⊎ which_code which_code) (coded⊎ which_code which_code)
 
 abbrev written_code : Coded Written
-written_code = coded⊎ (coded× coded_ℕ (coded_option coded_ℕ)) (coded× (coded× which_code coded_ℕ) (coded_list coded_ℕ))
+written_code =
+    coded⊎ (coded⊎ (coded× coded_ℕ (coded_option coded_ℕ)) (coded× (coded× which_code coded_ℕ) (coded_list coded_ℕ)))
+    (coded_option coded_bool)
 
 abbrev pub kind_code : Coded Kind
 kind_code =

@@ -10,6 +10,7 @@ use Rattle.buffer_pool.specs.working.Table.{Reading, head_word, link_word}
 pub record HasFirstWords (count tag linked : ℕ) (words : List ℕ) : Type 0 where
   pub word_count : length words ≡ count
   pub heads : (q : Which) → head_of (slice_index words (head_word q)) ≡ first_heads tag q
+  pub idle : slice_index words 8 ≡ 0
   pub links : (i : ℕ) → i + 1 < linked → slice_index words (link_word i) ≡ i + 2
   pub rest : (k : ℕ) → 31 + linked ≤ k → slice_index words k ≡ 0
 

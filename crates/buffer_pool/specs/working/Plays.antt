@@ -4,14 +4,15 @@ use Rattle.std.specs.Prelude.{Contains, ◌≡◌, ℕ, suc, ◌<◌, ◌≤◌,
 use Rattle.atomic_table.specs.Table.{Me, Step}
 use Rattle.tagged_index.specs.Head.{head_of, index_of, after, last_tag}
 use Rattle.mark_core.specs.declared.which.Which.{Which}
-use Rattle.mark_core.specs.declared.which.Which.TheVariants.{Empty}
+use Rattle.mark_core.specs.declared.which.Which.TheVariants.{Full, Empty}
 use Rattle.mark_core.specs.Lists.{times, IsPart}
 use Rattle.mark_core.specs.Account.{look_of}
 use Rattle.mark_core.specs.World.{Setup}
-use Rattle.mark_core.specs.Event.{Kind, Event, Claim, Finish, Load, LoadLink, StoreLink, Pop, Push, Fail}
+use Rattle.mark_core.specs.Event.{Kind, Event, Claim, Finish, Load, LoadLink, StoreLink, Pop, Push, Fail, IdleUp, IdleDown, LoadIdle, IsBusy}
 use Rattle.mark_core.specs.Runs.{HasEachOnce}
 use Rattle.buffer_pool.specs.declared.seat_view.SeatView.{SeatView}
-use Rattle.buffer_pool.specs.Book.{Book, loaded, link_loaded, failed, popped, pushed, claimed, finished}
+use Rattle.buffer_pool.specs.Book.{Book, loaded, link_loaded, failed, popped, pushed, claimed, finished, idled, woken, idle_loaded}
+use Rattle.buffer_pool.specs.Calls.{Shows}
 use Rattle.buffer_pool.specs.Story.{Log, Did, deeds}
 use Rattle.buffer_pool.specs.working.Told.{IsSettled, noted}
 use Rattle.buffer_pool.specs.working.Table.{Reading, head_word, link_word, mark_word, free}
@@ -41,6 +42,7 @@ pub record CanPut
   pub bare : q ≡ Empty → r.items b ≡ []
   pub size : r.size b ≡ m.0.book.setup.size
   pub fits : length (r.items b) ≤ m.0.book.setup.size
+  pub busy : q ≡ Full → IsBusy m.0.book.account
 
 -- the seat did just this, which its log tells after it
 abbrev pub Tells : {B : Type 0} → Me (Option B) SeatView → List Kind → Me (Option B) SeatView → Type 0
@@ -118,6 +120,19 @@ module _ {B : Type 0} where
       (o : ℕ) → st.word ≡ mark_word m.0.book.setup o
       → (after ≡ rested m after.0.log (finished o m.0.book)) × ((p : ℕ) → times p after.0.book.account.finished ≤ 1)
       × Tells m (Finish o ∷ []) after
+
+  -- the worker went idle, or came back
+  abbrev pub went_idle : Step (Option B) → Me (Option B) SeatView → ℕ → Me (Option B) SeatView → Type 0
+  went_idle st m n after = (after ≡ rested m after.0.log (idled m.0.book)) × Tells m (IdleUp ∷ []) after
+
+  abbrev pub came_back : Step (Option B) → Me (Option B) SeatView → ℕ → Me (Option B) SeatView → Type 0
+  came_back st m n after = (after ≡ rested m after.0.log (woken m.0.book)) × Tells m (IdleDown ∷ []) after
+
+  -- the idle word was loaded: the worker's story leads to a marking that has it
+  abbrev pub idle_seen : Step (Option B) → Me (Option B) SeatView → ℕ → Me (Option B) SeatView → Type 0
+  idle_seen st m n after =
+      (after ≡ rested m after.0.log (idle_loaded n m.0.book)) × Tells m (LoadIdle ∷ []) after
+      × Shows m.0.book.setup after.0.log.story n
 
   -- the units of a split were noted
   abbrev pub set_aside : Step (Option B) → Me (Option B) SeatView → ℕ → Me (Option B) SeatView → Type 0

@@ -29,6 +29,10 @@ link_word i = 32 + i
 abbrev pub mark_word : Setup → ℕ → ℕ
 mark_word e o = 32 + e.buffers + o
 
+-- the idle word lies 64 bytes from each head
+abbrev pub idle_word : ℕ
+idle_word = 8
+
 -- the account in a view
 abbrev pub account_of : SeatView → Account
 account_of v = v.book.account
@@ -82,6 +86,7 @@ module _ {B : Type 0} (r : Reading B) where
         link = cut e.buffers (λ i. index_of (slice_index s.words (link_word i)));
         mark = λ o. slice_index s.words (mark_word e o);
         slots = map slot_of s.homes;
+        idle = slice_index s.words idle_word;
         accounts = map account_of s.views;
       }
 

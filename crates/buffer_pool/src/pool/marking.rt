@@ -1,6 +1,6 @@
 //! Claims and finishes: the marks of objects.
 ghost use Rattle.std.specs.Prelude.{◌≡◌, ◌↔◌, ◌≤◌, ℕ, [], ◌∷◌, IsTrue};
-ghost use Rattle.mark_core.specs.Event.{CanClaim, CanFinish};
+ghost use Rattle.mark_core.specs.Event.{CanClaim, CanFinish, IsBusy};
 ghost use Rattle.mark_core.specs.Event as events;
 ghost use Rattle.mark_core.specs.Lists.{times};
 ghost use Rattle.buffer_pool.specs.Book.{claimed, finished};
@@ -32,6 +32,7 @@ fn raise_to_claimed<A: Allocator>(
         × (buffers ≡ words.now.key.buffers) }
     requires sound { IsSound seat.old.table_id seat.old.me }
     requires can { CanClaim seat.old.me.0.book.setup object seat.old.me.0.book.account }
+    requires busy { IsBusy seat.old.me.0.book.account }
     ensures same { seat.new.table_id ≡ seat.old.table_id }
     ensures sound { IsSound seat.new.table_id seat.new.me }
     ensures told { seat.new.me ≡ rested seat.old.me seat.new.me.0.log (claimed object result seat.old.me.0.book) }
@@ -69,6 +70,7 @@ impl<A: Allocator> Pool<A> {
     pub fn claim(&self, worker: &mut Worker<A>, object: u32) -> bool
         requires pool { worker.old.pool ≡ self.now }
         requires can { CanClaim worker.old.book.setup object worker.old.book.account }
+        requires busy { IsBusy worker.old.book.account }
         ensures pool { worker.new.pool ≡ worker.old.pool }
         ensures event { (found : ℕ) × (worker.new.book ≡ claimed object found worker.old.book)
             × (IsTrue result ↔ (found ≡ 0)) }

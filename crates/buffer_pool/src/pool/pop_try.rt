@@ -1,5 +1,6 @@
 //! A try of a pop, over its steps.
 ghost use Rattle.std.specs.Prelude.{◌≡◌};
+ghost use Rattle.mark_core.specs.Event.{IsBusy};
 ghost use Rattle.buffer_pool.specs.Calls.{Pops};
 ghost use Rattle.buffer_pool.specs.working.Laid.{IsLaid, IsSound};
 ghost use Rattle.buffer_pool.specs.working.Setups.{setup_of};
@@ -23,6 +24,7 @@ pub(crate) fn pop_from<A: Allocator>(
 ) -> TryPopped<Held<A>>
     requires table { (seat.old.table_id ≡ words.now.table_id) × IsLaid words.now.table_id (setup_of words.now.key) }
     requires sound { IsSound seat.old.table_id seat.old.me }
+    requires busy { IsBusy seat.old.me.0.book.account }
     ensures same { seat.new.table_id ≡ seat.old.table_id }
     ensures sound { IsSound seat.new.table_id seat.new.me }
     ensures pops { Pops which seat.old.me.0.book seat.new.me.0.book result }

@@ -1,6 +1,6 @@
 //! The two stacks, as workers use them.
 ghost use Rattle.std.specs.Prelude.{◌≡◌, ℕ, List, [], ◌∷◌, ◌++◌, Option, MatchResult};
-ghost use Rattle.mark_core.specs.Event.{Load};
+ghost use Rattle.mark_core.specs.Event.{IsBusy, Load};
 ghost use Rattle.buffer_pool.specs.Calls.{LostPops, LostPushes, MayPush, Pops, PopsAtLast, Pushes, PushesAtLast, Sees};
 ghost use Rattle.buffer_pool.specs.Steps.{last_pop, last_push, lost_pops, lost_pushes, pop_steps, push_steps};
 ghost use Rattle.buffer_pool.specs.Story.{Did};
@@ -34,7 +34,8 @@ impl<A: Allocator> Pool<A> {
     /// Tries once to take the buffer on top of a stack. Waits for nobody and takes no memory. An empty stack answers
     /// `Empty` also at the last tag.
     pub fn try_pop(&self, worker: &mut Worker<A>, which: Which) -> TryPopped<Held<A>>
-        requires { worker.old.pool ≡ self.now }
+        requires pool { worker.old.pool ≡ self.now }
+        requires busy { IsBusy worker.old.book.account }
         ensures pool { worker.new.pool ≡ worker.old.pool }
         ensures pops { Pops which worker.old.book worker.new.book result }
         ensures did { Did worker.old.log (pop_steps which result) worker.new.log }
@@ -61,7 +62,8 @@ impl<A: Allocator> Pool<A> {
 
     /// Tries to take the buffer on top of a stack until a try is not lost.
     pub fn pop<R: Wait>(&self, rt: &R, worker: &mut Worker<A>, which: Which) -> Popped<Held<A>>
-        requires { worker.old.pool ≡ self.now }
+        requires pool { worker.old.pool ≡ self.now }
+        requires busy { IsBusy worker.old.book.account }
         ensures pool { worker.new.pool ≡ worker.old.pool }
         ensures pops { PopsAtLast which worker.old.book worker.new.book result }
         ensures did { (lost : ℕ) × Did worker.old.log (lost_pops which lost ++ last_pop which result) worker.new.log }

@@ -4,7 +4,7 @@ ghost use Rattle.std.specs.Option.{ForSome};
 ghost use Rattle.tagged_index.specs.Head.{Head, after, last_tag, low_of};
 ghost use Rattle.mark_core.specs.declared.which.Which.TheVariants.{Empty};
 ghost use Rattle.mark_core.specs.Account.{look_of};
-ghost use Rattle.mark_core.specs.Event.{CanPop, Load, LoadLink, StoreLink as StoreLinkOf};
+ghost use Rattle.mark_core.specs.Event.{CanPop, IsBusy, Load, LoadLink, StoreLink as StoreLinkOf};
 ghost use Rattle.atomic_table.specs.Table.{step};
 ghost use mathlib.Core.Option.{none};
 ghost use Rattle.buffer_pool.specs.working.Buffers.{buffer_reading};
@@ -83,6 +83,7 @@ pub(crate) fn take_top<A: Allocator>(
     requires table { (seat.old.table_id ≡ words.now.table_id) × IsLaid words.now.table_id (setup_of words.now.key) }
     requires sound { IsSound seat.old.table_id seat.old.me × IsBare seat.old.me }
     requires popping { CanPop head (look_of seat.old.me.0.book.account which) }
+    requires busy { IsBusy seat.old.me.0.book.account }
     requires index { head.index ≡ Some index }
     requires next { (l : Option ℕ) × ((look_of seat.old.me.0.book.account which).link ≡ Some l)
         × (next ≡ after head l) }

@@ -41,6 +41,12 @@ impl<A: Allocator + Copy> State<A> {
                 Ok(self.push(w, which, buffer, Numbers::of(items)))
             }
             Kind::Fail(which) => Ok(self.fail(w, which)),
+            Kind::IdleUp => Ok(self.idle_up(w)),
+            Kind::IdleDown => Ok(self.idle_down(w)),
+            Kind::LoadIdle => {
+                self.load_idle(w);
+                Ok(true)
+            }
         }
     }
 }

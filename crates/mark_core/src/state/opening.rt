@@ -39,6 +39,7 @@ impl<A: Allocator + Copy> State<A> {
             links,
             marks,
             slots,
+            idle: 0,
             accounts,
         })
     }

@@ -50,7 +50,7 @@ impl<A: Allocator + Copy> State<A> {
         if !self.is_there(other) {
             return Ok(false);
         }
-        let other = mem::replace(&mut self.accounts[place], Account::new(alloc, 0));
+        let other = mem::replace(&mut self.accounts[place], Account::gone(alloc));
         self.accounts[w].join(&other)?;
         Ok(true)
     }

@@ -34,7 +34,11 @@ impl<A: Allocator> State<A> {
         ensures refused { IfErr result (λ _. MayDo self.old w (Pop which)) }
     {
         let now = self.head(which);
-        let look = self.accounts[w].look(which);
+        let account = &self.accounts[w];
+        if !account.is_busy() {
+            return Ok(false);
+        }
+        let look = account.look(which);
         if !look.shows(now) {
             return Ok(false);
         }
@@ -100,6 +104,9 @@ impl<A: Allocator> State<A> {
             return false;
         }
         if !self.setup.takes(which, items) {
+            return false;
+        }
+        if !account.may_push_on(which) {
             return false;
         }
         self.links_to(buffer, now.index())

@@ -164,6 +164,60 @@ fn is_overtaken<A: Allocator + Copy>(replay: &Replay<A>) -> bool {
     }
 }
 
+// Account 1 has one unit, and has found the full stack empty.
+fn one_waits<A: Allocator + Copy>(alloc: A) -> Result<Replay<A>, OutOfMemory> {
+    three_objects(alloc)?
+        .does(0, Kind::Split(1))?
+        .does(1, Kind::Load(Which::Full))
+}
+
+// Account 1 went idle.
+fn one_idle<A: Allocator + Copy>(alloc: A) -> Result<Replay<A>, OutOfMemory> {
+    one_waits(alloc)?.does(1, Kind::IdleUp)
+}
+
+#[test]
+fn an_idle_account_does_nothing_else(rt: HostRuntime) -> Result<(), OutOfMemory> {
+    let alloc = rt.alloc();
+    let unseen = three_objects(alloc)?
+        .does(0, Kind::Split(1))?
+        .does(1, Kind::IdleUp)?;
+    assert!(rt; unseen.world.is_none(), "the full stack was not loaded");
+    let charged = one_waits(alloc)?
+        .does(1, Kind::Claim(1))?
+        .does(1, Kind::IdleUp)?;
+    assert!(rt; charged.world.is_none(), "it answers for an object");
+    let leader = three_objects(alloc)?
+        .does(0, Kind::Load(Which::Full))?
+        .does(0, Kind::IdleUp)?;
+    assert!(rt; leader.world.is_none(), "it has more than one unit");
+
+    assert!(rt; one_idle(alloc)?.does(1, Kind::LoadIdle)?.world.is_some());
+    assert!(rt; one_idle(alloc)?.does(1, Kind::IdleUp)?.world.is_none());
+    assert!(rt; one_idle(alloc)?.does(1, Kind::Claim(1))?.world.is_none());
+    assert!(rt; one_idle(alloc)?.pops(1, Which::Empty)?.world.is_none());
+    let back = one_idle(alloc)?.does(1, Kind::IdleDown)?;
+    assert!(rt; back.does(1, Kind::Claim(1))?.world.is_some());
+    assert!(rt; one_waits(alloc)?.does(1, Kind::IdleDown)?.world.is_none());
+    Ok(())
+}
+
+#[test]
+fn a_push_on_full_ends_what_was_found(rt: HostRuntime) -> Result<(), OutOfMemory> {
+    let alloc = rt.alloc();
+    let pushed = one_waits(alloc)?.pops(1, Which::Empty)?.pushes(1, 0, None)?;
+    assert!(rt; pushed.world.is_some());
+    assert!(rt; pushed.does(1, Kind::IdleUp)?.world.is_none());
+    let popped = one_waits(alloc)?
+        .pops(1, Which::Empty)?
+        .pushes(1, 0, None)?
+        .pops(1, Which::Full)?
+        .does(1, Kind::Load(Which::Full))?
+        .does(1, Kind::IdleUp)?;
+    assert!(rt; popped.world.is_some());
+    Ok(())
+}
+
 #[test]
 fn each_request_may_be_refused(rt: HostRuntime) -> Result<(), OutOfMemory> {
     let mut refused = false;

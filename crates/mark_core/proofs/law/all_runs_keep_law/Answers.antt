@@ -5,6 +5,7 @@ use Rattle.mark_core.proofs.Closing.{each_once, apart, closed_is_told}
 use Rattle.mark_core.proofs.Counting.{lawful_where}
 use Rattle.mark_core.proofs.Firsts.{failures_follow_changes, first_tags_are_first, loaded_heads_were, pushes_follow_changes}
 use Rattle.mark_core.proofs.Parity.{tags_keep_parity}
+use Rattle.mark_core.proofs.Quiet.{quiet_is_done}
 use Rattle.mark_core.proofs.law.all_runs_keep_law.Goals as goal
 
 pub returns-clause-law : goal.returns-clause-law
@@ -48,6 +49,9 @@ returns-clause-pushes c = pushes_follow_changes
 
 pub returns-clause-parity : goal.returns-clause-parity
 returns-clause-parity c = tags_keep_parity
+
+pub returns-clause-quiet : goal.returns-clause-quiet
+returns-clause-quiet c = quiet_is_done
 
 pub returns-clause-first : goal.returns-clause-first
 returns-clause-first c = first_tags_are_first

@@ -1,5 +1,6 @@
 -- so far the tries were lost, and the worker did those alone
 use Rattle.std.proofs.Common.{◌≡◌, ℕ}
+use Rattle.mark_core.specs.Event.{IsBusy}
 use Rattle.buffer_pool.specs.Calls.{LostPops}
 use Rattle.buffer_pool.specs.Steps.{lost_pops}
 use Rattle.buffer_pool.specs.Story.{Did}
@@ -9,3 +10,4 @@ abbrev pub invariant-loop : goal.invariant-loop
 invariant-loop g l =
     (l.worker.pool ≡ l.initial.worker.pool) × LostPops l.which l.initial.worker.book l.worker.book
     × ((lost : ℕ) × Did l.initial.worker.log (lost_pops l.which lost) l.worker.log)
+    × IsBusy l.worker.book.account

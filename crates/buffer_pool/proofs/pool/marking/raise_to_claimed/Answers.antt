@@ -25,7 +25,7 @@ fetch_max-requires g c =
       c.requires.table.0,
       omega (arith, word, below, same, c.requires.table.1.words),
       subst (λ x. Allows (Rule buffer_reading e) z.slots c.args.seat.now.id me x (λ n. max n 1) (claim_made (step z.slots x 1 0 none) me)) (sym word)
-          (claims buffer_reading e z.slots c.args.seat.now.id me c.args.object c.requires.sound.carries c.requires.sound.share c.requires.sound.settled c.requires.can (omega (arith, below, same))),
+          (claims buffer_reading e z.slots c.args.seat.now.id me c.args.object c.requires.sound.carries c.requires.sound.share c.requires.sound.settled c.requires.can c.requires.busy (omega (arith, below, same))),
     )
 
 pub returns-clause-sound : goal.returns-clause-sound

@@ -26,7 +26,7 @@ compare_exchange-requires g c =
       omega (arith, c.head_word-word.ensures, small, c.requires.table.1.words),
       subst (λ p. Allows (Rule buffer_reading e) z.slots c.args.seat.now.id me c.head_word-word.result f (push_tried buffer_reading p (step z.slots c.head_word-word.result c.args.old c.args.new none) me)) c.in-Full.is
           (subst (λ x. Allows (Rule buffer_reading e) z.slots c.args.seat.now.id me x f (push_tried buffer_reading q (step z.slots x c.args.old c.args.new none) me)) (sym c.head_word-word.ensures)
-          (pushes buffer_reading e z.slots c.args.seat.now.id me q c.args.old c.args.new i b can.carried can.out can.share can.settled can.held can.last can.short can.next can.leads can.part can.bare can.size can.fits)),
+          (pushes buffer_reading e z.slots c.args.seat.now.id me q c.args.old c.args.new i b can.carried can.out can.share can.settled can.held can.last can.short can.next can.leads can.part can.bare can.size can.fits can.busy)),
     )
 
 pub compare_exchange-requires-in-Empty : goal.compare_exchange-requires-in-Empty
@@ -44,7 +44,7 @@ compare_exchange-requires-in-Empty g c =
       omega (arith, c.head_word-word.ensures, small, c.requires.table.1.words),
       subst (λ p. Allows (Rule buffer_reading e) z.slots c.args.seat.now.id me c.head_word-word.result f (push_tried buffer_reading p (step z.slots c.head_word-word.result c.args.old c.args.new none) me)) c.in-Empty.is
           (subst (λ x. Allows (Rule buffer_reading e) z.slots c.args.seat.now.id me x f (push_tried buffer_reading q (step z.slots x c.args.old c.args.new none) me)) (sym c.head_word-word.ensures)
-          (pushes buffer_reading e z.slots c.args.seat.now.id me q c.args.old c.args.new i b can.carried can.out can.share can.settled can.held can.last can.short can.next can.leads can.part can.bare can.size can.fits)),
+          (pushes buffer_reading e z.slots c.args.seat.now.id me q c.args.old c.args.new i b can.carried can.out can.share can.settled can.held can.last can.short can.next can.leads can.part can.bare can.size can.fits can.busy)),
     )
 
 pub returns-in-Full-clause-told : goal.returns-in-Full-clause-told

@@ -38,6 +38,7 @@ exchange_for_buffer-requires-clause-put g c =
         bare = λ e. items ∙ c.requires.may.bare e;
         size = size ∙ c.requires.may.size;
         fits = omega (arith, b.fits, size, c.requires.may.size, b.items.ok.0);
+        busy = c.requires.may.busy;
       }),
     )
 

@@ -25,7 +25,7 @@ compare_exchange-requires g c =
       omega (arith, c.head_word.ensures, small, c.requires.table.1.words),
       subst (λ x. Allows (Rule buffer_reading e) z.slots c.args.seat.now.id me x (λ n. either (n == c.word-word.result) c.word.result n) (pop_tried buffer_reading (step z.slots x c.word-word.result c.word.result none) me)) (sym c.head_word.ensures)
           (pops buffer_reading e z.slots c.args.seat.now.id me q c.word-word.result c.word.result c.args.index next.0 c.requires.sound.0.carries c.requires.sound.0.share c.requires.sound.0.settled
-          (c.requires.popping.0.0 ∙ ap {B = Option Head} Some (sym spelled)) (subst (λ (h : Head). h.tag < last_tag) (sym spelled) c.requires.popping.0.1) (ap (λ (h : Head). h.index) spelled ∙ c.requires.index) next.1 (c.word.ensures.spelled ∙ next.2 ∙ ap (λ (h : Head). after h next.0) (sym spelled))),
+          (c.requires.popping.0.0 ∙ ap {B = Option Head} Some (sym spelled)) (subst (λ (h : Head). h.tag < last_tag) (sym spelled) c.requires.popping.0.1) (ap (λ (h : Head). h.index) spelled ∙ c.requires.index) next.1 (c.word.ensures.spelled ∙ next.2 ∙ ap (λ (h : Head). after h next.0) (sym spelled)) c.requires.busy),
     )
 
 pub exchange-requires : goal.exchange-requires

@@ -57,3 +57,12 @@ returns-in-Pop-clause-refused g c = rw c.in-Pop.is (steps_refused c.args.self.no
 pub returns-else-not-has_number-clause-refused : goal.returns-else-not-has_number-clause-refused
 returns-else-not-has_number-clause-refused g c =
     rw c.in-Split.is (steps_refused c.args.self.now c.args.event.worker (Split c.in-Split.units) c.split.result (c.if-not-is_there.ensures.0 refl) (c.if-not-has_number.ensures.0 refl) c.split.ensures.refused)
+
+pub returns-in-IdleUp-clause-done : goal.returns-in-IdleUp-clause-done
+returns-in-IdleUp-clause-done g c = rw c.in-IdleUp.is (steps_of c.args.self.now _ c.args.event.worker _ c.idle_up.result (c.if-not-is_there.ensures.0 refl) tt c.idle_up.ensures)
+
+pub returns-in-IdleDown-clause-done : goal.returns-in-IdleDown-clause-done
+returns-in-IdleDown-clause-done g c = rw c.in-IdleDown.is (steps_of c.args.self.now _ c.args.event.worker _ c.idle_down.result (c.if-not-is_there.ensures.0 refl) tt c.idle_down.ensures)
+
+pub returns-in-LoadIdle-clause-done : goal.returns-in-LoadIdle-clause-done
+returns-in-LoadIdle-clause-done g c = rw c.in-LoadIdle.is (steps_of c.args.self.now _ c.args.event.worker _ true (c.if-not-is_there.ensures.0 refl) tt c.load_idle.ensures)

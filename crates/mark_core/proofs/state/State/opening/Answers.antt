@@ -1,4 +1,4 @@
-use Rattle.std.proofs.Common.{List, [], ◌∷◌, ◌++◌, ap, ◌∙◌}
+use Rattle.std.proofs.Common.{List, [], ◌∷◌, ◌++◌, ap, refl, ◌∙◌}
 use Rattle.mark_core.specs.Account.{Account}
 use Rattle.mark_core.specs.World.{Setup}
 use Rattle.mark_core.specs.Runs.{opening}
@@ -17,8 +17,9 @@ returns-clause-marking g c =
       links = c.in_ok-links.links.items;
       marks = c.in_ok-marks.marks.items;
       slots = c.in_ok-slots.slots.items;
+      idle = 0;
       accounts = c.push.new.self.items;
     }
     in
-    opens tables _ c.args.setup c.setup.inside.first_tag c.setup.view_is c.none.ensures c.of.ensures c.in_ok-links.ensures.links (c.in_ok-marks.ensures.items_if_clones_equal (λ y e. e)) c.in_ok-slots.ensures accounts
+    opens tables _ c.args.setup c.setup.inside.first_tag c.setup.view_is c.none.ensures c.of.ensures c.in_ok-links.ensures.links (c.in_ok-marks.ensures.items_if_clones_equal (λ y e. e)) c.in_ok-slots.ensures refl accounts
     ∙ ap (λ (e : Setup). opening c.args.setup e.first_tag) c.setup.view_is

@@ -1,0 +1,91 @@
+//! Idle workers: each goes idle, comes back, and asks how many are.
+ghost use Rattle.std.specs.Prelude.{◌≡◌, ◌↔◌, ℕ, [], ◌∷◌, IsTrue};
+ghost use Rattle.mark_core.specs.Event.{CanIdle, CanWake, IdleDown, IdleUp, LoadIdle};
+ghost use Rattle.buffer_pool.specs.Book.{idle_loaded, idled, woken};
+ghost use Rattle.buffer_pool.specs.Calls.{Shows};
+ghost use Rattle.buffer_pool.specs.working.Laid.{IsLaid, IsSound};
+ghost use Rattle.buffer_pool.specs.working.Plays.{Tells, rested};
+ghost use Rattle.buffer_pool.specs.working.Setups.{setup_of};
+ghost use Rattle.buffer_pool.specs.Story.{Did};
+
+use crate::layout::IDLE;
+use crate::plays::{ComeBack, GoIdle, SeeIdle};
+use crate::pool::Pool;
+use crate::rules::{Token, Words};
+use crate::worker::Worker;
+use std::alloc::Allocator;
+
+/// Adds one to the idle word.
+fn add_idle<A: Allocator>(words: &Words<A>, seat: &mut Token<A>)
+    requires table { (seat.old.table_id ≡ words.now.table_id) × IsLaid words.now.table_id (setup_of words.now.key) }
+    requires sound { IsSound seat.old.table_id seat.old.me }
+    requires may { CanIdle seat.old.me.0.book.account }
+    ensures same { seat.new.table_id ≡ seat.old.table_id }
+    ensures sound { IsSound seat.new.table_id seat.new.me }
+    ensures told { seat.new.me ≡ rested seat.old.me seat.new.me.0.log (idled seat.old.me.0.book) }
+    ensures did { Tells seat.old.me (IdleUp ∷ []) seat.new.me }
+{
+    words.fetch_add::<GoIdle>(seat, IDLE, 1);
+}
+
+/// Takes one from the idle word.
+fn take_idle<A: Allocator>(words: &Words<A>, seat: &mut Token<A>)
+    requires table { (seat.old.table_id ≡ words.now.table_id) × IsLaid words.now.table_id (setup_of words.now.key) }
+    requires sound { IsSound seat.old.table_id seat.old.me }
+    requires may { CanWake seat.old.me.0.book.account }
+    ensures same { seat.new.table_id ≡ seat.old.table_id }
+    ensures sound { IsSound seat.new.table_id seat.new.me }
+    ensures told { seat.new.me ≡ rested seat.old.me seat.new.me.0.log (woken seat.old.me.0.book) }
+    ensures did { Tells seat.old.me (IdleDown ∷ []) seat.new.me }
+{
+    words.fetch_sub::<ComeBack>(seat, IDLE, 1);
+}
+
+/// Loads the idle word.
+fn load_idle<A: Allocator>(words: &Words<A>, seat: &mut Token<A>) -> u64
+    requires table { (seat.old.table_id ≡ words.now.table_id) × IsLaid words.now.table_id (setup_of words.now.key) }
+    requires sound { IsSound seat.old.table_id seat.old.me }
+    ensures same { seat.new.table_id ≡ seat.old.table_id }
+    ensures sound { IsSound seat.new.table_id seat.new.me }
+    ensures told { seat.new.me ≡ rested seat.old.me seat.new.me.0.log (idle_loaded result seat.old.me.0.book) }
+    ensures did { Tells seat.old.me (LoadIdle ∷ []) seat.new.me }
+    ensures shows { Shows seat.old.me.0.book.setup seat.new.me.0.log.story result }
+{
+    words.load::<SeeIdle>(seat, IDLE)
+}
+
+impl<A: Allocator> Pool<A> {
+    /// Goes idle. The worker has one unit, answers for nothing, and has found the full stack empty since it was split
+    /// off and since its own last push there. One atomic step; waits for nobody.
+    pub fn idle_up(&self, worker: &mut Worker<A>)
+        requires pool { worker.old.pool ≡ self.now }
+        requires may { CanIdle worker.old.book.account }
+        ensures pool { worker.new.pool ≡ worker.old.pool }
+        ensures event { worker.new.book ≡ idled worker.old.book }
+        ensures did { Did worker.old.log (IdleUp ∷ []) worker.new.log }
+    {
+        add_idle(&self.table.shared, &mut worker.seat);
+    }
+
+    /// Comes back. One atomic step; waits for nobody.
+    pub fn idle_down(&self, worker: &mut Worker<A>)
+        requires pool { worker.old.pool ≡ self.now }
+        requires may { CanWake worker.old.book.account }
+        ensures pool { worker.new.pool ≡ worker.old.pool }
+        ensures event { worker.new.book ≡ woken worker.old.book }
+        ensures did { Did worker.old.log (IdleDown ∷ []) worker.new.log }
+    {
+        take_idle(&self.table.shared, &mut worker.seat);
+    }
+
+    /// True exactly where the idle word that it loads is this number. One atomic step; waits for nobody.
+    pub fn all_idle(&self, worker: &mut Worker<A>, workers: u32) -> bool
+        requires { worker.old.pool ≡ self.now }
+        ensures pool { worker.new.pool ≡ worker.old.pool }
+        ensures sees { (word : ℕ) × (worker.new.book ≡ idle_loaded word worker.old.book)
+            × (IsTrue result ↔ (word ≡ workers)) × Shows worker.old.book.setup worker.new.log.story word }
+        ensures did { Did worker.old.log (LoadIdle ∷ []) worker.new.log }
+    {
+        load_idle(&self.table.shared, &mut worker.seat) == u64::from(workers)
+    }
+}

@@ -1,0 +1,399 @@
+-- Idle accounts: what is known of them after each event of a run, and that nothing is left where it is quiet.
+use Rattle.std.proofs.Common.{◌≡◌, ◌≢◌, ◌⊎◌, ℕ, zero, suc, ◌+◌, ◌-◌, ◌%◌, ◌^◌, ◌<◌, ◌≤◌, Bool, true, false, ◌||◌, is_none, List, [], ◌∷◌, ◌++◌, length, length-set, Option, Some, None, Contains, set, slice_index_or, ap, sym, refl, subst, ◌∙◌, inl, inr, ⊎_elim, arith}
+use Rattle.std.proofs.lemmas.Bool.{false≢true}
+use mathlib.Core.Option.{some-injective, some-ne-none}
+use native.Mathlib.Decide.{ℕ_discrete}
+use Rattle.mark_core.specs.declared.which.Which.{Which}
+use Rattle.mark_core.specs.declared.which.Which.TheVariants.{Full, Empty}
+use Rattle.mark_core.specs.Lists.{StandsAt, total, without}
+use Rattle.mark_core.specs.Account.{Account, look_of, part, no_share, after_claim, after_finish, after_split, after_join, after_load, after_load_link, after_pop, after_push, after_idle_up, after_idle_down, after_load_idle}
+use Rattle.mark_core.specs.World.{Setup, Marking, items_of, IsThere}
+use Rattle.mark_core.specs.Event.{Kind, Claim, Finish, Split, Join, Load, LoadLink, StoreLink, Pop, Push, Fail, IdleUp, IdleDown, LoadIdle, Event, IsBusy, Allows, IsPossible, effect, happens, popped, last_link}
+use Rattle.mark_core.specs.Shares.{whole}
+use Rattle.mark_core.specs.Runs.{Run, IsRun, opening}
+use Rattle.mark_core.specs.Quiet.{HasGivenUnits, QuietIsDone}
+use Rattle.mark_core.proofs.Places.{at_below, at_get_or, at_one, at_set, at_push, set_here, set_else}
+use Rattle.mark_core.proofs.Sums.{total-set, total-append, term_le}
+use Rattle.mark_core.proofs.Chains.{chain_none}
+use Rattle.mark_core.proofs.Runs.{runs_keep_law}
+
+-- an account that was not joined has a share. It is not idle, or it has one unit, answers for nothing, and has found the
+-- full stack empty
+abbrev pub IsResting : Account → Type 0
+IsResting a = a.joined ≡ false → (0 < a.share) × ((a.idle ≡ 0) ⊎ ((a.idle ≡ 1) × (a.share ≡ 1) × (a.charge ≡ []) × (a.found ≡ true)))
+
+-- no account was joined, the opening one has pushed nothing on full since it first gave units away, there is another, and
+-- each other one has found the full stack empty
+pub record HaveFound (accounts : List Account) : Type 0 where
+  pub apart : (k : ℕ) (a : Account) → StandsAt accounts k a → a.joined ≡ false
+  pub opening : (a : Account) → StandsAt accounts 0 a → a.pushed ≡ false
+  pub another : 1 < length accounts
+  pub others : (k : ℕ) (a : Account) → 0 < k → StandsAt accounts k a → a.found ≡ true
+
+abbrev pub idle_sum : List Account → ℕ
+idle_sum accounts = total (λ a. a.idle) accounts
+
+-- the idle word is the sum of the idle numbers, and where the accounts have found the full stack empty it is
+pub record IsHushed (idle : ℕ) (top : Option ℕ) (accounts : List Account) : Type 0 where
+  pub counted : idle ≡ idle_sum accounts % 2 ^ 64
+  pub resting : (k : ℕ) (a : Account) → StandsAt accounts k a → IsResting a
+  pub parted : (a : Account) → 1 < length accounts → StandsAt accounts 0 a → a.joined ≡ false → a.parted ≡ true
+  pub emptied : HaveFound accounts → top ≡ None
+
+in_front : {X : Type 0} (xs ys : List X) (i : ℕ) (x : X) → i < length xs → StandsAt (xs ++ ys) i x → StandsAt xs i x
+in_front [] ys i x h at = absurd (omega arith)
+in_front (y ∷ xs) ys zero x h at = at
+in_front (y ∷ xs) ys (suc i) x h at = in_front xs ys i x (omega arith) at
+
+at_end : {X : Type 0} (xs : List X) (y : X) → StandsAt (xs ++ y ∷ []) (length xs) y
+at_end [] y = refl
+at_end (x ∷ xs) y = at_end xs y
+
+or_true : (x y : Bool) → x ≡ true → x || y ≡ true
+or_true true y e = refl
+or_true false y e = absurd (false≢true e)
+
+or_both : (x y : Bool) → y ≡ true → x || y ≡ false → ⊥
+or_both true y p q = false≢true (sym q)
+or_both false y p q = false≢true (sym q ∙ p)
+
+or_none : (x : Bool) (n : Option ℕ) (i : ℕ) → n ≡ Some i → x || is_none n ≡ true → x ≡ true
+or_none true n i some t = refl
+or_none false n i some t = let f : false ≡ true = sym (ap is_none some) ∙ t in absurd (false≢true f)
+
+-- what the account that takes part in an event has after it, where its share and its idle number stay
+module _ (a b : Account) (rest : IsResting a) (share : b.share ≡ a.share) (idle : b.idle ≡ a.idle) (joined : b.joined ≡ a.joined) where
+  -- it answers for the same objects, and still has found what it found
+  same_rest : b.charge ≡ a.charge → (a.found ≡ true → b.found ≡ true) → IsResting b
+  same_rest charge found alone =
+      let r = rest (sym joined ∙ alone) in
+      (omega (arith, r.0, share), ⊎_elim (λ z. inl (idle ∙ z)) (λ o. inr (idle ∙ o.0, share ∙ o.1, charge ∙ o.2, found o.3)) r.1)
+
+  -- it is not idle
+  busy_rest : IsBusy a → IsResting b
+  busy_rest busy alone =
+      let r = rest (sym joined ∙ alone) in
+      (omega (arith, r.0, share), ⊎_elim (λ z. inl (idle ∙ z)) (λ o. ⊎_elim (λ n. absurd (n o.1)) (λ z. inl (idle ∙ z)) busy) r.1)
+
+  -- it answers for something
+  charged_rest : (x : ℕ) → Contains a.charge x → IsResting b
+  charged_rest x here alone =
+      let r = rest (sym joined ∙ alone) in
+      (omega (arith, r.0, share), ⊎_elim (λ z. inl (idle ∙ z)) (λ o. let none : Contains [] x = subst (λ xs. Contains xs x) o.2 here in absurd (omega (arith, none.1))) r.1)
+
+module _ (idle : ℕ) (top : Option ℕ) (accounts : List Account) (s : IsHushed idle top accounts) (w : ℕ) (a : Account) (is : StandsAt accounts w a) where
+  same_here : (k : ℕ) (x : Account) → k ≡ w → StandsAt accounts k x → x ≡ a
+  same_here k x e at = at_one accounts w x a (subst (λ v. StandsAt accounts v x) e at) is
+
+  module _ (b : Account) where
+    here : StandsAt (set accounts w b) w b
+    here = set_here accounts w b a is
+
+    -- what is found after the account changed was found before
+    found_back : (b.joined ≡ false → a.joined ≡ false) → (b.pushed ≡ false → a.pushed ≡ false) → (b.found ≡ true → a.found ≡ true) → HaveFound (set accounts w b) → HaveFound accounts
+    found_back joined pushed found h =
+        record {
+          apart = λ k x at. apart k x at (ℕ_discrete k w);
+          opening = λ x at. opening x at (ℕ_discrete 0 w);
+          another = omega (arith, h.another, length-set accounts w b);
+          others = λ k x later at. others k x later at (ℕ_discrete k w);
+        }
+      where
+        apart : (k : ℕ) (x : Account) → StandsAt accounts k x → Dec (k ≡ w) → x.joined ≡ false
+        apart k x at (yes e) = ap (λ (y : Account). y.joined) (same_here k x e at) ∙ joined (h.apart w b here)
+        apart k x at (no n) = h.apart k x (set_else accounts w k b n ∙ at)
+
+        opening : (x : Account) → StandsAt accounts 0 x → Dec (0 ≡ w) → x.pushed ≡ false
+        opening x at (yes e) = ap (λ (y : Account). y.pushed) (same_here 0 x e at) ∙ pushed (h.opening b (subst (λ v. StandsAt (set accounts w b) v b) (sym e) here))
+        opening x at (no n) = h.opening x (set_else accounts w 0 b n ∙ at)
+
+        others : (k : ℕ) (x : Account) → 0 < k → StandsAt accounts k x → Dec (k ≡ w) → x.found ≡ true
+        others k x later at (yes e) = ap (λ (y : Account). y.found) (same_here k x e at) ∙ found (h.others w b (omega (arith, later, e)) here)
+        others k x later at (no n) = h.others k x later (set_else accounts w k b n ∙ at)
+
+    -- the account changes
+    hushed_put :
+        (idle' : ℕ) (top' : Option ℕ) → idle' ≡ idle_sum (set accounts w b) % 2 ^ 64 → IsResting b → (b.joined ≡ false → a.joined ≡ false) → (a.parted ≡ true → b.parted ≡ true) → (HaveFound (set accounts w b) → top' ≡ None)
+        → IsHushed idle' top' (set accounts w b)
+    hushed_put idle' top' counted rest joined parted emptied = record { counted = counted; resting = resting; parted = λ x more at. given x more at (ℕ_discrete 0 w); emptied = emptied }
+      where
+        resting : (k : ℕ) (x : Account) → StandsAt (set accounts w b) k x → IsResting x
+        resting k x at = ⊎_elim (λ t. subst IsResting t.1 rest) (λ t. s.resting k x t.1) (at_set accounts w k b x at)
+
+        given : (x : Account) → 1 < length (set accounts w b) → StandsAt (set accounts w b) 0 x → Dec (0 ≡ w) → x.joined ≡ false → x.parted ≡ true
+        given x more at (yes e) alone =
+            let t : x ≡ b = at_one (set accounts w b) w x b (subst (λ v. StandsAt (set accounts w b) v x) e at) here in
+            let first : StandsAt accounts 0 a = subst (λ v. StandsAt accounts v a) (sym e) is in
+            ap (λ (y : Account). y.parted) t ∙ parted (s.parted a (omega (arith, more, length-set accounts w b)) first (joined (sym (ap (λ (y : Account). y.joined) t) ∙ alone)))
+        given x more at (no n) alone = s.parted x (omega (arith, more, length-set accounts w b)) (sym (set_else accounts w 0 b n) ∙ at) alone
+
+    counted_same : b.idle ≡ a.idle → idle ≡ idle_sum (set accounts w b) % 2 ^ 64
+    counted_same same =
+        let sums : idle_sum accounts ≡ idle_sum (set accounts w b) = omega (arith, same, total-set (λ (x : Account). x.idle) accounts w a b is) in
+        s.counted ∙ ap (λ n. n % 2 ^ 64) sums
+
+    -- it changes in nothing that others may find
+    hushed_keep : b.idle ≡ a.idle → IsResting b → b.joined ≡ a.joined → b.parted ≡ a.parted → b.pushed ≡ a.pushed → b.found ≡ a.found → IsHushed idle top (set accounts w b)
+    hushed_keep same rest joined parted pushed found =
+        hushed_put idle top (counted_same same) rest (λ h. sym joined ∙ h) (λ h. parted ∙ h) (λ h. s.emptied (found_back (λ p. sym joined ∙ p) (λ p. sym pushed ∙ p) (λ p. sym found ∙ p) h))
+
+    -- a push on full ends what was found
+    hushed_push :
+        (top' : Option ℕ) → b.idle ≡ a.idle → IsResting b → b.joined ≡ a.joined → b.parted ≡ a.parted → b.pushed ≡ (a.pushed || a.parted) → b.found ≡ false
+        → IsHushed idle top' (set accounts w b)
+    hushed_push top' same rest joined parted pushed found =
+        hushed_put idle top' (counted_same same) rest (λ h. sym joined ∙ h) (λ h. parted ∙ h) (λ h. absurd (not_found h (ℕ_discrete 0 w)))
+      where
+        not_found : HaveFound (set accounts w b) → Dec (0 ≡ w) → ⊥
+        not_found h (yes e) =
+            let first : StandsAt accounts 0 a = subst (λ v. StandsAt accounts v a) (sym e) is in
+            let now : StandsAt (set accounts w b) 0 b = subst (λ v. StandsAt (set accounts w b) v b) (sym e) here in
+            or_both a.pushed a.parted (s.parted a (omega (arith, h.another, length-set accounts w b)) first (sym joined ∙ h.apart w b here)) (sym pushed ∙ h.opening b now)
+        not_found h (no n) = false≢true (sym found ∙ h.others w b (omega (arith, n)) here)
+
+  -- units go to a new account, which has found nothing
+  hushed_split : (units : ℕ) → 0 < units → units < a.share → IsHushed idle top (set accounts w (after_split units a) ++ part units ∷ [])
+  hushed_split units least less = record { counted = counted; resting = resting; parted = given; emptied = λ h. absurd (false≢true (h.others (length (set accounts w b)) (part units) (omega (arith, long)) (at_end (set accounts w b) (part units)))) }
+    where
+      b : Account
+      b = after_split units a
+
+      long : 0 < length (set accounts w b)
+      long = omega (arith, at_below accounts w a is, length-set accounts w b)
+
+      counted : idle ≡ idle_sum (set accounts w b ++ part units ∷ []) % 2 ^ 64
+      counted =
+          let sums : idle_sum (set accounts w b) ≡ idle_sum (set accounts w b ++ part units ∷ []) = omega (arith, total-append (λ (x : Account). x.idle) (set accounts w b) (part units ∷ [])) in
+          counted_same b refl ∙ ap (λ n. n % 2 ^ 64) sums
+
+      rest : IsResting b
+      rest alone = let r = s.resting w a is alone in (omega (arith, less), ⊎_elim inl (λ o. absurd (omega (arith, o.1, least, less))) r.1)
+
+      resting : (k : ℕ) (x : Account) → StandsAt (set accounts w b ++ part units ∷ []) k x → IsResting x
+      resting k x at =
+          ⊎_elim (λ t. ⊎_elim (λ u. subst IsResting u.1 rest) (λ u. s.resting k x u.1) (at_set accounts w k b x t))
+          (λ t. subst IsResting t (λ alone. (least, inl refl))) (at_push (set accounts w b) (part units) x k at)
+
+      given : (x : Account) → 1 < length (set accounts w b ++ part units ∷ []) → StandsAt (set accounts w b ++ part units ∷ []) 0 x → x.joined ≡ false → x.parted ≡ true
+      given x more at alone = go (ℕ_discrete 0 w)
+        where
+          old : StandsAt (set accounts w b) 0 x
+          old = in_front (set accounts w b) (part units ∷ []) 0 x long at
+
+          go : Dec (0 ≡ w) → x.parted ≡ true
+          go (yes e) = ap (λ (y : Account). y.parted) (at_one (set accounts w b) w x b (subst (λ v. StandsAt (set accounts w b) v x) e old) (here b))
+          go (no n) = s.parted x (omega (arith, at_below accounts w a is, n)) (sym (set_else accounts w 0 b n) ∙ old) alone
+
+  -- two accounts are put together, and both are noted as joined
+  hushed_join : (v : ℕ) (b : Account) → v ≢ w → StandsAt accounts v b → IsHushed idle top (set (set accounts w (after_join a b)) v no_share)
+  hushed_join v b apart at = record { counted = counted; resting = resting; parted = given; emptied = λ h. absurd (false≢true (sym (h.apart v no_share gone))) }
+    where
+      both : Account
+      both = after_join a b
+
+      still : StandsAt (set accounts w both) v b
+      still = set_else accounts w v both apart ∙ at
+
+      gone : StandsAt (set (set accounts w both) v no_share) v no_share
+      gone = set_here (set accounts w both) v no_share b still
+
+      counted : idle ≡ idle_sum (set (set accounts w both) v no_share) % 2 ^ 64
+      counted =
+          let sums : idle_sum accounts ≡ idle_sum (set (set accounts w both) v no_share) =
+          omega (arith, total-set (λ (x : Account). x.idle) accounts w a both is, total-set (λ (x : Account). x.idle) (set accounts w both) v b no_share still) in
+          s.counted ∙ ap (λ n. n % 2 ^ 64) sums
+
+      resting : (k : ℕ) (x : Account) → StandsAt (set (set accounts w both) v no_share) k x → IsResting x
+      resting k x e =
+          ⊎_elim (λ t. subst IsResting t.1 (λ alone. absurd (false≢true (sym alone))))
+          (λ t. ⊎_elim (λ u. subst IsResting u.1 (λ alone. absurd (false≢true (sym alone)))) (λ u. s.resting k x u.1) (at_set accounts w k both x t.1))
+          (at_set (set accounts w both) v k no_share x e)
+
+      given : (x : Account) → 1 < length (set (set accounts w both) v no_share) → StandsAt (set (set accounts w both) v no_share) 0 x → x.joined ≡ false → x.parted ≡ true
+      given x more e alone =
+          ⊎_elim (λ t. absurd (false≢true (sym alone ∙ sym (ap (λ (y : Account). y.joined) t.1))))
+          (λ t. ⊎_elim (λ u. absurd (false≢true (sym alone ∙ sym (ap (λ (y : Account). y.joined) u.1))))
+          (λ u. s.parted x (omega (arith, more, length-set (set accounts w both) v no_share, length-set accounts w both)) u.1 alone) (at_set accounts w 0 both x t.1))
+          (at_set (set accounts w both) v 0 no_share x e)
+
+-- what is known between two events
+abbrev pub Hushed : Marking → Type 0
+Hushed m = IsHushed m.idle (m.head Full).index m.accounts
+
+-- one added to the sum, and one taken away
+up_counted : (idle n k : ℕ) → idle ≡ n % 2 ^ 64 → k ≡ n + 1 → (idle + 1) % 2 ^ 64 ≡ k % 2 ^ 64
+up_counted idle n k counted more = omega (arith, counted, more)
+
+down_counted : (idle n k : ℕ) → idle ≡ n % 2 ^ 64 → k + 1 ≡ n → (idle + (2 ^ 64 - 1)) % 2 ^ 64 ≡ k % 2 ^ 64
+down_counted idle n k counted less = omega (arith, counted, less)
+
+module _ (e : Setup) (m : Marking) (s : Hushed m) (w : ℕ) (a : Account) (there : IsThere m.accounts w a) where
+  rest : IsResting a
+  rest = s.resting w a there.0
+
+  idle_le : a.idle ≤ idle_sum m.accounts
+  idle_le = term_le (λ (x : Account). x.idle) m.accounts w a there.0
+
+  keep : (b : Account) → b.idle ≡ a.idle → IsResting b → b.joined ≡ a.joined → b.parted ≡ a.parted → b.pushed ≡ a.pushed → b.found ≡ a.found → IsHushed m.idle (m.head Full).index (set m.accounts w b)
+  keep = hushed_keep m.idle (m.head Full).index m.accounts s w a there.0
+
+  load_hushed : (q : Which) → Hushed (effect m w a (Load q))
+  load_hushed Full =
+      let b = after_load Full (m.head Full) a in
+      hushed_put m.idle (m.head Full).index m.accounts s w a there.0 b m.idle (m.head Full).index
+      (counted_same m.idle (m.head Full).index m.accounts s w a there.0 b refl)
+      (same_rest a b rest refl refl refl refl (or_true a.found (is_none (m.head Full).index))) (λ h. h) (λ h. h) (emptied (m.head Full).index refl)
+    where
+      emptied : (n : Option ℕ) → (m.head Full).index ≡ n → HaveFound (set m.accounts w (after_load Full (m.head Full) a)) → (m.head Full).index ≡ None
+      emptied None none h = none
+      emptied (Some i) top h =
+          s.emptied (found_back m.idle (m.head Full).index m.accounts s w a there.0 (after_load Full (m.head Full) a) (λ p. p) (λ p. p) (or_none a.found (m.head Full).index i top) h)
+  load_hushed Empty = keep (after_load Empty (m.head Empty) a) refl (same_rest a (after_load Empty (m.head Empty) a) rest refl refl refl refl (λ h. h)) refl refl refl refl
+
+  link_hushed : (q : Which) (l : Option ℕ) → IsHushed m.idle (m.head Full).index (set m.accounts w (after_load_link q l a))
+  link_hushed Full l = keep (after_load_link Full l a) refl (same_rest a (after_load_link Full l a) rest refl refl refl refl (λ h. h)) refl refl refl refl
+  link_hushed Empty l = keep (after_load_link Empty l a) refl (same_rest a (after_load_link Empty l a) rest refl refl refl refl (λ h. h)) refl refl refl refl
+
+  pop_hushed : (q : Which) (i : ℕ) (l : Option ℕ) → (m.head q).index ≡ Some i → IsBusy a → Hushed (popped m w a q (Some i) (Some l))
+  pop_hushed Full i l top busy =
+      let b = after_pop i (items_of (slice_index_or m.slots i None)) a in
+      hushed_put m.idle (m.head Full).index m.accounts s w a there.0 b m.idle l
+      (counted_same m.idle (m.head Full).index m.accounts s w a there.0 b refl)
+      (busy_rest a b rest refl refl refl busy) (λ h. h) (λ h. h)
+      (λ h.
+      let none = s.emptied (found_back m.idle (m.head Full).index m.accounts s w a there.0 b (λ p. p) (λ p. p) (λ p. p) h) in
+      let f : ⊥ = cc in absurd f)
+  pop_hushed Empty i l top busy =
+      let b = after_pop i (items_of (slice_index_or m.slots i None)) a in
+      keep b refl (busy_rest a b rest refl refl refl busy) refl refl refl refl
+
+  push_hushed : (q : Which) (i : ℕ) (items : List ℕ) → (q ≡ Empty → items ≡ []) → (q ≡ Full → IsBusy a) → Hushed (effect m w a (Push q i items))
+  push_hushed Full i items bare busy =
+      hushed_push m.idle (m.head Full).index m.accounts s w a there.0 (after_push Full i items a) (Some i) refl (busy_rest a (after_push Full i items a) rest refl refl refl (busy refl)) refl refl refl refl
+  push_hushed Empty i items bare busy = keep (after_push Empty i items a) refl resting refl refl refl refl
+    where
+      resting : IsResting (after_push Empty i items a)
+      resting alone =
+          let r = rest alone in
+          let none : items ≡ [] = bare refl in
+          (r.0, ⊎_elim inl (λ o. inr (o.0, o.1, ap (λ xs. without xs a.charge) none ∙ o.2, o.3)) r.1)
+
+  effect_hushed : (kind : Kind) → Allows e m w a kind → Hushed (effect m w a kind)
+  effect_hushed (Claim o) can = let b = after_claim o (m.mark o) a in keep b refl (busy_rest a b rest refl refl refl can.1) refl refl refl refl
+  effect_hushed (Finish o) can = let b = after_finish o a in keep b refl (charged_rest a b rest refl refl refl o can.0) refl refl refl refl
+  effect_hushed (Split units) can = hushed_split m.idle (m.head Full).index m.accounts s w a there.0 units can.0 can.1
+  effect_hushed (Join v) can =
+      subst (λ x. IsHushed m.idle (m.head Full).index (set (set m.accounts w (after_join a x)) v no_share)) (sym (at_get_or m.accounts v can.1.0 no_share can.1.1.0))
+      (hushed_join m.idle (m.head Full).index m.accounts s w a there.0 v can.1.0 can.0 can.1.1.0)
+  effect_hushed (Load q) can = load_hushed q
+  effect_hushed (LoadLink q) can = link_hushed q (last_link m.link (look_of a q).head)
+  effect_hushed (StoreLink i l) can = s
+  effect_hushed (Pop q) can =
+      subst (λ n. Hushed (popped m w a q n (look_of a q).link)) (sym can.0.1.1)
+      (subst (λ k. Hushed (popped m w a q (Some can.0.1.0) k)) (sym can.0.2.1) (pop_hushed q can.0.1.0 can.0.2.0 can.0.1.1 can.1))
+  effect_hushed (Push q i items) can = push_hushed q i items can.1.3 can.3
+  effect_hushed (Fail q) can = s
+  effect_hushed IdleUp can =
+      let b = after_idle_up a in
+      hushed_put m.idle (m.head Full).index m.accounts s w a there.0 b ((m.idle + 1) % 2 ^ 64) (m.head Full).index
+      (up_counted m.idle (idle_sum m.accounts) (idle_sum (set m.accounts w b)) s.counted (omega (arith, total-set (λ (x : Account). x.idle) m.accounts w a b there.0)))
+      (λ alone. (there.1, inr (omega (arith, can.1), can.0, can.2, can.3))) (λ h. h) (λ h. h)
+      (λ h. s.emptied (found_back m.idle (m.head Full).index m.accounts s w a there.0 b (λ p. p) (λ p. p) (λ p. p) h))
+  effect_hushed IdleDown can =
+      let b = after_idle_down a in
+      hushed_put m.idle (m.head Full).index m.accounts s w a there.0 b ((m.idle + (2 ^ 64 - 1)) % 2 ^ 64) (m.head Full).index
+      (down_counted m.idle (idle_sum m.accounts) (idle_sum (set m.accounts w b)) s.counted (omega (arith, total-set (λ (x : Account). x.idle) m.accounts w a b there.0, can.1, idle_le)))
+      (λ alone. (there.1, inl (omega (arith, can.1)))) (λ h. h) (λ h. h)
+      (λ h. s.emptied (found_back m.idle (m.head Full).index m.accounts s w a there.0 b (λ p. p) (λ p. p) (λ p. p) h))
+  effect_hushed LoadIdle can = let b = after_load_idle m.idle a in keep b refl (same_rest a b rest refl refl refl refl (λ h. h)) refl refl refl refl
+
+happens_hushed : (e : Setup) (m : Marking) (event : Event) → Hushed m → IsPossible e m event → Hushed (happens m event)
+happens_hushed e m event s can =
+    subst (λ x. Hushed (effect m event.worker x event.kind)) (sym (at_get_or m.accounts event.worker can.0 no_share can.1.0)) (effect_hushed e m s event.worker can.0 can.1 event.kind can.2)
+
+run_hushed : (e : Setup) (events : List Event) (first last : Marking) → Hushed first → Run e first events last → Hushed last
+run_hushed e [] first last s run = subst Hushed (sym run) s
+run_hushed e (event ∷ events) first last s run = run_hushed e events (happens first event) last (happens_hushed e first event s run.0) run.1
+
+alone : (w : ℕ) (a x : Account) → StandsAt (a ∷ []) w x → a ≡ x
+alone zero a x e = some-injective a x e
+alone (suc w) a x e = absurd (some-ne-none x (sym e))
+
+opening_hushed : (e : Setup) (tag : ℕ) → Hushed (opening e tag)
+opening_hushed e tag =
+    record {
+      counted = omega arith;
+      resting = λ k x at. subst IsResting (alone k (part whole) x at) (λ apart. (omega arith, inl refl));
+      parted = λ x more at apart. absurd (omega (arith, more));
+      emptied = λ h. refl;
+    }
+
+pub run_is_hushed : (e : Setup) (m : Marking) → IsRun e m → Hushed m
+run_is_hushed e m run = run_hushed e run.1 run.0 m (let opens = run.2 in subst Hushed (sym opens.2) (opening_hushed e opens.0)) run.3
+
+-- Accounts of which none was joined have idle numbers up to their shares; where the sums are equal, so are the parts
+abbrev AllApart : List Account → Type 0
+AllApart cs = (k : ℕ) (a : Account) → StandsAt cs k a → (a.joined ≡ false) × IsResting a
+
+abbrev share_sum : List Account → ℕ
+share_sum cs = total (λ a. a.share) cs
+
+one_le : (a : Account) → a.joined ≡ false → IsResting a → a.idle ≤ a.share
+one_le a apart rest = ⊎_elim (λ z. omega (arith, z)) (λ o. omega (arith, o.0, o.1)) (rest apart).1
+
+sum_le : (cs : List Account) → AllApart cs → idle_sum cs ≤ share_sum cs
+sum_le [] all = omega arith
+sum_le (a ∷ cs) all = omega (arith, one_le a (all 0 a refl).0 (all 0 a refl).1, sum_le cs (λ k b at. all (suc k) b at))
+
+all_idle : (cs : List Account) → AllApart cs → idle_sum cs ≡ share_sum cs → (k : ℕ) (a : Account) → StandsAt cs k a → (a.charge ≡ []) × (a.found ≡ true)
+all_idle [] all even k a at = absurd (some-ne-none a (sym at))
+all_idle (b ∷ cs) all even zero a at =
+    let r = (all 0 b refl).1 (all 0 b refl).0 in
+    let same : b ≡ a = some-injective b a at in
+    ⊎_elim (λ z. absurd (omega (arith, z, r.0, even, sum_le cs (λ k c f. all (suc k) c f))))
+    (λ o. (sym (ap (λ (x : Account). x.charge) same) ∙ o.2, sym (ap (λ (x : Account). x.found) same) ∙ o.3)) r.1
+all_idle (b ∷ cs) all even (suc k) a at =
+    all_idle cs (λ j c f. all (suc j) c f) (omega (arith, even, one_le b (all 0 b refl).0 (all 0 b refl).1, sum_le cs (λ j c f. all (suc j) c f))) k a at
+
+quiet_list :
+    (idle n : ℕ) (top : Option ℕ) (accounts : List Account) → IsHushed idle top accounts → share_sum accounts ≡ whole → 0 < n → idle ≡ n
+    → ((k : ℕ) (a : Account) → StandsAt accounts k a → a.joined ≡ false) → ((a : Account) → StandsAt accounts 0 a → HasGivenUnits n a)
+    → (top ≡ None) × ((k : ℕ) (a : Account) → 0 < k → StandsAt accounts k a → a.charge ≡ [])
+quiet_list idle n top [] s sum least word apart opening = absurd (omega (arith, sum))
+quiet_list idle n top (a ∷ cs) s sum least word apart opening = (s.emptied found, charges)
+  where
+    o : HasGivenUnits n a
+    o = opening a refl
+
+    none : a.idle ≡ 0
+    none = ⊎_elim (λ z. z) (λ r. ⊎_elim (λ ne. absurd (ne r.1)) (λ z. z) o.busy) (s.resting 0 a refl (apart 0 a refl)).1
+
+    all : AllApart cs
+    all k b at = (apart (suc k) b at, s.resting (suc k) b at)
+
+    even : idle_sum cs ≡ share_sum cs
+    even = omega (arith, s.counted, word, none, o.units, sum, sum_le cs all)
+
+    each : (k : ℕ) (b : Account) → StandsAt cs k b → (b.charge ≡ []) × (b.found ≡ true)
+    each = all_idle cs all even
+
+    longer : (bs : List Account) → 0 < share_sum bs → 1 < suc (length bs)
+    longer [] h = absurd (omega arith)
+    longer (b ∷ bs) h = omega arith
+
+    others : (k : ℕ) (b : Account) → 0 < k → StandsAt (a ∷ cs) k b → b.found ≡ true
+    others zero b later at = absurd (omega arith)
+    others (suc k) b later at = (each k b at).1
+
+    charges : (k : ℕ) (b : Account) → 0 < k → StandsAt (a ∷ cs) k b → b.charge ≡ []
+    charges zero b later at = absurd (omega arith)
+    charges (suc k) b later at = (each k b at).0
+
+    found : HaveFound (a ∷ cs)
+    found = record { apart = apart; opening = λ b at. (opening b at).pushed; another = longer cs (omega (arith, least, o.units, sum)); others = others }
+
+pub quiet_is_done : QuietIsDone
+quiet_is_done e m n run quiet =
+    let law = runs_keep_law e m run in
+    let both = quiet_list m.idle n (m.head Full).index m.accounts (run_is_hushed e m run) law.shared.sum quiet.least quiet.word quiet.apart quiet.opening in
+    record { emptied = λ full is. chain_none m.link (m.head Full).index full is both.0; others = both.1 }

@@ -1,0 +1,89 @@
+-- The accounts that were made bound the idle numbers: each event keeps it so.
+use Rattle.std.proofs.Common.{◌≡◌, ◌≢◌, ℕ, ◌+◌, ◌<◌, ◌≤◌, List, [], ◌∷◌, ◌++◌, length, length-set, Option, Some, None, set, slice_index_or, sym, refl, subst, ◌∙◌, arith}
+use Rattle.std.proofs.lemmas.List.{length-append}
+use Rattle.mark_core.specs.declared.which.Which.{Which}
+use Rattle.mark_core.specs.declared.which.Which.TheVariants.{Full, Empty}
+use Rattle.mark_core.specs.Lists.{StandsAt, total}
+use Rattle.mark_core.specs.Account.{Account, look_of, part, no_share, after_claim, after_finish, after_split, after_join, after_load, after_load_link, after_pop, after_push, after_idle_up, after_idle_down, after_load_idle}
+use Rattle.mark_core.specs.World.{Setup, Marking, items_of, IsThere}
+use Rattle.mark_core.specs.Event.{Kind, Claim, Finish, Split, Join, Load, LoadLink, StoreLink, Pop, Push, Fail, IdleUp, IdleDown, LoadIdle, Event, Allows, IsPossible, effect, happens, popped, last_link}
+use Rattle.mark_core.specs.Step.{HasNumber, weight}
+use Rattle.mark_core.proofs.Places.{at_get_or, set_else}
+use Rattle.mark_core.proofs.Sums.{total-set, total-append}
+
+-- each account has a number, and the idle numbers are no more than the accounts
+pub record AreNumbered (accounts : List Account) : Type 0 where
+  pub numbered : length accounts ≤ 4294967295
+  pub weights : total weight accounts ≤ length accounts
+
+module _ (accounts : List Account) (n : AreNumbered accounts) (w : ℕ) (a : Account) (is : StandsAt accounts w a) where
+  -- an account changes, and counts for the same
+  numbered_set : (b : Account) → weight b ≡ weight a → AreNumbered (set accounts w b)
+  numbered_set b same = record { numbered = omega (arith, n.numbered, length-set accounts w b); weights = omega (arith, n.weights, same, length-set accounts w b, total-set weight accounts w a b is) }
+
+  numbered_split : (units : ℕ) → 0 < units → units < a.share → length accounts < 4294967295 → AreNumbered (set accounts w (after_split units a) ++ part units ∷ [])
+  numbered_split units least less room =
+      record {
+        numbered = omega (arith, room, length-set accounts w b, length-append (set accounts w b) (part units ∷ []));
+        weights = omega (arith, n.weights, same, new, length-set accounts w b, length-append (set accounts w b) (part units ∷ []), total-set weight accounts w a b is, total-append weight (set accounts w b) (part units ∷ []));
+      }
+    where
+      b : Account
+      b = after_split units a
+
+      same : weight b ≡ weight a
+      same = omega (arith, least, less)
+
+      new : weight (part units) ≡ 1
+      new = omega (arith, least)
+
+  numbered_join : (v : ℕ) (b : Account) → v ≢ w → StandsAt accounts v b → AreNumbered (set (set accounts w (after_join a b)) v no_share)
+  numbered_join v b apart at =
+      record {
+        numbered = omega (arith, n.numbered, lengths);
+        weights = omega (arith, n.weights, lengths, both, total-set weight accounts w a (after_join a b) is, total-set weight (set accounts w (after_join a b)) v b no_share still);
+      }
+    where
+      still : StandsAt (set accounts w (after_join a b)) v b
+      still = set_else accounts w v (after_join a b) apart ∙ at
+
+      lengths : length (set (set accounts w (after_join a b)) v no_share) ≡ length accounts
+      lengths = omega (arith, length-set accounts w (after_join a b), length-set (set accounts w (after_join a b)) v no_share)
+
+      both : weight (after_join a b) ≤ weight a + weight b
+      both = omega arith
+
+module _ (e : Setup) (m : Marking) (n : AreNumbered m.accounts) (w : ℕ) (a : Account) (there : IsThere m.accounts w a) where
+  put : (b : Account) → weight b ≡ weight a → AreNumbered (set m.accounts w b)
+  put = numbered_set m.accounts n w a there.0
+
+  popped_numbered : (q : Which) (x : Option ℕ) (y : Option (Option ℕ)) → AreNumbered (popped m w a q x y).accounts
+  popped_numbered q None y = n
+  popped_numbered q (Some i) None = n
+  popped_numbered q (Some i) (Some l) = put (after_pop i (items_of (slice_index_or m.slots i None)) a) refl
+
+  effect_numbered : (kind : Kind) → Allows e m w a kind → HasNumber kind m.accounts → AreNumbered (effect m w a kind).accounts
+  effect_numbered (Claim o) can room = put (after_claim o (m.mark o) a) refl
+  effect_numbered (Finish o) can room = put (after_finish o a) refl
+  effect_numbered (Split units) can room = numbered_split m.accounts n w a there.0 units can.0 can.1 room
+  effect_numbered (Join v) can room =
+      subst (λ x. AreNumbered (set (set m.accounts w (after_join a x)) v no_share)) (sym (at_get_or m.accounts v can.1.0 no_share can.1.1.0)) (numbered_join m.accounts n w a there.0 v can.1.0 can.0 can.1.1.0)
+  effect_numbered (Load Full) can room = put (after_load Full (m.head Full) a) refl
+  effect_numbered (Load Empty) can room = put (after_load Empty (m.head Empty) a) refl
+  effect_numbered (LoadLink Full) can room = put (after_load_link Full (last_link m.link a.full.head) a) refl
+  effect_numbered (LoadLink Empty) can room = put (after_load_link Empty (last_link m.link a.empty.head) a) refl
+  effect_numbered (StoreLink i l) can room = n
+  effect_numbered (Pop q) can room = popped_numbered q (m.head q).index (look_of a q).link
+  effect_numbered (Push q i items) can room = put (after_push q i items a) refl
+  effect_numbered (Fail q) can room = n
+  effect_numbered IdleUp can room = put (after_idle_up a) (omega (arith, can.0, can.1))
+  effect_numbered IdleDown can room = put (after_idle_down a) (omega (arith, can.0, can.1))
+  effect_numbered LoadIdle can room = put (after_load_idle m.idle a) refl
+
+pub happens_numbered : (e : Setup) (m : Marking) (event : Event) → AreNumbered m.accounts → IsPossible e m event → HasNumber event.kind m.accounts → AreNumbered (happens m event).accounts
+happens_numbered e m event n can room =
+    subst (λ x. AreNumbered (effect m event.worker x event.kind).accounts) (sym (at_get_or m.accounts event.worker can.0 no_share can.1.0)) (effect_numbered e m n event.worker can.0 can.1 event.kind can.2 room)
+
+-- an opening account counts for one
+pub numbered_opening : (units : ℕ) → 0 < units → AreNumbered (part units ∷ [])
+numbered_opening units least = record { numbered = omega arith; weights = omega (arith, least) }

@@ -1,0 +1,33 @@
+-- Quiet: all accounts but the opening one are idle. Then nothing is left for them to do.
+use Rattle.std.specs.Prelude.{◌≡◌, ℕ, ◌+◌, ◌<◌, false, List, []}
+use Rattle.mark_core.specs.declared.which.Which.TheVariants.{Full}
+use Rattle.mark_core.specs.Lists.{StandsAt}
+use Rattle.mark_core.specs.Account.{Account}
+use Rattle.mark_core.specs.World.{Setup, Marking}
+use Rattle.mark_core.specs.Event.{IsBusy}
+use Rattle.mark_core.specs.Shares.{whole}
+use Rattle.mark_core.specs.Runs.{IsListOf, IsRun}
+
+-- what the opening account has while the others are at work: it is not idle, has all units but n, and has pushed nothing
+-- on full since it first gave units away
+pub record HasGivenUnits (n : ℕ) (a : Account) : Type 0 where
+  pub busy : IsBusy a
+  pub units : a.share + n ≡ whole
+  pub pushed : a.pushed ≡ false
+
+-- quiet for n
+pub record IsQuiet (m : Marking) (n : ℕ) : Type 0 where
+  pub least : 0 < n
+  pub word : m.idle ≡ n
+  pub apart : (w : ℕ) (a : Account) → StandsAt m.accounts w a → a.joined ≡ false
+  pub opening : (a : Account) → StandsAt m.accounts 0 a → HasGivenUnits n a
+
+-- nothing is left for the workers: no buffer is on the full stack, and no account but the opening one answers for
+-- anything
+pub record IsDone (m : Marking) : Type 0 where
+  pub emptied : (full : List ℕ) → IsListOf m Full full → full ≡ []
+  pub others : (w : ℕ) (a : Account) → 0 < w → StandsAt m.accounts w a → a.charge ≡ []
+
+-- in every run, where it is quiet it is done
+abbrev pub QuietIsDone : Type 0
+QuietIsDone = (e : Setup) (m : Marking) (n : ℕ) → IsRun e m → IsQuiet m n → IsDone m
