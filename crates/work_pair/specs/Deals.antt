@@ -7,10 +7,12 @@ use Rattle.work_pair.specs.Moves.{Move, Moves, popped_items, popped_numbers, pus
 use Rattle.work_pair.specs.Moves.{HasPushOnFull, EndAtLastTag, WasSeenEmpty}
 use Rattle.work_pair.specs.Places.{Places, items_of, items_at, numbers_of, IsBacked}
 
--- the worker has the same share, saw the same objects and finished the same, and its pool was made for the same
+-- the worker has the same share and the same idle number, saw the same objects and finished the same, and its pool was
+-- made for the same
 pub record Keeps (old new : Book) : Type 0 where
   pub setup : new.setup ≡ old.setup
   pub share : new.account.share ≡ old.account.share
+  pub idle : new.account.idle ≡ old.account.idle
   pub seen : new.account.seen ≡ old.account.seen
   pub finished : new.account.finished ≡ old.account.finished
 

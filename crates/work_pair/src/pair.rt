@@ -37,6 +37,7 @@ impl<A: Allocator> Model for Pair<A> {
 
 impl<A: Allocator> Pair<A> {
     ghost use Rattle.std.specs.Prelude.{◌≡◌, ◌≢◌, ◌⊎◌, true, false, [], ◌∷◌, IfErr, IfNone, IfOk, IfSome, IsOk, OnOk};
+    ghost use Rattle.mark_core.specs.Event.{IsBusy};
     ghost use Rattle.mark_core.specs.declared.which.Which.TheVariants.{Empty, Full};
     ghost use Rattle.work_pair.specs.Deals.{Balances, Deals, DealsQuietly, Disposes, HasMore};
     ghost use Rattle.work_pair.specs.Moves.{WasSeenEmpty};
@@ -64,7 +65,8 @@ impl<A: Allocator> Pair<A> {
         pool: &Pool<A>,
         worker: &mut Worker<A>,
     ) -> Result<Option<Pair<A>>, Stop>
-        requires { worker.old.pool ≡ pool.now }
+        requires pool { worker.old.pool ≡ pool.now }
+        requires busy { IsBusy worker.old.book.account }
         ensures pool { worker.new.pool ≡ worker.old.pool }
         ensures opened { IfOk result (λ r. IfSome r (λ p. IsNew p × DealsQuietly no_places worker.old.book p
             worker.new.book)) }
@@ -96,6 +98,7 @@ impl<A: Allocator> Pair<A> {
         requires pool { worker.old.pool ≡ pool.now }
         requires going { IsOpen self.old }
         requires backed { IsBacked self.old (object ∷ []) worker.old.book }
+        requires busy { IsBusy worker.old.book.account }
         ensures pool { worker.new.pool ≡ worker.old.pool }
         ensures put { OnOk result (Deals self.old worker.old.book (object ∷ []) [] self.new worker.new.book) }
         ensures going { OnOk result (IsOpen self.new) }
@@ -127,6 +130,7 @@ impl<A: Allocator> Pair<A> {
         requires pool { worker.old.pool ≡ pool.now }
         requires going { IsOpen self.old }
         requires backed { IsBacked self.old [] worker.old.book }
+        requires busy { IsBusy worker.old.book.account }
         ensures pool { worker.new.pool ≡ worker.old.pool }
         ensures got { IfOk result (λ r. IfSome r (λ o. Deals self.old worker.old.book [] (o ∷ []) self.new
             worker.new.book)) }
@@ -134,6 +138,7 @@ impl<A: Allocator> Pair<A> {
             × (items_of self.new ≡ []) × WasSeenEmpty Full worker.old.book worker.new.book)) }
         ensures own { items_of self.old ≢ [] → (worker.new ≡ worker.old) × IsOk result }
         ensures closed { IfOk result (λ r. IfNone r (worker.new.book.account.open_push ≡ false)) }
+        ensures found { IfOk result (λ r. IfNone r (worker.new.book.account.found ≡ true)) }
         ensures going { OnOk result (IsOpen self.new) }
         ensures spent { IfErr result (λ s. (s ≡ TagSpent) × (self.new.stopped ≡ true) × Deals self.old
             worker.old.book [] [] self.new worker.new.book) }
@@ -158,6 +163,7 @@ impl<A: Allocator> Pair<A> {
         requires pool { worker.old.pool ≡ pool.now }
         requires going { IsOpen self.old }
         requires backed { IsBacked self.old [] worker.old.book }
+        requires busy { IsBusy worker.old.book.account }
         ensures pool { worker.new.pool ≡ worker.old.pool }
         ensures balances { OnOk result (Balances self.old worker.old.book self.new worker.new.book) }
         ensures few { (HasMore self.old → ⊥) → (self.new ≡ self.old) × (worker.new ≡ worker.old) × IsOk result }
@@ -185,6 +191,7 @@ impl<A: Allocator> Pair<A> {
         requires pool { worker.old.pool ≡ pool.now }
         requires going { IsOpen self.old }
         requires backed { IsBacked self.old [] worker.old.book }
+        requires busy { IsBusy worker.old.book.account }
         ensures pool { worker.new.pool ≡ worker.old.pool }
         ensures none_left { OnOk result (WasSeenEmpty Empty worker.old.book worker.new.book ⊎ (items_of self.new
             ≡ [])) }
@@ -213,6 +220,7 @@ impl<A: Allocator> Pair<A> {
     ) -> Result<(), (Pair<A>, Stop)>
         requires pool { worker.old.pool ≡ pool.now }
         requires backed { IsBacked self [] worker.old.book }
+        requires busy { items_of self ≢ [] → IsBusy worker.old.book.account }
         ensures pool { worker.new.pool ≡ worker.old.pool }
         ensures gone { OnOk result (Disposes self worker.old.book no_places worker.new.book) }
         ensures spent { IfErr result (λ e. (e.1 ≡ TagSpent) × (e.0.stopped ≡ true) × Disposes self worker.old.book e.0
