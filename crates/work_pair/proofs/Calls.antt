@@ -1,18 +1,22 @@
 -- What the calls of a pair tell, from what their parts tell.
-use Rattle.std.proofs.Common.{◌≡◌, ◌≢◌, ◌⊎◌, ℕ, ◌<◌, ◌≤◌, Bool, true, false, List, [], ◌∷◌, ◌++◌, length, Option, Some, None, Result, Ok, Err, refl, sym, ap, subst, ◌∙◌, inl, inr, ⊎_elim, arith}
+use Rattle.std.proofs.Common.{◌≡◌, ◌≢◌, ◌⊎◌, ℕ, ◌<◌, ◌≤◌, Bool, true, false, List, [], ◌∷◌, ◌++◌, length, Option, Some}
+use Rattle.std.proofs.Common.{None, Result, Ok, Err, refl, sym, ap, subst, ◌∙◌, inl, inr, ⊎_elim, arith}
 use Rattle.mark_core.specs.declared.which.Which.TheVariants.{Empty}
+use Rattle.mark_core.specs.Event.{IsBusy}
 use Rattle.mark_core.specs.Lists.{times}
 use Rattle.buffer_pool.specs.Book.{Book}
 use Rattle.buffer_pool.specs.Calls.{HeldBuffer}
 use Rattle.work_pair.specs.Deals.{HasMore}
 use Rattle.work_pair.specs.Moves.{HasPushOnFull, WasSeenEmpty}
-use Rattle.work_pair.specs.Places.{items_at, number_at, items_of, HasRoom, HasRoomAt, IsOfSize, AreOfSize, AreAlike, IsBacked}
+use Rattle.work_pair.specs.Places.{items_at, number_at, items_of, HasRoom, HasRoomAt, IsOfSize, AreOfSize, AreAlike}
+use Rattle.work_pair.specs.Places.{IsBacked}
 use Rattle.work_pair.specs.declared.stop.Stop.{Stop}
 use Rattle.work_pair.specs.declared.stop.Stop.TheVariants.{TagSpent, NoBuffer}
 use Rattle.work_pair.specs.working.Steps.{Ends, Halts, PublishTells, PublishesAt, Renews, RenewTells, Trades, places}
-use Rattle.work_pair.proofs.Effects.{moves_effect}
+use Rattle.work_pair.proofs.Effects.{busy_after, moves_effect}
 use Rattle.work_pair.proofs.Locals.{put_first, swapped}
-use Rattle.work_pair.proofs.Trading.{backed_after, end_on, first_renewed, items_sum, numbers_sum, on_and_on, second_renewed, sized_after, still}
+use Rattle.work_pair.proofs.Trading.{backed_after, end_on, first_renewed, items_sum, numbers_sum, on_and_on}
+use Rattle.work_pair.proofs.Trading.{second_renewed, sized_after, still}
 
 -- both buffers were full
 pub full_told : (f s t x : Option HeldBuffer) → x ≡ s → (HasRoomAt f → ⊥) → (HasRoomAt x → ⊥) → {P : Type 0} → HasRoom (places f s t) → P
@@ -109,6 +113,9 @@ module _ (f s t n third : Option HeldBuffer) (b c : Book) (vacant : t ≡ None) 
 
     pub published_backed : IsBacked (places f s t) [] b → IsBacked (places n s third) [] c
     published_backed backed = backed_after (places f s t) b [] [] (places n s third) c backed first_published
+
+    pub published_busy : IsBusy b.account → IsBusy c.account
+    published_busy = busy_after first.0.moves b c first.0.books
 
     now_sized : AreOfSize c.setup.size (places n s third)
     now_sized = sized_after (places f s t) b [] [] (places n s third) c first_published

@@ -1,5 +1,6 @@
 -- What it tells that all buffers of a pair were given back.
-use Rattle.std.proofs.Common.{◌≡◌, ℕ, List, [], ◌∷◌, ◌++◌, Option, None, Result, Ok, Err, refl, sym, subst, ⊎_elim}
+use Rattle.std.proofs.Common.{◌≡◌, ◌≢◌, ℕ, List, [], ◌∷◌, ◌++◌, Option, None, Result, Ok, Err, refl, sym, subst, ⊎_elim}
+use Rattle.mark_core.specs.Event.{IsBusy}
 use Rattle.buffer_pool.specs.Book.{Book}
 use Rattle.buffer_pool.specs.Calls.{HeldBuffer}
 use Rattle.work_pair.specs.Moves.{HasPushOnFull, EndAtLastTag}
@@ -7,8 +8,10 @@ use Rattle.work_pair.specs.Places.{Places, items_at, items_of, AreOfSize, IsBack
 use Rattle.work_pair.specs.declared.stop.Stop.{Stop}
 use Rattle.work_pair.specs.declared.stop.Stop.TheVariants.{TagSpent, NoBuffer}
 use Rattle.work_pair.specs.working.Steps.{Clears, ClearsAt, ClearTells, Trades, places}
+use Rattle.work_pair.proofs.Effects.{busy_after}
 use Rattle.work_pair.proofs.Renewing.{clear_stopped, cleared}
-use Rattle.work_pair.proofs.Trading.{at_first, at_second, at_third, backed_after, end_on, on_and_on, on_full_of, sized_after}
+use Rattle.work_pair.proofs.Trading.{at_first, at_second, at_third, backed_after, end_on, on_and_on, on_full_of}
+use Rattle.work_pair.proofs.Trading.{sized_after}
 
 -- a list that is empty has empty parts
 left_empty : (xs ys : List ℕ) → xs ++ ys ≡ [] → xs ≡ []
@@ -28,6 +31,21 @@ module _ (f s t : Option HeldBuffer) (none : items_of (places f s t) ≡ []) whe
 
   none_third : items_at t ≡ []
   none_third = right_empty (items_at f ++ items_at s) (items_at t) none
+
+-- a worker that has to push items is not idle, before a clearing and in it
+module _ (f s t : Option HeldBuffer) (b : Book) (busy : items_of (places f s t) ≢ [] → IsBusy b.account) where
+  pub first_busy : items_at f ≢ [] → IsBusy b.account
+  first_busy some = busy (λ none. some (none_first f s t none))
+
+  module _ (q : Places) (c : Book) (so_far : Clears (places f s t) b q c) where
+    busy_then : (items_of (places f s t) ≢ []) → IsBusy c.account
+    busy_then some = busy_after so_far.trades.moves b c so_far.trades.books (busy some)
+
+    pub second_busy : items_at s ≢ [] → IsBusy c.account
+    second_busy some = busy_then (λ none. some (none_second f s t none))
+
+    pub third_busy : items_at t ≢ [] → IsBusy c.account
+    third_busy some = busy_then (λ none. some (none_third f s t none))
 
 -- a clearing that went on
 clears_on : (p : Places) (b : Book) (q : Places) (c : Book) (r : Places) (d : Book) → Clears p b q c → (t : Trades q c [] [] r d) → (items_of p ≡ [] → HasPushOnFull t.moves → ⊥) → Clears p b r d

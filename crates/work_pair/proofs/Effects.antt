@@ -1,20 +1,25 @@
 -- What moves do to the book of the worker that makes them.
-use Rattle.std.proofs.Common.{◌≡◌, ℕ, ◌+◌, ◌<◌, ◌≤◌, Bool, true, false, ◌&&◌, List, [], ◌∷◌, ◌++◌, Option, is_some, is_none, if◌then◌else◌, refl, sym, ap, subst, ◌∙◌, inl, inr, ⊎_elim, arith}
+use Rattle.std.proofs.Common.{◌≡◌, ℕ, ◌+◌, ◌<◌, ◌≤◌, Bool, true, false, ◌&&◌, ◌||◌, List, [], ◌∷◌, ◌++◌, Option}
+use Rattle.std.proofs.Common.{is_some, is_none, if◌then◌else◌, refl, sym, ap, subst, ◌∙◌, inl, inr, ⊎_elim, arith}
 use Rattle.tagged_index.specs.Head.{Head}
 use Rattle.mark_core.specs.declared.which.Which.{Which}
 use Rattle.mark_core.specs.declared.which.Which.TheVariants.{Full, Empty}
 use Rattle.mark_core.specs.Counts.{none_found}
+use Rattle.mark_core.specs.Event.{IsBusy}
 use Rattle.mark_core.specs.Lists.{times, only, IsPart}
 use Rattle.mark_core.proofs.Sums.{total-append, times-remove_one, times-without, stands_times}
 use Rattle.buffer_pool.specs.Book.{Book, loaded, link_loaded, popped, pushed, empties_of}
 use Rattle.buffer_pool.specs.Calls.{HeldBuffer}
-use Rattle.work_pair.specs.Moves.{Move, Took, Gave, FoundNone, Ended, Moved, Moves, taken_items, taken_number, given_items, given_number, popped_items, popped_numbers, pushed_items, pushed_numbers, IsOnFull, HasPushOnFull}
+use Rattle.work_pair.specs.Moves.{Move, Took, Gave, FoundNone, Ended, Moved, Moves, taken_items, taken_number}
+use Rattle.work_pair.specs.Moves.{given_items, given_number, popped_items, popped_numbers, pushed_items, pushed_numbers}
+use Rattle.work_pair.specs.Moves.{IsOnFull, HasPushOnFull}
 use Rattle.work_pair.proofs.Looks.{IsLook, look_again, look_at_all, look_head, look_top, lost_pops, lost_pushes}
 
 -- what a worker has after moves, by the buffers that it popped and pushed
 pub record IsEffect (old new : Book) (given taken given_numbers taken_numbers : List ℕ) : Type 0 where
   pub setup : new.setup ≡ old.setup
   pub share : new.account.share ≡ old.account.share
+  pub idle : new.account.idle ≡ old.account.idle
   pub seen : new.account.seen ≡ old.account.seen
   pub finished : new.account.finished ≡ old.account.finished
   pub charge : (o : ℕ) → times o new.account.charge + times o given ≡ times o old.account.charge + times o taken
@@ -27,6 +32,7 @@ look_effect old new l =
     record {
       setup = l.setup;
       share = l.share;
+      idle = l.idle;
       seen = l.seen;
       finished = l.finished;
       charge = λ o. ap (λ xs. times o xs + 0) l.charge;
@@ -42,6 +48,7 @@ module _ (q : Which) (h : HeldBuffer) (old new : Book) where
       record {
         setup = ap (λ (c : Book). c.setup) is ∙ l.setup;
         share = ap (λ (c : Book). c.account.share) is ∙ l.share;
+        idle = ap (λ (c : Book). c.account.idle) is ∙ l.idle;
         seen = ap (λ (c : Book). c.account.seen) is ∙ l.seen;
         finished = ap (λ (c : Book). c.account.finished) is ∙ l.finished;
         charge = λ o. omega (arith, ap (λ (c : Book). times o c.account.charge) is, total-append (only o) b.account.charge h.items, ap (times o) l.charge);
@@ -59,6 +66,7 @@ module _ (q : Which) (h : HeldBuffer) (old new : Book) where
       record {
         setup = ap (λ (c : Book). c.setup) is ∙ l.setup;
         share = ap (λ (c : Book). c.account.share) is ∙ l.share;
+        idle = ap (λ (c : Book). c.account.idle) is ∙ l.idle;
         seen = ap (λ (c : Book). c.account.seen) is ∙ l.seen;
         finished = ap (λ (c : Book). c.account.finished) is ∙ l.finished;
         charge = λ o. omega (arith, ap (λ (c : Book). times o c.account.charge) is, times-without h.items b.account.charge among o, ap (times o) l.charge);
@@ -97,6 +105,7 @@ effect_again a b c g₀ t₀ gn₀ tn₀ g₁ t₁ gn₁ tn₁ s t =
     record {
       setup = t.setup ∙ s.setup;
       share = t.share ∙ s.share;
+      idle = t.idle ∙ s.idle;
       seen = t.seen ∙ s.seen;
       finished = t.finished ∙ s.finished;
       charge = λ o. omega (arith, s.charge o, t.charge o, total-append (only o) g₀ g₁, total-append (only o) t₀ t₁);
@@ -110,6 +119,16 @@ moves_effect [] old new same = subst (λ (c : Book). IsEffect old c [] [] [] [])
 moves_effect (move ∷ moves) old new p =
     effect_again old p.0 new (given_items move) (taken_items move) (given_number move) (taken_number move) (pushed_items moves) (popped_items moves) (pushed_numbers moves) (popped_numbers moves)
     (move_effect move old p.0 p.1) (moves_effect moves p.0 new p.2)
+
+-- a worker that is not idle stays so
+pub busy_on : (old new : Book) → new.account.share ≡ old.account.share → new.account.idle ≡ old.account.idle
+    → IsBusy old.account → IsBusy new.account
+busy_on old new share idle busy =
+    ⊎_elim (λ more. inl (λ one. more (sym share ∙ one))) (λ at_work. inr (idle ∙ at_work)) busy
+
+pub busy_after : (moves : List Move) (old new : Book) → Moves old moves new → IsBusy old.account → IsBusy new.account
+busy_after moves old new p busy =
+    let e = moves_effect moves old new p in busy_on old new e.share e.idle busy
 
 -- without a push on full no push opens
 move_closed : (move : Move) (old new : Book) → Moved move old new → (IsOnFull move → ⊥) → old.account.open_push ≡ false → new.account.open_push ≡ false
@@ -148,3 +167,13 @@ and_false false = refl
 pub found_none_closes : (old new : Book) → Moved (FoundNone Full) old new → new.account.open_push ≡ false
 found_none_closes old new p =
     ap (λ (c : Book). c.account.open_push) p.2.2 ∙ ap (λ (i : Option ℕ). p.0.account.open_push && is_some i) p.2.1 ∙ and_false p.0.account.open_push
+
+or_true : (b : Bool) → b || true ≡ true
+or_true true = refl
+or_true false = refl
+
+-- and it is known then that one was found
+pub found_none_tells : (old new : Book) → Moved (FoundNone Full) old new → new.account.found ≡ true
+found_none_tells old new p =
+    ap (λ (c : Book). c.account.found) p.2.2 ∙ ap (λ (i : Option ℕ). p.0.account.found || is_none i) p.2.1
+    ∙ or_true p.0.account.found

@@ -1,6 +1,7 @@
 -- One turn of a call that gets an object: a look into the pair, and a pop from the full stack.
 use Rattle.std.proofs.Common.{◌≡◌, ℕ, List, [], ◌∷◌, ◌++◌, Option, Some, None, Ok, Err, refl, ap, ◌∙◌, arith}
 use Rattle.mark_core.specs.declared.which.Which.TheVariants.{Full}
+use Rattle.mark_core.specs.Event.{IsBusy}
 use Rattle.mark_core.specs.Lists.{IsPart}
 use Rattle.buffer_pool.specs.Book.{Book}
 use Rattle.buffer_pool.specs.Calls.{HeldBuffer}
@@ -9,9 +10,11 @@ use Rattle.work_pair.specs.Places.{Places, items_at, items_of, number_at, AreOfS
 use Rattle.work_pair.specs.declared.stop.Stop.{Stop}
 use Rattle.work_pair.specs.declared.stop.Stop.TheVariants.{TagSpent, NoBuffer}
 use Rattle.work_pair.specs.working.Steps.{Ends, GetTells, PopsOne, PutsOut, Takes, Trades, places}
-use Rattle.work_pair.proofs.Effects.{found_none, found_none_closes, moves_effect}
-use Rattle.work_pair.proofs.Renewing.{put_out_done, put_out_stopped, still_charged, still_held, still_sized, took_size}
-use Rattle.work_pair.proofs.Trading.{backed_after, ended_at, end_on, first_charged, first_held, first_renewed, found_none_at, on_and_on, sized_after, still}
+use Rattle.work_pair.proofs.Effects.{busy_after, found_none, found_none_closes, found_none_tells, moves_effect}
+use Rattle.work_pair.proofs.Renewing.{put_out_done, put_out_stopped, still_busy, still_charged, still_held, still_sized}
+use Rattle.work_pair.proofs.Renewing.{took_size}
+use Rattle.work_pair.proofs.Trading.{backed_after, ended_at, end_on, first_charged, first_held, first_renewed}
+use Rattle.work_pair.proofs.Trading.{found_none_at, on_and_on, sized_after, still}
 
 -- where no object was taken there was none
 pub all_taken : (f s t x y z : Option HeldBuffer) → Takes (places f s t) (places x y z) None → t ≡ None → items_of (places f s t) ≡ []
@@ -21,6 +24,10 @@ all_taken f s t x y z took vacant =
 module _ (old : Places) (b₀ : Book) (backed : IsBacked old [] b₀) (f s t : Option HeldBuffer) (b : Book) (so_far : Trades old b₀ [] [] (places f s t) b) (vacant : t ≡ None) where
   pub now_sized : AreOfSize b.setup.size (places f s t)
   now_sized = sized_after old b₀ [] [] (places f s t) b so_far
+
+  -- the worker is not idle yet
+  pub now_busy : IsBusy b₀.account → IsBusy b.account
+  now_busy = busy_after so_far.moves b₀ b so_far.books
 
   -- an object was found
   pub got : (x y z : Option HeldBuffer) (o : ℕ) → Takes (places f s t) (places x y z) (Some o) → GetTells old b₀ (places x y z) b (Ok (Some o))
@@ -49,6 +56,7 @@ module _ (old : Places) (b₀ : Book) (backed : IsBacked old [] b₀) (f s t : O
           ap (λ (l : List ℕ). l ++ items_at y ++ items_at z) took.2 ∙ ap (λ (l : List ℕ). l ++ items_at z) took.3 ∙ ap items_at still_vacant,
           omega (arith, e.fulls, found_none Full b c moved),
           found_none_closes b c moved,
+          found_none_tells b c moved,
         )
 
     pub pop_stopped : (c : Book) (stop : Stop) → PopsOne Full b c (Err stop) → Ends old b₀ (places x y z) c stop
@@ -66,6 +74,9 @@ module _ (old : Places) (b₀ : Book) (backed : IsBacked old [] b₀) (f s t : O
 
       pub of_size_here : IsOfSize mid.setup.size x
       of_size_here = still_sized x Full h b mid popped sized_here.first
+
+      pub busy_here : IsBusy b₀.account → IsBusy mid.account
+      busy_here busy = still_busy x Full h b mid popped (now_busy busy)
 
       module _ (n third : Option HeldBuffer) (c : Book) where
         pub turned : (done : Unit) → PutsOut x h mid n third c (Ok done) → Trades old b₀ [] [] (places n y third) c × (third ≡ None)

@@ -12,6 +12,7 @@ use Rattle.buffer_pool.specs.Calls.LostPushes.{none as no_push, more as more_pus
 pub record IsLook (old new : Book) : Type 0 where
   pub setup : new.setup ≡ old.setup
   pub share : new.account.share ≡ old.account.share
+  pub idle : new.account.idle ≡ old.account.idle
   pub held : new.account.held ≡ old.account.held
   pub charge : new.account.charge ≡ old.account.charge
   pub seen : new.account.seen ≡ old.account.seen
@@ -22,13 +23,25 @@ pub record IsLook (old new : Book) : Type 0 where
 
 pub look_at_all : (b : Book) → IsLook b b
 look_at_all b =
-    record { setup = refl; share = refl; held = refl; charge = refl; seen = refl; finished = refl; fulls = omega arith; empties = omega arith; closed = λ h. h }
+    record {
+      setup = refl;
+      share = refl;
+      idle = refl;
+      held = refl;
+      charge = refl;
+      seen = refl;
+      finished = refl;
+      fulls = omega arith;
+      empties = omega arith;
+      closed = λ h. h;
+    }
 
 pub look_again : (a b c : Book) → IsLook a b → IsLook b c → IsLook a c
 look_again a b c s t =
     record {
       setup = t.setup ∙ s.setup;
       share = t.share ∙ s.share;
+      idle = t.idle ∙ s.idle;
       held = t.held ∙ s.held;
       charge = t.charge ∙ s.charge;
       seen = t.seen ∙ s.seen;
@@ -43,6 +56,7 @@ look_head Full head b =
     record {
       setup = refl;
       share = refl;
+      idle = refl;
       held = refl;
       charge = refl;
       seen = refl;
@@ -52,17 +66,61 @@ look_head Full head b =
       closed = λ h. ap (λ (was : Bool). was && is_some head.index) h;
     }
 look_head Empty head b =
-    record { setup = refl; share = refl; held = refl; charge = refl; seen = refl; finished = refl; fulls = omega arith; empties = omega arith; closed = λ h. h }
+    record {
+      setup = refl;
+      share = refl;
+      idle = refl;
+      held = refl;
+      charge = refl;
+      seen = refl;
+      finished = refl;
+      fulls = omega arith;
+      empties = omega arith;
+      closed = λ h. h;
+    }
 
 pub look_link : (q : Which) (link : Option ℕ) (b : Book) → IsLook b (link_loaded q link b)
 look_link Full link b =
-    record { setup = refl; share = refl; held = refl; charge = refl; seen = refl; finished = refl; fulls = omega arith; empties = omega arith; closed = λ h. h }
+    record {
+      setup = refl;
+      share = refl;
+      idle = refl;
+      held = refl;
+      charge = refl;
+      seen = refl;
+      finished = refl;
+      fulls = omega arith;
+      empties = omega arith;
+      closed = λ h. h;
+    }
 look_link Empty link b =
-    record { setup = refl; share = refl; held = refl; charge = refl; seen = refl; finished = refl; fulls = omega arith; empties = omega arith; closed = λ h. h }
+    record {
+      setup = refl;
+      share = refl;
+      idle = refl;
+      held = refl;
+      charge = refl;
+      seen = refl;
+      finished = refl;
+      fulls = omega arith;
+      empties = omega arith;
+      closed = λ h. h;
+    }
 
 pub look_failed : (b : Book) → IsLook b (failed b)
 look_failed b =
-    record { setup = refl; share = refl; held = refl; charge = refl; seen = refl; finished = refl; fulls = omega arith; empties = omega arith; closed = λ h. h }
+    record {
+      setup = refl;
+      share = refl;
+      idle = refl;
+      held = refl;
+      charge = refl;
+      seen = refl;
+      finished = refl;
+      fulls = omega arith;
+      empties = omega arith;
+      closed = λ h. h;
+    }
 
 -- the loads of a head and its link
 pub look_top : (q : Which) (head : Head) (link : Option ℕ) (b : Book) → IsLook b (link_loaded q link (loaded q head b))

@@ -2,6 +2,7 @@
 use Rattle.std.proofs.Common.{◌≡◌, true, false, [], ◌∷◌, Option, Some, None, Ok, Err, refl, ⊎_elim, arith}
 use Rattle.mark_core.specs.declared.which.Which.{Which}
 use Rattle.mark_core.specs.declared.which.Which.TheVariants.{Empty}
+use Rattle.mark_core.specs.Event.{IsBusy}
 use Rattle.buffer_pool.specs.Book.{Book}
 use Rattle.buffer_pool.specs.Calls.{HeldBuffer}
 use Rattle.work_pair.specs.Deals.{DealsQuietly}
@@ -10,7 +11,7 @@ use Rattle.work_pair.specs.Places.{Places, no_places, IsBacked, IsNew}
 use Rattle.work_pair.specs.declared.stop.Stop.{Stop}
 use Rattle.work_pair.specs.declared.stop.Stop.TheVariants.{TagSpent, NoBuffer}
 use Rattle.work_pair.specs.working.Steps.{ClearsAt, PopsOne, Trades, places, shelf_of}
-use Rattle.work_pair.proofs.Effects.{found_none, move_effect}
+use Rattle.work_pair.proofs.Effects.{busy_after, found_none, move_effect}
 use Rattle.work_pair.proofs.Pairs.{nothing_backed, quiet_on, quietly, taken_first, taken_second}
 use Rattle.work_pair.proofs.Renewing.{clear_stopped, cleared, took_bare}
 use Rattle.work_pair.proofs.Trading.{at_first, backed_after, end_on, ended_at, found_none_at, on_and_on, sized_after}
@@ -47,6 +48,9 @@ module _ (b : Book) where
     size_now : h.size ≡ mid.setup.size
     size_now = (sized_after no_places b [] [] (places (Some h) None None) mid one).first
 
+    pub one_busy : IsBusy b.account → IsBusy mid.account
+    one_busy = busy_after one.moves b mid one.books
+
     pub second_stopped : (c : Book) (stop : Stop) → PopsOne Empty mid c (Err stop) → StopsWith b c stop
     second_stopped c NoBuffer none = absurd none
     second_stopped c TagSpent moved =
@@ -74,6 +78,9 @@ module _ (b : Book) where
 
       pub back_backed : IsBacked (places (Some h) None None) [] c
       back_backed = backed_after no_places b [] [] (places (Some h) None None) c (nothing_backed b) two
+
+      pub back_busy : IsBusy b.account → IsBusy c.account
+      back_busy = busy_after two.moves b c two.books
 
       pub given_back : (n : Option HeldBuffer) (d : Book) (done : Unit) → ClearsAt (Some h) c n d (Ok done) → DealsQuietly no_places b no_places d × WasSeenEmpty Empty b d
       given_back n d done told =

@@ -1,11 +1,12 @@
 -- What the tests' workers have after a call.
-use Rattle.std.proofs.Common.{◌≡◌, ℕ, ◌<◌, Option, Some, None, IfSome, IfNone, List, [], ◌∷◌, ◌++◌, All, Contains, cond, eq-eqb, ap, sym, subst, ◌∙◌, inl, arith}
+use Rattle.std.proofs.Common.{◌≡◌, ℕ, ◌<◌, Option, Some, None, IfSome, IfNone, List, [], ◌∷◌, ◌++◌, All, Contains, cond}
+use Rattle.std.proofs.Common.{eq-eqb, ap, sym, subst, ◌∙◌, inl, inr, arith}
 use Rattle.std.proofs.lemmas.List.FromFn.{length-range_with_len, get_or-range_with_len}
 use Rattle.atomic_table.specs.Seated.{TableId}
 use Rattle.mark_core.specs.declared.which.Which.TheVariants.{Full}
 use Rattle.mark_core.specs.Lists.{times, only}
 use Rattle.mark_core.specs.World.{Setup}
-use Rattle.mark_core.specs.Event.{CanClaim}
+use Rattle.mark_core.specs.Event.{CanClaim, IsBusy}
 use Rattle.mark_core.proofs.Sums.{total-append}
 use Rattle.buffer_pool.specs.Book.{Book, claimed}
 use Rattle.buffer_pool.specs.Calls.{Holder}
@@ -26,9 +27,15 @@ is_root n o below = (o, omega (arith, below, length-range_with_len 0 n), omega (
 pub may_claim : (n o : ℕ) (pool : TableId) (w : Holder) → IsWorker n pool w → o < n → CanClaim w.book.setup o w.book.account
 may_claim n o pool w worker below = inl (subst (λ (rs : List ℕ). Contains rs o) (sym worker.roots) (is_root n o below))
 
--- a worker whose setup stays
-pub still_worker : (n : ℕ) (pool : TableId) (old new : Holder) → IsWorker n pool old → new.pool ≡ old.pool → new.book.setup ≡ old.book.setup → IsWorker n pool new
-still_worker n pool old new w same setup = record { same = same ∙ w.same; roots = ap (λ (e : Setup). e.roots) setup ∙ w.roots }
+-- a worker that is not idle may use its stacks
+pub at_work : (n : ℕ) (pool : TableId) (w : Holder) → IsWorker n pool w → IsBusy w.book.account
+at_work n pool w worker = inr worker.idle
+
+-- a worker whose setup and idle number stay
+pub still_worker : (n : ℕ) (pool : TableId) (old new : Holder) → IsWorker n pool old → new.pool ≡ old.pool
+    → new.book.setup ≡ old.book.setup → new.book.account.idle ≡ old.book.account.idle → IsWorker n pool new
+still_worker n pool old new w same setup idle =
+    record { same = same ∙ w.same; roots = ap (λ (e : Setup). e.roots) setup ∙ w.roots; idle = idle ∙ w.idle }
 
 -- a white object was claimed
 pub claimed_backed : (p : Places) (o found : ℕ) (old new : Book) → new ≡ claimed o found old → found ≡ 0 → IsBacked p [] old → IsBacked p (o ∷ []) new
@@ -50,13 +57,17 @@ claimed_backed p o found old new is white backed =
 -- after a call
 pub ready_after : (n : ℕ) (pool : TableId) (old new : Holder) (p q : Places) (put got : List ℕ) → IsWorker n pool old → new.pool ≡ old.pool → IsOpen q → Deals p old.book put got q new.book → IsReady n pool new q
 ready_after n pool old new p q put got w same going deals =
-    record { worker = still_worker n pool old new w same deals.kept.setup; going = going; backed = backed_less q got new.book deals.backed }
+    record {
+      worker = still_worker n pool old new w same deals.kept.setup deals.kept.idle;
+      going = going;
+      backed = backed_less q got new.book deals.backed;
+    }
 
 -- and of those that the worker had besides
 pub still_besides : (n : ℕ) (pool : TableId) (old new : Holder) (p q : Places) (besides got : List ℕ) → HasBesides n pool old p besides → new.pool ≡ old.pool → IsOpen q → Deals p old.book [] got q new.book → HasBesides n pool new q besides
 still_besides n pool old new p q besides got had same going deals =
     record {
-      worker = still_worker n pool old new had.worker same deals.kept.setup;
+      worker = still_worker n pool old new had.worker same deals.kept.setup deals.kept.idle;
       going = going;
       backed =
           record {
@@ -74,7 +85,9 @@ gets_besides n pool old new p q besides had same going None got none = still_bes
 pub claimed_besides : (n : ℕ) (pool : TableId) (old new : Holder) (p : Places) (o found : ℕ) → IsReady n pool old p → new.pool ≡ old.pool → new.book ≡ claimed o found old.book → found ≡ 0 → HasBesides n pool new p (o ∷ [])
 claimed_besides n pool old new p o found had same is white =
     record {
-      worker = still_worker n pool old new had.worker same (ap (λ (b : Book). b.setup) is);
+      worker =
+          still_worker n pool old new had.worker same (ap (λ (b : Book). b.setup) is)
+          (ap (λ (b : Book). b.account.idle) is);
       going = had.going;
       backed = claimed_backed p o found old.book new.book is white had.backed;
     }

@@ -1,19 +1,22 @@
 -- What was done with one place.
-use Rattle.std.proofs.Common.{◌≡◌, ◌≢◌, ℕ, ◌+◌, true, false, Contains, List, [], ◌∷◌, Option, Some, None, Ok, Err, refl, sym, ap, subst, ◌∙◌, inl, inr, ⊎_elim, arith}
+use Rattle.std.proofs.Common.{◌≡◌, ◌≢◌, ℕ, ◌+◌, true, false, Contains, List, [], ◌∷◌, Option, Some, None, Ok, Err, refl}
+use Rattle.std.proofs.Common.{sym, ap, subst, ◌∙◌, inl, inr, ⊎_elim, arith}
 use Rattle.mark_core.specs.declared.which.Which.{Which}
 use Rattle.mark_core.specs.declared.which.Which.TheVariants.{Empty}
+use Rattle.mark_core.specs.Event.{IsBusy}
 use Rattle.mark_core.specs.Lists.{times, only, IsPart}
 use Rattle.mark_core.specs.World.{Setup}
 use Rattle.mark_core.proofs.Sums.{only-same, times_stands, total-append}
 use Rattle.buffer_pool.specs.Book.{Book}
 use Rattle.buffer_pool.specs.Calls.{HeldBuffer}
-use Rattle.work_pair.specs.Moves.{Move, Took, Gave, FoundNone, Ended, Moved, IsFilled, HasPushOnFull, EndAtLastTag, IsOnFull, given_items, given_number, taken_items, taken_number}
+use Rattle.work_pair.specs.Moves.{Move, Took, Gave, FoundNone, Ended, Moved, IsFilled, HasPushOnFull, EndAtLastTag}
+use Rattle.work_pair.specs.Moves.{IsOnFull, given_items, given_number, taken_items, taken_number}
 use Rattle.work_pair.specs.Places.{items_at, number_at, IsOfSize}
 use Rattle.work_pair.specs.declared.stop.Stop.{Stop}
 use Rattle.work_pair.specs.declared.stop.Stop.TheVariants.{TagSpent, NoBuffer}
 use Rattle.work_pair.specs.working.Steps.{Leaves, PopsOne, PutsOut, Renews, RenewTells, shelf_of}
 use Rattle.work_pair.proofs.Looks.{lost_pops}
-use Rattle.work_pair.proofs.Effects.{found_none, move_effect}
+use Rattle.work_pair.proofs.Effects.{busy_after, found_none, move_effect}
 
 -- a buffer goes on full only with items, and with items it goes there
 pub filled_shelf : (h : HeldBuffer) → IsFilled (Gave (shelf_of h.items) h)
@@ -126,6 +129,9 @@ module _ (old : Option HeldBuffer) (q : Which) (h : HeldBuffer) (b mid : Book) (
 
   pub still_sized : IsOfSize b.setup.size old → IsOfSize mid.setup.size old
   still_sized = subst (λ (e : Setup). IsOfSize e.size old) (sym (move_effect (Took q h) b mid took).setup)
+
+  pub still_busy : IsBusy b.account → IsBusy mid.account
+  still_busy = busy_after (Took q h ∷ []) b mid (mid, took, refl)
 
   pub took_size : h.size ≡ b.setup.size
   took_size = took.2.4 ∙ ap (λ (e : Setup). e.size) (lost_pops q b took.0 took.1).setup

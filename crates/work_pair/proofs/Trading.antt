@@ -1,12 +1,15 @@
 -- Trades put together: local changes of a pair, and what was done with one of its places.
-use Rattle.std.proofs.Common.{◌≡◌, ◌⊎◌, ℕ, ◌+◌, Bool, true, List, [], ◌∷◌, ◌++◌, append_assoc, Option, None, refl, sym, ap, subst, ◌∙◌, inl, inr, ⊎_elim, arith}
+use Rattle.std.proofs.Common.{◌≡◌, ◌⊎◌, ℕ, ◌+◌, Bool, true, List, [], ◌∷◌, ◌++◌, append_assoc, Option, None, refl, sym}
+use Rattle.std.proofs.Common.{ap, subst, ◌∙◌, inl, inr, ⊎_elim, arith}
 use Rattle.mark_core.specs.declared.which.Which.{Which}
 use Rattle.mark_core.specs.Lists.{times, only, IsPart}
 use Rattle.mark_core.specs.World.{Setup}
 use Rattle.mark_core.proofs.Sums.{total-append}
 use Rattle.buffer_pool.specs.Book.{Book}
 use Rattle.buffer_pool.specs.Calls.{HeldBuffer}
-use Rattle.work_pair.specs.Moves.{Move, FoundNone, Ended, Moved, Moves, popped_items, popped_numbers, pushed_items, pushed_numbers, taken_items, taken_number, given_items, given_number, AreFilled, HasPushOnFull, EndAtLastTag}
+use Rattle.work_pair.specs.Moves.{Move, FoundNone, Ended, Moved, Moves, popped_items, popped_numbers, pushed_items}
+use Rattle.work_pair.specs.Moves.{pushed_numbers, taken_items, taken_number, given_items, given_number, AreFilled}
+use Rattle.work_pair.specs.Moves.{HasPushOnFull, EndAtLastTag}
 use Rattle.work_pair.specs.Places.{Places, items_at, number_at, items_of, numbers_of, IsOfSize, AreOfSize, IsBacked}
 use Rattle.work_pair.specs.Deals.{Deals}
 use Rattle.work_pair.specs.working.Steps.{IsLocal, Renews, Trades, places}
@@ -186,7 +189,7 @@ dealt old b put got new c was now backed t ends =
       filled = t.filled;
       charge = e.charge;
       held = e.held;
-      kept = record { setup = e.setup; share = e.share; seen = e.seen; finished = e.finished };
+      kept = record { setup = e.setup; share = e.share; idle = e.idle; seen = e.seen; finished = e.finished };
       backed = record { held = after.held; charged = after.charged; sized = record { first = after.sized.first; second = after.sized.second; third = after.sized.third } };
       closed = moves_closed t.moves b c t.books;
       last_tag = ends;

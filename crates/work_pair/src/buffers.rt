@@ -22,6 +22,7 @@ pub(crate) struct Buffers<A: Allocator> {
 
 impl<A: Allocator> Buffers<A> {
     ghost use Rattle.std.specs.Prelude.{◌≡◌, ◌≢◌, None, [], ◌∷◌, IsOk};
+    ghost use Rattle.mark_core.specs.Event.{IsBusy};
     ghost use Rattle.work_pair.specs.Deals.{HasMore};
     ghost use Rattle.work_pair.specs.Places.{HasRoom, IsBacked, items_of};
     ghost use Rattle.work_pair.specs.working.Steps.{BalanceTells, ClearTells, GetTells, PublishTells, PutTells};
@@ -39,6 +40,7 @@ impl<A: Allocator> Buffers<A> {
         requires third { self.old.third ≡ None }
         requires backed { IsBacked (places self.old.first self.old.second self.old.third) (object ∷ [])
             worker.old.book }
+        requires busy { IsBusy worker.old.book.account }
         ensures pool { worker.new.pool ≡ worker.old.pool }
         ensures tells { PutTells object (places self.old.first self.old.second self.old.third) worker.old.book
             (places self.new.first self.new.second self.new.third) worker.new.book result }
@@ -85,6 +87,7 @@ impl<A: Allocator> Buffers<A> {
         requires pool { worker.old.pool ≡ pool.now }
         requires third { self.old.third ≡ None }
         requires backed { IsBacked (places self.old.first self.old.second self.old.third) [] worker.old.book }
+        requires busy { IsBusy worker.old.book.account }
         ensures pool { worker.new.pool ≡ worker.old.pool }
         ensures tells { GetTells (places self.old.first self.old.second self.old.third) worker.old.book
             (places self.new.first self.new.second self.new.third) worker.new.book result }
@@ -113,6 +116,7 @@ impl<A: Allocator> Buffers<A> {
         requires pool { worker.old.pool ≡ pool.now }
         requires third { self.old.third ≡ None }
         requires backed { IsBacked (places self.old.first self.old.second self.old.third) [] worker.old.book }
+        requires busy { IsBusy worker.old.book.account }
         ensures pool { worker.new.pool ≡ worker.old.pool }
         ensures tells { BalanceTells (places self.old.first self.old.second self.old.third) worker.old.book
             (places self.new.first self.new.second self.new.third) worker.new.book result }
@@ -138,6 +142,7 @@ impl<A: Allocator> Buffers<A> {
         requires pool { worker.old.pool ≡ pool.now }
         requires third { self.old.third ≡ None }
         requires backed { IsBacked (places self.old.first self.old.second self.old.third) [] worker.old.book }
+        requires busy { IsBusy worker.old.book.account }
         ensures pool { worker.new.pool ≡ worker.old.pool }
         ensures tells { PublishTells (places self.old.first self.old.second self.old.third) worker.old.book
             (places self.new.first self.new.second self.new.third) worker.new.book result }
@@ -159,6 +164,8 @@ impl<A: Allocator> Buffers<A> {
     ) -> Result<(), Stop>
         requires pool { worker.old.pool ≡ pool.now }
         requires backed { IsBacked (places self.old.first self.old.second self.old.third) [] worker.old.book }
+        requires busy { items_of (places self.old.first self.old.second self.old.third) ≢ []
+            → IsBusy worker.old.book.account }
         ensures pool { worker.new.pool ≡ worker.old.pool }
         ensures tells { ClearTells (places self.old.first self.old.second self.old.third) worker.old.book
             (places self.new.first self.new.second self.new.third) worker.new.book result }

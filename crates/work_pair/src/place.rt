@@ -2,6 +2,7 @@
 ghost use Rattle.std.specs.Prelude.{◌≡◌, ◌≢◌, ◌+◌, ◌↔◌, ◌<◌, ℕ, [], ◌∷◌, ◌++◌, Some, None, IsTrue, IfOk, length};
 ghost use Rattle.std.specs.Prelude.{IsOk, MatchOption};
 ghost use Rattle.std.specs.Bool.{OnTrue, OnFalse};
+ghost use Rattle.mark_core.specs.Event.{IsBusy};
 ghost use Rattle.mark_core.specs.Lists.{times, IsPart};
 ghost use Rattle.buffer_pool.specs.Calls.{HeldBuffer};
 ghost use Rattle.work_pair.specs.Places.{items_at, number_at, HasRoomAt, IsOfSize};
@@ -79,6 +80,7 @@ pub(crate) fn put_out<R: Wait, A: Allocator>(
     requires held { IsPart (number_at place.old) worker.old.book.account.held }
     requires charged { IsPart (items_at place.old) worker.old.book.account.charge }
     requires sized { IsOfSize worker.old.book.setup.size place.old }
+    requires busy { IsBusy worker.old.book.account }
     ensures pool { worker.new.pool ≡ worker.old.pool }
     ensures out { PutsOut place.old next worker.old.book place.new third.new worker.new.book result }
 {
@@ -105,6 +107,7 @@ pub(crate) fn clear_at<R: Wait, A: Allocator>(
     requires held { IsPart (number_at place.old) worker.old.book.account.held }
     requires charged { IsPart (items_at place.old) worker.old.book.account.charge }
     requires sized { IsOfSize worker.old.book.setup.size place.old }
+    requires busy { items_at place.old ≢ [] → IsBusy worker.old.book.account }
     ensures pool { worker.new.pool ≡ worker.old.pool }
     ensures clears { ClearsAt place.old worker.old.book place.new worker.new.book result }
 {
@@ -134,6 +137,7 @@ pub(crate) fn renew<R: Wait, A: Allocator>(
     requires held { IsPart (number_at place.old) worker.old.book.account.held }
     requires charged { IsPart (items_at place.old) worker.old.book.account.charge }
     requires sized { IsOfSize worker.old.book.setup.size place.old }
+    requires busy { IsBusy worker.old.book.account }
     ensures pool { worker.new.pool ≡ worker.old.pool }
     ensures renews { RenewTells worker.old.book.setup.size place.old worker.old.book place.new third.new
         worker.new.book result }
@@ -160,6 +164,7 @@ pub(crate) fn halve<R: Wait, A: Allocator>(
     requires held { IsPart (number_at place.old) worker.old.book.account.held }
     requires charged { IsPart (items_at place.old) worker.old.book.account.charge }
     requires sized { IsOfSize worker.old.book.setup.size place.old }
+    requires busy { IsBusy worker.old.book.account }
     ensures pool { worker.new.pool ≡ worker.old.pool }
     ensures renews { RenewTells worker.old.book.setup.size place.old worker.old.book place.new third.new
         worker.new.book result }
@@ -185,6 +190,7 @@ pub(crate) fn publish_at<R: Wait, A: Allocator>(
     requires held { IsPart (number_at place.old) worker.old.book.account.held }
     requires charged { IsPart (items_at place.old) worker.old.book.account.charge }
     requires sized { IsOfSize worker.old.book.setup.size place.old }
+    requires busy { IsBusy worker.old.book.account }
     ensures pool { worker.new.pool ≡ worker.old.pool }
     ensures publishes { PublishesAt worker.old.book.setup.size place.old worker.old.book place.new third.new
         worker.new.book result }

@@ -1,5 +1,6 @@
 //! One pop, and one push to the stack that a buffer belongs on.
-ghost use Rattle.std.specs.Prelude.{◌≡◌, Contains};
+ghost use Rattle.std.specs.Prelude.{◌≡◌, ◌≢◌, [], Contains};
+ghost use Rattle.mark_core.specs.Event.{IsBusy};
 ghost use Rattle.mark_core.specs.Lists.{IsPart};
 ghost use Rattle.work_pair.specs.working.Steps.{PopsOne, Shelves};
 
@@ -15,7 +16,8 @@ pub(crate) fn pop_one<R: Wait, A: Allocator>(
     worker: &mut Worker<A>,
     which: Which,
 ) -> Result<Option<Held<A>>, Stop>
-    requires { worker.old.pool ≡ pool.now }
+    requires pool { worker.old.pool ≡ pool.now }
+    requires busy { IsBusy worker.old.book.account }
     ensures pool { worker.new.pool ≡ worker.old.pool }
     ensures pops { PopsOne which worker.old.book worker.new.book result }
 {
@@ -37,6 +39,7 @@ pub(crate) fn shelve<R: Wait, A: Allocator>(
     requires held { Contains worker.old.book.account.held held.index }
     requires charged { IsPart held.items worker.old.book.account.charge }
     requires size { held.size ≡ worker.old.book.setup.size }
+    requires busy { held.items ≢ [] → IsBusy worker.old.book.account }
     ensures pool { worker.new.pool ≡ worker.old.pool }
     ensures shelves { Shelves held worker.old.book worker.new.book result }
 {

@@ -9,10 +9,11 @@ use Rattle.work_pair.specs.Places.{Places, IsOpen, IsBacked}
 unfoldable pub numbers : ℕ → List ℕ
 numbers n = range_with_len 0 n
 
--- a worker of the pool, which was made for n objects that are all roots
+-- a worker of the pool, which was made for n objects that are all roots; it is not idle
 pub record IsWorker (n : ℕ) (pool : TableId) (w : Holder) : Type 0 where
   pub same : w.pool ≡ pool
   pub roots : w.book.setup.roots ≡ numbers n
+  pub idle : w.book.account.idle ≡ 0
 
 -- and with a pair that it backs, and with these objects besides
 pub record HasBesides (n : ℕ) (pool : TableId) (w : Holder) (p : Places) (besides : List ℕ) : Type 0 where

@@ -128,7 +128,7 @@ abbrev pub GetTells : Places → Book → Places → Book → Result (Option ℕ
 GetTells old before new after (Ok (Some object)) = Trades old before [] (object ∷ []) new after × (new.third ≡ None)
 GetTells old before new after (Ok None) =
     Trades old before [] [] new after × (new.third ≡ None) × (items_of new ≡ []) × WasSeenEmpty Full before after
-    × (after.account.open_push ≡ false)
+    × (after.account.open_push ≡ false) × (after.account.found ≡ true)
 GetTells old before new after (Err stop) = Ends old before new after stop
 
 abbrev pub BalanceTells : Places → Book → Places → Book → Result Unit Stop → Type 0

@@ -3,7 +3,8 @@ use Rattle.std.proofs.lemmas.Result.{err_from_is_err_and}
 use Rattle.mark_core.specs.declared.which.Which.TheVariants.{Empty}
 use Rattle.buffer_pool.specs.Calls.{HeldBuffer}
 use Rattle.work_pair.specs.working.Steps.{PopsOne}
-use Rattle.work_pair.proofs.Renewing.{found_nothing, put_out_done, put_out_stopped, still_charged, still_held, still_sized, stopped_at_once, took_size}
+use Rattle.work_pair.proofs.Renewing.{found_nothing, put_out_done, put_out_stopped, still_busy, still_charged}
+use Rattle.work_pair.proofs.Renewing.{still_held, still_sized, stopped_at_once, took_size}
 use Rattle.work_pair.proofs.place.renew.Goals as goal
 
 pub returns-in_err-next-clause-renews : goal.returns-in_err-next-clause-renews
@@ -33,6 +34,13 @@ pub put_out-requires-clause-sized : goal.put_out-requires-clause-sized
 put_out-requires-clause-sized g c =
     let t = subst (λ (r : Option HeldBuffer). PopsOne Empty c.args.worker.now.book c.pop_one.new.worker.book (Ok r)) c.in-Some.is c.in_ok-next.ensures.pops in
     still_sized c.args.place.now Empty c.in-Some.next c.args.worker.now.book c.pop_one.new.worker.book t c.requires.sized
+
+pub put_out-requires-clause-busy : goal.put_out-requires-clause-busy
+put_out-requires-clause-busy g c =
+    let b = c.args.worker.now.book in
+    let mid = c.pop_one.new.worker.book in
+    let t = subst (λ (r : Option HeldBuffer). PopsOne Empty b mid (Ok r)) c.in-Some.is c.in_ok-next.ensures.pops in
+    still_busy c.args.place.now Empty c.in-Some.next b mid t c.requires.busy
 
 pub returns-in_err-put_out-clause-renews : goal.returns-in_err-put_out-clause-renews
 returns-in_err-put_out-clause-renews g c =

@@ -1,7 +1,8 @@
 use Rattle.std.proofs.Common.{[], None}
 use Rattle.std.proofs.lemmas.Result.{err_from_is_err_and}
 use Rattle.work_pair.specs.working.Steps.{places}
-use Rattle.work_pair.proofs.Clearing.{backed_then, first_cleared, first_stuck, second_cleared, second_stuck, third_told}
+use Rattle.work_pair.proofs.Clearing.{backed_then, first_busy, first_cleared, first_stuck, second_busy, second_cleared}
+use Rattle.work_pair.proofs.Clearing.{second_stuck, third_busy, third_told}
 use Rattle.work_pair.proofs.Trading.{first_charged, second_charged, second_held, third_charged, third_held}
 use Rattle.work_pair.proofs.buffers.Buffers.clear.Goals as goal
 
@@ -51,6 +52,34 @@ pub clear_at-requires-3-clause-sized : goal.clear_at-requires-3-clause-sized
 clear_at-requires-3-clause-sized g c = (backed_then c.args.self.now.first c.args.self.now.second c.args.self.now.third c.args.worker.now.book c.requires.backed.sized c.clear_at-2.new.worker.book (places None None c.args.self.now.third) c.requires.backed
     (second_cleared c.args.self.now.first c.args.self.now.second c.args.self.now.third c.args.worker.now.book c.requires.backed.sized c.clear_at.new.worker.book c.clear_at-2.new.worker.book c.clear_at-2.new.place c.in_ok-clear_at-2.field-0
     (first_cleared c.args.self.now.first c.args.self.now.second c.args.self.now.third c.args.worker.now.book c.requires.backed.sized c.clear_at.new.worker.book c.clear_at.new.place c.in_ok-clear_at.field-0 c.in_ok-clear_at.ensures.clears) c.in_ok-clear_at-2.ensures.clears)).sized.third
+
+pub clear_at-requires-clause-busy : goal.clear_at-requires-clause-busy
+clear_at-requires-clause-busy g c =
+    let m = c.args.self.now in
+    first_busy m.first m.second m.third c.args.worker.now.book c.requires.busy
+
+pub clear_at-requires-2-clause-busy : goal.clear_at-requires-2-clause-busy
+clear_at-requires-2-clause-busy g c =
+    let m = c.args.self.now in
+    let b = c.args.worker.now.book in
+    let mid = c.clear_at.new.worker.book in
+    let sized = c.requires.backed.sized in
+    let once = first_cleared m.first m.second m.third b sized mid c.clear_at.new.place c.in_ok-clear_at.field-0
+    c.in_ok-clear_at.ensures.clears in
+    second_busy m.first m.second m.third b c.requires.busy (places None m.second m.third) mid once
+
+pub clear_at-requires-3-clause-busy : goal.clear_at-requires-3-clause-busy
+clear_at-requires-3-clause-busy g c =
+    let m = c.args.self.now in
+    let b = c.args.worker.now.book in
+    let mid = c.clear_at.new.worker.book in
+    let last = c.clear_at-2.new.worker.book in
+    let sized = c.requires.backed.sized in
+    let once = first_cleared m.first m.second m.third b sized mid c.clear_at.new.place c.in_ok-clear_at.field-0
+    c.in_ok-clear_at.ensures.clears in
+    let twice = second_cleared m.first m.second m.third b sized mid last c.clear_at-2.new.place
+    c.in_ok-clear_at-2.field-0 once c.in_ok-clear_at-2.ensures.clears in
+    third_busy m.first m.second m.third b c.requires.busy (places None None m.third) last twice
 
 pub returns-clause-tells : goal.returns-clause-tells
 returns-clause-tells g c =

@@ -3,7 +3,8 @@ use Rattle.std.proofs.lemmas.Result.{err_from_is_err_and}
 use Rattle.mark_core.specs.declared.which.Which.TheVariants.{Full}
 use Rattle.buffer_pool.specs.Calls.{HeldBuffer}
 use Rattle.work_pair.specs.working.Steps.{PopsOne, places}
-use Rattle.work_pair.proofs.Getting.{all_taken, charged_here, got, held_here, none_got, of_size_here, pop_stopped, put_stopped, turned}
+use Rattle.work_pair.proofs.Getting.{all_taken, busy_here, charged_here, got, held_here, none_got, now_busy}
+use Rattle.work_pair.proofs.Getting.{of_size_here, pop_stopped, put_stopped, turned}
 use Rattle.work_pair.proofs.Trading.{still}
 use Rattle.work_pair.proofs.buffers.Buffers.get.Goals as goal
 
@@ -22,6 +23,15 @@ pub returns-in-Some-take-clause-tells : goal.returns-in-Some-take-clause-tells
 returns-in-Some-take-clause-tells g c =
     got (places c.args.self.now.first c.args.self.now.second c.args.self.now.third) c.args.worker.now.book c.requires.backed c.loop.self.first c.loop.self.second c.loop.self.third c.loop.worker.book c.loop.invariant.trades c.loop.invariant.third
     c.take.new.self.first c.take.new.self.second c.take.new.self.third c.in-Some-take.object c.in-Some-take.ensures
+
+pub pop_one-requires-clause-busy : goal.pop_one-requires-clause-busy
+pop_one-requires-clause-busy g c =
+    let m = c.args.self.now in
+    let p = places m.first m.second m.third in
+    let l = c.loop in
+    let now = l.invariant in
+    now_busy p c.args.worker.now.book c.requires.backed l.self.first l.self.second l.self.third l.worker.book now.trades
+    now.third c.requires.busy
 
 pub returns-in_err-next-clause-tells : goal.returns-in_err-next-clause-tells
 returns-in_err-next-clause-tells g c =
@@ -52,6 +62,19 @@ put_out-requires-clause-sized g c =
     of_size_here (places c.args.self.now.first c.args.self.now.second c.args.self.now.third) c.args.worker.now.book c.requires.backed c.loop.self.first c.loop.self.second c.loop.self.third c.loop.worker.book c.loop.invariant.trades c.loop.invariant.third
     c.take.new.self.first c.take.new.self.second c.take.new.self.third c.in_default.ensures c.in-Some-2.next c.pop_one.new.worker.book
     (subst (λ (r : Option HeldBuffer). PopsOne Full c.loop.worker.book c.pop_one.new.worker.book (Ok r)) c.in-Some-2.is c.in_ok-next.ensures.pops)
+
+pub put_out-requires-clause-busy : goal.put_out-requires-clause-busy
+put_out-requires-clause-busy g c =
+    let m = c.args.self.now in
+    let p = places m.first m.second m.third in
+    let l = c.loop in
+    let now = l.invariant in
+    let mid = c.pop_one.new.worker.book in
+    let pops = subst (λ (r : Option HeldBuffer). PopsOne Full l.worker.book mid (Ok r)) c.in-Some-2.is
+    c.in_ok-next.ensures.pops in
+    busy_here p c.args.worker.now.book c.requires.backed l.self.first l.self.second l.self.third l.worker.book
+    now.trades now.third c.take.new.self.first c.take.new.self.second c.take.new.self.third c.in_default.ensures
+    c.in-Some-2.next mid pops c.requires.busy
 
 pub loop-preserved : goal.loop-preserved
 loop-preserved g c =

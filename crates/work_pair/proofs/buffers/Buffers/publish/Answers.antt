@@ -1,7 +1,7 @@
 use Rattle.std.proofs.Common.{[], ◌∙◌}
 use Rattle.std.proofs.lemmas.Result.{err_from_is_err_and}
 use Rattle.work_pair.specs.working.Steps.{places}
-use Rattle.work_pair.proofs.Calls.{both_published, none_at, publish_stopped, published_backed}
+use Rattle.work_pair.proofs.Calls.{both_published, none_at, publish_stopped, published_backed, published_busy}
 use Rattle.work_pair.proofs.Trading.{first_charged, second_charged, second_held}
 use Rattle.work_pair.proofs.buffers.Buffers.publish.Goals as goal
 
@@ -30,6 +30,14 @@ publish_at-requires-2-clause-charged g c =
 pub publish_at-requires-2-clause-sized : goal.publish_at-requires-2-clause-sized
 publish_at-requires-2-clause-sized g c = (published_backed c.args.self.now.first c.args.self.now.second c.args.self.now.third c.publish_at.new.place c.publish_at.new.third c.args.worker.now.book c.publish_at.new.worker.book c.requires.third c.requires.backed.sized c.in_ok-publish_at.field-0
     c.in_ok-publish_at.ensures.publishes c.requires.backed).sized.second
+
+pub publish_at-requires-2-clause-busy : goal.publish_at-requires-2-clause-busy
+publish_at-requires-2-clause-busy g c =
+    let m = c.args.self.now in
+    let once = c.publish_at.new in
+    let b = c.args.worker.now.book in
+    published_busy m.first m.second m.third once.place once.third b once.worker.book c.requires.third
+    c.requires.backed.sized c.in_ok-publish_at.field-0 c.in_ok-publish_at.ensures.publishes c.requires.busy
 
 pub returns-clause-tells : goal.returns-clause-tells
 returns-clause-tells g c =

@@ -1,8 +1,12 @@
-use Rattle.std.proofs.Common.{true, None, refl, false}
+use Rattle.std.proofs.Common.{◌∙◌, true, None, ap, refl, false}
 use Rattle.std.proofs.lemmas.Bool.{false≢true}
+use Rattle.work_pair.specs.Places.{items_of}
 use Rattle.work_pair.specs.working.Steps.{places}
 use Rattle.work_pair.proofs.Pairs.{clears_told, disposes}
 use Rattle.work_pair.proofs.pair.Pair.dispose.Goals as goal
+
+pub clear-requires-clause-busy : goal.clear-requires-clause-busy
+clear-requires-clause-busy g c some = c.requires.busy (λ none. some (ap items_of c.self.view_is ∙ none))
 
 pub returns-in-Ok-clause-gone : goal.returns-in-Ok-clause-gone
 returns-in-Ok-clause-gone g c =

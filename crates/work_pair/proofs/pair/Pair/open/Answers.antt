@@ -5,7 +5,8 @@ use Rattle.buffer_pool.specs.Calls.{HeldBuffer}
 use Rattle.work_pair.specs.Places.{Places, IsNew, no_places}
 use Rattle.work_pair.specs.Deals.{DealsQuietly}
 use Rattle.work_pair.specs.working.Steps.{PopsOne, places}
-use Rattle.work_pair.proofs.Opening.{back_backed, back_stopped, both_taken, first_missing, first_stopped, given_back, second_stopped}
+use Rattle.work_pair.proofs.Opening.{back_backed, back_busy, back_stopped, both_taken, first_missing, first_stopped}
+use Rattle.work_pair.proofs.Opening.{given_back, one_busy, second_stopped}
 use Rattle.work_pair.proofs.Trading.{first_held}
 use Rattle.work_pair.proofs.pair.Pair.open.Goals as goal
 
@@ -17,6 +18,13 @@ returns-in_err-first-clause-spent g c =
 pub returns-in_default-clause-none : goal.returns-in_default-clause-none
 returns-in_default-clause-none g c =
     first_missing c.args.worker.now.book c.pop_one.new.worker.book (subst (λ (r : Option HeldBuffer). PopsOne Empty c.args.worker.now.book c.pop_one.new.worker.book (Ok r)) c.in_default.is c.in_ok-first.ensures.pops)
+
+pub pop_one-requires-2-clause-busy : goal.pop_one-requires-2-clause-busy
+pop_one-requires-2-clause-busy g c =
+    let b = c.args.worker.now.book in
+    let mid = c.pop_one.new.worker.book in
+    let took = subst (λ (r : Option HeldBuffer). PopsOne Empty b mid (Ok r)) c.in-Some.is c.in_ok-first.ensures.pops in
+    one_busy b c.in-Some.first mid took c.requires.busy
 
 pub returns-in_err-second-clause-spent : goal.returns-in_err-second-clause-spent
 returns-in_err-second-clause-spent g c =
@@ -40,6 +48,16 @@ clear_at-requires-clause-held g c =
 pub clear_at-requires-clause-sized : goal.clear_at-requires-clause-sized
 clear_at-requires-clause-sized g c = (back_backed c.args.worker.now.book c.in-Some.first c.pop_one.new.worker.book (subst (λ (r : Option HeldBuffer). PopsOne Empty c.args.worker.now.book c.pop_one.new.worker.book (Ok r)) c.in-Some.is c.in_ok-first.ensures.pops)
     c.pop_one-2.new.worker.book (subst (λ (r : Option HeldBuffer). PopsOne Empty c.pop_one.new.worker.book c.pop_one-2.new.worker.book (Ok r)) c.in_default-2.is c.in_ok-second.ensures.pops)).sized.first
+
+pub clear_at-requires-clause-busy : goal.clear_at-requires-clause-busy
+clear_at-requires-clause-busy g c some =
+    let b = c.args.worker.now.book in
+    let mid = c.pop_one.new.worker.book in
+    let last = c.pop_one-2.new.worker.book in
+    let took = subst (λ (r : Option HeldBuffer). PopsOne Empty b mid (Ok r)) c.in-Some.is c.in_ok-first.ensures.pops in
+    let missing = subst (λ (r : Option HeldBuffer). PopsOne Empty mid last (Ok r)) c.in_default-2.is
+    c.in_ok-second.ensures.pops in
+    back_busy b c.in-Some.first mid took last missing c.requires.busy
 
 pub returns-in_err-clear_at-clause-spent : goal.returns-in_err-clear_at-clause-spent
 returns-in_err-clear_at-clause-spent g c =
