@@ -29,7 +29,8 @@ heads_open s tag full empty = λ t q. at q t
 
 pub opens :
     (s : Listing) (d e : Setup) (tag : ℕ) → d ≡ e → s.full ≡ record { index = None; tag = tag } → s.empty ≡ record { index = Some 0; tag = tag }
-    → ((i : ℕ) → get_or s.links i None ≡ first_link d.buffers i) → s.marks ≡ replicate d.objects 0 → s.slots ≡ replicate d.buffers (Some []) → s.idle ≡ 0 → s.accounts ≡ part whole ∷ []
+    → ((i : ℕ) → get_or s.links i None ≡ first_link d.buffers i) → s.marks ≡ replicate d.objects 0
+    → s.slots ≡ replicate d.buffers (Some []) → s.idle ≡ 0 → s.accounts ≡ part whole ∷ []
     → marking_of s ≡ opening e tag
 opens s d e tag same full empty links marks slots idle accounts = opened ∙ ap (λ (x : Setup). opening x tag) same
   where
@@ -50,7 +51,8 @@ pub lawful_opening :
 lawful_opening s e tag opened same links slots marks some few rooted paired =
     let law : Law e (marking_of s) = subst (Law e) (sym opened) (opening_keeps e tag some) in
     let back : e ≡ s.setup = sym same in
-    let one : AreNumbered s.accounts = subst AreNumbered (sym (ap (λ (m : Marking). m.accounts) opened)) (numbered_opening whole (omega arith)) in
+    let accounts = ap (λ (m : Marking). m.accounts) opened in
+    let one : AreNumbered s.accounts = subst AreNumbered (sym accounts) (numbered_opening whole (omega arith)) in
     record {
       law = subst (λ (x : Setup). Law x (marking_of s)) back law;
       links = links ∙ ap (λ (x : Setup). x.buffers) back;

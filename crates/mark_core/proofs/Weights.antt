@@ -19,13 +19,25 @@ pub record AreNumbered (accounts : List Account) : Type 0 where
 module _ (accounts : List Account) (n : AreNumbered accounts) (w : ℕ) (a : Account) (is : StandsAt accounts w a) where
   -- an account changes, and counts for the same
   numbered_set : (b : Account) → weight b ≡ weight a → AreNumbered (set accounts w b)
-  numbered_set b same = record { numbered = omega (arith, n.numbered, length-set accounts w b); weights = omega (arith, n.weights, same, length-set accounts w b, total-set weight accounts w a b is) }
-
-  numbered_split : (units : ℕ) → 0 < units → units < a.share → length accounts < 4294967295 → AreNumbered (set accounts w (after_split units a) ++ part units ∷ [])
-  numbered_split units least less room =
+  numbered_set b same =
+      let long = length-set accounts w b in
       record {
-        numbered = omega (arith, room, length-set accounts w b, length-append (set accounts w b) (part units ∷ []));
-        weights = omega (arith, n.weights, same, new, length-set accounts w b, length-append (set accounts w b) (part units ∷ []), total-set weight accounts w a b is, total-append weight (set accounts w b) (part units ∷ []));
+        numbered = omega (arith, n.numbered, long);
+        weights = omega (arith, n.weights, same, long, total-set weight accounts w a b is);
+      }
+
+  -- units go to a new account, which counts for one
+  numbered_split :
+      (units : ℕ) → 0 < units → units < a.share → length accounts < 4294967295
+      → AreNumbered (set accounts w (after_split units a) ++ part units ∷ [])
+  numbered_split units least less room =
+      let before = length-set accounts w b in
+      let long = length-append (set accounts w b) (part units ∷ []) in
+      let changed = total-set weight accounts w a b is in
+      let added = total-append weight (set accounts w b) (part units ∷ []) in
+      record {
+        numbered = omega (arith, room, before, long);
+        weights = omega (arith, n.weights, same, new, before, long, changed, added);
       }
     where
       b : Account
@@ -37,23 +49,36 @@ module _ (accounts : List Account) (n : AreNumbered accounts) (w : ℕ) (a : Acc
       new : weight (part units) ≡ 1
       new = omega (arith, least)
 
-  numbered_join : (v : ℕ) (b : Account) → v ≢ w → StandsAt accounts v b → AreNumbered (set (set accounts w (after_join a b)) v no_share)
+  -- two accounts are put together, and count for no more than before
+  numbered_join :
+      (v : ℕ) (b : Account) → v ≢ w → StandsAt accounts v b
+      → AreNumbered (set (set accounts w (after_join a b)) v no_share)
   numbered_join v b apart at =
+      let one = total-set weight accounts w a both is in
+      let other = total-set weight first v b no_share still in
       record {
         numbered = omega (arith, n.numbered, lengths);
-        weights = omega (arith, n.weights, lengths, both, total-set weight accounts w a (after_join a b) is, total-set weight (set accounts w (after_join a b)) v b no_share still);
+        weights = omega (arith, n.weights, lengths, fewer, one, other);
       }
     where
-      still : StandsAt (set accounts w (after_join a b)) v b
-      still = set_else accounts w v (after_join a b) apart ∙ at
+      both : Account
+      both = after_join a b
 
-      lengths : length (set (set accounts w (after_join a b)) v no_share) ≡ length accounts
-      lengths = omega (arith, length-set accounts w (after_join a b), length-set (set accounts w (after_join a b)) v no_share)
+      first : List Account
+      first = set accounts w both
 
-      both : weight (after_join a b) ≤ weight a + weight b
-      both = omega arith
+      still : StandsAt first v b
+      still = set_else accounts w v both apart ∙ at
 
-module _ (e : Setup) (m : Marking) (n : AreNumbered m.accounts) (w : ℕ) (a : Account) (there : IsThere m.accounts w a) where
+      lengths : length (set first v no_share) ≡ length accounts
+      lengths = omega (arith, length-set accounts w both, length-set first v no_share)
+
+      fewer : weight both ≤ weight a + weight b
+      fewer = omega arith
+
+module _
+    (e : Setup) (m : Marking) (n : AreNumbered m.accounts)
+    (w : ℕ) (a : Account) (there : IsThere m.accounts w a) where
   put : (b : Account) → weight b ≡ weight a → AreNumbered (set m.accounts w b)
   put = numbered_set m.accounts n w a there.0
 
@@ -62,12 +87,15 @@ module _ (e : Setup) (m : Marking) (n : AreNumbered m.accounts) (w : ℕ) (a : A
   popped_numbered q (Some i) None = n
   popped_numbered q (Some i) (Some l) = put (after_pop i (items_of (slice_index_or m.slots i None)) a) refl
 
-  effect_numbered : (kind : Kind) → Allows e m w a kind → HasNumber kind m.accounts → AreNumbered (effect m w a kind).accounts
+  effect_numbered :
+      (kind : Kind) → Allows e m w a kind → HasNumber kind m.accounts → AreNumbered (effect m w a kind).accounts
   effect_numbered (Claim o) can room = put (after_claim o (m.mark o) a) refl
   effect_numbered (Finish o) can room = put (after_finish o a) refl
   effect_numbered (Split units) can room = numbered_split m.accounts n w a there.0 units can.0 can.1 room
   effect_numbered (Join v) can room =
-      subst (λ x. AreNumbered (set (set m.accounts w (after_join a x)) v no_share)) (sym (at_get_or m.accounts v can.1.0 no_share can.1.1.0)) (numbered_join m.accounts n w a there.0 v can.1.0 can.0 can.1.1.0)
+      let here = at_get_or m.accounts v can.1.0 no_share can.1.1.0 in
+      subst (λ x. AreNumbered (set (set m.accounts w (after_join a x)) v no_share)) (sym here)
+      (numbered_join m.accounts n w a there.0 v can.1.0 can.0 can.1.1.0)
   effect_numbered (Load Full) can room = put (after_load Full (m.head Full) a) refl
   effect_numbered (Load Empty) can room = put (after_load Empty (m.head Empty) a) refl
   effect_numbered (LoadLink Full) can room = put (after_load_link Full (last_link m.link a.full.head) a) refl
@@ -80,9 +108,13 @@ module _ (e : Setup) (m : Marking) (n : AreNumbered m.accounts) (w : ℕ) (a : A
   effect_numbered IdleDown can room = put (after_idle_down a) (omega (arith, can.0, can.1))
   effect_numbered LoadIdle can room = put (after_load_idle m.idle a) refl
 
-pub happens_numbered : (e : Setup) (m : Marking) (event : Event) → AreNumbered m.accounts → IsPossible e m event → HasNumber event.kind m.accounts → AreNumbered (happens m event).accounts
+pub happens_numbered :
+    (e : Setup) (m : Marking) (event : Event) → AreNumbered m.accounts → IsPossible e m event
+    → HasNumber event.kind m.accounts → AreNumbered (happens m event).accounts
 happens_numbered e m event n can room =
-    subst (λ x. AreNumbered (effect m event.worker x event.kind).accounts) (sym (at_get_or m.accounts event.worker can.0 no_share can.1.0)) (effect_numbered e m n event.worker can.0 can.1 event.kind can.2 room)
+    let here = at_get_or m.accounts event.worker can.0 no_share can.1.0 in
+    subst (λ x. AreNumbered (effect m event.worker x event.kind).accounts) (sym here)
+    (effect_numbered e m n event.worker can.0 can.1 event.kind can.2 room)
 
 -- an opening account counts for one
 pub numbered_opening : (units : ℕ) → 0 < units → AreNumbered (part units ∷ [])

@@ -27,15 +27,17 @@ pub record Account : Type 0 where
   pub empty : Look
   -- it pushed on full, and has not loaded a full head without a buffer since
   pub open_push : Bool
-  -- its idle number, and the idle word that it last loaded
+  -- its idle number: 1 while it is idle and 0 while it is not, and after a join the sum of both
   pub idle : ℕ
+  -- the idle word that it last loaded
   pub last_idle : Option ℕ
   -- it loaded a full head without a buffer, since it was split off and since its own last push on full
   pub found : Bool
-  -- it gave units to another, and it pushed on full since it first did
+  -- it gave units to another
   pub parted : Bool
+  -- it pushed on full since it first gave units away
   pub pushed : Bool
-  -- it was put together with another
+  -- it was put together with another: it took one in, or it was taken in
   pub joined : Bool
 
 abbrev pub look_of : Account → Which → Look
@@ -83,8 +85,8 @@ after_finish o a = record a { charge = remove_one o a.charge; finished = a.finis
 abbrev pub after_split : ℕ → Account → Account
 after_split units a = record a { share = a.share - units; parted = true }
 
--- two accounts put together: lists, shares and idle numbers are added, what the first last loaded and found stays, and
--- so does an open push of either
+-- two accounts put together: lists, shares and idle numbers are added, what the first last loaded stays and what is
+-- noted of it, and so does an open push of either
 abbrev pub after_join : Account → Account → Account
 after_join a b =
     record {
@@ -130,7 +132,7 @@ on_full Full set was = set
 on_full Empty set was = was
 
 -- the buffer i was pushed with these items: it is no longer held, and they leave the charge. On full the push is open,
--- what was found counts no more, and it is noted where units were given away before
+-- an empty stack that was found before counts no more, and where units were given away before, that push is noted
 abbrev pub after_push : Which → ℕ → List ℕ → Account → Account
 after_push q i items a =
     record a {
@@ -141,10 +143,11 @@ after_push q i items a =
       pushed = on_full q (a.pushed || a.parted) a.pushed;
     }
 
--- the account went idle, and came back
+-- the account went idle
 abbrev pub after_idle_up : Account → Account
 after_idle_up a = record a { idle = a.idle + 1 }
 
+-- the account came back
 abbrev pub after_idle_down : Account → Account
 after_idle_down a = record a { idle = a.idle - 1 }
 

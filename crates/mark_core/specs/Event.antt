@@ -29,9 +29,9 @@ pub data Kind : Type 0 where
   Push : Which → ℕ → List ℕ → Kind
   -- an exchange of the head that found another one
   Fail : Which → Kind
-  -- add one to the idle word
+  -- go idle: add one to the idle word
   IdleUp : Kind
-  -- take one from the idle word
+  -- come back: take one from the idle word
   IdleDown : Kind
   -- load the idle word
   LoadIdle : Kind
@@ -70,11 +70,12 @@ CanPop now look = CanExchange now look × ((i : ℕ) × (now.index ≡ Some i)) 
 abbrev pub CanGive : Setup → Which → ℕ → List ℕ → Account → Type 0
 CanGive e q i items a = Contains a.held i × IsPart items a.charge × (length items ≤ e.size) × (q ≡ Empty → items ≡ [])
 
--- an account of one unit that answers for nothing may go idle, once it found the full stack empty
+-- an account of one unit that is not idle and answers for nothing may go idle, once it found the full stack empty,
+-- since it was split off and since its own last push there
 abbrev pub CanIdle : Account → Type 0
 CanIdle a = (a.share ≡ 1) × (a.idle ≡ 0) × (a.charge ≡ []) × (a.found ≡ true)
 
--- and come back
+-- an idle account of one unit may come back
 abbrev pub CanWake : Account → Type 0
 CanWake a = (a.share ≡ 1) × (a.idle ≡ 1)
 

@@ -1,4 +1,5 @@
--- Quiet: all accounts but the opening one are idle. Then nothing is left for them to do.
+-- Quiet: as many units as the opening account gave away are idle, and it has put nothing on the full stack since. Then
+-- nothing is left for the other accounts to do. Account 0 is the opening one.
 use Rattle.std.specs.Prelude.{◌≡◌, ℕ, ◌+◌, ◌<◌, false, List, []}
 use Rattle.mark_core.specs.declared.which.Which.TheVariants.{Full}
 use Rattle.mark_core.specs.Lists.{StandsAt}
@@ -8,14 +9,14 @@ use Rattle.mark_core.specs.Event.{IsBusy}
 use Rattle.mark_core.specs.Shares.{whole}
 use Rattle.mark_core.specs.Runs.{IsListOf, IsRun}
 
--- what the opening account has while the others are at work: it is not idle, has all units but n, and has pushed nothing
--- on full since it first gave units away
+-- the opening account is not idle, gave n units away, and has pushed nothing on full since it first gave any
 pub record HasGivenUnits (n : ℕ) (a : Account) : Type 0 where
   pub busy : IsBusy a
   pub units : a.share + n ≡ whole
   pub pushed : a.pushed ≡ false
 
--- quiet for n
+-- the marking is quiet for n, which is at least 1: the idle word is n, no account was joined, and the opening one gave
+-- just n units away
 pub record IsQuiet (m : Marking) (n : ℕ) : Type 0 where
   pub least : 0 < n
   pub word : m.idle ≡ n
@@ -28,6 +29,6 @@ pub record IsDone (m : Marking) : Type 0 where
   pub emptied : (full : List ℕ) → IsListOf m Full full → full ≡ []
   pub others : (w : ℕ) (a : Account) → 0 < w → StandsAt m.accounts w a → a.charge ≡ []
 
--- in every run, where it is quiet it is done
+-- quiet means done: in every run, where the marking is quiet nothing is left
 abbrev pub QuietIsDone : Type 0
 QuietIsDone = (e : Setup) (m : Marking) (n : ℕ) → IsRun e m → IsQuiet m n → IsDone m

@@ -66,7 +66,8 @@ with_head l Empty h = record l { empty = h }
 abbrev pub exchanged : Listing → Which → Option ℕ → Listing
 exchanged l q index = with_head l q (after (heads_of l q) index)
 
--- what an account counts for among the accounts that were made: one while it is there, and no less than its idle number
+-- what an account counts for among the accounts that were made: one while it is there, and no less than its idle
+-- number. Each event keeps the sum of these within the number of accounts, so an idle number never outgrows its type
 abbrev pub weight : Account → ℕ
 weight a = max a.idle (min a.share 1)
 

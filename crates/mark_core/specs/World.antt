@@ -26,7 +26,7 @@ pub record Marking : Type 0 where
   pub mark : ℕ → ℕ
   -- for each buffer its items, and None while an account holds it
   pub slots : List (Option (List ℕ))
-  -- the idle word: the sum of the idle numbers, as a word has it
+  -- the idle word: the sum of the idle numbers, modulo 2^64
   pub idle : ℕ
   pub accounts : List Account
 

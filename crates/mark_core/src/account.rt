@@ -19,8 +19,8 @@ use std::alloc::Allocator;
 use std::marker::Model;
 use tagged_index::HeadWord;
 
-/// The account of a worker: its units, its buffers, the objects that it answers for, saw marked and
-/// finished, and what it last loaded of each stack.
+/// The account of a worker: its units, its buffers, the objects that it answers for, saw marked and finished, what it
+/// last loaded of each stack and of the idle word, its idle number, and what is noted for going idle.
 #[derive(Drop)]
 pub struct Account<A: Allocator> {
     share: u32,

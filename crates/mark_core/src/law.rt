@@ -28,9 +28,9 @@ ghost use Rattle.mark_core.specs.Quiet.{QuietIsDone};
 ///   makes the stack one buffer longer or shorter.
 /// - `failures`, `pushes`: an account counts a failed exchange only where a head has changed since
 ///   the opening, and has an open push only where the full head has.
-/// - `quiet`: where all accounts but the opening one are idle, no account was joined, and the opening one has pushed
-///   nothing on full since it first gave units away, the full stack has no buffer, and no account but the opening one
-///   answers for anything.
+/// - `quiet`: where the idle word is the number of units that the opening account gave away, no account was joined, and
+///   the opening one is not idle and has pushed nothing on full since it first gave units away, the full stack has no
+///   buffer, and no account but the opening one answers for anything.
 pub fn all_runs_keep_law()
     ensures law { RunsKeepLaw }
     ensures events { EventsKeepLaw }
