@@ -9,7 +9,7 @@ use Rattle.hprof_grammar.specs.Fault.{AreBytes, HasFirstFault, SpellsDump}
 use Rattle.hprof_grammar.specs.Fault.FirstFault.{bad_header, short_header, too_large}
 use Rattle.hprof_grammar.specs.working.Joining.{AddsAll, AddsRecord, AddsRecords, AddsSubs, FrameFault, HasHeader, HasRecordFault, HasSubFault, noted, nothing_of, with_loaded, with_string}
 use Rattle.hprof_grammar.specs.working.Joining.FrameFault.{wrong_length, wrong_order}
-use Rattle.hprof_grammar.specs.working.Orders.{StepsTo, is_done}
+use Rattle.hprof_grammar.specs.working.SnapshotOrder.{StepsTo, is_done}
 use Rattle.hprof_grammar.specs.working.Reading.{behind, code_of, frame_at, sub_record_at}
 use Rattle.hprof_grammar.specs.Record.{framed}
 use Rattle.hprof_grammar.specs.SubRecord.{IsSubRecord, SubRecord, origin_kind, spelling_of, tag_of}
@@ -17,16 +17,16 @@ use Rattle.hprof_grammar.specs.SubRecord.SubRecord.{class_dump, instance_dump, o
 use Rattle.hprof_grammar.specs.Tables.{is_heap_tag, is_id_size, is_length_of, is_snapshot_tag, kind_of}
 use Rattle.hprof_grammar.specs.declared.flaw.Flaw.{Flaw}
 use Rattle.hprof_grammar.specs.declared.flaw.FormatFault.{FormatFault}
-use Rattle.hprof_grammar.specs.declared.order.Order.{Order}
-use Rattle.hprof_grammar.specs.declared.order.Order.TheVariants.{Before, Ended, Segments, Whole}
-use Rattle.hprof_grammar.specs.declared.tables.Kind.{Kind}
-use Rattle.hprof_grammar.specs.declared.tables.Kind.TheVariants as kinds
+use Rattle.hprof_grammar.specs.declared.snapshot_order.Order.{Order}
+use Rattle.hprof_grammar.specs.declared.snapshot_order.Order.TheVariants.{Before, Ended, Segments, Whole}
+use Rattle.hprof_grammar.specs.declared.format_tables.Kind.{Kind}
+use Rattle.hprof_grammar.specs.declared.format_tables.Kind.TheVariants as kinds
 use Rattle.hprof_grammar.proofs.Bytes.{IsBytes, bytes-behind, bytes-drop, bytes-front}
 use Rattle.hprof_grammar.proofs.Framed.{IsPlacedFrame, heap_broken, heap_framed, load_framed, other_framed, string_framed}
 use Rattle.hprof_grammar.proofs.Frames.{FrameTaken, cut_record, frame_takes}
 use Rattle.hprof_grammar.proofs.Headers.{begins_with_magic, dump_read, header_stands, id_size_wrong, magic_is_found, record_fault_read}
 use Rattle.hprof_grammar.proofs.Heaps.{step_more, subs_fault}
-use Rattle.hprof_grammar.proofs.OrderLaws.{first_segment, next_segment, no_dump_in_segments, no_end_first, no_more, others_keep, segments_end, whole_comes}
+use Rattle.hprof_grammar.proofs.SnapshotOrderLaws.{first_segment, next_segment, no_dump_in_segments, no_end_first, no_more, others_keep, segments_end, whole_comes}
 use Rattle.hprof_grammar.proofs.RecordSteps.{records_begin, records_step}
 use Rattle.hprof_grammar.proofs.SubRecords.{sub_takes}
 use Rattle.hprof_grammar.proofs.Wholes.{bytes_left, fault_at_end, fault_in_record, fault_where_cut, frame_room}

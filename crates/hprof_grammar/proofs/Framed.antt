@@ -6,14 +6,14 @@ use Rattle.byteorder.specs.Endian.{big_bytes, big_number}
 use Rattle.hprof_grammar.specs.Dump.{Places}
 use Rattle.hprof_grammar.specs.working.Joining.{AddsRecord, AddsSubs, FrameFault, HasSubFault, with_loaded, with_string}
 use Rattle.hprof_grammar.specs.working.Joining.FrameFault.{wrong_heap}
-use Rattle.hprof_grammar.specs.working.Orders.{IsAt}
+use Rattle.hprof_grammar.specs.working.SnapshotOrder.{IsAt}
 use Rattle.hprof_grammar.specs.Record.{IsOther}
 use Rattle.hprof_grammar.specs.Record.Record.{heap, load_class, other, string}
 use Rattle.hprof_grammar.specs.Tables.{is_heap_tag, is_length_of}
 use Rattle.hprof_grammar.specs.declared.flaw.FormatFault.{FormatFault}
-use Rattle.hprof_grammar.specs.declared.order.Order.{Order}
+use Rattle.hprof_grammar.specs.declared.snapshot_order.Order.{Order}
 use Rattle.hprof_grammar.proofs.Bytes.{IsBytes, bytes-drop, in_bytes, number-lt, number_parts}
-use Rattle.hprof_grammar.proofs.OrderLaws.{at_goes_on}
+use Rattle.hprof_grammar.proofs.SnapshotOrderLaws.{at_goes_on}
 use Rattle.hprof_grammar.proofs.TableLaws.{load_length, string_length}
 
 -- what is known of a frame whose tag, length and order are right

@@ -16,7 +16,7 @@ use Rattle.hprof_grammar.specs.Tables.{is_id_size}
 use Rattle.hprof_grammar.specs.declared.flaw.FormatFault.{FormatFault}
 use Rattle.hprof_grammar.proofs.Bytes.{IsBytes, bytes-drop, number-lt, number_parts}
 use Rattle.hprof_grammar.proofs.FrameLaws.{header_parts}
-use Rattle.hprof_grammar.proofs.OrderLaws.{done_is_orderly}
+use Rattle.hprof_grammar.proofs.SnapshotOrderLaws.{done_is_orderly}
 
 -- ---- the text of the header
 

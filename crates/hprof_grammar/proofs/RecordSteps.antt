@@ -6,12 +6,12 @@ use Rattle.std.proofs.lemmas.List.Elements.{filter-append}
 use Rattle.std.proofs.lemmas.Grind.{flat_map-append}
 use Rattle.hprof_grammar.specs.Dump.{Places, heap_list, is_load, is_object, is_root, is_string, placed, placed_subs, places_where, spellings}
 use Rattle.hprof_grammar.specs.working.Joining.{AddsRecord, AddsRecords, with_record, with_records}
-use Rattle.hprof_grammar.specs.working.Orders.{IsAt}
+use Rattle.hprof_grammar.specs.working.SnapshotOrder.{IsAt}
 use Rattle.hprof_grammar.specs.Record.{HasParts, IsRecord, Record, body_of, framed, record_spelling, subs_of, tag_of, time_of}
 use Rattle.hprof_grammar.specs.SubRecord.{SubRecord}
 use Rattle.hprof_grammar.specs.Tables.{is_length_of}
-use Rattle.hprof_grammar.specs.declared.order.Order.{Order}
-use Rattle.hprof_grammar.specs.declared.order.Order.TheVariants.{Before}
+use Rattle.hprof_grammar.specs.declared.snapshot_order.Order.{Order}
+use Rattle.hprof_grammar.specs.declared.snapshot_order.Order.TheVariants.{Before}
 use Rattle.hprof_grammar.proofs.Fields.{all_join}
 use Rattle.hprof_grammar.proofs.Frames.{FrameTaken}
 

@@ -8,7 +8,7 @@ use Rattle.hprof_grammar.specs.SubRecord.{Root, RootOrigin, SubRecord, origin_ki
 use Rattle.hprof_grammar.specs.SubRecord.RootOrigin.{java_frame, jni_global, jni_local, monitor_used, native_stack, sticky_class, thread_block, thread_object, unknown}
 use Rattle.hprof_grammar.specs.SubRecord.SubRecord.{root}
 use Rattle.hprof_grammar.specs.Tables.{kind_of, root_tag}
-use Rattle.hprof_grammar.specs.declared.tables.Kind.TheVariants as kinds
+use Rattle.hprof_grammar.specs.declared.format_tables.Kind.TheVariants as kinds
 use Rattle.hprof_grammar.proofs.Places.{ByteAt, NumberAt, Spell, byte_read, in_sight, number_stands, sub_stands}
 
 abbrev rooted : ℕ → RootOrigin → SubRecord

@@ -8,10 +8,10 @@ use Rattle.hprof_grammar.specs.SubRecord.{HasKind, IsFormed, IsRoot, IsSubRecord
 use Rattle.hprof_grammar.specs.SubRecord.RootOrigin.{java_frame, jni_global, jni_local, monitor_used, native_stack, sticky_class, thread_block, thread_object, unknown}
 use Rattle.hprof_grammar.specs.SubRecord.SubRecord.{class_dump, instance_dump, object_array_dump, primitive_array_dump, root}
 use Rattle.hprof_grammar.specs.Tables.{kind_of, root_tag}
-use Rattle.hprof_grammar.specs.declared.tables.RootKind.{RootKind}
-use Rattle.hprof_grammar.specs.declared.tables.RootKind.TheVariants as roots
-use Rattle.hprof_grammar.specs.declared.tables.Kind.{Kind}
-use Rattle.hprof_grammar.specs.declared.tables.Kind.TheVariants as kinds
+use Rattle.hprof_grammar.specs.declared.format_tables.RootKind.{RootKind}
+use Rattle.hprof_grammar.specs.declared.format_tables.RootKind.TheVariants as roots
+use Rattle.hprof_grammar.specs.declared.format_tables.Kind.{Kind}
+use Rattle.hprof_grammar.specs.declared.format_tables.Kind.TheVariants as kinds
 use Rattle.hprof_grammar.specs.declared.flaw.Flaw.{Flaw}
 use Rattle.hprof_grammar.specs.declared.flaw.Flaw.TheVariants.{Short, UnknownTag, WrongType}
 use Rattle.hprof_grammar.proofs.Bytes.{IsBytes, bytes-tail}

@@ -2,10 +2,10 @@
 use Rattle.std.proofs.Common.{None, Option, Some, arith, true, ℕ, ◌*◌, ◌+◌, ◌<◌, ◌^◌, ◌≡◌, ◌≤◌}
 use Rattle.std.proofs.lemmas.Bool.Decides.{nat_tests}
 use Rattle.hprof_grammar.specs.Tables.{is_heap_tag, is_id_size, is_length_of, kind_of, root_kind, root_of, root_tag}
-use Rattle.hprof_grammar.specs.declared.tables.Kind.{Kind}
-use Rattle.hprof_grammar.specs.declared.tables.RootKind.{RootKind}
-use Rattle.hprof_grammar.specs.declared.tables.RootKind.TheVariants as roots
-use Rattle.hprof_grammar.specs.declared.tables.Kind.TheVariants.{Class, Instance, ObjectArray, PrimitiveArray, Root}
+use Rattle.hprof_grammar.specs.declared.format_tables.Kind.{Kind}
+use Rattle.hprof_grammar.specs.declared.format_tables.RootKind.{RootKind}
+use Rattle.hprof_grammar.specs.declared.format_tables.RootKind.TheVariants as roots
+use Rattle.hprof_grammar.specs.declared.format_tables.Kind.TheVariants.{Class, Instance, ObjectArray, PrimitiveArray, Root}
 
 -- ---- identifiers have 4 or 8 bytes
 

@@ -8,12 +8,12 @@ use Rattle.hprof_grammar.specs.Fault.RecordFault.{bad_length, in_heap, no_snapsh
 use Rattle.hprof_grammar.specs.Fault.SubFault.{short, unknown_tag, wrong_type}
 use Rattle.hprof_grammar.specs.working.Joining.{AddsRecords, FrameFault, HasRecordFault}
 use Rattle.hprof_grammar.specs.working.Joining.FrameFault.{wrong_heap, wrong_length, wrong_order}
-use Rattle.hprof_grammar.specs.working.Orders.{IsAt, is_done}
+use Rattle.hprof_grammar.specs.working.SnapshotOrder.{IsAt, is_done}
 use Rattle.hprof_grammar.specs.Record.{CanGoOn, IsOrderly, IsRecord, Record, body_of, framed, record_spelling, tag_of, time_of}
 use Rattle.hprof_grammar.specs.Record.Record.{heap, load_class, other, string}
 use Rattle.hprof_grammar.specs.SubRecord.{IsSubRecord, SubRecord, spelling_of}
 use Rattle.hprof_grammar.specs.Tables.{is_heap_tag, is_length_of}
-use Rattle.hprof_grammar.specs.declared.order.Order.{Order}
+use Rattle.hprof_grammar.specs.declared.snapshot_order.Order.{Order}
 use Rattle.hprof_grammar.specs.declared.flaw.FormatFault.{FormatFault}
 use Rattle.hprof_grammar.proofs.Bytes.{IsBytes, bytes-behind}
 use Rattle.hprof_grammar.proofs.Fields.{all_split}
@@ -21,7 +21,7 @@ use Rattle.hprof_grammar.proofs.FrameLaws.{cut_or_whole, length-framed, same_fra
 use Rattle.hprof_grammar.proofs.Frames.{FrameTaken}
 use Rattle.hprof_grammar.proofs.Fronts.{fronts}
 use Rattle.hprof_grammar.proofs.OneDump.{records_determined}
-use Rattle.hprof_grammar.proofs.OrderLaws.{at_goes_on, not_done_is_not}
+use Rattle.hprof_grammar.proofs.SnapshotOrderLaws.{at_goes_on, not_done_is_not}
 use Rattle.hprof_grammar.proofs.SubRecords.{no_sub_fault, subs_determined}
 
 abbrev tags_of : List Record → List ℕ

@@ -4,11 +4,11 @@ use Rattle.std.specs.List.{AllByRecursion}
 use Rattle.hprof_grammar.specs.Tables.{kind_of, root_tag, size_of}
 use Rattle.hprof_grammar.specs.Spelling.{AreAllowed, Field, spelled}
 use Rattle.hprof_grammar.specs.Spelling.Field.{number, raw, type_code}
-use Rattle.hprof_grammar.specs.declared.tables.Kind.{Kind}
-use Rattle.hprof_grammar.specs.declared.tables.Kind.TheVariants as kinds
-use Rattle.hprof_grammar.specs.declared.tables.RootKind.{RootKind}
-use Rattle.hprof_grammar.specs.declared.tables.RootKind.TheVariants as roots
-use Rattle.hprof_grammar.specs.declared.tables.TypePlace.TheVariants.{InArray, InConstant, InMember, InStatic}
+use Rattle.hprof_grammar.specs.declared.format_tables.Kind.{Kind}
+use Rattle.hprof_grammar.specs.declared.format_tables.Kind.TheVariants as kinds
+use Rattle.hprof_grammar.specs.declared.format_tables.RootKind.{RootKind}
+use Rattle.hprof_grammar.specs.declared.format_tables.RootKind.TheVariants as roots
+use Rattle.hprof_grammar.specs.declared.format_tables.TypePlace.TheVariants.{InArray, InConstant, InMember, InStatic}
 
 -- a constant pool entry
 pub record Constant : Type 0 where

@@ -1,12 +1,12 @@
 -- The format's tables: which numbers are allowed where, and what sizes they stand for. No proof opens one of these
 -- words but a few lemmas of two lines, so that the accepted part of the format is settled here alone.
 use Rattle.std.specs.Prelude.{Bool, List, None, Option, Some, [], if◌then◌else◌, nat_le, replicate, suc, true, ℕ, ◌&&◌, ◌*◌, ◌++◌, ◌+◌, ◌==◌, ◌||◌, ◌∷◌, ◌≡◌, ◌⊎◌}
-use Rattle.hprof_grammar.specs.declared.tables.Kind.{Kind}
-use Rattle.hprof_grammar.specs.declared.tables.Kind.TheVariants.{Class, Instance, ObjectArray, PrimitiveArray, Root}
-use Rattle.hprof_grammar.specs.declared.tables.RootKind.{RootKind}
-use Rattle.hprof_grammar.specs.declared.tables.RootKind.TheVariants.{JavaFrame, JniGlobal, JniLocal, MonitorUsed, NativeStack, StickyClass, ThreadBlock, ThreadObject, Unknown}
-use Rattle.hprof_grammar.specs.declared.tables.TypePlace.{TypePlace}
-use Rattle.hprof_grammar.specs.declared.tables.TypePlace.TheVariants.{InArray, InConstant, InMember, InStatic}
+use Rattle.hprof_grammar.specs.declared.format_tables.Kind.{Kind}
+use Rattle.hprof_grammar.specs.declared.format_tables.Kind.TheVariants.{Class, Instance, ObjectArray, PrimitiveArray, Root}
+use Rattle.hprof_grammar.specs.declared.format_tables.RootKind.{RootKind}
+use Rattle.hprof_grammar.specs.declared.format_tables.RootKind.TheVariants.{JavaFrame, JniGlobal, JniLocal, MonitorUsed, NativeStack, StickyClass, ThreadBlock, ThreadObject, Unknown}
+use Rattle.hprof_grammar.specs.declared.format_tables.TypePlace.{TypePlace}
+use Rattle.hprof_grammar.specs.declared.format_tables.TypePlace.TheVariants.{InArray, InConstant, InMember, InStatic}
 
 -- the sizes of identifiers that are read ("size of identifiers" in the manual's header, which leaves it open)
 unfoldable pub is_id_size : ℕ → Bool

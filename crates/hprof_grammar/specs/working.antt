@@ -1,5 +1,5 @@
 -- Words that only private clauses use.
 pub mod Reading
-pub mod Orders
+pub mod SnapshotOrder
 pub mod Joining
 pub mod ClassParts

@@ -4,7 +4,7 @@ ghost use Rattle.std.specs.Prelude.{◌≡◌, IfErr, IfOk, OnOk};
 ghost use Rattle.hprof_grammar.specs.working.Joining.{noted, nothing_of, with_loaded, with_string};
 
 use crate::flaw::ReadRefusal;
-use crate::tables::Kind;
+use crate::format_tables::Kind;
 use std::alloc::Allocator;
 use std::marker::Model;
 

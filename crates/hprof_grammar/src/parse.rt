@@ -9,8 +9,8 @@ ghost use Rattle.hprof_grammar.specs.Refusal.{IfFault};
 use crate::codes;
 use crate::dump::Dump;
 use crate::flaw::{FormatFault, ReadRefusal};
+use crate::format_tables::is_id_size;
 use crate::record_list::{FIRST_RECORD, note_records};
-use crate::tables::is_id_size;
 use byteorder::{BigEndian, ByteOrder};
 use std::alloc::Allocator;
 

@@ -6,11 +6,11 @@ ghost use Rattle.hprof_grammar.specs.Refusal.{IfFault};
 
 use crate::dump::Dump;
 use crate::flaw::{FormatFault, ReadRefusal};
+use crate::format_tables::is_length_of;
 use crate::frame::next_frame;
-use crate::heap_records::note_subs;
-use crate::order::Order;
 use crate::reader::Reader;
-use crate::tables::is_length_of;
+use crate::snapshot_order::Order;
+use crate::sub_record_list::note_subs;
 use crate::{codes, tags};
 use std::alloc::Allocator;
 

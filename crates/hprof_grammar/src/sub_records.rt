@@ -7,8 +7,8 @@ ghost use Rattle.hprof_grammar.specs.Tables as tables;
 ghost use Rattle.hprof_grammar.specs.working.Reading.{Passes, class_at, constant_at, counted_at, instance_at, list_at, member_at, number_at, object_array_at, pair_at, primitive_array_at, raw_at, root_at, static_at, sub_record_at, type_at};
 
 use crate::flaw::Flaw;
+use crate::format_tables::{Kind, RootKind, TypePlace, kind_of, size_of};
 use crate::reader::Reader;
-use crate::tables::{Kind, RootKind, TypePlace, kind_of, size_of};
 
 /// A type code, and a value of that type.
 fn typed_value(reader: &mut Reader<'_>, id_size: u8, place: TypePlace) -> Result<(), Flaw>

@@ -2,7 +2,7 @@
 
 mod dumps;
 mod fields;
-mod tables;
+mod format_tables;
 
 use crate::{FormatFault, ReadRefusal, read};
 use linked_list_allocator::LocalHeap;

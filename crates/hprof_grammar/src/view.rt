@@ -20,7 +20,7 @@ ghost use Rattle.hprof_grammar.specs.SubRecord.{SubRecord};
 ghost use Rattle.hprof_grammar.specs.Tables as tables;
 ghost use Rattle.hprof_grammar.specs.Standing.{Stands, id_of, stack_of};
 
-use crate::{tables, tags};
+use crate::{format_tables, tags};
 use byteorder::{BigEndian, ByteOrder};
 use std::marker::Model;
 
@@ -85,7 +85,7 @@ impl<'a> View<'a> {
     pub fn size_of(&self, type_code: u8) -> u8
         ensures { result ≡ tables.size_of self.now.id_size type_code }
     {
-        tables::size_of(self.id_size, type_code)
+        format_tables::size_of(self.id_size, type_code)
     }
 
     /// The kind of the object that a sub-record describes.

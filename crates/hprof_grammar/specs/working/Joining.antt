@@ -6,10 +6,10 @@ use Rattle.hprof_grammar.specs.Tables.{is_heap_tag, is_id_size, is_length_of}
 use Rattle.hprof_grammar.specs.Dump.{Places, header, heap_list, is_load, is_object, is_root, is_string, limit, placed, placed_subs, places_where, spellings}
 use Rattle.hprof_grammar.specs.Fault.{LongestRecords, LongestSubs, RecordFault, SubFault}
 use Rattle.hprof_grammar.specs.SubRecord.{IsSubRecord, SubRecord, spelling_of}
-use Rattle.hprof_grammar.specs.working.Orders.{IsAt, is_done}
-use Rattle.hprof_grammar.specs.declared.tables.Kind.{Kind}
-use Rattle.hprof_grammar.specs.declared.tables.Kind.TheVariants as kinds
-use Rattle.hprof_grammar.specs.declared.order.Order.{Order}
+use Rattle.hprof_grammar.specs.working.SnapshotOrder.{IsAt, is_done}
+use Rattle.hprof_grammar.specs.declared.format_tables.Kind.{Kind}
+use Rattle.hprof_grammar.specs.declared.format_tables.Kind.TheVariants as kinds
+use Rattle.hprof_grammar.specs.declared.snapshot_order.Order.{Order}
 use Rattle.hprof_grammar.specs.declared.flaw.FormatFault.{FormatFault}
 
 abbrev pub nothing_of : ℕ → Places

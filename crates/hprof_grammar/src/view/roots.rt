@@ -6,7 +6,7 @@ ghost use Rattle.hprof_grammar.specs.Standing.{Stands};
 ghost use Rattle.hprof_grammar.specs.SubRecord.{Root, origin_kind};
 ghost use Rattle.hprof_grammar.specs.SubRecord.SubRecord.{root};
 
-use crate::tables::{Kind, RootKind, kind_of};
+use crate::format_tables::{Kind, RootKind, kind_of};
 use crate::view::{OBJECT, View, number_at, u32_at};
 
 /// Where the fields of a root behind its object stand, each but for the identifier of the object. A kind of root

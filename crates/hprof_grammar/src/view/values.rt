@@ -3,7 +3,7 @@
 ghost use Rattle.std.specs.Prelude.{◌≡◌, ◌≤◌, ◌↔◌, [], IsTrue, drop, length, slice_index};
 ghost use Rattle.hprof_grammar.specs.Series.{HasCountedValues, behind_counted_values, count_in, counted_values_in, value_end, value_in};
 
-use crate::tables::size_of;
+use crate::format_tables::size_of;
 use crate::view::{bytes_at, number_at};
 use byteorder::{BigEndian, ByteOrder};
 use std::marker::Model;

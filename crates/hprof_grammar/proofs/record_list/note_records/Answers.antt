@@ -3,8 +3,8 @@ use Rattle.std.proofs.lemmas.Bool.Decides.{nat_tests}
 use Rattle.std.proofs.lemmas.List.{nil_from_length}
 use Rattle.std.proofs.lemmas.Result.{err_from_is_err_and}
 use Rattle.hprof_grammar.specs.working.Joining.{FrameFault, HasRecordFault}
-use Rattle.hprof_grammar.specs.working.Orders.{is_done}
-use Rattle.hprof_grammar.specs.declared.order.Order.{Order}
+use Rattle.hprof_grammar.specs.working.SnapshotOrder.{is_done}
+use Rattle.hprof_grammar.specs.declared.snapshot_order.Order.{Order}
 use Rattle.hprof_grammar.proofs.Refusals.{fault_passes}
 use Rattle.hprof_grammar.proofs.Bytes.{IsBytes, in_bytes}
 use Rattle.hprof_grammar.proofs.Frames.{cut_record, frame_takes}

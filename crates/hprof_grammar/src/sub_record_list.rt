@@ -1,4 +1,4 @@
-//! The sub-records of a heap record.
+//! The sub-records of a heap record, one after another to its end.
 
 ghost use Rattle.std.specs.Prelude.{◌≡◌, ◌+◌, ◌<◌, ◌≤◌, ◌^◌, OnOk, [], length};
 ghost use Rattle.hprof_grammar.specs.working.Joining.{AddsSubs, HasSubFault};

@@ -1,4 +1,4 @@
-//! What the tags and type codes of a dump stand for.
+//! The tables of the format: what its tags and type codes stand for, the sizes of values, the lengths of records.
 
 ghost use Rattle.std.specs.Prelude.{◌≡◌};
 ghost use Rattle.hprof_grammar.specs.Tables as tables;

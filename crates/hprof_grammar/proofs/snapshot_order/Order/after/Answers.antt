@@ -1,11 +1,11 @@
 use Rattle.std.proofs.Common.{[], inl, inr, refl, subst, sym, true, ℕ, ◌++◌, ◌∷◌, ◌≡◌, ◌⊎◌}
-use Rattle.hprof_grammar.specs.working.Orders.{IsAt, is_done}
+use Rattle.hprof_grammar.specs.working.SnapshotOrder.{IsAt, is_done}
 use Rattle.hprof_grammar.specs.Record.{CanGoOn}
 use Rattle.hprof_grammar.specs.Tables.{is_snapshot_tag}
-use Rattle.hprof_grammar.specs.declared.order.Order.{Order}
-use Rattle.hprof_grammar.specs.declared.order.Order.TheVariants.{Ended, Segments, Whole}
-use Rattle.hprof_grammar.proofs.OrderLaws.{next_segment, no_dump_in_segments, no_more}
-use Rattle.hprof_grammar.proofs.order.Order.after.Goals as goal
+use Rattle.hprof_grammar.specs.declared.snapshot_order.Order.{Order}
+use Rattle.hprof_grammar.specs.declared.snapshot_order.Order.TheVariants.{Ended, Segments, Whole}
+use Rattle.hprof_grammar.proofs.SnapshotOrderLaws.{next_segment, no_dump_in_segments, no_more}
+use Rattle.hprof_grammar.proofs.snapshot_order.Order.after.Goals as goal
 
 -- a dump among segments
 pub returns-in-12-tag : goal.returns-in-12-tag

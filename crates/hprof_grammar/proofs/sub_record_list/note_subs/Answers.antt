@@ -6,7 +6,7 @@ use Rattle.hprof_grammar.specs.SubRecord.{spelling_of}
 use Rattle.hprof_grammar.specs.declared.flaw.FormatFault.{FormatFault}
 use Rattle.hprof_grammar.proofs.Bytes.{IsBytes, bytes-behind, in_bytes}
 use Rattle.hprof_grammar.proofs.Heaps.{sub_shorter, subs_fault, subs_step}
-use Rattle.hprof_grammar.proofs.heap_records.note_subs.Goals as goal
+use Rattle.hprof_grammar.proofs.sub_record_list.note_subs.Goals as goal
 
 bytes_left : (at : ℕ) (body rest : List ℕ) (old new : Places) → AddsSubs at body rest old new → IsBytes body → IsBytes rest
 bytes_left at body rest old new adds h = bytes-behind (flat_map (spelling_of old.id_size) adds.subs) rest (subst IsBytes adds.parts h)

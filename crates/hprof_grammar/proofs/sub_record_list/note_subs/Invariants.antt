@@ -1,6 +1,6 @@
 use Rattle.std.proofs.Common.{length}
 use Rattle.hprof_grammar.specs.working.Joining.{AddsSubs}
-use Rattle.hprof_grammar.proofs.heap_records.note_subs.Given as goal
+use Rattle.hprof_grammar.proofs.sub_record_list.note_subs.Given as goal
 
 abbrev pub invariant-loop-reader : goal.invariant-loop-reader
 invariant-loop-reader g l = AddsSubs l.at l.body l.reader.rest.now l.fn.dump l.dump

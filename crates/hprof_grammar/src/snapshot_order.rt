@@ -1,7 +1,7 @@
-//! The order of the records that make a snapshot.
+//! The order of the records that make the one snapshot of a file.
 
 ghost use Rattle.std.specs.Prelude.{◌≡◌};
-ghost use Rattle.hprof_grammar.specs.working.Orders as orders;
+ghost use Rattle.hprof_grammar.specs.working.SnapshotOrder as orders;
 
 use crate::tags;
 
