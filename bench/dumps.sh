@@ -5,19 +5,22 @@
 #
 # Writes NAME.hprof and NAME.histogram into DIR (/tmp/heapmark-bench if it is not given). The groups, all of them if
 # none is given:
-#   small    Filler with 5 MB, by each collector, live and all
-#   medium   Filler with 100 MB, by G1 and Serial, live and all
-#   large    Filler with 600 MB, by G1, live
-#   tools    jshell, the virtual machine that it starts, and javac at work
-#   odd      no compressed references, no class archive, a dump written at the end of memory
-#   refused  a dump compressed by the virtual machine, which heapmark refuses
+#   small      Filler with 5 MB, by each collector, live and all
+#   medium     Filler with 100 MB, by G1 and Serial, live and all
+#   large      Filler with 600 MB, by G1, live
+#   tools      jshell, the virtual machine that it starts, and javac at work
+#   scattered  2,000,000 nodes that refer to one another at random, and a map of them
+#   list       one list of 1,000,000 nodes, which ends in a tree of as many
+#   odd        no compressed references, no class archive, a dump written at the end of memory
+#   refused    a dump compressed by the virtual machine, which heapmark refuses
 # Java is the one of JAVA_HOME, else that of PATH. Files that are there already are made again.
 set -euo pipefail
 
 top=$(cd "$(dirname "$0")/.." && pwd)
 room=${1:-/tmp/heapmark-bench}
 [ $# -eq 0 ] || shift
-java=${JAVA_HOME:+$JAVA_HOME/bin/}
+# shellcheck source=bench/machine.sh
+. "$top/bench/machine.sh"
 
 # moment PID NAME [-all]: histogram and dump, by one request to the machine, so that little happens between the two.
 # Before those of live objects the garbage goes twice, since what waits to be finalized or cleaned outlives the first
@@ -31,22 +34,6 @@ moment() {
     printf 'GC.class_histogram %s\nGC.heap_dump %s %s\n' "${3:-}" "${3:-}" "$room/$2.hprof" > "$room/request"
     "${java}jcmd" "$1" -f "$room/request" > "$room/$2.histogram"
     ls -l "$room/$2.hprof"
-}
-
-# started COMMAND..: starts a program that prints "ready", jshell since it is told so, and then waits for the end of
-# its input.
-started() {
-    coproc PROGRAM { exec "$@"; }
-    local line=
-    echo 'System.out.println("ready")' >&"${PROGRAM[1]}"
-    until [ "$line" = ready ]; do read -r line <&"${PROGRAM[0]}"; done
-}
-
-# ended: closes the input of the program that was started, and waits for its end.
-ended() {
-    local program=$PROGRAM_PID input=${PROGRAM[1]}
-    exec {input}>&-
-    wait "$program"
 }
 
 # filler MEGABYTES NAME OPTION..: the dump of all objects first, since that of the live ones collects the garbage.
@@ -75,6 +62,21 @@ large() {
     filler 600 large-g1 -XX:+UseG1GC
 }
 
+# shaped PROGRAM NODES NAME
+shaped() {
+    started "${java}java" -cp "$room/classes" -Xmx1g -XX:+UseG1GC "$1" "$2"
+    moment "$PROGRAM_PID" "$3"
+    ended
+}
+
+scattered() {
+    shaped Scattered 2000000 scattered-g1-live
+}
+
+list() {
+    shaped LongList 1000000 list-g1-live
+}
+
 odd() {
     filler 5 odd-uncompressed -XX:-UseCompressedOops
     filler 5 odd-unshared -Xshare:off
@@ -94,7 +96,8 @@ refused() {
 
 # The shell's own machine holds the compiler; the one that it starts runs what is typed.
 jshell_and_agent() {
-    started "${java}jshell" "-J-Djava.util.prefs.userRoot=$room" -s -
+    begun "${java}jshell" "-J-Djava.util.prefs.userRoot=$room" -s -
+    told 'System.out.println("ready")'
     moment "$PROGRAM_PID" tools-jshell-live
     moment "$(pgrep -P "$PROGRAM_PID")" tools-jshell-agent-live
     ended
@@ -123,11 +126,11 @@ tools() {
 }
 
 mkdir -p "$room"
-"${java}javac" -d "$room/classes" "$top/bench/java/Filler.java"
-[ $# -gt 0 ] || set -- small medium large tools odd refused
+"${java}javac" -d "$room/classes" "$top"/bench/java/*.java
+[ $# -gt 0 ] || set -- small medium large tools scattered list odd refused
 for group; do
     case $group in
-        small | medium | large | tools | odd | refused) "$group" ;;
+        small | medium | large | tools | scattered | list | odd | refused) "$group" ;;
         *) echo "no such group: $group" >&2; exit 2 ;;
     esac
 done

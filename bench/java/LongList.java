@@ -1,0 +1,46 @@
+import java.io.IOException;
+
+/**
+ * Has one long list in its heap, which ends in a tree: nothing of it is for a second worker until the list is done.
+ * Prints "ready" and waits until its standard input ends.
+ *
+ * <p>Usage: {@code java LongList NODES}: the nodes of the list, and of the tree.
+ */
+public final class LongList {
+    static final class Link {
+        final Object next;
+
+        Link(Object next) {
+            this.next = next;
+        }
+    }
+
+    static final class Tree {
+        final Tree left;
+        final Tree right;
+
+        Tree(Tree left, Tree right) {
+            this.left = left;
+            this.right = right;
+        }
+    }
+
+    static Object first;
+
+    /** A tree of so many nodes, as flat as can be. */
+    static Tree treeOf(int nodes) {
+        return nodes == 0 ? null : new Tree(treeOf((nodes - 1) / 2), treeOf(nodes / 2));
+    }
+
+    public static void main(String[] words) throws IOException {
+        int nodes = Integer.parseInt(words[0]);
+        first = treeOf(nodes);
+        for (int link = 0; link < nodes; link++) {
+            first = new Link(first);
+        }
+        System.out.println("ready");
+        while (System.in.read() >= 0) {
+            first.hashCode();
+        }
+    }
+}

@@ -1,0 +1,37 @@
+# Starts programs on a Java virtual machine and ends them. To be sourced by dumps.sh and leaks.sh.
+#
+# Sets `java`, what stands before `java`, `javac`, `jcmd` and `jshell`: the folder of JAVA_HOME if that is set, else
+# nothing, so that those of PATH are taken.
+# shellcheck shell=bash disable=SC2034 # what is set here is used there
+
+java=${JAVA_HOME:+$JAVA_HOME/bin/}
+
+# begun COMMAND..: starts a program that reads its input.
+begun() {
+    coproc PROGRAM { exec "$@"; }
+}
+
+# until_ready: waits until the program prints a line "ready".
+until_ready() {
+    local line=
+    until [ "$line" = ready ]; do read -r line <&"${PROGRAM[0]}"; done
+}
+
+# started COMMAND..: starts a program that prints "ready" and then reads its input.
+started() {
+    begun "$@"
+    until_ready
+}
+
+# told LINE: gives the program this line, after which it prints "ready" again.
+told() {
+    echo "$1" >&"${PROGRAM[1]}"
+    until_ready
+}
+
+# ended: closes the input of the program that was started, and waits for its end.
+ended() {
+    local program=$PROGRAM_PID input=${PROGRAM[1]}
+    exec {input}>&-
+    wait "$program"
+}
