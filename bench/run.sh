@@ -7,11 +7,12 @@
 # memory. DUMP..: those of /tmp/heapmark-bench if none is given (bench/dumps.sh makes them). Prints Markdown tables:
 # whole programs first, then the dumps, then the phases of the plain marker. heapmark is the binary that `rt run` in
 # crates/heapmark made, or what the variable HEAPMARK names. The words of the variable STARTER start each run: on a busy
-# machine 'chrt -f 10' of root keeps other work off the processors. The words of the variable OPTIONS go to heapmark, as in
-# OPTIONS='--buffer 4096', without which `scattered` may have more objects waiting than its buffers hold.
+# machine 'chrt -f 10' of root keeps other work off the processors. The words of the variable OPTIONS go to heapmark, as
+# in OPTIONS='--buffer 4096', without which `scattered` may have more objects waiting than its buffers hold.
 runs=5
 # shellcheck source=bench/head.sh
 . "$(dirname "$0")/head.sh"
+read -r -a options <<< "${OPTIONS:-}"
 
 rustc --edition 2024 -O -o "$room/plain" "$top/bench/plain/main.rs"
 
@@ -26,8 +27,7 @@ ways() {
 command_of() {
     case $1 in
         heapmark) command=("$heapmark" "$2") ;;
-        # shellcheck disable=SC2206 # the options may be several words
-        heapmark-*) command=("$heapmark" "$2" --workers "${1#heapmark-}" ${OPTIONS:-}) ;;
+        heapmark-*) command=("$heapmark" "$2" --workers "${1#heapmark-}" "${options[@]}") ;;
         plain) command=("$room/plain" "$2") ;;
         plain-bytes) command=("$room/plain" "$2" --references bytes) ;;
         plain-bytes-*) command=("$room/plain" "$2" --references bytes --threads "${1#plain-bytes-}") ;;

@@ -6,7 +6,10 @@ import java.util.HashMap;
 import java.util.List;
 import java.util.Map;
 
-/** A shop whose cache never forgets an order. Each line of its input is a day of orders; it prints "ready" behind each. */
+/**
+ * A shop whose cache never forgets an order. It sells for a day, and a day more for each line of its input, and prints
+ * "ready" behind each.
+ */
 public final class CacheLeak {
     static final int ORDERS_A_DAY = 20_000;
 

@@ -8,8 +8,8 @@ import java.util.Map;
 import java.util.function.Consumer;
 
 /**
- * Opens and closes views, whose listeners nobody removes. Each line of its input is an hour of work; it prints "ready"
- * behind each.
+ * Opens and closes views, whose listeners nobody removes. It works for an hour, and an hour more for each line of its
+ * input, and prints "ready" behind each.
  */
 public final class ListenerLeak {
     static final int VIEWS_AN_HOUR = 500;

@@ -8,8 +8,8 @@ import java.util.List;
 import java.util.Map;
 
 /**
- * Loads its plugins anew at each change, each time by a class loader of their own, and never lets one go: what a plugin
- * made stays in a list. Each line of its input is a day of changes; it prints "ready" behind each.
+ * Loads its plugin anew at each change, each time by another class loader, and never lets one go: what was started stays
+ * in a list. It works for a day, and a day more for each line of its input, and prints "ready" behind each.
  */
 public final class LoaderLeak {
     static final int CHANGES_A_DAY = 100;
