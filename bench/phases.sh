@@ -6,8 +6,10 @@
 # RUNS: how often for each number of workers (3); the least of each phase counts. DUMP..: those of /tmp/heapmark-bench if
 # none is given. Prints a Markdown table in milliseconds: read, until the file's end was met; build, until the first
 # worker's thread starts (parse, index, links, references, pool); mark, until the last of them ends; report, until the
-# program ends (with what the leader drains after the workers). heapmark and the variable STARTER as in bench/run.sh; the
-# words of the variable OPTIONS go to heapmark, as in OPTIONS='--buffer 64'.
+# program ends (with what the leader drains after the workers). A second table has the least, the middle and the largest
+# time of marking, what the middle of one worker is to it, and the processor time of the whole program, user and system,
+# the middle of as many runs without strace. heapmark and the variable STARTER as in bench/run.sh; the words of the
+# variable OPTIONS go to heapmark, as in OPTIONS='--buffer 64'.
 runs=3
 # shellcheck source=bench/head.sh
 . "$(dirname "$0")/head.sh"
@@ -26,18 +28,51 @@ traced() {
         END { print read - opened, started - read, ended - started, last - ended }' "$room/trace" >> "$room/times"
 }
 
+# used WORKERS DUMP: one run without strace; adds its processor time, in seconds, to what is kept.
+used() {
+    # shellcheck disable=SC2086 # the starter and the options may be several words
+    $starter /usr/bin/time -q -f '%U %S' -o "$room/clock" "$heapmark" "$2" --workers "$1" ${OPTIONS:-} > "$room/report"
+    awk '{ print $1 + $2 }' "$room/clock" >> "$room/used"
+}
+
+# middle COLUMN FILE: the middle one of the numbers in this column.
+middle() {
+    awk -v column="$1" '{ print $column }' "$2" | sort -g | awk '{ at[NR] = $1 } END { print at[int((NR + 1) / 2)] }'
+}
+
+# spread NAME WORKERS: how the times of marking lie.
+spread() {
+    [ "$2" -gt 1 ] || alone=$(middle 3 "$room/times")
+    awk -v name="$1" -v workers="$2" -v middle="$(middle 3 "$room/times")" -v alone="$alone" \
+        -v used="$(middle 1 "$room/used")" '
+        NR == 1 || $3 < least { least = $3 }
+        $3 > most { most = $3 }
+        END {
+            printf "| %s | %d | %.1f | %.1f | %.1f | %.2f | %.2f | %.2f |\n", name, workers, 1000 * least,
+                1000 * middle, 1000 * most, most / least, alone / middle, used
+        }' "$room/times" >> "$room/spread"
+}
+
 echo '| Dump | Workers | read | build | mark | report |'
 echo '|---|---|---|---|---|---|'
 for dump in "${dumps[@]}"; do
+    name=$(basename "$dump" .hprof)
     for workers in 1 2 4; do
-        rm -f "$room/times"
-        for _ in $(seq "$runs"); do traced "$workers" "$dump"; done
-        awk -v name="$(basename "$dump" .hprof)" -v workers="$workers" '
+        rm -f "$room/times" "$room/used"
+        for _ in $(seq "$runs"); do
+            traced "$workers" "$dump"
+            used "$workers" "$dump"
+        done
+        awk -v name="$name" -v workers="$workers" '
             { for (at = 1; at <= 4; at++) if (NR == 1 || $at < best[at]) best[at] = $at }
             END {
                 printf "| %s | %d |", name, workers
                 for (at = 1; at <= 4; at++) printf " %.1f |", 1000 * best[at]
                 print ""
             }' "$room/times"
+        spread "$name" "$workers"
     done
 done
+printf '\n| Dump | Workers | mark: least | middle | largest | largest to least | 1 worker to it | processor, s |\n'
+echo '|---|---|---|---|---|---|---|---|'
+cat "$room/spread"
