@@ -15,7 +15,13 @@ use Rattle.buffer_pool.proofs.Worked.{look_failed, look_then, lost_pops, pops_ba
 
 -- a worker that only looked has what it had
 holds_still : (old new : Holder) (n : ℕ) (list : List ℕ) → IsLook old.book new.book → Holds n list old → Holds n list new
-holds_still old new n list look was = record { held = look.held ∙ was.held; charge = look.charge ∙ was.charge; room = ap (λ (e : Setup). e.size) look.setup ∙ was.room }
+holds_still old new n list look was =
+    record {
+      held = look.held ∙ was.held;
+      charge = look.charge ∙ was.charge;
+      room = ap (λ (e : Setup). e.size) look.setup ∙ was.room;
+      awake = look.idle ∙ was.awake;
+    }
 
 module _ (old new : Holder) (n : ℕ) (list : List ℕ) (was : Holds n list old) where
   pub found_nothing : (q : Which) → PopsAtLast q old.book new.book pop.Empty → Holds n list new

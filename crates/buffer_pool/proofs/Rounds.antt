@@ -1,5 +1,5 @@
 -- What a worker has between the calls of a round.
-use Rattle.std.proofs.Common.{◌≡◌, ◌≢◌, ◌↔◌, ℕ, Bool, false, IsTrue, ◌+◌, ◌<◌, List, [], ◌∷◌, ◌++◌, Option, All, Contains, if◌then◌else◌, ◌==◌, cond, eq-eqb, ne_eqb, ap, sym, refl, subst, ◌∙◌, inl, arith}
+use Rattle.std.proofs.Common.{◌≡◌, ◌≢◌, ◌↔◌, ℕ, Bool, false, IsTrue, ◌+◌, ◌<◌, List, [], ◌∷◌, ◌++◌, Option, All, Contains, if◌then◌else◌, ◌==◌, cond, eq-eqb, ne_eqb, ap, sym, refl, subst, ◌∙◌, inl, inr, arith}
 use Rattle.std.proofs.lemmas.Bool.{false≢true}
 use Rattle.std.proofs.lemmas.List.FromFn.{length-range_with_len, get_or-range_with_len}
 use Rattle.tagged_index.specs.Head.{Head}
@@ -7,7 +7,7 @@ use Rattle.mark_core.specs.declared.which.Which.{Which}
 use Rattle.mark_core.specs.declared.which.Which.TheVariants.{Full, Empty}
 use Rattle.mark_core.specs.Lists.{times, only, remove_one, without}
 use Rattle.mark_core.specs.World.{Setup}
-use Rattle.mark_core.specs.Event.{IsBusy, CanClaim, CanFinish}
+use Rattle.mark_core.specs.Event.{CanClaim, CanFinish}
 use Rattle.mark_core.proofs.Sums.{total-append, only-same, remove_one-same, times-remove_one, times-without, times_stands}
 use Rattle.buffer_pool.specs.Book.{Book, loaded, link_loaded, failed, claimed, finished}
 use Rattle.buffer_pool.specs.Calls.{Holder, HeldBuffer, MayPush, Pops, Pushes}
@@ -24,10 +24,16 @@ unfolding numbers
 is_root n o below = (o, omega (arith, below, length-range_with_len 0 n), omega (arith, get_or-range_with_len 0 n o o below))
 
 pub same_worker : (w : Holder) → IsSameWorker w w
-same_worker w = record { pool = refl; setup = refl; share = refl }
+same_worker w = record { pool = refl; setup = refl; share = refl; idle = refl }
 
 pub same_again : (a b c : Holder) → IsSameWorker a b → IsSameWorker b c → IsSameWorker a c
-same_again a b c s t = record { pool = t.pool ∙ s.pool; setup = t.setup ∙ s.setup; share = t.share ∙ s.share }
+same_again a b c s t =
+    record {
+      pool = t.pool ∙ s.pool;
+      setup = t.setup ∙ s.setup;
+      share = t.share ∙ s.share;
+      idle = t.idle ∙ s.idle;
+    }
 
 pub same_roots : (n : ℕ) (a b : Holder) → IsSameWorker a b → HasRoots n a → HasRoots n b
 same_roots n a b s r =
@@ -42,20 +48,21 @@ nothing : (xs : List ℕ) → ((o : ℕ) → times o xs ≡ 0) → xs ≡ []
 nothing [] none = refl
 nothing (x ∷ xs) none = absurd (omega (arith, none x, only-same x x refl))
 
--- a load changes neither the setup, nor the share, the buffers and the charge
+-- a load changes neither the setup, nor the share, the idle number, the buffers and the charge
 pub record IsLook (old new : Book) : Type 0 where
   pub setup : new.setup ≡ old.setup
   pub share : new.account.share ≡ old.account.share
+  pub idle : new.account.idle ≡ old.account.idle
   pub held : new.account.held ≡ old.account.held
   pub charge : new.account.charge ≡ old.account.charge
 
 pub look_head : (q : Which) (head : Head) (b : Book) → IsLook b (loaded q head b)
-look_head Full head b = record { setup = refl; share = refl; held = refl; charge = refl }
-look_head Empty head b = record { setup = refl; share = refl; held = refl; charge = refl }
+look_head Full head b = record { setup = refl; share = refl; idle = refl; held = refl; charge = refl }
+look_head Empty head b = record { setup = refl; share = refl; idle = refl; held = refl; charge = refl }
 
 pub look_link : (q : Which) (head : Head) (link : Option ℕ) (b : Book) → IsLook b (link_loaded q link (loaded q head b))
-look_link Full head link b = record { setup = refl; share = refl; held = refl; charge = refl }
-look_link Empty head link b = record { setup = refl; share = refl; held = refl; charge = refl }
+look_link Full head link b = record { setup = refl; share = refl; idle = refl; held = refl; charge = refl }
+look_link Empty head link b = record { setup = refl; share = refl; idle = refl; held = refl; charge = refl }
 
 -- the charge after a claim of an object that was white, and of one that was marked
 charge_white : (o found : ℕ) (xs : List ℕ) → found ≡ 0 → (if found == 0 then xs ++ o ∷ [] else xs) ≡ xs ++ o ∷ []
@@ -66,22 +73,34 @@ charge_marked o found xs n = ap (λ t. cond t (xs ++ o ∷ []) xs) (ne_eqb found
 
 module _ (old new : Holder) (pool : new.pool ≡ old.pool) where
   looked : (b : Book) → IsLook old.book b → new.book ≡ b → IsSameWorker old new
-  looked b l is = record { pool = pool; setup = ap (λ (c : Book). c.setup) is ∙ l.setup; share = ap (λ (c : Book). c.account.share) is ∙ l.share }
+  looked b l is =
+      record {
+        pool = pool;
+        setup = ap (λ (c : Book). c.setup) is ∙ l.setup;
+        share = ap (λ (c : Book). c.account.share) is ∙ l.share;
+        idle = ap (λ (c : Book). c.account.idle) is ∙ l.idle;
+      }
 
   none_still : (b : Book) → IsLook old.book b → new.book ≡ b → HasNone old → HasNone new
   none_still b l is none =
-      record { held = ap (λ (c : Book). c.account.held) is ∙ l.held ∙ none.held; charge = ap (λ (c : Book). c.account.charge) is ∙ l.charge ∙ none.charge }
+      record {
+        held = ap (λ (c : Book). c.account.held) is ∙ l.held ∙ none.held;
+        charge = ap (λ (c : Book). c.account.charge) is ∙ l.charge ∙ none.charge;
+        awake = ap (λ (c : Book). c.account.idle) is ∙ l.idle ∙ none.awake;
+      }
 
   -- a pop took this buffer
   pub took : (q : Which) (h : HeldBuffer) → HasNone old → Pops q old.book new.book (try_pop.Took h) → IsSameWorker old new × HasOne new h
   took q h none p =
       let l = look_link q p.0 p.1 old.book in
-      let setup : new.book.setup ≡ old.book.setup = ap (λ (c : Book). c.setup) p.5 ∙ l.setup in (
-        record { pool = pool; setup = setup; share = ap (λ (c : Book). c.account.share) p.5 ∙ l.share },
+      let setup : new.book.setup ≡ old.book.setup = ap (λ (c : Book). c.setup) p.5 ∙ l.setup in
+      let idle : new.book.account.idle ≡ old.book.account.idle = ap (λ (c : Book). c.account.idle) p.5 ∙ l.idle in (
+        record { pool = pool; setup = setup; share = ap (λ (c : Book). c.account.share) p.5 ∙ l.share; idle = idle },
         record {
           held = ap (λ (c : Book). c.account.held) p.5 ∙ ap (λ xs. xs ++ h.index ∷ []) (l.held ∙ none.held);
           charge = λ o. ap (λ (c : Book). times o c.account.charge) p.5 ∙ ap (λ xs. times o (xs ++ h.items)) (l.charge ∙ none.charge);
           size = p.4 ∙ ap (λ e. e.size) (sym setup);
+          awake = idle ∙ none.awake;
         },
       )
 
@@ -92,19 +111,29 @@ module _ (old new : Holder) (pool : new.pool ≡ old.pool) where
   lost_pop q none p =
       let b = failed (link_loaded q p.2 (loaded q p.0 old.book)) in
       let k = look_link q p.0 p.2 old.book in
-      let l : IsLook old.book b = record { setup = k.setup; share = k.share; held = k.held; charge = k.charge } in (looked b l p.5, none_still b l p.5 none)
+      let l : IsLook old.book b =
+      record { setup = k.setup; share = k.share; idle = k.idle; held = k.held; charge = k.charge } in
+      (looked b l p.5, none_still b l p.5 none)
 
   -- a push put this buffer on a stack
   pub done : (q : Which) (h : HeldBuffer) → HasOne old h → Pushes q h old.book new.book try_push.Done → IsSameWorker old new × HasNone new
   done q h one p =
       let l = look_head q p.0 old.book in
       let before = (loaded q p.0 old.book).account in
+      let now : (x : ℕ) → times x before.charge ≡ times x h.items = λ x. ap (times x) l.charge ∙ one.charge x in
       let gone : (o : ℕ) → times o (without h.items before.charge) ≡ 0 =
-      λ o. let now : (x : ℕ) → times x before.charge ≡ times x h.items = λ x. ap (times x) l.charge ∙ one.charge x in omega (arith, now o, times-without h.items before.charge (λ x. omega (arith, now x)) o) in (
-        record { pool = pool; setup = ap (λ (c : Book). c.setup) p.2 ∙ l.setup; share = ap (λ (c : Book). c.account.share) p.2 ∙ l.share },
+      λ o. omega (arith, now o, times-without h.items before.charge (λ x. omega (arith, now x)) o) in
+      let idle : new.book.account.idle ≡ old.book.account.idle = ap (λ (c : Book). c.account.idle) p.2 ∙ l.idle in (
+        record {
+          pool = pool;
+          setup = ap (λ (c : Book). c.setup) p.2 ∙ l.setup;
+          share = ap (λ (c : Book). c.account.share) p.2 ∙ l.share;
+          idle = idle;
+        },
         record {
           held = ap (λ (c : Book). c.account.held) p.2 ∙ ap (remove_one h.index) (l.held ∙ one.held) ∙ remove_one-same h.index h.index [] refl;
           charge = ap (λ (c : Book). c.account.charge) p.2 ∙ nothing (without h.items before.charge) gone;
+          awake = idle ∙ one.awake;
         },
       )
 
@@ -112,13 +141,15 @@ module _ (old new : Holder) (pool : new.pool ≡ old.pool) where
   pub lost_push : (q : Which) (h back : HeldBuffer) → HasOne old h → Pushes q h old.book new.book (try_push.Lost back) → IsSameWorker old new × HasOne new back × (back ≡ h)
   lost_push q h back one p =
       let k = look_head q p.0 old.book in
-      let setup : new.book.setup ≡ old.book.setup = ap (λ (c : Book). c.setup) p.3 ∙ k.setup in (
-        record { pool = pool; setup = setup; share = ap (λ (c : Book). c.account.share) p.3 ∙ k.share },
+      let setup : new.book.setup ≡ old.book.setup = ap (λ (c : Book). c.setup) p.3 ∙ k.setup in
+      let idle : new.book.account.idle ≡ old.book.account.idle = ap (λ (c : Book). c.account.idle) p.3 ∙ k.idle in (
+        record { pool = pool; setup = setup; share = ap (λ (c : Book). c.account.share) p.3 ∙ k.share; idle = idle },
         subst (HasOne new) (sym p.1)
             (record {
               held = ap (λ (c : Book). c.account.held) p.3 ∙ k.held ∙ one.held;
               charge = λ o. ap (λ (c : Book). times o c.account.charge) p.3 ∙ ap (times o) k.charge ∙ one.charge o;
               size = one.size ∙ ap (λ e. e.size) (sym setup);
+              awake = idle ∙ one.awake;
             }),
         p.1,
       )
@@ -132,6 +163,7 @@ module _ (old new : Holder) (pool : new.pool ≡ old.pool) where
             λ x. ap (λ (c : Book). times x c.account.charge) is ∙ ap (times x) (charge_white o found old.book.account.charge white) ∙ total-append (only x) old.book.account.charge (o ∷ [])
             ∙ ap (λ n. n + times x (o ∷ [])) (one.charge x) ∙ sym (total-append (only x) h.items (o ∷ []));
         size = one.size ∙ ap (λ (c : Book). c.setup.size) (sym is);
+        awake = ap (λ (c : Book). c.account.idle) is ∙ one.awake;
       }
 
   pub left_out : (h : HeldBuffer) (o found : ℕ) → HasOne old h → new.book ≡ claimed o found old.book → found ≢ 0 → HasOne new h
@@ -140,13 +172,26 @@ module _ (old new : Holder) (pool : new.pool ≡ old.pool) where
         held = ap (λ (c : Book). c.account.held) is ∙ one.held;
         charge = λ x. ap (λ (c : Book). times x c.account.charge) is ∙ ap (times x) (charge_marked o found old.book.account.charge marked) ∙ one.charge x;
         size = one.size ∙ ap (λ (c : Book). c.setup.size) (sym is);
+        awake = ap (λ (c : Book). c.account.idle) is ∙ one.awake;
       }
 
   pub same_claimed : (o found : ℕ) → new.book ≡ claimed o found old.book → IsSameWorker old new
-  same_claimed o found is = record { pool = pool; setup = ap (λ (c : Book). c.setup) is; share = ap (λ (c : Book). c.account.share) is }
+  same_claimed o found is =
+      record {
+        pool = pool;
+        setup = ap (λ (c : Book). c.setup) is;
+        share = ap (λ (c : Book). c.account.share) is;
+        idle = ap (λ (c : Book). c.account.idle) is;
+      }
 
   pub same_finished : (o : ℕ) → new.book ≡ finished o old.book → IsSameWorker old new
-  same_finished o is = record { pool = pool; setup = ap (λ (c : Book). c.setup) is; share = ap (λ (c : Book). c.account.share) is }
+  same_finished o is =
+      record {
+        pool = pool;
+        setup = ap (λ (c : Book). c.setup) is;
+        share = ap (λ (c : Book). c.account.share) is;
+        idle = ap (λ (c : Book). c.account.idle) is;
+      }
 
   -- the object that was taken last out of the buffer is finished
   pub taken : (h rest : HeldBuffer) (o : ℕ) → HasOne old h → h.items ≡ rest.items ++ o ∷ [] → rest ≡ record h { items = rest.items } → new.book ≡ finished o old.book → HasOne new rest
@@ -158,6 +203,7 @@ module _ (old new : Holder) (pool : new.pool ≡ old.pool) where
         held = ap (λ (c : Book). c.account.held) is ∙ one.held ∙ ap (λ (k : HeldBuffer). k.index ∷ []) (sym same);
         charge = λ x. ap (λ (c : Book). times x c.account.charge) is ∙ omega (arith, times-remove_one x o old.book.account.charge here, before x);
         size = ap (λ (k : HeldBuffer). k.size) same ∙ one.size ∙ ap (λ (c : Book). c.setup.size) (sym is);
+        awake = ap (λ (c : Book). c.account.idle) is ∙ one.awake;
       }
 
 pub not_white : (b : Bool) (found : ℕ) → (IsTrue b ↔ (found ≡ 0)) → b ≡ false → found ≢ 0
@@ -175,12 +221,12 @@ may_finish n w h rest o roots one last = (times_stands w.book.account.charge o h
 pub may_claim : (n : ℕ) (w : Holder) (o : ℕ) → HasRoots n w → o < n → CanClaim w.book.setup o w.book.account
 may_claim n w o roots below = inl (subst (λ (rs : List ℕ). Contains rs o) (sym roots.roots) (is_root n o below))
 
-pub may_push : (q : Which) (w : Holder) (h : HeldBuffer) → HasOne w h → (q ≡ Empty → h.items ≡ []) → (q ≡ Full → IsBusy w.book.account) → MayPush q h w.book
-may_push q w h one bare busy =
+pub may_push : (q : Which) (w : Holder) (h : HeldBuffer) → HasOne w h → (q ≡ Empty → h.items ≡ []) → MayPush q h w.book
+may_push q w h one bare =
     record {
       held = times_stands w.book.account.held h.index (omega (arith, ap (times h.index) one.held, only-same h.index h.index refl));
       size = one.size;
       charged = λ o. omega (arith, one.charge o);
       bare = bare;
-      busy = busy;
+      busy = λ _. inr one.awake;
     }

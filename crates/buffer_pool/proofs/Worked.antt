@@ -2,8 +2,7 @@
 use Rattle.std.proofs.Common.{◌≡◌, ℕ, List, [], ◌∷◌, ◌++◌, length, Contains, ap, sym, refl, subst, ◌∙◌, inr, arith}
 use Rattle.std.proofs.lemmas.List.{nil_from_length}
 use Rattle.mark_core.specs.declared.which.Which.{Which}
-use Rattle.mark_core.specs.declared.which.Which.TheVariants.{Full}
-use Rattle.mark_core.specs.Event.{IsBusy, CanClaim}
+use Rattle.mark_core.specs.Event.{CanClaim}
 use Rattle.mark_core.specs.Lists.{times, remove_one, without}
 use Rattle.mark_core.specs.World.{Setup}
 use Rattle.buffer_pool.specs.Book.{Book, loaded, link_loaded, failed, popped, pushed, finished}
@@ -16,13 +15,23 @@ use Rattle.buffer_pool.specs.declared.answers.TryPushed.TheVariants as try_push
 use Rattle.buffer_pool.proofs.Rounds.{IsLook, look_head, look_link}
 
 look_same : (b : Book) → IsLook b b
-look_same b = record { setup = refl; share = refl; held = refl; charge = refl }
+look_same b = record { setup = refl; share = refl; idle = refl; held = refl; charge = refl }
 
 pub look_then : (a b c : Book) → IsLook a b → IsLook b c → IsLook a c
-look_then a b c first second = record { setup = second.setup ∙ first.setup; share = second.share ∙ first.share; held = second.held ∙ first.held; charge = second.charge ∙ first.charge }
+look_then a b c first second =
+    record {
+      setup = second.setup ∙ first.setup;
+      share = second.share ∙ first.share;
+      idle = second.idle ∙ first.idle;
+      held = second.held ∙ first.held;
+      charge = second.charge ∙ first.charge;
+    }
 
 pub look_failed : (a b c : Book) → IsLook a b → c ≡ failed b → IsLook a c
-look_failed a b c look is = subst (IsLook a) (sym is) (record { setup = look.setup; share = look.share; held = look.held; charge = look.charge })
+look_failed a b c look is =
+    let same : IsLook a (failed b) =
+    record { setup = look.setup; share = look.share; idle = look.idle; held = look.held; charge = look.charge } in
+    subst (IsLook a) (sym is) same
 
 -- tries that were lost only look
 pub lost_pops : (q : Which) (old new : Book) → LostPops q old new → IsLook old new
@@ -45,6 +54,7 @@ module _ (old new : Holder) (n : ℕ) (list : List ℕ) (was : Holds n list old)
       held = ap (λ (b : Book). b.account.held) is ∙ (λ k. (look.held ∙ was.held) k ++ index k ∷ []);
       charge = ap (λ (b : Book). b.account.charge) is ∙ (λ k. (look.charge ∙ was.charge) k ++ items k);
       room = ap (λ (b : Book). b.setup.size) is ∙ ap (λ (e : Setup). e.size) look.setup ∙ was.room;
+      awake = ap (λ (b : Book). b.account.idle) is ∙ look.idle ∙ was.awake;
     },
     (λ k. record { index = index k; items = items k; size = size k }),
   )
@@ -77,6 +87,7 @@ module _ (old new : Holder) (n : ℕ) (list : List ℕ) (was : Holds n list old)
         held = ap (λ (b : Book). b.account.held) is ∙ ap (remove_one h.index) (look.held ∙ was.held);
         charge = ap (λ (b : Book). b.account.charge) is ∙ (λ k. without (none k) ((look.charge ∙ was.charge) k));
         room = ap (λ (b : Book). b.setup.size) is ∙ ap (λ (e : Setup). e.size) look.setup ∙ was.room;
+        awake = ap (λ (b : Book). b.account.idle) is ∙ look.idle ∙ was.awake;
       }
     where
       mid : Book
@@ -91,14 +102,16 @@ module _ (old new : Holder) (n : ℕ) (list : List ℕ) (was : Holds n list old)
       is : new.book ≡ pushed q h.index h.items head_loaded
       is = p.2.2
 
-pub may_push_bare : (q : Which) (w : Holder) (n : ℕ) (list : List ℕ) (h : HeldBuffer) → Holds n list w → Contains list h.index → h ≡ bare n h.index → (q ≡ Full → IsBusy w.book.account) → MayPush q h w.book
-may_push_bare q w n list h was here is busy =
+pub may_push_bare :
+    (q : Which) (w : Holder) (n : ℕ) (list : List ℕ) (h : HeldBuffer) → Holds n list w → Contains list h.index
+    → h ≡ bare n h.index → MayPush q h w.book
+may_push_bare q w n list h was here is =
     record {
       held = subst (λ xs. Contains xs h.index) (sym was.held) here;
       size = ap (λ (l : HeldBuffer). l.size) is ∙ sym was.room;
       charged = λ x. omega (arith, ap (λ (l : HeldBuffer). times x l.items) is);
       bare = λ empty. ap (λ (l : HeldBuffer). l.items) is;
-      busy = busy;
+      busy = λ _. inr was.awake;
     }
 
 -- a buffer of this number is one of its own number

@@ -8,11 +8,12 @@ use Rattle.buffer_pool.specs.Calls.{Holder, HeldBuffer}
 unfoldable pub numbers : ℕ → List ℕ
 numbers n = range_with_len 0 n
 
--- a worker of the same pool, with the same share
+-- a worker of the same pool, with the same share and the same idle number
 pub record IsSameWorker (old new : Holder) : Type 0 where
   pub pool : new.pool ≡ old.pool
   pub setup : new.book.setup ≡ old.book.setup
   pub share : new.book.account.share ≡ old.book.account.share
+  pub idle : new.book.account.idle ≡ old.book.account.idle
 
 -- there are n objects, which are all roots, and none has a successor
 pub record HasRoots (n : ℕ) (w : Holder) : Type 0 where
@@ -20,13 +21,15 @@ pub record HasRoots (n : ℕ) (w : Holder) : Type 0 where
   pub roots : w.book.setup.roots ≡ numbers n
   pub pairs : w.book.setup.pairs ≡ []
 
--- it holds no buffer, and answers for no object
+-- it holds no buffer, answers for no object, and is not idle
 pub record HasNone (w : Holder) : Type 0 where
   pub held : w.book.account.held ≡ []
   pub charge : w.book.account.charge ≡ []
+  pub awake : w.book.account.idle ≡ 0
 
--- it holds this buffer alone, and answers for the buffer's items
+-- it holds this buffer alone, answers for the buffer's items, and is not idle
 pub record HasOne (w : Holder) (h : HeldBuffer) : Type 0 where
   pub held : w.book.account.held ≡ h.index ∷ []
   pub charge : (o : ℕ) → times o w.book.account.charge ≡ times o h.items
   pub size : h.size ≡ w.book.setup.size
+  pub awake : w.book.account.idle ≡ 0

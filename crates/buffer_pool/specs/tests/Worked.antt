@@ -5,11 +5,12 @@ use Rattle.mark_core.specs.World.{Setup}
 use Rattle.buffer_pool.specs.Book.{Book, new_book, claimed, finished}
 use Rattle.buffer_pool.specs.Calls.{Holder, HeldBuffer}
 
--- it holds these buffers, which take so many objects, and answers for no object
+-- it holds these buffers, which take so many objects, answers for no object, and is not idle
 pub record Holds (size : ℕ) (list : List ℕ) (w : Holder) : Type 0 where
   pub held : w.book.account.held ≡ list
   pub charge : w.book.account.charge ≡ []
   pub room : w.book.setup.size ≡ size
+  pub awake : w.book.account.idle ≡ 0
 
 -- a buffer of this number without items
 abbrev pub bare : ℕ → ℕ → HeldBuffer

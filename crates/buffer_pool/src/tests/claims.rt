@@ -1,6 +1,6 @@
 //! Claims of the same objects by two threads.
 ghost use Rattle.std.specs.Prelude.{◌≡◌};
-ghost use Rattle.buffer_pool.specs.tests.Rounds.{HasRoots};
+ghost use Rattle.buffer_pool.specs.tests.Rounds.{HasNone, HasRoots};
 
 use super::edges::pool_of_roots;
 use crate::{Pool, Worker};
@@ -14,6 +14,7 @@ const OBJECTS: u32 = 1_000;
 fn claim_all<A: Allocator>(pool: &Pool<A>, mut worker: Worker<A>) -> u32
     requires pool { worker.pool ≡ pool.now }
     requires roots { HasRoots OBJECTS worker }
+    requires none { HasNone worker }
 {
     let mut white = 0u32;
     for object in 0..OBJECTS {
@@ -34,10 +35,12 @@ fn each_object_is_claimed_once(rt: HostRuntime) -> Result<(), Fail> {
         move || -> u32
             requires pool { one.pool ≡ shared.now }
             requires roots { HasRoots OBJECTS one }
+            requires none { HasNone one }
         { claim_all(shared, one) },
         move || -> u32
             requires pool { other.pool ≡ shared.now }
             requires roots { HasRoots OBJECTS other }
+            requires none { HasNone other }
         { claim_all(shared, other) },
     );
     assert_eq!(rt; first.saturating_add(second), OBJECTS);

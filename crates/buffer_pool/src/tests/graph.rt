@@ -39,6 +39,7 @@ fn pool_of_two_objects(alloc: Global) -> Result<(Pool<Global>, Worker<Global>), 
 fn claim_white<R: Abort, A: Allocator>(rt: &R, pool: &Pool<A>, worker: &mut Worker<A>, object: u32)
     requires pool { worker.old.pool ≡ pool.now }
     requires can { CanClaim worker.old.book.setup object worker.old.book.account }
+    requires awake { worker.old.book.account.idle ≡ 0 }
     ensures pool { worker.new.pool ≡ worker.old.pool }
     ensures book { worker.new.book ≡ claimed object 0 worker.old.book }
 {
@@ -49,6 +50,7 @@ fn claim_white<R: Abort, A: Allocator>(rt: &R, pool: &Pool<A>, worker: &mut Work
 fn claim_marked<R: Abort, A: Allocator>(rt: &R, pool: &Pool<A>, worker: &mut Worker<A>, object: u32)
     requires pool { worker.old.pool ≡ pool.now }
     requires can { CanClaim worker.old.book.setup object worker.old.book.account }
+    requires awake { worker.old.book.account.idle ≡ 0 }
     ensures pool { worker.new.pool ≡ worker.old.pool }
     ensures book { worker.new.book ≡ claimed_again object worker.old.book }
 {

@@ -53,6 +53,7 @@ fn pop_bare<R: Wait + Abort, A: Allocator>(
     wanted: u32,
 ) -> Held<A>
     requires pool { worker.old.pool ≡ pool.now }
+    requires awake { worker.old.book.account.idle ≡ 0 }
     ensures pool { worker.new.pool ≡ worker.old.pool }
     ensures held { (n : ℕ) (list : List ℕ) → Holds n list worker.old
         → Holds n (list ++ wanted ∷ []) worker.new × (result ≡ bare n wanted) }

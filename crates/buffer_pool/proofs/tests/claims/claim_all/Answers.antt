@@ -1,4 +1,5 @@
--- Each object is a root.
+-- Each object is a root, and the worker is not idle.
+use Rattle.std.proofs.Common.{◌∙◌, inr}
 use Rattle.buffer_pool.proofs.Rounds.{may_claim, same_roots, same_worker}
 use Rattle.buffer_pool.proofs.tests.claims.claim_all.Goals as goal
 
@@ -8,3 +9,6 @@ loop-object-init g c = same_worker c.args.worker
 pub claim-requires-clause-can : goal.claim-requires-clause-can
 claim-requires-clause-can g c =
     may_claim 1000 c.loop-object.worker c.loop-object.object (same_roots 1000 c.args.worker c.loop-object.worker c.loop-object.invariant c.requires.roots) c.loop-object-test.true
+
+pub claim-requires-clause-busy : goal.claim-requires-clause-busy
+claim-requires-clause-busy g c = inr (c.loop-object.invariant.idle ∙ c.requires.none.awake)

@@ -1,5 +1,5 @@
 -- What was taken goes back, and a try that was lost changes nothing that is asked of the worker.
-use Rattle.std.proofs.Common.{◌≡◌, [], ◌∷◌, length, arith}
+use Rattle.std.proofs.Common.{◌≡◌, [], ◌∷◌, length, inr, arith}
 use Rattle.mark_core.specs.declared.which.Which.TheVariants.{Empty}
 use Rattle.buffer_pool.proofs.Races.{has_it, lost_try, none_left, took_try, tried_nothing}
 use Rattle.buffer_pool.proofs.tests.race.loses.Goals as goal
@@ -23,3 +23,6 @@ returns-in-Empty-clause-none g c = tried_nothing c.args.worker.now c.try_pop.new
 
 pub returns-in-Lost-clause-none : goal.returns-in-Lost-clause-none
 returns-in-Lost-clause-none g c = lost_try c.args.worker.now c.try_pop.new.worker 2 [] c.requires.none Empty c.in-Lost.ensures.pops
+
+pub try_pop-requires-clause-busy : goal.try_pop-requires-clause-busy
+try_pop-requires-clause-busy g c = inr c.requires.none.awake

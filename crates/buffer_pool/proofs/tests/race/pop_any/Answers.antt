@@ -1,5 +1,5 @@
 -- It has no items, and where there was none nothing changed.
-use Rattle.std.proofs.Common.{◌≡◌, [], length, arith}
+use Rattle.std.proofs.Common.{◌≡◌, [], length, inr, arith}
 use Rattle.buffer_pool.proofs.Races.{found_nothing, took_at_last}
 use Rattle.buffer_pool.proofs.tests.race.pop_any.Goals as goal
 
@@ -10,3 +10,6 @@ returns-in-Took-clause-held g c =
 
 pub returns-in-Empty-clause-held : goal.returns-in-Empty-clause-held
 returns-in-Empty-clause-held g c = found_nothing c.args.worker.now c.pop.new.worker 2 [] c.requires.none c.args.which c.in-Empty.ensures.pops
+
+pub pop-requires-clause-busy : goal.pop-requires-clause-busy
+pop-requires-clause-busy g c = inr c.requires.none.awake

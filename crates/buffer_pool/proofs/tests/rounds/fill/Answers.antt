@@ -1,5 +1,5 @@
 -- Each object is a root, and a white one went into the buffer.
-use Rattle.std.proofs.Common.{◌∙◌, sym, subst, arith}
+use Rattle.std.proofs.Common.{◌∙◌, inr, sym, subst, arith}
 use Rattle.buffer_pool.specs.Calls.{HeldBuffer}
 use Rattle.buffer_pool.specs.tests.Rounds.{HasOne}
 use Rattle.buffer_pool.proofs.Rounds.{left_out, may_claim, not_white, put_in, same_again, same_claimed, same_roots}
@@ -26,3 +26,6 @@ loop-object-preserved g c =
       | else-claim w ↦ subst (λ (h : HeldBuffer). HasOne new h) (sym w.held-is) (left_out old new pool c.loop-object.held o event.0 was.1 event.1 (not_white c.claim.result event.0 event.2 w.if-claim.false))
     ] in
     (same_again c.args.worker.now old new was.0 (same_claimed old new pool o event.0 event.1), one)
+
+pub claim-requires-clause-busy : goal.claim-requires-clause-busy
+claim-requires-clause-busy g c = inr c.loop-object.invariant.1.awake

@@ -1,4 +1,5 @@
 -- A try that was lost changes nothing that is asked of the worker.
+use Rattle.std.proofs.Common.{inr}
 use Rattle.buffer_pool.proofs.Rounds.{found_none, lost_pop, same_again, same_worker, took}
 use Rattle.buffer_pool.proofs.tests.rounds.pop_within.Goals as goal
 
@@ -21,3 +22,6 @@ returns-in-Empty g c =
     let was = c.loop.invariant in
     let t = found_none c.loop.worker c.try_pop.new.worker c.try_pop.ensures.pool c.args.which was.1 c.in-Empty.ensures.pops in
     record { same = same_again c.args.worker.now c.loop.worker c.try_pop.new.worker was.0 t.0; held = t.1 }
+
+pub try_pop-requires-clause-busy : goal.try_pop-requires-clause-busy
+try_pop-requires-clause-busy g c = inr c.loop.invariant.1.awake
