@@ -19,10 +19,11 @@ AreRoots n w = (o : ℕ) → o < n → Contains w.book.setup.roots o
 abbrev pub HasSeen : ℕ → ℕ → Holder → Type 0
 HasSeen from to w = (o : ℕ) → from ≤ o → o < to → Contains w.book.account.seen o
 
--- two workers of one pool
+-- two workers of one pool, with the same idle number
 pub record SamePool (one other : Holder) : Type 0 where
   pub pool : other.pool ≡ one.pool
   pub setup : other.book.setup ≡ one.book.setup
+  pub idle : other.book.account.idle ≡ one.book.account.idle
 
 -- a buffer was popped from the empty stack and pushed there
 abbrev pub PopsAndPushes : Book → Book → Bool → Type 0

@@ -13,6 +13,7 @@ use std::thread::Threads;
 fn claim_part<A: Allocator>(pool: &Pool<A>, worker: &mut Worker<A>, from: u32, to: u32) -> u32
     requires pool { worker.old.pool ≡ pool.now }
     requires roots { AreRoots to worker.old }
+    requires awake { worker.old.book.account.idle ≡ 0 }
     ensures same { SamePool worker.old worker.new }
     ensures seen { HasSeen from to worker.new }
 {
@@ -29,6 +30,7 @@ fn claim_part<A: Allocator>(pool: &Pool<A>, worker: &mut Worker<A>, from: u32, t
 fn claim_passes(pool: &Pool<Global>, numbered: NumberedWorker, sizes: Sizes) -> u64
     requires pool { numbered.worker.pool ≡ pool.now }
     requires roots { AreRoots sizes.objects numbered.worker }
+    requires awake { numbered.worker.book.account.idle ≡ 0 }
 {
     let NumberedWorker { mut worker, number } = numbered;
     let part = sizes.objects.div_ceil(sizes.threads);
@@ -50,9 +52,11 @@ pub(crate) fn claim_all<R: Threads + Sync>(
 ) -> Result<u64, AllocError>
     requires pool { All (λ w. w.worker.pool ≡ pool.now) workers.items }
     requires roots { All (λ w. AreRoots sizes.objects w.worker) workers.items }
+    requires awake { All (λ w. w.worker.book.account.idle ≡ 0) workers.items }
 {
     let claim = |numbered: NumberedWorker| -> u64
-        requires { (numbered.worker.pool ≡ pool.now) × AreRoots sizes.objects numbered.worker }
+        requires { (numbered.worker.pool ≡ pool.now) × AreRoots sizes.objects numbered.worker
+            × (numbered.worker.book.account.idle ≡ 0) }
     { claim_passes(pool, numbered, sizes) };
     let white = thread::map_vec(rt, workers, &claim)?;
     Ok(sum_of(white.as_slice()))

@@ -41,6 +41,7 @@ pub(crate) fn pool_of_roots(
     ensures roots { IfOk result (λ p. AreRoots objects p.1) }
     ensures fault { IfErr result (Refuses (IsInside objects 64 256 0)) }
     ensures share { IfOk result (λ p. p.1.book.account.share ≡ whole) }
+    ensures awake { IfOk result (λ p. p.1.book.account.idle ≡ 0) }
 {
     Pool::new(alloc, &Roots { objects }, BUFFERS, SIZE, 0)
 }

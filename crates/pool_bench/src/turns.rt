@@ -11,7 +11,8 @@ use std::thread::Threads;
 
 /// Pops a buffer and pushes it. False where there was none, or the last tag is reached.
 fn turn<R: Wait, A: Allocator>(rt: &R, pool: &Pool<A>, worker: &mut Worker<A>) -> bool
-    requires { worker.old.pool ≡ pool.now }
+    requires pool { worker.old.pool ≡ pool.now }
+    requires awake { worker.old.book.account.idle ≡ 0 }
     ensures pool { worker.new.pool ≡ worker.old.pool }
     ensures turns { PopsAndPushes worker.old.book worker.new.book result }
 {
@@ -23,7 +24,8 @@ fn turn<R: Wait, A: Allocator>(rt: &R, pool: &Pool<A>, worker: &mut Worker<A>) -
 
 /// Takes so many turns, and answers in how many a buffer was popped and pushed.
 fn take_turns<R: Wait>(rt: &R, pool: &Pool<Global>, numbered: NumberedWorker, turns: u32) -> u64
-    requires { numbered.worker.pool ≡ pool.now }
+    requires pool { numbered.worker.pool ≡ pool.now }
+    requires awake { numbered.worker.book.account.idle ≡ 0 }
     ensures { result ≤ turns }
 {
     let NumberedWorker {
@@ -46,10 +48,11 @@ pub(crate) fn turn_all<R: Threads + Wait + Sync>(
     workers: Vec<NumberedWorker>,
     turns: u32,
 ) -> Result<u64, AllocError>
-    requires { All (λ w. w.worker.pool ≡ pool.now) workers.items }
+    requires pool { All (λ w. w.worker.pool ≡ pool.now) workers.items }
+    requires awake { All (λ w. w.worker.book.account.idle ≡ 0) workers.items }
 {
     let take = |numbered: NumberedWorker| -> u64
-        requires { numbered.worker.pool ≡ pool.now }
+        requires { (numbered.worker.pool ≡ pool.now) × (numbered.worker.book.account.idle ≡ 0) }
     { take_turns(rt, pool, numbered, turns) };
     let moved = thread::map_vec(rt, workers, &take)?;
     Ok(sum_of(moved.as_slice()))

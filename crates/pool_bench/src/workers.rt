@@ -22,6 +22,7 @@ pub(crate) fn split_among(
     requires pool { worker.pool ≡ pool.now }
     requires some { 0 < threads }
     requires share { threads ≤ worker.book.account.share }
+    requires awake { worker.book.account.idle ≡ 0 }
     ensures count { IfOk result (λ v. vec_len v ≡ threads) }
     ensures same { IfOk result (λ v. All (λ w. SamePool worker w.worker) v.items) }
 {

@@ -9,4 +9,5 @@ map_vec-requires-after_bounds g c =
     λ _ _ i x below is. (
       ap (λ (w : NumberedWorker). w.worker.pool) is ∙ c.requires.pool i x below,
       subst (λ (w : NumberedWorker). AreRoots c.args.sizes.objects w.worker) (sym is) (c.requires.roots i x below),
+      ap (λ (w : NumberedWorker). w.worker.book.account.idle) is ∙ c.requires.awake i x below,
     )
