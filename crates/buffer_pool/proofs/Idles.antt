@@ -13,83 +13,117 @@ use Rattle.buffer_pool.specs.declared.seat_view.SeatView.{SeatView}
 use Rattle.buffer_pool.specs.Book.{idled, woken, idle_loaded}
 use Rattle.buffer_pool.specs.Calls.{Shows}
 use Rattle.buffer_pool.specs.working.Plays.{rested, went_idle, came_back, idle_seen}
-use Rattle.buffer_pool.specs.working.Table.{Reading, Reached, Rule, Carries, free, link_word, marking_of, view_counts}
+use Rattle.buffer_pool.specs.working.Table.{Reading, Reached, Rule, Carries, free, idle_word, link_word, marking_of, view_counts}
 use Rattle.buffer_pool.specs.working.Told.{IsSettled, noted}
 use Rattle.buffer_pool.proofs.States.{agrees, cut_same, accounts_set, counts_same, counts_changed, happened, happened_led, log_after, told_after, did_after, freed}
 use Rattle.buffer_pool.proofs.Loads.{noticed, written_again}
 use Rattle.buffer_pool.proofs.Words.{head_beside_idle, link_beside_idle, mark_beside_idle, idle_here}
 
-module _ {B : Type 0} (r : Reading B) (e : Setup) (s : State (Option B) SeatView) (rule : Rule r e s) (id : ℕ) (v : SeatView) (is : get_elem? s.views id ≡ some v) (bare : v.out ≡ 0) (there : 0 < v.book.account.share) where
+module _
+    {B : Type 0} (r : Reading B) (e : Setup) (s : State (Option B) SeatView) (rule : Rule r e s)
+    (id : ℕ) (v : SeatView) (is : get_elem? s.views id ≡ some v) (bare : v.out ≡ 0)
+    (there : 0 < v.book.account.share) where
   -- the idle word changes, and the account of the seat
   idle_written :
-      (x : ℕ) (w : SeatView) (kind : Kind) → w.out ≡ 0 → w.book.account.held ≡ v.book.account.held → w.book.setup ≡ v.book.setup → view_counts w ≡ view_counts v
+      (x : ℕ) (w : SeatView) (kind : Kind) → w.out ≡ 0 → w.book.account.held ≡ v.book.account.held
+      → w.book.setup ≡ v.book.setup → view_counts w ≡ view_counts v
       → w.log ≡ log_after r e s rule id kind → w.unsaid ≡ [] → w.taken ≡ [] → w.named ≡ true
       → may.Allows e (marking_of r e s) id v.book.account kind
-      → effect (marking_of r e s) id v.book.account kind ≡ record (marking_of r e s) { idle = x; accounts = set (marking_of r e s).accounts id w.book.account }
+      → effect (marking_of r e s) id v.book.account kind
+      ≡ record (marking_of r e s) { idle = x; accounts = set (marking_of r e s).accounts id w.book.account }
       → counted (marking_of r e s) (map view_counts s.views) id kind ≡ map view_counts s.views
-      → Rule r e (record { words = set s.words 8 x; homes = s.homes; views = set s.views id w })
+      → Rule r e (record { words = set s.words idle_word x; homes = s.homes; views = set s.views id w })
   idle_written x w kind out held setup counts log unsaid taken named can is_effect is_counted =
-      noticed r e s rule id v is bare there (set s.words 8 x) w (length-set s.words 8 x) (λ i h. link_beside_idle e s.words x i) out held setup
-      (happened r e s rule id v is kind there can t
-      (agrees (marking_of r e t) (record m { idle = x; accounts = set m.accounts id w.book.account }) (λ q. ap head_of (head_beside_idle e s.words x q)) links
-      (mark_beside_idle e s.words x) refl (idle_here e s.words x (omega (arith, rule.word_count))) (accounts_set s.views id w) ∙ sym is_effect)
-      (counts_same r e s rule id v is w counts ∙ sym is_counted) (told_after r e s rule id v is there kind w log unsaid taken named))
+      noticed r e s rule id v is bare there (set s.words idle_word x) w (length-set s.words idle_word x)
+      (λ i h. link_beside_idle e s.words x i) out held setup
+      (happened r e s rule id v is kind there can t (marking ∙ sym is_effect)
+      (counts_same r e s rule id v is w counts ∙ sym is_counted)
+      (told_after r e s rule id v is there kind w log unsaid taken named))
     where
       m : Marking
       m = marking_of r e s
 
       t : State (Option B) SeatView
-      t = record { words = set s.words 8 x; homes = s.homes; views = set s.views id w }
+      t = record { words = set s.words idle_word x; homes = s.homes; views = set s.views id w }
+
+      link_at : List ℕ → ℕ → Option ℕ
+      link_at words i = index_of (slice_index words (link_word i))
 
       links : (i : ℕ) → (marking_of r e t).link i ≡ m.link i
-      links = cut_same e.buffers (λ i. index_of (slice_index t.words (link_word i))) (λ i. index_of (slice_index s.words (link_word i))) (λ i h. ap index_of (link_beside_idle e s.words x i))
+      links =
+          cut_same e.buffers (link_at t.words) (link_at s.words)
+          (λ i h. ap index_of (link_beside_idle e s.words x i))
+
+      marking : marking_of r e t ≡ record m { idle = x; accounts = set m.accounts id w.book.account }
+      marking =
+          let here = idle_here e s.words x (omega (arith, rule.word_count)) in
+          agrees (marking_of r e t) (record m { idle = x; accounts = set m.accounts id w.book.account })
+          (λ q. ap head_of (head_beside_idle e s.words x q)) links (mark_beside_idle e s.words x) refl here
+          (accounts_set s.views id w)
 
 module _ {B : Type 0} (r : Reading B) (e : Setup) (slots id : ℕ) where
   pub goes_idle :
-      (me : Me (Option B) SeatView) → Carries me → 0 < me.0.book.account.share → IsSettled me.0 → CanIdle me.0.book.account
-      → Allows (Rule r e) slots id me 8 (λ n. (n + 1) % 2 ^ 64) (went_idle (step slots 8 1 0 none) me)
-  goes_idle me carries there done can = freed r e slots id 8 (λ n. (n + 1) % 2 ^ 64) (went_idle (step slots 8 1 0 none) me) me carries (λ s rule count is fits.
+      (me : Me (Option B) SeatView) → Carries me → 0 < me.0.book.account.share → IsSettled me.0
+      → CanIdle me.0.book.account
+      → Allows (Rule r e) slots id me idle_word (λ n. word_up n) (went_idle (step slots idle_word 1 0 none) me)
+  goes_idle me carries there done can =
+      let told = went_idle (step slots idle_word 1 0 none) me in
+      freed r e slots id idle_word (λ n. word_up n) told me carries (λ s rule count is fits.
       let v : SeatView = free me.0 in
       let log = log_after r e s rule id IdleUp in
       let w : SeatView = record (noted log v) { book = idled me.0.book } in (
         w,
         keeps,
         tt,
-        idle_written r e s rule id v is refl there (word_up (slice_index s.words 8)) w IdleUp refl refl refl refl refl refl refl refl can refl refl,
+        idle_written r e s rule id v is refl there (word_up (slice_index s.words idle_word)) w IdleUp
+            refl refl refl refl refl refl refl refl can refl refl,
         (refl, did_after r e s rule id v is there done.named done.unsaid IdleUp),
       ))
 
   pub comes_back :
-      (me : Me (Option B) SeatView) → Carries me → 0 < me.0.book.account.share → IsSettled me.0 → CanWake me.0.book.account
-      → Allows (Rule r e) slots id me 8 (λ n. (n + (2 ^ 64 - 1)) % 2 ^ 64) (came_back (step slots 8 1 0 none) me)
-  comes_back me carries there done can = freed r e slots id 8 (λ n. (n + (2 ^ 64 - 1)) % 2 ^ 64) (came_back (step slots 8 1 0 none) me) me carries (λ s rule count is fits.
+      (me : Me (Option B) SeatView) → Carries me → 0 < me.0.book.account.share → IsSettled me.0
+      → CanWake me.0.book.account
+      → Allows (Rule r e) slots id me idle_word (λ n. word_down n) (came_back (step slots idle_word 1 0 none) me)
+  comes_back me carries there done can =
+      let told = came_back (step slots idle_word 1 0 none) me in
+      freed r e slots id idle_word (λ n. word_down n) told me carries (λ s rule count is fits.
       let v : SeatView = free me.0 in
       let log = log_after r e s rule id IdleDown in
       let w : SeatView = record (noted log v) { book = woken me.0.book } in (
         w,
         keeps,
         tt,
-        idle_written r e s rule id v is refl there (word_down (slice_index s.words 8)) w IdleDown refl refl refl refl refl refl refl refl can refl refl,
+        idle_written r e s rule id v is refl there (word_down (slice_index s.words idle_word)) w IdleDown
+            refl refl refl refl refl refl refl refl can refl refl,
         (refl, did_after r e s rule id v is there done.named done.unsaid IdleDown),
       ))
 
-  pub sees_idle : (me : Me (Option B) SeatView) → Carries me → 0 < me.0.book.account.share → IsSettled me.0 → Allows (Rule r e) slots id me 8 (λ n. n) (idle_seen (step slots 8 0 0 none) me)
-  sees_idle me carries there done = freed r e slots id 8 (λ n. n) (idle_seen (step slots 8 0 0 none) me) me carries (λ s rule count is fits.
-      let n = slice_index s.words 8 in
+  pub sees_idle :
+      (me : Me (Option B) SeatView) → Carries me → 0 < me.0.book.account.share → IsSettled me.0
+      → Allows (Rule r e) slots id me idle_word (λ n. n) (idle_seen (step slots idle_word 0 0 none) me)
+  sees_idle me carries there done =
+      let seen = idle_seen (step slots idle_word 0 0 none) me in
+      freed r e slots id idle_word (λ n. n) seen me carries (λ s rule count is fits.
+      let n = slice_index s.words idle_word in
       let v : SeatView = free me.0 in
       let log = log_after r e s rule id LoadIdle in
       let w : SeatView = record (noted log v) { book = idle_loaded n me.0.book } in
       let m = marking_of r e s in
       let t : State (Option B) SeatView = record { words = s.words; homes = s.homes; views = set s.views id w } in
       let same : me.0.book.setup ≡ e = rule.same_setup id v is there in
+      let after : Marking = record m { accounts = set m.accounts id (after_load_idle n me.0.book.account) } in
       let marking : marking_of r e t ≡ effect m id me.0.book.account LoadIdle =
-      agrees (marking_of r e t) (record m { accounts = set m.accounts id (after_load_idle n me.0.book.account) }) (λ p. refl) (λ i. refl) (λ o. refl) refl refl (accounts_set s.views id w) in
+      agrees (marking_of r e t) after (λ p. refl) (λ i. refl) (λ o. refl) refl refl (accounts_set s.views id w) in
       let counts = counts_changed r e s rule id v is w count_load_idle refl in
-      let reached : Reached r e t = happened r e s rule id v is LoadIdle there tt t marking counts (told_after r e s rule id v is there LoadIdle w refl refl refl refl) in
-      let shows : Shows e log.story n = (marking_of r e t, map view_counts t.views, happened_led r e s rule id v is LoadIdle there tt t marking counts, refl) in (
+      let tells = told_after r e s rule id v is there LoadIdle w refl refl refl refl in
+      let reached : Reached r e t = happened r e s rule id v is LoadIdle there tt t marking counts tells in
+      let led = happened_led r e s rule id v is LoadIdle there tt t marking counts in
+      let shows : Shows e log.story n = (marking_of r e t, map view_counts t.views, led, refl) in
+      let did = did_after r e s rule id v is there done.named done.unsaid LoadIdle in (
         w,
         keeps,
         tt,
-        written_again r e slots id s 8 w (noticed r e s rule id v is refl there s.words w refl (λ i h. refl) refl refl refl reached),
-        (refl, did_after r e s rule id v is there done.named done.unsaid LoadIdle, subst (λ (x : Setup). Shows x log.story n) (sym same) shows),
+        written_again r e slots id s idle_word w
+            (noticed r e s rule id v is refl there s.words w refl (λ i h. refl) refl refl refl reached),
+        (refl, did, subst (λ (x : Setup). Shows x log.story n) (sym same) shows),
       ))

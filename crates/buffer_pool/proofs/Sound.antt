@@ -35,13 +35,19 @@ module _ {B : Type 0} (t : TableId) (m : Me (Option B) SeatView) (sound : IsSoun
   sound_failed log = sound_rested log (failed m.0.book) refl refl (record { held = sound.within.held; charge = sound.within.charge })
 
   pub sound_idled : (log : Log) → IsSound t (rested m log (idled m.0.book))
-  sound_idled log = sound_rested log (idled m.0.book) refl refl (record { held = sound.within.held; charge = sound.within.charge })
+  sound_idled log =
+      sound_rested log (idled m.0.book) refl refl
+      (record { held = sound.within.held; charge = sound.within.charge })
 
   pub sound_woken : (log : Log) → IsSound t (rested m log (woken m.0.book))
-  sound_woken log = sound_rested log (woken m.0.book) refl refl (record { held = sound.within.held; charge = sound.within.charge })
+  sound_woken log =
+      sound_rested log (woken m.0.book) refl refl
+      (record { held = sound.within.held; charge = sound.within.charge })
 
   pub sound_idle_loaded : (log : Log) (n : ℕ) → IsSound t (rested m log (idle_loaded n m.0.book))
-  sound_idle_loaded log n = sound_rested log (idle_loaded n m.0.book) refl refl (record { held = sound.within.held; charge = sound.within.charge })
+  sound_idle_loaded log n =
+      sound_rested log (idle_loaded n m.0.book) refl refl
+      (record { held = sound.within.held; charge = sound.within.charge })
 
   pub sound_claimed : (log : Log) (o found : ℕ) → o < m.0.book.setup.objects → IsSound t (rested m log (claimed o found m.0.book))
   sound_claimed log o found below = sound_rested log (claimed o found m.0.book) refl refl (record { held = sound.within.held; charge = either_way (found == 0) })

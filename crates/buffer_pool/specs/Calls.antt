@@ -88,6 +88,6 @@ pub record Sees (q : Which) (old new : Book) (answer : Bool) : Type 0 where
   pub book : new ≡ loaded q head old
   pub none : IsTrue answer ↔ (head.index ≡ None)
 
--- these events led from the opening to a marking with this idle word
+-- these events lead from the opening to a marking with this idle word: where that one is quiet, it is done
 abbrev pub Shows : Setup → List Event → ℕ → Type 0
 Shows e events word = (m : Marking) × (counts : List Counts) × LeadTo e events m counts × (m.idle ≡ word)

@@ -1,6 +1,8 @@
 //! What each step on the table tells, as types that the steps name.
 ghost use Rattle.buffer_pool.specs.working.Buffers.{buffer_reading};
-ghost use Rattle.buffer_pool.specs.working.Plays.{claim_made, came_back, finish_made, head_seen, idle_seen, link_seen, link_stored, pop_tried, push_tried, set_aside, settled, went_idle};
+ghost use Rattle.buffer_pool.specs.working.Plays.{claim_made, came_back, finish_made, head_seen, idle_seen};
+ghost use Rattle.buffer_pool.specs.working.Plays.{link_seen, link_stored, pop_tried, push_tried, set_aside, settled};
+ghost use Rattle.buffer_pool.specs.working.Plays.{went_idle};
 ghost use Rattle.mark_core.specs.declared.which.Which.TheVariants.{Full, Empty};
 
 use crate::buffer::Buffer;

@@ -1,4 +1,5 @@
-//! A pool of buffers and marks, which many workers share, and how it is made.
+//! A pool of buffers and marks, which many workers share, and how it is made. Each step of a call is one step on a word
+//! of its table, and sequentially consistent: `atomic_table` promises that of all its steps (its README, "Limits").
 ghost use Rattle.std.specs.Prelude.{◌≡◌, MatchResult};
 ghost use Rattle.mark_core.specs.Shares.{whole};
 ghost use Rattle.mark_core.specs.World.{Setup};

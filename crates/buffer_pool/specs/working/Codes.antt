@@ -24,13 +24,15 @@ look_code =
 -- the share and the open push, the lists, what was loaded last, and what is noted for going idle
 abbrev pub account_code : Coded Account
 account_code =
-    code_by (((ℕ × Bool) × ((List ℕ × List ℕ) × ((List ℕ × List ℕ) × (Look × Look)))) × ((ℕ × Option ℕ) × ((Bool × Bool) × (Bool × Bool))))
+    code_by
+    (((ℕ × Bool) × ((List ℕ × List ℕ) × ((List ℕ × List ℕ) × (Look × Look))))
+    × ((ℕ × Option ℕ) × ((Bool × Bool) × (Bool × Bool))))
     (coded× (coded× (coded× coded_ℕ coded_bool)
     (coded× (coded× (coded_list coded_ℕ) (coded_list coded_ℕ))
     (coded× (coded× (coded_list coded_ℕ) (coded_list coded_ℕ)) (coded× look_code look_code))))
-    (coded× (coded× coded_ℕ (coded_option coded_ℕ)) (coded× (coded× coded_bool coded_bool) (coded× coded_bool coded_bool))))
-    (λ a.
-    (
+    (coded× (coded× coded_ℕ (coded_option coded_ℕ))
+    (coded× (coded× coded_bool coded_bool) (coded× coded_bool coded_bool))))
+    (λ a. (
       ((a.share, a.open_push), ((a.held, a.charge), ((a.seen, a.finished), (a.full, a.empty)))),
       ((a.idle, a.last_idle), ((a.found, a.parted), (a.pushed, a.joined))),
     ))

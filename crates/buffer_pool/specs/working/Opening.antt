@@ -3,14 +3,14 @@ use Rattle.std.specs.Prelude.{◌≡◌, ℕ, ◌+◌, ◌<◌, ◌≤◌, List,
 use Rattle.tagged_index.specs.Head.{head_of}
 use Rattle.mark_core.specs.declared.which.Which.{Which}
 use Rattle.mark_core.specs.Runs.{first_heads}
-use Rattle.buffer_pool.specs.working.Table.{Reading, head_word, link_word}
+use Rattle.buffer_pool.specs.working.Table.{Reading, head_word, idle_word, link_word}
 
 -- the full stack has no buffer, each of the first buffers of the empty stack links to the next one, and every later
 -- word is 0
 pub record HasFirstWords (count tag linked : ℕ) (words : List ℕ) : Type 0 where
   pub word_count : length words ≡ count
   pub heads : (q : Which) → head_of (slice_index words (head_word q)) ≡ first_heads tag q
-  pub idle : slice_index words 8 ≡ 0
+  pub idle : slice_index words idle_word ≡ 0
   pub links : (i : ℕ) → i + 1 < linked → slice_index words (link_word i) ≡ i + 2
   pub rest : (k : ℕ) → 31 + linked ≤ k → slice_index words k ≡ 0
 

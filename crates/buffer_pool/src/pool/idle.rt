@@ -67,7 +67,7 @@ impl<A: Allocator> Pool<A> {
         add_idle(&self.table.shared, &mut worker.seat);
     }
 
-    /// Comes back. One atomic step; waits for nobody.
+    /// Comes back. The worker has one unit and is idle. One atomic step; waits for nobody.
     pub fn idle_down(&self, worker: &mut Worker<A>)
         requires pool { worker.old.pool ≡ self.now }
         requires may { CanWake worker.old.book.account }
@@ -79,6 +79,10 @@ impl<A: Allocator> Pool<A> {
     }
 
     /// True exactly where the idle word that it loads is this number. One atomic step; waits for nobody.
+    ///
+    /// The worker's story then leads to a marking with this idle word. If besides no account was joined there, and the
+    /// opening one is busy, gave exactly so many units away and has pushed nothing on full since it first did, a true
+    /// answer means that nothing is left: `mark_core::all_runs_keep_law`, clause `quiet`.
     pub fn all_idle(&self, worker: &mut Worker<A>, workers: u32) -> bool
         requires { worker.old.pool ≡ self.now }
         ensures pool { worker.new.pool ≡ worker.old.pool }

@@ -11,15 +11,18 @@ use Rattle.buffer_pool.proofs.pool.idle.add_idle.Goals as goal
 pub fetch_add-requires : goal.fetch_add-requires
 fetch_add-requires g c =
     let z = c.args.words.now.table_id in
-    let me = c.args.seat.now.me in (
+    let me = c.args.seat.now.me in
+    let sound = c.requires.sound in (
       c.requires.table.0,
       omega (arith, c.requires.table.1.words),
-      goes_idle buffer_reading (setup_of c.args.words.now.key) z.slots c.args.seat.now.id me c.requires.sound.carries c.requires.sound.share c.requires.sound.settled c.requires.may,
+      goes_idle buffer_reading (setup_of c.args.words.now.key) z.slots c.args.seat.now.id me sound.carries sound.share
+          sound.settled c.requires.may,
     )
 
 pub returns-clause-sound : goal.returns-clause-sound
 returns-clause-sound g c =
     let me = c.args.seat.now.me in
-    let log = c.fetch_add.new.seat.me.0.log in
-    sound_same c.args.seat.now.table_id c.fetch_add.new.seat.table_id c.fetch_add.new.seat.me (rested me log (idled me.0.book))
+    let new = c.fetch_add.new.seat in
+    let log = new.me.0.log in
+    sound_same c.args.seat.now.table_id new.table_id new.me (rested me log (idled me.0.book))
     (sound_idled c.args.seat.now.table_id me c.requires.sound log) c.fetch_add.ensures.0 c.fetch_add.ensures.2.0

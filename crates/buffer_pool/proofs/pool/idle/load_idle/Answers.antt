@@ -11,15 +11,18 @@ use Rattle.buffer_pool.proofs.pool.idle.load_idle.Goals as goal
 pub load-requires : goal.load-requires
 load-requires g c =
     let z = c.args.words.now.table_id in
-    let me = c.args.seat.now.me in (
+    let me = c.args.seat.now.me in
+    let sound = c.requires.sound in (
       c.requires.table.0,
       omega (arith, c.requires.table.1.words),
-      sees_idle buffer_reading (setup_of c.args.words.now.key) z.slots c.args.seat.now.id me c.requires.sound.carries c.requires.sound.share c.requires.sound.settled,
+      sees_idle buffer_reading (setup_of c.args.words.now.key) z.slots c.args.seat.now.id me sound.carries sound.share
+          sound.settled,
     )
 
 pub returns-clause-sound : goal.returns-clause-sound
 returns-clause-sound g c =
     let me = c.args.seat.now.me in
-    let log = c.load.new.seat.me.0.log in
-    sound_same c.args.seat.now.table_id c.load.new.seat.table_id c.load.new.seat.me (rested me log (idle_loaded c.load.result me.0.book))
+    let new = c.load.new.seat in
+    let log = new.me.0.log in
+    sound_same c.args.seat.now.table_id new.table_id new.me (rested me log (idle_loaded c.load.result me.0.book))
     (sound_idle_loaded c.args.seat.now.table_id me c.requires.sound log c.load.result) c.load.ensures.0 c.load.ensures.2.0
