@@ -103,8 +103,14 @@ jshell_and_agent() {
     ended
 }
 
+# spent PID: the seconds of processor time that a process has spent.
+spent() {
+    awk -v ticks="$(getconf CLK_TCK)" '{ print int(($14 + $15) / ticks) }' "/proc/$1/stat"
+}
+
 # Copies of Filler, each in a package of its own, and javac in the midst of compiling them: it does not stand still
-# between its histogram and its dump.
+# between its histogram and its dump. It is asked after so much work, and not after so much time, since the machine may
+# be busy.
 javac_at_work() {
     local number compiler
     for number in $(seq 1500); do
@@ -113,7 +119,7 @@ javac_at_work() {
     done
     "${java}javac" -J-Xmx1g -d "$room/compiled" "$room"/sources/*/Filler.java &
     compiler=$!
-    sleep 6
+    while [ -n "$(jobs -pr)" ] && [ "$(spent "$compiler")" -lt 20 ]; do sleep 0.1; done
     moment "$compiler" tools-javac-all -all
     moment "$compiler" tools-javac-live
     wait "$compiler"
