@@ -9,7 +9,7 @@ use Rattle.clap.specs.declared.builder.value_parser.ValueParser.{ValueParser}
 use Rattle.clap.specs.declared.builder.value_parser.ValueParser.TheVariants as parser
 use Rattle.clap.specs.declared.error.kind.ErrorKind.{ErrorKind}
 use Rattle.clap.specs.declared.error.kind.ErrorKind.TheVariants as variant
-use Rattle.command_line.specs.declared.values.Arguments.{Arguments}
+use Rattle.command_line.specs.declared.parsed_arguments.Arguments.{Arguments}
 
 -- the file, which has to be there
 abbrev pub file_rule : Rule

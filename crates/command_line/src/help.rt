@@ -5,18 +5,21 @@ Marks the objects of a Java heap dump that a path of references joins to a root,
 threads, and prints a histogram of them: one line for each class, with the number of its objects
 and the bytes of their fields or elements.";
 
-pub(crate) const FILE: &str =
-    "A heap dump of at most 1 GiB, as `jcmd PID GC.heap_dump FILE` writes it (HPROF binary, JAVA PROFILE 1.0.2)";
+pub(crate) const FILE: &str = "\
+A heap dump of at most 1 GiB, as `jcmd PID GC.heap_dump FILE` writes it (HPROF binary,
+JAVA PROFILE 1.0.2)";
 
 pub(crate) const WORKERS: &str = "Threads that mark, 1 to 64";
 
 pub(crate) const BUFFER: &str = "Objects in one work buffer, 2 to 4096";
 
-pub(crate) const BUFFERS: &str =
-    "Work buffers, 4 to 65534, and at least two for each worker and two more";
+pub(crate) const BUFFERS: &str = "\
+Work buffers, 4 to 65534, and at least two for each worker and two
+more";
 
-pub(crate) const FIRST_TAG: &str =
-    "First tag of the two stacks of buffers, 0 to 281474976710655; only tests of the last tags need it";
+pub(crate) const FIRST_TAG: &str = "\
+First tag of the two stacks of buffers, 0 to 281474976710655; only
+tests of the last tags need it";
 
 pub(crate) const AFTER: &str = "\
 The report, on standard output, has the number of objects, their bytes and the class in each line,
@@ -30,6 +33,7 @@ Exit status:
      for a beginning of the report at 20 WriteFault
   2  the command line is wrong, as a message on standard error tells
 
-Example:
+Example, with buffers for a map or an array of a million elements, at which the default ones may end
+in 17 NoBuffer:
   $ jcmd 4711 GC.heap_dump app.hprof
-  $ heapmark --workers 8 app.hprof";
+  $ heapmark --workers 8 --buffer 4096 app.hprof";

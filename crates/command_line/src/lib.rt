@@ -2,12 +2,12 @@
 #![tactic(auto)]
 
 mod help;
-mod line;
+mod options;
 mod parse;
+mod parsed_arguments;
 #[cfg(test)]
 mod tests;
-mod values;
 
 pub use clap::Error;
 pub use parse::arguments;
-pub use values::Arguments;
+pub use parsed_arguments::Arguments;

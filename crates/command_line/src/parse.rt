@@ -4,8 +4,8 @@ ghost use Rattle.clap.specs.Words.{FailsBy, first_value, found_of, kind_of, take
 ghost use Rattle.command_line.specs.Line.{AreGiven, AreInRange, faults_of, heapmark_line, texts_of};
 ghost use Rattle.command_line.specs.working.Held.{HoldsAll, HoldsNumber, ReadsNumber};
 
-use crate::line::command;
-use crate::values::Arguments;
+use crate::options::command;
+use crate::parsed_arguments::Arguments;
 use clap::error::ErrorKind;
 use clap::{ArgMatches, Error};
 use std::alloc::Global;

@@ -1,6 +1,6 @@
 -- Why the program has no report of a file.
 use Rattle.std.specs.Prelude.{◌*◌, ◌+◌, ◌<◌}
-use Rattle.command_line.specs.declared.values.Arguments.{Arguments}
+use Rattle.command_line.specs.declared.parsed_arguments.Arguments.{Arguments}
 use Rattle.drain.specs.Options.{Choice, choice}
 use Rattle.heapmark.specs.Refusals.{bad_options_refusal}
 use Rattle.heapmark.specs.declared.trouble.Trouble.{Trouble}

@@ -1,4 +1,4 @@
-//! The command line in clap's words.
+//! The file and the options with their ranges and defaults, in clap's words.
 ghost use Rattle.std.specs.Prelude.{◌≡◌, IfOk, codes, false};
 ghost use Rattle.clap.specs.Words.{app_of, rule_of};
 ghost use Rattle.command_line.specs.Line.{file_rule, heapmark_line, number_rule, option_rule};
