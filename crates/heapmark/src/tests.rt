@@ -1,6 +1,8 @@
 //! What no contract says: the worked rows, damaged dumps, streams and memory that fail, and what the program prints.
+//!
+//! A damaged dump is a row of `rows/refused.rt`, with its code and place; `cuts.rt` has the cuts at each length alone.
 
-mod damage;
+mod cuts;
 mod dumps;
 mod marking;
 mod memory;
