@@ -1,3 +1,4 @@
 pub mod Answer
+pub mod Headline
 pub mod Refusals
 pub mod working

@@ -7,7 +7,8 @@ ghost use Rattle.histogram.specs.Report.{IsReport, report_of};
 ghost use Rattle.histogram.specs.Counting.{failures_of, inner_of, is_flushed};
 ghost use Rattle.histogram.specs.Lines.{histogram_of};
 ghost use Rattle.heapmark.specs.Answer.{IsAcceptedText, IsKnown, IsRefusalOf, TellsFirstFault, bytes_read};
-ghost use Rattle.heapmark.specs.Answer.{WritesBeginning, WritesReport, WritesSomeBeginning, WritesSomeReport};
+ghost use Rattle.heapmark.specs.Answer.{WritesBeginning, WritesSomeBeginning, WritesSomeReport};
+ghost use Rattle.heapmark.specs.Headline.{Headline};
 ghost use Rattle.heapmark.specs.Refusals.{HasCode, IsOfMarking, out_of_memory};
 
 use crate::refusal::Refusal;
@@ -27,6 +28,11 @@ const MOST_BYTES: usize = 1_073_741_825;
 ///
 /// Reads until a read answers 0, or one byte more than a dump may have is there. No read or write that fails is tried
 /// again, and nothing is written but the report.
+///
+/// At `Ok` the clause `headline` holds of a reader whose bytes a contract can name, as a slice. Of any other, as a file,
+/// no more is said than that the report of some text was written and flushed. At an error of 1 to 14 these bytes have
+/// that first fault. Bytes that are no accepted dump are refused so, or by 15 or 19 where memory or the reader failed
+/// first; and 15 to 20 may also refuse an accepted dump. A run knows no exit status: that is the program's.
 pub fn run<T, A, R, W, G>(
     rt: &T,
     alloc: A,
@@ -45,8 +51,8 @@ where
     requires writes { failures_of writer.old < 2 ^ 64 - 1 }
 
     // The bytes read are an accepted dump, and their report was written behind what the writer had.
-    ensures reported { OnOk result (IfSome (R.remaining (inner_of reader.old)) (λ given.
-        WritesReport (bytes_read given) (W.contents (inner_of writer.old)) (W.contents (inner_of writer.new)))) }
+    ensures headline { Headline result (R.remaining (inner_of reader.old))
+        (W.contents (inner_of writer.old)) (W.contents (inner_of writer.new)) }
 
     // Of any reader, also one whose bytes no contract can name, as a file: what was written is the report of a text.
     ensures report_of_a_text { OnOk result
