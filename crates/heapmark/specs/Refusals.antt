@@ -5,6 +5,10 @@ use Rattle.drain.specs.declared.marked.RunFault.{RunFault}
 use Rattle.drain.specs.declared.marked.RunFault.TheVariants as marking
 use Rattle.heap_graph.specs.declared.rule.LinkRefusal.{LinkRefusal}
 use Rattle.heap_graph.specs.declared.rule.LinkRefusal.TheVariants as link
+use Rattle.histogram.specs.declared.counted.reads.ReaderRefusal.{ReaderRefusal}
+use Rattle.histogram.specs.declared.counted.reads.ReaderRefusal.TheVariants as reading
+use Rattle.histogram.specs.declared.writing.WriteRefusal.{WriteRefusal}
+use Rattle.histogram.specs.declared.writing.WriteRefusal.TheVariants as writing
 use Rattle.hprof_grammar.specs.declared.flaw.ReadRefusal.{ReadRefusal}
 use Rattle.hprof_grammar.specs.declared.flaw.ReadRefusal.TheVariants as form
 use Rattle.heapmark.specs.declared.refusal.Refusal.{Refusal}
@@ -45,6 +49,17 @@ IsOfMarking refusal = (refusal ≡ tag_spent) ⊎ (refusal ≡ no_buffer) ⊎ (r
 
 abbrev pub read_fault : Refusal
 read_fault = record { code = 19; offset = None }
+
+abbrev pub reader_refusal : ReaderRefusal → Refusal
+reader_refusal reading.ReadFault = read_fault
+reader_refusal reading.OutOfMemory = out_of_memory
+
+abbrev pub write_fault : Refusal
+write_fault = record { code = 20; offset = None }
+
+abbrev pub write_refusal : WriteRefusal → Refusal
+write_refusal writing.WriteFault = write_fault
+write_refusal writing.OutOfMemory = out_of_memory
 
 abbrev pub bad_options_refusal : Refusal
 bad_options_refusal = record { code = 21; offset = None }

@@ -14,7 +14,7 @@ ghost use Rattle.heapmark.specs.Refusals.{HasCode, IsOfMarking, out_of_memory};
 use crate::refusal::Refusal;
 use drain::{Gate, Options, mark};
 use heap_graph::Graph;
-use histogram::{Counted, ReaderRefusal, Report, WriteRefusal, rows, write_report};
+use histogram::{Counted, Report, rows, write_report};
 use hprof_grammar::read;
 use std::alloc::Allocator;
 use std::io::{Read, Write};
@@ -84,8 +84,7 @@ where
 {
     let bytes = match reader.read_to_limit(&alloc, MOST_BYTES) {
         Ok(bytes) => bytes,
-        Err(ReaderRefusal::ReadFault) => return Err(Refusal::READ_FAULT),
-        Err(ReaderRefusal::OutOfMemory) => return Err(Refusal::OUT_OF_MEMORY),
+        Err(refusal) => return Err(Refusal::from(refusal)),
     };
     let report = match answer(rt, &alloc, bytes.as_slice(), options, gate) {
         Ok(report) => report,
@@ -93,8 +92,7 @@ where
     };
     match write_report(&alloc, &report, writer) {
         Ok(()) => Ok(()),
-        Err(WriteRefusal::WriteFault) => Err(Refusal::WRITE_FAULT),
-        Err(WriteRefusal::OutOfMemory) => Err(Refusal::OUT_OF_MEMORY),
+        Err(refusal) => Err(Refusal::from(refusal)),
     }
 }
 

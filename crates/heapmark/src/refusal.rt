@@ -2,6 +2,7 @@
 
 use drain::RunFault;
 use heap_graph::LinkRefusal;
+use histogram::{ReaderRefusal, WriteRefusal};
 use hprof_grammar::ReadRefusal;
 use std::alloc::AllocError;
 use std::fmt;
@@ -107,6 +108,20 @@ impl fmt::Display for Refusal {
     }
 }
 
+impl From<ReaderRefusal> for Refusal {
+    ghost use Rattle.std.specs.Prelude.{◌≡◌};
+    ghost use Rattle.heapmark.specs.Refusals.{reader_refusal};
+
+    ghost from_gives = { λ refusal r. r ≡ reader_refusal refusal };
+
+    fn from(refusal: ReaderRefusal) -> Refusal {
+        match refusal {
+            ReaderRefusal::ReadFault => Refusal::READ_FAULT,
+            ReaderRefusal::OutOfMemory => Refusal::OUT_OF_MEMORY,
+        }
+    }
+}
+
 impl From<ReadRefusal> for Refusal {
     ghost use Rattle.std.specs.Prelude.{◌≡◌};
     ghost use Rattle.heapmark.specs.Refusals.{form_refusal};
@@ -153,6 +168,20 @@ impl From<RunFault> for Refusal {
             RunFault::TagSpent => Refusal::TAG_SPENT,
             RunFault::NoBuffer => Refusal::NO_BUFFER,
             RunFault::WorkerRefused => Refusal::WORKER_REFUSED,
+        }
+    }
+}
+
+impl From<WriteRefusal> for Refusal {
+    ghost use Rattle.std.specs.Prelude.{◌≡◌};
+    ghost use Rattle.heapmark.specs.Refusals.{write_refusal};
+
+    ghost from_gives = { λ refusal r. r ≡ write_refusal refusal };
+
+    fn from(refusal: WriteRefusal) -> Refusal {
+        match refusal {
+            WriteRefusal::WriteFault => Refusal::WRITE_FAULT,
+            WriteRefusal::OutOfMemory => Refusal::OUT_OF_MEMORY,
         }
     }
 }
