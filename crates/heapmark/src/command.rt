@@ -11,22 +11,31 @@ ghost use Rattle.histogram.specs.Counting.{failures_of, inner_of, is_flushed};
 
 use crate::pipeline::run;
 use crate::refusal::Refusal;
+use crate::status;
 use crate::trouble::Trouble;
 use clap::error::ErrorKind;
 use command_line::{Arguments, Error, arguments};
 use drain::{BadOptions, NoGate, Options};
 use histogram::Counted;
 use std::alloc::Global;
-use std::fs;
 use std::fs::OpenFile;
 use std::io::Write;
 use std::rt::Files;
 use std::sync::Wait;
 use std::thread::Threads;
+use std::{fs, io};
+
+/// What is told of a word that is no text.
+const NOT_TEXT: &str = "\
+error: a word of the command line is not UTF-8 text
+
+For more information, try '--help'.
+";
 
 /// Does all that the program does, for its words with its own name first, and answers its exit status: 0 where the
 /// report of the file, or the help that was asked for, is on `out`; 1 at a refusal; 2 where the words are wrong.
-/// Refusals and faults of the words go to `err`. A fault of `err`, or of `out` at the help, changes nothing.
+/// A refusal, in one line, or the faults of the words go to `err`. A fault of `err`, or of `out` at the help, changes
+/// nothing.
 pub fn program<T: Files + AllocGlobal + Threads + Wait + Sync, W: Write, E: Write>(
     rt: &T,
     words: &[&str],
@@ -63,13 +72,40 @@ pub fn program<T: Files + AllocGlobal + Threads + Wait + Sync, W: Write, E: Writ
         → failures_of out.new ≡ failures_of out.old }
     ensures failures { failures_of out.new ≤ failures_of out.old + 1 }
 {
-    let arguments = match arguments(rt.alloc(), words) {
-        Ok(arguments) => arguments,
-        Err(error) => return answer_words(rt.alloc(), &error, out, err),
-    };
-    match report_file(rt, &arguments, out) {
-        Ok(()) => 0,
-        Err(trouble) => tell(err, arguments.file, &trouble),
+    match arguments(rt.alloc(), words) {
+        Ok(arguments) => {
+            let outcome = report_file(rt, &arguments, out);
+            tell(err, &outcome)
+        }
+        Err(error) => answer_words(rt.alloc(), &error, out, err),
+    }
+}
+
+/// The program where people read `err`: behind the refusal a second line tells why the file could not be opened.
+pub fn program_at_terminal<T: Files + AllocGlobal + Threads + Wait + Sync, W: Write, E: Write>(
+    rt: &T,
+    words: &[&str],
+    out: &mut Counted<W>,
+    err: &mut E,
+) -> u8
+    requires { failures_of out.old < 2 ^ 64 - 1 }
+    ensures status { result ≤ 2 }
+    ensures silent { result ≡ 0 → Keeps (E.contents err.old) (E.contents err.new) }
+    ensures untouched { result ≡ 2 → Keeps (W.contents (inner_of out.old)) (W.contents (inner_of out.new)) }
+    ensures unwritten { result ≡ 1 → failures_of out.new ≡ failures_of out.old
+        → Keeps (W.contents (inner_of out.old)) (W.contents (inner_of out.new)) }
+    ensures beginning { result ≡ 1 → failures_of out.new ≡ failures_of out.old + 1
+        → WritesSomeBeginning (W.contents (inner_of out.old)) (W.contents (inner_of out.new)) }
+    ensures failures { failures_of out.new ≤ failures_of out.old + 1 }
+{
+    match arguments(rt.alloc(), words) {
+        Ok(arguments) => {
+            let outcome = report_file(rt, &arguments, out);
+            let status = tell(err, &outcome);
+            explain(err, arguments.file, &outcome);
+            status
+        }
+        Err(error) => answer_words(rt.alloc(), &error, out, err),
     }
 }
 
@@ -98,26 +134,42 @@ fn answer_words<W: Write, E: Write>(
                 return refused(err, &Refusal::OUT_OF_MEMORY);
             };
             let _ = out.write_whole(help.as_bytes());
-            0
+            status::DONE
         }
         _ => {
             let _ = write!(err, "{error}");
-            2
+            status::WRONG_WORDS
         }
     }
 }
 
-/// Prints why there is no report of a file, and answers the exit status.
-fn tell<E: Write>(err: &mut E, file: &str, trouble: &Trouble) -> u8
-    ensures { result ≡ 1 }
+/// Answers a command line with a word that is no text, so that none of its words can be told.
+pub fn refuse_bytes<E: Write>(err: &mut E) -> u8
+    ensures { result ≡ 2 }
 {
-    match trouble {
-        Trouble::Refused(refusal) => refused(err, refusal),
-        Trouble::NotOpened(reason) => {
-            let status = refused(err, &Refusal::READ_FAULT);
-            let _ = writeln!(err, "heapmark: {file}: {reason}");
-            status
-        }
+    let _ = err.write_all(NOT_TEXT.as_bytes());
+    status::WRONG_WORDS
+}
+
+/// Answers the exit status of a run on a file, and prints its refusal in one line.
+fn tell<E: Write>(err: &mut E, outcome: &Result<(), Trouble>) -> u8
+    ensures told { OnErr outcome.now (result ≡ 1) }
+    ensures reported { OnOk outcome.now (result ≡ 0) }
+    ensures silent { OnOk outcome.now (Keeps (E.contents err.old) (E.contents err.new)) }
+{
+    match outcome {
+        Ok(()) => status::DONE,
+        Err(Trouble::Refused(refusal)) => refused(err, refusal),
+        Err(Trouble::NotOpened(_)) => refused(err, &Refusal::READ_FAULT),
+    }
+}
+
+/// Prints why a file could not be opened.
+fn explain<E: Write>(err: &mut E, file: &str, outcome: &Result<(), Trouble>)
+    ensures { OnOk outcome.now (Keeps (E.contents err.old) (E.contents err.new)) }
+{
+    if let Err(Trouble::NotOpened(reason)) = outcome {
+        let _ = writeln!(err, "heapmark: {file}: {reason}");
     }
 }
 
@@ -126,7 +178,7 @@ pub fn refused<E: Write>(err: &mut E, refusal: &Refusal) -> u8
     ensures { result ≡ 1 }
 {
     let _ = writeln!(err, "heapmark: {refusal}");
-    1
+    status::REFUSED
 }
 
 /// How the words want the heap to be marked.
@@ -167,11 +219,8 @@ fn report_file<T: Files + AllocGlobal + Threads + Wait + Sync, W: Write>(
     let Ok(options) = options_of(arguments) else {
         return Err(Trouble::Refused(Refusal::BAD_OPTIONS));
     };
-    let mut reader = match fs::open(rt, arguments.file) {
-        Ok(dump) => {
-            let size = expected_size(&dump);
-            Counted::of_size(dump, size)
-        }
+    let mut reader = match open(rt, arguments.file) {
+        Ok(reader) => reader,
         Err(reason) => return Err(Trouble::NotOpened(reason)),
     };
     match run(rt, rt.alloc(), &mut reader, out, &options, &NoGate) {
@@ -180,13 +229,22 @@ fn report_file<T: Files + AllocGlobal + Threads + Wait + Sync, W: Write>(
     }
 }
 
-/// How many bytes room is wanted for: one more than the file has, so that the last read finds the end. The system may
-/// not know, and a file may change.
-fn expected_size<F: OpenFile>(file: &F) -> usize {
-    match file.metadata() {
-        Ok(metadata) => usize::try_from(metadata.len())
-            .unwrap_or(0)
-            .saturating_add(1),
-        Err(_) => 0,
+/// Opens a file to read all of it. The system also opens a directory, but reads none: so that is told here.
+fn open<T: Files>(rt: &T, name: &str) -> io::Result<Counted<T::File>>
+    ensures { IfOk result (λ reader. failures_of reader ≡ 0) }
+{
+    let file = fs::open(rt, name)?;
+    let Ok(metadata) = file.metadata() else {
+        return Ok(Counted::new(file));
+    };
+    if metadata.is_dir() {
+        return Err(io::Error::from(io::ErrorKind::IsADirectory));
     }
+    Ok(Counted::of_size(file, expected_size(metadata.len())))
+}
+
+/// How many bytes room is wanted for, for a file of this size: one more, so that the last read finds the end. The file
+/// may change.
+fn expected_size(size: u64) -> usize {
+    usize::try_from(size).unwrap_or(0).saturating_add(1)
 }

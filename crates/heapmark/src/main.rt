@@ -10,6 +10,7 @@ mod command;
 mod laws;
 mod pipeline;
 mod refusal;
+mod status;
 mod trouble;
 
 pub use command::program;
@@ -23,14 +24,14 @@ pub use refusal::Refusal;
 #[cfg(test)]
 mod tests;
 
-use command::refused;
+use command::{program_at_terminal, refuse_bytes, refused};
 use std::alloc::AllocError;
-use std::env;
-use std::io::{ErrorKind, Write};
+use std::io::{ErrorKind, IsTerminal, Write};
 use std::process::ExitCode;
 use std::rt::{Env, Files};
 use std::sync::Wait;
 use std::thread::Threads;
+use std::{env, io};
 
 fn main(rt: HostRuntime) -> ExitCode {
     ExitCode::from(start(&rt, &mut Counted::new(rt.stdout()), &mut rt.stderr()))
@@ -42,7 +43,7 @@ fn start<T, W, E>(rt: &T, out: &mut Counted<W>, err: &mut E) -> u8
 where
     T: Env + Files + AllocGlobal + Threads + Wait + Sync,
     W: Write,
-    E: Write,
+    E: Write + IsTerminal,
     requires { failures_of out.old < 2 ^ 64 - 1 }
     ensures status { result ≤ 2 }
 
@@ -57,24 +58,23 @@ where
         → WritesSomeBeginning (W.contents (inner_of out.old)) (W.contents (inner_of out.new)) }
     ensures failures { failures_of out.new ≤ failures_of out.old + 1 }
 {
-    let Ok(args) = args_of(rt) else {
-        return refused(err, &Refusal::OUT_OF_MEMORY);
+    let args = match args_of(rt) {
+        Ok(args) => args,
+        Err(fault) if fault.kind() == ErrorKind::InvalidData => return refuse_bytes(err),
+        Err(_) => return refused(err, &Refusal::OUT_OF_MEMORY),
     };
     let words: Result<Vec<&str>, AllocError> = args
         .iter()
         .map(|arg| arg.as_str())
         .collect(rt.alloc());
     match words {
+        Ok(words) if err.is_terminal() => program_at_terminal(rt, words.as_slice(), out, err),
         Ok(words) => program(rt, words.as_slice(), out, err),
         Err(_) => refused(err, &Refusal::OUT_OF_MEMORY),
     }
 }
 
-/// The words of the command line. Words that are not text are answered as none are.
-fn args_of<T: Env + AllocGlobal>(rt: &T) -> Result<Vec<String>, AllocError> {
-    match env::args(rt) {
-        Ok(args) => args.collect(rt.alloc()),
-        Err(fault) if fault.kind() == ErrorKind::OutOfMemory => Err(AllocError),
-        Err(_) => Ok(Vec::new(rt.alloc())),
-    }
+/// The words of the command line, as text: `InvalidData` where one is not, and else a fault is want of memory.
+fn args_of<T: Env + AllocGlobal>(rt: &T) -> io::Result<Vec<String>> {
+    Ok(env::args(rt)?.collect(rt.alloc())?)
 }

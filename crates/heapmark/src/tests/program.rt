@@ -6,6 +6,7 @@ use super::dumps::{
     Bytes, NOTHING, NOTHING_REPORT, Record, TWO_OBJECTS, TWO_OBJECTS_REPORT, WIDE_ARRAY_REPORT,
     wide_array,
 };
+use crate::command::program_at_terminal;
 use crate::{Counted, Refusal, program};
 use std::io::{ErrorKind, Write};
 use std::path::PathBuf;
@@ -90,14 +91,33 @@ fn a_file_is_reported_or_refused(rt: HostRuntime) -> Result<(), Fail> {
     );
     fs::remove_file(&rt, path.as_path())?;
 
-    let (status, out, err) = printed(&rt, &["heapmark", "/nowhere/heapmark.hprof"]);
-    assert_eq!(rt; status, 1);
-    assert!(rt; out.is_empty());
-    let want = "heapmark: refused 19 ReadFault
-heapmark: /nowhere/heapmark.hprof: No such file or directory (os error 2)
-";
-    assert_eq!(rt; err.as_slice(), want.as_bytes());
+    is_not_opened(
+        &rt,
+        "/nowhere/heapmark.hprof",
+        "heapmark: /nowhere/heapmark.hprof: No such file or directory (os error 2)\n",
+    );
+    is_not_opened(&rt, "/", "heapmark: /: is a directory\n");
     Ok(())
+}
+
+/// Such a file is refused in one line, and a second one tells people why.
+fn is_not_opened<T: Abort + Files + AllocGlobal + Threads + Wait + Sync>(
+    rt: &T,
+    file: &str,
+    reason: &str,
+) {
+    let refusal = "heapmark: refused 19 ReadFault\n".as_bytes();
+    let (status, out, err) = printed(rt, &["heapmark", file]);
+    assert_eq!(rt; (status, out.is_empty()), (1, true));
+    assert_eq!(rt; err.as_slice(), refusal);
+
+    let mut out = Counted::new(Vec::new(rt.alloc()));
+    let mut err = Vec::new(rt.alloc());
+    let status = program_at_terminal(rt, &["heapmark", file], &mut out, &mut err);
+    assert_eq!(rt; (status, out.into_inner().is_empty()), (1, true));
+    assert!(rt; err.as_slice().starts_with(refusal));
+    assert!(rt; err.as_slice().ends_with(reason.as_bytes()));
+    assert_eq!(rt; err.len(), refusal.len() + reason.len());
 }
 
 /// For these words the program answers this status: with the report of nothing at 0, and else with a text that begins
