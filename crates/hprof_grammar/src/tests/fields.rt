@@ -1,13 +1,35 @@
 //! Each field of a dump that has one part of every kind, read at its place.
 
 ghost use Rattle.std.specs.Prelude.{List, ℕ};
+ghost use Rattle.hprof_grammar.specs.RootFields.{RootSays, frame_of, reference_of, thread_of, trace_of};
 ghost use Rattle.hprof_grammar.specs.SubRecord.{Class, Instance, ObjectArray, PrimitiveArray, Root};
-ghost use Rattle.hprof_grammar.specs.SubRecord.SubRecord.{class_dump, instance_dump, object_array_dump, primitive_array_dump, root};
+ghost use Rattle.hprof_grammar.specs.SubRecord.SubRecord.{class_dump, instance_dump, root};
+ghost use Rattle.hprof_grammar.specs.SubRecord.SubRecord.{object_array_dump, primitive_array_dump};
 ghost use Rattle.hprof_grammar.specs.Standing.{HeaderStands, LoadStands, Stands, StringStands};
 
 use super::dumps::{WITH_EIGHT, WITH_FOUR};
-use crate::{ObjectKind, RootKind, Values, View, read};
+use crate::{Ids, ObjectKind, RootKind, TypedValue, Values, View, read};
+use std::process::Abort;
 use std::test::Fail;
+
+/// The numbers of a header, of a string's record and of a loaded class, in the order of the manual.
+fn record_numbers(view: &View<'_>, string: u32, loaded: u32) -> [u64; 8]
+    requires header { (time : ℕ) × HeaderStands view.now time }
+    requires string { (time id : ℕ) × (text : List ℕ) × StringStands view.now string time id text }
+    requires loaded { (time serial class stack name : ℕ)
+        × LoadStands view.now loaded time serial class stack name }
+{
+    [
+        view.header_time(),
+        u64::from(view.record_time(string)),
+        u64::from(view.record_length(string)),
+        view.string_id(string),
+        u64::from(view.loaded_class_serial(loaded)),
+        view.loaded_class_id(loaded),
+        u64::from(view.loaded_class_stack_trace(loaded)),
+        view.loaded_class_name(loaded),
+    ]
+}
 
 /// The numbers of a class dump, in the order of the manual.
 fn class_numbers(view: &View<'_>, at: u32) -> [u64; 9]
@@ -26,18 +48,39 @@ fn class_numbers(view: &View<'_>, at: u32) -> [u64; 9]
     ]
 }
 
-/// The labels, types and last bytes of two values.
+/// The label, the type and the last byte of a value.
+fn labelled(value: TypedValue<'_>) -> Option<(u64, u8, u8)> {
+    let last = value.value.last()?;
+    Some((value.label, value.type_code, *last))
+}
+
+/// Two values, where there are so many.
 fn two_values(values: Values<'_>) -> Option<[(u64, u8, u8); 2]> {
     let mut values = values;
-    let first = values.next()?;
-    let second = values.next()?;
-    if !values.is_empty() {
+    if values.len() != 2 {
         return None;
     }
-    Some([
-        (first.label, first.type_code, *first.value.last()?),
-        (second.label, second.type_code, *second.value.last()?),
-    ])
+    let first = labelled(values.next()?)?;
+    let second = labelled(values.next()?)?;
+    values.is_empty().then_some([first, second])
+}
+
+/// Two identifiers, where there are so many.
+fn two_ids(ids: Ids<'_>) -> Option<[u64; 2]> {
+    let mut ids = ids;
+    if ids.len() != 2 {
+        return None;
+    }
+    Some([ids.next()?, ids.next()?])
+}
+
+/// The identifiers of a class dump that are followed.
+fn followed_ids(view: &View<'_>, at: u32) -> Option<[u64; 4]>
+    requires { (c : Class) × Stands view.now at (class_dump c) }
+{
+    let mut ids = view.leading_ids(at);
+    let followed = [ids.next()?, ids.next()?, ids.next()?, ids.next()?];
+    ids.is_empty().then_some(followed)
 }
 
 /// The names and types of a class's two instance fields.
@@ -47,226 +90,298 @@ fn two_members(view: &View<'_>, at: u32) -> Option<[(u64, u8); 2]>
     let mut members = view.members(at);
     let first = members.next()?;
     let second = members.next()?;
-    if !members.is_empty() {
-        return None;
-    }
-    Some([
+    members.is_empty().then_some([
         (first.name, first.type_code),
         (second.name, second.type_code),
     ])
 }
 
-/// The identifiers of a class dump that are followed.
-fn followed_ids(view: &View<'_>, at: u32) -> Option<[u64; 4]>
-    requires { (c : Class) × Stands view.now at (class_dump c) }
+/// The class of an instance, and the bytes of its fields.
+fn instance_fields<'a>(view: &View<'a>, at: u32) -> (ObjectKind, u64, &'a [u8])
+    requires { (i : Instance) × Stands view.now at (instance_dump i) }
 {
-    let mut ids = view.leading_ids(at);
-    let followed = [ids.next()?, ids.next()?, ids.next()?, ids.next()?];
-    if !ids.is_empty() {
+    (
+        view.kind(at),
+        view.instance_class(at),
+        view.instance_values(at),
+    )
+}
+
+/// The class of an object array, and its two elements.
+fn object_array_fields(view: &View<'_>, at: u32) -> (ObjectKind, u64, Option<[u64; 2]>)
+    requires { (a : ObjectArray) × Stands view.now at (object_array_dump a) }
+{
+    (
+        view.kind(at),
+        view.array_class(at),
+        two_ids(view.array_elements(at)),
+    )
+}
+
+/// The identifiers at the first two places of an instance's values, where there are so many bytes.
+fn first_identifiers(view: &View<'_>, at: u32) -> Option<[u64; 2]>
+    requires { (i : Instance) × Stands view.now at (instance_dump i) }
+{
+    let values = view.instance_values(at);
+    if values.len() <= view.id_size() as usize {
         return None;
     }
-    Some(followed)
+    Some([view.identifier_at(values, 0), view.identifier_at(values, 1)])
 }
 
+/// The type of a primitive array, how many elements it has, and their bytes.
+fn primitive_array_fields<'a>(view: &View<'a>, at: u32) -> (ObjectKind, u8, u32, &'a [u8])
+    requires { (a : PrimitiveArray) × Stands view.now at (primitive_array_dump a) }
+{
+    (
+        view.kind(at),
+        view.element_type(at),
+        view.element_count(at),
+        view.packed_elements(at),
+    )
+}
+
+/// What each root says.
+fn plain_root(view: &View<'_>, at: u32) -> (RootKind, u64)
+    requires { (r : Root) × Stands view.now at (root r) }
+{
+    (view.root_kind(at), view.object_id(at))
+}
+
+/// What a root with a reference says.
+fn reference_root(view: &View<'_>, at: u32) -> (RootKind, u64, u64)
+    requires { (n : ℕ) × RootSays view.now at reference_of n }
+{
+    (
+        view.root_kind(at),
+        view.object_id(at),
+        view.root_reference(at),
+    )
+}
+
+/// What a root with a thread says.
+fn thread_root(view: &View<'_>, at: u32) -> (RootKind, u64, u32)
+    requires { (n : ℕ) × RootSays view.now at thread_of n }
+{
+    (view.root_kind(at), view.object_id(at), view.root_thread(at))
+}
+
+/// What a root with a thread and a frame says.
+fn frame_root(view: &View<'_>, at: u32) -> (RootKind, u64, u32, u32)
+    requires thread { (n : ℕ) × RootSays view.now at thread_of n }
+    requires frame { (n : ℕ) × RootSays view.now at frame_of n }
+{
+    (
+        view.root_kind(at),
+        view.object_id(at),
+        view.root_thread(at),
+        view.root_frame(at),
+    )
+}
+
+/// What a root with a thread and a stack trace says.
+fn trace_root(view: &View<'_>, at: u32) -> (RootKind, u64, u32, u32)
+    requires thread { (n : ℕ) × RootSays view.now at thread_of n }
+    requires trace { (n : ℕ) × RootSays view.now at trace_of n }
+{
+    (
+        view.root_kind(at),
+        view.object_id(at),
+        view.root_thread(at),
+        view.root_stack_trace(at),
+    )
+}
+
+/// The places of a dump's parts: strings, loaded classes, objects, roots.
+type Places<'a> = [&'a [u32]; 4];
+
 #[test]
-fn places_with_ids_of_four(rt: HostRuntime) -> Result<(), Fail> {
-    let dump = read(rt.alloc(), &WITH_FOUR)?;
-    assert_eq!(rt; dump.id_size(), 4);
-    assert_eq!(rt; dump.strings(), [31].as_slice());
-    assert_eq!(rt; dump.loaded(), [45].as_slice());
-    assert_eq!(rt; dump.objects(), [79, 162, 184, 209].as_slice());
+fn places(rt: HostRuntime) -> Result<(), Fail> {
+    let dumps: [(&[u8], u8, Places<'_>); 2] = [
+        (
+            &WITH_FOUR,
+            4,
+            [
+                &[31],
+                &[45],
+                &[79, 162, 184, 209],
+                &[229, 234, 243, 256, 269, 278, 283, 292, 297],
+            ],
+        ),
+        (
+            &WITH_EIGHT,
+            8,
+            [
+                &[31],
+                &[49],
+                &[91, 226, 260, 301],
+                &[325, 334, 351, 368, 385, 398, 407, 420, 429],
+            ],
+        ),
+    ];
+    for (bytes, id_size, places) in dumps {
+        let dump = read(rt.alloc(), bytes)?;
+        assert_eq!(rt; dump.id_size(), id_size);
+        let found = [dump.strings(), dump.loaded(), dump.objects(), dump.roots()];
+        assert_eq!(rt; found, places, "identifiers of {id_size} bytes");
+    }
+    Ok(())
+}
+
+/// The records are these, with a string whose record has so many bytes.
+fn has_records<R: Abort>(rt: &R, view: &View<'_>, string: u32, loaded: u32, length: u64)
+    requires header { (time : ℕ) × HeaderStands view.now time }
+    requires string { (time id : ℕ) × (text : List ℕ) × StringStands view.now string time id text }
+    requires loaded { (time serial class stack name : ℕ)
+        × LoadStands view.now loaded time serial class stack name }
+{
     assert_eq!(rt;
-        dump.roots(),
-        [229, 234, 243, 256, 269, 278, 283, 292, 297].as_slice()
+        record_numbers(view, string, loaded),
+        [4_294_967_298, 21, length, 1, 7, 0x100, 8, 1]
     );
-    Ok(())
+    assert_eq!(rt; view.string_text(string), b"A".as_slice());
 }
 
 #[test]
-fn records_with_ids_of_four(rt: HostRuntime) -> Result<(), Fail> {
-    let view = View::new(&WITH_FOUR, 4);
-    assert_eq!(rt; view.header_time(), 4_294_967_298);
-    assert_eq!(rt; view.record_time(31), 21);
-    assert_eq!(rt; view.record_length(31), 5);
-    assert_eq!(rt; view.string_id(31), 1);
-    assert_eq!(rt; view.string_text(31), b"A".as_slice());
-    assert_eq!(rt; view.loaded_class_serial(45), 7);
-    assert_eq!(rt; view.loaded_class_id(45), 0x100);
-    assert_eq!(rt; view.loaded_class_stack_trace(45), 8);
-    assert_eq!(rt; view.loaded_class_name(45), 1);
-    Ok(())
+fn records(rt: HostRuntime) {
+    has_records(&rt, &View::new(&WITH_FOUR, 4), 31, 45, 5);
+    has_records(&rt, &View::new(&WITH_EIGHT, 8), 31, 49, 9);
 }
 
-#[test]
-fn objects_with_ids_of_four(rt: HostRuntime) -> Result<(), Fail> {
-    let view = View::new(&WITH_FOUR, 4);
-    assert_eq!(rt; view.kind(79), ObjectKind::Class);
+/// The class is this one.
+fn has_class<R: Abort>(rt: &R, view: &View<'_>, at: u32)
+    requires { (c : Class) × Stands view.now at (class_dump c) }
+{
+    assert_eq!(rt; view.kind(at), ObjectKind::Class);
     assert_eq!(rt;
-        class_numbers(&view, 79),
+        class_numbers(view, at),
         [0x100, 9, 0x200, 0x201, 0x202, 0x203, 0x204, 0x205, 12]
     );
-    let constants = view.constants(79);
-    assert_eq!(rt; constants.len(), 2);
-    assert_eq!(rt; two_values(constants), Some([(1, 5, 0x41), (2, 2, 0x06)]));
+    assert_eq!(rt; followed_ids(view, at), Some([0x200, 0x201, 0x202, 0x203]));
+    let values = [view.constants(at), view.statics(at)].map(two_values);
     assert_eq!(rt;
-        two_values(view.statics(79)),
-        Some([(3, 10, 7), (4, 2, 0x07)])
+        values,
+        [
+            Some([(1, 5, 0x41), (2, 2, 0x06)]),
+            Some([(3, 10, 7), (4, 2, 0x07)])
+        ]
     );
-    assert_eq!(rt; two_members(&view, 79), Some([(5, 2), (6, 4)]));
-    assert_eq!(rt; view.kind(162), ObjectKind::Instance);
-    assert_eq!(rt; view.instance_class(162), 0x100);
-    assert_eq!(rt; view.instance_values(162), [0, 0, 3, 2, 1].as_slice());
-    assert_eq!(rt; view.kind(184), ObjectKind::ObjectArray);
-    assert_eq!(rt; view.array_class(184), 0x101);
-    let mut elements = view.array_elements(184);
-    assert_eq!(rt; elements.len(), 2);
-    assert_eq!(rt; elements.next(), Some(0x301));
-    assert_eq!(rt; elements.next(), Some(0));
-    assert_eq!(rt; view.kind(209), ObjectKind::PrimitiveArray);
-    assert_eq!(rt; view.element_type(209), 9);
-    assert_eq!(rt; view.element_count(209), 3);
-    assert_eq!(rt; view.packed_elements(209), [0, 1, 0, 2, 0, 3].as_slice());
-    Ok(())
+    assert_eq!(rt; two_members(view, at), Some([(5, 2), (6, 4)]));
+}
+
+/// The instance, with these values, and the arrays are these.
+fn has_objects<R: Abort>(
+    rt: &R,
+    view: &View<'_>,
+    instance: u32,
+    objects: u32,
+    shorts: u32,
+    values: &[u8],
+)
+    requires instance { (i : Instance) × Stands view.now instance (instance_dump i) }
+    requires objects { (a : ObjectArray) × Stands view.now objects (object_array_dump a) }
+    requires shorts { (a : PrimitiveArray) × Stands view.now shorts (primitive_array_dump a) }
+{
+    assert_eq!(rt;
+        instance_fields(view, instance),
+        (ObjectKind::Instance, 0x100, values)
+    );
+    assert_eq!(rt; first_identifiers(view, instance), Some([0x302, 0x30201]));
+    assert_eq!(rt;
+        object_array_fields(view, objects),
+        (ObjectKind::ObjectArray, 0x101, Some([0x301, 0]))
+    );
+    assert_eq!(rt;
+        primitive_array_fields(view, shorts),
+        (
+            ObjectKind::PrimitiveArray,
+            9,
+            3,
+            [0, 1, 0, 2, 0, 3].as_slice()
+        )
+    );
 }
 
 #[test]
-fn roots_with_ids_of_four(rt: HostRuntime) -> Result<(), Fail> {
+fn objects(rt: HostRuntime) {
+    let with_four = View::new(&WITH_FOUR, 4);
+    has_class(&rt, &with_four, 79);
+    has_objects(&rt, &with_four, 162, 184, 209, &[0, 0, 3, 2, 1]);
+    let with_eight = View::new(&WITH_EIGHT, 8);
+    has_class(&rt, &with_eight, 91);
+    has_objects(
+        &rt,
+        &with_eight,
+        226,
+        260,
+        301,
+        &[0, 0, 0, 0, 0, 0, 3, 2, 1],
+    );
+}
+
+/// What the roots say: those without a number, the one with a reference, those with a thread, and those with a thread
+/// and one number more.
+type Roots = (
+    [(RootKind, u64); 3],
+    (RootKind, u64, u64),
+    [(RootKind, u64, u32); 2],
+    [(RootKind, u64, u32, u32); 3],
+);
+
+const ROOTS: Roots = (
+    [
+        (RootKind::Unknown, 0x100),
+        (RootKind::StickyClass, 0x301),
+        (RootKind::MonitorUsed, 0x301),
+    ],
+    (RootKind::JniGlobal, 0x301, 0x401),
+    [
+        (RootKind::NativeStack, 0x301, 17),
+        (RootKind::ThreadBlock, 0x301, 18),
+    ],
+    [
+        (RootKind::JniLocal, 0x301, 13, 14),
+        (RootKind::JavaFrame, 0x301, 15, 16),
+        (RootKind::ThreadObject, 0x301, 19, 20),
+    ],
+);
+
+#[test]
+fn roots_with_ids_of_four(rt: HostRuntime) {
     let view = View::new(&WITH_FOUR, 4);
-    assert_eq!(rt; view.root_kind(229), RootKind::Unknown);
-    assert_eq!(rt; view.object_id(229), 0x100);
-    assert_eq!(rt; view.root_kind(234), RootKind::JniGlobal);
-    assert_eq!(rt; view.root_reference(234), 0x401);
-    assert_eq!(rt; view.root_kind(243), RootKind::JniLocal);
-    assert_eq!(rt; view.root_thread(243), 13);
-    assert_eq!(rt; view.root_frame(243), 14);
-    assert_eq!(rt; view.root_kind(256), RootKind::JavaFrame);
-    assert_eq!(rt; view.root_thread(256), 15);
-    assert_eq!(rt; view.root_frame(256), 16);
-    assert_eq!(rt; view.root_kind(269), RootKind::NativeStack);
-    assert_eq!(rt; view.root_thread(269), 17);
-    assert_eq!(rt; view.root_kind(278), RootKind::StickyClass);
-    assert_eq!(rt; view.root_kind(283), RootKind::ThreadBlock);
-    assert_eq!(rt; view.root_thread(283), 18);
-    assert_eq!(rt; view.root_kind(292), RootKind::MonitorUsed);
-    assert_eq!(rt; view.root_kind(297), RootKind::ThreadObject);
-    assert_eq!(rt; view.root_thread(297), 19);
-    assert_eq!(rt; view.root_stack_trace(297), 20);
-    Ok(())
-}
-
-#[test]
-fn places_with_ids_of_eight(rt: HostRuntime) -> Result<(), Fail> {
-    let dump = read(rt.alloc(), &WITH_EIGHT)?;
-    assert_eq!(rt; dump.id_size(), 8);
-    assert_eq!(rt; dump.strings(), [31].as_slice());
-    assert_eq!(rt; dump.loaded(), [49].as_slice());
-    assert_eq!(rt; dump.objects(), [91, 226, 260, 301].as_slice());
-    assert_eq!(rt;
-        dump.roots(),
-        [325, 334, 351, 368, 385, 398, 407, 420, 429].as_slice()
+    let roots: Roots = (
+        [
+            plain_root(&view, 229),
+            plain_root(&view, 278),
+            plain_root(&view, 292),
+        ],
+        reference_root(&view, 234),
+        [thread_root(&view, 269), thread_root(&view, 283)],
+        [
+            frame_root(&view, 243),
+            frame_root(&view, 256),
+            trace_root(&view, 297),
+        ],
     );
-    Ok(())
+    assert_eq!(rt; roots, ROOTS);
 }
 
 #[test]
-fn records_with_ids_of_eight(rt: HostRuntime) -> Result<(), Fail> {
+fn roots_with_ids_of_eight(rt: HostRuntime) {
     let view = View::new(&WITH_EIGHT, 8);
-    assert_eq!(rt; view.header_time(), 4_294_967_298);
-    assert_eq!(rt; view.record_time(31), 21);
-    assert_eq!(rt; view.record_length(31), 9);
-    assert_eq!(rt; view.string_id(31), 1);
-    assert_eq!(rt; view.string_text(31), b"A".as_slice());
-    assert_eq!(rt; view.loaded_class_serial(49), 7);
-    assert_eq!(rt; view.loaded_class_id(49), 0x100);
-    assert_eq!(rt; view.loaded_class_stack_trace(49), 8);
-    assert_eq!(rt; view.loaded_class_name(49), 1);
-    Ok(())
-}
-
-#[test]
-fn objects_with_ids_of_eight(rt: HostRuntime) -> Result<(), Fail> {
-    let view = View::new(&WITH_EIGHT, 8);
-    assert_eq!(rt; view.kind(91), ObjectKind::Class);
-    assert_eq!(rt;
-        class_numbers(&view, 91),
-        [0x100, 9, 0x200, 0x201, 0x202, 0x203, 0x204, 0x205, 12]
+    let roots: Roots = (
+        [
+            plain_root(&view, 325),
+            plain_root(&view, 398),
+            plain_root(&view, 420),
+        ],
+        reference_root(&view, 334),
+        [thread_root(&view, 385), thread_root(&view, 407)],
+        [
+            frame_root(&view, 351),
+            frame_root(&view, 368),
+            trace_root(&view, 429),
+        ],
     );
-    let constants = view.constants(91);
-    assert_eq!(rt; constants.len(), 2);
-    assert_eq!(rt; two_values(constants), Some([(1, 5, 0x41), (2, 2, 0x06)]));
-    assert_eq!(rt;
-        two_values(view.statics(91)),
-        Some([(3, 10, 7), (4, 2, 0x07)])
-    );
-    assert_eq!(rt; two_members(&view, 91), Some([(5, 2), (6, 4)]));
-    assert_eq!(rt; view.kind(226), ObjectKind::Instance);
-    assert_eq!(rt; view.instance_class(226), 0x100);
-    assert_eq!(rt;
-        view.instance_values(226),
-        [0, 0, 0, 0, 0, 0, 3, 2, 1].as_slice()
-    );
-    assert_eq!(rt; view.kind(260), ObjectKind::ObjectArray);
-    assert_eq!(rt; view.array_class(260), 0x101);
-    let mut elements = view.array_elements(260);
-    assert_eq!(rt; elements.len(), 2);
-    assert_eq!(rt; elements.next(), Some(0x301));
-    assert_eq!(rt; elements.next(), Some(0));
-    assert_eq!(rt; view.kind(301), ObjectKind::PrimitiveArray);
-    assert_eq!(rt; view.element_type(301), 9);
-    assert_eq!(rt; view.element_count(301), 3);
-    assert_eq!(rt; view.packed_elements(301), [0, 1, 0, 2, 0, 3].as_slice());
-    Ok(())
-}
-
-#[test]
-fn roots_with_ids_of_eight(rt: HostRuntime) -> Result<(), Fail> {
-    let view = View::new(&WITH_EIGHT, 8);
-    assert_eq!(rt; view.root_kind(325), RootKind::Unknown);
-    assert_eq!(rt; view.object_id(325), 0x100);
-    assert_eq!(rt; view.root_kind(334), RootKind::JniGlobal);
-    assert_eq!(rt; view.root_reference(334), 0x401);
-    assert_eq!(rt; view.root_kind(351), RootKind::JniLocal);
-    assert_eq!(rt; view.root_thread(351), 13);
-    assert_eq!(rt; view.root_frame(351), 14);
-    assert_eq!(rt; view.root_kind(368), RootKind::JavaFrame);
-    assert_eq!(rt; view.root_thread(368), 15);
-    assert_eq!(rt; view.root_frame(368), 16);
-    assert_eq!(rt; view.root_kind(385), RootKind::NativeStack);
-    assert_eq!(rt; view.root_thread(385), 17);
-    assert_eq!(rt; view.root_kind(398), RootKind::StickyClass);
-    assert_eq!(rt; view.root_kind(407), RootKind::ThreadBlock);
-    assert_eq!(rt; view.root_thread(407), 18);
-    assert_eq!(rt; view.root_kind(420), RootKind::MonitorUsed);
-    assert_eq!(rt; view.root_kind(429), RootKind::ThreadObject);
-    assert_eq!(rt; view.root_thread(429), 19);
-    assert_eq!(rt; view.root_stack_trace(429), 20);
-    Ok(())
-}
-
-#[test]
-fn leading_ids(rt: HostRuntime) -> Result<(), Fail> {
-    let with_four = View::new(&WITH_FOUR, 4);
-    assert_eq!(rt;
-        followed_ids(&with_four, 79),
-        Some([0x200, 0x201, 0x202, 0x203])
-    );
-    let with_eight = View::new(&WITH_EIGHT, 8);
-    assert_eq!(rt;
-        followed_ids(&with_eight, 91),
-        Some([0x200, 0x201, 0x202, 0x203])
-    );
-    Ok(())
-}
-
-#[test]
-fn identifiers_in_values(rt: HostRuntime) -> Result<(), Fail> {
-    let with_four = View::new(&WITH_FOUR, 4);
-    let values = with_four.instance_values(162);
-    assert_eq!(rt; with_four.identifier_at(values, 0), 0x302);
-    assert_eq!(rt; with_four.identifier_at(values, 1), 0x30201);
-    let with_eight = View::new(&WITH_EIGHT, 8);
-    let values = with_eight.instance_values(226);
-    assert_eq!(rt; with_eight.identifier_at(values, 0), 0x302);
-    assert_eq!(rt; with_eight.identifier_at(values, 1), 0x30201);
-    Ok(())
+    assert_eq!(rt; roots, ROOTS);
 }

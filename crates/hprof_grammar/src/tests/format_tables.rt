@@ -141,34 +141,31 @@ fn tags_of_sub_records(rt: HostRuntime) -> Result<(), Fail> {
     Ok(())
 }
 
+/// A sub-record with one type code: what the code is of, the tag, how many zeros and which bytes stand before the code,
+/// whether a value follows it, and how many zeros stand behind that.
+type CodePlace = (&'static str, u8, usize, &'static [u8], bool, usize);
+
+const CODE_PLACES: [CodePlace; 4] = [
+    ("constant", 0x20, 36, &[0, 1, 0, 1], true, 4),
+    ("static field", 0x20, 38, &[0, 1, 0, 0, 0, 1], true, 2),
+    ("instance field", 0x20, 40, &[0, 1, 0, 0, 0, 1], false, 0),
+    ("array", 0x23, 8, &[0, 0, 0, 1], true, 0),
+];
+
 #[test]
 fn type_codes(rt: HostRuntime) -> Result<(), Fail> {
-    let alloc = rt.alloc();
     for code in 0..=255u8 {
         let known = entry(&TYPES, code);
-        let size = known.unwrap_or(8);
-        assert!(rt; size <= 8);
-        let told = if known.is_some() { None } else { Some((7, 40)) };
-
-        let mut constant = padded(alloc, &[0x20], 36)?;
-        constant.extend_from_slice(&[0, 1, 0, 1, code])?;
-        let constant = padded(alloc, &constant, size + 4)?;
-        assert_eq!(rt; heap_fault(alloc, &constant)?, told, "constant {code}");
-
-        let mut field = padded(alloc, &[0x20], 38)?;
-        field.extend_from_slice(&[0, 1, 0, 0, 0, 1, code])?;
-        let field = padded(alloc, &field, size + 2)?;
-        assert_eq!(rt; heap_fault(alloc, &field)?, told, "static field {code}");
-
-        let mut member = padded(alloc, &[0x20], 40)?;
-        member.extend_from_slice(&[0, 1, 0, 0, 0, 1, code])?;
-        assert_eq!(rt; heap_fault(alloc, &member)?, told, "instance field {code}");
-
-        let mut array = padded(alloc, &[0x23], 8)?;
-        array.extend_from_slice(&[0, 0, 0, 1, code])?;
-        let array = padded(alloc, &array, size)?;
-        let told = if code == 2 { Some((7, 40)) } else { told };
-        assert_eq!(rt; heap_fault(alloc, &array)?, told, "array {code}");
+        for (of, tag, zeros, front, has_value, behind) in CODE_PLACES {
+            let mut body = padded(rt.alloc(), &[tag], zeros)?;
+            body.extend_from_slice(front)?;
+            body.push(code)?;
+            let size = if has_value { known.unwrap_or(8) } else { 0 };
+            let body = padded(rt.alloc(), &body, size.saturating_add(behind))?;
+            let is_allowed = known.is_some() && (tag == 0x20 || code != 2);
+            let told = if is_allowed { None } else { Some((7, 40)) };
+            assert_eq!(rt; heap_fault(rt.alloc(), &body)?, told, "{of} {code}");
+        }
     }
     Ok(())
 }
