@@ -3,24 +3,35 @@ use Rattle.std.proofs.Common.{◌≡◌, ◌≢◌, ℕ, ◌+◌, ◌<◌, List,
 use Rattle.std.proofs.lemmas.List.Elements.{All-from_get_or, Contains-append_cases, Contains-append_left, Contains-get_or, Contains-push, Contains-push_cases}
 use Rattle.mark_core.specs.Lists.{times, only}
 use Rattle.mark_core.specs.World.{Setup}
-use Rattle.mark_core.specs.Event.{CanClaim, CanFinish}
+use Rattle.mark_core.specs.Account.{Account}
+use Rattle.mark_core.specs.Event.{CanClaim, CanFinish, IsBusy}
 use Rattle.mark_core.proofs.Sums.{only-same, stands_times, times-remove_one, times_stands, total-append}
 use Rattle.buffer_pool.specs.Book.{Book, claimed, finished}
 use Rattle.buffer_pool.specs.Calls.{Holder}
 use Rattle.work_pair.specs.Deals.{Deals}
 use Rattle.work_pair.specs.Places.{AreOfSize, IsBacked, IsOpen, Places, items_of, no_places, numbers_of}
-use Rattle.drain.specs.working.AtWork.{AreClaimed, GoesOn, HasAtHand, IsFree, IsThrough, MayClaim}
+use Rattle.drain.specs.working.AtWork.{AreClaimed, CameFrom, GoesOn, HasAtHand, IsAtWork, IsFree, IsThrough, MayClaim}
 
-pub goes_on_at_all : (w : Holder) → GoesOn w w
-goes_on_at_all w = record { pool = refl; setup = refl; share = refl; seen = λ o h. h }
+pub came_at_all : (w : Holder) → CameFrom w w
+came_at_all w = record { pool = refl; setup = refl; share = refl; seen = λ o h. h }
 
-pub goes_on_again : (a b c : Holder) → GoesOn a b → GoesOn b c → GoesOn a c
-goes_on_again a b c s t = record {
+pub came_again : (a b c : Holder) → CameFrom a b → CameFrom b c → CameFrom a c
+came_again a b c s t = record {
   pool = t.pool ∙ s.pool;
   setup = t.setup ∙ s.setup;
   share = t.share ∙ s.share;
   seen = λ o h. t.seen o (s.seen o h);
 }
+
+pub goes_on_at_all : (w : Holder) → GoesOn w w
+goes_on_at_all w = record { came = came_at_all w; idle = refl }
+
+pub goes_on_again : (a b c : Holder) → GoesOn a b → GoesOn b c → GoesOn a c
+goes_on_again a b c s t = record { came = came_again a b c s.came t.came; idle = t.idle ∙ s.idle }
+
+-- who has the share and the idle number of a busy one is busy
+pub busy_on : (a b : Account) → b.share ≡ a.share → b.idle ≡ a.idle → IsBusy a → IsBusy b
+busy_on a b share idle busy = ⊎_elim (λ several. inl (λ one. several (sym share ∙ one))) (λ awake. inr (idle ∙ awake)) busy
 
 -- a list in which nothing stands is empty
 pub nothing : (xs : List ℕ) → ((o : ℕ) → times o xs ≡ 0) → xs ≡ []
@@ -56,22 +67,37 @@ backs p put rest w hand = record {
   sized = hand.sized;
 }
 
-module _ (old : Places) (before : Holder) (put got : List ℕ) (new : Places) (after : Holder) (deals : Deals old before.book put got new after.book) where
+module _ (old : Places) (before : Holder) (put got : List ℕ) (new : Places) (after : Holder)
+    (deals : Deals old before.book put got new after.book) where
   -- what was put is in the pair, or went with a buffer of it, and what was got is not
-  pub dealt : (rest : List ℕ) → IsOpen new → HasAtHand old (put ++ rest) before → HasAtHand new (got ++ rest) after
-  dealt rest going was = record {
+  pub dealt_hand : (rest : List ℕ) → IsOpen new → HasAtHand old (put ++ rest) before
+      → HasAtHand new (got ++ rest) after
+  dealt_hand rest going was = record {
     going = going;
     sized = deals.backed.sized;
     held = λ i. omega (arith, deals.held i, deals.buffers i, was.held i);
-    charge = λ o. omega (arith, deals.charge o, deals.items o, was.charge o, total-append (only o) put rest, total-append (only o) got rest);
+    charge = λ o.
+        let puts = total-append (only o) put rest in
+        let gets = total-append (only o) got rest in
+        omega (arith, deals.charge o, deals.items o, was.charge o, puts, gets);
+  }
+
+  -- and the worker is as busy as it was
+  pub dealt : (rest : List ℕ) → IsOpen new → IsAtWork old (put ++ rest) before → IsAtWork new (got ++ rest) after
+  dealt rest going was = record {
+    hand = dealt_hand rest going was.hand;
+    busy = busy_on before.book.account after.book.account deals.kept.share deals.kept.idle was.busy;
   }
 
   pub dealt_goes_on : after.pool ≡ before.pool → GoesOn before after
   dealt_goes_on pool = record {
-    pool = pool;
-    setup = deals.kept.setup;
-    share = deals.kept.share;
-    seen = λ o h. subst (λ (xs : List ℕ). Contains xs o) (sym deals.kept.seen) h;
+    came = record {
+      pool = pool;
+      setup = deals.kept.setup;
+      share = deals.kept.share;
+      seen = λ o h. subst (λ (xs : List ℕ). Contains xs o) (sym deals.kept.seen) h;
+    };
+    idle = deals.kept.idle;
   }
 
 -- what may be claimed by what the worker has at hand
@@ -92,13 +118,26 @@ module _ (old new : Holder) (pool : new.pool ≡ old.pool) (o found : ℕ) (is :
   charge_is : new.book.account.charge ≡ (if found == 0 then old.book.account.charge ++ o ∷ [] else old.book.account.charge)
   charge_is = ap (λ (c : Book). c.account.charge) is
 
+  share_is : new.book.account.share ≡ old.book.account.share
+  share_is = ap (λ (c : Book). c.account.share) is
+
+  idle_is : new.book.account.idle ≡ old.book.account.idle
+  idle_is = ap (λ (c : Book). c.account.idle) is
+
   pub claimed_goes_on : GoesOn old new
   claimed_goes_on = record {
-    pool = pool;
-    setup = setup_is;
-    share = ap (λ (c : Book). c.account.share) is;
-    seen = λ x h. subst (λ xs. Contains xs x) (sym seen_is) (Contains-append_left old.book.account.seen (o ∷ []) x h);
+    came = record {
+      pool = pool;
+      setup = setup_is;
+      share = share_is;
+      seen = λ x h. subst (λ xs. Contains xs x) (sym seen_is)
+          (Contains-append_left old.book.account.seen (o ∷ []) x h);
+    };
+    idle = idle_is;
   }
+
+  pub claimed_busy : IsBusy old.book.account → IsBusy new.book.account
+  claimed_busy = busy_on old.book.account new.book.account share_is idle_is
 
   pub saw_it : (x : ℕ) → Contains (o ∷ []) x → Contains new.book.account.seen x
   saw_it x h = subst (λ xs. Contains xs x) (sym seen_is) (subst (Contains (old.book.account.seen ++ o ∷ [])) (only_member o x h) (Contains-push old.book.account.seen o))
@@ -126,56 +165,81 @@ module _ (old new : Holder) (pool : new.pool ≡ old.pool) (o found : ℕ) (is :
       }
 
   pub marked_claimed : found ≢ 0 → (p : Places) → AreClaimed (o ∷ []) p old p new
-  marked_claimed marked p = record { goes_on = claimed_goes_on; saw = saw_it; hand = marked_at_hand marked p }
+  marked_claimed marked p = record {
+    goes_on = claimed_goes_on;
+    saw = saw_it;
+    at_work = λ besides was.
+        record { hand = marked_at_hand marked p besides was.hand; busy = claimed_busy was.busy };
+  }
 
   pub white_claimed : found ≡ 0 → (p q : Places) (end : Holder) → end.pool ≡ new.pool → Deals p new.book (o ∷ []) [] q end.book → IsOpen q → AreClaimed (o ∷ []) p old q end
   white_claimed white p q end same deals going =
       let on = dealt_goes_on p new (o ∷ []) [] q end deals same in
       record {
         goes_on = goes_on_again old new end claimed_goes_on on;
-        saw = λ x h. on.seen x (saw_it x h);
-        hand = λ besides was. dealt p new (o ∷ []) [] q end deals besides going (white_at_hand white p besides was);
+        saw = λ x h. on.came.seen x (saw_it x h);
+        at_work = λ besides was.
+            let claimed = record { hand = white_at_hand white p besides was.hand; busy = claimed_busy was.busy } in
+            dealt p new (o ∷ []) [] q end deals besides going claimed;
       }
 
 pub none_claimed : (p : Places) (w : Holder) → AreClaimed [] p w p w
-none_claimed p w = record { goes_on = goes_on_at_all w; saw = λ o h. absurd (omega (arith, h.1)); hand = λ besides was. was }
+none_claimed p w = record {
+  goes_on = goes_on_at_all w;
+  saw = λ o h. absurd (omega (arith, h.1));
+  at_work = λ besides was. was;
+}
 
 -- some objects, and then others
 pub more_claimed : (xs ys : List ℕ) (p q r : Places) (a b c : Holder) → AreClaimed xs p a q b → AreClaimed ys q b r c → AreClaimed (xs ++ ys) p a r c
 more_claimed xs ys p q r a b c first next = record {
   goes_on = goes_on_again a b c first.goes_on next.goes_on;
-  saw = λ o h. ⊎_elim (λ k. next.goes_on.seen o (first.saw o k)) (next.saw o) (Contains-append_cases xs ys o h);
-  hand = λ besides was. next.hand besides (first.hand besides was);
+  saw = λ o h.
+      ⊎_elim (λ k. next.goes_on.came.seen o (first.saw o k)) (next.saw o) (Contains-append_cases xs ys o h);
+  at_work = λ besides was. next.at_work besides (first.at_work besides was);
 }
 
 -- the scanned object may be finished once all that it refers to was claimed, and then it is no longer at hand
-module _ (o : ℕ) (p : Places) (mid : Holder) (hand : HasAtHand p (o ∷ []) mid) where
+module _ (o : ℕ) (p : Places) (mid : Holder) (at_work : IsAtWork p (o ∷ []) mid) where
   charged : 0 < times o mid.book.account.charge
-  charged = omega (arith, hand.charge o, only-same o o refl)
+  charged = omega (arith, at_work.hand.charge o, only-same o o refl)
 
   pub may_finish : ((s : ℕ) → Contains mid.book.setup.pairs (o, s) → Contains mid.book.account.seen s) → CanFinish mid.book.setup o mid.book.account
   may_finish saw = (times_stands mid.book.account.charge o charged, saw)
 
-  pub scanned : (new : Holder) → new.pool ≡ mid.pool → new.book ≡ finished o mid.book → GoesOn mid new × HasAtHand p [] new
-  scanned new pool is = (
-    record {
-      pool = pool;
-      setup = ap (λ (c : Book). c.setup) is;
-      share = ap (λ (c : Book). c.account.share) is;
-      seen = λ x h. subst (λ xs. Contains xs x) (sym (ap (λ (c : Book). c.account.seen) is)) h;
-    },
-    record {
-      going = hand.going;
-      sized = subst (λ (e : Setup). AreOfSize e.size p) (sym (ap (λ (c : Book). c.setup) is)) hand.sized;
-      held = λ i. ap (λ (c : Book). times i c.account.held) is ∙ hand.held i;
-      charge = λ x. ap (λ (c : Book). times x c.account.charge) is ∙ omega (arith, times-remove_one x o mid.book.account.charge charged, hand.charge x);
-    },
-  )
+  pub scanned : (new : Holder) → new.pool ≡ mid.pool → new.book ≡ finished o mid.book
+      → GoesOn mid new × IsAtWork p [] new
+  scanned new pool is =
+      let setup = ap (λ (c : Book). c.setup) is in
+      let share = ap (λ (c : Book). c.account.share) is in
+      let idle = ap (λ (c : Book). c.account.idle) is in
+      let charge = λ x. ap (λ (c : Book). times x c.account.charge) is in
+      let fewer = λ x. times-remove_one x o mid.book.account.charge charged in (
+        record {
+          came = record {
+            pool = pool;
+            setup = setup;
+            share = share;
+            seen = λ x h. subst (λ xs. Contains xs x) (sym (ap (λ (c : Book). c.account.seen) is)) h;
+          };
+          idle = idle;
+        },
+        record {
+          hand = record {
+            going = at_work.hand.going;
+            sized = subst (λ (e : Setup). AreOfSize e.size p) (sym setup) at_work.hand.sized;
+            held = λ i. ap (λ (c : Book). times i c.account.held) is ∙ at_work.hand.held i;
+            charge = λ x. charge x ∙ omega (arith, fewer x, at_work.hand.charge x);
+          };
+          busy = busy_on mid.book.account new.book.account share idle at_work.busy;
+        },
+      )
 
 -- all that the scanned object refers to may be claimed
 pub all_claimable : (o : ℕ) (nexts : List ℕ) (e : Setup) → ((s : ℕ) → Contains nexts s → Contains e.pairs (o, s)) → All (MayClaim e (o ∷ [])) nexts
 all_claimable o nexts e pairs = All-from_get_or (MayClaim e (o ∷ [])) nexts 0 (λ k inside. inr (o, Contains-push [] o, pairs (get_or nexts k 0) (Contains-get_or nexts k 0 inside)))
 
 -- an object that was got
-pub got_is_object : (o : ℕ) (p : Places) (w : Holder) → HasAtHand p (o ∷ []) w → ((x : ℕ) → Contains w.book.account.charge x → x < w.book.setup.objects) → o < w.book.setup.objects
-got_is_object o p w hand within = within o (times_stands w.book.account.charge o (charged o p w hand))
+pub got_is_object : (o : ℕ) (p : Places) (w : Holder) → IsAtWork p (o ∷ []) w
+    → ((x : ℕ) → Contains w.book.account.charge x → x < w.book.setup.objects) → o < w.book.setup.objects
+got_is_object o p w at_work within = within o (times_stands w.book.account.charge o (charged o p w at_work))

@@ -1,16 +1,18 @@
 -- The leader, as it gives away units and takes workers in.
-use Rattle.std.proofs.Common.{◌≡◌, ℕ, ◌+◌, ◌<◌, List, [], ◌++◌, Contains, ap, sym, refl, subst, ◌∙◌, arith}
+use Rattle.std.proofs.Common.{◌≡◌, ℕ, ◌+◌, ◌<◌, List, [], ◌++◌, Contains, ap, inl, sym, refl, subst, ◌∙◌, arith}
 use Rattle.std.proofs.lemmas.List.Elements.{Contains-append_left}
+use Rattle.mark_core.specs.Event.{IsBusy}
 use Rattle.mark_core.specs.Lists.{times, only}
 use Rattle.mark_core.specs.World.{Setup}
 use Rattle.mark_core.proofs.Sums.{total-append}
 use Rattle.buffer_pool.specs.Book.{Book, joined, new_book, parted}
 use Rattle.buffer_pool.specs.Calls.{Holder}
 use Rattle.work_pair.specs.Places.{AreOfSize, Places}
-use Rattle.drain.specs.working.AtWork.{HasAtHand, IsFree, Leads}
+use Rattle.drain.specs.working.AtWork.{HasAtHand, IsAtWork, IsFree, Leads}
+use Rattle.drain.specs.working.Idle.{IsAwake}
 
 pub leads_at_all : (w : Holder) → Leads w w
-leads_at_all w = record { pool = refl; setup = refl; seen = λ o h. h; held = λ i. refl; charge = λ o. refl }
+leads_at_all w = record { pool = refl; setup = refl; seen = λ o h. h; held = λ i. refl; charge = λ o. refl; pushed = refl }
 
 pub leads_again : (a b c : Holder) → Leads a b → Leads b c → Leads a c
 leads_again a b c s t = record {
@@ -19,6 +21,7 @@ leads_again a b c s t = record {
   seen = λ o h. t.seen o (s.seen o h);
   held = λ i. t.held i ∙ s.held i;
   charge = λ o. t.charge o ∙ s.charge o;
+  pushed = t.pushed ∙ s.pushed;
 }
 
 -- it gave units away
@@ -29,6 +32,7 @@ gave_away old new units pool is = record {
   seen = λ o h. subst (λ (xs : List ℕ). Contains xs o) (sym (ap (λ (b : Book). b.account.seen) is)) h;
   held = λ i. ap (λ (b : Book). times i b.account.held) is;
   charge = λ o. ap (λ (b : Book). times o b.account.charge) is;
+  pushed = ap (λ (b : Book). b.account.pushed) is;
 }
 
 -- it took in a worker that is free
@@ -39,15 +43,33 @@ took_in old other new pool is free = record {
   seen = λ o h. subst (λ (xs : List ℕ). Contains xs o) (sym (ap (λ (b : Book). b.account.seen) is)) (Contains-append_left old.book.account.seen other.book.account.seen o h);
   held = λ i. omega (arith, ap (λ (b : Book). times i b.account.held) is, total-append (only i) old.book.account.held other.book.account.held, ap (times i) free.held);
   charge = λ o. omega (arith, ap (λ (b : Book). times o b.account.charge) is, total-append (only o) old.book.account.charge other.book.account.charge, ap (times o) free.charge);
+  pushed = ap (λ (b : Book). b.account.pushed) is;
 }
 
 -- its pair is its pair still
-pub leads_on : (p : Places) (old new : Holder) → Leads old new → HasAtHand p [] old → HasAtHand p [] new
-leads_on p old new leads was = record {
+leads_hand : (p : Places) (old new : Holder) → Leads old new → HasAtHand p [] old → HasAtHand p [] new
+leads_hand p old new leads was = record {
   going = was.going;
   sized = subst (λ (e : Setup). AreOfSize e.size p) (sym leads.setup) was.sized;
   held = λ i. leads.held i ∙ was.held i;
   charge = λ o. leads.charge o ∙ was.charge o;
+}
+
+-- with several units it is busy, whatever its idle number
+pub several_busy : (w : Holder) → 1 < w.book.account.share → IsBusy w.book.account
+several_busy w several = inl (λ one. omega (arith, several, one))
+
+-- and it goes on with its work once it has several units again
+pub leads_on : (p : Places) (old new : Holder) → Leads old new → 1 < new.book.account.share → HasAtHand p [] old
+    → IsAtWork p [] new
+leads_on p old new leads several was =
+    record { hand = leads_hand p old new leads was; busy = several_busy new several }
+
+-- a worker that was just made with one unit is not idle
+pub new_awake : (w : Holder) (e : Setup) → w.book ≡ new_book e 1 → IsAwake w
+new_awake w e is = record {
+  share = ap (λ (b : Book). b.account.share) is;
+  idle = ap (λ (b : Book). b.account.idle) is;
 }
 
 -- a worker that was just made is free

@@ -3,6 +3,7 @@ pub mod Closes
 pub mod Counts
 pub mod Each
 pub mod Exact
+pub mod Idling
 pub mod Leading
 pub mod OneMarking
 pub mod Outcomes

@@ -7,11 +7,11 @@ ghost use Rattle.drain.specs.working.AtWork.{HasLed, IsFree, IsSetupOf};
 use crate::gate::Gate;
 use crate::marked::{Marked, RunFault};
 use crate::options::Options;
-use crate::scan::Scan;
-use crate::starts::{EachStarts, Starts};
+use crate::paired_worker::PairedWorker;
+use crate::start_hook::{StartHook, StartsAll};
 use crate::walk::Walk;
 use crate::walked_graph::WalkedGraph;
-use crate::workers::run_workers;
+use crate::worker_threads::run_workers;
 use buffer_pool::{Pool, PoolFault, Worker};
 use heap_graph::Graph;
 use std::alloc::Allocator;
@@ -28,7 +28,7 @@ fn lead<T, A, V, G, S>(
     graph: &V,
     pool: &Pool<A>,
     gate: &G,
-    starts: &S,
+    hook: &S,
     leader: Worker<A>,
     workers: u32,
 ) -> Result<Worker<A>, RunFault>
@@ -37,23 +37,24 @@ where
     A: Allocator + Send + Sync,
     V: Walk,
     G: Gate,
-    S: Starts,
+    S: StartHook,
     requires pool { leader.pool ≡ pool.now }
     requires setup { IsSetupOf (V.count graph.now) (V.roots graph.now) (V.pairs graph.now) leader.book.setup }
     requires free { IsFree leader }
     requires share { workers < leader.book.account.share }
+    requires several { 1 < leader.book.account.share }
     ensures { IfOk result (HasLed leader.book.account.share leader) }
 {
     let threads = Vec::with_capacity(alloc, workers as usize)?;
-    let mut scan = match Scan::open(rt, pool, leader)? {
-        Ok(scan) => scan,
+    let mut paired = match PairedWorker::open(rt, pool, leader)? {
+        Ok(paired) => paired,
         Err(_) => return Err(RunFault::NoBuffer),
     };
-    scan.claim_roots(rt, pool, graph.roots())?;
-    scan.publish(rt, pool)?;
-    let mut scan = run_workers(rt, graph, pool, gate, starts, scan, workers, threads)?;
-    scan.drain(rt, graph, pool, gate, workers)?;
-    Ok(scan.close(rt, pool)?)
+    paired.claim_roots(rt, pool, graph.roots())?;
+    paired.publish(rt, pool)?;
+    let mut paired = run_workers(rt, graph, pool, gate, hook, paired, workers, threads)?;
+    paired.drain(rt, graph, pool, gate, workers)?;
+    Ok(paired.close(rt, pool)?)
 }
 
 /// Marks the objects that a path of references joins to a root, with a thread for each worker.
@@ -76,7 +77,7 @@ where
     G: Gate,
     ensures { IfOk result (MarksReachableOf graph.now) }
 {
-    mark_where(rt, alloc, graph, options, gate, &EachStarts)
+    mark_where(rt, alloc, graph, options, gate, &StartsAll)
 }
 
 /// The same, where the thread of each worker has to be allowed.
@@ -86,14 +87,14 @@ pub(crate) fn mark_where<T, A, B, G, S>(
     graph: &Graph<'_, B>,
     options: &Options,
     gate: &G,
-    starts: &S,
+    hook: &S,
 ) -> Result<Marked<A>, RunFault>
 where
     T: Threads + Wait + Sync,
     A: Allocator + Copy + Send + Sync,
     B: Allocator + Sync,
     G: Gate,
-    S: Starts,
+    S: StartHook,
     ensures { IfOk result (MarksReachableOf graph.now) }
 {
     let workers = options.workers();
@@ -110,6 +111,6 @@ where
         Err(PoolFault::OutOfMemory) => return Err(RunFault::OutOfMemory),
         Err(PoolFault::BadOptions) => unreachable!(),
     };
-    let leader = lead(rt, alloc, &walked, &pool, gate, starts, leader, workers)?;
+    let leader = lead(rt, alloc, &walked, &pool, gate, hook, leader, workers)?;
     Ok(Marked::new(pool.close(leader), objects))
 }

@@ -6,11 +6,12 @@ mod laws;
 mod leader;
 mod marked;
 mod options;
-mod scan;
-mod starts;
+mod paired_worker;
+mod pause;
+mod start_hook;
 mod walk;
 mod walked_graph;
-mod workers;
+mod worker_threads;
 
 pub use gate::{Gate, NoGate};
 pub use laws::one_marking;

@@ -4,6 +4,7 @@
 
 mod cuts;
 mod dumps;
+mod idle;
 mod marking;
 mod memory;
 mod program;

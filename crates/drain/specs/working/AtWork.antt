@@ -1,5 +1,6 @@
 -- What a worker has between its calls.
-use Rattle.std.specs.Prelude.{Contains, List, [], false, ℕ, ◌+◌, ◌<◌, ◌≡◌, ◌⊎◌}
+use Rattle.std.specs.Prelude.{Contains, List, [], false, true, ℕ, ◌+◌, ◌<◌, ◌≡◌, ◌⊎◌}
+use Rattle.mark_core.specs.Event.{IsBusy}
 use Rattle.mark_core.specs.Lists.{times}
 use Rattle.mark_core.specs.World.{Setup}
 use Rattle.mark_core.specs.declared.which.Which.TheVariants.{Empty}
@@ -14,11 +15,16 @@ pub record IsSetupOf (count : ℕ) (root_list : List ℕ) (pair_list : List (ℕ
   pub pairs : e.pairs ≡ pair_list
 
 -- The worker is of the same pool, has the same share, and has seen what it saw before.
-pub record GoesOn (old new : Holder) : Type 0 where
+pub record CameFrom (old new : Holder) : Type 0 where
   pub pool : new.pool ≡ old.pool
   pub setup : new.book.setup ≡ old.book.setup
   pub share : new.book.account.share ≡ old.book.account.share
   pub seen : (o : ℕ) → Contains old.book.account.seen o → Contains new.book.account.seen o
+
+-- The same, and its idle number is what it was: so where it was busy it is busy.
+pub record GoesOn (old new : Holder) : Type 0 where
+  pub came : CameFrom old new
+  pub idle : new.book.account.idle ≡ old.book.account.idle
 
 -- A worker with its pair: it holds the pair's buffers and no others, and answers for the pair's items and for these
 -- objects, which it is about to put or to finish, and for no others.
@@ -28,10 +34,15 @@ pub record HasAtHand (p : Places) (besides : List ℕ) (w : Holder) : Type 0 whe
   pub held : (i : ℕ) → times i w.book.account.held ≡ times i (numbers_of p)
   pub charge : (o : ℕ) → times o w.book.account.charge ≡ times o (items_of p) + times o besides
 
+-- The same of a worker that is not idle.
+pub record IsAtWork (p : Places) (besides : List ℕ) (w : Holder) : Type 0 where
+  pub hand : HasAtHand p besides w
+  pub busy : IsBusy w.book.account
+
 -- What it answered for beside the pair's items it answers for still.
-abbrev pub StaysAtHand : Places → Holder → Places → Holder → Type 0
-StaysAtHand old_pair old new_pair new =
-    (besides : List ℕ) → HasAtHand old_pair besides old → HasAtHand new_pair besides new
+abbrev pub StaysAtWork : Places → Holder → Places → Holder → Type 0
+StaysAtWork old_pair old new_pair new =
+    (besides : List ℕ) → IsAtWork old_pair besides old → IsAtWork new_pair besides new
 
 -- A worker that answers for these objects may claim this one: it is a root, or one of them refers to it.
 abbrev pub MayClaim : Setup → List ℕ → ℕ → Type 0
@@ -42,7 +53,7 @@ pub record AreClaimed (objects : List ℕ) (old_pair : Places) (old : Holder) (n
     : Type 0 where
   pub goes_on : GoesOn old new
   pub saw : (o : ℕ) → Contains objects o → Contains new.book.account.seen o
-  pub hand : StaysAtHand old_pair old new_pair new
+  pub at_work : StaysAtWork old_pair old new_pair new
 
 -- It holds no buffer, answers for nothing, and has no open push.
 pub record IsFree (w : Holder) : Type 0 where
@@ -50,13 +61,14 @@ pub record IsFree (w : Holder) : Type 0 where
   pub charge : w.book.account.charge ≡ []
   pub open_push : w.book.account.open_push ≡ false
 
--- Its pair has no items, and it has no open push.
+-- Its pair has no items, it has no open push, and it found the full stack empty since its own last push there.
 abbrev pub HasNoneLeft : Places → Holder → Type 0
-HasNoneLeft p w = (items_of p ≡ []) × (w.book.account.open_push ≡ false)
+HasNoneLeft p w =
+    (items_of p ≡ []) × (w.book.account.open_push ≡ false) × (w.book.account.found ≡ true)
 
--- A worker is through: it went on from where it began, and is free.
+-- A worker is through: it is the one that began, and is free. It may be idle.
 abbrev pub IsThrough : Holder → Holder → Type 0
-IsThrough begun w = GoesOn begun w × IsFree w
+IsThrough begun w = CameFrom begun w × IsFree w
 
 -- Others have what it had to do: its pair has no items, or it saw that no empty buffer was left.
 abbrev pub HasGiven : Places → Holder → Type 0
@@ -66,13 +78,15 @@ HasGiven p w = (items_of p ≡ []) ⊎ (0 < empties_of w.book Empty)
 abbrev pub SawRoots : Holder → Type 0
 SawRoots w = (o : ℕ) → Contains w.book.setup.roots o → Contains w.book.account.seen o
 
--- The leader, while others have parts of its share: it holds the same buffers, and answers for the same objects.
+-- The leader, while others have parts of its share: it holds the same buffers, answers for the same objects, and
+-- pushes nothing on the full stack.
 pub record Leads (old new : Holder) : Type 0 where
   pub pool : new.pool ≡ old.pool
   pub setup : new.book.setup ≡ old.book.setup
   pub seen : (o : ℕ) → Contains old.book.account.seen o → Contains new.book.account.seen o
   pub held : (i : ℕ) → times i new.book.account.held ≡ times i old.book.account.held
   pub charge : (o : ℕ) → times o new.book.account.charge ≡ times o old.book.account.charge
+  pub pushed : new.book.account.pushed ≡ old.book.account.pushed
 
 -- The leader at the end: it has these units, is free, and saw each root.
 pub record HasLed (units : ℕ) (begun w : Holder) : Type 0 where

@@ -2,7 +2,7 @@
 use Rattle.std.specs.Prelude.{◌≡◌}
 use Rattle.buffer_pool.specs.Book.{new_book}
 use Rattle.buffer_pool.specs.Calls.{Holder}
-use Rattle.drain.specs.declared.workers.Duty.{Duty}
+use Rattle.drain.specs.declared.worker_threads.Duty.{Duty}
 
 -- a thread that was started with a worker of the leader's pool, with one unit and nothing else
 abbrev pub IsDutyUnder : {A : Type 0} → Holder → Duty A → Type 0

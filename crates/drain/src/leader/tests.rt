@@ -41,7 +41,7 @@ struct AllBut {
     refused: u32,
 }
 
-impl Starts for AllBut {
+impl StartHook for AllBut {
     fn may_start(&self, worker: u32) -> bool {
         worker != self.refused
     }
@@ -59,8 +59,8 @@ fn marked_without<T: Threads + Wait + Sync>(
     let graph = Graph::build(alloc, dump.as_slice(), places).map_err(|_| "the dump is linked")?;
     let (workers, buffer, buffers) = options;
     let options = Options::new(workers, buffer, buffers, 0).map_err(|_| "they are in range")?;
-    let starts = AllBut { refused };
-    Ok(mark_where(rt, alloc, &graph, &options, &NoGate, &starts).map(|marked| marked.len()))
+    let hook = AllBut { refused };
+    Ok(mark_where(rt, alloc, &graph, &options, &NoGate, &hook).map(|marked| marked.len()))
 }
 
 #[test]
@@ -157,7 +157,7 @@ fn mark_watched<T: Threads + Wait + Sync>(
         &watched,
         &pool,
         &Told { told },
-        &EachStarts,
+        &StartsAll,
         leader,
         2,
     )

@@ -1,0 +1,9 @@
+use Rattle.std.proofs.Common.{Contains, slice_index, [], ℕ, ◌<◌}
+use Rattle.drain.specs.working.AtWork.{GoesOn, IsAtWork}
+use Rattle.drain.proofs.paired_worker.PairedWorker.claim_roots.Given as goal
+
+abbrev pub invariant-loop-root : goal.invariant-loop-root
+invariant-loop-root g l =
+    GoesOn l.initial.self.worker l.self.worker
+    × IsAtWork l.self.pair [] l.self.worker
+    × ((k : ℕ) → k < l.root-index → Contains l.self.worker.book.account.seen (slice_index l.roots k))

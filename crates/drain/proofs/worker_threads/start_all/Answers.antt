@@ -1,0 +1,30 @@
+use Rattle.std.proofs.Common.{ap, ◌∙◌, ◌≡◌, ◌+◌, arith}
+use Rattle.mark_core.specs.World.{Setup}
+use Rattle.buffer_pool.specs.Book.{Book, new_book}
+use Rattle.buffer_pool.specs.Calls.{Holder}
+use Rattle.drain.specs.working.Duties.{IsDutyUnder}
+use Rattle.drain.proofs.Each.{pushed_holds}
+use Rattle.drain.proofs.Leading.{gave_away, leads_again}
+use Rattle.drain.proofs.worker_threads.start_all.Goals as goal
+
+pub loop-number-preserved : goal.loop-number-preserved
+loop-number-preserved g c =
+    let was = c.loop-number.invariant in
+    let old = c.loop-number.leader in
+    let rest = c.split-rest.result.0 in
+    let worker = c.split-rest.result.1 in
+    let book = ap (λ (h : Holder). h.book) c.split-rest.ensures.first in
+    let less = ap (λ (b : Book). b.account.share) book in
+    let owes = c.in_ok-thread.ensures.owes in
+    let second = c.split-rest.ensures.second in
+    let duty : IsDutyUnder c.args.leader c.in_ok-thread.thread.promise = (
+      ap (λ (h : Holder). h.pool) (owes ∙ second) ∙ was.2.pool,
+      ap (λ (h : Holder). h.book) (owes ∙ second) ∙ ap (λ (e : Setup). new_book e 1) was.2.setup,
+    ) in (
+      omega (arith, c.push_reserved.ensures.len, was.0),
+      omega (arith, c.push_reserved.ensures.capacity, was.1),
+      leads_again c.args.leader old rest was.2 (gave_away old rest 1 (ap (λ (h : Holder). h.pool) c.split-rest.ensures.first) book),
+      omega (arith, less, was.3, c.requires.share, c.loop-number-test.true),
+      pushed_holds (λ t. IsDutyUnder c.args.leader t.promise) c.loop-number.threads.items c.push_reserved.new.self.items c.in_ok-thread.thread c.loop-number.number
+          (omega (arith, c.loop-number.threads.ok, was.0)) c.push_reserved.ensures.items was.4 duty,
+    )

@@ -1,0 +1,11 @@
+-- The worker that the loop began with, which came from the one that was given, is at work and has its one unit.
+use Rattle.std.proofs.Common.{[]}
+use Rattle.drain.specs.working.AtWork.{CameFrom, IsAtWork}
+use Rattle.drain.specs.working.Idle.{IsAwake}
+use Rattle.drain.proofs.worker_threads.work.Given as goal
+
+abbrev pub invariant-loop : goal.invariant-loop
+invariant-loop g l =
+    CameFrom l.initial.paired.worker l.paired.worker
+    × IsAtWork l.paired.pair [] l.paired.worker
+    × IsAwake l.paired.worker

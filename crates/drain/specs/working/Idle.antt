@@ -1,0 +1,24 @@
+-- What a worker has while it waits for others.
+use Rattle.std.specs.Prelude.{Some, false, true, ℕ, ◌*◌, ◌+◌, ◌≡◌, ◌⊎◌}
+use Rattle.buffer_pool.specs.Calls.{Holder}
+use Rattle.drain.specs.working.AtWork.{CameFrom}
+
+-- It has the one unit that it was started with, and is not idle.
+pub record IsAwake (w : Holder) : Type 0 where
+  pub share : w.book.account.share ≡ 1
+  pub idle : w.book.account.idle ≡ 0
+
+-- Since it went idle it made so many loads, and nothing else.
+pub record IsIdling (begun : Holder) (made : ℕ) (w : Holder) : Type 0 where
+  pub came : CameFrom begun w
+  pub held : w.book.account.held ≡ begun.book.account.held
+  pub charge : w.book.account.charge ≡ begun.book.account.charge
+  pub idle : w.book.account.idle ≡ 1
+  pub open_push : w.book.account.open_push ≡ false
+  pub found : w.book.account.found ≡ true
+  pub loads : w.book.loads ≡ begun.book.loads + made
+
+-- It waited until it saw that so many were idle, or so many turns of two loads.
+abbrev pub HasWaited : ℕ → ℕ → Holder → Holder → Type 0
+HasWaited workers turns old new =
+    (new.book.account.last_idle ≡ Some workers) ⊎ (new.book.loads ≡ old.book.loads + 2 * turns)

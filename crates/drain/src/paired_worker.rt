@@ -1,0 +1,224 @@
+//! A worker at its pair: it claims objects, puts those that were white into its pair, and scans these and what others
+//! gave to the full stack.
+
+use crate::gate::Gate;
+use crate::walk::Walk;
+use buffer_pool::{Pool, Which, Worker};
+use std::alloc::Allocator;
+use std::sync::Wait;
+use work_pair::{Pair, Stop};
+
+mod idle_turns;
+
+/// A worker and its two buffers.
+#[derive(Drop)]
+pub(crate) struct PairedWorker<A: Allocator> {
+    pub(crate) worker: Worker<A>,
+    pub(crate) pair: Pair<A>,
+}
+
+impl<A: Allocator> PairedWorker<A> {
+    ghost use Rattle.std.specs.Prelude.{◌≡◌, ◌⊎◌, ◌∷◌, [], ℕ, All, IfErr, IfOk, List, OnOk, false};
+    ghost use Rattle.mark_core.specs.Event.{IsBusy};
+    ghost use Rattle.mark_core.specs.declared.which.Which.TheVariants.{Empty};
+    ghost use Rattle.work_pair.specs.Moves.{WasSeenEmpty};
+    ghost use Rattle.work_pair.specs.Places.{items_of};
+    ghost use Rattle.std.specs.Iterator.{AlwaysYields, IsFinite};
+    ghost use Rattle.drain.specs.working.AtWork.{AreClaimed, GoesOn, HasAtHand, HasNoneLeft, IsAtWork};
+    ghost use Rattle.drain.specs.working.AtWork.{IsFree, IsSetupOf, IsThrough, MayClaim, SawRoots};
+
+    /// A pair for a worker that has none yet. `None` where there were not two empty buffers.
+    pub(crate) fn open<R: Wait>(
+        rt: &R,
+        pool: &Pool<A>,
+        worker: Worker<A>,
+    ) -> Result<Result<PairedWorker<A>, Worker<A>>, Stop>
+        requires pool { worker.pool ≡ pool.now }
+        requires free { IsFree worker }
+        requires busy { IsBusy worker.book.account }
+        ensures opened { IfOk result (λ r. IfOk r (λ p. GoesOn worker p.worker × IsAtWork p.pair [] p.worker)) }
+        ensures none { IfOk result (λ r. IfErr r (IsThrough worker)) }
+    {
+        let mut worker = worker;
+        match Pair::open(rt, pool, &mut worker)? {
+            Some(pair) => Ok(Ok(PairedWorker { worker, pair })),
+            None => Ok(Err(worker)),
+        }
+    }
+
+    /// Claims an object, and puts it into the pair if it was white.
+    fn claim<R: Wait>(&mut self, rt: &R, pool: &Pool<A>, object: u32) -> Result<(), Stop>
+        requires pool { self.old.worker.pool ≡ pool.now }
+        requires may { (besides : List ℕ) × IsAtWork self.old.pair besides self.old.worker
+            × MayClaim self.old.worker.book.setup besides object }
+        ensures { OnOk result (AreClaimed (object ∷ []) self.old.pair self.old.worker self.new.pair self.new.worker) }
+    {
+        if !pool.claim(&mut self.worker, object) {
+            return Ok(());
+        }
+        match self.pair.put(rt, pool, &mut self.worker, object) {
+            Ok(()) => Ok(()),
+            Err((_, stop)) => Err(stop),
+        }
+    }
+
+    /// Claims each object that the iterator gives, and puts those that were white into the pair.
+    fn claim_all<R: Wait, I: Iterator<Item = u32> + Drop>(
+        &mut self,
+        rt: &R,
+        pool: &Pool<A>,
+        objects: I,
+    ) -> Result<(), Stop>
+        requires pool { self.old.worker.pool ≡ pool.now }
+        requires can { I.can_next objects }
+        requires ends { IsFinite (I.remaining objects) }
+        requires may { (given : List ℕ) × (besides : List ℕ) × AlwaysYields I.next_gives (λ o. o) objects given
+            × IsAtWork self.old.pair besides self.old.worker
+            × All (MayClaim self.old.worker.book.setup besides) given }
+        ensures { OnOk result ((given : List ℕ) → AlwaysYields I.next_gives (λ o. o) objects given
+            → AreClaimed given self.old.pair self.old.worker self.new.pair self.new.worker) }
+    {
+        for object in objects {
+            self.claim(rt, pool, object)?;
+        }
+        Ok(())
+    }
+
+    /// Claims each root, and puts those that were white into the pair.
+    pub(crate) fn claim_roots<R: Wait>(
+        &mut self,
+        rt: &R,
+        pool: &Pool<A>,
+        roots: &[u32],
+    ) -> Result<(), Stop>
+        requires pool { self.old.worker.pool ≡ pool.now }
+        requires roots { roots.now ≡ self.old.worker.book.setup.roots }
+        requires at_work { IsAtWork self.old.pair [] self.old.worker }
+        ensures goes_on { OnOk result (GoesOn self.old.worker self.new.worker) }
+        ensures at_work { OnOk result (IsAtWork self.new.pair [] self.new.worker) }
+        ensures saw { OnOk result (SawRoots self.new.worker) }
+    {
+        for root in roots {
+            self.claim(rt, pool, *root)?;
+        }
+        Ok(())
+    }
+
+    /// Gives what is in the pair to others, as far as there are empty buffers.
+    pub(crate) fn publish<R: Wait>(&mut self, rt: &R, pool: &Pool<A>) -> Result<(), Stop>
+        requires pool { self.old.worker.pool ≡ pool.now }
+        requires at_work { IsAtWork self.old.pair [] self.old.worker }
+        ensures goes_on { OnOk result (GoesOn self.old.worker self.new.worker) }
+        ensures at_work { OnOk result (IsAtWork self.new.pair [] self.new.worker) }
+        ensures given { OnOk result
+            (WasSeenEmpty Empty self.old.worker.book self.new.worker.book ⊎ (items_of self.new.pair ≡ [])) }
+    {
+        self.pair.publish(rt, pool, &mut self.worker)
+    }
+
+    /// Gives some of what is in the pair to others, if the full stack is seen empty.
+    fn share<R: Wait>(&mut self, rt: &R, pool: &Pool<A>) -> Result<(), Stop>
+        requires pool { self.old.worker.pool ≡ pool.now }
+        requires at_work { IsAtWork self.old.pair [] self.old.worker }
+        ensures goes_on { OnOk result (GoesOn self.old.worker self.new.worker) }
+        ensures at_work { OnOk result (IsAtWork self.new.pair [] self.new.worker) }
+    {
+        if pool.sees_empty(&mut self.worker, Which::Full) {
+            self.pair.balance(rt, pool, &mut self.worker)?;
+        }
+        Ok(())
+    }
+
+    /// Scans an object of the pair, or of the full stack: claims what it refers to, and finishes it. False where none
+    /// is left.
+    fn scan_next<R: Wait, V: Walk, G: Gate>(
+        &mut self,
+        rt: &R,
+        graph: &V,
+        pool: &Pool<A>,
+        gate: &G,
+        number: u32,
+    ) -> Result<bool, Stop>
+        requires pool { self.old.worker.pool ≡ pool.now }
+        requires setup { IsSetupOf (V.count graph.now) (V.roots graph.now) (V.pairs graph.now)
+            self.old.worker.book.setup }
+        requires at_work { IsAtWork self.old.pair [] self.old.worker }
+        ensures goes_on { OnOk result (GoesOn self.old.worker self.new.worker) }
+        ensures at_work { OnOk result (IsAtWork self.new.pair [] self.new.worker) }
+        ensures none { IfOk result (λ more. more ≡ false → HasNoneLeft self.new.pair self.new.worker) }
+    {
+        let Some(object) = self.pair.get(rt, pool, &mut self.worker)? else {
+            return Ok(false);
+        };
+        self.worker.stays_within();
+        gate.before_scan(number, object);
+        self.claim_all(rt, pool, graph.successors(object))?;
+        pool.finish(&mut self.worker, object);
+        Ok(true)
+    }
+
+    /// Scans until no object is left, and gives to others what it has too much of.
+    pub(crate) fn work_off<R: Wait, V: Walk, G: Gate>(
+        &mut self,
+        rt: &R,
+        graph: &V,
+        pool: &Pool<A>,
+        gate: &G,
+        number: u32,
+    ) -> Result<(), Stop>
+        requires pool { self.old.worker.pool ≡ pool.now }
+        requires setup { IsSetupOf (V.count graph.now) (V.roots graph.now) (V.pairs graph.now)
+            self.old.worker.book.setup }
+        requires at_work { IsAtWork self.old.pair [] self.old.worker }
+        ensures goes_on { OnOk result (GoesOn self.old.worker self.new.worker) }
+        ensures at_work { OnOk result (IsAtWork self.new.pair [] self.new.worker) }
+        ensures none { OnOk result (HasNoneLeft self.new.pair self.new.worker) }
+    {
+        for _ in rt.forever() {
+            self.share(rt, pool)?;
+            if !self.scan_next(rt, graph, pool, gate, number)? {
+                return Ok(());
+            }
+        }
+        unreachable!()
+    }
+
+    /// Scans until no object is left.
+    pub(crate) fn drain<R: Wait, V: Walk, G: Gate>(
+        &mut self,
+        rt: &R,
+        graph: &V,
+        pool: &Pool<A>,
+        gate: &G,
+        number: u32,
+    ) -> Result<(), Stop>
+        requires pool { self.old.worker.pool ≡ pool.now }
+        requires setup { IsSetupOf (V.count graph.now) (V.roots graph.now) (V.pairs graph.now)
+            self.old.worker.book.setup }
+        requires at_work { IsAtWork self.old.pair [] self.old.worker }
+        ensures goes_on { OnOk result (GoesOn self.old.worker self.new.worker) }
+        ensures at_work { OnOk result (IsAtWork self.new.pair [] self.new.worker) }
+        ensures none { OnOk result (HasNoneLeft self.new.pair self.new.worker) }
+    {
+        for _ in rt.forever() {
+            if !self.scan_next(rt, graph, pool, gate, number)? {
+                return Ok(());
+            }
+        }
+        unreachable!()
+    }
+
+    /// Gives the buffers back. The pair has no items.
+    pub(crate) fn close<R: Wait>(self, rt: &R, pool: &Pool<A>) -> Result<Worker<A>, Stop>
+        requires pool { self.worker.pool ≡ pool.now }
+        requires hand { HasAtHand self.pair [] self.worker }
+        requires none { HasNoneLeft self.pair self.worker }
+        ensures { IfOk result (IsThrough self.worker) }
+    {
+        let PairedWorker { mut worker, pair } = self;
+        match pair.dispose(rt, pool, &mut worker) {
+            Ok(()) => Ok(worker),
+            Err((_, stop)) => Err(stop),
+        }
+    }
+}

@@ -1,0 +1,45 @@
+//! A worker that has nothing left to scan: it stays until there is something again, or until all are idle.
+
+use crate::paired_worker::PairedWorker;
+use crate::pause::pause;
+use buffer_pool::{Pool, Which};
+use crossbeam_utils::Backoff;
+use std::alloc::Allocator;
+use std::sync::Wait;
+
+/// After so many turns in a row a worker leaves, all idle or not: a worker that was refused never goes idle.
+const TURNS: u32 = 1024;
+
+impl<A: Allocator> PairedWorker<A> {
+    ghost use Rattle.std.specs.Prelude.{◌≡◌, [], IsTrue, false};
+    ghost use Rattle.drain.specs.working.AtWork.{CameFrom, HasAtHand, HasNoneLeft};
+    ghost use Rattle.drain.specs.working.Idle.{HasWaited, IsAwake};
+
+    /// Goes idle, and waits until the full stack has a buffer again: true, and it is no longer idle. False where all
+    /// workers are idle, or after so many turns: it is idle still.
+    pub(crate) fn finds_more<R: Wait>(&mut self, rt: &R, pool: &Pool<A>, workers: u32) -> bool
+        requires pool { self.old.worker.pool ≡ pool.now }
+        requires awake { IsAwake self.old.worker }
+        requires hand { HasAtHand self.old.pair [] self.old.worker }
+        requires none { HasNoneLeft self.old.pair self.old.worker }
+        ensures came { CameFrom self.old.worker self.new.worker }
+        ensures hand { HasAtHand self.new.pair [] self.new.worker }
+        ensures none { HasNoneLeft self.new.pair self.new.worker }
+        ensures awake { IsTrue result → IsAwake self.new.worker }
+        ensures waited { result ≡ false → HasWaited workers TURNS self.old.worker self.new.worker }
+    {
+        pool.idle_up(&mut self.worker);
+        let backoff = Backoff::new();
+        for _turn in 0..TURNS {
+            if pool.all_idle(&mut self.worker, workers) {
+                return false;
+            }
+            if !pool.sees_empty(&mut self.worker, Which::Full) {
+                pool.idle_down(&mut self.worker);
+                return true;
+            }
+            pause(rt, &backoff);
+        }
+        false
+    }
+}

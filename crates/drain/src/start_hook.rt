@@ -1,0 +1,16 @@
+//! A place where a test refuses to start a worker's thread: the system cannot be made to.
+
+/// Asked before the thread of each worker is started.
+pub(crate) trait StartHook {
+    /// Whether the thread of the worker of this number may be started.
+    fn may_start(&self, worker: u32) -> bool;
+}
+
+/// Refuses no thread.
+pub(crate) struct StartsAll;
+
+impl StartHook for StartsAll {
+    fn may_start(&self, _worker: u32) -> bool {
+        true
+    }
+}
