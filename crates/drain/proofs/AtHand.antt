@@ -179,7 +179,9 @@ module _ (old new : Holder) (pool : new.pool ≡ old.pool) (o found : ℕ) (is :
         goes_on = goes_on_again old new end claimed_goes_on on;
         saw = λ x h. on.came.seen x (saw_it x h);
         at_work = λ besides was.
-            let claimed = record { hand = white_at_hand white p besides was.hand; busy = claimed_busy was.busy } in
+            let claimed : IsAtWork p (o ∷ besides) new =
+                record { hand = white_at_hand white p besides was.hand; busy = claimed_busy was.busy }
+            in
             dealt p new (o ∷ []) [] q end deals besides going claimed;
       }
 
@@ -213,8 +215,7 @@ module _ (o : ℕ) (p : Places) (mid : Holder) (at_work : IsAtWork p (o ∷ []) 
       let setup = ap (λ (c : Book). c.setup) is in
       let share = ap (λ (c : Book). c.account.share) is in
       let idle = ap (λ (c : Book). c.account.idle) is in
-      let charge = λ x. ap (λ (c : Book). times x c.account.charge) is in
-      let fewer = λ x. times-remove_one x o mid.book.account.charge charged in (
+      let before = mid.book.account.charge in (
         record {
           came = record {
             pool = pool;
@@ -229,7 +230,8 @@ module _ (o : ℕ) (p : Places) (mid : Holder) (at_work : IsAtWork p (o ∷ []) 
             going = at_work.hand.going;
             sized = subst (λ (e : Setup). AreOfSize e.size p) (sym setup) at_work.hand.sized;
             held = λ i. ap (λ (c : Book). times i c.account.held) is ∙ at_work.hand.held i;
-            charge = λ x. charge x ∙ omega (arith, fewer x, at_work.hand.charge x);
+            charge = λ x. ap (λ (c : Book). times x c.account.charge) is
+                ∙ omega (arith, times-remove_one x o before charged, at_work.hand.charge x);
           };
           busy = busy_on mid.book.account new.book.account share idle at_work.busy;
         },

@@ -1,16 +1,15 @@
 -- A worker that goes idle, looks at the idle word and at the full stack, and comes back.
-use Rattle.std.proofs.Common.{◌≡◌, ℕ, ◌+◌, Bool, true, false, List, [], ◌&&◌, ◌||◌, Contains, is_none, is_some, ap, inl, inr, sym, refl, subst, ◌∙◌, arith}
-use Rattle.tagged_index.specs.Head.{Head}
+use Rattle.std.proofs.Common.{◌≡◌, ℕ, ◌*◌, ◌+◌, Bool, true, false, List, [], ◌&&◌, ◌||◌, Contains, Some, is_none, is_some, ap, inl, inr, sym, refl, subst, ◌∙◌, arith}
 use Rattle.mark_core.specs.Event.{CanIdle}
 use Rattle.mark_core.specs.Lists.{times}
 use Rattle.mark_core.specs.World.{Setup}
 use Rattle.mark_core.specs.declared.which.Which.TheVariants.{Full}
 use Rattle.buffer_pool.specs.Book.{Book, idle_loaded, idled, loaded, woken}
-use Rattle.buffer_pool.specs.Calls.{Holder}
+use Rattle.buffer_pool.specs.Calls.{Holder, Sees}
 use Rattle.work_pair.specs.Places.{AreOfSize, Places, items_of}
 use Rattle.drain.specs.working.AtWork.{CameFrom, HasAtHand, HasNoneLeft, IsAtWork}
-use Rattle.drain.specs.working.Idle.{IsAwake, IsIdling}
-use Rattle.drain.proofs.AtHand.{came_again, nothing}
+use Rattle.drain.specs.working.Idle.{IsAwake, IsIdling, IsStill}
+use Rattle.drain.proofs.AtHand.{came_again, came_at_all, nothing}
 
 -- a worker without items may go idle
 pub may_idle : (p : Places) (w : Holder) → IsAwake w → HasAtHand p [] w → HasNoneLeft p w → CanIdle w.book.account
@@ -18,59 +17,98 @@ may_idle p w awake hand none =
     let uncharged = nothing w.book.account.charge (λ o. omega (arith, hand.charge o, ap (times o) none.0)) in
     (awake.share, awake.idle, uncharged, none.2)
 
--- with no unit but its one, and idle no more, it is busy
+-- and one that is not idle is at work
 pub awake_at_work : (p : Places) (w : Holder) → IsAwake w → HasAtHand p [] w → IsAtWork p [] w
 awake_at_work p w awake hand = record { hand = hand; busy = inr awake.idle }
 
--- a book that differs in its account alone, where pool, setup, share and seen objects are the same
-module _ (old new : Holder) (pool : new.pool ≡ old.pool) where
-  pub goes_idle : (p : Places) → IsAwake old → HasNoneLeft p old → new.book ≡ idled old.book → IsIdling old 0 new
-  goes_idle p awake none is = record {
-    came = record {
-      pool = pool;
-      setup = ap (λ (b : Book). b.setup) is;
-      share = ap (λ (b : Book). b.account.share) is;
-      seen = λ o h. subst (λ (xs : List ℕ). Contains xs o) (sym (ap (λ (b : Book). b.account.seen) is)) h;
-    };
-    held = ap (λ (b : Book). b.account.held) is;
-    charge = ap (λ (b : Book). b.account.charge) is;
-    idle = omega (arith, ap (λ (b : Book). b.account.idle) is, awake.idle);
-    open_push = ap (λ (b : Book). b.account.open_push) is ∙ none.1;
-    found = ap (λ (b : Book). b.account.found) is ∙ none.2;
-    loads = omega (arith, ap (λ (b : Book). b.loads) is);
-  }
+-- it has its pair still, and nothing in it
+module _ (p q : Places) (begun w : Holder) (same : q ≡ p) (still : IsStill begun w) where
+  pub hand_still : HasAtHand p [] begun → HasAtHand q [] w
+  hand_still was =
+      subst (λ (r : Places). HasAtHand r [] w) (sym same) (record {
+        going = was.going;
+        sized = subst (λ (e : Setup). AreOfSize e.size p) (sym still.came.setup) was.sized;
+        held = λ i. ap (times i) still.held ∙ was.held i;
+        charge = λ o. ap (times o) still.charge ∙ was.charge o;
+      })
 
-  module _ (begun : Holder) (loads : ℕ) (was : IsIdling begun loads old) where
-    -- it loads the idle word
-    pub looks_at_idle : (word : ℕ) → new.book ≡ idle_loaded word old.book → IsIdling begun (loads + 1) new
-    looks_at_idle word is = record {
-      came = came_again begun old new was.came (record {
-        pool = pool;
-        setup = ap (λ (b : Book). b.setup) is;
-        share = ap (λ (b : Book). b.account.share) is;
-        seen = λ o h. subst (λ (xs : List ℕ). Contains xs o) (sym (ap (λ (b : Book). b.account.seen) is)) h;
-      });
-      held = ap (λ (b : Book). b.account.held) is ∙ was.held;
-      charge = ap (λ (b : Book). b.account.charge) is ∙ was.charge;
-      idle = ap (λ (b : Book). b.account.idle) is ∙ was.idle;
-      open_push = ap (λ (b : Book). b.account.open_push) is ∙ was.open_push;
-      found = ap (λ (b : Book). b.account.found) is ∙ was.found;
-      loads = omega (arith, ap (λ (b : Book). b.loads) is, was.loads);
+  pub none_still : HasNoneLeft p begun → HasNoneLeft q w
+  none_still was = (ap items_of same ∙ was.0, still.open_push, still.found)
+
+module _ (begun old new : Holder) (pool : new.pool ≡ old.pool) where
+  -- a book that differs in none of these
+  module _ (b : Book) (is : new.book ≡ b) (setup : b.setup ≡ old.book.setup)
+      (share : b.account.share ≡ old.book.account.share) (held : b.account.held ≡ old.book.account.held)
+      (charge : b.account.charge ≡ old.book.account.charge) (seen : b.account.seen ≡ old.book.account.seen) where
+    seen_is : new.book.account.seen ≡ old.book.account.seen
+    seen_is = ap (λ (c : Book). c.account.seen) is ∙ seen
+
+    came_after : CameFrom old new
+    came_after = record {
+      pool = pool;
+      setup = ap (λ (c : Book). c.setup) is ∙ setup;
+      share = ap (λ (c : Book). c.account.share) is ∙ share;
+      seen = λ o h. subst (λ (xs : List ℕ). Contains xs o) (sym seen_is) h;
     }
+
+    still_after : IsStill begun old → b.account.open_push ≡ false → b.account.found ≡ true → IsStill begun new
+    still_after was closed found = record {
+      came = came_again begun old new was.came came_after;
+      held = ap (λ (c : Book). c.account.held) is ∙ held ∙ was.held;
+      charge = ap (λ (c : Book). c.account.charge) is ∙ charge ∙ was.charge;
+      open_push = ap (λ (c : Book). c.account.open_push) is ∙ closed;
+      found = ap (λ (c : Book). c.account.found) is ∙ found;
+    }
+
+  module _ (made : ℕ) (was : IsIdling begun made old) where
+    -- it loads the idle word
+    pub sees_idle : (word : ℕ) → new.book ≡ idle_loaded word old.book → IsIdling begun (made + 1) new
+    sees_idle word is =
+        let b = idle_loaded word old.book in
+        record {
+          still = still_after b is refl refl refl refl refl was.still was.still.open_push was.still.found;
+          idle = ap (λ (c : Book). c.account.idle) is ∙ was.idle;
+          loads = omega (arith, ap (λ (c : Book). c.loads) is, was.loads);
+        }
 
     -- it loads the head of the full stack
-    pub looks_at_full : (h : Head) → new.book ≡ loaded Full h old.book → IsIdling begun (loads + 1) new
-    looks_at_full h is = record {
-      came = came_again begun old new was.came (record {
-        pool = pool;
-        setup = ap (λ (b : Book). b.setup) is;
-        share = ap (λ (b : Book). b.account.share) is;
-        seen = λ o seen. subst (λ (xs : List ℕ). Contains xs o) (sym (ap (λ (b : Book). b.account.seen) is)) seen;
-      });
-      held = ap (λ (b : Book). b.account.held) is ∙ was.held;
-      charge = ap (λ (b : Book). b.account.charge) is ∙ was.charge;
-      idle = ap (λ (b : Book). b.account.idle) is ∙ was.idle;
-      open_push = ap (λ (b : Book). b.account.open_push) is ∙ ap (λ (open : Bool). open && is_some h.index) was.open_push;
-      found = ap (λ (b : Book). b.account.found) is ∙ ap (λ (found : Bool). found || is_none h.index) was.found;
-      loads = omega (arith, ap (λ (b : Book). b.loads) is, was.loads);
+    pub sees_full : (answer : Bool) → Sees Full old.book new.book answer → IsIdling begun (made + 1) new
+    sees_full answer sees =
+        let b = loaded Full sees.head old.book in
+        let closed = ap (λ (was_open : Bool). was_open && is_some sees.head.index) was.still.open_push in
+        let found = ap (λ (was_found : Bool). was_found || is_none sees.head.index) was.still.found in
+        record {
+          still = still_after b sees.book refl refl refl refl refl was.still closed found;
+          idle = ap (λ (c : Book). c.account.idle) sees.book ∙ was.idle;
+          loads = omega (arith, ap (λ (c : Book). c.loads) sees.book, was.loads);
+        }
+
+    -- it comes back
+    pub still_back : new.book ≡ woken old.book → IsStill begun new
+    still_back is =
+        still_after (woken old.book) is refl refl refl refl refl was.still was.still.open_push was.still.found
+
+    pub awake_back : IsAwake begun → new.book ≡ woken old.book → IsAwake new
+    awake_back awake is = record {
+      share = (still_back is).came.share ∙ awake.share;
+      idle = omega (arith, ap (λ (c : Book). c.account.idle) is, was.idle);
     }
+
+-- it goes idle
+pub goes_idle : (p : Places) (old new : Holder) → new.pool ≡ old.pool → new.book ≡ idled old.book → IsAwake old
+    → HasNoneLeft p old → IsIdling old 0 new
+goes_idle p old new pool is awake none =
+    let still : IsStill old old =
+        record { came = came_at_all old; held = refl; charge = refl; open_push = none.1; found = none.2 }
+    in
+    record {
+      still = still_after old old new pool (idled old.book) is refl refl refl refl refl still none.1 none.2;
+      idle = omega (arith, ap (λ (c : Book). c.account.idle) is, awake.idle);
+      loads = omega (arith, ap (λ (c : Book). c.loads) is);
+    }
+
+-- a turn is two loads
+pub next_turn : (begun w : Holder) (turn : ℕ) → IsIdling begun (2 * turn + 1 + 1) w → IsIdling begun (2 * (turn + 1)) w
+next_turn begun w turn idling =
+    let two : 2 * turn + 1 + 1 ≡ 2 * (turn + 1) = omega arith in
+    subst (λ (made : ℕ). IsIdling begun made w) two idling

@@ -8,14 +8,18 @@ pub record IsAwake (w : Holder) : Type 0 where
   pub share : w.book.account.share ≡ 1
   pub idle : w.book.account.idle ≡ 0
 
--- Since it went idle it made so many loads, and nothing else.
-pub record IsIdling (begun : Holder) (made : ℕ) (w : Holder) : Type 0 where
+-- It has what it had, nothing was pushed on the full stack, and that was found empty.
+pub record IsStill (begun w : Holder) : Type 0 where
   pub came : CameFrom begun w
   pub held : w.book.account.held ≡ begun.book.account.held
   pub charge : w.book.account.charge ≡ begun.book.account.charge
-  pub idle : w.book.account.idle ≡ 1
   pub open_push : w.book.account.open_push ≡ false
   pub found : w.book.account.found ≡ true
+
+-- It went idle, made so many loads, and did nothing else.
+pub record IsIdling (begun : Holder) (made : ℕ) (w : Holder) : Type 0 where
+  pub still : IsStill begun w
+  pub idle : w.book.account.idle ≡ 1
   pub loads : w.book.loads ≡ begun.book.loads + made
 
 -- It waited until it saw that so many were idle, or so many turns of two loads.

@@ -30,7 +30,7 @@ impl<A: Allocator> PairedWorker<A> {
     {
         pool.idle_up(&mut self.worker);
         let backoff = Backoff::new();
-        for _turn in 0..TURNS {
+        for turn in 0..TURNS {
             if pool.all_idle(&mut self.worker, workers) {
                 return false;
             }
