@@ -71,12 +71,18 @@ fn a_worker_stays_until_another_has_made_work(rt: HostRuntime) -> Result<(), Fai
         let mut writer = Counted::new(Vec::new(alloc));
         let outcome = run(&rt, alloc, &mut reader, &mut writer, &options, &gate);
         assert_eq!(rt; outcome, Ok(()));
-        assert_eq!(rt; writer.into_inner().as_slice(), WIDE_ARRAY_REPORT.as_bytes());
+        assert_eq!(rt;
+            writer.into_inner().as_slice(),
+            WIDE_ARRAY_REPORT.as_bytes()
+        );
         if gate.has_met() {
             met += 1;
         }
     }
-    assert!(rt; 2 * met > RUNS, "the second worker came in {met} runs of {RUNS}");
+    assert!(rt;
+        2 * met > RUNS,
+        "the second worker came in {met} runs of {RUNS}"
+    );
     Ok(())
 }
 
