@@ -44,7 +44,7 @@ references_here s records g n o ids graph is are =
     ap (targets (heap_of records)) (held_here s records g n o ids graph is are)
     ∙ sym (ap (λ (xs : List (List ℕ)). get_or xs n []) graph.references_are ∙ here_is (targets (heap_of records)) g.held n (held_by g n) [] (held_get s records g n o graph is))
 
-slice_get_of : {X : Type 0} (xs : List X) (n : ℕ) → n < length xs → (x : X) × (slice_get xs n ≡ Some x)
+pub slice_get_of : {X : Type 0} (xs : List X) (n : ℕ) → n < length xs → (x : X) × (slice_get xs n ≡ Some x)
 slice_get_of [] n h = absurd (omega (arith, h))
 slice_get_of (x ∷ xs) zero h = (x, refl)
 slice_get_of (x ∷ xs) (suc n) h = slice_get_of xs n (omega (arith, h))

@@ -1,9 +1,7 @@
 -- From a dump to its graph.
-use Rattle.std.proofs.Common.{List, [], ap, arith, cond, count_by, filter, length, map, refl, slice_get, subst, sym, ℕ, ◌++◌, ◌+◌, ◌∙◌, ◌≡◌, ◌≤◌}
+use Rattle.std.proofs.Common.{List, [], ap, arith, count_by, filter, length, map, refl, slice_get, subst, sym, ℕ, ◌++◌, ◌+◌, ◌∙◌, ◌≡◌, ◌≤◌}
 use Rattle.std.specs.Prelude.{filter_map}
-use Rattle.std.specs.List.{concat}
-use Rattle.std.proofs.lemmas.List.Sums.{sum_by-append}
-use Rattle.hprof_grammar.specs.Dump.{IsDumpOf, Places, is_load, is_string}
+use Rattle.hprof_grammar.specs.Dump.{IsDumpOf, Places, is_load, is_string, limit}
 use Rattle.hprof_grammar.specs.Record.{Record}
 use Rattle.hprof_grammar.specs.Standing.{IsPlaced, RecordStands, RecordStandsAt, Sight, StandInTurn, Stands, StandsAt, id_of}
 use Rattle.hprof_grammar.specs.SubRecord.{SubRecord, spelling_of}
@@ -11,7 +9,6 @@ use Rattle.heap_graph.specs.declared.entry.ClassEntry.{ClassEntry}
 use Rattle.heap_graph.specs.declared.objects.Objects.{Objects}
 use Rattle.heap_graph.specs.declared.rule.LinkFault.{LinkFault}
 use Rattle.heap_graph.specs.Heap.{heap_of, objects}
-use Rattle.heap_graph.specs.working.CountedIds.{AreCounted}
 use Rattle.heap_graph.specs.working.HeldIds.{AreLinked, AreLinkedOf}
 use Rattle.heap_graph.specs.LinkFault.{HasLinkFault, IsFirstFault}
 use Rattle.heap_graph.specs.Linked.{IsLinked}
@@ -27,6 +24,8 @@ use Rattle.heap_graph.specs.Rows.{bytes_of, row_of}
 use Rattle.heap_graph.specs.working.Refinement.{StandFor, named_class}
 use Rattle.heap_graph.specs.working.RuleAnswers.{IsFaultOf}
 use Rattle.heap_graph.specs.working.ToldClasses.{AreToldOf}
+use Rattle.heap_graph.proofs.HeldLists.{are_lists, held_lists}
+use Rattle.heap_graph.proofs.MissingLaws.{few_held, roots_missing}
 use Rattle.heap_graph.proofs.Sizes.{id_size_range}
 use Rattle.heap_graph.proofs.Targets.{same_missing, same_targets}
 use Rattle.heap_graph.proofs.Wholeness.{is_whole}
@@ -88,8 +87,10 @@ roots_resolved heap ids wanted old new missing ids_are none wanted_are r = recor
 -- the graph, with the identifiers that the objects hold
 abbrev pub graph_with : ℕ → List Record → List (List ℕ) → ObjectGraph
 graph_with s records held = record {
+  ids = map id_of (objects (heap_of records));
   held = held;
   references = map (targets (heap_of records)) held;
+  root_names = root_ids (heap_of records);
   roots = root_objects (heap_of records);
   rows = map (row_of (heap_of records)) (objects (heap_of records));
   bytes = map (bytes_of s) (objects (heap_of records));
@@ -98,10 +99,17 @@ graph_with s records held = record {
 }
 
 pub graph_is : (s : ℕ) (records : List Record) (held : List (List ℕ)) → AreIdLists s (heap_of records) held → IsGraphOf s records (graph_with s records held)
-graph_is s records held are = record { held_are = are; references_are = refl; roots_are = refl; rows_are = refl; bytes_are = refl; classes_are = refl; unresolved_is = refl }
-
-pub counted_lists : (s : ℕ) (heap : List SubRecord) (n unresolved : ℕ) → n ≡ length (objects heap) → (counted : AreCounted s heap n unresolved) → AreIdLists s heap counted.lists
-counted_lists s heap n unresolved all counted = record { one_each = counted.one_each ∙ all; each = counted.each }
+graph_is s records held are = record {
+  ids_are = refl;
+  held_are = are;
+  references_are = refl;
+  root_names_are = refl;
+  roots_are = refl;
+  rows_are = refl;
+  bytes_are = refl;
+  classes_are = refl;
+  unresolved_is = refl;
+}
 
 pub text_graph : (bytes : List ℕ) (dump : Places) (is : IsDumpOf bytes dump) (s : ℕ) (g : ObjectGraph) → s ≡ dump.id_size → IsLinked s (heap_of is.records) → IsGraphOf s is.records g → IsGraphOfText bytes g
 text_graph bytes dump is s g size_is linked graph = record {
@@ -111,39 +119,49 @@ text_graph bytes dump is s g size_is linked graph = record {
   graph = subst (λ (n : ℕ). IsGraphOf n is.records g) size_is graph;
 }
 
--- what is told of the objects of a dump that were read, and of what was made from them
-pub record AreMade {A : Type 0} (o : Objects A) (records : List Record) (roots : List ℕ) (classes : List ClassEntry) (unresolved missing : ℕ) : Type 0 where
-  pub linked : AreLinkedOf o (heap_of records)
-  pub told : AreToldOf o (heap_of records)
-  pub counted : AreCounted o.view.id_size (heap_of records) (length o.places.items) unresolved
-  pub classes_are : map named_class classes ≡ named_classes records
-  pub found : AreRootsOf (heap_of records) roots missing
+-- the lists of identifiers of the objects, and the graph with them
+abbrev pub lists_of : {A : Type 0} (o : Objects A) (records : List Record) → AreLinkedOf o (heap_of records)
+    → AreToldOf o (heap_of records) → List (List ℕ)
+lists_of o records linked told = (held_lists o (heap_of records) linked told).lists
 
-pub graph_made : {A : Type 0} (o : Objects A) (records : List Record) (roots : List ℕ) (classes : List ClassEntry) (unresolved missing : ℕ) → (made : AreMade o records roots classes unresolved missing)
-    → IsGraphOf o.view.id_size records (graph_with o.view.id_size records made.counted.lists)
-graph_made o records roots classes unresolved missing made =
-    graph_is o.view.id_size records made.counted.lists (counted_lists o.view.id_size (heap_of records) (length o.places.items) unresolved made.linked.are.stand.count made.counted)
+pub graph_made : {A : Type 0} (o : Objects A) (records : List Record) (linked : AreLinkedOf o (heap_of records))
+    (told : AreToldOf o (heap_of records))
+    → IsGraphOf o.view.id_size records (graph_with o.view.id_size records (lists_of o records linked told))
+graph_made o records linked told =
+    graph_is o.view.id_size records (lists_of o records linked told)
+    (are_lists o.view.id_size (heap_of records) (held_lists o (heap_of records) linked told))
 
-pub stand_for : {A : Type 0} (o : Objects A) (records : List Record) (roots : List ℕ) (classes : List ClassEntry) (unresolved missing : ℕ) → ((at : ℕ) (sub : SubRecord) → Stands o.view at sub → at + length (spelling_of o.view.id_size sub) ≤ length o.view.bytes)
-    → (made : AreMade o records roots classes unresolved missing) → StandFor o roots classes (unresolved + missing) (graph_with o.view.id_size records made.counted.lists)
-stand_for o records roots classes unresolved missing within made = record {
-  records = records;
-  linked = made.linked;
-  told = made.told;
-  graph = graph_made o records roots classes unresolved missing made;
-  whole = is_whole o.view o.places.items o.index records (graph_with o.view.id_size records made.counted.lists) made.linked within (graph_made o records roots classes unresolved missing made);
-  roots_are = sym made.found.roots_are;
-  classes_are = sym made.classes_are;
-  unresolved_is = sum_by-append (λ x. cond (is_unresolved (heap_of records) x) 1 0) (concat made.counted.lists) (root_ids (heap_of records))
-      ∙ ap (λ (n : ℕ). n + count_by (is_unresolved (heap_of records)) (root_ids (heap_of records))) (sym made.counted.counted)
-      ∙ ap (λ (n : ℕ). unresolved + n) (sym made.found.missing_is);
-}
+pub stand_for : {A : Type 0} (o : Objects A) (records : List Record) (roots : List ℕ) (classes : List ClassEntry)
+    (missing : ℕ)
+    → ((at : ℕ) (sub : SubRecord) → Stands o.view at sub
+    → at + length (spelling_of o.view.id_size sub) ≤ length o.view.bytes) → length (root_ids (heap_of records)) ≤ limit
+    → (linked : AreLinkedOf o (heap_of records)) → (told : AreToldOf o (heap_of records)) → map named_class
+    classes ≡ named_classes records → AreRootsOf (heap_of records) roots missing → StandFor o roots classes missing
+    (graph_with o.view.id_size records (lists_of o records linked told))
+stand_for o records roots classes missing within few_roots linked told classes_are found =
+    let g : ObjectGraph = graph_with o.view.id_size records (lists_of o records linked told) in
+    let graph : IsGraphOf o.view.id_size records g = graph_made o records linked told in
+    record {
+      records = records;
+      linked = linked;
+      told = told;
+      graph = graph;
+      whole =
+          is_whole o.view o.places.items o.index records g linked within
+          (few_held o.view.id_size (heap_of records) (held_lists o (heap_of records) linked told)) few_roots graph;
+      roots_are = sym found.roots_are;
+      classes_are = sym classes_are;
+      missing_is = roots_missing o.view.id_size records g graph ∙ sym found.missing_is;
+    }
 
-pub text_graph_made : {A : Type 0} (o : Objects A) (text : List ℕ) (dump : Places) (is : IsDumpOf text dump) (roots : List ℕ) (classes : List ClassEntry) (unresolved missing : ℕ) → IsReadOf text dump is o → (made : AreMade o is.records roots classes unresolved missing)
-    → IsGraphOfText o.view.bytes (graph_with o.view.id_size is.records made.counted.lists)
-text_graph_made o text dump is roots classes unresolved missing read made =
-    subst (λ (bytes : List ℕ). IsGraphOfText bytes (graph_with o.view.id_size is.records made.counted.lists)) (sym read.bytes_are)
-    (text_graph text dump is o.view.id_size (graph_with o.view.id_size is.records made.counted.lists) read.size_is made.linked.linked (graph_made o is.records roots classes unresolved missing made))
+pub text_graph_made : {A : Type 0} (o : Objects A) (text : List ℕ) (dump : Places) (is : IsDumpOf text dump)
+    → (read : IsReadOf text dump is o)
+    → IsGraphOfText o.view.bytes (graph_with o.view.id_size is.records (lists_of o is.records read.linked read.told))
+text_graph_made o text dump is read =
+    let g : ObjectGraph = graph_with o.view.id_size is.records (lists_of o is.records read.linked read.told) in
+    subst (λ (bytes : List ℕ). IsGraphOfText bytes g) (sym read.bytes_are)
+    (text_graph text dump is o.view.id_size g read.size_is read.linked.linked
+    (graph_made o is.records read.linked read.told))
 
 -- a text has one graph, so what holds of one holds of each
 pub given_graph : (text : List ℕ) (P : ObjectGraph → Type 0) (g : ObjectGraph) → IsGraphOfText text g → P g → (other : ObjectGraph) → ∥ IsGraphOfText text other ∥₁ → P other

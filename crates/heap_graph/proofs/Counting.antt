@@ -1,12 +1,14 @@
--- A dump has fewer objects than bytes.
-use Rattle.std.specs.Prelude.{if◌then◌else◌}
-use Rattle.std.proofs.Common.{Bool, List, [], ap, arith, false, flat_map, length, length-append, true, ℕ, ◌++◌, ◌+◌, ◌∷◌, ◌≤◌}
+-- A dump has fewer objects than bytes, and fewer roots.
+use Rattle.std.proofs.Common.{Bool, List, [], ap, arith, filter, flat_map, length, length-append, ℕ, ◌++◌, ◌∷◌, ◌≤◌}
+use Rattle.std.proofs.lemmas.List.{length-map}
+use Rattle.std.proofs.lemmas.List.Sums.{count_by-le-length, length-filter}
 use Rattle.byteorder.specs.Endian.{big_bytes}
-use Rattle.hprof_grammar.specs.Dump.{IsDumpOf, Places, header, is_object, limit, spellings}
+use Rattle.hprof_grammar.specs.Dump.{IsDumpOf, Places, header, is_object, is_root, limit, spellings}
 use Rattle.hprof_grammar.specs.Record.{Record, body_of, record_spelling, subs_of, time_of}
 use Rattle.hprof_grammar.specs.Record.Record.{heap, load_class, other, string}
 use Rattle.hprof_grammar.specs.SubRecord.{SubRecord, spelling_of}
-use Rattle.heap_graph.specs.Heap.{heap_of, objects}
+use Rattle.heap_graph.specs.Heap.{heap_of, id_of, objects}
+use Rattle.heap_graph.specs.Roots.{root_ids}
 
 few_subs : (s : ℕ) (subs : List SubRecord) → length subs ≤ length (flat_map (spelling_of s) subs)
 few_subs s [] = omega arith
@@ -25,13 +27,29 @@ in_records : (s : ℕ) (rs : List Record) → length (heap_of rs) ≤ length (sp
 in_records s [] = omega arith
 in_records s (r ∷ rs) = omega (arith, in_record s r, in_records s rs, length-append (subs_of r) (heap_of rs), length-append (record_spelling s r) (spellings s rs))
 
-kept_if : (x : SubRecord) (xs kept : List SubRecord) (n : ℕ) (b : Bool) → length kept ≤ n → length (if b then x ∷ kept else kept) ≤ 1 + n
-kept_if x xs kept n true h = omega (arith, h)
-kept_if x xs kept n false h = omega (arith, h)
+few_kept : (p : SubRecord → Bool) (xs : List SubRecord) → length (filter p xs) ≤ length xs
+few_kept p xs = omega (arith, length-filter p xs, count_by-le-length p xs)
 
-few_kept : (xs : List SubRecord) → length (objects xs) ≤ length xs
-few_kept [] = omega arith
-few_kept (x ∷ xs) = let h = kept_if x xs (objects xs) (length xs) (is_object x) (few_kept xs) in omega (arith, h)
+few_in_heap : (text : List ℕ) (dump : Places) (is : IsDumpOf text dump) → length (heap_of is.records) ≤ limit
+few_in_heap text dump is =
+    omega (
+      arith,
+      in_records dump.id_size is.records,
+      is.spells.size,
+      ap length is.spells.whole,
+      length-append
+          (header dump.id_size is.spells.time) (spellings dump.id_size is.records),
+    )
 
 pub few_in_dump : (text : List ℕ) (dump : Places) (is : IsDumpOf text dump) → length (objects (heap_of is.records)) ≤ limit
-few_in_dump text dump is = omega (arith, few_kept (heap_of is.records), in_records dump.id_size is.records, is.spells.size, ap length is.spells.whole, length-append (header dump.id_size is.spells.time) (spellings dump.id_size is.records))
+few_in_dump text dump is = omega (arith, few_kept is_object (heap_of is.records), few_in_heap text dump is)
+
+pub few_roots_in_dump : (text : List ℕ) (dump : Places) (is : IsDumpOf text dump)
+    → length (root_ids (heap_of is.records)) ≤ limit
+few_roots_in_dump text dump is =
+    omega (
+      arith,
+      length-map (filter is_root (heap_of is.records)) id_of,
+      few_kept is_root (heap_of is.records),
+      few_in_heap text dump is,
+    )

@@ -30,7 +30,10 @@ pub mod ClassLaws
 pub mod Sizes
 pub mod Targets
 pub mod CountedLaws
+pub mod HeldLists
+pub mod MissingLaws
 pub mod Walking
+pub mod Visiting
 pub mod Answering
 pub mod Wholeness
 pub mod Building

@@ -1,12 +1,13 @@
 -- The graph of a linked heap list is whole.
-use Rattle.std.proofs.Common.{All, Bool, List, None, Option, Some, [], ap, arith, cond, false, get_or, length, map, not, refl, slice_get, subst, suc, sym, true, zero, ⊎_elim, ℕ, ◌+◌, ◌<◌, ◌∙◌, ◌∷◌, ◌≡◌, ◌≤◌}
+use Rattle.std.proofs.Common.{All, Bool, List, None, Option, Some, [], ap, arith, cond, false, get_or, length, map, not, refl, slice_get, subst, suc, sym, true, zero, ⊎_elim, ℕ, ◌+◌, ◌<◌, ◌∙◌, ◌∷◌, ◌≡◌, ◌≤◌, ◌^◌}
 use Rattle.std.specs.Prelude.{filter_map, ◌==◌}
 use Rattle.std.specs.List.{cons_option, position_or_len}
 use Rattle.std.proofs.lemmas.Bool.{cases_lt, eq-eqb}
 use Rattle.std.proofs.lemmas.List.{get_or_past, length-map}
 use Rattle.std.proofs.lemmas.List.Elements.{All-cons}
+use Rattle.std.proofs.lemmas.List.Sums.{count_by-le-length}
 use Rattle.std.proofs.lemmas.Option.{slice_get-get_or}
-use Rattle.hprof_grammar.specs.Dump.{is_object}
+use Rattle.hprof_grammar.specs.Dump.{is_object, limit}
 use Rattle.hprof_grammar.specs.Record.{Record}
 use Rattle.hprof_grammar.specs.Standing.{Sight, Stands, id_of}
 use Rattle.hprof_grammar.specs.SubRecord.{Class, IsSubRecord, SubRecord, spelling_of}
@@ -16,13 +17,15 @@ use Rattle.heap_graph.specs.declared.rule.LinkRule.TheVariants.{TooLarge, Unknow
 use Rattle.heap_graph.specs.Heap.{as_class, class_dumps, class_named, class_number, heap_of, number_named, objects}
 use Rattle.heap_graph.specs.working.HeldIds.{AreLinked}
 use Rattle.heap_graph.specs.Linked.{IsLinked, most_objects}
-use Rattle.heap_graph.specs.ObjectGraph.{IsGraphOf, IsRowIn, IsWhole, ObjectGraph, bytes_at, class_count, named_in, object_count, references_of}
+use Rattle.heap_graph.specs.ObjectGraph.{IsGraphOf, IsRowIn, IsWhole, ObjectGraph, bytes_at, class_count, held_by, named_in, object_count, references_of}
 use Rattle.heap_graph.specs.References.{target_of, targets}
 use Rattle.heap_graph.specs.Roots.{root_ids}
 use Rattle.heap_graph.specs.Rows.{bytes_of, row_of}
+use Rattle.heap_graph.specs.Walks.{is_missing}
 use Rattle.heap_graph.proofs.Answering.{bytes_here, count_of, row_here}
 use Rattle.heap_graph.proofs.Firsts.{position_hit}
 use Rattle.heap_graph.proofs.Linking.{IsClassThere, class_there}
+use Rattle.heap_graph.proofs.MissingLaws.{parts_missing}
 use Rattle.heap_graph.proofs.Sizes.{array_type_range, bytes_width}
 use Rattle.heap_graph.proofs.Standings.{IsThere, there}
 
@@ -118,8 +121,10 @@ refs_within heap (ids ∷ lists) zero = targets_within heap ids
 refs_within heap (ids ∷ lists) (suc o) = refs_within heap lists o
 
 pub is_whole : (v : Sight) (places ids : List ℕ) (records : List Record) (g : ObjectGraph) → AreLinked v places ids (heap_of records)
-    → ((at : ℕ) (sub : SubRecord) → Stands v at sub → at + length (spelling_of v.id_size sub) ≤ length v.bytes) → IsGraphOf v.id_size records g → IsWhole g
-is_whole v places ids records g linked within graph =
+    → ((at : ℕ) (sub : SubRecord) → Stands v at sub → at + length (spelling_of v.id_size sub) ≤ length v.bytes)
+    → ((n : ℕ) → length (held_by g n) ≤ 2 ^ 33) → length (root_ids (heap_of records)) ≤ limit → IsGraphOf v.id_size
+    records g → IsWhole g
+is_whole v places ids records g linked within few few_roots graph =
     let heap : List SubRecord = heap_of records in
     let count : object_count g ≡ length (objects heap) = count_of v.id_size records g graph in
     let class_total : class_count g ≡ length (class_dumps heap) = ap length graph.classes_are ∙ length-map (class_dumps heap) (named_in records) in
@@ -142,4 +147,8 @@ is_whole v places ids records g linked within graph =
           let none : bytes_at g o ≡ 0 = get_or_past g.bytes o 0 (omega (arith, ap length graph.bytes_are, length-map (objects heap) (bytes_of v.id_size), l)) in
           omega (arith, none))
           (cases_lt o (length (objects heap)));
+      few_missing = λ o. omega (arith, count_by-le-length (is_missing g.ids) (held_by g o), few o);
+      few_missing_roots =
+          omega (arith, count_by-le-length (is_missing g.ids) g.root_names, ap length graph.root_names_are, few_roots);
+      both_parts = parts_missing v.id_size records g graph (graph.held_are.one_each ∙ sym count);
     }

@@ -2,16 +2,17 @@
 
 mod build;
 
-ghost use Rattle.std.specs.Prelude.{All, ◌<◌, ◌≡◌, ◌≤◌, option_copied};
+ghost use Rattle.std.specs.Prelude.{All, ◌+◌, ◌<◌, ◌^◌, ◌≡◌, ◌≤◌, map, option_copied};
 ghost use Rattle.hprof_grammar.specs.Dump.{limit};
-ghost use Rattle.heap_graph.specs.ObjectGraph.{IsRowIn, IsWhole, bytes_at, class_at, class_count, held_by, object_count, references_of, row_at};
-ghost use Rattle.heap_graph.specs.Walks.{ids_in, references_in};
+ghost use Rattle.heap_graph.specs.ObjectGraph.{IsRowIn, IsWhole, bytes_at, class_at, class_count, held_by, missing_at, missing_roots, object_count, references_of, row_at};
+ghost use Rattle.heap_graph.specs.Walks.{ids_in, missing_in, references_in, step_in};
 ghost use Rattle.heap_graph.specs.working.OnlyGraph.{GraphOf, GraphOf-prop};
 
 use crate::entry::ClassEntry;
 use crate::objects::Objects;
 use crate::row::RowKey;
 use crate::successors::Successors;
+use crate::visit::Visit;
 use std::alloc::Allocator;
 use std::marker::Model;
 
@@ -22,7 +23,8 @@ pub struct Graph<'a, A: Allocator> {
     objects: Objects<'a, A>,
     roots: Vec<u32, A>,
     classes: Vec<ClassEntry<'a>, A>,
-    unresolved: u64,
+    /// How many identifiers of roots name no object.
+    missing: u64,
     /// The graph of the bytes, which there is once.
     ghost graph: { GraphOf objects.view.bytes } by { GraphOf-prop objects.view.bytes },
 }
@@ -35,7 +37,7 @@ impl<'a, A: Allocator> Model for Graph<'a, A> {
 
     ghost view = { λ g. g.graph.0 };
 
-    ghost invariant = { λ g. StandFor g.objects g.roots.items g.classes.items g.unresolved g.graph.0 };
+    ghost invariant = { λ g. StandFor g.objects g.roots.items g.classes.items g.missing g.graph.0 };
 }
 
 impl<'a, A: Allocator> Graph<'a, A> {
@@ -60,9 +62,27 @@ impl<'a, A: Allocator> Graph<'a, A> {
         requires { object < object_count self.now }
         ensures value { references_in result ≡ references_of self.now object }
         ensures held { ids_in result ≡ held_by self.now object }
+        ensures steps { result ≡ map (step_in self.now.ids) (held_by self.now object) }
         ensures within { All (λ o. o < object_count self.now) (references_of self.now object) }
     {
         Successors::new(&self.objects.index, self.objects.ids_of(object as usize))
+    }
+
+    /// The row and the bytes of an object, and the objects that it refers to, in order, repeats kept. They are found as
+    /// they are asked for, and the identifiers that name none are counted on the way.
+    pub fn visit(&self, object: u32) -> Visit<'_, A>
+        requires { object < object_count self.now }
+        ensures row { result.row ≡ row_at self.now object }
+        ensures row_within { IsRowIn self.now result.row }
+        ensures bytes { result.bytes ≡ bytes_at self.now object }
+        ensures few_bytes { result.bytes ≤ limit }
+        ensures steps { result.left ≡ map (step_in self.now.ids) (held_by self.now object) }
+        ensures value { references_in result.left ≡ references_of self.now object }
+        ensures within { All (λ o. o < object_count self.now) (references_of self.now object) }
+        ensures missing { result.missing + missing_in result.left ≡ missing_at self.now object }
+    {
+        let (row, bytes, ids) = self.objects.scan(object as usize);
+        Visit::new(&self.objects.index, ids, row, bytes)
     }
 
     /// The row of an object in the histogram.
@@ -83,11 +103,21 @@ impl<'a, A: Allocator> Graph<'a, A> {
         self.objects.bytes_of(object as usize)
     }
 
-    /// How many identifiers other than 0, in all objects and in roots, name no object.
-    pub fn unresolved(&self) -> u64
-        ensures { result ≡ self.now.unresolved }
+    /// How many of the identifiers that an object holds are other than 0 and name no object.
+    pub fn unresolved_of(&self, object: u32) -> u64
+        requires { object < object_count self.now }
+        ensures value { result ≡ missing_at self.now object }
+        ensures within { result ≤ 2 ^ 33 }
     {
-        self.unresolved
+        self.objects.unresolved_of(object as usize)
+    }
+
+    /// How many identifiers of roots are other than 0 and name no object.
+    pub fn unresolved(&self) -> u64
+        ensures value { result ≡ missing_roots self.now }
+        ensures within { result ≤ limit }
+    {
+        self.missing
     }
 
     /// How many classes there are. They are numbered from 0 in the order of their dumps.

@@ -90,6 +90,7 @@ impl<'d, A: Allocator> Objects<'d, A> {
     ghost use Rattle.hprof_grammar.specs.SubRecord.{Class, Instance, ObjectArray, SubRecord};
     ghost use Rattle.hprof_grammar.specs.SubRecord.SubRecord.{class_dump, instance_dump, object_array_dump};
     ghost use Rattle.hprof_grammar.specs.Standing.{Stands};
+    ghost use Rattle.heap_graph.specs.Heap.{class_number};
     ghost use Rattle.heap_graph.specs.working.ClassTable.{ids_of};
     ghost use Rattle.heap_graph.specs.working.HeldIds.{AreIdsOf, AreIdsOfNumber, AreLinkedOf, IsObjectAt};
     ghost use Rattle.heap_graph.specs.working.HeldIds.{IsFirstOfInstance};
@@ -108,36 +109,41 @@ impl<'d, A: Allocator> Objects<'d, A> {
         }
     }
 
-    /// The first class that declares fields, of the class of an instance and those above it.
-    fn first_class(&self, at: u32) -> Option<u32>
+    /// The class of an instance, and the first class that declares fields, of that one and those above it.
+    pub(crate) fn class_of(&self, at: u32) -> (u32, Option<u32>)
         requires { (heap : List SubRecord) × (n : ℕ) × (i : Instance) × AreLinkedOf self.now heap
             × AreToldOf self.now heap × IsObjectAt self.now.view heap n at (instance_dump i) }
-        ensures { (heap : List SubRecord) (n : ℕ) (i : Instance) → AreLinkedOf self.now heap
+        ensures class { (heap : List SubRecord) (n : ℕ) (i : Instance) → AreLinkedOf self.now heap
             → AreToldOf self.now heap → IsObjectAt self.now.view heap n at (instance_dump i)
-            → IsFirstOfInstance self.now.view.id_size heap (ids_of self.now.classes.table.entries) i result }
+            → result.0 ≡ class_number heap i.class }
+        ensures first { (heap : List SubRecord) (n : ℕ) (i : Instance) → AreLinkedOf self.now heap
+            → AreToldOf self.now heap → IsObjectAt self.now.view heap n at (instance_dump i)
+            → IsFirstOfInstance self.now.view.id_size heap (ids_of self.now.classes.table.entries) i result.1 }
     {
         let number = match self.classes.find(self.view.instance_class(at)) {
             Some(number) => number,
-            None => return None,
+            None => unreachable!(),
         };
         match self.fates[number as usize] {
-            Fate::Whole(layout) => return layout.first,
-            _ => return None,
+            Fate::Whole(layout) => return (number, layout.first),
+            _ => return (number, None),
         }
     }
 
-    /// The identifiers that an instance holds: its class, and then its fields.
-    fn ids_of_instance(&self, at: u32) -> HeldIds<'_, A>
+    /// The identifiers that an instance holds: its class, and then its fields, of a layout that begins at that class.
+    pub(crate) fn ids_of_instance(&self, at: u32, first: Option<u32>) -> HeldIds<'_, A>
         requires { (heap : List SubRecord) × (n : ℕ) × (i : Instance) × AreLinkedOf self.now heap
-            × AreToldOf self.now heap × IsObjectAt self.now.view heap n at (instance_dump i) }
+            × AreToldOf self.now heap × IsObjectAt self.now.view heap n at (instance_dump i)
+            × IsFirstOfInstance self.now.view.id_size heap (ids_of self.now.classes.table.entries) i first }
         ensures { (heap : List SubRecord) (n : ℕ) (i : Instance) → AreLinkedOf self.now heap
             → AreToldOf self.now heap → IsObjectAt self.now.view heap n at (instance_dump i)
+            → IsFirstOfInstance self.now.view.id_size heap (ids_of self.now.classes.table.entries) i first
             → AreIdsOf self.now.view.id_size heap (instance_dump i) result }
     {
         let values = self.view.instance_values(at);
         HeldIds {
             class: Some(self.view.instance_class(at)),
-            rest: Rest::Fields(FieldIds::new(self, self.first_class(at), values)),
+            rest: Rest::Fields(FieldIds::new(self, first, values)),
         }
     }
 
@@ -163,7 +169,7 @@ impl<'d, A: Allocator> Objects<'d, A> {
         let place = self.places[number];
         match self.view.kind(place) {
             ObjectKind::Class => return self.ids_of_class(place),
-            ObjectKind::Instance => return self.ids_of_instance(place),
+            ObjectKind::Instance => return self.ids_of_instance(place, self.class_of(place).1),
             ObjectKind::ObjectArray => return self.ids_of_array(place),
             ObjectKind::PrimitiveArray => {
                 return HeldIds {

@@ -13,12 +13,14 @@ mod row;
 mod rule;
 mod successors;
 mod types;
+mod visit;
 
 pub use graph::Graph;
 pub use laws::one_graph;
 pub use row::RowKey;
 pub use rule::{LinkFault, LinkRefusal, LinkRule};
 pub use successors::Successors;
+pub use visit::Visit;
 
 #[cfg(test)]
 mod tests;

@@ -3,6 +3,7 @@
 mod check;
 mod classes;
 mod rows;
+mod scan;
 pub(crate) mod table;
 mod unresolved;
 

@@ -40,8 +40,10 @@ two = string 0 1 (codes "A") ∷ load_class 0 1 0x100 0 1 ∷ heap 0x0C 0 (class
 
 abbrev graph_of_two : ObjectGraph
 graph_of_two = record {
+  ids = 0x100 ∷ 0x201 ∷ 0x202 ∷ [];
   held = (0 ∷ 0 ∷ 0 ∷ 0 ∷ []) ∷ (0x100 ∷ 0x202 ∷ []) ∷ (0x100 ∷ 0x201 ∷ []) ∷ [];
   references = [] ∷ (0 ∷ 2 ∷ []) ∷ (0 ∷ 1 ∷ []) ∷ [];
+  root_names = 0x201 ∷ [];
   roots = 1 ∷ [];
   rows = keys.ClassObject ∷ keys.Class 0 ∷ keys.Class 0 ∷ [];
   bytes = 0 ∷ 4 ∷ 4 ∷ [];
@@ -78,8 +80,10 @@ two_id_lists (suc (suc (suc n))) o ids e f = cc
 two_is_its_graph : IsGraphOf 4 two graph_of_two
 unfolding size_of
 two_is_its_graph = record {
+  ids_are = refl;
   held_are = record { one_each = refl; each = two_id_lists };
   references_are = refl;
+  root_names_are = refl;
   roots_are = refl;
   rows_are = refl;
   bytes_are = refl;
@@ -91,8 +95,10 @@ two_is_its_graph = record {
 
 abbrev graph_of_four : ObjectGraph
 graph_of_four = record {
+  ids = 0x100 ∷ 0x201 ∷ 0x202 ∷ 0x203 ∷ 0x204 ∷ [];
   held = (0 ∷ 0 ∷ 0 ∷ 0 ∷ []) ∷ (0x100 ∷ 0x202 ∷ []) ∷ (0x100 ∷ 0x201 ∷ []) ∷ (0x100 ∷ 0x204 ∷ []) ∷ (0x100 ∷ 0x203 ∷ []) ∷ [];
   references = [] ∷ (0 ∷ 2 ∷ []) ∷ (0 ∷ 1 ∷ []) ∷ (0 ∷ 4 ∷ []) ∷ (0 ∷ 3 ∷ []) ∷ [];
+  root_names = 0x201 ∷ [];
   roots = 1 ∷ [];
   rows = keys.ClassObject ∷ keys.Class 0 ∷ keys.Class 0 ∷ keys.Class 0 ∷ keys.Class 0 ∷ [];
   bytes = 0 ∷ 4 ∷ 4 ∷ 4 ∷ 4 ∷ [];

@@ -29,8 +29,20 @@ pub fn rows<A: Allocator + Clone, B: Allocator, C: Allocator>(
         rows,
         reachable: (reachable.count, reachable.bytes),
         unreachable: (unreachable.count, unreachable.bytes),
-        unresolved: graph.unresolved(),
+        unresolved: unresolved_in(graph),
     })
+}
+
+/// How many identifiers other than 0, in all objects and in roots, name no object.
+fn unresolved_in<B: Allocator>(graph: &Graph<'_, B>) -> u64
+    ensures { result ≡ graph.now.unresolved }
+{
+    let mut unresolved = graph.unresolved();
+    let objects = graph.len();
+    for object in 0..objects {
+        unresolved += graph.unresolved_of(object);
+    }
+    unresolved
 }
 
 /// A line for each row that has a marked object, in the order of the report.

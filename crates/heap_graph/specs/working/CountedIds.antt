@@ -1,6 +1,5 @@
--- How many identifiers that objects hold name no object.
-use Rattle.std.specs.Prelude.{List, Some, count_by, length, slice_get, ℕ, ◌*◌, ◌^◌, ◌≡◌, ◌≤◌}
-use Rattle.std.specs.List.{concat}
+-- How many of the identifiers that an object holds name no object.
+use Rattle.std.specs.Prelude.{List, Some, count_by, length, slice_get, ℕ, ◌^◌, ◌≡◌, ◌≤◌}
 use Rattle.hprof_grammar.specs.SubRecord.{SubRecord}
 use Rattle.heap_graph.specs.Heap.{objects}
 use Rattle.heap_graph.specs.References.{AreIdsIn, is_unresolved}
@@ -13,12 +12,3 @@ pub record AreCountedOf (s : ℕ) (heap : List SubRecord) (n count : ℕ) : Type
   pub are : AreIdsIn s heap object ids
   pub counted : count ≡ count_by (is_unresolved heap) ids
   pub few : length ids ≤ 2 ^ 33
-
--- and so many of those of the first n objects
-pub record AreCounted (s : ℕ) (heap : List SubRecord) (n count : ℕ) : Type 0 where
-  pub lists : List (List ℕ)
-  pub one_each : length lists ≡ n
-  pub each : (k : ℕ) (o : SubRecord) (ids : List ℕ) → slice_get (objects heap) k ≡ Some o
-      → slice_get lists k ≡ Some ids → AreIdsIn s heap o ids
-  pub counted : count ≡ count_by (is_unresolved heap) (concat lists)
-  pub few : count ≤ n * 2 ^ 33

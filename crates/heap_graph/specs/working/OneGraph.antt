@@ -67,8 +67,10 @@ one_graph_of s records g h p q =
     let heap = heap_of records in
     let lists = one_id_lists s heap g.held h.held p.held_are q.held_are in
     λ i. record {
+      ids = (p.ids_are ∙ sym q.ids_are) i;
       held = lists i;
       references = (p.references_are ∙ ap (map (targets heap)) lists ∙ sym q.references_are) i;
+      root_names = (p.root_names_are ∙ sym q.root_names_are) i;
       roots = (p.roots_are ∙ sym q.roots_are) i;
       rows = (p.rows_are ∙ sym q.rows_are) i;
       bytes = (p.bytes_are ∙ sym q.bytes_are) i;

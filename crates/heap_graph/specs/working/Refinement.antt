@@ -2,7 +2,7 @@
 use Rattle.std.specs.Prelude.{List, map, option_copied, ℕ, ◌≡◌}
 use Rattle.hprof_grammar.specs.Record.{Record}
 use Rattle.heap_graph.specs.Heap.{heap_of}
-use Rattle.heap_graph.specs.ObjectGraph.{IsGraphOf, IsWhole, NamedClass, ObjectGraph}
+use Rattle.heap_graph.specs.ObjectGraph.{IsGraphOf, IsWhole, NamedClass, ObjectGraph, missing_roots}
 use Rattle.heap_graph.specs.working.HeldIds.{AreLinkedOf}
 use Rattle.heap_graph.specs.working.ToldClasses.{AreToldOf}
 use Rattle.heap_graph.specs.declared.entry.ClassEntry.{ClassEntry}
@@ -11,10 +11,10 @@ use Rattle.heap_graph.specs.declared.objects.Objects.{Objects}
 abbrev pub named_class : ClassEntry → NamedClass
 named_class c = record { id = c.id; text = option_copied c.text }
 
--- the objects of a linked dump with their classes, its roots, the names of its classes, and how many identifiers name
--- no object: this is the graph that they stand for
+-- the objects of a linked dump with their classes, its roots, the names of its classes, and how many identifiers of
+-- roots name no object: this is the graph that they stand for
 pub record StandFor {A : Type 0} (objects : Objects A) (roots : List ℕ) (classes : List ClassEntry)
-    (unresolved : ℕ) (g : ObjectGraph) : Type 0 where
+    (missing : ℕ) (g : ObjectGraph) : Type 0 where
   pub records : List Record
   pub linked : AreLinkedOf objects (heap_of records)
   pub told : AreToldOf objects (heap_of records)
@@ -22,4 +22,4 @@ pub record StandFor {A : Type 0} (objects : Objects A) (roots : List ℕ) (class
   pub whole : IsWhole g
   pub roots_are : g.roots ≡ roots
   pub classes_are : g.classes ≡ map named_class classes
-  pub unresolved_is : g.unresolved ≡ unresolved
+  pub missing_is : missing_roots g ≡ missing

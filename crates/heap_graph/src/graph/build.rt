@@ -68,12 +68,11 @@ impl<'a, A: Allocator + Copy> Graph<'a, A> {
         let root_ids = read_ids(alloc, &objects.view, root_places)?;
         let mut roots = Vec::new(alloc);
         let missing = objects.index.resolve(&root_ids, &mut roots)?;
-        let unresolved = objects.unresolved() + missing;
         Ok(Graph {
             objects,
             roots,
             classes,
-            unresolved,
+            missing,
         })
     }
 

@@ -1,6 +1,6 @@
-//! How many identifiers that objects hold name no object.
+//! How many of the identifiers that an object holds name no object.
 
-ghost use Rattle.std.specs.Prelude.{List, length, ◌+◌, ◌<◌, ◌^◌, ◌≤◌};
+ghost use Rattle.std.specs.Prelude.{List, length, ◌<◌};
 ghost use Rattle.hprof_grammar.specs.SubRecord.{SubRecord};
 
 use crate::objects::Objects;
@@ -9,10 +9,10 @@ use std::alloc::Allocator;
 impl<'d, A: Allocator> Objects<'d, A> {
     ghost use Rattle.heap_graph.specs.working.HeldIds.{AreLinkedOf};
     ghost use Rattle.heap_graph.specs.working.ToldClasses.{AreToldOf};
-    ghost use Rattle.heap_graph.specs.working.CountedIds.{AreCounted, AreCountedOf};
+    ghost use Rattle.heap_graph.specs.working.CountedIds.{AreCountedOf};
 
     /// How many of the identifiers that an object holds are other than 0 and name no object.
-    fn unresolved_of(&self, number: usize) -> u64
+    pub(crate) fn unresolved_of(&self, number: usize) -> u64
         requires below { number < length self.now.places.items }
         requires heap { (heap : List SubRecord) × AreLinkedOf self.now heap × AreToldOf self.now heap }
         ensures { (heap : List SubRecord) → AreLinkedOf self.now heap → AreToldOf self.now heap
@@ -23,20 +23,6 @@ impl<'d, A: Allocator> Objects<'d, A> {
             if self.index.is_missing(id) {
                 missing += 1;
             }
-        }
-        missing
-    }
-
-    /// The same of all objects.
-    pub(crate) fn unresolved(&self) -> u64
-        requires few { length self.now.places.items ≤ 2 ^ 24 }
-        requires heap { (heap : List SubRecord) × AreLinkedOf self.now heap × AreToldOf self.now heap }
-        ensures { (heap : List SubRecord) → AreLinkedOf self.now heap → AreToldOf self.now heap
-            → AreCounted self.now.view.id_size heap (length self.now.places.items) result }
-    {
-        let mut missing = 0;
-        for number in 0..self.places.len() {
-            missing += self.unresolved_of(number);
         }
         missing
     }

@@ -18,15 +18,22 @@ pub fn check<R: Abort, A: Allocator>(
     let name = worked.name;
     assert_eq!(rt; graph.len() as usize, worked.objects.len(), "{name}");
     assert_eq!(rt; graph.roots(), worked.roots, "{name}");
-    assert_eq!(rt; graph.unresolved(), worked.unresolved, "{name}");
-    for (number, (references, row, bytes)) in worked.objects.iter().enumerate() {
+    let mut unresolved = graph.unresolved();
+    for (number, (references, row, bytes, missing)) in worked.objects.iter().enumerate() {
         let object = number as u32;
         assert!(rt; object < graph.len());
         let found = graph.successors(object).collect::<Vec<u32>>(alloc)?;
         assert_eq!(rt; found.as_slice(), *references, "{name}, object {object}");
         assert_eq!(rt; graph.row_of(object), *row, "{name}, object {object}");
         assert_eq!(rt; graph.bytes_of(object), *bytes, "{name}, object {object}");
+        assert_eq!(rt;
+            graph.unresolved_of(object),
+            *missing,
+            "{name}, object {object}"
+        );
+        unresolved = unresolved.saturating_add(*missing);
     }
+    assert_eq!(rt; unresolved, worked.unresolved, "{name}");
     assert_eq!(rt; graph.classes() as usize, worked.classes.len(), "{name}");
     for (number, (id, text)) in worked.classes.iter().enumerate() {
         let class = number as u32;

@@ -5,8 +5,8 @@ use test_dumps::Record::{Heap, Load, Text};
 use test_dumps::Sub::{Class, Instance, Objects, Root, Static, Values, Whole};
 use test_dumps::{ClassParts, Record, TWO_OBJECTS};
 
-/// What an object refers to, its row, and its bytes.
-pub type Object = (&'static [u32], RowKey, u64);
+/// What an object refers to, its row, its bytes, and how many identifiers other than 0 that it holds name no object.
+pub type Object = (&'static [u32], RowKey, u64, u64);
 
 /// A dump and its graph.
 pub struct Worked {
@@ -17,6 +17,7 @@ pub struct Worked {
     pub objects: &'static [Object],
     /// The identifier and the text of each class.
     pub classes: &'static [(u64, Option<&'static [u8]>)],
+    /// How many identifiers other than 0, in all objects and in roots, name no object.
     pub unresolved: u64,
 }
 
@@ -30,9 +31,9 @@ pub static WORKED: [Worked; 11] = [
         records: TWO_OBJECTS,
         roots: &[1],
         objects: &[
-            (&[], A_CLASS, 0),
-            (&[0, 2], RowKey::Class(0), 4),
-            (&[0, 1], RowKey::Class(0), 4),
+            (&[], A_CLASS, 0, 0),
+            (&[0, 2], RowKey::Class(0), 4, 0),
+            (&[0, 1], RowKey::Class(0), 4, 0),
         ],
         classes: &[(0x100, Some(b"A"))],
         unresolved: 0,
@@ -59,7 +60,7 @@ pub static WORKED: [Worked; 11] = [
             Root(0x201),
         ])],
         roots: &[1, 0, 1],
-        objects: &[(&[], A_CLASS, 0), (&[0], RowKey::Class(0), 0)],
+        objects: &[(&[], A_CLASS, 0, 0), (&[0], RowKey::Class(0), 0, 0)],
         classes: &[(0x100, None)],
         unresolved: 1,
     },
@@ -81,10 +82,10 @@ pub static WORKED: [Worked; 11] = [
         ],
         roots: &[2],
         objects: &[
-            (&[1], A_CLASS, 0),
-            (&[], A_CLASS, 0),
-            (&[0, 3], RowKey::Class(0), 8),
-            (&[1], RowKey::Class(1), 4),
+            (&[1], A_CLASS, 0, 0),
+            (&[], A_CLASS, 0, 0),
+            (&[0, 3], RowKey::Class(0), 8, 0),
+            (&[1], RowKey::Class(1), 4, 0),
         ],
         classes: &[(0x110, Some(b"B")), (0x100, Some(b"A"))],
         unresolved: 0,
@@ -103,12 +104,12 @@ pub static WORKED: [Worked; 11] = [
         ])],
         roots: &[3],
         objects: &[
-            (&[1], A_CLASS, 0),
-            (&[2], A_CLASS, 0),
-            (&[], A_CLASS, 0),
-            (&[0, 4, 5], RowKey::Class(0), 11),
-            (&[2], RowKey::Class(2), 5),
-            (&[2, 3], RowKey::Class(2), 5),
+            (&[1], A_CLASS, 0, 0),
+            (&[2], A_CLASS, 0, 0),
+            (&[], A_CLASS, 0, 0),
+            (&[0, 4, 5], RowKey::Class(0), 11, 0),
+            (&[2], RowKey::Class(2), 5, 0),
+            (&[2, 3], RowKey::Class(2), 5, 0),
         ],
         classes: &[(0x120, None), (0x110, None), (0x100, None)],
         unresolved: 0,
@@ -127,13 +128,13 @@ pub static WORKED: [Worked; 11] = [
         ])],
         roots: &[],
         objects: &[
-            (&[1], A_CLASS, 0),
-            (&[2], A_CLASS, 0),
-            (&[3], A_CLASS, 0),
-            (&[4], A_CLASS, 0),
-            (&[], A_CLASS, 0),
-            (&[0, 5, 4], RowKey::Class(0), 9),
-            (&[2, 5], RowKey::Class(2), 5),
+            (&[1], A_CLASS, 0, 0),
+            (&[2], A_CLASS, 0, 0),
+            (&[3], A_CLASS, 0, 0),
+            (&[4], A_CLASS, 0, 0),
+            (&[], A_CLASS, 0, 0),
+            (&[0, 5, 4], RowKey::Class(0), 9, 0),
+            (&[2, 5], RowKey::Class(2), 5, 0),
         ],
         classes: &[
             (0x150, None),
@@ -165,10 +166,10 @@ pub static WORKED: [Worked; 11] = [
         ],
         roots: &[3, 0],
         objects: &[
-            (&[2], RowKey::Class(1), 0),
-            (&[], A_CLASS, 0),
-            (&[], A_CLASS, 0),
-            (&[1], RowKey::Class(0), 0),
+            (&[2], RowKey::Class(1), 0, 0),
+            (&[], A_CLASS, 0, 0),
+            (&[], A_CLASS, 0, 0),
+            (&[1], RowKey::Class(0), 0, 0),
         ],
         classes: &[(0x200, Some(b"A")), (0x100, None)],
         unresolved: 0,
@@ -189,9 +190,9 @@ pub static WORKED: [Worked; 11] = [
         ],
         roots: &[1, 2],
         objects: &[
-            (&[], A_CLASS, 0),
-            (&[0, 1], RowKey::Class(0), 24),
-            (&[], RowKey::Primitive(11), 0),
+            (&[], A_CLASS, 0, 0),
+            (&[0, 1], RowKey::Class(0), 24, 1),
+            (&[], RowKey::Primitive(11), 0, 0),
         ],
         classes: &[(0x100, Some(b"[Ljava/lang/Object;"))],
         unresolved: 1,
@@ -209,10 +210,10 @@ pub static WORKED: [Worked; 11] = [
         ])],
         roots: &[1],
         objects: &[
-            (&[2, 1, 0], RowKey::Class(0), 16),
-            (&[2, 0], RowKey::Class(0), 8),
-            (&[], A_CLASS, 0),
-            (&[], A_CLASS, 4),
+            (&[2, 1, 0], RowKey::Class(0), 16, 2),
+            (&[2, 0], RowKey::Class(0), 8, 1),
+            (&[], A_CLASS, 0, 0),
+            (&[], A_CLASS, 4, 1),
         ],
         classes: &[(0x100, None), (0x110, None)],
         unresolved: 5,
@@ -244,15 +245,15 @@ pub static WORKED: [Worked; 11] = [
         ])],
         roots: &[0],
         objects: &[
-            (&[1, 2, 3, 4, 7, 8, 3], A_CLASS, 10),
-            (&[], A_CLASS, 0),
-            (&[], RowKey::Primitive(8), 1),
-            (&[], RowKey::Primitive(4), 2),
-            (&[], RowKey::Primitive(5), 2),
-            (&[], RowKey::Primitive(6), 4),
-            (&[], RowKey::Primitive(7), 8),
-            (&[], RowKey::Primitive(9), 2),
-            (&[], RowKey::Primitive(10), 4),
+            (&[1, 2, 3, 4, 7, 8, 3], A_CLASS, 10, 0),
+            (&[], A_CLASS, 0, 0),
+            (&[], RowKey::Primitive(8), 1, 0),
+            (&[], RowKey::Primitive(4), 2, 0),
+            (&[], RowKey::Primitive(5), 2, 0),
+            (&[], RowKey::Primitive(6), 4, 0),
+            (&[], RowKey::Primitive(7), 8, 0),
+            (&[], RowKey::Primitive(9), 2, 0),
+            (&[], RowKey::Primitive(10), 4, 0),
         ],
         classes: &[(0x100, None), (0x110, None)],
         unresolved: 0,
@@ -279,9 +280,9 @@ pub static WORKED: [Worked; 11] = [
         ])],
         roots: &[],
         objects: &[
-            (&[], A_CLASS, 0),
-            (&[0, 1, 0], A_CLASS, 8),
-            (&[1, 1], RowKey::Class(1), 8),
+            (&[], A_CLASS, 0, 3),
+            (&[0, 1, 0], A_CLASS, 8, 1),
+            (&[1, 1], RowKey::Class(1), 8, 0),
         ],
         classes: &[(0x100, None), (0x110, None)],
         unresolved: 4,

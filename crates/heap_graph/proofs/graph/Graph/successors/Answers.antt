@@ -1,8 +1,9 @@
-use Rattle.std.proofs.Common.{List, ap, subst, ◌∙◌}
+use Rattle.std.proofs.Common.{List, ap, map, subst, sym, ℕ, ◌∙◌}
 use Rattle.heap_graph.specs.Heap.{heap_of}
-use Rattle.heap_graph.specs.ObjectGraph.{IsGraphOf, ObjectGraph}
+use Rattle.heap_graph.specs.ObjectGraph.{IsGraphOf, ObjectGraph, held_by}
 use Rattle.heap_graph.specs.Walks.{Step, ids_in, references_in}
 use Rattle.heap_graph.specs.working.HeldIds.{AreIdsOfNumber}
+use Rattle.heap_graph.specs.working.Resolving.{step_in}
 use Rattle.heap_graph.proofs.Answering.{held_here, references_here}
 use Rattle.heap_graph.proofs.Targets.{same_targets}
 use Rattle.heap_graph.proofs.Walking.{ids_of_steps, targets_of_steps}
@@ -26,3 +27,18 @@ returns-clause-held g c =
     ap (λ (steps : List Step). ids_in steps) c.new.ensures
     ∙ ids_of_steps c.self.inside.objects.index c.ids_of.result
     ∙ held_here c.self.inside.objects.view.id_size inv.records c.args.self.now c.args.object held.object c.ids_of.result graph held.is held.are.are
+
+pub returns-clause-steps : goal.returns-clause-steps
+returns-clause-steps g c =
+    let inv = c.self.invariant in
+    let graph : IsGraphOf c.self.inside.objects.view.id_size inv.records c.args.self.now =
+    subst (λ (v : ObjectGraph). IsGraphOf c.self.inside.objects.view.id_size inv.records v) c.self.view_is
+    inv.graph in
+    let held : AreIdsOfNumber c.self.inside.objects.view.id_size (heap_of inv.records) c.args.object c.ids_of.result =
+    c.ids_of.ensures (heap_of inv.records) inv.linked inv.told in
+    c.new.ensures
+    ∙ ap (λ (ids : List ℕ). map (step_in c.self.inside.objects.index) ids)
+    (held_here c.self.inside.objects.view.id_size inv.records c.args.self.now c.args.object held.object
+    c.ids_of.result graph held.is held.are.are)
+    ∙ ap (λ (all : List ℕ). map (step_in all) (held_by c.args.self.now c.args.object))
+    (inv.linked.are.ids_are ∙ sym graph.ids_are)

@@ -20,17 +20,41 @@ returns-in-Class g c = λ heap linked told.
     let o = class_at c.args.self.now.view heap c.args.number c.index-place.result.now it c.in-Class.ensures in
     record { object = class_dump o.0; is = o.1.is; are = c.ids_of_class.ensures heap o.0 o.1.stands }
 
+pub class_of-requires : goal.class_of-requires
+class_of-requires g c =
+    let it =
+    there_at c.args.self.now.view c.args.self.now.places.items c.args.self.now.index c.requires.heap.0 c.args.number
+    c.index-place.result.now c.requires.heap.1.are c.requires.below c.index-place.ensures in
+    let o =
+    instance_at c.args.self.now.view c.requires.heap.0 c.args.number c.index-place.result.now it
+    c.in-Instance.ensures in
+    (c.requires.heap.0, c.args.number, o.0, c.requires.heap.1, c.requires.heap.2, o.1)
+
 pub ids_of_instance-requires : goal.ids_of_instance-requires
 ids_of_instance-requires g c =
     let it = there_at c.args.self.now.view c.args.self.now.places.items c.args.self.now.index c.requires.heap.0 c.args.number c.index-place.result.now c.requires.heap.1.are c.requires.below c.index-place.ensures in
-    let o = instance_at c.args.self.now.view c.requires.heap.0 c.args.number c.index-place.result.now it c.in-Instance.ensures in
-    (c.requires.heap.0, c.args.number, o.0, c.requires.heap.1, c.requires.heap.2, o.1)
+    let o =
+    instance_at c.args.self.now.view c.requires.heap.0 c.args.number c.index-place.result.now it c.in-Instance.ensures in (
+      c.requires.heap.0,
+      c.args.number,
+      o.0,
+      c.requires.heap.1,
+      c.requires.heap.2,
+      o.1,
+      c.class_of.ensures.first
+          c.requires.heap.0 c.args.number o.0 c.requires.heap.1 c.requires.heap.2 o.1,
+    )
 
 pub returns-in-Instance : goal.returns-in-Instance
 returns-in-Instance g c = λ heap linked told.
     let it = there_at c.args.self.now.view c.args.self.now.places.items c.args.self.now.index heap c.args.number c.index-place.result.now linked.are c.requires.below c.index-place.ensures in
     let o = instance_at c.args.self.now.view heap c.args.number c.index-place.result.now it c.in-Instance.ensures in
-    record { object = instance_dump o.0; is = o.1.is; are = c.ids_of_instance.ensures heap c.args.number o.0 linked told o.1 }
+    record {
+      object = instance_dump o.0;
+      is = o.1.is;
+      are = c.ids_of_instance.ensures heap c.args.number o.0 linked told
+          o.1 (c.class_of.ensures.first heap c.args.number o.0 linked told o.1);
+    }
 
 pub ids_of_array-requires : goal.ids_of_array-requires
 ids_of_array-requires g c =

@@ -9,19 +9,35 @@ new-requires-clause-size g c = c.requires.3.low
 
 pub new-requires-clause-heap : goal.new-requires-clause-heap
 new-requires-clause-heap g c =
-    let first : IsFirstOfInstance c.args.self.now.view.id_size c.requires.0 (ids_of c.args.self.now.classes.table.entries) c.requires.2 c.first_class.result = c.first_class.ensures c.requires.0 c.requires.1 c.requires.2 c.requires.3 c.requires.4 c.requires.5 in
-    (c.requires.0, layout_types first.chain, c.requires.4, layout_from c.args.self.now c.requires.0 c.requires.2 c.first_class.result c.instance_values-values.result.now first (c.instance_values-values.ensures c.requires.2 c.requires.5.stands))
+    let first : IsFirstOfInstance c.args.self.now.view.id_size c.requires.0
+    (ids_of c.args.self.now.classes.table.entries) c.requires.2 c.args.first = c.requires.6 in (
+      c.requires.0,
+      layout_types first.chain,
+      c.requires.4,
+      layout_from c.args.self.now c.requires.0 c.requires.2
+          c.args.first c.instance_values-values.result.now first
+          (c.instance_values-values.ensures c.requires.2 c.requires.5.stands),
+    )
 
 pub invariant_of-result : goal.invariant_of-result
 invariant_of-result g c =
-    let first : IsFirstOfInstance c.args.self.now.view.id_size c.requires.0 (ids_of c.args.self.now.classes.table.entries) c.requires.2 c.first_class.result = c.first_class.ensures c.requires.0 c.requires.1 c.requires.2 c.requires.3 c.requires.4 c.requires.5 in
+    let first : IsFirstOfInstance c.args.self.now.view.id_size c.requires.0
+    (ids_of c.args.self.now.classes.table.entries) c.requires.2 c.args.first = c.requires.6 in
     let values = c.instance_values-values.ensures c.requires.2 c.requires.5.stands in
-    let fields = c.new.ensures c.requires.0 (layout_types first.chain) c.requires.4 (layout_from c.args.self.now c.requires.0 c.requires.2 c.first_class.result c.instance_values-values.result.now first values) in
-    few_in_instance c.args.self.now.view.id_size c.requires.0 (ids_of c.args.self.now.classes.table.entries) c.requires.2 c.first_class.result first c.new.result c.instance_values-values.result.now c.requires.3.low c.requires.5.stands.is.formed.1.values values fields
+    let fields =
+    c.new.ensures c.requires.0 (layout_types first.chain) c.requires.4
+    (layout_from c.args.self.now c.requires.0 c.requires.2 c.args.first c.instance_values-values.result.now
+    first values) in
+    few_in_instance c.args.self.now.view.id_size c.requires.0 (ids_of c.args.self.now.classes.table.entries)
+    c.requires.2 c.args.first first c.new.result c.instance_values-values.result.now c.requires.3.low
+    c.requires.5.stands.is.formed.1.values values fields
 
 pub returns : goal.returns
-returns g c = λ heap n i linked told at.
-    let first : IsFirstOfInstance c.args.self.now.view.id_size heap (ids_of c.args.self.now.classes.table.entries) i c.first_class.result = c.first_class.ensures heap n i linked told at in
+returns g c = λ heap n i linked told at first.
     let values = c.instance_values-values.ensures i at.stands in
-    let fields = c.new.ensures heap (layout_types first.chain) told (layout_from c.args.self.now heap i c.first_class.result c.instance_values-values.result.now first values) in
-    instance_holds c.args.self.now.view.id_size heap (ids_of c.args.self.now.classes.table.entries) i c.first_class.result first c.instance_class.result c.new.result c.instance_values-values.result.now linked.low at.stands.is.formed.1.values (c.instance_class.ensures i at.stands) values fields
+    let fields =
+    c.new.ensures heap (layout_types first.chain) told
+    (layout_from c.args.self.now heap i c.args.first c.instance_values-values.result.now first values) in
+    instance_holds c.args.self.now.view.id_size heap (ids_of c.args.self.now.classes.table.entries) i c.args.first first
+    c.instance_class.result c.new.result c.instance_values-values.result.now linked.low at.stands.is.formed.1.values
+    (c.instance_class.ensures i at.stands) values fields

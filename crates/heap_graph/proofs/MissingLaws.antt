@@ -1,0 +1,96 @@
+-- What each object misses, and what the roots miss, make up the number of the histogram.
+use Rattle.std.proofs.Common.{Bool, List, [], ap, arith, cond, count_by, get_or, length, refl, suc, sum_by, sym, zero, ⊎_elim, ℕ, ◌+◌, ◌^◌, ◌∙◌, ◌∷◌, ◌≡◌, ◌≤◌}
+use Rattle.std.specs.List.{concat, range_with_len}
+use Rattle.std.proofs.lemmas.Bool.{cases_lt}
+use Rattle.std.proofs.lemmas.List.{get_or_past}
+use Rattle.std.proofs.lemmas.List.Sums.{sum_by-append, sum_by-cons}
+use Rattle.std.proofs.lemmas.Option.{slice_get-get_or}
+use Rattle.hprof_grammar.specs.Record.{Record}
+use Rattle.hprof_grammar.specs.SubRecord.{SubRecord}
+use Rattle.heap_graph.specs.Heap.{heap_of, objects}
+use Rattle.heap_graph.specs.ObjectGraph.{IsGraphOf, ObjectGraph, missing_of, missing_roots, object_count}
+use Rattle.heap_graph.specs.References.{is_unresolved}
+use Rattle.heap_graph.specs.Roots.{root_ids}
+use Rattle.heap_graph.specs.Walks.{is_missing}
+use Rattle.heap_graph.proofs.Answering.{slice_get_of}
+use Rattle.heap_graph.proofs.HeldLists.{HoldLists}
+use Rattle.heap_graph.proofs.Targets.{same_missing}
+
+-- ---- a sum over lists, by their numbers
+
+count-concat : (p : ℕ → Bool) (lists : List (List ℕ))
+    → count_by p (concat lists) ≡ sum_by (λ (ids : List ℕ). count_by p ids) lists
+count-concat p [] = refl
+count-concat p (ids ∷ lists) =
+    omega (
+      arith,
+      sum_by-append (λ x. cond (p x) 1 0) ids (concat lists),
+      count-concat p lists,
+      sum_by-cons
+          (λ (xs : List ℕ). count_by p xs) ids lists,
+    )
+
+sum-later : (f : ℕ → ℕ) (a n : ℕ) → sum_by f (range_with_len (a + 1) n) ≡ sum_by (λ o. f (suc o)) (range_with_len a n)
+sum-later f a zero = refl
+sum-later f a (suc n) =
+    let next : a + 1 ≡ suc a = omega arith in
+    omega (
+      arith,
+      sum_by-cons f (a + 1) (range_with_len (a + 1 + 1) n),
+      sum-later f (a + 1) n,
+      ap f next,
+      sum_by-cons
+          (λ o. f (suc o)) a (range_with_len (a + 1) n),
+    )
+
+pub sum-by_number : (f : List ℕ → ℕ) (lists : List (List ℕ))
+    → sum_by f lists ≡ sum_by (λ o. f (get_or lists o [])) (range_with_len 0 (length lists))
+sum-by_number f [] = refl
+sum-by_number f (ids ∷ lists) =
+    omega (
+      arith,
+      sum_by-cons f ids lists,
+      sum-by_number f lists,
+      sum-later (λ o. f (get_or (ids ∷ lists) o [])) 0
+          (length lists),
+      sum_by-cons (λ o. f (get_or (ids ∷ lists) o [])) 0 (range_with_len (0 + 1) (length lists)),
+    )
+
+-- ---- both parts
+
+pub roots_missing : (s : ℕ) (records : List Record) (g : ObjectGraph) → IsGraphOf s records g
+    → missing_roots g ≡ count_by (is_unresolved (heap_of records)) (root_ids (heap_of records))
+roots_missing s records g graph =
+    same_missing (heap_of records) g.ids g.root_names graph.ids_are ∙ ap
+    (λ (ids : List ℕ). count_by (is_unresolved (heap_of records)) ids) graph.root_names_are
+
+objects_missing : (s : ℕ) (records : List Record) (g : ObjectGraph) → IsGraphOf s records g
+    → count_by (is_unresolved (heap_of records)) (concat g.held) ≡ missing_of g (range_with_len 0 (length g.held))
+objects_missing s records g graph =
+    sym (same_missing (heap_of records) g.ids (concat g.held) graph.ids_are) ∙ count-concat (is_missing g.ids) g.held
+    ∙ sum-by_number (λ (ids : List ℕ). count_by (is_missing g.ids) ids) g.held
+
+pub parts_missing : (s : ℕ) (records : List Record) (g : ObjectGraph) → IsGraphOf s records g
+    → length g.held ≡ object_count g → g.unresolved ≡ missing_of g (range_with_len 0 (object_count g)) + missing_roots g
+parts_missing s records g graph each =
+    omega (
+      arith,
+      graph.unresolved_is,
+      sum_by-append (λ x. cond (is_unresolved (heap_of records) x) 1 0) (concat g.held)
+          (root_ids (heap_of records)),
+      objects_missing s records g graph,
+      ap
+          (λ (n : ℕ). missing_of g (range_with_len 0 n)) each,
+      roots_missing s records g graph,
+    )
+
+-- ---- no list is too long
+
+pub few_held : (s : ℕ) (heap : List SubRecord) (held : HoldLists s heap) (n : ℕ)
+    → length (get_or held.lists n []) ≤ 2 ^ 33
+few_held s heap held n = ⊎_elim
+    (λ l.
+    let object = slice_get_of (objects heap) n (omega (arith, l, held.one_each)) in
+    (held.each n object.0 (get_or held.lists n []) object.1 (slice_get-get_or held.lists n [] l)).few)
+    (λ l. omega (arith, ap length (get_or_past held.lists n [] l)))
+    (cases_lt n (length held.lists))

@@ -1,0 +1,83 @@
+use Rattle.std.proofs.Common.{None, Some, ap, arith, length, subst, sym, ◌∙◌, ◌≡◌}
+use Rattle.std.proofs.lemmas.Bool.{eq-eqb, ne_eqb}
+use Rattle.heap_graph.specs.Walks.{GoesOn, Visited, target_in}
+use Rattle.heap_graph.proofs.Visiting.{IsOnTheWay, few_after, goes_end, goes_missing, goes_named, goes_null, start, visited}
+use Rattle.heap_graph.proofs.Walking.{none_of, yields}
+use Rattle.heap_graph.proofs.visit.VisitIterator.next.Goals as goal
+
+pub loop-id-init : goal.loop-id-init
+loop-id-init g c =
+    let v = c.self.inside in
+    subst (λ (old : Visited). IsOnTheWay old v.row v.bytes v.missing v.index.now v.ids) c.self.view_is
+    (start v.row v.bytes v.missing v.index.now v.ids c.self.invariant)
+
+pub invariant_of-self : goal.invariant_of-self
+invariant_of-self g c =
+    let v = c.loop-id.self-inside in
+    let few =
+    few_after c.args.self.now v.row v.bytes v.missing v.index.now c.in-Some.id v.ids c.next.new.self
+    c.loop-id.invariant c.in-Some.ensures.steps in
+    omega (arith, few)
+
+pub returns-in-Some-target-clause-steps : goal.returns-in-Some-target-clause-steps
+returns-in-Some-target-clause-steps g c =
+    let v = c.loop-id.self-inside in
+    let goes : GoesOn c.args.self.now (Some c.in-Some-target.object)
+    (visited v.row v.bytes v.missing v.index.now c.next.new.self) =
+    goes_named c.args.self.now v.row v.bytes v.missing v.index.now c.in-Some.id c.in-Some-target.object v.ids
+    c.next.new.self c.loop-id.invariant c.in-Some.ensures.steps (sym c.in-Some-target.is ∙ c.target.ensures) in (
+      yields c.args.self.now.left (Some c.in-Some-target.object)
+          (visited v.row v.bytes v.missing v.index.now c.next.new.self).left goes.goes,
+      goes,
+    )
+
+pub returns-in-Some-target-clause-goes : goal.returns-in-Some-target-clause-goes
+returns-in-Some-target-clause-goes g c = record {
+  on = λ _. (tt, tt, omega (arith, ap length (returns-in-Some-target-clause-steps g c).0));
+  keeps = tt;
+  rests = λ _.
+      tt;
+}
+
+pub overflow_add-self : goal.overflow_add-self
+overflow_add-self g c =
+    let v = c.loop-id.self-inside in
+    let few =
+    few_after c.args.self.now v.row v.bytes v.missing v.index.now c.in-Some.id v.ids c.next.new.self
+    c.loop-id.invariant c.in-Some.ensures.steps in
+    omega (arith, few)
+
+pub loop-id-smaller-then-id-ne0 : goal.loop-id-smaller-then-id-ne0
+loop-id-smaller-then-id-ne0 g c = omega (arith, ap length c.in-Some.ensures.steps)
+
+pub loop-id-preserved-then-id-ne0 : goal.loop-id-preserved-then-id-ne0
+loop-id-preserved-then-id-ne0 g c =
+    let v = c.loop-id.self-inside in
+    let named : None ≡ target_in v.index.now c.in-Some.id =
+    sym (none_of c.target.result c.in_default-target.not-Some) ∙ c.target.ensures in
+    goes_missing c.args.self.now v.row v.bytes v.missing v.index.now c.in-Some.id v.ids c.next.new.self
+    c.loop-id.invariant c.in-Some.ensures.steps named (ne_eqb c.in-Some.id 0 c.if-id-ne0.true)
+
+pub loop-id-smaller : goal.loop-id-smaller
+loop-id-smaller g c = omega (arith, ap length c.in-Some.ensures.steps)
+
+pub loop-id-preserved : goal.loop-id-preserved
+loop-id-preserved g c =
+    let v = c.loop-id.self-inside in
+    let named : None ≡ target_in v.index.now c.in-Some.id =
+    sym (none_of c.target.result c.in_default-target.not-Some) ∙ c.target.ensures in
+    goes_null c.args.self.now v.row v.bytes v.missing v.index.now c.in-Some.id v.ids c.next.new.self c.loop-id.invariant
+    c.in-Some.ensures.steps named (eq-eqb c.in-Some.id 0 c.if-id-ne0.false)
+
+pub invariant_of-self-in_default : goal.invariant_of-self-in_default
+invariant_of-self-in_default g c = omega (arith, c.loop-id.invariant.few, ap length c.in_default.ensures.steps.1)
+
+pub returns-clause-steps : goal.returns-clause-steps
+returns-clause-steps g c =
+    let v = c.loop-id.self-inside in
+    let goes : GoesOn c.args.self.now None (visited v.row v.bytes v.missing v.index.now c.next.new.self) =
+    goes_end c.args.self.now v.row v.bytes v.missing v.index.now v.ids c.next.new.self c.loop-id.invariant
+    c.in_default.ensures.steps.0 c.in_default.ensures.steps.1 in (
+      yields c.args.self.now.left None (visited v.row v.bytes v.missing v.index.now c.next.new.self).left goes.goes,
+      goes,
+    )

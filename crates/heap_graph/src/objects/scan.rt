@@ -1,0 +1,50 @@
+//! An object with its row, its bytes and the identifiers that it holds, in one step.
+
+ghost use Rattle.std.specs.Prelude.{List, Some, length, slice_get, ◌<◌, ◌≡◌};
+ghost use Rattle.hprof_grammar.specs.SubRecord.{SubRecord};
+ghost use Rattle.heap_graph.specs.Heap.{objects};
+ghost use Rattle.heap_graph.specs.Rows as rows;
+
+use crate::held::HeldIds;
+use crate::objects::Objects;
+use crate::row::RowKey;
+use hprof_grammar::ObjectKind;
+use std::alloc::Allocator;
+
+impl<'d, A: Allocator> Objects<'d, A> {
+    ghost use Rattle.heap_graph.specs.working.HeldIds.{AreIdsOfNumber, AreLinkedOf};
+    ghost use Rattle.heap_graph.specs.working.PlacedObjects.{AreOf};
+    ghost use Rattle.heap_graph.specs.working.ToldClasses.{AreToldOf};
+
+    /// The row and the bytes of an object, and the identifiers that it holds. Its class is looked up once.
+    pub(crate) fn scan(&self, number: usize) -> (RowKey, u64, HeldIds<'_, A>)
+        requires below { number < length self.now.places.items }
+        requires heap { (heap : List SubRecord) × AreLinkedOf self.now heap × AreToldOf self.now heap }
+        ensures row { (heap : List SubRecord) (o : SubRecord) → AreLinkedOf self.now heap → AreToldOf self.now heap
+            → slice_get (objects heap) number ≡ Some o → result.0 ≡ rows.row_of heap o }
+        ensures bytes { (heap : List SubRecord) (o : SubRecord) → AreOf self.now heap
+            → slice_get (objects heap) number ≡ Some o → result.1 ≡ rows.bytes_of self.now.view.id_size o }
+        ensures ids { (heap : List SubRecord) → AreLinkedOf self.now heap → AreToldOf self.now heap
+            → AreIdsOfNumber self.now.view.id_size heap number result.2 }
+    {
+        let place = self.places[number];
+        match self.view.kind(place) {
+            ObjectKind::Instance => {
+                let (class, first) = self.class_of(place);
+                let bytes = self.view.instance_values(place).len() as u64;
+                return (
+                    RowKey::Class(class),
+                    bytes,
+                    self.ids_of_instance(place, first),
+                );
+            }
+            _ => {
+                return (
+                    self.row_of(number),
+                    self.bytes_of(number),
+                    self.ids_of(number),
+                );
+            }
+        }
+    }
+}

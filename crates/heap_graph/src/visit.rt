@@ -1,0 +1,99 @@
+//! An object with its row and its bytes, and the objects that it refers to.
+
+use crate::held::HeldIds;
+use crate::index::Index;
+use crate::row::RowKey;
+use std::alloc::Allocator;
+use std::marker::Model;
+
+/// An iterator over the numbers of the objects that an object refers to. It has the object's row and bytes, and counts
+/// the identifiers other than 0 that name no object. It reads the identifiers from the bytes, and looks each of them
+/// up.
+#[derive(Drop)]
+pub struct Visit<'g, A: Allocator> {
+    index: &'g Index<A>,
+    ids: HeldIds<'g, A>,
+    row: RowKey,
+    bytes: u64,
+    missing: u64,
+}
+
+impl<'g, A: Allocator> Model for Visit<'g, A> {
+    ghost use Rattle.std.specs.Prelude.{length, map, ◌+◌, ◌^◌, ◌≤◌};
+    ghost use Rattle.heap_graph.specs.Walks.{Visited, step_in};
+
+    ghost Value = { Visited };
+
+    ghost view = { λ v. record {
+      row = v.row;
+      bytes = v.bytes;
+      missing = v.missing;
+      left = map (step_in v.index.now) v.ids;
+    } };
+
+    ghost invariant = { λ v. v.missing + length v.ids ≤ 2 ^ 33 };
+}
+
+impl<'g, A: Allocator> Visit<'g, A> {
+    ghost use Rattle.std.specs.Prelude.{length, map, ◌^◌, ◌≡◌, ◌≤◌};
+    ghost use Rattle.heap_graph.specs.Walks.{step_in};
+
+    /// The objects that these identifiers name, of an object with that row and so many bytes.
+    pub(crate) fn new(index: &'g Index<A>, ids: HeldIds<'g, A>, row: RowKey, bytes: u64) -> Self
+        requires { length ids ≤ 2 ^ 33 }
+        ensures { result ≡ record { row = row; bytes = bytes; missing = 0; left = map (step_in index.now) ids.entry } }
+    {
+        Visit {
+            index,
+            ids,
+            row,
+            bytes,
+            missing: 0,
+        }
+    }
+
+    /// The row of the object in the histogram.
+    pub fn row(&self) -> RowKey
+        ensures { result ≡ self.now.row }
+    {
+        self.row
+    }
+
+    /// The bytes of the object.
+    pub fn bytes(&self) -> u64
+        ensures { result ≡ self.now.bytes }
+    {
+        self.bytes
+    }
+
+    /// How many of the identifiers that were passed are other than 0 and name no object: behind the last object, how
+    /// many of all that the object holds.
+    pub fn missing(&self) -> u64
+        ensures { result ≡ self.now.missing }
+    {
+        self.missing
+    }
+}
+
+impl<'g, A: Allocator> Iterator for Visit<'g, A> {
+    ghost use Rattle.std.specs.Iterator.{YieldsFirst, item_count};
+    ghost use Rattle.heap_graph.specs.Walks.{GoesOn, references_left};
+
+    type Item = u32;
+
+    ghost next_gives = { λ old object new. YieldsFirst references_left old object new × GoesOn old object new };
+
+    ghost remaining = { item_count references_left };
+
+    fn next(&mut self) -> Option<u32> {
+        while let Some(id) = self.ids.next() {
+            if let Some(object) = self.index.target(id) {
+                return Some(object);
+            }
+            if id != 0 {
+                self.missing += 1;
+            }
+        }
+        None
+    }
+}
