@@ -97,6 +97,32 @@ fn identifiers_left(rt: HostRuntime) -> Result<(), Fail> {
     Ok(())
 }
 
+/// A visit of each object of each worked dump tells its row and its bytes at once, gives what it refers to, and has
+/// counted at its end what the object misses.
+#[test]
+fn visits(rt: HostRuntime) -> Result<(), Fail> {
+    let alloc = rt.alloc();
+    for worked in &WORKED {
+        let file = Bytes::dump(alloc, worked.id_size, worked.records)?;
+        let dump = read(alloc, &file.bytes)?;
+        let graph = Graph::build(alloc, &file.bytes, dump)?;
+        let name = worked.name;
+        for (number, (references, row, bytes, missing)) in worked.objects.iter().enumerate() {
+            let object = number as u32;
+            assert!(rt; object < graph.len());
+            let mut visit = graph.visit(object);
+            assert_eq!(rt; visit.row(), *row, "{name}, object {object}");
+            assert_eq!(rt; visit.bytes(), *bytes, "{name}, object {object}");
+            for reference in *references {
+                assert_eq!(rt; visit.next(), Some(*reference), "{name}, object {object}");
+            }
+            assert_eq!(rt; visit.next(), None, "{name}, object {object}");
+            assert_eq!(rt; visit.missing(), *missing, "{name}, object {object}");
+        }
+    }
+    Ok(())
+}
+
 /// The elements of a long array.
 const MANY: usize = 100_000;
 
