@@ -21,6 +21,11 @@ impl<A: Allocator + Copy> Replay<A> {
         Ok(Replay { alloc, world })
     }
 
+    // Whether the account may do this next.
+    fn may(self, worker: u32, kind: Kind<A>) -> Result<bool, OutOfMemory> {
+        Ok(self.does(worker, kind)?.world.is_some())
+    }
+
     // Pops the first buffer of a stack, undisturbed.
     fn pops(self, worker: u32, which: Which) -> Result<Self, OutOfMemory> {
         self.does(worker, Kind::Load(which))?
@@ -176,45 +181,74 @@ fn one_idle<A: Allocator + Copy>(alloc: A) -> Result<Replay<A>, OutOfMemory> {
     one_waits(alloc)?.does(1, Kind::IdleUp)
 }
 
-#[test]
-fn an_idle_account_does_nothing_else(rt: HostRuntime) -> Result<(), OutOfMemory> {
-    let alloc = rt.alloc();
-    let unseen = three_objects(alloc)?
-        .does(0, Kind::Split(1))?
-        .does(1, Kind::IdleUp)?;
-    assert!(rt; unseen.world.is_none(), "the full stack was not loaded");
-    let charged = one_waits(alloc)?
-        .does(1, Kind::Claim(1))?
-        .does(1, Kind::IdleUp)?;
-    assert!(rt; charged.world.is_none(), "it answers for an object");
-    let leader = three_objects(alloc)?
-        .does(0, Kind::Load(Which::Full))?
-        .does(0, Kind::IdleUp)?;
-    assert!(rt; leader.world.is_none(), "it has more than one unit");
-
-    assert!(rt; one_idle(alloc)?.does(1, Kind::LoadIdle)?.world.is_some());
-    assert!(rt; one_idle(alloc)?.does(1, Kind::IdleUp)?.world.is_none());
-    assert!(rt; one_idle(alloc)?.does(1, Kind::Claim(1))?.world.is_none());
-    assert!(rt; one_idle(alloc)?.pops(1, Which::Empty)?.world.is_none());
-    let back = one_idle(alloc)?.does(1, Kind::IdleDown)?;
-    assert!(rt; back.does(1, Kind::Claim(1))?.world.is_some());
-    assert!(rt; one_waits(alloc)?.does(1, Kind::IdleDown)?.world.is_none());
-    Ok(())
+// Account 1 came back.
+fn one_woken<A: Allocator + Copy>(alloc: A) -> Result<Replay<A>, OutOfMemory> {
+    one_idle(alloc)?.does(1, Kind::IdleDown)
 }
 
 #[test]
-fn a_push_on_full_ends_what_was_found(rt: HostRuntime) -> Result<(), OutOfMemory> {
+fn an_idle_account_does_nothing_else(rt: HostRuntime) -> Result<(), OutOfMemory> {
     let alloc = rt.alloc();
-    let pushed = one_waits(alloc)?.pops(1, Which::Empty)?.pushes(1, 0, None)?;
-    assert!(rt; pushed.world.is_some());
-    assert!(rt; pushed.does(1, Kind::IdleUp)?.world.is_none());
-    let popped = one_waits(alloc)?
-        .pops(1, Which::Empty)?
-        .pushes(1, 0, None)?
+    assert!(rt; one_idle(alloc)?.may(1, Kind::LoadIdle)?);
+    assert!(rt; !one_idle(alloc)?.may(1, Kind::IdleUp)?);
+    assert!(rt; !one_idle(alloc)?.may(1, Kind::Claim(1))?);
+    assert!(rt;
+        !one_idle(alloc)?
+            .pops(1, Which::Empty)?
+            .may(1, Kind::LoadIdle)?
+    );
+    assert!(rt; one_woken(alloc)?.may(1, Kind::Claim(1))?);
+    assert!(rt; !one_waits(alloc)?.may(1, Kind::IdleDown)?);
+    Ok(())
+}
+
+// Account 1 has one unit, and has not loaded the full head.
+fn one_apart<A: Allocator + Copy>(alloc: A) -> Result<Replay<A>, OutOfMemory> {
+    three_objects(alloc)?.does(0, Kind::Split(1))
+}
+
+// Account 0 has the whole share, and has found the full stack empty.
+fn leader_waits<A: Allocator + Copy>(alloc: A) -> Result<Replay<A>, OutOfMemory> {
+    three_objects(alloc)?.does(0, Kind::Load(Which::Full))
+}
+
+// Account 1 has found the full stack empty, and then claimed the root.
+fn one_charged<A: Allocator + Copy>(alloc: A) -> Result<Replay<A>, OutOfMemory> {
+    one_waits(alloc)?.does(1, Kind::Claim(1))
+}
+
+// Account 1 has found the full stack empty, and then pushed there.
+fn one_pushed<A: Allocator + Copy>(alloc: A) -> Result<Replay<A>, OutOfMemory> {
+    one_waits(alloc)?.pops(1, Which::Empty)?.pushes(1, 0, None)
+}
+
+// It has taken that buffer back, and found the stack empty again.
+fn one_looked_again<A: Allocator + Copy>(alloc: A) -> Result<Replay<A>, OutOfMemory> {
+    one_pushed(alloc)?
         .pops(1, Which::Full)?
-        .does(1, Kind::Load(Which::Full))?
-        .does(1, Kind::IdleUp)?;
-    assert!(rt; popped.world.is_some());
+        .does(1, Kind::Load(Which::Full))
+}
+
+#[test]
+fn who_may_go_idle(rt: HostRuntime) -> Result<(), OutOfMemory> {
+    let alloc = rt.alloc();
+    assert!(rt;
+        !one_apart(alloc)?.may(1, Kind::IdleUp)?,
+        "the full stack was not loaded"
+    );
+    assert!(rt;
+        !leader_waits(alloc)?.may(0, Kind::IdleUp)?,
+        "it has more than one unit"
+    );
+    assert!(rt;
+        !one_charged(alloc)?.may(1, Kind::IdleUp)?,
+        "it answers for an object"
+    );
+    assert!(rt;
+        !one_pushed(alloc)?.may(1, Kind::IdleUp)?,
+        "it pushed on full since it looked"
+    );
+    assert!(rt; one_looked_again(alloc)?.may(1, Kind::IdleUp)?);
     Ok(())
 }
 
