@@ -1,12 +1,14 @@
 -- The leader sees all roots and keeps what it saw, and once it has its units again it drains what is left.
-use Rattle.std.proofs.Common.{◌∙◌, ◌<◌, Contains, ℕ, subst, sym}
+use Rattle.std.proofs.Common.{[], ◌∙◌, ◌<◌, Contains, ℕ, subst, sym}
 use Rattle.mark_core.specs.World.{Setup}
+use Rattle.work_pair.specs.Places.{Places}
+use Rattle.drain.specs.working.AtWork.{IsAtWork}
 use Rattle.drain.proofs.Leading.{leads_on, several_busy}
 use Rattle.drain.proofs.Outcomes.{at_ok}
 use Rattle.drain.proofs.leader.lead.Goals as goal
 
-pub open-paired-requires-clause-busy : goal.open-paired-requires-clause-busy
-open-paired-requires-clause-busy g c = several_busy c.args.leader c.requires.several
+pub open-requires-clause-busy : goal.open-requires-clause-busy
+open-requires-clause-busy g c = several_busy c.args.leader c.requires.several
 
 pub drain-requires-clause-at_work : goal.drain-requires-clause-at_work
 drain-requires-clause-at_work g c =
@@ -14,8 +16,11 @@ drain-requires-clause-at_work g c =
     let share = c.in_ok-paired-2.ensures.share ∙ c.in_ok-publish.ensures.goes_on.came.share
         ∙ c.in_ok-claim_roots.ensures.goes_on.came.share ∙ opened.0.came.share in
     let several = subst (λ (n : ℕ). 1 < n) (sym share) c.requires.several in
-    leads_on c.publish.new.self.pair c.publish.new.self.worker c.in_ok-paired-2.paired.worker
-    c.in_ok-paired-2.ensures.leads several c.in_ok-publish.ensures.at_work.hand
+    let old = c.publish.new.self in
+    let new = c.in_ok-paired-2.paired.worker in
+    let at_work = leads_on old.pair old.worker new c.in_ok-paired-2.ensures.leads several
+        c.in_ok-publish.ensures.at_work.hand in
+    subst (λ (p : Places). IsAtWork p [] new) (sym c.in_ok-paired-2.ensures.pair) at_work
 
 pub returns : goal.returns
 returns g c =
