@@ -1,5 +1,5 @@
 -- The leader sees all roots and keeps what it saw, and once it has its units again it drains what is left.
-use Rattle.std.proofs.Common.{[], ◌∙◌, ◌<◌, Contains, ℕ, subst, sym}
+use Rattle.std.proofs.Common.{[], ◌∙◌, ◌<◌, Contains, rules, ℕ, subst, sym}
 use Rattle.mark_core.specs.World.{Setup}
 use Rattle.work_pair.specs.Places.{Places}
 use Rattle.drain.specs.working.AtWork.{IsAtWork}
@@ -20,7 +20,10 @@ drain-requires-clause-at_work g c =
     let new = c.in_ok-paired-2.paired.worker in
     let at_work = leads_on old.pair old.worker new c.in_ok-paired-2.ensures.leads several
         c.in_ok-publish.ensures.at_work.hand in
-    subst (λ (p : Places). IsAtWork p [] new) (sym c.in_ok-paired-2.ensures.pair) at_work
+    let again : IsAtWork c.in_ok-paired-2.paired.pair [] new =
+        subst (λ (p : Places). IsAtWork p [] new) (sym c.in_ok-paired-2.ensures.pair) at_work
+    in
+    search (rules, again)
 
 pub returns : goal.returns
 returns g c =
