@@ -180,7 +180,7 @@ module _ (old new : Holder) (pool : new.pool ≡ old.pool) (o found : ℕ) (is :
         saw = λ x h. on.came.seen x (saw_it x h);
         at_work = λ besides was.
             let claimed : IsAtWork p (o ∷ besides) new =
-                record { hand = white_at_hand white p besides was.hand; busy = claimed_busy was.busy }
+            record { hand = white_at_hand white p besides was.hand; busy = claimed_busy was.busy }
             in
             dealt p new (o ∷ []) [] q end deals besides going claimed;
       }

@@ -99,7 +99,7 @@ pub goes_idle : (p : Places) (old new : Holder) → new.pool ≡ old.pool → ne
     → HasNoneLeft p old → IsIdling old 0 new
 goes_idle p old new pool is awake none =
     let still : IsStill old old =
-        record { came = came_at_all old; held = refl; charge = refl; open_push = none.1; found = none.2 }
+    record { came = came_at_all old; held = refl; charge = refl; open_push = none.1; found = none.2 }
     in
     record {
       still = still_after old old new pool (idled old.book) is refl refl refl refl refl still none.1 none.2;

@@ -14,14 +14,14 @@ pub drain-requires-clause-at_work : goal.drain-requires-clause-at_work
 drain-requires-clause-at_work g c =
     let opened = at_ok _ c.in_ok-paired.field-0 c.in-Ok.paired c.in_ok-paired.ensures.opened c.in-Ok.is in
     let share = c.in_ok-paired-2.ensures.share ∙ c.in_ok-publish.ensures.goes_on.came.share
-        ∙ c.in_ok-claim_roots.ensures.goes_on.came.share ∙ opened.0.came.share in
+    ∙ c.in_ok-claim_roots.ensures.goes_on.came.share ∙ opened.0.came.share in
     let several = subst (λ (n : ℕ). 1 < n) (sym share) c.requires.several in
     let old = c.publish.new.self in
     let new = c.in_ok-paired-2.paired.worker in
     let at_work = leads_on old.pair old.worker new c.in_ok-paired-2.ensures.leads several
-        c.in_ok-publish.ensures.at_work.hand in
+    c.in_ok-publish.ensures.at_work.hand in
     let again : IsAtWork c.in_ok-paired-2.paired.pair [] new =
-        subst (λ (p : Places). IsAtWork p [] new) (sym c.in_ok-paired-2.ensures.pair) at_work
+    subst (λ (p : Places). IsAtWork p [] new) (sym c.in_ok-paired-2.ensures.pair) at_work
     in
     search (rules, again)
 

@@ -29,7 +29,7 @@ loop-preserved g c =
     let worked = c.work_off.new.self.worker in
     let end = c.finds_more.new.self in
     let on = came_again c.loop.paired.worker worked end.worker c.in_ok-work_off.ensures.goes_on.came
-        c.finds_more.ensures.came in
+    c.finds_more.ensures.came in
     let awake = c.finds_more.ensures.awake c.if-not-finds_more.false in (
       came_again c.in-Ok.paired.worker c.loop.paired.worker end.worker c.loop.invariant.0 on,
       awake_at_work end.pair end.worker awake c.finds_more.ensures.hand,
@@ -42,7 +42,7 @@ returns-then-not-finds_more g c =
     let worked = c.work_off.new.self.worker in
     let end = c.finds_more.new.self.worker in
     let on = came_again c.loop.paired.worker worked end c.in_ok-work_off.ensures.goes_on.came
-        c.finds_more.ensures.came in
+    c.finds_more.ensures.came in
     let since = came_again c.in-Ok.paired.worker c.loop.paired.worker end c.loop.invariant.0 on in
     let came = came_again c.args.worker c.in-Ok.paired.worker end opened.0.came since in
     if_ok c.close.result c.close.ensures (λ w through. (came_again c.args.worker end w came through.0, through.1))
