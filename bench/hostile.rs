@@ -11,14 +11,17 @@ use std::process::ExitCode;
 
 const CLASS: u64 = 0x1000_0000;
 const OBJECT: u64 = 0x4000_0000;
+const INSTANCE: u64 = 0xD000_0000;
+const ODD: u64 = 0x9e37_79b9_7f4a_7c15;
 
 type Build = fn(File, u64) -> File;
 
-const KINDS: [(&str, Build); 12] = [
+const KINDS: [(&str, Build); 13] = [
     ("chain", chain),
     ("chain_upwards", chain_upwards),
     ("cycle", cycle),
     ("inherited_fields", inherited_fields),
+    ("colliding_classes", colliding_classes),
     ("one_id", one_id),
     ("crowded_ids", crowded_ids),
     ("falling_ids", falling_ids),
@@ -67,6 +70,30 @@ fn inherited_fields(file: File, count: u64) -> File {
         let all = (1..=count).fold(base, |heap, number| heap.class(CLASS + number, CLASS, &[]));
         all.instance(OBJECT, CLASS + count, &values).root(OBJECT)
     })
+}
+
+/// Classes with these IDs, and an instance of each.
+fn classes_with_instances(file: File, ids: &[u64]) -> File {
+    file.heap(|heap| {
+        let classes = ids.iter().fold(heap, |heap, id| heap.class(*id, 0, &[]));
+        let instances = ids.iter().zip(INSTANCE..);
+        instances.fold(classes, |heap, (id, object)| heap.instance(object, *id, &[])).root(INSTANCE)
+    })
+}
+
+/// The hash of an ID in a map of the toolchain's `indexmap`, by its `FoldHasher`, whose seed is fixed.
+fn hash(id: u64) -> u64 {
+    let product = u128::from(id ^ 0x243f_6a88_85a3_08d3) * u128::from(ODD ^ 16);
+    let folded = product as u64 ^ (product >> 64) as u64;
+    folded ^ folded >> 32
+}
+
+/// So many classes whose hashes all begin in the first thousandth of such a map, which looks on from there one by one.
+fn colliding_classes(file: File, count: u64) -> File {
+    let groups = count.div_ceil(9).next_power_of_two();
+    let first = (groups / 1024).max(1);
+    let ids = (CLASS..INSTANCE).filter(|id| hash(*id) & (groups - 1) < first);
+    classes_with_instances(file, &ids.take(count as usize).collect::<Vec<_>>())
 }
 
 /// So many objects of one ID.
