@@ -1,12 +1,10 @@
 -- What the table of classes says of one class, and how it grows.
-use Rattle.std.proofs.Common.{Bool, Contains, List, None, Option, Some, [], ap, arith, cond, false, length, map, not, refl, slice_get, subst, suc, sym, true, zero, ℕ, ◌+◌, ◌<◌, ◌^◌, ◌++◌, ◌∙◌, ◌∷◌, ◌≡◌, ◌≤◌}
-use Rattle.std.specs.Prelude.{if◌then◌else◌, nat_eq, position, slice_index, slice_index_or, slice_range, ◌==◌}
+use Rattle.std.proofs.Common.{Bool, Contains, List, None, Option, Some, [], ap, arith, cond, false, length, map, not, refl, slice_get, subst, suc, sym, true, zero, ℕ, ◌+◌, ◌<◌, ◌^◌, ◌∙◌, ◌∷◌, ◌≡◌, ◌≤◌}
+use Rattle.std.specs.Prelude.{position, slice_index, slice_index_or, slice_range, ◌==◌}
 use Rattle.std.specs.List.{position_or_len}
-use Rattle.std.proofs.lemmas.Bool.{eq-eqb, eqb-true, ne_eqb}
+use Rattle.std.proofs.lemmas.Bool.{eq-eqb, eqb-true}
 use Rattle.std.proofs.lemmas.List.{length-map}
 use Rattle.std.proofs.lemmas.Option.{get_or_from_slice_get}
-use Rattle.std.proofs.lemmas.List.Elements.{Contains-append_right}
-use Rattle.indexmap.specs.IndexMap.{insert_entry}
 use Rattle.hprof_grammar.specs.Standing.{Sight, Stands}
 use Rattle.hprof_grammar.specs.SubRecord.{Class, Member, SubRecord}
 use Rattle.hprof_grammar.specs.SubRecord.SubRecord.{class_dump}
@@ -25,7 +23,7 @@ pub record IsNumbered (v : Sight) (heap : List SubRecord) (entries : List Entry)
   pub id_is : slice_index (ids_of entries) k ≡ entry.0
   pub holds : IsEntry v heap places entry
 
-there_is : {X : Type 0} (xs : List X) (k : ℕ) → k < length xs → (x : X) × (slice_get xs k ≡ Some x)
+pub there_is : {X : Type 0} (xs : List X) (k : ℕ) → k < length xs → (x : X) × (slice_get xs k ≡ Some x)
 there_is [] k h = absurd (omega (arith, h))
 there_is (x ∷ xs) zero h = (x, refl)
 there_is (x ∷ xs) (suc k) h = there_is xs k (omega (arith, h))
@@ -164,14 +162,3 @@ pub some_fields : (v : Sight) (heap : List SubRecord) (entries : List Entry) (pl
     → class_named heap (slice_index (ids_of entries) k) ≡ Some c → ((entry_at entries k).size ≡ 0 → ⊥) → own_types c ≡ [] → ⊥
 some_fields v heap entries places k c are h named some none =
     some (size_of_class v heap entries places k c are h named ∙ ap (λ (ts : List ℕ). size_together v.id_size ts) none)
-
--- a new identifier goes last
-insert_if : (e : Entry) (es : List Entry) (id : ℕ) (p : ClassPlaces) (b : Bool) → nat_eq id e.0 ≡ b → b ≡ false → insert_entry nat_eq es id p ≡ es ++ (id, p) ∷ [] → (if b then (e.0, p) ∷ es else e ∷ insert_entry nat_eq es id p) ≡ (e ∷ es) ++ (id, p) ∷ []
-insert_if e es id p true is f rest = absurd (cc f)
-insert_if e es id p false is f rest = ap (λ (xs : List Entry). e ∷ xs) rest
-
-pub insert_last : (es : List Entry) (id : ℕ) (p : ClassPlaces) → (Contains (ids_of es) id → ⊥) → insert_entry nat_eq es id p ≡ es ++ (id, p) ∷ []
-insert_last [] id p new = refl
-insert_last (e ∷ es) id p new =
-    insert_if e es id p (nat_eq id e.0) refl (ne_eqb id e.0 (λ same. new (0, omega arith, sym same)))
-    (insert_last es id p (λ c. new (Contains-append_right (e.0 ∷ []) (ids_of es) id c)))

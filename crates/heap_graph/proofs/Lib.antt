@@ -14,6 +14,7 @@ pub mod FateLaws
 pub mod LayoutLaws
 pub mod ClimbLaws
 pub mod ClassTableLaws
+pub mod SpreadLaws
 pub mod RuleLaws
 pub mod InstanceLaws
 pub mod FieldsUpLaws

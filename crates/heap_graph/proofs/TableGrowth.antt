@@ -1,6 +1,6 @@
 -- The table of classes: one more object.
 use Rattle.std.proofs.Common.{Bool, Contains, List, None, Option, Some, [], append-nil, ap, arith, cond, drop, false, inl, inr, length, length-append, map, not, refl, slice_get, subst, suc, sym, take, true, zero, ⊎_elim, ℕ, ◌++◌, ◌+◌, ◌-◌, ◌<◌, ◌∙◌, ◌∷◌, ◌≡◌, ◌≤◌, ◌⊎◌}
-use Rattle.std.specs.Prelude.{filter_map, nat_lt, option_and_then, position, slice_index, slice_index_or, slice_range, ◌==◌}
+use Rattle.std.specs.Prelude.{filter_map, nat_lt, option_and_then, position, slice_range, ◌==◌}
 use Rattle.std.specs.List.{cons_option, position_or_len}
 use Rattle.std.proofs.lemmas.Bool.{cases_order, eq-eqb, eqb-true, lt-ltb, ne_eqb}
 use Rattle.std.proofs.lemmas.List.{drop-append-le, length-drop, map-append, take-append-le, take_all}
@@ -16,7 +16,6 @@ use Rattle.heap_graph.specs.working.ClassTable.{AddsEntry, AreClasses, AreClasse
 use Rattle.heap_graph.specs.working.IdPlaces.{id_places}
 use Rattle.heap_graph.specs.working.PlacedObjects.{AreObjects}
 use Rattle.heap_graph.proofs.ChainLaws.{some_inj, some_none}
-use Rattle.heap_graph.proofs.ClassTableLaws.{IsFound, found}
 use Rattle.heap_graph.proofs.EntryLaws.{take_one}
 use Rattle.heap_graph.proofs.Firsts.{IsHit, position_at, position_hit}
 use Rattle.heap_graph.proofs.PathLaws.{contains_cases, contains_none}
@@ -197,23 +196,7 @@ get_map f [] n x is = absurd (some_none (sym is))
 get_map f (y ∷ ys) zero x is = ap (λ z. Some (f z)) (some_inj is)
 get_map f (y ∷ ys) (suc n) x is = get_map f ys n x is
 
-read_there : (xs : List ℕ) (k id : ℕ) → k < length xs → slice_index xs k ≡ id → slice_index_or xs k id ≡ id
-read_there [] k id h is = absurd (omega (arith, h))
-read_there (x ∷ xs) zero id h is = is
-read_there (x ∷ xs) (suc k) id h is = read_there xs k id (omega (arith, h)) is
-
-no_position_at : (ids : List ℕ) (id : ℕ) (o : Option ℕ) → position (λ x. x == id) ids ≡ o → (Contains ids id → ⊥) → position (λ x. x == id) ids ≡ None
-no_position_at ids id None e new = e
-no_position_at ids id (Some k) e new = absurd (new (let it : IsFound ids id k = found ids id k e in (k, it.below, read_there ids k id it.below it.is)))
-
-pub no_position : (ids : List ℕ) (id : ℕ) → (Contains ids id → ⊥) → position (λ x. x == id) ids ≡ None
-no_position ids id new = no_position_at ids id (position (λ x. x == id) ids) refl new
-
 pub first_number : (v : Sight) (places ids : List ℕ) (heap : List SubRecord) (n id : ℕ) (o : SubRecord) → AreObjects v places ids heap → slice_get (objects heap) n ≡ Some o → id ≡ id_of o → (Contains (take n ids) id → ⊥) → number_named heap id ≡ Some n
 first_number v places ids heap n id o are is id_is new =
     number_is v places ids heap id are
     ∙ first_bearer ids n id (ap (λ (xs : List ℕ). slice_get xs n) are.ids_are ∙ get_map id_of (objects heap) n o is ∙ ap (λ (k : ℕ). Some k) (sym id_is)) new
-
-pub new_identifier : (v : Sight) (heap : List SubRecord) (n id : ℕ) (entries : List Entry) (places : List ℕ) → AreClassesAmong v heap n entries places → number_named heap id ≡ Some n → position (λ x. x == id) (ids_of entries) ≡ None
-new_identifier v heap n id entries places among first =
-    no_position (ids_of entries) id (λ c. let it = among.only id c in let same : it.0 ≡ n = some_inj (sym it.1 ∙ first) in omega (arith, it.2, same))

@@ -8,6 +8,7 @@ pub mod PlacedNames
 pub mod Values
 pub mod HeldIds
 pub mod RuleAnswers
+pub mod ClassList
 pub mod ClassTable
 pub mod Chains
 pub mod ToldClasses

@@ -1,15 +1,16 @@
 //! The classes of a dump, by their identifiers.
 
+mod builder;
 mod chains;
 mod fate;
 mod sizes;
 mod table;
 
+pub(crate) use builder::ClassesBuilder;
 pub(crate) use fate::{Fate, Layout};
 use hprof_grammar::View;
-use indexmap::IndexMap;
 use std::alloc::Allocator;
-use std::hash::{BuildHasherDefault, FoldHasher};
+use table::ClassTable;
 
 /// What is kept of a class: the place of its dump, where the places of its fields of type 2 stand, and how many bytes
 /// the values of all fields have that it declares.
@@ -25,7 +26,7 @@ pub(crate) struct ClassPlaces {
 #[derive(Drop)]
 pub(crate) struct Classes<'d, A: Allocator> {
     pub(crate) view: View<'d>,
-    pub(crate) table: IndexMap<u64, ClassPlaces, BuildHasherDefault<FoldHasher>, A>,
+    pub(crate) table: ClassTable<A>,
     /// The places of the fields of type 2 that the classes declare, one class after the other. A field's place is how
     /// many bytes the values of the class's fields before it have.
     pub(crate) id_places: Vec<u32, A>,

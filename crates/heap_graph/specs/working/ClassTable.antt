@@ -7,13 +7,8 @@ use Rattle.heap_graph.specs.Heap.{as_class, class_dumps, class_named, number_nam
 use Rattle.heap_graph.specs.Linked.{IsLinked}
 use Rattle.heap_graph.specs.working.IdPlaces.{id_places, size_together}
 use Rattle.heap_graph.specs.declared.classes.ClassPlaces.{ClassPlaces}
+pub use Rattle.heap_graph.specs.working.ClassList.{Entry, ids_of}
 use Rattle.heap_graph.specs.declared.classes.Classes.{Classes}
-
-abbrev pub Entry : Type 0
-Entry = ℕ × ClassPlaces
-
-abbrev pub ids_of : List Entry → List ℕ
-ids_of entries = map (λ e. e.0) entries
 
 -- the types of the fields that a class declares
 abbrev pub own_types : Class → List ℕ

@@ -5,25 +5,25 @@ ghost use Rattle.hprof_grammar.specs.SubRecord.{SubRecord};
 ghost use Rattle.heap_graph.specs.working.ClassTable.{AreClassesAmong, AreClassesOf};
 ghost use Rattle.heap_graph.specs.working.PlacedObjects.{AreObjects};
 
-use crate::classes::Classes;
+use crate::classes::{Classes, ClassesBuilder};
 use crate::index::Index;
 use hprof_grammar::{ObjectKind, View};
 use std::alloc::{AllocError, Allocator};
 
 /// Adds the object of that number, if it is a class that its identifier names.
 fn add_object<A: Allocator, B: Allocator>(
-    classes: &mut Classes<'_, A>,
+    classes: &mut ClassesBuilder<'_, A>,
     places: &[u32],
     index: &Index<B>,
     number: usize,
 ) -> Result<(), AllocError>
     requires below { number < length places.now }
     requires heap { (heap : List SubRecord) × AreObjects classes.old.view places.now index.now heap
-        × AreClassesAmong classes.old.view heap number classes.old.table.entries classes.old.id_places.items }
+        × AreClassesAmong classes.old.view heap number classes.old.entries.items classes.old.id_places.items }
     ensures view { OnOk result (classes.new.view ≡ classes.old.view) }
     ensures among { OnOk result ((heap : List SubRecord) → AreObjects classes.old.view places.now index.now heap
-        → AreClassesAmong classes.old.view heap number classes.old.table.entries classes.old.id_places.items
-        → AreClassesAmong classes.old.view heap (number + 1) classes.new.table.entries classes.new.id_places.items) }
+        → AreClassesAmong classes.old.view heap number classes.old.entries.items classes.old.id_places.items
+        → AreClassesAmong classes.old.view heap (number + 1) classes.new.entries.items classes.new.id_places.items) }
 {
     let place = places[number];
     match classes.view.kind(place) {
@@ -55,9 +55,9 @@ pub(crate) fn class_table<'d, A: Allocator + Copy, B: Allocator>(
         → AreObjects view.entry places.now index.now heap → AreClassesOf classes heap) }
     ensures few { IfOk result (λ classes. length classes.table.entries ≤ length places.now) }
 {
-    let mut classes = Classes::new(alloc, view);
+    let mut builder = ClassesBuilder::new(alloc, view);
     for number in 0..places.len() {
-        add_object(&mut classes, places, index, number)?;
+        add_object(&mut builder, places, index, number)?;
     }
-    Ok(classes)
+    builder.finish(alloc)
 }

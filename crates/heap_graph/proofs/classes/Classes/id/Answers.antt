@@ -1,6 +1,11 @@
-use Rattle.std.proofs.Common.{sym}
-use Rattle.heap_graph.proofs.ClassTableLaws.{id_at}
+-- The identifier stands in the entry of that number.
+use Rattle.std.proofs.Common.{ap, sym, ◌∙◌}
+use Rattle.heap_graph.specs.working.ClassList.{Entry}
+use Rattle.heap_graph.proofs.ClassTableLaws.{id_at, there_is}
 use Rattle.heap_graph.proofs.classes.Classes.id.Goals as goal
 
-pub returns-in-Some : goal.returns-in-Some
-returns-in-Some g c = sym (id_at c.args.self.now.table.entries c.args.number (c.in-Some.id.now, c.in-Some.field-0-1.now) (sym c.in-Some.ensures.entry))
+pub returns : goal.returns
+returns g c =
+    let entries = c.args.self.now.table.entries in
+    let it = there_is entries c.args.number c.requires in
+    ap (λ (e : Entry). e.0) (c.get.ensures it.0 it.1) ∙ sym (id_at entries c.args.number it.0 it.1)

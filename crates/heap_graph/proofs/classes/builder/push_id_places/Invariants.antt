@@ -1,6 +1,6 @@
 use Rattle.std.proofs.Common.{length, map, ◌*◌, ◌++◌, ◌+◌, ◌≡◌, ◌≤◌}
 use Rattle.heap_graph.specs.working.IdPlaces.{id_places, size_together}
-use Rattle.heap_graph.proofs.classes.table.push_id_places.Given as goal
+use Rattle.heap_graph.proofs.classes.builder.push_id_places.Given as goal
 
 abbrev pub invariant-loop-member : goal.invariant-loop-member
 invariant-loop-member g l = record {

@@ -1,0 +1,7 @@
+-- The identifiers that were passed are in the builder, spread, each below 2^64.
+use Rattle.std.proofs.Common.{take}
+use Rattle.heap_graph.specs.working.ClassList.{IsSpread}
+use Rattle.heap_graph.proofs.classes.table.ClassTable.of.Given as goal
+
+abbrev pub invariant-loop-entry : goal.invariant-loop-entry
+invariant-loop-entry g l = IsSpread (take l.entry-index l.fn.entries.items) l.builder
