@@ -13,15 +13,18 @@ const CLASS: u64 = 0x1000_0000;
 const OBJECT: u64 = 0x4000_0000;
 const INSTANCE: u64 = 0xD000_0000;
 const ODD: u64 = 0x9e37_79b9_7f4a_7c15;
+/// `ODD * INVERSE` is 1 in 64 bits.
+const INVERSE: u64 = 0xf1de_83e1_9937_733d;
 
 type Build = fn(File, u64) -> File;
 
-const KINDS: [(&str, Build); 13] = [
+const KINDS: [(&str, Build); 14] = [
     ("chain", chain),
     ("chain_upwards", chain_upwards),
     ("cycle", cycle),
     ("inherited_fields", inherited_fields),
     ("colliding_classes", colliding_classes),
+    ("crowded_classes", crowded_classes),
     ("one_id", one_id),
     ("crowded_ids", crowded_ids),
     ("falling_ids", falling_ids),
@@ -94,6 +97,13 @@ fn colliding_classes(file: File, count: u64) -> File {
     let first = (groups / 1024).max(1);
     let ids = (CLASS..INSTANCE).filter(|id| hash(*id) & (groups - 1) < first);
     classes_with_instances(file, &ids.take(count as usize).collect::<Vec<_>>())
+}
+
+/// So many classes whose IDs follow one another when they are multiplied by the odd number by which heapmark spreads
+/// them, and one that is far away.
+fn crowded_classes(_: File, count: u64) -> File {
+    let spread = (1..count).chain([u64::MAX]);
+    classes_with_instances(File::header(8), &spread.map(|number| number.wrapping_mul(INVERSE)).collect::<Vec<_>>())
 }
 
 /// So many objects of one ID.
