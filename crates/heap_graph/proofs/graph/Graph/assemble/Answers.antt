@@ -1,3 +1,4 @@
+-- The graph of linked objects: the lists of their identifiers are there by a lemma, without a call that reads them.
 use Rattle.std.proofs.Common.{List, filter, rules, ◌∙◌}
 use Rattle.hprof_grammar.specs.Dump.{is_root}
 use Rattle.hprof_grammar.specs.SubRecord.{SubRecord}

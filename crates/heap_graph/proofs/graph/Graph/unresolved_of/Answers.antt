@@ -1,3 +1,4 @@
+-- What the walk counted is read from the graph: its identifiers are those that the object holds.
 use Rattle.std.proofs.Common.{List, ap, arith, count_by, subst, sym, ℕ, ◌∙◌, ◌≡◌}
 use Rattle.heap_graph.specs.Heap.{heap_of}
 use Rattle.heap_graph.specs.ObjectGraph.{IsGraphOf, IsWhole, ObjectGraph, missing_at}

@@ -1,3 +1,4 @@
+-- Row, bytes and identifiers are those of the one object of that number; nothing is missed before the first step.
 use Rattle.std.proofs.Common.{List, ap, arith, map, subst, sym, ℕ, ◌∙◌}
 use Rattle.heap_graph.specs.declared.row.RowKey.{RowKey}
 use Rattle.heap_graph.specs.Heap.{heap_of}

@@ -1,3 +1,4 @@
+-- The class of an instance is in the table, and its fate is whole, since the heap list is linked.
 use Rattle.std.proofs.Common.{None, length, subst, sym, ℕ, ◌<◌, ◌∙◌, ◌≡◌}
 use Rattle.std.proofs.lemmas.Grind.{common_steps}
 use Rattle.std.proofs.Common.{arith}

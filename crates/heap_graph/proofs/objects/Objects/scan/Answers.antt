@@ -1,3 +1,4 @@
+-- One object stands at the place, so row, bytes and identifiers are told of the same.
 use Rattle.std.proofs.Common.{ap, length, ◌∙◌, ℕ}
 use Rattle.hprof_grammar.specs.SubRecord.{SubRecord}
 use Rattle.hprof_grammar.specs.SubRecord.SubRecord.{instance_dump}

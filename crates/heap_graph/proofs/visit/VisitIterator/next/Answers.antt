@@ -1,3 +1,4 @@
+-- Each identifier that is passed is 0, missing or names the object: what is missed in all stays the same.
 use Rattle.std.proofs.Common.{None, Some, ap, arith, length, subst, sym, ◌∙◌, ◌≡◌}
 use Rattle.std.proofs.lemmas.Bool.{eq-eqb, ne_eqb}
 use Rattle.heap_graph.specs.Walks.{GoesOn, Visited, target_in}

@@ -1,3 +1,4 @@
+-- The visit is on its way: what was passed named nothing, and what was missed is counted.
 use Rattle.std.proofs.Common.{length}
 use Rattle.heap_graph.proofs.Visiting.{IsOnTheWay}
 use Rattle.heap_graph.proofs.visit.VisitIterator.next.Given as goal
