@@ -13,9 +13,9 @@ class_text-text-requires g c = (c.requires.names.0, c.in_ok-by_id.ensures c.requ
 pub loop-number-preserved : goal.loop-number-preserved
 loop-number-preserved g c = λ records names.
     one_more_named records (ids_of c.args.self.now.classes.table.entries) c.loop-number.number c.loop-number.classes.items c.push.new.self.items (record { id = c.id-id.result; text = c.class_text-text.result })
-    (omega (arith, same_count c.args.self.now.classes.table.entries, c.loop-number-test.true, c.len-count.ensures.len)) c.id-id.ensures (c.class_text-text.ensures records names) c.in_ok-push.ensures.items (c.loop-number.invariant records names)
+    (omega (arith, same_count c.args.self.now.classes.table.entries, c.loop-number-test.true, c.len-count.ensures)) c.id-id.ensures (c.class_text-text.ensures records names) c.in_ok-push.ensures.items (c.loop-number.invariant records names)
 
 pub returns : goal.returns
 returns g c = λ records linked told names.
-    all_named records (ids_of c.args.self.now.classes.table.entries) c.loop-number.number c.loop-number.classes.items (omega (arith, same_count c.args.self.now.classes.table.entries, c.loop-number-test.false, c.len-count.ensures.len))
+    all_named records (ids_of c.args.self.now.classes.table.entries) c.loop-number.number c.loop-number.classes.items (omega (arith, same_count c.args.self.now.classes.table.entries, c.loop-number-test.false, c.len-count.ensures))
     (told.classes.in_order linked.linked) (c.loop-number.invariant records (c.in_ok-by_id.ensures records names))
