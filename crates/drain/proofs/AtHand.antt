@@ -1,5 +1,5 @@
 -- What a worker with its pair has after each call.
-use Rattle.std.proofs.Common.{◌≡◌, ◌≢◌, ℕ, ◌+◌, ◌<◌, List, [], ◌∷◌, ◌++◌, All, Contains, false, get_or, if◌then◌else◌, ◌==◌, cond, eq-eqb, ne_eqb, ap, sym, refl, subst, ◌∙◌, inl, inr, ⊎_elim, arith}
+use Rattle.std.proofs.Common.{◌≡◌, ◌≢◌, ℕ, ◌<◌, List, [], ◌∷◌, ◌++◌, All, Contains, false, get_or, if◌then◌else◌, ◌==◌, cond, eq-eqb, ne_eqb, ap, sym, refl, subst, ◌∙◌, inl, inr, ⊎_elim, arith}
 use Rattle.std.proofs.lemmas.List.Elements.{All-from_get_or, Contains-append_cases, Contains-append_left, Contains-get_or, Contains-push, Contains-push_cases}
 use Rattle.mark_core.specs.Lists.{times, only}
 use Rattle.mark_core.specs.World.{Setup}
@@ -9,8 +9,8 @@ use Rattle.mark_core.proofs.Sums.{only-same, stands_times, times-remove_one, tim
 use Rattle.buffer_pool.specs.Book.{Book, claimed, finished}
 use Rattle.buffer_pool.specs.Calls.{Holder}
 use Rattle.work_pair.specs.Deals.{Deals}
-use Rattle.work_pair.specs.Places.{AreOfSize, IsBacked, IsOpen, Places, items_of, no_places, numbers_of}
-use Rattle.drain.specs.working.AtWork.{AreClaimed, CameFrom, GoesOn, HasAtHand, IsAtWork, IsFree, IsThrough, MayClaim}
+use Rattle.work_pair.specs.Places.{AreOfSize, IsBacked, IsOpen, Places, items_of, no_places}
+use Rattle.drain.specs.working.AtWork.{AreClaimed, CameFrom, GoesOn, HasAtHand, IsAtWork, IsFree, MayClaim}
 
 pub came_at_all : (w : Holder) → CameFrom w w
 came_at_all w = record { pool = refl; setup = refl; share = refl; seen = λ o h. h }

@@ -1,5 +1,5 @@
 -- The marks at the close are exactly at the reachable objects.
-use Rattle.std.proofs.Common.{◌≡◌, ◌↔◌, false, ℕ, zero, suc, ◌<◌, ◌≤◌, List, [], ◌∷◌, map, slice_index, Contains, ap, sym, subst, ◌∙◌, leb-true, le-leb, arith}
+use Rattle.std.proofs.Common.{◌≡◌, ◌↔◌, false, ℕ, zero, suc, ◌≤◌, List, [], ◌∷◌, map, slice_index, Contains, ap, sym, subst, ◌∙◌, leb-true, le-leb, arith}
 use Rattle.std.proofs.lemmas.Bool.{false≢true}
 use Rattle.std.proofs.lemmas.List.{length-map}
 use Rattle.mark_core.specs.World.{Setup}

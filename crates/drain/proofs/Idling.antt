@@ -1,5 +1,5 @@
 -- A worker that goes idle, looks at the idle word and at the full stack, and comes back.
-use Rattle.std.proofs.Common.{◌≡◌, ℕ, ◌*◌, ◌+◌, Bool, true, false, List, [], ◌&&◌, ◌||◌, Contains, Some, is_none, is_some, ap, inl, inr, sym, refl, subst, ◌∙◌, arith}
+use Rattle.std.proofs.Common.{◌≡◌, ℕ, ◌*◌, ◌+◌, Bool, true, false, List, [], ◌&&◌, ◌||◌, Contains, is_none, is_some, ap, inr, sym, refl, subst, ◌∙◌, arith}
 use Rattle.mark_core.specs.Event.{CanIdle}
 use Rattle.mark_core.specs.Lists.{times}
 use Rattle.mark_core.specs.World.{Setup}

@@ -1,5 +1,5 @@
 -- The leader, as it gives away units and takes workers in.
-use Rattle.std.proofs.Common.{◌≡◌, ℕ, ◌+◌, ◌<◌, List, [], ◌++◌, Contains, ap, inl, sym, refl, subst, ◌∙◌, arith}
+use Rattle.std.proofs.Common.{◌≡◌, ℕ, ◌<◌, List, [], Contains, ap, inl, sym, refl, subst, ◌∙◌, arith}
 use Rattle.std.proofs.lemmas.List.Elements.{Contains-append_left}
 use Rattle.mark_core.specs.Event.{IsBusy}
 use Rattle.mark_core.specs.Lists.{times, only}

@@ -1,4 +1,4 @@
-use Rattle.std.proofs.Common.{sym, subst, ◌<◌, ◌∙◌, arith}
+use Rattle.std.proofs.Common.{sym, subst, arith}
 use Rattle.mark_core.specs.Shares.{whole}
 use Rattle.buffer_pool.specs.Faults.{Refuses}
 use Rattle.buffer_pool.specs.Ranges.{IsInside}

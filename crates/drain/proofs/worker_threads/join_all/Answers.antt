@@ -1,4 +1,4 @@
-use Rattle.std.proofs.Common.{ap, refl, subst, sym, get_or, ◌∙◌, arith}
+use Rattle.std.proofs.Common.{ap, subst, sym, get_or, ◌∙◌, arith}
 use Rattle.std.specs.Vec.Iter.{into_iter_items, into_iter_len}
 use Rattle.drain.specs.working.Duties.{IsDutyUnder}
 use Rattle.drain.proofs.Each.{first_holds, others_hold}

@@ -1,4 +1,4 @@
-use Rattle.std.proofs.Common.{rules, ℕ, ◌∙◌, subst, sym}
+use Rattle.std.proofs.Common.{rules, ◌∙◌, subst, sym}
 use Rattle.mark_core.specs.World.{Setup}
 use Rattle.drain.specs.working.AtWork.{MayClaim}
 use Rattle.drain.proofs.AtHand.{more_claimed}

@@ -1,4 +1,4 @@
-use Rattle.std.proofs.Common.{[], ◌∙◌, ◌<◌, ◌≡◌, ℕ, List, Contains, slice_index, below_more, inl, subst, sym, arith}
+use Rattle.std.proofs.Common.{[], ◌∙◌, ◌≡◌, ℕ, List, Contains, slice_index, below_more, inl, subst, sym, arith}
 use Rattle.std.proofs.lemmas.List.{get_or_default}
 use Rattle.std.proofs.lemmas.List.Elements.{Contains-get_or, Contains-push}
 use Rattle.mark_core.specs.World.{Setup}

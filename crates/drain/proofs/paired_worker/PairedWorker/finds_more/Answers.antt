@@ -1,8 +1,7 @@
 -- While it is idle the worker keeps what it had; where it leaves, the last load or the number of loads says why.
-use Rattle.std.proofs.Common.{◌≡◌, ◌*◌, ◌+◌, Some, ap, inl, inr, refl, sym, ◌∙◌, arith}
+use Rattle.std.proofs.Common.{◌*◌, ◌+◌, Some, ap, inl, inr, refl, sym, ◌∙◌, arith}
 use Rattle.std.proofs.lemmas.Bool.{false≢true}
 use Rattle.buffer_pool.specs.Book.{Book}
-use Rattle.drain.specs.working.Idle.{IsIdling}
 use Rattle.drain.proofs.Idling.{awake_back, goes_idle, hand_still, may_idle, next_turn, none_still, sees_full, sees_idle}
 use Rattle.drain.proofs.Idling.{still_back}
 use Rattle.drain.proofs.paired_worker.PairedWorker.finds_more.Goals as goal

@@ -1,4 +1,4 @@
-use Rattle.std.proofs.Common.{◌<◌, [], Option, refl, subst}
+use Rattle.std.proofs.Common.{[], refl, subst}
 use Rattle.std.specs.Prelude.{IfNone}
 use Rattle.mark_core.specs.declared.which.Which.TheVariants.{Empty}
 use Rattle.work_pair.specs.Deals.{DealsQuietly}
