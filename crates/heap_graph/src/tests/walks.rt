@@ -1,9 +1,9 @@
 //! Walks over the identifiers that objects hold.
 
-use super::worked::{WORKED, Worked};
+use super::worked::{Object, WORKED, Worked};
 use crate::Graph;
 use hprof_grammar::read;
-use std::alloc::{AllocError, Global};
+use std::alloc::{AllocError, Allocator, Global};
 use std::process::Abort;
 use std::test::Fail;
 use test_dumps::Sub::{Class, Instance, Root};
@@ -97,8 +97,25 @@ fn identifiers_left(rt: HostRuntime) -> Result<(), Fail> {
     Ok(())
 }
 
-/// A visit of each object of each worked dump tells its row and its bytes at once, gives what it refers to, and has
-/// counted at its end what the object misses.
+/// Whether a visit of the object tells its row and its bytes, gives what it refers to, and has counted at its end what
+/// the object misses.
+fn is_visited<A: Allocator>(graph: &Graph<'_, A>, object: u32, wanted: &Object) -> bool {
+    if object >= graph.len() {
+        return false;
+    }
+    let (references, row, bytes, missing) = wanted;
+    let mut visit = graph.visit(object);
+    if visit.row() != *row || visit.bytes() != *bytes {
+        return false;
+    }
+    for reference in *references {
+        if visit.next() != Some(*reference) {
+            return false;
+        }
+    }
+    visit.next().is_none() && visit.missing() == *missing
+}
+
 #[test]
 fn visits(rt: HostRuntime) -> Result<(), Fail> {
     let alloc = rt.alloc();
@@ -106,18 +123,9 @@ fn visits(rt: HostRuntime) -> Result<(), Fail> {
         let file = Bytes::dump(alloc, worked.id_size, worked.records)?;
         let dump = read(alloc, &file.bytes)?;
         let graph = Graph::build(alloc, &file.bytes, dump)?;
-        let name = worked.name;
-        for (number, (references, row, bytes, missing)) in worked.objects.iter().enumerate() {
-            let object = number as u32;
-            assert!(rt; object < graph.len());
-            let mut visit = graph.visit(object);
-            assert_eq!(rt; visit.row(), *row, "{name}, object {object}");
-            assert_eq!(rt; visit.bytes(), *bytes, "{name}, object {object}");
-            for reference in *references {
-                assert_eq!(rt; visit.next(), Some(*reference), "{name}, object {object}");
-            }
-            assert_eq!(rt; visit.next(), None, "{name}, object {object}");
-            assert_eq!(rt; visit.missing(), *missing, "{name}, object {object}");
+        for (number, wanted) in worked.objects.iter().enumerate() {
+            let is_visited = is_visited(&graph, number as u32, wanted);
+            assert!(rt; is_visited, "{}, object {number}", worked.name);
         }
     }
     Ok(())
