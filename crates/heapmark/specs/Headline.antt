@@ -7,8 +7,8 @@ use Rattle.heapmark.specs.declared.refusal.Refusal.{Refusal}
 -- report of exactly the objects that a path of references joins to a root, each counted once.
 --
 -- `given` is what the reader gives from here on, where a contract can name it; `old` and `new` are what the writer had
--- and has. `WritesReport` says the rest by `IsReport`, whose fields are the sentence above one by one: the graph is that
--- of the accepted text, the marks are those of exactly its reachable objects (`MarksReachableOf`), and the rows of the
--- histogram count each marked object once (`IsHistogram`).
+-- and has. `WritesReport` says the rest by `IsReport`, whose fields are the sentence above one by one: the graph is
+-- that of the accepted text, the marks are those of exactly its reachable objects (`MarksReachableOf`), and the rows
+-- of the histogram count each marked object once (`IsHistogram`).
 abbrev pub Headline : {X : Type 0} → Result X Refusal → Option (List ℕ) → Option (List ℕ) → Option (List ℕ) → Type 0
 Headline result given old new = OnOk result (IfSome given (λ bytes. WritesReport (bytes_read bytes) old new))
