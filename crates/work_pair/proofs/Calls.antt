@@ -11,10 +11,11 @@ use Rattle.work_pair.specs.Moves.{HasPushOnFull, WasSeenEmpty}
 use Rattle.work_pair.specs.Places.{items_at, number_at, items_of, HasRoom, HasRoomAt, IsOfSize, AreOfSize, AreAlike}
 use Rattle.work_pair.specs.Places.{IsBacked}
 use Rattle.work_pair.specs.declared.stop.Stop.{Stop}
-use Rattle.work_pair.specs.declared.stop.Stop.TheVariants.{TagSpent, NoBuffer}
-use Rattle.work_pair.specs.working.Steps.{Ends, Halts, PublishTells, PublishesAt, Renews, RenewTells, Trades, places}
+use Rattle.work_pair.specs.declared.stop.Stop.TheVariants.{TagSpent, OutOfMemory}
+use Rattle.work_pair.specs.working.Steps.{Ends, FindsNone, PublishTells, PublishesAt, Renews, RenewTells, Trades, places}
 use Rattle.work_pair.proofs.Effects.{busy_after, moves_effect}
 use Rattle.work_pair.proofs.Locals.{put_first, swapped}
+use Rattle.work_pair.proofs.Spilling.{none_in}
 use Rattle.work_pair.proofs.Trading.{backed_after, end_on, first_renewed, items_sum, numbers_sum, on_and_on}
 use Rattle.work_pair.proofs.Trading.{second_renewed, sized_after, still}
 
@@ -40,26 +41,26 @@ module _ (f s t : Option HeldBuffer) (b : Book) (vacant : t ≡ None) (sized : A
         let last = still (places n y third) c (o ∷ []) [] (places g y third) (put_first n y third h o g n_is g_is) (sized_after (places f s t) b [] [] (places n y third) c so_far) in
         on_and_on (places f s t) b (places n y third) c (o ∷ []) [] (places g y third) c so_far last
 
-    pub put_refused : RenewTells b.setup.size p b n third c (Ok false) → Halts (places f s t) b (places n y third) c NoBuffer
+    pub put_refused : RenewTells b.setup.size p b n third c (Ok false) → FindsNone (places f s t) b (places n y third) c
     put_refused told =
         let alike : AreAlike (places f s t) (places n y third) =
         record {
           items = λ o. omega (arith, items_sum o (places f s t), items_sum o (places n y third), ap (λ (q : Option HeldBuffer). times o (items_at q)) (told.2 ∙ p_is), ap (λ (q : Option HeldBuffer). times o (items_at q)) y_is, ap (λ (q : Option HeldBuffer). times o (items_at q)) (told.1 ∙ sym vacant));
           buffers = λ i. omega (arith, numbers_sum i (places f s t), numbers_sum i (places n y third), ap (λ (q : Option HeldBuffer). times i (number_at q)) (told.2 ∙ p_is), ap (λ (q : Option HeldBuffer). times i (number_at q)) y_is, ap (λ (q : Option HeldBuffer). times i (number_at q)) (told.1 ∙ sym vacant));
-        } in (renewed_then told.0, told.1, told.3, alike)
+        } in (renewed_then told.0, told.1, told.4, alike)
 
-    pub put_stopped : (stop : Stop) → RenewTells b.setup.size p b n third c (Err stop) → Halts (places f s t) b (places n y third) c stop
+    pub put_stopped : (stop : Stop) → RenewTells b.setup.size p b n third c (Err stop) → Ends (places f s t) b (places n y third) c stop
     put_stopped TagSpent told = (renewed_then told.0, told.1)
-    put_stopped NoBuffer none = absurd none
+    put_stopped OutOfMemory none = absurd none
 
   module _ (n third : Option HeldBuffer) (c : Book) where
     pub second_stopped : (stop : Stop) → RenewTells b.setup.size s b n third c (Err stop) → Ends (places f s t) b (places f n third) c stop
     second_stopped TagSpent told = (second_renewed f s t n third b c vacant told.0 sized.first, told.1)
-    second_stopped NoBuffer none = absurd none
+    second_stopped OutOfMemory none = absurd none
 
     pub first_stopped : (stop : Stop) → RenewTells b.setup.size f b n third c (Err stop) → Ends (places f s t) b (places n s third) c stop
     first_stopped TagSpent told = (first_renewed f s t n third b c vacant told.0 sized.second, told.1)
-    first_stopped NoBuffer none = absurd none
+    first_stopped OutOfMemory none = absurd none
 
     pub second_balanced : (done : Bool) → RenewTells b.setup.size s b n third c (Ok done) → 0 < length (items_at s)
         → (u : Trades (places f s t) b [] [] (places f n third) c) × (third ≡ None) × (HasMore (places f s t) → WasSeenEmpty Empty b c ⊎ HasPushOnFull u.moves)
@@ -77,18 +78,14 @@ module _ (f s t : Option HeldBuffer) (b : Book) (vacant : t ≡ None) (sized : A
   few_left none few = (
     still (places f s t) b [] [] (places f s t) (record { items = λ o. omega arith; buffers = λ i. refl; sized = λ size of. of }) sized,
     vacant,
-    λ more. absurd (⊎_elim (λ some. some (empty (items_at s) none)) (λ many. omega (arith, many, few)) more),
+    λ more. absurd (⊎_elim (λ some. some (none_in (items_at s) none)) (λ many. omega (arith, many, few)) more),
   )
-    where
-      empty : (xs : List ℕ) → length xs ≤ 0 → xs ≡ []
-      empty [] h = refl
-      empty (x ∷ xs) h = absurd (omega (arith, h))
 
-none_first : (xs ys : List ℕ) → xs ++ ys ≡ [] → xs ≡ []
+pub none_first : (xs ys : List ℕ) → xs ++ ys ≡ [] → xs ≡ []
 none_first [] ys none = refl
 none_first (x ∷ xs) ys none = absurd (omega (arith, ap length none))
 
-none_last : (xs ys : List ℕ) → xs ++ ys ≡ [] → ys ≡ []
+pub none_last : (xs ys : List ℕ) → xs ++ ys ≡ [] → ys ≡ []
 none_last [] ys none = none
 none_last (x ∷ xs) ys none = absurd (omega (arith, ap length none))
 
@@ -105,7 +102,7 @@ none_of xs ys zs x y z = ap (λ (l : List ℕ). l ++ ys ++ zs) x ∙ ap (λ (l :
 module _ (f s t n third : Option HeldBuffer) (b c : Book) (vacant : t ≡ None) (sized : AreOfSize b.setup.size (places f s t)) where
   pub publish_stopped : (stop : Stop) → PublishesAt b.setup.size f b n third c (Err stop) → Ends (places f s t) b (places n s third) c stop
   publish_stopped TagSpent told = (first_renewed f s t n third b c vacant told.0 sized.second, told.1)
-  publish_stopped NoBuffer none = absurd none
+  publish_stopped OutOfMemory none = absurd none
 
   module _ (done : Unit) (first : PublishesAt b.setup.size f b n third c (Ok done)) where
     abbrev pub first_published : Trades (places f s t) b [] [] (places n s third) c
@@ -133,4 +130,4 @@ module _ (f s t n third : Option HeldBuffer) (b c : Book) (vacant : t ≡ None) 
     both_published m last d (Err TagSpent) second =
         let t₂ = second_renewed n s third m last c d first.1 second.0 now_sized.first in
         (on_and_on (places f s t) b (places n s third) c [] [] (places n m last) d first_published t₂, end_on first.0.moves second.0.moves second.1)
-    both_published m last d (Err NoBuffer) none = absurd none
+    both_published m last d (Err OutOfMemory) none = absurd none

@@ -6,7 +6,7 @@ use Rattle.buffer_pool.specs.Calls.{HeldBuffer}
 use Rattle.work_pair.specs.Moves.{HasPushOnFull, EndAtLastTag}
 use Rattle.work_pair.specs.Places.{Places, items_at, items_of, AreOfSize, IsBacked}
 use Rattle.work_pair.specs.declared.stop.Stop.{Stop}
-use Rattle.work_pair.specs.declared.stop.Stop.TheVariants.{TagSpent, NoBuffer}
+use Rattle.work_pair.specs.declared.stop.Stop.TheVariants.{TagSpent, OutOfMemory}
 use Rattle.work_pair.specs.working.Steps.{Clears, ClearsAt, ClearTells, Trades, places}
 use Rattle.work_pair.proofs.Effects.{busy_after}
 use Rattle.work_pair.proofs.Renewing.{clear_stopped, cleared}
@@ -75,14 +75,14 @@ module _ (f s t : Option HeldBuffer) (b : Book) (sized : AreOfSize b.setup.size 
       clears_on (places f s t) b (places None s t) c (places None None t) d first (at_second None s t None c d r.0 (sized_after (places f s t) b [] [] (places None s t) c first.trades)) (λ none. r.1 (none_second f s t none))
 
   pub first_stuck : (c : Book) (n : Option HeldBuffer) (stop : Stop) → ClearsAt f b n c (Err stop) → ClearTells (places f s t) b (places n s t) c (Err stop)
-  first_stuck c n NoBuffer none = absurd none
+  first_stuck c n OutOfMemory none = absurd none
   first_stuck c n TagSpent told =
       let r = clear_stopped b.setup.size f b c sized.first told.1.0 told.1.1 in
       let one : Clears (places f s t) b (places f s t) c = record { trades = at_first f s t f b c r.0 sized; quiet = λ none. r.1 } in
       subst (λ (x : Option HeldBuffer). (all : Clears (places f s t) b (places x s t) c) × EndAtLastTag all.trades.moves) (sym told.0) (one, r.2)
 
   pub second_stuck : (c d : Book) (n m : Option HeldBuffer) (stop : Stop) → n ≡ None → Clears (places f s t) b (places None s t) c → ClearsAt s c m d (Err stop) → ClearTells (places f s t) b (places n m t) d (Err stop)
-  second_stuck c d n m NoBuffer vacant first none = absurd none
+  second_stuck c d n m OutOfMemory vacant first none = absurd none
   second_stuck c d n m TagSpent vacant first told =
       let now = sized_after (places f s t) b [] [] (places None s t) c first.trades in
       let r = clear_stopped c.setup.size s c d now.second told.1.0 told.1.1 in
@@ -95,7 +95,7 @@ module _ (f s t : Option HeldBuffer) (b : Book) (sized : AreOfSize b.setup.size 
       let now = sized_after (places f s t) b [] [] (places None None t) c second.trades in
       let r = cleared c.setup.size t c d told.1 in
       clears_on (places f s t) b (places None None t) c (places None None None) d second (at_third None None t None c d r.0 now) (λ none. r.1 (none_third f s t none))
-  third_told c d n m k (Err NoBuffer) vacant empty second none = absurd none
+  third_told c d n m k (Err OutOfMemory) vacant empty second none = absurd none
   third_told c d n m k (Err TagSpent) vacant empty second told =
       let now = sized_after (places f s t) b [] [] (places None None t) c second.trades in
       let r = clear_stopped c.setup.size t c d now.third told.1.0 told.1.1 in

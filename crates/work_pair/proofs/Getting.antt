@@ -8,7 +8,7 @@ use Rattle.buffer_pool.specs.Calls.{HeldBuffer}
 use Rattle.work_pair.specs.Moves.{Ended}
 use Rattle.work_pair.specs.Places.{Places, items_at, items_of, number_at, AreOfSize, IsOfSize, IsBacked}
 use Rattle.work_pair.specs.declared.stop.Stop.{Stop}
-use Rattle.work_pair.specs.declared.stop.Stop.TheVariants.{TagSpent, NoBuffer}
+use Rattle.work_pair.specs.declared.stop.Stop.TheVariants.{TagSpent, OutOfMemory}
 use Rattle.work_pair.specs.working.Steps.{Ends, GetTells, PopsOne, PutsOut, Takes, Trades, places}
 use Rattle.work_pair.proofs.Effects.{busy_after, found_none, found_none_closes, found_none_tells, moves_effect}
 use Rattle.work_pair.proofs.Renewing.{put_out_done, put_out_stopped, still_busy, still_charged, still_held, still_sized}
@@ -60,7 +60,7 @@ module _ (old : Places) (b₀ : Book) (backed : IsBacked old [] b₀) (f s t : O
         )
 
     pub pop_stopped : (c : Book) (stop : Stop) → PopsOne Full b c (Err stop) → Ends old b₀ (places x y z) c stop
-    pop_stopped c NoBuffer none = absurd none
+    pop_stopped c OutOfMemory none = absurd none
     pop_stopped c TagSpent moved =
         (on_and_on old b₀ (places x y z) b [] [] (places x y z) c looked (ended_at (places x y z) Full b c moved sized_here), end_on looked.moves (Ended Full ∷ []) ([], Full, refl))
 
@@ -85,7 +85,7 @@ module _ (old : Places) (b₀ : Book) (backed : IsBacked old [] b₀) (f s t : O
             (on_and_on old b₀ (places x y z) b [] [] (places n y third) c looked (first_renewed x y z n third b c still_vacant told.0 sized_here.second), told.1)
 
         pub put_stopped : (stop : Stop) → PutsOut x h mid n third c (Err stop) → Ends old b₀ (places n y third) c stop
-        put_stopped NoBuffer none = absurd none
+        put_stopped OutOfMemory none = absurd none
         put_stopped TagSpent out =
             let told = put_out_stopped b.setup.size x b Full h mid popped x h (λ o. refl) refl refl sized_here.first (took_size x Full h b mid popped) c n third TagSpent out in
             let r = first_renewed x y z n third b c still_vacant told.0 sized_here.second in

@@ -9,3 +9,4 @@ pub mod Getting
 pub mod Pairs
 pub mod Opening
 pub mod Readiness
+pub mod Spilling

@@ -9,7 +9,7 @@ use Rattle.work_pair.specs.Deals.{DealsQuietly}
 use Rattle.work_pair.specs.Moves.{Took, Gave, FoundNone, Ended, HasPushOnFull, WasSeenEmpty}
 use Rattle.work_pair.specs.Places.{Places, no_places, IsBacked, IsNew}
 use Rattle.work_pair.specs.declared.stop.Stop.{Stop}
-use Rattle.work_pair.specs.declared.stop.Stop.TheVariants.{TagSpent, NoBuffer}
+use Rattle.work_pair.specs.declared.stop.Stop.TheVariants.{TagSpent, OutOfMemory}
 use Rattle.work_pair.specs.working.Steps.{ClearsAt, PopsOne, Trades, places, shelf_of}
 use Rattle.work_pair.proofs.Effects.{busy_after, found_none, move_effect}
 use Rattle.work_pair.proofs.Pairs.{nothing_backed, quiet_on, quietly, taken_first, taken_second}
@@ -31,7 +31,7 @@ took_quiet h push = ⊎_elim (λ x. x) (λ x. x) push
 
 module _ (b : Book) where
   pub first_stopped : (c : Book) (stop : Stop) → PopsOne Empty b c (Err stop) → StopsWith b c stop
-  first_stopped c NoBuffer none = absurd none
+  first_stopped c OutOfMemory none = absurd none
   first_stopped c TagSpent moved =
       let u = ended_at no_places Empty b c moved (nothing_backed b).sized in
       (refl, (record no_places { stopped = true }, refl, quietly no_places b c true u (alone_quiet Empty) (λ h. ([], Empty, refl))))
@@ -52,7 +52,7 @@ module _ (b : Book) where
     one_busy = busy_after one.moves b mid one.books
 
     pub second_stopped : (c : Book) (stop : Stop) → PopsOne Empty mid c (Err stop) → StopsWith b c stop
-    second_stopped c NoBuffer none = absurd none
+    second_stopped c OutOfMemory none = absurd none
     second_stopped c TagSpent moved =
         let p = places (Some h) None None in
         let last = ended_at p Empty mid c moved (sized_after no_places b [] [] p mid one) in
@@ -64,7 +64,7 @@ module _ (b : Book) where
         let p = places (Some h) None None in
         let last = taken_second Empty k mid c moved h size_now in
         let u = on_and_on no_places b p mid [] [] (places (Some h) (Some k) None) c one last in (
-          record { going = record { going = refl; third = refl }; first = (h, refl, took_bare h b mid took); second = (k, refl, took_bare k mid c moved) },
+          record { going = record { going = refl; third = refl }; none_spilled = refl; fed = refl; first = (h, refl, took_bare h b mid took); second = (k, refl, took_bare k mid c moved) },
           quietly (places (Some h) (Some k) None) b c false u (quiet_on one.moves last.moves (took_quiet h) (took_quiet k)) (λ x. cc),
         )
 
@@ -94,7 +94,7 @@ module _ (b : Book) where
           (quietly (places None None None) b d false u (quiet_on two.moves last.moves two_quiet (r.1 (took_bare h b mid took))) (λ x. cc), omega (arith, e₁.empties, seen, e₃.empties))
 
       pub back_stopped : (n : Option HeldBuffer) (d : Book) (stop : Stop) → ClearsAt (Some h) c n d (Err stop) → StopsWith b d stop
-      back_stopped n d NoBuffer none_such = absurd none_such
+      back_stopped n d OutOfMemory none_such = absurd none_such
       back_stopped n d TagSpent told =
           let p = places (Some h) None None in
           let r = clear_stopped c.setup.size (Some h) c d back_backed.sized.first told.1.0 told.1.1 in

@@ -13,7 +13,7 @@ use Rattle.buffer_pool.specs.Calls.{Holder}
 use Rattle.work_pair.specs.Deals.{Deals}
 use Rattle.work_pair.specs.Moves.{WasSeenEmpty}
 use Rattle.work_pair.specs.Places.{Places, items_of, IsBacked, IsOpen, AreOfSize}
-use Rattle.work_pair.specs.tests.Ready.{HasBesides, IsReady, IsWorker, numbers}
+use Rattle.work_pair.specs.tests.Ready.{IsReady, IsWorker, numbers}
 use Rattle.work_pair.proofs.Trading.{backed_less}
 
 pub roots_below : (n : ℕ) → All (λ o. o < n) (numbers n)
@@ -63,31 +63,8 @@ ready_after n pool old new p q put got w same going deals =
       backed = backed_less q got new.book deals.backed;
     }
 
--- and of those that the worker had besides
-pub still_besides : (n : ℕ) (pool : TableId) (old new : Holder) (p q : Places) (besides got : List ℕ) → HasBesides n pool old p besides → new.pool ≡ old.pool → IsOpen q → Deals p old.book [] got q new.book → HasBesides n pool new q besides
-still_besides n pool old new p q besides got had same going deals =
-    record {
-      worker = still_worker n pool old new had.worker same deals.kept.setup deals.kept.idle;
-      going = going;
-      backed =
-          record {
-            held = λ x. omega (arith, had.backed.held x, deals.held x, deals.buffers x);
-            charged = λ x. omega (arith, had.backed.charged x, deals.items x, deals.charge x, total-append (only x) (items_of p) besides, total-append (only x) (items_of q) besides);
-            sized = deals.backed.sized;
-          };
-    }
-
-pub gets_besides : (n : ℕ) (pool : TableId) (old new : Holder) (p q : Places) (besides : List ℕ) → HasBesides n pool old p besides → new.pool ≡ old.pool → IsOpen q → (r : Option ℕ) → IfSome r (λ o. Deals p old.book [] (o ∷ []) q new.book) → IfNone r (Deals p old.book [] [] q new.book × (items_of q ≡ []) × WasSeenEmpty Full old.book new.book) → HasBesides n pool new q besides
-gets_besides n pool old new p q besides had same going (Some o) got none = still_besides n pool old new p q besides (o ∷ []) had same going got
-gets_besides n pool old new p q besides had same going None got none = still_besides n pool old new p q besides [] had same going none.0
-
--- and a white object that was claimed is had besides
-pub claimed_besides : (n : ℕ) (pool : TableId) (old new : Holder) (p : Places) (o found : ℕ) → IsReady n pool old p → new.pool ≡ old.pool → new.book ≡ claimed o found old.book → found ≡ 0 → HasBesides n pool new p (o ∷ [])
-claimed_besides n pool old new p o found had same is white =
-    record {
-      worker =
-          still_worker n pool old new had.worker same (ap (λ (b : Book). b.setup) is)
-          (ap (λ (b : Book). b.account.idle) is);
-      going = had.going;
-      backed = claimed_backed p o found old.book new.book is white had.backed;
-    }
+-- after a claim
+pub claimed_worker : (n : ℕ) (pool : TableId) (old new : Holder) (o found : ℕ) → IsWorker n pool old → new.pool ≡ old.pool
+    → new.book ≡ claimed o found old.book → IsWorker n pool new
+claimed_worker n pool old new o found w same is =
+    still_worker n pool old new w same (ap (λ (b : Book). b.setup) is) (ap (λ (b : Book). b.account.idle) is)

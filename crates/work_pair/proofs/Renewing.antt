@@ -13,7 +13,7 @@ use Rattle.work_pair.specs.Moves.{Move, Took, Gave, FoundNone, Ended, Moved, IsF
 use Rattle.work_pair.specs.Moves.{IsOnFull, given_items, given_number, taken_items, taken_number}
 use Rattle.work_pair.specs.Places.{items_at, number_at, IsOfSize}
 use Rattle.work_pair.specs.declared.stop.Stop.{Stop}
-use Rattle.work_pair.specs.declared.stop.Stop.TheVariants.{TagSpent, NoBuffer}
+use Rattle.work_pair.specs.declared.stop.Stop.TheVariants.{TagSpent, OutOfMemory}
 use Rattle.work_pair.specs.working.Steps.{Leaves, PopsOne, PutsOut, Renews, RenewTells, shelf_of}
 use Rattle.work_pair.proofs.Looks.{lost_pops}
 use Rattle.work_pair.proofs.Effects.{busy_after, found_none, move_effect}
@@ -39,7 +39,7 @@ shelf_quiet h none = subst (λ (items : List ℕ). IsOnFull (Gave (shelf_of item
 module _ (size : ℕ) (old : Option HeldBuffer) (b c : Book) (sized : IsOfSize size old) where
   -- nothing was done
   module _ (new third : Option HeldBuffer) (same : new ≡ old) (vacant : third ≡ None) where
-    unchanged : (move : Move) → Moved move b c → ((o : ℕ) → times o (given_items move) ≡ times o (taken_items move)) → ((i : ℕ) → times i (given_number move) ≡ times i (taken_number move)) → IsFilled move → Renews size old b new third c
+    abbrev unchanged : (move : Move) → Moved move b c → ((o : ℕ) → times o (given_items move) ≡ times o (taken_items move)) → ((i : ℕ) → times i (given_number move) ≡ times i (taken_number move)) → IsFilled move → Renews size old b new third c
     unchanged move moved items numbers filled =
         record {
           moves = move ∷ [];
@@ -52,7 +52,7 @@ module _ (size : ℕ) (old : Option HeldBuffer) (b c : Book) (sized : IsOfSize s
         }
 
     pub found_nothing : Moved (FoundNone Empty) b c → RenewTells size old b new third c (Ok false)
-    found_nothing moved = (unchanged (FoundNone Empty) moved (λ o. refl) (λ i. refl) tt, vacant, same, found_none Empty b c moved)
+    found_nothing moved = (unchanged (FoundNone Empty) moved (λ o. refl) (λ i. refl) tt, vacant, same, found_none Empty b c moved, refl)
 
     pub stopped_at_once : (stop : Stop) → PopsOne Empty b c (Err stop) → RenewTells size old b new third c (Err stop)
     stopped_at_once TagSpent moved =
@@ -66,7 +66,7 @@ module _ (size : ℕ) (old : Option HeldBuffer) (b c : Book) (sized : IsOfSize s
           sized = subst (IsOfSize size) (sym same) sized;
           left_sized = subst (IsOfSize size) (sym vacant) tt;
         } in (r, ([], Empty, refl))
-    stopped_at_once NoBuffer none = absurd none
+    stopped_at_once OutOfMemory none = absurd none
 
 -- the buffer h was popped, and its items and those at the place before are those of the place now and of the next one
 module _ (size : ℕ) (old : Option HeldBuffer) (b : Book) (q : Which) (h : HeldBuffer) (mid : Book) (took : Moved (Took q h) b mid) (place : Option HeldBuffer) (next : HeldBuffer)
@@ -106,7 +106,7 @@ module _ (size : ℕ) (old : Option HeldBuffer) (b : Book) (q : Which) (h : Held
           } in (r, out.1, λ some. inr (inl (shelf_full k (λ none. more some (ap items_at is ∙ none)))))
 
   pub put_out_stopped : (stop : Stop) → PutsOut place next mid new third c (Err stop) → RenewTells size old b new third c (Err stop)
-  put_out_stopped NoBuffer none = absurd none
+  put_out_stopped OutOfMemory none = absurd none
   put_out_stopped TagSpent out =
       let r : Renews size old b new third c =
       record {

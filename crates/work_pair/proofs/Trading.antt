@@ -10,14 +10,15 @@ use Rattle.buffer_pool.specs.Calls.{HeldBuffer}
 use Rattle.work_pair.specs.Moves.{Move, FoundNone, Ended, Moved, Moves, popped_items, popped_numbers, pushed_items}
 use Rattle.work_pair.specs.Moves.{pushed_numbers, taken_items, taken_number, given_items, given_number, AreFilled}
 use Rattle.work_pair.specs.Moves.{HasPushOnFull, EndAtLastTag}
-use Rattle.work_pair.specs.Places.{Places, items_at, number_at, items_of, numbers_of, IsOfSize, AreOfSize, IsBacked}
+use Rattle.work_pair.specs.Places.{Places, buffered_items, items_at, number_at, items_of, numbers_of, IsOfSize, AreOfSize}
+use Rattle.work_pair.specs.Places.{IsBacked}
 use Rattle.work_pair.specs.Deals.{Deals}
 use Rattle.work_pair.specs.working.Steps.{IsLocal, Renews, Trades, places}
 use Rattle.work_pair.proofs.Effects.{moves_effect, moves_closed}
 
 -- sums over the three places
-pub items_sum : (o : ℕ) (p : Places) → times o (items_of p) ≡ times o (items_at p.first) + times o (items_at p.second) + times o (items_at p.third)
-items_sum o p = omega (arith, total-append (only o) (items_at p.first ++ items_at p.second) (items_at p.third), total-append (only o) (items_at p.first) (items_at p.second))
+pub items_sum : (o : ℕ) (p : Places) → times o (items_of p) ≡ times o p.spill + times o (items_at p.first) + times o (items_at p.second) + times o (items_at p.third)
+items_sum o p = omega (arith, total-append (only o) p.spill (buffered_items p), total-append (only o) (items_at p.first ++ items_at p.second) (items_at p.third), total-append (only o) (items_at p.first) (items_at p.second))
 
 pub numbers_sum : (i : ℕ) (p : Places) → times i (numbers_of p) ≡ times i (number_at p.first) + times i (number_at p.second) + times i (number_at p.third)
 numbers_sum i p = omega (arith, total-append (only i) (number_at p.first ++ number_at p.second) (number_at p.third), total-append (only i) (number_at p.first) (number_at p.second))
@@ -162,11 +163,11 @@ backed_less p besides b backed =
     }
 
 -- the same buffers, with another word on whether a call was stopped
-pub stopped_backed : (p q : Places) (besides : List ℕ) (b : Book) → q.first ≡ p.first → q.second ≡ p.second → q.third ≡ p.third → IsBacked p besides b → IsBacked q besides b
-stopped_backed p q besides b first second third backed =
+pub stopped_backed : (p q : Places) (besides : List ℕ) (b : Book) → q.first ≡ p.first → q.second ≡ p.second → q.third ≡ p.third → q.spill ≡ p.spill → IsBacked p besides b → IsBacked q besides b
+stopped_backed p q besides b first second third spill backed =
     record {
       held = λ x. omega (arith, backed.held x, numbers_sum x p, numbers_sum x q, ap (λ (h : Option HeldBuffer). times x (number_at h)) first, ap (λ (h : Option HeldBuffer). times x (number_at h)) second, ap (λ (h : Option HeldBuffer). times x (number_at h)) third);
-      charged = λ x. omega (arith, backed.charged x, items_sum x p, items_sum x q, total-append (only x) (items_of p) besides, total-append (only x) (items_of q) besides, ap (λ (h : Option HeldBuffer). times x (items_at h)) first, ap (λ (h : Option HeldBuffer). times x (items_at h)) second, ap (λ (h : Option HeldBuffer). times x (items_at h)) third);
+      charged = λ x. omega (arith, backed.charged x, ap (times x) spill, items_sum x p, items_sum x q, total-append (only x) (items_of p) besides, total-append (only x) (items_of q) besides, ap (λ (h : Option HeldBuffer). times x (items_at h)) first, ap (λ (h : Option HeldBuffer). times x (items_at h)) second, ap (λ (h : Option HeldBuffer). times x (items_at h)) third);
       sized =
           record {
             first = subst (IsOfSize b.setup.size) (sym first) backed.sized.first;

@@ -1,11 +1,11 @@
 -- What a call of a pair does to the pair and to the book of its worker.
-use Rattle.std.specs.Prelude.{◌≡◌, ◌≢◌, ◌⊎◌, ℕ, ◌+◌, ◌<◌, true, false, List, [], length}
+use Rattle.std.specs.Prelude.{◌≡◌, ◌≢◌, ◌⊎◌, ℕ, ◌+◌, ◌<◌, true, false, List, [], ◌∷◌, ◌++◌, length}
 use Rattle.mark_core.specs.declared.which.Which.TheVariants.{Empty}
 use Rattle.mark_core.specs.Lists.{times}
 use Rattle.buffer_pool.specs.Book.{Book}
-use Rattle.work_pair.specs.Moves.{Move, Moves, popped_items, popped_numbers, pushed_items, pushed_numbers, AreFilled}
-use Rattle.work_pair.specs.Moves.{HasPushOnFull, EndAtLastTag, WasSeenEmpty}
-use Rattle.work_pair.specs.Places.{Places, items_of, items_at, numbers_of, IsBacked}
+use Rattle.work_pair.specs.Moves.{Move, FoundNone, Moves, popped_items, popped_numbers, pushed_items, pushed_numbers}
+use Rattle.work_pair.specs.Moves.{AreFilled, HasPushOnFull, EndAtLastTag, WasSeenEmpty}
+use Rattle.work_pair.specs.Places.{Places, buffered_items, items_of, items_at, numbers_of, without_spill, IsBacked}
 
 -- the worker has the same share and the same idle number, saw the same objects and finished the same, and its pool was
 -- made for the same
@@ -57,7 +57,16 @@ Balances old before new after =
     (deals : Deals old before [] [] new after)
     × (HasMore old → WasSeenEmpty Empty before after ⊎ HasPushOnFull deals.moves)
 
--- a call that gave buffers back, none of them on full where there were no items
+-- an object was put: into a buffer, or at the end of the spill list; then all that the call did with the stacks was to
+-- look for an empty buffer, and it found none
+abbrev pub Puts : Places → Book → ℕ → Places → Book → Type 0
+Puts old before object new after =
+    (deals : Deals old before (object ∷ []) [] new after)
+    × ((new.spill ≡ old.spill) ⊎ ((new.spill ≡ old.spill ++ object ∷ []) × (deals.moves ≡ FoundNone Empty ∷ [])))
+
+-- a call that gave buffers back, none of them on full where there were no items in them; a spill list was given up
+-- before
 abbrev pub Disposes : Places → Book → Places → Book → Type 0
 Disposes old before new after =
-    (deals : Deals old before [] [] new after) × (items_of old ≡ [] → HasPushOnFull deals.moves → ⊥)
+    (deals : Deals (without_spill old) before [] [] new after)
+    × (buffered_items old ≡ [] → HasPushOnFull deals.moves → ⊥)

@@ -1,16 +1,19 @@
 -- A pair of buffers as a contract sees it.
-use Rattle.std.specs.Prelude.{◌≡◌, ◌⊎◌, ℕ, ◌<◌, Bool, false, List, [], ◌∷◌, ◌++◌, length, Option, Some, None}
+use Rattle.std.specs.Prelude.{◌≡◌, ◌⊎◌, ℕ, ◌<◌, Bool, true, false, List, [], ◌∷◌, ◌++◌, length, Option, Some, None}
 use Rattle.mark_core.specs.Lists.{times, IsPart}
 use Rattle.buffer_pool.specs.Book.{Book}
 use Rattle.buffer_pool.specs.Calls.{HeldBuffer}
 
--- a pair: its first and its second buffer, one that a stopped call left over, and whether a call was stopped by a
--- last tag
+-- a pair: its first and its second buffer, one that a stopped call left over, and its spill list
 pub record Places : Type 0 where
   pub first : Option HeldBuffer
   pub second : Option HeldBuffer
   pub third : Option HeldBuffer
+  -- the objects for which there was no buffer, the last put at the end
+  pub spill : List ℕ
+  -- a call was stopped by a last tag, and one by want of memory
   pub stopped : Bool
+  pub starved : Bool
 
 -- the items of the buffer at a place, and its number
 abbrev pub items_at : Option HeldBuffer → List ℕ
@@ -21,18 +24,29 @@ abbrev pub number_at : Option HeldBuffer → List ℕ
 number_at None = []
 number_at (Some h) = h.index ∷ []
 
--- the items of a pair, and the numbers of the buffers that it holds, without order
+-- the items of a pair's buffers; with those of its spill list; and the numbers of the buffers, without order
+abbrev pub buffered_items : Places → List ℕ
+buffered_items p = items_at p.first ++ items_at p.second ++ items_at p.third
+
 abbrev pub items_of : Places → List ℕ
-items_of p = items_at p.first ++ items_at p.second ++ items_at p.third
+items_of p = p.spill ++ buffered_items p
 
 abbrev pub numbers_of : Places → List ℕ
 numbers_of p = number_at p.first ++ number_at p.second ++ number_at p.third
 
 -- a pair that holds nothing
 abbrev pub no_places : Places
-no_places = record { first = None; second = None; third = None; stopped = false }
+no_places = record { first = None; second = None; third = None; spill = []; stopped = false; starved = false }
 
--- no call was stopped, and no buffer is left over
+-- the pair without its spill list
+abbrev pub without_spill : Places → Places
+without_spill p = record p { spill = [] }
+
+-- a call of the pair answered a stop
+abbrev pub HasStopped : Places → Type 0
+HasStopped p = (p.stopped ≡ true) ⊎ (p.starved ≡ true)
+
+-- no last tag stopped a call, and no buffer is left over
 pub record IsOpen (p : Places) : Type 0 where
   pub going : p.stopped ≡ false
   pub third : p.third ≡ None
@@ -51,9 +65,11 @@ pub record AreAlike (one other : Places) : Type 0 where
   pub items : (o : ℕ) → times o (items_of other) ≡ times o (items_of one)
   pub buffers : (i : ℕ) → times i (numbers_of other) ≡ times i (numbers_of one)
 
--- a new pair: two buffers without items
+-- a new pair: two buffers without items, and nothing spilled
 pub record IsNew (p : Places) : Type 0 where
   pub going : IsOpen p
+  pub none_spilled : p.spill ≡ []
+  pub fed : p.starved ≡ false
   pub first : (h : HeldBuffer) × (p.first ≡ Some h) × (h.items ≡ [])
   pub second : (h : HeldBuffer) × (p.second ≡ Some h) × (h.items ≡ [])
 

@@ -21,21 +21,22 @@ pub(crate) struct Buffers<A: Allocator> {
 }
 
 impl<A: Allocator> Buffers<A> {
-    ghost use Rattle.std.specs.Prelude.{◌≡◌, ◌≢◌, None, [], ◌∷◌, IsOk};
+    ghost use Rattle.std.specs.Prelude.{◌≡◌, ◌≢◌, None, Ok, true, [], ◌∷◌, IsOk};
     ghost use Rattle.mark_core.specs.Event.{IsBusy};
     ghost use Rattle.work_pair.specs.Deals.{HasMore};
     ghost use Rattle.work_pair.specs.Places.{HasRoom, IsBacked, items_of};
     ghost use Rattle.work_pair.specs.working.Steps.{BalanceTells, ClearTells, GetTells, PublishTells, PutTells};
     ghost use Rattle.work_pair.specs.working.Steps.{Takes, places};
 
-    /// Puts an object into the first buffer, or into the second, which is the first then, or into an empty one.
+    /// Puts an object into the first buffer, or into the second, which is the first then, or into an empty one. False
+    /// where there is none: then nothing changes but the places of the two.
     pub(crate) fn put<R: Wait>(
         &mut self,
         rt: &R,
         pool: &Pool<A>,
         worker: &mut Worker<A>,
         object: u32,
-    ) -> Result<(), (u32, Stop)>
+    ) -> Result<bool, Stop>
         requires pool { worker.old.pool ≡ pool.now }
         requires third { self.old.third ≡ None }
         requires backed { IsBacked (places self.old.first self.old.second self.old.third) (object ∷ [])
@@ -45,23 +46,19 @@ impl<A: Allocator> Buffers<A> {
         ensures tells { PutTells object (places self.old.first self.old.second self.old.third) worker.old.book
             (places self.new.first self.new.second self.new.third) worker.new.book result }
         ensures room { HasRoom (places self.old.first self.old.second self.old.third)
-            → (worker.new ≡ worker.old) × IsOk result }
+            → (worker.new ≡ worker.old) × (result ≡ Ok true) }
     {
         if put_at(&mut self.first, object) {
-            return Ok(());
+            return Ok(true);
         }
         swap(&mut self.first, &mut self.second);
         if put_at(&mut self.first, object) {
-            return Ok(());
+            return Ok(true);
         }
-        match renew(rt, pool, worker, &mut self.first, &mut self.third) {
-            Ok(true) => {
-                put_at(&mut self.first, object);
-                Ok(())
-            }
-            Ok(false) => Err((object, Stop::NoBuffer)),
-            Err(stop) => Err((object, stop)),
+        if !renew(rt, pool, worker, &mut self.first, &mut self.third)? {
+            return Ok(false);
         }
+        Ok(put_at(&mut self.first, object))
     }
 
     /// Takes an object from the first buffer, or from the second, which is the first then.

@@ -11,15 +11,20 @@ use std::marker::Model;
 use std::sync::Wait;
 
 /// Two buffers of a worker. Objects are put into and got from the first, and the two change places; full buffers go to
-/// the pool's full stack and come from there, empty ones to and from the empty stack.
+/// the pool's full stack and come from there, empty ones to and from the empty stack. An object for which there is no
+/// empty buffer goes to the pair's spill list, which grows by 4 bytes an object and doubles where it has to.
 ///
 /// A call that answers [`Stop::TagSpent`] stops the pair: it holds each buffer that it had or took and did not push,
-/// and can only be disposed of.
+/// and can only be disposed of. One that answers [`Stop::OutOfMemory`] leaves it whole.
 #[derive(Drop)]
 pub struct Pair<A: Allocator> {
     buffers: Buffers<A>,
+    /// Objects for which there was no buffer, the last put at the end.
+    spill: Vec<u32, A>,
     /// A call answered `TagSpent`. Contracts ask for it.
     stopped: bool,
+    /// A call answered `OutOfMemory`. Contracts ask for it.
+    starved: bool,
 }
 
 impl<A: Allocator> Model for Pair<A> {
@@ -31,37 +36,53 @@ impl<A: Allocator> Model for Pair<A> {
       first = p.buffers.first;
       second = p.buffers.second;
       third = p.buffers.third;
+      spill = p.spill.items;
       stopped = p.stopped;
+      starved = p.starved;
     } };
 }
 
 impl<A: Allocator> Pair<A> {
-    ghost use Rattle.std.specs.Prelude.{◌≡◌, ◌≢◌, ◌⊎◌, true, false, [], ◌∷◌, IfErr, IfNone, IfOk, IfSome, IsOk, OnOk};
+    ghost use Rattle.std.specs.Prelude.{◌≡◌, ◌≢◌, ◌⊎◌, ℕ, true, false, List, [], ◌∷◌, ◌++◌, Some, Ok};
+    ghost use Rattle.std.specs.Prelude.{IfErr, IfNone, IfOk, IfSome, IsOk, OnOk, length};
     ghost use Rattle.mark_core.specs.Event.{IsBusy};
     ghost use Rattle.mark_core.specs.declared.which.Which.TheVariants.{Empty, Full};
-    ghost use Rattle.work_pair.specs.Deals.{Balances, Deals, DealsQuietly, Disposes, HasMore};
-    ghost use Rattle.work_pair.specs.Moves.{WasSeenEmpty};
-    ghost use Rattle.work_pair.specs.Places.{AreAlike, HasRoom, IsBacked, IsNew, IsOpen, Places, items_of, no_places};
-    ghost use Rattle.work_pair.specs.declared.stop.Stop.TheVariants.{NoBuffer, TagSpent};
+    ghost use Rattle.work_pair.specs.Deals.{Balances, Deals, DealsQuietly, Disposes, HasMore, Puts};
+    ghost use Rattle.work_pair.specs.Moves.{FoundNone, WasSeenEmpty};
+    ghost use Rattle.work_pair.specs.Places.{AreAlike, HasRoom, HasStopped, IsBacked, IsNew, IsOpen, Places};
+    ghost use Rattle.work_pair.specs.Places.{buffered_items, items_of, no_places};
+    ghost use Rattle.work_pair.specs.declared.stop.Stop.TheVariants.{OutOfMemory, TagSpent};
 
-    fn of(first: Held<A>, second: Held<A>) -> Self
-        ensures { result ≡ record { first = Some first; second = Some second; third = None; stopped = false } }
+    /// A pair with these buffers, and nothing spilled.
+    fn of(alloc: A, first: Option<Held<A>>, second: Option<Held<A>>) -> Self
+        ensures { result ≡ record no_places { first = first; second = second } }
     {
         let buffers = Buffers {
-            first: Some(first),
-            second: Some(second),
+            first,
+            second,
             third: None,
         };
         Pair {
             buffers,
+            spill: Vec::new(alloc),
             stopped: false,
+            starved: false,
         }
     }
 
+    /// A pair with two vacant places, which count as full when an object is put and as without objects when one is
+    /// got. It takes no memory.
+    pub fn bare(alloc: A) -> Self
+        ensures { result ≡ no_places }
+    {
+        Pair::of(alloc, None, None)
+    }
+
     /// A pair of two empty buffers. `None` where there were not two: then none is kept. Where a last tag was loaded the
-    /// buffers that were popped stay with the worker.
+    /// buffers that were popped stay with the worker. Its spill list takes memory from `alloc`, and none yet.
     pub fn open<R: Wait>(
         rt: &R,
+        alloc: A,
         pool: &Pool<A>,
         worker: &mut Worker<A>,
     ) -> Result<Option<Pair<A>>, Stop>
@@ -79,15 +100,16 @@ impl<A: Allocator> Pair<A> {
             return Ok(None);
         };
         if let Some(second) = pop_one(rt, pool, worker, Which::Empty)? {
-            return Ok(Some(Pair::of(first, second)));
+            return Ok(Some(Pair::of(alloc, Some(first), Some(second))));
         }
         let mut place = Some(first);
         clear_at(rt, pool, worker, &mut place)?;
         Ok(None)
     }
 
-    /// Puts an object into the pair, and leaves the stacks alone where one of its buffers has room. The object comes
-    /// back where both are full and a last tag was loaded, or no empty buffer was found.
+    /// Puts an object into the pair: into one of its buffers where that has room, and then the stacks are left alone,
+    /// or into an empty one, or where none was found on the spill list. The object comes back where a last tag was
+    /// loaded, or the list could not grow.
     pub fn put<R: Wait>(
         &mut self,
         rt: &R,
@@ -100,27 +122,36 @@ impl<A: Allocator> Pair<A> {
         requires backed { IsBacked self.old (object ∷ []) worker.old.book }
         requires busy { IsBusy worker.old.book.account }
         ensures pool { worker.new.pool ≡ worker.old.pool }
-        ensures put { OnOk result (Deals self.old worker.old.book (object ∷ []) [] self.new worker.new.book) }
+        ensures put { OnOk result (Puts self.old worker.old.book object self.new worker.new.book) }
         ensures going { OnOk result (IsOpen self.new) }
         ensures room { HasRoom self.old → (worker.new ≡ worker.old) × IsOk result }
-        ensures no_buffer { IfErr result (λ e. e.1 ≡ NoBuffer → IsOpen self.new × AreAlike self.old self.new
-            × WasSeenEmpty Empty worker.old.book worker.new.book) }
-        ensures back { IfErr result (λ e. (e.0 ≡ object) × Deals self.old worker.old.book [] [] self.new
-            worker.new.book) }
-        ensures spent { IfErr result (λ e. e.1 ≡ TagSpent → self.new.stopped ≡ true) }
+        ensures fed { OnOk result (self.new.starved ≡ self.old.starved) }
+        ensures back { IfErr result (λ e. (e.0 ≡ object) × (self.new.spill ≡ self.old.spill) × Deals self.old
+            worker.old.book [] [] self.new worker.new.book) }
+        ensures no_memory { IfErr result (λ e. e.1 ≡ OutOfMemory → IsOpen self.new × AreAlike self.old self.new
+            × (self.new.starved ≡ true) × ((deals : Deals self.old worker.old.book [] [] self.new worker.new.book)
+            × (deals.moves ≡ FoundNone Empty ∷ []))) }
+        ensures spent { IfErr result (λ e. e.1 ≡ TagSpent → (self.new.stopped ≡ true) × (self.new.starved
+            ≡ self.old.starved)) }
     {
         match self.buffers.put(rt, pool, worker, object) {
-            Ok(()) => Ok(()),
-            Err((back, Stop::NoBuffer)) => Err((back, Stop::NoBuffer)),
-            Err((back, Stop::TagSpent)) => {
+            Ok(true) => Ok(()),
+            Ok(false) => match self.spill.push(object) {
+                Ok(()) => Ok(()),
+                Err(_) => {
+                    self.starved = true;
+                    Err((object, Stop::OutOfMemory))
+                }
+            },
+            Err(stop) => {
                 self.stopped = true;
-                Err((back, Stop::TagSpent))
+                Err((object, stop))
             }
         }
     }
 
-    /// Gets an object from the pair, or where it has none from a buffer of the full stack. `None` where none is left
-    /// and that stack was seen empty.
+    /// Gets the last object of the spill list, or one from the buffers, or where the pair has none from a buffer of the
+    /// full stack. `None` where none is left and that stack was seen empty.
     pub fn get<R: Wait>(
         &mut self,
         rt: &R,
@@ -137,12 +168,19 @@ impl<A: Allocator> Pair<A> {
         ensures none { IfOk result (λ r. IfNone r (Deals self.old worker.old.book [] [] self.new worker.new.book
             × (items_of self.new ≡ []) × WasSeenEmpty Full worker.old.book worker.new.book)) }
         ensures own { items_of self.old ≢ [] → (worker.new ≡ worker.old) × IsOk result }
+        ensures last { (o : ℕ) (rest : List ℕ) → self.old.spill ≡ rest ++ o ∷ [] → (result ≡ Ok (Some o)) × (self.new
+            ≡ record self.old { spill = rest }) }
+        ensures none_spilled { self.old.spill ≡ [] → self.new.spill ≡ [] }
+        ensures fed { self.new.starved ≡ self.old.starved }
         ensures closed { IfOk result (λ r. IfNone r (worker.new.book.account.open_push ≡ false)) }
         ensures found { IfOk result (λ r. IfNone r (worker.new.book.account.found ≡ true)) }
         ensures going { OnOk result (IsOpen self.new) }
         ensures spent { IfErr result (λ s. (s ≡ TagSpent) × (self.new.stopped ≡ true) × Deals self.old
             worker.old.book [] [] self.new worker.new.book) }
     {
+        if let Some(object) = self.spill.pop() {
+            return Ok(Some(object));
+        }
         match self.buffers.get(rt, pool, worker) {
             Ok(got) => Ok(got),
             Err(stop) => {
@@ -153,7 +191,8 @@ impl<A: Allocator> Pair<A> {
     }
 
     /// Gives work to others: pushes the second buffer on full if it has items, or else the lower part of the first if
-    /// that has more than four. Nothing is done where neither is so, or no empty buffer was found.
+    /// that has more than four. Nothing is done where neither is so, or no empty buffer was found. What is spilled
+    /// stays.
     pub fn balance<R: Wait>(
         &mut self,
         rt: &R,
@@ -167,6 +206,7 @@ impl<A: Allocator> Pair<A> {
         ensures pool { worker.new.pool ≡ worker.old.pool }
         ensures balances { OnOk result (Balances self.old worker.old.book self.new worker.new.book) }
         ensures few { (HasMore self.old → ⊥) → (self.new ≡ self.old) × (worker.new ≡ worker.old) × IsOk result }
+        ensures spill { (self.new.spill ≡ self.old.spill) × (self.new.starved ≡ self.old.starved) }
         ensures going { OnOk result (IsOpen self.new) }
         ensures spent { IfErr result (λ s. (s ≡ TagSpent) × (self.new.stopped ≡ true) × Deals self.old
             worker.old.book [] [] self.new worker.new.book) }
@@ -180,8 +220,8 @@ impl<A: Allocator> Pair<A> {
         }
     }
 
-    /// Gives all work to others: pushes each buffer that has items on full. A buffer stays where no empty one was found
-    /// for it.
+    /// Gives the work of its buffers to others: pushes each that has items on full. A buffer stays where no empty one
+    /// was found for it, and what is spilled stays.
     pub fn publish<R: Wait>(
         &mut self,
         rt: &R,
@@ -193,10 +233,12 @@ impl<A: Allocator> Pair<A> {
         requires backed { IsBacked self.old [] worker.old.book }
         requires busy { IsBusy worker.old.book.account }
         ensures pool { worker.new.pool ≡ worker.old.pool }
-        ensures none_left { OnOk result (WasSeenEmpty Empty worker.old.book worker.new.book ⊎ (items_of self.new
+        ensures none_left { OnOk result (WasSeenEmpty Empty worker.old.book worker.new.book ⊎ (buffered_items self.new
             ≡ [])) }
         ensures published { OnOk result (Deals self.old worker.old.book [] [] self.new worker.new.book) }
-        ensures nothing { items_of self.old ≡ [] → (self.new ≡ self.old) × (worker.new ≡ worker.old) × IsOk result }
+        ensures nothing { buffered_items self.old ≡ [] → (self.new ≡ self.old) × (worker.new ≡ worker.old)
+            × IsOk result }
+        ensures spill { (self.new.spill ≡ self.old.spill) × (self.new.starved ≡ self.old.starved) }
         ensures going { OnOk result (IsOpen self.new) }
         ensures spent { IfErr result (λ s. (s ≡ TagSpent) × (self.new.stopped ≡ true) × Deals self.old
             worker.old.book [] [] self.new worker.new.book) }
@@ -211,7 +253,8 @@ impl<A: Allocator> Pair<A> {
     }
 
     /// Gives the buffers back: those with items to the full stack, the others to the empty one. What could not be
-    /// pushed, since a last tag was loaded, comes back.
+    /// pushed, since a last tag was loaded, comes back. A spill list is given up, which is lawful only after a stop:
+    /// its objects stay in the worker's charge, and that pool cannot be closed.
     pub fn dispose<R: Wait>(
         self,
         rt: &R,
@@ -221,18 +264,27 @@ impl<A: Allocator> Pair<A> {
         requires pool { worker.old.pool ≡ pool.now }
         requires backed { IsBacked self [] worker.old.book }
         requires busy { items_of self ≢ [] → IsBusy worker.old.book.account }
+        requires spill { (self.spill ≡ []) ⊎ HasStopped self }
         ensures pool { worker.new.pool ≡ worker.old.pool }
         ensures gone { OnOk result (Disposes self worker.old.book no_places worker.new.book) }
-        ensures spent { IfErr result (λ e. (e.1 ≡ TagSpent) × (e.0.stopped ≡ true) × Disposes self worker.old.book e.0
-            worker.new.book) }
+        ensures spent { IfErr result (λ e. (e.1 ≡ TagSpent) × (e.0.stopped ≡ true) × (e.0.spill ≡ [])
+            × Disposes self worker.old.book e.0 worker.new.book) }
     {
-        let Pair { mut buffers, .. } = self;
+        let Pair {
+            mut buffers,
+            mut spill,
+            starved,
+            ..
+        } = self;
         match buffers.clear(rt, pool, worker) {
             Ok(()) => Ok(()),
             Err(stop) => {
+                spill.clear();
                 let left = Pair {
                     buffers,
+                    spill,
                     stopped: true,
+                    starved,
                 };
                 Err((left, stop))
             }
@@ -252,5 +304,12 @@ impl<A: Allocator> Pair<A> {
             second.as_ref().map(|held| held.len()),
             third.as_ref().map(|held| held.len()),
         ]
+    }
+
+    /// How many objects its spill list has.
+    pub fn spilled(&self) -> usize
+        ensures { result ≡ length self.now.spill }
+    {
+        self.spill.len()
     }
 }

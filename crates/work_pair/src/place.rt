@@ -1,4 +1,4 @@
-//! A place for a buffer in a pair. It is vacant only once a call was stopped.
+//! A place for a buffer in a pair. It is vacant in a bare pair, and once a call was stopped.
 ghost use Rattle.std.specs.Prelude.{◌≡◌, ◌≢◌, ◌+◌, ◌↔◌, ◌<◌, ℕ, [], ◌∷◌, ◌++◌, Some, None, IsTrue, IfOk, length};
 ghost use Rattle.std.specs.Prelude.{IsOk, MatchOption};
 ghost use Rattle.std.specs.Bool.{OnTrue, OnFalse};

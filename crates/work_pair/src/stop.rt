@@ -8,7 +8,8 @@ pub enum Stop {
     /// A stack's last tag was loaded where an exchange was due. The pair can only be disposed of.
     #[error("a stack's last tag was loaded")]
     TagSpent,
-    /// There is no empty buffer. The pair is as whole as before, with the same objects.
-    #[error("there is no empty buffer")]
-    NoBuffer,
+    /// There was no empty buffer, and no memory for one more object on the spill list. The pair is as whole as before,
+    /// with the same objects.
+    #[error("out of memory")]
+    OutOfMemory,
 }

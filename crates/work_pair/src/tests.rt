@@ -1,5 +1,6 @@
-//! What only a run shows: the order in which objects come back, last tags, and threads to their end.
+//! What only a run shows: the order in which objects come back, last tags, want of memory, and threads to their end.
 
 mod hand;
+mod memory;
 mod threads;
 mod vectors;

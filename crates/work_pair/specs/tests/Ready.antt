@@ -15,12 +15,8 @@ pub record IsWorker (n : ℕ) (pool : TableId) (w : Holder) : Type 0 where
   pub roots : w.book.setup.roots ≡ numbers n
   pub idle : w.book.account.idle ≡ 0
 
--- and with a pair that it backs, and with these objects besides
-pub record HasBesides (n : ℕ) (pool : TableId) (w : Holder) (p : Places) (besides : List ℕ) : Type 0 where
+-- and with a pair that it backs
+pub record IsReady (n : ℕ) (pool : TableId) (w : Holder) (p : Places) : Type 0 where
   pub worker : IsWorker n pool w
   pub going : IsOpen p
-  pub backed : IsBacked p besides w.book
-
--- and with none
-abbrev pub IsReady : ℕ → TableId → Holder → Places → Type 0
-IsReady n pool w p = HasBesides n pool w p []
+  pub backed : IsBacked p [] w.book

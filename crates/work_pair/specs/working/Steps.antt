@@ -12,11 +12,12 @@ use Rattle.work_pair.specs.Moves.{pushed_items, pushed_numbers, AreFilled, HasPu
 use Rattle.work_pair.specs.Places.{Places, items_at, number_at, items_of, numbers_of, no_places, IsOfSize, AreOfSize}
 use Rattle.work_pair.specs.Places.{AreAlike}
 use Rattle.work_pair.specs.declared.stop.Stop.{Stop}
-use Rattle.work_pair.specs.declared.stop.Stop.TheVariants.{TagSpent, NoBuffer}
+use Rattle.work_pair.specs.declared.stop.Stop.TheVariants.{TagSpent, OutOfMemory}
 
 -- a pair with these three places
 abbrev pub places : Option HeldBuffer → Option HeldBuffer → Option HeldBuffer → Places
-places first second third = record { first = first; second = second; third = third; stopped = false }
+places first second third =
+    record { first = first; second = second; third = third; spill = []; stopped = false; starved = false }
 
 -- the stack for a buffer with these items
 abbrev pub shelf_of : List ℕ → Which
@@ -28,7 +29,7 @@ abbrev pub PopsOne : Which → Book → Book → Result (Option HeldBuffer) Stop
 PopsOne q old new (Ok (Some h)) = Moved (Took q h) old new
 PopsOne q old new (Ok None) = Moved (FoundNone q) old new
 PopsOne q old new (Err TagSpent) = Moved (Ended q) old new
-PopsOne q old new (Err NoBuffer) = ⊥
+PopsOne q old new (Err OutOfMemory) = ⊥
 
 -- one push
 abbrev pub Shelves : HeldBuffer → Book → Book → Result Unit HeldBuffer → Type 0
@@ -47,13 +48,13 @@ abbrev pub PutsOut : Option HeldBuffer → HeldBuffer → Book → Option HeldBu
 PutsOut old next before new third after (Ok done) = (new ≡ Some next) × (third ≡ None) × Leaves old before after
 PutsOut old next before new third after (Err TagSpent) = (new ≡ old) × (third ≡ Some next) × ((q : Which)
     × Moved (Ended q) before after)
-PutsOut old next before new third after (Err NoBuffer) = ⊥
+PutsOut old next before new third after (Err OutOfMemory) = ⊥
 
 -- the buffer at a place, if there is one, was pushed; or a last tag was loaded, and it is still there
 abbrev pub ClearsAt : Option HeldBuffer → Book → Option HeldBuffer → Book → Result Unit Stop → Type 0
 ClearsAt old before new after (Ok done) = (new ≡ None) × Leaves old before after
 ClearsAt old before new after (Err TagSpent) = (new ≡ old) × ((q : Which) × Moved (Ended q) before after)
-ClearsAt old before new after (Err NoBuffer) = ⊥
+ClearsAt old before new after (Err OutOfMemory) = ⊥
 
 -- a pair changed without its worker: objects were put and got, and the buffers are the same
 pub record IsLocal (old new : Places) (put got : List ℕ) : Type 0 where
@@ -83,11 +84,11 @@ abbrev pub RenewTells : ℕ → Option HeldBuffer → Book → Option HeldBuffer
     → Result Bool Stop → Type 0
 RenewTells size old before new third after (Ok true) = (r : Renews size old before new third after) × (third ≡ None)
     × ((items_at old ≢ []) → HasPushOnFull r.moves)
-RenewTells size old before new third after (Ok false) = Renews size old before new third after × (third ≡ None) × (new
-    ≡ old) × WasSeenEmpty Empty before after
+RenewTells size old before new third after (Ok false) = (r : Renews size old before new third after)
+    × (third ≡ None) × (new ≡ old) × WasSeenEmpty Empty before after × (r.moves ≡ FoundNone Empty ∷ [])
 RenewTells size old before new third after (Err TagSpent) = (r : Renews size old before new third after)
     × EndAtLastTag r.moves
-RenewTells size old before new third after (Err NoBuffer) = ⊥
+RenewTells size old before new third after (Err OutOfMemory) = ⊥
 
 -- a place whose buffer has items was renewed
 abbrev pub PublishesAt : ℕ → Option HeldBuffer → Book → Option HeldBuffer → Option HeldBuffer → Book
@@ -96,7 +97,7 @@ PublishesAt size old before new third after (Ok done) = Renews size old before n
     × (WasSeenEmpty Empty before after ⊎ (items_at new ≡ []))
 PublishesAt size old before new third after (Err TagSpent) = (r : Renews size old before new third after)
     × EndAtLastTag r.moves
-PublishesAt size old before new third after (Err NoBuffer) = ⊥
+PublishesAt size old before new third after (Err OutOfMemory) = ⊥
 
 -- what was done with all three places
 pub record Trades (old : Places) (before : Book) (put got : List ℕ) (new : Places) (after : Book) : Type 0 where
@@ -109,20 +110,20 @@ pub record Trades (old : Places) (before : Book) (put got : List ℕ) (new : Pla
   pub filled : AreFilled moves
   pub sized : AreOfSize before.setup.size new
 
--- a call was stopped
-abbrev pub Halts : Places → Book → Places → Book → Stop → Type 0
-Halts old before new after TagSpent = (t : Trades old before [] [] new after) × EndAtLastTag t.moves
-Halts old before new after NoBuffer =
-    Trades old before [] [] new after × (new.third ≡ None) × WasSeenEmpty Empty before after × AreAlike old new
+-- a call did nothing but look for an empty buffer, and found none
+abbrev pub FindsNone : Places → Book → Places → Book → Type 0
+FindsNone old before new after = (t : Trades old before [] [] new after) × (new.third ≡ None)
+    × (t.moves ≡ FoundNone Empty ∷ []) × AreAlike old new
 
 -- a call was stopped by a last tag
 abbrev pub Ends : Places → Book → Places → Book → Stop → Type 0
 Ends old before new after TagSpent = (t : Trades old before [] [] new after) × EndAtLastTag t.moves
-Ends old before new after NoBuffer = ⊥
+Ends old before new after OutOfMemory = ⊥
 
-abbrev pub PutTells : ℕ → Places → Book → Places → Book → Result Unit (ℕ × Stop) → Type 0
-PutTells object old before new after (Ok done) = Trades old before (object ∷ []) [] new after × (new.third ≡ None)
-PutTells object old before new after (Err back) = (back.0 ≡ object) × Halts old before new after back.1
+abbrev pub PutTells : ℕ → Places → Book → Places → Book → Result Bool Stop → Type 0
+PutTells object old before new after (Ok true) = Trades old before (object ∷ []) [] new after × (new.third ≡ None)
+PutTells object old before new after (Ok false) = FindsNone old before new after
+PutTells object old before new after (Err stop) = Ends old before new after stop
 
 abbrev pub GetTells : Places → Book → Places → Book → Result (Option ℕ) Stop → Type 0
 GetTells old before new after (Ok (Some object)) = Trades old before [] (object ∷ []) new after × (new.third ≡ None)
@@ -150,4 +151,4 @@ pub record Clears (old : Places) (before : Book) (new : Places) (after : Book) :
 abbrev pub ClearTells : Places → Book → Places → Book → Result Unit Stop → Type 0
 ClearTells old before new after (Ok done) = Clears old before no_places after
 ClearTells old before new after (Err TagSpent) = (c : Clears old before new after) × EndAtLastTag c.trades.moves
-ClearTells old before new after (Err NoBuffer) = ⊥
+ClearTells old before new after (Err OutOfMemory) = ⊥

@@ -1,12 +1,11 @@
 //! A worker with its pair, over objects that are all roots.
-ghost use Rattle.std.specs.Prelude.{◌≡◌, ◌<◌, [], ◌∷◌, IfOk, IfSome, IfErr};
+ghost use Rattle.std.specs.Prelude.{◌≡◌, ◌<◌, [], IfNone, IfOk, IfSome, true};
 ghost use Rattle.mark_core.specs.Shares.{whole};
-ghost use Rattle.std.specs.Bool.{OnFalse};
-ghost use Rattle.work_pair.specs.tests.Ready.{HasBesides, IsReady, IsWorker, numbers};
+ghost use Rattle.work_pair.specs.tests.Ready.{IsReady, IsWorker, numbers};
 
 use crate::{Pair, Stop};
 use buffer_pool::{Edges, Pool, PoolFault, Worker};
-use std::alloc::{Allocator, Global};
+use std::alloc::Allocator;
 use std::process::Abort;
 use std::sync::Wait;
 
@@ -32,12 +31,12 @@ impl Edges for Roots {
 }
 
 /// A pool over roots alone, and its worker.
-pub(super) fn pool_of_roots(
-    alloc: Global,
+pub(super) fn pool_of_roots<A: Allocator + Clone>(
+    alloc: A,
     buffers: u32,
     size: u32,
     first_tag: u64,
-) -> Result<(Pool<Global>, Worker<Global>), PoolFault>
+) -> Result<(Pool<A>, Worker<A>), PoolFault>
     ensures worker { IfOk result (λ p. IsWorker OBJECTS p.0 p.1) }
     ensures share { IfOk result (λ p. p.1.book.account.share ≡ whole) }
 {
@@ -47,77 +46,74 @@ pub(super) fn pool_of_roots(
 /// Opens a pair, where there are two buffers.
 pub(super) fn open<R: Wait + Abort, A: Allocator>(
     rt: &R,
+    alloc: A,
     pool: &Pool<A>,
     worker: &mut Worker<A>,
 ) -> Option<Pair<A>>
     requires { IsWorker OBJECTS pool.now worker.old }
     ensures worker { IsWorker OBJECTS pool.now worker.new }
     ensures ready { IfSome result (λ p. IsReady OBJECTS pool.now worker.new p) }
+    ensures none_spilled { IfSome result (λ p. p.spill ≡ []) }
 {
-    match Pair::open(rt, pool, worker) {
+    match Pair::open(rt, alloc, pool, worker) {
         Ok(Some(pair)) => Some(pair),
         Ok(None) => None,
         Err(_) => panic!(rt; "no tag is near the last one"),
     }
 }
 
-/// Puts an object that the worker has claimed into the pair. False where there was no buffer for it.
-pub(super) fn put_again<R: Wait + Abort, A: Allocator>(
-    rt: &R,
-    pool: &Pool<A>,
-    worker: &mut Worker<A>,
-    pair: &mut Pair<A>,
-    object: u32,
-) -> bool
-    requires { HasBesides OBJECTS pool.now worker.old pair.old (object ∷ []) }
-    ensures ready { IsReady OBJECTS pool.now worker.new pair.new }
-    ensures back { OnFalse result (HasBesides OBJECTS pool.now worker.new pair.new (object ∷ [])) }
+/// A pair without buffers.
+pub(super) fn bare<A: Allocator>(alloc: A, pool: &Pool<A>, worker: &Worker<A>) -> Pair<A>
+    requires { IsWorker OBJECTS pool.now worker.now }
+    ensures { IsReady OBJECTS pool.now worker.now result }
 {
-    match pair.put(rt, pool, worker, object) {
-        Ok(()) => true,
-        Err((_, Stop::NoBuffer)) => false,
-        Err((_, Stop::TagSpent)) => panic!(rt; "no tag is near the last one"),
-    }
+    Pair::bare(alloc)
 }
 
-/// Claims a white object and puts it into the pair. False where there was no buffer for it.
+/// Claims a white object and puts it into the pair.
 pub(super) fn put<R: Wait + Abort, A: Allocator>(
     rt: &R,
     pool: &Pool<A>,
     worker: &mut Worker<A>,
     pair: &mut Pair<A>,
     object: u32,
-) -> bool
+)
     requires ready { IsReady OBJECTS pool.now worker.old pair.old }
     requires object { object < OBJECTS }
-    ensures ready { IsReady OBJECTS pool.now worker.new pair.new }
-    ensures back { OnFalse result (HasBesides OBJECTS pool.now worker.new pair.new (object ∷ [])) }
+    ensures { IsReady OBJECTS pool.now worker.new pair.new }
 {
     if !pool.claim(worker, object) {
         panic!(rt; "the object was claimed before");
     }
-    put_again(rt, pool, worker, pair, object)
+    let Ok(()) = pair.put(rt, pool, worker, object) else {
+        panic!(rt; "no tag is near the last one, and there is memory for {object}");
+    };
 }
 
-/// Gets an object from a full pair, while the worker has one that it could not put.
-pub(super) fn get_besides<R: Wait + Abort, A: Allocator>(
+/// Claims a white object, for which there is no buffer and no memory.
+pub(super) fn put_in_vain<R: Wait + Abort, A: Allocator>(
     rt: &R,
     pool: &Pool<A>,
     worker: &mut Worker<A>,
     pair: &mut Pair<A>,
     object: u32,
-) -> u32
-    requires { HasBesides OBJECTS pool.now worker.old pair.old (object ∷ []) }
-    ensures { HasBesides OBJECTS pool.now worker.new pair.new (object ∷ []) }
+)
+    requires ready { IsReady OBJECTS pool.now worker.old pair.old }
+    requires object { object < OBJECTS }
+    ensures ready { IsReady OBJECTS pool.now worker.new pair.new }
+    ensures starved { pair.new.starved ≡ true }
 {
-    match pair.get(rt, pool, worker) {
-        Ok(Some(other)) => other,
-        Ok(None) => panic!(rt; "the pair is full, and has no place for {object}"),
-        Err(_) => panic!(rt; "no tag is near the last one"),
+    if !pool.claim(worker, object) {
+        panic!(rt; "the object was claimed before");
+    }
+    match pair.put(rt, pool, worker, object) {
+        Err((back, Stop::OutOfMemory)) => assert_eq!(rt; back, object),
+        Err((_, Stop::TagSpent)) => panic!(rt; "no tag is near the last one"),
+        Ok(()) => panic!(rt; "there is no memory for {object}"),
     }
 }
 
-/// Gets an object.
+/// Gets an object. Where there is none left none is spilled.
 pub(super) fn get<R: Wait + Abort, A: Allocator>(
     rt: &R,
     pool: &Pool<A>,
@@ -125,7 +121,8 @@ pub(super) fn get<R: Wait + Abort, A: Allocator>(
     pair: &mut Pair<A>,
 ) -> Option<u32>
     requires { IsReady OBJECTS pool.now worker.old pair.old }
-    ensures { IsReady OBJECTS pool.now worker.new pair.new }
+    ensures ready { IsReady OBJECTS pool.now worker.new pair.new }
+    ensures none { IfNone result (pair.new.spill ≡ []) }
 {
     match pair.get(rt, pool, worker) {
         Ok(Some(object)) => Some(object),

@@ -1,10 +1,8 @@
 //! Four threads, each with a pair on one pool of few buffers, until all their objects were got.
-ghost use Rattle.std.specs.Prelude.{◌≡◌, ◌+◌, ◌*◌, ◌≤◌, IfOk};
+ghost use Rattle.std.specs.Prelude.{◌≡◌, ◌+◌, ◌*◌, ◌≤◌, [], IfOk, false};
 ghost use Rattle.work_pair.specs.tests.Ready.{IsReady, IsWorker};
 
-use super::hand::{
-    OBJECTS, balance, get, get_besides, open, pool_of_roots, publish, put, put_again,
-};
+use super::hand::{OBJECTS, balance, get, open, pool_of_roots, publish, put};
 use crate::Pair;
 use buffer_pool::{Pool, Worker};
 use std::alloc::{AllocError, Allocator, Global};
@@ -32,7 +30,8 @@ fn get_one<R: Wait + Abort, A: Allocator>(
     got: &mut Vec<u32>,
 ) -> Result<bool, AllocError>
     requires { IsReady OBJECTS pool.now worker.old pair.old }
-    ensures { IsReady OBJECTS pool.now worker.new pair.new }
+    ensures ready { IsReady OBJECTS pool.now worker.new pair.new }
+    ensures none { IfOk result (λ more. more ≡ false → pair.new.spill ≡ []) }
 {
     match get(rt, pool, worker, pair) {
         Some(object) => {
@@ -56,12 +55,7 @@ fn put_one<R: Wait + Abort, A: Allocator>(
     requires object { object + 1 ≤ OBJECTS }
     ensures { IfOk result (λ _. IsReady OBJECTS pool.now worker.new pair.new) }
 {
-    if !put(rt, pool, worker, pair, object) {
-        got.push(get_besides(rt, pool, worker, pair, object))?;
-        if !put_again(rt, pool, worker, pair, object) {
-            panic!(rt; "there is room for {object}");
-        }
-    }
+    put(rt, pool, worker, pair, object);
     match object % 5 {
         0 => balance(rt, pool, worker, pair),
         1 => publish(rt, pool, worker, pair),
@@ -101,7 +95,8 @@ fn get_rest<R: Wait + Abort, A: Allocator>(
     got: &mut Vec<u32>,
 ) -> Result<(), AllocError>
     requires { IsReady OBJECTS pool.now worker.old pair.old }
-    ensures { IfOk result (λ _. IsReady OBJECTS pool.now worker.new pair.new) }
+    ensures ready { IfOk result (λ _. IsReady OBJECTS pool.now worker.new pair.new) }
+    ensures none_spilled { IfOk result (λ _. pair.new.spill ≡ []) }
 {
     for _ in rt.forever() {
         if !get_one(rt, pool, worker, pair, got)? {
@@ -175,12 +170,17 @@ fn both(
 }
 
 /// A worker with a new pair.
-fn hand_of<R: Wait + Abort>(rt: &R, pool: &Pool<Global>, worker: Worker<Global>) -> Hand
+fn hand_of<R: Wait + Abort>(
+    rt: &R,
+    alloc: Global,
+    pool: &Pool<Global>,
+    worker: Worker<Global>,
+) -> Hand
     requires { IsWorker OBJECTS pool.now worker }
     ensures { IsReady OBJECTS pool.now result.worker result.pair }
 {
     let mut worker = worker;
-    let Some(pair) = open(rt, pool, &mut worker) else {
+    let Some(pair) = open(rt, alloc, pool, &mut worker) else {
         panic!(rt; "there are two buffers for each thread");
     };
     Hand { worker, pair }
@@ -196,10 +196,10 @@ fn four_threads(rt: HostRuntime) -> Result<(), Fail> {
     let (third, fourth) = pool.split(worker, 10_000);
     let shared = &pool;
     let handle = &rt;
-    let first = hand_of(handle, shared, first);
-    let second = hand_of(handle, shared, second);
-    let third = hand_of(handle, shared, third);
-    let fourth = hand_of(handle, shared, fourth);
+    let first = hand_of(handle, alloc, shared, first);
+    let second = hand_of(handle, alloc, shared, second);
+    let third = hand_of(handle, alloc, shared, third);
+    let fourth = hand_of(handle, alloc, shared, fourth);
     let (front, back) = join(
         handle,
         move || go_side_by_side(handle, alloc, shared, first, second, 0),
@@ -209,7 +209,7 @@ fn four_threads(rt: HostRuntime) -> Result<(), Fail> {
     let Hand {
         mut worker,
         mut pair,
-    } = hand_of(handle, shared, worker);
+    } = hand_of(handle, alloc, shared, worker);
     get_rest(handle, shared, &mut worker, &mut pair, &mut got)?;
     got.sort_unstable();
     assert_eq!(rt; got.len(), OBJECTS as usize);

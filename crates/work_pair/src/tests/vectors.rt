@@ -1,8 +1,8 @@
 //! Small runs of one thread: which objects come back in which order, and how often the head of the empty stack changes.
-ghost use Rattle.std.specs.Prelude.{◌≤◌};
+ghost use Rattle.std.specs.Prelude.{◌≡◌, ◌≤◌, []};
 ghost use Rattle.work_pair.specs.tests.Ready.{IsReady};
 
-use super::hand::{OBJECTS, balance, full_is_empty, get, open, pool_of_roots, put};
+use super::hand::{OBJECTS, balance, bare, full_is_empty, get, open, pool_of_roots, put};
 use crate::{Pair, Stop};
 use buffer_pool::{Pool, Worker};
 use std::alloc::Allocator;
@@ -10,8 +10,8 @@ use std::process::Abort;
 use std::sync::Wait;
 use std::test::Fail;
 
-/// Puts so many objects, from 0 on, for which there are buffers.
-fn fill<R: Wait + Abort, A: Allocator>(
+/// Puts so many objects, from 0 on.
+pub(super) fn fill<R: Wait + Abort, A: Allocator>(
     rt: &R,
     pool: &Pool<A>,
     worker: &mut Worker<A>,
@@ -23,13 +23,12 @@ fn fill<R: Wait + Abort, A: Allocator>(
     ensures { IsReady OBJECTS pool.now worker.new pair.new }
 {
     for object in 0..count {
-        let there = put(rt, pool, worker, pair, object);
-        assert!(rt; there, "object {object}");
+        put(rt, pool, worker, pair, object);
     }
 }
 
 /// Gets these objects, in this order.
-fn get_all<R: Wait + Abort, A: Allocator>(
+pub(super) fn get_all<R: Wait + Abort, A: Allocator>(
     rt: &R,
     pool: &Pool<A>,
     worker: &mut Worker<A>,
@@ -53,14 +52,16 @@ fn five_objects<R: Wait + Abort, A: Allocator>(
     pair: &mut Pair<A>,
 )
     requires { IsReady OBJECTS pool.now worker.old pair.old }
-    ensures { IsReady OBJECTS pool.now worker.new pair.new }
+    ensures ready { IsReady OBJECTS pool.now worker.new pair.new }
+    ensures none_spilled { pair.new.spill ≡ [] }
 {
     fill(rt, pool, worker, pair, 5);
     balance(rt, pool, worker, pair);
     assert!(rt; !full_is_empty(pool, worker, pair));
     get_all(rt, pool, worker, pair, &[4, 3, 2, 1, 0]);
-    let last = get(rt, pool, worker, pair);
-    assert!(rt; last.is_none());
+    let None = get(rt, pool, worker, pair) else {
+        panic!(rt; "five objects were put");
+    };
     assert!(rt; full_is_empty(pool, worker, pair));
 }
 
@@ -68,7 +69,7 @@ fn five_objects<R: Wait + Abort, A: Allocator>(
 #[test]
 fn balance_halves_five(rt: HostRuntime) -> Result<(), Fail> {
     let (pool, mut worker) = pool_of_roots(rt.alloc(), 4, 8, 0)?;
-    let Some(mut pair) = open(&rt, &pool, &mut worker) else {
+    let Some(mut pair) = open(&rt, rt.alloc(), &pool, &mut worker) else {
         panic!(rt; "there are four buffers");
     };
     five_objects(&rt, &pool, &mut worker, &mut pair);
@@ -79,7 +80,7 @@ fn balance_halves_five(rt: HostRuntime) -> Result<(), Fail> {
 #[test]
 fn balance_leaves_four(rt: HostRuntime) -> Result<(), Fail> {
     let (pool, mut worker) = pool_of_roots(rt.alloc(), 4, 8, 0)?;
-    let Some(mut pair) = open(&rt, &pool, &mut worker) else {
+    let Some(mut pair) = open(&rt, rt.alloc(), &pool, &mut worker) else {
         panic!(rt; "there are four buffers");
     };
     fill(&rt, &pool, &mut worker, &mut pair, 4);
@@ -95,7 +96,7 @@ fn balance_leaves_four(rt: HostRuntime) -> Result<(), Fail> {
 #[test]
 fn six_changes(rt: HostRuntime) -> Result<(), Fail> {
     let (pool, mut worker) = pool_of_roots(rt.alloc(), 4, 8, 281_474_976_710_649)?;
-    let Some(mut pair) = open(&rt, &pool, &mut worker) else {
+    let Some(mut pair) = open(&rt, rt.alloc(), &pool, &mut worker) else {
         panic!(rt; "there are four buffers");
     };
     five_objects(&rt, &pool, &mut worker, &mut pair);
@@ -107,7 +108,7 @@ fn six_changes(rt: HostRuntime) -> Result<(), Fail> {
 #[test]
 fn one_change_too_many(rt: HostRuntime) -> Result<(), Fail> {
     let (pool, mut worker) = pool_of_roots(rt.alloc(), 4, 8, 281_474_976_710_650)?;
-    let Some(mut pair) = open(&rt, &pool, &mut worker) else {
+    let Some(mut pair) = open(&rt, rt.alloc(), &pool, &mut worker) else {
         panic!(rt; "there are four buffers");
     };
     five_objects(&rt, &pool, &mut worker, &mut pair);
@@ -121,23 +122,51 @@ fn one_change_too_many(rt: HostRuntime) -> Result<(), Fail> {
     Ok(())
 }
 
-/// Four buffers for two objects take eight, and not a ninth, which changes nothing but the places of the buffers.
+/// Four buffers for two objects take eight. A ninth goes to the spill list, and changes nothing else but the places of
+/// the buffers; it comes back first.
 #[test]
-fn eight_objects_in_four_buffers(rt: HostRuntime) -> Result<(), Fail> {
+fn nine_objects_in_four_buffers(rt: HostRuntime) -> Result<(), Fail> {
     let (pool, mut worker) = pool_of_roots(rt.alloc(), 4, 2, 0)?;
-    let Some(mut pair) = open(&rt, &pool, &mut worker) else {
+    let Some(mut pair) = open(&rt, rt.alloc(), &pool, &mut worker) else {
         panic!(rt; "there are four buffers");
     };
-    fill(&rt, &pool, &mut worker, &mut pair, 8);
+    fill(&rt, &pool, &mut worker, &mut pair, 9);
     assert_eq!(rt; pair.lens(), [Some(2), Some(2), None]);
-    let there = put(&rt, &pool, &mut worker, &mut pair, 8);
-    assert!(rt; !there);
+    assert_eq!(rt; pair.spilled(), 1);
     get_all(
         &rt,
         &pool,
         &mut worker,
         &mut pair,
-        &[5, 4, 7, 6, 3, 2, 1, 0],
+        &[8, 5, 4, 7, 6, 3, 2, 1, 0],
     );
+    Ok(())
+}
+
+/// A pair without buffers keeps what is put into it, and has a buffer once one is to be found.
+#[test]
+fn a_bare_pair_takes_and_gives(rt: HostRuntime) -> Result<(), Fail> {
+    let alloc = rt.alloc();
+    let (pool, worker) = pool_of_roots(alloc, 4, 2, 0)?;
+    let (mut other, worker) = pool.split(worker, 2);
+    let (mut third, mut worker) = pool.split(worker, 1);
+    let (Some(one), Some(_two)) = (
+        open(&rt, alloc, &pool, &mut other),
+        open(&rt, alloc, &pool, &mut third),
+    ) else {
+        panic!(rt; "there are four buffers");
+    };
+    let mut pair = bare(alloc, &pool, &worker);
+    fill(&rt, &pool, &mut worker, &mut pair, 2);
+    get_all(&rt, &pool, &mut worker, &mut pair, &[1, 0]);
+    let last = get(&rt, &pool, &mut worker, &mut pair);
+    assert!(rt; last.is_none());
+    assert_eq!(rt; pair.lens(), [None, None, None]);
+    let Ok(()) = one.dispose(&rt, &pool, &mut other) else {
+        panic!(rt; "no tag is near the last one");
+    };
+    put(&rt, &pool, &mut worker, &mut pair, 2);
+    assert_eq!(rt; pair.lens(), [Some(1), None, None]);
+    assert!(rt; full_is_empty(&pool, &mut worker, &pair));
     Ok(())
 }

@@ -1,9 +1,10 @@
-use Rattle.std.proofs.Common.{ap, refl, subst, Bool, Ok, Option, Some, ◌++◌, [], ◌∷◌, ◌∙◌, ◌≡◌, arith}
+use Rattle.std.proofs.Common.{ap, refl, sym, subst, Bool, Ok, Option, Some, ◌++◌, [], ◌∷◌, ◌∙◌, ◌≡◌, arith}
+use Rattle.std.proofs.lemmas.Result.{err_from_is_err_and}
 use Rattle.std.specs.Bool.{OnTrue}
 use Rattle.mark_core.specs.Lists.{times}
 use Rattle.buffer_pool.specs.Calls.{HeldBuffer}
 use Rattle.work_pair.specs.Places.{items_at}
-use Rattle.work_pair.specs.working.Steps.{RenewTells, places}
+use Rattle.work_pair.specs.working.Steps.{PutTells, RenewTells, places}
 use Rattle.work_pair.proofs.Calls.{full_told, put_refused, put_stopped, put_third}
 use Rattle.work_pair.proofs.Locals.{local_again, put_first, swapped}
 use Rattle.work_pair.proofs.Trading.{second_charged, still}
@@ -33,8 +34,27 @@ renew-requires-clause-charged g c =
     let is = c.if-put_at-2.ensures.full ∙ c.swap.ensures.x_after in
     λ x. omega (arith, part x, ap (λ (p : Option HeldBuffer). times x (items_at p)) is)
 
-pub returns-in-Ok-true-clause-tells : goal.returns-in-Ok-true-clause-tells
-returns-in-Ok-true-clause-tells g c =
+pub returns-in_err-renew-clause-tells : goal.returns-in_err-renew-clause-tells
+returns-in_err-renew-clause-tells g c =
+    let m = c.args.self.now in
+    let p = err_from_is_err_and c.from_residual.result c.from_residual.ensures.1 in
+    rw (p.1, p.2)
+    (put_stopped m.first m.second m.third c.args.worker.now.book c.requires.third c.requires.backed.sized c.put_at-2.new.place c.swap.new.y (c.if-put_at-2.ensures.full ∙ c.swap.ensures.x_after) (c.swap.ensures.y_after ∙ c.if-put_at.ensures.full) c.renew.new.place c.renew.new.third
+    c.renew.new.worker.book c.in_err-renew.field-0.0 c.in_err-renew.ensures.renews)
+
+pub returns-then-not-branch-clause-tells : goal.returns-then-not-branch-clause-tells
+returns-then-not-branch-clause-tells g c =
+    let m = c.args.self.now in
+    let b = c.args.worker.now.book in
+    let p = c.put_at-2.new.place in
+    let n = c.renew.new.place in
+    let third = c.renew.new.third in
+    let after = c.renew.new.worker.book in
+    let told = subst (λ (done : Bool). RenewTells b.setup.size p b n third after (Ok done)) c.if-not-branch.true c.in_ok-renew.ensures.renews in
+    put_refused m.first m.second m.third b c.requires.third c.requires.backed.sized p c.swap.new.y (c.if-put_at-2.ensures.full ∙ c.swap.ensures.x_after) (c.swap.ensures.y_after ∙ c.if-put_at.ensures.full) n third after told
+
+pub returns-clause-tells : goal.returns-clause-tells
+returns-clause-tells g c =
     let m = c.args.self.now in
     let b = c.args.worker.now.book in
     let p = c.put_at-2.new.place in
@@ -42,38 +62,11 @@ returns-in-Ok-true-clause-tells g c =
     let n = c.renew.new.place in
     let third = c.renew.new.third in
     let after = c.renew.new.worker.book in
-    let told = subst (λ (done : Bool). RenewTells b.setup.size p b n third after (Ok done)) c.in-Ok-true.field-0-test c.in-Ok-true.ensures.renews in
-    let bare = subst (λ (done : Bool). OnTrue done ((h : HeldBuffer) × (n ≡ Some h) × (h.items ≡ []))) c.in-Ok-true.field-0-test c.in-Ok-true.ensures.bare in
-    let last = c.put_at-in-Ok-true.ensures in
+    let told = subst (λ (done : Bool). RenewTells b.setup.size p b n third after (Ok done)) c.if-not-branch.false c.in_ok-renew.ensures.renews in
+    let bare = subst (λ (done : Bool). OnTrue done ((h : HeldBuffer) × (n ≡ Some h) × (h.items ≡ []))) c.if-not-branch.false c.in_ok-renew.ensures.bare in
+    let last = c.put_at-3.ensures in
     let fits = last.room bare.0 bare.1 bare.2 in
-    let put = subst (λ (done : Bool). OnTrue done ((h : HeldBuffer) × (n ≡ Some h) × (c.put_at-in-Ok-true.new.place ≡ Some (record h { items = h.items ++ c.args.object ∷ [] })))) fits last.put in
-    (put_third m.first m.second m.third b c.requires.third c.requires.backed.sized p y (c.if-put_at-2.ensures.full ∙ c.swap.ensures.x_after) (c.swap.ensures.y_after ∙ c.if-put_at.ensures.full) n third after put.0 c.args.object c.put_at-in-Ok-true.new.place told.0 put.1 put.2, told.1)
-
-pub returns-in-Ok-false-clause-tells : goal.returns-in-Ok-false-clause-tells
-returns-in-Ok-false-clause-tells g c =
-    let m = c.args.self.now in
-    let b = c.args.worker.now.book in
-    let p = c.put_at-2.new.place in
-    let n = c.renew.new.place in
-    let third = c.renew.new.third in
-    let after = c.renew.new.worker.book in
-    let told = subst (λ (done : Bool). RenewTells b.setup.size p b n third after (Ok done)) c.in-Ok-false.field-0-test c.in-Ok-false.ensures.renews in
-    let refused = put_refused m.first m.second m.third b c.requires.third c.requires.backed.sized p c.swap.new.y (c.if-put_at-2.ensures.full ∙ c.swap.ensures.x_after) (c.swap.ensures.y_after ∙ c.if-put_at.ensures.full) n third after told in
-    (refl, refused)
-
-pub returns-in-Err-clause-tells : goal.returns-in-Err-clause-tells
-returns-in-Err-clause-tells g c =
-    let m = c.args.self.now in (
-      refl,
-      put_stopped m.first m.second m.third c.args.worker.now.book c.requires.third c.requires.backed.sized c.put_at-2.new.place c.swap.new.y (c.if-put_at-2.ensures.full ∙ c.swap.ensures.x_after) (c.swap.ensures.y_after ∙ c.if-put_at.ensures.full) c.renew.new.place c.renew.new.third
-          c.renew.new.worker.book c.in-Err.stop c.in-Err.ensures.renews,
-    )
-
-pub returns-in-Ok-true-clause-room : goal.returns-in-Ok-true-clause-room
-returns-in-Ok-true-clause-room g c = full_told c.args.self.now.first c.args.self.now.second c.args.self.now.third c.swap.new.x c.swap.ensures.x_after c.if-put_at.ensures.no_room c.if-put_at-2.ensures.no_room
-
-pub returns-in-Ok-false-clause-room : goal.returns-in-Ok-false-clause-room
-returns-in-Ok-false-clause-room g c = full_told c.args.self.now.first c.args.self.now.second c.args.self.now.third c.swap.new.x c.swap.ensures.x_after c.if-put_at.ensures.no_room c.if-put_at-2.ensures.no_room
-
-pub returns-in-Err-clause-room : goal.returns-in-Err-clause-room
-returns-in-Err-clause-room g c = full_told c.args.self.now.first c.args.self.now.second c.args.self.now.third c.swap.new.x c.swap.ensures.x_after c.if-put_at.ensures.no_room c.if-put_at-2.ensures.no_room
+    let put = subst (λ (done : Bool). OnTrue done ((h : HeldBuffer) × (n ≡ Some h) × (c.put_at-3.new.place ≡ Some (record h { items = h.items ++ c.args.object ∷ [] })))) fits last.put in
+    let q = c.put_at-3.new.place in
+    subst (λ (r : Bool). PutTells c.args.object (places m.first m.second m.third) b (places q y third) after (Ok r)) (sym fits)
+    (put_third m.first m.second m.third b c.requires.third c.requires.backed.sized p y (c.if-put_at-2.ensures.full ∙ c.swap.ensures.x_after) (c.swap.ensures.y_after ∙ c.if-put_at.ensures.full) n third after put.0 c.args.object q told.0 put.1 put.2, told.1)

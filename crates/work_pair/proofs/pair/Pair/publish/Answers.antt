@@ -1,27 +1,35 @@
+-- What the buffers tell of a publishing, told of the pair; its list stays.
 use Rattle.std.proofs.Common.{◌∙◌, [], true, ap, refl}
 use Rattle.work_pair.specs.Moves.{EndAtLastTag}
-use Rattle.work_pair.specs.Places.{Places, items_of}
+use Rattle.work_pair.specs.Places.{Places, buffered_items}
 use Rattle.work_pair.specs.working.Steps.{places}
-use Rattle.work_pair.proofs.Pairs.{deals, ends_told, not_stopped}
+use Rattle.work_pair.proofs.Pairs.{deals, ends_told, inner, not_stopped}
+use Rattle.work_pair.proofs.Spilling.{listed}
 use Rattle.work_pair.proofs.pair.Pair.publish.Goals as goal
+
+pub publish-requires-clause-backed : goal.publish-requires-clause-backed
+publish-requires-clause-backed g c =
+    let i = c.self.inside in
+    let p = i.buffers in
+    inner c.args.self.now p.first p.second p.third i.spill.items i.stopped i.starved c.self.view_is [] c.args.worker.now.book c.requires.backed
 
 pub returns-in-Ok-clause-published : goal.returns-in-Ok-clause-published
 returns-in-Ok-clause-published g c =
-    let u = c.in-Ok.ensures.tells.0 in
-    deals c.args.self.now c.self.inside.buffers.first c.self.inside.buffers.second c.self.inside.buffers.third c.self.inside.stopped c.self.view_is
-    [] [] c.args.worker.now.book c.requires.backed c.publish.new.self.first c.publish.new.self.second c.publish.new.self.third c.self.inside.stopped c.publish.new.worker.book u
-    (not_stopped (EndAtLastTag u.moves) c.self.inside.stopped (ap (λ (p : Places). p.stopped) c.self.view_is ∙ c.requires.going.going))
+    let i = c.self.inside in
+    let p = i.buffers in
+    let b = c.args.worker.now.book in
+    let q = c.publish.new.self in
+    let after = c.publish.new.worker.book in
+    let told = c.in-Ok.ensures.tells.0 in
+    deals c.args.self.now p.first p.second p.third i.spill.items i.stopped i.starved c.self.view_is b q.first q.second q.third i.stopped i.starved after [] [] c.requires.backed told
+    (not_stopped (EndAtLastTag told.moves) i.stopped (ap (λ (w : Places). w.stopped) c.self.view_is ∙ c.requires.going.going))
 
 pub returns-in-Err-clause-spent : goal.returns-in-Err-clause-spent
 returns-in-Err-clause-spent g c =
-    let told = ends_told (places c.self.inside.buffers.first c.self.inside.buffers.second c.self.inside.buffers.third) c.args.worker.now.book (places c.publish.new.self.first c.publish.new.self.second c.publish.new.self.third) c.publish.new.worker.book c.in-Err.stop c.in-Err.ensures.tells in (
-      told.0,
-      refl,
-      deals c.args.self.now c.self.inside.buffers.first c.self.inside.buffers.second c.self.inside.buffers.third c.self.inside.stopped c.self.view_is
-          [] [] c.args.worker.now.book c.requires.backed c.publish.new.self.first c.publish.new.self.second c.publish.new.self.third true c.publish.new.worker.book told.1.0 (λ stopped. told.1.1),
-    )
-
-pub returns-in-Ok-clause-nothing : goal.returns-in-Ok-clause-nothing
-returns-in-Ok-clause-nothing g c none =
-    let same = c.in-Ok.ensures.nothing (ap items_of c.self.view_is ∙ none) in
-    (ap (λ (p : Places). record p { stopped = c.self.inside.stopped }) same.0 ∙ c.self.view_is, same.1, refl)
+    let i = c.self.inside in
+    let p = i.buffers in
+    let b = c.args.worker.now.book in
+    let q = c.publish.new.self in
+    let after = c.publish.new.worker.book in
+    let told = ends_told (places p.first p.second p.third) b (places q.first q.second q.third) after c.in-Err.stop c.in-Err.ensures.tells in
+    (told.0, refl, deals c.args.self.now p.first p.second p.third i.spill.items i.stopped i.starved c.self.view_is b q.first q.second q.third true i.starved after [] [] c.requires.backed told.1.0 (λ stopped. told.1.1))

@@ -1,35 +1,79 @@
-use Rattle.std.proofs.Common.{◌∙◌, ◌∷◌, [], true, ap, subst}
+-- What the buffers tell of an object that was put; where there was no buffer for it, it went to the list.
+use Rattle.std.proofs.Common.{◌∙◌, Bool, Ok, [], ◌∷◌, true, ap, refl, subst}
 use Rattle.work_pair.specs.Moves.{EndAtLastTag}
 use Rattle.work_pair.specs.Places.{Places}
-use Rattle.work_pair.specs.declared.stop.Stop.{Stop}
-use Rattle.work_pair.specs.working.Steps.{Halts, places}
-use Rattle.work_pair.proofs.Pairs.{deals, not_stopped}
-use Rattle.work_pair.proofs.pair.Pair.put.Goals as goal
+use Rattle.work_pair.specs.working.Steps.{PutTells, places}
+use Rattle.work_pair.proofs.Pairs.{as_before, deals, ends_told, inner, not_stopped, puts, spills, starves}
 use Rattle.work_pair.proofs.Trading.{backed_less}
+use Rattle.work_pair.proofs.pair.Pair.put.Goals as goal
+
+pub put-requires-clause-backed : goal.put-requires-clause-backed
+put-requires-clause-backed g c =
+    let i = c.self.inside in
+    let p = i.buffers in
+    inner c.args.self.now p.first p.second p.third i.spill.items i.stopped i.starved c.self.view_is (c.args.object ∷ []) c.args.worker.now.book c.requires.backed
+
+pub returns-in-Ok-true-clause-put : goal.returns-in-Ok-true-clause-put
+returns-in-Ok-true-clause-put g c =
+    let i = c.self.inside in
+    let p = i.buffers in
+    let b = c.args.worker.now.book in
+    let q = c.put.new.self in
+    let after = c.put.new.worker.book in
+    let told = subst (λ (done : Bool). PutTells c.args.object (places p.first p.second p.third) b (places q.first q.second q.third) after (Ok done)) c.in-Ok-true.field-0-test c.in-Ok-true.ensures.tells in
+    puts c.args.self.now p.first p.second p.third i.spill.items i.stopped i.starved c.self.view_is b q.first q.second q.third i.stopped i.starved after c.args.object c.requires.backed
+    told.0 (not_stopped (EndAtLastTag told.0.moves) i.stopped (ap (λ (w : Places). w.stopped) c.self.view_is ∙ c.requires.going.going))
 
 pub returns-in-Ok-clause-put : goal.returns-in-Ok-clause-put
 returns-in-Ok-clause-put g c =
-    let u = c.in-Ok.ensures.tells.0 in
-    deals c.args.self.now c.self.inside.buffers.first c.self.inside.buffers.second c.self.inside.buffers.third c.self.inside.stopped c.self.view_is
-    (c.args.object ∷ []) [] c.args.worker.now.book c.requires.backed c.put.new.self.first c.put.new.self.second c.put.new.self.third c.self.inside.stopped c.put.new.worker.book u
-    (not_stopped (EndAtLastTag u.moves) c.self.inside.stopped (ap (λ (p : Places). p.stopped) c.self.view_is ∙ c.requires.going.going))
+    let i = c.self.inside in
+    let p = i.buffers in
+    let b = c.args.worker.now.book in
+    let q = c.put.new.self in
+    let after = c.put.new.worker.book in
+    let found = subst (λ (done : Bool). PutTells c.args.object (places p.first p.second p.third) b (places q.first q.second q.third) after (Ok done)) c.in-Ok-false.field-0-test c.in-Ok-false.ensures.tells in
+    spills c.args.self.now p.first p.second p.third i.spill.items i.stopped i.starved c.self.view_is b q.first q.second q.third i.stopped i.starved after c.args.object c.requires.backed
+    found c.push.new.self.items (not_stopped (EndAtLastTag found.0.moves) i.stopped (ap (λ (w : Places). w.stopped) c.self.view_is ∙ c.requires.going.going)) c.in-Ok.ensures.items
 
-pub returns-in-Err-default-NoBuffer-clause-back : goal.returns-in-Err-default-NoBuffer-clause-back
-returns-in-Err-default-NoBuffer-clause-back g c =
-    let told = c.in-Err-default-NoBuffer.ensures.tells in
-    let halts = subst (λ (s : Stop). Halts (places c.self.inside.buffers.first c.self.inside.buffers.second c.self.inside.buffers.third) c.args.worker.now.book (places c.put.new.self.first c.put.new.self.second c.put.new.self.third) c.put.new.worker.book s) c.in-Err-default-NoBuffer.field-0-1-is told.1 in
-    let u = halts.0 in (
-      told.0,
-      deals c.args.self.now c.self.inside.buffers.first c.self.inside.buffers.second c.self.inside.buffers.third c.self.inside.stopped c.self.view_is
-          [] [] c.args.worker.now.book (backed_less c.args.self.now (c.args.object ∷ []) c.args.worker.now.book c.requires.backed) c.put.new.self.first c.put.new.self.second c.put.new.self.third c.self.inside.stopped c.put.new.worker.book u
-          (not_stopped (EndAtLastTag u.moves) c.self.inside.stopped (ap (λ (p : Places). p.stopped) c.self.view_is ∙ c.requires.going.going)),
-    )
+pub returns-in-Err-push-clause-back : goal.returns-in-Err-push-clause-back
+returns-in-Err-push-clause-back g c =
+    let i = c.self.inside in
+    let p = i.buffers in
+    let b = c.args.worker.now.book in
+    let q = c.put.new.self in
+    let after = c.put.new.worker.book in
+    let found = subst (λ (done : Bool). PutTells c.args.object (places p.first p.second p.third) b (places q.first q.second q.third) after (Ok done)) c.in-Ok-false.field-0-test c.in-Ok-false.ensures.tells in
+    let same = c.in-Err-push.ensures.items in
+    (refl, same ∙ ap (λ (w : Places). w.spill) c.self.view_is,
+    (starves c.args.self.now p.first p.second p.third i.spill.items i.stopped i.starved c.self.view_is b q.first q.second q.third i.stopped true after c.args.object c.requires.backed
+    found c.push.new.self.items (not_stopped (EndAtLastTag found.0.moves) i.stopped (ap (λ (w : Places). w.stopped) c.self.view_is ∙ c.requires.going.going)) same).0)
 
-pub returns-in-Err-default-TagSpent-clause-back : goal.returns-in-Err-default-TagSpent-clause-back
-returns-in-Err-default-TagSpent-clause-back g c =
-    let told = c.in-Err-default-TagSpent.ensures.tells in
-    let halts = subst (λ (s : Stop). Halts (places c.self.inside.buffers.first c.self.inside.buffers.second c.self.inside.buffers.third) c.args.worker.now.book (places c.put.new.self.first c.put.new.self.second c.put.new.self.third) c.put.new.worker.book s) c.in-Err-default-TagSpent.field-0-1-is told.1 in (
-      told.0,
-      deals c.args.self.now c.self.inside.buffers.first c.self.inside.buffers.second c.self.inside.buffers.third c.self.inside.stopped c.self.view_is
-          [] [] c.args.worker.now.book (backed_less c.args.self.now (c.args.object ∷ []) c.args.worker.now.book c.requires.backed) c.put.new.self.first c.put.new.self.second c.put.new.self.third true c.put.new.worker.book halts.0 (λ stopped. halts.1),
-    )
+pub returns-in-Err-push-clause-no_memory : goal.returns-in-Err-push-clause-no_memory
+returns-in-Err-push-clause-no_memory g c starved =
+    let i = c.self.inside in
+    let p = i.buffers in
+    let b = c.args.worker.now.book in
+    let q = c.put.new.self in
+    let after = c.put.new.worker.book in
+    let found = subst (λ (done : Bool). PutTells c.args.object (places p.first p.second p.third) b (places q.first q.second q.third) after (Ok done)) c.in-Ok-false.field-0-test c.in-Ok-false.ensures.tells in
+    let going = (ap (λ (w : Places). w.stopped) c.self.view_is ∙ c.requires.going.going) in
+    let ends = not_stopped (EndAtLastTag found.0.moves) i.stopped going in
+    let same = c.in-Err-push.ensures.items in
+    (record { going = going; third = found.1 },
+    as_before c.args.self.now p.first p.second p.third i.spill.items i.stopped i.starved c.self.view_is b q.first q.second q.third i.stopped true after c.args.object c.requires.backed
+    found c.push.new.self.items ends same,
+    refl,
+    starves c.args.self.now p.first p.second p.third i.spill.items i.stopped i.starved c.self.view_is b q.first q.second q.third i.stopped true after c.args.object c.requires.backed
+    found c.push.new.self.items ends same)
+
+pub returns-in-Err-clause-back : goal.returns-in-Err-clause-back
+returns-in-Err-clause-back g c =
+    let i = c.self.inside in
+    let p = i.buffers in
+    let b = c.args.worker.now.book in
+    let q = c.put.new.self in
+    let after = c.put.new.worker.book in
+    let told = ends_told (places p.first p.second p.third) b (places q.first q.second q.third) after c.in-Err.stop c.in-Err.ensures.tells in
+    (refl, ap (λ (w : Places). w.spill) c.self.view_is,
+    deals c.args.self.now p.first p.second p.third i.spill.items i.stopped i.starved c.self.view_is b q.first q.second q.third true i.starved after [] []
+    (backed_less c.args.self.now (c.args.object ∷ []) b c.requires.backed) told.1.0 (λ stopped. told.1.1))
