@@ -9,7 +9,8 @@ use Rattle.mark_core.proofs.Sums.{only-same, stands_times, times-remove_one, tim
 use Rattle.buffer_pool.specs.Book.{Book, claimed, finished}
 use Rattle.buffer_pool.specs.Calls.{Holder}
 use Rattle.work_pair.specs.Deals.{Deals}
-use Rattle.work_pair.specs.Places.{AreOfSize, IsBacked, IsOpen, Places, items_of, no_places}
+use Rattle.work_pair.specs.Places.{AreOfSize, IsBacked, IsOpen, Places, buffered_items, items_of, no_places, without_spill}
+use Rattle.work_pair.proofs.Calls.{none_last}
 use Rattle.drain.specs.working.AtWork.{AreClaimed, CameFrom, GoesOn, HasAtHand, IsAtWork, IsFree, MayClaim}
 
 pub came_at_all : (w : Holder) → CameFrom w w
@@ -49,6 +50,16 @@ free_hand w free = record {
   sized = record { first = tt; second = tt; third = tt };
   held = λ i. ap (times i) free.held;
   charge = λ o. ap (times o) free.charge;
+}
+
+-- a pair without items has as much at hand without its spill list
+pub hand_without_spill : (p : Places) (w : Holder) → items_of p ≡ [] → HasAtHand p [] w → HasAtHand (without_spill p) [] w
+hand_without_spill p w none hand = record {
+  going = record { going = hand.going.going; third = hand.going.third };
+  sized = record { first = hand.sized.first; second = hand.sized.second; third = hand.sized.third };
+  held = hand.held;
+  charge = λ o.
+      omega (arith, hand.charge o, ap (times o) none, ap (times o) (none_last p.spill (buffered_items p) none));
 }
 
 -- and once its pair is gone

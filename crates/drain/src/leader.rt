@@ -34,7 +34,7 @@ fn lead<T, A, V, G, S>(
 ) -> Result<Worker<A>, RunFault>
 where
     T: Threads + Wait + Sync,
-    A: Allocator + Send + Sync,
+    A: Allocator + Copy + Send + Sync,
     V: Walk,
     G: Gate,
     S: StartHook,
@@ -46,23 +46,22 @@ where
     ensures { IfOk result (HasLed leader.book.account.share leader) }
 {
     let threads = Vec::with_capacity(alloc, workers as usize)?;
-    let mut paired = match PairedWorker::open(rt, pool, leader)? {
-        Ok(paired) => paired,
-        Err(_) => return Err(RunFault::NoBuffer),
-    };
+    let mut paired = PairedWorker::open_or_bare(rt, alloc, pool, leader)?;
     paired.claim_roots(rt, pool, graph.roots())?;
     paired.publish(rt, pool)?;
-    let mut paired = run_workers(rt, graph, pool, gate, hook, paired, workers, threads)?;
+    let mut paired = run_workers(
+        rt, alloc, graph, pool, gate, hook, paired, workers, threads,
+    )?;
     paired.drain(rt, graph, pool, gate, workers)?;
     Ok(paired.close(rt, pool)?)
 }
 
 /// Marks the objects that a path of references joins to a root, with a thread for each worker.
 ///
-/// `OutOfMemory`: a growth was refused, before any thread was started. `WorkerRefused`: a thread could not be started.
-/// `TagSpent` and `NoBuffer`: a stack's last tag was loaded where an exchange was due, or there was no empty buffer; of
-/// the workers that were refused so the one with the least number is told, and the leader last. No thread that it
-/// started is left when it answers.
+/// `OutOfMemory`: a growth was refused, before any thread was started, or of the spill list of a worker or of the leader.
+/// `TagSpent`: a stack's last tag was loaded where an exchange was due. Of the workers that were refused by one of these
+/// two the one with the least number is told, and the leader last. `WorkerRefused`: a thread could not be started. No
+/// thread that it started is left when it answers.
 pub fn mark<T, A, B, G>(
     rt: &T,
     alloc: A,

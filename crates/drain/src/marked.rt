@@ -9,15 +9,13 @@ use work_pair::Stop;
 /// Why a graph was not marked.
 #[derive(Clone, Copy, Debug, PartialEq, Eq, Error)]
 pub enum RunFault {
-    /// A growth was refused.
+    /// A growth was refused: before any thread was started, or of the list of a worker that had an object and found no
+    /// empty buffer for it.
     #[error("out of memory")]
     OutOfMemory,
     /// A stack's last tag was loaded where an exchange was due.
     #[error("a stack's last tag was loaded")]
     TagSpent,
-    /// There was no empty buffer.
-    #[error("there is no empty buffer")]
-    NoBuffer,
     /// A worker's thread could not be started.
     #[error("a worker could not be started")]
     WorkerRefused,
@@ -43,7 +41,7 @@ impl From<Stop> for RunFault {
     fn from(stop: Stop) -> RunFault {
         match stop {
             Stop::TagSpent => RunFault::TagSpent,
-            Stop::NoBuffer => RunFault::NoBuffer,
+            Stop::OutOfMemory => RunFault::OutOfMemory,
         }
     }
 }

@@ -22,7 +22,7 @@ impl<A: Allocator> PairedWorker<A> {
     ghost use Rattle.mark_core.specs.Event.{IsBusy};
     ghost use Rattle.mark_core.specs.declared.which.Which.TheVariants.{Empty};
     ghost use Rattle.work_pair.specs.Moves.{WasSeenEmpty};
-    ghost use Rattle.work_pair.specs.Places.{items_of};
+    ghost use Rattle.work_pair.specs.Places.{buffered_items};
     ghost use Rattle.std.specs.Iterator.{AlwaysYields, IsFinite};
     ghost use Rattle.drain.specs.working.AtWork.{AreClaimed, GoesOn, HasAtHand, HasNoneLeft, IsAtWork};
     ghost use Rattle.drain.specs.working.AtWork.{IsFree, IsSetupOf, IsThrough, MayClaim, SawRoots};
@@ -30,6 +30,7 @@ impl<A: Allocator> PairedWorker<A> {
     /// A pair for a worker that has none yet. `None` where there were not two empty buffers.
     pub(crate) fn open<R: Wait>(
         rt: &R,
+        alloc: A,
         pool: &Pool<A>,
         worker: Worker<A>,
     ) -> Result<Result<PairedWorker<A>, Worker<A>>, Stop>
@@ -37,12 +38,44 @@ impl<A: Allocator> PairedWorker<A> {
         requires free { IsFree worker }
         requires busy { IsBusy worker.book.account }
         ensures opened { IfOk result (λ r. IfOk r (λ p. GoesOn worker p.worker × IsAtWork p.pair [] p.worker)) }
-        ensures none { IfOk result (λ r. IfErr r (IsThrough worker)) }
+        ensures none { IfOk result (λ r. IfErr r (λ w. GoesOn worker w × IsFree w)) }
     {
         let mut worker = worker;
-        match Pair::open(rt, pool, &mut worker)? {
+        match Pair::open(rt, alloc, pool, &mut worker)? {
             Some(pair) => Ok(Ok(PairedWorker { worker, pair })),
             None => Ok(Err(worker)),
+        }
+    }
+
+    /// The same, and a bare pair where there were not two.
+    pub(crate) fn open_or_bare<R: Wait>(
+        rt: &R,
+        alloc: A,
+        pool: &Pool<A>,
+        worker: Worker<A>,
+    ) -> Result<PairedWorker<A>, Stop>
+    where
+        A: Copy,
+        requires pool { worker.pool ≡ pool.now }
+        requires free { IsFree worker }
+        requires busy { IsBusy worker.book.account }
+        ensures { IfOk result (λ p. GoesOn worker p.worker × IsAtWork p.pair [] p.worker) }
+    {
+        match PairedWorker::open(rt, alloc, pool, worker)? {
+            Ok(paired) => Ok(paired),
+            Err(worker) => Ok(PairedWorker::bare(alloc, worker)),
+        }
+    }
+
+    /// A worker without buffers: what it puts goes to its spill list until it finds an empty one.
+    fn bare(alloc: A, worker: Worker<A>) -> PairedWorker<A>
+        requires free { IsFree worker }
+        requires busy { IsBusy worker.book.account }
+        ensures { (result.worker ≡ worker) × IsAtWork result.pair [] result.worker }
+    {
+        PairedWorker {
+            worker,
+            pair: Pair::bare(alloc),
         }
     }
 
@@ -104,16 +137,49 @@ impl<A: Allocator> PairedWorker<A> {
         Ok(())
     }
 
-    /// Gives what is in the pair to others, as far as there are empty buffers.
+    /// Gives what is in the pair's buffers to others, as far as there are empty ones.
     pub(crate) fn publish<R: Wait>(&mut self, rt: &R, pool: &Pool<A>) -> Result<(), Stop>
         requires pool { self.old.worker.pool ≡ pool.now }
         requires at_work { IsAtWork self.old.pair [] self.old.worker }
         ensures goes_on { OnOk result (GoesOn self.old.worker self.new.worker) }
         ensures at_work { OnOk result (IsAtWork self.new.pair [] self.new.worker) }
         ensures given { OnOk result
-            (WasSeenEmpty Empty self.old.worker.book self.new.worker.book ⊎ (items_of self.new.pair ≡ [])) }
+            (WasSeenEmpty Empty self.old.worker.book self.new.worker.book ⊎ (buffered_items self.new.pair ≡ [])) }
     {
         self.pair.publish(rt, pool, &mut self.worker)
+    }
+
+    /// Puts the object that was spilled last into a buffer. False where none is spilled, or there is no buffer for it.
+    fn unspill_one<R: Wait>(&mut self, rt: &R, pool: &Pool<A>) -> Result<bool, Stop>
+        requires pool { self.old.worker.pool ≡ pool.now }
+        requires at_work { IsAtWork self.old.pair [] self.old.worker }
+        ensures goes_on { OnOk result (GoesOn self.old.worker self.new.worker) }
+        ensures at_work { OnOk result (IsAtWork self.new.pair [] self.new.worker) }
+    {
+        let spilled = self.pair.spilled();
+        let Some(object) = self.pair.get(rt, pool, &mut self.worker)? else {
+            return Ok(false);
+        };
+        match self.pair.put(rt, pool, &mut self.worker, object) {
+            Ok(()) => Ok(self.pair.spilled() < spilled),
+            Err((_, stop)) => Err(stop),
+        }
+    }
+
+    /// Puts what is spilled into buffers, those that get full on the full stack, as long as there is room or an empty
+    /// buffer is found.
+    fn unspill<R: Wait>(&mut self, rt: &R, pool: &Pool<A>) -> Result<(), Stop>
+        requires pool { self.old.worker.pool ≡ pool.now }
+        requires at_work { IsAtWork self.old.pair [] self.old.worker }
+        ensures goes_on { OnOk result (GoesOn self.old.worker self.new.worker) }
+        ensures at_work { OnOk result (IsAtWork self.new.pair [] self.new.worker) }
+    {
+        for _ in 0..self.pair.spilled() {
+            if !self.unspill_one(rt, pool)? {
+                return Ok(());
+            }
+        }
+        Ok(())
     }
 
     /// Gives some of what is in the pair to others, if the full stack is seen empty.
@@ -124,6 +190,7 @@ impl<A: Allocator> PairedWorker<A> {
         ensures at_work { OnOk result (IsAtWork self.new.pair [] self.new.worker) }
     {
         if pool.sees_empty(&mut self.worker, Which::Full) {
+            self.unspill(rt, pool)?;
             self.pair.balance(rt, pool, &mut self.worker)?;
         }
         Ok(())

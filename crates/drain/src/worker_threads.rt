@@ -41,6 +41,7 @@ pub(crate) type Started<A> = PromisedHandle<Result<Worker<A>, Stop>, Duty<A>>;
 /// It has none to do where there are not two empty buffers for it.
 fn work<T: Wait, A: Allocator, V: Walk, G: Gate>(
     rt: &T,
+    alloc: A,
     graph: &V,
     pool: &Pool<A>,
     gate: &G,
@@ -54,7 +55,7 @@ fn work<T: Wait, A: Allocator, V: Walk, G: Gate>(
     requires awake { IsAwake worker }
     ensures { IfOk result (IsThrough worker) }
 {
-    let mut paired = match PairedWorker::open(rt, pool, worker)? {
+    let mut paired = match PairedWorker::open(rt, alloc, pool, worker)? {
         Ok(paired) => paired,
         Err(worker) => return Ok(worker),
     };
@@ -71,6 +72,7 @@ fn work<T: Wait, A: Allocator, V: Walk, G: Gate>(
 fn start<'s, E, T, A, V, G, S>(
     rt: &'s T,
     scope: &'s Scope<'s, E>,
+    alloc: A,
     graph: &'s V,
     pool: &'s Pool<A>,
     gate: &'s G,
@@ -81,7 +83,7 @@ fn start<'s, E, T, A, V, G, S>(
 ) -> Result<Started<A>, RunFault>
 where
     T: Wait + Sync,
-    A: Allocator + Send + Sync + 's,
+    A: Allocator + Copy + Send + Sync + 's,
     V: Walk,
     G: Gate,
     S: StartHook,
@@ -104,7 +106,7 @@ where
         requires free { IsFree worker }
         requires awake { IsAwake worker }
         ensures { IfOk result (IsThrough worker) }
-    { work(rt, graph, pool, gate, worker, number, workers) };
+    { work(rt, alloc, graph, pool, gate, worker, number, workers) };
     match scope.spawn_with(duty, run) {
         Ok(thread) => Ok(thread),
         Err(_) => Err(RunFault::WorkerRefused),
@@ -115,6 +117,7 @@ where
 fn start_all<'s, E, T, A, V, G, S>(
     rt: &'s T,
     scope: &'s Scope<'s, E>,
+    alloc: A,
     graph: &'s V,
     pool: &'s Pool<A>,
     gate: &'s G,
@@ -125,7 +128,7 @@ fn start_all<'s, E, T, A, V, G, S>(
 ) -> Result<(Worker<A>, Vec<Started<A>, A>), RunFault>
 where
     T: Wait + Sync,
-    A: Allocator + Send + Sync + 's,
+    A: Allocator + Copy + Send + Sync + 's,
     V: Walk,
     G: Gate,
     S: StartHook,
@@ -145,7 +148,9 @@ where
     for number in 0..workers {
         let (rest, worker) = pool.split(leader, 1);
         leader = rest;
-        let thread = start(rt, scope, graph, pool, gate, hook, worker, number, workers)?;
+        let thread = start(
+            rt, scope, alloc, graph, pool, gate, hook, worker, number, workers,
+        )?;
         threads.push_reserved(thread);
     }
     Ok((leader, threads))
@@ -163,7 +168,7 @@ fn join_all<T: Threads, A: Allocator>(
         → IsDutyUnder leader (get_or threads.items number t).promise }
     ensures leads { IfOk result (Leads leader) }
     ensures share { IfOk result (λ w. w.book.account.share ≡ leader.book.account.share + vec_len threads) }
-    ensures refused { IfErr result (λ e. (e ≡ fault.TagSpent) ⊎ (e ≡ fault.NoBuffer)) }
+    ensures refused { IfErr result (λ e. (e ≡ fault.TagSpent) ⊎ (e ≡ fault.OutOfMemory)) }
 {
     let mut leader = leader;
     for thread in threads {
@@ -175,6 +180,7 @@ fn join_all<T: Threads, A: Allocator>(
 /// Runs so many workers for a leader that has given them what it has to do, and takes all of them in.
 pub(crate) fn run_workers<T, A, V, G, S>(
     rt: &T,
+    alloc: A,
     graph: &V,
     pool: &Pool<A>,
     gate: &G,
@@ -185,7 +191,7 @@ pub(crate) fn run_workers<T, A, V, G, S>(
 ) -> Result<PairedWorker<A>, RunFault>
 where
     T: Threads + Wait + Sync,
-    A: Allocator + Send + Sync,
+    A: Allocator + Copy + Send + Sync,
     V: Walk,
     G: Gate,
     S: StartHook,
@@ -214,7 +220,7 @@ where
             ensures share { IfOk result (λ w. w.book.account.share ≡ leader.book.account.share) }
         {
             let (leader, threads) = start_all(
-                rt, scope, graph, pool, gate, hook, leader, workers, threads,
+                rt, scope, alloc, graph, pool, gate, hook, leader, workers, threads,
             )?;
             join_all(rt, pool, leader, threads)
         },

@@ -6,7 +6,7 @@ use Rattle.mark_core.specs.World.{Setup}
 use Rattle.mark_core.specs.declared.which.Which.TheVariants.{Empty}
 use Rattle.buffer_pool.specs.Book.{empties_of}
 use Rattle.buffer_pool.specs.Calls.{Holder}
-use Rattle.work_pair.specs.Places.{AreOfSize, IsOpen, Places, items_of, numbers_of}
+use Rattle.work_pair.specs.Places.{AreOfSize, IsOpen, Places, buffered_items, items_of, numbers_of}
 
 -- These are the objects, the roots and the references of a graph.
 pub record IsSetupOf (count : ℕ) (root_list : List ℕ) (pair_list : List (ℕ × ℕ)) (e : Setup) : Type 0 where
@@ -70,9 +70,9 @@ HasNoneLeft p w =
 abbrev pub IsThrough : Holder → Holder → Type 0
 IsThrough begun w = CameFrom begun w × IsFree w
 
--- Others have what it had to do: its pair has no items, or it saw that no empty buffer was left.
+-- Others have what the buffers of its pair held: they have no items, or it saw that no empty buffer was left.
 abbrev pub HasGiven : Places → Holder → Type 0
-HasGiven p w = (items_of p ≡ []) ⊎ (0 < empties_of w.book Empty)
+HasGiven p w = (buffered_items p ≡ []) ⊎ (0 < empties_of w.book Empty)
 
 -- It saw each root marked.
 abbrev pub SawRoots : Holder → Type 0

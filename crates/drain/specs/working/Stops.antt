@@ -6,4 +6,4 @@ use Rattle.drain.specs.declared.marked.RunFault.TheVariants as fault
 
 abbrev pub stopped : Stop → RunFault
 stopped stop.TagSpent = fault.TagSpent
-stopped stop.NoBuffer = fault.NoBuffer
+stopped stop.OutOfMemory = fault.OutOfMemory

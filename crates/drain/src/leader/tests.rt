@@ -71,11 +71,8 @@ fn a_thread_that_cannot_be_started_is_told(rt: HostRuntime) -> Result<(), Fail> 
         assert_eq!(rt; outcome, Err(RunFault::WorkerRefused), "worker {refused}");
     }
     assert_eq!(rt; marked_without(&rt, alloc, (4, 256, 1024), 4)?, Ok(62));
-    // 60 references find no room: a worker or the leader is refused, and with a refused start that is told
-    assert_eq!(rt;
-        marked_without(&rt, alloc, (2, 2, 6), 2)?,
-        Err(RunFault::NoBuffer)
-    );
+    // 60 references find no room in six buffers of two, and go to the lists of who found them
+    assert_eq!(rt; marked_without(&rt, alloc, (2, 2, 6), 2)?, Ok(62));
     assert_eq!(rt;
         marked_without(&rt, alloc, (2, 2, 6), 1)?,
         Err(RunFault::WorkerRefused)

@@ -113,15 +113,15 @@ fn of_the_refused_workers_the_one_with_the_least_number_is_told(
     rt: HostRuntime,
 ) -> Result<(), Fail> {
     let tag = Some(Stop::TagSpent);
-    let buffer = Some(Stop::NoBuffer);
+    let memory = Some(Stop::OutOfMemory);
     let cases: [(&[Option<Stop>], Option<RunFault>); 7] = [
         (&[], None),
         (&[None, None, None], None),
         (&[None, None, tag], Some(RunFault::TagSpent)),
-        (&[tag, buffer, None], Some(RunFault::TagSpent)),
-        (&[buffer, tag, None], Some(RunFault::NoBuffer)),
-        (&[None, tag, buffer], Some(RunFault::TagSpent)),
-        (&[None, buffer, tag, tag], Some(RunFault::NoBuffer)),
+        (&[tag, memory, None], Some(RunFault::TagSpent)),
+        (&[memory, tag, None], Some(RunFault::OutOfMemory)),
+        (&[None, tag, memory], Some(RunFault::TagSpent)),
+        (&[None, memory, tag, tag], Some(RunFault::OutOfMemory)),
     ];
     for (stops, want) in cases {
         assert_eq!(rt; told(&rt, rt.alloc(), stops)?, want);

@@ -4,15 +4,14 @@ use Rattle.mark_core.specs.World.{Setup}
 use Rattle.work_pair.specs.Places.{Places}
 use Rattle.drain.specs.working.AtWork.{IsAtWork}
 use Rattle.drain.proofs.Leading.{leads_on, several_busy}
-use Rattle.drain.proofs.Outcomes.{at_ok}
 use Rattle.drain.proofs.leader.lead.Goals as goal
 
-pub open-requires-clause-busy : goal.open-requires-clause-busy
-open-requires-clause-busy g c = several_busy c.args.leader c.requires.several
+pub open_or_bare-requires-clause-busy : goal.open_or_bare-requires-clause-busy
+open_or_bare-requires-clause-busy g c = several_busy c.args.leader c.requires.several
 
 pub drain-requires-clause-at_work : goal.drain-requires-clause-at_work
 drain-requires-clause-at_work g c =
-    let opened = at_ok _ c.in_ok-paired.field-0 c.in-Ok.paired c.in_ok-paired.ensures.opened c.in-Ok.is in
+    let opened = c.in_ok-paired.ensures in
     let share = c.in_ok-paired-2.ensures.share ∙ c.in_ok-publish.ensures.goes_on.came.share
     ∙ c.in_ok-claim_roots.ensures.goes_on.came.share ∙ opened.0.came.share in
     let several = subst (λ (n : ℕ). 1 < n) (sym share) c.requires.several in
@@ -27,7 +26,7 @@ drain-requires-clause-at_work g c =
 
 pub returns : goal.returns
 returns g c =
-    let opened = (at_ok _ c.in_ok-paired.field-0 c.in-Ok.paired c.in_ok-paired.ensures.opened c.in-Ok.is).0.came in
+    let opened = c.in_ok-paired.ensures.0.came in
     let claimed = c.in_ok-claim_roots.ensures in
     let published = c.in_ok-publish.ensures.goes_on.came in
     let leads = c.in_ok-paired-2.ensures.leads in

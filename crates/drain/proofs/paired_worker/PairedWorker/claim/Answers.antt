@@ -27,4 +27,4 @@ pub returns-in-Ok : goal.returns-in-Ok
 returns-in-Ok g c =
     let told = c.claim.ensures in
     let white = told.event.2.0 c.if-not-claim.false in
-    white_claimed c.args.self.now.worker c.claim.new.worker told.pool c.args.object told.event.0 told.event.1 white c.args.self.now.pair c.put.new.self c.put.new.worker c.in-Ok.ensures.pool c.in-Ok.ensures.put c.in-Ok.ensures.going
+    white_claimed c.args.self.now.worker c.claim.new.worker told.pool c.args.object told.event.0 told.event.1 white c.args.self.now.pair c.put.new.self c.put.new.worker c.in-Ok.ensures.pool c.in-Ok.ensures.put.0 c.in-Ok.ensures.going

@@ -1,14 +1,24 @@
-use Rattle.std.proofs.Common.{[], refl}
-use Rattle.work_pair.specs.Places.{no_places}
-use Rattle.drain.proofs.AtHand.{dealt_goes_on, dealt_hand, gone_free}
+-- A pair without items has none spilled, and what is disposed of leaves the worker free.
+use Rattle.std.proofs.Common.{[], refl, inl}
+use Rattle.work_pair.specs.Places.{buffered_items, no_places, without_spill}
+use Rattle.work_pair.proofs.Calls.{none_first, none_last}
+use Rattle.drain.proofs.AtHand.{dealt_goes_on, dealt_hand, gone_free, hand_without_spill}
 use Rattle.drain.proofs.paired_worker.PairedWorker.close.Goals as goal
+
+pub dispose-requires-clause-spill : goal.dispose-requires-clause-spill
+dispose-requires-clause-spill g c =
+    let p = c.args.self.pair in
+    inl (none_first p.spill (buffered_items p) c.requires.none.0)
 
 pub returns-in-Ok : goal.returns-in-Ok
 returns-in-Ok g c =
+    let p = c.args.self.pair in
     let old = c.args.self.worker in
     let new = c.dispose.new.worker in
     let gone = c.in-Ok.ensures.gone in
-    let hand = dealt_hand c.args.self.pair old [] [] no_places new gone.0 [] (record { going = refl; third = refl }) c.requires.hand in (
-      (dealt_goes_on c.args.self.pair old [] [] no_places new gone.0 c.in-Ok.ensures.pool).came,
-      gone_free new hand (gone.0.closed (gone.1 c.requires.none.0) c.requires.none.1),
+    let none = c.requires.none in
+    let was = hand_without_spill p old none.0 c.requires.hand in
+    let hand = dealt_hand (without_spill p) old [] [] no_places new gone.0 [] (record { going = refl; third = refl }) was in (
+      (dealt_goes_on (without_spill p) old [] [] no_places new gone.0 c.in-Ok.ensures.pool).came,
+      gone_free new hand (gone.0.closed (gone.1 (none_last p.spill (buffered_items p) none.0)) none.1),
     )

@@ -14,6 +14,6 @@ returns-in-None-clause-none g c =
     let told = subst (λ r. IfNone r (DealsQuietly no_places old.book no_places new.book × WasSeenEmpty Empty old.book new.book)) c.in-None.is c.in_ok-pair.ensures.none in
     let deals = told.0.0 in
     let hand = dealt_hand no_places old [] [] no_places new deals [] (record { going = refl; third = refl }) (free_hand old c.requires.free) in (
-      (dealt_goes_on no_places old [] [] no_places new deals c.in_ok-pair.ensures.pool).came,
+      dealt_goes_on no_places old [] [] no_places new deals c.in_ok-pair.ensures.pool,
       gone_free new hand (deals.closed told.0.1 c.requires.free.open_push),
     )

@@ -1,0 +1,6 @@
+use Rattle.std.proofs.Common.{[]}
+use Rattle.drain.specs.working.AtWork.{GoesOn, IsAtWork}
+use Rattle.drain.proofs.paired_worker.PairedWorker.unspill.Given as goal
+
+abbrev pub invariant-loop : goal.invariant-loop
+invariant-loop g l = GoesOn l.initial.self.worker l.self.worker × IsAtWork l.self.pair [] l.self.worker
