@@ -33,7 +33,6 @@ Exit status:
      for a beginning of the report at 20 WriteFault
   2  the command line is wrong, as a message on standard error tells
 
-Example, with buffers for a map or an array of a million elements, at which the default ones may end
-in 17 NoBuffer:
+Example:
   $ jcmd 4711 GC.heap_dump app.hprof
-  $ heapmark --workers 8 --buffer 4096 app.hprof";
+  $ heapmark --workers 8 app.hprof";

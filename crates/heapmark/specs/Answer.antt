@@ -1,5 +1,5 @@
 -- What a run answers for the bytes that it read.
-use Rattle.std.specs.Prelude.{IsNone, IsSome, List, Option, take, ℕ, ◌≡◌, ◌≤◌, ◌⊎◌}
+use Rattle.std.specs.Prelude.{IsNone, IsSome, List, Option, take, ℕ, ◌≡◌, ◌≢◌, ◌≤◌, ◌⊎◌}
 use Rattle.std.specs.Io.KnownBytes.{Appends}
 use Rattle.heap_graph.specs.Linked.{IsAccepted}
 use Rattle.heap_graph.specs.LinkFault.{HasLinkFault}
@@ -28,10 +28,12 @@ pub record TellsFirstFault (text : List ℕ) (refusal : Refusal) : Type 0 where
   pub is : refusal ≡ told refusal.code place
   pub fault : FirstFaultOf text refusal.code place
 
--- The codes are 1 to 20, since a run is given options that are in their ranges. Those up to 14 have a place.
+-- The codes are 1 to 20, since a run is given options that are in their ranges, and not 17, which is withdrawn. Those
+-- up to 14 have a place.
 pub record IsKnown (refusal : Refusal) : Type 0 where
   pub least : 1 ≤ refusal.code
   pub most : refusal.code ≤ 20
+  pub in_use : refusal.code ≢ 17
   pub with_place : refusal.code ≤ 14 → IsSome refusal.offset
   pub without_place : 15 ≤ refusal.code → IsNone refusal.offset
 

@@ -31,21 +31,17 @@ link_refusal link.OutOfMemory = out_of_memory
 abbrev pub tag_spent : Refusal
 tag_spent = record { code = 16; offset = None }
 
-abbrev pub no_buffer : Refusal
-no_buffer = record { code = 17; offset = None }
-
 abbrev pub worker_refused : Refusal
 worker_refused = record { code = 18; offset = None }
 
 abbrev pub run_refusal : RunFault → Refusal
 run_refusal marking.OutOfMemory = out_of_memory
 run_refusal marking.TagSpent = tag_spent
-run_refusal marking.NoBuffer = no_buffer
 run_refusal marking.WorkerRefused = worker_refused
 
--- what a marking alone refuses: a last tag, no buffer, or no thread
+-- what a marking alone refuses: a last tag, or no thread
 abbrev pub IsOfMarking : Refusal → Type 0
-IsOfMarking refusal = (refusal ≡ tag_spent) ⊎ (refusal ≡ no_buffer) ⊎ (refusal ≡ worker_refused)
+IsOfMarking refusal = (refusal ≡ tag_spent) ⊎ (refusal ≡ worker_refused)
 
 abbrev pub read_fault : Refusal
 read_fault = record { code = 19; offset = None }
@@ -68,7 +64,7 @@ bad_options_refusal = record { code = 21; offset = None }
 abbrev pub HasCode : {X : Type 0} → Result X Refusal → ℕ → Type 0
 HasCode result code = IsErrAnd result (λ refusal. refusal.code ≡ code)
 
--- the name by which a code is shown
+-- the name by which a code is shown; 17 is withdrawn, and no run tells it
 abbrev pub name_of : ℕ → List ℕ
 name_of code =
     if code == 1 then codes "BadHeader" else (

@@ -10,7 +10,7 @@ use std::fmt;
 /// Why a run gave no report.
 #[derive(Clone, Copy, Debug, PartialEq, Eq)]
 pub struct Refusal {
-    /// 1 to 21. The codes 1 to 14 are faults of the bytes.
+    /// 1 to 21, but for 17, which is withdrawn. The codes 1 to 14 are faults of the bytes.
     pub code: u8,
     /// At the codes 1 to 14 the place of the fault in the bytes.
     pub offset: Option<u64>,
@@ -29,12 +29,6 @@ impl Refusal {
     /// A stack's last tag was loaded where an exchange was due.
     pub const TAG_SPENT: Refusal = Refusal {
         code: 16,
-        offset: None,
-    };
-
-    /// There was no empty buffer.
-    pub const NO_BUFFER: Refusal = Refusal {
-        code: 17,
         offset: None,
     };
 
@@ -166,7 +160,6 @@ impl From<RunFault> for Refusal {
         match fault {
             RunFault::OutOfMemory => Refusal::OUT_OF_MEMORY,
             RunFault::TagSpent => Refusal::TAG_SPENT,
-            RunFault::NoBuffer => Refusal::NO_BUFFER,
             RunFault::WorkerRefused => Refusal::WORKER_REFUSED,
         }
     }

@@ -20,6 +20,14 @@ const SEVEN_ROOTS: &str = "         7               0  A
          0               0  (unresolved)
 ";
 
+/// The report of nine.
+const NINE_ROOTS: &str = "         9               0  A
+         1               0  <class>
+        10               0  (reachable)
+         0               0  (unreachable)
+         0               0  (unresolved)
+";
+
 /// A dump, the options of a run, and what the run answers: a report, or a refusal and no report.
 #[derive(Drop)]
 struct Row {
@@ -66,7 +74,7 @@ fn last_tags_and_least_buffers(rt: HostRuntime) -> Result<(), Fail> {
     ))?;
     rows.push(refusal(no_objects(alloc)?, (1, 256, 1024, LAST_TAG - 7), 16))?;
     // 64 successors do not find room in four buffers of two
-    rows.push(refusal(wide_array(alloc)?, (1, 2, 4, 0), 17))?;
+    rows.push(reported(wide_array(alloc)?, (1, 2, 4, 0), WIDE_ARRAY_REPORT))?;
     for workers in [1, 2, 64] {
         rows.push(reported(
             wide_array(alloc)?,
@@ -81,6 +89,8 @@ fn last_tags_and_least_buffers(rt: HostRuntime) -> Result<(), Fail> {
     }
     // seven roots take all four buffers: the worker has no pair, and the leader scans what it could not give away
     rows.push(reported(roots_alone(alloc, 7)?, (1, 2, 4, 0), SEVEN_ROOTS))?;
+    // the ninth root goes to the leader's own list
+    rows.push(reported(roots_alone(alloc, 9)?, (1, 2, 4, 0), NINE_ROOTS))?;
     for (number, row) in rows.iter().enumerate() {
         let (workers, buffer, buffers, first_tag) = row.options;
         let options = Options::new(workers, buffer, buffers, first_tag).map_err(

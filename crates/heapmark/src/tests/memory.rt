@@ -63,6 +63,11 @@ fn want_of_memory_is_told_at_each_request(rt: HostRuntime) -> Result<(), Fail> {
 ";
     check(&rt, alloc, dump.bytes.as_slice(), &few, report);
 
+    // the worker's own list grows to hold what four buffers of two do not
+    let least = Options::new(1, 2, 4, 0).map_err(|_| "the options are in range")?;
+    let dump = wide_array(alloc)?;
+    check(&rt, alloc, dump.bytes.as_slice(), &least, WIDE_ARRAY_REPORT);
+
     let some = Options::new(2, 64, 8, 0).map_err(|_| "the options are in range")?;
     let dump = wide_array(alloc)?;
     check(&rt, alloc, dump.bytes.as_slice(), &some, WIDE_ARRAY_REPORT);
