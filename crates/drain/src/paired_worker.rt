@@ -182,6 +182,17 @@ impl<A: Allocator> PairedWorker<A> {
         Ok(())
     }
 
+    /// Gives some of what is in the pair to others, what is spilled first.
+    fn give<R: Wait>(&mut self, rt: &R, pool: &Pool<A>) -> Result<(), Stop>
+        requires pool { self.old.worker.pool ≡ pool.now }
+        requires at_work { IsAtWork self.old.pair [] self.old.worker }
+        ensures goes_on { OnOk result (GoesOn self.old.worker self.new.worker) }
+        ensures at_work { OnOk result (IsAtWork self.new.pair [] self.new.worker) }
+    {
+        self.unspill(rt, pool)?;
+        self.pair.balance(rt, pool, &mut self.worker)
+    }
+
     /// Gives some of what is in the pair to others, if the full stack is seen empty.
     fn share<R: Wait>(&mut self, rt: &R, pool: &Pool<A>) -> Result<(), Stop>
         requires pool { self.old.worker.pool ≡ pool.now }
@@ -190,8 +201,7 @@ impl<A: Allocator> PairedWorker<A> {
         ensures at_work { OnOk result (IsAtWork self.new.pair [] self.new.worker) }
     {
         if pool.sees_empty(&mut self.worker, Which::Full) {
-            self.unspill(rt, pool)?;
-            self.pair.balance(rt, pool, &mut self.worker)?;
+            self.give(rt, pool)?;
         }
         Ok(())
     }

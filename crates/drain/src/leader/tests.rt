@@ -9,6 +9,7 @@ use hprof_grammar::read;
 use std::alloc::{AllocError, Global};
 use std::sync::atomic::{AtomicU64, Ordering};
 use std::test::Fail;
+use work_pair::Pair;
 
 /// A dump with an array that is the root, and the 60 instances that it refers to.
 fn wide_array(alloc: Global) -> Result<Vec<u8>, AllocError> {
@@ -172,5 +173,52 @@ fn the_gate_is_told_before_references_are_asked_for(rt: HostRuntime) -> Result<(
     assert!(rt; mark_watched(&rt, alloc, &graph, &told, &early));
     assert_eq!(rt; told.load(Ordering::SeqCst).count_ones(), 62);
     assert_eq!(rt; early.load(Ordering::SeqCst), 0);
+    Ok(())
+}
+
+/// Leads one worker over the graph while two others hold all four buffers, so that neither it nor the leader finds a
+/// pair; whether that was done.
+fn lead_without_buffers<T: Threads + Wait + Sync>(
+    rt: &T,
+    alloc: Global,
+    graph: &Graph<'_, Global>,
+    told: &AtomicU64,
+) -> bool {
+    let early = AtomicU64::new(0);
+    let walked = WalkedGraph { graph };
+    let watched = Watched {
+        walked,
+        told,
+        early: &early,
+    };
+    let Ok((pool, leader)) = Pool::new(alloc, &watched, 4, 2, 0) else {
+        return false;
+    };
+    let (leader, mut one) = pool.split(leader, 1);
+    let (leader, mut two) = pool.split(leader, 1);
+    let _first = Pair::open(rt, alloc, &pool, &mut one);
+    let _second = Pair::open(rt, alloc, &pool, &mut two);
+    lead(
+        rt,
+        alloc,
+        &watched,
+        &pool,
+        &Told { told },
+        &StartsAll,
+        leader,
+        1,
+    )
+    .is_ok()
+}
+
+#[test]
+fn a_leader_without_buffers_drains(rt: HostRuntime) -> Result<(), Fail> {
+    let alloc = rt.alloc();
+    let dump = wide_array(alloc)?;
+    let places = read(alloc, dump.as_slice()).map_err(|_| "the dump is whole")?;
+    let graph = Graph::build(alloc, dump.as_slice(), places).map_err(|_| "the dump is linked")?;
+    let told = AtomicU64::new(0);
+    assert!(rt; lead_without_buffers(&rt, alloc, &graph, &told));
+    assert_eq!(rt; told.load(Ordering::SeqCst).count_ones(), 62);
     Ok(())
 }
