@@ -10,7 +10,8 @@
 #   large      Filler with 600 MB, by G1, live
 #   tools      jshell, the virtual machine that it starts, and javac at work
 #   scattered  2,000,000 nodes that refer to one another at random, and a map of them
-#   list       one list of 1,000,000 nodes, which ends in a tree of as many
+#   list       one list of 1,000,000 nodes, which ends in a tree of as many, and one of 4,000,000 that ends in one node
+#   map        one map of 4,000,000 entries
 #   odd        no compressed references, no class archive, a dump written at the end of memory
 #   refused    a dump compressed by the virtual machine, which heapmark refuses
 # Java is the one of JAVA_HOME, else that of PATH. Files that are there already are made again.
@@ -62,19 +63,26 @@ large() {
     filler 600 large-g1 -XX:+UseG1GC
 }
 
-# shaped PROGRAM NODES NAME
+# shaped NAME PROGRAM WORD..
 shaped() {
-    started "${java}java" -cp "$room/classes" -Xmx1g -XX:+UseG1GC "$1" "$2"
-    moment "$PROGRAM_PID" "$3"
+    local name=$1
+    shift
+    started "${java}java" -cp "$room/classes" -Xmx2g -XX:+UseG1GC "$@"
+    moment "$PROGRAM_PID" "$name"
     ended
 }
 
 scattered() {
-    shaped Scattered 2000000 scattered-g1-live
+    shaped scattered-g1-live Scattered 2000000
 }
 
 list() {
-    shaped LongList 1000000 list-g1-live
+    shaped list-g1-live LongList 1000000 1000000
+    shaped long-list-g1-live LongList 4000000 1
+}
+
+map() {
+    shaped map-g1-live LargeMap 4000000
 }
 
 odd() {
@@ -133,10 +141,10 @@ tools() {
 
 mkdir -p "$room"
 "${java}javac" -d "$room/classes" "$top"/bench/java/*.java
-[ $# -gt 0 ] || set -- small medium large tools scattered list odd refused
+[ $# -gt 0 ] || set -- small medium large tools scattered list map odd refused
 for group; do
     case $group in
-        small | medium | large | tools | scattered | list | odd | refused) "$group" ;;
+        small | medium | large | tools | scattered | list | map | odd | refused) "$group" ;;
         *) echo "no such group: $group" >&2; exit 2 ;;
     esac
 done

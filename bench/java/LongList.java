@@ -4,7 +4,7 @@ import java.io.IOException;
  * Has one long list in its heap, which ends in a tree: nothing of it is for a second worker until the list is done.
  * Prints "ready" and waits until its standard input ends.
  *
- * <p>Usage: {@code java LongList NODES}: the nodes of the list, and of the tree.
+ * <p>Usage: {@code java LongList LINKS NODES}: how many the list has, and the tree.
  */
 public final class LongList {
     static final class Link {
@@ -33,9 +33,9 @@ public final class LongList {
     }
 
     public static void main(String[] words) throws IOException {
-        int nodes = Integer.parseInt(words[0]);
-        first = treeOf(nodes);
-        for (int link = 0; link < nodes; link++) {
+        int links = Integer.parseInt(words[0]);
+        first = treeOf(Integer.parseInt(words[1]));
+        for (int link = 0; link < links; link++) {
             first = new Link(first);
         }
         System.out.println("ready");
