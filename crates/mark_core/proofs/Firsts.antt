@@ -13,7 +13,7 @@ use Rattle.mark_core.specs.Event.{Kind, Claim, Finish, Split, Join, Load, LoadLi
 use Rattle.mark_core.specs.Shares.{whole}
 use Rattle.mark_core.specs.Runs.{Run, first_heads, opening}
 use Rattle.mark_core.specs.Counts.{Counts, LeadTo, add_counts, all_counted, count_failure, count_load, count_load_idle, counted, counts_at, no_counts}
-use Rattle.mark_core.specs.Conclusions.{FailuresFollowChanges, FirstTagsAreFirst, HadHead, HasChanged, LoadedHeadsWere, PushesFollowChanges}
+use Rattle.mark_core.specs.Conclusions.{FirstTagsAreFirst, HadHead, HasChanged, LoadedHeadsWere, PushesFollowChanges}
 use Rattle.mark_core.proofs.Places.{at_get_or, at_push, at_set}
 use Rattle.mark_core.proofs.Changes.{tags_rise}
 
@@ -292,7 +292,10 @@ first_tags_are_first e events m run q h had same = (had_first e events (opening 
 pub firsts_where : (e : Setup) (events : List Event) (m : Marking) (counts : List Counts) → LeadTo e events m counts → Firsts e m counts
 firsts_where e events m counts led = subst (Firsts e m) (sym led.counts) (firsts_run e events (opening e e.first_tag) m (no_counts ∷ []) (firsts_open e) led.run)
 
-pub failures_follow_changes : FailuresFollowChanges
+-- an account counts a failed exchange only where a head has changed
+pub failures_follow_changes :
+    (e : Setup) (events : List Event) (m : Marking) (counts : List Counts) → LeadTo e events m counts
+    → (w : ℕ) (c : Counts) → StandsAt counts w c → 0 < c.failures → HasChanged e m Full ⊎ HasChanged e m Empty
 failures_follow_changes e events m counts led w c at some = (firsts_where e events m counts led).failures w c at some
 
 pub pushes_follow_changes : PushesFollowChanges

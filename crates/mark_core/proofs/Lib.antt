@@ -11,6 +11,7 @@ pub mod Runs
 pub mod Counting
 pub mod Changes
 pub mod Firsts
+pub mod Contested
 pub mod Parity
 pub mod Quiet
 pub mod Closing

@@ -1,13 +1,13 @@
 -- What a run lets one conclude: of heads that were loaded, of first tags, of tags and lengths, of exchanges that
 -- failed, and of pushes that are open.
-use Rattle.std.specs.Prelude.{◌≡◌, ◌⊎◌, ℕ, ◌+◌, ◌*◌, ◌<◌, true, List, [], ◌∷◌, length, Some}
+use Rattle.std.specs.Prelude.{◌≡◌, ◌≢◌, ◌⊎◌, ℕ, ◌+◌, ◌*◌, ◌<◌, true, List, [], ◌∷◌, ◌++◌, length, Some}
 use Rattle.tagged_index.specs.Head.{Head}
 use Rattle.mark_core.specs.declared.which.Which.{Which}
 use Rattle.mark_core.specs.declared.which.Which.TheVariants.{Full, Empty}
 use Rattle.mark_core.specs.Lists.{StandsAt, total}
 use Rattle.mark_core.specs.Account.{Account, look_of}
 use Rattle.mark_core.specs.World.{Setup, Marking}
-use Rattle.mark_core.specs.Event.{Kind, Push, Event, happens}
+use Rattle.mark_core.specs.Event.{Kind, Load, Pop, Push, Fail, Event, happens}
 use Rattle.mark_core.specs.Law.{Law}
 use Rattle.mark_core.specs.Runs.{IsListOf, Run, first_heads, opening}
 use Rattle.mark_core.specs.Counts.{Counts, LeadTo}
@@ -64,15 +64,25 @@ TagsKeepParity =
     → (q : Which) (list : List ℕ) → IsListOf m q list
     → (m.head q).tag + length list ≡ e.first_tag + first_length e q + 2 * pushes_among events q
 
+-- an event exchanges the head of the stack
+abbrev pub Exchanges : Which → Kind → Type 0
+Exchanges q (Pop p) = p ≡ q
+Exchanges q (Push p i items) = p ≡ q
+Exchanges q kind = ⊥
+
+-- between the load of a head by a worker and its failed exchange of it, with no other load or exchange of it by that
+-- worker between them, another worker exchanged that head
+abbrev pub LossesAreContested : Type 0
+LossesAreContested =
+    (e : Setup) (first last : Marking) (w : ℕ) (q : Which) (between : List Event)
+    → Run e first (record { worker = w; kind = Load q } ∷ between ++ record { worker = w; kind = Fail q } ∷ []) last
+    → ((k : ℕ) (event : Event) → StandsAt between k event → event.worker ≡ w
+    → (event.kind ≡ Load q → ⊥) × (Exchanges q event.kind → ⊥))
+    → (k : ℕ) × (event : Event) × StandsAt between k event × (event.worker ≢ w) × Exchanges q event.kind
+
 -- the head of the stack was exchanged: its tag is above the first
 abbrev pub HasChanged : Setup → Marking → Which → Type 0
 HasChanged e m q = e.first_tag < (m.head q).tag
-
--- an account counts a failed exchange only where a head has changed
-abbrev pub FailuresFollowChanges : Type 0
-FailuresFollowChanges =
-    (e : Setup) (events : List Event) (m : Marking) (counts : List Counts) → LeadTo e events m counts
-    → (w : ℕ) (c : Counts) → StandsAt counts w c → 0 < c.failures → HasChanged e m Full ⊎ HasChanged e m Empty
 
 -- an account has an open push only where the full head has changed
 abbrev pub PushesFollowChanges : Type 0

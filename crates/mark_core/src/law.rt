@@ -2,8 +2,8 @@
 ghost use Rattle.mark_core.specs.Runs.{RunsKeepLaw, EventsKeepLaw, StacksChange, TagsRise};
 ghost use Rattle.mark_core.specs.Runs.{PopsFindLinks, MarksRise, ClosedIsTold};
 ghost use Rattle.mark_core.specs.Runs.{AccountsHaveEachOnce, AccountsAreApart};
-ghost use Rattle.mark_core.specs.Conclusions.{FailuresFollowChanges, FirstTagsAreFirst, ListsKeepLaw};
-ghost use Rattle.mark_core.specs.Conclusions.{LoadedHeadsWere, PushesFollowChanges, TagsKeepParity};
+ghost use Rattle.mark_core.specs.Conclusions.{FirstTagsAreFirst, ListsKeepLaw};
+ghost use Rattle.mark_core.specs.Conclusions.{LoadedHeadsWere, LossesAreContested, PushesFollowChanges, TagsKeepParity};
 ghost use Rattle.mark_core.specs.Quiet.{QuietIsDone};
 
 /// The law of a marking, after every list of events of any number of workers, splits and joins
@@ -26,8 +26,9 @@ ghost use Rattle.mark_core.specs.Quiet.{QuietIsDone};
 /// - `first`: of all heads that a stack has in the run, the first one alone bears the first tag.
 /// - `parity`: tag and length of a stack have one parity in the run. Each exchange raises the tag by one, and
 ///   makes the stack one buffer longer or shorter.
-/// - `failures`, `pushes`: an account counts a failed exchange only where a head has changed since
-///   the opening, and has an open push only where the full head has.
+/// - `losses`: between the load of a head by a worker that does not load it again or exchange it meanwhile, and its
+///   failed exchange of that head, another worker exchanged it.
+/// - `pushes`: an account has an open push only where the full head has changed since the opening.
 /// - `quiet`: where the idle word is the number of units that the opening account gave away, no account was joined, and
 ///   the opening one is not idle and has pushed nothing on full since it first gave units away, the full stack has no
 ///   buffer, and no account but the opening one answers for anything.
@@ -45,7 +46,7 @@ pub fn all_runs_keep_law()
     ensures loaded { LoadedHeadsWere }
     ensures first { FirstTagsAreFirst }
     ensures parity { TagsKeepParity }
-    ensures failures { FailuresFollowChanges }
+    ensures losses { LossesAreContested }
     ensures pushes { PushesFollowChanges }
     ensures quiet { QuietIsDone }
 {}

@@ -3,7 +3,8 @@ use Rattle.mark_core.proofs.Runs.{runs_keep_law, happens_keeps}
 use Rattle.mark_core.proofs.Changes.{stacks_change, tags_rise, pops_find_links, marks_rise}
 use Rattle.mark_core.proofs.Closing.{each_once, apart, closed_is_told}
 use Rattle.mark_core.proofs.Counting.{lawful_where}
-use Rattle.mark_core.proofs.Firsts.{failures_follow_changes, first_tags_are_first, loaded_heads_were, pushes_follow_changes}
+use Rattle.mark_core.proofs.Contested.{losses_are_contested}
+use Rattle.mark_core.proofs.Firsts.{first_tags_are_first, loaded_heads_were, pushes_follow_changes}
 use Rattle.mark_core.proofs.Parity.{tags_keep_parity}
 use Rattle.mark_core.proofs.Quiet.{quiet_is_done}
 use Rattle.mark_core.proofs.law.all_runs_keep_law.Goals as goal
@@ -41,9 +42,6 @@ returns-clause-lists c = lawful_where
 pub returns-clause-loaded : goal.returns-clause-loaded
 returns-clause-loaded c = loaded_heads_were
 
-pub returns-clause-failures : goal.returns-clause-failures
-returns-clause-failures c = failures_follow_changes
-
 pub returns-clause-pushes : goal.returns-clause-pushes
 returns-clause-pushes c = pushes_follow_changes
 
@@ -55,3 +53,6 @@ returns-clause-quiet c = quiet_is_done
 
 pub returns-clause-first : goal.returns-clause-first
 returns-clause-first c = first_tags_are_first
+
+pub returns-clause-losses : goal.returns-clause-losses
+returns-clause-losses c = losses_are_contested
