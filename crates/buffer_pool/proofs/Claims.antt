@@ -1,5 +1,5 @@
 -- Claims and finishes keep the rule, and are the events of those names.
-use Rattle.std.proofs.Common.{◌≡◌, ℕ, ◌<◌, max, true, [], ◌∷◌, map, Option, set, slice_index, slice_set, ap, sym, refl, subst, ◌∙◌, ⊎_elim, length-set, arith}
+use Rattle.std.proofs.Common.{◌≡◌, ℕ, ◌<◌, max, true, [], ◌∷◌, map, Option, None, set, slice_index, slice_set, ap, sym, refl, subst, ◌∙◌, ⊎_elim, length-set, arith}
 use Rattle.std.proofs.lemmas.List.Elements.{All-contains}
 use mathlib.Core.Option.{none, some}
 use lib.ListN.{get_elem?}
@@ -20,8 +20,8 @@ use Rattle.buffer_pool.specs.Book.{claimed, finished}
 use Rattle.buffer_pool.specs.working.Plays.{rested, claim_made, finish_made}
 use Rattle.buffer_pool.specs.working.Laid.{IsLaid}
 use Rattle.buffer_pool.specs.working.Table.{Reading, Rule, Carries, free, link_word, mark_word, marking_of, view_counts}
-use Rattle.buffer_pool.proofs.States.{agrees, lawful, cut_same, stands, accounts_set, counts_same, happened, log_after, told_after, did_after, freed}
-use Rattle.buffer_pool.specs.Story.{Did}
+use Rattle.buffer_pool.proofs.States.{agrees, lawful, cut_same, stands, accounts_set, counts_same, happened, leads_now, log_after, told_after, did_after, freed}
+use Rattle.buffer_pool.specs.Story.{Did, LeadsToBook}
 use Rattle.buffer_pool.specs.working.Told.{IsSettled, noted}
 use Rattle.buffer_pool.proofs.Loads.{noticed, each_once}
 use Rattle.buffer_pool.proofs.Words.{head_beside_mark, idle_beside_mark, link_beside_mark, marks_after}
@@ -30,17 +30,17 @@ module _ {B : Type 0} (r : Reading B) (e : Setup) (s : State (Option B) SeatView
   -- the mark of an object changes, and the account of the seat
   marked :
       (o x : ℕ) (w : SeatView) (kind : Kind) → o < e.objects → w.out ≡ 0 → w.book.account.held ≡ v.book.account.held → w.book.setup ≡ v.book.setup → view_counts w ≡ view_counts v
-      → w.log ≡ log_after r e s rule id kind → w.unsaid ≡ [] → w.taken ≡ [] → w.named ≡ true
+      → w.log ≡ log_after r e s rule id kind → w.unsaid ≡ [] → w.taken ≡ [] → w.named ≡ true → w.from ≡ None
       → may.Allows e (marking_of r e s) id v.book.account kind
       → effect (marking_of r e s) id v.book.account kind ≡ record (marking_of r e s) { mark = put o x (marking_of r e s).mark; accounts = set (marking_of r e s).accounts id w.book.account }
       → counted (marking_of r e s) (map view_counts s.views) id kind ≡ map view_counts s.views
       → Rule r e (record { words = set s.words (mark_word e o) x; homes = s.homes; views = set s.views id w })
-  marked o x w kind below out held setup counts log unsaid taken named can is_effect is_counted =
+  marked o x w kind below out held setup counts log unsaid taken named from can is_effect is_counted =
       noticed r e s rule id v is bare there (set s.words (mark_word e o) x) w (length-set s.words (mark_word e o) x) (link_beside_mark e s.words o x) out held setup
       (happened r e s rule id v is kind there can t
       (agrees (marking_of r e t) (record m { mark = put o x m.mark; accounts = set m.accounts id w.book.account }) (λ q. ap head_of (head_beside_mark e s.words o x q)) links
       (marks_after e s.words o x (omega (arith, rule.word_count))) refl (idle_beside_mark e s.words o x) (accounts_set s.views id w) ∙ sym is_effect)
-      (counts_same r e s rule id v is w counts ∙ sym is_counted) (told_after r e s rule id v is there kind w log unsaid taken named))
+      (counts_same r e s rule id v is w counts ∙ sym is_counted) (told_after r e s rule id v is there kind w log unsaid taken named from setup))
     where
       m : Marking
       m = marking_of r e s
@@ -62,13 +62,17 @@ module _ {B : Type 0} (r : Reading B) (e : Setup) (slots id : ℕ) where
       let w : SeatView = record (noted log v) { book = claimed o n me.0.book } in
       let a = me.0.book.account in
       let same : me.0.book.setup ≡ e = rule.same_setup id v is there in
-      let can' : CanClaim e o a = subst (λ (g : Setup). CanClaim g o a) same can in (
+      let can' : CanClaim e o a = subst (λ (g : Setup). CanClaim g o a) same can in
+      let t : State (Option B) SeatView = record { words = set s.words (mark_word e o) (max n 1); homes = s.homes; views = set s.views id w } in
+      let after : Rule r e t = marked r e s rule id v is refl there o (max n 1) w (Claim o) below refl refl refl refl refl refl refl refl refl (can', busy) refl refl in
+      let story : LeadsToBook w.log w.book = leads_now r e t after id w (set_here s.views id w (at_below s.views id v is)) there refl refl in (
         w,
         keeps,
         tt,
-        marked r e s rule id v is refl there o (max n 1) w (Claim o) below refl refl refl refl refl refl refl refl (can', busy) refl refl,
+        after,
         (λ p h. let b : me.0.book.setup.buffers ≡ e.buffers = ap (λ (x : Setup). x.buffers) same in
-            let k : o ≡ p = omega (arith, h) in subst (λ x. ((w, []) ≡ rested me log (claimed x n me.0.book)) × Did me.0.log (Claim x ∷ []) log) k (refl, did_after r e s rule id v is there done.named done.unsaid (Claim o))),
+            let k : o ≡ p = omega (arith, h) in
+            let told = subst (λ x. ((w, []) ≡ rested me log (claimed x n me.0.book)) × Did me.0.log (Claim x ∷ []) log) k (refl, did_after r e s rule id v is there done.named done.unsaid (Claim o)) in (told.0, told.1, story)),
       ))
 
   pub finishes :
@@ -88,14 +92,14 @@ module _ {B : Type 0} (r : Reading B) (e : Setup) (slots id : ℕ) where
       let two : max n 2 ≡ 2 = omega (arith, one) in
       let after : Rule r e (record { words = slice_set s.words (mark_word e o) (max n 2); homes = s.homes; views = set s.views id w }) =
       subst (λ x. Rule r e (record { words = slice_set s.words (mark_word e o) x; homes = s.homes; views = set s.views id w })) (sym two)
-      (marked r e s rule id v is refl there o 2 w (Finish o) below refl refl refl refl refl refl refl refl can' refl refl) in
+      (marked r e s rule id v is refl there o 2 w (Finish o) below refl refl refl refl refl refl refl refl refl can' refl refl) in
       let once = each_once r e (record { words = slice_set s.words (mark_word e o) (max n 2); homes = s.homes; views = set s.views id w }) after id w (set_here s.views id w (at_below s.views id v is)) in (
         w,
         keeps,
         tt,
         after,
         (λ p h. let b : me.0.book.setup.buffers ≡ e.buffers = ap (λ (x : Setup). x.buffers) same in
-            let k : o ≡ p = omega (arith, h) in (subst (λ x. (w, []) ≡ rested me log (finished x me.0.book)) k refl, (λ x. omega (arith, once.objects x)), subst (λ x. Did me.0.log (Finish x ∷ []) log) k (did_after r e s rule id v is there done.named done.unsaid (Finish o)))),
+            let k : o ≡ p = omega (arith, h) in (subst (λ x. (w, []) ≡ rested me log (finished x me.0.book)) k refl, (λ x. omega (arith, once.objects x)), subst (λ x. Did me.0.log (Finish x ∷ []) log) k (did_after r e s rule id v is there done.named done.unsaid (Finish o)), leads_now r e (record { words = slice_set s.words (mark_word e o) (max n 2); homes = s.homes; views = set s.views id w }) after id w (set_here s.views id w (at_below s.views id v is)) there refl refl)),
       ))
 
 -- what an account may claim is an object, and what it may finish as well

@@ -72,12 +72,13 @@ ends b marks events last counts w count some_buffer led own own_counts same all 
 pub ends_of :
     {B : Type 0} (r : Reading B) (e : Setup) (id : ℕ) (v : SeatView) (words : List ℕ) (slots : List (Option B)) (first : ℕ) → first ≡ 32 + e.buffers → Final (Seen (Rule r e) id v) words slots
     → v.book.account.share ≡ whole → v.book.account.held ≡ [] → v.book.account.charge ≡ [] → IsSettled v
-    → (ended : Ends v.book (drop first words)) × EndsStory v.log ended.events
+    → (ended : Ends v.book (drop first words)) × EndsStory v.log ended.events × (ended.own.0 ≡ v.log.number)
 unfolding ends
 ends_of r e id v words slots first place final all none_held none_charged done = (
   ends v.book (drop first words) rule.reached.events last (map view_counts final.0.views) id count some_buffer led (stands r e final.0 rule id v final.1.1) (at_map view_counts final.0.views id v final.1.1)
       marks all none_held none_charged,
   (told.since, told.goes_on, ap (λ n. deeds n told.since) (told.number done.named) ∙ told.unsaid ∙ done.unsaid),
+  sym (told.number done.named),
 )
   where
     rule : Rule r e final.0

@@ -1,14 +1,15 @@
 -- What the workers did, in stretches of a story; and each view is told of one event more.
-use Rattle.std.proofs.Common.{◌≡◌, ◌≢◌, ℕ, ◌<◌, if◌then◌else◌, true, List, [], ◌∷◌, ◌++◌, set, ap, sym, refl, subst, ◌∙◌, ⊎_elim, eq-eqb, ne_eqb}
+use Rattle.std.proofs.Common.{◌≡◌, ◌≢◌, ℕ, ◌<◌, if◌then◌else◌, true, List, [], ◌∷◌, ◌++◌, length, Option, Some, None, set, ap, sym, refl, subst, ◌∙◌, ⊎_elim, eq-eqb, ne_eqb, length-append, arith}
 use Rattle.std.proofs.lemmas.Bool.{false≢true}
 use Rattle.std.proofs.lemmas.List.{append_assoc, append-nil}
 use mathlib.Core.Option.{some}
 use native.Mathlib.Decide.{ℕ_discrete}
 use lib.ListN.{get_elem?}
-use Rattle.mark_core.specs.Event.{Event, Kind}
+use Rattle.mark_core.specs.Event.{Event, Kind, Join}
 use Rattle.buffer_pool.specs.declared.seat_view.SeatView.{SeatView}
-use Rattle.buffer_pool.specs.Story.{Log, Did, deeds}
-use Rattle.buffer_pool.specs.working.Told.{AreTold, IsTold}
+use Rattle.buffer_pool.specs.Book.{Book}
+use Rattle.buffer_pool.specs.Story.{Log, Did, LeadsToBook, deeds}
+use Rattle.buffer_pool.specs.working.Told.{AreTold, IsTakenIn, IsTold}
 use Rattle.atomic_table.proofs.Lists.{at_set}
 
 -- of two stretches
@@ -53,6 +54,21 @@ did_nothing a = ([], ap (λ xs. record a { story = xs }) (sym (append-nil a.stor
 pub did_from : (a b c : Log) (ks : List Kind) → b ≡ a → Did b ks c → Did a ks c
 did_from a b c ks same did = subst (λ (x : Log). Did x ks c) same did
 
+none_some : (n : ℕ) → ◌≡◌ {A = Option ℕ} None (Some n) → ⊥
+none_some n e = cc
+
+-- what was taken in is so after one event more
+pub taken_on : (events : List Event) (event : Event) (n : ℕ) (story : List Event) → IsTakenIn events n story → IsTakenIn (events ++ event ∷ []) n story
+taken_on events event n story t =
+    record {
+      quiet = t.quiet;
+      by = t.by;
+      later = t.later ++ event ∷ [];
+      all = ap (λ xs. xs ++ event ∷ []) t.all ∙ append_assoc (story ++ t.quiet) (record { worker = t.by; kind = Join n } ∷ t.later) (event ∷ []);
+      other = t.other;
+      nothing = t.nothing;
+    }
+
 module _ (events : List Event) (w : ℕ) (v : SeatView) (told : IsTold events w v) where
   -- one event more, by another worker
   pub told_theirs : (event : Event) → event.worker ≢ w → IsTold (events ++ event ∷ []) w v
@@ -64,12 +80,16 @@ module _ (events : List Event) (w : ℕ) (v : SeatView) (told : IsTold events w 
         unsaid = deeds_on w told.since (event ∷ []) ∙ ap (λ ks. deeds w told.since ++ ks) (no_deed w event other) ∙ append-nil (deeds w told.since) ∙ told.unsaid;
         taken = (told.taken.0 ++ event ∷ [], ap (λ xs. xs ++ event ∷ []) told.taken.1 ∙ append_assoc v.taken told.taken.0 (event ∷ []));
         fresh = λ new. deeds_on w events (event ∷ []) ∙ (λ k. told.fresh new k ++ no_deed w event other k);
+        leads = told.leads;
+        apart = told.apart;
+        ended = λ known n from. taken_on events event n v.taken (told.ended known n from);
       }
 
   -- one event more, its own, which it notes
   pub told_mine : (event : Event) (u : SeatView) → v.named ≡ true → event.worker ≡ w → u.log ≡ v.log → u.named ≡ true → u.unsaid ≡ v.unsaid ++ event.kind ∷ []
-      → (more : List Event) → events ++ event ∷ [] ≡ u.taken ++ more → IsTold (events ++ event ∷ []) w u
-  told_mine event u known own log named unsaid more taken =
+      → (more : List Event) → events ++ event ∷ [] ≡ u.taken ++ more → ((n : ℕ) → u.from ≡ Some n → n ≢ w) → ((n : ℕ) → u.from ≡ Some n → IsTakenIn (events ++ event ∷ []) n u.taken)
+      → IsTold (events ++ event ∷ []) w u
+  told_mine event u known own log named unsaid more taken apart ended =
       record {
         number = λ n. ap (λ (x : Log). x.number) log ∙ told.number known;
         since = told.since ++ event ∷ [];
@@ -77,11 +97,14 @@ module _ (events : List Event) (w : ℕ) (v : SeatView) (told : IsTold events w 
         unsaid = deeds_on w told.since (event ∷ []) ∙ (λ k. told.unsaid k ++ one_deed w event own k) ∙ sym unsaid;
         taken = (more, taken);
         fresh = λ new. absurd (false≢true (sym new ∙ named));
+        leads = λ n none. absurd (omega (arith, ap length (sym unsaid ∙ none), length-append v.unsaid (event.kind ∷ [])));
+        apart = apart;
+        ended = λ n. ended;
       }
 
   -- a view with the same log
-  pub told_same : (u : SeatView) → u.log ≡ v.log → u.unsaid ≡ v.unsaid → u.taken ≡ v.taken → u.named ≡ v.named → IsTold events w u
-  told_same u log unsaid taken named =
+  pub told_same : (u : SeatView) → u.log ≡ v.log → u.unsaid ≡ v.unsaid → u.taken ≡ v.taken → u.named ≡ v.named → u.from ≡ v.from → u.book ≡ v.book → IsTold events w u
+  told_same u log unsaid taken named from book =
       record {
         number = λ n. ap (λ (x : Log). x.number) log ∙ told.number (sym named ∙ n);
         since = told.since;
@@ -89,6 +112,9 @@ module _ (events : List Event) (w : ℕ) (v : SeatView) (told : IsTold events w 
         unsaid = told.unsaid ∙ sym unsaid;
         taken = (told.taken.0, told.taken.1 ∙ ap (λ xs. xs ++ told.taken.0) (sym taken));
         fresh = λ new. told.fresh (sym named ∙ new);
+        leads = λ n none. subst (λ (b : Book). LeadsToBook u.log b) (sym book) (subst (λ (l : Log). LeadsToBook l v.book) (sym log) (told.leads (sym named ∙ n) (sym unsaid ∙ none)));
+        apart = λ n is. told.apart n (sym from ∙ is);
+        ended = λ known n is. subst (IsTakenIn events n) (sym taken) (told.ended (sym named ∙ known) n (sym from ∙ is));
       }
 
   -- what it may tell when its log has the events up to now, and more: its noted deeds, and those among the more
@@ -111,8 +137,8 @@ module _ (events : List Event) (w : ℕ) (v : SeatView) (told : IsTold events w 
       (all.0, ap (λ xs. record { number = w; story = xs }) (sym (append-nil events)) ∙ all.1, all.2 ∙ append-nil v.unsaid)
 
 -- a view whose log has all events
-pub told_now : (events : List Event) (w : ℕ) (v : SeatView) → v.log ≡ record { number = w; story = events } → v.unsaid ≡ [] → v.taken ≡ [] → v.named ≡ true → IsTold events w v
-told_now events w v log unsaid taken named =
+pub told_now : (events : List Event) (w : ℕ) (v : SeatView) → v.log ≡ record { number = w; story = events } → v.unsaid ≡ [] → v.taken ≡ [] → v.named ≡ true → v.from ≡ None → LeadsToBook v.log v.book → IsTold events w v
+told_now events w v log unsaid taken named from leads =
     record {
       number = λ n. ap (λ (x : Log). x.number) log;
       since = [];
@@ -120,6 +146,9 @@ told_now events w v log unsaid taken named =
       unsaid = sym unsaid;
       taken = (events, ap (λ xs. xs ++ events) (sym taken));
       fresh = λ new. absurd (false≢true (sym new ∙ named));
+      leads = λ n none. leads;
+      apart = λ n is. absurd (none_some n (sym from ∙ is));
+      ended = λ known n is. absurd (none_some n (sym from ∙ is));
     }
 
 -- all views after one of them changed
@@ -136,22 +165,22 @@ told_set events views w v others own k u at there =
 module _ (events : List Event) (views : List SeatView) (told : AreTold events views) (id : ℕ) (v : SeatView) (is : get_elem? views id ≡ some v) (there : 0 < v.book.account.share) where
   -- an event of the worker happened, and its log has it
   pub told_step :
-      (kind : Kind) (w : SeatView) → w.log ≡ record { number = id; story = events ++ record { worker = id; kind = kind } ∷ [] } → w.unsaid ≡ [] → w.taken ≡ [] → w.named ≡ true
+      (kind : Kind) (w : SeatView) → w.log ≡ record { number = id; story = events ++ record { worker = id; kind = kind } ∷ [] } → w.unsaid ≡ [] → w.taken ≡ [] → w.named ≡ true → w.from ≡ None → LeadsToBook w.log w.book
       → AreTold (events ++ record { worker = id; kind = kind } ∷ []) (set views id w)
-  told_step kind w log unsaid taken named =
+  told_step kind w log unsaid taken named from leads =
       told_set (events ++ event ∷ []) views id w (λ k u other at share. told_theirs events k u (told k u at share) event (λ same. other (sym same)))
-      (λ share. told_now (events ++ event ∷ []) id w log unsaid taken named)
+      (λ share. told_now (events ++ event ∷ []) id w log unsaid taken named from leads)
     where
       event : Event
       event = record { worker = id; kind = kind }
 
   -- nothing happened, and the worker's log is up to date
-  pub told_seen : (w : SeatView) → w.log ≡ record { number = id; story = events } → w.unsaid ≡ [] → w.taken ≡ [] → w.named ≡ true → AreTold events (set views id w)
-  told_seen w log unsaid taken named = told_set events views id w (λ k u other at share. told k u at share) (λ share. told_now events id w log unsaid taken named)
+  pub told_seen : (w : SeatView) → w.log ≡ record { number = id; story = events } → w.unsaid ≡ [] → w.taken ≡ [] → w.named ≡ true → w.from ≡ None → LeadsToBook w.log w.book → AreTold events (set views id w)
+  told_seen w log unsaid taken named from leads = told_set events views id w (λ k u other at share. told k u at share) (λ share. told_now events id w log unsaid taken named from leads)
 
   -- nothing happened, and the worker's log is as it was
-  pub told_kept : (w : SeatView) → w.log ≡ v.log → w.unsaid ≡ v.unsaid → w.taken ≡ v.taken → w.named ≡ v.named → AreTold events (set views id w)
-  told_kept w log unsaid taken named = told_set events views id w (λ k u other at share. told k u at share) (λ share. told_same events id v (told id v is there) w log unsaid taken named)
+  pub told_kept : (w : SeatView) → w.log ≡ v.log → w.unsaid ≡ v.unsaid → w.taken ≡ v.taken → w.named ≡ v.named → w.from ≡ v.from → w.book ≡ v.book → AreTold events (set views id w)
+  told_kept w log unsaid taken named from book = told_set events views id w (λ k u other at share. told k u at share) (λ share. told_same events id v (told id v is there) w log unsaid taken named from book)
 
   -- what the worker may tell of its event
   pub did_step : v.named ≡ true → v.unsaid ≡ [] → (kind : Kind) → Did v.log (kind ∷ []) (record { number = id; story = events ++ record { worker = id; kind = kind } ∷ [] })

@@ -1,21 +1,23 @@
 -- Going idle, coming back and looking at the idle word keep the rule, and are the events of those names.
-use Rattle.std.proofs.Common.{◌≡◌, ℕ, ◌+◌, ◌-◌, ◌%◌, ◌^◌, ◌<◌, true, [], ◌∷◌, map, length, length-set, List, Option, set, slice_index, slice_set, ap, sym, refl, subst, ◌∙◌, arith}
+use Rattle.std.proofs.Common.{◌≡◌, ℕ, ◌<◌, true, [], map, length-set, List, Option, None, set, slice_index, ap, sym, refl, subst, ◌∙◌, arith}
 use mathlib.Core.Option.{none, some}
 use lib.ListN.{get_elem?}
 use Rattle.atomic_table.specs.Table.{State, Me, Allows, step, keeps}
+use Rattle.atomic_table.proofs.Lists.{set_here}
 use Rattle.tagged_index.specs.Head.{head_of, index_of}
 use Rattle.mark_core.specs.World.{Setup, Marking}
 use Rattle.mark_core.specs.Event.{Kind, Event, IdleUp, IdleDown, LoadIdle, CanIdle, CanWake, effect, word_up, word_down}
 use Rattle.mark_core.specs.Event as may
 use Rattle.mark_core.specs.Counts.{counted, count_load_idle}
 use Rattle.mark_core.specs.Account.{after_load_idle}
+use Rattle.mark_core.proofs.Places.{at_below}
 use Rattle.buffer_pool.specs.declared.seat_view.SeatView.{SeatView}
 use Rattle.buffer_pool.specs.Book.{idled, woken, idle_loaded}
 use Rattle.buffer_pool.specs.Calls.{Shows}
-use Rattle.buffer_pool.specs.working.Plays.{rested, went_idle, came_back, idle_seen}
+use Rattle.buffer_pool.specs.working.Plays.{went_idle, came_back, idle_seen}
 use Rattle.buffer_pool.specs.working.Table.{Reading, Reached, Rule, Carries, free, idle_word, link_word, marking_of, view_counts}
 use Rattle.buffer_pool.specs.working.Told.{IsSettled, noted}
-use Rattle.buffer_pool.proofs.States.{agrees, cut_same, accounts_set, counts_same, counts_changed, happened, happened_led, log_after, told_after, did_after, freed}
+use Rattle.buffer_pool.proofs.States.{agrees, cut_same, accounts_set, counts_same, counts_changed, happened, happened_led, leads_now, log_after, told_after, did_after, freed}
 use Rattle.buffer_pool.proofs.Loads.{noticed, written_again}
 use Rattle.buffer_pool.proofs.Words.{head_beside_idle, link_beside_idle, mark_beside_idle, idle_here}
 
@@ -27,18 +29,18 @@ module _
   idle_written :
       (x : ℕ) (w : SeatView) (kind : Kind) → w.out ≡ 0 → w.book.account.held ≡ v.book.account.held
       → w.book.setup ≡ v.book.setup → view_counts w ≡ view_counts v
-      → w.log ≡ log_after r e s rule id kind → w.unsaid ≡ [] → w.taken ≡ [] → w.named ≡ true
+      → w.log ≡ log_after r e s rule id kind → w.unsaid ≡ [] → w.taken ≡ [] → w.named ≡ true → w.from ≡ None
       → may.Allows e (marking_of r e s) id v.book.account kind
       → effect (marking_of r e s) id v.book.account kind
       ≡ record (marking_of r e s) { idle = x; accounts = set (marking_of r e s).accounts id w.book.account }
       → counted (marking_of r e s) (map view_counts s.views) id kind ≡ map view_counts s.views
       → Rule r e (record { words = set s.words idle_word x; homes = s.homes; views = set s.views id w })
-  idle_written x w kind out held setup counts log unsaid taken named can is_effect is_counted =
+  idle_written x w kind out held setup counts log unsaid taken named from can is_effect is_counted =
       noticed r e s rule id v is bare there (set s.words idle_word x) w (length-set s.words idle_word x)
       (λ i h. link_beside_idle e s.words x i) out held setup
       (happened r e s rule id v is kind there can t (marking ∙ sym is_effect)
       (counts_same r e s rule id v is w counts ∙ sym is_counted)
-      (told_after r e s rule id v is there kind w log unsaid taken named))
+      (told_after r e s rule id v is there kind w log unsaid taken named from setup))
     where
       m : Marking
       m = marking_of r e s
@@ -71,14 +73,15 @@ module _ {B : Type 0} (r : Reading B) (e : Setup) (slots id : ℕ) where
       freed r e slots id idle_word (λ n. word_up n) told me carries (λ s rule count is fits.
       let v : SeatView = free me.0 in
       let log = log_after r e s rule id IdleUp in
-      let w : SeatView = record (noted log v) { book = idled me.0.book } in (
-        w,
-        keeps,
-        tt,
-        idle_written r e s rule id v is refl there (word_up (slice_index s.words idle_word)) w IdleUp
-            refl refl refl refl refl refl refl refl can refl refl,
-        (refl, did_after r e s rule id v is there done.named done.unsaid IdleUp),
-      ))
+      let w : SeatView = record (noted log v) { book = idled me.0.book } in
+      let x : ℕ = word_up (slice_index s.words idle_word) in
+      let t : State (Option B) SeatView =
+      record { words = set s.words idle_word x; homes = s.homes; views = set s.views id w } in
+      let after : Rule r e t =
+      idle_written r e s rule id v is refl there x w IdleUp refl refl refl refl refl refl refl refl refl can refl refl in
+      let did = did_after r e s rule id v is there done.named done.unsaid IdleUp in
+      let story = leads_now r e t after id w (set_here s.views id w (at_below s.views id v is)) there refl refl in
+      (w, keeps, tt, after, (refl, did, story)))
 
   pub comes_back :
       (me : Me (Option B) SeatView) → Carries me → 0 < me.0.book.account.share → IsSettled me.0
@@ -89,14 +92,15 @@ module _ {B : Type 0} (r : Reading B) (e : Setup) (slots id : ℕ) where
       freed r e slots id idle_word (λ n. word_down n) told me carries (λ s rule count is fits.
       let v : SeatView = free me.0 in
       let log = log_after r e s rule id IdleDown in
-      let w : SeatView = record (noted log v) { book = woken me.0.book } in (
-        w,
-        keeps,
-        tt,
-        idle_written r e s rule id v is refl there (word_down (slice_index s.words idle_word)) w IdleDown
-            refl refl refl refl refl refl refl refl can refl refl,
-        (refl, did_after r e s rule id v is there done.named done.unsaid IdleDown),
-      ))
+      let w : SeatView = record (noted log v) { book = woken me.0.book } in
+      let x : ℕ = word_down (slice_index s.words idle_word) in
+      let t : State (Option B) SeatView =
+      record { words = set s.words idle_word x; homes = s.homes; views = set s.views id w } in
+      let after : Rule r e t =
+      idle_written r e s rule id v is refl there x w IdleDown refl refl refl refl refl refl refl refl refl can refl refl in
+      let did = did_after r e s rule id v is there done.named done.unsaid IdleDown in
+      let story = leads_now r e t after id w (set_here s.views id w (at_below s.views id v is)) there refl refl in
+      (w, keeps, tt, after, (refl, did, story)))
 
   pub sees_idle :
       (me : Me (Option B) SeatView) → Carries me → 0 < me.0.book.account.share → IsSettled me.0
@@ -115,15 +119,17 @@ module _ {B : Type 0} (r : Reading B) (e : Setup) (slots id : ℕ) where
       let marking : marking_of r e t ≡ effect m id me.0.book.account LoadIdle =
       agrees (marking_of r e t) after (λ p. refl) (λ i. refl) (λ o. refl) refl refl (accounts_set s.views id w) in
       let counts = counts_changed r e s rule id v is w count_load_idle refl in
-      let tells = told_after r e s rule id v is there LoadIdle w refl refl refl refl in
+      let tells = told_after r e s rule id v is there LoadIdle w refl refl refl refl refl refl in
       let reached : Reached r e t = happened r e s rule id v is LoadIdle there tt t marking counts tells in
       let led = happened_led r e s rule id v is LoadIdle there tt t marking counts in
       let shows : Shows e log.story n = (marking_of r e t, map view_counts t.views, led, refl) in
-      let did = did_after r e s rule id v is there done.named done.unsaid LoadIdle in (
+      let did = did_after r e s rule id v is there done.named done.unsaid LoadIdle in
+      let rule' : Rule r e t =
+      noticed r e s rule id v is refl there s.words w refl (λ i h. refl) refl refl refl reached in
+      let story = leads_now r e t rule' id w (set_here s.views id w (at_below s.views id v is)) there refl refl in (
         w,
         keeps,
         tt,
-        written_again r e slots id s idle_word w
-            (noticed r e s rule id v is refl there s.words w refl (λ i h. refl) refl refl refl reached),
-        (refl, did, subst (λ (x : Setup). Shows x log.story n) (sym same) shows),
+        written_again r e slots id s idle_word w rule',
+        (refl, did, subst (λ (x : Setup). Shows x log.story n) (sym same) shows, story),
       ))

@@ -1,5 +1,6 @@
 pub mod Deeds
 pub mod Newcomers
+pub mod Gone
 pub mod States
 pub mod Loads
 pub mod Words

@@ -1,30 +1,32 @@
 -- Loads keep the rule, and tell what was loaded. So do the steps that change nothing.
-use Rattle.std.proofs.Common.{◌≡◌, ◌≢◌, ℕ, suc, ◌<◌, ◌≤◌, ◌==◌, true, List, [], ◌∷◌, length, Option, Some, set, slice_index, slice_set, ap, sym, refl, subst, ◌∙◌, arith}
+use Rattle.std.proofs.Common.{◌≡◌, ◌≢◌, ℕ, suc, ◌<◌, ◌≤◌, ◌==◌, true, List, [], ◌∷◌, length, map, Option, Some, None, set, slice_index, slice_set, ap, sym, refl, subst, ◌∙◌, arith}
 use Rattle.std.proofs.lemmas.List.{set-get_or}
 use mathlib.Core.Option.{none, some}
 use lib.ListN.{get_elem?}
 use prog.Atomic.{either}
 use Rattle.atomic_table.specs.Table.{State, Me, Allows, step, keeps}
-use Rattle.atomic_table.proofs.Lists.{exchanged}
+use Rattle.atomic_table.proofs.Lists.{exchanged, set_here}
 use Rattle.tagged_index.specs.Head.{Head, head_of, index_of}
 use Rattle.mark_core.specs.declared.which.Which.{Which}
 use Rattle.mark_core.specs.declared.which.Which.TheVariants.{Full, Empty}
 use Rattle.mark_core.specs.Lists.{times}
 use Rattle.mark_core.specs.Account.{look_of, after_load, after_load_link}
 use Rattle.mark_core.specs.World.{Setup}
-use Rattle.mark_core.specs.Runs.{HasEachOnce}
+use Rattle.mark_core.specs.Runs.{HasEachOnce, opening}
 use Rattle.mark_core.specs.Event.{Load, LoadLink, effect, last_link, link_from}
 use Rattle.mark_core.specs.Counts.{count_load}
 use Rattle.mark_core.proofs.Ownership.{stacked_below, top_stands}
+use Rattle.mark_core.proofs.Places.{at_below}
 use Rattle.mark_core.proofs.Closing.{has_each_once}
 use Rattle.buffer_pool.specs.declared.seat_view.SeatView.{SeatView}
 use Rattle.buffer_pool.specs.Book.{Book, counts_of, loaded, link_loaded}
 use Rattle.buffer_pool.specs.working.Plays.{rested, head_seen, link_seen, set_aside, settled}
-use Rattle.buffer_pool.specs.Story.{Did}
+use Rattle.buffer_pool.specs.Story.{Did, LeadsToBook}
 use Rattle.buffer_pool.specs.working.Told.{IsSettled, IsTold, noted}
-use Rattle.buffer_pool.specs.working.Table.{Reading, Reached, Rule, IsTied, Rests, Carries, free, head_word, link_word, marking_of}
-use Rattle.buffer_pool.proofs.States.{agrees, lawful, cut_below, stands, changed, accounts_set, accounts_same, counts_same, counts_changed, nothing_happened, happened, log_after, log_now, told_after, did_after, held_below, freed}
+use Rattle.buffer_pool.specs.working.Table.{Reading, Reached, Rule, IsTied, Rests, Carries, free, head_word, link_word, marking_of, view_counts}
+use Rattle.buffer_pool.proofs.States.{agrees, lawful, cut_below, stands, changed, accounts_set, accounts_same, counts_same, counts_changed, nothing_happened, happened, leads_here, leads_now, log_after, log_now, told_after, did_after, held_below, freed}
 use Rattle.buffer_pool.proofs.Deeds.{did_none, told_seen}
+use Rattle.buffer_pool.proofs.Gone.{ends_taken}
 
 -- a stack has its own head word
 pub same_head : (q p : Which) → head_word q ≡ head_word p → q ≡ p
@@ -48,6 +50,14 @@ charge_loaded Empty h b = refl
 pub setup_loaded : (q : Which) (h : Head) (b : Book) → (loaded q h b).setup ≡ b.setup
 setup_loaded Full h b = refl
 setup_loaded Empty h b = refl
+
+share_loaded : (q : Which) (h : Head) (b : Book) → 0 < b.account.share → 0 < (loaded q h b).account.share
+share_loaded Full h b there = there
+share_loaded Empty h b there = there
+
+share_linked : (q : Which) (l : Option ℕ) (b : Book) → 0 < b.account.share → 0 < (link_loaded q l b).account.share
+share_linked Full l b there = there
+share_linked Empty l b there = there
 
 -- a load is counted
 counts_loaded : (q : Which) (h : Head) (b : Book) → counts_of (loaded q h b) ≡ count_load q h (counts_of b)
@@ -84,14 +94,16 @@ module _ {B : Type 0} (r : Reading B) (e : Setup) (s : State (Option B) SeatView
 -- a view with the same book whose log is up to date: nothing happened
 only_seen :
     {B : Type 0} (r : Reading B) (e : Setup) (s : State (Option B) SeatView) (rule : Rule r e s) (id : ℕ) (v : SeatView) (is : get_elem? s.views id ≡ some v) → 0 < v.book.account.share
-    → (w : SeatView) → w.book ≡ v.book → w.log ≡ log_now r e s rule id → w.unsaid ≡ [] → w.taken ≡ [] → w.named ≡ true
+    → (w : SeatView) → w.book ≡ v.book → w.log ≡ log_now r e s rule id → w.unsaid ≡ [] → w.taken ≡ [] → w.named ≡ true → w.from ≡ None
     → Reached r e (record { words = s.words; homes = s.homes; views = set s.views id w })
-only_seen {B} r e s rule id v is there w same log unsaid taken named =
+only_seen {B} r e s rule id v is there w same log unsaid taken named from =
     let t : State (Option B) SeatView = record { words = s.words; homes = s.homes; views = set s.views id w } in
     nothing_happened r e s rule t
     (agrees (marking_of r e t) (marking_of r e s) (λ q. refl) (λ i. refl) (λ o. refl) refl refl (accounts_same r e s rule id v is w (ap (λ (b : Book). b.account) same)))
     (counts_same r e s rule id v is w (ap counts_of same))
-    (told_seen rule.reached.events s.views rule.reached.told id v is there w log unsaid taken named)
+    (told_seen rule.reached.events s.views rule.reached.told id v is there w log unsaid taken named from
+    (leads_here r e s rule id v is there w rule.reached.events log (ap (λ (b : Book). b.setup) same) (marking_of r e s) (map view_counts s.views) (sym (accounts_same r e s rule id v is w (ap (λ (b : Book). b.account) same)))
+    (sym (counts_same r e s rule id v is w (ap counts_of same))) rule.reached.led))
 
 -- an account has no buffer twice, and no object twice among those that it answers for and finished
 pub each_once : {B : Type 0} (r : Reading B) (e : Setup) (s : State (Option B) SeatView) (rule : Rule r e s) (id : ℕ) (v : SeatView) → get_elem? s.views id ≡ some v → HasEachOnce v.book.account
@@ -114,14 +126,16 @@ module _ {B : Type 0} (r : Reading B) (e : Setup) (slots id : ℕ) where
       happened r e s rule id v is (Load q) there tt t
       (agrees (marking_of r e t) (record m { accounts = set m.accounts id (after_load q (m.head q) me.0.book.account) }) (λ p. refl) (λ i. refl) (λ o. refl) refl refl
       (accounts_set s.views id w ∙ ap (set m.accounts id) (account_loaded q (head_of n) me.0.book)))
-      (counts_changed r e s rule id v is w (count_load q (head_of n)) (counts_loaded q (head_of n) me.0.book)) (told_after r e s rule id v is there (Load q) w refl refl refl refl) in (
+      (counts_changed r e s rule id v is w (count_load q (head_of n)) (counts_loaded q (head_of n) me.0.book)) (told_after r e s rule id v is there (Load q) w refl refl refl refl refl (setup_loaded q (head_of n) me.0.book)) in
+      let after : Rule r e t = noticed r e s rule id v is refl there s.words w refl (λ i h. refl) refl (held_loaded q (head_of n) me.0.book) (setup_loaded q (head_of n) me.0.book) reached in
+      let story : LeadsToBook w.log w.book = leads_now r e t after id w (set_here s.views id w (at_below s.views id v is)) (share_loaded q (head_of n) me.0.book there) refl refl in (
         w,
         keeps,
         tt,
-        written_again s (head_word q) w (noticed r e s rule id v is refl there s.words w refl (λ i h. refl) refl (held_loaded q (head_of n) me.0.book) (setup_loaded q (head_of n) me.0.book) reached),
+        written_again s (head_word q) w after,
         (λ p same.
-            subst (λ k. ((w, []) ≡ rested me log (loaded k (head_of n) me.0.book)) × ((i : ℕ) → (head_of n).index ≡ Some i → i < me.0.book.setup.buffers) × Did me.0.log (Load k ∷ []) log) (same_head q p same)
-            (refl, top_below r e s rule id v is refl there q, did_after r e s rule id v is there done.named done.unsaid (Load q))),
+            let told = subst (λ k. ((w, []) ≡ rested me log (loaded k (head_of n) me.0.book)) × ((i : ℕ) → (head_of n).index ≡ Some i → i < me.0.book.setup.buffers) × Did me.0.log (Load k ∷ []) log) (same_head q p same)
+            (refl, top_below r e s rule id v is refl there q, did_after r e s rule id v is there done.named done.unsaid (Load q)) in (told.0, told.1, told.2, story)),
       ))
 
   pub sees_link :
@@ -142,12 +156,13 @@ module _ {B : Type 0} (r : Reading B) (e : Setup) (slots id : ℕ) where
       happened r e s rule id v is (LoadLink q) there (h, i, last, top) t
       (agrees (marking_of r e t) (effect m id me.0.book.account (LoadLink q)) (λ p. refl) (λ j. refl) (λ o. refl) refl refl
       (accounts_set s.views id w ∙ ap (λ l. set m.accounts id (after_load_link q l me.0.book.account)) (sym found)))
-      (counts_same r e s rule id v is w refl) (told_after r e s rule id v is there (LoadLink q) w refl refl refl refl) in (
+      (counts_same r e s rule id v is w refl) (told_after r e s rule id v is there (LoadLink q) w refl refl refl refl refl refl) in
+      let after : Rule r e t = noticed r e s rule id v is refl there s.words w refl (λ j b. refl) refl (held_linked q (index_of n) me.0.book) refl reached in (
         w,
         keeps,
         tt,
-        written_again s (link_word i) w (noticed r e s rule id v is refl there s.words w refl (λ j b. refl) refl (held_linked q (index_of n) me.0.book) refl reached),
-        (refl, subst (λ (x : Setup). n ≤ x.buffers) (sym same) (rule.linked i small), did_after r e s rule id v is there done.named done.unsaid (LoadLink q)),
+        written_again s (link_word i) w after,
+        (refl, subst (λ (x : Setup). n ≤ x.buffers) (sym same) (rule.linked i small), did_after r e s rule id v is there done.named done.unsaid (LoadLink q), leads_now r e t after id w (set_here s.views id w (at_below s.views id v is)) (share_linked q (index_of n) me.0.book there) refl refl),
       ))
 
   -- an exchange of a word for itself
@@ -158,7 +173,7 @@ module _ {B : Type 0} (r : Reading B) (e : Setup) (slots id : ℕ) where
       let log = log_now r e s rule id in
       let w : SeatView = record (noted log v) { aside = units } in
       let kept : Rule r e (record { words = slice_set s.words word n; homes = s.homes; views = set s.views id w }) =
-      written_again s word w (noticed r e s rule id v is refl there s.words w refl (λ j b. refl) refl refl refl (only_seen r e s rule id v is there w refl refl refl refl refl)) in (
+      written_again s word w (noticed r e s rule id v is refl there s.words w refl (λ j b. refl) refl refl refl (only_seen r e s rule id v is there w refl refl refl refl refl refl)) in (
         w,
         keeps,
         tt,
@@ -171,10 +186,12 @@ module _ {B : Type 0} (r : Reading B) (e : Setup) (slots id : ℕ) where
   settles me word carries there = freed r e slots id word (λ n. n) (settled (step slots word 0 0 none) me) me carries (λ s rule count is fits.
       let v : SeatView = free me.0 in
       let w : SeatView = noted (log_now r e s rule id) v in
-      let told : IsTold rule.reached.events id v = rule.reached.told id v is there in (
+      let told : IsTold rule.reached.events id v = rule.reached.told id v is there in
+      let t : State (Option B) SeatView = record { words = s.words; homes = s.homes; views = set s.views id w } in
+      let after : Rule r e t = noticed r e s rule id v is refl there s.words w refl (λ j b. refl) refl refl refl (only_seen r e s rule id v is there w refl refl refl refl refl refl) in (
         w,
         keeps,
         tt,
-        written_again s word w (noticed r e s rule id v is refl there s.words w refl (λ j b. refl) refl refl refl (only_seen r e s rule id v is there w refl refl refl refl refl)),
-        record { same = refl; each = each_once r e s rule id v is; did = did_none rule.reached.events id v told; knows = told.taken; fresh = told.fresh },
+        written_again s word w after,
+        record { same = refl; each = each_once r e s rule id v is; did = did_none rule.reached.events id v told; story = leads_now r e t after id w (set_here s.views id w (at_below s.views id v is)) there refl refl; knows = told.taken; fresh = told.fresh; apart = told.apart; ended = λ known n from. ends_taken e rule.reached.events (opening e e.first_tag) (marking_of r e s) n v.taken rule.reached.led.run (told.ended known n from) },
       ))

@@ -12,9 +12,12 @@ use Rattle.mark_core.specs.Runs.{Run}
 use Rattle.mark_core.proofs.Places.{at_below}
 use Rattle.buffer_pool.specs.declared.seat_view.SeatView.{SeatView}
 use Rattle.buffer_pool.specs.Story.{deeds}
-use Rattle.buffer_pool.specs.working.Told.{AreTold, IsTold}
+use Rattle.buffer_pool.specs.working.Told.{AreTold, IsTakenIn, IsTold}
 use Rattle.buffer_pool.specs.working.Setups.{kept_part, given_part, joined_view, no_share_view}
-use Rattle.buffer_pool.proofs.Deeds.{deeds_on, no_deed, told_mine, told_theirs, told_set}
+use Rattle.buffer_pool.proofs.Deeds.{deeds_on, no_deed, taken_on, told_mine, told_theirs, told_set}
+
+same_some : (a b : ℕ) → Some a ≡ Some b → a ≡ b
+same_some a b e = cc
 
 -- accounts never become fewer
 popped_long : (m : Marking) (w : ℕ) (a : Account) (q : Which) (index : Option ℕ) (link : Option (Option ℕ)) → length m.accounts ≤ length (popped m w a q index link).accounts
@@ -81,7 +84,7 @@ module _ (events : List Event) (views : List SeatView) (told : AreTold events vi
       kept : IsTold later id (kept_part v)
       kept =
           told_mine events id v own event (kept_part v) known refl refl known refl (own.taken.0 ++ event ∷ [])
-          (ap (λ xs. xs ++ event ∷ []) own.taken.1 ∙ append_assoc v.taken own.taken.0 (event ∷ []))
+          (ap (λ xs. xs ++ event ∷ []) own.taken.1 ∙ append_assoc v.taken own.taken.0 (event ∷ [])) own.apart (λ n from. taken_on events event n v.taken (own.ended known n from))
 
       none : deeds (length views) later ≡ []
       none =
@@ -97,13 +100,16 @@ module _ (events : List Event) (views : List SeatView) (told : AreTold events vi
             unsaid = none;
             taken = (own.since ++ event ∷ [], ap (λ xs. xs ++ event ∷ []) own.goes_on ∙ append_assoc v.log.story own.since (event ∷ []));
             fresh = λ new. none;
+            leads = λ named. absurd (false≢true named);
+            apart = λ n from. λ same. let giver : v.log.number ≡ n = same_some v.log.number n from in omega (arith, giver, same, own.number known, at_below views id v is);
+            ended = λ named. absurd (false≢true named);
           }
 
   -- after a join: the worker that took the other in notes it, and has the other's story
   pub told_join :
-      (other : ℕ) (w : SeatView) → other ≢ id → get_elem? views other ≡ some w → 0 < w.book.account.share → w.named ≡ true
+      (other : ℕ) (w : SeatView) → other ≢ id → get_elem? views other ≡ some w → 0 < w.book.account.share → w.named ≡ true → w.unsaid ≡ []
       → AreTold (events ++ record { worker = id; kind = Join other } ∷ []) (set (set views id (joined_view v w)) other no_share_view)
-  told_join other w apart at theirs_there theirs_known =
+  told_join other w apart at theirs_there theirs_known theirs_said =
       told_set later (set views id (joined_view v w)) other no_share_view
       (λ k u differ here share. told_set later views id (joined_view v w) (λ j x apart_too stood x_share. told_theirs events j x (told j x stood x_share) event (λ same. apart_too (sym same))) (λ h. both) k u here share)
       (λ h. absurd (omega (arith, h)))
@@ -117,7 +123,22 @@ module _ (events : List Event) (views : List SeatView) (told : AreTold events vi
       theirs : IsTold events other w
       theirs = told other w at theirs_there
 
+      joined_from : (n : ℕ) → Some w.log.number ≡ Some n → other ≡ n
+      joined_from n from = sym (theirs.number theirs_known) ∙ same_some w.log.number n from
+
+      -- the other did nothing after its story, and then this worker took it in
+      taken_in : (n : ℕ) → Some w.log.number ≡ Some n → IsTakenIn later n w.log.story
+      taken_in n from =
+          subst (λ k. IsTakenIn later k w.log.story) (joined_from n from) (record {
+            quiet = theirs.since;
+            by = id;
+            later = [];
+            all = ap (λ xs. xs ++ event ∷ []) theirs.goes_on;
+            other = λ same. apart (sym same);
+            nothing = theirs.unsaid ∙ theirs_said;
+          })
+
       both : IsTold later id (joined_view v w)
       both =
           told_mine events id v own event (joined_view v w) known refl refl known (ap (λ n. v.unsaid ++ Join n ∷ []) (theirs.number theirs_known)) (theirs.since ++ event ∷ [])
-          (ap (λ xs. xs ++ event ∷ []) theirs.goes_on ∙ append_assoc w.log.story theirs.since (event ∷ []))
+          (ap (λ xs. xs ++ event ∷ []) theirs.goes_on ∙ append_assoc w.log.story theirs.since (event ∷ [])) (λ n from. λ same. apart (joined_from n from ∙ same)) taken_in

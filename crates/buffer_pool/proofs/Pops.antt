@@ -7,7 +7,7 @@ use native.Mathlib.Decide.{dec_le, ℕ_discrete}
 use lib.ListN.{get_elem?}
 use prog.Atomic.{either}
 use Rattle.atomic_table.specs.Table.{State, Me, Act, Allows, Valid, step, stepped, carried_after, keeps, takes}
-use Rattle.atomic_table.proofs.Lists.{at_map, at_set, set_else}
+use Rattle.atomic_table.proofs.Lists.{at_map, at_set, set_here, set_else}
 use Rattle.tagged_index.specs.Head.{Head, head_of, after, last_tag}
 use Rattle.mark_core.specs.declared.which.Which.{Which}
 use Rattle.mark_core.specs.declared.which.Which.TheVariants.{Full, Empty}
@@ -24,9 +24,9 @@ use Rattle.buffer_pool.specs.declared.seat_view.SeatView.{SeatView}
 use Rattle.buffer_pool.specs.Book.{popped, failed}
 use Rattle.buffer_pool.specs.working.Plays.{HasMissed, HasTaken, IsOurs, pop_tried}
 use Rattle.buffer_pool.specs.working.Table.{Reading, Reached, Rule, IsTied, Rests, Carries, account_of, free, head_word, link_word, mark_word, marking_of, slot_of, view_counts}
-use Rattle.buffer_pool.proofs.States.{agrees, lawful, changed, accounts_set, accounts_same, counts_same, counts_changed, slots_set, happened, log_after, told_after, did_after, freed}
+use Rattle.buffer_pool.proofs.States.{agrees, lawful, changed, accounts_set, accounts_same, counts_same, counts_changed, slots_set, happened, leads_now, log_after, told_after, did_after, freed}
 use Rattle.buffer_pool.specs.working.Told.{IsSettled, noted}
-use Rattle.mark_core.proofs.Places.{at_one, at_get_or}
+use Rattle.mark_core.proofs.Places.{at_below, at_one, at_get_or}
 use Rattle.buffer_pool.proofs.Loads.{noticed, same_head}
 use Rattle.buffer_pool.proofs.Words.{one_head, exchange_hit, exchange_miss, link_beside_head, links_beside_head, mark_beside_head, heads_after, idle_beside_head}
 
@@ -73,14 +73,14 @@ bare_on_empty r e s rule q i b top home empty =
 -- a failed exchange: the account is as it was, and the failure is counted
 pub lost :
     {B : Type 0} (r : Reading B) (e : Setup) (s : State (Option B) SeatView) (rule : Rule r e s) (id : ℕ) (v : SeatView) (is : get_elem? s.views id ≡ some v) → 0 < v.book.account.share
-    → (w : SeatView) (q : Which) → w.book.account ≡ v.book.account → view_counts w ≡ count_failure (view_counts v) → w.log ≡ log_after r e s rule id (Fail q) → w.unsaid ≡ [] → w.taken ≡ [] → w.named ≡ true
+    → (w : SeatView) (q : Which) → w.book.account ≡ v.book.account → view_counts w ≡ count_failure (view_counts v) → w.log ≡ log_after r e s rule id (Fail q) → w.unsaid ≡ [] → w.taken ≡ [] → w.named ≡ true → w.from ≡ None → w.book.setup ≡ v.book.setup
     → (h : Head) → (look_of v.book.account q).head ≡ Some h → (head_of (slice_index s.words (head_word q)) ≡ h → ⊥)
     → Reached r e (record { words = s.words; homes = s.homes; views = set s.views id w })
-lost {B} r e s rule id v is there w q account counts log unsaid taken named h last other =
+lost {B} r e s rule id v is there w q account counts log unsaid taken named from setup h last other =
     let t : State (Option B) SeatView = record { words = s.words; homes = s.homes; views = set s.views id w } in
     happened r e s rule id v is (Fail q) there (h, last, other) t
     (agrees (marking_of r e t) (marking_of r e s) (λ p. refl) (λ j. refl) (λ o. refl) refl refl (accounts_same r e s rule id v is w account)) (counts_changed r e s rule id v is w count_failure counts)
-    (told_after r e s rule id v is there (Fail q) w log unsaid taken named)
+    (told_after r e s rule id v is there (Fail q) w log unsaid taken named from setup)
 
 -- where the head is the one loaded
 module _ {B : Type 0} (r : Reading B) (e : Setup) (s : State (Option B) SeatView) (rule : Rule r e s) (id : ℕ) (v : SeatView) (is : get_elem? s.views id ≡ some v) (bare : v.out ≡ 0) (there : 0 < v.book.account.share) where
@@ -151,7 +151,7 @@ module _ {B : Type 0} (r : Reading B) (e : Setup) (s : State (Option B) SeatView
             happened r e s rule id v is (Pop q) there (((hit, short), (i, top), (l, linked_to)), busy) t
             (agrees (marking_of r e t) left (heads_after e s.words q x (after (m.head q) l) (omega (arith, rule.word_count)) next) (links_beside_head e s.words q x)
             (mark_beside_head e s.words q x) (slots_set r s.homes i none) (idle_beside_head e s.words q x) (accounts_set s.views id w) ∙ sym pop_is)
-            (counts_same r e s rule id v is w refl) (told_after r e s rule id v is there (Pop q) w refl refl refl refl)
+            (counts_same r e s rule id v is w refl) (told_after r e s rule id v is there (Pop q) w refl refl refl refl refl refl)
 
   -- the buffer on top of a stack lies at home
   pub top_home : (q : Which) (i : ℕ) → (head_of (slice_index s.words (head_word q))).index ≡ Some i → (b : B) × (get_elem? s.homes i ≡ some (some (Some b)))
@@ -169,7 +169,7 @@ module _ {B : Type 0} (r : Reading B) (e : Setup) (s : State (Option B) SeatView
       → Rule r e (record { words = slice_set s.words word (slice_index s.words word); homes = s.homes; views = set s.views id (missed_view q) })
   failed_rule q h word last other =
       let w : SeatView = missed_view q in
-      subst (λ ws. Rule r e (record { words = ws; homes = s.homes; views = set s.views id w })) (sym (set-get_or s.words word 0)) (noticed r e s rule id v is bare there s.words w refl (λ j b. refl) bare refl refl (lost r e s rule id v is there w q refl refl refl refl refl refl h last other))
+      subst (λ ws. Rule r e (record { words = ws; homes = s.homes; views = set s.views id w })) (sym (set-get_or s.words word 0)) (noticed r e s rule id v is bare there s.words w refl (λ j b. refl) bare refl refl (lost r e s rule id v is there w q refl refl refl refl refl refl refl refl h last other))
 
 module _ {B : Type 0} (r : Reading B) (e : Setup) (slots id : ℕ) where
   -- what the play tells of the stack k, where the number found is n
@@ -218,6 +218,7 @@ module _ {B : Type 0} (r : Reading B) (e : Setup) (slots id : ℕ) where
                       bare = bare_on_empty r e s rule q i b top' home.1;
                       settled = record { named = refl; unsaid = refl };
                       did = did_after r e s rule id v is there done.named done.unsaid (Pop q);
+                      story = leads_now r e (record { words = set s.words (head_word q) new; homes = set s.homes i none; views = set s.views id w }) after_it id w (set_here s.views id w (at_below s.views id v is)) there refl refl;
                     },
                   )),
               (λ miss. absurd (miss hit)),
@@ -225,10 +226,11 @@ module _ {B : Type 0} (r : Reading B) (e : Setup) (slots id : ℕ) where
           )
       go s rule is (no miss) =
           let n = slice_index s.words (head_word q) in
-          let w : SeatView = missed_view r e s rule id v is refl there q in (
+          let w : SeatView = missed_view r e s rule id v is refl there q in
+          let after_it : Rule r e (record { words = slice_set s.words (head_word q) n; homes = s.homes; views = set s.views id w }) = failed_rule r e s rule id v is refl there q (head_of old) (head_word q) last (λ same. miss (one_head n old same)) in (
             w,
             keeps,
             tt,
-            subst (λ x. Rule r e (record { words = slice_set s.words (head_word q) x; homes = s.homes; views = set s.views id w })) (sym (exchange_miss n old new miss)) (failed_rule r e s rule id v is refl there q (head_of old) (head_word q) last (λ same. miss (one_head n old same))),
-            (λ p same_word. subst (λ k. pop_told me old k n (w, [])) (same_head q p same_word) ((λ hit j t. absurd (miss hit)), (λ h. (refl, did_after r e s rule id v is there done.named done.unsaid (Fail q))))),
+            subst (λ x. Rule r e (record { words = slice_set s.words (head_word q) x; homes = s.homes; views = set s.views id w })) (sym (exchange_miss n old new miss)) after_it,
+            (λ p same_word. subst (λ k. pop_told me old k n (w, [])) (same_head q p same_word) ((λ hit j t. absurd (miss hit)), (λ h. (refl, did_after r e s rule id v is there done.named done.unsaid (Fail q), leads_now r e (record { words = slice_set s.words (head_word q) n; homes = s.homes; views = set s.views id w }) after_it id w (set_here s.views id w (at_below s.views id v is)) there refl refl)))),
           )

@@ -8,7 +8,7 @@ use lib.ListN.{get_elem?}
 use prog.Atomic.{either}
 use Rattle.atomic_table.specs.Seated.{TableId}
 use Rattle.atomic_table.specs.Table.{State, Me, Act, Allows, Valid, rest, step, stepped, carried_after, keeps, takes, gives}
-use Rattle.atomic_table.proofs.Lists.{at_set, set_else, set_again}
+use Rattle.atomic_table.proofs.Lists.{at_set, set_here, set_else, set_again}
 use Rattle.tagged_index.specs.Head.{Head, head_of, index_of, low_of, after, last_tag}
 use Rattle.mark_core.specs.declared.which.Which.{Which}
 use Rattle.mark_core.specs.declared.which.Which.TheVariants.{Full, Empty}
@@ -16,14 +16,15 @@ use Rattle.mark_core.specs.Lists.{times, remove_one, IsPart}
 use Rattle.mark_core.specs.Account.{look_of, after_push}
 use Rattle.mark_core.specs.World.{Setup, Marking, put}
 use Rattle.mark_core.specs.Event.{StoreLink, Push, Fail, IsBusy, effect}
+use Rattle.mark_core.proofs.Places.{at_below}
 use Rattle.mark_core.proofs.Sums.{times-remove_one, times_stands, only-same, only-other}
 use Rattle.buffer_pool.specs.declared.seat_view.SeatView.{SeatView}
 use Rattle.buffer_pool.specs.Book.{Book, pushed, failed}
 use Rattle.buffer_pool.specs.working.Plays.{HasPushed, rested, link_stored, push_tried}
-use Rattle.buffer_pool.specs.Story.{Did}
+use Rattle.buffer_pool.specs.Story.{Did, LeadsToBook}
 use Rattle.buffer_pool.specs.working.Told.{IsSettled, noted}
 use Rattle.buffer_pool.specs.working.Table.{Reading, Reached, Rule, IsTied, Rests, Carries, free, head_word, link_word, marking_of}
-use Rattle.buffer_pool.proofs.States.{agrees, cut_below, cut_put, changed, accounts_set, accounts_same, counts_same, slots_set, happened, log_after, told_after, did_after, held_alone, held_below, held_away, freed}
+use Rattle.buffer_pool.proofs.States.{agrees, cut_below, cut_put, changed, accounts_set, accounts_same, counts_same, slots_set, happened, leads_now, log_after, told_after, did_after, held_alone, held_below, held_away, freed}
 use Rattle.buffer_pool.proofs.Pops.{lost}
 use Rattle.buffer_pool.proofs.Loads.{each_once}
 use Rattle.buffer_pool.proofs.Words.{one_head, exchange_hit, exchange_miss, link_beside_head, links_beside_head, mark_beside_head, heads_after, idle_beside_head, idle_beside_link, head_beside_link, link_beside_link, link_here, mark_beside_link, links_after}
@@ -62,6 +63,7 @@ pub told_of :
 told_of {B} m n o q i j xs ys same index items told = (
   told.0 ∙ (λ k. rested {B = B} (same k, []) o.0.log (pushed q (index k) (items k) (same k).book)),
   subst (λ (x : SeatView). Did x.log (Push q j ys ∷ []) o.0.log) same (subst (λ x. Did m.0.log (Push q x ys ∷ []) o.0.log) index (subst (λ zs. Did m.0.log (Push q i zs ∷ []) o.0.log) items told.1)),
+  told.2,
 )
 
 -- a slot that a seat carries alone is the one that it took
@@ -138,7 +140,7 @@ module _ {B : Type 0} (r : Reading B) (e : Setup) (s : State (Option B) SeatView
           happened r e s rule id v is (StoreLink i (index_of x)) there (times_stands v.book.account.held i mine) t
           (agrees (marking_of r e t) (record m { link = put i (index_of x) m.link }) (λ q. ap head_of (head_beside_link e s.words i x q)) links (mark_beside_link e s.words i x below)
           (slots_set r s.homes i none ∙ set_again m.slots i None (held_away r e s rule id v is i mine)) (idle_beside_link e s.words i x) (accounts_same r e s rule id v is w refl))
-          (counts_same r e s rule id v is w refl) (told_after r e s rule id v is there (StoreLink i (index_of x)) w refl refl refl refl)
+          (counts_same r e s rule id v is w refl) (told_after r e s rule id v is there (StoreLink i (index_of x)) w refl refl refl refl refl refl)
 
   module _ (b : B) (out : v.out ≡ suc i) (q : Which) where
     abbrev push_view : SeatView
@@ -198,7 +200,7 @@ module _ {B : Type 0} (r : Reading B) (e : Setup) (s : State (Option B) SeatView
             happened r e s rule id v is (Push q i (r.items b)) there ((hit, short), (times_stands v.book.account.held i mine, part, room, none_empty), follows, busy) t
             (agrees (marking_of r e t) (effect m id v.book.account (Push q i (r.items b))) (heads_after e s.words q x (after (m.head q) (Some i)) (omega (arith, rule.word_count)) next)
             (links_beside_head e s.words q x) (mark_beside_head e s.words q x) (slots_set r s.homes i (some (Some b))) (idle_beside_head e s.words q x) (accounts_set s.views id w))
-            (counts_same r e s rule id v is w refl) (told_after r e s rule id v is there (Push q i (r.items b)) w refl refl refl refl)
+            (counts_same r e s rule id v is w refl) (told_after r e s rule id v is there (Push q i (r.items b)) w refl refl refl refl refl refl)
 
     abbrev kept_view : SeatView
     kept_view = record (noted (log_after r e s rule id (Fail q)) v) { book = failed v.book }
@@ -209,7 +211,7 @@ module _ {B : Type 0} (r : Reading B) (e : Setup) (s : State (Option B) SeatView
         → Rule r e (record { words = slice_set s.words word (slice_index s.words word); homes = s.homes; views = set s.views id kept_view })
     missed_rule h word last other =
         subst (λ ws. Rule r e (record { words = ws; homes = s.homes; views = set s.views id w })) (sym (set-get_or s.words word 0))
-        (changed r e s rule id v is s.words s.homes w refl refl rule.linked rule.sized (rule.tied id v is) (rule.rests id v is) (λ k u other at. (rule.tied k u at, rule.rests k u at)) (rule.same_setup id v is) (lost r e s rule id v is there w q refl refl refl refl refl refl h last other))
+        (changed r e s rule id v is s.words s.homes w refl refl rule.linked rule.sized (rule.tied id v is) (rule.rests id v is) (λ k u other at. (rule.tied k u at, rule.rests k u at)) (rule.same_setup id v is) (lost r e s rule id v is there w q refl refl refl refl refl refl refl refl h last other))
       where
         w : SeatView
         w = kept_view
@@ -221,12 +223,14 @@ module _ {B : Type 0} (r : Reading B) (e : Setup) (slots id : ℕ) where
   stores me i x carries there done mine small = freed r e slots id (link_word i) (λ n. x) (λ n. link_stored (step slots (link_word i) x 0 none) me x) me carries (λ s rule count is fits.
       let v : SeatView = free me.0 in
       let log = log_after r e s rule id (StoreLink i (index_of x)) in
-      let w : SeatView = stored_view r e s rule id v is there i mine x in (
+      let w : SeatView = stored_view r e s rule id v is there i mine x in
+      let t : State (Option B) SeatView = record { words = set s.words (link_word i) x; homes = set s.homes i none; views = set s.views id w } in
+      let after_it : Rule r e t = stored_rule r e s rule id v is there i mine x refl small in (
         w,
         takes i None,
         rule.rests id v is i mine (λ o. let z : ◌≡◌ {A = ℕ} 0 (suc i) = o in absurd (omega arith)),
-        stored_rule r e s rule id v is there i mine x refl small,
-        (λ j h. let same : i ≡ j = omega (arith, h) in (ap (λ k. (record (noted log me.0) { out = suc k; out_link = x }, (k, None) ∷ [])) same, subst (λ k. Did me.0.log (StoreLink k (index_of x) ∷ []) log) same (did_after r e s rule id v is there done.named done.unsaid (StoreLink i (index_of x))))),
+        after_it,
+        (λ j h. let same : i ≡ j = omega (arith, h) in (ap (λ k. (record (noted log me.0) { out = suc k; out_link = x }, (k, None) ∷ [])) same, subst (λ k. Did me.0.log (StoreLink k (index_of x) ∷ []) log) same (did_after r e s rule id v is there done.named done.unsaid (StoreLink i (index_of x))), leads_now r e t after_it id w (set_here s.views id w (at_below s.views id v is)) there refl refl)),
       ))
 
   pub pushes :
@@ -261,16 +265,18 @@ module _ {B : Type 0} (r : Reading B) (e : Setup) (slots id : ℕ) where
               (λ h j c t. let one = one_carried i j b c (sym carried ∙ t) in
                   let a : (w, []) ≡ rested me log (pushed q j (r.items c) me.0.book) = λ k. rested me log (pushed q (one.0 k) (r.items (one.1 k)) me.0.book) in
                   let did = did_after r e s rule id v is there done.named done.unsaid (Push q i (r.items b)) in
-                  (subst (λ xs. (w, carried_after xs gives) ≡ rested me log (pushed q j (r.items c) me.0.book)) (sym carried) a, subst (λ (y : B). Did me.0.log (Push q j (r.items y) ∷ []) log) one.1 (subst (λ k. Did me.0.log (Push q k (r.items b) ∷ []) log) one.0 did))),
+                  let story : LeadsToBook w.log w.book = leads_now r e (record { words = set s.words (head_word q) new; homes = set s.homes i (some (Some b)); views = set s.views id w }) after_it id w (set_here s.views id w (at_below s.views id v is)) (omega (arith, there, share_pushed q i (r.items b) me.0.book)) refl refl in
+                  (subst (λ xs. (w, carried_after xs gives) ≡ rested me log (pushed q j (r.items c) me.0.book)) (sym carried) a, subst (λ (y : B). Did me.0.log (Push q j (r.items y) ∷ []) log) one.1 (subst (λ k. Did me.0.log (Push q k (r.items b) ∷ []) log) one.0 did), story)),
               (λ miss. absurd (miss hit)),
             ),
           )
       go s rule is (no miss) =
           let n = slice_index s.words (head_word q) in
-          let w : SeatView = kept_view r e s rule id v is there i mine b out q in (
+          let w : SeatView = kept_view r e s rule id v is there i mine b out q in
+          let after_it : Rule r e (record { words = slice_set s.words (head_word q) n; homes = s.homes; views = set s.views id w }) = missed_rule r e s rule id v is there i mine b out q (head_of old) (head_word q) last (λ same. miss (one_head n old same)) in (
             w,
             keeps,
             tt,
-            subst (λ x. Rule r e (record { words = slice_set s.words (head_word q) x; homes = s.homes; views = set s.views id w })) (sym (exchange_miss n old new miss)) (missed_rule r e s rule id v is there i mine b out q (head_of old) (head_word q) last (λ same. miss (one_head n old same))),
-            ((λ hit j c t. absurd (miss hit)), (λ h. (refl, did_after r e s rule id v is there done.named done.unsaid (Fail q)))),
+            subst (λ x. Rule r e (record { words = slice_set s.words (head_word q) x; homes = s.homes; views = set s.views id w })) (sym (exchange_miss n old new miss)) after_it,
+            ((λ hit j c t. absurd (miss hit)), (λ h. (refl, did_after r e s rule id v is there done.named done.unsaid (Fail q), leads_now r e (record { words = slice_set s.words (head_word q) n; homes = s.homes; views = set s.views id w }) after_it id w (set_here s.views id w (at_below s.views id v is)) there refl refl))),
           )

@@ -14,6 +14,10 @@ use Rattle.mark_core.specs.World.{Setup}
 use Rattle.mark_core.specs.Runs.{first_heads, first_link}
 use Rattle.mark_core.specs.Runs as runs
 use Rattle.buffer_pool.specs.declared.seat_view.SeatView.{SeatView}
+use Rattle.mark_core.specs.Counts.{no_counts}
+use Rattle.mark_core.specs.Shares.{whole}
+use Rattle.buffer_pool.specs.Book.{new_book}
+use Rattle.buffer_pool.specs.Story.{LeadsToBook, first_log}
 use Rattle.buffer_pool.specs.Ranges.{IsInside}
 use Rattle.buffer_pool.specs.working.Laid.{IsLaid, IsSound}
 use Rattle.buffer_pool.specs.working.Setups.{first_view}
@@ -99,6 +103,10 @@ one_told : (w : ℕ) (v u : SeatView) → get_elem? (v ∷ []) w ≡ some u → 
 one_told zero v u at told = subst (IsTold [] 0) (some-injective v u at) told
 one_told (suc w) v u at told = absurd (some-ne-none u (sym at))
 
+-- the empty story leads to the first book
+first_story : (e : Setup) → LeadsToBook first_log (new_book e whole)
+first_story e = (runs.opening e e.first_tag, no_counts ∷ [], record { run = refl; counts = refl }, refl, refl)
+
 pub starts :
     {B : Type 0} (r : Reading B) (e : Setup) (words : List ℕ) (slots : List (Option B)) → 0 < e.buffers
     → HasFirstWords (32 + e.buffers + e.objects) e.first_tag e.buffers words → length slots ≡ e.buffers → All (IsFirstSlot r e.size) slots
@@ -117,7 +125,7 @@ starts {B} r e words slots some_buffer first count all =
           record {
             events = [];
             led = record { run = opened; counts = refl };
-            told = λ w v at there. one_told w (first_view e) v at (told_now [] 0 (first_view e) refl refl refl refl);
+            told = λ w v at there. one_told w (first_view e) v at (told_now [] 0 (first_view e) refl refl refl refl refl (first_story e));
           };
     }
   where
@@ -170,4 +178,4 @@ laid_first t e tag asked words slots word_count slot_count first count inside ro
 -- the first seat is sound
 pub sound_first : {B : Type 0} (t : TableId) (e : Setup) → IsLaid t e → IsSound {B = B} t (first_view e, [])
 sound_first t e laid =
-    record { laid = laid; share = omega arith; carries = refl; within = record { held = λ i k. absurd (omega (arith, k.1)); charge = λ o k. absurd (omega (arith, k.1)) }; settled = record { named = refl; unsaid = refl } }
+    record { laid = laid; share = omega arith; carries = refl; story = first_story e; within = record { held = λ i k. absurd (omega (arith, k.1)); charge = λ o k. absurd (omega (arith, k.1)) }; settled = record { named = refl; unsaid = refl } }

@@ -1,6 +1,10 @@
 -- A worker's log: what all workers of a pool did up to its last step, and what of that it did itself.
 use Rattle.std.specs.Prelude.{◌≡◌, ℕ, ◌==◌, if◌then◌else◌, List, [], ◌∷◌, ◌++◌}
+use Rattle.mark_core.specs.Lists.{StandsAt}
+use Rattle.mark_core.specs.World.{Marking}
 use Rattle.mark_core.specs.Event.{Kind, Event}
+use Rattle.mark_core.specs.Counts.{Counts, LeadTo}
+use Rattle.buffer_pool.specs.Book.{Book, counts_of}
 
 pub record Log : Type 0 where
   -- the worker's number among the accounts
@@ -29,3 +33,9 @@ IsNewcomer from new = ((more : List Event) × (new.story ≡ from.story ++ more)
 -- these events begin with the worker's story, and it did nothing since
 abbrev pub EndsStory : Log → List Event → Type 0
 EndsStory log events = (since : List Event) × (events ≡ log.story ++ since) × (deeds log.number since ≡ [])
+
+-- the story leads from the opening to a marking and counts in which the worker of this number has this book
+abbrev pub LeadsToBook : Log → Book → Type 0
+LeadsToBook log b =
+    (m : Marking) × (counts : List Counts) × LeadTo b.setup log.story m counts
+    × StandsAt m.accounts log.number b.account × StandsAt counts log.number (counts_of b)

@@ -1,7 +1,7 @@
 //! What a worker knows of its pool between two steps.
 ghost use Rattle.std.specs.Borrow.{ftrue};
-ghost use Rattle.std.specs.Prelude.{ℕ, Bool, List};
-ghost use Rattle.std.specs.Coded.{coded_bool, coded_list, coded_ℕ};
+ghost use Rattle.std.specs.Prelude.{ℕ, Bool, List, Option};
+ghost use Rattle.std.specs.Coded.{coded_bool, coded_list, coded_option, coded_ℕ};
 ghost use Rattle.mark_core.specs.Event.{Event, Kind};
 ghost use Rattle.buffer_pool.specs.Book.{Book};
 ghost use Rattle.buffer_pool.specs.working.Codes.{book_code, event_code, kind_code, log_code};
@@ -20,6 +20,8 @@ pub struct SeatView {
     pub ghost unsaid: { List Kind } by { coded_list kind_code },
     /// The story of a worker that it came from, or that it took in.
     pub ghost taken: { List Event } by { coded_list event_code },
+    /// The number of that worker.
+    pub ghost from: { Option ℕ } by { coded_option coded_ℕ },
     /// Whether the log has its number, as from its first step on.
     pub ghost named: { Bool } by { coded_bool },
     /// The units that it is about to give away.

@@ -23,11 +23,20 @@ impl<A: Allocator> Model for Worker<A> {
 
 impl<A: Allocator> Worker<A> {
     ghost use Rattle.buffer_pool.specs.Ranges.{IsWithin};
+    ghost use Rattle.buffer_pool.specs.Story.{LeadsToBook};
 
     /// What each worker keeps, said of this one: the buffers that it holds are the pool's, and what it answers for are
     /// objects. Nothing is done.
     pub fn stays_within(&self)
         ensures { IsWithin self.now.book.setup self.now.book.account }
+    {
+        let _seat = &self.seat;
+    }
+
+    /// What each worker keeps, said of this one: its story is a run from the opening of the pool, and at the end of it
+    /// the worker has its book. Nothing is done.
+    pub fn keeps_its_story(&self)
+        ensures { LeadsToBook self.now.log self.now.book }
     {
         let _seat = &self.seat;
     }

@@ -5,6 +5,7 @@ use Rattle.atomic_table.specs.Seated.{TableId}
 use Rattle.mark_core.specs.World.{Setup}
 use Rattle.buffer_pool.specs.declared.seat_view.SeatView.{SeatView}
 use Rattle.buffer_pool.specs.Ranges.{IsWithin}
+use Rattle.buffer_pool.specs.Story.{LeadsToBook}
 use Rattle.buffer_pool.specs.working.Table.{Carries}
 use Rattle.buffer_pool.specs.working.Told.{IsSettled}
 
@@ -25,6 +26,7 @@ pub record IsSound {B : Type 0} (t : TableId) (m : Me (Option B) SeatView) : Typ
   pub carries : Carries m
   pub within : IsWithin m.0.book.setup m.0.book.account
   pub settled : IsSettled m.0
+  pub story : LeadsToBook m.0.log m.0.book
 
 -- a seat keeps its table and its number
 pub record IsSameSeat (old_table new_table : TableId) (old_id new_id : ℕ) : Type 0 where

@@ -1,6 +1,6 @@
 -- What each step on the table tells the worker that makes it: of the step, the seat before, the number found and the
 -- seat after.
-use Rattle.std.specs.Prelude.{Contains, ◌≡◌, ℕ, suc, ◌<◌, ◌≤◌, true, false, List, [], ◌∷◌, ◌++◌, length, Option, Some, None}
+use Rattle.std.specs.Prelude.{Contains, ◌≡◌, ◌≢◌, ℕ, suc, ◌<◌, ◌≤◌, true, false, List, [], ◌∷◌, ◌++◌, length, Option, Some, None}
 use Rattle.atomic_table.specs.Table.{Me, Step}
 use Rattle.tagged_index.specs.Head.{head_of, index_of, after, last_tag}
 use Rattle.mark_core.specs.declared.which.Which.{Which}
@@ -13,7 +13,7 @@ use Rattle.mark_core.specs.Runs.{HasEachOnce}
 use Rattle.buffer_pool.specs.declared.seat_view.SeatView.{SeatView}
 use Rattle.buffer_pool.specs.Book.{Book, loaded, link_loaded, failed, popped, pushed, claimed, finished, idled, woken, idle_loaded}
 use Rattle.buffer_pool.specs.Calls.{Shows}
-use Rattle.buffer_pool.specs.Story.{Log, Did, deeds}
+use Rattle.buffer_pool.specs.Story.{Log, Did, EndsStory, LeadsToBook, deeds}
 use Rattle.buffer_pool.specs.working.Told.{IsSettled, noted}
 use Rattle.buffer_pool.specs.working.Table.{Reading, head_word, link_word, mark_word, free}
 
@@ -48,6 +48,10 @@ pub record CanPut
 abbrev pub Tells : {B : Type 0} → Me (Option B) SeatView → List Kind → Me (Option B) SeatView → Type 0
 Tells m kinds after = Did m.0.log kinds after.0.log
 
+-- the seat's story leads to its book
+abbrev pub Leads : {B : Type 0} → Me (Option B) SeatView → Type 0
+Leads after = LeadsToBook after.0.log after.0.book
+
 module _ {B : Type 0} where
   -- a load of a head: the slot that was out goes home
   abbrev pub head_seen : Step (Option B) → Me (Option B) SeatView → ℕ → Me (Option B) SeatView → Type 0
@@ -55,19 +59,20 @@ module _ {B : Type 0} where
       (q : Which) → st.word ≡ head_word q
       → (after ≡ rested m after.0.log (loaded q (head_of n) m.0.book))
       × ((i : ℕ) → (head_of n).index ≡ Some i → i < m.0.book.setup.buffers) × Tells m (Load q ∷ []) after
+      × Leads after
 
   -- a load of the link of the last head's buffer
   abbrev pub link_seen : Which → Step (Option B) → Me (Option B) SeatView → ℕ → Me (Option B) SeatView → Type 0
   link_seen q st m n after =
       (after ≡ rested m after.0.log (link_loaded q (index_of n) m.0.book)) × (n ≤ m.0.book.setup.buffers)
-      × Tells m (LoadLink q ∷ []) after
+      × Tells m (LoadLink q ∷ []) after × Leads after
 
   -- a store of the link of a held buffer: its slot comes out
   abbrev pub link_stored : Step (Option B) → Me (Option B) SeatView → ℕ → Me (Option B) SeatView → Type 0
   link_stored st m n after =
       (i : ℕ) → st.word ≡ link_word i
       → (after ≡ (record (noted after.0.log m.0) { out = suc i; out_link = n }, (i, None) ∷ []))
-      × Tells m (StoreLink i (index_of n) ∷ []) after
+      × Tells m (StoreLink i (index_of n) ∷ []) after × Leads after
 
   -- an exchange of a head for the link of its buffer i has won: the buffer comes out, and its slot has this value
   pub record HasTaken
@@ -79,10 +84,11 @@ module _ {B : Type 0} where
     pub bare : q ≡ Empty → r.items b ≡ []
     pub settled : IsSettled after.0
     pub did : Tells m (Pop q ∷ []) after
+    pub story : Leads after
 
   -- an exchange of a head has failed, and the seat has no slot out
   abbrev pub HasMissed : Which → Me (Option B) SeatView → Me (Option B) SeatView → Type 0
-  HasMissed q m after = (after ≡ rested m after.0.log (failed m.0.book)) × Tells m (Fail q ∷ []) after
+  HasMissed q m after = (after ≡ rested m after.0.log (failed m.0.book)) × Tells m (Fail q ∷ []) after × Leads after
 
   -- an exchange of a head for its buffer's link: it pops, or it has failed
   abbrev pub pop_tried : Reading B → Step (Option B) → Me (Option B) SeatView → ℕ → Me (Option B) SeatView → Type 0
@@ -94,12 +100,13 @@ module _ {B : Type 0} where
   -- an exchange of a head for the buffer i has won: its slot goes home with it
   abbrev pub HasPushed : Which → ℕ → List ℕ → Me (Option B) SeatView → Me (Option B) SeatView → Type 0
   HasPushed q i items m after =
-      (after ≡ rested m after.0.log (pushed q i items m.0.book)) × Tells m (Push q i items ∷ []) after
+      (after ≡ rested m after.0.log (pushed q i items m.0.book)) × Tells m (Push q i items ∷ []) after × Leads after
 
   -- it has failed, and the slots that are out stay out
   abbrev pub HasKept : Which → List (ℕ × Option B) → Me (Option B) SeatView → Me (Option B) SeatView → Type 0
   HasKept q slots m after =
       (after ≡ (record (noted after.0.log m.0) { book = failed m.0.book }, slots)) × Tells m (Fail q ∷ []) after
+      × Leads after
 
   -- an exchange of a head for a held buffer: the slot goes home with it, or the exchange has failed
   abbrev pub push_tried :
@@ -112,39 +119,45 @@ module _ {B : Type 0} where
   abbrev pub claim_made : Step (Option B) → Me (Option B) SeatView → ℕ → Me (Option B) SeatView → Type 0
   claim_made st m n after =
       (o : ℕ) → st.word ≡ mark_word m.0.book.setup o
-      → (after ≡ rested m after.0.log (claimed o n m.0.book)) × Tells m (Claim o ∷ []) after
+      → (after ≡ rested m after.0.log (claimed o n m.0.book)) × Tells m (Claim o ∷ []) after × Leads after
 
   -- a finish
   abbrev pub finish_made : Step (Option B) → Me (Option B) SeatView → ℕ → Me (Option B) SeatView → Type 0
   finish_made st m n after =
       (o : ℕ) → st.word ≡ mark_word m.0.book.setup o
       → (after ≡ rested m after.0.log (finished o m.0.book)) × ((p : ℕ) → times p after.0.book.account.finished ≤ 1)
-      × Tells m (Finish o ∷ []) after
+      × Tells m (Finish o ∷ []) after × Leads after
 
   -- the worker went idle, or came back
   abbrev pub went_idle : Step (Option B) → Me (Option B) SeatView → ℕ → Me (Option B) SeatView → Type 0
-  went_idle st m n after = (after ≡ rested m after.0.log (idled m.0.book)) × Tells m (IdleUp ∷ []) after
+  went_idle st m n after = (after ≡ rested m after.0.log (idled m.0.book)) × Tells m (IdleUp ∷ []) after × Leads after
 
   abbrev pub came_back : Step (Option B) → Me (Option B) SeatView → ℕ → Me (Option B) SeatView → Type 0
-  came_back st m n after = (after ≡ rested m after.0.log (woken m.0.book)) × Tells m (IdleDown ∷ []) after
+  came_back st m n after = (after ≡ rested m after.0.log (woken m.0.book)) × Tells m (IdleDown ∷ []) after × Leads after
 
   -- the idle word was loaded: the worker's story leads to a marking that has it
   abbrev pub idle_seen : Step (Option B) → Me (Option B) SeatView → ℕ → Me (Option B) SeatView → Type 0
   idle_seen st m n after =
       (after ≡ rested m after.0.log (idle_loaded n m.0.book)) × Tells m (LoadIdle ∷ []) after
-      × Shows m.0.book.setup after.0.log.story n
+      × Shows m.0.book.setup after.0.log.story n × Leads after
 
   -- the units of a split were noted
   abbrev pub set_aside : Step (Option B) → Me (Option B) SeatView → ℕ → Me (Option B) SeatView → Type 0
   set_aside st m n after = (after ≡ (record (noted after.0.log (free m.0)) { aside = st.first }, [])) × Tells m [] after
 
   -- The slot that was out went home, and the account has each thing once. The log is up to date: it tells what was
-  -- noted, and goes on from the story that was taken in; and a worker that learns its number just now did nothing
+  -- noted, and goes on from the story that was taken in. That story is another worker's, who did nothing more where it
+  -- was joined; and a worker that learns its number just now did nothing
   pub record IsUpToDate (m after : Me (Option B) SeatView) : Type 0 where
     pub same : after ≡ (noted after.0.log (free m.0), [])
     pub each : HasEachOnce m.0.book.account
     pub did : m.0.named ≡ true → Tells m m.0.unsaid after
+    pub story : Leads after
     pub knows : (more : List Event) × (after.0.log.story ≡ m.0.taken ++ more)
+    pub apart : (n : ℕ) → m.0.from ≡ Some n → n ≢ after.0.log.number
+    pub ended :
+        m.0.named ≡ true → (n : ℕ) → m.0.from ≡ Some n
+        → EndsStory (record { number = n; story = m.0.taken }) after.0.log.story
     pub fresh : m.0.named ≡ false → deeds after.0.log.number after.0.log.story ≡ []
 
   abbrev pub settled : Step (Option B) → Me (Option B) SeatView → ℕ → Me (Option B) SeatView → Type 0

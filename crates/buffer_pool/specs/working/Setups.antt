@@ -1,5 +1,5 @@
 -- The setup that a key says, and the views at a start, a split and a join.
-use Rattle.std.specs.Prelude.{true, false, [], ◌∷◌, ◌++◌}
+use Rattle.std.specs.Prelude.{true, false, [], ◌∷◌, ◌++◌, Some, None}
 use Rattle.mark_core.specs.Shares.{whole}
 use Rattle.mark_core.specs.World.{Setup}
 use Rattle.mark_core.specs.Event.{Split, Join}
@@ -27,6 +27,7 @@ view_with b =
       log = first_log;
       unsaid = [];
       taken = [];
+      from = None;
       named = false;
       aside = 0;
       out = 0;
@@ -42,12 +43,17 @@ abbrev pub kept_part : SeatView → SeatView
 kept_part v = record v { book = parted v.aside v.book; unsaid = v.unsaid ++ Split v.aside ∷ []; aside = 0 }
 
 abbrev pub given_part : SeatView → SeatView
-given_part v = record (view_with (new_book v.book.setup v.aside)) { taken = v.log.story }
+given_part v = record (view_with (new_book v.book.setup v.aside)) { taken = v.log.story; from = Some v.log.number }
 
 -- what two workers put together have; the first one's slot and log stay as they are, and the join is noted
 abbrev pub joined_view : SeatView → SeatView → SeatView
 joined_view v w =
-    record v { book = joined v.book w.book; unsaid = v.unsaid ++ Join w.log.number ∷ []; taken = w.log.story }
+    record v {
+      book = joined v.book w.book;
+      unsaid = v.unsaid ++ Join w.log.number ∷ [];
+      taken = w.log.story;
+      from = Some w.log.number;
+    }
 
 abbrev pub no_share_view : SeatView
 no_share_view = view_with no_share_book

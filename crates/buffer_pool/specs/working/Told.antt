@@ -1,9 +1,18 @@
 -- What a view tells of the events that led to a table.
-use Rattle.std.specs.Prelude.{◌≡◌, ℕ, ◌<◌, true, false, List, [], ◌++◌}
+use Rattle.std.specs.Prelude.{◌≡◌, ◌≢◌, ℕ, ◌<◌, true, false, List, [], ◌∷◌, ◌++◌, Some, None}
 use Rattle.mark_core.specs.Lists.{StandsAt}
-use Rattle.mark_core.specs.Event.{Event}
+use Rattle.mark_core.specs.Event.{Event, Join}
 use Rattle.buffer_pool.specs.declared.seat_view.SeatView.{SeatView}
-use Rattle.buffer_pool.specs.Story.{Log, deeds}
+use Rattle.buffer_pool.specs.Story.{Log, LeadsToBook, deeds}
+
+-- the worker n, whose story this is, did nothing more until another one took it in
+pub record IsTakenIn (events : List Event) (n : ℕ) (story : List Event) : Type 0 where
+  pub quiet : List Event
+  pub by : ℕ
+  pub later : List Event
+  pub all : events ≡ (story ++ quiet) ++ record { worker = by; kind = Join n } ∷ later
+  pub other : by ≢ n
+  pub nothing : deeds n quiet ≡ []
 
 -- the view of the worker w: its log is a beginning of the events
 pub record IsTold (events : List Event) (w : ℕ) (v : SeatView) : Type 0 where
@@ -14,8 +23,13 @@ pub record IsTold (events : List Event) (w : ℕ) (v : SeatView) : Type 0 where
   pub unsaid : deeds w since ≡ v.unsaid
   -- the story that it took in is a beginning, too
   pub taken : (more : List Event) × (events ≡ v.taken ++ more)
+  -- it is another's, who did nothing after it where it was taken in
+  pub apart : (n : ℕ) → v.from ≡ Some n → n ≢ w
+  pub ended : v.named ≡ true → (n : ℕ) → v.from ≡ Some n → IsTakenIn events n v.taken
   -- a worker that does not know its number did nothing
   pub fresh : v.named ≡ false → deeds w events ≡ []
+  -- its story leads to its book, where it has said all that it did
+  pub leads : v.named ≡ true → v.unsaid ≡ [] → LeadsToBook v.log v.book
 
 -- so it is with each view that has a share
 abbrev pub AreTold : List Event → List SeatView → Type 0
@@ -23,7 +37,7 @@ AreTold events views = (w : ℕ) (v : SeatView) → StandsAt views w v → 0 < v
 
 -- the view once its log has these events, and nothing is left to say
 abbrev pub noted : Log → SeatView → SeatView
-noted log v = record v { log = log; unsaid = []; taken = []; named = true }
+noted log v = record v { log = log; unsaid = []; taken = []; from = None; named = true }
 
 -- it knows its number, and nothing is left to say
 pub record IsSettled (v : SeatView) : Type 0 where

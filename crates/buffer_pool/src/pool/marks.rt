@@ -87,7 +87,8 @@ impl<A: Allocator> Pool<A> {
         requires share { worker.book.account.share ≡ whole }
         requires held { worker.book.account.held ≡ [] }
         requires charge { worker.book.account.charge ≡ [] }
-        ensures { (ends : Ends worker.book result) × EndsStory worker.log ends.events }
+        ensures { (ends : Ends worker.book result) × EndsStory worker.log ends.events
+            × (ends.own.0 ≡ worker.log.number) }
     {
         let Pool { table, buffers } = self;
         let Worker { seat } = worker;

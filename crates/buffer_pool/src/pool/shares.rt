@@ -1,11 +1,11 @@
 //! How a worker's share is cut in two, and how two workers become one.
-ghost use Rattle.std.specs.Prelude.{◌≡◌, ℕ, ◌<◌, ◌≤◌, List, [], ◌∷◌, ◌++◌};
-ghost use Rattle.mark_core.specs.Event.{Event, Split, Join};
+ghost use Rattle.std.specs.Prelude.{◌≡◌, ◌≢◌, ℕ, ◌<◌, ◌≤◌, [], ◌∷◌};
+ghost use Rattle.mark_core.specs.Event.{Split, Join};
 ghost use Rattle.mark_core.specs.Lists.{times};
 ghost use Rattle.mark_core.specs.Runs.{AreApart};
 ghost use Rattle.buffer_pool.specs.Book.{joined, new_book, parted};
 ghost use Rattle.buffer_pool.specs.working.Laid.{IsSound};
-ghost use Rattle.buffer_pool.specs.Story.{Did, IsNewcomer};
+ghost use Rattle.buffer_pool.specs.Story.{Did, EndsStory, IsNewcomer};
 
 use crate::plays::{SetAside, Settle};
 use crate::pool::Pool;
@@ -25,6 +25,7 @@ fn give_part<A: Allocator>(words: &Words<A>, seat: &mut Token<A>, units: u64) ->
     ensures given { IsSound result.table_id result.me × (result.me.0.book ≡ new_book seat.old.me.0.book.setup units) }
     ensures did { Did seat.old.me.0.log (Split units ∷ []) seat.new.me.0.log }
     ensures new { IsNewcomer seat.old.me.0.log result.me.0.log }
+    ensures apart { result.me.0.log.number ≢ seat.new.me.0.log.number }
 {
     words.compare_exchange::<SetAside>(seat, 0, units, units);
     let mut other = words.split_seat::<GivePart>(seat);
@@ -43,7 +44,7 @@ fn take_in<A: Allocator>(words: &Words<A>, seat: &mut Token<A>, mut other: Token
     ensures apart { AreApart seat.old.me.0.book.account other.me.0.book.account }
     ensures once { (o : ℕ) → times o seat.new.me.0.book.account.finished ≤ 1 }
     ensures did { Did seat.old.me.0.log (Join other.me.0.log.number ∷ []) seat.new.me.0.log }
-    ensures knows { (more : List Event) × (seat.new.me.0.log.story ≡ other.me.0.log.story ++ more) }
+    ensures knows { EndsStory other.me.0.log seat.new.me.0.log.story }
 {
     words.load::<Settle>(&mut other, 0);
     words.join_seat::<TakeIn>(seat, other);
@@ -60,6 +61,7 @@ impl<A: Allocator> Pool<A> {
         ensures second { result.1 ≡ record worker { book = new_book worker.book.setup units; log = result.1.log } }
         ensures did { Did worker.log (Split units ∷ []) result.0.log }
         ensures new { IsNewcomer worker.log result.1.log }
+        ensures apart { result.1.log.number ≢ result.0.log.number }
     {
         let Worker { mut seat } = worker;
         let other = give_part(&self.table.shared, &mut seat, u64::from(units));
@@ -74,7 +76,7 @@ impl<A: Allocator> Pool<A> {
         ensures apart { AreApart worker.book.account other.book.account }
         ensures once { (o : ℕ) → times o result.book.account.finished ≤ 1 }
         ensures did { Did worker.log (Join other.log.number ∷ []) result.log }
-        ensures knows { (more : List Event) × (result.log.story ≡ other.log.story ++ more) }
+        ensures knows { EndsStory other.log result.log.story }
     {
         let Worker { mut seat } = worker;
         let Worker { seat: other } = other;

@@ -11,7 +11,8 @@ ghost use Rattle.buffer_pool.specs.working.Buffers.{buffer_reading};
 ghost use Rattle.buffer_pool.specs.Book.{link_loaded, loaded};
 ghost use Rattle.buffer_pool.specs.Calls.{MayPush};
 ghost use Rattle.buffer_pool.specs.working.Laid.{IsBare, IsLaid, IsSound};
-ghost use Rattle.buffer_pool.specs.working.Plays.{CanPut, HasKept, HasMissed, HasPushed, HasTaken, Tells, push_tried, rested};
+ghost use Rattle.buffer_pool.specs.working.Plays.{CanPut, HasKept, HasMissed, HasPushed, HasTaken, Leads, Tells};
+ghost use Rattle.buffer_pool.specs.working.Plays.{push_tried, rested};
 ghost use Rattle.buffer_pool.specs.working.Setups.{setup_of};
 ghost use Rattle.buffer_pool.specs.working.Told.{IsSettled, noted};
 
@@ -57,6 +58,7 @@ pub(crate) fn load_link<A: Allocator>(
     ensures same { (seat.new.table_id ≡ seat.old.table_id) × (seat.new.id ≡ seat.old.id) }
     ensures told { seat.new.me ≡ rested seat.old.me seat.new.me.0.log (link_loaded which result seat.old.me.0.book) }
     ensures did { Tells seat.old.me (LoadLink which ∷ []) seat.new.me }
+    ensures story { Leads seat.new.me }
     ensures within { ForSome result (λ i. i < seat.old.me.0.book.setup.buffers) }
 {
     let word = FIRST_LINK + index as usize;
@@ -129,6 +131,7 @@ pub(crate) fn store_link<A: Allocator>(
           (index, None) ∷ [],
         ) }
     ensures did { Tells seat.old.me (StoreLinkOf index head.index ∷ []) seat.new.me }
+    ensures story { Leads seat.new.me }
 {
     words.store::<StoreLink>(seat, FIRST_LINK + index as usize, link_to(head));
 }

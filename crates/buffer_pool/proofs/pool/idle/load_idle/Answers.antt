@@ -1,11 +1,11 @@
 -- The step keeps the rule, and is the event.
-use Rattle.std.proofs.Common.{◌≡◌, ap, arith}
+use Rattle.std.proofs.Common.{arith}
 use Rattle.buffer_pool.specs.Book.{idle_loaded}
 use Rattle.buffer_pool.specs.working.Buffers.{buffer_reading}
 use Rattle.buffer_pool.specs.working.Plays.{rested}
 use Rattle.buffer_pool.specs.working.Setups.{setup_of}
 use Rattle.buffer_pool.proofs.Idles.{sees_idle}
-use Rattle.buffer_pool.proofs.Sound.{sound_idle_loaded, sound_same}
+use Rattle.buffer_pool.proofs.Sound.{same_story, sound_idle_loaded, sound_same}
 use Rattle.buffer_pool.proofs.pool.idle.load_idle.Goals as goal
 
 pub load-requires : goal.load-requires
@@ -24,5 +24,8 @@ returns-clause-sound g c =
     let me = c.args.seat.now.me in
     let new = c.load.new.seat in
     let log = new.me.0.log in
-    sound_same c.args.seat.now.table_id new.table_id new.me (rested me log (idle_loaded c.load.result me.0.book))
-    (sound_idle_loaded c.args.seat.now.table_id me c.requires.sound log c.load.result) c.load.ensures.0 c.load.ensures.2.0
+    let after = rested me log (idle_loaded c.load.result me.0.book) in
+    let told = c.load.ensures.2 in
+    let story = same_story new.me after told.0 told.3 in
+    sound_same c.args.seat.now.table_id new.table_id new.me after
+    (sound_idle_loaded c.args.seat.now.table_id me c.requires.sound log c.load.result story) c.load.ensures.0 told.0

@@ -9,7 +9,7 @@ use Rattle.buffer_pool.specs.working.Plays.{claim_made, rested}
 use Rattle.buffer_pool.specs.working.Setups.{setup_of}
 use Rattle.buffer_pool.specs.working.Table.{Rule, mark_word}
 use Rattle.buffer_pool.proofs.Claims.{claims, claimable_within}
-use Rattle.buffer_pool.proofs.Sound.{sound_claimed, sound_same}
+use Rattle.buffer_pool.proofs.Sound.{same_story, sound_claimed, sound_same}
 use Rattle.buffer_pool.proofs.pool.marking.raise_to_claimed.Goals as goal
 
 pub fetch_max-requires : goal.fetch_max-requires
@@ -36,7 +36,7 @@ returns-clause-sound g c =
     let b : me.0.book.setup.buffers ≡ e.buffers = omega (arith, slots, c.requires.table.1.slots, c.requires.sound.laid.slots) in
     let word : 32 + c.args.buffers + c.args.object ≡ mark_word me.0.book.setup c.args.object = omega (arith, c.requires.table.2, b) in
     sound_same c.args.seat.now.table_id c.fetch_max.new.seat.table_id c.fetch_max.new.seat.me (rested me c.fetch_max.new.seat.me.0.log (claimed c.args.object c.fetch_max.result me.0.book))
-    (sound_claimed c.args.seat.now.table_id me c.requires.sound c.fetch_max.new.seat.me.0.log c.args.object c.fetch_max.result (claimable_within c.args.seat.now.table_id me.0.book.setup me.0.book.account c.args.object c.requires.sound.laid c.requires.can)) c.fetch_max.ensures.0 (c.fetch_max.ensures.2 c.args.object word).0
+    (sound_claimed c.args.seat.now.table_id me c.requires.sound c.fetch_max.new.seat.me.0.log c.args.object c.fetch_max.result (claimable_within c.args.seat.now.table_id me.0.book.setup me.0.book.account c.args.object c.requires.sound.laid c.requires.can) (same_story c.fetch_max.new.seat.me (rested me c.fetch_max.new.seat.me.0.log (claimed c.args.object c.fetch_max.result me.0.book)) (c.fetch_max.ensures.2 c.args.object word).0 (c.fetch_max.ensures.2 c.args.object word).2)) c.fetch_max.ensures.0 (c.fetch_max.ensures.2 c.args.object word).0
 
 pub returns-clause-told : goal.returns-clause-told
 returns-clause-told g c =

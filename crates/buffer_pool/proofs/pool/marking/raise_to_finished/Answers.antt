@@ -10,7 +10,7 @@ use Rattle.buffer_pool.specs.working.Plays.{finish_made, rested}
 use Rattle.buffer_pool.specs.working.Setups.{setup_of}
 use Rattle.buffer_pool.specs.working.Table.{Rule, mark_word}
 use Rattle.buffer_pool.proofs.Claims.{finishes}
-use Rattle.buffer_pool.proofs.Sound.{sound_finished, sound_same}
+use Rattle.buffer_pool.proofs.Sound.{same_story, sound_finished, sound_same}
 use Rattle.buffer_pool.proofs.pool.marking.raise_to_finished.Goals as goal
 
 pub fetch_max-requires : goal.fetch_max-requires
@@ -37,7 +37,7 @@ returns-clause-sound g c =
     let b : me.0.book.setup.buffers ≡ e.buffers = omega (arith, slots, c.requires.table.1.slots, c.requires.sound.laid.slots) in
     let word : 32 + c.args.buffers + c.args.object ≡ mark_word me.0.book.setup c.args.object = omega (arith, c.requires.table.2, b) in
     sound_same c.args.seat.now.table_id c.fetch_max.new.seat.table_id c.fetch_max.new.seat.me (rested me c.fetch_max.new.seat.me.0.log (finished c.args.object me.0.book))
-    (sound_finished c.args.seat.now.table_id me c.requires.sound c.fetch_max.new.seat.me.0.log c.args.object (stands_times me.0.book.account.charge c.args.object c.requires.can.0)) c.fetch_max.ensures.0 (c.fetch_max.ensures.2 c.args.object word).0
+    (sound_finished c.args.seat.now.table_id me c.requires.sound c.fetch_max.new.seat.me.0.log c.args.object (stands_times me.0.book.account.charge c.args.object c.requires.can.0) (same_story c.fetch_max.new.seat.me (rested me c.fetch_max.new.seat.me.0.log (finished c.args.object me.0.book)) (c.fetch_max.ensures.2 c.args.object word).0 (c.fetch_max.ensures.2 c.args.object word).3)) c.fetch_max.ensures.0 (c.fetch_max.ensures.2 c.args.object word).0
 
 pub returns-clause-told : goal.returns-clause-told
 returns-clause-told g c =

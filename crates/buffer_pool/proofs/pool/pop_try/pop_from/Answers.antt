@@ -6,7 +6,7 @@ use Rattle.buffer_pool.specs.working.Plays.{rested}
 use Rattle.buffer_pool.proofs.Loads.{setup_loaded}
 use Rattle.mark_core.specs.Event.{Load, LoadLink, Pop, Fail}
 use Rattle.buffer_pool.proofs.Deeds.{did_three}
-use Rattle.buffer_pool.proofs.Sound.{sound_loaded, sound_linked, sound_failed, sound_popped, sound_same, bare_rested}
+use Rattle.buffer_pool.proofs.Sound.{same_story, sound_linked, sound_failed, sound_popped, sound_same, bare_rested}
 use Rattle.buffer_pool.proofs.pool.pop_try.pop_from.Goals as goal
 
 pub returns-in_default-clause-sound : goal.returns-in_default-clause-sound
@@ -15,7 +15,7 @@ returns-in_default-clause-sound g c =
     let me = c.args.seat.now.me in
     let q = c.args.which in
     let h = c.load_head-head.result in
-    sound_same t c.load_head-head.new.seat.table_id c.load_head-head.new.seat.me (rested me c.load_head-head.new.seat.me.0.log (loaded q h me.0.book)) (sound_loaded t me c.requires.sound c.load_head-head.new.seat.me.0.log q h) c.load_head-head.ensures.same.0 c.load_head-head.ensures.told
+    c.load_head-head.ensures.sound
 
 pub returns-then-tag-eq-LAST_TAG-clause-sound : goal.returns-then-tag-eq-LAST_TAG-clause-sound
 returns-then-tag-eq-LAST_TAG-clause-sound g c =
@@ -23,7 +23,7 @@ returns-then-tag-eq-LAST_TAG-clause-sound g c =
     let me = c.args.seat.now.me in
     let q = c.args.which in
     let h = c.load_head-head.result in
-    sound_same t c.load_head-head.new.seat.table_id c.load_head-head.new.seat.me (rested me c.load_head-head.new.seat.me.0.log (loaded q h me.0.book)) (sound_loaded t me c.requires.sound c.load_head-head.new.seat.me.0.log q h) c.load_head-head.ensures.same.0 c.load_head-head.ensures.told
+    c.load_head-head.ensures.sound
 
 pub load_link-link-requires-clause-sound : goal.load_link-link-requires-clause-sound
 load_link-link-requires-clause-sound g c =
@@ -31,7 +31,7 @@ load_link-link-requires-clause-sound g c =
     let me = c.args.seat.now.me in
     let q = c.args.which in
     let h = c.load_head-head.result in (
-      sound_same t c.load_head-head.new.seat.table_id c.load_head-head.new.seat.me (rested me c.load_head-head.new.seat.me.0.log (loaded q h me.0.book)) (sound_loaded t me c.requires.sound c.load_head-head.new.seat.me.0.log q h) c.load_head-head.ensures.same.0 c.load_head-head.ensures.told,
+      c.load_head-head.ensures.sound,
       bare_rested c.load_head-head.new.seat.me me c.load_head-head.new.seat.me.0.log (loaded q h me.0.book) c.load_head-head.ensures.told,
     )
 
@@ -44,8 +44,8 @@ take_top-requires-clause-sound g c =
     let l = c.load_link-link.result in
     let one = c.load_head-head.new.seat in
     let two = c.load_link-link.new.seat in
-    let first = sound_same t one.table_id one.me (rested me c.load_head-head.new.seat.me.0.log (loaded q h me.0.book)) (sound_loaded t me c.requires.sound c.load_head-head.new.seat.me.0.log q h) c.load_head-head.ensures.same.0 c.load_head-head.ensures.told in (
-      sound_same one.table_id two.table_id two.me (rested one.me two.me.0.log (link_loaded q l one.me.0.book)) (sound_linked one.table_id one.me first two.me.0.log q l) c.load_link-link.ensures.same.0 c.load_link-link.ensures.told,
+    let first = c.load_head-head.ensures.sound in (
+      sound_same one.table_id two.table_id two.me (rested one.me two.me.0.log (link_loaded q l one.me.0.book)) (sound_linked one.table_id one.me first two.me.0.log q l (same_story two.me (rested one.me two.me.0.log (link_loaded q l one.me.0.book)) c.load_link-link.ensures.told c.load_link-link.ensures.story)) c.load_link-link.ensures.same.0 c.load_link-link.ensures.told,
       bare_rested two.me one.me two.me.0.log (link_loaded q l one.me.0.book) c.load_link-link.ensures.told,
     )
 
@@ -61,11 +61,11 @@ returns-in-Some-take_top-clause-sound g c =
     let three = c.take_top.new.seat in
     let b = c.in-Some-take_top.buffer in
     let told = c.in-Some-take_top.ensures.told in
-    let first = sound_same t one.table_id one.me (rested me c.load_head-head.new.seat.me.0.log (loaded q h me.0.book)) (sound_loaded t me c.requires.sound c.load_head-head.new.seat.me.0.log q h) c.load_head-head.ensures.same.0 c.load_head-head.ensures.told in
-    let second = sound_same one.table_id two.table_id two.me (rested one.me two.me.0.log (link_loaded q l one.me.0.book)) (sound_linked one.table_id one.me first two.me.0.log q l) c.load_link-link.ensures.same.0 c.load_link-link.ensures.told in
+    let first = c.load_head-head.ensures.sound in
+    let second = sound_same one.table_id two.table_id two.me (rested one.me two.me.0.log (link_loaded q l one.me.0.book)) (sound_linked one.table_id one.me first two.me.0.log q l (same_story two.me (rested one.me two.me.0.log (link_loaded q l one.me.0.book)) c.load_link-link.ensures.told c.load_link-link.ensures.story)) c.load_link-link.ensures.same.0 c.load_link-link.ensures.told in
     let setup : two.me.0.book.setup ≡ me.0.book.setup = (λ k. (c.load_link-link.ensures.told k).0.book.setup) ∙ (λ k. (c.load_head-head.ensures.told k).0.book.setup) ∙ setup_loaded q h me.0.book in
     let below = subst (λ (e : Setup). c.in-Some.index < e.buffers) (sym setup) (c.load_head-head.ensures.within c.in-Some.index (sym c.in-Some.ensures.same)) in
-    sound_same two.table_id three.table_id three.me three.me (sound_popped two.table_id two.me second three.me c.in-Some.index b.items.items below told.ours.objects told.slots told.out told.book told.settled) c.take_top.ensures.same.0 refl
+    sound_same two.table_id three.table_id three.me three.me (sound_popped two.table_id two.me second three.me c.in-Some.index b.items.items below told.ours.objects told.slots told.out told.book told.settled told.story) c.take_top.ensures.same.0 refl
 
 pub returns-in-None-clause-sound : goal.returns-in-None-clause-sound
 returns-in-None-clause-sound g c =
@@ -77,9 +77,9 @@ returns-in-None-clause-sound g c =
     let one = c.load_head-head.new.seat in
     let two = c.load_link-link.new.seat in
     let three = c.take_top.new.seat in
-    let first = sound_same t one.table_id one.me (rested me c.load_head-head.new.seat.me.0.log (loaded q h me.0.book)) (sound_loaded t me c.requires.sound c.load_head-head.new.seat.me.0.log q h) c.load_head-head.ensures.same.0 c.load_head-head.ensures.told in
-    let second = sound_same one.table_id two.table_id two.me (rested one.me two.me.0.log (link_loaded q l one.me.0.book)) (sound_linked one.table_id one.me first two.me.0.log q l) c.load_link-link.ensures.same.0 c.load_link-link.ensures.told in
-    sound_same two.table_id three.table_id three.me (rested two.me three.me.0.log (failed two.me.0.book)) (sound_failed two.table_id two.me second three.me.0.log) c.take_top.ensures.same.0 c.in-None.ensures.told.0
+    let first = c.load_head-head.ensures.sound in
+    let second = sound_same one.table_id two.table_id two.me (rested one.me two.me.0.log (link_loaded q l one.me.0.book)) (sound_linked one.table_id one.me first two.me.0.log q l (same_story two.me (rested one.me two.me.0.log (link_loaded q l one.me.0.book)) c.load_link-link.ensures.told c.load_link-link.ensures.story)) c.load_link-link.ensures.same.0 c.load_link-link.ensures.told in
+    sound_same two.table_id three.table_id three.me (rested two.me three.me.0.log (failed two.me.0.book)) (sound_failed two.table_id two.me second three.me.0.log (same_story three.me (rested two.me three.me.0.log (failed two.me.0.book)) c.in-None.ensures.told.0 c.in-None.ensures.told.2)) c.take_top.ensures.same.0 c.in-None.ensures.told.0
 
 pub returns-in-Some-take_top-clause-did : goal.returns-in-Some-take_top-clause-did
 returns-in-Some-take_top-clause-did g c =

@@ -1,10 +1,11 @@
-use Rattle.std.proofs.Common.{◌∙◌, ap, refl, Option, arith}
+use Rattle.std.proofs.Common.{◌∙◌, ap, refl, sym, Option, arith}
 use Rattle.atomic_table.specs.Table.{Me}
 use Rattle.atomic_table.specs.Seated.{TableId}
 use Rattle.buffer_pool.specs.declared.buffer.Buffer.{Buffer}
 use Rattle.buffer_pool.specs.declared.seat_view.SeatView.{SeatView}
 use Rattle.buffer_pool.specs.working.Buffers.{buffer_reading}
 use Rattle.buffer_pool.specs.working.Setups.{setup_of}
+use Rattle.buffer_pool.specs.Story.{Log}
 use Rattle.buffer_pool.proofs.Loads.{sets_aside, settles}
 use Rattle.buffer_pool.proofs.Parts.{noted_units, splits, kept_may, given_may, keeps_part, has_part}
 use Rattle.buffer_pool.proofs.pool.shares.give_part.Given as given
@@ -69,4 +70,5 @@ returns g c =
       given = given.0;
       did = kept.1;
       new = given.1;
+      apart = λ same. given.2 (sym (ap (λ (x : Log). x.number) kept.1.1) ∙ sym same);
     }

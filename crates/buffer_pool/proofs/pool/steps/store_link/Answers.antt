@@ -35,3 +35,6 @@ pub returns-clause-did : goal.returns-clause-did
 returns-clause-did g c =
     let link : index_of c.link_to.result ≡ c.args.head.index = ap index_of c.link_to.ensures ∙ index_of-low_of c.args.head.index in
     subst (λ l. Did c.args.seat.now.me.0.log (StoreLink c.args.index l ∷ []) c.store.new.seat.me.0.log) link (c.store.ensures.2 c.args.index refl).1
+
+pub returns-clause-story : goal.returns-clause-story
+returns-clause-story g c = (c.store.ensures.2 c.args.index refl).2
