@@ -40,7 +40,8 @@ module _ {B : Type 0} (r : Reading B) (e : Setup) (s : State (Option B) SeatView
       (happened r e s rule id v is kind there can t
       (agrees (marking_of r e t) (record m { mark = put o x m.mark; accounts = set m.accounts id w.book.account }) (λ q. ap head_of (head_beside_mark e s.words o x q)) links
       (marks_after e s.words o x (omega (arith, rule.word_count))) refl (idle_beside_mark e s.words o x) (accounts_set s.views id w) ∙ sym is_effect)
-      (counts_same r e s rule id v is w counts ∙ sym is_counted) (told_after r e s rule id v is there kind w log unsaid taken named from setup))
+      (counts_same r e s rule id v is w counts ∙ sym is_counted)
+      (told_after r e s rule id v is there kind w log unsaid taken named from setup))
     where
       m : Marking
       m = marking_of r e s
@@ -63,16 +64,23 @@ module _ {B : Type 0} (r : Reading B) (e : Setup) (slots id : ℕ) where
       let a = me.0.book.account in
       let same : me.0.book.setup ≡ e = rule.same_setup id v is there in
       let can' : CanClaim e o a = subst (λ (g : Setup). CanClaim g o a) same can in
-      let t : State (Option B) SeatView = record { words = set s.words (mark_word e o) (max n 1); homes = s.homes; views = set s.views id w } in
-      let after : Rule r e t = marked r e s rule id v is refl there o (max n 1) w (Claim o) below refl refl refl refl refl refl refl refl refl (can', busy) refl refl in
-      let story : LeadsToBook w.log w.book = leads_now r e t after id w (set_here s.views id w (at_below s.views id v is)) there refl refl in (
+      let t : State (Option B) SeatView =
+      record { words = set s.words (mark_word e o) (max n 1); homes = s.homes; views = set s.views id w } in
+      let after : Rule r e t =
+      marked r e s rule id v is refl there o (max n 1) w (Claim o) below refl refl refl refl refl refl refl refl refl
+      (can', busy) refl refl in
+      let story : LeadsToBook w.log w.book =
+      leads_now r e t after id w (set_here s.views id w (at_below s.views id v is)) there refl refl in (
         w,
         keeps,
         tt,
         after,
         (λ p h. let b : me.0.book.setup.buffers ≡ e.buffers = ap (λ (x : Setup). x.buffers) same in
             let k : o ≡ p = omega (arith, h) in
-            let told = subst (λ x. ((w, []) ≡ rested me log (claimed x n me.0.book)) × Did me.0.log (Claim x ∷ []) log) k (refl, did_after r e s rule id v is there done.named done.unsaid (Claim o)) in (told.0, told.1, story)),
+            let told =
+            subst (λ x. ((w, []) ≡ rested me log (claimed x n me.0.book)) × Did me.0.log (Claim x ∷ []) log) k
+            (refl, did_after r e s rule id v is there done.named done.unsaid (Claim o)) in
+            (told.0, told.1, story)),
       ))
 
   pub finishes :
@@ -92,14 +100,25 @@ module _ {B : Type 0} (r : Reading B) (e : Setup) (slots id : ℕ) where
       let two : max n 2 ≡ 2 = omega (arith, one) in
       let after : Rule r e (record { words = slice_set s.words (mark_word e o) (max n 2); homes = s.homes; views = set s.views id w }) =
       subst (λ x. Rule r e (record { words = slice_set s.words (mark_word e o) x; homes = s.homes; views = set s.views id w })) (sym two)
-      (marked r e s rule id v is refl there o 2 w (Finish o) below refl refl refl refl refl refl refl refl refl can' refl refl) in
+      (marked r e s rule id v is refl there o 2 w (Finish o) below refl refl refl refl refl refl refl refl refl can'
+      refl refl) in
       let once = each_once r e (record { words = slice_set s.words (mark_word e o) (max n 2); homes = s.homes; views = set s.views id w }) after id w (set_here s.views id w (at_below s.views id v is)) in (
         w,
         keeps,
         tt,
         after,
         (λ p h. let b : me.0.book.setup.buffers ≡ e.buffers = ap (λ (x : Setup). x.buffers) same in
-            let k : o ≡ p = omega (arith, h) in (subst (λ x. (w, []) ≡ rested me log (finished x me.0.book)) k refl, (λ x. omega (arith, once.objects x)), subst (λ x. Did me.0.log (Finish x ∷ []) log) k (did_after r e s rule id v is there done.named done.unsaid (Finish o)), leads_now r e (record { words = slice_set s.words (mark_word e o) (max n 2); homes = s.homes; views = set s.views id w }) after id w (set_here s.views id w (at_below s.views id v is)) there refl refl)),
+            let k : o ≡ p = omega (arith, h) in (
+              subst (λ x. (w, []) ≡ rested me log (finished x me.0.book)) k refl,
+              (λ x. omega (arith, once.objects x)),
+              subst (λ x. Did me.0.log (Finish x ∷ []) log) k (did_after r e s rule id v is there done.named done.unsaid
+                  (Finish o)),
+              leads_now r e (record {
+                words = slice_set s.words (mark_word e o) (max n 2);
+                homes = s.homes;
+                views = set s.views id w;
+              }) after id w (set_here s.views id w (at_below s.views id v is)) there refl refl,
+            )),
       ))
 
 -- what an account may claim is an object, and what it may finish as well

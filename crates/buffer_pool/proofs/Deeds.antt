@@ -58,13 +58,17 @@ none_some : (n : ℕ) → ◌≡◌ {A = Option ℕ} None (Some n) → ⊥
 none_some n e = cc
 
 -- what was taken in is so after one event more
-pub taken_on : (events : List Event) (event : Event) (n : ℕ) (story : List Event) → IsTakenIn events n story → IsTakenIn (events ++ event ∷ []) n story
+pub taken_on :
+    (events : List Event) (event : Event) (n : ℕ) (story : List Event) → IsTakenIn events n story
+    → IsTakenIn (events ++ event ∷ []) n story
 taken_on events event n story t =
     record {
       quiet = t.quiet;
       by = t.by;
       later = t.later ++ event ∷ [];
-      all = ap (λ xs. xs ++ event ∷ []) t.all ∙ append_assoc (story ++ t.quiet) (record { worker = t.by; kind = Join n } ∷ t.later) (event ∷ []);
+      all =
+          ap (λ xs. xs ++ event ∷ []) t.all
+          ∙ append_assoc (story ++ t.quiet) (record { worker = t.by; kind = Join n } ∷ t.later) (event ∷ []);
       other = t.other;
       nothing = t.nothing;
     }
@@ -87,7 +91,8 @@ module _ (events : List Event) (w : ℕ) (v : SeatView) (told : IsTold events w 
 
   -- one event more, its own, which it notes
   pub told_mine : (event : Event) (u : SeatView) → v.named ≡ true → event.worker ≡ w → u.log ≡ v.log → u.named ≡ true → u.unsaid ≡ v.unsaid ++ event.kind ∷ []
-      → (more : List Event) → events ++ event ∷ [] ≡ u.taken ++ more → ((n : ℕ) → u.from ≡ Some n → n ≢ w) → ((n : ℕ) → u.from ≡ Some n → IsTakenIn (events ++ event ∷ []) n u.taken)
+      → (more : List Event) → events ++ event ∷ [] ≡ u.taken ++ more → ((n : ℕ) → u.from ≡ Some n → n ≢ w)
+      → ((n : ℕ) → u.from ≡ Some n → IsTakenIn (events ++ event ∷ []) n u.taken)
       → IsTold (events ++ event ∷ []) w u
   told_mine event u known own log named unsaid more taken apart ended =
       record {
@@ -97,13 +102,16 @@ module _ (events : List Event) (w : ℕ) (v : SeatView) (told : IsTold events w 
         unsaid = deeds_on w told.since (event ∷ []) ∙ (λ k. told.unsaid k ++ one_deed w event own k) ∙ sym unsaid;
         taken = (more, taken);
         fresh = λ new. absurd (false≢true (sym new ∙ named));
-        leads = λ n none. absurd (omega (arith, ap length (sym unsaid ∙ none), length-append v.unsaid (event.kind ∷ [])));
+        leads =
+            λ n none. absurd (omega (arith, ap length (sym unsaid ∙ none), length-append v.unsaid (event.kind ∷ [])));
         apart = apart;
         ended = λ n. ended;
       }
 
   -- a view with the same log
-  pub told_same : (u : SeatView) → u.log ≡ v.log → u.unsaid ≡ v.unsaid → u.taken ≡ v.taken → u.named ≡ v.named → u.from ≡ v.from → u.book ≡ v.book → IsTold events w u
+  pub told_same :
+      (u : SeatView) → u.log ≡ v.log → u.unsaid ≡ v.unsaid → u.taken ≡ v.taken → u.named ≡ v.named → u.from ≡ v.from
+      → u.book ≡ v.book → IsTold events w u
   told_same u log unsaid taken named from book =
       record {
         number = λ n. ap (λ (x : Log). x.number) log ∙ told.number (sym named ∙ n);
@@ -112,7 +120,9 @@ module _ (events : List Event) (w : ℕ) (v : SeatView) (told : IsTold events w 
         unsaid = told.unsaid ∙ sym unsaid;
         taken = (told.taken.0, told.taken.1 ∙ ap (λ xs. xs ++ told.taken.0) (sym taken));
         fresh = λ new. told.fresh (sym named ∙ new);
-        leads = λ n none. subst (λ (b : Book). LeadsToBook u.log b) (sym book) (subst (λ (l : Log). LeadsToBook l v.book) (sym log) (told.leads (sym named ∙ n) (sym unsaid ∙ none)));
+        leads =
+            λ n none. subst (λ (b : Book). LeadsToBook u.log b) (sym book)
+            (subst (λ (l : Log). LeadsToBook l v.book) (sym log) (told.leads (sym named ∙ n) (sym unsaid ∙ none)));
         apart = λ n is. told.apart n (sym from ∙ is);
         ended = λ known n is. subst (IsTakenIn events n) (sym taken) (told.ended (sym named ∙ known) n (sym from ∙ is));
       }
@@ -137,7 +147,9 @@ module _ (events : List Event) (w : ℕ) (v : SeatView) (told : IsTold events w 
       (all.0, ap (λ xs. record { number = w; story = xs }) (sym (append-nil events)) ∙ all.1, all.2 ∙ append-nil v.unsaid)
 
 -- a view whose log has all events
-pub told_now : (events : List Event) (w : ℕ) (v : SeatView) → v.log ≡ record { number = w; story = events } → v.unsaid ≡ [] → v.taken ≡ [] → v.named ≡ true → v.from ≡ None → LeadsToBook v.log v.book → IsTold events w v
+pub told_now :
+    (events : List Event) (w : ℕ) (v : SeatView) → v.log ≡ record { number = w; story = events } → v.unsaid ≡ []
+    → v.taken ≡ [] → v.named ≡ true → v.from ≡ None → LeadsToBook v.log v.book → IsTold events w v
 told_now events w v log unsaid taken named from leads =
     record {
       number = λ n. ap (λ (x : Log). x.number) log;
@@ -165,7 +177,9 @@ told_set events views w v others own k u at there =
 module _ (events : List Event) (views : List SeatView) (told : AreTold events views) (id : ℕ) (v : SeatView) (is : get_elem? views id ≡ some v) (there : 0 < v.book.account.share) where
   -- an event of the worker happened, and its log has it
   pub told_step :
-      (kind : Kind) (w : SeatView) → w.log ≡ record { number = id; story = events ++ record { worker = id; kind = kind } ∷ [] } → w.unsaid ≡ [] → w.taken ≡ [] → w.named ≡ true → w.from ≡ None → LeadsToBook w.log w.book
+      (kind : Kind) (w : SeatView)
+      → w.log ≡ record { number = id; story = events ++ record { worker = id; kind = kind } ∷ [] } → w.unsaid ≡ []
+      → w.taken ≡ [] → w.named ≡ true → w.from ≡ None → LeadsToBook w.log w.book
       → AreTold (events ++ record { worker = id; kind = kind } ∷ []) (set views id w)
   told_step kind w log unsaid taken named from leads =
       told_set (events ++ event ∷ []) views id w (λ k u other at share. told_theirs events k u (told k u at share) event (λ same. other (sym same)))
@@ -175,12 +189,20 @@ module _ (events : List Event) (views : List SeatView) (told : AreTold events vi
       event = record { worker = id; kind = kind }
 
   -- nothing happened, and the worker's log is up to date
-  pub told_seen : (w : SeatView) → w.log ≡ record { number = id; story = events } → w.unsaid ≡ [] → w.taken ≡ [] → w.named ≡ true → w.from ≡ None → LeadsToBook w.log w.book → AreTold events (set views id w)
-  told_seen w log unsaid taken named from leads = told_set events views id w (λ k u other at share. told k u at share) (λ share. told_now events id w log unsaid taken named from leads)
+  pub told_seen :
+      (w : SeatView) → w.log ≡ record { number = id; story = events } → w.unsaid ≡ [] → w.taken ≡ [] → w.named ≡ true
+      → w.from ≡ None → LeadsToBook w.log w.book → AreTold events (set views id w)
+  told_seen w log unsaid taken named from leads =
+      told_set events views id w (λ k u other at share. told k u at share)
+      (λ share. told_now events id w log unsaid taken named from leads)
 
   -- nothing happened, and the worker's log is as it was
-  pub told_kept : (w : SeatView) → w.log ≡ v.log → w.unsaid ≡ v.unsaid → w.taken ≡ v.taken → w.named ≡ v.named → w.from ≡ v.from → w.book ≡ v.book → AreTold events (set views id w)
-  told_kept w log unsaid taken named from book = told_set events views id w (λ k u other at share. told k u at share) (λ share. told_same events id v (told id v is there) w log unsaid taken named from book)
+  pub told_kept :
+      (w : SeatView) → w.log ≡ v.log → w.unsaid ≡ v.unsaid → w.taken ≡ v.taken → w.named ≡ v.named → w.from ≡ v.from
+      → w.book ≡ v.book → AreTold events (set views id w)
+  told_kept w log unsaid taken named from book =
+      told_set events views id w (λ k u other at share. told k u at share)
+      (λ share. told_same events id v (told id v is there) w log unsaid taken named from book)
 
   -- what the worker may tell of its event
   pub did_step : v.named ≡ true → v.unsaid ≡ [] → (kind : Kind) → Did v.log (kind ∷ []) (record { number = id; story = events ++ record { worker = id; kind = kind } ∷ [] })

@@ -78,7 +78,8 @@ module _ {B : Type 0} (r : Reading B) (e : Setup) (slots id : ℕ) where
       let t : State (Option B) SeatView =
       record { words = set s.words idle_word x; homes = s.homes; views = set s.views id w } in
       let after : Rule r e t =
-      idle_written r e s rule id v is refl there x w IdleUp refl refl refl refl refl refl refl refl refl can refl refl in
+      idle_written r e s rule id v is refl there x w IdleUp refl refl refl refl refl refl refl refl refl can refl
+      refl in
       let did = did_after r e s rule id v is there done.named done.unsaid IdleUp in
       let story = leads_now r e t after id w (set_here s.views id w (at_below s.views id v is)) there refl refl in
       (w, keeps, tt, after, (refl, did, story)))
@@ -97,7 +98,8 @@ module _ {B : Type 0} (r : Reading B) (e : Setup) (slots id : ℕ) where
       let t : State (Option B) SeatView =
       record { words = set s.words idle_word x; homes = s.homes; views = set s.views id w } in
       let after : Rule r e t =
-      idle_written r e s rule id v is refl there x w IdleDown refl refl refl refl refl refl refl refl refl can refl refl in
+      idle_written r e s rule id v is refl there x w IdleDown refl refl refl refl refl refl refl refl refl can refl
+      refl in
       let did = did_after r e s rule id v is there done.named done.unsaid IdleDown in
       let story = leads_now r e t after id w (set_here s.views id w (at_below s.views id v is)) there refl refl in
       (w, keeps, tt, after, (refl, did, story)))

@@ -94,7 +94,8 @@ module _ {B : Type 0} (r : Reading B) (e : Setup) (s : State (Option B) SeatView
 -- a view with the same book whose log is up to date: nothing happened
 only_seen :
     {B : Type 0} (r : Reading B) (e : Setup) (s : State (Option B) SeatView) (rule : Rule r e s) (id : ℕ) (v : SeatView) (is : get_elem? s.views id ≡ some v) → 0 < v.book.account.share
-    → (w : SeatView) → w.book ≡ v.book → w.log ≡ log_now r e s rule id → w.unsaid ≡ [] → w.taken ≡ [] → w.named ≡ true → w.from ≡ None
+    → (w : SeatView) → w.book ≡ v.book → w.log ≡ log_now r e s rule id → w.unsaid ≡ [] → w.taken ≡ [] → w.named ≡ true
+    → w.from ≡ None
     → Reached r e (record { words = s.words; homes = s.homes; views = set s.views id w })
 only_seen {B} r e s rule id v is there w same log unsaid taken named from =
     let t : State (Option B) SeatView = record { words = s.words; homes = s.homes; views = set s.views id w } in
@@ -102,7 +103,8 @@ only_seen {B} r e s rule id v is there w same log unsaid taken named from =
     (agrees (marking_of r e t) (marking_of r e s) (λ q. refl) (λ i. refl) (λ o. refl) refl refl (accounts_same r e s rule id v is w (ap (λ (b : Book). b.account) same)))
     (counts_same r e s rule id v is w (ap counts_of same))
     (told_seen rule.reached.events s.views rule.reached.told id v is there w log unsaid taken named from
-    (leads_here r e s rule id v is there w rule.reached.events log (ap (λ (b : Book). b.setup) same) (marking_of r e s) (map view_counts s.views) (sym (accounts_same r e s rule id v is w (ap (λ (b : Book). b.account) same)))
+    (leads_here r e s rule id v is there w rule.reached.events log (ap (λ (b : Book). b.setup) same) (marking_of r e s)
+    (map view_counts s.views) (sym (accounts_same r e s rule id v is w (ap (λ (b : Book). b.account) same)))
     (sym (counts_same r e s rule id v is w (ap counts_of same))) rule.reached.led))
 
 -- an account has no buffer twice, and no object twice among those that it answers for and finished
@@ -126,16 +128,29 @@ module _ {B : Type 0} (r : Reading B) (e : Setup) (slots id : ℕ) where
       happened r e s rule id v is (Load q) there tt t
       (agrees (marking_of r e t) (record m { accounts = set m.accounts id (after_load q (m.head q) me.0.book.account) }) (λ p. refl) (λ i. refl) (λ o. refl) refl refl
       (accounts_set s.views id w ∙ ap (set m.accounts id) (account_loaded q (head_of n) me.0.book)))
-      (counts_changed r e s rule id v is w (count_load q (head_of n)) (counts_loaded q (head_of n) me.0.book)) (told_after r e s rule id v is there (Load q) w refl refl refl refl refl (setup_loaded q (head_of n) me.0.book)) in
-      let after : Rule r e t = noticed r e s rule id v is refl there s.words w refl (λ i h. refl) refl (held_loaded q (head_of n) me.0.book) (setup_loaded q (head_of n) me.0.book) reached in
-      let story : LeadsToBook w.log w.book = leads_now r e t after id w (set_here s.views id w (at_below s.views id v is)) (share_loaded q (head_of n) me.0.book there) refl refl in (
+      (counts_changed r e s rule id v is w (count_load q (head_of n)) (counts_loaded q (head_of n) me.0.book))
+      (told_after r e s rule id v is there (Load q) w refl refl refl refl refl
+      (setup_loaded q (head_of n) me.0.book)) in
+      let after : Rule r e t =
+      noticed r e s rule id v is refl there s.words w refl (λ i h. refl) refl (held_loaded q (head_of n) me.0.book)
+      (setup_loaded q (head_of n) me.0.book) reached in
+      let story : LeadsToBook w.log w.book =
+      leads_now r e t after id w (set_here s.views id w (at_below s.views id v is))
+      (share_loaded q (head_of n) me.0.book there) refl refl in (
         w,
         keeps,
         tt,
         written_again s (head_word q) w after,
         (λ p same.
-            let told = subst (λ k. ((w, []) ≡ rested me log (loaded k (head_of n) me.0.book)) × ((i : ℕ) → (head_of n).index ≡ Some i → i < me.0.book.setup.buffers) × Did me.0.log (Load k ∷ []) log) (same_head q p same)
-            (refl, top_below r e s rule id v is refl there q, did_after r e s rule id v is there done.named done.unsaid (Load q)) in (told.0, told.1, told.2, story)),
+            let told =
+            subst (λ k. ((w, []) ≡ rested me log (loaded k (head_of n) me.0.book))
+            × ((i : ℕ) → (head_of n).index ≡ Some i → i < me.0.book.setup.buffers) × Did me.0.log (Load k ∷ [])
+            log) (same_head q p same) (
+              refl,
+              top_below r e s rule id v is refl there q,
+              did_after r e s rule id v is there done.named done.unsaid
+                  (Load q),
+            ) in (told.0, told.1, told.2, story)),
       ))
 
   pub sees_link :
@@ -156,13 +171,23 @@ module _ {B : Type 0} (r : Reading B) (e : Setup) (slots id : ℕ) where
       happened r e s rule id v is (LoadLink q) there (h, i, last, top) t
       (agrees (marking_of r e t) (effect m id me.0.book.account (LoadLink q)) (λ p. refl) (λ j. refl) (λ o. refl) refl refl
       (accounts_set s.views id w ∙ ap (λ l. set m.accounts id (after_load_link q l me.0.book.account)) (sym found)))
-      (counts_same r e s rule id v is w refl) (told_after r e s rule id v is there (LoadLink q) w refl refl refl refl refl refl) in
-      let after : Rule r e t = noticed r e s rule id v is refl there s.words w refl (λ j b. refl) refl (held_linked q (index_of n) me.0.book) refl reached in (
+      (counts_same r e s rule id v is w refl) (told_after r e s rule id v is there (LoadLink q) w refl refl refl refl
+      refl refl) in
+      let after : Rule r e t =
+      noticed r e s rule id v is refl there s.words w refl (λ j b. refl) refl (held_linked q (index_of n) me.0.book)
+      refl reached in (
         w,
         keeps,
         tt,
         written_again s (link_word i) w after,
-        (refl, subst (λ (x : Setup). n ≤ x.buffers) (sym same) (rule.linked i small), did_after r e s rule id v is there done.named done.unsaid (LoadLink q), leads_now r e t after id w (set_here s.views id w (at_below s.views id v is)) (share_linked q (index_of n) me.0.book there) refl refl),
+        (
+          refl,
+          subst (λ (x : Setup). n ≤ x.buffers) (sym same) (rule.linked i small),
+          did_after r e s rule id v is there
+              done.named done.unsaid (LoadLink q),
+          leads_now r e t after id w
+              (set_here s.views id w (at_below s.views id v is)) (share_linked q (index_of n) me.0.book there) refl refl,
+        ),
       ))
 
   -- an exchange of a word for itself
@@ -173,7 +198,8 @@ module _ {B : Type 0} (r : Reading B) (e : Setup) (slots id : ℕ) where
       let log = log_now r e s rule id in
       let w : SeatView = record (noted log v) { aside = units } in
       let kept : Rule r e (record { words = slice_set s.words word n; homes = s.homes; views = set s.views id w }) =
-      written_again s word w (noticed r e s rule id v is refl there s.words w refl (λ j b. refl) refl refl refl (only_seen r e s rule id v is there w refl refl refl refl refl refl)) in (
+      written_again s word w (noticed r e s rule id v is refl there s.words w refl (λ j b. refl) refl refl refl
+      (only_seen r e s rule id v is there w refl refl refl refl refl refl)) in (
         w,
         keeps,
         tt,
@@ -188,10 +214,23 @@ module _ {B : Type 0} (r : Reading B) (e : Setup) (slots id : ℕ) where
       let w : SeatView = noted (log_now r e s rule id) v in
       let told : IsTold rule.reached.events id v = rule.reached.told id v is there in
       let t : State (Option B) SeatView = record { words = s.words; homes = s.homes; views = set s.views id w } in
-      let after : Rule r e t = noticed r e s rule id v is refl there s.words w refl (λ j b. refl) refl refl refl (only_seen r e s rule id v is there w refl refl refl refl refl refl) in (
+      let after : Rule r e t =
+      noticed r e s rule id v is refl there s.words w refl (λ j b. refl) refl refl refl
+      (only_seen r e s rule id v is there w refl refl refl refl refl refl) in (
         w,
         keeps,
         tt,
         written_again s word w after,
-        record { same = refl; each = each_once r e s rule id v is; did = did_none rule.reached.events id v told; story = leads_now r e t after id w (set_here s.views id w (at_below s.views id v is)) there refl refl; knows = told.taken; fresh = told.fresh; apart = told.apart; ended = λ known n from. ends_taken e rule.reached.events (opening e e.first_tag) (marking_of r e s) n v.taken rule.reached.led.run (told.ended known n from) },
+        record {
+          same = refl;
+          each = each_once r e s rule id v is;
+          did = did_none rule.reached.events id v told;
+          story = leads_now r e t after id w (set_here s.views id w (at_below s.views id v is)) there refl refl;
+          knows = told.taken;
+          fresh = told.fresh;
+          apart = told.apart;
+          ended = λ known n from. ends_taken e
+              rule.reached.events (opening e e.first_tag) (marking_of r e s) n v.taken rule.reached.led.run
+              (told.ended known n from);
+        },
       ))

@@ -84,7 +84,8 @@ module _ (events : List Event) (views : List SeatView) (told : AreTold events vi
       kept : IsTold later id (kept_part v)
       kept =
           told_mine events id v own event (kept_part v) known refl refl known refl (own.taken.0 ++ event ∷ [])
-          (ap (λ xs. xs ++ event ∷ []) own.taken.1 ∙ append_assoc v.taken own.taken.0 (event ∷ [])) own.apart (λ n from. taken_on events event n v.taken (own.ended known n from))
+          (ap (λ xs. xs ++ event ∷ []) own.taken.1 ∙ append_assoc v.taken own.taken.0 (event ∷ [])) own.apart
+          (λ n from. taken_on events event n v.taken (own.ended known n from))
 
       none : deeds (length views) later ≡ []
       none =
@@ -101,13 +102,16 @@ module _ (events : List Event) (views : List SeatView) (told : AreTold events vi
             taken = (own.since ++ event ∷ [], ap (λ xs. xs ++ event ∷ []) own.goes_on ∙ append_assoc v.log.story own.since (event ∷ []));
             fresh = λ new. none;
             leads = λ named. absurd (false≢true named);
-            apart = λ n from. λ same. let giver : v.log.number ≡ n = same_some v.log.number n from in omega (arith, giver, same, own.number known, at_below views id v is);
+            apart =
+                λ n from. λ same. let giver : v.log.number ≡ n = same_some v.log.number n from in omega
+                (arith, giver, same, own.number known, at_below views id v is);
             ended = λ named. absurd (false≢true named);
           }
 
   -- after a join: the worker that took the other in notes it, and has the other's story
   pub told_join :
-      (other : ℕ) (w : SeatView) → other ≢ id → get_elem? views other ≡ some w → 0 < w.book.account.share → w.named ≡ true → w.unsaid ≡ []
+      (other : ℕ) (w : SeatView) → other ≢ id → get_elem? views other ≡ some w → 0 < w.book.account.share
+      → w.named ≡ true → w.unsaid ≡ []
       → AreTold (events ++ record { worker = id; kind = Join other } ∷ []) (set (set views id (joined_view v w)) other no_share_view)
   told_join other w apart at theirs_there theirs_known theirs_said =
       told_set later (set views id (joined_view v w)) other no_share_view
@@ -141,4 +145,5 @@ module _ (events : List Event) (views : List SeatView) (told : AreTold events vi
       both : IsTold later id (joined_view v w)
       both =
           told_mine events id v own event (joined_view v w) known refl refl known (ap (λ n. v.unsaid ++ Join n ∷ []) (theirs.number theirs_known)) (theirs.since ++ event ∷ [])
-          (ap (λ xs. xs ++ event ∷ []) theirs.goes_on ∙ append_assoc w.log.story theirs.since (event ∷ [])) (λ n from. λ same. apart (joined_from n from ∙ same)) taken_in
+          (ap (λ xs. xs ++ event ∷ []) theirs.goes_on ∙ append_assoc w.log.story theirs.since (event ∷ []))
+          (λ n from. λ same. apart (joined_from n from ∙ same)) taken_in

@@ -101,11 +101,15 @@ module _ {B : Type 0} (r : Reading B) (e : Setup) (id : ℕ) (v : SeatView) wher
           (agrees (marking_of r e t) (effect m id a (Split v.aside)) (λ q. refl) (λ i. refl) (λ o. refl) refl refl
           (map-append account_of (set s.views id (kept_part v)) (given_part v ∷ []) ∙ ap (λ (xs : List Account). xs ++ part v.aside ∷ []) (accounts_set s.views id (kept_part v))))
           (map-append view_counts (set s.views id (kept_part v)) (given_part v ∷ []) ∙ ap (λ (xs : List Counts). xs ++ no_counts ∷ []) (counts_same r e s rule id v is (kept_part v) refl))
-          (λ x counts accounts each led. told_split rule.reached.events s.views rule.reached.told id v is there known nobody)
+          (λ x counts accounts each led. told_split rule.reached.events s.views rule.reached.told id v is there known
+          nobody)
 
   module _ (other : ℕ) (w : SeatView) where
-    pub joins : w.out ≡ 0 → 0 < v.book.account.share → v.named ≡ true → 0 < w.book.account.share → w.named ≡ true → w.unsaid ≡ [] → Joins (Rule r e) id v other w (joined_view v w) no_share_view
-    joins bare there known theirs_there theirs_known theirs_said s rule is apart after = with_views r e s rule views all reached
+    pub joins :
+        w.out ≡ 0 → 0 < v.book.account.share → v.named ≡ true → 0 < w.book.account.share → w.named ≡ true
+        → w.unsaid ≡ [] → Joins (Rule r e) id v other w (joined_view v w) no_share_view
+    joins bare there known theirs_there theirs_known theirs_said s rule is apart after =
+        with_views r e s rule views all reached
       where
         m : Marking
         m = marking_of r e s
@@ -173,7 +177,8 @@ module _ {B : Type 0} (r : Reading B) (e : Setup) (id : ℕ) (v : SeatView) wher
             (accounts_set (set s.views id both) other no_share_view ∙ ap (λ (xs : List Account). set xs other no_share) (accounts_set s.views id both)
             ∙ ap (λ a. set (set m.accounts id (after_join v.book.account a)) other no_share) (sym account)))
             (added ∙ (λ k. set (set counts id (add_counts (sym first k) (sym second k))) other no_counts))
-            (λ x ns accounts each led. told_join rule.reached.events s.views rule.reached.told id v is there known other w apart at theirs_there theirs_known theirs_said)
+            (λ x ns accounts each led. told_join rule.reached.events s.views rule.reached.told id v is there known other
+            w apart at theirs_there theirs_known theirs_said)
 
 -- two setups of one table have the same numbers
 same_numbers : (t : TableId) (e f : Setup) → IsLaid t e → IsLaid t f → (e.buffers ≡ f.buffers) × (e.objects ≡ f.objects)
@@ -201,11 +206,24 @@ noted_units {B} m n log units is some_units less =
 
 -- a seat whose log is up to date, over what it was before: sound where that was, but for its log
 module _ {B : Type 0} (t u : TableId) (m n : Me (Option B) SeatView) (table : u ≡ t) (same : n ≡ (noted n.0.log (free m.0), [])) where
-  pub sound_now : IsLaid t m.0.book.setup → 0 < m.0.book.account.share → IsWithin m.0.book.setup m.0.book.account → LeadsToBook n.0.log n.0.book → IsSound u n
-  sound_now laid share within story = subst (λ x. IsSound x n) (sym table) (subst {A = Me (Option B) SeatView} (IsSound t) (sym {A = Me (Option B) SeatView} same) here)
+  pub sound_now :
+      IsLaid t m.0.book.setup → 0 < m.0.book.account.share → IsWithin m.0.book.setup m.0.book.account
+      → LeadsToBook n.0.log n.0.book → IsSound u n
+  sound_now laid share within story =
+      subst (λ x. IsSound x n) (sym table) (subst {A = Me (Option B) SeatView} (IsSound t)
+      (sym {A = Me (Option B) SeatView} same) here)
     where
       here : IsSound {B = B} t (noted n.0.log (free m.0), [])
-      here = record { laid = laid; share = share; carries = refl; within = record { held = within.held; charge = within.charge }; settled = record { named = refl; unsaid = refl }; story = subst {A = Me (Option B) SeatView} (λ x. LeadsToBook n.0.log x.0.book) same story }
+      here =
+          record {
+            laid = laid;
+            share = share;
+            carries = refl;
+            within = record { held = within.held; charge = within.charge };
+            settled = record { named = refl; unsaid = refl };
+            story = subst {A = Me (Option B) SeatView}
+                (λ x. LeadsToBook n.0.log x.0.book) same story;
+          }
 
   pub book_now : n.0.book ≡ m.0.book
   book_now = ap (λ (x : Me (Option B) SeatView). x.0.book) same
@@ -216,8 +234,14 @@ module _ {B : Type 0} (t u : TableId) (m two : Me (Option B) SeatView) (units : 
   pub keeps_part :
       (kept now : Me (Option B) SeatView) → kept ≡ (kept_part two.0, two.1) → IsUpToDate kept now → units < m.0.book.account.share
       → (IsSound u now × (now.0.book ≡ parted units m.0.book)) × Did m.0.log (Split units ∷ []) now.0.log
-  keeps_part kept now cut told less =
-      ((sound_now t u kept now table told.same laid share within told.story, book_now t u kept now table told.same ∙ ap (λ (x : Me (Option B) SeatView). x.0.book) is), did_on m.0.log log now.0.log [] (Split units ∷ []) did second)
+  keeps_part kept now cut told less = (
+    (
+      sound_now t u kept now table told.same laid share within told.story,
+      book_now t u kept now table told.same ∙ ap
+          (λ (x : Me (Option B) SeatView). x.0.book) is,
+    ),
+    did_on m.0.log log now.0.log [] (Split units ∷ []) did second,
+  )
     where
       is : kept ≡ (kept_part (record (noted log (free m.0)) { aside = units }), [])
       is = cut ∙ ap (λ (x : Me (Option B) SeatView). (kept_part x.0, x.1)) aside
@@ -249,9 +273,17 @@ module _ {B : Type 0} (t u : TableId) (m two : Me (Option B) SeatView) (units : 
 
   pub has_part :
       (given now : Me (Option B) SeatView) → given ≡ (given_part two.0, []) → IsUpToDate given now → 0 < units
-      → (IsSound u now × (now.0.book ≡ new_book m.0.book.setup units)) × IsNewcomer m.0.log now.0.log × (m.0.log.number ≢ now.0.log.number)
-  has_part given now cut told some_units =
-      ((sound_now t u given now table told.same laid share within told.story, book_now t u given now table told.same ∙ ap (λ (x : Me (Option B) SeatView). x.0.book) is), (knows, fresh), other)
+      → (IsSound u now × (now.0.book ≡ new_book m.0.book.setup units)) × IsNewcomer m.0.log now.0.log
+      × (m.0.log.number ≢ now.0.log.number)
+  has_part given now cut told some_units = (
+    (
+      sound_now t u given now table told.same laid share within told.story,
+      book_now t u given now table told.same
+          ∙ ap (λ (x : Me (Option B) SeatView). x.0.book) is,
+    ),
+    (knows, fresh),
+    other,
+  )
     where
       is : given ≡ (given_part (record (noted log (free m.0)) { aside = units }), [])
       is = cut ∙ ap (λ (x : Me (Option B) SeatView). (given_part x.0, [])) aside
@@ -276,7 +308,9 @@ module _ {B : Type 0} (t u : TableId) (m two : Me (Option B) SeatView) (units : 
           )
 
       other : m.0.log.number ≢ now.0.log.number
-      other = told.apart m.0.log.number (ap (λ (x : Me (Option B) SeatView). x.0.from) is ∙ ap (λ (x : Log). Some x.number) did.1)
+      other =
+          told.apart m.0.log.number (ap (λ (x : Me (Option B) SeatView). x.0.from) is ∙ ap (λ (x : Log). Some x.number)
+          did.1)
 
       fresh : deeds now.0.log.number now.0.log.story ≡ []
       fresh = told.fresh (subst {A = Me (Option B) SeatView} (λ x. x.0.named ≡ false) (sym {A = Me (Option B) SeatView} is) refl)
@@ -299,7 +333,9 @@ module _ {B : Type 0} (t u : TableId) (m o freed both now : Me (Option B) SeatVi
   pub has_both : IsSound u now × (now.0.book ≡ joined m.0.book o.0.book)
   has_both = (
     sound_now t u both now table told.same (at (λ x. IsLaid t x.0.book.setup) first.laid) (at (λ x. 0 < x.0.book.account.share) (omega (arith, first.share)))
-        (at (λ x. IsWithin x.0.book.setup x.0.book.account) (within_joined t m.0.book.setup o.0.book.setup m.0.book.account o.0.book.account first.laid second.laid first.within second.within)) told.story,
+        (at (λ x. IsWithin x.0.book.setup x.0.book.account)
+        (within_joined t m.0.book.setup o.0.book.setup m.0.book.account o.0.book.account first.laid second.laid
+        first.within second.within)) told.story,
     book_now t u both now table told.same ∙ ap (λ (x : Me (Option B) SeatView). x.0.book) is,
   )
 
@@ -312,10 +348,13 @@ module _ {B : Type 0} (t u : TableId) (m o freed both now : Me (Option B) SeatVi
   ends_other =
       let named : both.0.named ≡ true = ap (λ (x : Me (Option B) SeatView). x.0.named) is ∙ first.settled.named in
       let from : both.0.from ≡ Some freed.0.log.number = ap (λ (x : Me (Option B) SeatView). x.0.from) is in
-      let after = subst {A = Me (Option B) SeatView} (λ x. EndsStory (record { number = freed.0.log.number; story = x.0.taken }) now.0.log.story) is (told.ended named freed.0.log.number from) in (
+      let after =
+      subst {A = Me (Option B) SeatView} (λ x. EndsStory (record { number = freed.0.log.number; story = x.0.taken })
+      now.0.log.story) is (told.ended named freed.0.log.number from) in (
         theirs.0 ++ after.0,
         after.1 ∙ ap (λ (x : Log). x.story ++ after.0) theirs.1 ∙ append_assoc o.0.log.story theirs.0 after.0,
-        deeds_on o.0.log.number theirs.0 after.0 ∙ ap (λ ks. ks ++ deeds o.0.log.number after.0) theirs.2 ∙ ap (λ n. deeds n after.0) (sym number) ∙ after.2,
+        deeds_on o.0.log.number theirs.0 after.0 ∙ ap (λ ks. ks ++ deeds o.0.log.number after.0) theirs.2
+            ∙ ap (λ n. deeds n after.0) (sym number) ∙ after.2,
       )
 
 -- its slot is where it was

@@ -73,7 +73,9 @@ bare_on_empty r e s rule q i b top home empty =
 -- a failed exchange: the account is as it was, and the failure is counted
 pub lost :
     {B : Type 0} (r : Reading B) (e : Setup) (s : State (Option B) SeatView) (rule : Rule r e s) (id : ℕ) (v : SeatView) (is : get_elem? s.views id ≡ some v) → 0 < v.book.account.share
-    → (w : SeatView) (q : Which) → w.book.account ≡ v.book.account → view_counts w ≡ count_failure (view_counts v) → w.log ≡ log_after r e s rule id (Fail q) → w.unsaid ≡ [] → w.taken ≡ [] → w.named ≡ true → w.from ≡ None → w.book.setup ≡ v.book.setup
+    → (w : SeatView) (q : Which) → w.book.account ≡ v.book.account → view_counts w ≡ count_failure (view_counts v)
+    → w.log ≡ log_after r e s rule id (Fail q) → w.unsaid ≡ [] → w.taken ≡ [] → w.named ≡ true → w.from ≡ None
+    → w.book.setup ≡ v.book.setup
     → (h : Head) → (look_of v.book.account q).head ≡ Some h → (head_of (slice_index s.words (head_word q)) ≡ h → ⊥)
     → Reached r e (record { words = s.words; homes = s.homes; views = set s.views id w })
 lost {B} r e s rule id v is there w q account counts log unsaid taken named from setup h last other =
@@ -151,7 +153,8 @@ module _ {B : Type 0} (r : Reading B) (e : Setup) (s : State (Option B) SeatView
             happened r e s rule id v is (Pop q) there (((hit, short), (i, top), (l, linked_to)), busy) t
             (agrees (marking_of r e t) left (heads_after e s.words q x (after (m.head q) l) (omega (arith, rule.word_count)) next) (links_beside_head e s.words q x)
             (mark_beside_head e s.words q x) (slots_set r s.homes i none) (idle_beside_head e s.words q x) (accounts_set s.views id w) ∙ sym pop_is)
-            (counts_same r e s rule id v is w refl) (told_after r e s rule id v is there (Pop q) w refl refl refl refl refl refl)
+            (counts_same r e s rule id v is w refl) (told_after r e s rule id v is there (Pop q) w refl refl refl refl
+            refl refl)
 
   -- the buffer on top of a stack lies at home
   pub top_home : (q : Which) (i : ℕ) → (head_of (slice_index s.words (head_word q))).index ≡ Some i → (b : B) × (get_elem? s.homes i ≡ some (some (Some b)))
@@ -169,7 +172,9 @@ module _ {B : Type 0} (r : Reading B) (e : Setup) (s : State (Option B) SeatView
       → Rule r e (record { words = slice_set s.words word (slice_index s.words word); homes = s.homes; views = set s.views id (missed_view q) })
   failed_rule q h word last other =
       let w : SeatView = missed_view q in
-      subst (λ ws. Rule r e (record { words = ws; homes = s.homes; views = set s.views id w })) (sym (set-get_or s.words word 0)) (noticed r e s rule id v is bare there s.words w refl (λ j b. refl) bare refl refl (lost r e s rule id v is there w q refl refl refl refl refl refl refl refl h last other))
+      subst (λ ws. Rule r e (record { words = ws; homes = s.homes; views = set s.views id w }))
+      (sym (set-get_or s.words word 0)) (noticed r e s rule id v is bare there s.words w refl (λ j b. refl) bare refl
+      refl (lost r e s rule id v is there w q refl refl refl refl refl refl refl refl h last other))
 
 module _ {B : Type 0} (r : Reading B) (e : Setup) (slots id : ℕ) where
   -- what the play tells of the stack k, where the number found is n
@@ -218,7 +223,13 @@ module _ {B : Type 0} (r : Reading B) (e : Setup) (slots id : ℕ) where
                       bare = bare_on_empty r e s rule q i b top' home.1;
                       settled = record { named = refl; unsaid = refl };
                       did = did_after r e s rule id v is there done.named done.unsaid (Pop q);
-                      story = leads_now r e (record { words = set s.words (head_word q) new; homes = set s.homes i none; views = set s.views id w }) after_it id w (set_here s.views id w (at_below s.views id v is)) there refl refl;
+                      story =
+                          leads_now r e (record {
+                            words = set s.words (head_word q) new;
+                            homes = set s.homes i none;
+                            views = set s.views id w;
+                          }) after_it id w (set_here s.views id w (at_below s.views id v
+                          is)) there refl refl;
                     },
                   )),
               (λ miss. absurd (miss hit)),
@@ -227,10 +238,35 @@ module _ {B : Type 0} (r : Reading B) (e : Setup) (slots id : ℕ) where
       go s rule is (no miss) =
           let n = slice_index s.words (head_word q) in
           let w : SeatView = missed_view r e s rule id v is refl there q in
-          let after_it : Rule r e (record { words = slice_set s.words (head_word q) n; homes = s.homes; views = set s.views id w }) = failed_rule r e s rule id v is refl there q (head_of old) (head_word q) last (λ same. miss (one_head n old same)) in (
+          let after_it : Rule r e (record {
+            words = slice_set s.words (head_word q) n;
+            homes = s.homes;
+            views = set
+                s.views id w;
+          }) =
+          failed_rule r e s rule id v is refl there q (head_of old) (head_word q) last
+          (λ same. miss (one_head n old same)) in (
             w,
             keeps,
             tt,
-            subst (λ x. Rule r e (record { words = slice_set s.words (head_word q) x; homes = s.homes; views = set s.views id w })) (sym (exchange_miss n old new miss)) after_it,
-            (λ p same_word. subst (λ k. pop_told me old k n (w, [])) (same_head q p same_word) ((λ hit j t. absurd (miss hit)), (λ h. (refl, did_after r e s rule id v is there done.named done.unsaid (Fail q), leads_now r e (record { words = slice_set s.words (head_word q) n; homes = s.homes; views = set s.views id w }) after_it id w (set_here s.views id w (at_below s.views id v is)) there refl refl)))),
+            subst (λ x. Rule r e (record {
+              words = slice_set s.words (head_word q) x;
+              homes = s.homes;
+              views = set
+                  s.views id w;
+            })) (sym (exchange_miss n old new miss)) after_it,
+            (λ p same_word. subst (λ k. pop_told me old k n (w, [])) (same_head q p same_word) (
+              (λ hit j t. absurd (miss hit)),
+              (λ h. (
+                refl,
+                did_after r e s rule id v is there done.named done.unsaid
+                    (Fail q),
+                leads_now r e (record {
+                  words = slice_set s.words (head_word q) n;
+                  homes = s.homes;
+                  views = set
+                      s.views id w;
+                }) after_it id w (set_here s.views id w (at_below s.views id v is)) there refl refl,
+              )),
+            )),
           )

@@ -140,7 +140,8 @@ module _ {B : Type 0} (r : Reading B) (e : Setup) (s : State (Option B) SeatView
           happened r e s rule id v is (StoreLink i (index_of x)) there (times_stands v.book.account.held i mine) t
           (agrees (marking_of r e t) (record m { link = put i (index_of x) m.link }) (λ q. ap head_of (head_beside_link e s.words i x q)) links (mark_beside_link e s.words i x below)
           (slots_set r s.homes i none ∙ set_again m.slots i None (held_away r e s rule id v is i mine)) (idle_beside_link e s.words i x) (accounts_same r e s rule id v is w refl))
-          (counts_same r e s rule id v is w refl) (told_after r e s rule id v is there (StoreLink i (index_of x)) w refl refl refl refl refl refl)
+          (counts_same r e s rule id v is w refl) (told_after r e s rule id v is there (StoreLink i (index_of x)) w refl
+          refl refl refl refl refl)
 
   module _ (b : B) (out : v.out ≡ suc i) (q : Which) where
     abbrev push_view : SeatView
@@ -200,7 +201,8 @@ module _ {B : Type 0} (r : Reading B) (e : Setup) (s : State (Option B) SeatView
             happened r e s rule id v is (Push q i (r.items b)) there ((hit, short), (times_stands v.book.account.held i mine, part, room, none_empty), follows, busy) t
             (agrees (marking_of r e t) (effect m id v.book.account (Push q i (r.items b))) (heads_after e s.words q x (after (m.head q) (Some i)) (omega (arith, rule.word_count)) next)
             (links_beside_head e s.words q x) (mark_beside_head e s.words q x) (slots_set r s.homes i (some (Some b))) (idle_beside_head e s.words q x) (accounts_set s.views id w))
-            (counts_same r e s rule id v is w refl) (told_after r e s rule id v is there (Push q i (r.items b)) w refl refl refl refl refl refl)
+            (counts_same r e s rule id v is w refl) (told_after r e s rule id v is there (Push q i (r.items b)) w refl
+            refl refl refl refl refl)
 
     abbrev kept_view : SeatView
     kept_view = record (noted (log_after r e s rule id (Fail q)) v) { book = failed v.book }
@@ -211,7 +213,9 @@ module _ {B : Type 0} (r : Reading B) (e : Setup) (s : State (Option B) SeatView
         → Rule r e (record { words = slice_set s.words word (slice_index s.words word); homes = s.homes; views = set s.views id kept_view })
     missed_rule h word last other =
         subst (λ ws. Rule r e (record { words = ws; homes = s.homes; views = set s.views id w })) (sym (set-get_or s.words word 0))
-        (changed r e s rule id v is s.words s.homes w refl refl rule.linked rule.sized (rule.tied id v is) (rule.rests id v is) (λ k u other at. (rule.tied k u at, rule.rests k u at)) (rule.same_setup id v is) (lost r e s rule id v is there w q refl refl refl refl refl refl refl refl h last other))
+        (changed r e s rule id v is s.words s.homes w refl refl rule.linked rule.sized (rule.tied id v is)
+        (rule.rests id v is) (λ k u other at. (rule.tied k u at, rule.rests k u at)) (rule.same_setup id v is)
+        (lost r e s rule id v is there w q refl refl refl refl refl refl refl refl h last other))
       where
         w : SeatView
         w = kept_view
@@ -224,13 +228,24 @@ module _ {B : Type 0} (r : Reading B) (e : Setup) (slots id : ℕ) where
       let v : SeatView = free me.0 in
       let log = log_after r e s rule id (StoreLink i (index_of x)) in
       let w : SeatView = stored_view r e s rule id v is there i mine x in
-      let t : State (Option B) SeatView = record { words = set s.words (link_word i) x; homes = set s.homes i none; views = set s.views id w } in
+      let t : State (Option B) SeatView =
+      record { words = set s.words (link_word i) x; homes = set s.homes i none; views = set s.views id w } in
       let after_it : Rule r e t = stored_rule r e s rule id v is there i mine x refl small in (
         w,
         takes i None,
         rule.rests id v is i mine (λ o. let z : ◌≡◌ {A = ℕ} 0 (suc i) = o in absurd (omega arith)),
         after_it,
-        (λ j h. let same : i ≡ j = omega (arith, h) in (ap (λ k. (record (noted log me.0) { out = suc k; out_link = x }, (k, None) ∷ [])) same, subst (λ k. Did me.0.log (StoreLink k (index_of x) ∷ []) log) same (did_after r e s rule id v is there done.named done.unsaid (StoreLink i (index_of x))), leads_now r e t after_it id w (set_here s.views id w (at_below s.views id v is)) there refl refl)),
+        (λ j h. let same : i ≡ j = omega (arith, h) in (
+          ap (λ k. (
+            record (noted log me.0) { out = suc k; out_link = x },
+            (k, None) ∷ [],
+          )) same,
+          subst (λ k. Did me.0.log (StoreLink k (index_of x) ∷
+              []) log) same (did_after r e s rule id v is there done.named done.unsaid (StoreLink i
+              (index_of x))),
+          leads_now r e t after_it id w (set_here s.views id w (at_below s.views id v
+              is)) there refl refl,
+        )),
       ))
 
   pub pushes :
@@ -265,18 +280,55 @@ module _ {B : Type 0} (r : Reading B) (e : Setup) (slots id : ℕ) where
               (λ h j c t. let one = one_carried i j b c (sym carried ∙ t) in
                   let a : (w, []) ≡ rested me log (pushed q j (r.items c) me.0.book) = λ k. rested me log (pushed q (one.0 k) (r.items (one.1 k)) me.0.book) in
                   let did = did_after r e s rule id v is there done.named done.unsaid (Push q i (r.items b)) in
-                  let story : LeadsToBook w.log w.book = leads_now r e (record { words = set s.words (head_word q) new; homes = set s.homes i (some (Some b)); views = set s.views id w }) after_it id w (set_here s.views id w (at_below s.views id v is)) (omega (arith, there, share_pushed q i (r.items b) me.0.book)) refl refl in
-                  (subst (λ xs. (w, carried_after xs gives) ≡ rested me log (pushed q j (r.items c) me.0.book)) (sym carried) a, subst (λ (y : B). Did me.0.log (Push q j (r.items y) ∷ []) log) one.1 (subst (λ k. Did me.0.log (Push q k (r.items b) ∷ []) log) one.0 did), story)),
+                  let story : LeadsToBook w.log w.book =
+                  leads_now r e (record {
+                    words = set s.words (head_word q) new;
+                    homes = set s.homes i
+                        (some (Some b));
+                    views = set s.views id w;
+                  }) after_it id w (set_here s.views id w (at_below s.views
+                  id v is)) (omega (arith, there, share_pushed q i (r.items b) me.0.book)) refl refl in (
+                    subst (λ xs. (w, carried_after xs gives) ≡ rested me log (pushed q j (r.items c) me.0.book))
+                        (sym carried) a,
+                    subst (λ (y : B). Did me.0.log (Push q j (r.items y) ∷ []) log) one.1
+                        (subst (λ k. Did me.0.log (Push q k (r.items b) ∷ []) log) one.0 did),
+                    story,
+                  )),
               (λ miss. absurd (miss hit)),
             ),
           )
       go s rule is (no miss) =
           let n = slice_index s.words (head_word q) in
           let w : SeatView = kept_view r e s rule id v is there i mine b out q in
-          let after_it : Rule r e (record { words = slice_set s.words (head_word q) n; homes = s.homes; views = set s.views id w }) = missed_rule r e s rule id v is there i mine b out q (head_of old) (head_word q) last (λ same. miss (one_head n old same)) in (
+          let after_it : Rule r e (record {
+            words = slice_set s.words (head_word q) n;
+            homes = s.homes;
+            views = set
+                s.views id w;
+          }) =
+          missed_rule r e s rule id v is there i mine b out q (head_of old) (head_word q) last
+          (λ same. miss (one_head n old same)) in (
             w,
             keeps,
             tt,
-            subst (λ x. Rule r e (record { words = slice_set s.words (head_word q) x; homes = s.homes; views = set s.views id w })) (sym (exchange_miss n old new miss)) after_it,
-            ((λ hit j c t. absurd (miss hit)), (λ h. (refl, did_after r e s rule id v is there done.named done.unsaid (Fail q), leads_now r e (record { words = slice_set s.words (head_word q) n; homes = s.homes; views = set s.views id w }) after_it id w (set_here s.views id w (at_below s.views id v is)) there refl refl))),
+            subst (λ x. Rule r e (record {
+              words = slice_set s.words (head_word q) x;
+              homes = s.homes;
+              views = set
+                  s.views id w;
+            })) (sym (exchange_miss n old new miss)) after_it,
+            (
+              (λ hit j c t. absurd (miss hit)),
+              (λ h. (
+                refl,
+                did_after r e s rule id v is there done.named done.unsaid
+                    (Fail q),
+                leads_now r e (record {
+                  words = slice_set s.words (head_word q) n;
+                  homes = s.homes;
+                  views = set
+                      s.views id w;
+                }) after_it id w (set_here s.views id w (at_below s.views id v is)) there refl refl,
+              )),
+            ),
           )

@@ -19,20 +19,45 @@ use Rattle.buffer_pool.specs.working.Table.{slots_of}
 
 module _ {B : Type 0} (t : TableId) (m : Me (Option B) SeatView) (sound : IsSound t m) where
   -- nothing that is kept changed but the view's book
-  pub sound_rested : (log : Log) (b : Book) → b.setup ≡ m.0.book.setup → b.account.share ≡ m.0.book.account.share → IsWithin m.0.book.setup b.account → LeadsToBook log b → IsSound t (rested m log b)
+  pub sound_rested :
+      (log : Log) (b : Book) → b.setup ≡ m.0.book.setup → b.account.share ≡ m.0.book.account.share
+      → IsWithin m.0.book.setup b.account → LeadsToBook log b → IsSound t (rested m log b)
   sound_rested log b setup share within story =
-      record { laid = subst (IsLaid t) (sym setup) sound.laid; share = subst (λ n. 0 < n) (sym share) sound.share; carries = refl; within = subst (λ (e : Setup). IsWithin e b.account) (sym setup) within; settled = record { named = refl; unsaid = refl }; story = story }
+      record {
+        laid = subst (IsLaid t) (sym setup) sound.laid;
+        share = subst (λ n. 0 < n) (sym share) sound.share;
+        carries = refl;
+        within = subst (λ (e : Setup). IsWithin e b.account) (sym setup) within;
+        settled = record { named = refl; unsaid = refl };
+        story = story;
+      }
 
-  pub sound_loaded : (log : Log) (q : Which) (h : Head) → LeadsToBook log (loaded q h m.0.book) → IsSound t (rested m log (loaded q h m.0.book))
-  sound_loaded log Full h story = sound_rested log (loaded Full h m.0.book) refl refl (record { held = sound.within.held; charge = sound.within.charge }) story
-  sound_loaded log Empty h story = sound_rested log (loaded Empty h m.0.book) refl refl (record { held = sound.within.held; charge = sound.within.charge }) story
+  pub sound_loaded :
+      (log : Log) (q : Which) (h : Head) → LeadsToBook log (loaded q h m.0.book)
+      → IsSound t (rested m log (loaded q h m.0.book))
+  sound_loaded log Full h story =
+      sound_rested log (loaded Full h m.0.book) refl refl (record {
+        held = sound.within.held;
+        charge = sound.within.charge;
+      }) story
+  sound_loaded log Empty h story =
+      sound_rested log (loaded Empty h m.0.book) refl refl
+      (record { held = sound.within.held; charge = sound.within.charge }) story
 
-  pub sound_linked : (log : Log) (q : Which) (l : Option ℕ) → LeadsToBook log (link_loaded q l m.0.book) → IsSound t (rested m log (link_loaded q l m.0.book))
-  sound_linked log Full l story = sound_rested log (link_loaded Full l m.0.book) refl refl (record { held = sound.within.held; charge = sound.within.charge }) story
-  sound_linked log Empty l story = sound_rested log (link_loaded Empty l m.0.book) refl refl (record { held = sound.within.held; charge = sound.within.charge }) story
+  pub sound_linked :
+      (log : Log) (q : Which) (l : Option ℕ) → LeadsToBook log (link_loaded q l m.0.book)
+      → IsSound t (rested m log (link_loaded q l m.0.book))
+  sound_linked log Full l story =
+      sound_rested log (link_loaded Full l m.0.book) refl refl
+      (record { held = sound.within.held; charge = sound.within.charge }) story
+  sound_linked log Empty l story =
+      sound_rested log (link_loaded Empty l m.0.book) refl refl
+      (record { held = sound.within.held; charge = sound.within.charge }) story
 
   pub sound_failed : (log : Log) → LeadsToBook log (failed m.0.book) → IsSound t (rested m log (failed m.0.book))
-  sound_failed log story = sound_rested log (failed m.0.book) refl refl (record { held = sound.within.held; charge = sound.within.charge }) story
+  sound_failed log story =
+      sound_rested log (failed m.0.book) refl refl (record { held = sound.within.held; charge = sound.within.charge })
+      story
 
   pub sound_idled : (log : Log) → LeadsToBook log (idled m.0.book) → IsSound t (rested m log (idled m.0.book))
   sound_idled log story =
@@ -44,13 +69,18 @@ module _ {B : Type 0} (t : TableId) (m : Me (Option B) SeatView) (sound : IsSoun
       sound_rested log (woken m.0.book) refl refl
       (record { held = sound.within.held; charge = sound.within.charge }) story
 
-  pub sound_idle_loaded : (log : Log) (n : ℕ) → LeadsToBook log (idle_loaded n m.0.book) → IsSound t (rested m log (idle_loaded n m.0.book))
+  pub sound_idle_loaded :
+      (log : Log) (n : ℕ) → LeadsToBook log (idle_loaded n m.0.book) → IsSound t (rested m log (idle_loaded n m.0.book))
   sound_idle_loaded log n story =
       sound_rested log (idle_loaded n m.0.book) refl refl
       (record { held = sound.within.held; charge = sound.within.charge }) story
 
-  pub sound_claimed : (log : Log) (o found : ℕ) → o < m.0.book.setup.objects → LeadsToBook log (claimed o found m.0.book) → IsSound t (rested m log (claimed o found m.0.book))
-  sound_claimed log o found below story = sound_rested log (claimed o found m.0.book) refl refl (record { held = sound.within.held; charge = either_way (found == 0) }) story
+  pub sound_claimed :
+      (log : Log) (o found : ℕ) → o < m.0.book.setup.objects → LeadsToBook log (claimed o found m.0.book)
+      → IsSound t (rested m log (claimed o found m.0.book))
+  sound_claimed log o found below story =
+      sound_rested log (claimed o found m.0.book) refl refl
+      (record { held = sound.within.held; charge = either_way (found == 0) }) story
     where
       old : (x : ℕ) → Contains (m.0.book.account.charge ++ o ∷ []) x → x < m.0.book.setup.objects
       old x here = ⊎_elim (λ before. sound.within.charge x before) (λ same. subst (λ y. y < m.0.book.setup.objects) same below) (stands_push m.0.book.account.charge o x here)
@@ -59,8 +89,11 @@ module _ {B : Type 0} (t : TableId) (m : Me (Option B) SeatView) (sound : IsSoun
       either_way true x here = old x here
       either_way false x here = sound.within.charge x here
 
-  pub sound_finished : (log : Log) (o : ℕ) → 0 < times o m.0.book.account.charge → LeadsToBook log (finished o m.0.book) → IsSound t (rested m log (finished o m.0.book))
-  sound_finished log o mine story = sound_rested log (finished o m.0.book) refl refl (record { held = sound.within.held; charge = charge }) story
+  pub sound_finished :
+      (log : Log) (o : ℕ) → 0 < times o m.0.book.account.charge → LeadsToBook log (finished o m.0.book)
+      → IsSound t (rested m log (finished o m.0.book))
+  sound_finished log o mine story =
+      sound_rested log (finished o m.0.book) refl refl (record { held = sound.within.held; charge = charge }) story
     where
       charge : (x : ℕ) → Contains (remove_one o m.0.book.account.charge) x → x < m.0.book.setup.objects
       charge x here =
@@ -69,7 +102,8 @@ module _ {B : Type 0} (t : TableId) (m : Me (Option B) SeatView) (sound : IsSoun
 
   pub sound_popped :
       (after : Me (Option B) SeatView) (i : ℕ) (items : List ℕ) → i < m.0.book.setup.buffers → ((o : ℕ) → Contains items o → o < m.0.book.setup.objects)
-      → after.1 ≡ (i, None) ∷ [] → after.0.out ≡ suc i → after.0.book ≡ popped i items m.0.book → IsSettled after.0 → LeadsToBook after.0.log after.0.book → IsSound t after
+      → after.1 ≡ (i, None) ∷ [] → after.0.out ≡ suc i → after.0.book ≡ popped i items m.0.book → IsSettled after.0
+      → LeadsToBook after.0.log after.0.book → IsSound t after
   sound_popped after i items below objects carried out book done story =
       record {
         laid = subst (λ (b : Book). IsLaid t b.setup) (sym book) sound.laid;
@@ -87,7 +121,10 @@ module _ {B : Type 0} (t : TableId) (m : Me (Option B) SeatView) (sound : IsSoun
       charge o here = ⊎_elim (λ before. sound.within.charge o before) (λ item. objects o item) (stands_append m.0.book.account.charge items o here)
 
   -- a buffer that was pushed is no longer held, and its items are no longer charged
-  pub sound_pushed : (log : Log) (q : Which) (i : ℕ) (items : List ℕ) → 0 < times i m.0.book.account.held → IsPart items m.0.book.account.charge → LeadsToBook log (pushed q i items m.0.book) → IsSound t (rested m log (pushed q i items m.0.book))
+  pub sound_pushed :
+      (log : Log) (q : Which) (i : ℕ) (items : List ℕ) → 0 < times i m.0.book.account.held
+      → IsPart items m.0.book.account.charge → LeadsToBook log (pushed q i items m.0.book)
+      → IsSound t (rested m log (pushed q i items m.0.book))
   sound_pushed log q i items mine part = go q
     where
       held : (j : ℕ) → Contains (remove_one i m.0.book.account.held) j → j < m.0.book.setup.buffers
@@ -100,12 +137,17 @@ module _ {B : Type 0} (t : TableId) (m : Me (Option B) SeatView) (sound : IsSoun
           let n = stands_times (without items m.0.book.account.charge) o here in
           sound.within.charge o (times_stands m.0.book.account.charge o (omega (arith, times-without items m.0.book.account.charge part o)))
 
-      go : (p : Which) → LeadsToBook log (pushed p i items m.0.book) → IsSound t (rested m log (pushed p i items m.0.book))
-      go Full story = sound_rested log (pushed Full i items m.0.book) refl refl (record { held = held; charge = charge }) story
-      go Empty story = sound_rested log (pushed Empty i items m.0.book) refl refl (record { held = held; charge = charge }) story
+      go :
+          (p : Which) → LeadsToBook log (pushed p i items m.0.book)
+          → IsSound t (rested m log (pushed p i items m.0.book))
+      go Full story =
+          sound_rested log (pushed Full i items m.0.book) refl refl (record { held = held; charge = charge }) story
+      go Empty story =
+          sound_rested log (pushed Empty i items m.0.book) refl refl (record { held = held; charge = charge }) story
 
 -- a story of a seat that is the same
-pub same_story : {B : Type 0} (m n : Me (Option B) SeatView) → m ≡ n → LeadsToBook m.0.log m.0.book → LeadsToBook n.0.log n.0.book
+pub same_story :
+    {B : Type 0} (m n : Me (Option B) SeatView) → m ≡ n → LeadsToBook m.0.log m.0.book → LeadsToBook n.0.log n.0.book
 same_story {B} m n same story = subst {A = Me (Option B) SeatView} (λ k. LeadsToBook k.0.log k.0.book) same story
 
 -- a seat that is the same, and one that rests
@@ -117,8 +159,28 @@ bare_rested m n log b same = subst IsBare (sym same) (record { slots = refl; out
 
 -- the slot of a held buffer came out, and an exchange failed while it was out
 module _ {B : Type 0} (t : TableId) (m : Me (Option B) SeatView) (sound : IsSound t m) (log : Log) (i n : ℕ) where
-  pub sound_stored : LeadsToBook log m.0.book → IsSound {B = B} t (record (noted log m.0) { out = suc i; out_link = n }, (i, None) ∷ [])
-  sound_stored story = record { story = story; laid = sound.laid; share = sound.share; carries = refl; within = sound.within; settled = record { named = refl; unsaid = refl } }
+  pub sound_stored :
+      LeadsToBook log m.0.book
+      → IsSound {B = B} t (record (noted log m.0) { out = suc i; out_link = n }, (i, None) ∷ [])
+  sound_stored story =
+      record {
+        story = story;
+        laid = sound.laid;
+        share = sound.share;
+        carries = refl;
+        within = sound.within;
+        settled = record { named = refl; unsaid = refl };
+      }
 
-  pub sound_missed : (out : m.0.out ≡ suc i) → LeadsToBook log (failed m.0.book) → IsSound {B = B} t (record (noted log m.0) { book = failed m.0.book }, (i, None) ∷ [])
-  sound_missed out story = record { story = story; laid = sound.laid; share = sound.share; carries = ap slots_of (sym out); within = record { held = sound.within.held; charge = sound.within.charge }; settled = record { named = refl; unsaid = refl } }
+  pub sound_missed :
+      (out : m.0.out ≡ suc i) → LeadsToBook log (failed m.0.book)
+      → IsSound {B = B} t (record (noted log m.0) { book = failed m.0.book }, (i, None) ∷ [])
+  sound_missed out story =
+      record {
+        story = story;
+        laid = sound.laid;
+        share = sound.share;
+        carries = ap slots_of (sym out);
+        within = record { held = sound.within.held; charge = sound.within.charge };
+        settled = record { named = refl; unsaid = refl };
+      }

@@ -125,7 +125,9 @@ starts {B} r e words slots some_buffer first count all =
           record {
             events = [];
             led = record { run = opened; counts = refl };
-            told = λ w v at there. one_told w (first_view e) v at (told_now [] 0 (first_view e) refl refl refl refl refl (first_story e));
+            told =
+                λ w v at there. one_told w (first_view e) v at (told_now [] 0 (first_view e) refl refl refl refl refl
+                (first_story e));
           };
     }
   where
@@ -178,4 +180,11 @@ laid_first t e tag asked words slots word_count slot_count first count inside ro
 -- the first seat is sound
 pub sound_first : {B : Type 0} (t : TableId) (e : Setup) → IsLaid t e → IsSound {B = B} t (first_view e, [])
 sound_first t e laid =
-    record { laid = laid; share = omega arith; carries = refl; story = first_story e; within = record { held = λ i k. absurd (omega (arith, k.1)); charge = λ o k. absurd (omega (arith, k.1)) }; settled = record { named = refl; unsaid = refl } }
+    record {
+      laid = laid;
+      share = omega arith;
+      carries = refl;
+      story = first_story e;
+      within = record { held = λ i k. absurd (omega (arith, k.1)); charge = λ o k. absurd (omega (arith, k.1)) };
+      settled = record { named = refl; unsaid = refl };
+    }

@@ -108,10 +108,13 @@ module _ {B : Type 0} (r : Reading B) (e : Setup) (s : State (Option B) SeatView
   log_now = record { number = id; story = rule.reached.events }
 
   module _ (v : SeatView) (is : get_elem? s.views id ≡ some v) (there : 0 < v.book.account.share) where
-    -- a story leads to the seat's book, where it leads to the marking and the counts of a table in which the seat has that book
+    -- a story leads to the seat's book, where it leads to the marking and the counts of a table in which the seat has
+    -- that book
     pub leads_here :
-        (w : SeatView) (story : List Event) → w.log ≡ record { number = id; story = story } → w.book.setup ≡ v.book.setup
-        → (m : Marking) (counts : List Counts) → m.accounts ≡ map account_of (set s.views id w) → counts ≡ map view_counts (set s.views id w) → LeadTo e story m counts
+        (w : SeatView) (story : List Event) → w.log ≡ record { number = id; story = story }
+        → w.book.setup ≡ v.book.setup
+        → (m : Marking) (counts : List Counts) → m.accounts ≡ map account_of (set s.views id w)
+        → counts ≡ map view_counts (set s.views id w) → LeadTo e story m counts
         → LeadsToBook w.log w.book
     leads_here w story log setup m counts accounts each led =
         let here = set_here s.views id w (at_below s.views id v is) in
@@ -119,19 +122,24 @@ module _ {B : Type 0} (r : Reading B) (e : Setup) (s : State (Option B) SeatView
           m,
           counts,
           subst (λ (f : Setup). LeadTo f story m counts) (sym (setup ∙ rule.same_setup id v is there)) led,
-          subst (λ (xs : List Account). StandsAt xs id w.book.account) (sym accounts) (at_map account_of (set s.views id w) id w here),
-          subst (λ (cs : List Counts). StandsAt cs id (view_counts w)) (sym each) (at_map view_counts (set s.views id w) id w here),
+          subst (λ (xs : List Account). StandsAt xs id w.book.account) (sym accounts)
+              (at_map account_of (set s.views id w) id w here),
+          subst (λ (cs : List Counts). StandsAt cs id (view_counts w)) (sym each)
+              (at_map view_counts (set s.views id w) id w here),
         )
 
     -- each log is told, where the seat's has its event
     pub told_after :
-        (kind : Kind) (w : SeatView) → w.log ≡ log_after kind → w.unsaid ≡ [] → w.taken ≡ [] → w.named ≡ true → w.from ≡ None → w.book.setup ≡ v.book.setup
-        → (m : Marking) (counts : List Counts) → m.accounts ≡ map account_of (set s.views id w) → counts ≡ map view_counts (set s.views id w)
+        (kind : Kind) (w : SeatView) → w.log ≡ log_after kind → w.unsaid ≡ [] → w.taken ≡ [] → w.named ≡ true
+        → w.from ≡ None → w.book.setup ≡ v.book.setup
+        → (m : Marking) (counts : List Counts) → m.accounts ≡ map account_of (set s.views id w)
+        → counts ≡ map view_counts (set s.views id w)
         → LeadTo e (rule.reached.events ++ record { worker = id; kind = kind } ∷ []) m counts
         → AreTold (rule.reached.events ++ record { worker = id; kind = kind } ∷ []) (set s.views id w)
     told_after kind w log unsaid taken named from setup m counts accounts each led =
         told_step rule.reached.events s.views rule.reached.told id v is there kind w log unsaid taken named from
-        (leads_here w (rule.reached.events ++ record { worker = id; kind = kind } ∷ []) log setup m counts accounts each led)
+        (leads_here w (rule.reached.events ++ record { worker = id; kind = kind } ∷ []) log setup m counts accounts each
+        led)
 
     -- and the seat did this alone
     pub did_after : v.named ≡ true → v.unsaid ≡ [] → (kind : Kind) → Did v.log (kind ∷ []) (log_after kind)
@@ -195,12 +203,19 @@ module _ {B : Type 0} (r : Reading B) (e : Setup) (s : State (Option B) SeatView
     pub happened :
         (kind : Kind) → 0 < v.book.account.share → may.Allows e (marking_of r e s) id v.book.account kind → (t : State (Option B) SeatView)
         → marking_of r e t ≡ effect (marking_of r e s) id v.book.account kind → map view_counts t.views ≡ counted (marking_of r e s) (map view_counts s.views) id kind
-        → ((x : Marking) (counts : List Counts) → x.accounts ≡ map account_of t.views → counts ≡ map view_counts t.views → LeadTo e (rule.reached.events ++ record { worker = id; kind = kind } ∷ []) x counts
+        → ((x : Marking) (counts : List Counts) → x.accounts ≡ map account_of t.views
+        → counts ≡ map view_counts t.views → LeadTo e (rule.reached.events ++ record { worker = id; kind = kind } ∷ [])
+        x counts
         → AreTold (rule.reached.events ++ record { worker = id; kind = kind } ∷ []) t.views)
         → Reached r e t
     happened kind there can t marking counts told =
         let led = happened_led kind there can t marking counts in
-        record { events = rule.reached.events ++ record { worker = id; kind = kind } ∷ []; led = led; told = told (marking_of r e t) (map view_counts t.views) refl refl led }
+        record {
+          events = rule.reached.events ++ record { worker = id; kind = kind } ∷ [];
+          led = led;
+          told = told
+              (marking_of r e t) (map view_counts t.views) refl refl led;
+        }
 
 -- a slot that is out goes home without its buffer, and the rule still holds
 module _ {B : Type 0} (r : Reading B) (e : Setup) (s : State (Option B) SeatView) (rule : Rule r e s) (id : ℕ) (v : SeatView) (is : get_elem? s.views id ≡ some v) where
@@ -210,7 +225,8 @@ module _ {B : Type 0} (r : Reading B) (e : Setup) (s : State (Option B) SeatView
       nothing_happened r e s rule t
       (agrees (marking_of r e t) (marking_of r e s) (λ q. refl) (λ i. refl) (λ o. refl) same refl (accounts_same r e s rule id v is (free v) refl)) (counts_same r e s rule id v is (free v) refl)
       (told_set rule.reached.events s.views id (free v) (λ k u other at share. rule.reached.told k u at share)
-      (λ share. told_same rule.reached.events id v (rule.reached.told id v is share) (free v) refl refl refl refl refl refl))
+      (λ share. told_same rule.reached.events id v (rule.reached.told id v is share) (free v) refl refl refl refl refl
+      refl))
 
   pub given_back : (n : ℕ) → v.out ≡ n → Rule r e (record { words = s.words; homes = put_back s.homes (slots_of n); views = set s.views id (free v) })
   given_back zero none_out =
@@ -267,6 +283,7 @@ module _ {B : Type 0} (r : Reading B) (e : Setup) (slots id word : ℕ) (f : ℕ
 
 -- the story of a seat that said all that it did leads to its book
 pub leads_now :
-    {B : Type 0} (r : Reading B) (e : Setup) (t : State (Option B) SeatView) → Rule r e t → (id : ℕ) (w : SeatView) → get_elem? t.views id ≡ some w → 0 < w.book.account.share → w.named ≡ true → w.unsaid ≡ []
+    {B : Type 0} (r : Reading B) (e : Setup) (t : State (Option B) SeatView) → Rule r e t → (id : ℕ) (w : SeatView)
+    → get_elem? t.views id ≡ some w → 0 < w.book.account.share → w.named ≡ true → w.unsaid ≡ []
     → LeadsToBook w.log w.book
 leads_now r e t rule id w at there = (rule.reached.told id w at there).leads

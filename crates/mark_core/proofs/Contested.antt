@@ -1,4 +1,5 @@
--- Between a load and a failed exchange of one worker another one exchanged that head: else the head is the one loaded, or the worker was taken in.
+-- Between a load and a failed exchange of one worker another one exchanged that head: else the head is the one loaded,
+-- or the worker was taken in.
 use Rattle.std.proofs.Common.{◌≡◌, ◌≢◌, ◌⊎◌, ℕ, suc, List, [], ◌∷◌, ◌++◌, Option, Some, None, set, slice_index_or, ap, sym, refl, subst, ◌∙◌, inl, inr, ⊎_elim, arith}
 use native.Mathlib.Decide.{ℕ_discrete}
 use Rattle.tagged_index.specs.Head.{Head, after}
@@ -23,12 +24,16 @@ head_beside Full Empty x f other = refl
 head_beside Empty Full x f other = refl
 head_beside Empty Empty x f other = absurd (other refl)
 
-popped_head : (m : Marking) (w : ℕ) (a : Account) (p q : Which) (x : Option ℕ) (y : Option (Option ℕ)) → (p ≡ q → ⊥) → (popped m w a p x y).head q ≡ m.head q
+popped_head :
+    (m : Marking) (w : ℕ) (a : Account) (p q : Which) (x : Option ℕ) (y : Option (Option ℕ)) → (p ≡ q → ⊥)
+    → (popped m w a p x y).head q ≡ m.head q
 popped_head m w a p q None y other = refl
 popped_head m w a p q (Some i) None other = refl
 popped_head m w a p q (Some i) (Some l) other = head_beside p q (after (m.head p) l) m.head other
 
-head_kept : (m : Marking) (w : ℕ) (a : Account) (kind : Kind) (q : Which) → (Exchanges q kind → ⊥) → (effect m w a kind).head q ≡ m.head q
+head_kept :
+    (m : Marking) (w : ℕ) (a : Account) (kind : Kind) (q : Which) → (Exchanges q kind → ⊥)
+    → (effect m w a kind).head q ≡ m.head q
 head_kept m w a (Claim o) q other = refl
 head_kept m w a (Finish o) q other = refl
 head_kept m w a (Split units) q other = refl
@@ -60,7 +65,8 @@ look_join : (q : Which) (a b : Account) → (look_of (after_join a b) q).head �
 look_join Full a b = refl
 look_join Empty a b = refl
 
-look_load : (p q : Which) (h : Head) (a : Account) → (p ≡ q → ⊥) → (look_of (after_load p h a) q).head ≡ (look_of a q).head
+look_load :
+    (p q : Which) (h : Head) (a : Account) → (p ≡ q → ⊥) → (look_of (after_load p h a) q).head ≡ (look_of a q).head
 look_load Full Full h a other = absurd (other refl)
 look_load Full Empty h a other = refl
 look_load Empty Full h a other = refl
@@ -72,11 +78,14 @@ look_link Full Empty l a = refl
 look_link Empty Full l a = refl
 look_link Empty Empty l a = refl
 
-look_pop : (q : Which) (i : ℕ) (items : List ℕ) (a : Account) → (look_of (after_pop i items a) q).head ≡ (look_of a q).head
+look_pop :
+    (q : Which) (i : ℕ) (items : List ℕ) (a : Account) → (look_of (after_pop i items a) q).head ≡ (look_of a q).head
 look_pop Full i items a = refl
 look_pop Empty i items a = refl
 
-look_push : (p q : Which) (i : ℕ) (items : List ℕ) (a : Account) → (look_of (after_push p i items a) q).head ≡ (look_of a q).head
+look_push :
+    (p q : Which) (i : ℕ) (items : List ℕ) (a : Account)
+    → (look_of (after_push p i items a) q).head ≡ (look_of a q).head
 look_push p Full i items a = refl
 look_push p Empty i items a = refl
 
@@ -97,7 +106,9 @@ module _ (m : Marking) (w : ℕ) (a : Account) (at : StandsAt m.accounts w a) (q
   abbrev Still : Marking → Type 0
   Still n = (b : Account) × StandsAt n.accounts w b × ((look_of b q).head ≡ (look_of a q).head)
 
-  still_set : (b : Account) → (look_of b q).head ≡ (look_of a q).head → (b' : Account) × StandsAt (set m.accounts w b) w b' × ((look_of b' q).head ≡ (look_of a q).head)
+  still_set :
+      (b : Account) → (look_of b q).head ≡ (look_of a q).head
+      → (b' : Account) × StandsAt (set m.accounts w b) w b' × ((look_of b' q).head ≡ (look_of a q).head)
   still_set b same = (b, set_here m.accounts w b a at, same)
 
   popped_still : (p : Which) (x : Option ℕ) (y : Option (Option ℕ)) → Still (popped m w a p x y)
@@ -110,11 +121,14 @@ module _ (m : Marking) (w : ℕ) (a : Account) (at : StandsAt m.accounts w a) (q
   own_still e (Claim o) can other = still_set (after_claim o (m.mark o) a) (look_claim q o (m.mark o) a)
   own_still e (Finish o) can other = still_set (after_finish o a) (look_finish q o a)
   own_still e (Split units) can other =
-      let here = still_set (after_split units a) (look_split q units a) in (here.0, at_longer (set m.accounts w (after_split units a)) (part units ∷ []) w here.0 here.1, here.2)
+      let here = still_set (after_split units a) (look_split q units a) in
+      (here.0, at_longer (set m.accounts w (after_split units a)) (part units ∷ []) w here.0 here.1, here.2)
   own_still e (Join v) can other =
       let both = after_join a (account_at m.accounts v) in
-      let here = still_set both (look_join q a (account_at m.accounts v)) in (here.0, set_else (set m.accounts w both) v w no_share (λ same. can.0 (sym same)) ∙ here.1, here.2)
-  own_still e (Load p) can other = still_set (after_load p (m.head p) a) (look_load p q (m.head p) a (λ same. other (ap Load same)))
+      let here = still_set both (look_join q a (account_at m.accounts v)) in
+      (here.0, set_else (set m.accounts w both) v w no_share (λ same. can.0 (sym same)) ∙ here.1, here.2)
+  own_still e (Load p) can other =
+      still_set (after_load p (m.head p) a) (look_load p q (m.head p) a (λ same. other (ap Load same)))
   own_still e (LoadLink p) can other =
       let link = last_link m.link (look_of a p).head in still_set (after_load_link p link a) (look_link p q link a)
   own_still e (StoreLink i l) can other = (a, at, refl)
@@ -132,20 +146,26 @@ module _ (m : Marking) (w : ℕ) (a : Account) (at : StandsAt m.accounts w a) (q
   beside : (u : ℕ) (b : Account) → w ≢ u → StandsAt (set m.accounts u b) w a
   beside u b apart = set_else m.accounts u w b apart ∙ at
 
-  popped_left : (u : ℕ) (b : Account) → w ≢ u → (p : Which) (x : Option ℕ) (y : Option (Option ℕ)) → Left (popped m u b p x y)
+  popped_left :
+      (u : ℕ) (b : Account) → w ≢ u → (p : Which) (x : Option ℕ) (y : Option (Option ℕ)) → Left (popped m u b p x y)
   popped_left u b apart p None y = inl at
   popped_left u b apart p (Some i) None = inl at
   popped_left u b apart p (Some i) (Some l) = inl (beside u _ apart)
 
-  join_left : (u v : ℕ) (b : Account) → w ≢ u → Dec (w ≡ v) → StandsAt (set (set m.accounts u b) v no_share) w a ⊎ StandsAt (set (set m.accounts u b) v no_share) w no_share
+  join_left :
+      (u v : ℕ) (b : Account) → w ≢ u → Dec (w ≡ v)
+      → StandsAt (set (set m.accounts u b) v no_share) w a ⊎ StandsAt (set (set m.accounts u b) v no_share) w no_share
   join_left u v b apart (yes same) =
-      inr (subst (λ k. StandsAt (set (set m.accounts u b) k no_share) w no_share) same (set_here (set m.accounts u b) w no_share a (beside u b apart)))
+      inr (subst (λ k. StandsAt (set (set m.accounts u b) k no_share) w no_share) same
+      (set_here (set m.accounts u b) w no_share a (beside u b apart)))
   join_left u v b apart (no other) = inl (set_else (set m.accounts u b) v w no_share other ∙ beside u b apart)
 
   others_left : (u : ℕ) (b : Account) (kind : Kind) → w ≢ u → Left (effect m u b kind)
   others_left u b (Claim o) apart = inl (beside u (after_claim o (m.mark o) b) apart)
   others_left u b (Finish o) apart = inl (beside u (after_finish o b) apart)
-  others_left u b (Split units) apart = inl (at_longer (set m.accounts u (after_split units b)) (part units ∷ []) w a (beside u (after_split units b) apart))
+  others_left u b (Split units) apart =
+      inl (at_longer (set m.accounts u (after_split units b)) (part units ∷ []) w a
+      (beside u (after_split units b) apart))
   others_left u b (Join v) apart = join_left u v (after_join b (account_at m.accounts v)) apart (ℕ_discrete w v)
   others_left u b (Load p) apart = inl (beside u (after_load p (m.head p) b) apart)
   others_left u b (LoadLink p) apart = inl (beside u (after_load_link p (last_link m.link (look_of b p).head) b) apart)
@@ -180,47 +200,73 @@ dec_exchanges q LoadIdle = no (λ h. h)
 
 module _ (e : Setup) (q : Which) where
   -- after an event that exchanges another head or none, and is no load by this worker
-  own_knows : (m : Marking) (event : Event) → IsPossible e m event → (Exchanges q event.kind → ⊥) → (event.kind ≡ Load q → ⊥) → Knows q event.worker m → Knows q event.worker (happens m event)
+  own_knows :
+      (m : Marking) (event : Event) → IsPossible e m event → (Exchanges q event.kind → ⊥) → (event.kind ≡ Load q → ⊥)
+      → Knows q event.worker m → Knows q event.worker (happens m event)
   own_knows m event can leaves loads knows =
       let w = event.worker in
       let one : knows.0 ≡ can.0 = at_one m.accounts w knows.0 can.0 knows.1 can.1.0 in
       let look : (look_of can.0 q).head ≡ Some (m.head q) =
-      ⊎_elim (λ gone. absurd (omega (arith, can.1.1, gone, ap (λ (x : Account). x.share) one))) (λ had. ap (λ (x : Account). (look_of x q).head) (sym one) ∙ had) knows.2 in
+      ⊎_elim (λ gone. absurd (omega (arith, can.1.1, gone, ap (λ (x : Account). x.share) one)))
+      (λ had. ap (λ (x : Account). (look_of x q).head) (sym one) ∙ had) knows.2 in
       let still = own_still m w can.0 can.1.0 q e event.kind can.2 loads in
-      let after_it : Knows q w (effect m w can.0 event.kind) = (still.0, still.1, inr (still.2 ∙ look ∙ ap {B = Option Head} Some (sym (head_kept m w can.0 event.kind q leaves)))) in
+      let after_it : Knows q w (effect m w can.0 event.kind) = (
+        still.0,
+        still.1,
+        inr (still.2 ∙ look ∙ ap {B = Option Head} Some
+            (sym (head_kept m w can.0 event.kind q leaves))),
+      ) in
       subst (λ x. Knows q w (effect m w x event.kind)) (sym (at_get_or m.accounts w can.0 no_share can.1.0)) after_it
 
-  others_know : (w : ℕ) (m : Marking) (event : Event) → w ≢ event.worker → (Exchanges q event.kind → ⊥) → Knows q w m → Knows q w (happens m event)
+  others_know :
+      (w : ℕ) (m : Marking) (event : Event) → w ≢ event.worker → (Exchanges q event.kind → ⊥) → Knows q w m
+      → Knows q w (happens m event)
   others_know w m event apart leaves knows =
       let b = account_at m.accounts event.worker in
       let same = head_kept m event.worker b event.kind q leaves in
       ⊎_elim
-      (λ stood. (knows.0, stood, ⊎_elim (λ gone. inl gone) (λ had. inr (had ∙ ap {B = Option Head} Some (sym same))) knows.2))
+      (λ stood. (
+        knows.0,
+        stood,
+        ⊎_elim (λ gone. inl gone) (λ had. inr (had ∙ ap {B = Option Head} Some (sym same)))
+            knows.2,
+      ))
       (λ gone. (no_share, gone, inl refl))
       (others_left m w knows.0 knows.1 q event.worker b event.kind apart)
 
   contested :
-      (w : ℕ) (between : List Event) (first last : Marking) → Knows q w first → Run e first (between ++ record { worker = w; kind = Fail q } ∷ []) last
-      → ((k : ℕ) (event : Event) → StandsAt between k event → event.worker ≡ w → (event.kind ≡ Load q → ⊥) × (Exchanges q event.kind → ⊥))
+      (w : ℕ) (between : List Event) (first last : Marking) → Knows q w first
+      → Run e first (between ++ record { worker = w; kind = Fail q } ∷ []) last
+      → ((k : ℕ) (event : Event) → StandsAt between k event → event.worker ≡ w
+      → (event.kind ≡ Load q → ⊥) × (Exchanges q event.kind → ⊥))
       → (k : ℕ) × (event : Event) × StandsAt between k event × (event.worker ≢ w) × Exchanges q event.kind
   contested w [] first last knows run own =
       let can = run.0 in
       let one : knows.0 ≡ can.0 = at_one first.accounts w knows.0 can.0 knows.1 can.1.0 in
-      absurd (⊎_elim (λ gone. omega (arith, can.1.1, gone, ap (λ (x : Account). x.share) one)) (λ had. can.2.2 (same_head (sym had ∙ ap (λ (x : Account). (look_of x q).head) one ∙ can.2.1))) knows.2)
+      absurd (⊎_elim (λ gone. omega (arith, can.1.1, gone, ap (λ (x : Account). x.share) one))
+      (λ had. can.2.2 (same_head (sym had ∙ ap (λ (x : Account). (look_of x q).head) one ∙ can.2.1))) knows.2)
     where
       same_head : {g h : Head} → Some g ≡ Some h → g ≡ h
       same_head e = cc
   contested w (event ∷ rest) first last knows run own =
-      go (ℕ_discrete event.worker w) (dec_exchanges q event.kind) (λ on. contested w rest (happens first event) last on run.1 (λ k ev at. own (suc k) ev at))
+      go (ℕ_discrete event.worker w) (dec_exchanges q event.kind)
+      (λ on. contested w rest (happens first event) last on run.1 (λ k ev at. own (suc k) ev at))
     where
-      go : Dec (event.worker ≡ w) → Dec (Exchanges q event.kind) → (Knows q w (happens first event) → (k : ℕ) × (ev : Event) × StandsAt rest k ev × (ev.worker ≢ w) × Exchanges q ev.kind) → (k : ℕ) × (ev : Event) × StandsAt (event ∷ rest) k ev × (ev.worker ≢ w) × Exchanges q ev.kind
+      go :
+          Dec (event.worker ≡ w) → Dec (Exchanges q event.kind)
+          → (Knows q w (happens first event)
+          → (k : ℕ) × (ev : Event) × StandsAt rest k ev × (ev.worker ≢ w) × Exchanges q ev.kind)
+          → (k : ℕ) × (ev : Event) × StandsAt (event ∷ rest) k ev × (ev.worker ≢ w) × Exchanges q ev.kind
       go (yes mine) d later =
           let no = own 0 event refl mine in
-          let found = later (subst (λ x. Knows q x (happens first event)) mine (own_knows first event run.0 no.1 no.0 (subst (λ x. Knows q x first) (sym mine) knows))) in
+          let found =
+          later (subst (λ x. Knows q x (happens first event)) mine
+          (own_knows first event run.0 no.1 no.0 (subst (λ x. Knows q x first) (sym mine) knows))) in
           (suc found.0, found.1, found.2, found.3, found.4)
       go (no theirs) (yes exchanged) later = (0, event, refl, theirs, exchanged)
       go (no theirs) (no leaves) later =
-          let found = later (others_know w first event (λ same. theirs (sym same)) leaves knows) in (suc found.0, found.1, found.2, found.3, found.4)
+          let found = later (others_know w first event (λ same. theirs (sym same)) leaves knows) in
+          (suc found.0, found.1, found.2, found.3, found.4)
 
 look_loaded : (q : Which) (h : Head) (a : Account) → (look_of (after_load q h a) q).head ≡ Some h
 look_loaded Full h a = refl
@@ -230,4 +276,5 @@ pub losses_are_contested : LossesAreContested
 losses_are_contested e first last w q between run own =
     let a = account_at first.accounts w in
     let loaded = after_load q (first.head q) a in
-    contested e q w between (happens first (record { worker = w; kind = Load q })) last (loaded, set_here first.accounts w loaded run.0.0 run.0.1.0, inr (look_loaded q (first.head q) a)) run.1 own
+    contested e q w between (happens first (record { worker = w; kind = Load q })) last
+    (loaded, set_here first.accounts w loaded run.0.0 run.0.1.0, inr (look_loaded q (first.head q) a)) run.1 own

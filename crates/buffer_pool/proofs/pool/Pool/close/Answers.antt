@@ -18,5 +18,7 @@ returns g c =
     ends_of buffer_reading (setup_of c.self.inside.table.shared.key) seat.id seat.me.0 words (slots_items c.close_with-closed.result.slots) first (ap (λ (n : ℕ). 32 + n) c.self.invariant.1)
     c.close_with-closed.ensures.values.2 (ap (λ (x : Holder). x.book.account.share) is ∙ c.requires.share) (ap (λ (x : Holder). x.book.account.held) is ∙ c.requires.held)
     (ap (λ (x : Holder). x.book.account.charge) is ∙ c.requires.charge) c.worker.invariant.settled in
-    subst (λ (ws : List ℕ). (ended : Ends c.args.worker.book (drop first ws)) × EndsStory c.args.worker.log ended.events × (ended.own.0 ≡ c.args.worker.log.number)) (sym (ap slots_items c.empty_slots.ensures.words))
-    (subst (λ (x : Holder). (ended : Ends x.book (drop first words)) × EndsStory x.log ended.events × (ended.own.0 ≡ x.log.number)) is told)
+    subst (λ (ws : List ℕ). (ended : Ends c.args.worker.book (drop first ws)) × EndsStory c.args.worker.log ended.events
+    × (ended.own.0 ≡ c.args.worker.log.number)) (sym (ap slots_items c.empty_slots.ensures.words))
+    (subst (λ (x : Holder). (ended : Ends x.book (drop first words)) × EndsStory x.log ended.events
+    × (ended.own.0 ≡ x.log.number)) is told)

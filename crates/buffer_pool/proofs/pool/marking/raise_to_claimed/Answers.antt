@@ -36,7 +36,12 @@ returns-clause-sound g c =
     let b : me.0.book.setup.buffers ≡ e.buffers = omega (arith, slots, c.requires.table.1.slots, c.requires.sound.laid.slots) in
     let word : 32 + c.args.buffers + c.args.object ≡ mark_word me.0.book.setup c.args.object = omega (arith, c.requires.table.2, b) in
     sound_same c.args.seat.now.table_id c.fetch_max.new.seat.table_id c.fetch_max.new.seat.me (rested me c.fetch_max.new.seat.me.0.log (claimed c.args.object c.fetch_max.result me.0.book))
-    (sound_claimed c.args.seat.now.table_id me c.requires.sound c.fetch_max.new.seat.me.0.log c.args.object c.fetch_max.result (claimable_within c.args.seat.now.table_id me.0.book.setup me.0.book.account c.args.object c.requires.sound.laid c.requires.can) (same_story c.fetch_max.new.seat.me (rested me c.fetch_max.new.seat.me.0.log (claimed c.args.object c.fetch_max.result me.0.book)) (c.fetch_max.ensures.2 c.args.object word).0 (c.fetch_max.ensures.2 c.args.object word).2)) c.fetch_max.ensures.0 (c.fetch_max.ensures.2 c.args.object word).0
+    (sound_claimed c.args.seat.now.table_id me c.requires.sound c.fetch_max.new.seat.me.0.log c.args.object
+    c.fetch_max.result (claimable_within c.args.seat.now.table_id me.0.book.setup me.0.book.account c.args.object
+    c.requires.sound.laid c.requires.can) (same_story c.fetch_max.new.seat.me
+    (rested me c.fetch_max.new.seat.me.0.log (claimed c.args.object c.fetch_max.result me.0.book))
+    (c.fetch_max.ensures.2 c.args.object word).0 (c.fetch_max.ensures.2 c.args.object
+    word).2)) c.fetch_max.ensures.0 (c.fetch_max.ensures.2 c.args.object word).0
 
 pub returns-clause-told : goal.returns-clause-told
 returns-clause-told g c =

@@ -45,7 +45,10 @@ take_top-requires-clause-sound g c =
     let one = c.load_head-head.new.seat in
     let two = c.load_link-link.new.seat in
     let first = c.load_head-head.ensures.sound in (
-      sound_same one.table_id two.table_id two.me (rested one.me two.me.0.log (link_loaded q l one.me.0.book)) (sound_linked one.table_id one.me first two.me.0.log q l (same_story two.me (rested one.me two.me.0.log (link_loaded q l one.me.0.book)) c.load_link-link.ensures.told c.load_link-link.ensures.story)) c.load_link-link.ensures.same.0 c.load_link-link.ensures.told,
+      sound_same one.table_id two.table_id two.me (rested one.me two.me.0.log (link_loaded q l one.me.0.book))
+          (sound_linked one.table_id one.me first two.me.0.log q l
+          (same_story two.me (rested one.me two.me.0.log (link_loaded q l one.me.0.book)) c.load_link-link.ensures.told
+          c.load_link-link.ensures.story)) c.load_link-link.ensures.same.0 c.load_link-link.ensures.told,
       bare_rested two.me one.me two.me.0.log (link_loaded q l one.me.0.book) c.load_link-link.ensures.told,
     )
 
@@ -62,10 +65,16 @@ returns-in-Some-take_top-clause-sound g c =
     let b = c.in-Some-take_top.buffer in
     let told = c.in-Some-take_top.ensures.told in
     let first = c.load_head-head.ensures.sound in
-    let second = sound_same one.table_id two.table_id two.me (rested one.me two.me.0.log (link_loaded q l one.me.0.book)) (sound_linked one.table_id one.me first two.me.0.log q l (same_story two.me (rested one.me two.me.0.log (link_loaded q l one.me.0.book)) c.load_link-link.ensures.told c.load_link-link.ensures.story)) c.load_link-link.ensures.same.0 c.load_link-link.ensures.told in
+    let second =
+    sound_same one.table_id two.table_id two.me (rested one.me two.me.0.log (link_loaded q l one.me.0.book))
+    (sound_linked one.table_id one.me first two.me.0.log q l
+    (same_story two.me (rested one.me two.me.0.log (link_loaded q l one.me.0.book)) c.load_link-link.ensures.told
+    c.load_link-link.ensures.story)) c.load_link-link.ensures.same.0 c.load_link-link.ensures.told in
     let setup : two.me.0.book.setup ≡ me.0.book.setup = (λ k. (c.load_link-link.ensures.told k).0.book.setup) ∙ (λ k. (c.load_head-head.ensures.told k).0.book.setup) ∙ setup_loaded q h me.0.book in
     let below = subst (λ (e : Setup). c.in-Some.index < e.buffers) (sym setup) (c.load_head-head.ensures.within c.in-Some.index (sym c.in-Some.ensures.same)) in
-    sound_same two.table_id three.table_id three.me three.me (sound_popped two.table_id two.me second three.me c.in-Some.index b.items.items below told.ours.objects told.slots told.out told.book told.settled told.story) c.take_top.ensures.same.0 refl
+    sound_same two.table_id three.table_id three.me three.me
+    (sound_popped two.table_id two.me second three.me c.in-Some.index b.items.items below told.ours.objects told.slots
+    told.out told.book told.settled told.story) c.take_top.ensures.same.0 refl
 
 pub returns-in-None-clause-sound : goal.returns-in-None-clause-sound
 returns-in-None-clause-sound g c =
@@ -78,8 +87,15 @@ returns-in-None-clause-sound g c =
     let two = c.load_link-link.new.seat in
     let three = c.take_top.new.seat in
     let first = c.load_head-head.ensures.sound in
-    let second = sound_same one.table_id two.table_id two.me (rested one.me two.me.0.log (link_loaded q l one.me.0.book)) (sound_linked one.table_id one.me first two.me.0.log q l (same_story two.me (rested one.me two.me.0.log (link_loaded q l one.me.0.book)) c.load_link-link.ensures.told c.load_link-link.ensures.story)) c.load_link-link.ensures.same.0 c.load_link-link.ensures.told in
-    sound_same two.table_id three.table_id three.me (rested two.me three.me.0.log (failed two.me.0.book)) (sound_failed two.table_id two.me second three.me.0.log (same_story three.me (rested two.me three.me.0.log (failed two.me.0.book)) c.in-None.ensures.told.0 c.in-None.ensures.told.2)) c.take_top.ensures.same.0 c.in-None.ensures.told.0
+    let second =
+    sound_same one.table_id two.table_id two.me (rested one.me two.me.0.log (link_loaded q l one.me.0.book))
+    (sound_linked one.table_id one.me first two.me.0.log q l
+    (same_story two.me (rested one.me two.me.0.log (link_loaded q l one.me.0.book)) c.load_link-link.ensures.told
+    c.load_link-link.ensures.story)) c.load_link-link.ensures.same.0 c.load_link-link.ensures.told in
+    sound_same two.table_id three.table_id three.me (rested two.me three.me.0.log (failed two.me.0.book))
+    (sound_failed two.table_id two.me second three.me.0.log
+    (same_story three.me (rested two.me three.me.0.log (failed two.me.0.book)) c.in-None.ensures.told.0
+    c.in-None.ensures.told.2)) c.take_top.ensures.same.0 c.in-None.ensures.told.0
 
 pub returns-in-Some-take_top-clause-did : goal.returns-in-Some-take_top-clause-did
 returns-in-Some-take_top-clause-did g c =

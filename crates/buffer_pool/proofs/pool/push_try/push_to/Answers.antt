@@ -51,12 +51,26 @@ returns-in-Ok-clause-sound g c =
     let index : c.held.inside.index ≡ c.args.held.index = ap (λ (x : HeldBuffer). x.index) c.held.view_is in
     let two = c.store_link.new.seat in
     let three = c.put_top.new.seat in
-    let second = sound_same one.table_id two.table_id two.me (record (noted two.me.0.log one.me.0) { out = suc c.held.inside.index; out_link = low_of h.index }, (c.held.inside.index, None) ∷ []) (sound_stored one.table_id one.me first two.me.0.log c.held.inside.index (low_of h.index) (same_story two.me (record (noted two.me.0.log one.me.0) { out = suc c.held.inside.index; out_link = low_of h.index }, (c.held.inside.index, None) ∷ []) c.store_link.ensures.told c.store_link.ensures.story)) c.store_link.ensures.same.0 c.store_link.ensures.told in
+    let second =
+    sound_same one.table_id two.table_id two.me (
+      record (noted two.me.0.log one.me.0) { out = suc c.held.inside.index; out_link = low_of h.index },
+      (c.held.inside.index, None) ∷ [],
+    )
+    (sound_stored one.table_id one.me first two.me.0.log c.held.inside.index (low_of h.index)
+    (same_story two.me (
+      record (noted two.me.0.log one.me.0) { out = suc c.held.inside.index; out_link = low_of h.index },
+      (c.held.inside.index, None) ∷ [],
+    )
+    c.store_link.ensures.told c.store_link.ensures.story)) c.store_link.ensures.same.0 c.store_link.ensures.told in
     let held : two.me.0.book.account.held ≡ me.0.book.account.held = (λ k. (c.store_link.ensures.told k).0.book.account.held) ∙ (λ k. (c.load_head-head.ensures.told k).0.book.account.held) ∙ held_loaded q h me.0.book in
     let charge : two.me.0.book.account.charge ≡ me.0.book.account.charge = (λ k. (c.store_link.ensures.told k).0.book.account.charge) ∙ (λ k. (c.load_head-head.ensures.told k).0.book.account.charge) ∙ charge_loaded q h me.0.book in
     let mine = subst (λ xs. 0 < times c.args.held.index xs) (sym held) (stands_times me.0.book.account.held c.args.held.index c.requires.may.held) in
     let part = subst (λ xs. IsPart c.args.held.items xs) (sym charge) c.requires.may.charged in
-    sound_same two.table_id three.table_id three.me (rested two.me three.me.0.log (pushed q c.args.held.index c.args.held.items two.me.0.book)) (sound_pushed two.table_id two.me second three.me.0.log q c.args.held.index c.args.held.items mine part (same_story three.me (rested two.me three.me.0.log (pushed q c.args.held.index c.args.held.items two.me.0.book)) c.in-Ok.ensures.told.0 c.in-Ok.ensures.told.2)) c.put_top.ensures.same.0 c.in-Ok.ensures.told.0
+    sound_same two.table_id three.table_id three.me (rested two.me three.me.0.log
+    (pushed q c.args.held.index c.args.held.items two.me.0.book)) (sound_pushed two.table_id two.me second
+    three.me.0.log q c.args.held.index c.args.held.items mine part
+    (same_story three.me (rested two.me three.me.0.log (pushed q c.args.held.index c.args.held.items two.me.0.book))
+    c.in-Ok.ensures.told.0 c.in-Ok.ensures.told.2)) c.put_top.ensures.same.0 c.in-Ok.ensures.told.0
 
 pub returns-in-Err-clause-sound : goal.returns-in-Err-clause-sound
 returns-in-Err-clause-sound g c =
@@ -69,9 +83,24 @@ returns-in-Err-clause-sound g c =
     let index : c.held.inside.index ≡ c.args.held.index = ap (λ (x : HeldBuffer). x.index) c.held.view_is in
     let two = c.store_link.new.seat in
     let three = c.put_top.new.seat in
-    let second = sound_same one.table_id two.table_id two.me (record (noted two.me.0.log one.me.0) { out = suc c.held.inside.index; out_link = low_of h.index }, (c.held.inside.index, None) ∷ []) (sound_stored one.table_id one.me first two.me.0.log c.held.inside.index (low_of h.index) (same_story two.me (record (noted two.me.0.log one.me.0) { out = suc c.held.inside.index; out_link = low_of h.index }, (c.held.inside.index, None) ∷ []) c.store_link.ensures.told c.store_link.ensures.story)) c.store_link.ensures.same.0 c.store_link.ensures.told in
+    let second =
+    sound_same one.table_id two.table_id two.me (
+      record (noted two.me.0.log one.me.0) { out = suc c.held.inside.index; out_link = low_of h.index },
+      (c.held.inside.index, None) ∷ [],
+    )
+    (sound_stored one.table_id one.me first two.me.0.log c.held.inside.index (low_of h.index)
+    (same_story two.me (
+      record (noted two.me.0.log one.me.0) { out = suc c.held.inside.index; out_link = low_of h.index },
+      (c.held.inside.index, None) ∷ [],
+    )
+    c.store_link.ensures.told c.store_link.ensures.story)) c.store_link.ensures.same.0 c.store_link.ensures.told in
     let out : two.me.0.out ≡ suc c.args.held.index = (λ k. (c.store_link.ensures.told k).0.out) ∙ ap suc index in
-    sound_same two.table_id three.table_id three.me (record (noted three.me.0.log two.me.0) { book = failed two.me.0.book }, (c.args.held.index, None) ∷ []) (sound_missed two.table_id two.me second three.me.0.log c.args.held.index 0 out (same_story three.me (record (noted three.me.0.log two.me.0) { book = failed two.me.0.book }, (c.args.held.index, None) ∷ []) c.in-Err.ensures.told.1.0 c.in-Err.ensures.told.1.2)) c.put_top.ensures.same.0 c.in-Err.ensures.told.1.0
+    sound_same two.table_id three.table_id three.me
+    (record (noted three.me.0.log two.me.0) { book = failed two.me.0.book }, (c.args.held.index, None) ∷ [])
+    (sound_missed two.table_id two.me second three.me.0.log c.args.held.index 0 out
+    (same_story three.me
+    (record (noted three.me.0.log two.me.0) { book = failed two.me.0.book }, (c.args.held.index, None) ∷ [])
+    c.in-Err.ensures.told.1.0 c.in-Err.ensures.told.1.2)) c.put_top.ensures.same.0 c.in-Err.ensures.told.1.0
 
 -- the link that was stored is the loaded head's
 pub returns-in-Ok-clause-did : goal.returns-in-Ok-clause-did

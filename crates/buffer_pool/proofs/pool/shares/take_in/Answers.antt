@@ -34,7 +34,8 @@ join_seat-requires g c =
       ap (λ (n : Token g). n.1) freed,
       omega (arith, sound.laid.words, ap (λ (t : TableId). t.words) c.requires.table.0),
       joins buffer_reading (setup_of c.args.words.now.key) c.args.seat.now.id c.args.seat.now.me.0 c.load.new.seat.id c.load.new.seat.me.0 (ap (λ (n : Token g). n.0.out) freed) sound.share sound.settled.named
-          (omega (arith, c.requires.sound.1.share, ap (λ (n : Token g). n.0.book.account.share) freed)) (ap (λ (n : Token g). n.0.named) freed) (ap (λ (n : Token g). n.0.unsaid) freed),
+          (omega (arith, c.requires.sound.1.share, ap (λ (n : Token g). n.0.book.account.share) freed))
+          (ap (λ (n : Token g). n.0.named) freed) (ap (λ (n : Token g). n.0.unsaid) freed),
     )
 
 pub load-requires-2 : goal.load-requires-2
@@ -63,7 +64,8 @@ returns-clause-did g c =
 pub returns-clause-knows : goal.returns-clause-knows
 returns-clause-knows g c =
     let same = sym (c.requires.table.1 ∙ sym c.requires.table.0) in
-    ends_other c.args.seat.now.table_id c.load-2.new.seat.table_id c.args.seat.now.me c.args.other.me c.load.new.seat.me c.join_seat.new.seat.me c.load-2.new.seat.me (c.load-2.ensures.0 ∙ c.join_seat.ensures.0)
+    ends_other c.args.seat.now.table_id c.load-2.new.seat.table_id c.args.seat.now.me c.args.other.me c.load.new.seat.me
+    c.join_seat.new.seat.me c.load-2.new.seat.me (c.load-2.ensures.0 ∙ c.join_seat.ensures.0)
     c.requires.sound.0 (subst (λ t. IsSound t c.args.other.me) (sym same) c.requires.sound.1) c.load.ensures.2 c.join_seat.ensures.2 c.load-2.ensures.2
 
 pub returns-clause-apart : goal.returns-clause-apart

@@ -33,7 +33,12 @@ returns g c =
     let now = subst (λ (h : Head). c.load.new.seat.me ≡ rested me c.load.new.seat.me.0.log (loaded q h me.0.book)) (sym c.from_word.ensures) told.0 in
     record {
       same = (c.load.ensures.0, c.load.ensures.1);
-      sound = sound_same c.args.seat.now.table_id c.load.new.seat.table_id c.load.new.seat.me (rested me c.load.new.seat.me.0.log (loaded q c.from_word.result me.0.book)) (sound_loaded c.args.seat.now.table_id me c.requires.sound c.load.new.seat.me.0.log q c.from_word.result (same_story c.load.new.seat.me (rested me c.load.new.seat.me.0.log (loaded q c.from_word.result me.0.book)) now told.3)) c.load.ensures.0 now;
+      sound =
+          sound_same c.args.seat.now.table_id c.load.new.seat.table_id c.load.new.seat.me
+          (rested me c.load.new.seat.me.0.log (loaded q c.from_word.result me.0.book))
+          (sound_loaded c.args.seat.now.table_id me c.requires.sound c.load.new.seat.me.0.log q c.from_word.result
+          (same_story c.load.new.seat.me (rested me c.load.new.seat.me.0.log (loaded q c.from_word.result me.0.book))
+          now told.3)) c.load.ensures.0 now;
       told = now;
       within = subst (λ (h : Head). (i : ℕ) → h.index ≡ Some i → i < me.0.book.setup.buffers) (sym c.from_word.ensures) told.1;
       did = told.2;
