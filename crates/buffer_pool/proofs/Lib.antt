@@ -17,3 +17,4 @@ pub mod Rounds
 pub mod Worked
 pub mod Races
 pub mod Forged
+pub mod Alone

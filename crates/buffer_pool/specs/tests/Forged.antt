@@ -13,7 +13,15 @@ use Rattle.mark_core.specs.Event.{Event}
 use Rattle.mark_core.specs.Runs.{Run, first_heads, opening}
 use Rattle.mark_core.specs.Conclusions.{HadHead}
 use Rattle.buffer_pool.specs.declared.seat_view.SeatView.{SeatView}
+use Rattle.buffer_pool.specs.declared.answers.TryPushed.{TryPushed}
+use Rattle.buffer_pool.specs.declared.answers.TryPushed.TheVariants as try_push
 use Rattle.buffer_pool.specs.working.Table.{Reading, Rule, head_word, link_word}
+
+-- a try of a push that was not lost
+abbrev pub WasNotLost : {H : Type 0} → TryPushed H → Type 0
+WasNotLost try_push.Done = Unit {0}
+WasNotLost (try_push.Lost back) = ⊥
+WasNotLost (try_push.Spent back) = Unit {0}
 
 -- a table between two steps, at which the seat of this number is, and which has this word
 pub record IsAt {B : Type 0} (r : Reading B) (e : Setup) (slots id word : ℕ) (me : Me (Option B) SeatView)

@@ -1,9 +1,15 @@
 //! What no step of a pool may tell, whatever its author notes and proves of it.
 ghost use Rattle.buffer_pool.specs.tests.Forged.{NoEvenPop, NoForgedHead, NoForgedLoss, NoForgedPush};
-ghost use Rattle.buffer_pool.specs.tests.Forged.{OtherFirstHeadsWereNot};
+ghost use Rattle.buffer_pool.specs.tests.Forged.{OtherFirstHeadsWereNot, WasNotLost};
+ghost use Rattle.buffer_pool.specs.Calls.{MayPush};
+ghost use Rattle.mark_core.specs.Shares.{whole};
+ghost use Rattle.std.specs.Prelude.{◌≡◌};
 ghost use Rattle.buffer_pool.specs.working.Buffers.{buffer_reading};
 
+use super::waiting::bare_pool;
+use crate::{Held, Pool, TryPopped, TryPushed, Which, Worker};
 use std::alloc::{Allocator, Global};
+use std::test::Fail;
 
 /// It does nothing: its contract says what the rule of a pool's table leaves no room for.
 ///
@@ -26,4 +32,36 @@ fn no_telling_is_forged<A: Allocator>()
 #[test]
 fn tellings() {
     no_telling_is_forged::<Global>();
+}
+
+/// A try of a push by a worker that has the whole share: it is never lost. This follows from the contracts of
+/// the calls alone, and names nothing that a pool's author may choose.
+fn push_alone<A: Allocator>(
+    pool: &Pool<A>,
+    worker: &mut Worker<A>,
+    which: Which,
+    held: Held<A>,
+) -> TryPushed<Held<A>>
+    requires pool { worker.old.pool ≡ pool.now }
+    requires may { MayPush which held worker.old.book }
+    requires alone { worker.old.book.account.share ≡ whole }
+    ensures never { WasNotLost result }
+{
+    worker.stays_within();
+    worker.keeps_its_story();
+    let tried = pool.try_push(worker, which, held);
+    worker.keeps_its_story();
+    tried
+}
+
+/// A worker that is alone pops a buffer and pushes it.
+#[test]
+fn pushes_alone(rt: HostRuntime) -> Result<(), Fail> {
+    let (pool, mut worker) = bare_pool(rt.alloc(), 0)?;
+    let TryPopped::Took(held) = pool.try_pop(&mut worker, Which::Empty) else {
+        panic!(rt; "there is a buffer, and a tag");
+    };
+    let pushed = push_alone(&pool, &mut worker, Which::Full, held);
+    assert!(rt; matches!(pushed, TryPushed::Done));
+    Ok(())
 }
