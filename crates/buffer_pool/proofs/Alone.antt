@@ -83,6 +83,14 @@ module _ (e : Setup) (w : ℕ) where
       let kind : event.kind ≡ k = same_kind event.kind k (deeds w rest) ks all in
       (rest, (λ i. record { worker = own i; kind = kind i } ∷ rest), same_kinds event.kind k (deeds w rest) ks all)
 
+  -- and the run goes on behind it
+  next_deed :
+      (m last : Marking) (since : List Event) (k : Kind) (ks : List Kind) → Alone e w m → Run e m since last
+      → deeds w since ≡ k ∷ ks → (rest : List Event) × Run e m (mine k ∷ rest) last × (deeds w rest ≡ ks)
+  next_deed m last since k ks alone run did =
+      let first = first_deed m last since k ks alone run did in
+      (first.0, subst (λ xs. Run e m xs last) first.1 run, first.2)
+
   load_alone :
       (m : Marking) (q : Which) → Alone e w m → IsPossible e m (mine (Load q)) → Alone e w (happens m (mine (Load q)))
   load_alone m q alone can =
@@ -111,18 +119,15 @@ module _ (e : Setup) (w : ℕ) where
       (m last : Marking) (since : List Event) (q : Which) (i : ℕ) (l : Option ℕ) → Alone e w m → Run e m since last
       → deeds w since ≡ Load q ∷ StoreLink i l ∷ Fail q ∷ [] → ⊥
   never_fails m last since q i l alone run did =
-      let one = first_deed m last since (Load q) (StoreLink i l ∷ Fail q ∷ []) alone run did in
-      let run1 : Run e m (mine (Load q) ∷ one.0) last = subst (λ xs. Run e m xs last) one.1 run in
+      let one = next_deed m last since (Load q) (StoreLink i l ∷ Fail q ∷ []) alone run did in
       let m1 = happens m (mine (Load q)) in
-      let alone1 = load_alone m q alone run1.0 in
-      let two = first_deed m1 last one.0 (StoreLink i l) (Fail q ∷ []) alone1 run1.1 one.2 in
-      let run2 : Run e m1 (mine (StoreLink i l) ∷ two.0) last = subst (λ xs. Run e m1 xs last) two.1 run1.1 in
+      let alone1 = load_alone m q alone one.1.0 in
+      let two = next_deed m1 last one.0 (StoreLink i l) (Fail q ∷ []) alone1 one.1.1 one.2 in
       let m2 = happens m1 (mine (StoreLink i l)) in
-      let three = first_deed m2 last two.0 (Fail q) [] (store_alone m1 i l alone1 run2.0) run2.1 two.2 in
-      let run3 : Run e m2 (mine (Fail q) ∷ three.0) last = subst (λ xs. Run e m2 xs last) three.1 run2.1 in
+      let three = next_deed m2 last two.0 (Fail q) [] (store_alone m1 i l alone1 two.1.0) two.1.1 two.2 in
       let between = mine (StoreLink i l) ∷ [] in
       let found =
-      losses_are_contested e m (happens m2 (mine (Fail q))) w q between (run1.0, (run2.0, (run3.0, refl)))
+      losses_are_contested e m (happens m2 (mine (Fail q))) w q between (one.1.0, (two.1.0, (three.1.0, refl)))
       (λ k event at own. let is = stored i l k event at in (
         (λ loads. store_no_load i l q (sym is ∙ loads)),
         (λ exchanges. subst (Exchanges q) is exchanges),

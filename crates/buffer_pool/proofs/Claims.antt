@@ -111,8 +111,7 @@ module _ {B : Type 0} (r : Reading B) (e : Setup) (slots id : ℕ) where
             let k : o ≡ p = omega (arith, h) in (
               subst (λ x. (w, []) ≡ rested me log (finished x me.0.book)) k refl,
               (λ x. omega (arith, once.objects x)),
-              subst (λ x. Did me.0.log (Finish x ∷ []) log) k (did_after r e s rule id v is there done.named done.unsaid
-                  (Finish o)),
+              subst (λ x. Did me.0.log (Finish x ∷ []) log) k (did_after r e s rule id v is there done.named done.unsaid (Finish o)),
               leads_now r e (record {
                 words = slice_set s.words (mark_word e o) (max n 2);
                 homes = s.homes;

@@ -148,8 +148,7 @@ module _ {B : Type 0} (r : Reading B) (e : Setup) (slots id : ℕ) where
             log) (same_head q p same) (
               refl,
               top_below r e s rule id v is refl there q,
-              did_after r e s rule id v is there done.named done.unsaid
-                  (Load q),
+              did_after r e s rule id v is there done.named done.unsaid (Load q),
             ) in (told.0, told.1, told.2, story)),
       ))
 
@@ -183,8 +182,7 @@ module _ {B : Type 0} (r : Reading B) (e : Setup) (slots id : ℕ) where
         (
           refl,
           subst (λ (x : Setup). n ≤ x.buffers) (sym same) (rule.linked i small),
-          did_after r e s rule id v is there
-              done.named done.unsaid (LoadLink q),
+          did_after r e s rule id v is there done.named done.unsaid (LoadLink q),
           leads_now r e t after id w
               (set_here s.views id w (at_below s.views id v is)) (share_linked q (index_of n) me.0.book there) refl refl,
         ),

@@ -228,8 +228,7 @@ module _ {B : Type 0} (r : Reading B) (e : Setup) (slots id : ℕ) where
                             words = set s.words (head_word q) new;
                             homes = set s.homes i none;
                             views = set s.views id w;
-                          }) after_it id w (set_here s.views id w (at_below s.views id v
-                          is)) there refl refl;
+                          }) after_it id w (set_here s.views id w (at_below s.views id v is)) there refl refl;
                     },
                   )),
               (λ miss. absurd (miss hit)),
@@ -241,8 +240,7 @@ module _ {B : Type 0} (r : Reading B) (e : Setup) (slots id : ℕ) where
           let after_it : Rule r e (record {
             words = slice_set s.words (head_word q) n;
             homes = s.homes;
-            views = set
-                s.views id w;
+            views = set s.views id w;
           }) =
           failed_rule r e s rule id v is refl there q (head_of old) (head_word q) last
           (λ same. miss (one_head n old same)) in (
@@ -252,20 +250,17 @@ module _ {B : Type 0} (r : Reading B) (e : Setup) (slots id : ℕ) where
             subst (λ x. Rule r e (record {
               words = slice_set s.words (head_word q) x;
               homes = s.homes;
-              views = set
-                  s.views id w;
+              views = set s.views id w;
             })) (sym (exchange_miss n old new miss)) after_it,
             (λ p same_word. subst (λ k. pop_told me old k n (w, [])) (same_head q p same_word) (
               (λ hit j t. absurd (miss hit)),
               (λ h. (
                 refl,
-                did_after r e s rule id v is there done.named done.unsaid
-                    (Fail q),
+                did_after r e s rule id v is there done.named done.unsaid (Fail q),
                 leads_now r e (record {
                   words = slice_set s.words (head_word q) n;
                   homes = s.homes;
-                  views = set
-                      s.views id w;
+                  views = set s.views id w;
                 }) after_it id w (set_here s.views id w (at_below s.views id v is)) there refl refl,
               )),
             )),

@@ -243,8 +243,7 @@ module _ {B : Type 0} (r : Reading B) (e : Setup) (slots id : ℕ) where
           subst (λ k. Did me.0.log (StoreLink k (index_of x) ∷
               []) log) same (did_after r e s rule id v is there done.named done.unsaid (StoreLink i
               (index_of x))),
-          leads_now r e t after_it id w (set_here s.views id w (at_below s.views id v
-              is)) there refl refl,
+          leads_now r e t after_it id w (set_here s.views id w (at_below s.views id v is)) there refl refl,
         )),
       ))
 
@@ -286,8 +285,8 @@ module _ {B : Type 0} (r : Reading B) (e : Setup) (slots id : ℕ) where
                     homes = set s.homes i
                         (some (Some b));
                     views = set s.views id w;
-                  }) after_it id w (set_here s.views id w (at_below s.views
-                  id v is)) (omega (arith, there, share_pushed q i (r.items b) me.0.book)) refl refl in (
+                  }) after_it id w (set_here s.views id w (at_below s.views id v is))
+                  (omega (arith, there, share_pushed q i (r.items b) me.0.book)) refl refl in (
                     subst (λ xs. (w, carried_after xs gives) ≡ rested me log (pushed q j (r.items c) me.0.book))
                         (sym carried) a,
                     subst (λ (y : B). Did me.0.log (Push q j (r.items y) ∷ []) log) one.1
@@ -303,8 +302,7 @@ module _ {B : Type 0} (r : Reading B) (e : Setup) (slots id : ℕ) where
           let after_it : Rule r e (record {
             words = slice_set s.words (head_word q) n;
             homes = s.homes;
-            views = set
-                s.views id w;
+            views = set s.views id w;
           }) =
           missed_rule r e s rule id v is there i mine b out q (head_of old) (head_word q) last
           (λ same. miss (one_head n old same)) in (
@@ -314,20 +312,17 @@ module _ {B : Type 0} (r : Reading B) (e : Setup) (slots id : ℕ) where
             subst (λ x. Rule r e (record {
               words = slice_set s.words (head_word q) x;
               homes = s.homes;
-              views = set
-                  s.views id w;
+              views = set s.views id w;
             })) (sym (exchange_miss n old new miss)) after_it,
             (
               (λ hit j c t. absurd (miss hit)),
               (λ h. (
                 refl,
-                did_after r e s rule id v is there done.named done.unsaid
-                    (Fail q),
+                did_after r e s rule id v is there done.named done.unsaid (Fail q),
                 leads_now r e (record {
                   words = slice_set s.words (head_word q) n;
                   homes = s.homes;
-                  views = set
-                      s.views id w;
+                  views = set s.views id w;
                 }) after_it id w (set_here s.views id w (at_below s.views id v is)) there refl refl,
               )),
             ),

@@ -34,7 +34,9 @@ impl<A: Allocator> Worker<A> {
     }
 
     /// What each worker keeps, said of this one: its story is a run from the opening of the pool, and at the end of it
-    /// the worker has its book. Nothing is done.
+    /// the worker has its book. So what it was told happened: a `Lost` has a failed exchange in the story that was
+    /// possible there, and another worker exchanged that head since its load (`mark_core::all_runs_keep_law`, clause
+    /// `losses`). Nothing is done.
     pub fn keeps_its_story(&self)
         ensures { LeadsToBook self.now.log self.now.book }
     {
