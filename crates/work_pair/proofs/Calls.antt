@@ -7,17 +7,18 @@ use Rattle.mark_core.specs.Lists.{times}
 use Rattle.buffer_pool.specs.Book.{Book}
 use Rattle.buffer_pool.specs.Calls.{HeldBuffer}
 use Rattle.work_pair.specs.Deals.{HasMore}
-use Rattle.work_pair.specs.Moves.{HasPushOnFull, WasSeenEmpty}
+use Rattle.work_pair.specs.Moves.{FoundNone, HasPushOnFull, HasPopFromFull, WasSeenEmpty}
 use Rattle.work_pair.specs.Places.{items_at, number_at, items_of, HasRoom, HasRoomAt, IsOfSize, AreOfSize, AreAlike}
 use Rattle.work_pair.specs.Places.{IsBacked}
 use Rattle.work_pair.specs.declared.stop.Stop.{Stop}
 use Rattle.work_pair.specs.declared.stop.Stop.TheVariants.{TagSpent, OutOfMemory}
-use Rattle.work_pair.specs.working.Steps.{Ends, FindsNone, PublishTells, PublishesAt, Renews, RenewTells, Trades, places}
+use Rattle.work_pair.specs.working.Steps.{EndsOut, FindsNone, PublishTells, PublishesAt, Renews, RenewTells, Trades, places}
 use Rattle.work_pair.proofs.Effects.{busy_after, moves_effect}
 use Rattle.work_pair.proofs.Locals.{put_first, swapped}
+use Rattle.work_pair.proofs.Renewing.{out_alone}
 use Rattle.work_pair.proofs.Spilling.{none_in}
 use Rattle.work_pair.proofs.Trading.{backed_after, end_on, first_renewed, items_sum, numbers_sum, on_and_on}
-use Rattle.work_pair.proofs.Trading.{second_renewed, sized_after, still}
+use Rattle.work_pair.proofs.Trading.{out_on, second_renewed, sized_after, still}
 
 -- both buffers were full
 pub full_told : (f s t x : Option HeldBuffer) → x ≡ s → (HasRoomAt f → ⊥) → (HasRoomAt x → ⊥) → {P : Type 0} → HasRoom (places f s t) → P
@@ -35,13 +36,14 @@ module _ (f s t : Option HeldBuffer) (b : Book) (vacant : t ≡ None) (sized : A
     abbrev renewed_then : Renews b.setup.size p b n third c → Trades (places f s t) b [] [] (places n y third) c
     renewed_then r = on_and_on (places f s t) b (places p y t) b [] [] (places n y third) c turned (first_renewed p y t n third b c vacant r (subst (IsOfSize b.setup.size) (sym y_is) sized.first))
 
-    pub put_third : (h : HeldBuffer) (o : ℕ) (g : Option HeldBuffer) → Renews b.setup.size p b n third c → n ≡ Some h → g ≡ Some (record h { items = h.items ++ o ∷ [] }) → Trades (places f s t) b (o ∷ []) [] (places g y third) c
-    put_third h o g r n_is g_is =
+    pub put_third : (h : HeldBuffer) (o : ℕ) (g : Option HeldBuffer) (r : Renews b.setup.size p b n third c) → n ≡ Some h → g ≡ Some (record h { items = h.items ++ o ∷ [] }) → (HasPopFromFull r.moves → ⊥)
+        → (u : Trades (places f s t) b (o ∷ []) [] (places g y third) c) × (HasPopFromFull u.moves → ⊥)
+    put_third h o g r n_is g_is out =
         let so_far = renewed_then r in
         let last = still (places n y third) c (o ∷ []) [] (places g y third) (put_first n y third h o g n_is g_is) (sized_after (places f s t) b [] [] (places n y third) c so_far) in
-        on_and_on (places f s t) b (places n y third) c (o ∷ []) [] (places g y third) c so_far last
+        (on_and_on (places f s t) b (places n y third) c (o ∷ []) [] (places g y third) c so_far last, out_on r.moves [] out (λ x. x))
 
-    pub put_refused : RenewTells b.setup.size p b n third c (Ok false) → FindsNone (places f s t) b (places n y third) c
+    pub put_refused : RenewTells Empty b.setup.size p b n third c (Ok false) → FindsNone (places f s t) b (places n y third) c
     put_refused told =
         let alike : AreAlike (places f s t) (places n y third) =
         record {
@@ -49,36 +51,37 @@ module _ (f s t : Option HeldBuffer) (b : Book) (vacant : t ≡ None) (sized : A
           buffers = λ i. omega (arith, numbers_sum i (places f s t), numbers_sum i (places n y third), ap (λ (q : Option HeldBuffer). times i (number_at q)) (told.2 ∙ p_is), ap (λ (q : Option HeldBuffer). times i (number_at q)) y_is, ap (λ (q : Option HeldBuffer). times i (number_at q)) (told.1 ∙ sym vacant));
         } in (renewed_then told.0, told.1, told.4, alike)
 
-    pub put_stopped : (stop : Stop) → RenewTells b.setup.size p b n third c (Err stop) → Ends (places f s t) b (places n y third) c stop
-    put_stopped TagSpent told = (renewed_then told.0, told.1)
+    pub put_stopped : (stop : Stop) → RenewTells Empty b.setup.size p b n third c (Err stop) → EndsOut (places f s t) b (places n y third) c stop
+    put_stopped TagSpent told = (renewed_then told.0, told.1, told.2)
     put_stopped OutOfMemory none = absurd none
 
   module _ (n third : Option HeldBuffer) (c : Book) where
-    pub second_stopped : (stop : Stop) → RenewTells b.setup.size s b n third c (Err stop) → Ends (places f s t) b (places f n third) c stop
-    second_stopped TagSpent told = (second_renewed f s t n third b c vacant told.0 sized.first, told.1)
+    pub second_stopped : (stop : Stop) → RenewTells Empty b.setup.size s b n third c (Err stop) → EndsOut (places f s t) b (places f n third) c stop
+    second_stopped TagSpent told = (second_renewed f s t n third b c vacant told.0 sized.first, told.1, told.2)
     second_stopped OutOfMemory none = absurd none
 
-    pub first_stopped : (stop : Stop) → RenewTells b.setup.size f b n third c (Err stop) → Ends (places f s t) b (places n s third) c stop
-    first_stopped TagSpent told = (first_renewed f s t n third b c vacant told.0 sized.second, told.1)
+    pub first_stopped : (stop : Stop) → RenewTells Empty b.setup.size f b n third c (Err stop) → EndsOut (places f s t) b (places n s third) c stop
+    first_stopped TagSpent told = (first_renewed f s t n third b c vacant told.0 sized.second, told.1, told.2)
     first_stopped OutOfMemory none = absurd none
 
-    pub second_balanced : (done : Bool) → RenewTells b.setup.size s b n third c (Ok done) → 0 < length (items_at s)
-        → (u : Trades (places f s t) b [] [] (places f n third) c) × (third ≡ None) × (HasMore (places f s t) → WasSeenEmpty Empty b c ⊎ HasPushOnFull u.moves)
-    second_balanced true told some = (second_renewed f s t n third b c vacant told.0 sized.first, told.1, λ more. inr (told.2 (some_items (items_at s) some)))
-    second_balanced false told some = (second_renewed f s t n third b c vacant told.0 sized.first, told.1, λ more. inl told.3)
+    pub second_balanced : (done : Bool) → RenewTells Empty b.setup.size s b n third c (Ok done) → 0 < length (items_at s)
+        → (u : Trades (places f s t) b [] [] (places f n third) c) × (third ≡ None) × (HasMore (places f s t) → (u.moves ≡ FoundNone Empty ∷ []) ⊎ HasPushOnFull u.moves) × (HasPopFromFull u.moves → ⊥)
+    second_balanced true told some = (second_renewed f s t n third b c vacant told.0 sized.first, told.1, λ more. inr (told.2 (some_items (items_at s) some)), told.3)
+    second_balanced false told some = (second_renewed f s t n third b c vacant told.0 sized.first, told.1, λ more. inl told.4, out_alone told.0.moves told.4)
 
-    pub first_balanced : (done : Bool) → RenewTells b.setup.size f b n third c (Ok done) → 4 < length (items_at f)
-        → (u : Trades (places f s t) b [] [] (places n s third) c) × (third ≡ None) × (HasMore (places f s t) → WasSeenEmpty Empty b c ⊎ HasPushOnFull u.moves)
-    first_balanced true told some = (first_renewed f s t n third b c vacant told.0 sized.second, told.1, λ more. inr (told.2 (some_items (items_at f) (omega (arith, some)))))
-    first_balanced false told some = (first_renewed f s t n third b c vacant told.0 sized.second, told.1, λ more. inl told.3)
+    pub first_balanced : (done : Bool) → RenewTells Empty b.setup.size f b n third c (Ok done) → 4 < length (items_at f)
+        → (u : Trades (places f s t) b [] [] (places n s third) c) × (third ≡ None) × (HasMore (places f s t) → (u.moves ≡ FoundNone Empty ∷ []) ⊎ HasPushOnFull u.moves) × (HasPopFromFull u.moves → ⊥)
+    first_balanced true told some = (first_renewed f s t n third b c vacant told.0 sized.second, told.1, λ more. inr (told.2 (some_items (items_at f) (omega (arith, some)))), told.3)
+    first_balanced false told some = (first_renewed f s t n third b c vacant told.0 sized.second, told.1, λ more. inl told.4, out_alone told.0.moves told.4)
 
   -- nothing was to be done
   pub few_left : length (items_at s) ≤ 0 → length (items_at f) ≤ 4
-      → (u : Trades (places f s t) b [] [] (places f s t) b) × (t ≡ None) × (HasMore (places f s t) → WasSeenEmpty Empty b b ⊎ HasPushOnFull u.moves)
+      → (u : Trades (places f s t) b [] [] (places f s t) b) × (t ≡ None) × (HasMore (places f s t) → (u.moves ≡ FoundNone Empty ∷ []) ⊎ HasPushOnFull u.moves) × (HasPopFromFull u.moves → ⊥)
   few_left none few = (
     still (places f s t) b [] [] (places f s t) (record { items = λ o. omega arith; buffers = λ i. refl; sized = λ size of. of }) sized,
     vacant,
     λ more. absurd (⊎_elim (λ some. some (none_in (items_at s) none)) (λ many. omega (arith, many, few)) more),
+    λ pop. pop,
   )
 
 pub none_first : (xs ys : List ℕ) → xs ++ ys ≡ [] → xs ≡ []
@@ -100,8 +103,8 @@ none_of xs ys zs x y z = ap (λ (l : List ℕ). l ++ ys ++ zs) x ∙ ap (λ (l :
 
 -- the first buffer was published, and then the second
 module _ (f s t n third : Option HeldBuffer) (b c : Book) (vacant : t ≡ None) (sized : AreOfSize b.setup.size (places f s t)) where
-  pub publish_stopped : (stop : Stop) → PublishesAt b.setup.size f b n third c (Err stop) → Ends (places f s t) b (places n s third) c stop
-  publish_stopped TagSpent told = (first_renewed f s t n third b c vacant told.0 sized.second, told.1)
+  pub publish_stopped : (stop : Stop) → PublishesAt b.setup.size f b n third c (Err stop) → EndsOut (places f s t) b (places n s third) c stop
+  publish_stopped TagSpent told = (first_renewed f s t n third b c vacant told.0 sized.second, told.1, told.2)
   publish_stopped OutOfMemory none = absurd none
 
   module _ (done : Unit) (first : PublishesAt b.setup.size f b n third c (Ok done)) where
@@ -126,8 +129,8 @@ module _ (f s t n third : Option HeldBuffer) (b c : Book) (vacant : t ≡ None) 
         let seen : WasSeenEmpty Empty b d ⊎ (items_of (places n m last) ≡ []) =
         ⊎_elim (λ saw. inl (omega (arith, saw, e₂.empties)))
         (λ none. ⊎_elim (λ saw. inl (omega (arith, saw, e₁.empties))) (λ none₂. inr (none_of (items_at n) (items_at m) (items_at last) none none₂ (ap items_at second.1))) second.2) first.2 in
-        (all, second.1, seen)
+        (all, second.1, seen, out_on first.0.moves second.0.moves first.3 second.3)
     both_published m last d (Err TagSpent) second =
         let t₂ = second_renewed n s third m last c d first.1 second.0 now_sized.first in
-        (on_and_on (places f s t) b (places n s third) c [] [] (places n m last) d first_published t₂, end_on first.0.moves second.0.moves second.1)
+        (on_and_on (places f s t) b (places n s third) c [] [] (places n m last) d first_published t₂, end_on first.0.moves second.0.moves second.1, out_on first.0.moves second.0.moves first.3 second.2)
     both_published m last d (Err OutOfMemory) none = absurd none

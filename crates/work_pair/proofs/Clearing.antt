@@ -3,14 +3,14 @@ use Rattle.std.proofs.Common.{◌≡◌, ◌≢◌, ℕ, List, [], ◌∷◌, �
 use Rattle.mark_core.specs.Event.{IsBusy}
 use Rattle.buffer_pool.specs.Book.{Book}
 use Rattle.buffer_pool.specs.Calls.{HeldBuffer}
-use Rattle.work_pair.specs.Moves.{HasPushOnFull, EndAtLastTag}
+use Rattle.work_pair.specs.Moves.{HasPushOnFull, HasPopFromFull, EndAtLastTag}
 use Rattle.work_pair.specs.Places.{Places, items_at, items_of, AreOfSize, IsBacked}
 use Rattle.work_pair.specs.declared.stop.Stop.{Stop}
 use Rattle.work_pair.specs.declared.stop.Stop.TheVariants.{TagSpent, OutOfMemory}
 use Rattle.work_pair.specs.working.Steps.{Clears, ClearsAt, ClearTells, Trades, places}
 use Rattle.work_pair.proofs.Effects.{busy_after}
 use Rattle.work_pair.proofs.Renewing.{clear_stopped, cleared}
-use Rattle.work_pair.proofs.Trading.{at_first, at_second, at_third, backed_after, end_on, on_and_on, on_full_of}
+use Rattle.work_pair.proofs.Trading.{at_first, at_second, at_third, backed_after, end_on, on_and_on, on_full_of, out_on}
 use Rattle.work_pair.proofs.Trading.{sized_after}
 
 -- a list that is empty has empty parts
@@ -48,23 +48,24 @@ module _ (f s t : Option HeldBuffer) (b : Book) (busy : items_of (places f s t) 
     third_busy some = busy_then (λ none. some (none_third f s t none))
 
 -- a clearing that went on
-clears_on : (p : Places) (b : Book) (q : Places) (c : Book) (r : Places) (d : Book) → Clears p b q c → (t : Trades q c [] [] r d) → (items_of p ≡ [] → HasPushOnFull t.moves → ⊥) → Clears p b r d
-clears_on p b q c r d first t quiet =
+clears_on : (p : Places) (b : Book) (q : Places) (c : Book) (r : Places) (d : Book) → Clears p b q c → (t : Trades q c [] [] r d) → (items_of p ≡ [] → HasPushOnFull t.moves → ⊥) → (HasPopFromFull t.moves → ⊥) → Clears p b r d
+clears_on p b q c r d first t quiet out =
     record {
       trades = on_and_on p b q c [] [] r d first.trades t;
       quiet = λ none push. ⊎_elim (first.quiet none) (quiet none) (on_full_of first.trades.moves t.moves push);
+      out = out_on first.trades.moves t.moves first.out out;
     }
 
-stops_on : (p : Places) (b : Book) (q : Places) (c : Book) (r : Places) (d : Book) → Clears p b q c → (t : Trades q c [] [] r d) → (HasPushOnFull t.moves → ⊥) → EndAtLastTag t.moves → (all : Clears p b r d) × EndAtLastTag all.trades.moves
+stops_on : (p : Places) (b : Book) (q : Places) (c : Book) (r : Places) (d : Book) → Clears p b q c → (t : Trades q c [] [] r d) → (HasPushOnFull t.moves → ⊥) → EndAtLastTag t.moves → (HasPopFromFull t.moves → ⊥) → (all : Clears p b r d) × EndAtLastTag all.trades.moves
 unfolding clears_on
-stops_on p b q c r d first t quiet ends = (clears_on p b q c r d first t (λ none. quiet), end_on first.trades.moves t.moves ends)
+stops_on p b q c r d first t quiet ends out = (clears_on p b q c r d first t (λ none. quiet) out, end_on first.trades.moves t.moves ends)
 
 module _ (f s t : Option HeldBuffer) (b : Book) (sized : AreOfSize b.setup.size (places f s t)) where
   -- after the first buffer, and after the second
   pub first_cleared : (c : Book) (n : Option HeldBuffer) (done : Unit) → ClearsAt f b n c (Ok done) → Clears (places f s t) b (places None s t) c
   first_cleared c n done told =
       let r = cleared b.setup.size f b c told.1 in
-      record { trades = at_first f s t None b c r.0 sized; quiet = λ none push. r.1 (none_first f s t none) push }
+      record { trades = at_first f s t None b c r.0 sized; quiet = λ none push. r.1 (none_first f s t none) push; out = r.2 }
 
   pub backed_then : (c : Book) (q : Places) → IsBacked (places f s t) [] b → Clears (places f s t) b q c → IsBacked q [] c
   backed_then c q backed first = backed_after (places f s t) b [] [] q c backed first.trades
@@ -72,13 +73,13 @@ module _ (f s t : Option HeldBuffer) (b : Book) (sized : AreOfSize b.setup.size 
   pub second_cleared : (c d : Book) (n : Option HeldBuffer) (done : Unit) → Clears (places f s t) b (places None s t) c → ClearsAt s c n d (Ok done) → Clears (places f s t) b (places None None t) d
   second_cleared c d n done first told =
       let r = cleared c.setup.size s c d told.1 in
-      clears_on (places f s t) b (places None s t) c (places None None t) d first (at_second None s t None c d r.0 (sized_after (places f s t) b [] [] (places None s t) c first.trades)) (λ none. r.1 (none_second f s t none))
+      clears_on (places f s t) b (places None s t) c (places None None t) d first (at_second None s t None c d r.0 (sized_after (places f s t) b [] [] (places None s t) c first.trades)) (λ none. r.1 (none_second f s t none)) r.2
 
   pub first_stuck : (c : Book) (n : Option HeldBuffer) (stop : Stop) → ClearsAt f b n c (Err stop) → ClearTells (places f s t) b (places n s t) c (Err stop)
   first_stuck c n OutOfMemory none = absurd none
   first_stuck c n TagSpent told =
       let r = clear_stopped b.setup.size f b c sized.first told.1.0 told.1.1 in
-      let one : Clears (places f s t) b (places f s t) c = record { trades = at_first f s t f b c r.0 sized; quiet = λ none. r.1 } in
+      let one : Clears (places f s t) b (places f s t) c = record { trades = at_first f s t f b c r.0 sized; quiet = λ none. r.1; out = r.3 } in
       subst (λ (x : Option HeldBuffer). (all : Clears (places f s t) b (places x s t) c) × EndAtLastTag all.trades.moves) (sym told.0) (one, r.2)
 
   pub second_stuck : (c d : Book) (n m : Option HeldBuffer) (stop : Stop) → n ≡ None → Clears (places f s t) b (places None s t) c → ClearsAt s c m d (Err stop) → ClearTells (places f s t) b (places n m t) d (Err stop)
@@ -86,7 +87,7 @@ module _ (f s t : Option HeldBuffer) (b : Book) (sized : AreOfSize b.setup.size 
   second_stuck c d n m TagSpent vacant first told =
       let now = sized_after (places f s t) b [] [] (places None s t) c first.trades in
       let r = clear_stopped c.setup.size s c d now.second told.1.0 told.1.1 in
-      let all = stops_on (places f s t) b (places None s t) c (places None s t) d first (at_second None s t s c d r.0 now) r.1 r.2 in
+      let all = stops_on (places f s t) b (places None s t) c (places None s t) d first (at_second None s t s c d r.0 now) r.1 r.2 r.3 in
       subst (λ (x : Option HeldBuffer). (k : Clears (places f s t) b (places x m t) d) × EndAtLastTag k.trades.moves) (sym vacant)
       (subst (λ (y : Option HeldBuffer). (k : Clears (places f s t) b (places None y t) d) × EndAtLastTag k.trades.moves) (sym told.0) all)
 
@@ -94,12 +95,12 @@ module _ (f s t : Option HeldBuffer) (b : Book) (sized : AreOfSize b.setup.size 
   third_told c d n m k (Ok done) vacant empty second told =
       let now = sized_after (places f s t) b [] [] (places None None t) c second.trades in
       let r = cleared c.setup.size t c d told.1 in
-      clears_on (places f s t) b (places None None t) c (places None None None) d second (at_third None None t None c d r.0 now) (λ none. r.1 (none_third f s t none))
+      clears_on (places f s t) b (places None None t) c (places None None None) d second (at_third None None t None c d r.0 now) (λ none. r.1 (none_third f s t none)) r.2
   third_told c d n m k (Err OutOfMemory) vacant empty second none = absurd none
   third_told c d n m k (Err TagSpent) vacant empty second told =
       let now = sized_after (places f s t) b [] [] (places None None t) c second.trades in
       let r = clear_stopped c.setup.size t c d now.third told.1.0 told.1.1 in
-      let all = stops_on (places f s t) b (places None None t) c (places None None t) d second (at_third None None t t c d r.0 now) r.1 r.2 in
+      let all = stops_on (places f s t) b (places None None t) c (places None None t) d second (at_third None None t t c d r.0 now) r.1 r.2 r.3 in
       subst (λ (x : Option HeldBuffer). (z : Clears (places f s t) b (places x m k) d) × EndAtLastTag z.trades.moves) (sym vacant)
       (subst (λ (y : Option HeldBuffer). (z : Clears (places f s t) b (places None y k) d) × EndAtLastTag z.trades.moves) (sym empty)
       (subst (λ (w : Option HeldBuffer). (z : Clears (places f s t) b (places None None w) d) × EndAtLastTag z.trades.moves) (sym told.0) all))

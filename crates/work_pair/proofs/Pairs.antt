@@ -8,13 +8,15 @@ use Rattle.mark_core.specs.World.{Setup}
 use Rattle.mark_core.proofs.Sums.{total-append}
 use Rattle.buffer_pool.specs.Book.{Book}
 use Rattle.buffer_pool.specs.Calls.{HeldBuffer}
-use Rattle.work_pair.specs.Deals.{Balances, Deals, DealsQuietly, Disposes, HasMore, Puts}
+use Rattle.work_pair.specs.Deals.{Balances, Deals, DealsOut, DealsQuietly, Disposes, HasMore, Puts}
 use Rattle.work_pair.specs.Moves.{Move, Took, FoundNone, Ended, Moved, HasPushOnFull, EndAtLastTag, WasSeenEmpty}
+use Rattle.work_pair.specs.Moves.{HasPopFromFull}
 use Rattle.work_pair.specs.Places.{Places, buffered_items, items_of, no_places, AreAlike, IsBacked}
 use Rattle.work_pair.specs.declared.stop.Stop.{Stop}
 use Rattle.work_pair.specs.declared.stop.Stop.TheVariants.{TagSpent, OutOfMemory}
-use Rattle.work_pair.specs.working.Steps.{Clears, ClearTells, Ends, FindsNone, GetTells, Trades, places}
+use Rattle.work_pair.specs.working.Steps.{Clears, ClearTells, Ends, EndsOut, FindsNone, GetTells, Trades, places}
 use Rattle.work_pair.proofs.Looks.{lost_pops}
+use Rattle.work_pair.proofs.Renewing.{out_alone}
 use Rattle.work_pair.proofs.Spilling.{backed_rest, beside, dealt_listed, given_up, kept_list, listed, nothing_done}
 use Rattle.work_pair.proofs.Spilling.{spilled, unspilled}
 use Rattle.work_pair.proofs.Trading.{backed_less, dealt, items_sum, numbers_sum, on_full_of}
@@ -44,11 +46,11 @@ module _ (v : Places) (f s t : Option HeldBuffer) (l : List ℕ) (was hungry : B
 
     pub puts : (object : ℕ) → IsBacked v (object ∷ []) b
         → (u : Trades (places f s t) b (object ∷ []) [] (places x y z) c) → (now ≡ true → EndAtLastTag u.moves)
-        → Puts v b object (listed (places x y z) l now starving) c
-    puts object backed u ends =
+        → (HasPopFromFull u.moves → ⊥) → Puts v b object (listed (places x y z) l now starving) c
+    puts object backed u ends out =
         subst (λ (p : Places). Puts p b object (listed (places x y z) l now starving) c) is
         (dealt_listed f s t x y z l l (object ∷ []) [] (object ∷ []) [] was hungry now starving b c
-        (kept_list l (object ∷ []) []) (seen (object ∷ []) b backed) u ends, inl refl)
+        (kept_list l (object ∷ []) []) (seen (object ∷ []) b backed) u ends, inl refl, out)
 
     -- no empty buffer was found for an object: it went to the list, or stayed with the worker
     module _ (object : ℕ) (backed : IsBacked v (object ∷ []) b) (found : FindsNone (places f s t) b (places x y z) c)
@@ -58,7 +60,7 @@ module _ (v : Places) (f s t : Option HeldBuffer) (l : List ℕ) (was hungry : B
           subst (λ (p : Places). Puts p b object (listed (places x y z) m now starving) c) is
           (dealt_listed f s t x y z l m [] [] (object ∷ []) [] was hungry now starving b c
           (λ o. omega (arith, spilled l object o, ap (times o) m_is)) (seen (object ∷ []) b backed) found.0 ends,
-          inr (m_is, found.2))
+          inr (m_is, found.2), out_alone found.0.moves found.2)
 
       module _ (m_is : m ≡ l) where
         pub starves : (deals : Deals v b [] [] (listed (places x y z) m now starving) c)
@@ -82,20 +84,27 @@ module _ (v : Places) (f s t : Option HeldBuffer) (l : List ℕ) (was hungry : B
 
     module _ (backed : IsBacked v [] b) (u : Trades (places f s t) b [] [] (places x y z) c)
         (ends : now ≡ true → EndAtLastTag u.moves) where
-      pub balances : (HasMore (places f s t) → WasSeenEmpty Empty b c ⊎ HasPushOnFull u.moves)
-          → Balances v b (listed (places x y z) l now starving) c
-      balances more =
+      -- nothing was popped from full
+      pub deals_out : (HasPopFromFull u.moves → ⊥) → DealsOut v b (listed (places x y z) l now starving) c
+      deals_out out =
+          subst (λ (p : Places). DealsOut p b (listed (places x y z) l now starving) c) is
+          (dealt_listed f s t x y z l l [] [] [] [] was hungry now starving b c (kept_list l [] []) (seen [] b backed) u
+          ends, out)
+
+      pub balances : (HasMore (places f s t) → (u.moves ≡ FoundNone Empty ∷ []) ⊎ HasPushOnFull u.moves)
+          → (HasPopFromFull u.moves → ⊥) → Balances v b (listed (places x y z) l now starving) c
+      balances more out =
           subst (λ (p : Places). Balances p b (listed (places x y z) l now starving) c) is
           (dealt_listed f s t x y z l l [] [] [] [] was hungry now starving b c (kept_list l [] []) (seen [] b backed) u
-          ends, more)
+          ends, more, out)
 
       -- the list was given up before
       pub disposes : (m : List ℕ) → m ≡ [] → (items_of (places f s t) ≡ [] → HasPushOnFull u.moves → ⊥)
-          → Disposes v b (listed (places x y z) m now starving) c
-      disposes m m_is quiet =
+          → (HasPopFromFull u.moves → ⊥) → Disposes v b (listed (places x y z) m now starving) c
+      disposes m m_is quiet out =
           subst (λ (p : Places). Disposes p b (listed (places x y z) m now starving) c) is
           (dealt_listed f s t x y z [] m [] [] [] [] was hungry now starving b c
-          (λ o. omega (arith, ap (times o) m_is)) (given_up f s t l was hungry b (seen [] b backed)) u ends, quiet)
+          (λ o. omega (arith, ap (times o) m_is)) (given_up f s t l was hungry b (seen [] b backed)) u ends, quiet, out)
 
   -- the last object of the list was got
   pub takes_last : (m : List ℕ) (o : ℕ) → l ≡ m ++ o ∷ [] → was ≡ false → (b : Book) → IsBacked v [] b
@@ -139,8 +148,8 @@ pub nothing_backed : (b : Book) → IsBacked no_places [] b
 nothing_backed b = record { held = λ x. omega arith; charged = λ x. omega arith; sized = record { first = tt; second = tt; third = tt } }
 
 -- what was done from nothing
-pub quietly : (q : Places) (b c : Book) (now : Bool) (u : Trades no_places b [] [] q c) → (HasPushOnFull u.moves → ⊥) → (now ≡ true → EndAtLastTag u.moves) → DealsQuietly no_places b (record q { stopped = now }) c
-quietly q b c now u quiet ends = (dealt no_places b [] [] q c false now (nothing_backed b) u ends, quiet)
+pub quietly : (q : Places) (b c : Book) (now : Bool) (u : Trades no_places b [] [] q c) → (HasPushOnFull u.moves → ⊥) → (HasPopFromFull u.moves → ⊥) → (now ≡ true → EndAtLastTag u.moves) → DealsQuietly no_places b (record q { stopped = now }) c
+quietly q b c now u quiet out ends = (dealt no_places b [] [] q c false now (nothing_backed b) u ends, quiet, out)
 
 pub quiet_on : (ms ns : List Move) → (HasPushOnFull ms → ⊥) → (HasPushOnFull ns → ⊥) → HasPushOnFull (ms ++ ns) → ⊥
 quiet_on ms ns no_m no_n push = ⊎_elim no_m no_n (on_full_of ms ns push)
@@ -153,6 +162,11 @@ pub ends_told : (p : Places) (b : Book) (q : Places) (c : Book) (stop : Stop) �
     → (stop ≡ TagSpent) × ((u : Trades p b [] [] q c) × EndAtLastTag u.moves)
 ends_told p b q c TagSpent told = (refl, told)
 ends_told p b q c OutOfMemory none = absurd none
+
+pub ends_out : (p : Places) (b : Book) (q : Places) (c : Book) (stop : Stop) → EndsOut p b q c stop
+    → (stop ≡ TagSpent) × ((u : Trades p b [] [] q c) × EndAtLastTag u.moves × (HasPopFromFull u.moves → ⊥))
+ends_out p b q c TagSpent told = (refl, told)
+ends_out p b q c OutOfMemory none = absurd none
 
 pub clears_told : (p : Places) (b : Book) (q : Places) (c : Book) (stop : Stop) → ClearTells p b q c (Err stop)
     → (stop ≡ TagSpent) × ((u : Clears p b q c) × EndAtLastTag u.trades.moves)

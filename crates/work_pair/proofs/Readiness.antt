@@ -1,9 +1,8 @@
 -- What the tests' workers have after a call.
-use Rattle.std.proofs.Common.{◌≡◌, ℕ, ◌<◌, Option, Some, None, IfSome, IfNone, List, [], ◌∷◌, ◌++◌, All, Contains, cond}
+use Rattle.std.proofs.Common.{◌≡◌, ℕ, ◌<◌, List, [], ◌∷◌, ◌++◌, All, Contains, cond}
 use Rattle.std.proofs.Common.{eq-eqb, ap, sym, subst, ◌∙◌, inl, inr, arith}
 use Rattle.std.proofs.lemmas.List.FromFn.{length-range_with_len, get_or-range_with_len}
 use Rattle.atomic_table.specs.Seated.{TableId}
-use Rattle.mark_core.specs.declared.which.Which.TheVariants.{Full}
 use Rattle.mark_core.specs.Lists.{times, only}
 use Rattle.mark_core.specs.World.{Setup}
 use Rattle.mark_core.specs.Event.{CanClaim, IsBusy}
@@ -11,7 +10,6 @@ use Rattle.mark_core.proofs.Sums.{total-append}
 use Rattle.buffer_pool.specs.Book.{Book, claimed}
 use Rattle.buffer_pool.specs.Calls.{Holder}
 use Rattle.work_pair.specs.Deals.{Deals}
-use Rattle.work_pair.specs.Moves.{WasSeenEmpty}
 use Rattle.work_pair.specs.Places.{Places, items_of, IsBacked, IsOpen, AreOfSize}
 use Rattle.work_pair.specs.tests.Ready.{IsReady, IsWorker, numbers}
 use Rattle.work_pair.proofs.Trading.{backed_less}

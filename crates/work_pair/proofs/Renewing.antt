@@ -1,8 +1,9 @@
 -- What was done with one place.
-use Rattle.std.proofs.Common.{◌≡◌, ◌≢◌, ℕ, ◌+◌, true, false, Contains, List, [], ◌∷◌, Option, Some, None, Ok, Err, refl}
+use Rattle.std.specs.Bool.{OnTrue}
+use Rattle.std.proofs.Common.{◌≡◌, ◌≢◌, ℕ, ◌+◌, Bool, true, false, Contains, List, [], ◌∷◌, Option, Some, None, Ok, Err, refl}
 use Rattle.std.proofs.Common.{sym, ap, subst, ◌∙◌, inl, inr, ⊎_elim, arith}
 use Rattle.mark_core.specs.declared.which.Which.{Which}
-use Rattle.mark_core.specs.declared.which.Which.TheVariants.{Empty}
+use Rattle.mark_core.specs.declared.which.Which.TheVariants.{Full, Empty}
 use Rattle.mark_core.specs.Event.{IsBusy}
 use Rattle.mark_core.specs.Lists.{times, only, IsPart}
 use Rattle.mark_core.specs.World.{Setup}
@@ -10,11 +11,11 @@ use Rattle.mark_core.proofs.Sums.{only-same, times_stands, total-append}
 use Rattle.buffer_pool.specs.Book.{Book}
 use Rattle.buffer_pool.specs.Calls.{HeldBuffer}
 use Rattle.work_pair.specs.Moves.{Move, Took, Gave, FoundNone, Ended, Moved, IsFilled, HasPushOnFull, EndAtLastTag}
-use Rattle.work_pair.specs.Moves.{IsOnFull, given_items, given_number, taken_items, taken_number}
+use Rattle.work_pair.specs.Moves.{IsFromFull, IsOnFull, HasPopFromFull, given_items, given_number, taken_items, taken_number}
 use Rattle.work_pair.specs.Places.{items_at, number_at, IsOfSize}
 use Rattle.work_pair.specs.declared.stop.Stop.{Stop}
 use Rattle.work_pair.specs.declared.stop.Stop.TheVariants.{TagSpent, OutOfMemory}
-use Rattle.work_pair.specs.working.Steps.{Leaves, PopsOne, PutsOut, Renews, RenewTells, shelf_of}
+use Rattle.work_pair.specs.working.Steps.{IsFull, Leaves, PopsOne, PublishesAt, PutsOut, Renews, RenewTells, shelf_of}
 use Rattle.work_pair.proofs.Looks.{lost_pops}
 use Rattle.work_pair.proofs.Effects.{busy_after, found_none, move_effect}
 
@@ -36,6 +37,11 @@ shelf_full h some = go h.items refl
 pub shelf_quiet : (h : HeldBuffer) → h.items ≡ [] → IsOnFull (Gave (shelf_of h.items) h) → ⊥
 shelf_quiet h none = subst (λ (items : List ℕ). IsOnFull (Gave (shelf_of items) h) → ⊥) (sym none) (λ x. x)
 
+-- only a pop from full takes from full
+pub from_full : (q : Which) (h : HeldBuffer) → IsFromFull (Took q h) → IsFull q
+from_full Full h took = tt
+from_full Empty h none = absurd none
+
 module _ (size : ℕ) (old : Option HeldBuffer) (b c : Book) (sized : IsOfSize size old) where
   -- nothing was done
   module _ (new third : Option HeldBuffer) (same : new ≡ old) (vacant : third ≡ None) where
@@ -51,10 +57,10 @@ module _ (size : ℕ) (old : Option HeldBuffer) (b c : Book) (sized : IsOfSize s
           left_sized = subst (IsOfSize size) (sym vacant) tt;
         }
 
-    pub found_nothing : Moved (FoundNone Empty) b c → RenewTells size old b new third c (Ok false)
+    pub found_nothing : Moved (FoundNone Empty) b c → RenewTells Empty size old b new third c (Ok false)
     found_nothing moved = (unchanged (FoundNone Empty) moved (λ o. refl) (λ i. refl) tt, vacant, same, found_none Empty b c moved, refl)
 
-    pub stopped_at_once : (stop : Stop) → PopsOne Empty b c (Err stop) → RenewTells size old b new third c (Err stop)
+    pub stopped_at_once : (stop : Stop) → PopsOne Empty b c (Err stop) → RenewTells Empty size old b new third c (Err stop)
     stopped_at_once TagSpent moved =
         let r : Renews size old b new third c =
         record {
@@ -65,14 +71,14 @@ module _ (size : ℕ) (old : Option HeldBuffer) (b c : Book) (sized : IsOfSize s
           filled = (tt, tt);
           sized = subst (IsOfSize size) (sym same) sized;
           left_sized = subst (IsOfSize size) (sym vacant) tt;
-        } in (r, ([], Empty, refl))
+        } in (r, ([], Empty, refl), λ pop. ⊎_elim (λ x. x) (λ x. x) pop)
     stopped_at_once OutOfMemory none = absurd none
 
 -- the buffer h was popped, and its items and those at the place before are those of the place now and of the next one
 module _ (size : ℕ) (old : Option HeldBuffer) (b : Book) (q : Which) (h : HeldBuffer) (mid : Book) (took : Moved (Took q h) b mid) (place : Option HeldBuffer) (next : HeldBuffer)
     (shared : (o : ℕ) → times o (items_at place) + times o next.items ≡ times o (items_at old) + times o h.items)
     (number : number_at place ≡ number_at old) (index : next.index ≡ h.index) (place_sized : IsOfSize size place) (next_sized : next.size ≡ size) (c : Book) (new third : Option HeldBuffer) where
-  pub put_out_done : (done : Unit) → ((items_at old ≢ []) → (items_at place ≢ [])) → PutsOut place next mid new third c (Ok done) → RenewTells size old b new third c (Ok true)
+  pub put_out_done : (done : Unit) → ((items_at old ≢ []) → (items_at place ≢ [])) → PutsOut place next mid new third c (Ok done) → RenewTells q size old b new third c (Ok true)
   put_out_done done more out = go place refl (out.2)
     where
       item_new : (o : ℕ) → times o (items_at new) + times o (items_at third) ≡ times o next.items
@@ -81,7 +87,7 @@ module _ (size : ℕ) (old : Option HeldBuffer) (b : Book) (q : Which) (h : Held
       number_new : (i : ℕ) → times i (number_at new) + times i (number_at third) ≡ times i (h.index ∷ [])
       number_new i = omega (arith, ap (λ (p : Option HeldBuffer). times i (number_at p)) out.0, ap (λ (p : Option HeldBuffer). times i (number_at p)) out.1, ap (λ (n : ℕ). times i (n ∷ [])) index)
 
-      go : (p : Option HeldBuffer) → place ≡ p → Leaves p mid c → RenewTells size old b new third c (Ok true)
+      go : (p : Option HeldBuffer) → place ≡ p → Leaves p mid c → RenewTells q size old b new third c (Ok true)
       go None is left =
           let r : Renews size old b new third c =
           record {
@@ -92,7 +98,7 @@ module _ (size : ℕ) (old : Option HeldBuffer) (b : Book) (q : Which) (h : Held
             filled = (tt, tt);
             sized = subst (IsOfSize size) (sym out.0) next_sized;
             left_sized = subst (IsOfSize size) (sym out.1) tt;
-          } in (r, out.1, λ some. absurd (more some (ap items_at is)))
+          } in (r, out.1, λ some. absurd (more some (ap items_at is)), λ pop. ⊎_elim (from_full q h) (λ x. absurd x) pop)
       go (Some k) is left =
           let r : Renews size old b new third c =
           record {
@@ -103,9 +109,10 @@ module _ (size : ℕ) (old : Option HeldBuffer) (b : Book) (q : Which) (h : Held
             filled = (tt, (filled_shelf k, tt));
             sized = subst (IsOfSize size) (sym out.0) next_sized;
             left_sized = subst (IsOfSize size) (sym out.1) tt;
-          } in (r, out.1, λ some. inr (inl (shelf_full k (λ none. more some (ap items_at is ∙ none)))))
+          } in (r, out.1, λ some. inr (inl (shelf_full k (λ none. more some (ap items_at is ∙ none)))),
+              λ pop. ⊎_elim (from_full q h) (λ rest. ⊎_elim (λ x. absurd x) (λ x. absurd x) rest) pop)
 
-  pub put_out_stopped : (stop : Stop) → PutsOut place next mid new third c (Err stop) → RenewTells size old b new third c (Err stop)
+  pub put_out_stopped : (stop : Stop) → PutsOut place next mid new third c (Err stop) → RenewTells q size old b new third c (Err stop)
   put_out_stopped OutOfMemory none = absurd none
   put_out_stopped TagSpent out =
       let r : Renews size old b new third c =
@@ -117,7 +124,34 @@ module _ (size : ℕ) (old : Option HeldBuffer) (b : Book) (q : Which) (h : Held
         filled = (tt, (tt, tt));
         sized = subst (IsOfSize size) (sym out.0) place_sized;
         left_sized = subst (IsOfSize size) (sym out.1) next_sized;
-      } in (r, (Took q h ∷ [], out.2.0, refl))
+      } in (r, (Took q h ∷ [], out.2.0, refl),
+          λ pop. ⊎_elim (from_full q h) (λ rest. ⊎_elim (λ x. absurd x) (λ x. absurd x) rest) pop)
+
+-- a look for an empty buffer pops nothing from full
+pub out_alone : (ms : List Move) → ms ≡ FoundNone Empty ∷ [] → HasPopFromFull ms → ⊥
+out_alone ms is pop = ⊎_elim (λ x. x) (λ x. x) (subst HasPopFromFull is pop)
+
+-- a place without items was left as it is, and one with items was renewed
+module _ (size : ℕ) (old : Option HeldBuffer) (b : Book) where
+  pub publish_nothing : (third : Option HeldBuffer) → IsOfSize size old → third ≡ None → items_at old ≡ []
+      → PublishesAt size old b old third b (Ok tt)
+  publish_nothing third sized vacant none =
+      let r : Renews size old b old third b =
+      record {
+        moves = [];
+        books = refl;
+        items = λ o. omega (arith, ap (λ (p : Option HeldBuffer). times o (items_at p)) vacant);
+        buffers = λ i. omega (arith, ap (λ (p : Option HeldBuffer). times i (number_at p)) vacant);
+        filled = tt;
+        sized = sized;
+        left_sized = subst (IsOfSize size) (sym vacant) tt;
+      } in (r, vacant, inr none, λ pop. pop)
+
+  module _ (new third : Option HeldBuffer) (c : Book) where
+    pub publish_renewed : (done : Bool) → RenewTells Empty size old b new third c (Ok done)
+        → OnTrue done ((h : HeldBuffer) × (new ≡ Some h) × (h.items ≡ [])) → PublishesAt size old b new third c (Ok tt)
+    publish_renewed true told bare = (told.0, told.1, inr (ap items_at bare.1 ∙ bare.2), told.3)
+    publish_renewed false told bare = (told.0, told.1, inl told.3, out_alone told.0.moves told.4)
 
 -- what the pop leaves of what the place needs
 module _ (old : Option HeldBuffer) (q : Which) (h : HeldBuffer) (b mid : Book) (took : Moved (Took q h) b mid) where
@@ -146,10 +180,10 @@ stands_held place h held is part =
     times_stands held h.index (omega (arith, part h.index, ap (λ (p : Option HeldBuffer). times h.index (number_at p)) is, only-same h.index h.index refl))
 
 -- the buffer at a place was pushed
-pub cleared : (size : ℕ) (f : Option HeldBuffer) (b c : Book) → Leaves f b c → (r : Renews size f b None None c) × (items_at f ≡ [] → HasPushOnFull r.moves → ⊥)
+pub cleared : (size : ℕ) (f : Option HeldBuffer) (b c : Book) → Leaves f b c → (r : Renews size f b None None c) × (items_at f ≡ [] → HasPushOnFull r.moves → ⊥) × (HasPopFromFull r.moves → ⊥)
 cleared size None b c same =
     let r : Renews size None b None None c =
-    record { moves = []; books = same; items = λ o. omega arith; buffers = λ i. omega arith; filled = tt; sized = tt; left_sized = tt } in (r, λ none push. push)
+    record { moves = []; books = same; items = λ o. omega arith; buffers = λ i. omega arith; filled = tt; sized = tt; left_sized = tt } in (r, λ none push. push, λ pop. pop)
 cleared size (Some h) b c moved =
     let r : Renews size (Some h) b None None c =
     record {
@@ -160,11 +194,11 @@ cleared size (Some h) b c moved =
       filled = (filled_shelf h, tt);
       sized = tt;
       left_sized = tt;
-    } in (r, λ none push. ⊎_elim (shelf_quiet h none) (λ x. x) push)
+    } in (r, λ none push. ⊎_elim (shelf_quiet h none) (λ x. x) push, λ pop. ⊎_elim (λ x. x) (λ x. x) pop)
 
 -- or it is still there
-pub clear_stopped : (size : ℕ) (f : Option HeldBuffer) (b c : Book) → IsOfSize size f → (q : Which) → Moved (Ended q) b c → (r : Renews size f b f None c) × (HasPushOnFull r.moves → ⊥) × EndAtLastTag r.moves
+pub clear_stopped : (size : ℕ) (f : Option HeldBuffer) (b c : Book) → IsOfSize size f → (q : Which) → Moved (Ended q) b c → (r : Renews size f b f None c) × (HasPushOnFull r.moves → ⊥) × EndAtLastTag r.moves × (HasPopFromFull r.moves → ⊥)
 clear_stopped size f b c sized q moved =
     let r : Renews size f b f None c =
     record { moves = Ended q ∷ []; books = (c, moved, refl); items = λ o. omega arith; buffers = λ i. omega arith; filled = (tt, tt); sized = sized; left_sized = tt } in
-    (r, λ push. ⊎_elim (λ x. x) (λ x. x) push, ([], q, refl))
+    (r, λ push. ⊎_elim (λ x. x) (λ x. x) push, ([], q, refl), λ pop. ⊎_elim (λ x. x) (λ x. x) pop)

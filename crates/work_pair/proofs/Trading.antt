@@ -9,7 +9,7 @@ use Rattle.buffer_pool.specs.Book.{Book}
 use Rattle.buffer_pool.specs.Calls.{HeldBuffer}
 use Rattle.work_pair.specs.Moves.{Move, FoundNone, Ended, Moved, Moves, popped_items, popped_numbers, pushed_items}
 use Rattle.work_pair.specs.Moves.{pushed_numbers, taken_items, taken_number, given_items, given_number, AreFilled}
-use Rattle.work_pair.specs.Moves.{HasPushOnFull, EndAtLastTag}
+use Rattle.work_pair.specs.Moves.{HasPushOnFull, HasPopFromFull, EndAtLastTag}
 use Rattle.work_pair.specs.Places.{Places, buffered_items, items_at, number_at, items_of, numbers_of, IsOfSize, AreOfSize}
 use Rattle.work_pair.specs.Places.{IsBacked}
 use Rattle.work_pair.specs.Deals.{Deals}
@@ -43,6 +43,13 @@ on_full_last (m ∷ ms) ns h = inr (on_full_last ms ns h)
 pub on_full_of : (ms ns : List Move) → HasPushOnFull (ms ++ ns) → HasPushOnFull ms ⊎ HasPushOnFull ns
 on_full_of [] ns h = inr h
 on_full_of (m ∷ ms) ns h = ⊎_elim (λ k. inl (inl k)) (λ k. ⊎_elim (λ l. inl (inr l)) inr (on_full_of ms ns k)) h
+
+pub from_full_of : (ms ns : List Move) → HasPopFromFull (ms ++ ns) → HasPopFromFull ms ⊎ HasPopFromFull ns
+from_full_of [] ns h = inr h
+from_full_of (m ∷ ms) ns h = ⊎_elim (λ k. inl (inl k)) (λ k. ⊎_elim (λ l. inl (inr l)) inr (from_full_of ms ns k)) h
+
+pub out_on : (ms ns : List Move) → (HasPopFromFull ms → ⊥) → (HasPopFromFull ns → ⊥) → HasPopFromFull (ms ++ ns) → ⊥
+out_on ms ns no_m no_n pop = ⊎_elim no_m no_n (from_full_of ms ns pop)
 
 pub end_on : (ms ns : List Move) → EndAtLastTag ns → EndAtLastTag (ms ++ ns)
 end_on ms ns e = (ms ++ e.0, e.1, ap (λ (xs : List Move). ms ++ xs) e.2 ∙ sym (append_assoc ms e.0 (Ended e.1 ∷ [])))

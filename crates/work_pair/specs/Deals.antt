@@ -3,9 +3,11 @@ use Rattle.std.specs.Prelude.{◌≡◌, ◌≢◌, ◌⊎◌, ℕ, ◌+◌, ◌
 use Rattle.mark_core.specs.declared.which.Which.TheVariants.{Empty}
 use Rattle.mark_core.specs.Lists.{times}
 use Rattle.buffer_pool.specs.Book.{Book}
-use Rattle.work_pair.specs.Moves.{Move, FoundNone, Moves, popped_items, popped_numbers, pushed_items, pushed_numbers}
-use Rattle.work_pair.specs.Moves.{AreFilled, HasPushOnFull, EndAtLastTag, WasSeenEmpty}
-use Rattle.work_pair.specs.Places.{Places, buffered_items, items_of, items_at, numbers_of, without_spill, IsBacked}
+use Rattle.buffer_pool.specs.Calls.{HeldBuffer}
+use Rattle.work_pair.specs.Moves.{Move, Took, Gave, FoundNone, Moves, popped_items, popped_numbers, pushed_items}
+use Rattle.work_pair.specs.Moves.{pushed_numbers, AreFilled, HasPushOnFull, HasPopFromFull, EndAtLastTag}
+use Rattle.work_pair.specs.Places.{Places, buffered_items, items_of, items_at, numbers_of, no_places, without_spill}
+use Rattle.work_pair.specs.Places.{IsBacked}
 
 -- the worker has the same share and the same idle number, saw the same objects and finished the same, and its pool was
 -- made for the same
@@ -46,27 +48,45 @@ pub record Deals (old : Places) (before : Book) (put got : List ℕ) (new : Plac
 abbrev pub HasMore : Places → Type 0
 HasMore p = (items_at p.second ≢ []) ⊎ (4 < length (items_at p.first))
 
--- a call that pushed nothing on full
-abbrev pub DealsQuietly : Places → Book → Places → Book → Type 0
-DealsQuietly old before new after = (deals : Deals old before [] [] new after) × (HasPushOnFull deals.moves → ⊥)
+-- a call that popped nothing from full
+abbrev pub DealsOut : Places → Book → Places → Book → Type 0
+DealsOut old before new after = (deals : Deals old before [] [] new after) × (HasPopFromFull deals.moves → ⊥)
 
--- a balance that pushed a buffer with items on full where there was more than a few, or saw that there was no empty
--- buffer
+-- a call that pushed nothing on full, and popped nothing from it
+abbrev pub DealsQuietly : Places → Book → Places → Book → Type 0
+DealsQuietly old before new after =
+    (deals : Deals old before [] [] new after)
+    × (HasPushOnFull deals.moves → ⊥)
+    × (HasPopFromFull deals.moves → ⊥)
+
+-- no pair was opened: the first look for an empty buffer found none, or the second did, and then the one that was
+-- popped was given back
+abbrev pub OpensNone : Book → Book → Type 0
+OpensNone before after =
+    (deals : Deals no_places before [] [] no_places after)
+    × ((deals.moves ≡ FoundNone Empty ∷ [])
+       ⊎ ((h : HeldBuffer) × (deals.moves ≡ Took Empty h ∷ FoundNone Empty ∷ Gave Empty h ∷ [])))
+
+-- a balance that pushed a buffer with items on full where there was more than a few, or else did nothing with the
+-- stacks but look for an empty buffer, and found none; it popped nothing from full
 abbrev pub Balances : Places → Book → Places → Book → Type 0
 Balances old before new after =
     (deals : Deals old before [] [] new after)
-    × (HasMore old → WasSeenEmpty Empty before after ⊎ HasPushOnFull deals.moves)
+    × (HasMore old → (deals.moves ≡ FoundNone Empty ∷ []) ⊎ HasPushOnFull deals.moves)
+    × (HasPopFromFull deals.moves → ⊥)
 
 -- an object was put: into a buffer, or at the end of the spill list; then all that the call did with the stacks was to
--- look for an empty buffer, and it found none
+-- look for an empty buffer, and it found none; it popped nothing from full
 abbrev pub Puts : Places → Book → ℕ → Places → Book → Type 0
 Puts old before object new after =
     (deals : Deals old before (object ∷ []) [] new after)
     × ((new.spill ≡ old.spill) ⊎ ((new.spill ≡ old.spill ++ object ∷ []) × (deals.moves ≡ FoundNone Empty ∷ [])))
+    × (HasPopFromFull deals.moves → ⊥)
 
--- a call that gave buffers back, none of them on full where there were no items in them; a spill list was given up
--- before
+-- a call that gave buffers back, none of them on full where there were no items in them, and popped nothing from full;
+-- a spill list was given up before
 abbrev pub Disposes : Places → Book → Places → Book → Type 0
 Disposes old before new after =
     (deals : Deals (without_spill old) before [] [] new after)
     × (buffered_items old ≡ [] → HasPushOnFull deals.moves → ⊥)
+    × (HasPopFromFull deals.moves → ⊥)

@@ -96,6 +96,18 @@ abbrev pub HasPushOnFull : List Move → Type 0
 HasPushOnFull [] = ⊥
 HasPushOnFull (move ∷ moves) = IsOnFull move ⊎ HasPushOnFull moves
 
+-- a buffer was popped from full
+abbrev pub IsFromFull : Move → Type 0
+IsFromFull (Took Full h) = Unit {0}
+IsFromFull (Took Empty h) = ⊥
+IsFromFull (Gave q h) = ⊥
+IsFromFull (FoundNone q) = ⊥
+IsFromFull (Ended q) = ⊥
+
+abbrev pub HasPopFromFull : List Move → Type 0
+HasPopFromFull [] = ⊥
+HasPopFromFull (move ∷ moves) = IsFromFull move ⊎ HasPopFromFull moves
+
 -- the last move loaded a last tag
 abbrev pub EndAtLastTag : List Move → Type 0
 EndAtLastTag moves = (before : List Move) × (q : Which) × (moves ≡ before ++ Ended q ∷ [])

@@ -47,7 +47,8 @@ impl<A: Allocator> Pair<A> {
     ghost use Rattle.std.specs.Prelude.{IfErr, IfNone, IfOk, IfSome, IsOk, OnOk, length};
     ghost use Rattle.mark_core.specs.Event.{IsBusy};
     ghost use Rattle.mark_core.specs.declared.which.Which.TheVariants.{Empty, Full};
-    ghost use Rattle.work_pair.specs.Deals.{Balances, Deals, DealsQuietly, Disposes, HasMore, Puts};
+    ghost use Rattle.work_pair.specs.Deals.{Balances, Deals, DealsOut, DealsQuietly, Disposes, HasMore, OpensNone};
+    ghost use Rattle.work_pair.specs.Deals.{Puts};
     ghost use Rattle.work_pair.specs.Moves.{FoundNone, WasSeenEmpty};
     ghost use Rattle.work_pair.specs.Places.{AreAlike, HasRoom, HasStopped, IsBacked, IsNew, IsOpen, Places};
     ghost use Rattle.work_pair.specs.Places.{buffered_items, items_of, no_places};
@@ -93,6 +94,7 @@ impl<A: Allocator> Pair<A> {
             worker.new.book)) }
         ensures none { IfOk result (λ r. IfNone r (DealsQuietly no_places worker.old.book no_places worker.new.book
             × WasSeenEmpty Empty worker.old.book worker.new.book)) }
+        ensures not_found { IfOk result (λ r. IfNone r (OpensNone worker.old.book worker.new.book)) }
         ensures spent { IfErr result (λ s. (s ≡ TagSpent) × ((left : Places) × (left.stopped ≡ true)
             × DealsQuietly no_places worker.old.book left worker.new.book)) }
     {
@@ -126,8 +128,8 @@ impl<A: Allocator> Pair<A> {
         ensures going { OnOk result (IsOpen self.new) }
         ensures room { HasRoom self.old → (worker.new ≡ worker.old) × IsOk result }
         ensures fed { OnOk result (self.new.starved ≡ self.old.starved) }
-        ensures back { IfErr result (λ e. (e.0 ≡ object) × (self.new.spill ≡ self.old.spill) × Deals self.old
-            worker.old.book [] [] self.new worker.new.book) }
+        ensures back { IfErr result (λ e. (e.0 ≡ object) × (self.new.spill ≡ self.old.spill) × DealsOut self.old
+            worker.old.book self.new worker.new.book) }
         ensures no_memory { IfErr result (λ e. e.1 ≡ OutOfMemory → IsOpen self.new × AreAlike self.old self.new
             × (self.new.starved ≡ true) × ((deals : Deals self.old worker.old.book [] [] self.new worker.new.book)
             × (deals.moves ≡ FoundNone Empty ∷ []))) }
@@ -208,8 +210,8 @@ impl<A: Allocator> Pair<A> {
         ensures few { (HasMore self.old → ⊥) → (self.new ≡ self.old) × (worker.new ≡ worker.old) × IsOk result }
         ensures spill { (self.new.spill ≡ self.old.spill) × (self.new.starved ≡ self.old.starved) }
         ensures going { OnOk result (IsOpen self.new) }
-        ensures spent { IfErr result (λ s. (s ≡ TagSpent) × (self.new.stopped ≡ true) × Deals self.old
-            worker.old.book [] [] self.new worker.new.book) }
+        ensures spent { IfErr result (λ s. (s ≡ TagSpent) × (self.new.stopped ≡ true) × DealsOut self.old
+            worker.old.book self.new worker.new.book) }
     {
         match self.buffers.balance(rt, pool, worker) {
             Ok(()) => Ok(()),
@@ -236,12 +238,13 @@ impl<A: Allocator> Pair<A> {
         ensures none_left { OnOk result (WasSeenEmpty Empty worker.old.book worker.new.book ⊎ (buffered_items self.new
             ≡ [])) }
         ensures published { OnOk result (Deals self.old worker.old.book [] [] self.new worker.new.book) }
+        ensures only_gives { OnOk result (DealsOut self.old worker.old.book self.new worker.new.book) }
         ensures nothing { buffered_items self.old ≡ [] → (self.new ≡ self.old) × (worker.new ≡ worker.old)
             × IsOk result }
         ensures spill { (self.new.spill ≡ self.old.spill) × (self.new.starved ≡ self.old.starved) }
         ensures going { OnOk result (IsOpen self.new) }
-        ensures spent { IfErr result (λ s. (s ≡ TagSpent) × (self.new.stopped ≡ true) × Deals self.old
-            worker.old.book [] [] self.new worker.new.book) }
+        ensures spent { IfErr result (λ s. (s ≡ TagSpent) × (self.new.stopped ≡ true) × DealsOut self.old
+            worker.old.book self.new worker.new.book) }
     {
         match self.buffers.publish(rt, pool, worker) {
             Ok(()) => Ok(()),

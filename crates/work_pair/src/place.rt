@@ -4,6 +4,7 @@ ghost use Rattle.std.specs.Prelude.{IsOk, MatchOption};
 ghost use Rattle.std.specs.Bool.{OnTrue, OnFalse};
 ghost use Rattle.mark_core.specs.Event.{IsBusy};
 ghost use Rattle.mark_core.specs.Lists.{times, IsPart};
+ghost use Rattle.mark_core.specs.declared.which.Which.TheVariants.{Empty};
 ghost use Rattle.buffer_pool.specs.Calls.{HeldBuffer};
 ghost use Rattle.work_pair.specs.Places.{items_at, number_at, HasRoomAt, IsOfSize};
 ghost use Rattle.work_pair.specs.working.Steps.{ClearsAt, PublishesAt, PutsOut, RenewTells};
@@ -139,7 +140,7 @@ pub(crate) fn renew<R: Wait, A: Allocator>(
     requires sized { IsOfSize worker.old.book.setup.size place.old }
     requires busy { IsBusy worker.old.book.account }
     ensures pool { worker.new.pool ≡ worker.old.pool }
-    ensures renews { RenewTells worker.old.book.setup.size place.old worker.old.book place.new third.new
+    ensures renews { RenewTells Empty worker.old.book.setup.size place.old worker.old.book place.new third.new
         worker.new.book result }
     ensures bare { IfOk result (λ done. OnTrue done ((h : HeldBuffer) × (place.new ≡ Some h) × (h.items ≡ []))) }
 {
@@ -166,7 +167,7 @@ pub(crate) fn halve<R: Wait, A: Allocator>(
     requires sized { IsOfSize worker.old.book.setup.size place.old }
     requires busy { IsBusy worker.old.book.account }
     ensures pool { worker.new.pool ≡ worker.old.pool }
-    ensures renews { RenewTells worker.old.book.setup.size place.old worker.old.book place.new third.new
+    ensures renews { RenewTells Empty worker.old.book.setup.size place.old worker.old.book place.new third.new
         worker.new.book result }
 {
     let Some(mut upper) = pop_one(rt, pool, worker, Which::Empty)? else {

@@ -8,7 +8,8 @@ use Rattle.buffer_pool.specs.Book.{Book}
 use Rattle.buffer_pool.specs.Calls.{HeldBuffer}
 use Rattle.work_pair.specs.Deals.{HasMore}
 use Rattle.work_pair.specs.Moves.{Move, Took, Gave, FoundNone, Ended, Moved, Moves, popped_items, popped_numbers}
-use Rattle.work_pair.specs.Moves.{pushed_items, pushed_numbers, AreFilled, HasPushOnFull, EndAtLastTag, WasSeenEmpty}
+use Rattle.work_pair.specs.Moves.{pushed_items, pushed_numbers, AreFilled, HasPushOnFull, HasPopFromFull, EndAtLastTag}
+use Rattle.work_pair.specs.Moves.{WasSeenEmpty}
 use Rattle.work_pair.specs.Places.{Places, items_at, number_at, items_of, numbers_of, no_places, IsOfSize, AreOfSize}
 use Rattle.work_pair.specs.Places.{AreAlike}
 use Rattle.work_pair.specs.declared.stop.Stop.{Stop}
@@ -80,23 +81,28 @@ pub record Renews (size : ℕ) (old : Option HeldBuffer) (before : Book) (new th
   pub sized : IsOfSize size new
   pub left_sized : IsOfSize size third
 
-abbrev pub RenewTells : ℕ → Option HeldBuffer → Book → Option HeldBuffer → Option HeldBuffer → Book
+-- the stack that the buffer was popped from is the full one
+abbrev pub IsFull : Which → Type 0
+IsFull Full = Unit {0}
+IsFull Empty = ⊥
+
+abbrev pub RenewTells : Which → ℕ → Option HeldBuffer → Book → Option HeldBuffer → Option HeldBuffer → Book
     → Result Bool Stop → Type 0
-RenewTells size old before new third after (Ok true) = (r : Renews size old before new third after) × (third ≡ None)
-    × ((items_at old ≢ []) → HasPushOnFull r.moves)
-RenewTells size old before new third after (Ok false) = (r : Renews size old before new third after)
+RenewTells q size old before new third after (Ok true) = (r : Renews size old before new third after)
+    × (third ≡ None) × ((items_at old ≢ []) → HasPushOnFull r.moves) × (HasPopFromFull r.moves → IsFull q)
+RenewTells q size old before new third after (Ok false) = (r : Renews size old before new third after)
     × (third ≡ None) × (new ≡ old) × WasSeenEmpty Empty before after × (r.moves ≡ FoundNone Empty ∷ [])
-RenewTells size old before new third after (Err TagSpent) = (r : Renews size old before new third after)
-    × EndAtLastTag r.moves
-RenewTells size old before new third after (Err OutOfMemory) = ⊥
+RenewTells q size old before new third after (Err TagSpent) = (r : Renews size old before new third after)
+    × EndAtLastTag r.moves × (HasPopFromFull r.moves → IsFull q)
+RenewTells q size old before new third after (Err OutOfMemory) = ⊥
 
 -- a place whose buffer has items was renewed
 abbrev pub PublishesAt : ℕ → Option HeldBuffer → Book → Option HeldBuffer → Option HeldBuffer → Book
     → Result Unit Stop → Type 0
-PublishesAt size old before new third after (Ok done) = Renews size old before new third after × (third ≡ None)
-    × (WasSeenEmpty Empty before after ⊎ (items_at new ≡ []))
+PublishesAt size old before new third after (Ok done) = (r : Renews size old before new third after)
+    × (third ≡ None) × (WasSeenEmpty Empty before after ⊎ (items_at new ≡ [])) × (HasPopFromFull r.moves → ⊥)
 PublishesAt size old before new third after (Err TagSpent) = (r : Renews size old before new third after)
-    × EndAtLastTag r.moves
+    × EndAtLastTag r.moves × (HasPopFromFull r.moves → ⊥)
 PublishesAt size old before new third after (Err OutOfMemory) = ⊥
 
 -- what was done with all three places
@@ -120,10 +126,17 @@ abbrev pub Ends : Places → Book → Places → Book → Stop → Type 0
 Ends old before new after TagSpent = (t : Trades old before [] [] new after) × EndAtLastTag t.moves
 Ends old before new after OutOfMemory = ⊥
 
+-- and nothing was popped from full
+abbrev pub EndsOut : Places → Book → Places → Book → Stop → Type 0
+EndsOut old before new after TagSpent = (t : Trades old before [] [] new after) × EndAtLastTag t.moves
+    × (HasPopFromFull t.moves → ⊥)
+EndsOut old before new after OutOfMemory = ⊥
+
 abbrev pub PutTells : ℕ → Places → Book → Places → Book → Result Bool Stop → Type 0
-PutTells object old before new after (Ok true) = Trades old before (object ∷ []) [] new after × (new.third ≡ None)
+PutTells object old before new after (Ok true) = (t : Trades old before (object ∷ []) [] new after)
+    × (new.third ≡ None) × (HasPopFromFull t.moves → ⊥)
 PutTells object old before new after (Ok false) = FindsNone old before new after
-PutTells object old before new after (Err stop) = Ends old before new after stop
+PutTells object old before new after (Err stop) = EndsOut old before new after stop
 
 abbrev pub GetTells : Places → Book → Places → Book → Result (Option ℕ) Stop → Type 0
 GetTells old before new after (Ok (Some object)) = Trades old before [] (object ∷ []) new after × (new.third ≡ None)
@@ -134,19 +147,20 @@ GetTells old before new after (Err stop) = Ends old before new after stop
 
 abbrev pub BalanceTells : Places → Book → Places → Book → Result Unit Stop → Type 0
 BalanceTells old before new after (Ok done) =
-    (t : Trades old before [] [] new after) × (new.third ≡ None) × (HasMore old → WasSeenEmpty Empty before after
-    ⊎ HasPushOnFull t.moves)
-BalanceTells old before new after (Err stop) = Ends old before new after stop
+    (t : Trades old before [] [] new after) × (new.third ≡ None) × (HasMore old → (t.moves
+    ≡ FoundNone Empty ∷ []) ⊎ HasPushOnFull t.moves) × (HasPopFromFull t.moves → ⊥)
+BalanceTells old before new after (Err stop) = EndsOut old before new after stop
 
 abbrev pub PublishTells : Places → Book → Places → Book → Result Unit Stop → Type 0
-PublishTells old before new after (Ok done) = Trades old before [] [] new after × (new.third ≡ None)
-    × (WasSeenEmpty Empty before after ⊎ (items_of new ≡ []))
-PublishTells old before new after (Err stop) = Ends old before new after stop
+PublishTells old before new after (Ok done) = (t : Trades old before [] [] new after) × (new.third ≡ None)
+    × (WasSeenEmpty Empty before after ⊎ (items_of new ≡ [])) × (HasPopFromFull t.moves → ⊥)
+PublishTells old before new after (Err stop) = EndsOut old before new after stop
 
 -- buffers were put back, and these are left
 pub record Clears (old : Places) (before : Book) (new : Places) (after : Book) : Type 0 where
   pub trades : Trades old before [] [] new after
   pub quiet : items_of old ≡ [] → HasPushOnFull trades.moves → ⊥
+  pub out : HasPopFromFull trades.moves → ⊥
 
 abbrev pub ClearTells : Places → Book → Places → Book → Result Unit Stop → Type 0
 ClearTells old before new after (Ok done) = Clears old before no_places after

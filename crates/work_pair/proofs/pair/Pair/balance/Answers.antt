@@ -4,7 +4,7 @@ use Rattle.work_pair.specs.Deals.{HasMore}
 use Rattle.work_pair.specs.Moves.{EndAtLastTag}
 use Rattle.work_pair.specs.Places.{Places}
 use Rattle.work_pair.specs.working.Steps.{places}
-use Rattle.work_pair.proofs.Pairs.{balances, deals, ends_told, inner, not_stopped}
+use Rattle.work_pair.proofs.Pairs.{balances, deals_out, ends_out, inner, not_stopped}
 use Rattle.work_pair.proofs.Spilling.{listed}
 use Rattle.work_pair.proofs.pair.Pair.balance.Goals as goal
 
@@ -23,7 +23,7 @@ returns-in-Ok-clause-balances g c =
     let after = c.balance.new.worker.book in
     let told = c.in-Ok.ensures.tells in
     balances c.args.self.now p.first p.second p.third i.spill.items i.stopped i.starved c.self.view_is b q.first q.second q.third i.stopped i.starved after c.requires.backed told.0
-    (not_stopped (EndAtLastTag told.0.moves) i.stopped (ap (λ (w : Places). w.stopped) c.self.view_is ∙ c.requires.going.going)) told.2
+    (not_stopped (EndAtLastTag told.0.moves) i.stopped (ap (λ (w : Places). w.stopped) c.self.view_is ∙ c.requires.going.going)) told.2 told.3
 
 pub returns-in-Err-clause-spent : goal.returns-in-Err-clause-spent
 returns-in-Err-clause-spent g c =
@@ -32,8 +32,8 @@ returns-in-Err-clause-spent g c =
     let b = c.args.worker.now.book in
     let q = c.balance.new.self in
     let after = c.balance.new.worker.book in
-    let told = ends_told (places p.first p.second p.third) b (places q.first q.second q.third) after c.in-Err.stop c.in-Err.ensures.tells in
-    (told.0, refl, deals c.args.self.now p.first p.second p.third i.spill.items i.stopped i.starved c.self.view_is b q.first q.second q.third true i.starved after [] [] c.requires.backed told.1.0 (λ stopped. told.1.1))
+    let told = ends_out (places p.first p.second p.third) b (places q.first q.second q.third) after c.in-Err.stop c.in-Err.ensures.tells in
+    (told.0, refl, deals_out c.args.self.now p.first p.second p.third i.spill.items i.stopped i.starved c.self.view_is b q.first q.second q.third true i.starved after c.requires.backed told.1.0 (λ stopped. told.1.1) told.1.2)
 
 pub returns-in-Ok-clause-few : goal.returns-in-Ok-clause-few
 returns-in-Ok-clause-few g c few =

@@ -28,7 +28,7 @@ returns-in-Ok-clause-gone g c =
     let after = c.clear.new.worker.book in
     let told = c.in-Ok.ensures.tells in
     disposes c.args.self p.first p.second p.third i.spill.items i.stopped i.starved c.self.view_is b None None None false false after c.requires.backed told.trades
-    (λ stopped. absurd (false≢true stopped)) [] refl told.quiet
+    (λ stopped. absurd (false≢true stopped)) [] refl told.quiet told.out
 
 pub returns-in-Err-clause-spent : goal.returns-in-Err-clause-spent
 returns-in-Err-clause-spent g c =
@@ -41,4 +41,4 @@ returns-in-Err-clause-spent g c =
     let empty = c.clear-in-Err.ensures.items in
     (told.0, refl, empty,
     disposes c.args.self p.first p.second p.third i.spill.items i.stopped i.starved c.self.view_is b q.first q.second q.third true i.starved after c.requires.backed told.1.0.trades
-    (λ stopped. told.1.1) c.clear-in-Err.new.self.items empty told.1.0.quiet)
+    (λ stopped. told.1.1) c.clear-in-Err.new.self.items empty told.1.0.quiet told.1.0.out)

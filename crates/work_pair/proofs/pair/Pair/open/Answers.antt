@@ -6,7 +6,7 @@ use Rattle.work_pair.specs.Places.{Places, IsNew, no_places}
 use Rattle.work_pair.specs.Deals.{DealsQuietly}
 use Rattle.work_pair.specs.working.Steps.{PopsOne, places}
 use Rattle.work_pair.proofs.Opening.{back_backed, back_busy, back_stopped, both_taken, first_missing, first_stopped}
-use Rattle.work_pair.proofs.Opening.{given_back, one_busy, second_stopped}
+use Rattle.work_pair.proofs.Opening.{first_unfound, gave_back, given_back, one_busy, second_stopped}
 use Rattle.work_pair.proofs.Trading.{first_held}
 use Rattle.work_pair.proofs.pair.Pair.open.Goals as goal
 
@@ -18,6 +18,10 @@ returns-in_err-first-clause-spent g c =
 pub returns-in_default-clause-none : goal.returns-in_default-clause-none
 returns-in_default-clause-none g c =
     first_missing c.args.worker.now.book c.pop_one.new.worker.book (subst (λ (r : Option HeldBuffer). PopsOne Empty c.args.worker.now.book c.pop_one.new.worker.book (Ok r)) c.in_default.is c.in_ok-first.ensures.pops)
+
+pub returns-in_default-clause-not_found : goal.returns-in_default-clause-not_found
+returns-in_default-clause-not_found g c =
+    first_unfound c.args.worker.now.book c.pop_one.new.worker.book (subst (λ (r : Option HeldBuffer). PopsOne Empty c.args.worker.now.book c.pop_one.new.worker.book (Ok r)) c.in_default.is c.in_ok-first.ensures.pops)
 
 pub pop_one-requires-2-clause-busy : goal.pop_one-requires-2-clause-busy
 pop_one-requires-2-clause-busy g c =
@@ -70,5 +74,11 @@ returns-in_err-clear_at-clause-spent g c =
 pub returns-clause-none : goal.returns-clause-none
 returns-clause-none g c =
     given_back c.args.worker.now.book c.in-Some.first c.pop_one.new.worker.book (subst (λ (r : Option HeldBuffer). PopsOne Empty c.args.worker.now.book c.pop_one.new.worker.book (Ok r)) c.in-Some.is c.in_ok-first.ensures.pops)
+    c.pop_one-2.new.worker.book (subst (λ (r : Option HeldBuffer). PopsOne Empty c.pop_one.new.worker.book c.pop_one-2.new.worker.book (Ok r)) c.in_default-2.is c.in_ok-second.ensures.pops)
+    c.clear_at.new.place c.clear_at.new.worker.book c.in_ok-clear_at.field-0 c.in_ok-clear_at.ensures.clears
+
+pub returns-clause-not_found : goal.returns-clause-not_found
+returns-clause-not_found g c =
+    gave_back c.args.worker.now.book c.in-Some.first c.pop_one.new.worker.book (subst (λ (r : Option HeldBuffer). PopsOne Empty c.args.worker.now.book c.pop_one.new.worker.book (Ok r)) c.in-Some.is c.in_ok-first.ensures.pops)
     c.pop_one-2.new.worker.book (subst (λ (r : Option HeldBuffer). PopsOne Empty c.pop_one.new.worker.book c.pop_one-2.new.worker.book (Ok r)) c.in_default-2.is c.in_ok-second.ensures.pops)
     c.clear_at.new.place c.clear_at.new.worker.book c.in_ok-clear_at.field-0 c.in_ok-clear_at.ensures.clears

@@ -3,7 +3,8 @@ use Rattle.std.proofs.Common.{◌∙◌, Bool, Ok, [], ◌∷◌, true, ap, refl
 use Rattle.work_pair.specs.Moves.{EndAtLastTag}
 use Rattle.work_pair.specs.Places.{Places}
 use Rattle.work_pair.specs.working.Steps.{PutTells, places}
-use Rattle.work_pair.proofs.Pairs.{as_before, deals, ends_told, inner, not_stopped, puts, spills, starves}
+use Rattle.work_pair.proofs.Pairs.{as_before, deals_out, ends_out, inner, not_stopped, puts, spills, starves}
+use Rattle.work_pair.proofs.Renewing.{out_alone}
 use Rattle.work_pair.proofs.Trading.{backed_less}
 use Rattle.work_pair.proofs.pair.Pair.put.Goals as goal
 
@@ -22,7 +23,7 @@ returns-in-Ok-true-clause-put g c =
     let after = c.put.new.worker.book in
     let told = subst (λ (done : Bool). PutTells c.args.object (places p.first p.second p.third) b (places q.first q.second q.third) after (Ok done)) c.in-Ok-true.field-0-test c.in-Ok-true.ensures.tells in
     puts c.args.self.now p.first p.second p.third i.spill.items i.stopped i.starved c.self.view_is b q.first q.second q.third i.stopped i.starved after c.args.object c.requires.backed
-    told.0 (not_stopped (EndAtLastTag told.0.moves) i.stopped (ap (λ (w : Places). w.stopped) c.self.view_is ∙ c.requires.going.going))
+    told.0 (not_stopped (EndAtLastTag told.0.moves) i.stopped (ap (λ (w : Places). w.stopped) c.self.view_is ∙ c.requires.going.going)) told.2
 
 pub returns-in-Ok-clause-put : goal.returns-in-Ok-clause-put
 returns-in-Ok-clause-put g c =
@@ -44,9 +45,9 @@ returns-in-Err-push-clause-back g c =
     let after = c.put.new.worker.book in
     let found = subst (λ (done : Bool). PutTells c.args.object (places p.first p.second p.third) b (places q.first q.second q.third) after (Ok done)) c.in-Ok-false.field-0-test c.in-Ok-false.ensures.tells in
     let same = c.in-Err-push.ensures.items in
-    (refl, same ∙ ap (λ (w : Places). w.spill) c.self.view_is,
-    (starves c.args.self.now p.first p.second p.third i.spill.items i.stopped i.starved c.self.view_is b q.first q.second q.third i.stopped true after c.args.object c.requires.backed
-    found c.push.new.self.items (not_stopped (EndAtLastTag found.0.moves) i.stopped (ap (λ (w : Places). w.stopped) c.self.view_is ∙ c.requires.going.going)) same).0)
+    let told = starves c.args.self.now p.first p.second p.third i.spill.items i.stopped i.starved c.self.view_is b q.first q.second q.third i.stopped true after c.args.object c.requires.backed
+    found c.push.new.self.items (not_stopped (EndAtLastTag found.0.moves) i.stopped (ap (λ (w : Places). w.stopped) c.self.view_is ∙ c.requires.going.going)) same in
+    (refl, same ∙ ap (λ (w : Places). w.spill) c.self.view_is, (told.0, out_alone told.0.moves told.1))
 
 pub returns-in-Err-push-clause-no_memory : goal.returns-in-Err-push-clause-no_memory
 returns-in-Err-push-clause-no_memory g c starved =
@@ -73,7 +74,7 @@ returns-in-Err-clause-back g c =
     let b = c.args.worker.now.book in
     let q = c.put.new.self in
     let after = c.put.new.worker.book in
-    let told = ends_told (places p.first p.second p.third) b (places q.first q.second q.third) after c.in-Err.stop c.in-Err.ensures.tells in
+    let told = ends_out (places p.first p.second p.third) b (places q.first q.second q.third) after c.in-Err.stop c.in-Err.ensures.tells in
     (refl, ap (λ (w : Places). w.spill) c.self.view_is,
-    deals c.args.self.now p.first p.second p.third i.spill.items i.stopped i.starved c.self.view_is b q.first q.second q.third true i.starved after [] []
-    (backed_less c.args.self.now (c.args.object ∷ []) b c.requires.backed) told.1.0 (λ stopped. told.1.1))
+    deals_out c.args.self.now p.first p.second p.third i.spill.items i.stopped i.starved c.self.view_is b q.first q.second q.third true i.starved after
+    (backed_less c.args.self.now (c.args.object ∷ []) b c.requires.backed) told.1.0 (λ stopped. told.1.1) told.1.2)
