@@ -1,18 +1,21 @@
 -- What the calls of a pair tell, from what their parts tell.
 use Rattle.std.proofs.Common.{◌≡◌, ◌≢◌, ◌⊎◌, ℕ, ◌<◌, ◌≤◌, Bool, true, false, List, [], ◌∷◌, ◌++◌, length, Option, Some}
 use Rattle.std.proofs.Common.{None, Result, Ok, Err, refl, sym, ap, subst, ◌∙◌, inl, inr, ⊎_elim, arith}
-use Rattle.mark_core.specs.declared.which.Which.TheVariants.{Empty}
+use Rattle.mark_core.specs.declared.which.Which.{Which}
+use Rattle.mark_core.specs.declared.which.Which.TheVariants.{Full, Empty}
+use Rattle.std.proofs.lemmas.List.{append-nil}
 use Rattle.mark_core.specs.Event.{IsBusy}
 use Rattle.mark_core.specs.Lists.{times}
 use Rattle.buffer_pool.specs.Book.{Book}
 use Rattle.buffer_pool.specs.Calls.{HeldBuffer}
-use Rattle.work_pair.specs.Deals.{HasMore}
-use Rattle.work_pair.specs.Moves.{FoundNone, HasPushOnFull, HasPopFromFull, WasSeenEmpty}
+use Rattle.work_pair.specs.Deals.{Gives, GivesLowerPart, HasMore, lower_part, push_of}
+use Rattle.work_pair.specs.Moves.{Move, Took, Gave, FoundNone, IsOnFull, HasPushOnFull, HasPopFromFull, WasSeenEmpty}
 use Rattle.work_pair.specs.Places.{items_at, number_at, items_of, HasRoom, HasRoomAt, IsOfSize, AreOfSize, AreAlike}
 use Rattle.work_pair.specs.Places.{IsBacked}
 use Rattle.work_pair.specs.declared.stop.Stop.{Stop}
 use Rattle.work_pair.specs.declared.stop.Stop.TheVariants.{TagSpent, OutOfMemory}
-use Rattle.work_pair.specs.working.Steps.{EndsOut, FindsNone, PublishTells, PublishesAt, Renews, RenewTells, Trades, places}
+use Rattle.work_pair.specs.working.Steps.{EndsOut, FindsNone, PublishTells, PublishesAt, PutTells, Renews, RenewTells, Trades}
+use Rattle.work_pair.specs.working.Steps.{next_of, places, pushed_part, shelf_of, shelving_of}
 use Rattle.work_pair.proofs.Effects.{busy_after, moves_effect}
 use Rattle.work_pair.proofs.Locals.{put_first, swapped}
 use Rattle.work_pair.proofs.Renewing.{out_alone}
@@ -23,6 +26,38 @@ use Rattle.work_pair.proofs.Trading.{out_on, second_renewed, sized_after, still}
 -- both buffers were full
 pub full_told : (f s t x : Option HeldBuffer) → x ≡ s → (HasRoomAt f → ⊥) → (HasRoomAt x → ⊥) → {P : Type 0} → HasRoom (places f s t) → P
 full_told f s t x is no_first no_second room = absurd (⊎_elim no_first (λ r. no_second (subst HasRoomAt (sym is) r)) room)
+
+-- a look for an empty buffer pushes nothing on full
+quiet_alone : (ms : List Move) → ms ≡ FoundNone Empty ∷ [] → HasPushOnFull ms → ⊥
+quiet_alone ms is push = ⊎_elim (λ x. x) (λ x. x) (subst HasPushOnFull is push)
+
+abbrev at_some : HeldBuffer → Option HeldBuffer → HeldBuffer
+at_some h None = h
+at_some h (Some k) = k
+
+-- where one of two moves pushed on full it was the second, and on full
+on_full_is : (q : Which) (k : HeldBuffer) → IsOnFull (Gave q k) → q ≡ Full
+on_full_is Full k on = refl
+on_full_is Empty k none = absurd none
+
+pushed_full : (q : Which) (h k : HeldBuffer) → HasPushOnFull (Took Empty h ∷ Gave q k ∷ []) → q ≡ Full
+pushed_full q h k push = ⊎_elim (λ x. absurd x) (λ rest. ⊎_elim (on_full_is q k) (λ x. absurd x) rest) push
+
+pushes_told : (p : Option HeldBuffer) (h : HeldBuffer) (ms : List Move) → ms ≡ Took Empty h ∷ shelving_of p → (items_at p ≢ [] → HasPushOnFull ms)
+    → ((k : HeldBuffer) → p ≡ Some k → k.items ≡ [] → ⊥) → ms ≡ Took Empty h ∷ push_of p
+pushes_told None h ms is push full = is
+pushes_told (Some k) h ms is push full =
+    is ∙ ap (λ (q : Which). Took Empty h ∷ Gave q k ∷ []) (pushed_full (shelf_of k.items) h k (subst HasPushOnFull is (push (full k refl))))
+
+-- what a balance gave of the first
+gives_lower : (f s t n third : Option HeldBuffer) (h : HeldBuffer) (ms : List Move) → 4 < length (items_at f) → items_at s ≡ []
+    → ms ≡ Took Empty h ∷ shelving_of (pushed_part true f) → n ≡ Some (next_of true f h) → (items_at f ≢ [] → HasPushOnFull ms)
+    → GivesLowerPart (places f s t) ms (places n s third)
+gives_lower None s t n third h ms many none is n_is push = absurd (omega (arith, many))
+gives_lower (Some k) s t n third h ms many none is n_is push =
+    let low : HeldBuffer = record k { items = lower_part k.items } in
+    let on = subst HasPushOnFull is (push (λ empty. omega (arith, many, ap length empty))) in
+    (h, k, none, refl, is ∙ ap (λ (q : Which). Took Empty h ∷ Gave q low ∷ []) (pushed_full (shelf_of low.items) h low on), n_is, refl)
 
 some_items : (xs : List ℕ) → 0 < length xs → xs ≢ []
 some_items xs some none = omega (arith, some, ap length none)
@@ -37,13 +72,24 @@ module _ (f s t : Option HeldBuffer) (b : Book) (vacant : t ≡ None) (sized : A
     renewed_then r = on_and_on (places f s t) b (places p y t) b [] [] (places n y third) c turned (first_renewed p y t n third b c vacant r (subst (IsOfSize b.setup.size) (sym y_is) sized.first))
 
     pub put_third : (h : HeldBuffer) (o : ℕ) (g : Option HeldBuffer) (r : Renews b.setup.size p b n third c) → n ≡ Some h → g ≡ Some (record h { items = h.items ++ o ∷ [] }) → (HasPopFromFull r.moves → ⊥)
-        → (u : Trades (places f s t) b (o ∷ []) [] (places g y third) c) × (HasPopFromFull u.moves → ⊥)
+        → (u : Trades (places f s t) b (o ∷ []) [] (places g y third) c) × (HasPopFromFull u.moves → ⊥) × (u.moves ≡ r.moves)
     put_third h o g r n_is g_is out =
         let so_far = renewed_then r in
         let last = still (places n y third) c (o ∷ []) [] (places g y third) (put_first n y third h o g n_is g_is) (sized_after (places f s t) b [] [] (places n y third) c so_far) in
-        (on_and_on (places f s t) b (places n y third) c (o ∷ []) [] (places g y third) c so_far last, out_on r.moves [] out (λ x. x))
+        (on_and_on (places f s t) b (places n y third) c (o ∷ []) [] (places g y third) c so_far last, out_on r.moves [] out (λ x. x), append-nil r.moves)
 
-    pub put_refused : RenewTells Empty b.setup.size p b n third c (Ok false) → FindsNone (places f s t) b (places n y third) c
+    -- the second was pushed, and the object is alone in the buffer that was popped
+    pub put_told : (h : HeldBuffer) (o : ℕ) (g : Option HeldBuffer) → RenewTells false Empty b.setup.size p b n third c (Ok true) → n ≡ Some h → g ≡ Some (record h { items = h.items ++ o ∷ [] })
+        → ((k : HeldBuffer) → p ≡ Some k → k.items ≡ [] → ⊥) → PutTells o (places f s t) b (places g y third) c (Ok true)
+    put_told h o g told n_is g_is full =
+        let all = put_third h o g told.0 n_is g_is told.3 in
+        let k = told.4.0 in
+        let same : h ≡ k = ap (at_some h) (sym n_is ∙ told.4.2) in
+        let moves = all.2 ∙ pushes_told p k told.0.moves told.4.1 told.2 full ∙ ap (λ (q : Option HeldBuffer). Took Empty k ∷ push_of q) p_is in
+        let alone = g_is ∙ ap (λ (j : HeldBuffer). Some (record j { items = j.items ++ o ∷ [] })) same ∙ ap (λ (l : List ℕ). Some (record k { items = l ++ o ∷ [] })) (told.4.3 refl) in
+        (all.0, told.1, all.1, inr (k, moves, alone, y_is))
+
+    pub put_refused : RenewTells false Empty b.setup.size p b n third c (Ok false) → FindsNone (places f s t) b (places n y third) c
     put_refused told =
         let alike : AreAlike (places f s t) (places n y third) =
         record {
@@ -51,37 +97,40 @@ module _ (f s t : Option HeldBuffer) (b : Book) (vacant : t ≡ None) (sized : A
           buffers = λ i. omega (arith, numbers_sum i (places f s t), numbers_sum i (places n y third), ap (λ (q : Option HeldBuffer). times i (number_at q)) (told.2 ∙ p_is), ap (λ (q : Option HeldBuffer). times i (number_at q)) y_is, ap (λ (q : Option HeldBuffer). times i (number_at q)) (told.1 ∙ sym vacant));
         } in (renewed_then told.0, told.1, told.4, alike)
 
-    pub put_stopped : (stop : Stop) → RenewTells Empty b.setup.size p b n third c (Err stop) → EndsOut (places f s t) b (places n y third) c stop
+    pub put_stopped : (stop : Stop) → RenewTells false Empty b.setup.size p b n third c (Err stop) → EndsOut (places f s t) b (places n y third) c stop
     put_stopped TagSpent told = (renewed_then told.0, told.1, told.2)
     put_stopped OutOfMemory none = absurd none
 
   module _ (n third : Option HeldBuffer) (c : Book) where
-    pub second_stopped : (stop : Stop) → RenewTells Empty b.setup.size s b n third c (Err stop) → EndsOut (places f s t) b (places f n third) c stop
+    pub second_stopped : (stop : Stop) → RenewTells false Empty b.setup.size s b n third c (Err stop) → EndsOut (places f s t) b (places f n third) c stop
     second_stopped TagSpent told = (second_renewed f s t n third b c vacant told.0 sized.first, told.1, told.2)
     second_stopped OutOfMemory none = absurd none
 
-    pub first_stopped : (stop : Stop) → RenewTells Empty b.setup.size f b n third c (Err stop) → EndsOut (places f s t) b (places n s third) c stop
+    pub first_stopped : (stop : Stop) → RenewTells true Empty b.setup.size f b n third c (Err stop) → EndsOut (places f s t) b (places n s third) c stop
     first_stopped TagSpent told = (first_renewed f s t n third b c vacant told.0 sized.second, told.1, told.2)
     first_stopped OutOfMemory none = absurd none
 
-    pub second_balanced : (done : Bool) → RenewTells Empty b.setup.size s b n third c (Ok done) → 0 < length (items_at s)
-        → (u : Trades (places f s t) b [] [] (places f n third) c) × (third ≡ None) × (HasMore (places f s t) → (u.moves ≡ FoundNone Empty ∷ []) ⊎ HasPushOnFull u.moves) × (HasPopFromFull u.moves → ⊥)
-    second_balanced true told some = (second_renewed f s t n third b c vacant told.0 sized.first, told.1, λ more. inr (told.2 (some_items (items_at s) some)), told.3)
-    second_balanced false told some = (second_renewed f s t n third b c vacant told.0 sized.first, told.1, λ more. inl told.4, out_alone told.0.moves told.4)
+    pub second_balanced : (done : Bool) → RenewTells false Empty b.setup.size s b n third c (Ok done) → 0 < length (items_at s)
+        → (u : Trades (places f s t) b [] [] (places f n third) c) × (third ≡ None) × (HasMore (places f s t) → (u.moves ≡ FoundNone Empty ∷ []) ⊎ HasPushOnFull u.moves) × (HasPopFromFull u.moves → ⊥) × Gives (places f s t) u.moves (places f n third)
+    second_balanced true told some = (second_renewed f s t n third b c vacant told.0 sized.first, told.1, λ more. inr (told.2 (some_items (items_at s) some)), told.3,
+        inr (inl (told.4.0, told.4.3 refl, some_items (items_at s) some, pushes_told s told.4.0 told.0.moves told.4.1 told.2 (λ k is none. some_items (items_at s) some (ap items_at is ∙ none)), refl, told.4.2)))
+    second_balanced false told some = (second_renewed f s t n third b c vacant told.0 sized.first, told.1, λ more. inl told.4, out_alone told.0.moves told.4, inl (quiet_alone told.0.moves told.4, refl, told.2))
 
-    pub first_balanced : (done : Bool) → RenewTells Empty b.setup.size f b n third c (Ok done) → 4 < length (items_at f)
-        → (u : Trades (places f s t) b [] [] (places n s third) c) × (third ≡ None) × (HasMore (places f s t) → (u.moves ≡ FoundNone Empty ∷ []) ⊎ HasPushOnFull u.moves) × (HasPopFromFull u.moves → ⊥)
-    first_balanced true told some = (first_renewed f s t n third b c vacant told.0 sized.second, told.1, λ more. inr (told.2 (some_items (items_at f) (omega (arith, some)))), told.3)
-    first_balanced false told some = (first_renewed f s t n third b c vacant told.0 sized.second, told.1, λ more. inl told.4, out_alone told.0.moves told.4)
+    pub first_balanced : (done : Bool) → RenewTells true Empty b.setup.size f b n third c (Ok done) → 4 < length (items_at f) → items_at s ≡ []
+        → (u : Trades (places f s t) b [] [] (places n s third) c) × (third ≡ None) × (HasMore (places f s t) → (u.moves ≡ FoundNone Empty ∷ []) ⊎ HasPushOnFull u.moves) × (HasPopFromFull u.moves → ⊥) × Gives (places f s t) u.moves (places n s third)
+    first_balanced true told some none = (first_renewed f s t n third b c vacant told.0 sized.second, told.1, λ more. inr (told.2 (some_items (items_at f) (omega (arith, some)))), told.3,
+        inr (inr (gives_lower f s t n third told.4.0 told.0.moves some none told.4.1 told.4.2 told.2)))
+    first_balanced false told some none = (first_renewed f s t n third b c vacant told.0 sized.second, told.1, λ more. inl told.4, out_alone told.0.moves told.4, inl (quiet_alone told.0.moves told.4, told.2, refl))
 
   -- nothing was to be done
   pub few_left : length (items_at s) ≤ 0 → length (items_at f) ≤ 4
-      → (u : Trades (places f s t) b [] [] (places f s t) b) × (t ≡ None) × (HasMore (places f s t) → (u.moves ≡ FoundNone Empty ∷ []) ⊎ HasPushOnFull u.moves) × (HasPopFromFull u.moves → ⊥)
+      → (u : Trades (places f s t) b [] [] (places f s t) b) × (t ≡ None) × (HasMore (places f s t) → (u.moves ≡ FoundNone Empty ∷ []) ⊎ HasPushOnFull u.moves) × (HasPopFromFull u.moves → ⊥) × Gives (places f s t) u.moves (places f s t)
   few_left none few = (
     still (places f s t) b [] [] (places f s t) (record { items = λ o. omega arith; buffers = λ i. refl; sized = λ size of. of }) sized,
     vacant,
     λ more. absurd (⊎_elim (λ some. some (none_in (items_at s) none)) (λ many. omega (arith, many, few)) more),
     λ pop. pop,
+    inl (λ push. push, refl, refl),
   )
 
 pub none_first : (xs ys : List ℕ) → xs ++ ys ≡ [] → xs ≡ []

@@ -1,5 +1,5 @@
 -- One turn of a call that gets an object: a look into the pair, and a pop from the full stack.
-use Rattle.std.proofs.Common.{◌≡◌, ℕ, List, [], ◌∷◌, ◌++◌, Option, Some, None, Ok, Err, refl, ap, ◌∙◌, arith}
+use Rattle.std.proofs.Common.{false, ◌≡◌, ℕ, List, [], ◌∷◌, ◌++◌, Option, Some, None, Ok, Err, refl, ap, ◌∙◌, arith}
 use Rattle.mark_core.specs.declared.which.Which.TheVariants.{Full}
 use Rattle.mark_core.specs.Event.{IsBusy}
 use Rattle.mark_core.specs.Lists.{IsPart}
@@ -81,12 +81,12 @@ module _ (old : Places) (b₀ : Book) (backed : IsBacked old [] b₀) (f s t : O
       module _ (n third : Option HeldBuffer) (c : Book) where
         pub turned : (done : Unit) → PutsOut x h mid n third c (Ok done) → Trades old b₀ [] [] (places n y third) c × (third ≡ None)
         turned done out =
-            let told = put_out_done b.setup.size x b Full h mid popped x h (λ o. refl) refl refl sized_here.first (took_size x Full h b mid popped) c n third done (λ some. some) out in
+            let told = put_out_done b.setup.size x b Full h mid popped x h (λ o. refl) refl refl sized_here.first (took_size x Full h b mid popped) c n third false refl refl done (λ some. some) out in
             (on_and_on old b₀ (places x y z) b [] [] (places n y third) c looked (first_renewed x y z n third b c still_vacant told.0 sized_here.second), told.1)
 
         pub put_stopped : (stop : Stop) → PutsOut x h mid n third c (Err stop) → Ends old b₀ (places n y third) c stop
         put_stopped OutOfMemory none = absurd none
         put_stopped TagSpent out =
-            let told = put_out_stopped b.setup.size x b Full h mid popped x h (λ o. refl) refl refl sized_here.first (took_size x Full h b mid popped) c n third TagSpent out in
+            let told = put_out_stopped b.setup.size x b Full h mid popped x h (λ o. refl) refl refl sized_here.first (took_size x Full h b mid popped) c n third false TagSpent out in
             let r = first_renewed x y z n third b c still_vacant told.0 sized_here.second in
             (on_and_on old b₀ (places x y z) b [] [] (places n y third) c looked r, end_on looked.moves r.moves told.1)

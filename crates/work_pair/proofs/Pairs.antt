@@ -8,10 +8,11 @@ use Rattle.mark_core.specs.World.{Setup}
 use Rattle.mark_core.proofs.Sums.{total-append}
 use Rattle.buffer_pool.specs.Book.{Book}
 use Rattle.buffer_pool.specs.Calls.{HeldBuffer}
-use Rattle.work_pair.specs.Deals.{Balances, Deals, DealsOut, DealsQuietly, Disposes, HasMore, Puts}
+use Rattle.work_pair.specs.Deals.{Balances, Deals, DealsOut, DealsQuietly, Disposes, FillsNext, Gives, HasMore}
+use Rattle.work_pair.specs.Deals.{Puts}
 use Rattle.work_pair.specs.Moves.{Move, Took, FoundNone, Ended, Moved, HasPushOnFull, EndAtLastTag, WasSeenEmpty}
 use Rattle.work_pair.specs.Moves.{HasPopFromFull}
-use Rattle.work_pair.specs.Places.{Places, buffered_items, items_of, no_places, AreAlike, IsBacked}
+use Rattle.work_pair.specs.Places.{Places, buffered_items, items_of, no_places, AreAlike, HasRoom, IsBacked}
 use Rattle.work_pair.specs.declared.stop.Stop.{Stop}
 use Rattle.work_pair.specs.declared.stop.Stop.TheVariants.{TagSpent, OutOfMemory}
 use Rattle.work_pair.specs.working.Steps.{Clears, ClearTells, Ends, EndsOut, FindsNone, GetTells, Trades, places}
@@ -46,11 +47,14 @@ module _ (v : Places) (f s t : Option HeldBuffer) (l : List ℕ) (was hungry : B
 
     pub puts : (object : ℕ) → IsBacked v (object ∷ []) b
         → (u : Trades (places f s t) b (object ∷ []) [] (places x y z) c) → (now ≡ true → EndAtLastTag u.moves)
-        → (HasPopFromFull u.moves → ⊥) → Puts v b object (listed (places x y z) l now starving) c
-    puts object backed u ends out =
+        → (HasPopFromFull u.moves → ⊥)
+        → ((HasRoom (places f s t) × (u.moves ≡ [])) ⊎ FillsNext (places f s t) object u.moves (places x y z))
+        → Puts v b object (listed (places x y z) l now starving) c
+    puts object backed u ends out where_put =
         subst (λ (p : Places). Puts p b object (listed (places x y z) l now starving) c) is
         (dealt_listed f s t x y z l l (object ∷ []) [] (object ∷ []) [] was hungry now starving b c
-        (kept_list l (object ∷ []) []) (seen (object ∷ []) b backed) u ends, inl refl, out)
+        (kept_list l (object ∷ []) []) (seen (object ∷ []) b backed) u ends, inl refl, out,
+        ⊎_elim (λ room. inl room) (λ fills. inr (inr fills)) where_put)
 
     -- no empty buffer was found for an object: it went to the list, or stayed with the worker
     module _ (object : ℕ) (backed : IsBacked v (object ∷ []) b) (found : FindsNone (places f s t) b (places x y z) c)
@@ -60,7 +64,7 @@ module _ (v : Places) (f s t : Option HeldBuffer) (l : List ℕ) (was hungry : B
           subst (λ (p : Places). Puts p b object (listed (places x y z) m now starving) c) is
           (dealt_listed f s t x y z l m [] [] (object ∷ []) [] was hungry now starving b c
           (λ o. omega (arith, spilled l object o, ap (times o) m_is)) (seen (object ∷ []) b backed) found.0 ends,
-          inr (m_is, found.2), out_alone found.0.moves found.2)
+          inr (m_is, found.2), out_alone found.0.moves found.2, inr (inl found.2))
 
       module _ (m_is : m ≡ l) where
         pub starves : (deals : Deals v b [] [] (listed (places x y z) m now starving) c)
@@ -92,11 +96,12 @@ module _ (v : Places) (f s t : Option HeldBuffer) (l : List ℕ) (was hungry : B
           ends, out)
 
       pub balances : (HasMore (places f s t) → (u.moves ≡ FoundNone Empty ∷ []) ⊎ HasPushOnFull u.moves)
-          → (HasPopFromFull u.moves → ⊥) → Balances v b (listed (places x y z) l now starving) c
-      balances more out =
+          → (HasPopFromFull u.moves → ⊥) → Gives (places f s t) u.moves (places x y z)
+          → Balances v b (listed (places x y z) l now starving) c
+      balances more out gives =
           subst (λ (p : Places). Balances p b (listed (places x y z) l now starving) c) is
           (dealt_listed f s t x y z l l [] [] [] [] was hungry now starving b c (kept_list l [] []) (seen [] b backed) u
-          ends, more, out)
+          ends, more, out, gives)
 
       -- the list was given up before
       pub disposes : (m : List ℕ) → m ≡ [] → (items_of (places f s t) ≡ [] → HasPushOnFull u.moves → ⊥)

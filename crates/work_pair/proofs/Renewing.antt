@@ -15,7 +15,8 @@ use Rattle.work_pair.specs.Moves.{IsFromFull, IsOnFull, HasPopFromFull, given_it
 use Rattle.work_pair.specs.Places.{items_at, number_at, IsOfSize}
 use Rattle.work_pair.specs.declared.stop.Stop.{Stop}
 use Rattle.work_pair.specs.declared.stop.Stop.TheVariants.{TagSpent, OutOfMemory}
-use Rattle.work_pair.specs.working.Steps.{IsFull, Leaves, PopsOne, PublishesAt, PutsOut, Renews, RenewTells, shelf_of}
+use Rattle.work_pair.specs.working.Steps.{IsFull, Leaves, PopsOne, PublishesAt, PutsOut, Renews, RenewTells}
+use Rattle.work_pair.specs.working.Steps.{next_of, pushed_part, shelf_of, shelving_of}
 use Rattle.work_pair.proofs.Looks.{lost_pops}
 use Rattle.work_pair.proofs.Effects.{busy_after, found_none, move_effect}
 
@@ -57,11 +58,11 @@ module _ (size : ℕ) (old : Option HeldBuffer) (b c : Book) (sized : IsOfSize s
           left_sized = subst (IsOfSize size) (sym vacant) tt;
         }
 
-    pub found_nothing : Moved (FoundNone Empty) b c → RenewTells Empty size old b new third c (Ok false)
-    found_nothing moved = (unchanged (FoundNone Empty) moved (λ o. refl) (λ i. refl) tt, vacant, same, found_none Empty b c moved, refl)
+    pub found_nothing : (half : Bool) → Moved (FoundNone Empty) b c → RenewTells half Empty size old b new third c (Ok false)
+    found_nothing half moved = (unchanged (FoundNone Empty) moved (λ o. refl) (λ i. refl) tt, vacant, same, found_none Empty b c moved, refl)
 
-    pub stopped_at_once : (stop : Stop) → PopsOne Empty b c (Err stop) → RenewTells Empty size old b new third c (Err stop)
-    stopped_at_once TagSpent moved =
+    pub stopped_at_once : (half : Bool) (stop : Stop) → PopsOne Empty b c (Err stop) → RenewTells half Empty size old b new third c (Err stop)
+    stopped_at_once half TagSpent moved =
         let r : Renews size old b new third c =
         record {
           moves = Ended Empty ∷ [];
@@ -72,14 +73,14 @@ module _ (size : ℕ) (old : Option HeldBuffer) (b c : Book) (sized : IsOfSize s
           sized = subst (IsOfSize size) (sym same) sized;
           left_sized = subst (IsOfSize size) (sym vacant) tt;
         } in (r, ([], Empty, refl), λ pop. ⊎_elim (λ x. x) (λ x. x) pop)
-    stopped_at_once OutOfMemory none = absurd none
+    stopped_at_once half OutOfMemory none = absurd none
 
 -- the buffer h was popped, and its items and those at the place before are those of the place now and of the next one
 module _ (size : ℕ) (old : Option HeldBuffer) (b : Book) (q : Which) (h : HeldBuffer) (mid : Book) (took : Moved (Took q h) b mid) (place : Option HeldBuffer) (next : HeldBuffer)
     (shared : (o : ℕ) → times o (items_at place) + times o next.items ≡ times o (items_at old) + times o h.items)
     (number : number_at place ≡ number_at old) (index : next.index ≡ h.index) (place_sized : IsOfSize size place) (next_sized : next.size ≡ size) (c : Book) (new third : Option HeldBuffer) where
-  pub put_out_done : (done : Unit) → ((items_at old ≢ []) → (items_at place ≢ [])) → PutsOut place next mid new third c (Ok done) → RenewTells q size old b new third c (Ok true)
-  put_out_done done more out = go place refl (out.2)
+  pub put_out_done : (half : Bool) → place ≡ pushed_part half old → next ≡ next_of half old h → (done : Unit) → ((items_at old ≢ []) → (items_at place ≢ [])) → PutsOut place next mid new third c (Ok done) → RenewTells half q size old b new third c (Ok true)
+  put_out_done half place_is next_is done more out = go place refl (out.2)
     where
       item_new : (o : ℕ) → times o (items_at new) + times o (items_at third) ≡ times o next.items
       item_new o = omega (arith, ap (λ (p : Option HeldBuffer). times o (items_at p)) out.0, ap (λ (p : Option HeldBuffer). times o (items_at p)) out.1)
@@ -87,7 +88,7 @@ module _ (size : ℕ) (old : Option HeldBuffer) (b : Book) (q : Which) (h : Held
       number_new : (i : ℕ) → times i (number_at new) + times i (number_at third) ≡ times i (h.index ∷ [])
       number_new i = omega (arith, ap (λ (p : Option HeldBuffer). times i (number_at p)) out.0, ap (λ (p : Option HeldBuffer). times i (number_at p)) out.1, ap (λ (n : ℕ). times i (n ∷ [])) index)
 
-      go : (p : Option HeldBuffer) → place ≡ p → Leaves p mid c → RenewTells q size old b new third c (Ok true)
+      go : (p : Option HeldBuffer) → place ≡ p → Leaves p mid c → RenewTells half q size old b new third c (Ok true)
       go None is left =
           let r : Renews size old b new third c =
           record {
@@ -98,7 +99,8 @@ module _ (size : ℕ) (old : Option HeldBuffer) (b : Book) (q : Which) (h : Held
             filled = (tt, tt);
             sized = subst (IsOfSize size) (sym out.0) next_sized;
             left_sized = subst (IsOfSize size) (sym out.1) tt;
-          } in (r, out.1, λ some. absurd (more some (ap items_at is)), λ pop. ⊎_elim (from_full q h) (λ x. absurd x) pop)
+          } in (r, out.1, λ some. absurd (more some (ap items_at is)), λ pop. ⊎_elim (from_full q h) (λ x. absurd x) pop,
+              (h, ap (λ (x : Option HeldBuffer). Took q h ∷ shelving_of x) (sym is ∙ place_is), out.0 ∙ ap Some next_is, took.2.6))
       go (Some k) is left =
           let r : Renews size old b new third c =
           record {
@@ -110,11 +112,12 @@ module _ (size : ℕ) (old : Option HeldBuffer) (b : Book) (q : Which) (h : Held
             sized = subst (IsOfSize size) (sym out.0) next_sized;
             left_sized = subst (IsOfSize size) (sym out.1) tt;
           } in (r, out.1, λ some. inr (inl (shelf_full k (λ none. more some (ap items_at is ∙ none)))),
-              λ pop. ⊎_elim (from_full q h) (λ rest. ⊎_elim (λ x. absurd x) (λ x. absurd x) rest) pop)
+              λ pop. ⊎_elim (from_full q h) (λ rest. ⊎_elim (λ x. absurd x) (λ x. absurd x) rest) pop,
+              (h, ap (λ (x : Option HeldBuffer). Took q h ∷ shelving_of x) (sym is ∙ place_is), out.0 ∙ ap Some next_is, took.2.6))
 
-  pub put_out_stopped : (stop : Stop) → PutsOut place next mid new third c (Err stop) → RenewTells q size old b new third c (Err stop)
-  put_out_stopped OutOfMemory none = absurd none
-  put_out_stopped TagSpent out =
+  pub put_out_stopped : (half : Bool) (stop : Stop) → PutsOut place next mid new third c (Err stop) → RenewTells half q size old b new third c (Err stop)
+  put_out_stopped half OutOfMemory none = absurd none
+  put_out_stopped half TagSpent out =
       let r : Renews size old b new third c =
       record {
         moves = Took q h ∷ Ended out.2.0 ∷ [];
@@ -148,7 +151,7 @@ module _ (size : ℕ) (old : Option HeldBuffer) (b : Book) where
       } in (r, vacant, inr none, λ pop. pop)
 
   module _ (new third : Option HeldBuffer) (c : Book) where
-    pub publish_renewed : (done : Bool) → RenewTells Empty size old b new third c (Ok done)
+    pub publish_renewed : (done : Bool) → RenewTells false Empty size old b new third c (Ok done)
         → OnTrue done ((h : HeldBuffer) × (new ≡ Some h) × (h.items ≡ [])) → PublishesAt size old b new third c (Ok tt)
     publish_renewed true told bare = (told.0, told.1, inr (ap items_at bare.1 ∙ bare.2), told.3)
     publish_renewed false told bare = (told.0, told.1, inl told.3, out_alone told.0.moves told.4)

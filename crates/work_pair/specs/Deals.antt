@@ -1,13 +1,14 @@
 -- What a call of a pair does to the pair and to the book of its worker.
-use Rattle.std.specs.Prelude.{◌≡◌, ◌≢◌, ◌⊎◌, ℕ, ◌+◌, ◌<◌, true, false, List, [], ◌∷◌, ◌++◌, length}
-use Rattle.mark_core.specs.declared.which.Which.TheVariants.{Empty}
+use Rattle.std.specs.Prelude.{◌≡◌, ◌≢◌, ◌⊎◌, ℕ, ◌+◌, ◌-◌, ◌/◌, ◌<◌, true, false, List, [], ◌∷◌, ◌++◌, length}
+use Rattle.std.specs.Prelude.{take, drop, Option, Some, None}
+use Rattle.mark_core.specs.declared.which.Which.TheVariants.{Full, Empty}
 use Rattle.mark_core.specs.Lists.{times}
 use Rattle.buffer_pool.specs.Book.{Book}
 use Rattle.buffer_pool.specs.Calls.{HeldBuffer}
 use Rattle.work_pair.specs.Moves.{Move, Took, Gave, FoundNone, Moves, popped_items, popped_numbers, pushed_items}
 use Rattle.work_pair.specs.Moves.{pushed_numbers, AreFilled, HasPushOnFull, HasPopFromFull, EndAtLastTag}
 use Rattle.work_pair.specs.Places.{Places, buffered_items, items_of, items_at, numbers_of, no_places, without_spill}
-use Rattle.work_pair.specs.Places.{IsBacked}
+use Rattle.work_pair.specs.Places.{HasRoom, IsBacked}
 
 -- the worker has the same share and the same idle number, saw the same objects and finished the same, and its pool was
 -- made for the same
@@ -67,6 +68,38 @@ OpensNone before after =
     × ((deals.moves ≡ FoundNone Empty ∷ [])
        ⊎ ((h : HeldBuffer) × (deals.moves ≡ Took Empty h ∷ FoundNone Empty ∷ Gave Empty h ∷ [])))
 
+-- the push of the buffer at a place
+abbrev pub push_of : Option HeldBuffer → List Move
+push_of None = []
+push_of (Some h) = Gave Full h ∷ []
+
+-- the upper half of a list, rounded down, and the part below it
+abbrev pub upper_half : List ℕ → List ℕ
+upper_half xs = drop (length xs - length xs / 2) xs
+
+abbrev pub lower_part : List ℕ → List ℕ
+lower_part xs = take (length xs - length xs / 2) xs
+
+-- the second buffer had items, and all of it was pushed; an empty one is in its place, and the first is as before
+abbrev pub GivesSecond : Places → List Move → Places → Type 0
+GivesSecond old moves new =
+    (h : HeldBuffer) × (h.items ≡ []) × (items_at old.second ≢ [])
+    × (moves ≡ Took Empty h ∷ push_of old.second) × (new.first ≡ old.first) × (new.second ≡ Some h)
+
+-- the second had none, and stays; the first kept its upper half, now in the buffer that was popped, and the part below
+-- it was pushed
+abbrev pub GivesLowerPart : Places → List Move → Places → Type 0
+GivesLowerPart old moves new =
+    (h : HeldBuffer) × (k : HeldBuffer) × (items_at old.second ≡ []) × (old.first ≡ Some k)
+    × (moves ≡ Took Empty h ∷ Gave Full (record k { items = lower_part k.items }) ∷ [])
+    × (new.first ≡ Some (record h { items = upper_half k.items })) × (new.second ≡ old.second)
+
+-- which buffer a balance gave, and how much of it; or it pushed none, and both are as before
+abbrev pub Gives : Places → List Move → Places → Type 0
+Gives old moves new =
+    ((HasPushOnFull moves → ⊥) × (new.first ≡ old.first) × (new.second ≡ old.second))
+    ⊎ (GivesSecond old moves new ⊎ GivesLowerPart old moves new)
+
 -- a balance that pushed a buffer with items on full where there was more than a few, or else did nothing with the
 -- stacks but look for an empty buffer, and found none; it popped nothing from full
 abbrev pub Balances : Places → Book → Places → Book → Type 0
@@ -74,14 +107,24 @@ Balances old before new after =
     (deals : Deals old before [] [] new after)
     × (HasMore old → (deals.moves ≡ FoundNone Empty ∷ []) ⊎ HasPushOnFull deals.moves)
     × (HasPopFromFull deals.moves → ⊥)
+    × Gives old deals.moves new
+
+-- the second buffer was pushed, the first is the second now, and an empty one that was popped has just the object
+abbrev pub FillsNext : Places → ℕ → List Move → Places → Type 0
+FillsNext old object moves new =
+    (h : HeldBuffer) × (moves ≡ Took Empty h ∷ push_of old.second)
+    × (new.first ≡ Some (record h { items = object ∷ [] })) × (new.second ≡ old.first)
 
 -- an object was put: into a buffer, or at the end of the spill list; then all that the call did with the stacks was to
--- look for an empty buffer, and it found none; it popped nothing from full
+-- look for an empty buffer, and it found none; it popped nothing from full; where a buffer had room it did nothing with
+-- the stacks, and else it pushed the one that was filled first
 abbrev pub Puts : Places → Book → ℕ → Places → Book → Type 0
 Puts old before object new after =
     (deals : Deals old before (object ∷ []) [] new after)
     × ((new.spill ≡ old.spill) ⊎ ((new.spill ≡ old.spill ++ object ∷ []) × (deals.moves ≡ FoundNone Empty ∷ [])))
     × (HasPopFromFull deals.moves → ⊥)
+    × ((HasRoom old × (deals.moves ≡ []))
+       ⊎ ((deals.moves ≡ FoundNone Empty ∷ []) ⊎ FillsNext old object deals.moves new))
 
 -- a call that gave buffers back, none of them on full where there were no items in them, and popped nothing from full;
 -- a spill list was given up before

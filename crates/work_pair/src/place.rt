@@ -1,13 +1,14 @@
 //! A place for a buffer in a pair. It is vacant in a bare pair, and once a call was stopped.
 ghost use Rattle.std.specs.Prelude.{◌≡◌, ◌≢◌, ◌+◌, ◌↔◌, ◌<◌, ℕ, [], ◌∷◌, ◌++◌, Some, None, IsTrue, IfOk, length};
-ghost use Rattle.std.specs.Prelude.{IsOk, MatchOption};
+ghost use Rattle.std.specs.Prelude.{true, false, IsOk, MatchOption};
 ghost use Rattle.std.specs.Bool.{OnTrue, OnFalse};
 ghost use Rattle.mark_core.specs.Event.{IsBusy};
 ghost use Rattle.mark_core.specs.Lists.{times, IsPart};
 ghost use Rattle.mark_core.specs.declared.which.Which.TheVariants.{Empty};
 ghost use Rattle.buffer_pool.specs.Calls.{HeldBuffer};
 ghost use Rattle.work_pair.specs.Places.{items_at, number_at, HasRoomAt, IsOfSize};
-ghost use Rattle.work_pair.specs.working.Steps.{ClearsAt, PublishesAt, PutsOut, RenewTells};
+ghost use Rattle.work_pair.specs.working.Steps.{ClearsAt, PublishesAt, PutsOut, RenewTells, next_of};
+ghost use Rattle.work_pair.specs.working.Steps.{pushed_part};
 
 use crate::steps::{pop_one, shelve};
 use crate::stop::Stop;
@@ -30,6 +31,7 @@ pub(crate) fn put_at<A: Allocator>(place: &mut Option<Held<A>>, object: u32) -> 
     ensures put { OnTrue result ((h : HeldBuffer) × (place.old ≡ Some h) × (place.new
         ≡ Some (record h { items = h.items ++ object ∷ [] }))) }
     ensures full { OnFalse result (place.new ≡ place.old) }
+    ensures had_room { OnTrue result (HasRoomAt place.old) }
     ensures no_room { OnFalse result (HasRoomAt place.old → ⊥) }
     ensures room { (h : HeldBuffer) → place.old ≡ Some h → h.items ≡ [] → IsTrue result }
 {
@@ -59,6 +61,8 @@ fn split_at<A: Allocator>(place: &mut Option<Held<A>>, upper: &mut Held<A>)
     ensures some { items_at place.old ≢ [] → items_at place.new ≢ [] }
     ensures number { number_at place.new ≡ number_at place.old }
     ensures sized { (size : ℕ) → IsOfSize size place.old → IsOfSize size place.new }
+    ensures lower { place.new ≡ pushed_part true place.old }
+    ensures all_upper { upper.new ≡ next_of true place.old upper.old }
     ensures upper { (upper.new.index ≡ upper.old.index) × (upper.new.size ≡ upper.old.size) }
 {
     if let Some(held) = place {
@@ -140,7 +144,7 @@ pub(crate) fn renew<R: Wait, A: Allocator>(
     requires sized { IsOfSize worker.old.book.setup.size place.old }
     requires busy { IsBusy worker.old.book.account }
     ensures pool { worker.new.pool ≡ worker.old.pool }
-    ensures renews { RenewTells Empty worker.old.book.setup.size place.old worker.old.book place.new third.new
+    ensures renews { RenewTells false Empty worker.old.book.setup.size place.old worker.old.book place.new third.new
         worker.new.book result }
     ensures bare { IfOk result (λ done. OnTrue done ((h : HeldBuffer) × (place.new ≡ Some h) × (h.items ≡ []))) }
 {
@@ -167,7 +171,7 @@ pub(crate) fn halve<R: Wait, A: Allocator>(
     requires sized { IsOfSize worker.old.book.setup.size place.old }
     requires busy { IsBusy worker.old.book.account }
     ensures pool { worker.new.pool ≡ worker.old.pool }
-    ensures renews { RenewTells Empty worker.old.book.setup.size place.old worker.old.book place.new third.new
+    ensures renews { RenewTells true Empty worker.old.book.setup.size place.old worker.old.book place.new third.new
         worker.new.book result }
 {
     let Some(mut upper) = pop_one(rt, pool, worker, Which::Empty)? else {

@@ -6,12 +6,12 @@ use Rattle.mark_core.specs.declared.which.Which.TheVariants.{Full, Empty}
 use Rattle.mark_core.specs.Lists.{times}
 use Rattle.buffer_pool.specs.Book.{Book}
 use Rattle.buffer_pool.specs.Calls.{HeldBuffer}
-use Rattle.work_pair.specs.Deals.{HasMore}
+use Rattle.work_pair.specs.Deals.{FillsNext, Gives, HasMore, lower_part, upper_half}
 use Rattle.work_pair.specs.Moves.{Move, Took, Gave, FoundNone, Ended, Moved, Moves, popped_items, popped_numbers}
 use Rattle.work_pair.specs.Moves.{pushed_items, pushed_numbers, AreFilled, HasPushOnFull, HasPopFromFull, EndAtLastTag}
 use Rattle.work_pair.specs.Moves.{WasSeenEmpty}
 use Rattle.work_pair.specs.Places.{Places, items_at, number_at, items_of, numbers_of, no_places, IsOfSize, AreOfSize}
-use Rattle.work_pair.specs.Places.{AreAlike}
+use Rattle.work_pair.specs.Places.{AreAlike, HasRoom}
 use Rattle.work_pair.specs.declared.stop.Stop.{Stop}
 use Rattle.work_pair.specs.declared.stop.Stop.TheVariants.{TagSpent, OutOfMemory}
 
@@ -86,15 +86,37 @@ abbrev pub IsFull : Which → Type 0
 IsFull Full = Unit {0}
 IsFull Empty = ⊥
 
-abbrev pub RenewTells : Which → ℕ → Option HeldBuffer → Book → Option HeldBuffer → Option HeldBuffer → Book
+-- the push of the buffer at a place, to the stack that it belongs on
+abbrev pub shelving_of : Option HeldBuffer → List Move
+shelving_of None = []
+shelving_of (Some h) = Gave (shelf_of h.items) h ∷ []
+
+-- what is pushed of the buffer at a place, and what the next one is: all of it and the one that was popped, or where it
+-- is halved its lower part and the one popped with the upper half
+abbrev pub pushed_part : Bool → Option HeldBuffer → Option HeldBuffer
+pushed_part false old = old
+pushed_part true None = None
+pushed_part true (Some k) = Some (record k { items = lower_part k.items })
+
+abbrev pub next_of : Bool → Option HeldBuffer → HeldBuffer → HeldBuffer
+next_of false old h = h
+next_of true old h = record h { items = upper_half (items_at old) }
+
+abbrev pub Replaces : Bool → Which → Option HeldBuffer → List Move → Option HeldBuffer → Type 0
+Replaces half q old moves new =
+    (h : HeldBuffer) × (moves ≡ Took q h ∷ shelving_of (pushed_part half old)) × (new ≡ Some (next_of half old h))
+    × (q ≡ Empty → h.items ≡ [])
+
+abbrev pub RenewTells : Bool → Which → ℕ → Option HeldBuffer → Book → Option HeldBuffer → Option HeldBuffer → Book
     → Result Bool Stop → Type 0
-RenewTells q size old before new third after (Ok true) = (r : Renews size old before new third after)
+RenewTells half q size old before new third after (Ok true) = (r : Renews size old before new third after)
     × (third ≡ None) × ((items_at old ≢ []) → HasPushOnFull r.moves) × (HasPopFromFull r.moves → IsFull q)
-RenewTells q size old before new third after (Ok false) = (r : Renews size old before new third after)
+    × Replaces half q old r.moves new
+RenewTells half q size old before new third after (Ok false) = (r : Renews size old before new third after)
     × (third ≡ None) × (new ≡ old) × WasSeenEmpty Empty before after × (r.moves ≡ FoundNone Empty ∷ [])
-RenewTells q size old before new third after (Err TagSpent) = (r : Renews size old before new third after)
+RenewTells half q size old before new third after (Err TagSpent) = (r : Renews size old before new third after)
     × EndAtLastTag r.moves × (HasPopFromFull r.moves → IsFull q)
-RenewTells q size old before new third after (Err OutOfMemory) = ⊥
+RenewTells half q size old before new third after (Err OutOfMemory) = ⊥
 
 -- a place whose buffer has items was renewed
 abbrev pub PublishesAt : ℕ → Option HeldBuffer → Book → Option HeldBuffer → Option HeldBuffer → Book
@@ -135,6 +157,7 @@ EndsOut old before new after OutOfMemory = ⊥
 abbrev pub PutTells : ℕ → Places → Book → Places → Book → Result Bool Stop → Type 0
 PutTells object old before new after (Ok true) = (t : Trades old before (object ∷ []) [] new after)
     × (new.third ≡ None) × (HasPopFromFull t.moves → ⊥)
+    × ((HasRoom old × (t.moves ≡ [])) ⊎ FillsNext old object t.moves new)
 PutTells object old before new after (Ok false) = FindsNone old before new after
 PutTells object old before new after (Err stop) = EndsOut old before new after stop
 
@@ -148,7 +171,7 @@ GetTells old before new after (Err stop) = Ends old before new after stop
 abbrev pub BalanceTells : Places → Book → Places → Book → Result Unit Stop → Type 0
 BalanceTells old before new after (Ok done) =
     (t : Trades old before [] [] new after) × (new.third ≡ None) × (HasMore old → (t.moves
-    ≡ FoundNone Empty ∷ []) ⊎ HasPushOnFull t.moves) × (HasPopFromFull t.moves → ⊥)
+    ≡ FoundNone Empty ∷ []) ⊎ HasPushOnFull t.moves) × (HasPopFromFull t.moves → ⊥) × Gives old t.moves new
 BalanceTells old before new after (Err stop) = EndsOut old before new after stop
 
 abbrev pub PublishTells : Places → Book → Places → Book → Result Unit Stop → Type 0

@@ -1,4 +1,4 @@
-use Rattle.std.proofs.Common.{ap, refl, sym, subst, Option, Ok, ◌∙◌, ℕ, arith}
+use Rattle.std.proofs.Common.{true, ap, refl, sym, subst, Option, Ok, ◌∙◌, ℕ, arith}
 use Rattle.std.proofs.lemmas.Result.{err_from_is_err_and}
 use Rattle.mark_core.specs.declared.which.Which.TheVariants.{Empty}
 use Rattle.mark_core.specs.Lists.{times}
@@ -13,14 +13,14 @@ pub returns-in_err-upper-clause-renews : goal.returns-in_err-upper-clause-renews
 returns-in_err-upper-clause-renews g c =
     let p = err_from_is_err_and c.from_residual.result c.from_residual.ensures.1 in
     rw (p.1, p.2)
-    (stopped_at_once c.args.worker.now.book.setup.size c.args.place.now c.args.worker.now.book c.pop_one.new.worker.book c.requires.sized c.args.place.now c.args.third.now refl c.requires.third c.in_err-upper.field-0.0 c.in_err-upper.ensures.pops)
+    (stopped_at_once c.args.worker.now.book.setup.size c.args.place.now c.args.worker.now.book c.pop_one.new.worker.book c.requires.sized c.args.place.now c.args.third.now refl c.requires.third true c.in_err-upper.field-0.0 c.in_err-upper.ensures.pops)
 
 pub returns-in_default-clause-renews : goal.returns-in_default-clause-renews
 returns-in_default-clause-renews g c =
     let b = c.args.worker.now.book in
     let mid = c.pop_one.new.worker.book in
     let pops = subst (λ (r : Option HeldBuffer). PopsOne Empty b mid (Ok r)) c.in_default.is c.in_ok-upper.ensures.pops in
-    found_nothing b.setup.size c.args.place.now b mid c.requires.sized c.args.place.now c.args.third.now refl c.requires.third pops
+    found_nothing b.setup.size c.args.place.now b mid c.requires.sized c.args.place.now c.args.third.now refl c.requires.third true pops
 
 pub split_at-requires-clause-empty : goal.split_at-requires-clause-empty
 split_at-requires-clause-empty g c =
@@ -68,7 +68,7 @@ returns-in_err-put_out-clause-renews g c =
     let size = split.upper.1 ∙ took_size place Empty upper b mid t in
     let p = err_from_is_err_and c.from_residual-in_err-put_out.result c.from_residual-in_err-put_out.ensures.1 in
     rw (p.1, p.2)
-    (put_out_stopped b.setup.size place b Empty upper mid t c.split_at.new.place c.split_at.new.upper (λ o. omega (arith, split.shared o, ap (times o) bare)) split.number split.upper.0 (split.sized b.setup.size c.requires.sized) size c.put_out.new.worker.book c.put_out.new.place c.put_out.new.third c.in_err-put_out.field-0.0 c.in_err-put_out.ensures.out)
+    (put_out_stopped b.setup.size place b Empty upper mid t c.split_at.new.place c.split_at.new.upper (λ o. omega (arith, split.shared o, ap (times o) bare)) split.number split.upper.0 (split.sized b.setup.size c.requires.sized) size c.put_out.new.worker.book c.put_out.new.place c.put_out.new.third true c.in_err-put_out.field-0.0 c.in_err-put_out.ensures.out)
 
 pub returns-clause-renews : goal.returns-clause-renews
 returns-clause-renews g c =
@@ -80,4 +80,4 @@ returns-clause-renews g c =
     let t = subst (λ (r : Option HeldBuffer). PopsOne Empty b mid (Ok r)) c.in-Some.is c.in_ok-upper.ensures.pops in
     let bare = took_bare upper b mid t in
     let size = split.upper.1 ∙ took_size place Empty upper b mid t in
-    put_out_done b.setup.size place b Empty upper mid t c.split_at.new.place c.split_at.new.upper (λ o. omega (arith, split.shared o, ap (times o) bare)) split.number split.upper.0 (split.sized b.setup.size c.requires.sized) size c.put_out.new.worker.book c.put_out.new.place c.put_out.new.third tt split.some c.in_ok-put_out.ensures.out
+    put_out_done b.setup.size place b Empty upper mid t c.split_at.new.place c.split_at.new.upper (λ o. omega (arith, split.shared o, ap (times o) bare)) split.number split.upper.0 (split.sized b.setup.size c.requires.sized) size c.put_out.new.worker.book c.put_out.new.place c.put_out.new.third true split.lower split.all_upper tt split.some c.in_ok-put_out.ensures.out

@@ -3,6 +3,7 @@ use Rattle.std.proofs.lemmas.Result.{err_from_is_err_and}
 use Rattle.work_pair.specs.Places.{items_at}
 use Rattle.work_pair.specs.working.Steps.{places}
 use Rattle.work_pair.proofs.Calls.{few_left, first_balanced, first_stopped, second_balanced, second_stopped}
+use Rattle.work_pair.proofs.Spilling.{none_in}
 use Rattle.work_pair.proofs.Trading.{second_charged}
 use Rattle.work_pair.proofs.buffers.Buffers.balance.Goals as goal
 
@@ -36,6 +37,7 @@ returns-in_ok-halve-clause-tells g c =
     let m = c.args.self.now in
     let many : 4 < length (items_at m.first) = omega (arith, c.if-len_at-gt-FEW.true, c.len_at-else-len_at-gt0.ensures) in
     first_balanced m.first m.second m.third c.args.worker.now.book c.requires.third c.requires.backed.sized c.halve.new.place c.halve.new.third c.halve.new.worker.book c.in_ok-halve.field-0 c.in_ok-halve.ensures.renews many
+    (none_in (items_at m.second) (omega (arith, c.if-len_at-gt0.false, c.len_at.ensures)))
 
 pub returns-else-len_at-gt-FEW-clause-tells : goal.returns-else-len_at-gt-FEW-clause-tells
 returns-else-len_at-gt-FEW-clause-tells g c =

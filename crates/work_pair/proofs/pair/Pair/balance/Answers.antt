@@ -23,7 +23,7 @@ returns-in-Ok-clause-balances g c =
     let after = c.balance.new.worker.book in
     let told = c.in-Ok.ensures.tells in
     balances c.args.self.now p.first p.second p.third i.spill.items i.stopped i.starved c.self.view_is b q.first q.second q.third i.stopped i.starved after c.requires.backed told.0
-    (not_stopped (EndAtLastTag told.0.moves) i.stopped (ap (λ (w : Places). w.stopped) c.self.view_is ∙ c.requires.going.going)) told.2 told.3
+    (not_stopped (EndAtLastTag told.0.moves) i.stopped (ap (λ (w : Places). w.stopped) c.self.view_is ∙ c.requires.going.going)) told.2 told.3 told.4
 
 pub returns-in-Err-clause-spent : goal.returns-in-Err-clause-spent
 returns-in-Err-clause-spent g c =

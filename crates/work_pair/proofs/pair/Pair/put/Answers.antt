@@ -23,7 +23,7 @@ returns-in-Ok-true-clause-put g c =
     let after = c.put.new.worker.book in
     let told = subst (λ (done : Bool). PutTells c.args.object (places p.first p.second p.third) b (places q.first q.second q.third) after (Ok done)) c.in-Ok-true.field-0-test c.in-Ok-true.ensures.tells in
     puts c.args.self.now p.first p.second p.third i.spill.items i.stopped i.starved c.self.view_is b q.first q.second q.third i.stopped i.starved after c.args.object c.requires.backed
-    told.0 (not_stopped (EndAtLastTag told.0.moves) i.stopped (ap (λ (w : Places). w.stopped) c.self.view_is ∙ c.requires.going.going)) told.2
+    told.0 (not_stopped (EndAtLastTag told.0.moves) i.stopped (ap (λ (w : Places). w.stopped) c.self.view_is ∙ c.requires.going.going)) told.2 told.3
 
 pub returns-in-Ok-clause-put : goal.returns-in-Ok-clause-put
 returns-in-Ok-clause-put g c =
