@@ -1,6 +1,5 @@
 -- A root may be claimed, and one that was white may be put.
-use Rattle.std.proofs.Common.{[], ◌∷◌}
-use Rattle.work_pair.proofs.Readiness.{at_work, claimed_backed, claimed_worker, may_claim, ready_after}
+use Rattle.work_pair.proofs.Readiness.{at_work, claimed_backed, claimed_worker, may_claim}
 use Rattle.work_pair.proofs.tests.hand.put_in_vain.Goals as goal
 
 pub claim-requires-clause-can : goal.claim-requires-clause-can
