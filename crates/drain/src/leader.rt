@@ -49,9 +49,7 @@ where
     let mut paired = PairedWorker::open_or_bare(rt, alloc, pool, leader)?;
     paired.claim_roots(rt, pool, graph.roots())?;
     paired.publish(rt, pool)?;
-    let mut paired = run_workers(
-        rt, alloc, graph, pool, gate, hook, paired, workers, threads,
-    )?;
+    let mut paired = run_workers(rt, alloc, graph, pool, gate, hook, paired, workers, threads)?;
     paired.drain(rt, graph, pool, gate, workers)?;
     Ok(paired.close(rt, pool)?)
 }

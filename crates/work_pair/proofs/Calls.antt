@@ -112,14 +112,24 @@ module _ (f s t : Option HeldBuffer) (b : Book) (vacant : t ≡ None) (sized : A
 
     pub second_balanced : (done : Bool) → RenewTells false Empty b.setup.size s b n third c (Ok done) → 0 < length (items_at s)
         → (u : Trades (places f s t) b [] [] (places f n third) c) × (third ≡ None) × (HasMore (places f s t) → (u.moves ≡ FoundNone Empty ∷ []) ⊎ HasPushOnFull u.moves) × (HasPopFromFull u.moves → ⊥) × Gives (places f s t) u.moves (places f n third)
-    second_balanced true told some = (second_renewed f s t n third b c vacant told.0 sized.first, told.1, λ more. inr (told.2 (some_items (items_at s) some)), told.3,
-        inr (inl (told.4.0, told.4.3 refl, some_items (items_at s) some, pushes_told s told.4.0 told.0.moves told.4.1 told.2 (λ k is none. some_items (items_at s) some (ap items_at is ∙ none)), refl, told.4.2)))
+    second_balanced true told some = (
+      second_renewed f s t n third b c vacant told.0 sized.first,
+      told.1,
+      λ more. inr (told.2 (some_items (items_at s) some)),
+      told.3,
+      inr (inl (told.4.0, told.4.3 refl, some_items (items_at s) some, pushes_told s told.4.0 told.0.moves told.4.1 told.2 (λ k is none. some_items (items_at s) some (ap items_at is ∙ none)), refl, told.4.2)),
+    )
     second_balanced false told some = (second_renewed f s t n third b c vacant told.0 sized.first, told.1, λ more. inl told.4, out_alone told.0.moves told.4, inl (quiet_alone told.0.moves told.4, refl, told.2))
 
     pub first_balanced : (done : Bool) → RenewTells true Empty b.setup.size f b n third c (Ok done) → 4 < length (items_at f) → items_at s ≡ []
         → (u : Trades (places f s t) b [] [] (places n s third) c) × (third ≡ None) × (HasMore (places f s t) → (u.moves ≡ FoundNone Empty ∷ []) ⊎ HasPushOnFull u.moves) × (HasPopFromFull u.moves → ⊥) × Gives (places f s t) u.moves (places n s third)
-    first_balanced true told some none = (first_renewed f s t n third b c vacant told.0 sized.second, told.1, λ more. inr (told.2 (some_items (items_at f) (omega (arith, some)))), told.3,
-        inr (inr (gives_lower f s t n third told.4.0 told.0.moves some none told.4.1 told.4.2 told.2)))
+    first_balanced true told some none = (
+      first_renewed f s t n third b c vacant told.0 sized.second,
+      told.1,
+      λ more. inr (told.2 (some_items (items_at f) (omega (arith, some)))),
+      told.3,
+      inr (inr (gives_lower f s t n third told.4.0 told.0.moves some none told.4.1 told.4.2 told.2)),
+    )
     first_balanced false told some none = (first_renewed f s t n third b c vacant told.0 sized.second, told.1, λ more. inl told.4, out_alone told.0.moves told.4, inl (quiet_alone told.0.moves told.4, told.2, refl))
 
   -- nothing was to be done

@@ -51,30 +51,37 @@ module _ (v : Places) (f s t : Option HeldBuffer) (l : List ℕ) (was hungry : B
         → ((HasRoom (places f s t) × (u.moves ≡ [])) ⊎ FillsNext (places f s t) object u.moves (places x y z))
         → Puts v b object (listed (places x y z) l now starving) c
     puts object backed u ends out where_put =
-        subst (λ (p : Places). Puts p b object (listed (places x y z) l now starving) c) is
-        (dealt_listed f s t x y z l l (object ∷ []) [] (object ∷ []) [] was hungry now starving b c
-        (kept_list l (object ∷ []) []) (seen (object ∷ []) b backed) u ends, inl refl, out,
-        ⊎_elim (λ room. inl room) (λ fills. inr (inr fills)) where_put)
+        subst (λ (p : Places). Puts p b object (listed (places x y z) l now starving) c) is (
+          dealt_listed f s t x y z l l (object ∷ []) [] (object ∷ []) [] was hungry now starving b c
+              (kept_list l (object ∷ []) []) (seen (object ∷ []) b backed) u ends,
+          inl refl,
+          out,
+          ⊎_elim (λ room. inl room) (λ fills. inr (inr fills)) where_put,
+        )
 
     -- no empty buffer was found for an object: it went to the list, or stayed with the worker
     module _ (object : ℕ) (backed : IsBacked v (object ∷ []) b) (found : FindsNone (places f s t) b (places x y z) c)
         (m : List ℕ) (ends : now ≡ true → EndAtLastTag found.0.moves) where
       pub spills : m ≡ l ++ object ∷ [] → Puts v b object (listed (places x y z) m now starving) c
       spills m_is =
-          subst (λ (p : Places). Puts p b object (listed (places x y z) m now starving) c) is
-          (dealt_listed f s t x y z l m [] [] (object ∷ []) [] was hungry now starving b c
-          (λ o. omega (arith, spilled l object o, ap (times o) m_is)) (seen (object ∷ []) b backed) found.0 ends,
-          inr (m_is, found.2), out_alone found.0.moves found.2, inr (inl found.2))
+          subst (λ (p : Places). Puts p b object (listed (places x y z) m now starving) c) is (
+            dealt_listed f s t x y z l m [] [] (object ∷ []) [] was hungry now starving b c
+                (λ o. omega (arith, spilled l object o, ap (times o) m_is)) (seen (object ∷ []) b backed) found.0 ends,
+            inr (m_is, found.2),
+            out_alone found.0.moves found.2,
+            inr (inl found.2),
+          )
 
       module _ (m_is : m ≡ l) where
         pub starves : (deals : Deals v b [] [] (listed (places x y z) m now starving) c)
             × (deals.moves ≡ FoundNone Empty ∷ [])
         starves =
             subst (λ (p : Places). (deals : Deals p b [] [] (listed (places x y z) m now starving) c)
-                × (deals.moves ≡ FoundNone Empty ∷ [])) is
-            (dealt_listed f s t x y z l m [] [] [] [] was hungry now starving b c
-            (λ o. omega (arith, ap (times o) m_is)) (seen [] b (backed_less v (object ∷ []) b backed)) found.0 ends,
-            found.2)
+            × (deals.moves ≡ FoundNone Empty ∷ [])) is (
+              dealt_listed f s t x y z l m [] [] [] [] was hungry now starving b c
+                  (λ o. omega (arith, ap (times o) m_is)) (seen [] b (backed_less v (object ∷ []) b backed)) found.0 ends,
+              found.2,
+            )
 
         pub as_before : AreAlike v (listed (places x y z) m now starving)
         as_before =
@@ -91,25 +98,34 @@ module _ (v : Places) (f s t : Option HeldBuffer) (l : List ℕ) (was hungry : B
       -- nothing was popped from full
       pub deals_out : (HasPopFromFull u.moves → ⊥) → DealsOut v b (listed (places x y z) l now starving) c
       deals_out out =
-          subst (λ (p : Places). DealsOut p b (listed (places x y z) l now starving) c) is
-          (dealt_listed f s t x y z l l [] [] [] [] was hungry now starving b c (kept_list l [] []) (seen [] b backed) u
-          ends, out)
+          subst (λ (p : Places). DealsOut p b (listed (places x y z) l now starving) c) is (
+            dealt_listed f s t x y z l l [] [] [] [] was hungry now starving b c (kept_list l [] []) (seen [] b backed) u
+                ends,
+            out,
+          )
 
       pub balances : (HasMore (places f s t) → (u.moves ≡ FoundNone Empty ∷ []) ⊎ HasPushOnFull u.moves)
           → (HasPopFromFull u.moves → ⊥) → Gives (places f s t) u.moves (places x y z)
           → Balances v b (listed (places x y z) l now starving) c
       balances more out gives =
-          subst (λ (p : Places). Balances p b (listed (places x y z) l now starving) c) is
-          (dealt_listed f s t x y z l l [] [] [] [] was hungry now starving b c (kept_list l [] []) (seen [] b backed) u
-          ends, more, out, gives)
+          subst (λ (p : Places). Balances p b (listed (places x y z) l now starving) c) is (
+            dealt_listed f s t x y z l l [] [] [] [] was hungry now starving b c (kept_list l [] []) (seen [] b backed) u
+                ends,
+            more,
+            out,
+            gives,
+          )
 
       -- the list was given up before
       pub disposes : (m : List ℕ) → m ≡ [] → (items_of (places f s t) ≡ [] → HasPushOnFull u.moves → ⊥)
           → (HasPopFromFull u.moves → ⊥) → Disposes v b (listed (places x y z) m now starving) c
       disposes m m_is quiet out =
-          subst (λ (p : Places). Disposes p b (listed (places x y z) m now starving) c) is
-          (dealt_listed f s t x y z [] m [] [] [] [] was hungry now starving b c
-          (λ o. omega (arith, ap (times o) m_is)) (given_up f s t l was hungry b (seen [] b backed)) u ends, quiet, out)
+          subst (λ (p : Places). Disposes p b (listed (places x y z) m now starving) c) is (
+            dealt_listed f s t x y z [] m [] [] [] [] was hungry now starving b c
+                (λ o. omega (arith, ap (times o) m_is)) (given_up f s t l was hungry b (seen [] b backed)) u ends,
+            quiet,
+            out,
+          )
 
   -- the last object of the list was got
   pub takes_last : (m : List ℕ) (o : ℕ) → l ≡ m ++ o ∷ [] → was ≡ false → (b : Book) → IsBacked v [] b
@@ -192,10 +208,12 @@ module _ (v : Places) (f s t : Option HeldBuffer) (l : List ℕ) (was hungry : B
 
   pub none_told : m ≡ [] → (r : Option ℕ) → GetTells (places f s t) b (places x y z) c (Ok r)
       → IfNone r (Deals v b [] [] (listed (places x y z) m now hungry) c
-          × (items_of (listed (places x y z) m now hungry) ≡ []) × WasSeenEmpty Full b c)
+      × (items_of (listed (places x y z) m now hungry) ≡ []) × WasSeenEmpty Full b c)
   none_told empty (Some o) told = tt
-  none_told empty None told =
-      (subst (λ (k : List ℕ). Deals v b [] [] (listed (places x y z) k now hungry) c) (sym m_is)
-      (deals v f s t l was hungry is b x y z now hungry c [] [] backed told.0
-      (not_stopped (EndAtLastTag told.0.moves) now going)),
-      ap (λ (k : List ℕ). k ++ buffered_items (places x y z)) empty ∙ told.2, told.3)
+  none_told empty None told = (
+    subst (λ (k : List ℕ). Deals v b [] [] (listed (places x y z) k now hungry) c) (sym m_is)
+        (deals v f s t l was hungry is b x y z now hungry c [] [] backed told.0
+        (not_stopped (EndAtLastTag told.0.moves) now going)),
+    ap (λ (k : List ℕ). k ++ buffered_items (places x y z)) empty ∙ told.2,
+    told.3,
+  )

@@ -99,8 +99,13 @@ module _ (size : ℕ) (old : Option HeldBuffer) (b : Book) (q : Which) (h : Held
             filled = (tt, tt);
             sized = subst (IsOfSize size) (sym out.0) next_sized;
             left_sized = subst (IsOfSize size) (sym out.1) tt;
-          } in (r, out.1, λ some. absurd (more some (ap items_at is)), λ pop. ⊎_elim (from_full q h) (λ x. absurd x) pop,
-              (h, ap (λ (x : Option HeldBuffer). Took q h ∷ shelving_of x) (sym is ∙ place_is), out.0 ∙ ap Some next_is, took.2.6))
+          } in (
+            r,
+            out.1,
+            λ some. absurd (more some (ap items_at is)),
+            λ pop. ⊎_elim (from_full q h) (λ x. absurd x) pop,
+            (h, ap (λ (x : Option HeldBuffer). Took q h ∷ shelving_of x) (sym is ∙ place_is), out.0 ∙ ap Some next_is, took.2.6),
+          )
       go (Some k) is left =
           let r : Renews size old b new third c =
           record {
@@ -111,9 +116,13 @@ module _ (size : ℕ) (old : Option HeldBuffer) (b : Book) (q : Which) (h : Held
             filled = (tt, (filled_shelf k, tt));
             sized = subst (IsOfSize size) (sym out.0) next_sized;
             left_sized = subst (IsOfSize size) (sym out.1) tt;
-          } in (r, out.1, λ some. inr (inl (shelf_full k (λ none. more some (ap items_at is ∙ none)))),
-              λ pop. ⊎_elim (from_full q h) (λ rest. ⊎_elim (λ x. absurd x) (λ x. absurd x) rest) pop,
-              (h, ap (λ (x : Option HeldBuffer). Took q h ∷ shelving_of x) (sym is ∙ place_is), out.0 ∙ ap Some next_is, took.2.6))
+          } in (
+            r,
+            out.1,
+            λ some. inr (inl (shelf_full k (λ none. more some (ap items_at is ∙ none)))),
+            λ pop. ⊎_elim (from_full q h) (λ rest. ⊎_elim (λ x. absurd x) (λ x. absurd x) rest) pop,
+            (h, ap (λ (x : Option HeldBuffer). Took q h ∷ shelving_of x) (sym is ∙ place_is), out.0 ∙ ap Some next_is, took.2.6),
+          )
 
   pub put_out_stopped : (half : Bool) (stop : Stop) → PutsOut place next mid new third c (Err stop) → RenewTells half q size old b new third c (Err stop)
   put_out_stopped half OutOfMemory none = absurd none
@@ -127,8 +136,11 @@ module _ (size : ℕ) (old : Option HeldBuffer) (b : Book) (q : Which) (h : Held
         filled = (tt, (tt, tt));
         sized = subst (IsOfSize size) (sym out.0) place_sized;
         left_sized = subst (IsOfSize size) (sym out.1) next_sized;
-      } in (r, (Took q h ∷ [], out.2.0, refl),
-          λ pop. ⊎_elim (from_full q h) (λ rest. ⊎_elim (λ x. absurd x) (λ x. absurd x) rest) pop)
+      } in (
+        r,
+        (Took q h ∷ [], out.2.0, refl),
+        λ pop. ⊎_elim (from_full q h) (λ rest. ⊎_elim (λ x. absurd x) (λ x. absurd x) rest) pop,
+      )
 
 -- a look for an empty buffer pops nothing from full
 pub out_alone : (ms : List Move) → ms ≡ FoundNone Empty ∷ [] → HasPopFromFull ms → ⊥

@@ -71,8 +71,13 @@ pub backed_rest : (p : Places) (l put : List ℕ) (b : Book) → IsBacked p (l +
 backed_rest p l put b backed =
     record {
       held = backed.held;
-      charged = λ x. omega (arith, backed.charged x, total-append (only x) (items_of p) (l ++ put),
-          total-append (only x) (items_of p) put, total-append (only x) l put);
+      charged = λ x. omega (
+        arith,
+        backed.charged x,
+        total-append (only x) (items_of p) (l ++ put),
+        total-append (only x) (items_of p) put,
+        total-append (only x) l put,
+      );
       sized = backed.sized;
     }
 

@@ -66,7 +66,7 @@ abbrev pub OpensNone : Book → Book → Type 0
 OpensNone before after =
     (deals : Deals no_places before [] [] no_places after)
     × ((deals.moves ≡ FoundNone Empty ∷ [])
-       ⊎ ((h : HeldBuffer) × (deals.moves ≡ Took Empty h ∷ FoundNone Empty ∷ Gave Empty h ∷ [])))
+    ⊎ ((h : HeldBuffer) × (deals.moves ≡ Took Empty h ∷ FoundNone Empty ∷ Gave Empty h ∷ [])))
 
 -- the push of the buffer at a place
 abbrev pub push_of : Option HeldBuffer → List Move
@@ -124,7 +124,7 @@ Puts old before object new after =
     × ((new.spill ≡ old.spill) ⊎ ((new.spill ≡ old.spill ++ object ∷ []) × (deals.moves ≡ FoundNone Empty ∷ [])))
     × (HasPopFromFull deals.moves → ⊥)
     × ((HasRoom old × (deals.moves ≡ []))
-       ⊎ ((deals.moves ≡ FoundNone Empty ∷ []) ⊎ FillsNext old object deals.moves new))
+    ⊎ ((deals.moves ≡ FoundNone Empty ∷ []) ⊎ FillsNext old object deals.moves new))
 
 -- a call that gave buffers back, none of them on full where there were no items in them, and popped nothing from full;
 -- a spill list was given up before

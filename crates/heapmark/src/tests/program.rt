@@ -218,7 +218,15 @@ fn marks_in<T: Files + AllocGlobal + Threads + Wait + Sync>(
     first_tag: &str,
 ) -> Option<bool> {
     let words = [
-        "heapmark", file, "--workers", "1", "--buffer", buffer, "--buffers", buffers, "--first-tag",
+        "heapmark",
+        file,
+        "--workers",
+        "1",
+        "--buffer",
+        buffer,
+        "--buffers",
+        buffers,
+        "--first-tag",
         first_tag,
     ];
     let (status, out, err) = printed(rt, &words);
@@ -243,9 +251,16 @@ fn the_heap_is_marked_as_the_words_say(rt: HostRuntime) -> Result<(), Fail> {
         ("281474976710644", [false, false, false]),
     ];
     for (first_tag, served) in cases {
-        for ((buffer, buffers), served) in [("2", "128"), ("64", "8"), ("2", "4")].into_iter().zip(served) {
+        for ((buffer, buffers), served) in [("2", "128"), ("64", "8"), ("2", "4")]
+            .into_iter()
+            .zip(served)
+        {
             let told = marks_in(&rt, file, buffer, buffers, first_tag);
-            assert_eq!(rt; told, Some(served), "{buffer} in {buffers} from {first_tag}");
+            assert_eq!(rt;
+                told,
+                Some(served),
+                "{buffer} in {buffers} from {first_tag}"
+            );
         }
     }
     fs::remove_file(&rt, path.as_path())?;

@@ -10,4 +10,4 @@ returns-clause-goes_on g c =
     let new = c.balance.new.worker in
     on_ok c.balance.result c.balance.ensures.balances
     (λ told. goes_on_again c.args.self.now.worker mid.worker new c.in_ok-unspill.ensures.goes_on
-        (dealt_goes_on mid.pair mid.worker [] [] c.balance.new.self new told.0 c.balance.ensures.pool))
+    (dealt_goes_on mid.pair mid.worker [] [] c.balance.new.self new told.0 c.balance.ensures.pool))

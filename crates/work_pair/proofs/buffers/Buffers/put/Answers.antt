@@ -26,9 +26,12 @@ returns-then-put_at-2-clause-tells g c =
     let y = c.swap.new.y in
     let turned = swapped m.first m.second m.third x y c.swap.ensures.x_after (c.swap.ensures.y_after ∙ c.if-put_at.ensures.full) in
     let more = put_first x y m.third put.0 c.args.object c.put_at-2.new.place put.1 put.2 in
-    let both = local_again m.first m.second m.third x y m.third c.put_at-2.new.place y (c.args.object ∷ []) [] turned more in
-    (still (places m.first m.second m.third) c.args.worker.now.book (c.args.object ∷ []) [] (places c.put_at-2.new.place y m.third) both c.requires.backed.sized, c.requires.third, λ pop. pop,
-    inl (inr (subst HasRoomAt c.swap.ensures.x_after c.if-put_at-2.ensures.had_room), refl))
+    let both = local_again m.first m.second m.third x y m.third c.put_at-2.new.place y (c.args.object ∷ []) [] turned more in (
+      still (places m.first m.second m.third) c.args.worker.now.book (c.args.object ∷ []) [] (places c.put_at-2.new.place y m.third) both c.requires.backed.sized,
+      c.requires.third,
+      λ pop. pop,
+      inl (inr (subst HasRoomAt c.swap.ensures.x_after c.if-put_at-2.ensures.had_room), refl),
+    )
 
 pub renew-requires-clause-charged : goal.renew-requires-clause-charged
 renew-requires-clause-charged g c =

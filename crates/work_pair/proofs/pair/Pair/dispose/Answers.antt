@@ -38,7 +38,10 @@ returns-in-Err-clause-spent g c =
     let q = c.clear.new.self in
     let after = c.clear.new.worker.book in
     let told = clears_told (places p.first p.second p.third) b (places q.first q.second q.third) after c.in-Err.stop c.in-Err.ensures.tells in
-    let empty = c.clear-in-Err.ensures.items in
-    (told.0, refl, empty,
-    disposes c.args.self p.first p.second p.third i.spill.items i.stopped i.starved c.self.view_is b q.first q.second q.third true i.starved after c.requires.backed told.1.0.trades
-    (λ stopped. told.1.1) c.clear-in-Err.new.self.items empty told.1.0.quiet told.1.0.out)
+    let empty = c.clear-in-Err.ensures.items in (
+      told.0,
+      refl,
+      empty,
+      disposes c.args.self p.first p.second p.third i.spill.items i.stopped i.starved c.self.view_is b q.first q.second q.third true i.starved after c.requires.backed told.1.0.trades
+          (λ stopped. told.1.1) c.clear-in-Err.new.self.items empty told.1.0.quiet told.1.0.out,
+    )

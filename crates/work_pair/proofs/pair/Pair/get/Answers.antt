@@ -48,7 +48,9 @@ returns-in-Err-clause-spent g c =
     let after = c.get.new.worker.book in
     let m = c.pop.new.self.items in
     let same : m ≡ i.spill.items = sym (c.in_default.ensures.items ∙ append-nil m) in
-    let told = ends_told (places p.first p.second p.third) b (places q.first q.second q.third) after c.in-Err.stop c.in-Err.ensures.tells in
-    (told.0, refl,
-    subst (λ (k : List ℕ). Deals c.args.self.now b [] [] (listed (places q.first q.second q.third) k true i.starved) after) (sym same)
-    (deals c.args.self.now p.first p.second p.third i.spill.items i.stopped i.starved c.self.view_is b q.first q.second q.third true i.starved after [] [] c.requires.backed told.1.0 (λ stopped. told.1.1)))
+    let told = ends_told (places p.first p.second p.third) b (places q.first q.second q.third) after c.in-Err.stop c.in-Err.ensures.tells in (
+      told.0,
+      refl,
+      subst (λ (k : List ℕ). Deals c.args.self.now b [] [] (listed (places q.first q.second q.third) k true i.starved) after) (sym same)
+          (deals c.args.self.now p.first p.second p.third i.spill.items i.stopped i.starved c.self.view_is b q.first q.second q.third true i.starved after [] [] c.requires.backed told.1.0 (λ stopped. told.1.1)),
+    )

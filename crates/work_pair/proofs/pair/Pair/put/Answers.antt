@@ -59,13 +59,14 @@ returns-in-Err-push-clause-no_memory g c starved =
     let found = subst (λ (done : Bool). PutTells c.args.object (places p.first p.second p.third) b (places q.first q.second q.third) after (Ok done)) c.in-Ok-false.field-0-test c.in-Ok-false.ensures.tells in
     let going = (ap (λ (w : Places). w.stopped) c.self.view_is ∙ c.requires.going.going) in
     let ends = not_stopped (EndAtLastTag found.0.moves) i.stopped going in
-    let same = c.in-Err-push.ensures.items in
-    (record { going = going; third = found.1 },
-    as_before c.args.self.now p.first p.second p.third i.spill.items i.stopped i.starved c.self.view_is b q.first q.second q.third i.stopped true after c.args.object c.requires.backed
-    found c.push.new.self.items ends same,
-    refl,
-    starves c.args.self.now p.first p.second p.third i.spill.items i.stopped i.starved c.self.view_is b q.first q.second q.third i.stopped true after c.args.object c.requires.backed
-    found c.push.new.self.items ends same)
+    let same = c.in-Err-push.ensures.items in (
+      record { going = going; third = found.1 },
+      as_before c.args.self.now p.first p.second p.third i.spill.items i.stopped i.starved c.self.view_is b q.first q.second q.third i.stopped true after c.args.object c.requires.backed
+          found c.push.new.self.items ends same,
+      refl,
+      starves c.args.self.now p.first p.second p.third i.spill.items i.stopped i.starved c.self.view_is b q.first q.second q.third i.stopped true after c.args.object c.requires.backed
+          found c.push.new.self.items ends same,
+    )
 
 pub returns-in-Err-clause-back : goal.returns-in-Err-clause-back
 returns-in-Err-clause-back g c =
@@ -74,7 +75,9 @@ returns-in-Err-clause-back g c =
     let b = c.args.worker.now.book in
     let q = c.put.new.self in
     let after = c.put.new.worker.book in
-    let told = ends_out (places p.first p.second p.third) b (places q.first q.second q.third) after c.in-Err.stop c.in-Err.ensures.tells in
-    (refl, ap (λ (w : Places). w.spill) c.self.view_is,
-    deals_out c.args.self.now p.first p.second p.third i.spill.items i.stopped i.starved c.self.view_is b q.first q.second q.third true i.starved after
-    (backed_less c.args.self.now (c.args.object ∷ []) b c.requires.backed) told.1.0 (λ stopped. told.1.1) told.1.2)
+    let told = ends_out (places p.first p.second p.third) b (places q.first q.second q.third) after c.in-Err.stop c.in-Err.ensures.tells in (
+      refl,
+      ap (λ (w : Places). w.spill) c.self.view_is,
+      deals_out c.args.self.now p.first p.second p.third i.spill.items i.stopped i.starved c.self.view_is b q.first q.second q.third true i.starved after
+          (backed_less c.args.self.now (c.args.object ∷ []) b c.requires.backed) told.1.0 (λ stopped. told.1.1) told.1.2,
+    )
