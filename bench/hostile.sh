@@ -6,7 +6,7 @@
 # COUNT: objects, classes or the like of the smaller file of each kind (500000). Prints a Markdown table: for each kind
 # the size of the larger file, both programs' seconds on the smaller and the larger, and whether they wrote the same. A
 # run is given up after a minute. heapmark is the binary of crates/heapmark/out, or what the variable HEAPMARK names; the
-# words of the variable OPTIONS go to it, as in OPTIONS='--buffer 4096', without which `names` has too many roots for it.
+# words of the variable OPTIONS go to it, as in OPTIONS='--workers 1'.
 set -euo pipefail
 
 top=$(cd "$(dirname "$0")/.." && pwd)

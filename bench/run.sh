@@ -8,7 +8,7 @@
 # whole programs first, then the dumps, then the phases of the plain marker. heapmark is the binary that `rt run` in
 # crates/heapmark made, or what the variable HEAPMARK names. The words of the variable STARTER start each run: on a busy
 # machine 'chrt -f 10' of root keeps other work off the processors. The words of the variable OPTIONS go to heapmark, as
-# in OPTIONS='--buffer 4096', without which `scattered` may have more objects waiting than its buffers hold.
+# in OPTIONS='--buffer 4096'.
 runs=5
 # shellcheck source=bench/head.sh
 . "$(dirname "$0")/head.sh"
