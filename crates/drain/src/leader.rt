@@ -56,10 +56,10 @@ where
 
 /// Marks the objects that a path of references joins to a root, with a thread for each worker.
 ///
-/// `OutOfMemory`: a growth was refused, before any thread was started, or of the spill list of a worker or of the leader.
-/// `TagSpent`: a stack's last tag was loaded where an exchange was due. Of the workers that were refused by one of these
-/// two the one with the least number is told, and the leader last. `WorkerRefused`: a thread could not be started. No
-/// thread that it started is left when it answers.
+/// `OutOfMemory`: a growth was refused, before any thread was started, or of the spill list of a worker or the leader.
+/// `TagSpent`: a stack's last tag was loaded where an exchange was due. Of the workers that were refused by one of
+/// these two the one with the least number is told, and the leader last. `WorkerRefused`: a thread could not be
+/// started. No thread that it started is left when it answers.
 pub fn mark<T, A, B, G>(
     rt: &T,
     alloc: A,
