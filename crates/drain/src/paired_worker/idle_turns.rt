@@ -38,7 +38,7 @@ impl<A: Allocator> PairedWorker<A> {
                 pool.idle_down(&mut self.worker);
                 return true;
             }
-            pause(rt, &backoff);
+            pause(rt, &backoff, turn);
         }
         false
     }
