@@ -1,5 +1,7 @@
 -- From a dump to its graph.
-use Rattle.std.proofs.Common.{List, [], ap, arith, count_by, filter, length, map, refl, slice_get, subst, sym, ℕ, ◌++◌, ◌+◌, ◌∙◌, ◌≡◌, ◌≤◌}
+use Rattle.std.proofs.lemmas.Slice.Zip.{AllZip-map}
+use Rattle.std.proofs.Common.{List, [], ap, arith, count_by, filter, length, map, map-id, refl, slice_get, subst, sym, ℕ, ◌++◌, ◌+◌, ◌∙◌, ◌≡◌, ◌≤◌}
+use Rattle.std.specs.List.{AllZip}
 use Rattle.std.specs.Prelude.{filter_map}
 use Rattle.hprof_grammar.specs.Dump.{IsDumpOf, Places, is_load, is_string, limit}
 use Rattle.hprof_grammar.specs.Record.{Record}
@@ -17,13 +19,14 @@ use Rattle.heap_graph.specs.working.ReadObjects.{IsReadOf}
 use Rattle.heap_graph.specs.working.Resolving.{Resolves, target_in}
 use Rattle.heap_graph.specs.working.PlacedNames.{AreNames}
 use Rattle.heap_graph.specs.ObjectGraph.{IsGraphOf, IsGraphOfText, ObjectGraph, named_classes, unresolved_in}
-use Rattle.heap_graph.specs.working.PlacedObjects.{AreObjects}
+use Rattle.heap_graph.specs.working.PlacedObjects.{AreObjects, ArePlacesOf}
 use Rattle.heap_graph.specs.References.{AreIdLists, is_unresolved, targets}
 use Rattle.heap_graph.specs.Roots.{root_ids, root_objects}
 use Rattle.heap_graph.specs.Rows.{bytes_of, row_of}
 use Rattle.heap_graph.specs.working.Refinement.{StandFor, named_class}
 use Rattle.heap_graph.specs.working.RuleAnswers.{IsFaultOf}
 use Rattle.heap_graph.specs.working.ToldClasses.{AreToldOf}
+use Rattle.heap_graph.proofs.Counting.{few_in_dump}
 use Rattle.heap_graph.proofs.HeldLists.{are_lists, held_lists}
 use Rattle.heap_graph.proofs.MissingLaws.{few_held, roots_missing}
 use Rattle.heap_graph.proofs.Sizes.{id_size_range}
@@ -55,6 +58,39 @@ are_names bytes dump is v strings loaded bytes_are size_is strings_are loaded_ar
   string_each = seen_records v bytes dump.id_size strings dump.strings (filter is_string is.records) bytes_are size_is strings_are placed.strings;
   loaded_each = seen_records v bytes dump.id_size loaded dump.loaded (filter is_load is.records) bytes_are size_is loaded_are placed.loaded;
 }
+
+-- ---- the objects at the places of a dump
+
+-- a copy of the places of a dump, which has forgotten its own since then
+abbrev pub copied_places : (bytes : List ℕ) (dump now : Places) (s : ℕ) (own copy : List ℕ) → IsDumpOf bytes dump → now ≡ record dump { objects = [] }
+    → s ≡ now.id_size → own ≡ dump.objects → AllZip (λ x y. y ≡ x) own copy → ArePlacesOf bytes s copy dump
+copied_places bytes dump now s own copy is forgets size_is own_are each = record {
+  is = is;
+  size_is = size_is ∙ ap (λ (d : Places). d.id_size) forgets;
+  places_are = AllZip-map (λ x. x) own copy each ∙ map-id own ∙ own_are;
+}
+
+module _ (bytes : List ℕ) (s : ℕ) (places : List ℕ) (dump : Places) (are : ArePlacesOf bytes s places dump) where
+  pub size_in_range : (1 ≤ s) × (s ≤ 8)
+  size_in_range =
+      let range = id_size_range dump.id_size are.is.spells.id_size in
+      (omega (arith, are.size_is, range.0), omega (arith, are.size_is, range.1))
+
+  module _ (placed : IsPlaced bytes dump are.is.records) where
+    pub objects_stand : (v : Sight) → v.bytes ≡ bytes → v.id_size ≡ s → StandInTurn (Stands v) places (objects (heap_of are.is.records))
+    objects_stand v bytes_are size_is =
+        seen v bytes dump.id_size places dump.objects (objects (heap_of are.is.records)) bytes_are (size_is ∙ are.size_is) are.places_are placed.objects
+
+    -- indexed by one view, they are the same objects to another
+    pub are_objects : (v w : Sight) (ids known : List ℕ) → v.bytes ≡ bytes → v.id_size ≡ s → w.bytes ≡ bytes → w.id_size ≡ s → known ≡ places
+        → ((subs : List SubRecord) → StandInTurn (Stands v) known subs → ids ≡ map id_of subs) → AreObjects w places ids (heap_of are.is.records)
+    are_objects v w ids known v_bytes v_size w_bytes w_size same indexed =
+        let here = objects (heap_of are.is.records) in
+        let stand : StandInTurn (Stands v) known here = subst (λ (xs : List ℕ). StandInTurn (Stands v) xs here) (sym same) (objects_stand v v_bytes v_size) in
+        record { stand = objects_stand w w_bytes w_size; ids_are = indexed here stand }
+
+    pub few_objects : length places ≤ limit
+    few_objects = omega (arith, ap length are.places_are, placed.objects.count, few_in_dump bytes dump are.is)
 
 -- ---- the fault
 

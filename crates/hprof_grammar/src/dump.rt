@@ -1,6 +1,6 @@
 //! A dump, as places in its bytes.
 
-ghost use Rattle.std.specs.Prelude.{◌≡◌, IfErr, IfOk, OnOk};
+ghost use Rattle.std.specs.Prelude.{[], ◌≡◌, IfErr, IfOk, OnOk};
 ghost use Rattle.hprof_grammar.specs.working.Joining.{noted, nothing_of, with_loaded, with_string};
 
 use crate::flaw::ReadRefusal;
@@ -67,6 +67,14 @@ impl<A: Allocator> Dump<A> {
         ensures { result.now ≡ self.now.objects }
     {
         &self.objects
+    }
+
+    /// Gives the memory of the objects' places back, once whoever reads them has them.
+    pub fn forget_objects(&mut self)
+        ensures { self.new ≡ record self.old { objects = [] } }
+    {
+        self.objects.clear();
+        self.objects.shrink_to_fit();
     }
 
     /// Notes where a sub-record stands.

@@ -20,3 +20,9 @@ pub record IsReadFrom {A : Type 0} (o : Objects A) (bytes : List ℕ) (dump : Pl
   pub size_is : o.view.id_size ≡ dump.id_size
   pub places_are : o.places.items ≡ dump.objects
   pub are : (is : IsDumpOf bytes dump) → AreOf o (heap_of is.records)
+
+-- these are the places of the objects of a dump that these bytes spell, and the size of its identifiers
+pub record ArePlacesOf (bytes : List ℕ) (id_size : ℕ) (places : List ℕ) (dump : Places) : Type 0 where
+  pub is : IsDumpOf bytes dump
+  pub size_is : id_size ≡ dump.id_size
+  pub places_are : places ≡ dump.objects

@@ -1,6 +1,6 @@
 //! A graph from a dump.
 
-ghost use Rattle.std.specs.Prelude.{IfOk, List, filter, ◌≡◌, ℕ};
+ghost use Rattle.std.specs.Prelude.{IfOk, List, OnOk, [], filter, ◌≡◌, ℕ};
 ghost use Rattle.hprof_grammar.specs.Dump.{IsDumpOf, Places, is_root};
 ghost use Rattle.hprof_grammar.specs.Standing.{StandInTurn, Stands};
 ghost use Rattle.heap_graph.specs.Heap.{heap_of};
@@ -8,7 +8,7 @@ ghost use Rattle.heap_graph.specs.LinkFault.{HasLinkFault};
 ghost use Rattle.heap_graph.specs.ObjectGraph.{IsGraphOfText};
 ghost use Rattle.heap_graph.specs.Refusal.{IfLinkFault};
 ghost use Rattle.heap_graph.specs.working.PlacedNames.{AreNamesOf};
-ghost use Rattle.heap_graph.specs.working.PlacedObjects.{IsReadFrom};
+ghost use Rattle.heap_graph.specs.working.PlacedObjects.{ArePlacesOf, IsReadFrom};
 ghost use Rattle.heap_graph.specs.working.ReadObjects.{IsReadOf};
 ghost use Rattle.heap_graph.specs.working.ToldClasses.{AreToldOf};
 
@@ -20,27 +20,24 @@ use crate::rule::LinkRefusal;
 use hprof_grammar::{Dump, View, dump_is_placed, stands_within};
 use std::alloc::{AllocError, Allocator};
 
-/// The objects of a dump, by their identifiers, and its classes.
-fn read_objects<'a, A: Allocator + Copy, B: Allocator>(
+/// The objects at these places of a dump, by their identifiers, and its classes.
+fn read_objects<'a, A: Allocator + Copy>(
     alloc: A,
     bytes: &'a [u8],
-    dump: &Dump<B>,
+    id_size: u8,
+    places: Vec<u32, A>,
 ) -> Result<Objects<'a, A>, AllocError>
-    requires { IsDumpOf bytes.now dump.now }
-    ensures objects { IfOk result (λ o. IsReadFrom o bytes.now dump.now) }
-    ensures told { IfOk result (λ o. (is : IsDumpOf bytes.now dump.now) → AreToldOf o (heap_of is.records)) }
+    requires { (dump : Places) × ArePlacesOf bytes.now id_size places.items dump }
+    ensures objects { IfOk result (λ o. (dump : Places) → ArePlacesOf bytes.now id_size places.items dump
+        → IsReadFrom o bytes.now dump) }
+    ensures told { IfOk result (λ o. (dump : Places) (are : ArePlacesOf bytes.now id_size places.items dump)
+        → AreToldOf o (heap_of are.is.records)) }
 {
     dump_is_placed();
-    let view = View::new(bytes, dump.id_size());
-    let index = index_of(alloc, &view, dump.objects())?;
-    let classes = class_table(
-        alloc,
-        View::new(bytes, dump.id_size()),
-        dump.objects(),
-        &index,
-    )?;
+    let view = View::new(bytes, id_size);
+    let index = index_of(alloc, &view, &places)?;
+    let classes = class_table(alloc, View::new(bytes, id_size), &places, &index)?;
     let fates = classes.settle_all(alloc)?;
-    let places = dump.objects().to_vec(alloc)?;
     Ok(Objects {
         view,
         places,
@@ -48,6 +45,22 @@ fn read_objects<'a, A: Allocator + Copy, B: Allocator>(
         classes,
         fates,
     })
+}
+
+/// The objects of a dump, which gives up their places: they are kept once.
+fn take_objects<'a, A: Allocator + Copy, B: Allocator>(
+    alloc: A,
+    bytes: &'a [u8],
+    dump: &mut Dump<B>,
+) -> Result<Objects<'a, A>, AllocError>
+    requires { IsDumpOf bytes.now dump.old }
+    ensures objects { IfOk result (λ o. IsReadFrom o bytes.now dump.old) }
+    ensures told { IfOk result (λ o. (is : IsDumpOf bytes.now dump.old) → AreToldOf o (heap_of is.records)) }
+    ensures rest { OnOk result (dump.new ≡ record dump.old { objects = [] }) }
+{
+    let places = dump.objects().to_vec(alloc)?;
+    dump.forget_objects();
+    read_objects(alloc, bytes, dump.id_size(), places)
 }
 
 impl<'a, A: Allocator + Copy> Graph<'a, A> {
@@ -88,7 +101,8 @@ impl<'a, A: Allocator + Copy> Graph<'a, A> {
         ensures fault { IfLinkFault result (λ f. HasLinkFault bytes.now f.code f.offset) }
     {
         dump_is_placed();
-        let objects = match read_objects(alloc, bytes, &dump) {
+        let mut dump = dump;
+        let objects = match take_objects(alloc, bytes, &mut dump) {
             Ok(objects) => objects,
             Err(_) => return Err(LinkRefusal::OutOfMemory),
         };

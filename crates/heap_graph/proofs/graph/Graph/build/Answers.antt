@@ -1,5 +1,5 @@
-use Rattle.std.proofs.Common.{filter, ◌∙◌}
-use Rattle.hprof_grammar.specs.Dump.{is_root}
+use Rattle.std.proofs.Common.{[], ap, filter, ◌∙◌, ◌≡◌}
+use Rattle.hprof_grammar.specs.Dump.{Places, is_root}
 use Rattle.hprof_grammar.specs.Standing.{IsPlaced}
 use Rattle.heap_graph.specs.Heap.{heap_of}
 use Rattle.heap_graph.specs.working.ReadObjects.{IsReadOf}
@@ -17,6 +17,7 @@ returns-in-Err-check-clause-fault g c =
 pub assemble-requires : goal.assemble-requires
 assemble-requires g c =
     let placed : IsPlaced c.args.bytes.now c.args.dump c.requires.records = c.dump_is_placed.ensures c.args.bytes.now c.args.dump c.requires in
+    let rest : c.take_objects.new.dump ≡ record c.args.dump { objects = [] } = c.in-Ok.ensures.rest in
     let read : IsReadOf c.args.bytes.now c.args.dump c.requires c.in-Ok.objects = record {
       bytes_are = c.in-Ok.ensures.objects.bytes_are;
       size_is = c.in-Ok.ensures.objects.size_is;
@@ -28,6 +29,6 @@ assemble-requires g c =
       c.args.dump,
       c.requires,
       read,
-      are_names c.args.bytes.now c.args.dump c.requires c.new.result c.strings.result.now c.loaded.result.now c.new.ensures.bytes (c.new.ensures.size ∙ c.id_size.ensures) c.strings.ensures c.loaded.ensures placed,
-      seen c.in-Ok.objects.view c.args.bytes.now c.args.dump.id_size c.roots.result.now c.args.dump.roots (filter is_root (heap_of c.requires.records)) c.in-Ok.ensures.objects.bytes_are c.in-Ok.ensures.objects.size_is c.roots.ensures placed.roots,
+      are_names c.args.bytes.now c.args.dump c.requires c.new.result c.strings.result.now c.loaded.result.now c.new.ensures.bytes (c.new.ensures.size ∙ c.id_size.ensures ∙ ap (λ (d : Places). d.id_size) rest) (c.strings.ensures ∙ ap (λ (d : Places). d.strings) rest) (c.loaded.ensures ∙ ap (λ (d : Places). d.loaded) rest) placed,
+      seen c.in-Ok.objects.view c.args.bytes.now c.args.dump.id_size c.roots.result.now c.args.dump.roots (filter is_root (heap_of c.requires.records)) c.in-Ok.ensures.objects.bytes_are c.in-Ok.ensures.objects.size_is (c.roots.ensures ∙ ap (λ (d : Places). d.roots) rest) placed.roots,
     )

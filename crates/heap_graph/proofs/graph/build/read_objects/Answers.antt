@@ -1,64 +1,86 @@
-use Rattle.std.proofs.lemmas.Slice.Zip.{AllZip-map}
-use Rattle.std.proofs.Common.{ap, arith, filter, length, map-id, subst, sym, ◌∙◌, ◌≡◌}
-use Rattle.hprof_grammar.specs.Dump.{is_object}
+use Rattle.std.proofs.Common.{arith, subst, sym, ◌∙◌, ◌≡◌}
 use Rattle.hprof_grammar.specs.Standing.{Sight}
-use Rattle.heap_graph.specs.Heap.{heap_of}
+use Rattle.heap_graph.specs.Heap.{heap_of, objects}
+use Rattle.heap_graph.specs.working.PlacedObjects.{ArePlacesOf}
 use Rattle.heap_graph.specs.working.ClassTable.{AreClasses}
 use Rattle.heap_graph.specs.working.ToldClasses.{AreTold}
-use Rattle.heap_graph.proofs.Building.{same_sight, seen}
-use Rattle.heap_graph.proofs.Counting.{few_in_dump}
-use Rattle.heap_graph.proofs.Sizes.{id_size_range}
-use Rattle.heap_graph.proofs.graph.build.read_objects.Given as given
+use Rattle.heap_graph.proofs.Building.{are_objects, few_objects, objects_stand, same_sight, size_in_range}
 use Rattle.heap_graph.proofs.graph.build.read_objects.Goals as goal
 
 pub new-view-requires-clause-low : goal.new-view-requires-clause-low
-new-view-requires-clause-low g c = let range = id_size_range c.args.dump.now.id_size c.requires.spells.id_size in omega (arith, range.0, c.id_size.ensures)
+new-view-requires-clause-low g c = (size_in_range c.args.bytes.now c.args.id_size c.args.places.items c.requires.0 c.requires.1).0
 
 pub new-view-requires-clause-high : goal.new-view-requires-clause-high
-new-view-requires-clause-high g c = let range = id_size_range c.args.dump.now.id_size c.requires.spells.id_size in omega (arith, range.1, c.id_size.ensures)
+new-view-requires-clause-high g c = (size_in_range c.args.bytes.now c.args.id_size c.args.places.items c.requires.0 c.requires.1).1
 
 pub index_of-requires : goal.index_of-requires
-index_of-requires g c = (
-  filter is_object (heap_of c.requires.records),
-  seen c.new-view.result c.args.bytes.now c.args.dump.now.id_size c.objects.result.now c.args.dump.now.objects (filter is_object (heap_of c.requires.records)) c.new-view.ensures.bytes (c.new-view.ensures.size ∙ c.id_size.ensures) c.objects.ensures (c.dump_is_placed.ensures c.args.bytes.now c.args.dump.now c.requires).objects,
-)
+index_of-requires g c =
+    let are : ArePlacesOf c.args.bytes.now c.args.id_size c.deref.result.now c.requires.0 =
+    record { is = c.requires.1.is; size_is = c.requires.1.size_is; places_are = c.deref.ensures.value ∙ c.requires.1.places_are } in (
+      objects (heap_of are.is.records),
+      objects_stand c.args.bytes.now c.args.id_size c.deref.result.now c.requires.0 are (c.dump_is_placed.ensures c.args.bytes.now c.requires.0 are.is)
+          c.new-view.result c.new-view.ensures.bytes c.new-view.ensures.size,
+    )
 
 pub new-requires-clause-low : goal.new-requires-clause-low
-new-requires-clause-low g c = let range = id_size_range c.args.dump.now.id_size c.requires.spells.id_size in omega (arith, range.0, c.id_size-2.ensures)
+new-requires-clause-low g c = (size_in_range c.args.bytes.now c.args.id_size c.args.places.items c.requires.0 c.requires.1).0
 
 pub new-requires-clause-high : goal.new-requires-clause-high
-new-requires-clause-high g c = let range = id_size_range c.args.dump.now.id_size c.requires.spells.id_size in omega (arith, range.1, c.id_size-2.ensures)
+new-requires-clause-high g c = (size_in_range c.args.bytes.now c.args.id_size c.args.places.items c.requires.0 c.requires.1).1
 
 pub class_table-requires-clause-low : goal.class_table-requires-clause-low
-class_table-requires-clause-low g c = let range = id_size_range c.args.dump.now.id_size c.requires.spells.id_size in omega (arith, range.0, c.id_size-2.ensures, c.new.ensures.size)
+class_table-requires-clause-low g c =
+    omega (arith, c.new.ensures.size, (size_in_range c.args.bytes.now c.args.id_size c.args.places.items c.requires.0 c.requires.1).0)
 
 pub class_table-requires-clause-heap : goal.class_table-requires-clause-heap
-class_table-requires-clause-heap g c = (heap_of c.requires.records, record { stand = seen c.new.result c.args.bytes.now c.args.dump.now.id_size c.objects-2.result.now c.args.dump.now.objects (filter is_object (heap_of c.requires.records)) c.new.ensures.bytes (c.new.ensures.size ∙ c.id_size-2.ensures) c.objects-2.ensures (c.dump_is_placed.ensures c.args.bytes.now c.args.dump.now c.requires).objects; ids_are = c.in_ok-index.ensures (filter is_object (heap_of c.requires.records)) (seen c.new-view.result c.args.bytes.now c.args.dump.now.id_size c.objects.result.now c.args.dump.now.objects (filter is_object (heap_of c.requires.records)) c.new-view.ensures.bytes (c.new-view.ensures.size ∙ c.id_size.ensures) c.objects.ensures (c.dump_is_placed.ensures c.args.bytes.now c.args.dump.now c.requires).objects) })
+class_table-requires-clause-heap g c =
+    let are : ArePlacesOf c.args.bytes.now c.args.id_size c.deref-2.result.now c.requires.0 =
+    record { is = c.requires.1.is; size_is = c.requires.1.size_is; places_are = c.deref-2.ensures.value ∙ c.requires.1.places_are } in (
+      heap_of are.is.records,
+      are_objects c.args.bytes.now c.args.id_size c.deref-2.result.now c.requires.0 are (c.dump_is_placed.ensures c.args.bytes.now c.requires.0 are.is)
+          c.new-view.result c.new.result c.in_ok-index.index c.deref.result.now c.new-view.ensures.bytes c.new-view.ensures.size c.new.ensures.bytes c.new.ensures.size (c.deref.ensures.value ∙ sym c.deref-2.ensures.value) c.in_ok-index.ensures,
+    )
 
 pub settle_all-requires : goal.settle_all-requires
-settle_all-requires g c = record {
-  few = omega (arith, c.in_ok-classes.ensures.few, ap length c.objects-2.ensures, (c.dump_is_placed.ensures c.args.bytes.now c.args.dump.now c.requires).objects.count, few_in_dump c.args.bytes.now c.args.dump.now c.requires);
-  heap = (heap_of c.requires.records, c.in_ok-classes.ensures.classes (heap_of c.requires.records) (record { stand = seen c.new.result c.args.bytes.now c.args.dump.now.id_size c.objects-2.result.now c.args.dump.now.objects (filter is_object (heap_of c.requires.records)) c.new.ensures.bytes (c.new.ensures.size ∙ c.id_size-2.ensures) c.objects-2.ensures (c.dump_is_placed.ensures c.args.bytes.now c.args.dump.now c.requires).objects; ids_are = c.in_ok-index.ensures (filter is_object (heap_of c.requires.records)) (seen c.new-view.result c.args.bytes.now c.args.dump.now.id_size c.objects.result.now c.args.dump.now.objects (filter is_object (heap_of c.requires.records)) c.new-view.ensures.bytes (c.new-view.ensures.size ∙ c.id_size.ensures) c.objects.ensures (c.dump_is_placed.ensures c.args.bytes.now c.args.dump.now c.requires).objects) }));
-}
-
-copied : (g : given.Over) (c : goal.In_ok-places g) → c.in_ok-places.places.items ≡ c.args.dump.now.objects
-copied g c = AllZip-map (λ x. x) c.objects-3.result.now c.in_ok-places.places.items c.in_ok-places.ensures.ok ∙ map-id c.objects-3.result.now ∙ c.objects-3.ensures
+settle_all-requires g c =
+    let are : ArePlacesOf c.args.bytes.now c.args.id_size c.deref-2.result.now c.requires.0 =
+    record { is = c.requires.1.is; size_is = c.requires.1.size_is; places_are = c.deref-2.ensures.value ∙ c.requires.1.places_are } in
+    let placed = c.dump_is_placed.ensures c.args.bytes.now c.requires.0 are.is in
+    record {
+      few = omega (arith, c.in_ok-classes.ensures.few, few_objects c.args.bytes.now c.args.id_size c.deref-2.result.now c.requires.0 are placed);
+      heap = (
+        heap_of are.is.records,
+        c.in_ok-classes.ensures.classes (heap_of are.is.records)
+            (are_objects c.args.bytes.now c.args.id_size c.deref-2.result.now c.requires.0 are placed
+            c.new-view.result c.new.result c.in_ok-index.index c.deref.result.now c.new-view.ensures.bytes c.new-view.ensures.size c.new.ensures.bytes c.new.ensures.size (c.deref.ensures.value ∙ sym c.deref-2.ensures.value) c.in_ok-index.ensures),
+      );
+    }
 
 pub returns-clause-objects : goal.returns-clause-objects
-returns-clause-objects g c = record {
+returns-clause-objects g c = λ dump are. record {
   bytes_are = c.new-view.ensures.bytes;
-  size_is = c.new-view.ensures.size ∙ c.id_size.ensures;
-  places_are = copied g c;
-  are = λ is. record { stand = seen c.new-view.result c.args.bytes.now c.args.dump.now.id_size c.in_ok-places.places.items c.args.dump.now.objects (filter is_object (heap_of is.records)) c.new-view.ensures.bytes (c.new-view.ensures.size ∙ c.id_size.ensures) (copied g c) (c.dump_is_placed.ensures c.args.bytes.now c.args.dump.now is).objects; ids_are = c.in_ok-index.ensures (filter is_object (heap_of is.records)) (seen c.new-view.result c.args.bytes.now c.args.dump.now.id_size c.objects.result.now c.args.dump.now.objects (filter is_object (heap_of is.records)) c.new-view.ensures.bytes (c.new-view.ensures.size ∙ c.id_size.ensures) c.objects.ensures (c.dump_is_placed.ensures c.args.bytes.now c.args.dump.now is).objects) };
+  size_is = c.new-view.ensures.size ∙ are.size_is;
+  places_are = are.places_are;
+  are = λ is.
+      let of : ArePlacesOf c.args.bytes.now c.args.id_size c.args.places.items dump = record { is = is; size_is = are.size_is; places_are = are.places_are } in
+      are_objects c.args.bytes.now c.args.id_size c.args.places.items dump of (c.dump_is_placed.ensures c.args.bytes.now dump is)
+      c.new-view.result c.new-view.result c.in_ok-index.index c.deref.result.now c.new-view.ensures.bytes c.new-view.ensures.size c.new-view.ensures.bytes c.new-view.ensures.size c.deref.ensures.value c.in_ok-index.ensures;
 }
 
 pub returns-clause-told : goal.returns-clause-told
-returns-clause-told g c = λ is.
-    let same : c.in_ok-classes.classes.view ≡ c.new-view.result = c.in_ok-classes.ensures.view ∙ same_sight c.new.result c.new-view.result (c.new.ensures.bytes ∙ sym c.new-view.ensures.bytes) (c.new.ensures.size ∙ c.id_size-2.ensures ∙ sym (c.new-view.ensures.size ∙ c.id_size.ensures)) in
-    let classes : AreClasses c.in_ok-classes.classes.view (heap_of is.records) c.in_ok-classes.classes.table.entries c.in_ok-classes.classes.id_places.items = c.in_ok-classes.ensures.classes (heap_of is.records) (record { stand = seen c.new.result c.args.bytes.now c.args.dump.now.id_size c.objects-2.result.now c.args.dump.now.objects (filter is_object (heap_of is.records)) c.new.ensures.bytes (c.new.ensures.size ∙ c.id_size-2.ensures) c.objects-2.ensures (c.dump_is_placed.ensures c.args.bytes.now c.args.dump.now is).objects; ids_are = c.in_ok-index.ensures (filter is_object (heap_of is.records)) (seen c.new-view.result c.args.bytes.now c.args.dump.now.id_size c.objects.result.now c.args.dump.now.objects (filter is_object (heap_of is.records)) c.new-view.ensures.bytes (c.new-view.ensures.size ∙ c.id_size.ensures) c.objects.ensures (c.dump_is_placed.ensures c.args.bytes.now c.args.dump.now is).objects) }) in
-    subst (λ (v : Sight). AreTold v (heap_of is.records) c.in_ok-classes.classes.table.entries c.in_ok-classes.classes.id_places.items c.in_ok-fates.fates.items) same
+returns-clause-told g c = λ dump from.
+    let are : ArePlacesOf c.args.bytes.now c.args.id_size c.deref-2.result.now dump =
+    record { is = from.is; size_is = from.size_is; places_are = c.deref-2.ensures.value ∙ from.places_are } in
+    let placed = c.dump_is_placed.ensures c.args.bytes.now dump are.is in
+    let same : c.in_ok-classes.classes.view ≡ c.new-view.result = c.in_ok-classes.ensures.view
+    ∙ same_sight c.new.result c.new-view.result (c.new.ensures.bytes ∙ sym c.new-view.ensures.bytes) (c.new.ensures.size ∙ sym c.new-view.ensures.size) in
+    let classes : AreClasses c.in_ok-classes.classes.view (heap_of are.is.records) c.in_ok-classes.classes.table.entries c.in_ok-classes.classes.id_places.items =
+    c.in_ok-classes.ensures.classes (heap_of are.is.records)
+    (are_objects c.args.bytes.now c.args.id_size c.deref-2.result.now dump are placed
+    c.new-view.result c.new.result c.in_ok-index.index c.deref.result.now c.new-view.ensures.bytes c.new-view.ensures.size c.new.ensures.bytes c.new.ensures.size (c.deref.ensures.value ∙ sym c.deref-2.ensures.value) c.in_ok-index.ensures) in
+    subst (λ (v : Sight). AreTold v (heap_of are.is.records) c.in_ok-classes.classes.table.entries c.in_ok-classes.classes.id_places.items c.in_ok-fates.fates.items) same
     (record {
       classes = classes;
-      settled = c.in_ok-fates.ensures (heap_of is.records) classes;
-      few = omega (arith, c.in_ok-classes.ensures.few, ap length c.objects-2.ensures, (c.dump_is_placed.ensures c.args.bytes.now c.args.dump.now is).objects.count, few_in_dump c.args.bytes.now c.args.dump.now is);
+      settled = c.in_ok-fates.ensures (heap_of are.is.records) classes;
+      few = omega (arith, c.in_ok-classes.ensures.few, few_objects c.args.bytes.now c.args.id_size c.deref-2.result.now dump are placed);
     })
