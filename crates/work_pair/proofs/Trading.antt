@@ -192,7 +192,7 @@ dealt old b put got new c was now backed t ends =
     record {
       moves = t.moves;
       books = t.books;
-      items = t.items;
+      items = λ o. omega (arith, t.items o);
       buffers = t.buffers;
       filled = t.filled;
       charge = e.charge;

@@ -2,13 +2,12 @@
 use Rattle.std.specs.Prelude.{◌≡◌, ◌≢◌, ◌⊎◌, ℕ, ◌+◌, ◌-◌, ◌/◌, ◌<◌, true, false, List, [], ◌∷◌, ◌++◌, length}
 use Rattle.std.specs.Prelude.{take, drop, Option, Some, None}
 use Rattle.mark_core.specs.declared.which.Which.TheVariants.{Full, Empty}
-use Rattle.mark_core.specs.Lists.{times}
 use Rattle.buffer_pool.specs.Book.{Book}
 use Rattle.buffer_pool.specs.Calls.{HeldBuffer}
 use Rattle.work_pair.specs.Moves.{Move, Took, Gave, FoundNone, Moves, popped_items, popped_numbers, pushed_items}
 use Rattle.work_pair.specs.Moves.{pushed_numbers, AreFilled, HasPushOnFull, HasPopFromFull, EndAtLastTag}
 use Rattle.work_pair.specs.Places.{Places, buffered_items, items_of, items_at, numbers_of, no_places, without_spill}
-use Rattle.work_pair.specs.Places.{HasRoom, IsBacked}
+use Rattle.work_pair.specs.Places.{HasRoom, IsBacked, SameNumbers}
 
 -- the worker has the same share and the same idle number, saw the same objects and finished the same, and its pool was
 -- made for the same
@@ -19,24 +18,22 @@ pub record Keeps (old new : Book) : Type 0 where
   pub seen : new.account.seen ≡ old.account.seen
   pub finished : new.account.finished ≡ old.account.finished
 
--- a call with a pair, in which objects were put and got: lists are compared by how often each number stands in them
+-- a call with a pair, in which objects were put and got
 pub record Deals (old : Places) (before : Book) (put got : List ℕ) (new : Places) (after : Book) : Type 0 where
   -- what was popped and pushed, in order
   pub moves : List Move
   pub books : Moves before moves after
   -- the items after: those before, those of buffers popped and those put, without those of buffers pushed and those got
-  pub items : (o : ℕ) → times o (items_of new) + times o got + times o (pushed_items moves)
-      ≡ times o (items_of old) + times o put + times o (popped_items moves)
+  pub items : SameNumbers (items_of new ∷ got ∷ pushed_items moves ∷ []) (items_of old ∷ put ∷ popped_items moves ∷ [])
   -- the buffers after: those before and those popped, without those pushed
-  pub buffers : (i : ℕ) → times i (numbers_of new) + times i (pushed_numbers moves)
-      ≡ times i (numbers_of old) + times i (popped_numbers moves)
+  pub buffers : SameNumbers (numbers_of new ∷ pushed_numbers moves ∷ []) (numbers_of old ∷ popped_numbers moves ∷ [])
   -- only a buffer with items is pushed on full
   pub filled : AreFilled moves
   -- the charge and the held buffers change by the buffers popped and pushed, and all else stays
-  pub charge : (o : ℕ) → times o after.account.charge + times o (pushed_items moves)
-      ≡ times o before.account.charge + times o (popped_items moves)
-  pub held : (i : ℕ) → times i after.account.held + times i (pushed_numbers moves)
-      ≡ times i before.account.held + times i (popped_numbers moves)
+  pub charge : SameNumbers (after.account.charge ∷ pushed_items moves ∷ [])
+      (before.account.charge ∷ popped_items moves ∷ [])
+  pub held : SameNumbers (after.account.held ∷ pushed_numbers moves ∷ [])
+      (before.account.held ∷ popped_numbers moves ∷ [])
   pub kept : Keeps before after
   -- the worker still holds the pair's buffers and answers for its items, and for those got
   pub backed : IsBacked new got after

@@ -1,5 +1,5 @@
 -- A pair of buffers as a contract sees it.
-use Rattle.std.specs.Prelude.{◌≡◌, ◌⊎◌, ℕ, ◌<◌, Bool, true, false, List, [], ◌∷◌, ◌++◌, length, Option, Some, None}
+use Rattle.std.specs.Prelude.{◌≡◌, ◌⊎◌, ℕ, ◌+◌, ◌<◌, Bool, true, false, List, [], ◌∷◌, ◌++◌, length, Option, Some, None}
 use Rattle.mark_core.specs.Lists.{times, IsPart}
 use Rattle.buffer_pool.specs.Book.{Book}
 use Rattle.buffer_pool.specs.Calls.{HeldBuffer}
@@ -60,10 +60,20 @@ HasRoomAt (Some h) = length h.items < h.size
 abbrev pub HasRoom : Places → Type 0
 HasRoom p = HasRoomAt p.first ⊎ HasRoomAt p.second
 
+-- how often a number stands in these lists together
+abbrev pub times_in_all : ℕ → List (List ℕ) → ℕ
+times_in_all x [] = 0
+times_in_all x (xs ∷ []) = times x xs
+times_in_all x (xs ∷ rest) = times x xs + times_in_all x rest
+
+-- the same numbers stand in both, each as often, in whatever order
+abbrev pub SameNumbers : List (List ℕ) → List (List ℕ) → Type 0
+SameNumbers new old = (x : ℕ) → times_in_all x new ≡ times_in_all x old
+
 -- two pairs with the same items and the same buffers
 pub record AreAlike (one other : Places) : Type 0 where
-  pub items : (o : ℕ) → times o (items_of other) ≡ times o (items_of one)
-  pub buffers : (i : ℕ) → times i (numbers_of other) ≡ times i (numbers_of one)
+  pub items : SameNumbers (items_of other ∷ []) (items_of one ∷ [])
+  pub buffers : SameNumbers (numbers_of other ∷ []) (numbers_of one ∷ [])
 
 -- a new pair: two buffers without items, and nothing spilled
 pub record IsNew (p : Places) : Type 0 where
