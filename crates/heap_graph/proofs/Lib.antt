@@ -36,5 +36,7 @@ pub mod MissingLaws
 pub mod Walking
 pub mod Visiting
 pub mod Answering
+pub mod Superclasses
+pub mod AllTold
 pub mod Wholeness
 pub mod Building

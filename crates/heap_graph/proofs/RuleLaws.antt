@@ -13,6 +13,7 @@ use Rattle.heap_graph.specs.declared.rule.LinkRule.TheVariants.{DuplicateObject,
 use Rattle.heap_graph.specs.Heap.{class_named}
 use Rattle.heap_graph.specs.Layout.{IsChain, NeverEnds, layout_size}
 use Rattle.heap_graph.specs.LinkFault.{code_of}
+use Rattle.heap_graph.specs.Linked.{HasBadChain, HasWrongSize, LacksClass}
 use Rattle.heap_graph.specs.SuperRule.{IsBadSuper}
 use Rattle.heap_graph.specs.working.Chains.{IsFate, IsKnown, IsSettled}
 use Rattle.heap_graph.specs.working.ClassTable.{Entry, ids_of}
@@ -62,6 +63,15 @@ fate_found v heap entries types fates id k told e =
       below = omega (arith, it.below, told.settled.fates_are.one_each);
     }
 
+-- an object breaks none of the rules on classes, superclasses and sizes
+pub none_late : (s : ℕ) (heap : List SubRecord) (o : SubRecord) → (LacksClass heap o → ⊥) → (HasBadChain heap o → ⊥) → (HasWrongSize s heap o → ⊥) → IsLateRule s heap o None
+none_late s heap o class chain size ZeroObject h = h
+none_late s heap o class chain size DuplicateObject h = h
+none_late s heap o class chain size UnknownClass h = class h
+none_late s heap o class chain size SuperChain h = chain h
+none_late s heap o class chain size InstanceSize h = size h
+none_late s heap o class chain size TooLarge h = h
+
 -- ---- superclasses
 
 class_least : (s : ℕ) (heap : List SubRecord) (c : Class) (rule : LinkRule) → BreaksLate s heap (class_dump c) rule → code_of SuperChain ≤ code_of rule
@@ -76,12 +86,7 @@ pub class_bad : (s : ℕ) (heap : List SubRecord) (c : Class) → IsBadSuper hea
 class_bad s heap c bad = (bad, class_least s heap c)
 
 pub class_fine : (s : ℕ) (heap : List SubRecord) (c : Class) → (IsBadSuper heap c.super → ⊥) → IsLateRule s heap (class_dump c) None
-class_fine s heap c fine ZeroObject h = h
-class_fine s heap c fine DuplicateObject h = h
-class_fine s heap c fine UnknownClass h = h
-class_fine s heap c fine SuperChain h = fine h
-class_fine s heap c fine InstanceSize h = h
-class_fine s heap c fine TooLarge h = h
+class_fine s heap c fine = none_late s heap (class_dump c) (λ h. h) fine (λ h. h)
 
 pub no_super : (heap : List SubRecord) (super : ℕ) → super ≡ 0 → IsBadSuper heap super → ⊥
 no_super heap super e bad = ⊎_elim (λ h. h.0 e) (λ never. chain_ends heap super [] e never) bad
@@ -114,23 +119,13 @@ pub instance_wrong : (s : ℕ) (heap : List SubRecord) (i : Instance) (c : Class
 instance_wrong s heap i c chain named is wrong = ((chain, is, wrong), sized_least s heap i c named)
 
 pub instance_fine : (s : ℕ) (heap : List SubRecord) (i : Instance) (c : Class) → class_named heap i.class ≡ Some c → ((chain : List Class) → IsChain heap i.class chain → length i.values ≡ layout_size s chain) → IsLateRule s heap (instance_dump i) None
-instance_fine s heap i c named right ZeroObject h = h
-instance_fine s heap i c named right DuplicateObject h = h
-instance_fine s heap i c named right UnknownClass h = some_none (sym named ∙ h)
-instance_fine s heap i c named right SuperChain h = h
-instance_fine s heap i c named right InstanceSize h = h.2 (right h.0 h.1)
-instance_fine s heap i c named right TooLarge h = h
+instance_fine s heap i c named right = none_late s heap (instance_dump i) (λ h. some_none (sym named ∙ h)) (λ h. h) (λ h. h.2 (right h.0 h.1))
 
 pub array_unknown : (s : ℕ) (heap : List SubRecord) (a : ObjectArray) → class_named heap a.class ≡ None → IsLateRule s heap (object_array_dump a) (Some UnknownClass)
 array_unknown s heap a e = (e, eleven_least s heap (object_array_dump a))
 
 pub array_fine : (s : ℕ) (heap : List SubRecord) (a : ObjectArray) (c : Class) → class_named heap a.class ≡ Some c → IsLateRule s heap (object_array_dump a) None
-array_fine s heap a c named ZeroObject h = h
-array_fine s heap a c named DuplicateObject h = h
-array_fine s heap a c named UnknownClass h = some_none (sym named ∙ h)
-array_fine s heap a c named SuperChain h = h
-array_fine s heap a c named InstanceSize h = h
-array_fine s heap a c named TooLarge h = h
+array_fine s heap a c named = none_late s heap (object_array_dump a) (λ h. some_none (sym named ∙ h)) (λ h. h) (λ h. h)
 
 -- a size that is told is the size, where it is one that an instance can have
 pub size_right : (s : ℕ) (heap : List SubRecord) (ids : List ℕ) (id n : ℕ) (l : Layout) → IsFate s heap ids id (fates.Whole l) → n < 2 ^ 32 → l.size ≡ n → (chain : List Class) → IsChain heap id chain → n ≡ layout_size s chain

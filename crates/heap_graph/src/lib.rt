@@ -16,7 +16,7 @@ mod types;
 mod visit;
 
 pub use graph::Graph;
-pub use laws::one_graph;
+pub use laws::{always_linked_or_fault, one_graph};
 pub use row::RowKey;
 pub use rule::{LinkFault, LinkRefusal, LinkRule};
 pub use successors::Successors;
