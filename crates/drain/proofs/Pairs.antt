@@ -2,7 +2,8 @@
 use Rattle.std.proofs.Common.{◌≡◌, ◌↔◌, ◌⊎◌, ℕ, zero, suc, ◌+◌, ◌<◌, List, [], ◌∷◌, map, length, All, Contains, get_or, slice_index_or, ap, sym, subst, ◌∙◌, ⊎_elim, arith}
 use Rattle.std.proofs.lemmas.List.{get_or-map, length-map}
 use Rattle.std.proofs.lemmas.List.Elements.{All-contains, All-from_get_or, Contains-append_cases, Contains-append_left, Contains-append_right, Contains-get_or}
-use Rattle.heap_graph.specs.ObjectGraph.{IsWhole, ObjectGraph, object_count, references_of}
+use Rattle.heap_graph.specs.ObjectGraph.{ObjectGraph, object_count, references_of}
+use Rattle.heap_graph.specs.Whole.{IsWhole}
 use Rattle.drain.specs.working.Pairs.{pairs_from, pairs_of}
 
 -- the pairs of one object

@@ -8,7 +8,8 @@ use Rattle.hprof_grammar.specs.SubRecord.{SubRecord}
 use Rattle.heap_graph.specs.declared.row.RowKey.{RowKey}
 use Rattle.heap_graph.specs.declared.row.RowKey.TheVariants as keys
 use Rattle.heap_graph.specs.Heap.{heap_of, objects}
-use Rattle.heap_graph.specs.ObjectGraph.{IsGraphOf, ObjectGraph, bytes_at, held_by, object_count, references_of, row_at}
+use Rattle.heap_graph.specs.ObjectGraph.{IsGraphOf, ObjectGraph, bytes_at, object_count, references_of, row_at}
+use Rattle.heap_graph.specs.Whole.{held_by}
 use Rattle.heap_graph.specs.References.{AreIdsIn, targets}
 use Rattle.heap_graph.specs.Rows.{bytes_of, row_of}
 use Rattle.heap_graph.specs.working.OneGraph.{one_ids}

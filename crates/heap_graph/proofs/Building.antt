@@ -9,7 +9,7 @@ use Rattle.hprof_grammar.specs.Standing.{IsPlaced, RecordStands, RecordStandsAt,
 use Rattle.hprof_grammar.specs.SubRecord.{SubRecord, spelling_of}
 use Rattle.heap_graph.specs.declared.entry.ClassEntry.{ClassEntry}
 use Rattle.heap_graph.specs.declared.objects.Objects.{Objects}
-use Rattle.heap_graph.specs.declared.rule.LinkFault.{LinkFault}
+use Rattle.heap_graph.specs.declared.refusal.LinkFault.{LinkFault}
 use Rattle.heap_graph.specs.Heap.{heap_of, objects}
 use Rattle.heap_graph.specs.working.HeldIds.{AreLinked, AreLinkedOf}
 use Rattle.heap_graph.specs.LinkFault.{HasLinkFault, IsFirstFault}

@@ -8,7 +8,8 @@ use Rattle.std.proofs.lemmas.Option.{slice_get-get_or}
 use Rattle.hprof_grammar.specs.Record.{Record}
 use Rattle.hprof_grammar.specs.SubRecord.{SubRecord}
 use Rattle.heap_graph.specs.Heap.{heap_of, objects}
-use Rattle.heap_graph.specs.ObjectGraph.{IsGraphOf, ObjectGraph, missing_of, missing_roots, object_count}
+use Rattle.heap_graph.specs.ObjectGraph.{IsGraphOf, ObjectGraph, object_count}
+use Rattle.heap_graph.specs.Whole.{missing_of, missing_roots}
 use Rattle.heap_graph.specs.References.{is_unresolved}
 use Rattle.heap_graph.specs.Roots.{root_ids}
 use Rattle.heap_graph.specs.Walks.{is_missing}

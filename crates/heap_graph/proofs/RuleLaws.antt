@@ -64,7 +64,8 @@ fate_found v heap entries types fates id k told e =
     }
 
 -- an object breaks none of the rules on classes, superclasses and sizes
-pub none_late : (s : ℕ) (heap : List SubRecord) (o : SubRecord) → (LacksClass heap o → ⊥) → (HasBadChain heap o → ⊥) → (HasWrongSize s heap o → ⊥) → IsLateRule s heap o None
+pub none_late : (s : ℕ) (heap : List SubRecord) (o : SubRecord) → (LacksClass heap o → ⊥) → (HasBadChain heap o → ⊥)
+    → (HasWrongSize s heap o → ⊥) → IsLateRule s heap o None
 none_late s heap o class chain size ZeroObject h = h
 none_late s heap o class chain size DuplicateObject h = h
 none_late s heap o class chain size UnknownClass h = class h
@@ -119,7 +120,8 @@ pub instance_wrong : (s : ℕ) (heap : List SubRecord) (i : Instance) (c : Class
 instance_wrong s heap i c chain named is wrong = ((chain, is, wrong), sized_least s heap i c named)
 
 pub instance_fine : (s : ℕ) (heap : List SubRecord) (i : Instance) (c : Class) → class_named heap i.class ≡ Some c → ((chain : List Class) → IsChain heap i.class chain → length i.values ≡ layout_size s chain) → IsLateRule s heap (instance_dump i) None
-instance_fine s heap i c named right = none_late s heap (instance_dump i) (λ h. some_none (sym named ∙ h)) (λ h. h) (λ h. h.2 (right h.0 h.1))
+instance_fine s heap i c named right =
+    none_late s heap (instance_dump i) (λ h. some_none (sym named ∙ h)) (λ h. h) (λ h. h.2 (right h.0 h.1))
 
 pub array_unknown : (s : ℕ) (heap : List SubRecord) (a : ObjectArray) → class_named heap a.class ≡ None → IsLateRule s heap (object_array_dump a) (Some UnknownClass)
 array_unknown s heap a e = (e, eleven_least s heap (object_array_dump a))

@@ -57,7 +57,9 @@ ten_least s heap n o own SuperChain b = omega arith
 ten_least s heap n o own InstanceSize b = omega arith
 ten_least s heap n o own TooLarge b = omega arith
 
-pub duplicate_fails : (s : ℕ) (heap : List SubRecord) (n : ℕ) (o : SubRecord) → slice_get (objects heap) n ≡ Some o → (id_of o ≡ 0 → ⊥) → Contains (take n (map id_of (objects heap))) (id_of o) → IsLeastFault s heap n DuplicateObject
+pub duplicate_fails : (s : ℕ) (heap : List SubRecord) (n : ℕ) (o : SubRecord) → slice_get (objects heap) n ≡ Some o
+    → (id_of o ≡ 0 → ⊥) → Contains (take n (map id_of (objects heap))) (id_of o)
+    → IsLeastFault s heap n DuplicateObject
 duplicate_fails s heap n o e own again = least_fails s heap n o DuplicateObject e again (ten_least s heap n o own)
 
 -- a rule that is broken is 9, 10, 14 or one of the others

@@ -17,7 +17,8 @@ use Rattle.heap_graph.specs.declared.rule.LinkRule.TheVariants.{TooLarge, Unknow
 use Rattle.heap_graph.specs.Heap.{as_class, class_dumps, class_named, class_number, heap_of, number_named, objects}
 use Rattle.heap_graph.specs.working.HeldIds.{AreLinked}
 use Rattle.heap_graph.specs.Linked.{IsLinked, most_objects}
-use Rattle.heap_graph.specs.ObjectGraph.{IsGraphOf, IsRowIn, IsWhole, ObjectGraph, bytes_at, class_count, held_by, named_in, object_count, references_of}
+use Rattle.heap_graph.specs.ObjectGraph.{IsGraphOf, ObjectGraph, bytes_at, class_count, named_in, object_count, references_of}
+use Rattle.heap_graph.specs.Whole.{IsRowIn, IsWhole, held_by}
 use Rattle.heap_graph.specs.References.{target_of, targets}
 use Rattle.heap_graph.specs.Roots.{root_ids}
 use Rattle.heap_graph.specs.Rows.{bytes_of, row_of}

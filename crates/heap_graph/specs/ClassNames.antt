@@ -1,23 +1,19 @@
 -- The names of classes. Where an identifier comes again among the strings or the loaded classes, the first one counts.
 use Rattle.std.specs.Prelude.{List, None, Option, Some, [], if◌then◌else◌, option_and_then, ℕ, ◌==◌, ◌∷◌}
 use Rattle.hprof_grammar.specs.Record.{Record}
-use Rattle.hprof_grammar.specs.Record.Record.{heap, load_class, other, string}
+use Rattle.hprof_grammar.specs.Record.Record.{load_class, string}
 
 -- the text of the string
 abbrev pub string_named : List Record → ℕ → Option (List ℕ)
 string_named [] id = None
 string_named (string time i text ∷ rest) id = if i == id then Some text else string_named rest id
-string_named (load_class time serial class stack name ∷ rest) id = string_named rest id
-string_named (heap tag time subs ∷ rest) id = string_named rest id
-string_named (other tag time body ∷ rest) id = string_named rest id
+string_named (r ∷ rest) id = string_named rest id
 
 -- the identifier of the string that names the loaded class
 abbrev pub name_of : List Record → ℕ → Option ℕ
 name_of [] id = None
-name_of (string time i text ∷ rest) id = name_of rest id
 name_of (load_class time serial class stack name ∷ rest) id = if class == id then Some name else name_of rest id
-name_of (heap tag time subs ∷ rest) id = name_of rest id
-name_of (other tag time body ∷ rest) id = name_of rest id
+name_of (r ∷ rest) id = name_of rest id
 
 -- The text that names a class. There is none where no class of that identifier is loaded, or no such string is there.
 abbrev pub class_text : List Record → ℕ → Option (List ℕ)

@@ -3,7 +3,7 @@ use Rattle.std.specs.Prelude.{List, None, Option, Some, filter, filter_map, if�
 use Rattle.std.specs.List.{position_or_len}
 use Rattle.hprof_grammar.specs.Dump.{is_object}
 use Rattle.hprof_grammar.specs.SubRecord.{Class, SubRecord}
-use Rattle.hprof_grammar.specs.SubRecord.SubRecord.{class_dump, instance_dump, object_array_dump, primitive_array_dump, root}
+use Rattle.hprof_grammar.specs.SubRecord.SubRecord.{class_dump}
 pub use Rattle.hprof_grammar.specs.Standing.{heap_of, id_of}
 
 -- The sub-records that describe objects, in order. An object's number is its place here.
@@ -18,11 +18,8 @@ abbrev pub object_named : List SubRecord → ℕ → Option SubRecord
 object_named heap id = option_and_then (λ n. slice_get (objects heap) n) (number_named heap id)
 
 abbrev pub as_class : SubRecord → Option Class
-as_class (root r) = None
 as_class (class_dump c) = Some c
-as_class (instance_dump i) = None
-as_class (object_array_dump a) = None
-as_class (primitive_array_dump a) = None
+as_class o = None
 
 -- The class that an identifier names: it names an object, and that is a class dump. Identifier 0 names none.
 abbrev pub class_named : List SubRecord → ℕ → Option Class

@@ -9,6 +9,7 @@ pub mod ClassNames
 pub mod Linked
 pub mod LinkFault
 pub mod ObjectGraph
+pub mod Whole
 pub mod Reachable
 pub mod Refusal
 pub mod working

@@ -6,7 +6,7 @@ use Rattle.heap_graph.specs.Heap.{class_named, heap_of, id_of, objects}
 use Rattle.hprof_grammar.specs.Record.{IsOrderly, Record, tag_of}
 use Rattle.hprof_grammar.specs.Dump.{Spells}
 use Rattle.hprof_grammar.specs.SubRecord.{Class, SubRecord}
-use Rattle.hprof_grammar.specs.SubRecord.SubRecord.{class_dump, instance_dump, object_array_dump, primitive_array_dump, root}
+use Rattle.hprof_grammar.specs.SubRecord.SubRecord.{class_dump, instance_dump, object_array_dump}
 use Rattle.heap_graph.specs.declared.rule.LinkRule.{LinkRule}
 use Rattle.heap_graph.specs.declared.rule.LinkRule.TheVariants.{DuplicateObject, InstanceSize, SuperChain, TooLarge, UnknownClass, ZeroObject}
 
@@ -15,28 +15,20 @@ most_objects = 16777216
 
 -- an instance or object array whose class is not there
 abbrev pub LacksClass : List SubRecord → SubRecord → Type 0
-LacksClass heap (root r) = ⊥
-LacksClass heap (class_dump c) = ⊥
 LacksClass heap (instance_dump i) = class_named heap i.class ≡ None
 LacksClass heap (object_array_dump a) = class_named heap a.class ≡ None
-LacksClass heap (primitive_array_dump a) = ⊥
+LacksClass heap o = ⊥
 
 -- a class whose superclass is not there, or whose superclasses never end
 abbrev pub HasBadChain : List SubRecord → SubRecord → Type 0
-HasBadChain heap (root r) = ⊥
 HasBadChain heap (class_dump c) = IsBadSuper heap c.super
-HasBadChain heap (instance_dump i) = ⊥
-HasBadChain heap (object_array_dump a) = ⊥
-HasBadChain heap (primitive_array_dump a) = ⊥
+HasBadChain heap o = ⊥
 
 -- an instance with more or fewer value bytes than its layout
 abbrev pub HasWrongSize : ℕ → List SubRecord → SubRecord → Type 0
-HasWrongSize s heap (root r) = ⊥
-HasWrongSize s heap (class_dump c) = ⊥
 HasWrongSize s heap (instance_dump i) = (chain : List Class) × IsChain heap i.class chain
     × (length i.values ≢ layout_size s chain)
-HasWrongSize s heap (object_array_dump a) = ⊥
-HasWrongSize s heap (primitive_array_dump a) = ⊥
+HasWrongSize s heap o = ⊥
 
 -- Object number n of the heap list breaks a rule.
 abbrev pub Breaks : ℕ → List SubRecord → ℕ → SubRecord → LinkRule → Type 0

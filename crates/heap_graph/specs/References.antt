@@ -4,7 +4,7 @@ use Rattle.byteorder.specs.Endian.{big_number}
 use Rattle.heap_graph.specs.Layout.{IsChain, field_ids, layout}
 use Rattle.heap_graph.specs.Heap.{number_named, objects}
 use Rattle.hprof_grammar.specs.SubRecord.{Class, Constant, Instance, Static, SubRecord}
-use Rattle.hprof_grammar.specs.SubRecord.SubRecord.{class_dump, instance_dump, object_array_dump, primitive_array_dump, root}
+use Rattle.hprof_grammar.specs.SubRecord.SubRecord.{class_dump, instance_dump, object_array_dump}
 
 -- the values of type 2 among the constant pool entries, and among the static fields
 abbrev pub constant_ids : ℕ → List Constant → List ℕ
@@ -25,12 +25,11 @@ instance_ids s i chain = i.class ∷ field_ids s (layout chain) i.values
 -- The identifiers that an object holds, in order: an object array refers to its array class and then to its elements, a
 -- primitive array to nothing.
 abbrev pub AreIdsIn : ℕ → List SubRecord → SubRecord → List ℕ → Type 0
-AreIdsIn s heap (root r) ids = ids ≡ []
 AreIdsIn s heap (class_dump c) ids = ids ≡ class_ids s c
 AreIdsIn s heap (instance_dump i) ids = (chain : List Class) × IsChain heap i.class chain
     × (ids ≡ instance_ids s i chain)
 AreIdsIn s heap (object_array_dump a) ids = ids ≡ a.class ∷ a.elements
-AreIdsIn s heap (primitive_array_dump a) ids = ids ≡ []
+AreIdsIn s heap o ids = ids ≡ []
 
 -- a list of identifiers for each object
 pub record AreIdLists (s : ℕ) (heap : List SubRecord) (lists : List (List ℕ)) : Type 0 where

@@ -1,8 +1,8 @@
 -- What a refusal says of the links, and how it is shown.
 use Rattle.std.specs.Prelude.{Err, List, Ok, Result, codes, decimal, ℕ, ◌++◌}
-use Rattle.heap_graph.specs.declared.rule.LinkFault.{LinkFault}
-use Rattle.heap_graph.specs.declared.rule.LinkRefusal.{LinkRefusal}
-use Rattle.heap_graph.specs.declared.rule.LinkRefusal.TheVariants as refusals
+use Rattle.heap_graph.specs.declared.refusal.LinkFault.{LinkFault}
+use Rattle.heap_graph.specs.declared.refusal.LinkRefusal.{LinkRefusal}
+use Rattle.heap_graph.specs.declared.refusal.LinkRefusal.TheVariants as refusals
 
 -- nothing is said of a graph, nor of want of memory
 abbrev pub IfLinkFault : {X : Type 0} → Result X LinkRefusal → (LinkFault → Type 0) → Type 0

@@ -10,11 +10,10 @@ use Rattle.heap_graph.specs.declared.row.RowKey.TheVariants as keys
 -- An instance or object array belongs to the row of its class, a primitive array to that of its type, a class to that
 -- of the class objects.
 abbrev pub row_of : List SubRecord → SubRecord → RowKey
-row_of heap (root r) = keys.ClassObject
-row_of heap (class_dump c) = keys.ClassObject
 row_of heap (instance_dump i) = keys.Class (class_number heap i.class)
 row_of heap (object_array_dump a) = keys.Class (class_number heap a.class)
 row_of heap (primitive_array_dump a) = keys.Primitive a.type
+row_of heap o = keys.ClassObject
 
 -- An instance has its value bytes, an object array its identifiers, a primitive array its elements, a class its static
 -- values.

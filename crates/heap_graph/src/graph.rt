@@ -4,7 +4,8 @@ mod build;
 
 ghost use Rattle.std.specs.Prelude.{All, ◌+◌, ◌<◌, ◌^◌, ◌≡◌, ◌≤◌, map, option_copied};
 ghost use Rattle.hprof_grammar.specs.Dump.{limit};
-ghost use Rattle.heap_graph.specs.ObjectGraph.{IsRowIn, IsWhole, bytes_at, class_at, class_count, held_by, missing_at, missing_roots, object_count, references_of, row_at};
+ghost use Rattle.heap_graph.specs.ObjectGraph.{bytes_at, class_at, class_count, object_count, references_of, row_at};
+ghost use Rattle.heap_graph.specs.Whole.{IsRowIn, IsWhole, held_by, missing_at, missing_roots};
 ghost use Rattle.heap_graph.specs.Walks.{ids_in, missing_in, references_in, step_in};
 ghost use Rattle.heap_graph.specs.working.OnlyGraph.{GraphOf, GraphOf-prop};
 

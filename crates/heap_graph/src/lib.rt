@@ -9,6 +9,7 @@ mod index;
 mod laws;
 mod names;
 mod objects;
+mod refusal;
 mod row;
 mod rule;
 mod successors;
@@ -17,8 +18,9 @@ mod visit;
 
 pub use graph::Graph;
 pub use laws::{always_linked_or_fault, one_graph};
+pub use refusal::{LinkFault, LinkRefusal};
 pub use row::RowKey;
-pub use rule::{LinkFault, LinkRefusal, LinkRule};
+pub use rule::LinkRule;
 pub use successors::Successors;
 pub use visit::Visit;
 

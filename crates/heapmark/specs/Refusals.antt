@@ -3,8 +3,8 @@ use Rattle.std.specs.Prelude.{IsErrAnd, List, None, Option, Result, Some, codes,
 use Rattle.std.specs.Prelude.{◌++◌, ◌==◌, ◌≡◌, ◌⊎◌}
 use Rattle.drain.specs.declared.marked.RunFault.{RunFault}
 use Rattle.drain.specs.declared.marked.RunFault.TheVariants as marking
-use Rattle.heap_graph.specs.declared.rule.LinkRefusal.{LinkRefusal}
-use Rattle.heap_graph.specs.declared.rule.LinkRefusal.TheVariants as link
+use Rattle.heap_graph.specs.declared.refusal.LinkRefusal.{LinkRefusal}
+use Rattle.heap_graph.specs.declared.refusal.LinkRefusal.TheVariants as link
 use Rattle.histogram.specs.declared.counted.reads.ReaderRefusal.{ReaderRefusal}
 use Rattle.histogram.specs.declared.counted.reads.ReaderRefusal.TheVariants as reading
 use Rattle.histogram.specs.declared.writing.WriteRefusal.{WriteRefusal}

@@ -5,7 +5,8 @@ use Rattle.std.proofs.lemmas.List.{get_or_default, get_or-set_other, get_or-set_
 use Rattle.std.proofs.lemmas.List.Elements.{filter-append}
 use Rattle.std.proofs.Math.ListN.{length-set}
 use Rattle.histogram.specs.Histogram.{of_row, same_row}
-use Rattle.heap_graph.specs.ObjectGraph.{IsRowIn, IsWhole, object_count, ObjectGraph, bytes_at, class_count, row_at}
+use Rattle.heap_graph.specs.ObjectGraph.{object_count, ObjectGraph, bytes_at, class_count, row_at}
+use Rattle.heap_graph.specs.Whole.{IsRowIn, IsWhole}
 use Rattle.heap_graph.specs.declared.row.RowKey.{RowKey}
 use Rattle.heap_graph.specs.declared.row.RowKey.TheVariants as keys
 use Rattle.histogram.specs.declared.tally.Tally.{Tally}

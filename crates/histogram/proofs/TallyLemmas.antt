@@ -4,7 +4,8 @@ use Rattle.std.specs.List.{filter, range_with_len}
 use Rattle.std.proofs.lemmas.List.Elements.{filter-append}
 use Rattle.std.proofs.lemmas.List.FromFn.{length-range_with_len}
 use Rattle.std.proofs.lemmas.List.Sums.{count_by-le-length, length-filter, sum_by-le, sum_by_push}
-use Rattle.heap_graph.specs.ObjectGraph.{IsWhole, ObjectGraph, bytes_at, object_count}
+use Rattle.heap_graph.specs.ObjectGraph.{ObjectGraph, bytes_at, object_count}
+use Rattle.heap_graph.specs.Whole.{IsWhole}
 use Rattle.hprof_grammar.specs.Dump.{limit}
 use Rattle.histogram.specs.declared.tally.Tally.{Tally}
 use Rattle.histogram.specs.working.Tallies.{chosen_below, one_more, tally_of}

@@ -1,7 +1,7 @@
 //! The rows of a histogram in order, and its totals.
 ghost use Rattle.std.specs.Prelude.{◌≡◌, IfOk, IsPermutation, IsSorted, map};
 ghost use Rattle.histogram.specs.Histogram.{IsHistogram, compare, entries, marked_objects};
-ghost use Rattle.heap_graph.specs.ObjectGraph.{IsRowIn};
+ghost use Rattle.heap_graph.specs.Whole.{IsRowIn};
 ghost use Rattle.histogram.specs.Lines.{entry_of, histogram_of};
 ghost use Rattle.histogram.specs.working.Tallies.{row_entry};
 

@@ -1,6 +1,7 @@
 //! The names that a report shows.
 ghost use Rattle.std.specs.Prelude.{◌≡◌, ◌<◌, ◌++◌, IfOk, OnOk};
-ghost use Rattle.heap_graph.specs.ObjectGraph.{IsRowIn, class_at, class_count};
+ghost use Rattle.heap_graph.specs.ObjectGraph.{class_at, class_count};
+ghost use Rattle.heap_graph.specs.Whole.{IsRowIn};
 ghost use Rattle.histogram.specs.ShownRows.{is_plain, row_id, shown_byte, shown_class};
 ghost use Rattle.histogram.specs.ShownRows.{shown_primitive, shown_row, shown_text, unnamed};
 

@@ -1,7 +1,8 @@
 //! How many objects there are, and their bytes: of each row, and of all.
 ghost use Rattle.std.specs.Prelude.{◌≡◌, ◌+◌, ◌^◌, ◌<◌, IfOk, length};
 ghost use Rattle.histogram.specs.Histogram.{marked_objects, unmarked_objects};
-ghost use Rattle.heap_graph.specs.ObjectGraph.{IsRowIn, class_count};
+ghost use Rattle.heap_graph.specs.ObjectGraph.{class_count};
+ghost use Rattle.heap_graph.specs.Whole.{IsRowIn};
 ghost use Rattle.histogram.specs.working.Tallies.{AreTallies, no_object, numbered_row, one_more};
 ghost use Rattle.histogram.specs.working.Tallies.{row_count, row_number, tally_of};
 

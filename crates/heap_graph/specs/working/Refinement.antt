@@ -2,7 +2,8 @@
 use Rattle.std.specs.Prelude.{List, map, option_copied, ℕ, ◌≡◌}
 use Rattle.hprof_grammar.specs.Record.{Record}
 use Rattle.heap_graph.specs.Heap.{heap_of}
-use Rattle.heap_graph.specs.ObjectGraph.{IsGraphOf, IsWhole, NamedClass, ObjectGraph, missing_roots}
+use Rattle.heap_graph.specs.ObjectGraph.{IsGraphOf, NamedClass, ObjectGraph}
+use Rattle.heap_graph.specs.Whole.{IsWhole, missing_roots}
 use Rattle.heap_graph.specs.working.HeldIds.{AreLinkedOf}
 use Rattle.heap_graph.specs.working.ToldClasses.{AreToldOf}
 use Rattle.heap_graph.specs.declared.entry.ClassEntry.{ClassEntry}

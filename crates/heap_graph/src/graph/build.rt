@@ -16,7 +16,7 @@ use crate::graph::Graph;
 use crate::names::Names;
 use crate::objects::table::class_table;
 use crate::objects::{Objects, index_of, read_ids};
-use crate::rule::LinkRefusal;
+use crate::refusal::LinkRefusal;
 use hprof_grammar::{Dump, View, dump_is_placed, stands_within};
 use std::alloc::{AllocError, Allocator};
 

@@ -8,7 +8,8 @@ ghost use Rattle.hprof_grammar.specs.SubRecord.SubRecord.{class_dump, instance_d
 
 use crate::classes::Fate;
 use crate::objects::Objects;
-use crate::rule::{LinkFault, LinkRule};
+use crate::refusal::LinkFault;
+use crate::rule::LinkRule;
 use hprof_grammar::ObjectKind;
 use std::alloc::Allocator;
 

@@ -2,7 +2,8 @@
 use Rattle.std.proofs.Common.{[], ap, arith, ℕ, ◌+◌, ◌∙◌, ◌∷◌, ◌≡◌}
 use Rattle.std.specs.List.{range_with_len}
 use Rattle.std.proofs.lemmas.List.Sums.{sum_by-append, sum_by-cons}
-use Rattle.heap_graph.specs.ObjectGraph.{ObjectGraph, missing_at, missing_of, object_count}
+use Rattle.heap_graph.specs.ObjectGraph.{ObjectGraph, object_count}
+use Rattle.heap_graph.specs.Whole.{missing_at, missing_of}
 use Rattle.histogram.proofs.TallyLemmas.{range_more}
 use Rattle.histogram.proofs.lines.unresolved_in.Goals as goal
 

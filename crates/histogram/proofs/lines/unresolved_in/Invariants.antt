@@ -2,7 +2,7 @@
 use Rattle.std.proofs.Common.{◌*◌, ◌+◌, ◌^◌, ◌≡◌, ◌≤◌}
 use Rattle.std.specs.List.{range_with_len}
 use Rattle.hprof_grammar.specs.Dump.{limit}
-use Rattle.heap_graph.specs.ObjectGraph.{missing_of, missing_roots}
+use Rattle.heap_graph.specs.Whole.{missing_of, missing_roots}
 use Rattle.histogram.proofs.lines.unresolved_in.Given as goal
 
 abbrev pub invariant-loop-object : goal.invariant-loop-object

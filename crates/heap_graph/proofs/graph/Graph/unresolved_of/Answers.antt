@@ -1,7 +1,8 @@
 -- What the walk counted is read from the graph: its identifiers are those that the object holds.
 use Rattle.std.proofs.Common.{List, ap, arith, count_by, subst, sym, ℕ, ◌∙◌, ◌≡◌}
 use Rattle.heap_graph.specs.Heap.{heap_of}
-use Rattle.heap_graph.specs.ObjectGraph.{IsGraphOf, IsWhole, ObjectGraph, missing_at}
+use Rattle.heap_graph.specs.ObjectGraph.{IsGraphOf, ObjectGraph}
+use Rattle.heap_graph.specs.Whole.{IsWhole, missing_at}
 use Rattle.heap_graph.specs.Walks.{is_missing}
 use Rattle.heap_graph.specs.working.CountedIds.{AreCountedOf}
 use Rattle.heap_graph.proofs.Answering.{held_here}

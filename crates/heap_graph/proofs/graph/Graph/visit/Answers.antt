@@ -2,7 +2,8 @@
 use Rattle.std.proofs.Common.{List, ap, arith, map, subst, sym, ℕ, ◌∙◌}
 use Rattle.heap_graph.specs.declared.row.RowKey.{RowKey}
 use Rattle.heap_graph.specs.Heap.{heap_of}
-use Rattle.heap_graph.specs.ObjectGraph.{IsGraphOf, IsRowIn, IsWhole, ObjectGraph, held_by}
+use Rattle.heap_graph.specs.ObjectGraph.{IsGraphOf, ObjectGraph}
+use Rattle.heap_graph.specs.Whole.{IsRowIn, IsWhole, held_by}
 use Rattle.heap_graph.specs.Walks.{Step, Visited, missing_in, references_in, step_in}
 use Rattle.heap_graph.specs.working.HeldIds.{AreIdsOfNumber}
 use Rattle.heap_graph.proofs.Answering.{IsOneOf, bytes_here, held_here, one_of, references_here, row_here}

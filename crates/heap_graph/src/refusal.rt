@@ -1,0 +1,75 @@
+//! The faults where a rule is broken, and why no graph was built.
+
+ghost use Rattle.std.specs.Prelude.{◌≡◌};
+ghost use Rattle.heap_graph.specs.LinkFault.{code_of};
+
+use crate::rule::LinkRule;
+use std::error::Error;
+use std::fmt;
+
+impl LinkRule {
+    /// The code of a fault where the rule is broken.
+    pub(crate) fn code(self) -> u8
+        ensures { result ≡ code_of self }
+    {
+        match self {
+            LinkRule::ZeroObject => 9,
+            LinkRule::DuplicateObject => 10,
+            LinkRule::UnknownClass => 11,
+            LinkRule::SuperChain => 12,
+            LinkRule::InstanceSize => 13,
+            LinkRule::TooLarge => 14,
+        }
+    }
+}
+
+/// The first fault in the links of a dump.
+#[derive(Clone, Copy, Debug, PartialEq, Eq)]
+pub struct LinkFault {
+    /// 9 to 14.
+    pub code: u8,
+    /// The place of the object's sub-record in the bytes.
+    pub offset: u64,
+}
+
+impl fmt::Display for LinkFault {
+    ghost use Rattle.std.specs.Prelude.{Some};
+    ghost use Rattle.heap_graph.specs.Refusal.{fault_text};
+
+    ghost output = { λ fault. Some (fault_text fault) };
+
+    fn fmt<W: fmt::Write>(&self, f: &mut fmt::Formatter<W>) -> fmt::Result {
+        let code = self.code;
+        let offset = self.offset;
+        write!(f, "fault {code} at {offset}")
+    }
+}
+
+impl Error for LinkFault {}
+
+/// Why no graph was built.
+#[derive(Clone, Copy, Debug, PartialEq, Eq)]
+pub enum LinkRefusal {
+    /// The objects of the dump are not linked.
+    Fault(LinkFault),
+    /// A growth was refused.
+    OutOfMemory,
+}
+
+impl fmt::Display for LinkRefusal {
+    ghost use Rattle.std.specs.Prelude.{Some};
+    ghost use Rattle.heap_graph.specs.Refusal.{link_refusal_text};
+
+    ghost output = { λ refusal. Some (link_refusal_text refusal) };
+
+    fn fmt<W: fmt::Write>(&self, f: &mut fmt::Formatter<W>) -> fmt::Result {
+        match self {
+            LinkRefusal::Fault(fault) => {
+                write!(f, "the objects of the heap dump are not linked: {fault}")
+            }
+            LinkRefusal::OutOfMemory => write!(f, "out of memory"),
+        }
+    }
+}
+
+impl Error for LinkRefusal {}
