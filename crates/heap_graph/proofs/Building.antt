@@ -26,7 +26,7 @@ use Rattle.heap_graph.specs.Rows.{bytes_of, row_of}
 use Rattle.heap_graph.specs.working.Refinement.{StandFor, named_class}
 use Rattle.heap_graph.specs.working.RuleAnswers.{IsFaultOf}
 use Rattle.heap_graph.specs.working.ToldClasses.{AreToldOf}
-use Rattle.heap_graph.proofs.Counting.{few_in_dump}
+use Rattle.heap_graph.proofs.Counting.{few_in_dump, few_of_records}
 use Rattle.heap_graph.proofs.HeldLists.{are_lists, held_lists}
 use Rattle.heap_graph.proofs.MissingLaws.{few_held, roots_missing}
 use Rattle.heap_graph.proofs.Sizes.{id_size_range}
@@ -55,6 +55,8 @@ are_linked bytes dump is v places ids bytes_are size_is are linked =
 
 pub are_names : (bytes : List ℕ) (dump : Places) (is : IsDumpOf bytes dump) (v : Sight) (strings loaded : List ℕ) → v.bytes ≡ bytes → v.id_size ≡ dump.id_size → strings ≡ dump.strings → loaded ≡ dump.loaded → IsPlaced bytes dump is.records → AreNames v strings loaded is.records
 are_names bytes dump is v strings loaded bytes_are size_is strings_are loaded_are placed = record {
+  few_strings = omega (arith, ap length strings_are, placed.strings.count, few_of_records is_string bytes dump is);
+  few_loaded = omega (arith, ap length loaded_are, placed.loaded.count, few_of_records is_load bytes dump is);
   string_each = seen_records v bytes dump.id_size strings dump.strings (filter is_string is.records) bytes_are size_is strings_are placed.strings;
   loaded_each = seen_records v bytes dump.id_size loaded dump.loaded (filter is_load is.records) bytes_are size_is loaded_are placed.loaded;
 }

@@ -1,11 +1,12 @@
--- A dump has fewer objects than bytes, and fewer roots.
-use Rattle.std.proofs.Common.{Bool, List, [], ap, arith, filter, flat_map, length, length-append, ℕ, ◌++◌, ◌∷◌, ◌≤◌}
+-- A dump has fewer objects than bytes, and fewer roots, strings and loaded classes.
+use Rattle.std.proofs.Common.{Bool, List, [], ap, arith, filter, flat_map, length, length-append, ℕ, ◌++◌, ◌<◌, ◌^◌, ◌∷◌, ◌≡◌, ◌≤◌}
 use Rattle.std.proofs.lemmas.List.{length-map}
 use Rattle.std.proofs.lemmas.List.Sums.{count_by-le-length, length-filter}
 use Rattle.byteorder.specs.Endian.{big_bytes}
 use Rattle.hprof_grammar.specs.Dump.{IsDumpOf, Places, header, is_object, is_root, limit, spellings}
 use Rattle.hprof_grammar.specs.Record.{Record, body_of, record_spelling, subs_of, time_of}
 use Rattle.hprof_grammar.specs.Record.Record.{heap, load_class, other, string}
+use Rattle.hprof_grammar.specs.Standing.{IsPlaced}
 use Rattle.hprof_grammar.specs.SubRecord.{SubRecord, spelling_of}
 use Rattle.heap_graph.specs.Heap.{heap_of, id_of, objects}
 use Rattle.heap_graph.specs.Roots.{root_ids}
@@ -27,22 +28,34 @@ in_records : (s : ℕ) (rs : List Record) → length (heap_of rs) ≤ length (sp
 in_records s [] = omega arith
 in_records s (r ∷ rs) = omega (arith, in_record s r, in_records s rs, length-append (subs_of r) (heap_of rs), length-append (record_spelling s r) (spellings s rs))
 
-few_kept : (p : SubRecord → Bool) (xs : List SubRecord) → length (filter p xs) ≤ length xs
+few_kept : {X : Type 0} (p : X → Bool) (xs : List X) → length (filter p xs) ≤ length xs
 few_kept p xs = omega (arith, length-filter p xs, count_by-le-length p xs)
 
+short_spellings : (text : List ℕ) (dump : Places) (is : IsDumpOf text dump)
+    → length (spellings dump.id_size is.records) ≤ limit
+short_spellings text dump is =
+    let parts = length-append (header dump.id_size is.spells.time) (spellings dump.id_size is.records) in
+    omega (arith, is.spells.size, ap length is.spells.whole, parts)
+
 few_in_heap : (text : List ℕ) (dump : Places) (is : IsDumpOf text dump) → length (heap_of is.records) ≤ limit
-few_in_heap text dump is =
-    omega (
-      arith,
-      in_records dump.id_size is.records,
-      is.spells.size,
-      ap length is.spells.whole,
-      length-append
-          (header dump.id_size is.spells.time) (spellings dump.id_size is.records),
-    )
+few_in_heap text dump is = omega (arith, in_records dump.id_size is.records, short_spellings text dump is)
+
+few_records : (s : ℕ) (rs : List Record) → length rs ≤ length (spellings s rs)
+few_records s [] = omega arith
+few_records s (r ∷ rs) = omega (arith, few_records s rs, length-append (record_spelling s r) (spellings s rs))
+
+pub few_of_records : (p : Record → Bool) (text : List ℕ) (dump : Places) (is : IsDumpOf text dump)
+    → length (filter p is.records) ≤ limit
+few_of_records p text dump is =
+    omega (arith, few_kept p is.records, few_records dump.id_size is.records, short_spellings text dump is)
 
 pub few_in_dump : (text : List ℕ) (dump : Places) (is : IsDumpOf text dump) → length (objects (heap_of is.records)) ≤ limit
 few_in_dump text dump is = omega (arith, few_kept is_object (heap_of is.records), few_in_heap text dump is)
+
+pub few_placed : (text : List ℕ) (dump : Places) (is : IsDumpOf text dump) (places : List ℕ)
+    → IsPlaced text dump is.records → places ≡ dump.objects → length places < 2 ^ 32
+few_placed text dump is places placed same =
+    omega (arith, ap length same, placed.objects.count, few_in_dump text dump is)
 
 pub few_roots_in_dump : (text : List ℕ) (dump : Places) (is : IsDumpOf text dump)
     → length (root_ids (heap_of is.records)) ≤ limit

@@ -32,8 +32,9 @@ pub given_back : (pairs : List (ℕ × ℕ)) (ids : List ℕ) → IsIndexOf pair
 given_back pairs ids index len = fill_by_all (id_of_number pairs) ids (length pairs) 0 (sym len) (λ k h. number_id pairs ids k index (omega (arith, h, len)))
 
 -- pairs that were numbered in turn and then sorted
-pub index_of_sorted : (given pairs : List (ℕ × ℕ)) → AreNumbered given → IsPermutation given pairs → IsSorted pair_cmp pairs → IsIndexOf pairs (map (λ p. p.0) given)
-index_of_sorted given pairs numbered same up = record {
+pub index_of_sorted : (given pairs : List (ℕ × ℕ)) (room : ℕ) → AreNumbered given room → IsPermutation given pairs
+    → IsSorted pair_cmp pairs → IsIndexOf pairs (map (λ p. p.0) given)
+index_of_sorted given pairs room numbered same up = record {
   sorted = up;
   sound = λ id n has.
       let it = stands given (id, n) (Contains-permutation pairs given (id, n) (IsPermutation-sym given pairs same) has) in
@@ -47,10 +48,13 @@ index_of_sorted given pairs numbered same up = record {
       Contains-permutation given pairs (id, n) same (subst (λ (p : ℕ × ℕ). Contains given p) whole (Contains-get_or given n (0, 0) inside));
 }
 
-pub sorted_ids : (given pairs : List (ℕ × ℕ)) → AreNumbered given → IsPermutation given pairs → IsSorted pair_cmp pairs → map (λ p. p.0) given ≡ ids_of pairs
-sorted_ids given pairs numbered same up =
-    given_back pairs (map (λ (p : ℕ × ℕ). p.0) given) (index_of_sorted given pairs numbered same up)
+pub sorted_ids : (given pairs : List (ℕ × ℕ)) (room : ℕ) → AreNumbered given room → IsPermutation given pairs
+    → IsSorted pair_cmp pairs → map (λ p. p.0) given ≡ ids_of pairs
+sorted_ids given pairs room numbered same up =
+    given_back pairs (map (λ (p : ℕ × ℕ). p.0) given) (index_of_sorted given pairs room numbered same up)
     (length_permutation given pairs same ∙ sym (length-map given (λ (p : ℕ × ℕ). p.0)))
 
-pub sorted_index : (given pairs : List (ℕ × ℕ)) → AreNumbered given → IsPermutation given pairs → IsSorted pair_cmp pairs → IsIndexOf pairs (ids_of pairs)
-sorted_index given pairs numbered same up = subst (λ (ids : List ℕ). IsIndexOf pairs ids) (sorted_ids given pairs numbered same up) (index_of_sorted given pairs numbered same up)
+pub sorted_index : (given pairs : List (ℕ × ℕ)) (room : ℕ) → AreNumbered given room → IsPermutation given pairs
+    → IsSorted pair_cmp pairs → IsIndexOf pairs (ids_of pairs)
+sorted_index given pairs room numbered same up =
+    subst (λ (ids : List ℕ). IsIndexOf pairs ids) (sorted_ids given pairs room numbered same up) (index_of_sorted given pairs room numbered same up)

@@ -35,7 +35,7 @@ impl<'a, 'd> Names<'a, 'd> {
     {
         let mut builder = IndexBuilder::with_capacity(alloc, self.strings.len())?;
         for at in self.strings {
-            builder.push(self.view.string_id(*at))?;
+            builder.push(self.view.string_id(*at));
         }
         builder.finish(alloc)
     }
@@ -48,7 +48,7 @@ impl<'a, 'd> Names<'a, 'd> {
     {
         let mut builder = IndexBuilder::with_capacity(alloc, self.loaded.len())?;
         for at in self.loaded {
-            builder.push(self.view.loaded_class_id(*at))?;
+            builder.push(self.view.loaded_class_id(*at));
         }
         builder.finish(alloc)
     }

@@ -9,7 +9,7 @@ mod unresolved;
 
 ghost use Rattle.hprof_grammar.specs.SubRecord.{SubRecord};
 ghost use Rattle.hprof_grammar.specs.Standing.{StandInTurn, Stands, id_of};
-ghost use Rattle.std.specs.Prelude.{IfOk, List, map, ◌≡◌};
+ghost use Rattle.std.specs.Prelude.{IfOk, List, length, map, ◌<◌, ◌^◌, ◌≡◌};
 
 use crate::classes::{Classes, Fate};
 use crate::index::{Index, IndexBuilder};
@@ -50,13 +50,14 @@ pub(crate) fn index_of<B: Allocator + Copy>(
     view: &View<'_>,
     places: &[u32],
 ) -> Result<Index<B>, AllocError>
-    requires { (subs : List SubRecord) × StandInTurn (Stands view.now) places.now subs }
+    requires few { length places.now < 2 ^ 32 }
+    requires stand { (subs : List SubRecord) × StandInTurn (Stands view.now) places.now subs }
     ensures { IfOk result (λ index. (subs : List SubRecord) → StandInTurn (Stands view.now) places.now subs
         → index ≡ map id_of subs) }
 {
     let mut builder = IndexBuilder::with_capacity(alloc, places.len())?;
     for at in places {
-        builder.push(view.object_id(*at))?;
+        builder.push(view.object_id(*at));
     }
     builder.finish(alloc)
 }

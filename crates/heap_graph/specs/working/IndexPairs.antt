@@ -23,9 +23,20 @@ id_of_number pairs number = option_map_or (λ pair. pair.0) (find (λ pair. pair
 abbrev pub ids_of : List (ℕ × ℕ) → List ℕ
 ids_of pairs = map (id_of_number pairs) (range_with_len 0 (length pairs))
 
--- the pairs stand in the order of their numbers, which fit 32 bits, as their count does
-pub record AreNumbered (pairs : List (ℕ × ℕ)) : Type 0 where
+-- the identifiers that were added, and for how many there is room
+pub record Numbering : Type 0 where
+  pub ids : List ℕ
+  pub room : ℕ
+
+-- so many were added, and there is room for so many
+pub record IsFilled (n : Numbering) (count room : ℕ) : Type 0 where
+  pub count_is : length n.ids ≡ count
+  pub room_is : n.room ≡ room
+
+-- the pairs stand in the order of their numbers, which fit 32 bits, as the count of those that there is room for does
+pub record AreNumbered (pairs : List (ℕ × ℕ)) (room : ℕ) : Type 0 where
   pub few : length pairs < 2 ^ 32
+  pub few_in_all : room < 2 ^ 32
   pub each : (k : ℕ) → k < length pairs → (pair_at pairs k).1 ≡ k
 
 -- ascending pairs of the objects with these identifiers

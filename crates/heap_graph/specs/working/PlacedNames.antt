@@ -1,5 +1,5 @@
 -- The strings and the loaded classes of a dump at their places.
-use Rattle.std.specs.Prelude.{List, filter, map, ℕ, ◌≡◌}
+use Rattle.std.specs.Prelude.{List, filter, length, map, ℕ, ◌<◌, ◌^◌, ◌≡◌}
 use Rattle.hprof_grammar.specs.Dump.{is_load, is_string}
 use Rattle.hprof_grammar.specs.Record.{Record}
 use Rattle.hprof_grammar.specs.Record.Record.{heap, load_class, other, string}
@@ -7,7 +7,10 @@ use Rattle.hprof_grammar.specs.Standing.{RecordStands, Sight, StandInTurn}
 use Rattle.heap_graph.specs.declared.names.Names.{Names}
 use Rattle.heap_graph.specs.declared.names.NamesById.{NamesById}
 
+-- the strings and the loaded classes stand at these places, which are fewer than 2^32
 pub record AreNames (v : Sight) (strings loaded : List ℕ) (records : List Record) : Type 0 where
+  pub few_strings : length strings < 2 ^ 32
+  pub few_loaded : length loaded < 2 ^ 32
   pub string_each : StandInTurn (RecordStands v) strings (filter is_string records)
   pub loaded_each : StandInTurn (RecordStands v) loaded (filter is_load records)
 

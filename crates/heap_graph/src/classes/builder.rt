@@ -58,6 +58,7 @@ impl<'d, A: Allocator + Copy> ClassesBuilder<'d, A> {
 
     /// The classes that were added, to be found by their identifiers.
     pub(crate) fn finish(self, alloc: A) -> Result<Classes<'d, A>, AllocError>
+        requires { length self.entries.items < 2 ^ 32 }
         ensures view { IfOk result (λ classes. classes.view ≡ self.entry.view) }
         ensures entries { IfOk result (λ classes. classes.table.entries ≡ self.entry.entries.items) }
         ensures places { IfOk result (λ classes. classes.id_places.items ≡ self.entry.id_places.items) }

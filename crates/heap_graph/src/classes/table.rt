@@ -41,12 +41,13 @@ impl<A: Allocator> Model for ClassTable<A> {
 impl<A: Allocator + Copy> ClassTable<A> {
     /// The table of these classes.
     pub(crate) fn of(alloc: A, entries: Vec<(u64, ClassPlaces), A>) -> Result<Self, AllocError>
+        requires { length entries.items < 2 ^ 32 }
         ensures { IfOk result (λ table. table.entries ≡ entries.items) }
     {
         let mut builder = IndexBuilder::with_capacity(alloc, entries.len())?;
         for entry in &entries {
             let (id, _) = *entry;
-            builder.push(spread(id))?;
+            builder.push(spread(id));
         }
         let index = builder.finish(alloc)?;
         Ok(ClassTable { entries, index })

@@ -1,16 +1,13 @@
 //! An index from the identifiers of the objects.
 
-ghost use Rattle.std.specs.Prelude.{IfOk, OnOk, [], ◌++◌, ◌∷◌, ◌≡◌};
+ghost use Rattle.std.specs.Prelude.{IfOk, [], length, ◌++◌, ◌+◌, ◌<◌, ◌∷◌, ◌^◌, ◌≡◌};
 
 use crate::index::Index;
 use crate::index::beginnings::Beginnings;
 use std::alloc::{AllocError, Allocator};
 use std::marker::Model;
 
-/// The largest number of pairs: a place among them and their count fit 32 bits.
-const MOST_PAIRS: usize = 4_294_967_295;
-
-/// The identifiers of objects in the order of the file, of which an index is made.
+/// The identifiers of objects in the order of the file, of which an index is made. The room for them is taken at once.
 #[derive(Drop)]
 pub(crate) struct IndexBuilder<A: Allocator> {
     /// The identifier of each object, and its number.
@@ -18,41 +15,45 @@ pub(crate) struct IndexBuilder<A: Allocator> {
 }
 
 impl<A: Allocator> Model for IndexBuilder<A> {
-    ghost use Rattle.std.specs.Prelude.{List, map, ℕ};
-    ghost use Rattle.heap_graph.specs.working.IndexPairs.{AreNumbered};
+    ghost use Rattle.std.specs.Prelude.{map, vec_capacity};
+    ghost use Rattle.heap_graph.specs.working.IndexPairs.{AreNumbered, Numbering};
 
-    ghost Value = { List ℕ };
+    ghost Value = { Numbering };
 
-    ghost view = { λ builder. map (λ pair. pair.0) builder.pairs.items };
+    ghost view = { λ builder. record {
+      ids = map (λ pair. pair.0) builder.pairs.items;
+      room = vec_capacity builder.pairs;
+    } };
 
-    ghost invariant = { λ builder. AreNumbered builder.pairs.items };
+    ghost invariant = { λ builder. AreNumbered builder.pairs.items (vec_capacity builder.pairs) };
 }
 
 impl<A: Allocator> IndexBuilder<A> {
     /// No object, with room for that many.
     pub(crate) fn with_capacity(alloc: A, objects: usize) -> Result<Self, AllocError>
-        ensures { IfOk result (λ builder. builder ≡ []) }
+        requires { objects < 2 ^ 32 }
+        ensures ids { IfOk result (λ builder. builder.ids ≡ []) }
+        ensures room { IfOk result (λ builder. builder.room ≡ objects) }
     {
         Ok(IndexBuilder {
             pairs: Vec::with_capacity(alloc, objects)?,
         })
     }
 
-    /// Adds the next object. There is no room for 2^32 objects.
-    pub(crate) fn push(&mut self, id: u64) -> Result<(), AllocError>
-        ensures { OnOk result (self.new ≡ self.old ++ id ∷ []) }
+    /// Adds the next object, for which there is room.
+    pub(crate) fn push(&mut self, id: u64)
+        requires { length self.old.ids < self.old.room }
+        ensures ids { self.new.ids ≡ self.old.ids ++ id ∷ [] }
+        ensures count { length self.new.ids ≡ length self.old.ids + 1 }
+        ensures room { self.new.room ≡ self.old.room }
     {
-        if self.pairs.len() >= MOST_PAIRS {
-            return Err(AllocError);
-        }
         let number = self.pairs.len() as u32;
-        self.pairs.push((id, number))?;
-        Ok(())
+        self.pairs.push_reserved((id, number));
     }
 
     /// The index of these objects.
     pub(crate) fn finish(self, alloc: A) -> Result<Index<A>, AllocError>
-        ensures { IfOk result (λ index. index ≡ self) }
+        ensures { IfOk result (λ index. index ≡ self.ids) }
     {
         let mut pairs = self.pairs;
         pairs.sort()?;

@@ -49,6 +49,7 @@ pub(crate) fn class_table<'d, A: Allocator + Copy, B: Allocator>(
     index: &Index<B>,
 ) -> Result<Classes<'d, A>, AllocError>
     requires low { 1 ≤ view.id_size }
+    requires few { length places.now < 2 ^ 32 }
     requires heap { (heap : List SubRecord) × AreObjects view places.now index.now heap }
     ensures view { IfOk result (λ classes. classes.view ≡ view.entry) }
     ensures classes { IfOk result (λ classes. (heap : List SubRecord)

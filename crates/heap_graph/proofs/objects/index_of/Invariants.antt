@@ -1,7 +1,12 @@
-use Rattle.std.proofs.Common.{List, map, take, ◌≡◌}
+use Rattle.std.proofs.Common.{List, length, map, take, ◌≡◌}
 use Rattle.hprof_grammar.specs.Standing.{StandInTurn, Stands, id_of}
 use Rattle.hprof_grammar.specs.SubRecord.{SubRecord}
+use Rattle.heap_graph.specs.working.IndexPairs.{IsFilled}
 use Rattle.heap_graph.proofs.objects.index_of.Given as goal
 
 abbrev pub invariant-loop-at : goal.invariant-loop-at
-invariant-loop-at g l = (subs : List SubRecord) → StandInTurn (Stands l.view) l.places subs → l.builder ≡ map id_of (take l.at-index subs)
+invariant-loop-at g l = record {
+  filled : IsFilled l.builder l.at-index (length l.places);
+  ids : (subs : List SubRecord) → StandInTurn (Stands l.view) l.places subs
+      → l.builder.ids ≡ map id_of (take l.at-index subs);
+}

@@ -5,6 +5,7 @@ use Rattle.heap_graph.specs.working.PlacedObjects.{ArePlacesOf}
 use Rattle.heap_graph.specs.working.ClassTable.{AreClasses}
 use Rattle.heap_graph.specs.working.ToldClasses.{AreTold}
 use Rattle.heap_graph.proofs.Building.{are_objects, few_objects, objects_stand, same_sight, size_in_range}
+use Rattle.heap_graph.proofs.Counting.{few_placed}
 use Rattle.heap_graph.proofs.graph.build.read_objects.Goals as goal
 
 pub new-view-requires-clause-low : goal.new-view-requires-clause-low
@@ -13,8 +14,12 @@ new-view-requires-clause-low g c = (size_in_range c.args.bytes.now c.args.id_siz
 pub new-view-requires-clause-high : goal.new-view-requires-clause-high
 new-view-requires-clause-high g c = (size_in_range c.args.bytes.now c.args.id_size c.args.places.items c.requires.0 c.requires.1).1
 
-pub index_of-requires : goal.index_of-requires
-index_of-requires g c =
+pub index_of-requires-clause-few : goal.index_of-requires-clause-few
+index_of-requires-clause-few g c = few_placed c.args.bytes.now c.requires.0 c.requires.1.is c.deref.result.now
+    (c.dump_is_placed.ensures c.args.bytes.now c.requires.0 c.requires.1.is) (c.deref.ensures.value ∙ c.requires.1.places_are)
+
+pub index_of-requires-clause-stand : goal.index_of-requires-clause-stand
+index_of-requires-clause-stand g c =
     let are : ArePlacesOf c.args.bytes.now c.args.id_size c.deref.result.now c.requires.0 =
     record { is = c.requires.1.is; size_is = c.requires.1.size_is; places_are = c.deref.ensures.value ∙ c.requires.1.places_are } in (
       objects (heap_of are.is.records),
@@ -31,6 +36,10 @@ new-requires-clause-high g c = (size_in_range c.args.bytes.now c.args.id_size c.
 pub class_table-requires-clause-low : goal.class_table-requires-clause-low
 class_table-requires-clause-low g c =
     omega (arith, c.new.ensures.size, (size_in_range c.args.bytes.now c.args.id_size c.args.places.items c.requires.0 c.requires.1).0)
+
+pub class_table-requires-clause-few : goal.class_table-requires-clause-few
+class_table-requires-clause-few g c = few_placed c.args.bytes.now c.requires.0 c.requires.1.is c.deref-2.result.now
+    (c.dump_is_placed.ensures c.args.bytes.now c.requires.0 c.requires.1.is) (c.deref-2.ensures.value ∙ c.requires.1.places_are)
 
 pub class_table-requires-clause-heap : goal.class_table-requires-clause-heap
 class_table-requires-clause-heap g c =

@@ -1,5 +1,6 @@
-use Rattle.std.proofs.Common.{get_or, filter}
+use Rattle.std.proofs.Common.{arith, filter, get_or, length, ℕ}
 use Rattle.hprof_grammar.specs.Dump.{is_string}
+use Rattle.heap_graph.proofs.Adding.{filled_more}
 use Rattle.heap_graph.proofs.Lookups.{TextAt, text_at}
 use Rattle.heap_graph.proofs.NameLookups.{text_ids_more}
 use Rattle.heap_graph.proofs.names.Names.strings_by_id.Goals as goal
@@ -9,8 +10,25 @@ string_id-requires g c =
     let it : TextAt c.args.self.now.view (filter is_string c.requires.0) c.loop-at.at-index (get_or c.args.self.now.strings.now c.loop-at.at-index 0) = text_at c.args.self.now.view c.args.self.now.strings.now c.args.self.now.loaded.now c.requires.0 c.loop-at.at-index c.requires.1 c.loop-at-test.true in
     (it.time, it.id, it.text, it.stands)
 
+pub with_capacity-requires : goal.with_capacity-requires
+with_capacity-requires g c = c.requires.1.few_strings
+
+pub push-requires : goal.push-requires
+push-requires g c =
+    let filled = c.loop-at.invariant.filled in
+    omega (arith, filled.count_is, filled.room_is, c.loop-at-test.true)
+
 pub loop-at-preserved : goal.loop-at-preserved
-loop-at-preserved g c = λ records are.
-    let n = c.args.self.now in
-    let it : TextAt n.view (filter is_string records) c.loop-at.at-index (get_or n.strings.now c.loop-at.at-index 0) = text_at n.view n.strings.now n.loaded.now records c.loop-at.at-index are c.loop-at-test.true in
-    text_ids_more n.view n.strings.now n.loaded.now records c.loop-at.at-index c.string_id.result c.loop-at.builder c.push.new.self are c.loop-at-test.true it c.in_ok-push.ensures (c.string_id.ensures it.time it.id it.text it.stands) (c.loop-at.invariant records are)
+loop-at-preserved g c = record {
+  filled =
+      filled_more c.loop-at.builder c.push.new.self c.loop-at.at-index (length c.args.self.now.strings.now)
+      c.push.ensures.count c.push.ensures.room c.loop-at.invariant.filled;
+  ids = λ records are.
+      let n = c.args.self.now in
+      let i : ℕ = c.loop-at.at-index in
+      let it : TextAt n.view (filter is_string records) i (get_or n.strings.now i 0) =
+      text_at n.view n.strings.now n.loaded.now records i are c.loop-at-test.true in
+      let id_is = c.string_id.ensures it.time it.id it.text it.stands in
+      text_ids_more n.view n.strings.now n.loaded.now records i c.string_id.result c.loop-at.builder.ids
+      c.push.new.self.ids are c.loop-at-test.true it c.push.ensures.ids id_is (c.loop-at.invariant.ids records are);
+}

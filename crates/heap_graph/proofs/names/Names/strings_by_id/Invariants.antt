@@ -1,8 +1,13 @@
-use Rattle.std.proofs.Common.{List, filter, map, take, ◌≡◌}
+use Rattle.std.proofs.Common.{List, filter, length, map, take, ◌≡◌}
 use Rattle.hprof_grammar.specs.Dump.{is_string}
 use Rattle.hprof_grammar.specs.Record.{Record}
+use Rattle.heap_graph.specs.working.IndexPairs.{IsFilled}
 use Rattle.heap_graph.specs.working.PlacedNames.{AreNamesOf, string_id}
 use Rattle.heap_graph.proofs.names.Names.strings_by_id.Given as goal
 
 abbrev pub invariant-loop-at : goal.invariant-loop-at
-invariant-loop-at g l = (records : List Record) → AreNamesOf l.self records → l.builder ≡ map string_id (take l.at-index (filter is_string records))
+invariant-loop-at g l = record {
+  filled : IsFilled l.builder l.at-index (length l.self.strings.now);
+  ids : (records : List Record) → AreNamesOf l.self records
+      → l.builder.ids ≡ map string_id (take l.at-index (filter is_string records));
+}

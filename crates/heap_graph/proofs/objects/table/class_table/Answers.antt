@@ -20,6 +20,11 @@ same_classes v heap entries places classes view_is entries_are places_are are =
     (subst (λ (es : List Entry). AreClasses v heap es classes.id_places.items) (sym entries_are)
     (subst (λ (ps : List ℕ). AreClasses v heap entries ps) (sym places_are) are))
 
+pub finish-requires : goal.finish-requires
+finish-requires g c =
+    let among = c.loop-number.invariant.among c.requires.heap.0 c.requires.heap.1 in
+    omega (arith, among.few, c.requires.few, c.loop-number-test.false)
+
 pub returns-clause-classes : goal.returns-clause-classes
 returns-clause-classes g c =
     let builder = c.loop-number.builder in
