@@ -2,5 +2,4 @@ pub mod AtWork
 pub mod Duties
 pub mod Idle
 pub mod Pairs
-pub mod Stops
 pub mod Walk

@@ -33,7 +33,7 @@ impl From<AllocError> for RunFault {
 }
 
 impl From<Stop> for RunFault {
-    ghost use Rattle.drain.specs.working.Stops.{stopped};
+    ghost use Rattle.drain.specs.Stops.{stopped};
     ghost use Rattle.std.specs.Prelude.{◌≡◌};
 
     ghost from_gives = { λ stop e. e ≡ stopped stop };
