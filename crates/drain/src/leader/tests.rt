@@ -11,29 +11,46 @@ use std::sync::atomic::{AtomicU64, Ordering};
 use std::test::Fail;
 use work_pair::Pair;
 
-/// A dump with an array that is the root, and the 60 instances that it refers to.
-fn wide_array(alloc: Global) -> Result<Vec<u8>, AllocError> {
+mod gate_calls;
+
+/// A heap with class 0x100, without a superclass, fields and values.
+fn one_class(alloc: Global) -> Result<Vec<u8>, AllocError> {
     let mut heap = Vec::new(alloc);
-    // class 0x100, without a superclass, fields and values
     heap.extend_from_slice(&[0x20, 0, 0, 1, 0])?;
     heap.extend_from_slice(&[0; 38])?;
-    // array 0x200 of that class
-    heap.extend_from_slice(&[0x22, 0, 0, 2, 0, 0, 0, 0, 0, 0, 0, 0, 60, 0, 0, 1, 0])?;
-    for id in 0..60u8 {
-        heap.extend_from_slice(&[0, 0, 3, id])?;
-    }
-    for id in 0..60u8 {
-        heap.extend_from_slice(&[0x21, 0, 0, 3, id, 0, 0, 0, 0, 0, 0, 1, 0, 0, 0, 0, 0])?;
-    }
-    heap.extend_from_slice(&[0xff, 0, 0, 2, 0])?;
+    Ok(heap)
+}
+
+/// Puts an instance of that class, 0x300 and the number.
+fn put_instance(heap: &mut Vec<u8>, id: u8) -> Result<(), AllocError> {
+    heap.extend_from_slice(&[0x21, 0, 0, 3, id, 0, 0, 0, 0, 0, 0, 1, 0, 0, 0, 0, 0])
+}
+
+/// A dump with this heap.
+fn dump_of(alloc: Global, heap: &[u8]) -> Result<Vec<u8>, AllocError> {
     let mut dump = Vec::new(alloc);
     dump.extend_from_slice(b"JAVA PROFILE 1.0.2\0\0\0\0\x04")?;
     dump.extend_from_slice(&[0; 8])?;
     dump.extend_from_slice(&[0x0c, 0, 0, 0, 0])?;
     let length = u32::try_from(heap.len()).unwrap_or(u32::MAX);
     dump.extend_from_slice(&length.to_be_bytes())?;
-    dump.extend_from_slice(heap.as_slice())?;
+    dump.extend_from_slice(heap)?;
     Ok(dump)
+}
+
+/// A dump with an array that is the root, and the 60 instances that it refers to.
+fn wide_array(alloc: Global) -> Result<Vec<u8>, AllocError> {
+    let mut heap = one_class(alloc)?;
+    // array 0x200 of that class
+    heap.extend_from_slice(&[0x22, 0, 0, 2, 0, 0, 0, 0, 0, 0, 0, 0, 60, 0, 0, 1, 0])?;
+    for id in 0..60u8 {
+        heap.extend_from_slice(&[0, 0, 3, id])?;
+    }
+    for id in 0..60u8 {
+        put_instance(&mut heap, id)?;
+    }
+    heap.extend_from_slice(&[0xff, 0, 0, 2, 0])?;
+    dump_of(alloc, heap.as_slice())
 }
 
 /// Refuses the thread of the worker of one number.

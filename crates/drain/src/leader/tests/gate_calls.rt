@@ -1,0 +1,147 @@
+//! Who calls the gate: each of many workers, the leader under a number of its own, and a worker to which another gave.
+
+use super::{dump_of, one_class, put_instance, wide_array};
+use crate::{Gate, Options, mark};
+use heap_graph::Graph;
+use hprof_grammar::read;
+use std::alloc::{AllocError, Global};
+use std::sync::Wait;
+use std::sync::atomic::{AtomicU64, Ordering};
+use std::test::Fail;
+use std::thread;
+use std::thread::Threads;
+use std::time::{Clock, Duration};
+
+/// How often a worker that is held looks whether the others have come, 1 ms apart.
+const TURNS: u32 = 4_000;
+
+/// How often two workers run on the array: one that waits stays for about 0.4 s, and may leave too soon.
+const RUNS: u32 = 5;
+
+/// Notes who calls, and holds each worker until all have come.
+#[derive(Drop)]
+struct Meeting<C: Clock> {
+    clock: C,
+    workers: u32,
+    /// So many calls are let through at first.
+    free: u64,
+    calls: AtomicU64,
+    /// A bit for each worker that came.
+    come: AtomicU64,
+    by_leader: AtomicU64,
+    /// How many waited in vain: nobody is held after that.
+    late: AtomicU64,
+}
+
+impl<C: Clock> Meeting<C> {
+    fn new(clock: C, workers: u32, free: u64) -> Self {
+        Meeting {
+            clock,
+            workers,
+            free,
+            calls: AtomicU64::new(0),
+            come: AtomicU64::new(0),
+            by_leader: AtomicU64::new(0),
+            late: AtomicU64::new(0),
+        }
+    }
+
+    fn is_over(&self) -> bool {
+        self.come.load(Ordering::SeqCst).count_ones() == self.workers
+            || self.late.load(Ordering::SeqCst) > 0
+    }
+
+    fn hold(&self) {
+        for _ in 0..TURNS {
+            if self.is_over() {
+                return;
+            }
+            thread::sleep(&self.clock, Duration::from_millis(1));
+        }
+        self.late.fetch_add(1, Ordering::SeqCst);
+    }
+}
+
+impl<C: Clock + Sync> Gate for Meeting<C> {
+    fn before_scan(&self, worker: u32, _object: u32) {
+        let before = self.calls.fetch_add(1, Ordering::SeqCst);
+        if worker == self.workers {
+            self.by_leader.fetch_add(1, Ordering::SeqCst);
+            return;
+        }
+        self.come.fetch_or(1 << (worker % 64), Ordering::SeqCst);
+        if before >= self.free {
+            self.hold();
+        }
+    }
+}
+
+/// A dump with so many instances of one class, each a root.
+fn roots_alone(alloc: Global, count: u8) -> Result<Vec<u8>, AllocError> {
+    let mut heap = one_class(alloc)?;
+    for id in 0..count {
+        put_instance(&mut heap, id)?;
+        heap.extend_from_slice(&[0xff, 0, 0, 3, id])?;
+    }
+    dump_of(alloc, heap.as_slice())
+}
+
+/// Marks the dump, and answers how many objects are marked.
+fn marked<T: Threads + Wait + Sync, G: Gate>(
+    rt: &T,
+    alloc: Global,
+    dump: &[u8],
+    options: &Options,
+    gate: &G,
+) -> Result<u64, Fail> {
+    let places = read(alloc, dump).map_err(|_| "the dump is whole")?;
+    let graph = Graph::build(alloc, dump, places).map_err(|_| "the dump is linked")?;
+    let marked = mark(rt, alloc, &graph, options, gate).map_err(|_| "nothing is refused")?;
+    Ok(marked.len())
+}
+
+#[test]
+fn workers_and_the_leader_have_their_numbers(rt: HostRuntime) -> Result<(), Fail> {
+    let alloc = rt.alloc();
+    // roots, workers, buffers; the workers that came, and the calls of the leader
+    let rows: [(u8, u32, u32, u64, u64); 2] = [
+        // there is a buffer of two roots for each of 64 workers, and none has scanned before all have one
+        (128, 64, 1024, u64::MAX, 0),
+        // seven roots take all four buffers: the worker has no pair, and the leader scans all that there is
+        (7, 1, 4, 0, 8),
+    ];
+    for (roots, workers, buffers, come, by_leader) in rows {
+        let dump = roots_alone(alloc, roots)?;
+        let options = Options::new(workers, 2, buffers, 0).map_err(|_| "they are in range")?;
+        let gate = Meeting::new(rt, workers, 0);
+        let objects = u64::from(roots) + 1;
+        assert_eq!(rt;
+            marked(&rt, alloc, dump.as_slice(), &options, &gate)?,
+            objects
+        );
+        assert_eq!(rt; gate.calls.load(Ordering::SeqCst), objects);
+        assert_eq!(rt; gate.come.load(Ordering::SeqCst), come, "{workers} workers");
+        assert_eq!(rt;
+            gate.by_leader.load(Ordering::SeqCst),
+            by_leader,
+            "{workers} workers"
+        );
+    }
+    Ok(())
+}
+
+#[test]
+fn a_worker_with_much_gives_to_one_with_nothing(rt: HostRuntime) -> Result<(), Fail> {
+    let alloc = rt.alloc();
+    let dump = wide_array(alloc)?;
+    // the first buffer of the worker that scans the array has room for all it refers to, so no put gives any away
+    let options = Options::new(2, 256, 1024, 0).map_err(|_| "they are in range")?;
+    for _ in 0..RUNS {
+        let gate = Meeting::new(rt, 2, 1);
+        assert_eq!(rt; marked(&rt, alloc, dump.as_slice(), &options, &gate)?, 62);
+        if gate.come.load(Ordering::SeqCst) == 3 {
+            return Ok(());
+        }
+    }
+    Err("one worker scanned all".into())
+}
