@@ -9,3 +9,4 @@ pub mod OneMarking
 pub mod Outcomes
 pub mod Pairs
 pub mod Runs
+pub mod Sharing

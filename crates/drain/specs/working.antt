@@ -2,4 +2,5 @@ pub mod AtWork
 pub mod Duties
 pub mod Idle
 pub mod Pairs
+pub mod Sharing
 pub mod Walk

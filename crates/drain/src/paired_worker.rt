@@ -18,7 +18,8 @@ pub(crate) struct PairedWorker<A: Allocator> {
 }
 
 impl<A: Allocator> PairedWorker<A> {
-    ghost use Rattle.std.specs.Prelude.{◌≡◌, ◌⊎◌, ◌∷◌, [], ℕ, All, IfErr, IfOk, List, OnOk, false};
+    ghost use Rattle.std.specs.Prelude.{◌≡◌, ◌<◌, ◌↔◌, ◌⊎◌, ◌∷◌, [], ℕ, All, IfErr, IfOk, IsTrue, List, OnOk, false};
+    ghost use Rattle.std.specs.Prelude.{length};
     ghost use Rattle.mark_core.specs.Event.{IsBusy};
     ghost use Rattle.mark_core.specs.declared.which.Which.TheVariants.{Empty};
     ghost use Rattle.work_pair.specs.Moves.{WasSeenEmpty};
@@ -26,6 +27,7 @@ impl<A: Allocator> PairedWorker<A> {
     ghost use Rattle.std.specs.Iterator.{AlwaysYields, IsFinite};
     ghost use Rattle.drain.specs.working.AtWork.{AreClaimed, GoesOn, HasAtHand, HasNoneLeft, IsAtWork};
     ghost use Rattle.drain.specs.working.AtWork.{IsFree, IsSetupOf, IsThrough, MayClaim, SawRoots};
+    ghost use Rattle.drain.specs.working.Sharing.{GivesSome, PutsAgain, SharesWork, Unspills};
 
     /// A pair for a worker that has none yet. `None` where there were not two empty buffers.
     pub(crate) fn open<R: Wait>(
@@ -149,16 +151,19 @@ impl<A: Allocator> PairedWorker<A> {
         self.pair.publish(rt, pool, &mut self.worker)
     }
 
-    /// Puts the object that was spilled last into a buffer. False where none is spilled, or there is no buffer for it.
+    /// Puts the object that was spilled last into the pair again. False where there is no buffer for it.
     fn unspill_one<R: Wait>(&mut self, rt: &R, pool: &Pool<A>) -> Result<bool, Stop>
         requires pool { self.old.worker.pool ≡ pool.now }
         requires at_work { IsAtWork self.old.pair [] self.old.worker }
+        requires some { 0 < length self.old.pair.spill }
         ensures goes_on { OnOk result (GoesOn self.old.worker self.new.worker) }
         ensures at_work { OnOk result (IsAtWork self.new.pair [] self.new.worker) }
+        ensures again { OnOk result (PutsAgain self.old.pair self.old.worker.book self.new.pair self.new.worker.book) }
+        ensures fewer { IfOk result (λ fewer. IsTrue fewer ↔ length self.new.pair.spill < length self.old.pair.spill) }
     {
         let spilled = self.pair.spilled();
         let Some(object) = self.pair.get(rt, pool, &mut self.worker)? else {
-            return Ok(false);
+            unreachable!();
         };
         match self.pair.put(rt, pool, &mut self.worker, object) {
             Ok(()) => Ok(self.pair.spilled() < spilled),
@@ -173,8 +178,10 @@ impl<A: Allocator> PairedWorker<A> {
         requires at_work { IsAtWork self.old.pair [] self.old.worker }
         ensures goes_on { OnOk result (GoesOn self.old.worker self.new.worker) }
         ensures at_work { OnOk result (IsAtWork self.new.pair [] self.new.worker) }
+        ensures unspills { OnOk result (Unspills self.old.pair self.old.worker.book
+            self.new.pair self.new.worker.book) }
     {
-        for _ in 0..self.pair.spilled() {
+        while self.pair.spilled() > 0 {
             if !self.unspill_one(rt, pool)? {
                 return Ok(());
             }
@@ -188,6 +195,7 @@ impl<A: Allocator> PairedWorker<A> {
         requires at_work { IsAtWork self.old.pair [] self.old.worker }
         ensures goes_on { OnOk result (GoesOn self.old.worker self.new.worker) }
         ensures at_work { OnOk result (IsAtWork self.new.pair [] self.new.worker) }
+        ensures gives { OnOk result (GivesSome self.old.pair self.old.worker.book self.new.pair self.new.worker.book) }
     {
         self.unspill(rt, pool)?;
         self.pair.balance(rt, pool, &mut self.worker)
@@ -199,11 +207,13 @@ impl<A: Allocator> PairedWorker<A> {
         requires at_work { IsAtWork self.old.pair [] self.old.worker }
         ensures goes_on { OnOk result (GoesOn self.old.worker self.new.worker) }
         ensures at_work { OnOk result (IsAtWork self.new.pair [] self.new.worker) }
+        ensures shares { OnOk result (SharesWork self.old.pair self.old.worker.book
+            self.new.pair self.new.worker.book) }
     {
-        if pool.sees_empty(&mut self.worker, Which::Full) {
-            self.give(rt, pool)?;
+        if !pool.sees_empty(&mut self.worker, Which::Full) {
+            return Ok(());
         }
-        Ok(())
+        self.give(rt, pool)
     }
 
     /// Scans an object of the pair, or of the full stack: claims what it refers to, and finishes it. False where none

@@ -11,3 +11,9 @@ returns-clause-goes_on g c =
     on_ok c.balance.result c.balance.ensures.balances
     (λ told. goes_on_again c.args.self.now.worker mid.worker new c.in_ok-unspill.ensures.goes_on
     (dealt_goes_on mid.pair mid.worker [] [] c.balance.new.self new told.0 c.balance.ensures.pool))
+
+pub returns-clause-gives : goal.returns-clause-gives
+returns-clause-gives g c =
+    let mid = c.unspill.new.self in
+    on_ok c.balance.result c.balance.ensures.balances
+    (λ told. (mid.pair, mid.worker.book, c.in_ok-unspill.ensures.unspills, told))

@@ -1,8 +1,11 @@
 -- What was got from the list is put again, and the worker has at hand what it had.
-use Rattle.std.proofs.Common.{[], ◌∷◌, subst}
+use Rattle.std.proofs.Common.{[], ◌∷◌, ◌∙◌, Some, ap, subst, sym}
+use Rattle.std.proofs.lemmas.Option.{same_Some}
 use Rattle.std.specs.Prelude.{IfSome}
+use Rattle.buffer_pool.specs.Calls.{Holder}
 use Rattle.work_pair.specs.Deals.{Deals}
-use Rattle.drain.proofs.AtHand.{backs, dealt, dealt_goes_on, goes_on_again}
+use Rattle.drain.proofs.AtHand.{backs, dealt}
+use Rattle.drain.proofs.Sharing.{last_of, puts_again, same_answer, spilled_items}
 use Rattle.drain.proofs.paired_worker.PairedWorker.unspill_one.Goals as goal
 
 pub put-requires-clause-backed : goal.put-requires-clause-backed
@@ -13,3 +16,22 @@ put-requires-clause-backed g c =
     let deals = subst (λ r. IfSome r (λ x. Deals c.args.self.now.pair old.book [] (x ∷ []) c.get.new.self got.book)) c.in-Some.is c.in_ok-object.ensures.got in
     let at_work = dealt c.args.self.now.pair old [] (o ∷ []) c.get.new.self got deals [] c.in_ok-object.ensures.going c.requires.at_work in
     backs c.get.new.self (o ∷ []) [] got at_work.hand
+
+pub unreachable-requires : goal.unreachable-requires
+unreachable-requires g c =
+    let last = last_of c.args.self.now.pair.spill c.requires.some in
+    let told = c.in_ok-object.ensures.last last.1 last.0 last.2 in
+    c.in_default.not-Some last.1 (same_answer c.in_ok-object.field-0 (Some last.1) told.0)
+
+pub returns-in-Ok-clause-again : goal.returns-in-Ok-clause-again
+returns-in-Ok-clause-again g c =
+    let old = c.args.self.now in
+    let got = c.in_ok-object.ensures in
+    let object = c.in-Some.object in
+    let kept = got.own (spilled_items old.pair c.requires.some) in
+    puts_again old.pair c.get.new.self c.put.new.self old.worker.book c.get.new.worker.book c.put.new.worker.book object
+    c.requires.some
+    (λ o rest is.
+    let told = got.last o rest is in
+    (same_Some object o (sym c.in-Some.is ∙ same_answer c.in_ok-object.field-0 (Some o) told.0), told.1))
+    (ap (λ (w : Holder). w.book) kept.0) c.in-Ok.ensures.put

@@ -1,0 +1,45 @@
+-- The object that is got from a pair with a spill list is the last of that list, and it is put again.
+use Rattle.std.proofs.Common.{◌≡◌, ◌≢◌, ◌<◌, ◌≤◌, ℕ, List, [], ◌∷◌, ◌++◌, Err, None, Ok, Option, Result}
+use Rattle.std.proofs.Common.{ap, arith, length, refl, subst}
+use Rattle.buffer_pool.specs.Book.{Book}
+use Rattle.work_pair.specs.Deals.{Puts}
+use Rattle.work_pair.specs.Places.{Places, buffered_items, items_of}
+use Rattle.work_pair.specs.declared.stop.Stop.{Stop}
+use Rattle.work_pair.proofs.Calls.{none_first}
+use Rattle.drain.specs.working.Sharing.{PutsAgain}
+
+-- a list that has something has a last object
+pub last_of : (xs : List ℕ) → 0 < length xs → (rest : List ℕ) × (object : ℕ) × (xs ≡ rest ++ object ∷ [])
+last_of [] some = absurd (omega (arith, some))
+last_of (x ∷ []) some = ([], x, refl)
+last_of (x ∷ y ∷ ys) some =
+    let later = last_of (y ∷ ys) (omega arith) in
+    (x ∷ later.0, later.1, ap (λ (zs : List ℕ). x ∷ zs) later.2)
+
+-- one that has nothing is empty
+pub none_of : (xs : List ℕ) → length xs ≤ 0 → xs ≡ []
+none_of [] few = refl
+none_of (x ∷ xs) few = absurd (omega (arith, few))
+
+-- a pair with a spill list has items
+pub spilled_items : (p : Places) → 0 < length p.spill → items_of p ≢ []
+spilled_items p some none = omega (arith, some, ap length (none_first p.spill (buffered_items p) none))
+
+abbrev answer_of : Result (Option ℕ) Stop → Option ℕ
+answer_of (Ok got) = got
+answer_of (Err stop) = None
+
+-- what a get answers where one of its clauses says that it answers this
+pub same_answer : (got other : Option ℕ) → ◌≡◌ {A = Result (Option ℕ) Stop} (Ok got) (Ok other) → got ≡ other
+same_answer got other told = ap answer_of told
+
+-- where it was got, and put again, that is what is said of it
+pub puts_again : (old middle new : Places) (before between after : Book) (object : ℕ) → 0 < length old.spill
+    → ((o : ℕ) (rest : List ℕ) → old.spill ≡ rest ++ o ∷ [] → (object ≡ o) × (middle ≡ record old { spill = rest }))
+    → between ≡ before → Puts middle between object new after → PutsAgain old before new after
+puts_again old middle new before between after object some got same puts =
+    let last = last_of old.spill some in
+    let is = got last.1 last.0 last.2 in
+    let its = subst (λ o. Puts middle between o new after) is.0 puts in
+    let then = subst (λ (b : Book). Puts middle b last.1 new after) same its in
+    (last.0, last.1, last.2, subst (λ (p : Places). Puts p before last.1 new after) is.1 then)
