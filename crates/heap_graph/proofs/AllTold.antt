@@ -3,7 +3,9 @@
 use Rattle.std.proofs.Common.{Contains, List, None, Option, Some, [], ap, arith, inl, inr, length, map, refl, slice_get}
 use Rattle.std.proofs.Common.{subst, suc, take, zero, ⊎_elim, ℕ, ◌+◌, ◌<◌, ◌∙◌, ◌∷◌, ◌≡◌, ◌≤◌, ◌⊎◌}
 use Rattle.std.proofs.lemmas.Bool.{cases_eq, cases_lt}
-use Rattle.hprof_grammar.specs.Dump.{Spells, heap_list, is_object, places_of, places_where}
+use Rattle.hprof_grammar.specs.Dump.{Spells, heap_list, is_object}
+use Rattle.hprof_grammar.specs.Places.{places_of}
+use Rattle.hprof_grammar.specs.Dump.{places_where}
 use Rattle.hprof_grammar.specs.Record.{IsOrderly, Record, tag_of}
 use Rattle.hprof_grammar.specs.Standing.{IsPlaced}
 use Rattle.hprof_grammar.specs.SubRecord.{Class, Instance, ObjectArray, SubRecord}

@@ -3,9 +3,10 @@ use Rattle.std.proofs.lemmas.Slice.Zip.{AllZip-map}
 use Rattle.std.proofs.Common.{List, [], ap, arith, count_by, filter, length, map, map-id, refl, slice_get, subst, sym, ℕ, ◌++◌, ◌+◌, ◌∙◌, ◌≡◌, ◌≤◌}
 use Rattle.std.specs.List.{AllZip}
 use Rattle.std.specs.Prelude.{filter_map}
-use Rattle.hprof_grammar.specs.Dump.{IsDumpOf, Places, is_load, is_string, limit}
+use Rattle.hprof_grammar.specs.Dump.{id_of, limit}
+use Rattle.hprof_grammar.specs.Places.{IsDumpOf, Places, is_load, is_string}
 use Rattle.hprof_grammar.specs.Record.{Record}
-use Rattle.hprof_grammar.specs.Standing.{IsPlaced, RecordStands, RecordStandsAt, Sight, StandInTurn, Stands, StandsAt, id_of}
+use Rattle.hprof_grammar.specs.Standing.{IsPlaced, RecordStands, RecordStandsAt, Sight, StandInTurn, Stands, StandsAt}
 use Rattle.hprof_grammar.specs.SubRecord.{SubRecord, spelling_of}
 use Rattle.heap_graph.specs.declared.entry.ClassEntry.{ClassEntry}
 use Rattle.heap_graph.specs.declared.objects.Objects.{Objects}

@@ -1,7 +1,7 @@
 -- How many of the identifiers that an object holds name no object.
 use Rattle.std.proofs.Common.{Bool, List, [], ap, arith, cond, count_by, false, map, subst, true, ℕ, ◌+◌, ◌^◌, ◌∙◌, ◌∷◌, ◌≡◌, ◌≤◌}
 use Rattle.std.proofs.lemmas.List.Sums.{count_by-le-length, sum_by-cons}
-use Rattle.hprof_grammar.specs.Standing.{id_of}
+use Rattle.hprof_grammar.specs.Dump.{id_of}
 use Rattle.hprof_grammar.specs.SubRecord.{SubRecord}
 use Rattle.heap_graph.specs.Heap.{objects}
 use Rattle.heap_graph.specs.working.CountedIds.{AreCountedOf}

@@ -3,7 +3,8 @@ use Rattle.std.proofs.Common.{Bool, List, [], ap, arith, filter, flat_map, lengt
 use Rattle.std.proofs.lemmas.List.{length-map}
 use Rattle.std.proofs.lemmas.List.Sums.{count_by-le-length, length-filter}
 use Rattle.byteorder.specs.Endian.{big_bytes}
-use Rattle.hprof_grammar.specs.Dump.{IsDumpOf, Places, header, is_object, is_root, limit, spellings}
+use Rattle.hprof_grammar.specs.Dump.{header, is_object, is_root, limit, spellings}
+use Rattle.hprof_grammar.specs.Places.{IsDumpOf, Places}
 use Rattle.hprof_grammar.specs.Record.{Record, body_of, record_spelling, subs_of, time_of}
 use Rattle.hprof_grammar.specs.Record.Record.{heap, load_class, other, string}
 use Rattle.hprof_grammar.specs.Standing.{IsPlaced}

@@ -10,7 +10,7 @@ use Rattle.hprof_grammar.specs.Spelling.{AreAllowed, IsAllowed}
 use Rattle.hprof_grammar.specs.Spelling.Field.{number}
 use Rattle.hprof_grammar.specs.SubRecord.{Class, Member, class_fields, constant_fields, member_fields, static_fields}
 use Rattle.hprof_grammar.specs.Tables.{is_type_at, size_of}
-use Rattle.hprof_grammar.specs.declared.format_tables.TypePlace.TheVariants.{InMember}
+use Rattle.hprof_grammar.specs.declared.kinds.TypePlace.TheVariants.{InMember}
 use Rattle.heap_graph.specs.Layout.{field_ids}
 use Rattle.heap_graph.specs.working.ClassTable.{own_types}
 use Rattle.heap_graph.specs.working.TypedFields.{typed_ids}

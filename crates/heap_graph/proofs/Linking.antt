@@ -2,7 +2,7 @@
 use Rattle.std.proofs.Common.{Bool, List, None, Option, Some, ap, cond, false, refl, slice_get, sym, true, ℕ, ◌∙◌, ◌≡◌}
 use Rattle.std.specs.Prelude.{option_and_then, ◌==◌}
 use Rattle.std.proofs.lemmas.Bool.{eqb-true}
-use Rattle.hprof_grammar.specs.Standing.{id_of}
+use Rattle.hprof_grammar.specs.Dump.{id_of}
 use Rattle.hprof_grammar.specs.SubRecord.{Class, Instance, ObjectArray, SubRecord}
 use Rattle.hprof_grammar.specs.SubRecord.SubRecord.{class_dump, instance_dump, object_array_dump, primitive_array_dump, root}
 use Rattle.heap_graph.specs.declared.rule.LinkRule.TheVariants.{UnknownClass}

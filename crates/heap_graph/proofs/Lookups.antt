@@ -3,7 +3,7 @@ use Rattle.std.proofs.Common.{Bool, List, None, Some, [], ap, arith, drop, false
 use Rattle.std.specs.Prelude.{if◌then◌else◌, ◌==◌}
 use Rattle.std.proofs.lemmas.Bool.{eq-eqb, ne_eqb}
 use Rattle.std.proofs.lemmas.Option.{slice_get-get_or}
-use Rattle.hprof_grammar.specs.Dump.{is_load, is_string}
+use Rattle.hprof_grammar.specs.Places.{is_load, is_string}
 use Rattle.hprof_grammar.specs.Record.{Record}
 use Rattle.hprof_grammar.specs.Record.Record.{heap, load_class, other, string}
 use Rattle.hprof_grammar.specs.Standing.{RecordStands, Sight}

@@ -11,7 +11,7 @@ use Rattle.hprof_grammar.specs.Spelling as spelling
 use Rattle.hprof_grammar.specs.SubRecord.{IsStatic, IsSubRecord, Static, SubRecord, constant_fields, member_fields, spelling_of, static_fields}
 use Rattle.hprof_grammar.specs.SubRecord.SubRecord.{class_dump, instance_dump, object_array_dump, primitive_array_dump, root}
 use Rattle.hprof_grammar.specs.Tables.{is_id_size, is_type_at, size_of}
-use Rattle.hprof_grammar.specs.declared.format_tables.TypePlace.TheVariants.{InArray, InStatic}
+use Rattle.hprof_grammar.specs.declared.kinds.TypePlace.TheVariants.{InArray, InStatic}
 use Rattle.heap_graph.specs.Rows.{bytes_of}
 
 -- ---- two facts of the tables

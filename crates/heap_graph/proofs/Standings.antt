@@ -3,9 +3,9 @@ use Rattle.std.proofs.Common.{Bool, List, None, Option, Some, [], ap, arith, con
 use Rattle.std.specs.Prelude.{option_and_then, position, ◌==◌}
 use Rattle.std.proofs.lemmas.List.{length-map}
 use Rattle.std.proofs.lemmas.Option.{slice_get-get_or}
-use Rattle.hprof_grammar.specs.Dump.{is_object}
+use Rattle.hprof_grammar.specs.Dump.{id_of, is_object}
 use Rattle.hprof_grammar.specs.ObjectKinds.{object_kind}
-use Rattle.hprof_grammar.specs.Standing.{Sight, Stands, id_of}
+use Rattle.hprof_grammar.specs.Standing.{Sight, Stands}
 use Rattle.hprof_grammar.specs.SubRecord.{Class, Instance, ObjectArray, PrimitiveArray, SubRecord}
 use Rattle.hprof_grammar.specs.SubRecord.SubRecord.{class_dump, instance_dump, object_array_dump, primitive_array_dump, root}
 use Rattle.hprof_grammar.specs.declared.view.ObjectKind.{ObjectKind}

@@ -6,7 +6,8 @@ use Rattle.std.proofs.lemmas.Bool.{cases_order, eq-eqb, eqb-true, lt-ltb, ne_eqb
 use Rattle.std.proofs.lemmas.List.{drop-append-le, length-drop, map-append, take-append-le, take_all}
 use Rattle.std.proofs.lemmas.List.Elements.{Contains-append_cases, Contains-append_left, Contains-append_right, filter_map-append}
 use Rattle.std.proofs.Math.Seq.{drop-append_seam, take-length}
-use Rattle.hprof_grammar.specs.Standing.{Sight, Stands, id_of}
+use Rattle.hprof_grammar.specs.Standing.{Sight, Stands}
+use Rattle.hprof_grammar.specs.Dump.{id_of}
 use Rattle.hprof_grammar.specs.SubRecord.{Class, SubRecord}
 use Rattle.hprof_grammar.specs.SubRecord.SubRecord.{class_dump}
 use Rattle.heap_graph.specs.declared.rule.LinkRule.TheVariants.{DuplicateObject, ZeroObject}

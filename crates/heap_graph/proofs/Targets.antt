@@ -1,7 +1,7 @@
 -- What identifiers name, from the identifiers of the objects and from the heap list.
 use Rattle.std.proofs.Common.{Bool, List, None, Option, ap, cond, count_by, false, map, ℕ, ◌∙◌, ◌≡◌}
 use Rattle.std.specs.Prelude.{filter_map, is_none, ◌==◌}
-use Rattle.hprof_grammar.specs.Standing.{id_of}
+use Rattle.hprof_grammar.specs.Dump.{id_of}
 use Rattle.hprof_grammar.specs.SubRecord.{SubRecord}
 use Rattle.heap_graph.specs.Heap.{objects}
 use Rattle.heap_graph.specs.References.{is_unresolved, target_of, targets}

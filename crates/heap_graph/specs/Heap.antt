@@ -4,7 +4,7 @@ use Rattle.std.specs.List.{position_or_len}
 use Rattle.hprof_grammar.specs.Dump.{is_object}
 use Rattle.hprof_grammar.specs.SubRecord.{Class, SubRecord}
 use Rattle.hprof_grammar.specs.SubRecord.SubRecord.{class_dump}
-pub use Rattle.hprof_grammar.specs.Standing.{heap_of, id_of}
+pub use Rattle.hprof_grammar.specs.Dump.{heap_of, id_of}
 
 -- The sub-records that describe objects, in order. An object's number is its place here.
 abbrev pub objects : List SubRecord → List SubRecord

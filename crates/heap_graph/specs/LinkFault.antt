@@ -3,7 +3,8 @@ use Rattle.std.specs.Prelude.{List, Some, map, slice_get, ℕ, ◌<◌, ◌≡�
 use Rattle.heap_graph.specs.Heap.{heap_of}
 use Rattle.heap_graph.specs.Linked.{Fails}
 use Rattle.hprof_grammar.specs.Record.{IsOrderly, Record, tag_of}
-use Rattle.hprof_grammar.specs.Dump.{Spells, heap_list, is_object, places_where}
+use Rattle.hprof_grammar.specs.Dump.{Spells, heap_list, is_object}
+use Rattle.hprof_grammar.specs.Dump.{places_where}
 use Rattle.hprof_grammar.specs.SubRecord.{SubRecord}
 use Rattle.heap_graph.specs.declared.rule.LinkRule.{LinkRule}
 use Rattle.heap_graph.specs.declared.rule.LinkRule.TheVariants.{DuplicateObject, InstanceSize, SuperChain, TooLarge, UnknownClass, ZeroObject}

@@ -1,7 +1,7 @@
 //! The texts that name classes.
 
 ghost use Rattle.std.specs.Prelude.{IfOk, List, filter, map, ◌≡◌, option_copied};
-ghost use Rattle.hprof_grammar.specs.Dump.{is_load, is_string};
+ghost use Rattle.hprof_grammar.specs.Places.{is_load, is_string};
 ghost use Rattle.hprof_grammar.specs.Record.{Record};
 ghost use Rattle.heap_graph.specs.ClassNames as named;
 ghost use Rattle.heap_graph.specs.working.PlacedNames.{AreNamesByIdOf, AreNamesOf, loaded_id, string_id};

@@ -8,7 +8,8 @@ pub(crate) mod table;
 mod unresolved;
 
 ghost use Rattle.hprof_grammar.specs.SubRecord.{SubRecord};
-ghost use Rattle.hprof_grammar.specs.Standing.{StandInTurn, Stands, id_of};
+ghost use Rattle.hprof_grammar.specs.Standing.{StandInTurn, Stands};
+ghost use Rattle.hprof_grammar.specs.Dump.{id_of};
 ghost use Rattle.std.specs.Prelude.{IfOk, List, length, map, ◌<◌, ◌^◌, ◌≡◌};
 
 use crate::classes::{Classes, Fate};

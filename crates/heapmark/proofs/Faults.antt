@@ -6,7 +6,9 @@ use Rattle.heap_graph.specs.LinkFault.{HasLinkFault, IsFirstFault, code_of}
 use Rattle.heap_graph.specs.Linked.{Fails, IsAccepted}
 use Rattle.heap_graph.specs.declared.rule.LinkRule.{LinkRule}
 use Rattle.heapmark.specs.Answer.{FirstFaultOf, IsAcceptedText}
-use Rattle.hprof_grammar.specs.Dump.{IsDumpOf, Places, Spells, heap_list, is_object, places_of, places_where}
+use Rattle.hprof_grammar.specs.Dump.{Spells, heap_list, is_object}
+use Rattle.hprof_grammar.specs.Dump.{places_where}
+use Rattle.hprof_grammar.specs.Places.{IsDumpOf, Places, places_of}
 use Rattle.hprof_grammar.specs.Fault.{FirstFault}
 use Rattle.hprof_grammar.specs.Record.{IsOrderly, Record, tag_of}
 use Rattle.hprof_grammar.specs.SubRecord.{SubRecord}

@@ -4,23 +4,22 @@ use Rattle.std.specs.List.{starts_with}
 use Rattle.std.specs.Prelude.{nat_eq, nat_lt, ◌==◌}
 use Rattle.std.proofs.lemmas.Bool.Decides.{nat_tests}
 use Rattle.byteorder.specs.Endian.{big_bytes, big_number}
-use Rattle.hprof_grammar.specs.Dump.{Places, limit, magic}
-use Rattle.hprof_grammar.specs.Fault.{AreBytes, HasFirstFault, SpellsDump}
+use Rattle.hprof_grammar.specs.Dump.{limit, magic}
+use Rattle.hprof_grammar.specs.Places.{Places}
+use Rattle.hprof_grammar.specs.Laws.{AreBytes, HasFirstFault, SpellsDump}
 use Rattle.hprof_grammar.specs.Fault.FirstFault.{bad_header, short_header, too_large}
 use Rattle.hprof_grammar.specs.working.Joining.{AddsAll, AddsRecord, AddsRecords, AddsSubs, FrameFault, HasHeader, HasRecordFault, HasSubFault, noted, nothing_of, with_loaded, with_string}
 use Rattle.hprof_grammar.specs.working.Joining.FrameFault.{wrong_length, wrong_order}
 use Rattle.hprof_grammar.specs.working.SnapshotOrder.{StepsTo, is_done}
 use Rattle.hprof_grammar.specs.working.Reading.{behind, code_of, frame_at, sub_record_at}
 use Rattle.hprof_grammar.specs.Record.{framed}
-use Rattle.hprof_grammar.specs.SubRecord.{IsSubRecord, SubRecord, origin_kind, spelling_of, tag_of}
-use Rattle.hprof_grammar.specs.SubRecord.SubRecord.{class_dump, instance_dump, object_array_dump, primitive_array_dump, root}
-use Rattle.hprof_grammar.specs.Tables.{is_heap_tag, is_id_size, is_length_of, is_snapshot_tag, kind_of}
+use Rattle.hprof_grammar.specs.SubRecord.{SubRecord, spelling_of}
+use Rattle.hprof_grammar.specs.Kinds.{sub_kind}
+use Rattle.hprof_grammar.specs.Tables.{is_heap_tag, is_id_size, is_length_of, is_snapshot_tag}
 use Rattle.hprof_grammar.specs.declared.flaw.Flaw.{Flaw}
 use Rattle.hprof_grammar.specs.declared.flaw.FormatFault.{FormatFault}
 use Rattle.hprof_grammar.specs.declared.snapshot_order.Order.{Order}
 use Rattle.hprof_grammar.specs.declared.snapshot_order.Order.TheVariants.{Before, Ended, Segments, Whole}
-use Rattle.hprof_grammar.specs.declared.format_tables.Kind.{Kind}
-use Rattle.hprof_grammar.specs.declared.format_tables.Kind.TheVariants as kinds
 use Rattle.hprof_grammar.proofs.Bytes.{IsBytes, bytes-behind, bytes-drop, bytes-front}
 use Rattle.hprof_grammar.proofs.Framed.{IsPlacedFrame, heap_broken, heap_framed, load_framed, other_framed, string_framed}
 use Rattle.hprof_grammar.proofs.Frames.{FrameTaken, cut_record, frame_takes}
@@ -29,6 +28,7 @@ use Rattle.hprof_grammar.proofs.Heaps.{step_more, subs_fault}
 use Rattle.hprof_grammar.proofs.SnapshotOrderLaws.{first_segment, next_segment, no_dump_in_segments, no_end_first, no_more, others_keep, segments_end, whole_comes}
 use Rattle.hprof_grammar.proofs.RecordSteps.{records_begin, records_step}
 use Rattle.hprof_grammar.proofs.SubRecords.{sub_takes}
+use Rattle.hprof_grammar.proofs.TableLaws.{kind_says}
 use Rattle.hprof_grammar.proofs.Wholes.{bytes_left, fault_at_end, fault_in_record, fault_where_cut, frame_room}
 
 -- ---- tests
@@ -49,13 +49,6 @@ is_or_not a b = by (a == b) refl
 
 -- ---- the sub-records of a heap record
 
-known_kind : (s : ℕ) (x : SubRecord) → IsSubRecord s x → (kind : Kind) × (kind_of (tag_of x) ≡ Some kind)
-known_kind s (root r) h = (kinds.Root (origin_kind r.origin), h.formed.0)
-known_kind s (class_dump c) h = (kinds.Class, h.formed.0)
-known_kind s (instance_dump i) h = (kinds.Instance, h.formed.0)
-known_kind s (object_array_dump a) h = (kinds.ObjectArray, h.formed.0)
-known_kind s (primitive_array_dump a) h = (kinds.PrimitiveArray, h.formed.0)
-
 abbrev SubsTold : ℕ → List ℕ → Places → Type 0
 SubsTold at body old = ((new : Places) × AddsSubs at body [] old new) ⊎ ((fault : FormatFault) × HasSubFault old.id_size at body fault)
 
@@ -72,10 +65,11 @@ module _ (fuel at : ℕ) (body : List ℕ) (tag : ℕ) (rest : List ℕ) (old ne
   )
   sub_told (Ok z) e =
       let taken = sub_takes old.id_size (tag ∷ rest) z bytes_here e in
-      let kind = known_kind old.id_size z.0 taken.is in
+      let kind = sub_kind z.0 in
       let place = at + length (flat_map (spelling_of old.id_size) adds.subs) in
       let shorter : length z.1 ≤ fuel = omega (arith, room, ap length taken.bytes_are, length-append (spelling_of old.id_size z.0) z.1) in
-      others z.1 (noted new kind.0 place) shorter (step_more at body (tag ∷ rest) z.1 old new kind.0 place z.0 adds taken.is taken.bytes_are kind.1 refl)
+      others z.1 (noted new kind place) shorter (step_more at body (tag ∷ rest) z.1 old new kind place z.0 adds
+      taken.is taken.bytes_are (kind_says z.0) refl)
 
 subs_told : (fuel at : ℕ) (body rest : List ℕ) (old new : Places) → length rest ≤ fuel → IsBytes body → AddsSubs at body rest old new → SubsTold at body old
 subs_told fuel at body [] old new room h adds = inl (new, adds)

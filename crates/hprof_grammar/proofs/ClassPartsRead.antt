@@ -10,7 +10,7 @@ use Rattle.hprof_grammar.specs.Spelling.Field.{number}
 use Rattle.hprof_grammar.specs.SubRecord.{Class, Constant, IsConstant, IsStatic, Static, constant_fields, member_fields, static_fields}
 use Rattle.hprof_grammar.specs.SubRecord.SubRecord.{class_dump}
 use Rattle.hprof_grammar.specs.Tables.{size_of}
-use Rattle.hprof_grammar.specs.declared.format_tables.TypePlace.TheVariants.{InConstant, InStatic}
+use Rattle.hprof_grammar.specs.declared.kinds.TypePlace.TheVariants.{InConstant, InStatic}
 use Rattle.hprof_grammar.specs.Standing.{Sight, Stands}
 use Rattle.hprof_grammar.specs.Series.{HasCountedValues, LabelledValue, behind_counted_values, count_in, counted_values_in, members_in, of_constant, of_static}
 use Rattle.hprof_grammar.specs.working.ClassParts.{IsPartOf, counted_fields, fields_from_constants, fields_from_members, fields_from_statics}

@@ -3,12 +3,12 @@ use Rattle.std.proofs.Common.{List, Some, [], ap, arith, drop, length, map, refl
 use Rattle.hprof_grammar.specs.Spelling.{Field, spelled}
 use Rattle.hprof_grammar.specs.Spelling.Field.{number, raw, type_code}
 use Rattle.hprof_grammar.specs.Tables.{size_of}
-use Rattle.hprof_grammar.specs.declared.format_tables.TypePlace.TheVariants.{InArray}
+use Rattle.hprof_grammar.specs.declared.kinds.TypePlace.TheVariants.{InArray}
 use Rattle.hprof_grammar.specs.SubRecord.{Class, Instance, ObjectArray, PrimitiveArray, SubRecord, class_fields, fields_of, tag_of, instance_fields, object_array_fields, primitive_array_fields}
 use Rattle.hprof_grammar.specs.SubRecord.SubRecord.{class_dump, instance_dump, object_array_dump, primitive_array_dump, root}
-use Rattle.hprof_grammar.specs.Standing.{Sight, Stands, StandsAt, id_of, stack_of}
+use Rattle.hprof_grammar.specs.Standing.{Sight, Stands, StandsAt, stack_of}
+use Rattle.hprof_grammar.specs.Dump.{id_of, is_object}
 use Rattle.hprof_grammar.specs.working.ClassParts.{ids_behind_stack}
-use Rattle.hprof_grammar.specs.Dump.{is_object}
 use Rattle.hprof_grammar.specs.Series.{numbers_in}
 use Rattle.hprof_grammar.proofs.Fields.{spelled-append}
 use Rattle.hprof_grammar.proofs.SeriesRead.{numbers_again, widths-numbers}

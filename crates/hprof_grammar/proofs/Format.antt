@@ -8,7 +8,7 @@ use Rattle.hprof_grammar.specs.working.Reading.{number_at, raw_at, type_at, ◌>
 use Rattle.hprof_grammar.specs.Spelling.{AreAllowed, Field, spelled}
 use Rattle.hprof_grammar.specs.Spelling.Field.{number, raw, type_code}
 use Rattle.hprof_grammar.specs.Tables.{is_type_at}
-use Rattle.hprof_grammar.specs.declared.format_tables.TypePlace.{TypePlace}
+use Rattle.hprof_grammar.specs.declared.kinds.TypePlace.{TypePlace}
 use Rattle.hprof_grammar.specs.declared.flaw.Flaw.{Flaw}
 use Rattle.hprof_grammar.specs.declared.flaw.Flaw.TheVariants.{Short, UnknownTag, WrongType}
 use Rattle.hprof_grammar.proofs.Bytes.{IsBytes, behind_bytes, behind_number, bytes-join, bytes_of_number, first_bytes, length-big_bytes, number-lt, number_parts, number_read, zeros-bytes}

@@ -5,7 +5,7 @@ use Rattle.hprof_grammar.specs.working.Reading.{class_at, constant_at, instance_
 use Rattle.hprof_grammar.specs.Spelling.Field.{number}
 use Rattle.hprof_grammar.specs.SubRecord.{Class, Constant, Instance, IsClass, IsConstant, IsInstance, IsMember, IsObjectArray, IsPrimitiveArray, IsStatic, Member, ObjectArray, PrimitiveArray, Static, class_fields, constant_fields, instance_fields, member_fields, object_array_fields, primitive_array_fields, static_fields}
 use Rattle.hprof_grammar.specs.Tables.{size_of}
-use Rattle.hprof_grammar.specs.declared.format_tables.TypePlace.TheVariants.{InArray, InConstant, InMember, InStatic}
+use Rattle.hprof_grammar.specs.declared.kinds.TypePlace.TheVariants.{InArray, InConstant, InMember, InStatic}
 use Rattle.hprof_grammar.proofs.Format.{IsFormat, number_format, raw_format, type_format}
 use Rattle.hprof_grammar.proofs.Combined.{as_format, counted_format, list_format, pair_format}
 

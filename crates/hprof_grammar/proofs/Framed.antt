@@ -3,7 +3,7 @@ use Rattle.std.proofs.Common.{List, [], ap, arith, drop, length, refl, subst, sy
 use Rattle.std.proofs.Math.ListN.{drop_of_length-le}
 use Rattle.std.proofs.lemmas.List.{append-nil, length-drop}
 use Rattle.byteorder.specs.Endian.{big_bytes, big_number}
-use Rattle.hprof_grammar.specs.Dump.{Places}
+use Rattle.hprof_grammar.specs.Places.{Places}
 use Rattle.hprof_grammar.specs.working.Joining.{AddsRecord, AddsSubs, FrameFault, HasSubFault, with_loaded, with_string}
 use Rattle.hprof_grammar.specs.working.Joining.FrameFault.{wrong_heap}
 use Rattle.hprof_grammar.specs.working.SnapshotOrder.{IsAt}

@@ -9,7 +9,7 @@ use Rattle.hprof_grammar.specs.Spelling.{EndsShort, Field, spelled}
 use Rattle.hprof_grammar.specs.Spelling.Field.{number, raw, type_code}
 use Rattle.hprof_grammar.specs.declared.flaw.Flaw.{Flaw}
 use Rattle.hprof_grammar.specs.declared.flaw.Flaw.TheVariants.{Short, UnknownTag, WrongType}
-use Rattle.hprof_grammar.specs.declared.format_tables.TypePlace.{TypePlace}
+use Rattle.hprof_grammar.specs.declared.kinds.TypePlace.{TypePlace}
 use Rattle.hprof_grammar.proofs.Bytes.{IsBytes, bytes-tail}
 use Rattle.hprof_grammar.proofs.Fields.{Breaks, ends_short, has_wrong_type, spelled-append}
 use Rattle.hprof_grammar.proofs.Format.{IsFormat, bind_err, bind_ok, number_format, raw_format}

@@ -7,7 +7,8 @@ use Rattle.std.proofs.lemmas.Bool.Decides.{Decides-eqb}
 use Rattle.std.proofs.lemmas.List.{append-nil, drop-drop, length-drop}
 use Rattle.std.proofs.lemmas.Slice.Eq.{starts_is}
 use Rattle.byteorder.specs.Endian.{big_bytes, big_number}
-use Rattle.hprof_grammar.specs.Dump.{IsDumpOf, Places, header, limit, magic, spellings}
+use Rattle.hprof_grammar.specs.Dump.{header, limit, magic, spellings}
+use Rattle.hprof_grammar.specs.Places.{IsDumpOf, Places}
 use Rattle.hprof_grammar.specs.Fault.{FirstFault, HasMagic}
 use Rattle.hprof_grammar.specs.Fault.FirstFault.{bad_header, bad_id_size, in_records, short_header, too_large}
 use Rattle.hprof_grammar.specs.working.Joining.{AddsAll, HasHeader, HasRecordFault, nothing_of}

@@ -5,21 +5,22 @@ use Rattle.std.specs.Option.{option_and_then}
 use Rattle.std.proofs.lemmas.List.{append-nil, length-append, map-append}
 use Rattle.std.proofs.lemmas.List.Elements.{filter-append}
 use Rattle.std.proofs.lemmas.Grind.{flat_map-append}
-use Rattle.hprof_grammar.specs.Dump.{Places, is_object, is_root, placed_subs, places_where}
+use Rattle.hprof_grammar.specs.Dump.{is_object, is_root, placed_subs, places_where}
+use Rattle.hprof_grammar.specs.Places.{Places}
 use Rattle.hprof_grammar.specs.Fault.{LongestSubs, SubFault}
 use Rattle.hprof_grammar.specs.working.Joining.{AddsSubs, HasSubFault, noted, with_subs}
 use Rattle.hprof_grammar.specs.working.Reading.{behind, code_of, sub_record_at}
-use Rattle.hprof_grammar.specs.SubRecord.{IsSubRecord, SubRecord, origin_kind, spelling_of, tag_of}
+use Rattle.hprof_grammar.specs.SubRecord.{IsSubRecord, SubRecord, spelling_of, tag_of}
+use Rattle.hprof_grammar.specs.Kinds.{kind_of, sub_kind}
 use Rattle.hprof_grammar.specs.SubRecord.SubRecord.{class_dump, instance_dump, object_array_dump, primitive_array_dump, root}
-use Rattle.hprof_grammar.specs.Tables.{kind_of}
-use Rattle.hprof_grammar.specs.declared.format_tables.Kind.{Kind}
-use Rattle.hprof_grammar.specs.declared.format_tables.Kind.TheVariants as kinds
+use Rattle.hprof_grammar.specs.declared.kinds.Kind.{Kind}
 use Rattle.hprof_grammar.specs.declared.flaw.Flaw.{Flaw}
 use Rattle.hprof_grammar.specs.declared.flaw.FormatFault.{FormatFault}
 use Rattle.hprof_grammar.proofs.Bytes.{IsBytes, bytes-behind}
 use Rattle.hprof_grammar.proofs.Fields.{all_join}
 use Rattle.hprof_grammar.proofs.Fronts.{longest_front, same_fronts}
 use Rattle.hprof_grammar.proofs.SubRecords.{sub_again, sub_fails, sub_takes, subs_determined}
+use Rattle.hprof_grammar.proofs.TableLaws.{kind_says}
 
 abbrev texts : ℕ → List SubRecord → List ℕ
 texts s subs = flat_map (spelling_of s) subs
@@ -81,22 +82,18 @@ one_more p at subs x place e =
     ) refl
 
 -- what the tag of a sub-record says
-kind_is : (s : ℕ) (x : SubRecord) (kind : Kind) → IsSubRecord s x → kind_of (tag_of x) ≡ Some kind → (p : Places) (at : ℕ) → noted p kind at ≡ with_subs p at (x ∷ [])
-kind_is s (root r) kind h e p at =
-    let same : kinds.Root (origin_kind r.origin) ≡ kind = (let both = sym h.formed.0 ∙ e in cc) in
-    subst (λ (k : Kind). noted p k at ≡ with_subs p at (root r ∷ [])) same (rw (append-nil p.objects) refl)
-kind_is s (class_dump c) kind h e p at =
-    let same : kinds.Class ≡ kind = (let both = sym h.formed.0 ∙ e in cc) in
-    subst (λ (k : Kind). noted p k at ≡ with_subs p at (class_dump c ∷ [])) same (rw (append-nil p.roots) refl)
-kind_is s (instance_dump i) kind h e p at =
-    let same : kinds.Instance ≡ kind = (let both = sym h.formed.0 ∙ e in cc) in
-    subst (λ (k : Kind). noted p k at ≡ with_subs p at (instance_dump i ∷ [])) same (rw (append-nil p.roots) refl)
-kind_is s (object_array_dump a) kind h e p at =
-    let same : kinds.ObjectArray ≡ kind = (let both = sym h.formed.0 ∙ e in cc) in
-    subst (λ (k : Kind). noted p k at ≡ with_subs p at (object_array_dump a ∷ [])) same (rw (append-nil p.roots) refl)
-kind_is s (primitive_array_dump a) kind h e p at =
-    let same : kinds.PrimitiveArray ≡ kind = (let both = sym h.formed.0 ∙ e in cc) in
-    subst (λ (k : Kind). noted p k at ≡ with_subs p at (primitive_array_dump a ∷ [])) same (rw (append-nil p.roots) refl)
+kind_noted : (x : SubRecord) (p : Places) (at : ℕ) → noted p (sub_kind x) at ≡ with_subs p at (x ∷ [])
+kind_noted (root r) p at = rw (append-nil p.objects) refl
+kind_noted (class_dump c) p at = rw (append-nil p.roots) refl
+kind_noted (instance_dump i) p at = rw (append-nil p.roots) refl
+kind_noted (object_array_dump a) p at = rw (append-nil p.roots) refl
+kind_noted (primitive_array_dump a) p at = rw (append-nil p.roots) refl
+
+kind_is : (x : SubRecord) (kind : Kind) → kind_of (tag_of x) ≡ Some kind → (p : Places) (at : ℕ)
+    → noted p kind at ≡ with_subs p at (x ∷ [])
+kind_is x kind e p at =
+    let same : sub_kind x ≡ kind = (let both = sym (kind_says x) ∙ e in cc) in
+    subst (λ (k : Kind). noted p k at ≡ with_subs p at (x ∷ [])) same (kind_noted x p at)
 
 -- ---- the loop over the sub-records: at each turn, and at a flaw
 
@@ -109,7 +106,7 @@ step_more at body rest left old new kind place x adds is here says e = record {
       ∙ sym (append_assoc (texts old.id_size adds.subs) (texts old.id_size (x ∷ [])) left) ∙ ap (λ (l : List ℕ). l ++ left) (sym (flat_map-append (spelling_of old.id_size) adds.subs (x ∷ [])));
   each = all_join (IsSubRecord old.id_size) adds.subs (x ∷ []) adds.each (is, tt);
   joined =
-      ap (λ (p : Places). noted p kind place) adds.joined ∙ kind_is old.id_size x kind is says (with_subs old at adds.subs) place
+      ap (λ (p : Places). noted p kind place) adds.joined ∙ kind_is x kind says (with_subs old at adds.subs) place
       ∙ sym (one_more old at adds.subs x place e);
 }
 

@@ -3,7 +3,8 @@ use Rattle.std.proofs.Common.{List, [], ap, arith, false, length, refl, sym, tru
 use Rattle.std.specs.List.{AllByRecursion}
 use Rattle.std.proofs.lemmas.List.{append-nil}
 use Rattle.byteorder.specs.Endian.{big_bytes}
-use Rattle.hprof_grammar.specs.Dump.{IsDumpOf, Places, Spells, places_of, spellings}
+use Rattle.hprof_grammar.specs.Dump.{Spells, spellings}
+use Rattle.hprof_grammar.specs.Places.{IsDumpOf, Places, places_of}
 use Rattle.hprof_grammar.specs.Record.{HasParts, IsRecord, Record, body_of, record_spelling, tag_of, time_of}
 use Rattle.hprof_grammar.specs.Record.Record.{heap, load_class, other, string}
 use Rattle.hprof_grammar.specs.SubRecord.{IsSubRecord, SubRecord, spelling_of}

@@ -3,7 +3,8 @@ use Rattle.std.proofs.Common.{List, [], ap, arith, false, length, map, refl, sub
 use Rattle.std.specs.List.{AllByRecursion, flat_map}
 use Rattle.std.proofs.lemmas.List.{append-nil, length-append}
 use Rattle.byteorder.specs.Endian.{big_bytes}
-use Rattle.hprof_grammar.specs.Dump.{IsDumpOf, Places, header, magic, spellings}
+use Rattle.hprof_grammar.specs.Dump.{header, magic, spellings}
+use Rattle.hprof_grammar.specs.Places.{IsDumpOf, Places}
 use Rattle.hprof_grammar.specs.Fault.{FirstFault, HasMagic, LongestRecords, LongestSubs, RecordFault, SubFault}
 use Rattle.hprof_grammar.specs.Fault.FirstFault.{bad_header, bad_id_size, in_records, short_header, too_large}
 use Rattle.hprof_grammar.specs.Fault.RecordFault.{bad_length, in_heap, no_snapshot, out_of_order, truncated}

@@ -4,7 +4,8 @@ use Rattle.std.specs.List.{flat_map}
 use Rattle.std.proofs.lemmas.List.{append-nil, length-append, map-append}
 use Rattle.std.proofs.lemmas.List.Elements.{filter-append}
 use Rattle.std.proofs.lemmas.Grind.{flat_map-append}
-use Rattle.hprof_grammar.specs.Dump.{Places, heap_list, is_load, is_object, is_root, is_string, placed, placed_subs, places_where, spellings}
+use Rattle.hprof_grammar.specs.Dump.{heap_list, is_object, is_root, placed, placed_subs, places_where, spellings}
+use Rattle.hprof_grammar.specs.Places.{Places, is_load, is_string}
 use Rattle.hprof_grammar.specs.working.Joining.{AddsRecord, AddsRecords, with_record, with_records}
 use Rattle.hprof_grammar.specs.working.SnapshotOrder.{IsAt}
 use Rattle.hprof_grammar.specs.Record.{HasParts, IsRecord, Record, body_of, framed, record_spelling, subs_of, tag_of, time_of}

@@ -1,15 +1,16 @@
 -- The fields of roots, each at its place.
-use Rattle.std.proofs.Common.{List, Some, [], arith, refl, subst, ℕ, ◌+◌, ◌<◌, ◌^◌, ◌∷◌, ◌≡◌}
+use Rattle.std.proofs.Common.{List, Some, [], ap, arith, refl, slice_index, subst, ℕ, ◌+◌, ◌<◌, ◌^◌, ◌∙◌, ◌∷◌, ◌≡◌}
 use Rattle.hprof_grammar.specs.RootFields.{RootSays, frame_of, reference_of, thread_of, trace_of}
 use Rattle.hprof_grammar.specs.Spelling.{Field, spelled}
 use Rattle.hprof_grammar.specs.Spelling.Field.{number}
 use Rattle.hprof_grammar.specs.Standing.{Sight, Stands, StandsAt}
-use Rattle.hprof_grammar.specs.SubRecord.{Root, RootOrigin, SubRecord, origin_kind, root_fields, tag_of}
+use Rattle.hprof_grammar.specs.SubRecord.{Root, RootOrigin, SubRecord, root_fields, tag_of}
+use Rattle.hprof_grammar.specs.Kinds.{kind_of, origin_kind}
 use Rattle.hprof_grammar.specs.SubRecord.RootOrigin.{java_frame, jni_global, jni_local, monitor_used, native_stack, sticky_class, thread_block, thread_object, unknown}
 use Rattle.hprof_grammar.specs.SubRecord.SubRecord.{root}
-use Rattle.hprof_grammar.specs.Tables.{kind_of, root_tag}
-use Rattle.hprof_grammar.specs.declared.format_tables.Kind.TheVariants as kinds
+use Rattle.hprof_grammar.specs.declared.kinds.Kind.TheVariants as kinds
 use Rattle.hprof_grammar.proofs.Places.{ByteAt, NumberAt, Spell, byte_read, in_sight, number_stands, sub_stands}
+use Rattle.hprof_grammar.proofs.TableLaws.{kind_says}
 
 abbrev rooted : ℕ → RootOrigin → SubRecord
 rooted object origin = root (record { object = object; origin = origin })
@@ -98,15 +99,13 @@ root_frame {v} {w} e at n h = frame_stands w.id_size w.bytes at h.root_is.object
 pub root_trace : {v w : Sight} → w ≡ v → (at n : ℕ) → RootSays v at trace_of n → NumberAt w.bytes (at + 5 + w.id_size) 4 n
 root_trace {v} {w} e at n h = trace_stands w.id_size w.bytes at h.root_is.object n h.root_is.origin (in_sight v w at (root h.root_is) e h.stands) h.says
 
--- the tag of a root, and what it says
+-- the byte of a tag stands there, and says the kind of the root
 pub record RootTagAt (bytes : List ℕ) (at : ℕ) (r : Root) : Type 0 where
-  pub tag : ByteAt bytes at (root_tag (origin_kind r.origin))
-  pub says : kind_of (root_tag (origin_kind r.origin)) ≡ Some (kinds.Root (origin_kind r.origin))
+  pub tag : ByteAt bytes at (tag_of (root r))
+  pub says : kind_of (slice_index bytes at) ≡ Some (kinds.Root (origin_kind r.origin))
 
 pub root_tagged : {v w : Sight} → w ≡ v → (at : ℕ) (r : Root) → Stands v at (root r) → RootTagAt w.bytes at r
 root_tagged {v} {w} e at r h =
-    let here = in_sight v w at (root r) e h in
-    record {
-      tag = byte_read w.bytes at (root_tag (origin_kind r.origin)) (spelled (root_fields w.id_size r)) (sub_stands w.id_size w.bytes at (root r) here);
-      says = here.is.formed.0;
-    }
+    let spell = sub_stands w.id_size w.bytes at (root r) (in_sight v w at (root r) e h) in
+    let there = byte_read w.bytes at (tag_of (root r)) (spelled (root_fields w.id_size r)) spell in
+    record { tag = there; says = ap kind_of there.value ∙ kind_says (root r) }

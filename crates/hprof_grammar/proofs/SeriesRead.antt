@@ -9,7 +9,7 @@ use Rattle.hprof_grammar.specs.Spelling.{Field, spelled}
 use Rattle.hprof_grammar.specs.Spelling.Field.{number, raw, type_code}
 use Rattle.hprof_grammar.specs.SubRecord.{IsMember, Member, member_fields}
 use Rattle.hprof_grammar.specs.Tables.{size_of}
-use Rattle.hprof_grammar.specs.declared.format_tables.TypePlace.{TypePlace}
+use Rattle.hprof_grammar.specs.declared.kinds.TypePlace.{TypePlace}
 use Rattle.hprof_grammar.specs.Series.{HasValues, LabelledValue, behind_values, members_in, numbers_in, value_end, values_in}
 use Rattle.hprof_grammar.proofs.Fields.{spelled_then}
 use Rattle.hprof_grammar.proofs.Places.{widths}

@@ -4,11 +4,12 @@ use Rattle.std.proofs.lemmas.List.{append-nil, map-append}
 use Rattle.std.specs.List.{AllByRecursion}
 use Rattle.byteorder.specs.Endian.{big_bytes}
 use Rattle.byteorder.specs.Numbers.{length-bytes_high_first}
-use Rattle.hprof_grammar.specs.Dump.{IsDumpOf, Places, heap_list, header, is_load, is_object, is_root, is_string, placed, placed_subs, places_where, spellings}
+use Rattle.hprof_grammar.specs.Dump.{header, heap_list, heap_of, is_object, is_root, placed, placed_subs, places_where, spellings}
+use Rattle.hprof_grammar.specs.Places.{IsDumpOf, Places, is_load, is_string}
 use Rattle.hprof_grammar.specs.Record.{IsRecord, Record, body_of, framed, record_spelling, subs_of, tag_of, time_of}
 use Rattle.hprof_grammar.specs.Record.Record.{heap, load_class, other, string}
 use Rattle.hprof_grammar.specs.SubRecord.{IsSubRecord, SubRecord, spelling_of}
-use Rattle.hprof_grammar.specs.Standing.{IsPlaced, RecordStandsAt, StandInTurn, StandsAt, heap_of}
+use Rattle.hprof_grammar.specs.Standing.{IsPlaced, RecordStandsAt, StandInTurn, StandsAt}
 use Rattle.hprof_grammar.proofs.Fields.{all_join}
 use Rattle.hprof_grammar.proofs.Places.{Spell, first_stands, next_stands, some_stand}
 

@@ -1,11 +1,16 @@
 -- The few facts of the format's tables that proofs use.
-use Rattle.std.proofs.Common.{None, Option, Some, arith, true, ℕ, ◌*◌, ◌+◌, ◌<◌, ◌^◌, ◌≡◌, ◌≤◌}
+use Rattle.std.proofs.Common.{Bool, None, Option, Some, ap, arith, false, refl, sym, true, ℕ, ◌*◌, ◌+◌, ◌<◌, ◌^◌, ◌∙◌, ◌≡◌, ◌≤◌}
+use Rattle.std.specs.Prelude.{nat_le, ◌&&◌, ◌==◌, ◌||◌}
 use Rattle.std.proofs.lemmas.Bool.Decides.{nat_tests}
-use Rattle.hprof_grammar.specs.Tables.{is_heap_tag, is_id_size, is_length_of, kind_of, root_kind, root_of, root_tag}
-use Rattle.hprof_grammar.specs.declared.format_tables.Kind.{Kind}
-use Rattle.hprof_grammar.specs.declared.format_tables.RootKind.{RootKind}
-use Rattle.hprof_grammar.specs.declared.format_tables.RootKind.TheVariants as roots
-use Rattle.hprof_grammar.specs.declared.format_tables.Kind.TheVariants.{Class, Instance, ObjectArray, PrimitiveArray, Root}
+use Rattle.hprof_grammar.specs.Tables.{is_heap_tag, is_id_size, is_length_of, is_sub_tag}
+use Rattle.hprof_grammar.specs.Kinds.{kind_of, origin_kind, root_kind, root_of, root_tag, sub_kind}
+use Rattle.hprof_grammar.specs.SubRecord.{RootOrigin, SubRecord, origin_tag, tag_of}
+use Rattle.hprof_grammar.specs.SubRecord.RootOrigin.{java_frame, jni_global, jni_local, monitor_used, native_stack, sticky_class, thread_block, thread_object, unknown}
+use Rattle.hprof_grammar.specs.SubRecord.SubRecord.{class_dump, instance_dump, object_array_dump, primitive_array_dump, root}
+use Rattle.hprof_grammar.specs.declared.kinds.Kind.{Kind}
+use Rattle.hprof_grammar.specs.declared.kinds.RootKind.{RootKind}
+use Rattle.hprof_grammar.specs.declared.kinds.RootKind.TheVariants as roots
+use Rattle.hprof_grammar.specs.declared.kinds.Kind.TheVariants.{Class, Instance, ObjectArray, PrimitiveArray, Root}
 
 -- ---- identifiers have 4 or 8 bytes
 
@@ -72,6 +77,57 @@ tag_of_kind tag roots.ThreadObject h = grind (arith, nat_tests)
 
 pub root_tag_is : (tag : ℕ) (kind : RootKind) → kind_of tag ≡ Some (Root kind) → tag ≡ root_tag kind
 root_tag_is tag kind h = tag_of_kind tag kind (root_kind_found tag kind h)
+
+-- ---- the tag of a sub-record says its kind
+
+root_says : (o : RootOrigin) → kind_of (origin_tag o) ≡ Some (Root (origin_kind o))
+unfolding kind_of root_kind
+root_says unknown = refl
+root_says (jni_global reference) = refl
+root_says (jni_local thread frame) = refl
+root_says (java_frame thread frame) = refl
+root_says (native_stack thread) = refl
+root_says sticky_class = refl
+root_says (thread_block thread) = refl
+root_says monitor_used = refl
+root_says (thread_object thread stack) = refl
+
+pub kind_says : (x : SubRecord) → kind_of (tag_of x) ≡ Some (sub_kind x)
+unfolding kind_of
+kind_says (root r) = root_says r.origin
+kind_says (class_dump c) = refl
+kind_says (instance_dump i) = refl
+kind_says (object_array_dump a) = refl
+kind_says (primitive_array_dump a) = refl
+
+-- ---- the tags of sub-records are those that say a kind
+
+no_root_kind : (tag : ℕ) → is_sub_tag tag ≡ false → root_kind tag ≡ None
+unfolding is_sub_tag root_kind
+no_root_kind tag h = grind (arith, nat_tests)
+
+pub no_kind : (tag : ℕ) → is_sub_tag tag ≡ false → kind_of tag ≡ None
+unfolding is_sub_tag kind_of
+no_kind tag h = grind (arith, nat_tests, ap root_of (no_root_kind tag h))
+
+no_root : (r : Option RootKind) → root_of r ≡ None → r ≡ None
+no_root None e = refl
+no_root (Some kind) e = absurd (cc)
+
+no_root_tag : (tag : ℕ) → root_kind tag ≡ None → ((tag == 0xFF) || (nat_le 1 tag && nat_le tag 8)) ≡ false
+unfolding root_kind
+no_root_tag tag h = grind (arith, nat_tests)
+
+pub no_sub_tag : (tag : ℕ) → kind_of tag ≡ None → is_sub_tag tag ≡ false
+unfolding is_sub_tag kind_of
+no_sub_tag tag h = grind (arith, nat_tests, no_root (root_kind tag), no_root_tag tag)
+
+pub tag_known : (x : SubRecord) → is_sub_tag (tag_of x) ≡ true
+tag_known x = by (is_sub_tag (tag_of x)) refl
+  where
+    by : (t : Bool) → is_sub_tag (tag_of x) ≡ t → is_sub_tag (tag_of x) ≡ true
+    by true e = e
+    by false e = absurd (let both = sym (kind_says x) ∙ no_kind (tag_of x) e in cc)
 
 -- ---- the lengths of the records of which the body is read
 

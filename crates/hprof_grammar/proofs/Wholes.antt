@@ -2,7 +2,8 @@
 use Rattle.std.proofs.Common.{List, [], ap, append_assoc, arith, false, inl, inr, length, map, refl, subst, sym, true, ℕ, ◌++◌, ◌+◌, ◌-◌, ◌<◌, ◌∙◌, ◌∷◌, ◌≡◌, ◌≤◌}
 use Rattle.std.specs.List.{AllByRecursion, flat_map}
 use Rattle.std.proofs.lemmas.List.{append-nil, length-append, map-append}
-use Rattle.hprof_grammar.specs.Dump.{Places, spellings}
+use Rattle.hprof_grammar.specs.Dump.{spellings}
+use Rattle.hprof_grammar.specs.Places.{Places}
 use Rattle.hprof_grammar.specs.Fault.{LongestRecords, RecordFault, RunsPastEnd, SubFault}
 use Rattle.hprof_grammar.specs.Fault.RecordFault.{bad_length, in_heap, no_snapshot, out_of_order, truncated}
 use Rattle.hprof_grammar.specs.Fault.SubFault.{short, unknown_tag, wrong_type}

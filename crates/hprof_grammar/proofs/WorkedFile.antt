@@ -1,12 +1,13 @@
 -- A file of 174 bytes, by computation: a class with one field, two instances that refer to each other, and a root.
 use Rattle.std.proofs.Common.{List, [], inl, lit<, lit≤, refl, ℕ, ◌++◌, ◌∷◌, ◌≡◌}
-use Rattle.hprof_grammar.specs.Dump.{IsDumpOf, Places, header, places_of, spellings}
+use Rattle.hprof_grammar.specs.Dump.{header, spellings}
+use Rattle.hprof_grammar.specs.Places.{IsDumpOf, Places, places_of}
 use Rattle.hprof_grammar.specs.Record.{IsRecord, Record}
 use Rattle.hprof_grammar.specs.Record.Record.{heap, load_class, string}
 use Rattle.hprof_grammar.specs.SubRecord.{Class, Instance, IsSubRecord, Root, SubRecord}
 use Rattle.hprof_grammar.specs.SubRecord.RootOrigin.{unknown}
 use Rattle.hprof_grammar.specs.SubRecord.SubRecord.{class_dump, instance_dump, root}
-use Rattle.hprof_grammar.specs.Tables.{is_id_size, is_length_of, is_type_at, kind_of, root_kind}
+use Rattle.hprof_grammar.specs.Tables.{is_id_size, is_length_of, is_sub_tag, is_type_at}
 
 abbrev file : List ℕ
 file =
@@ -68,7 +69,7 @@ places_are = refl
 -- ---- each part is as the tables ask
 
 class_is : IsSubRecord 4 (class_dump the_class)
-unfolding is_type_at kind_of
+unfolding is_type_at is_sub_tag
 class_is = record {
   formed = (
     refl,
@@ -94,21 +95,21 @@ class_is = record {
 }
 
 first_is : IsSubRecord 4 (instance_dump first)
-unfolding kind_of
+unfolding is_sub_tag
 first_is = record {
   formed = (refl, record { object = lit< tt; stack = lit< tt; class = lit< tt; values = lit< tt });
   allowed = (tt, (tt, (tt, (tt, (tt, tt)))));
 }
 
 second_is : IsSubRecord 4 (instance_dump second)
-unfolding kind_of
+unfolding is_sub_tag
 second_is = record {
   formed = (refl, record { object = lit< tt; stack = lit< tt; class = lit< tt; values = lit< tt });
   allowed = (tt, (tt, (tt, (tt, (tt, tt)))));
 }
 
 root_is : IsSubRecord 4 (root the_root)
-unfolding kind_of root_kind
+unfolding is_sub_tag
 root_is = record { formed = (refl, record { object = lit< tt; origin = tt }); allowed = (tt, tt) }
 
 string_is : IsRecord 4 (string 0 1 (0x41 ∷ []))

@@ -1,10 +1,10 @@
 -- The first fault of a text that spells no dump.
-use Rattle.std.specs.Prelude.{List, None, [], false, flat_map, length, map, true, ℕ, ◌++◌, ◌+◌, ◌<◌, ◌^◌, ◌∷◌, ◌≡◌, ◌≤◌}
+use Rattle.std.specs.Prelude.{List, [], false, flat_map, length, map, true, ℕ, ◌++◌, ◌+◌, ◌<◌, ◌^◌, ◌∷◌, ◌≡◌, ◌≤◌}
 use Rattle.std.specs.List.{AllByRecursion}
 use Rattle.byteorder.specs.Endian.{big_bytes}
 use Rattle.hprof_grammar.specs.Record.{CanGoOn, IsOrderly, IsRecord, Record, framed, tag_of}
-use Rattle.hprof_grammar.specs.Tables.{is_heap_tag, is_id_size, is_length_of, kind_of}
-use Rattle.hprof_grammar.specs.Dump.{IsDumpOf, Places, header, limit, magic, spellings}
+use Rattle.hprof_grammar.specs.Tables.{is_heap_tag, is_id_size, is_length_of, is_sub_tag}
+use Rattle.hprof_grammar.specs.Dump.{header, limit, magic, spellings}
 use Rattle.hprof_grammar.specs.SubRecord.{IsFormed, IsSubRecord, SubRecord, fields_of, spelling_of}
 use Rattle.hprof_grammar.specs.SubRecord as sub
 use Rattle.hprof_grammar.specs.Spelling.{EndsShort, HasWrongType}
@@ -13,7 +13,7 @@ use Rattle.hprof_grammar.specs.Spelling.{EndsShort, HasWrongType}
 -- not fit; 7, a type code that is not allowed, as soon as it is read. What would follow 6 and 7 may be anything that
 -- has the right size.
 pub data SubFault (s : ℕ) : List ℕ → ℕ → Type 0 where
-  unknown_tag : (tag : ℕ) (rest : List ℕ) → kind_of tag ≡ None → SubFault s (tag ∷ rest) 5
+  unknown_tag : (tag : ℕ) (rest : List ℕ) → is_sub_tag tag ≡ false → SubFault s (tag ∷ rest) 5
   short : (x : SubRecord) (rest : List ℕ) → IsFormed s x
       → EndsShort (fields_of s x) rest → SubFault s (sub.tag_of x ∷ rest) 6
   wrong_type : (x : SubRecord) (rest : List ℕ) → IsFormed s x
@@ -79,13 +79,3 @@ pub data FirstFault (text : List ℕ) : ℕ → ℕ → Type 0 where
       → length text ≤ limit → is_id_size s ≡ true → text ≡ header s time ++ body
       → LongestRecords s body records rest → RecordFault s records (31 + length (spellings s records)) rest code place
       → FirstFault text code place
-
-abbrev pub HasFirstFault : List ℕ → Type 0
-HasFirstFault text = (code : ℕ) × (place : ℕ) × FirstFault text code place
-
-abbrev pub SpellsDump : List ℕ → Type 0
-SpellsDump text = (dump : Places) × IsDumpOf text dump
-
--- each of these numbers is a byte
-abbrev pub AreBytes : List ℕ → Type 0
-AreBytes text = AllByRecursion (λ b. b < 256) text

@@ -1,9 +1,12 @@
 pub mod Tables
 pub mod Spelling
 pub mod SubRecord
+pub mod Kinds
 pub mod Record
 pub mod Dump
+pub mod Places
 pub mod Fault
+pub mod Laws
 pub mod Series
 pub mod Standing
 pub mod ObjectKinds

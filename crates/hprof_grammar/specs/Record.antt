@@ -32,10 +32,8 @@ time_of (heap tag time subs) = time
 time_of (other tag time body) = time
 
 abbrev pub subs_of : Record → List SubRecord
-subs_of (string time id text) = []
-subs_of (load_class time serial class stack name) = []
 subs_of (heap tag time subs) = subs
-subs_of (other tag time body) = []
+subs_of r = []
 
 abbrev pub body_of : ℕ → Record → List ℕ
 body_of s (string time id text) = big_bytes s id ++ text

@@ -2,56 +2,33 @@
 use Rattle.std.specs.Prelude.{None, Option, Some, ℕ, ◌≡◌}
 use Rattle.hprof_grammar.specs.Standing.{Sight, Stands}
 use Rattle.hprof_grammar.specs.SubRecord.{Root, RootOrigin}
-use Rattle.hprof_grammar.specs.SubRecord.RootOrigin.{java_frame, jni_global, jni_local, monitor_used, native_stack, sticky_class, thread_block, thread_object, unknown}
+use Rattle.hprof_grammar.specs.SubRecord.RootOrigin.{java_frame, jni_global, jni_local, native_stack, thread_block, thread_object}
 use Rattle.hprof_grammar.specs.SubRecord.SubRecord.{root}
 
 -- the ID of a JNI global reference
 abbrev pub reference_of : RootOrigin → Option ℕ
-reference_of unknown = None
 reference_of (jni_global reference) = Some reference
-reference_of (jni_local thread frame) = None
-reference_of (java_frame thread frame) = None
-reference_of (native_stack thread) = None
-reference_of sticky_class = None
-reference_of (thread_block thread) = None
-reference_of monitor_used = None
-reference_of (thread_object thread stack) = None
+reference_of origin = None
 
 -- the serial number of a thread
 abbrev pub thread_of : RootOrigin → Option ℕ
-thread_of unknown = None
-thread_of (jni_global reference) = None
 thread_of (jni_local thread frame) = Some thread
 thread_of (java_frame thread frame) = Some thread
 thread_of (native_stack thread) = Some thread
-thread_of sticky_class = None
 thread_of (thread_block thread) = Some thread
-thread_of monitor_used = None
 thread_of (thread_object thread stack) = Some thread
+thread_of origin = None
 
 -- the number of a frame in its stack trace
 abbrev pub frame_of : RootOrigin → Option ℕ
-frame_of unknown = None
-frame_of (jni_global reference) = None
 frame_of (jni_local thread frame) = Some frame
 frame_of (java_frame thread frame) = Some frame
-frame_of (native_stack thread) = None
-frame_of sticky_class = None
-frame_of (thread_block thread) = None
-frame_of monitor_used = None
-frame_of (thread_object thread stack) = None
+frame_of origin = None
 
 -- the serial number of a thread's stack trace
 abbrev pub trace_of : RootOrigin → Option ℕ
-trace_of unknown = None
-trace_of (jni_global reference) = None
-trace_of (jni_local thread frame) = None
-trace_of (java_frame thread frame) = None
-trace_of (native_stack thread) = None
-trace_of sticky_class = None
-trace_of (thread_block thread) = None
-trace_of monitor_used = None
 trace_of (thread_object thread stack) = Some stack
+trace_of origin = None
 
 -- a root stands there, and one of its fields is that number
 pub record RootSays (v : Sight) (at : ℕ) (field : RootOrigin → Option ℕ) (n : ℕ) : Type 0 where

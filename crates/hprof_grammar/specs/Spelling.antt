@@ -3,7 +3,7 @@ use Rattle.std.specs.Prelude.{List, [], false, flat_map, length, true, ℕ, ◌+
 use Rattle.std.specs.List.{AllByRecursion}
 use Rattle.byteorder.specs.Endian.{big_bytes}
 use Rattle.hprof_grammar.specs.Tables.{is_type_at}
-use Rattle.hprof_grammar.specs.declared.format_tables.TypePlace.{TypePlace}
+use Rattle.hprof_grammar.specs.declared.kinds.TypePlace.{TypePlace}
 
 pub data Field : Type 0 where
   -- a number of that many bytes
@@ -24,9 +24,8 @@ abbrev pub spelled : List Field → List ℕ
 spelled fields = flat_map bytes_of fields
 
 abbrev pub IsAllowed : Field → Type 0
-IsAllowed (number width value) = Unit {0}
 IsAllowed (type_code place code) = is_type_at place code ≡ true
-IsAllowed (raw bytes) = Unit {0}
+IsAllowed field = Unit {0}
 
 abbrev pub AreAllowed : List Field → Type 0
 AreAllowed fields = AllByRecursion IsAllowed fields

@@ -1,10 +1,11 @@
 -- What stands at a place of the bytes, and that the places of a dump hold what they should.
-use Rattle.std.specs.Prelude.{List, None, Option, Some, drop, filter, flat_map, length, slice_get, ℕ, ◌++◌, ◌<◌, ◌^◌, ◌≡◌}
-use Rattle.hprof_grammar.specs.Record.{IsRecord, Record, record_spelling, subs_of}
+use Rattle.std.specs.Prelude.{List, None, Option, Some, drop, filter, length, slice_get, ℕ, ◌++◌, ◌<◌, ◌^◌, ◌≡◌}
+use Rattle.hprof_grammar.specs.Record.{IsRecord, Record, record_spelling}
 use Rattle.hprof_grammar.specs.SubRecord.{IsSubRecord, SubRecord, spelling_of}
 use Rattle.hprof_grammar.specs.SubRecord.SubRecord.{class_dump, instance_dump, object_array_dump, primitive_array_dump, root}
 use Rattle.hprof_grammar.specs.Record.Record.{load_class, string}
-use Rattle.hprof_grammar.specs.Dump.{Places, header, is_load, is_object, is_root, is_string}
+use Rattle.hprof_grammar.specs.Dump.{header, heap_of, is_object, is_root}
+use Rattle.hprof_grammar.specs.Places.{Places, is_load, is_string}
 
 -- the bytes from that place on are the spelling of the sub-record, and then a rest
 pub record StandsAt (s : ℕ) (bytes : List ℕ) (at : ℕ) (sub : SubRecord) : Type 0 where
@@ -45,14 +46,6 @@ StringStands v at time id text = RecordStands v at (string time id text)
 abbrev pub LoadStands : Sight → ℕ → (time serial class stack name : ℕ) → Type 0
 LoadStands v at time serial class stack name = RecordStands v at (load_class time serial class stack name)
 
--- the first ID of a sub-record: the object that a root names, or that a dump describes
-abbrev pub id_of : SubRecord → ℕ
-id_of (root r) = r.object
-id_of (class_dump c) = c.object
-id_of (instance_dump i) = i.object
-id_of (object_array_dump a) = a.object
-id_of (primitive_array_dump a) = a.object
-
 -- the serial number of the stack trace of an object's dump, none for a root
 abbrev pub stack_of : SubRecord → Option ℕ
 stack_of (root r) = None
@@ -60,10 +53,6 @@ stack_of (class_dump c) = Some c.stack
 stack_of (instance_dump i) = Some i.stack
 stack_of (object_array_dump a) = Some a.stack
 stack_of (primitive_array_dump a) = Some a.stack
-
--- the heap list: all sub-records of the heap records, in order
-abbrev pub heap_of : List Record → List SubRecord
-heap_of records = flat_map subs_of records
 
 -- there are as many places as things, and at the k-th place stands the k-th thing
 pub record StandInTurn {X : Type 0} (IsAt : ℕ → X → Type 0) (places : List ℕ) (things : List X) : Type 0 where

@@ -1,14 +1,10 @@
 -- The sub-records of a heap record, and their fields in the order that the manual gives them.
-use Rattle.std.specs.Prelude.{List, Some, [], flat_map, length, map, ℕ, ◌*◌, ◌++◌, ◌<◌, ◌^◌, ◌∷◌, ◌≡◌}
+use Rattle.std.specs.Prelude.{List, [], flat_map, length, map, true, ℕ, ◌*◌, ◌++◌, ◌<◌, ◌^◌, ◌∷◌, ◌≡◌}
 use Rattle.std.specs.List.{AllByRecursion}
-use Rattle.hprof_grammar.specs.Tables.{kind_of, root_tag, size_of}
+use Rattle.hprof_grammar.specs.Tables.{is_sub_tag, size_of}
 use Rattle.hprof_grammar.specs.Spelling.{AreAllowed, Field, spelled}
 use Rattle.hprof_grammar.specs.Spelling.Field.{number, raw, type_code}
-use Rattle.hprof_grammar.specs.declared.format_tables.Kind.{Kind}
-use Rattle.hprof_grammar.specs.declared.format_tables.Kind.TheVariants as kinds
-use Rattle.hprof_grammar.specs.declared.format_tables.RootKind.{RootKind}
-use Rattle.hprof_grammar.specs.declared.format_tables.RootKind.TheVariants as roots
-use Rattle.hprof_grammar.specs.declared.format_tables.TypePlace.TheVariants.{InArray, InConstant, InMember, InStatic}
+use Rattle.hprof_grammar.specs.declared.kinds.TypePlace.TheVariants.{InArray, InConstant, InMember, InStatic}
 
 -- a constant pool entry
 pub record Constant : Type 0 where
@@ -77,18 +73,7 @@ pub data RootOrigin : Type 0 where
   monitor_used : RootOrigin
   thread_object : (thread stack : ℕ) → RootOrigin
 
-abbrev pub origin_kind : RootOrigin → RootKind
-origin_kind unknown = roots.Unknown
-origin_kind (jni_global reference) = roots.JniGlobal
-origin_kind (jni_local thread frame) = roots.JniLocal
-origin_kind (java_frame thread frame) = roots.JavaFrame
-origin_kind (native_stack thread) = roots.NativeStack
-origin_kind sticky_class = roots.StickyClass
-origin_kind (thread_block thread) = roots.ThreadBlock
-origin_kind monitor_used = roots.MonitorUsed
-origin_kind (thread_object thread stack) = roots.ThreadObject
-
--- ROOT, by its kind 0xFF or 0x01 to 0x08
+-- ROOT, by what makes it one 0xFF or 0x01 to 0x08
 pub record Root : Type 0 where
   pub object : ℕ
   pub origin : RootOrigin
@@ -146,8 +131,20 @@ origin_fields s (thread_object thread stack) = number 4 thread ∷ number 4 stac
 abbrev pub root_fields : ℕ → Root → List Field
 root_fields s r = number s r.object ∷ origin_fields s r.origin
 
+-- the tag of a root: ROOT UNKNOWN, ROOT JNI GLOBAL, ROOT JNI LOCAL and so on
+abbrev pub origin_tag : RootOrigin → ℕ
+origin_tag unknown = 0xFF
+origin_tag (jni_global reference) = 0x01
+origin_tag (jni_local thread frame) = 0x02
+origin_tag (java_frame thread frame) = 0x03
+origin_tag (native_stack thread) = 0x04
+origin_tag sticky_class = 0x05
+origin_tag (thread_block thread) = 0x06
+origin_tag monitor_used = 0x07
+origin_tag (thread_object thread stack) = 0x08
+
 abbrev pub tag_of : SubRecord → ℕ
-tag_of (root r) = root_tag (origin_kind r.origin)
+tag_of (root r) = origin_tag r.origin
 tag_of (class_dump c) = 0x20
 tag_of (instance_dump i) = 0x21
 tag_of (object_array_dump a) = 0x22
@@ -228,17 +225,16 @@ pub record IsRoot (s : ℕ) (r : Root) : Type 0 where
   pub object : r.object < 256 ^ s
   pub origin : IsOrigin s r.origin
 
--- the tag is in the table
-abbrev pub HasKind : ℕ → Kind → Type 0
-HasKind tag kind = kind_of tag ≡ Some kind
+abbrev pub HasBounds : ℕ → SubRecord → Type 0
+HasBounds s (root r) = IsRoot s r
+HasBounds s (class_dump c) = IsClass s c
+HasBounds s (instance_dump i) = IsInstance s i
+HasBounds s (object_array_dump a) = IsObjectArray s a
+HasBounds s (primitive_array_dump a) = IsPrimitiveArray s a
 
--- a sub-record, but that its type codes may be any
+-- a sub-record, but that its type codes may be any: its tag is in the table, and it keeps these bounds
 abbrev pub IsFormed : ℕ → SubRecord → Type 0
-IsFormed s (root r) = HasKind (root_tag (origin_kind r.origin)) (kinds.Root (origin_kind r.origin)) × IsRoot s r
-IsFormed s (class_dump c) = HasKind 0x20 kinds.Class × IsClass s c
-IsFormed s (instance_dump i) = HasKind 0x21 kinds.Instance × IsInstance s i
-IsFormed s (object_array_dump a) = HasKind 0x22 kinds.ObjectArray × IsObjectArray s a
-IsFormed s (primitive_array_dump a) = HasKind 0x23 kinds.PrimitiveArray × IsPrimitiveArray s a
+IsFormed s sub = (is_sub_tag (tag_of sub) ≡ true) × HasBounds s sub
 
 -- A sub-record: each type code is one that is allowed where it stands.
 pub record IsSubRecord (s : ℕ) (sub : SubRecord) : Type 0 where

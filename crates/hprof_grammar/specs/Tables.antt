@@ -1,12 +1,8 @@
 -- The format's tables: which numbers are allowed where, and what sizes they stand for. No proof opens one of these
 -- words but a few lemmas of two lines, so that the accepted part of the format is settled here alone.
-use Rattle.std.specs.Prelude.{Bool, List, None, Option, Some, [], if◌then◌else◌, nat_le, replicate, suc, true, ℕ, ◌&&◌, ◌*◌, ◌++◌, ◌+◌, ◌==◌, ◌||◌, ◌∷◌, ◌≡◌, ◌⊎◌}
-use Rattle.hprof_grammar.specs.declared.format_tables.Kind.{Kind}
-use Rattle.hprof_grammar.specs.declared.format_tables.Kind.TheVariants.{Class, Instance, ObjectArray, PrimitiveArray, Root}
-use Rattle.hprof_grammar.specs.declared.format_tables.RootKind.{RootKind}
-use Rattle.hprof_grammar.specs.declared.format_tables.RootKind.TheVariants.{JavaFrame, JniGlobal, JniLocal, MonitorUsed, NativeStack, StickyClass, ThreadBlock, ThreadObject, Unknown}
-use Rattle.hprof_grammar.specs.declared.format_tables.TypePlace.{TypePlace}
-use Rattle.hprof_grammar.specs.declared.format_tables.TypePlace.TheVariants.{InArray, InConstant, InMember, InStatic}
+use Rattle.std.specs.Prelude.{Bool, List, [], if◌then◌else◌, nat_le, replicate, suc, true, ℕ, ◌&&◌, ◌*◌, ◌++◌, ◌+◌, ◌==◌, ◌||◌, ◌∷◌, ◌≡◌, ◌⊎◌}
+use Rattle.hprof_grammar.specs.declared.kinds.TypePlace.{TypePlace}
+use Rattle.hprof_grammar.specs.declared.kinds.TypePlace.TheVariants.{InArray}
 
 -- the sizes of identifiers that are read ("size of identifiers" in the manual's header, which leaves it open)
 unfoldable pub is_id_size : ℕ → Bool
@@ -18,10 +14,8 @@ is_primitive t = nat_le 4 t && nat_le t 11
 
 -- the type codes that are allowed in each place
 unfoldable pub is_type_at : TypePlace → ℕ → Bool
-is_type_at InConstant t = (t == 2) || is_primitive t
-is_type_at InStatic t = (t == 2) || is_primitive t
-is_type_at InMember t = (t == 2) || is_primitive t
 is_type_at InArray t = is_primitive t
+is_type_at place t = (t == 2) || is_primitive t
 
 -- the bytes of a value of a basic type, with identifiers of s bytes; 0 for a code that is no type
 unfoldable pub size_of : ℕ → ℕ → ℕ
@@ -33,44 +27,10 @@ size_of s t =
     else if (t == 7) || (t == 11) then 8
     else 0
 
--- the kind of a root, by its tag
-unfoldable pub root_kind : ℕ → Option RootKind
-root_kind tag =
-    if tag == 0xFF then Some Unknown
-    else if tag == 0x01 then Some JniGlobal
-    else if tag == 0x02 then Some JniLocal
-    else if tag == 0x03 then Some JavaFrame
-    else if tag == 0x04 then Some NativeStack
-    else if tag == 0x05 then Some StickyClass
-    else if tag == 0x06 then Some ThreadBlock
-    else if tag == 0x07 then Some MonitorUsed
-    else if tag == 0x08 then Some ThreadObject
-    else None
-
--- the same table from the other side: ROOT UNKNOWN, ROOT JNI GLOBAL, ROOT JNI LOCAL and so on
-abbrev pub root_tag : RootKind → ℕ
-root_tag Unknown = 0xFF
-root_tag JniGlobal = 0x01
-root_tag JniLocal = 0x02
-root_tag JavaFrame = 0x03
-root_tag NativeStack = 0x04
-root_tag StickyClass = 0x05
-root_tag ThreadBlock = 0x06
-root_tag MonitorUsed = 0x07
-root_tag ThreadObject = 0x08
-
-abbrev pub root_of : Option RootKind → Option Kind
-root_of None = None
-root_of (Some kind) = Some (Root kind)
-
--- what a sub-record's tag says: CLASS DUMP, INSTANCE DUMP, OBJECT ARRAY DUMP, PRIMITIVE ARRAY DUMP, or a root
-unfoldable pub kind_of : ℕ → Option Kind
-kind_of tag =
-    if tag == 0x20 then Some Class
-    else if tag == 0x21 then Some Instance
-    else if tag == 0x22 then Some ObjectArray
-    else if tag == 0x23 then Some PrimitiveArray
-    else root_of (root_kind tag)
+-- the tags of sub-records: 0xFF and 1 to 8 the roots, 0x20 to 0x23 the class, instance, object array and primitive
+-- array dumps
+unfoldable pub is_sub_tag : ℕ → Bool
+is_sub_tag t = (t == 0xFF) || (nat_le 1 t && nat_le t 8) || (nat_le 0x20 t && nat_le t 0x23)
 
 -- the lengths that the body of a record may have: STRING IN UTF8 (0x01) has at least its ID, LOAD CLASS (0x02) two IDs
 -- and two u4, HEAP DUMP END (0x2C) nothing; any other record any length

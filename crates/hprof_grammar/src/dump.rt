@@ -4,7 +4,7 @@ ghost use Rattle.std.specs.Prelude.{[], ◌≡◌, IfErr, IfOk, OnOk};
 ghost use Rattle.hprof_grammar.specs.working.Joining.{noted, nothing_of, with_loaded, with_string};
 
 use crate::flaw::ReadRefusal;
-use crate::format_tables::Kind;
+use crate::kinds::Kind;
 use std::alloc::Allocator;
 use std::marker::Model;
 
@@ -20,7 +20,7 @@ pub struct Dump<A: Allocator> {
 }
 
 impl<A: Allocator> Model for Dump<A> {
-    ghost use Rattle.hprof_grammar.specs.Dump.{Places};
+    ghost use Rattle.hprof_grammar.specs.Places.{Places};
 
     ghost Value = { Places };
 

@@ -1,55 +1,11 @@
 //! The tables of the format: what its tags and type codes stand for, the sizes of values, the lengths of records.
 
 ghost use Rattle.std.specs.Prelude.{◌≡◌};
+ghost use Rattle.hprof_grammar.specs.Kinds as kind_tables;
 ghost use Rattle.hprof_grammar.specs.Tables as tables;
 
+use crate::kinds::{Kind, RootKind, TypePlace};
 use crate::tags;
-
-/// Why an object is a root.
-#[derive(Clone, Copy, Debug, PartialEq, Eq)]
-pub enum RootKind {
-    /// Nothing more is known.
-    Unknown,
-    /// A global JNI reference names it.
-    JniGlobal,
-    /// A local JNI reference names it.
-    JniLocal,
-    /// A local variable of a Java frame holds it.
-    JavaFrame,
-    /// A native method was passed it.
-    NativeStack,
-    /// A system class.
-    StickyClass,
-    /// A blocked thread refers to it.
-    ThreadBlock,
-    /// A monitor that is in use.
-    MonitorUsed,
-    /// A live thread.
-    ThreadObject,
-}
-
-/// What the tag of a sub-record says.
-#[derive(Clone, Copy, Debug, PartialEq, Eq)]
-pub enum Kind {
-    Root(RootKind),
-    Class,
-    Instance,
-    ObjectArray,
-    PrimitiveArray,
-}
-
-/// Where a type code stands.
-#[derive(Clone, Copy, Debug, PartialEq, Eq)]
-pub enum TypePlace {
-    /// In an entry of a constant pool.
-    InConstant,
-    /// In a static field.
-    InStatic,
-    /// In an instance field.
-    InMember,
-    /// In a primitive array.
-    InArray,
-}
 
 /// Whether identifiers may have so many bytes.
 #[tactic(auto, unfolding(crate::specs::Tables::is_id_size))]
@@ -88,9 +44,9 @@ pub fn size_of(id_size: u8, code: u8) -> u8
 }
 
 /// The kind of a root with that tag, if it is one.
-#[tactic(auto, unfolding(crate::specs::Tables::root_kind))]
+#[tactic(auto, unfolding(crate::specs::Kinds::root_kind))]
 fn root_kind(tag: u8) -> Option<RootKind>
-    ensures { result ≡ tables.root_kind tag }
+    ensures { result ≡ kind_tables.root_kind tag }
 {
     match tag {
         tags::ROOT_UNKNOWN => Some(RootKind::Unknown),
@@ -107,9 +63,9 @@ fn root_kind(tag: u8) -> Option<RootKind>
 }
 
 /// What the tag of a sub-record says, if it is one.
-#[tactic(auto, unfolding(crate::specs::Tables::kind_of))]
+#[tactic(auto, unfolding(crate::specs::Kinds::kind_of))]
 pub fn kind_of(tag: u8) -> Option<Kind>
-    ensures { result ≡ tables.kind_of tag }
+    ensures { result ≡ kind_tables.kind_of tag }
 {
     match tag {
         tags::CLASS_DUMP => Some(Kind::Class),

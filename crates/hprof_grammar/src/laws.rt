@@ -1,8 +1,10 @@
 //! What a text and its dump or its first fault have in common, as laws: functions with empty bodies.
 
 ghost use Rattle.std.specs.Prelude.{List, ℕ, ◌≡◌, ◌⊎◌};
-ghost use Rattle.hprof_grammar.specs.Dump.{IsDumpOf, Places, Spells};
-ghost use Rattle.hprof_grammar.specs.Fault.{AreBytes, FirstFault, HasFirstFault, SpellsDump};
+ghost use Rattle.hprof_grammar.specs.Dump.{Spells};
+ghost use Rattle.hprof_grammar.specs.Fault.{FirstFault};
+ghost use Rattle.hprof_grammar.specs.Laws.{AreBytes, HasFirstFault, SpellsDump};
+ghost use Rattle.hprof_grammar.specs.Places.{IsDumpOf, Places};
 ghost use Rattle.hprof_grammar.specs.Record.{Record};
 
 /// A text spells at most one list of records, with identifiers of one size.

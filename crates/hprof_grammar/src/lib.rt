@@ -6,6 +6,7 @@ mod dump;
 mod flaw;
 mod format_tables;
 mod frame;
+mod kinds;
 mod laws;
 mod parse;
 mod placed;
@@ -19,7 +20,7 @@ mod view;
 
 pub use dump::Dump;
 pub use flaw::{FormatFault, ReadRefusal};
-pub use format_tables::RootKind;
+pub use kinds::RootKind;
 pub use laws::{always_dump_or_fault, dump_or_fault, one_dump, one_fault, one_list_of_records};
 pub use parse::read;
 pub use placed::{dump_is_placed, stands_within};

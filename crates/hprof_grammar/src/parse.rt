@@ -1,7 +1,7 @@
 //! A whole dump, from its first byte to its last.
 
 ghost use Rattle.std.specs.Prelude.{◌≡◌, ◌≤◌, IfOk, length};
-ghost use Rattle.hprof_grammar.specs.Dump.{IsDumpOf};
+ghost use Rattle.hprof_grammar.specs.Places.{IsDumpOf};
 ghost use Rattle.hprof_grammar.specs.Fault.{FirstFault};
 ghost use Rattle.hprof_grammar.specs.working.Joining.{HasHeader};
 ghost use Rattle.hprof_grammar.specs.Refusal.{IfFault};

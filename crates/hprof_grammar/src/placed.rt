@@ -1,7 +1,7 @@
 //! What a dump's places hold, as laws: functions with empty bodies.
 
 ghost use Rattle.std.specs.Prelude.{List, ℕ, ◌+◌, ◌≤◌, length};
-ghost use Rattle.hprof_grammar.specs.Dump.{IsDumpOf, Places};
+ghost use Rattle.hprof_grammar.specs.Places.{IsDumpOf, Places};
 ghost use Rattle.hprof_grammar.specs.SubRecord.{SubRecord, spelling_of};
 ghost use Rattle.hprof_grammar.specs.Standing.{IsPlaced, Sight, Stands};
 

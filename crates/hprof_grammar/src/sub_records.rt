@@ -3,11 +3,13 @@
 
 ghost use Rattle.std.specs.Prelude.{◌≡◌, ◌≤◌, IfOk, Some, slice_get, ℕ};
 ghost use Rattle.std.specs.Option.{option_and_then};
+ghost use Rattle.hprof_grammar.specs.Kinds as kind_tables;
 ghost use Rattle.hprof_grammar.specs.Tables as tables;
 ghost use Rattle.hprof_grammar.specs.working.Reading.{Passes, class_at, constant_at, counted_at, instance_at, list_at, member_at, number_at, object_array_at, pair_at, primitive_array_at, raw_at, root_at, static_at, sub_record_at, type_at};
 
 use crate::flaw::Flaw;
-use crate::format_tables::{Kind, RootKind, TypePlace, kind_of, size_of};
+use crate::format_tables::{kind_of, size_of};
+use crate::kinds::{Kind, RootKind, TypePlace};
 use crate::reader::Reader;
 
 /// A type code, and a value of that type.
@@ -187,7 +189,7 @@ pub fn sub_record(reader: &mut Reader<'_>, id_size: u8) -> Result<Kind, Flaw>
     requires high { id_size ≤ 8 }
     ensures passes { Passes result reader.new.rest.now (sub_record_at id_size reader.old.rest.now) }
     ensures kind { IfOk result (λ kind.
-        option_and_then tables.kind_of (slice_get reader.old.rest.now 0) ≡ Some kind) }
+        option_and_then kind_tables.kind_of (slice_get reader.old.rest.now 0) ≡ Some kind) }
 {
     let [tag, behind @ ..] = reader.rest else {
         return Err(Flaw::Short);

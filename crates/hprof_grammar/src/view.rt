@@ -15,10 +15,10 @@ pub mod values;
 
 ghost use Rattle.std.specs.Prelude.{Some, true, ◌+◌, ◌≡◌, ◌≤◌, drop, length, take};
 ghost use Rattle.byteorder.specs.Endian.{big_number};
-ghost use Rattle.hprof_grammar.specs.Dump.{is_object};
+ghost use Rattle.hprof_grammar.specs.Dump.{id_of, is_object};
 ghost use Rattle.hprof_grammar.specs.SubRecord.{SubRecord};
 ghost use Rattle.hprof_grammar.specs.Tables as tables;
-ghost use Rattle.hprof_grammar.specs.Standing.{Stands, id_of, stack_of};
+ghost use Rattle.hprof_grammar.specs.Standing.{Stands, stack_of};
 
 use crate::{format_tables, tags};
 use byteorder::{BigEndian, ByteOrder};

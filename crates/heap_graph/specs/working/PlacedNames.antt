@@ -1,6 +1,6 @@
 -- The strings and the loaded classes of a dump at their places.
 use Rattle.std.specs.Prelude.{List, filter, length, map, ℕ, ◌<◌, ◌^◌, ◌≡◌}
-use Rattle.hprof_grammar.specs.Dump.{is_load, is_string}
+use Rattle.hprof_grammar.specs.Places.{is_load, is_string}
 use Rattle.hprof_grammar.specs.Record.{Record}
 use Rattle.hprof_grammar.specs.Record.Record.{heap, load_class, other, string}
 use Rattle.hprof_grammar.specs.Standing.{RecordStands, Sight, StandInTurn}

@@ -1,9 +1,10 @@
 -- A heap list whose objects stand at places of the bytes.
 use Rattle.std.specs.Prelude.{List, map, ℕ, ◌≡◌}
 use Rattle.hprof_grammar.specs.SubRecord.{SubRecord}
-use Rattle.hprof_grammar.specs.Standing.{Sight, StandInTurn, Stands, id_of}
+use Rattle.hprof_grammar.specs.Standing.{Sight, StandInTurn, Stands}
+use Rattle.hprof_grammar.specs.Dump.{id_of}
 use Rattle.heap_graph.specs.declared.objects.Objects.{Objects}
-use Rattle.hprof_grammar.specs.Dump.{IsDumpOf, Places}
+use Rattle.hprof_grammar.specs.Places.{IsDumpOf, Places}
 use Rattle.heap_graph.specs.Heap.{heap_of, objects}
 
 -- at these places stand the objects of the heap list, and these are their identifiers

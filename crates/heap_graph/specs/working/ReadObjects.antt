@@ -1,6 +1,6 @@
 -- The objects of a dump that were read, and tested by the rules that link them.
 use Rattle.std.specs.Prelude.{List, ℕ, ◌≡◌}
-use Rattle.hprof_grammar.specs.Dump.{IsDumpOf, Places}
+use Rattle.hprof_grammar.specs.Places.{IsDumpOf, Places}
 use Rattle.heap_graph.specs.Heap.{heap_of}
 use Rattle.heap_graph.specs.working.HeldIds.{AreLinkedOf}
 use Rattle.heap_graph.specs.working.ToldClasses.{AreToldOf}

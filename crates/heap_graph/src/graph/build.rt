@@ -1,7 +1,8 @@
 //! A graph from a dump.
 
 ghost use Rattle.std.specs.Prelude.{IfOk, List, OnOk, [], filter, ◌≡◌, ℕ};
-ghost use Rattle.hprof_grammar.specs.Dump.{IsDumpOf, Places, is_root};
+ghost use Rattle.hprof_grammar.specs.Places.{IsDumpOf, Places};
+ghost use Rattle.hprof_grammar.specs.Dump.{is_root};
 ghost use Rattle.hprof_grammar.specs.Standing.{StandInTurn, Stands};
 ghost use Rattle.heap_graph.specs.Heap.{heap_of};
 ghost use Rattle.heap_graph.specs.LinkFault.{HasLinkFault};

@@ -3,12 +3,13 @@ use Rattle.std.specs.Prelude.{List, [], drop, false, flat_map, length, map, true
 use Rattle.std.specs.List.{AllByRecursion}
 use Rattle.hprof_grammar.specs.Record.{CanGoOn, HasParts, IsRecord, Record, body_of, subs_of, tag_of, time_of}
 use Rattle.hprof_grammar.specs.Tables.{is_heap_tag, is_id_size, is_length_of}
-use Rattle.hprof_grammar.specs.Dump.{Places, header, heap_list, is_load, is_object, is_root, is_string, limit, placed, placed_subs, places_where, spellings}
+use Rattle.hprof_grammar.specs.Dump.{header, heap_list, is_object, is_root, limit, placed, placed_subs, places_where, spellings}
+use Rattle.hprof_grammar.specs.Places.{Places, is_load, is_string}
 use Rattle.hprof_grammar.specs.Fault.{LongestRecords, LongestSubs, RecordFault, SubFault}
 use Rattle.hprof_grammar.specs.SubRecord.{IsSubRecord, SubRecord, spelling_of}
 use Rattle.hprof_grammar.specs.working.SnapshotOrder.{IsAt, is_done}
-use Rattle.hprof_grammar.specs.declared.format_tables.Kind.{Kind}
-use Rattle.hprof_grammar.specs.declared.format_tables.Kind.TheVariants as kinds
+use Rattle.hprof_grammar.specs.declared.kinds.Kind.{Kind}
+use Rattle.hprof_grammar.specs.declared.kinds.Kind.TheVariants as kinds
 use Rattle.hprof_grammar.specs.declared.snapshot_order.Order.{Order}
 use Rattle.hprof_grammar.specs.declared.flaw.FormatFault.{FormatFault}
 
@@ -18,10 +19,7 @@ nothing_of s = record { id_size = s; strings = []; loaded = []; roots = []; obje
 -- with the place of one more sub-record
 abbrev pub noted : Places → Kind → ℕ → Places
 noted p (kinds.Root kind) at = record p { roots = p.roots ++ at ∷ [] }
-noted p kinds.Class at = record p { objects = p.objects ++ at ∷ [] }
-noted p kinds.Instance at = record p { objects = p.objects ++ at ∷ [] }
-noted p kinds.ObjectArray at = record p { objects = p.objects ++ at ∷ [] }
-noted p kinds.PrimitiveArray at = record p { objects = p.objects ++ at ∷ [] }
+noted p kind at = record p { objects = p.objects ++ at ∷ [] }
 
 abbrev pub with_string : Places → ℕ → Places
 with_string p at = record p { strings = p.strings ++ at ∷ [] }

@@ -1,16 +1,17 @@
 -- Reading from left to right, with the first flaw that is met. The parts of the parser say by these what they do.
 use Rattle.std.specs.Prelude.{Err, List, None, Ok, Option, Result, Some, [], drop, if◌then◌else◌, length, nat_lt, suc, take, zero, ℕ, ◌*◌, ◌∷◌, ◌≡◌}
 use Rattle.byteorder.specs.Endian.{big_number}
-use Rattle.hprof_grammar.specs.Tables.{is_type_at, kind_of, size_of}
+use Rattle.hprof_grammar.specs.Tables.{is_type_at, size_of}
+use Rattle.hprof_grammar.specs.Kinds.{kind_of}
 use Rattle.hprof_grammar.specs.SubRecord.{Class, Constant, Instance, Member, ObjectArray, PrimitiveArray, RootOrigin, Static, SubRecord}
 use Rattle.hprof_grammar.specs.SubRecord.RootOrigin.{java_frame, jni_global, jni_local, monitor_used, native_stack, sticky_class, thread_block, thread_object, unknown}
 use Rattle.hprof_grammar.specs.SubRecord.SubRecord.{class_dump, instance_dump, object_array_dump, primitive_array_dump, root}
-use Rattle.hprof_grammar.specs.declared.format_tables.Kind.{Kind}
-use Rattle.hprof_grammar.specs.declared.format_tables.Kind.TheVariants as kinds
-use Rattle.hprof_grammar.specs.declared.format_tables.RootKind.{RootKind}
-use Rattle.hprof_grammar.specs.declared.format_tables.RootKind.TheVariants as roots
-use Rattle.hprof_grammar.specs.declared.format_tables.TypePlace.{TypePlace}
-use Rattle.hprof_grammar.specs.declared.format_tables.TypePlace.TheVariants.{InArray, InConstant, InMember, InStatic}
+use Rattle.hprof_grammar.specs.declared.kinds.Kind.{Kind}
+use Rattle.hprof_grammar.specs.declared.kinds.Kind.TheVariants as kinds
+use Rattle.hprof_grammar.specs.declared.kinds.RootKind.{RootKind}
+use Rattle.hprof_grammar.specs.declared.kinds.RootKind.TheVariants as roots
+use Rattle.hprof_grammar.specs.declared.kinds.TypePlace.{TypePlace}
+use Rattle.hprof_grammar.specs.declared.kinds.TypePlace.TheVariants.{InArray, InConstant, InMember, InStatic}
 use Rattle.hprof_grammar.specs.declared.flaw.Flaw.{Flaw}
 use Rattle.hprof_grammar.specs.declared.flaw.Flaw.TheVariants.{Short, UnknownTag, WrongType}
 

@@ -1,12 +1,14 @@
 //! The fields of roots.
 
 ghost use Rattle.std.specs.Prelude.{ℕ, ◌+◌, ◌≡◌};
+ghost use Rattle.hprof_grammar.specs.Kinds.{origin_kind};
 ghost use Rattle.hprof_grammar.specs.RootFields.{RootSays, frame_of, reference_of, thread_of, trace_of};
 ghost use Rattle.hprof_grammar.specs.Standing.{Stands};
-ghost use Rattle.hprof_grammar.specs.SubRecord.{Root, origin_kind};
+ghost use Rattle.hprof_grammar.specs.SubRecord.{Root};
 ghost use Rattle.hprof_grammar.specs.SubRecord.SubRecord.{root};
 
-use crate::format_tables::{Kind, RootKind, kind_of};
+use crate::format_tables::kind_of;
+use crate::kinds::{Kind, RootKind};
 use crate::view::{OBJECT, View, number_at, u32_at};
 
 /// Where the fields of a root behind its object stand, each but for the identifier of the object. A kind of root

@@ -1,5 +1,5 @@
 use Rattle.std.proofs.Common.{refl}
-use Rattle.hprof_grammar.specs.Dump.{places_of}
+use Rattle.hprof_grammar.specs.Places.{places_of}
 use Rattle.heap_graph.proofs.AllTold.{linked_or_fault}
 use Rattle.heap_graph.proofs.laws.always_linked_or_fault.Goals as goal
 

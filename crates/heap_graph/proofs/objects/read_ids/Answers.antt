@@ -1,6 +1,6 @@
 use Rattle.std.proofs.Common.{List, ap, get_or, map, sym, take, ◌++◌, ◌∙◌, ◌∷◌, [], ℕ}
 use Rattle.std.proofs.lemmas.Option.{slice_get-get_or}
-use Rattle.hprof_grammar.specs.Standing.{id_of}
+use Rattle.hprof_grammar.specs.Dump.{id_of}
 use Rattle.hprof_grammar.specs.SubRecord.{SubRecord}
 use Rattle.heap_graph.proofs.EntryLaws.{map_one, take_one}
 use Rattle.heap_graph.proofs.objects.read_ids.Goals as goal

@@ -1,5 +1,6 @@
 use Rattle.std.proofs.Common.{List, map, take, ◌≡◌}
-use Rattle.hprof_grammar.specs.Standing.{StandInTurn, Stands, id_of}
+use Rattle.hprof_grammar.specs.Standing.{StandInTurn, Stands}
+use Rattle.hprof_grammar.specs.Dump.{id_of}
 use Rattle.hprof_grammar.specs.SubRecord.{SubRecord}
 use Rattle.heap_graph.proofs.objects.read_ids.Given as goal
 

@@ -1,7 +1,7 @@
 use Rattle.std.proofs.Common.{List, ap, arith, drop, length, subst, take, ℕ, ◌-◌, ◌≡◌}
 use Rattle.std.proofs.lemmas.List.{take_rest}
 use Rattle.std.proofs.lemmas.Result.{err_from_is_err_and}
-use Rattle.hprof_grammar.specs.Dump.{Places}
+use Rattle.hprof_grammar.specs.Places.{Places}
 use Rattle.hprof_grammar.specs.Fault.{FirstFault}
 use Rattle.hprof_grammar.specs.working.Joining.{AddsAll, HasRecordFault}
 use Rattle.hprof_grammar.proofs.Headers.{dump_read, record_fault_read}

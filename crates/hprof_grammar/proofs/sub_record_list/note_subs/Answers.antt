@@ -1,6 +1,6 @@
 use Rattle.std.proofs.Common.{List, ap, arith, flat_map, length, refl, subst, sym, ℕ, ◌+◌, ◌-◌, ◌<◌, ◌∙◌, ◌≡◌}
 use Rattle.std.proofs.lemmas.Bool.Decides.{nat_tests}
-use Rattle.hprof_grammar.specs.Dump.{Places}
+use Rattle.hprof_grammar.specs.Places.{Places}
 use Rattle.hprof_grammar.specs.working.Joining.{AddsSubs, HasSubFault, noted}
 use Rattle.hprof_grammar.specs.SubRecord.{spelling_of}
 use Rattle.hprof_grammar.specs.declared.flaw.FormatFault.{FormatFault}

@@ -1,5 +1,6 @@
 use Rattle.std.proofs.Common.{[], ap, filter, ◌∙◌, ◌≡◌}
-use Rattle.hprof_grammar.specs.Dump.{Places, is_root}
+use Rattle.hprof_grammar.specs.Places.{Places}
+use Rattle.hprof_grammar.specs.Dump.{is_root}
 use Rattle.hprof_grammar.specs.Standing.{IsPlaced}
 use Rattle.heap_graph.specs.Heap.{heap_of}
 use Rattle.heap_graph.specs.working.ReadObjects.{IsReadOf}

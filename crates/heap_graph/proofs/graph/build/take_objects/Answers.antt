@@ -1,5 +1,5 @@
 use Rattle.std.proofs.lemmas.Result.{IfOk-weaker}
-use Rattle.hprof_grammar.specs.Dump.{IsDumpOf, Places}
+use Rattle.hprof_grammar.specs.Places.{IsDumpOf, Places}
 use Rattle.heap_graph.specs.Heap.{heap_of}
 use Rattle.heap_graph.specs.working.PlacedObjects.{ArePlacesOf, IsReadFrom}
 use Rattle.heap_graph.specs.working.ToldClasses.{AreToldOf}

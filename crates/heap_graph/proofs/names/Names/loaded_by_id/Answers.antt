@@ -1,5 +1,5 @@
 use Rattle.std.proofs.Common.{arith, filter, get_or, length, ℕ}
-use Rattle.hprof_grammar.specs.Dump.{is_load}
+use Rattle.hprof_grammar.specs.Places.{is_load}
 use Rattle.heap_graph.proofs.Adding.{filled_more}
 use Rattle.heap_graph.proofs.Lookups.{LoadedAt, loaded_at}
 use Rattle.heap_graph.proofs.NameLookups.{name_ids_more}

@@ -1,5 +1,5 @@
 use Rattle.std.proofs.Common.{List, filter, length, map, take, ◌≡◌}
-use Rattle.hprof_grammar.specs.Dump.{is_string}
+use Rattle.hprof_grammar.specs.Places.{is_string}
 use Rattle.hprof_grammar.specs.Record.{Record}
 use Rattle.heap_graph.specs.working.IndexPairs.{IsFilled}
 use Rattle.heap_graph.specs.working.PlacedNames.{AreNamesOf, string_id}

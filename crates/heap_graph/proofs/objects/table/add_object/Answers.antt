@@ -1,7 +1,8 @@
 use Rattle.std.proofs.Common.{Contains, Err, None, Ok, OnOk, Option, Result, Some, ap, get_or, refl, subst, sym, take, ℕ, ◌∙◌, ◌≡◌}
 use Rattle.std.specs.Prelude.{option_and_then}
 use Rattle.std.proofs.lemmas.Bool.{iff_false, ne_eqb}
-use Rattle.hprof_grammar.specs.Standing.{Stands, id_of}
+use Rattle.hprof_grammar.specs.Standing.{Stands}
+use Rattle.hprof_grammar.specs.Dump.{id_of}
 use Rattle.hprof_grammar.specs.SubRecord.{SubRecord}
 use Rattle.hprof_grammar.specs.SubRecord.SubRecord.{class_dump}
 use Rattle.heap_graph.specs.Heap.{as_class, class_named, number_named}
