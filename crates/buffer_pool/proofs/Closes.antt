@@ -1,6 +1,8 @@
 -- What holds of the last state of a pool that is closed.
-use Rattle.std.proofs.Common.{◌≡◌, ℕ, ◌+◌, ◌<◌, ◌≤◌, false, List, [], length, map, drop, Contains, Option, slice_index, ap, sym, subst, ◌∙◌, length-drop, arith}
-use Rattle.std.proofs.lemmas.List.{get_or-drop}
+use Rattle.std.proofs.Common.{◌≡◌, ℕ, ◌+◌, ◌*◌, ◌/◌, ◌%◌, ◌^◌, ◌<◌, ◌≤◌, false, List, [], length, map, Contains, Option, slice_index, ap, sym, subst, ◌∙◌, ⊎_elim, arith}
+use Rattle.std.proofs.lemmas.Bool.{cases_lt}
+use Rattle.std.proofs.lemmas.List.{get_or_past}
+use Rattle.std.proofs.lemmas.List.FromFn.{get_or-map-range_with_len, length-map-range_with_len}
 use mathlib.Core.Option.{some}
 use lib.ListN.{get_elem?}
 use Rattle.mark_core.proofs.Places.{at_get_or}
@@ -22,7 +24,9 @@ use Rattle.buffer_pool.specs.Book.{Book, counts_of}
 use Rattle.buffer_pool.specs.Closing.{Ends}
 use Rattle.buffer_pool.specs.Story.{EndsStory, deeds}
 use Rattle.buffer_pool.specs.working.Told.{IsSettled, IsTold}
-use Rattle.buffer_pool.specs.working.Table.{Reading, Rule, marking_of, mark_word, view_counts}
+use Rattle.buffer_pool.specs.working.Packed.{mark_in, mark_of, marks_in, pair_mark}
+use Rattle.buffer_pool.specs.working.Table.{Reading, Rule, first_mark, marking_of, view_counts}
+use Rattle.buffer_pool.proofs.Bits.{cut_object, cut_past, pair_read}
 use Rattle.buffer_pool.proofs.States.{stands}
 
 -- of any marking with these marks
@@ -69,14 +73,21 @@ ends b marks events last counts w count some_buffer led own own_counts same all 
             let k : Contains [] lies.0 = subst (λ (l : List ℕ). Contains l lies.0) list lies.2 in
             omega (arith, k.1)
 
+-- there is a mark for each object
+pub marks_length : (words : List ℕ) (first objects : ℕ) → length (marks_in words first objects) ≡ objects
+marks_length words first objects = length-map-range_with_len (mark_in words first) 0 objects
+
 pub ends_of :
-    {B : Type 0} (r : Reading B) (e : Setup) (id : ℕ) (v : SeatView) (words : List ℕ) (slots : List (Option B)) (first : ℕ) → first ≡ 32 + e.buffers → Final (Seen (Rule r e) id v) words slots
+    {B : Type 0} (r : Reading B) (e : Setup) (id : ℕ) (v : SeatView) (words : List ℕ) (slots : List (Option B))
+    (first objects : ℕ) → first ≡ 32 + e.buffers → objects ≡ e.objects → Final (Seen (Rule r e) id v) words slots
     → v.book.account.share ≡ whole → v.book.account.held ≡ [] → v.book.account.charge ≡ [] → IsSettled v
-    → (ended : Ends v.book (drop first words)) × EndsStory v.log ended.events × (ended.own.0 ≡ v.log.number)
+    → (ended : Ends v.book (marks_in words first objects)) × EndsStory v.log ended.events
+    × (ended.own.0 ≡ v.log.number)
 unfolding ends
-ends_of r e id v words slots first place final all none_held none_charged done = (
-  ends v.book (drop first words) rule.reached.events last (map view_counts final.0.views) id count some_buffer led (stands r e final.0 rule id v final.1.1) (at_map view_counts final.0.views id v final.1.1)
-      marks all none_held none_charged,
+ends_of r e id v words slots first objects place number final all none_held none_charged done = (
+  ends v.book (marks_in words first objects) rule.reached.events last (map view_counts final.0.views) id count
+      some_buffer led (stands r e final.0 rule id v final.1.1) (at_map view_counts final.0.views id v final.1.1) marks
+      all none_held none_charged,
   (told.since, told.goes_on, ap (λ n. deeds n told.since) (told.number done.named) ∙ told.unsaid ∙ done.unsaid),
   sym (told.number done.named),
 )
@@ -99,14 +110,36 @@ ends_of r e id v words slots first place final all none_held none_charged done =
     led : LeadTo v.book.setup rule.reached.events last (map view_counts final.0.views)
     led = subst (λ (g : Setup). LeadTo g rule.reached.events last (map view_counts final.0.views)) (sym same) rule.reached.led
 
-    marks : (o : ℕ) → slice_index (drop first words) o ≡ last.mark o
-    marks o =
-        let there : first + o ≡ mark_word e o = omega (arith, place) in
-        get_or-drop first words o 0 ∙ ap (slice_index words) there ∙ ap (λ (ws : List ℕ). slice_index ws (mark_word e o)) (sym final.2)
+    marks : (o : ℕ) → slice_index (marks_in words first objects) o ≡ last.mark o
+    marks o = ⊎_elim inside past (cases_lt o objects)
+      where
+        inside : o < objects → slice_index (marks_in words first objects) o ≡ last.mark o
+        inside below =
+            get_or-map-range_with_len (mark_in words first) 0 objects o o 0 below (omega arith)
+            ∙ (λ k. mark_in (sym final.2 k) (place k) o)
+            ∙ sym (cut_object e.objects (mark_in final.0.words (first_mark e)) o (omega (arith, below, number)))
 
-    count : length (drop first words) ≡ v.book.setup.objects
-    count = omega (arith, length-drop first words, place, rule.word_count, ap (λ (ws : List ℕ). length ws) final.2, ap (λ (g : Setup). g.objects) same)
+        past : objects ≤ o → slice_index (marks_in words first objects) o ≡ last.mark o
+        past h =
+            get_or_past (marks_in words first objects) o 0 (omega (arith, h, marks_length words first objects))
+            ∙ sym (cut_past e.objects (mark_in final.0.words (first_mark e)) o (omega (arith, h, number)))
 
--- a word behind the first ones is a mark
-pub mark_there : (words : List ℕ) (first object x : ℕ) → get_elem? words (first + object) ≡ some x → slice_index (drop first words) object ≡ x
-mark_there words first object x at = get_or-drop first words object 0 ∙ at_get_or words (first + object) x 0 at
+    count : length (marks_in words first objects) ≡ v.book.setup.objects
+    count = omega (arith, marks_length words first objects, number, ap (λ (g : Setup). g.objects) same)
+
+-- a number that has a mark is an object
+pub object_below :
+    (words : List ℕ) (first objects object : ℕ) (marks : List ℕ) → marks_in words first objects ≡ marks
+    → object < length marks → object < objects
+object_below words first objects object marks same inside =
+    omega (arith, inside, ap (λ (ms : List ℕ). length ms) same, marks_length words first objects)
+
+-- the two bits of an object, read from the words at the close
+pub pair_there :
+    (words : List ℕ) (first objects object word bits : ℕ) → object < objects
+    → get_elem? words (first + object / 32) ≡ some word → bits ≡ word / 2 ^ (2 * (object % 32)) % 4
+    → slice_index (marks_in words first objects) object ≡ mark_of (bits % 2) (bits / 2)
+pair_there words first objects object word bits below at read =
+    get_or-map-range_with_len (mark_in words first) 0 objects object object 0 below (omega arith)
+    ∙ ap (λ x. pair_mark x (object % 32)) (at_get_or words (first + object / 32) word 0 at)
+    ∙ pair_read word (object % 32) bits read

@@ -19,7 +19,7 @@ use Rattle.buffer_pool.specs.working.Table.{Reading, Reached, Rule, Carries, fre
 use Rattle.buffer_pool.specs.working.Told.{IsSettled, noted}
 use Rattle.buffer_pool.proofs.States.{agrees, cut_same, accounts_set, counts_same, counts_changed, happened, happened_led, leads_now, log_after, told_after, did_after, freed}
 use Rattle.buffer_pool.proofs.Loads.{noticed, written_again}
-use Rattle.buffer_pool.proofs.Words.{head_beside_idle, link_beside_idle, mark_beside_idle, idle_here}
+use Rattle.buffer_pool.proofs.Words.{head_beside_idle, link_beside_idle, marks_beside_idle, idle_here}
 
 module _
     {B : Type 0} (r : Reading B) (e : Setup) (s : State (Option B) SeatView) (rule : Rule r e s)
@@ -60,7 +60,7 @@ module _
       marking =
           let here = idle_here e s.words x (omega (arith, rule.word_count)) in
           agrees (marking_of r e t) (record m { idle = x; accounts = set m.accounts id w.book.account })
-          (λ q. ap head_of (head_beside_idle e s.words x q)) links (mark_beside_idle e s.words x) refl here
+          (λ q. ap head_of (head_beside_idle e s.words x q)) links (marks_beside_idle e s.words x) refl here
           (accounts_set s.views id w)
 
 module _ {B : Type 0} (r : Reading B) (e : Setup) (slots id : ℕ) where

@@ -3,6 +3,7 @@ pub mod Newcomers
 pub mod Gone
 pub mod States
 pub mod Loads
+pub mod Bits
 pub mod Words
 pub mod Claims
 pub mod Idles

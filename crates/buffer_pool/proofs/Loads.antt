@@ -1,5 +1,5 @@
 -- Loads keep the rule, and tell what was loaded. So do the steps that change nothing.
-use Rattle.std.proofs.Common.{◌≡◌, ◌≢◌, ℕ, suc, ◌<◌, ◌≤◌, ◌==◌, true, List, [], ◌∷◌, length, map, Option, Some, None, set, slice_index, slice_set, ap, sym, refl, subst, ◌∙◌, arith}
+use Rattle.std.proofs.Common.{◌≡◌, ◌≢◌, ℕ, suc, ◌<◌, ◌≤◌, ◌==◌, true, List, [], ◌∷◌, length, map, Option, Some, None, Contains, set, slice_index, slice_set, ap, sym, refl, subst, ◌∙◌, arith}
 use Rattle.std.proofs.lemmas.List.{set-get_or}
 use mathlib.Core.Option.{none, some}
 use lib.ListN.{get_elem?}
@@ -23,7 +23,12 @@ use Rattle.buffer_pool.specs.Book.{Book, counts_of, loaded, link_loaded}
 use Rattle.buffer_pool.specs.working.Plays.{rested, head_seen, link_seen, set_aside, settled}
 use Rattle.buffer_pool.specs.Story.{Did, LeadsToBook}
 use Rattle.buffer_pool.specs.working.Told.{IsSettled, IsTold, noted}
-use Rattle.buffer_pool.specs.working.Table.{Reading, Reached, Rule, IsTied, Rests, Carries, free, head_word, link_word, marking_of, view_counts}
+use Rattle.mark_core.proofs.Colours.{charged}
+use Rattle.mark_core.proofs.Sums.{stands_times}
+use Rattle.buffer_pool.specs.Ranges.{IsWithin}
+use Rattle.buffer_pool.specs.working.Packed.{mark_in}
+use Rattle.buffer_pool.proofs.Bits.{marked_object}
+use Rattle.buffer_pool.specs.working.Table.{Reading, Reached, Rule, IsTied, Rests, Carries, first_mark, free, head_word, link_word, marking_of, view_counts}
 use Rattle.buffer_pool.proofs.States.{agrees, lawful, cut_below, stands, changed, accounts_set, accounts_same, counts_same, counts_changed, nothing_happened, happened, leads_here, leads_now, log_after, log_now, told_after, did_after, held_below, freed}
 use Rattle.buffer_pool.proofs.Deeds.{did_none, told_seen}
 use Rattle.buffer_pool.proofs.Gone.{ends_taken}
@@ -110,6 +115,25 @@ only_seen {B} r e s rule id v is there w same log unsaid taken named from =
 -- an account has no buffer twice, and no object twice among those that it answers for and finished
 pub each_once : {B : Type 0} (r : Reading B) (e : Setup) (s : State (Option B) SeatView) (rule : Rule r e s) (id : ℕ) (v : SeatView) → get_elem? s.views id ≡ some v → HasEachOnce v.book.account
 each_once r e s rule id v is = has_each_once e (marking_of r e s) (lawful r e s rule) id v.book.account (stands r e s rule id v is)
+
+-- what an account holds is the pool's, and what it answers for are objects, since their marks are not 0
+each_within :
+    {B : Type 0} (r : Reading B) (e : Setup) (s : State (Option B) SeatView) (rule : Rule r e s) (id : ℕ) (v : SeatView)
+    → get_elem? s.views id ≡ some v → 0 < v.book.account.share → IsWithin v.book.setup v.book.account
+each_within r e s rule id v is there =
+    subst (λ (g : Setup). IsWithin g v.book.account) (sym (rule.same_setup id v is there))
+    (record { held = held; charge = charge })
+  where
+    held : (i : ℕ) → Contains v.book.account.held i → i < e.buffers
+    held i here = held_below r e s rule id v is i (stands_times v.book.account.held i here)
+
+    charge : (o : ℕ) → Contains v.book.account.charge o → o < e.objects
+    charge o here =
+        let m = marking_of r e s in
+        let one =
+        charged e m.mark m.slots m.accounts (lawful r e s rule).coloured id v.book.account (stands r e s rule id v is) o
+        (stands_times v.book.account.charge o here) in
+        marked_object e.objects (mark_in s.words (first_mark e)) o (omega (arith, one.0))
 
 module _ {B : Type 0} (r : Reading B) (e : Setup) (slots id : ℕ) where
   -- what stays as it is keeps the rule of a word written again
@@ -205,7 +229,7 @@ module _ {B : Type 0} (r : Reading B) (e : Setup) (slots id : ℕ) where
         (refl, let did = did_none rule.reached.events id v (rule.reached.told id v is there) done.named in (did.0, did.1, did.2 ∙ done.unsaid)),
       ))
 
-  -- a load that tells that the account has each thing once
+  -- a load that tells that the account has each thing once, all of it the pool's
   pub settles : (me : Me (Option B) SeatView) (word : ℕ) → Carries me → 0 < me.0.book.account.share → Allows (Rule r e) slots id me word (λ n. n) (settled (step slots word 0 0 none) me)
   settles me word carries there = freed r e slots id word (λ n. n) (settled (step slots word 0 0 none) me) me carries (λ s rule count is fits.
       let v : SeatView = free me.0 in
@@ -222,6 +246,7 @@ module _ {B : Type 0} (r : Reading B) (e : Setup) (slots id : ℕ) where
         record {
           same = refl;
           each = each_once r e s rule id v is;
+          within = each_within r e s rule id v is there;
           did = did_none rule.reached.events id v told;
           story = leads_now r e t after id w (set_here s.views id w (at_below s.views id v is)) there refl refl;
           knows = told.taken;

@@ -1,5 +1,5 @@
 -- A split of a worker, and a join of two, keep the rule.
-use Rattle.std.proofs.Common.{◌≡◌, ◌≢◌, Contains, ℕ, ◌<◌, ◌≤◌, true, false, length, List, [], ◌∷◌, ◌++◌, map, Option, Some, None, set, ap, sym, refl, subst, ◌∙◌, ⊎_elim, arith}
+use Rattle.std.proofs.Common.{◌≡◌, ◌≢◌, ℕ, ◌<◌, ◌≤◌, true, false, length, List, [], ◌∷◌, ◌++◌, map, Option, Some, None, set, ap, sym, refl, subst, ◌∙◌, ⊎_elim, arith}
 use Rattle.std.proofs.lemmas.List.{map-append}
 use mathlib.Core.Option.{some}
 use native.Mathlib.Decide.{dec_le}
@@ -13,7 +13,7 @@ use Rattle.mark_core.specs.World.{Setup, Marking, account_at}
 use Rattle.mark_core.specs.Runs.{AreApart, HasEachOnce, opening}
 use Rattle.mark_core.specs.Event.{Event, Split, Join, effect}
 use Rattle.mark_core.specs.Counts.{Counts, add_counts, counts_at, no_counts}
-use Rattle.mark_core.proofs.Sums.{total-append, stands_append}
+use Rattle.mark_core.proofs.Sums.{total-append}
 use Rattle.mark_core.proofs.Places.{at_get_or}
 use Rattle.buffer_pool.specs.declared.seat_view.SeatView.{SeatView}
 use Rattle.buffer_pool.specs.Book.{joined, new_book, parted}
@@ -180,23 +180,6 @@ module _ {B : Type 0} (r : Reading B) (e : Setup) (id : ℕ) (v : SeatView) wher
             (λ x ns accounts each led. told_join rule.reached.events s.views rule.reached.told id v is there known other
             w apart at theirs_there theirs_known theirs_said)
 
--- two setups of one table have the same numbers
-same_numbers : (t : TableId) (e f : Setup) → IsLaid t e → IsLaid t f → (e.buffers ≡ f.buffers) × (e.objects ≡ f.objects)
-same_numbers t e f one two = (omega (arith, one.slots, two.slots), omega (arith, one.slots, two.slots, one.words, two.words))
-
--- what two accounts of one table have together is within it
-within_joined : (t : TableId) (e f : Setup) (a b : Account) → IsLaid t e → IsLaid t f → IsWithin e a → IsWithin f b → IsWithin e (after_join a b)
-within_joined t e f a b one two first second = record { held = held; charge = charge }
-  where
-    numbers : (e.buffers ≡ f.buffers) × (e.objects ≡ f.objects)
-    numbers = same_numbers t e f one two
-
-    held : (i : ℕ) → Contains (a.held ++ b.held) i → i < e.buffers
-    held i k = ⊎_elim (λ l. first.held i l) (λ l. omega (arith, second.held i l, numbers.0)) (stands_append a.held b.held i k)
-
-    charge : (o : ℕ) → Contains (a.charge ++ b.charge) o → o < e.objects
-    charge o k = ⊎_elim (λ l. first.charge o l) (λ l. omega (arith, second.charge o l, numbers.1)) (stands_append a.charge b.charge o k)
-
 -- the units of a split are as they were noted, and the worker knows its number
 pub noted_units :
     {B : Type 0} (m n : Me (Option B) SeatView) (log : Log) (units : ℕ) → n ≡ (record (noted log (free m.0)) { aside = units }, []) → 0 < units → units < m.0.book.account.share
@@ -333,9 +316,7 @@ module _ {B : Type 0} (t u : TableId) (m o freed both now : Me (Option B) SeatVi
   pub has_both : IsSound u now × (now.0.book ≡ joined m.0.book o.0.book)
   has_both = (
     sound_now t u both now table told.same (at (λ x. IsLaid t x.0.book.setup) first.laid) (at (λ x. 0 < x.0.book.account.share) (omega (arith, first.share)))
-        (at (λ x. IsWithin x.0.book.setup x.0.book.account)
-        (within_joined t m.0.book.setup o.0.book.setup m.0.book.account o.0.book.account first.laid second.laid
-        first.within second.within)) told.story,
+        told.within told.story,
     book_now t u both now table told.same ∙ ap (λ (x : Me (Option B) SeatView). x.0.book) is,
   )
 

@@ -1,9 +1,9 @@
 -- An exchange of a head for the link of its buffer keeps the rule: it pops, or it has failed.
-use Rattle.std.proofs.Common.{◌≡◌, ◌≢◌, ℕ, zero, suc, ◌<◌, ◌≤◌, ◌==◌, true, List, [], ◌∷◌, ◌++◌, length, map, Option, Some, None, set, slice_index, slice_index_or, slice_set, ap, sym, refl, subst, ◌∙◌, ⊎_elim, Contains, lt_of_not-le, length-set, arith}
-use Rattle.std.proofs.lemmas.List.{set-get_or, get_or_past}
+use Rattle.std.proofs.Common.{◌≡◌, ◌≢◌, ℕ, zero, suc, ◌<◌, ◌==◌, true, List, [], ◌∷◌, ◌++◌, map, Option, Some, None, set, slice_index, slice_index_or, slice_set, ap, sym, refl, subst, ◌∙◌, ⊎_elim, Contains, length-set, arith}
+use Rattle.std.proofs.lemmas.List.{set-get_or}
 use mathlib.Core.Option.{none, some, some-injective, some-ne-none}
 use mathlib.Core.Option as maybe
-use native.Mathlib.Decide.{dec_le, ℕ_discrete}
+use native.Mathlib.Decide.{ℕ_discrete}
 use lib.ListN.{get_elem?}
 use prog.Atomic.{either}
 use Rattle.atomic_table.specs.Table.{State, Me, Act, Allows, Valid, step, stepped, carried_after, keeps, takes}
@@ -23,12 +23,14 @@ use Rattle.mark_core.proofs.Ownership.{place_one, top_stands}
 use Rattle.buffer_pool.specs.declared.seat_view.SeatView.{SeatView}
 use Rattle.buffer_pool.specs.Book.{popped, failed}
 use Rattle.buffer_pool.specs.working.Plays.{HasMissed, HasTaken, IsOurs, pop_tried}
-use Rattle.buffer_pool.specs.working.Table.{Reading, Reached, Rule, IsTied, Rests, Carries, account_of, free, head_word, link_word, mark_word, marking_of, slot_of, view_counts}
+use Rattle.buffer_pool.specs.working.Packed.{mark_in}
+use Rattle.buffer_pool.specs.working.Table.{Reading, Reached, Rule, IsTied, Rests, Carries, account_of, first_mark, free, head_word, link_word, marking_of, slot_of, view_counts}
+use Rattle.buffer_pool.proofs.Bits.{marked_object}
 use Rattle.buffer_pool.proofs.States.{agrees, lawful, changed, accounts_set, accounts_same, counts_same, counts_changed, slots_set, happened, leads_now, log_after, told_after, did_after, freed}
 use Rattle.buffer_pool.specs.working.Told.{IsSettled, noted}
 use Rattle.mark_core.proofs.Places.{at_below, at_one, at_get_or}
 use Rattle.buffer_pool.proofs.Loads.{noticed, same_head}
-use Rattle.buffer_pool.proofs.Words.{one_head, exchange_hit, exchange_miss, link_beside_head, links_beside_head, mark_beside_head, heads_after, idle_beside_head}
+use Rattle.buffer_pool.proofs.Words.{one_head, exchange_hit, exchange_miss, link_beside_head, links_beside_head, marks_beside_head, heads_after, idle_beside_head}
 
 -- items at home are those of a buffer
 pub buffer_there : {B : Type 0} (r : Reading B) (homes : List (maybe.Option (Option B))) (i : ℕ) (items : List ℕ) → StandsAt (map (slot_of r) homes) i (Some items) → (b : B) × (get_elem? homes i ≡ some (some (Some b))) × (r.items b ≡ items)
@@ -49,17 +51,14 @@ stacked_free r e s rule k u Empty i at on mine =
 
 -- the items of a stacked buffer are objects, since their marks are not 0
 items_within : {B : Type 0} (r : Reading B) (e : Setup) (s : State (Option B) SeatView) (rule : Rule r e s) (i : ℕ) (b : B) → get_elem? s.homes i ≡ some (some (Some b)) → (o : ℕ) → Contains (r.items b) o → o < e.objects
-items_within r e s rule i b home o here = go (dec_le (length s.words) (mark_word e o))
-  where
-    m : Marking
-    m = marking_of r e s
-
-    go : Dec (length s.words ≤ mark_word e o) → o < e.objects
-    go (no below) = omega (arith, lt_of_not-le below, rule.word_count)
-    go (yes past) =
-        let white = get_or_past s.words (mark_word e o) 0 past in
-        let told = (linear e m.mark m.slots m.accounts (lawful r e s rule).coloured o).0 in
-        let one = term_le (λ (slot : Option (List ℕ)). times o (items_of slot)) m.slots i (Some (r.items b)) (at_map (slot_of r) s.homes i (some (Some b)) home) in absurd (omega (arith, white, told, one, stands_times (r.items b) o here))
+items_within r e s rule i b home o here =
+    let m = marking_of r e s in
+    let told = (linear e m.mark m.slots m.accounts (lawful r e s rule).coloured o).0 in
+    let one =
+    term_le (λ (slot : Option (List ℕ)). times o (items_of slot)) m.slots i (Some (r.items b))
+    (at_map (slot_of r) s.homes i (some (Some b)) home) in
+    let stands = stands_times (r.items b) o here in
+    marked_object e.objects (mark_in s.words (first_mark e)) o (omega (arith, told, one, stands))
 
 -- a buffer on the empty stack has no items
 bare_on_empty :
@@ -152,7 +151,8 @@ module _ {B : Type 0} (r : Reading B) (e : Setup) (s : State (Option B) SeatView
         reached =
             happened r e s rule id v is (Pop q) there (((hit, short), (i, top), (l, linked_to)), busy) t
             (agrees (marking_of r e t) left (heads_after e s.words q x (after (m.head q) l) (omega (arith, rule.word_count)) next) (links_beside_head e s.words q x)
-            (mark_beside_head e s.words q x) (slots_set r s.homes i none) (idle_beside_head e s.words q x) (accounts_set s.views id w) ∙ sym pop_is)
+            (marks_beside_head e s.words q x) (slots_set r s.homes i none) (idle_beside_head e s.words q x)
+            (accounts_set s.views id w) ∙ sym pop_is)
             (counts_same r e s rule id v is w refl) (told_after r e s rule id v is there (Pop q) w refl refl refl refl
             refl refl)
 

@@ -27,7 +27,7 @@ use Rattle.buffer_pool.specs.working.Table.{Reading, Reached, Rule, IsTied, Rest
 use Rattle.buffer_pool.proofs.States.{agrees, cut_below, cut_put, changed, accounts_set, accounts_same, counts_same, slots_set, happened, leads_now, log_after, told_after, did_after, held_alone, held_below, held_away, freed}
 use Rattle.buffer_pool.proofs.Pops.{lost}
 use Rattle.buffer_pool.proofs.Loads.{each_once}
-use Rattle.buffer_pool.proofs.Words.{one_head, exchange_hit, exchange_miss, link_beside_head, links_beside_head, mark_beside_head, heads_after, idle_beside_head, idle_beside_link, head_beside_link, link_beside_link, link_here, mark_beside_link, links_after}
+use Rattle.buffer_pool.proofs.Words.{one_head, exchange_hit, exchange_miss, link_beside_head, links_beside_head, marks_beside_head, heads_after, idle_beside_head, idle_beside_link, head_beside_link, link_beside_link, link_here, marks_beside_link, links_after}
 
 -- the link word to an index of a buffer is at most the number of buffers
 pub low_small : (index : Option ℕ) (buffers : ℕ) → ((i : ℕ) → index ≡ Some i → i < buffers) → low_of index ≤ buffers
@@ -138,7 +138,8 @@ module _ {B : Type 0} (r : Reading B) (e : Setup) (s : State (Option B) SeatView
       reached : Reached r e t
       reached =
           happened r e s rule id v is (StoreLink i (index_of x)) there (times_stands v.book.account.held i mine) t
-          (agrees (marking_of r e t) (record m { link = put i (index_of x) m.link }) (λ q. ap head_of (head_beside_link e s.words i x q)) links (mark_beside_link e s.words i x below)
+          (agrees (marking_of r e t) (record m { link = put i (index_of x) m.link })
+          (λ q. ap head_of (head_beside_link e s.words i x q)) links (marks_beside_link e s.words i x below)
           (slots_set r s.homes i none ∙ set_again m.slots i None (held_away r e s rule id v is i mine)) (idle_beside_link e s.words i x) (accounts_same r e s rule id v is w refl))
           (counts_same r e s rule id v is w refl) (told_after r e s rule id v is there (StoreLink i (index_of x)) w refl
           refl refl refl refl refl)
@@ -200,7 +201,8 @@ module _ {B : Type 0} (r : Reading B) (e : Setup) (s : State (Option B) SeatView
         reached =
             happened r e s rule id v is (Push q i (r.items b)) there ((hit, short), (times_stands v.book.account.held i mine, part, room, none_empty), follows, busy) t
             (agrees (marking_of r e t) (effect m id v.book.account (Push q i (r.items b))) (heads_after e s.words q x (after (m.head q) (Some i)) (omega (arith, rule.word_count)) next)
-            (links_beside_head e s.words q x) (mark_beside_head e s.words q x) (slots_set r s.homes i (some (Some b))) (idle_beside_head e s.words q x) (accounts_set s.views id w))
+            (links_beside_head e s.words q x) (marks_beside_head e s.words q x) (slots_set r s.homes i (some (Some b)))
+            (idle_beside_head e s.words q x) (accounts_set s.views id w))
             (counts_same r e s rule id v is w refl) (told_after r e s rule id v is there (Push q i (r.items b)) w refl
             refl refl refl refl refl)
 

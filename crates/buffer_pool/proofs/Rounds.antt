@@ -209,14 +209,35 @@ module _ (old new : Holder) (pool : new.pool ≡ old.pool) where
 pub not_white : (b : Bool) (found : ℕ) → (IsTrue b ↔ (found ≡ 0)) → b ≡ false → found ≢ 0
 not_white b found white is zero = false≢true (sym is ∙ white.1 zero)
 
+-- no object has a successor
+no_pair : (n : ℕ) (w : Holder) → HasRoots n w → (o s : ℕ) → Contains w.book.setup.pairs (o, s) → ⊥
+no_pair n w roots o s pair =
+    let k : Contains [] (o, s) = subst (λ (ps : List (ℕ × ℕ)). Contains ps (o, s)) roots.pairs pair in
+    omega (arith, k.1)
+
 pub may_finish : (n : ℕ) (w : Holder) (h rest : HeldBuffer) (o : ℕ) → HasRoots n w → HasOne w h → h.items ≡ rest.items ++ o ∷ [] → CanFinish w.book.setup o w.book.account
-may_finish n w h rest o roots one last = (times_stands w.book.account.charge o here, λ s pair. absurd (no_pair s pair))
+may_finish n w h rest o roots one last =
+    (times_stands w.book.account.charge o here, λ s pair. absurd (no_pair n w roots o s pair))
   where
     here : 0 < times o w.book.account.charge
     here = omega (arith, one.charge o, ap (times o) last, total-append (only o) rest.items (o ∷ []), only-same o o refl)
 
-    no_pair : (s : ℕ) → Contains w.book.setup.pairs (o, s) → ⊥
-    no_pair s pair = let k : Contains [] (o, s) = subst (λ (ps : List (ℕ × ℕ)). Contains ps (o, s)) roots.pairs pair in omega (arith, k.1)
+-- an object that was white and is claimed now
+pub claimed_finishable :
+    (n : ℕ) (old new : Holder) (o found : ℕ) → HasRoots n new → new.book ≡ claimed o found old.book → found ≡ 0
+    → CanFinish new.book.setup o new.book.account
+claimed_finishable n old new o found roots is white =
+    (times_stands new.book.account.charge o here, λ s pair. absurd (no_pair n new roots o s pair))
+  where
+    here : 0 < times o new.book.account.charge
+    here =
+        omega (
+          arith,
+          ap (λ (c : Book). times o c.account.charge) is,
+          ap (times o) (charge_white o found old.book.account.charge white),
+          total-append (only o) old.book.account.charge (o ∷ []),
+          only-same o o refl,
+        )
 
 pub may_claim : (n : ℕ) (w : Holder) (o : ℕ) → HasRoots n w → o < n → CanClaim w.book.setup o w.book.account
 may_claim n w o roots below = inl (subst (λ (rs : List ℕ). Contains rs o) (sym roots.roots) (is_root n o below))

@@ -1,5 +1,5 @@
 -- The words and slots that a pool is made of meet the rule.
-use Rattle.std.proofs.Common.{◌≡◌, ℕ, zero, suc, ◌+◌, ◌<◌, ◌≤◌, if◌then◌else◌, List, [], ◌∷◌, ◌++◌, length, map, replicate, Option, Some, None, All, set, slice_index, ap, sym, refl, subst, ◌∙◌, length-set, lt-ltb, le-ltb, arith}
+use Rattle.std.proofs.Common.{◌≡◌, ℕ, zero, suc, ◌+◌, ◌%◌, ◌<◌, ◌≤◌, if◌then◌else◌, List, [], ◌∷◌, ◌++◌, length, map, replicate, Option, Some, None, All, set, slice_index, ap, sym, refl, subst, ◌∙◌, length-set, lt-ltb, le-ltb, arith}
 use Rattle.std.proofs.lemmas.List.{get_or-set_same, get_or-set_other, length-replicate, length-map}
 use Rattle.std.proofs.lemmas.List.Elements.{All-append}
 use mathlib.Core.Option.{some, some-injective, some-ne-none}
@@ -22,7 +22,9 @@ use Rattle.buffer_pool.specs.Ranges.{IsInside}
 use Rattle.buffer_pool.specs.working.Laid.{IsLaid, IsSound}
 use Rattle.buffer_pool.specs.working.Setups.{first_view}
 use Rattle.buffer_pool.specs.working.Opening.{HasFirstWords, IsFirstSlot}
-use Rattle.buffer_pool.specs.working.Table.{Reading, Rule, IsTied, Rests, cut, head_word, link_word, mark_word, marking_of, slot_of}
+use Rattle.buffer_pool.specs.working.Packed.{mark_in, mark_words, pair_mark}
+use Rattle.buffer_pool.specs.working.Table.{Reading, Rule, IsTied, Rests, cut, first_mark, head_word, link_word, mark_word, marking_of, marks_of, slot_of}
+use Rattle.buffer_pool.proofs.Bits.{cut_white, white_pair}
 use Rattle.buffer_pool.proofs.States.{agrees, cut_below}
 use Rattle.buffer_pool.proofs.Loads.{nothing_out}
 use Rattle.buffer_pool.proofs.Deeds.{told_now}
@@ -109,7 +111,8 @@ first_story e = (runs.opening e e.first_tag, no_counts ∷ [], record { run = re
 
 pub starts :
     {B : Type 0} (r : Reading B) (e : Setup) (words : List ℕ) (slots : List (Option B)) → 0 < e.buffers
-    → HasFirstWords (32 + e.buffers + e.objects) e.first_tag e.buffers words → length slots ≡ e.buffers → All (IsFirstSlot r e.size) slots
+    → HasFirstWords (32 + e.buffers + mark_words e.objects) e.first_tag e.buffers words → length slots ≡ e.buffers
+    → All (IsFirstSlot r e.size) slots
     → Rule r e (opening words slots (first_view e))
 starts {B} r e words slots some_buffer first count all =
     record {
@@ -157,10 +160,15 @@ starts {B} r e words slots some_buffer first count all =
             ap (λ t. if t then index_of (slice_index words (link_word i)) else None) (le-ltb i e.buffers past)
             ∙ sym (ap (λ t. if t then Some (i + 1) else None) (le-ltb (i + 1) e.buffers (omega (arith, past))))
 
+    white : (o : ℕ) → marks_of e words o ≡ 0
+    white o =
+        cut_white e.objects (mark_in words (first_mark e)) o
+        (ap (λ y. pair_mark y (o % 32)) (first.rest (mark_word e o) (omega arith)) ∙ white_pair (o % 32))
+
     opened : marking_of r e (opening words slots (first_view e)) ≡ runs.opening e e.first_tag
     opened =
-        agrees (marking_of r e (opening words slots (first_view e))) (runs.opening e e.first_tag) first.heads links (λ o. first.rest (mark_word e o) (omega arith))
-        (slots_bare r e.size slots all ∙ ap (λ n. replicate n (Some [])) count) first.idle refl
+        agrees (marking_of r e (opening words slots (first_view e))) (runs.opening e e.first_tag) first.heads links
+        white (slots_bare r e.size slots all ∙ ap (λ n. replicate n (Some [])) count) first.idle refl
 
 -- one more slot has its buffer
 pub slot_pushed : {B : Type 0} (r : Reading B) (size : ℕ) (slots : List (Option B)) (b : B) → All (IsFirstSlot r size) slots → r.items b ≡ [] → r.size b ≡ size → All (IsFirstSlot r size) (slots ++ Some b ∷ [])
@@ -172,7 +180,8 @@ slot_pushed r size slots b all bare sized = All-append (IsFirstSlot r size) slot
 
 -- a table of these words and slots is laid for the setup
 pub laid_first :
-    (t : TableId) (e : Setup) (tag asked : ℕ) (words : List ℕ) (slots : ℕ) → t.words ≡ length words → t.slots ≡ slots → HasFirstWords (32 + e.buffers + e.objects) tag e.buffers words → slots ≡ e.buffers
+    (t : TableId) (e : Setup) (tag asked : ℕ) (words : List ℕ) (slots : ℕ) → t.words ≡ length words → t.slots ≡ slots
+    → HasFirstWords (32 + e.buffers + mark_words e.objects) tag e.buffers words → slots ≡ e.buffers
     → IsInside e.objects e.buffers e.size asked → All (λ o. o < e.objects) e.roots → All (λ p. (p.0 < e.objects) × (p.1 < e.objects)) e.pairs → IsLaid t e
 laid_first t e tag asked words slots word_count slot_count first count inside roots pairs =
     record { words = word_count ∙ first.word_count; slots = slot_count ∙ count; few = inside.few; many = inside.many; objects = inside.objects; roots = roots; pairs = pairs }

@@ -1,3 +1,4 @@
 pub mod Rounds
 pub mod Worked
 pub mod Forged
+pub mod Packed

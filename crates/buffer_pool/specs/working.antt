@@ -1,5 +1,6 @@
 pub mod Told
 pub mod Codes
+pub mod Packed
 pub mod Table
 pub mod Plays
 pub mod Buffers

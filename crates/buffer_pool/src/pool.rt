@@ -37,6 +37,7 @@ use std::marker::Model;
 pub struct Pool<A: Allocator> {
     pub(crate) table: Table<Option<Buffer<A>>, SeatView, Key, MarkingRule, A>,
     pub(crate) buffers: u32,
+    pub(crate) objects: u32,
 }
 
 impl<A: Allocator> Model for Pool<A> {
@@ -50,7 +51,7 @@ impl<A: Allocator> Model for Pool<A> {
     ghost view = { λ p. p.table.shared.table_id };
 
     ghost invariant = { λ p. IsLaid p.table.shared.table_id (setup_of p.table.shared.key)
-        × (p.buffers ≡ p.table.shared.key.buffers) };
+        × (p.buffers ≡ p.table.shared.key.buffers) × (p.objects ≡ p.table.shared.key.objects) };
 }
 
 impl<A: Allocator + Clone> Pool<A> {
@@ -92,6 +93,13 @@ impl<A: Allocator + Clone> Pool<A> {
         let Ok((table, seat)) = Table::new(alloc, words.as_slice(), slots, &key) else {
             return Err(PoolFault::OutOfMemory);
         };
-        Ok((Pool { table, buffers }, Worker { seat }))
+        Ok((
+            Pool {
+                table,
+                buffers,
+                objects,
+            },
+            Worker { seat },
+        ))
     }
 }

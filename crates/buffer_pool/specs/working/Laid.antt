@@ -6,12 +6,13 @@ use Rattle.mark_core.specs.World.{Setup}
 use Rattle.buffer_pool.specs.declared.seat_view.SeatView.{SeatView}
 use Rattle.buffer_pool.specs.Ranges.{IsWithin}
 use Rattle.buffer_pool.specs.Story.{LeadsToBook}
+use Rattle.buffer_pool.specs.working.Packed.{mark_words}
 use Rattle.buffer_pool.specs.working.Table.{Carries}
 use Rattle.buffer_pool.specs.working.Told.{IsSettled}
 
 -- the table has the words and slots of this setup, and roots and pairs are of objects
 pub record IsLaid (t : TableId) (e : Setup) : Type 0 where
-  pub words : t.words ≡ 32 + e.buffers + e.objects
+  pub words : t.words ≡ 32 + e.buffers + mark_words e.objects
   pub slots : t.slots ≡ e.buffers
   pub few : 4 ≤ e.buffers
   pub many : e.buffers ≤ 65534

@@ -1,6 +1,6 @@
 -- What each step on the table tells the worker that makes it: of the step, the seat before, the number found and the
 -- seat after.
-use Rattle.std.specs.Prelude.{Contains, ◌≡◌, ◌≢◌, ℕ, suc, ◌<◌, ◌≤◌, true, false, List, [], ◌∷◌, ◌++◌, length, Option, Some, None}
+use Rattle.std.specs.Prelude.{Contains, ◌≡◌, ◌≢◌, ℕ, suc, ◌%◌, ◌<◌, ◌≤◌, true, false, List, [], ◌∷◌, ◌++◌, length, Option, Some, None}
 use Rattle.atomic_table.specs.Table.{Me, Step}
 use Rattle.tagged_index.specs.Head.{head_of, index_of, after, last_tag}
 use Rattle.mark_core.specs.declared.which.Which.{Which}
@@ -14,7 +14,9 @@ use Rattle.buffer_pool.specs.declared.seat_view.SeatView.{SeatView}
 use Rattle.buffer_pool.specs.Book.{Book, loaded, link_loaded, failed, popped, pushed, claimed, finished, idled, woken, idle_loaded}
 use Rattle.buffer_pool.specs.Calls.{Shows}
 use Rattle.buffer_pool.specs.Story.{Log, Did, EndsStory, LeadsToBook, deeds}
+use Rattle.buffer_pool.specs.Ranges.{IsWithin}
 use Rattle.buffer_pool.specs.working.Told.{IsSettled, noted}
+use Rattle.buffer_pool.specs.working.Packed.{pair_bits, pair_mark}
 use Rattle.buffer_pool.specs.working.Table.{Reading, head_word, link_word, mark_word, free}
 
 -- the seat between two calls, with this log and this book and no slot out
@@ -115,16 +117,17 @@ module _ {B : Type 0} where
       (n ≡ st.first → (i : ℕ) (b : B) → m.1 ≡ (i, Some b) ∷ [] → HasPushed q i (r.items b) m after)
       × ((n ≡ st.first → ⊥) → HasKept q m.1 m after)
 
-  -- a claim
+  -- a claim: the low bit of the object's pair is set
   abbrev pub claim_made : Step (Option B) → Me (Option B) SeatView → ℕ → Me (Option B) SeatView → Type 0
   claim_made st m n after =
-      (o : ℕ) → st.word ≡ mark_word m.0.book.setup o
-      → (after ≡ rested m after.0.log (claimed o n m.0.book)) × Tells m (Claim o ∷ []) after × Leads after
+      (o : ℕ) → st.word ≡ mark_word m.0.book.setup o → st.first ≡ pair_bits 1 o
+      → (after ≡ rested m after.0.log (claimed o (pair_mark n (o % 32)) m.0.book)) × (pair_mark n (o % 32) ≤ 2)
+      × Tells m (Claim o ∷ []) after × Leads after
 
-  -- a finish
+  -- a finish: both bits of the object's pair are set
   abbrev pub finish_made : Step (Option B) → Me (Option B) SeatView → ℕ → Me (Option B) SeatView → Type 0
   finish_made st m n after =
-      (o : ℕ) → st.word ≡ mark_word m.0.book.setup o
+      (o : ℕ) → st.word ≡ mark_word m.0.book.setup o → st.first ≡ pair_bits 3 o
       → (after ≡ rested m after.0.log (finished o m.0.book)) × ((p : ℕ) → times p after.0.book.account.finished ≤ 1)
       × Tells m (Finish o ∷ []) after × Leads after
 
@@ -145,12 +148,13 @@ module _ {B : Type 0} where
   abbrev pub set_aside : Step (Option B) → Me (Option B) SeatView → ℕ → Me (Option B) SeatView → Type 0
   set_aside st m n after = (after ≡ (record (noted after.0.log (free m.0)) { aside = st.first }, [])) × Tells m [] after
 
-  -- The slot that was out went home, and the account has each thing once. The log is up to date: it tells what was
-  -- noted, and goes on from the story that was taken in. That story is another worker's, who did nothing more where it
-  -- was joined; and a worker that learns its number just now did nothing
+  -- The slot that was out went home, and the account has each thing once, all of it the pool's. The log is up to date:
+  -- it tells what was noted, and goes on from the story that was taken in. That story is another worker's, who did
+  -- nothing more where it was joined; and a worker that learns its number just now did nothing
   pub record IsUpToDate (m after : Me (Option B) SeatView) : Type 0 where
     pub same : after ≡ (noted after.0.log (free m.0), [])
     pub each : HasEachOnce m.0.book.account
+    pub within : IsWithin m.0.book.setup m.0.book.account
     pub did : m.0.named ≡ true → Tells m m.0.unsaid after
     pub story : Leads after
     pub knows : (more : List Event) × (after.0.log.story ≡ m.0.taken ++ more)

@@ -1,6 +1,6 @@
 -- The pool's table: which word is what, the marking that its words, slots and views stand for, and the rule that holds
 -- between any two steps.
-use Rattle.std.specs.Prelude.{◌≡◌, ℕ, zero, suc, ◌+◌, ◌<◌, ◌≤◌, nat_lt, if◌then◌else◌, List, [], ◌∷◌, length, map, Option, Some, None, slice_index}
+use Rattle.std.specs.Prelude.{◌≡◌, ℕ, zero, suc, ◌+◌, ◌/◌, ◌<◌, ◌≤◌, nat_lt, if◌then◌else◌, List, [], ◌∷◌, length, map, Option, Some, None, slice_index}
 use mathlib.Core.Option.{none, some}
 use lib.ListN.{get_elem?}
 use Rattle.atomic_table.specs.Table.{State, Me}
@@ -15,10 +15,11 @@ use Rattle.mark_core.specs.Counts.{Counts, LeadTo}
 use Rattle.buffer_pool.specs.declared.seat_view.SeatView.{SeatView}
 use Rattle.buffer_pool.specs.Book.{counts_of}
 use Rattle.buffer_pool.specs.working.Told.{AreTold}
+use Rattle.buffer_pool.specs.working.Packed.{cut_marks, mark_in, mark_words}
 use mathlib.Core.Option as maybe
 
 -- The two head words lie 128 bytes apart, so that they share no cache line. Then come a link word for each buffer and a
--- mark word for each object.
+-- word of marks for each 32 objects.
 abbrev pub head_word : Which → ℕ
 head_word Full = 0
 head_word Empty = 16
@@ -26,8 +27,17 @@ head_word Empty = 16
 abbrev pub link_word : ℕ → ℕ
 link_word i = 32 + i
 
+-- the first word of marks
+abbrev pub first_mark : Setup → ℕ
+first_mark e = 32 + e.buffers
+
+-- the word that has the mark of an object
 abbrev pub mark_word : Setup → ℕ → ℕ
-mark_word e o = 32 + e.buffers + o
+mark_word e o = 32 + e.buffers + o / 32
+
+-- the mark of each object in these words
+abbrev pub marks_of : Setup → List ℕ → ℕ → ℕ
+marks_of e words = cut_marks e.objects (mark_in words (first_mark e))
 
 -- the idle word lies 64 bytes from each head
 abbrev pub idle_word : ℕ
@@ -84,7 +94,7 @@ module _ {B : Type 0} (r : Reading B) where
       record {
         head = λ q. head_of (slice_index s.words (head_word q));
         link = cut e.buffers (λ i. index_of (slice_index s.words (link_word i)));
-        mark = λ o. slice_index s.words (mark_word e o);
+        mark = marks_of e s.words;
         slots = map slot_of s.homes;
         idle = slice_index s.words idle_word;
         accounts = map account_of s.views;
@@ -99,7 +109,7 @@ module _ {B : Type 0} (r : Reading B) where
 
   -- what holds between any two steps: the run that led here, and what the code needs besides
   pub record Rule (e : Setup) (s : State (Option B) SeatView) : Type 0 where
-    pub word_count : length s.words ≡ 32 + e.buffers + e.objects
+    pub word_count : length s.words ≡ 32 + e.buffers + mark_words e.objects
     pub slot_count : length s.homes ≡ e.buffers
     pub sized : (i : ℕ) (b : B) → get_elem? s.homes i ≡ some (some (Some b)) → r.size b ≡ e.size
     pub linked : (i : ℕ) → i < e.buffers → slice_index s.words (link_word i) ≤ e.buffers

@@ -2,9 +2,10 @@
 ghost use Rattle.std.specs.Prelude.{◌≡◌, ℕ, ◌+◌, ◌<◌, ◌≤◌, All, IfOk, length};
 ghost use Rattle.buffer_pool.specs.working.Buffers.{buffer_reading};
 ghost use Rattle.buffer_pool.specs.working.Opening.{HasFirstWords, IsFirstSlot};
+ghost use Rattle.buffer_pool.specs.working.Packed.{mark_words};
 
 use crate::buffer::Buffer;
-use crate::layout::{FIRST_LINK, head_word};
+use crate::layout::{FIRST_LINK, head_word, mark_words};
 use mark_core::Which;
 use std::alloc::{AllocError, Allocator};
 use tagged_index::HeadWord;
@@ -19,9 +20,9 @@ pub(crate) fn first_words<A: Allocator>(
 ) -> Result<Vec<u64, A>, AllocError>
     requires some { 0 < buffers }
     requires tag { first_tag ≤ 281474976710655 }
-    ensures { IfOk result (λ w. HasFirstWords (32 + buffers + objects) first_tag buffers w.items) }
+    ensures { IfOk result (λ w. HasFirstWords (32 + buffers + mark_words objects) first_tag buffers w.items) }
 {
-    let count = FIRST_LINK + buffers as usize + objects as usize;
+    let count = FIRST_LINK + buffers as usize + mark_words(objects);
     let mut words = vec![in alloc; 0; count]?;
     words[head_word(Which::Full)] = HeadWord::none(first_tag).word();
     words[head_word(Which::Empty)] = HeadWord::of(0, first_tag).word();

@@ -9,25 +9,25 @@ ghost use Rattle.buffer_pool.specs.working.Plays.{Tells, rested};
 ghost use Rattle.buffer_pool.specs.working.Setups.{setup_of};
 ghost use Rattle.buffer_pool.specs.Story.{Did};
 
-use crate::layout::FIRST_LINK;
+use crate::layout::{mark_place, mark_word, pair_bits};
 use crate::plays::{Claim, Finish};
 use crate::pool::Pool;
 use crate::rules::{Token, Words};
 use crate::worker::Worker;
 use std::alloc::Allocator;
 
-// The mark of a claimed object, and that of a finished one. A white object has mark 0.
+// The bits of a claimed object (the low one) and of a finished one (both). A white object has none.
 const CLAIMED: u64 = 1;
 
-const FINISHED: u64 = 2;
+const FINISHED: u64 = 3;
 
-/// Raises the mark of an object to claimed, and answers the mark found.
+/// Raises the mark of an object to claimed: true exactly where it was white.
 fn raise_to_claimed<A: Allocator>(
     words: &Words<A>,
     seat: &mut Token<A>,
     buffers: u32,
     object: u32,
-) -> u64
+) -> bool
     requires table { (seat.old.table_id ≡ words.now.table_id) × IsLaid words.now.table_id (setup_of words.now.key)
         × (buffers ≡ words.now.key.buffers) }
     requires sound { IsSound seat.old.table_id seat.old.me }
@@ -35,14 +35,17 @@ fn raise_to_claimed<A: Allocator>(
     requires busy { IsBusy seat.old.me.0.book.account }
     ensures same { seat.new.table_id ≡ seat.old.table_id }
     ensures sound { IsSound seat.new.table_id seat.new.me }
-    ensures told { seat.new.me ≡ rested seat.old.me seat.new.me.0.log (claimed object result seat.old.me.0.book) }
+    ensures told { (found : ℕ)
+        × (seat.new.me ≡ rested seat.old.me seat.new.me.0.log (claimed object found seat.old.me.0.book))
+        × (IsTrue result ↔ (found ≡ 0)) }
     ensures did { Tells seat.old.me (events.Claim object ∷ []) seat.new.me }
 {
-    words.fetch_max::<Claim>(
+    let word = words.fetch_or::<Claim>(
         seat,
-        FIRST_LINK + buffers as usize + object as usize,
-        CLAIMED,
-    )
+        mark_word(buffers, object),
+        pair_bits(CLAIMED, object),
+    );
+    (word >> mark_place(object)) & CLAIMED == 0
 }
 
 /// Raises the mark of an object to finished.
@@ -57,10 +60,10 @@ fn raise_to_finished<A: Allocator>(words: &Words<A>, seat: &mut Token<A>, buffer
     ensures did { Tells seat.old.me (events.Finish object ∷ []) seat.new.me }
     ensures once { (o : ℕ) → times o seat.new.me.0.book.account.finished ≤ 1 }
 {
-    words.fetch_max::<Finish>(
+    words.fetch_or::<Finish>(
         seat,
-        FIRST_LINK + buffers as usize + object as usize,
-        FINISHED,
+        mark_word(buffers, object),
+        pair_bits(FINISHED, object),
     );
 }
 
@@ -76,7 +79,7 @@ impl<A: Allocator> Pool<A> {
             × (IsTrue result ↔ (found ≡ 0)) }
         ensures did { Did worker.old.log (events.Claim object ∷ []) worker.new.log }
     {
-        raise_to_claimed(&self.table.shared, &mut worker.seat, self.buffers, object) == 0
+        raise_to_claimed(&self.table.shared, &mut worker.seat, self.buffers, object)
     }
 
     /// Finishes an object that the worker answers for and of which it has seen each successor marked. One

@@ -1,12 +1,13 @@
 //! The marks of a pool that is closed.
-ghost use Rattle.std.specs.Prelude.{◌≡◌, ◌↔◌, ℕ, ◌+◌, ◌<◌, ◌≤◌, [], length, slice_index, IsTrue};
+ghost use Rattle.std.specs.Prelude.{◌≡◌, ◌↔◌, ℕ, ◌+◌, ◌/◌, ◌%◌, ◌<◌, ◌≤◌, [], length, slice_index, IsTrue};
+ghost use Rattle.buffer_pool.specs.working.Packed.{mark_of};
 ghost use Rattle.mark_core.specs.Shares.{whole};
 ghost use Rattle.std.specs.Slots.{IsFull, slots_filled, slots_len};
 ghost use Rattle.buffer_pool.specs.Closing.{Ends, IsEmptied};
 ghost use Rattle.buffer_pool.specs.Story.{EndsStory};
 
 use crate::buffer::Buffer;
-use crate::layout::FIRST_LINK;
+use crate::layout::{FIRST_LINK, mark_place};
 use crate::pool::Pool;
 use crate::worker::Worker;
 use atomic_table::Closed;
@@ -17,19 +18,22 @@ use std::marker::Model;
 pub struct Marks<A: Allocator> {
     closed: Closed<Option<Buffer<A>>, A>,
     first_mark: usize,
+    objects: u32,
 }
 
 impl<A: Allocator> Model for Marks<A> {
-    ghost use Rattle.std.specs.Prelude.{ℕ, List, drop};
+    ghost use Rattle.std.specs.Prelude.{◌≡◌, ◌+◌, ℕ, List};
     ghost use Rattle.std.specs.Slots.{IsFull, slots_filled, slots_items, slots_len};
     ghost use Rattle.buffer_pool.specs.Closing.{IsEmptied};
+    ghost use Rattle.buffer_pool.specs.working.Packed.{mark_words, marks_in};
 
     ghost Value = { List ℕ };
 
-    ghost view = { λ m. drop m.first_mark (slots_items m.closed.words) };
+    ghost view = { λ m. marks_in (slots_items m.closed.words) m.first_mark m.objects };
 
     ghost invariant = { λ m. IsFull m.closed.words
-        × IsEmptied (slots_len m.closed.slots) (slots_filled m.closed.slots) };
+        × IsEmptied (slots_len m.closed.slots) (slots_filled m.closed.slots)
+        × (m.first_mark + mark_words m.objects ≡ slots_len m.closed.words) };
 }
 
 // Drops each buffer.
@@ -44,12 +48,14 @@ fn empty_slots<A: Allocator>(closed: &mut Closed<Option<Buffer<A>>, A>)
 }
 
 impl<A: Allocator> Marks<A> {
-    #[tactic(auto, using(crate::proofs::Closes::mark_there))]
-    fn mark(&self, object: u32) -> u64
+    /// The two bits of an object.
+    fn bits(&self, object: u32) -> u64
         requires { object < length self.now }
-        ensures { result ≡ slice_index self.now object }
+        ensures few { result < 4 }
+        ensures mark { slice_index self.now object ≡ mark_of (result % 2) (result / 2) }
     {
-        self.closed.word(self.first_mark + object as usize)
+        let word = self.closed.word(self.first_mark + object as usize / 32);
+        (word >> mark_place(object)) & 3
     }
 
     /// Whether an object was claimed. A finished object was claimed, too.
@@ -57,7 +63,7 @@ impl<A: Allocator> Marks<A> {
         requires { object < length self.now }
         ensures { IsTrue result ↔ (1 ≤ slice_index self.now object) }
     {
-        self.mark(object) >= 1
+        self.bits(object) != 0
     }
 
     /// Whether an object was finished.
@@ -65,7 +71,7 @@ impl<A: Allocator> Marks<A> {
         requires { object < length self.now }
         ensures { IsTrue result ↔ (slice_index self.now object ≡ 2) }
     {
-        self.mark(object) == 2
+        self.bits(object) == 3
     }
 }
 
@@ -74,6 +80,7 @@ impl<A: Allocator> Drop for Marks<A> {
         let Self {
             closed,
             first_mark: _,
+            objects: _,
         } = self;
         closed.free();
     }
@@ -90,13 +97,18 @@ impl<A: Allocator> Pool<A> {
         ensures { (ends : Ends worker.book result) × EndsStory worker.log ends.events
             × (ends.own.0 ≡ worker.log.number) }
     {
-        let Pool { table, buffers } = self;
+        let Pool {
+            table,
+            buffers,
+            objects,
+        } = self;
         let Worker { seat } = worker;
         let mut closed = table.close_with(seat);
         empty_slots(&mut closed);
         Marks {
             closed,
             first_mark: FIRST_LINK + buffers as usize,
+            objects,
         }
     }
 }

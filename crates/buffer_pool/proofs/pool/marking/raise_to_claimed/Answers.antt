@@ -1,62 +1,74 @@
 -- The step keeps the rule, and is the event.
-use Rattle.std.proofs.Common.{◌≡◌, ◌+◌, max, sym, subst, ap, arith}
+use Rattle.std.proofs.Common.{◌≡◌, ℕ, ◌%◌, bit_or, refl, sym, subst}
 use mathlib.Core.Option.{none}
-use Rattle.atomic_table.specs.Seated.{TableId}
 use Rattle.atomic_table.specs.Table.{Allows, step}
 use Rattle.buffer_pool.specs.Book.{claimed}
 use Rattle.buffer_pool.specs.working.Buffers.{buffer_reading}
+use Rattle.buffer_pool.specs.working.Packed.{pair_mark}
 use Rattle.buffer_pool.specs.working.Plays.{claim_made, rested}
 use Rattle.buffer_pool.specs.working.Setups.{setup_of}
 use Rattle.buffer_pool.specs.working.Table.{Rule, mark_word}
-use Rattle.buffer_pool.proofs.Claims.{claims, claimable_within}
+use Rattle.buffer_pool.proofs.Bits.{low_tells}
+use Rattle.buffer_pool.proofs.Claims.{claims, claimable_within, own_word, word_there}
 use Rattle.buffer_pool.proofs.Sound.{same_story, sound_claimed, sound_same}
+use Rattle.buffer_pool.proofs.pool.marking.raise_to_claimed.Given as given
 use Rattle.buffer_pool.proofs.pool.marking.raise_to_claimed.Goals as goal
 
-pub fetch_max-requires : goal.fetch_max-requires
-fetch_max-requires g c =
+-- the word is that of the object by the worker's own setup
+own :
+    (g : given.Over) (c : goal.After-mark_place g)
+    → c.mark_word.result ≡ mark_word c.args.seat.now.me.0.book.setup c.args.object
+own g c =
+    own_word c.args.seat.now.table_id c.args.words.now.table_id (setup_of c.args.words.now.key)
+    c.args.seat.now.me.0.book.setup c.requires.table.0 c.requires.table.1 c.requires.sound.laid c.args.buffers
+    c.args.object c.mark_word.result c.requires.table.2 c.mark_word.ensures
+
+pub fetch_or-word-requires : goal.fetch_or-word-requires
+fetch_or-word-requires g c =
     let z = c.args.words.now.table_id in
     let e = setup_of c.args.words.now.key in
     let me = c.args.seat.now.me in
-    let slots : c.args.seat.now.table_id.slots ≡ z.slots = ap (λ (t : TableId). t.slots) c.requires.table.0 in
-    let count : c.args.seat.now.table_id.words ≡ z.words = ap (λ (t : TableId). t.words) c.requires.table.0 in
-    let same : me.0.book.setup.objects ≡ e.objects = omega (arith, slots, count, c.requires.table.1.slots, c.requires.table.1.words, c.requires.sound.laid.slots, c.requires.sound.laid.words) in
-    let word : 32 + c.args.buffers + c.args.object ≡ mark_word e c.args.object = omega (arith, c.requires.table.2) in
-    let below = claimable_within c.args.seat.now.table_id me.0.book.setup me.0.book.account c.args.object c.requires.sound.laid c.requires.can in (
-      c.requires.table.0,
-      omega (arith, word, below, same, c.requires.table.1.words),
-      subst (λ x. Allows (Rule buffer_reading e) z.slots c.args.seat.now.id me x (λ n. max n 1) (claim_made (step z.slots x 1 0 none) me)) (sym word)
-          (claims buffer_reading e z.slots c.args.seat.now.id me c.args.object c.requires.sound.carries c.requires.sound.share c.requires.sound.settled c.requires.can c.requires.busy (omega (arith, below, same))),
+    let id = c.args.seat.now.id in
+    let object = c.args.object in
+    let table = c.requires.table in
+    let sound = c.requires.sound in
+    let at = c.mark_word.ensures in
+    let below =
+    claimable_within c.args.seat.now.table_id me.0.book.setup me.0.book.account object sound.laid c.requires.can in
+    let word = own_word z z e e refl table.1 table.1 c.args.buffers object c.mark_word.result table.2 at in (
+      table.0,
+      word_there c.args.seat.now.table_id z e me.0.book.setup table.0 table.1 sound.laid c.args.buffers object
+          c.mark_word.result table.2 at below,
+      subst (λ x. Allows (Rule buffer_reading e) z.slots id me x (λ n. bit_or n c.pair_bits.result)
+          (claim_made (step z.slots x c.pair_bits.result 0 none) me)) (sym word)
+          (subst (λ y. Allows (Rule buffer_reading e) z.slots id me (mark_word e object) (λ n. bit_or n y)
+          (claim_made (step z.slots (mark_word e object) y 0 none) me)) (sym c.pair_bits.ensures)
+          (claims buffer_reading e z.slots id me object sound.carries sound.share sound.settled c.requires.can
+          c.requires.busy below)),
     )
 
 pub returns-clause-sound : goal.returns-clause-sound
 returns-clause-sound g c =
+    let t = c.args.seat.now.table_id in
     let me = c.args.seat.now.me in
-    let e = setup_of c.args.words.now.key in
-    let slots : c.args.seat.now.table_id.slots ≡ c.args.words.now.table_id.slots = ap (λ (t : TableId). t.slots) c.requires.table.0 in
-    let b : me.0.book.setup.buffers ≡ e.buffers = omega (arith, slots, c.requires.table.1.slots, c.requires.sound.laid.slots) in
-    let word : 32 + c.args.buffers + c.args.object ≡ mark_word me.0.book.setup c.args.object = omega (arith, c.requires.table.2, b) in
-    sound_same c.args.seat.now.table_id c.fetch_max.new.seat.table_id c.fetch_max.new.seat.me (rested me c.fetch_max.new.seat.me.0.log (claimed c.args.object c.fetch_max.result me.0.book))
-    (sound_claimed c.args.seat.now.table_id me c.requires.sound c.fetch_max.new.seat.me.0.log c.args.object
-    c.fetch_max.result (claimable_within c.args.seat.now.table_id me.0.book.setup me.0.book.account c.args.object
-    c.requires.sound.laid c.requires.can) (same_story c.fetch_max.new.seat.me
-    (rested me c.fetch_max.new.seat.me.0.log (claimed c.args.object c.fetch_max.result me.0.book))
-    (c.fetch_max.ensures.2 c.args.object word).0 (c.fetch_max.ensures.2 c.args.object
-    word).2)) c.fetch_max.ensures.0 (c.fetch_max.ensures.2 c.args.object word).0
+    let object = c.args.object in
+    let told = c.fetch_or-word.ensures.2 object (own g c) c.pair_bits.ensures in
+    let new = c.fetch_or-word.new.seat in
+    let log = new.me.0.log in
+    let found : ℕ = pair_mark c.fetch_or-word.result (object % 32) in
+    let after = rested me log (claimed object found me.0.book) in
+    let below =
+    claimable_within t me.0.book.setup me.0.book.account object c.requires.sound.laid c.requires.can in
+    let story = same_story new.me after told.0 told.3 in
+    sound_same t new.table_id new.me after (sound_claimed t me c.requires.sound log object found below story)
+    c.fetch_or-word.ensures.0 told.0
 
 pub returns-clause-told : goal.returns-clause-told
 returns-clause-told g c =
-    let me = c.args.seat.now.me in
-    let e = setup_of c.args.words.now.key in
-    let slots : c.args.seat.now.table_id.slots ≡ c.args.words.now.table_id.slots = ap (λ (t : TableId). t.slots) c.requires.table.0 in
-    let b : me.0.book.setup.buffers ≡ e.buffers = omega (arith, slots, c.requires.table.1.slots, c.requires.sound.laid.slots) in
-    let word : 32 + c.args.buffers + c.args.object ≡ mark_word me.0.book.setup c.args.object = omega (arith, c.requires.table.2, b) in
-    (c.fetch_max.ensures.2 c.args.object word).0
+    let word = c.fetch_or-word.result in
+    let pair : ℕ = c.args.object % 32 in
+    let told = c.fetch_or-word.ensures.2 c.args.object (own g c) c.pair_bits.ensures in
+    (pair_mark word pair, told.0, low_tells word pair c.mark_place.result c.mark_place.ensures.value told.1)
 
 pub returns-clause-did : goal.returns-clause-did
-returns-clause-did g c =
-    let me = c.args.seat.now.me in
-    let e = setup_of c.args.words.now.key in
-    let slots : c.args.seat.now.table_id.slots ≡ c.args.words.now.table_id.slots = ap (λ (t : TableId). t.slots) c.requires.table.0 in
-    let b : me.0.book.setup.buffers ≡ e.buffers = omega (arith, slots, c.requires.table.1.slots, c.requires.sound.laid.slots) in
-    let word : 32 + c.args.buffers + c.args.object ≡ mark_word me.0.book.setup c.args.object = omega (arith, c.requires.table.2, b) in
-    (c.fetch_max.ensures.2 c.args.object word).1
+returns-clause-did g c = (c.fetch_or-word.ensures.2 c.args.object (own g c) c.pair_bits.ensures).2

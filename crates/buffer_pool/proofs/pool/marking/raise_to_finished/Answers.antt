@@ -1,7 +1,6 @@
 -- The step keeps the rule, and is the event.
-use Rattle.std.proofs.Common.{◌≡◌, ◌+◌, max, sym, subst, ap, arith}
+use Rattle.std.proofs.Common.{◌≡◌, bit_or, refl, sym, subst}
 use mathlib.Core.Option.{none}
-use Rattle.atomic_table.specs.Seated.{TableId}
 use Rattle.atomic_table.specs.Table.{Allows, step}
 use Rattle.mark_core.proofs.Sums.{stands_times}
 use Rattle.buffer_pool.specs.Book.{finished}
@@ -9,63 +8,62 @@ use Rattle.buffer_pool.specs.working.Buffers.{buffer_reading}
 use Rattle.buffer_pool.specs.working.Plays.{finish_made, rested}
 use Rattle.buffer_pool.specs.working.Setups.{setup_of}
 use Rattle.buffer_pool.specs.working.Table.{Rule, mark_word}
-use Rattle.buffer_pool.proofs.Claims.{finishes}
+use Rattle.buffer_pool.proofs.Claims.{finishes, own_word, word_there}
 use Rattle.buffer_pool.proofs.Sound.{same_story, sound_finished, sound_same}
+use Rattle.buffer_pool.proofs.pool.marking.raise_to_finished.Given as given
 use Rattle.buffer_pool.proofs.pool.marking.raise_to_finished.Goals as goal
 
-pub fetch_max-requires : goal.fetch_max-requires
-fetch_max-requires g c =
+-- the word is that of the object by the worker's own setup
+own :
+    (g : given.Over) (c : goal.After-fetch_or g)
+    → c.mark_word.result ≡ mark_word c.args.seat.now.me.0.book.setup c.args.object
+own g c =
+    own_word c.args.seat.now.table_id c.args.words.now.table_id (setup_of c.args.words.now.key)
+    c.args.seat.now.me.0.book.setup c.requires.table.0 c.requires.table.1 c.requires.sound.laid c.args.buffers
+    c.args.object c.mark_word.result c.requires.table.2 c.mark_word.ensures
+
+pub fetch_or-requires : goal.fetch_or-requires
+fetch_or-requires g c =
     let z = c.args.words.now.table_id in
     let e = setup_of c.args.words.now.key in
     let me = c.args.seat.now.me in
-    let slots : c.args.seat.now.table_id.slots ≡ z.slots = ap (λ (t : TableId). t.slots) c.requires.table.0 in
-    let count : c.args.seat.now.table_id.words ≡ z.words = ap (λ (t : TableId). t.words) c.requires.table.0 in
-    let same : me.0.book.setup.objects ≡ e.objects = omega (arith, slots, count, c.requires.table.1.slots, c.requires.table.1.words, c.requires.sound.laid.slots, c.requires.sound.laid.words) in
-    let word : 32 + c.args.buffers + c.args.object ≡ mark_word e c.args.object = omega (arith, c.requires.table.2) in
-    let below = c.requires.sound.within.charge c.args.object c.requires.can.0 in (
-      c.requires.table.0,
-      omega (arith, word, below, same, c.requires.table.1.words),
-      subst (λ x. Allows (Rule buffer_reading e) z.slots c.args.seat.now.id me x (λ n. max n 2) (finish_made (step z.slots x 2 0 none) me)) (sym word)
-          (finishes buffer_reading e z.slots c.args.seat.now.id me c.args.object c.requires.sound.carries c.requires.sound.share c.requires.sound.settled c.requires.can (omega (arith, below, same))),
+    let id = c.args.seat.now.id in
+    let object = c.args.object in
+    let table = c.requires.table in
+    let sound = c.requires.sound in
+    let at = c.mark_word.ensures in
+    let below = sound.within.charge object c.requires.can.0 in
+    let word = own_word z z e e refl table.1 table.1 c.args.buffers object c.mark_word.result table.2 at in (
+      table.0,
+      word_there c.args.seat.now.table_id z e me.0.book.setup table.0 table.1 sound.laid c.args.buffers object
+          c.mark_word.result table.2 at below,
+      subst (λ x. Allows (Rule buffer_reading e) z.slots id me x (λ n. bit_or n c.pair_bits.result)
+          (finish_made (step z.slots x c.pair_bits.result 0 none) me)) (sym word)
+          (subst (λ y. Allows (Rule buffer_reading e) z.slots id me (mark_word e object) (λ n. bit_or n y)
+          (finish_made (step z.slots (mark_word e object) y 0 none) me)) (sym c.pair_bits.ensures)
+          (finishes buffer_reading e z.slots id me object sound.carries sound.share sound.settled c.requires.can
+          below)),
     )
 
 pub returns-clause-sound : goal.returns-clause-sound
 returns-clause-sound g c =
+    let t = c.args.seat.now.table_id in
     let me = c.args.seat.now.me in
-    let e = setup_of c.args.words.now.key in
-    let slots : c.args.seat.now.table_id.slots ≡ c.args.words.now.table_id.slots = ap (λ (t : TableId). t.slots) c.requires.table.0 in
-    let b : me.0.book.setup.buffers ≡ e.buffers = omega (arith, slots, c.requires.table.1.slots, c.requires.sound.laid.slots) in
-    let word : 32 + c.args.buffers + c.args.object ≡ mark_word me.0.book.setup c.args.object = omega (arith, c.requires.table.2, b) in
-    sound_same c.args.seat.now.table_id c.fetch_max.new.seat.table_id c.fetch_max.new.seat.me (rested me c.fetch_max.new.seat.me.0.log (finished c.args.object me.0.book))
-    (sound_finished c.args.seat.now.table_id me c.requires.sound c.fetch_max.new.seat.me.0.log c.args.object
-    (stands_times me.0.book.account.charge c.args.object c.requires.can.0)
-    (same_story c.fetch_max.new.seat.me (rested me c.fetch_max.new.seat.me.0.log (finished c.args.object me.0.book))
-    (c.fetch_max.ensures.2 c.args.object word).0 (c.fetch_max.ensures.2 c.args.object
-    word).3)) c.fetch_max.ensures.0 (c.fetch_max.ensures.2 c.args.object word).0
+    let object = c.args.object in
+    let told = c.fetch_or.ensures.2 object (own g c) c.pair_bits.ensures in
+    let new = c.fetch_or.new.seat in
+    let log = new.me.0.log in
+    let after = rested me log (finished object me.0.book) in
+    let mine = stands_times me.0.book.account.charge object c.requires.can.0 in
+    let story = same_story new.me after told.0 told.3 in
+    sound_same t new.table_id new.me after (sound_finished t me c.requires.sound log object mine story)
+    c.fetch_or.ensures.0 told.0
 
 pub returns-clause-told : goal.returns-clause-told
-returns-clause-told g c =
-    let me = c.args.seat.now.me in
-    let e = setup_of c.args.words.now.key in
-    let slots : c.args.seat.now.table_id.slots ≡ c.args.words.now.table_id.slots = ap (λ (t : TableId). t.slots) c.requires.table.0 in
-    let b : me.0.book.setup.buffers ≡ e.buffers = omega (arith, slots, c.requires.table.1.slots, c.requires.sound.laid.slots) in
-    let word : 32 + c.args.buffers + c.args.object ≡ mark_word me.0.book.setup c.args.object = omega (arith, c.requires.table.2, b) in
-    (c.fetch_max.ensures.2 c.args.object word).0
+returns-clause-told g c = (c.fetch_or.ensures.2 c.args.object (own g c) c.pair_bits.ensures).0
 
 pub returns-clause-once : goal.returns-clause-once
-returns-clause-once g c =
-    let me = c.args.seat.now.me in
-    let e = setup_of c.args.words.now.key in
-    let slots : c.args.seat.now.table_id.slots ≡ c.args.words.now.table_id.slots = ap (λ (t : TableId). t.slots) c.requires.table.0 in
-    let b : me.0.book.setup.buffers ≡ e.buffers = omega (arith, slots, c.requires.table.1.slots, c.requires.sound.laid.slots) in
-    let word : 32 + c.args.buffers + c.args.object ≡ mark_word me.0.book.setup c.args.object = omega (arith, c.requires.table.2, b) in
-    (c.fetch_max.ensures.2 c.args.object word).1
+returns-clause-once g c = (c.fetch_or.ensures.2 c.args.object (own g c) c.pair_bits.ensures).1
 
 pub returns-clause-did : goal.returns-clause-did
-returns-clause-did g c =
-    let me = c.args.seat.now.me in
-    let e = setup_of c.args.words.now.key in
-    let slots : c.args.seat.now.table_id.slots ≡ c.args.words.now.table_id.slots = ap (λ (t : TableId). t.slots) c.requires.table.0 in
-    let b : me.0.book.setup.buffers ≡ e.buffers = omega (arith, slots, c.requires.table.1.slots, c.requires.sound.laid.slots) in
-    let word : 32 + c.args.buffers + c.args.object ≡ mark_word me.0.book.setup c.args.object = omega (arith, c.requires.table.2, b) in
-    (c.fetch_max.ensures.2 c.args.object word).2
+returns-clause-did g c = (c.fetch_or.ensures.2 c.args.object (own g c) c.pair_bits.ensures).2

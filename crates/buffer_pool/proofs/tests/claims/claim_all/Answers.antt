@@ -8,7 +8,9 @@ loop-object-init g c = same_worker c.args.worker
 
 pub claim-requires-clause-can : goal.claim-requires-clause-can
 claim-requires-clause-can g c =
-    may_claim 1000 c.loop-object.worker c.loop-object.object (same_roots 1000 c.args.worker c.loop-object.worker c.loop-object.invariant c.requires.roots) c.loop-object-test.true
+    let roots =
+    same_roots c.args.objects c.args.worker c.loop-object.worker c.loop-object.invariant c.requires.roots in
+    may_claim c.args.objects c.loop-object.worker c.loop-object.object roots c.loop-object-test.true
 
 pub claim-requires-clause-busy : goal.claim-requires-clause-busy
 claim-requires-clause-busy g c = inr (c.loop-object.invariant.idle ∙ c.requires.none.awake)

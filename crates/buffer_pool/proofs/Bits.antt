@@ -1,0 +1,142 @@
+-- Pairs of bits of a word, and what setting one pair leaves.
+use Rattle.std.proofs.Common.{◌≡◌, ◌≢◌, ◌⊎◌, ◌↔◌, ℕ, suc, ◌+◌, ◌-◌, ◌*◌, ◌/◌, ◌%◌, ◌^◌, ◌<◌, ◌≤◌, ◌==◌, max, IsTrue, Bool, true, false, nat_lt, if◌then◌else◌, bit_and, bit_or, ap, sym, refl, ◌∙◌, inl, inr, ⊎_elim, eq-eqb, eqb-true, lt-ltb, le-ltb, pow_pos, pow_mono, pow-add, shr-shr, mod-eq_of_lt, mul-le-mul_right, suc-mul, arith}
+use Rattle.std.proofs.lemmas.Bool.{cases_lt}
+use Rattle.std.proofs.lemmas.Nat.Bits.{bit_at_or, bit_at_cat_low, bit_at_cat_high, bit_at_above, bit_at-zero, shr_and_one}
+use Rattle.std.specs.Int.{bit_at}
+use native.Mathlib.Decide.{ℕ_discrete}
+use Rattle.buffer_pool.specs.working.Packed.{cut_marks, mark_of, pair_mark}
+
+no_more : (x : ℕ) → x ≡ x + 0
+no_more x = omega arith
+
+-- the bits of a number that was moved up by k places
+moved_below : (c k i : ℕ) → i < k → bit_at (c * 2 ^ k) i ≡ 0
+moved_below c k i low = ap (λ x. bit_at x i) (no_more (c * 2 ^ k)) ∙ bit_at_cat_low c k 0 i low ∙ bit_at-zero i
+
+moved_up : (c k i : ℕ) → k ≤ i → bit_at (c * 2 ^ k) i ≡ bit_at c (i - k)
+moved_up c k i from = ap (λ x. bit_at x i) (no_more (c * 2 ^ k)) ∙ bit_at_cat_high c k 0 i (pow_pos k) from
+
+-- at the two places of the pair j
+moved_low : (c j : ℕ) → bit_at (c * 2 ^ (2 * j)) (2 * j) ≡ bit_at c 0
+moved_low c j =
+    let same : 2 * j - 2 * j ≡ 0 = omega arith in
+    moved_up c (2 * j) (2 * j) (omega arith) ∙ ap (bit_at c) same
+
+moved_high : (c j : ℕ) → bit_at (c * 2 ^ (2 * j)) (2 * j + 1) ≡ bit_at c 1
+moved_high c j =
+    let same : 2 * j + 1 - 2 * j ≡ 1 = omega arith in
+    moved_up c (2 * j) (2 * j + 1) (omega arith) ∙ ap (bit_at c) same
+
+-- the places beside the pair j, as those of another pair are
+abbrev Beside : ℕ → ℕ → Type 0
+Beside j k = (k < 2 * j) ⊎ (2 * j + 2 ≤ k)
+
+beside_low : (i j : ℕ) → i ≢ j → Beside j (2 * i)
+beside_low i j other = ⊎_elim (λ l. inl (omega (arith, l))) (λ l. inr (omega (arith, l, other))) (cases_lt i j)
+
+beside_high : (i j : ℕ) → i ≢ j → Beside j (2 * i + 1)
+beside_high i j other = ⊎_elim (λ l. inl (omega (arith, l))) (λ l. inr (omega (arith, l, other))) (cases_lt i j)
+
+moved_beside : (c j k : ℕ) → c < 4 → Beside j k → bit_at (c * 2 ^ (2 * j)) k ≡ 0
+moved_beside c j k small (inl low) = moved_below c (2 * j) k low
+moved_beside c j k small (inr high) =
+    moved_up c (2 * j) k (omega (arith, high)) ∙ bit_at_above c 2 (k - 2 * j) small (omega (arith, high))
+
+-- after the bits of c were set at the pair j
+module _ (n c j : ℕ) where
+  set_beside : (k : ℕ) → c < 4 → Beside j k → bit_at (bit_or n (c * 2 ^ (2 * j))) k ≡ bit_at n k
+  set_beside k small apart = omega (arith, bit_at_or n (c * 2 ^ (2 * j)) k, moved_beside c j k small apart)
+
+  set_low : bit_at (bit_or n (c * 2 ^ (2 * j))) (2 * j) ≡ max (bit_at n (2 * j)) (bit_at c 0)
+  set_low = bit_at_or n (c * 2 ^ (2 * j)) (2 * j) ∙ ap (max (bit_at n (2 * j))) (moved_low c j)
+
+  set_high : bit_at (bit_or n (c * 2 ^ (2 * j))) (2 * j + 1) ≡ max (bit_at n (2 * j + 1)) (bit_at c 1)
+  set_high = bit_at_or n (c * 2 ^ (2 * j)) (2 * j + 1) ∙ ap (max (bit_at n (2 * j + 1))) (moved_high c j)
+
+  -- the mark at another pair
+  pub mark_beside : (i : ℕ) → c < 4 → i ≢ j → pair_mark (bit_or n (c * 2 ^ (2 * j))) i ≡ pair_mark n i
+  mark_beside i small other =
+      λ t. mark_of (set_beside (2 * i) small (beside_low i j other) t)
+      (set_beside (2 * i + 1) small (beside_high i j other) t)
+
+-- setting the low bit is a claim, setting both is a finish
+pub mark_claimed : (n j : ℕ) → pair_mark n j ≤ 2 → pair_mark (bit_or n (1 * 2 ^ (2 * j))) j ≡ max (pair_mark n j) 1
+mark_claimed n j known = omega (arith, known, set_low n 1 j, set_high n 1 j)
+
+pub mark_finished : (n j : ℕ) → pair_mark (bit_or n (3 * 2 ^ (2 * j))) j ≡ 2
+mark_finished n j = omega (arith, set_low n 3 j, set_high n 3 j)
+
+-- bits of which the low one is set stand at one pair
+pub one_pair : (c i j : ℕ) → c < 4 → bit_at c 0 ≡ 1 → c * 2 ^ (2 * i) ≡ c * 2 ^ (2 * j) → i ≡ j
+one_pair c i j small odd same = go (ℕ_discrete i j)
+  where
+    go : Dec (i ≡ j) → i ≡ j
+    go (yes e) = e
+    go (no n) =
+        let here : bit_at (c * 2 ^ (2 * i)) (2 * i) ≡ 1 = moved_low c i ∙ odd in
+        let there = moved_beside c j (2 * i) small (beside_low i j n) in
+        absurd (omega (arith, here, ap (λ x. bit_at x (2 * i)) same, there))
+
+-- the low bit, moved down, tells whether a mark other than 3 is white
+pub low_tells :
+    (n j place : ℕ) → place ≡ 2 * j → pair_mark n j ≤ 2
+    → IsTrue (bit_and (n / 2 ^ place) 1 == 0) ↔ (pair_mark n j ≡ 0)
+low_tells n j place is known = (
+  (λ h. omega (arith, known, low, eqb-true (bit_and (n / 2 ^ place) 1) 0 h)),
+  (λ h. eq-eqb (bit_and (n / 2 ^ place) 1) 0 (omega (arith, low, h))),
+)
+  where
+    low : bit_and (n / 2 ^ place) 1 ≡ bit_at n (2 * j)
+    low = ap (λ p. bit_and (n / 2 ^ p) 1) is ∙ shr_and_one n (2 * j)
+
+-- two bits at a pair of a word of 64 bits
+pub bits_fit : (c j : ℕ) → c < 4 → j < 32 → c * 2 ^ (2 * j) % 2 ^ 64 ≡ c * 2 ^ (2 * j)
+bits_fit c j small low =
+    mod-eq_of_lt
+    (less (c * 2 ^ (2 * j)) (2 ^ (2 * j)) (2 ^ (2 + 2 * j)) more (pow-add 2 2 (2 * j)) (pow_pos (2 * j)) top)
+  where
+    more : c * 2 ^ (2 * j) + 2 ^ (2 * j) ≤ 4 * 2 ^ (2 * j)
+    more =
+        let all : suc c * 2 ^ (2 * j) ≤ 4 * 2 ^ (2 * j) = mul-le-mul_right (2 ^ (2 * j)) small in
+        omega (arith, all, suc-mul c (2 ^ (2 * j)))
+
+    top : 2 ^ (2 + 2 * j) ≤ 2 ^ 64
+    top = pow_mono {i = 2 + 2 * j} {j = 64} (omega (arith, low))
+
+    less : (x y z : ℕ) → x + y ≤ 4 * y → z ≡ 4 * y → 0 < y → z ≤ 2 ^ 64 → x < 2 ^ 64
+    less x y z a b d e = omega (arith, a, b, d, e)
+
+-- a pair of bits read from a word
+pub pair_read : (n j bits : ℕ) → bits ≡ n / 2 ^ (2 * j) % 4 → pair_mark n j ≡ mark_of (bits % 2) (bits / 2)
+pair_read n j bits read = λ t. mark_of (low t) (high t)
+  where
+    low : bit_at n (2 * j) ≡ bits % 2
+    low = omega (arith, read)
+
+    up : bit_at n (2 * j + 1) ≡ n / 2 ^ (2 * j) / 2 % 2
+    up = ap (λ x. x % 2) (sym (shr-shr n (2 * j) 1))
+
+    high : bit_at n (2 * j + 1) ≡ bits / 2
+    high = omega (arith, read, up)
+
+-- marks once cut: an object's is as it was, and what is marked is an object
+pub cut_object : (objects : ℕ) (f : ℕ → ℕ) (o : ℕ) → o < objects → cut_marks objects f o ≡ f o
+cut_object objects f o below = ap (λ t. if t then f o else 0) (lt-ltb o objects below)
+
+pub cut_past : (objects : ℕ) (f : ℕ → ℕ) (o : ℕ) → objects ≤ o → cut_marks objects f o ≡ 0
+cut_past objects f o past = ap (λ t. if t then f o else 0) (le-ltb o objects past)
+
+pub marked_object : (objects : ℕ) (f : ℕ → ℕ) (o : ℕ) → 1 ≤ cut_marks objects f o → o < objects
+marked_object objects f o some =
+    ⊎_elim (λ below. below) (λ past. absurd (omega (arith, some, cut_past objects f o past))) (cases_lt o objects)
+
+-- a word of 0 has white marks
+pub white_pair : (j : ℕ) → pair_mark 0 j ≡ 0
+white_pair j = omega (arith, bit_at-zero (2 * j), bit_at-zero (2 * j + 1))
+
+pub cut_white : (objects : ℕ) (f : ℕ → ℕ) (o : ℕ) → f o ≡ 0 → cut_marks objects f o ≡ 0
+cut_white objects f o h = go (nat_lt o objects)
+  where
+    go : (b : Bool) → (if b then f o else 0) ≡ 0
+    go true = h
+    go false = refl
