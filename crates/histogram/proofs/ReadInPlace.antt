@@ -1,5 +1,5 @@
 -- A read in place: the filled front of a list grows by what was read behind it.
-use Rattle.std.proofs.Common.{Err, IfOk, List, Ok, Option, Result, ap, arith, drop, drop_at, length, length-take-le, subst, sym, take, ℕ, ◌+◌, ◌++◌, ◌≡◌, ◌≤◌, ◌∙◌}
+use Rattle.std.proofs.Common.{Err, IfOk, List, Ok, Option, Result, ap, arith, drop, drop_at, length, subst, sym, take, ℕ, ◌+◌, ◌++◌, ◌≡◌, ◌≤◌, ◌∙◌}
 use Rattle.std.specs.Io.{ReadsAtMost}
 use Rattle.std.specs.Io.KnownBytes.{Consumes, ReadConsumes}
 use Rattle.std.proofs.KnownBytes.{Consumes-trans}

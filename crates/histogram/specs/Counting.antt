@@ -1,5 +1,5 @@
 -- A counted reader or writer: what it wraps, and how many of its calls failed.
-use Rattle.std.specs.Prelude.{Bool, Err, List, Ok, Option, Result, length, nat_lt, take, true, ℕ, ◌&&◌, ◌<◌, ◌==◌, ◌≤◌}
+use Rattle.std.specs.Prelude.{Bool, List, Option, length, take, ℕ, ◌<◌, ◌≤◌}
 use Rattle.std.specs.Io.KnownBytes.{Appends, Consumes}
 use Rattle.histogram.specs.declared.counted.Counted.{Counted}
 
@@ -14,16 +14,6 @@ inner_of c = c.inner
 -- nothing was taken since the last flush that succeeded
 abbrev pub is_flushed : {T : Type 0} → Counted T → Bool
 is_flushed c = c.is_flushed
-
--- a write that took no byte: it answered a fault or 0
-abbrev pub takes_nothing : {E : Type 0} → Result ℕ E → Bool
-takes_nothing (Ok n) = n == 0
-takes_nothing (Err e) = true
-
--- a write fails where it answers a fault, or takes nothing of a slice that is not empty
-abbrev pub is_failed_write : {E : Type 0} → Result ℕ E → List ℕ → Bool
-is_failed_write (Ok n) bytes = n == 0 && nat_lt 0 (length bytes)
-is_failed_write (Err e) bytes = true
 
 -- known bytes grow by a beginning of these bytes
 abbrev pub AppendsBeginning : Option (List ℕ) → Option (List ℕ) → List ℕ → Type 0

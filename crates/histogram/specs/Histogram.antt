@@ -13,14 +13,9 @@ use Rattle.heap_graph.specs.declared.row.RowKey.TheVariants as keys
 -- a test whether two rows are the same
 abbrev pub same_row : RowKey → RowKey → Bool
 same_row (keys.Class a) (keys.Class b) = a == b
-same_row (keys.Class a) (keys.Primitive b) = false
-same_row (keys.Class a) keys.ClassObject = false
-same_row (keys.Primitive a) (keys.Class b) = false
 same_row (keys.Primitive a) (keys.Primitive b) = a == b
-same_row (keys.Primitive a) keys.ClassObject = false
-same_row keys.ClassObject (keys.Class b) = false
-same_row keys.ClassObject (keys.Primitive b) = false
 same_row keys.ClassObject keys.ClassObject = true
+same_row a b = false
 
 -- all rows: the classes by their numbers, the eight primitive types, the class objects
 abbrev pub all_rows : ObjectGraph → List RowKey

@@ -49,5 +49,4 @@ shown_row g keys.ClassObject = codes "<class>"
 -- the identifier of the row's class, or 0
 abbrev pub row_id : ObjectGraph → RowKey → ℕ
 row_id g (keys.Class n) = (class_at g n).id
-row_id g (keys.Primitive t) = 0
-row_id g keys.ClassObject = 0
+row_id g row = 0

@@ -1,11 +1,10 @@
-//! Reading with a count of what failed.
+//! Reading up to a limit.
 ghost use Rattle.std.specs.Prelude.{◌≡◌, ◌≢◌, ◌+◌, ◌-◌, ◌^◌, ◌<◌, ◌≤◌, ◌↔◌, if◌then◌else◌, take, drop, is_err, length};
 ghost use Rattle.std.specs.Prelude.{IfOk, IfSome, IsErrOf, OnErr, OnOk, vec_len};
-ghost use Rattle.std.specs.Io.{ReadsAtMost};
-ghost use Rattle.std.specs.Io.KnownBytes.{Consumes, IsAtEnd, Keeps, ReadConsumes};
+ghost use Rattle.std.specs.Io.KnownBytes.{Consumes, IsAtEnd, Keeps};
 ghost use Rattle.histogram.specs.Counting.{ConsumesFewer, failures_of, inner_of};
 
-use super::Counted;
+use crate::counted::Counted;
 use std::alloc::{AllocError, Allocator};
 use std::io;
 use std::io::Read;
@@ -26,23 +25,9 @@ pub enum ReaderRefusal {
 const CHUNK: usize = 262_144;
 
 impl<R: Read> Counted<R> {
-    /// One read, as the wrapped reader makes it.
-    pub fn read(&mut self, buf: &mut [u8]) -> io::Result<usize>
-        requires { failures_of self.old < 2 ^ 64 - 1 }
-        ensures bound { ReadsAtMost result buf.new }
-        ensures bytes { ReadConsumes (R.remaining (inner_of self.old)) (R.remaining (inner_of self.new))
-            result buf.new }
-        ensures counts { failures_of self.new
-            ≡ (if is_err result then failures_of self.old + 1 else failures_of self.old) }
-    {
-        let outcome = self.inner.read(buf);
-        self.count_if(outcome.is_err());
-        outcome
-    }
-
     /// Reads until a read answers 0 or `limit` bytes are there, straight into the answer.
     ///
-    /// A read that fails ends the call, and is not tried again. A refusal tells nothing of the bytes read before it.
+    /// A read that fails ends the call, and is not tried again. Of the bytes read before a refusal it is said only how many there are at most.
     pub fn read_to_limit<A: Allocator>(
         &mut self,
         alloc: A,
@@ -61,8 +46,10 @@ impl<R: Read> Counted<R> {
         // No read is made once the limit is reached: before the one that failed fewer bytes had come.
         ensures below { result ≡ Err ReaderRefusal.ReadFault
             → ConsumesFewer limit (R.remaining (inner_of self.old)) (R.remaining (inner_of self.new)) }
+        ensures within { result ≡ Err ReaderRefusal.OutOfMemory
+            → ConsumesFewer (limit + 1) (R.remaining (inner_of self.old)) (R.remaining (inner_of self.new)) }
     {
-        let Ok(mut bytes) = Vec::with_capacity(alloc, self.expected.min(limit)) else {
+        let Ok(mut bytes) = Vec::with_capacity(alloc, self.expected().min(limit)) else {
             return Err(ReaderRefusal::OutOfMemory);
         };
         let mut filled = 0;

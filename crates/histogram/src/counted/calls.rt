@@ -1,0 +1,122 @@
+//! The calls that count: no other body can set the count, or note a flush.
+ghost use Rattle.std.specs.Prelude.{◌≡◌, ◌+◌, ◌-◌, ◌^◌, ◌<◌, ◌&&◌, if◌then◌else◌, is_err, true};
+ghost use Rattle.std.specs.Io.{ReadsAtMost, WritesAtMost};
+ghost use Rattle.std.specs.Io.KnownBytes.{Keeps, ReadConsumes, WriteAppends};
+ghost use Rattle.histogram.specs.Counting.{failures_of, inner_of, is_flushed};
+ghost use Rattle.histogram.specs.Failing.{is_failed_write, takes_nothing};
+
+use super::Counted;
+use std::io;
+use std::io::{Read, Write};
+
+impl<T> Counted<T> {
+    /// Wraps a reader or a writer of which no call has failed yet.
+    pub fn new(inner: T) -> Self
+        ensures wraps { inner_of result ≡ inner }
+        ensures starts { failures_of result ≡ 0 }
+    {
+        Counted::of_size(inner, 0)
+    }
+
+    /// Wraps a reader that is thought to give `expected` bytes, so that room for them is taken at once. It may
+    /// give more or less.
+    pub fn of_size(inner: T, expected: usize) -> Self
+        ensures wraps { inner_of result ≡ inner }
+        ensures starts { failures_of result ≡ 0 }
+        ensures flushed { is_flushed result ≡ true }
+    {
+        Counted {
+            inner,
+            failures: 0,
+            is_flushed: true,
+            expected,
+        }
+    }
+
+    /// How many calls have failed so far.
+    pub fn failures(&self) -> u64
+        ensures { result ≡ failures_of self.now }
+    {
+        self.failures
+    }
+
+    /// How many bytes the reader is thought to give.
+    pub(crate) fn expected(&self) -> usize {
+        self.expected
+    }
+
+    /// The reader or the writer itself, without the count.
+    pub fn into_inner(self) -> T
+        ensures { result ≡ inner_of self }
+    {
+        let Counted {
+            inner,
+            failures: _,
+            is_flushed: _,
+            expected: _,
+        } = self;
+        inner
+    }
+
+    /// Counts a call that failed.
+    fn count_if(&mut self, failed: bool)
+        requires { failures_of self.old < 2 ^ 64 - 1 }
+        ensures counts { failures_of self.new ≡ (if failed then failures_of self.old + 1 else failures_of self.old) }
+        ensures keeps { inner_of self.new ≡ inner_of self.old }
+        ensures flushed { is_flushed self.new ≡ is_flushed self.old }
+    {
+        if failed {
+            self.failures += 1;
+        }
+    }
+}
+
+impl<R: Read> Counted<R> {
+    /// One read, as the wrapped reader makes it.
+    pub fn read(&mut self, buf: &mut [u8]) -> io::Result<usize>
+        requires { failures_of self.old < 2 ^ 64 - 1 }
+        ensures bound { ReadsAtMost result buf.new }
+        ensures bytes { ReadConsumes (R.remaining (inner_of self.old)) (R.remaining (inner_of self.new))
+            result buf.new }
+        ensures counts { failures_of self.new
+            ≡ (if is_err result then failures_of self.old + 1 else failures_of self.old) }
+    {
+        let outcome = self.inner.read(buf);
+        self.count_if(outcome.is_err());
+        outcome
+    }
+}
+
+impl<W: Write> Counted<W> {
+    /// One write, as the wrapped writer makes it.
+    pub fn write(&mut self, buf: &[u8]) -> io::Result<usize>
+        requires { failures_of self.old < 2 ^ 64 - 1 }
+        ensures bound { WritesAtMost result buf.now }
+        ensures bytes { WriteAppends (W.contents (inner_of self.old)) (W.contents (inner_of self.new)) result buf.now }
+        ensures counts { failures_of self.new
+            ≡ (if is_failed_write result buf.now then failures_of self.old + 1 else failures_of self.old) }
+        ensures flushed { is_flushed self.new ≡ (is_flushed self.old && takes_nothing result) }
+    {
+        let outcome = self.inner.write(buf);
+        let took_nothing = matches!(outcome, Ok(0));
+        self.is_flushed = self.is_flushed && (outcome.is_err() || took_nothing);
+        self.count_if(outcome.is_err() || took_nothing && !buf.is_empty());
+        outcome
+    }
+
+    /// One flush, as the wrapped writer makes it.
+    pub fn flush(&mut self) -> io::Result<()>
+        requires { failures_of self.old < 2 ^ 64 - 1 }
+        ensures bytes { Keeps (W.contents (inner_of self.old)) (W.contents (inner_of self.new)) }
+        ensures counts { failures_of self.new
+            ≡ (if is_err result then failures_of self.old + 1 else failures_of self.old) }
+        ensures flushed { is_flushed self.new ≡ (if is_err result then is_flushed self.old else true) }
+    {
+        let outcome = self.inner.flush();
+        if outcome.is_ok() {
+            self.is_flushed = true;
+        }
+        self.count_if(outcome.is_err());
+        outcome
+    }
+}
