@@ -56,8 +56,7 @@ known_of text refusal (inl tells) =
         least = code.0;
         most = omega (arith, code.1);
         in_use = λ h. omega (arith, code.1, h);
-        with_place = λ h. subst (λ (r : Refusal). IsSome r.offset) (sym tells.is) refl;
-        without_place = λ h. absurd (omega (arith, code.1, h));
+        placed = (λ _. subst (λ (r : Refusal). IsSome r.offset) (sym tells.is) refl, λ _. code.1);
       },
       omega (arith, code.1),
     )
@@ -66,8 +65,7 @@ known_of text refusal (inr same) = let Q : Refusal → Type 0 = λ r. IsKnown r 
     least = omega arith;
     most = omega arith;
     in_use = λ h. omega (arith, h);
-    with_place = λ h. absurd (omega (arith, h));
-    without_place = λ h. refl;
+    placed = (λ h. absurd (omega (arith, h)), λ h. cc);
   },
   omega arith,
 )

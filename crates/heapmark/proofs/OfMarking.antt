@@ -3,7 +3,9 @@ use Rattle.std.proofs.Common.{List, inl, inr, refl, subst, sym, ℕ, ◌≡◌, 
 use Rattle.drain.specs.declared.marked.RunFault.{RunFault}
 use Rattle.drain.specs.declared.marked.RunFault.TheVariants.{OutOfMemory, TagSpent, WorkerRefused}
 use Rattle.heapmark.specs.Answer.{IsAcceptedText, TellsFirstFault}
-use Rattle.heapmark.specs.Refusals.{IsOfMarking, out_of_memory, run_refusal}
+use Rattle.heapmark.specs.RefusalOf.{run_refusal}
+use Rattle.heapmark.specs.Refusals.{out_of_memory}
+use Rattle.heapmark.specs.working.Marking.{IsOfMarking}
 use Rattle.heapmark.specs.declared.refusal.Refusal.{Refusal}
 
 abbrev pub IsToldOf : List ℕ → Refusal → Type 0

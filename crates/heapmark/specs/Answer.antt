@@ -1,6 +1,6 @@
 -- What a run answers for the bytes that it read.
-use Rattle.std.specs.Prelude.{IsNone, IsSome, List, Option, take, ℕ, ◌≡◌, ◌≢◌, ◌≤◌, ◌⊎◌}
-use Rattle.std.specs.Io.KnownBytes.{Appends}
+use Rattle.std.specs.Prelude.{IfSome, IsSome, List, Option, take, ℕ, ◌≡◌, ◌≢◌, ◌≤◌, ◌↔◌, ◌⊎◌}
+use Rattle.std.specs.Io.KnownBytes.{Appends, Consumes}
 use Rattle.heap_graph.specs.Linked.{IsAccepted}
 use Rattle.heap_graph.specs.LinkFault.{HasLinkFault}
 use Rattle.histogram.specs.Report.{IsReport}
@@ -13,6 +13,10 @@ use Rattle.hprof_grammar.specs.Record.{Record}
 -- The bytes of a run: all that its reader gives, but no more than one byte above the largest dump.
 abbrev pub bytes_read : List ℕ → List ℕ
 bytes_read given = take 1073741825 given
+
+-- They were taken from what the reader gives, and no others.
+abbrev pub ConsumesBytesRead : Option (List ℕ) → Option (List ℕ) → Type 0
+ConsumesBytesRead old new = IfSome old (λ given. Consumes old new (bytes_read given))
 
 -- The text spells a dump whose records are in order and whose objects are linked.
 abbrev pub IsAcceptedText : List ℕ → Type 0
@@ -29,13 +33,12 @@ pub record TellsFirstFault (text : List ℕ) (refusal : Refusal) : Type 0 where
   pub fault : FirstFaultOf text refusal.code place
 
 -- The codes are 1 to 20, since a run is given options that are in their ranges, and not 17, which is withdrawn. Those
--- up to 14 have a place.
+-- up to 14, and no others, have a place.
 pub record IsKnown (refusal : Refusal) : Type 0 where
   pub least : 1 ≤ refusal.code
   pub most : refusal.code ≤ 20
   pub in_use : refusal.code ≢ 17
-  pub with_place : refusal.code ≤ 14 → IsSome refusal.offset
-  pub without_place : 15 ≤ refusal.code → IsNone refusal.offset
+  pub placed : (refusal.code ≤ 14) ↔ IsSome refusal.offset
 
 -- What a run refuses of a text that is not accepted: its first fault, or the means to find it.
 abbrev pub IsRefusalOf : List ℕ → Refusal → Type 0

@@ -1,4 +1,6 @@
 pub mod Answer
 pub mod Headline
+pub mod RefusalOf
+pub mod RefusalText
 pub mod Refusals
 pub mod working

@@ -4,12 +4,13 @@ ghost use Rattle.std.specs.Prelude.{◌≡◌, ◌≢◌, ◌+◌, ◌-◌, ◌^
 ghost use Rattle.std.specs.Prelude.{IfErr, IfOk, IfSome, IsErrAnd, OnOk, true};
 ghost use Rattle.std.specs.Io.KnownBytes.{Keeps};
 ghost use Rattle.histogram.specs.Report.{IsReport, report_of};
-ghost use Rattle.histogram.specs.Counting.{failures_of, inner_of, is_flushed};
+ghost use Rattle.histogram.specs.Counting.{ConsumesFewer, failures_of, inner_of, is_flushed};
 ghost use Rattle.histogram.specs.Lines.{histogram_of};
-ghost use Rattle.heapmark.specs.Answer.{IsAcceptedText, IsKnown, IsRefusalOf, TellsFirstFault, bytes_read};
-ghost use Rattle.heapmark.specs.Answer.{WritesBeginning, WritesSomeBeginning, WritesSomeReport};
+ghost use Rattle.heapmark.specs.Answer.{ConsumesBytesRead, IsAcceptedText, IsKnown, IsRefusalOf, TellsFirstFault};
+ghost use Rattle.heapmark.specs.Answer.{WritesBeginning, WritesSomeBeginning, WritesSomeReport, bytes_read};
 ghost use Rattle.heapmark.specs.Headline.{Headline};
-ghost use Rattle.heapmark.specs.Refusals.{HasCode, IsOfMarking, out_of_memory};
+ghost use Rattle.heapmark.specs.Refusals.{HasCode, out_of_memory};
+ghost use Rattle.heapmark.specs.working.Marking.{IsOfMarking};
 
 use crate::refusal::Refusal;
 use drain::{Gate, Options, mark};
@@ -67,6 +68,16 @@ where
     ensures not_accepted { IfSome (R.remaining (inner_of reader.old)) (λ given.
         (IsAcceptedText (bytes_read given) → ⊥) → IsErrAnd result (IsRefusalOf (bytes_read given))) }
     ensures known { IfErr result IsKnown }
+
+    // Of the reader's bytes those were taken that were read, and no others: no read is made once the limit is reached.
+    ensures consumed { OnOk result
+        (ConsumesBytesRead (R.remaining (inner_of reader.old)) (R.remaining (inner_of reader.new))) }
+    ensures consumed_at_a_refusal { IfErr result (λ refusal. refusal.code ≢ 15 → refusal.code ≢ 19
+        → ConsumesBytesRead (R.remaining (inner_of reader.old)) (R.remaining (inner_of reader.new))) }
+    ensures below { HasCode result 19
+        → ConsumesFewer 1073741825 (R.remaining (inner_of reader.old)) (R.remaining (inner_of reader.new)) }
+    ensures within { HasCode result 15
+        → ConsumesFewer 1073741826 (R.remaining (inner_of reader.old)) (R.remaining (inner_of reader.new)) }
 
     // Each count of failures rises with its own refusal, by one, and with no other outcome.
     ensures read_fault { HasCode result 19 ↔ (failures_of reader.new ≡ failures_of reader.old + 1) }

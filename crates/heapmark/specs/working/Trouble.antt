@@ -2,7 +2,7 @@
 use Rattle.std.specs.Prelude.{◌*◌, ◌+◌, ◌<◌}
 use Rattle.command_line.specs.declared.parsed_arguments.Arguments.{Arguments}
 use Rattle.drain.specs.Options.{Choice, choice}
-use Rattle.heapmark.specs.Refusals.{bad_options_refusal}
+use Rattle.heapmark.specs.RefusalOf.{bad_options_refusal}
 use Rattle.heapmark.specs.declared.trouble.Trouble.{Trouble}
 use Rattle.heapmark.specs.declared.trouble.Trouble.TheVariants as trouble
 

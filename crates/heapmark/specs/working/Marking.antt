@@ -1,0 +1,8 @@
+-- What a marking refuses beside want of memory.
+use Rattle.std.specs.Prelude.{◌≡◌, ◌⊎◌}
+use Rattle.heapmark.specs.RefusalOf.{tag_spent, worker_refused}
+use Rattle.heapmark.specs.declared.refusal.Refusal.{Refusal}
+
+-- a last tag, or no thread
+abbrev pub IsOfMarking : Refusal → Type 0
+IsOfMarking refusal = (refusal ≡ tag_spent) ⊎ (refusal ≡ worker_refused)

@@ -1,0 +1,73 @@
+//! The refusals that are no faults of the bytes, and the name of each code.
+
+use super::Refusal;
+
+impl Refusal {
+    ghost use Rattle.std.specs.Prelude.{◌≡◌};
+    ghost use Rattle.heapmark.specs.RefusalText.{name_of};
+
+    /// A growth was refused.
+    pub const OUT_OF_MEMORY: Refusal = Refusal {
+        code: 15,
+        offset: None,
+    };
+
+    /// A stack's last tag was loaded where an exchange was due.
+    pub const TAG_SPENT: Refusal = Refusal {
+        code: 16,
+        offset: None,
+    };
+
+    /// A worker's thread could not be started.
+    pub const WORKER_REFUSED: Refusal = Refusal {
+        code: 18,
+        offset: None,
+    };
+
+    /// The reader failed, or the file could not be opened.
+    pub const READ_FAULT: Refusal = Refusal {
+        code: 19,
+        offset: None,
+    };
+
+    /// The writer failed.
+    pub const WRITE_FAULT: Refusal = Refusal {
+        code: 20,
+        offset: None,
+    };
+
+    /// There are too few buffers for the workers.
+    pub const BAD_OPTIONS: Refusal = Refusal {
+        code: 21,
+        offset: None,
+    };
+
+    /// The name of the code.
+    pub fn name(&self) -> &'static str
+        ensures { result.now ≡ name_of self.now.code }
+    {
+        match self.code {
+            1 => "BadHeader",
+            2 => "BadIdSize",
+            3 => "Truncated",
+            4 => "BadLength",
+            5 => "BadSubTag",
+            6 => "SubTruncated",
+            7 => "BadType",
+            8 => "DumpOrder",
+            9 => "ZeroObject",
+            10 => "DuplicateObject",
+            11 => "UnknownClass",
+            12 => "SuperChain",
+            13 => "InstanceSize",
+            14 => "TooLarge",
+            15 => "OutOfMemory",
+            16 => "TagSpent",
+            17 => "NoBuffer",
+            18 => "WorkerRefused",
+            19 => "ReadFault",
+            20 => "WriteFault",
+            _ => "BadOptions",
+        }
+    }
+}

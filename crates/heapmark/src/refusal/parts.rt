@@ -1,0 +1,96 @@
+//! The refusal of a run for that of each of its parts.
+
+use super::Refusal;
+use drain::RunFault;
+use heap_graph::LinkRefusal;
+use histogram::{ReaderRefusal, WriteRefusal};
+use hprof_grammar::ReadRefusal;
+use std::alloc::AllocError;
+
+impl From<ReaderRefusal> for Refusal {
+    ghost use Rattle.std.specs.Prelude.{◌≡◌};
+    ghost use Rattle.heapmark.specs.RefusalOf.{reader_refusal};
+
+    ghost from_gives = { λ refusal r. r ≡ reader_refusal refusal };
+
+    fn from(refusal: ReaderRefusal) -> Refusal {
+        match refusal {
+            ReaderRefusal::ReadFault => Refusal::READ_FAULT,
+            ReaderRefusal::OutOfMemory => Refusal::OUT_OF_MEMORY,
+        }
+    }
+}
+
+impl From<ReadRefusal> for Refusal {
+    ghost use Rattle.std.specs.Prelude.{◌≡◌};
+    ghost use Rattle.heapmark.specs.RefusalOf.{form_refusal};
+
+    ghost from_gives = { λ refusal r. r ≡ form_refusal refusal };
+
+    fn from(refusal: ReadRefusal) -> Refusal {
+        match refusal {
+            ReadRefusal::Fault(fault) => Refusal {
+                code: fault.code,
+                offset: Some(fault.offset),
+            },
+            ReadRefusal::OutOfMemory => Refusal::OUT_OF_MEMORY,
+        }
+    }
+}
+
+impl From<LinkRefusal> for Refusal {
+    ghost use Rattle.std.specs.Prelude.{◌≡◌};
+    ghost use Rattle.heapmark.specs.RefusalOf.{link_refusal};
+
+    ghost from_gives = { λ refusal r. r ≡ link_refusal refusal };
+
+    fn from(refusal: LinkRefusal) -> Refusal {
+        match refusal {
+            LinkRefusal::Fault(fault) => Refusal {
+                code: fault.code,
+                offset: Some(fault.offset),
+            },
+            LinkRefusal::OutOfMemory => Refusal::OUT_OF_MEMORY,
+        }
+    }
+}
+
+impl From<RunFault> for Refusal {
+    ghost use Rattle.std.specs.Prelude.{◌≡◌};
+    ghost use Rattle.heapmark.specs.RefusalOf.{run_refusal};
+
+    ghost from_gives = { λ fault r. r ≡ run_refusal fault };
+
+    fn from(fault: RunFault) -> Refusal {
+        match fault {
+            RunFault::OutOfMemory => Refusal::OUT_OF_MEMORY,
+            RunFault::TagSpent => Refusal::TAG_SPENT,
+            RunFault::WorkerRefused => Refusal::WORKER_REFUSED,
+        }
+    }
+}
+
+impl From<WriteRefusal> for Refusal {
+    ghost use Rattle.std.specs.Prelude.{◌≡◌};
+    ghost use Rattle.heapmark.specs.RefusalOf.{write_refusal};
+
+    ghost from_gives = { λ refusal r. r ≡ write_refusal refusal };
+
+    fn from(refusal: WriteRefusal) -> Refusal {
+        match refusal {
+            WriteRefusal::WriteFault => Refusal::WRITE_FAULT,
+            WriteRefusal::OutOfMemory => Refusal::OUT_OF_MEMORY,
+        }
+    }
+}
+
+impl From<AllocError> for Refusal {
+    ghost use Rattle.std.specs.Prelude.{◌≡◌};
+    ghost use Rattle.heapmark.specs.Refusals.{out_of_memory};
+
+    ghost from_gives = { λ _ r. r ≡ out_of_memory };
+
+    fn from(_fault: AllocError) -> Refusal {
+        Refusal::OUT_OF_MEMORY
+    }
+}
