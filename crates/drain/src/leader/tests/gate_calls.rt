@@ -105,7 +105,7 @@ fn workers_and_the_leader_have_their_numbers(rt: HostRuntime) -> Result<(), Fail
     let alloc = rt.alloc();
     // roots, workers, buffers; the workers that came, and the calls of the leader
     let rows: [(u8, u32, u32, u64, u64); 2] = [
-        // there is a buffer of two roots for each of 64 workers, and none has scanned before all have one
+        // there is a buffer of two roots for each of 64 workers, and none scans before all have come
         (128, 64, 1024, u64::MAX, 0),
         // seven roots take all four buffers: the worker has no pair, and the leader scans all that there is
         (7, 1, 4, 0, 8),

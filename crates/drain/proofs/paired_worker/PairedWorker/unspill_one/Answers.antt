@@ -13,8 +13,10 @@ put-requires-clause-backed g c =
     let old = c.args.self.now.worker in
     let got = c.get.new.worker in
     let o = c.in-Some.object in
-    let deals = subst (λ r. IfSome r (λ x. Deals c.args.self.now.pair old.book [] (x ∷ []) c.get.new.self got.book)) c.in-Some.is c.in_ok-object.ensures.got in
-    let at_work = dealt c.args.self.now.pair old [] (o ∷ []) c.get.new.self got deals [] c.in_ok-object.ensures.going c.requires.at_work in
+    let deals = subst (λ r. IfSome r (λ x. Deals c.args.self.now.pair old.book [] (x ∷ []) c.get.new.self got.book))
+    c.in-Some.is c.in_ok-object.ensures.got in
+    let at_work = dealt c.args.self.now.pair old [] (o ∷ []) c.get.new.self got deals []
+    c.in_ok-object.ensures.going c.requires.at_work in
     backs c.get.new.self (o ∷ []) [] got at_work.hand
 
 pub unreachable-requires : goal.unreachable-requires
