@@ -29,6 +29,31 @@ impl Read for Drip<'_> {
     }
 }
 
+/// Never ends: each read gives as many bytes as it has room for, as they are there.
+#[derive(Drop)]
+struct Endless {
+    given: usize,
+}
+
+impl Read for Endless {
+    fn read(&mut self, buf: &mut [u8]) -> io::Result<usize> {
+        self.given = self.given.saturating_add(buf.len());
+        Ok(buf.len())
+    }
+}
+
+#[test]
+fn a_reader_without_an_end_is_read_up_to_the_limit(rt: HostRuntime) -> Result<(), Fail> {
+    for limit in [0, 1, 9, 20_000] {
+        let mut reader = Counted::new(Endless { given: 0 });
+        let bytes = reader.read_to_limit(rt.alloc(), limit)?;
+        assert_eq!(rt; bytes.len(), limit);
+        let Endless { given } = reader.into_inner();
+        assert_eq!(rt; given, limit, "no read behind the limit");
+    }
+    Ok(())
+}
+
 #[test]
 fn reads_to_the_end_or_the_limit(rt: HostRuntime) -> Result<(), Fail> {
     for (limit, want) in [
