@@ -25,7 +25,7 @@ pub use refusal::Refusal;
 mod tests;
 
 use command::{program_at_terminal, refuse_bytes, refused};
-use std::alloc::AllocError;
+use std::alloc::{AllocError, Global};
 use std::io::{ErrorKind, IsTerminal, Write};
 use std::process::ExitCode;
 use std::rt::{Env, Files};
@@ -34,14 +34,16 @@ use std::thread::Threads;
 use std::{env, io};
 
 fn main(rt: HostRuntime) -> ExitCode {
-    ExitCode::from(start(&rt, &mut Counted::new(rt.stdout()), &mut rt.stderr()))
+    let mut out = Counted::new(rt.stdout());
+    ExitCode::from(start(&rt, &rt, &mut out, &mut rt.stderr()))
 }
 
 /// Hands the words of the command line to the program, and answers the exit status. No contract knows these words, so
 /// the clauses say what each status means for the streams.
-fn start<T, W, E>(rt: &T, out: &mut Counted<W>, err: &mut E) -> u8
+fn start<T, V, W, E>(rt: &T, line: &V, out: &mut Counted<W>, err: &mut E) -> u8
 where
-    T: Env + Files + AllocGlobal + Threads + Wait + Sync,
+    T: Files + AllocGlobal + Threads + Wait + Sync,
+    V: Env,
     W: Write,
     E: Write + IsTerminal,
     requires { failures_of out.old < 2 ^ 64 - 1 }
@@ -58,7 +60,7 @@ where
         → WritesSomeBeginning (W.contents (inner_of out.old)) (W.contents (inner_of out.new)) }
     ensures failures { failures_of out.new ≤ failures_of out.old + 1 }
 {
-    let args = match args_of(rt) {
+    let args = match args_of(line, rt.alloc()) {
         Ok(args) => args,
         Err(fault) if fault.kind() == ErrorKind::InvalidData => return refuse_bytes(err),
         Err(_) => return refused(err, &Refusal::OUT_OF_MEMORY),
@@ -75,6 +77,6 @@ where
 }
 
 /// The words of the command line, as text: `InvalidData` where one is not, and else a fault is want of memory.
-fn args_of<T: Env + AllocGlobal>(rt: &T) -> io::Result<Vec<String>> {
-    Ok(env::args(rt)?.collect(rt.alloc())?)
+fn args_of<V: Env>(line: &V, alloc: Global) -> io::Result<Vec<String>> {
+    Ok(env::args(&(line, alloc))?.collect(alloc)?)
 }

@@ -7,6 +7,7 @@ mod dumps;
 mod idle;
 mod marking;
 mod memory;
+mod process;
 mod program;
 mod rows;
 mod streams;

@@ -1,0 +1,101 @@
+//! The process: the words that it is given, whatever they are, and the status that it answers.
+
+use crate::{Counted, start};
+use std::env::{Env, FillError};
+use std::io;
+use std::io::{IsTerminal, Write};
+
+/// The words of a command line, which may be no text.
+#[derive(Drop)]
+struct Words<'a> {
+    words: &'a [&'a [u8]],
+}
+
+impl Env for Words<'_> {
+    fn arg(&self, i: usize, buf: &mut [u8]) -> Result<usize, FillError> {
+        let Some(word) = self.words.get(i) else {
+            return Err(FillError::NotPresent);
+        };
+        let Some(room) = buf.get_mut(..word.len()) else {
+            return Err(FillError::TooLong);
+        };
+        room.copy_from_slice(word);
+        Ok(word.len())
+    }
+
+    fn var(&self, _name: &str, _buf: &mut [u8]) -> Result<usize, FillError> {
+        Err(FillError::NotPresent)
+    }
+
+    fn var_at(&self, _i: usize, _buf: &mut [u8]) -> Result<usize, FillError> {
+        Err(FillError::NotPresent)
+    }
+}
+
+/// A standard error that is read by people, or not.
+#[derive(Drop)]
+struct Screen {
+    shown: Vec<u8>,
+    is_terminal: bool,
+}
+
+impl Write for Screen {
+    fn write(&mut self, buf: &[u8]) -> io::Result<usize> {
+        self.shown.extend_from_slice(buf)?;
+        Ok(buf.len())
+    }
+
+    fn flush(&mut self) -> io::Result<()> {
+        Ok(())
+    }
+}
+
+impl IsTerminal for Screen {
+    fn is_terminal(&self) -> bool {
+        self.is_terminal
+    }
+}
+
+/// What a word that is no text is answered by.
+const NO_TEXT: &str = "error: a word of the command line is not UTF-8 text
+
+For more information, try '--help'.
+";
+
+/// What is told of a file that is not there, and at a terminal behind it.
+const NOT_READ: &str = "heapmark: refused 19 ReadFault\n";
+
+const NOT_THERE: &str = "heapmark: refused 19 ReadFault
+heapmark: /nowhere/heapmark.hprof: No such file or directory (os error 2)
+";
+
+#[test]
+fn each_line_has_its_status(rt: HostRuntime) {
+    let cases: [(&[&[u8]], bool, u8, &str); 5] = [
+        (&[b"heapmark", b"\xff"], false, 2, NO_TEXT),
+        (&[b"heapmark", b"a\xc3"], true, 2, NO_TEXT),
+        (&[b"\xff", b"/nowhere/heapmark.hprof"], false, 2, NO_TEXT),
+        (
+            &[b"heapmark", b"/nowhere/heapmark.hprof"],
+            false,
+            1,
+            NOT_READ,
+        ),
+        (
+            &[b"heapmark", b"/nowhere/heapmark.hprof"],
+            true,
+            1,
+            NOT_THERE,
+        ),
+    ];
+    for (words, is_terminal, want, told) in cases {
+        let mut out = Counted::new(Vec::new(rt.alloc()));
+        let mut err = Screen {
+            shown: Vec::new(rt.alloc()),
+            is_terminal,
+        };
+        assert_eq!(rt; start(&rt, &Words { words }, &mut out, &mut err), want);
+        assert!(rt; out.into_inner().is_empty());
+        assert_eq!(rt; err.shown.as_slice(), told.as_bytes());
+    }
+}
