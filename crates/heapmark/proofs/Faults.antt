@@ -1,14 +1,14 @@
 -- The first fault of the links of a text, where its one list of records is known.
-use Rattle.std.proofs.Common.{List, Some, inl, inr, le_antisymm, map, refl, slice_get, sym, ℕ, ⊎_elim, ◌<◌, ◌≡◌, ◌∙◌}
+use Rattle.std.proofs.Common.{List, Some, inl, inr, le_antisymm, map, refl, slice_get, sym, ℕ, ⊎_elim, ◌<◌, ◌≡◌, ◌∙◌, ◌⊎◌}
 use Rattle.std.proofs.lemmas.Bool.{cases_order}
 use Rattle.heap_graph.specs.Heap.{heap_of}
 use Rattle.heap_graph.specs.LinkFault.{HasLinkFault, IsFirstFault, code_of}
 use Rattle.heap_graph.specs.Linked.{Fails, IsAccepted}
 use Rattle.heap_graph.specs.declared.rule.LinkRule.{LinkRule}
 use Rattle.heapmark.specs.Answer.{FirstFaultOf, IsAcceptedText}
-use Rattle.hprof_grammar.specs.Dump.{Spells, heap_list, is_object}
-use Rattle.hprof_grammar.specs.Dump.{places_where}
+use Rattle.hprof_grammar.specs.Dump.{Spells, heap_list, is_object, places_where}
 use Rattle.hprof_grammar.specs.Places.{IsDumpOf, Places, places_of}
+use Rattle.hprof_grammar.specs.Laws.{HasFirstFault, SpellsDump}
 use Rattle.hprof_grammar.specs.Fault.{FirstFault}
 use Rattle.hprof_grammar.specs.Record.{IsOrderly, Record, tag_of}
 use Rattle.hprof_grammar.specs.SubRecord.{SubRecord}
@@ -68,3 +68,20 @@ no_link_fault one text id_size records code place accepted link =
 pub accepted_excludes : NoFault → OneList → (text : List ℕ) (code place : ℕ) → IsAcceptedText text → FirstFaultOf text code place → ⊥
 accepted_excludes none one text code place accepted (inl form) = none text (places_of accepted.0 accepted.1) code place (dump_of text accepted.0 accepted.1 accepted.2.spells accepted.2.orderly) form
 accepted_excludes none one text code place accepted (inr link) = no_link_fault one text accepted.0 accepted.1 code place accepted.2 link
+
+abbrev HasFault : List ℕ → Type 0
+HasFault text = (code : ℕ) × (place : ℕ) × FirstFaultOf text code place
+
+abbrev pub SomeLinks : Type 0
+SomeLinks = (text : List ℕ) (id_size : ℕ) (records : List Record) → Spells text id_size records → IsOrderly (map tag_of records)
+    → IsAccepted text id_size records ⊎ ((code : ℕ) × (place : ℕ) × HasLinkFault text code place)
+
+by_links : (text : List ℕ) (id_size : ℕ) (records : List Record) → IsAccepted text id_size records ⊎ ((code : ℕ) × (place : ℕ) × HasLinkFault text code place)
+    → IsAcceptedText text ⊎ HasFault text
+by_links text id_size records (inl accepted) = inl (id_size, records, accepted)
+by_links text id_size records (inr fault) = inr (fault.0, fault.1, inr fault.2)
+
+-- a text that spells a dump is accepted or has a fault of its links
+pub by_form : SomeLinks → (text : List ℕ) → SpellsDump text ⊎ HasFirstFault text → IsAcceptedText text ⊎ HasFault text
+by_form links text (inl dump) = by_links text dump.0.id_size dump.1.records (links text dump.0.id_size dump.1.records dump.1.spells dump.1.orderly)
+by_form links text (inr fault) = inr (fault.0, fault.1, inl fault.2)

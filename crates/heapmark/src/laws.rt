@@ -1,9 +1,20 @@
 //! What the faults of a text exclude, as laws: functions whose bodies are the laws that they stand on.
 
-ghost use Rattle.std.specs.Prelude.{◌≡◌, List, ℕ};
+ghost use Rattle.std.specs.Prelude.{◌≡◌, ◌⊎◌, List, ℕ};
+ghost use Rattle.hprof_grammar.specs.Laws.{AreBytes};
 ghost use Rattle.heapmark.specs.Answer.{FirstFaultOf, IsAcceptedText};
 
-use hprof_grammar::{dump_or_fault, one_fault, one_list_of_records};
+use heap_graph::always_linked_or_fault;
+use hprof_grammar::{always_dump_or_fault, dump_or_fault, one_fault, one_list_of_records};
+
+/// A text of bytes is accepted or has a first fault.
+pub fn always_accepted_or_fault()
+    ensures { (text : List ℕ) → AreBytes text
+        → IsAcceptedText text ⊎ ((code : ℕ) × (place : ℕ) × FirstFaultOf text code place) }
+{
+    always_dump_or_fault();
+    always_linked_or_fault();
+}
 
 /// A text that is accepted has no first fault. So a refusal that tells one means that the bytes read are not accepted.
 pub fn accepted_or_fault()

@@ -17,7 +17,7 @@ pub use command::program;
 pub use command_line::{Arguments, arguments};
 pub use drain::{Gate, NoGate, Options};
 pub use histogram::{Counted, one_report};
-pub use laws::{accepted_or_fault, one_first_fault};
+pub use laws::{accepted_or_fault, always_accepted_or_fault, one_first_fault};
 pub use pipeline::run;
 pub use refusal::Refusal;
 
