@@ -6,6 +6,7 @@ mod forged;
 mod graph;
 mod idle;
 mod opening;
+mod packed;
 mod race;
 mod rounds;
 mod tags;

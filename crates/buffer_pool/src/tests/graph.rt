@@ -36,7 +36,12 @@ fn pool_of_two_objects(alloc: Global) -> Result<(Pool<Global>, Worker<Global>), 
 }
 
 /// Claims an object that is white.
-fn claim_white<R: Abort, A: Allocator>(rt: &R, pool: &Pool<A>, worker: &mut Worker<A>, object: u32)
+pub(super) fn claim_white<R: Abort, A: Allocator>(
+    rt: &R,
+    pool: &Pool<A>,
+    worker: &mut Worker<A>,
+    object: u32,
+)
     requires pool { worker.old.pool ≡ pool.now }
     requires can { CanClaim worker.old.book.setup object worker.old.book.account }
     requires awake { worker.old.book.account.idle ≡ 0 }
