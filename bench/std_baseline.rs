@@ -1,10 +1,11 @@
-//! The work of `pool_bench` with std alone: claims on atomic words, and pops and pushes on a plain stack with a tagged head.
+//! The work of `pool_bench` with std alone: claims on bits of atomic words, and pops and pushes on a plain stack with a tagged head.
 //!
 //! Its words are those of `pool_bench`, and so is what it writes to standard output. The times go to standard error. The
 //! last of them has no counterpart there: each pop takes a vector out of the number's slot, and each push puts it back.
 
 use std::cell::UnsafeCell;
 use std::hint::black_box;
+use std::ops::Range;
 use std::process::ExitCode;
 use std::sync::atomic::{AtomicU64, Ordering::SeqCst};
 use std::thread;
@@ -72,11 +73,20 @@ impl Slots {
     }
 }
 
+/// So many objects have their marks in one word, two bits each.
+const MARKS_OF_A_WORD: u64 = 32;
+
+/// Claims an object, and answers whether it was white.
+fn claim(marks: &[AtomicU64], object: u64) -> bool {
+    let bit = 1 << (2 * (object % MARKS_OF_A_WORD));
+    marks[(object / MARKS_OF_A_WORD) as usize].fetch_or(bit, SeqCst) & bit == 0
+}
+
 /// Claims each object of a part so many times, and answers how many were white.
-fn claim_part(marks: &[AtomicU64], passes: u64) -> u64 {
+fn claim_part(marks: &[AtomicU64], part: Range<u64>, passes: u64) -> u64 {
     let mut white = 0;
     for _ in 0..passes {
-        white += marks.iter().filter(|mark| mark.fetch_max(1, SeqCst) == 0).count() as u64;
+        white += part.clone().filter(|object| claim(marks, *object)).count() as u64;
     }
     white
 }
@@ -122,12 +132,13 @@ fn timed(name: &str, threads: u64, work: impl Fn(u64) -> u64 + Sync) -> u64 {
 }
 
 fn run(threads: u64, objects: u64, passes: u64, turns: u64) {
-    let marks: Vec<AtomicU64> = (0..objects).map(|_| AtomicU64::new(0)).collect();
+    let words = objects.div_ceil(MARKS_OF_A_WORD);
+    let marks: Vec<AtomicU64> = (0..words).map(|_| AtomicU64::new(0)).collect();
     let part = objects.div_ceil(threads);
     let white = timed("claims", threads, |number| {
         let from = (number * part).min(objects);
         let to = (from + part).min(objects);
-        claim_part(&marks[from as usize..to as usize], passes)
+        claim_part(&marks, from..to, passes)
     });
     println!("claims {}\nwhite {white}", objects * passes);
 
