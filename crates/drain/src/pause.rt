@@ -5,8 +5,8 @@ use std::sync::Wait;
 use std::thread::Parker;
 use std::time::Duration;
 
-/// The first naps, in microseconds: short beside a marking, and long enough that who naps takes hardly any processor from
-/// those at work.
+/// The first naps, in microseconds: short beside a marking, and long enough that who naps takes hardly any processor
+/// from those at work.
 const FIRST_NAP: u64 = 50;
 
 /// After so many turns naps are twice as long, three times in all: the longer nobody had work, the longer it may take.

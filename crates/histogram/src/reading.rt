@@ -27,7 +27,8 @@ const CHUNK: usize = 262_144;
 impl<R: Read> Counted<R> {
     /// Reads until a read answers 0 or `limit` bytes are there, straight into the answer.
     ///
-    /// A read that fails ends the call, and is not tried again. Of the bytes read before a refusal it is said only how many there are at most.
+    /// A read that fails ends the call, and is not tried again. Of the bytes read before a refusal it is said only how
+    /// many there are at most.
     pub fn read_to_limit<A: Allocator>(
         &mut self,
         alloc: A,
