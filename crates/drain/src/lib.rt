@@ -8,6 +8,7 @@ mod marked;
 mod options;
 mod paired_worker;
 mod pause;
+mod recently_seen;
 mod start_hook;
 mod walk;
 mod walked_graph;

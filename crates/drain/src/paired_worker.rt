@@ -2,6 +2,7 @@
 //! gave to the full stack.
 
 use crate::gate::Gate;
+use crate::recently_seen::RecentlySeen;
 use crate::walk::Walk;
 use buffer_pool::{Pool, Which, Worker};
 use std::alloc::Allocator;
@@ -27,6 +28,7 @@ impl<A: Allocator> PairedWorker<A> {
     ghost use Rattle.std.specs.Iterator.{AlwaysYields, IsFinite};
     ghost use Rattle.drain.specs.working.AtWork.{AreClaimed, GoesOn, HasAtHand, HasNoneLeft, IsAtWork};
     ghost use Rattle.drain.specs.working.AtWork.{IsFree, IsSetupOf, IsThrough, MayClaim, SawRoots};
+    ghost use Rattle.drain.specs.working.RecentlySeen.{HasSeenAll, IsNoted};
     ghost use Rattle.drain.specs.working.Sharing.{GivesSome, PutsAgain, SharesWork, Unspills};
 
     /// A pair for a worker that has none yet. `None` where there were not two empty buffers.
@@ -97,11 +99,39 @@ impl<A: Allocator> PairedWorker<A> {
         }
     }
 
-    /// Claims each object that the iterator gives, and puts those that were white into the pair.
+    /// Claims an object, unless the worker lately saw it marked: then a claim would change nothing.
+    fn claim_unless_seen<R: Wait>(
+        &mut self,
+        rt: &R,
+        pool: &Pool<A>,
+        seen: &mut RecentlySeen,
+        object: u32,
+    ) -> Result<(), Stop>
+        requires pool { self.old.worker.pool ≡ pool.now }
+        requires may { (besides : List ℕ) × IsAtWork self.old.pair besides self.old.worker
+            × MayClaim self.old.worker.book.setup besides object }
+        requires seen { HasSeenAll seen.old self.old.worker }
+        ensures claimed { OnOk result (AreClaimed (object ∷ []) self.old.pair self.old.worker
+            self.new.pair self.new.worker) }
+        ensures seen { OnOk result (HasSeenAll seen.new self.new.worker) }
+        ensures unless { IsNoted seen.old object → (self.new ≡ self.old) × (seen.new ≡ seen.old) }
+        ensures noted { OnOk result (IsNoted seen.new object) }
+    {
+        if seen.has(object) {
+            return Ok(());
+        }
+        self.claim(rt, pool, object)?;
+        seen.note(object);
+        Ok(())
+    }
+
+    /// Claims each object that the iterator gives, unless it was lately seen, and puts those that were white into the
+    /// pair.
     fn claim_all<R: Wait, I: Iterator<Item = u32> + Drop>(
         &mut self,
         rt: &R,
         pool: &Pool<A>,
+        seen: &mut RecentlySeen,
         objects: I,
     ) -> Result<(), Stop>
         requires pool { self.old.worker.pool ≡ pool.now }
@@ -110,11 +140,13 @@ impl<A: Allocator> PairedWorker<A> {
         requires may { (given : List ℕ) × (besides : List ℕ) × AlwaysYields I.next_gives (λ o. o) objects given
             × IsAtWork self.old.pair besides self.old.worker
             × All (MayClaim self.old.worker.book.setup besides) given }
-        ensures { OnOk result ((given : List ℕ) → AlwaysYields I.next_gives (λ o. o) objects given
+        requires seen { HasSeenAll seen.old self.old.worker }
+        ensures claimed { OnOk result ((given : List ℕ) → AlwaysYields I.next_gives (λ o. o) objects given
             → AreClaimed given self.old.pair self.old.worker self.new.pair self.new.worker) }
+        ensures seen { OnOk result (HasSeenAll seen.new self.new.worker) }
     {
         for object in objects {
-            self.claim(rt, pool, object)?;
+            self.claim_unless_seen(rt, pool, seen, object)?;
         }
         Ok(())
     }
@@ -225,13 +257,16 @@ impl<A: Allocator> PairedWorker<A> {
         pool: &Pool<A>,
         gate: &G,
         number: u32,
+        seen: &mut RecentlySeen,
     ) -> Result<bool, Stop>
         requires pool { self.old.worker.pool ≡ pool.now }
         requires setup { IsSetupOf (V.count graph.now) (V.roots graph.now) (V.pairs graph.now)
             self.old.worker.book.setup }
         requires at_work { IsAtWork self.old.pair [] self.old.worker }
+        requires seen { HasSeenAll seen.old self.old.worker }
         ensures goes_on { OnOk result (GoesOn self.old.worker self.new.worker) }
         ensures at_work { OnOk result (IsAtWork self.new.pair [] self.new.worker) }
+        ensures seen { OnOk result (HasSeenAll seen.new self.new.worker) }
         ensures none { IfOk result (λ more. more ≡ false → HasNoneLeft self.new.pair self.new.worker) }
     {
         let Some(object) = self.pair.get(rt, pool, &mut self.worker)? else {
@@ -239,7 +274,7 @@ impl<A: Allocator> PairedWorker<A> {
         };
         self.worker.stays_within();
         gate.before_scan(number, object);
-        self.claim_all(rt, pool, graph.successors(object))?;
+        self.claim_all(rt, pool, seen, graph.successors(object))?;
         pool.finish(&mut self.worker, object);
         Ok(true)
     }
@@ -261,9 +296,10 @@ impl<A: Allocator> PairedWorker<A> {
         ensures at_work { OnOk result (IsAtWork self.new.pair [] self.new.worker) }
         ensures none { OnOk result (HasNoneLeft self.new.pair self.new.worker) }
     {
+        let mut seen = RecentlySeen::new();
         for _ in rt.forever() {
             self.share(rt, pool)?;
-            if !self.scan_next(rt, graph, pool, gate, number)? {
+            if !self.scan_next(rt, graph, pool, gate, number, &mut seen)? {
                 return Ok(());
             }
         }
@@ -287,8 +323,9 @@ impl<A: Allocator> PairedWorker<A> {
         ensures at_work { OnOk result (IsAtWork self.new.pair [] self.new.worker) }
         ensures none { OnOk result (HasNoneLeft self.new.pair self.new.worker) }
     {
+        let mut seen = RecentlySeen::new();
         for _ in rt.forever() {
-            if !self.scan_next(rt, graph, pool, gate, number)? {
+            if !self.scan_next(rt, graph, pool, gate, number, &mut seen)? {
                 return Ok(());
             }
         }

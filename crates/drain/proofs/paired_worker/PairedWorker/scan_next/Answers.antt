@@ -40,7 +40,7 @@ finish-requires-clause-can g c =
     let given = c.successors.ensures.exact in
     let deals = subst (λ r. IfSome r (λ x. Deals c.args.self.now.pair old.book [] (x ∷ []) c.get.new.self got.book)) c.in-Some.is c.in_ok-object.ensures.got in
     let at_work = dealt c.args.self.now.pair old [] (o ∷ []) c.get.new.self got deals [] c.in_ok-object.ensures.going c.requires.at_work in
-    let are = c.in_ok-claim_all.ensures given.objects given.gives in
+    let are = c.in_ok-claim_all.ensures.claimed given.objects given.gives in
     let pairs : mid.worker.book.setup.pairs ≡ g.V.Edges.pairs c.args.graph.now = ap (λ (e : Setup). e.pairs) (are.goes_on.came.setup ∙ deals.kept.setup) ∙ c.requires.setup.pairs in
     may_finish o mid.pair mid.worker (are.at_work (o ∷ []) at_work) (λ s h. are.saw s ((given.exact s).1 (subst (λ (ps : List (ℕ × ℕ)). Contains ps (o, s)) pairs h)))
 
@@ -53,7 +53,7 @@ returns-clause-goes_on g c =
     let given = c.successors.ensures.exact in
     let deals = subst (λ r. IfSome r (λ x. Deals c.args.self.now.pair old.book [] (x ∷ []) c.get.new.self got.book)) c.in-Some.is c.in_ok-object.ensures.got in
     let at_work = dealt c.args.self.now.pair old [] (o ∷ []) c.get.new.self got deals [] c.in_ok-object.ensures.going c.requires.at_work in
-    let are = c.in_ok-claim_all.ensures given.objects given.gives in
+    let are = c.in_ok-claim_all.ensures.claimed given.objects given.gives in
     let done = scanned o mid.pair mid.worker (are.at_work (o ∷ []) at_work) c.finish.new.worker c.finish.ensures.pool c.finish.ensures.event in
     goes_on_again old got c.finish.new.worker (dealt_goes_on c.args.self.now.pair old [] (o ∷ []) c.get.new.self got deals c.in_ok-object.ensures.pool)
     (goes_on_again got mid.worker c.finish.new.worker are.goes_on done.0)
@@ -67,5 +67,5 @@ returns-clause-at_work g c =
     let given = c.successors.ensures.exact in
     let deals = subst (λ r. IfSome r (λ x. Deals c.args.self.now.pair old.book [] (x ∷ []) c.get.new.self got.book)) c.in-Some.is c.in_ok-object.ensures.got in
     let at_work = dealt c.args.self.now.pair old [] (o ∷ []) c.get.new.self got deals [] c.in_ok-object.ensures.going c.requires.at_work in
-    let are = c.in_ok-claim_all.ensures given.objects given.gives in
+    let are = c.in_ok-claim_all.ensures.claimed given.objects given.gives in
     (scanned o mid.pair mid.worker (are.at_work (o ∷ []) at_work) c.finish.new.worker c.finish.ensures.pool c.finish.ensures.event).1

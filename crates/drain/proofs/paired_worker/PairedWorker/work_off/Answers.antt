@@ -11,4 +11,5 @@ loop-preserved g c = (
   goes_on_again c.args.self.now.worker c.loop.self.worker c.scan_next.new.self.worker c.loop.invariant.0
       (goes_on_again c.loop.self.worker c.share.new.self.worker c.scan_next.new.self.worker c.in_ok-share.ensures.goes_on c.in_ok-scan_next.ensures.goes_on),
   c.in_ok-scan_next.ensures.at_work,
+  c.in_ok-scan_next.ensures.seen,
 )

@@ -1,6 +1,9 @@
 use Rattle.std.proofs.Common.{[]}
 use Rattle.drain.specs.working.AtWork.{GoesOn, IsAtWork}
+use Rattle.drain.specs.working.RecentlySeen.{HasSeenAll}
 use Rattle.drain.proofs.paired_worker.PairedWorker.work_off.Given as goal
 
 abbrev pub invariant-loop : goal.invariant-loop
-invariant-loop g l = GoesOn l.initial.self.worker l.self.worker × IsAtWork l.self.pair [] l.self.worker
+invariant-loop g l =
+    GoesOn l.initial.self.worker l.self.worker × IsAtWork l.self.pair [] l.self.worker
+    × HasSeenAll l.seen l.self.worker
