@@ -18,7 +18,7 @@ turns=500000
 room=$(mktemp -d)
 trap 'rm -rf "$room"' EXIT
 
-(cd "$top/crates/pool_bench" && rt run -- 1 1 1 1) > "$room/build" 2>&1 || { cat "$room/build" >&2; exit 1; }
+(cd "$top/crates/pool_bench" && rt run -- 1 1 1 1 1) > "$room/build" 2>&1 || { cat "$room/build" >&2; exit 1; }
 rustc -O -o "$room/std" "$top/bench/std_baseline.rs"
 pool=$top/crates/pool_bench/out/pool_bench
 
@@ -48,19 +48,24 @@ row() {
     }'
 }
 
-# Marked objects are claimed from the second pass on.
+# claims NAME THREADS ROW: white objects, and marked ones, which are claimed from the second pass on.
+claims() {
+    both "$runs" "$2" "$objects" "$3" 1 0
+    pool1=$(nth pool claims 1) std1=$(nth std claims 1) pool2=$(nth pool claims $middle) std2=$(nth std claims $middle)
+    row "$1 of a white object" "$2" "$objects" "$pool1" "$std1" "$pool2" "$std2"
+    both "$runs" "$2" "$objects" "$3" "$passes" 0
+    row "$1 of a marked object" "$2" $(((passes - 1) * objects)) \
+        $(($(nth pool claims 1) - pool1)) $(($(nth std claims 1) - std1)) \
+        $(($(nth pool claims $middle) - pool2)) $(($(nth std claims $middle) - std2))
+}
+
 echo '| Work | Threads | ns, pool | ns, std | Millions a second, pool | std | Ratio of the best | of the middle ones |'
 echo '|---|---|---|---|---|---|---|---|'
 middle=$((runs / 2 + 1))
 for threads in 1 4; do
-    both "$runs" "$threads" "$objects" 1 0
-    pool1=$(nth pool claims 1) std1=$(nth std claims 1) pool2=$(nth pool claims $middle) std2=$(nth std claims $middle)
-    row 'claim of a white object' "$threads" "$objects" "$pool1" "$std1" "$pool2" "$std2"
-    both "$runs" "$threads" "$objects" "$passes" 0
-    row 'claim of a marked object' "$threads" $(((passes - 1) * objects)) \
-        $(($(nth pool claims 1) - pool1)) $(($(nth std claims 1) - std1)) \
-        $(($(nth pool claims $middle) - pool2)) $(($(nth std claims $middle) - std2))
-    both $((4 * runs)) "$threads" 0 0 "$turns"
+    claims claim "$threads" $((objects / threads))
+    [ "$threads" -eq 1 ] || claims 'claim among neighbours' "$threads" 1
+    both $((4 * runs)) "$threads" 0 1 0 "$turns"
     pool1=$(nth pool 'pops and pushes' 1) pool2=$(nth pool 'pops and pushes' $((2 * runs)))
     for name in 'pops and pushes' 'pops and pushes of vectors'; do
         row "$name" "$threads" $((threads * turns)) "$pool1" "$(nth std "$name" 1)" "$pool2" "$(nth std "$name" $((2 * runs)))"

@@ -82,11 +82,20 @@ fn claim(marks: &[AtomicU64], object: u64) -> bool {
     marks[(object / MARKS_OF_A_WORD) as usize].fetch_or(bit, SeqCst) & bit == 0
 }
 
-/// Claims each object of a part so many times, and answers how many were white.
-fn claim_part(marks: &[AtomicU64], part: Range<u64>, passes: u64) -> u64 {
+/// Claims these objects, and answers how many were white.
+fn claim_part(marks: &[AtomicU64], part: Range<u64>) -> u64 {
+    part.filter(|object| claim(marks, *object)).count() as u64
+}
+
+/// Claims each object of a thread's rows so many times, and answers how many were white.
+fn claim_passes(marks: &[AtomicU64], objects: u64, row: u64, threads: u64, number: u64, passes: u64) -> u64 {
+    let rows_of_all = row * threads;
     let mut white = 0;
     for _ in 0..passes {
-        white += part.clone().filter(|object| claim(marks, *object)).count() as u64;
+        for round in 0..objects.div_ceil(rows_of_all) {
+            let from = round * rows_of_all + number * row;
+            white += claim_part(marks, from..(from + row).min(objects));
+        }
     }
     white
 }
@@ -131,15 +140,10 @@ fn timed(name: &str, threads: u64, work: impl Fn(u64) -> u64 + Sync) -> u64 {
     sum
 }
 
-fn run(threads: u64, objects: u64, passes: u64, turns: u64) {
+fn run(threads: u64, objects: u64, row: u64, passes: u64, turns: u64) {
     let words = objects.div_ceil(MARKS_OF_A_WORD);
     let marks: Vec<AtomicU64> = (0..words).map(|_| AtomicU64::new(0)).collect();
-    let part = objects.div_ceil(threads);
-    let white = timed("claims", threads, |number| {
-        let from = (number * part).min(objects);
-        let to = (from + part).min(objects);
-        claim_part(&marks, from..to, passes)
-    });
+    let white = timed("claims", threads, |number| claim_passes(&marks, objects, row, threads, number, passes));
     println!("claims {}\nwhite {white}", objects * passes);
 
     let stack = Stack::new();
@@ -153,10 +157,10 @@ fn run(threads: u64, objects: u64, passes: u64, turns: u64) {
 
 fn main() -> ExitCode {
     let words: Vec<u64> = std::env::args().skip(1).filter_map(|word| word.parse().ok()).collect();
-    let [threads @ 1..=64, objects, passes, turns] = words[..] else {
-        eprintln!("usage: std_baseline THREADS OBJECTS PASSES TURNS");
+    let [threads @ 1..=64, objects, row @ 1..=u64::MAX, passes, turns] = words[..] else {
+        eprintln!("usage: std_baseline THREADS OBJECTS ROW PASSES TURNS");
         return ExitCode::from(2);
     };
-    run(threads, objects, passes, turns);
+    run(threads, objects, row, passes, turns);
     ExitCode::SUCCESS
 }

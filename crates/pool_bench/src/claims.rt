@@ -1,4 +1,4 @@
-//! Claims of objects, each thread's in a part of its own.
+//! Claims of objects, each thread's in rows of its own.
 ghost use Rattle.std.specs.Prelude.{◌≡◌, All};
 ghost use Rattle.pool_bench.specs.Holders.{AreRoots, HasSeen, SamePool};
 
@@ -26,19 +26,34 @@ fn claim_part<A: Allocator>(pool: &Pool<A>, worker: &mut Worker<A>, from: u32, t
     white
 }
 
-/// Claims each object of a worker's part in each pass, and answers how many were white.
+/// Claims each object of a worker's rows once, and answers how many were white.
+fn claim_rows(pool: &Pool<Global>, worker: &mut Worker<Global>, number: u32, sizes: Sizes) -> u32
+    requires pool { worker.old.pool ≡ pool.now }
+    requires roots { AreRoots sizes.objects worker.old }
+    requires awake { worker.old.book.account.idle ≡ 0 }
+    ensures same { SamePool worker.old worker.new }
+{
+    let rows_of_all = sizes.row.saturating_mul(sizes.threads);
+    let first = sizes.row.saturating_mul(number);
+    let mut white = 0u32;
+    for round in 0..sizes.objects.div_ceil(rows_of_all) {
+        let from = round.saturating_mul(rows_of_all).saturating_add(first);
+        let to = from.saturating_add(sizes.row).min(sizes.objects);
+        white = white.saturating_add(claim_part(pool, worker, from, to));
+    }
+    white
+}
+
+/// Claims each object of a worker's rows in each pass, and answers how many were white.
 fn claim_passes(pool: &Pool<Global>, numbered: NumberedWorker, sizes: Sizes) -> u64
     requires pool { numbered.worker.pool ≡ pool.now }
     requires roots { AreRoots sizes.objects numbered.worker }
     requires awake { numbered.worker.book.account.idle ≡ 0 }
 {
     let NumberedWorker { mut worker, number } = numbered;
-    let part = sizes.objects.div_ceil(sizes.threads);
-    let from = number.saturating_mul(part);
-    let to = from.saturating_add(part).min(sizes.objects);
     let mut white = 0;
     for _ in 0..sizes.passes {
-        white += u64::from(claim_part(pool, &mut worker, from, to));
+        white += u64::from(claim_rows(pool, &mut worker, number, sizes));
     }
     white
 }

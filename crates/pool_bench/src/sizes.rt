@@ -11,14 +11,17 @@ const MOST_THREADS: u32 = 64;
 pub(crate) struct Sizes {
     /// Threads, from 1 to 64.
     pub(crate) threads: u32,
-    /// Objects of the pool, of which each thread has a part.
+    /// Objects of the pool. The threads claim them by rows, in turn.
     pub(crate) objects: u32,
+    /// How many objects side by side are claimed by one thread before those of the next begin, from 1 on.
+    pub(crate) row: u32,
     /// How often each object is claimed.
     pub(crate) passes: u32,
     /// How often each thread pops and pushes.
     pub(crate) turns: u32,
     ghost some: { 0 < threads },
     ghost few: { threads ≤ 64 },
+    ghost any: { 0 < row },
 }
 
 fn number(word: &String) -> Result<u32> {
@@ -26,16 +29,19 @@ fn number(word: &String) -> Result<u32> {
         .context(format_args!("reading {word:?}"))
 }
 
-/// Reads threads, objects, passes and turns, behind the program's name.
+/// Reads threads, objects, row, passes and turns, behind the program's name.
 pub(crate) fn sizes_of(words: &[String]) -> Result<Sizes> {
-    let [_, threads, objects, passes, turns] = words else {
-        bail!("usage: pool_bench THREADS OBJECTS PASSES TURNS");
+    let [_, threads, objects, row, passes, turns] = words else {
+        bail!("usage: pool_bench THREADS OBJECTS ROW PASSES TURNS");
     };
     let threads = number(threads)?;
     ensure!((1..=MOST_THREADS).contains(&threads), "{threads} threads");
+    let row = number(row)?;
+    ensure!(row > 0, "rows without objects");
     Ok(Sizes {
         threads,
         objects: number(objects)?,
+        row,
         passes: number(passes)?,
         turns: number(turns)?,
     })

@@ -1,8 +1,7 @@
--- A part ends with the objects or before.
-use Rattle.std.proofs.Common.{arith}
+-- The roots are those of the pool in each pass.
 use Rattle.pool_bench.proofs.Holders.{same_roots}
 use Rattle.pool_bench.proofs.claims.claim_passes.Goals as goal
 
-pub claim_part-requires-clause-roots : goal.claim_part-requires-clause-roots
-claim_part-requires-clause-roots c =
-    λ o below. same_roots c.args.sizes.objects c.args.numbered.worker c.loop.worker c.loop.invariant.0 c.requires.roots o (omega (arith, below, c.min-to.ensures))
+pub claim_rows-requires-clause-roots : goal.claim_rows-requires-clause-roots
+claim_rows-requires-clause-roots c =
+    same_roots c.args.sizes.objects c.args.numbered.worker c.loop.worker c.loop.invariant.0 c.requires.roots

@@ -1,0 +1,8 @@
+-- A row ends with the objects or before.
+use Rattle.std.proofs.Common.{arith}
+use Rattle.pool_bench.proofs.Holders.{same_roots}
+use Rattle.pool_bench.proofs.claims.claim_rows.Goals as goal
+
+pub claim_part-requires-clause-roots : goal.claim_part-requires-clause-roots
+claim_part-requires-clause-roots c =
+    λ o below. same_roots c.args.sizes.objects c.args.worker.now c.loop-round.worker c.loop-round.invariant c.requires.roots o (omega (arith, below, c.min-to.ensures))

@@ -1,0 +1,6 @@
+-- the worker stays in its pool
+use Rattle.pool_bench.specs.Holders.{SamePool}
+use Rattle.pool_bench.proofs.claims.claim_rows.Given as goal
+
+abbrev pub invariant-loop-round : goal.invariant-loop-round
+invariant-loop-round l = SamePool l.initial.worker l.worker
