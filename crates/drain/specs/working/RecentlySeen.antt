@@ -1,11 +1,11 @@
 -- What a worker remembers of the objects that it saw marked.
-use Rattle.std.specs.Prelude.{Contains, None, Some, slice_index_or, ℕ, ◌%◌, ◌≡◌}
+use Rattle.std.specs.Prelude.{Contains, slice_index, ℕ, ◌%◌, ◌≡◌}
 use Rattle.buffer_pool.specs.Calls.{Holder}
 use Rattle.drain.specs.declared.recently_seen.RecentlySeen.{RecentlySeen}
 
 -- The object stands at its place of the table.
 abbrev pub IsNoted : RecentlySeen → ℕ → Type 0
-IsNoted table o = slice_index_or table.objects (o % 256) None ≡ Some o
+IsNoted table o = slice_index table.objects (o % 4096) ≡ o
 
 -- The worker saw each object of the table marked.
 abbrev pub HasSeenAll : RecentlySeen → Holder → Type 0

@@ -1,12 +1,23 @@
-use Rattle.std.proofs.Common.{⊎_elim}
-use Rattle.std.specs.Prelude.{None, replicate}
-use Rattle.std.proofs.lemmas.Bool.{cases_lt}
-use Rattle.std.proofs.lemmas.List.{get_or_past, get_or-replicate}
+use native.Mathlib.Decide.{ℕ_discrete}
+use Rattle.std.proofs.Common.{◌≡◌, ℕ, ◌%◌, ◌<◌, ap, sym, ◌∙◌, arith, slice_index}
+use Rattle.std.specs.Prelude.{replicate, slice_set}
+use Rattle.std.proofs.lemmas.List.{get_or-replicate, get_or-set_other}
 use Rattle.drain.proofs.recently_seen.RecentlySeen.new.Goals as goal
 
+-- place 0 has an object of place 1, and each other place one of place 0
+nowhere : (o : ℕ) → slice_index (slice_set (replicate 4096 0) 0 1) (o % 4096) ≡ o → ⊥
+nowhere o is = go (ℕ_discrete (o % 4096) 0)
+  where
+    go : Dec (o % 4096 ≡ 0) → ⊥
+    go (yes first) =
+        let one : 1 ≡ o = sym (ap (slice_index (slice_set (replicate 4096 0) 0 1)) first) ∙ is in
+        omega (arith, first, one)
+    go (no other) =
+        let below : o % 4096 < 4096 = omega arith in
+        let zero : slice_index (slice_set (replicate 4096 0) 0 1) (o % 4096) ≡ 0 =
+            get_or-set_other (replicate 4096 0) 0 (o % 4096) 1 0 other
+            ∙ get_or-replicate 4096 (o % 4096) 0 0 below in
+        other (omega (arith, zero, is))
+
 pub returns : goal.returns
-returns c =
-    record {
-      none = λ k. ⊎_elim (λ low. get_or-replicate 256 k None None low)
-          (λ past. get_or_past (replicate 256 None) k None past) (cases_lt k 256);
-    }
+returns c = record { none = nowhere }
