@@ -5,7 +5,8 @@ use Rattle.std.specs.List.{AllByRecursion}
 use Rattle.std.proofs.lemmas.Bool.{eqb-true}
 use Rattle.std.proofs.lemmas.List.{length-map}
 use Rattle.byteorder.specs.Endian.{big_number}
-use Rattle.hprof_grammar.specs.SubRecord.{Class, Constant, Instance, IsClass, IsConstant, IsStatic, ObjectArray, PrimitiveArray, Static, SubRecord}
+use Rattle.hprof_grammar.specs.Bounds.{IsClass, IsConstant, IsStatic}
+use Rattle.hprof_grammar.specs.SubRecord.{Class, Constant, Instance, ObjectArray, PrimitiveArray, Static, SubRecord}
 use Rattle.hprof_grammar.specs.SubRecord.SubRecord.{class_dump, instance_dump, object_array_dump, primitive_array_dump}
 use Rattle.hprof_grammar.specs.Series.{LabelledValue, of_constant, of_static}
 use Rattle.hprof_grammar.specs.Tables.{size_of}

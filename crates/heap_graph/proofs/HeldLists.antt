@@ -4,6 +4,7 @@ use Rattle.std.specs.Prelude.{position, ◌==◌}
 use Rattle.hprof_grammar.specs.Standing.{Sight, Stands}
 use Rattle.hprof_grammar.specs.SubRecord.{Instance, SubRecord}
 use Rattle.hprof_grammar.specs.SubRecord.SubRecord.{class_dump, instance_dump, object_array_dump, primitive_array_dump, root}
+use Rattle.hprof_grammar.proofs.BoundsLaws.{bounds}
 use Rattle.heap_graph.specs.declared.classes.fate.Fate.{Fate}
 use Rattle.heap_graph.specs.declared.classes.fate.Fate.TheVariants as fates
 use Rattle.heap_graph.specs.declared.objects.Objects.{Objects}
@@ -67,17 +68,17 @@ ids_here : (v : Sight) (heap : List SubRecord) (entries : List Entry) (places : 
 ids_here v heap entries places known n at (root r) linked low told is stands =
     ([], record { are = refl; few = omega arith })
 ids_here v heap entries places known n at (class_dump c) linked low told is stands =
-    (class_ids v.id_size c, class_holds v.id_size heap c (class_ids v.id_size c) stands.is.formed.1 refl)
+    (class_ids v.id_size c, class_holds v.id_size heap c (class_ids v.id_size c) (bounds stands.is.formed) refl)
 ids_here v heap entries places known n at (instance_dump i) linked low told is stands =
     let found =
     first_at v heap entries places known n i (position (λ x. x == i.class) (ids_of entries)) linked told is refl in
     let fields : List ℕ = typed_ids v.id_size (layout_types found.1.chain) i.values in (
       i.class ∷ fields,
       instance_holds v.id_size heap (ids_of entries) i found.0 found.1 i.class fields i.values low
-          stands.is.formed.1.values refl refl refl,
+          (bounds stands.is.formed).values refl refl refl,
     )
 ids_here v heap entries places known n at (object_array_dump a) linked low told is stands =
-    (a.class ∷ a.elements, array_holds v.id_size heap a a.class a.elements stands.is.formed.1.count refl refl)
+    (a.class ∷ a.elements, array_holds v.id_size heap a a.class a.elements (bounds stands.is.formed).count refl refl)
 ids_here v heap entries places known n at (primitive_array_dump a) linked low told is stands =
     ([], nothing_held v.id_size heap a)
 

@@ -8,10 +8,12 @@ use Rattle.byteorder.specs.Numbers.{length-bytes_high_first}
 use Rattle.hprof_grammar.specs.Spelling.{Field, spelled}
 use Rattle.hprof_grammar.specs.Spelling.Field.{number, raw, type_code}
 use Rattle.hprof_grammar.specs.Spelling as spelling
-use Rattle.hprof_grammar.specs.SubRecord.{IsStatic, IsSubRecord, Static, SubRecord, constant_fields, member_fields, spelling_of, static_fields}
+use Rattle.hprof_grammar.specs.Bounds.{IsStatic}
+use Rattle.hprof_grammar.specs.SubRecord.{IsSubRecord, Static, SubRecord, constant_fields, member_fields, spelling_of, static_fields}
 use Rattle.hprof_grammar.specs.SubRecord.SubRecord.{class_dump, instance_dump, object_array_dump, primitive_array_dump, root}
 use Rattle.hprof_grammar.specs.Tables.{is_id_size, is_type_at, size_of}
 use Rattle.hprof_grammar.specs.declared.kinds.TypePlace.TheVariants.{InArray, InStatic}
+use Rattle.hprof_grammar.proofs.BoundsLaws.{bounds}
 use Rattle.heap_graph.specs.Rows.{bytes_of}
 
 -- ---- two facts of the tables
@@ -55,10 +57,25 @@ bytes_width s (class_dump c) is =
     let front : List Field = number s c.object ∷ number 4 c.stack ∷ number s c.super ∷ number s c.loader ∷ number s c.signers ∷ number s c.domain ∷ number s c.reserved ∷ number s c.reserved_too ∷ number 4 c.instance_size ∷ number 2 (length c.constants) ∷ flat_map constant_fields c.constants in
     let middle : List Field = number 2 (length c.statics) ∷ flat_map (static_fields s) c.statics in
     let back : List Field = number 2 (length c.members) ∷ flat_map (member_fields s) c.members in
-    omega (arith, statics_width s c.statics is.formed.1.statics, behind_field (number 2 (length c.statics)) (flat_map (static_fields s) c.statics), joined middle back, joined front (middle ++ back))
+    omega (
+      arith,
+      statics_width s c.statics (bounds is.formed).statics,
+      behind_field (number 2 (length c.statics)) (flat_map (static_fields s) c.statics),
+      joined middle back,
+      joined front (middle ++ back),
+    )
 bytes_width s (instance_dump i) is =
     omega (arith, raw_width i.values, behind_field (number 4 (length i.values)) (raw i.values ∷ []), behind_field (number s i.class) (number 4 (length i.values) ∷ raw i.values ∷ []), behind_field (number 4 i.stack) (number s i.class ∷ number 4 (length i.values) ∷ raw i.values ∷ []), behind_field (number s i.object) (number 4 i.stack ∷ number s i.class ∷ number 4 (length i.values) ∷ raw i.values ∷ []))
 bytes_width s (object_array_dump a) is =
     omega (arith, numbers_width s a.elements, behind_field (number s a.class) (map (number s) a.elements), behind_field (number 4 (length a.elements)) (number s a.class ∷ map (number s) a.elements), behind_field (number 4 a.stack) (number 4 (length a.elements) ∷ number s a.class ∷ map (number s) a.elements), behind_field (number s a.object) (number 4 a.stack ∷ number 4 (length a.elements) ∷ number s a.class ∷ map (number s) a.elements))
 bytes_width s (primitive_array_dump a) is =
-    omega (arith, is.formed.1.values, raw_width a.values, behind_field (type_code InArray a.type) (raw a.values ∷ []), behind_field (number 4 a.count) (type_code InArray a.type ∷ raw a.values ∷ []), behind_field (number 4 a.stack) (number 4 a.count ∷ type_code InArray a.type ∷ raw a.values ∷ []), behind_field (number s a.object) (number 4 a.stack ∷ number 4 a.count ∷ type_code InArray a.type ∷ raw a.values ∷ []))
+    omega (
+      arith,
+      is.formed.sizes,
+      raw_width a.values,
+      behind_field (type_code InArray a.type) (raw a.values ∷ []),
+      behind_field (number 4 a.count) (type_code InArray a.type ∷ raw a.values ∷ []),
+      behind_field (number 4 a.stack) (number 4 a.count ∷ type_code InArray a.type ∷ raw a.values ∷ []),
+      behind_field (number s a.object)
+          (number 4 a.stack ∷ number 4 a.count ∷ type_code InArray a.type ∷ raw a.values ∷ []),
+    )

@@ -7,13 +7,15 @@ use Rattle.byteorder.specs.Endian.{big_bytes}
 use Rattle.byteorder.specs.Numbers.{big_number-reads_back, length-bytes_high_first}
 use Rattle.hprof_grammar.specs.Spelling.{Field, spelled}
 use Rattle.hprof_grammar.specs.Spelling.Field.{number}
-use Rattle.hprof_grammar.specs.SubRecord.{Class, Constant, IsConstant, IsStatic, Static, constant_fields, member_fields, static_fields}
+use Rattle.hprof_grammar.specs.Bounds.{IsConstant, IsStatic}
+use Rattle.hprof_grammar.specs.SubRecord.{Class, Constant, Static, constant_fields, member_fields, static_fields}
 use Rattle.hprof_grammar.specs.SubRecord.SubRecord.{class_dump}
 use Rattle.hprof_grammar.specs.Tables.{size_of}
 use Rattle.hprof_grammar.specs.declared.kinds.TypePlace.TheVariants.{InConstant, InStatic}
 use Rattle.hprof_grammar.specs.Standing.{Sight, Stands}
 use Rattle.hprof_grammar.specs.Series.{HasCountedValues, LabelledValue, behind_counted_values, count_in, counted_values_in, members_in, of_constant, of_static}
 use Rattle.hprof_grammar.specs.working.ClassParts.{IsPartOf, counted_fields, fields_from_constants, fields_from_members, fields_from_statics}
+use Rattle.hprof_grammar.proofs.BoundsLaws.{bounds}
 use Rattle.hprof_grammar.proofs.Fields.{spelled_then}
 use Rattle.hprof_grammar.proofs.Places.{Spell, fields_stand, in_sight, length-spelled}
 use Rattle.hprof_grammar.proofs.FieldsStand.{class_stands}
@@ -125,7 +127,11 @@ pub constants_part : {v w : Sight} → w ≡ v → (at : ℕ) (c : Class) → St
 constants_part {v} {w} e at c h =
     let there = constants_stand e at c h in
     subst (λ (x : Sight). IsPartOf x.id_size c (fields_from_constants x.id_size c) (drop (at + 9 + 7 * w.id_size) w.bytes)) e
-    (record { rest = there.rest; bytes_are = there.bytes_are; is = (in_sight v w at (class_dump c) e h).is.formed.1 })
+    (record {
+      rest = there.rest;
+      bytes_are = there.bytes_are;
+      is = bounds (in_sight v w at (class_dump c) e h).is.formed;
+    })
 
 pub constants_seen : {v w : Sight} → w ≡ v → (c : Class) (bytes : List ℕ) → IsPartOf v.id_size c (fields_from_constants v.id_size c) bytes → IsPartOf w.id_size c (fields_from_constants w.id_size c) bytes
 constants_seen {v} {w} e c bytes h = subst (λ (x : Sight). IsPartOf x.id_size c (fields_from_constants x.id_size c) bytes) (sym e) h

@@ -9,6 +9,7 @@ use Rattle.hprof_grammar.specs.Kinds.{kind_of, origin_kind}
 use Rattle.hprof_grammar.specs.SubRecord.RootOrigin.{java_frame, jni_global, jni_local, monitor_used, native_stack, sticky_class, thread_block, thread_object, unknown}
 use Rattle.hprof_grammar.specs.SubRecord.SubRecord.{root}
 use Rattle.hprof_grammar.specs.declared.kinds.Kind.TheVariants as kinds
+use Rattle.hprof_grammar.proofs.BoundsLaws.{bounds}
 use Rattle.hprof_grammar.proofs.Places.{ByteAt, NumberAt, Spell, byte_read, in_sight, number_stands, sub_stands}
 use Rattle.hprof_grammar.proofs.TableLaws.{kind_says}
 
@@ -34,7 +35,8 @@ some_is m n e = cc
 
 reference_stands : (s : ℕ) (bytes : List ℕ) (at object n : ℕ) (origin : RootOrigin) → StandsAt s bytes at (rooted object origin) → reference_of origin ≡ Some n → NumberAt bytes (at + 1 + s) s n
 reference_stands s bytes at object n (jni_global reference) h e =
-    subst (NumberAt bytes (at + 1 + s) s) (some_is reference n e) (first s bytes at object (jni_global reference) h s reference [] refl h.is.formed.1.origin)
+    subst (NumberAt bytes (at + 1 + s) s) (some_is reference n e)
+    (first s bytes at object (jni_global reference) h s reference [] refl (bounds h.is.formed).origin)
 reference_stands s bytes at object n unknown h e = cc
 reference_stands s bytes at object n (jni_local thread frame) h e = cc
 reference_stands s bytes at object n (java_frame thread frame) h e = cc
@@ -46,15 +48,23 @@ reference_stands s bytes at object n (thread_object thread stack) h e = cc
 
 thread_stands : (s : ℕ) (bytes : List ℕ) (at object n : ℕ) (origin : RootOrigin) → StandsAt s bytes at (rooted object origin) → thread_of origin ≡ Some n → NumberAt bytes (at + 1 + s) 4 n
 thread_stands s bytes at object n (jni_local thread frame) h e =
-    subst (NumberAt bytes (at + 1 + s) 4) (some_is thread n e) (first s bytes at object (jni_local thread frame) h 4 thread (number 4 frame ∷ []) refl h.is.formed.1.origin.0)
+    subst (NumberAt bytes (at + 1 + s) 4) (some_is thread n e)
+    (first s bytes at object (jni_local thread frame) h 4 thread (number 4 frame ∷ []) refl
+    (bounds h.is.formed).origin.0)
 thread_stands s bytes at object n (java_frame thread frame) h e =
-    subst (NumberAt bytes (at + 1 + s) 4) (some_is thread n e) (first s bytes at object (java_frame thread frame) h 4 thread (number 4 frame ∷ []) refl h.is.formed.1.origin.0)
+    subst (NumberAt bytes (at + 1 + s) 4) (some_is thread n e)
+    (first s bytes at object (java_frame thread frame) h 4 thread (number 4 frame ∷ []) refl
+    (bounds h.is.formed).origin.0)
 thread_stands s bytes at object n (native_stack thread) h e =
-    subst (NumberAt bytes (at + 1 + s) 4) (some_is thread n e) (first s bytes at object (native_stack thread) h 4 thread [] refl h.is.formed.1.origin)
+    subst (NumberAt bytes (at + 1 + s) 4) (some_is thread n e)
+    (first s bytes at object (native_stack thread) h 4 thread [] refl (bounds h.is.formed).origin)
 thread_stands s bytes at object n (thread_block thread) h e =
-    subst (NumberAt bytes (at + 1 + s) 4) (some_is thread n e) (first s bytes at object (thread_block thread) h 4 thread [] refl h.is.formed.1.origin)
+    subst (NumberAt bytes (at + 1 + s) 4) (some_is thread n e)
+    (first s bytes at object (thread_block thread) h 4 thread [] refl (bounds h.is.formed).origin)
 thread_stands s bytes at object n (thread_object thread stack) h e =
-    subst (NumberAt bytes (at + 1 + s) 4) (some_is thread n e) (first s bytes at object (thread_object thread stack) h 4 thread (number 4 stack ∷ []) refl h.is.formed.1.origin.0)
+    subst (NumberAt bytes (at + 1 + s) 4) (some_is thread n e)
+    (first s bytes at object (thread_object thread stack) h 4 thread (number 4 stack ∷ []) refl
+    (bounds h.is.formed).origin.0)
 thread_stands s bytes at object n unknown h e = cc
 thread_stands s bytes at object n (jni_global reference) h e = cc
 thread_stands s bytes at object n sticky_class h e = cc
@@ -62,9 +72,11 @@ thread_stands s bytes at object n monitor_used h e = cc
 
 frame_stands : (s : ℕ) (bytes : List ℕ) (at object n : ℕ) (origin : RootOrigin) → StandsAt s bytes at (rooted object origin) → frame_of origin ≡ Some n → NumberAt bytes (at + 5 + s) 4 n
 frame_stands s bytes at object n (jni_local thread frame) h e =
-    subst (NumberAt bytes (at + 5 + s) 4) (some_is frame n e) (second s bytes at object (jni_local thread frame) h thread frame refl h.is.formed.1.origin.1)
+    subst (NumberAt bytes (at + 5 + s) 4) (some_is frame n e)
+    (second s bytes at object (jni_local thread frame) h thread frame refl (bounds h.is.formed).origin.1)
 frame_stands s bytes at object n (java_frame thread frame) h e =
-    subst (NumberAt bytes (at + 5 + s) 4) (some_is frame n e) (second s bytes at object (java_frame thread frame) h thread frame refl h.is.formed.1.origin.1)
+    subst (NumberAt bytes (at + 5 + s) 4) (some_is frame n e)
+    (second s bytes at object (java_frame thread frame) h thread frame refl (bounds h.is.formed).origin.1)
 frame_stands s bytes at object n unknown h e = cc
 frame_stands s bytes at object n (jni_global reference) h e = cc
 frame_stands s bytes at object n (native_stack thread) h e = cc
@@ -75,7 +87,8 @@ frame_stands s bytes at object n (thread_object thread stack) h e = cc
 
 trace_stands : (s : ℕ) (bytes : List ℕ) (at object n : ℕ) (origin : RootOrigin) → StandsAt s bytes at (rooted object origin) → trace_of origin ≡ Some n → NumberAt bytes (at + 5 + s) 4 n
 trace_stands s bytes at object n (thread_object thread stack) h e =
-    subst (NumberAt bytes (at + 5 + s) 4) (some_is stack n e) (second s bytes at object (thread_object thread stack) h thread stack refl h.is.formed.1.origin.1)
+    subst (NumberAt bytes (at + 5 + s) 4) (some_is stack n e)
+    (second s bytes at object (thread_object thread stack) h thread stack refl (bounds h.is.formed).origin.1)
 trace_stands s bytes at object n unknown h e = cc
 trace_stands s bytes at object n (jni_global reference) h e = cc
 trace_stands s bytes at object n (jni_local thread frame) h e = cc

@@ -4,7 +4,8 @@ use Rattle.hprof_grammar.specs.Fault.{SubFault}
 use Rattle.hprof_grammar.specs.Fault.SubFault.{short, unknown_tag, wrong_type}
 use Rattle.hprof_grammar.specs.working.Reading.{as_at, body_at, code_of, lone_root, root_at, root_with, root_with_two, sub_record_at}
 use Rattle.hprof_grammar.specs.Spelling.{AreAllowed, Field, spelled}
-use Rattle.hprof_grammar.specs.SubRecord.{HasBounds, IsFormed, IsRoot, IsSubRecord, RootOrigin, SubRecord, fields_of, root_fields, spelling_of, tag_of}
+use Rattle.hprof_grammar.specs.Bounds.{HasBounds, IsRoot}
+use Rattle.hprof_grammar.specs.SubRecord.{IsFormed, IsSubRecord, RootOrigin, SubRecord, fields_of, root_fields, spelling_of, tag_of}
 use Rattle.hprof_grammar.specs.Kinds.{kind_of, origin_kind, root_tag}
 use Rattle.hprof_grammar.specs.SubRecord.RootOrigin.{java_frame, jni_global, jni_local, monitor_used, native_stack, sticky_class, thread_block, thread_object, unknown}
 use Rattle.hprof_grammar.specs.SubRecord.SubRecord.{class_dump, instance_dump, object_array_dump, primitive_array_dump, root}
@@ -15,6 +16,7 @@ use Rattle.hprof_grammar.specs.declared.kinds.Kind.{Kind}
 use Rattle.hprof_grammar.specs.declared.kinds.Kind.TheVariants as kinds
 use Rattle.hprof_grammar.specs.declared.flaw.Flaw.{Flaw}
 use Rattle.hprof_grammar.specs.declared.flaw.Flaw.TheVariants.{Short, UnknownTag, WrongType}
+use Rattle.hprof_grammar.proofs.BoundsLaws.{bounds, formed_by}
 use Rattle.hprof_grammar.proofs.Bytes.{IsBytes, bytes-tail}
 use Rattle.hprof_grammar.proofs.Fields.{Breaks, breaks_short, breaks_wrong, ends_short, has_wrong_type}
 use Rattle.hprof_grammar.proofs.Format.{IsFormat, bind_err, bind_ok, number_format}
@@ -33,7 +35,7 @@ SubBreaks s tag rest flaw = (x : SubRecord) × IsFormed s x × (tag_of x ≡ tag
 -- ---- one kind of sub-record behind its tag
 
 module _ {A : Type 0} {W : A → Type 0} {F : A → List Field} {r : List ℕ → Result (A × List ℕ) Flaw} (s tag : ℕ) (make : A → SubRecord) (under : IsFormat W F r)
-    (fields_are : (a : A) → fields_of s (make a) ≡ F a) (bounds : (a : A) → W a → HasBounds s (make a))
+    (fields_are : (a : A) → fields_of s (make a) ≡ F a) (in_bounds : (a : A) → W a → HasBounds s (make a))
     (tag_is : (a : A) → W a → tag_of (make a) ≡ tag) where
   kind_takes : (rest : List ℕ) (z : SubRecord × List ℕ) → IsBytes rest → as_at make r rest ≡ Ok z → SubTaken s (tag ∷ rest) z.0 z.1
   kind_takes rest z h e =
@@ -43,7 +45,7 @@ module _ {A : Type 0} {W : A → Type 0} {F : A → List Field} {r : List ℕ �
       let f = fields_are a.0.0 in
       subst (λ (y : SubRecord × List ℕ). SubTaken s (tag ∷ rest) y.0 y.1) same
       (record {
-        is = record { formed = (tag_known (make a.0.0), bounds a.0.0 t.well); allowed = rw f t.allowed };
+        is = record { formed = formed_by (tag_known (make a.0.0)) (in_bounds a.0.0 t.well); allowed = rw f t.allowed };
         bytes_are = rw (tag_is a.0.0 t.well, f) (ap (λ (x : List ℕ). tag ∷ x) t.bytes_are);
       })
 
@@ -56,7 +58,8 @@ module _ {A : Type 0} {W : A → Type 0} {F : A → List Field} {r : List ℕ �
   kind_fails rest flaw h e = elim (bind_err (r rest) (λ x. Ok (make x.0, x.1)) flaw e) [
     | inl f ↦
         let a = under.fails rest flaw h f in
-        (make a.0, (tag_known (make a.0), bounds a.0 a.1), tag_is a.0 a.1, rw (fields_are a.0) a.2)
+        let formed : IsFormed s (make a.0) = formed_by (tag_known (make a.0)) (in_bounds a.0 a.1) in
+        (make a.0, formed, tag_is a.0 a.1, rw (fields_are a.0) a.2)
     | inr a ↦ absurd (let k : ◌≡◌ {A = Result (SubRecord × List ℕ) Flaw} (Ok (make a.0.0, a.0.1)) (Err flaw) = a.2 in cc)
   ]
 
@@ -222,19 +225,19 @@ sub_takes s (tag ∷ rest) z h e = body_takes s tag (kind_of tag) rest z refl (b
 -- what is spelled is read
 pub sub_again : (s : ℕ) (x : SubRecord) (rest : List ℕ) → IsSubRecord s x → sub_record_at s (spelling_of s x ++ rest) ≡ Ok (x, rest)
 unfolding sub_record_at
-sub_again s (root r) rest h = rw (kind_says (root r)) (root_again s r.object r.origin rest h.formed.1 h.allowed)
+sub_again s (root r) rest h = rw (kind_says (root r)) (root_again s r.object r.origin rest (bounds h.formed) h.allowed)
 sub_again s (class_dump c) rest h =
     rw (kind_says (class_dump c)) (kind_again s 0x20 class_dump (class_format s) (λ x. refl) (λ x w. w) (λ x w. refl) c
-    rest h.formed.1 h.allowed)
+    rest (bounds h.formed) h.allowed)
 sub_again s (instance_dump i) rest h =
     rw (kind_says (instance_dump i)) (kind_again s 0x21 instance_dump (instance_format s) (λ x. refl) (λ x w. w)
-    (λ x w. refl) i rest h.formed.1 h.allowed)
+    (λ x w. refl) i rest (bounds h.formed) h.allowed)
 sub_again s (object_array_dump a) rest h =
     rw (kind_says (object_array_dump a)) (kind_again s 0x22 object_array_dump (object_array_format s) (λ x. refl)
-    (λ x w. w) (λ x w. refl) a rest h.formed.1 h.allowed)
+    (λ x w. w) (λ x w. refl) a rest (bounds h.formed) h.allowed)
 sub_again s (primitive_array_dump a) rest h =
     rw (kind_says (primitive_array_dump a)) (kind_again s 0x23 primitive_array_dump (primitive_array_format s)
-    (λ x. refl) (λ x w. w) (λ x w. refl) a rest h.formed.1 h.allowed)
+    (λ x. refl) (λ x w. w) (λ x w. refl) a rest (bounds h.formed) h.allowed)
 
 -- ---- flaws
 
@@ -274,19 +277,19 @@ sub_fails s tag rest flaw h e = kind_fault s tag (kind_of tag) rest flaw refl (b
 body_fails_again : (s : ℕ) (x : SubRecord) (rest : List ℕ) (flaw : Flaw) → IsFormed s x → Breaks flaw (fields_of s x) rest → sub_record_at s (tag_of x ∷ rest) ≡ Err flaw
 unfolding sub_record_at
 body_fails_again s (root r) rest flaw h b =
-    rw (kind_says (root r)) (root_fails_again s r.object r.origin rest flaw h.1 b)
+    rw (kind_says (root r)) (root_fails_again s r.object r.origin rest flaw (bounds h) b)
 body_fails_again s (class_dump c) rest flaw h b =
     rw (kind_says (class_dump c)) (kind_fails_again s 0x20 class_dump (class_format s) (λ x. refl) (λ x w. w)
-    (λ x w. refl) c rest flaw h.1 b)
+    (λ x w. refl) c rest flaw (bounds h) b)
 body_fails_again s (instance_dump i) rest flaw h b =
     rw (kind_says (instance_dump i)) (kind_fails_again s 0x21 instance_dump (instance_format s) (λ x. refl) (λ x w. w)
-    (λ x w. refl) i rest flaw h.1 b)
+    (λ x w. refl) i rest flaw (bounds h) b)
 body_fails_again s (object_array_dump a) rest flaw h b =
     rw (kind_says (object_array_dump a)) (kind_fails_again s 0x22 object_array_dump (object_array_format s) (λ x. refl)
-    (λ x w. w) (λ x w. refl) a rest flaw h.1 b)
+    (λ x w. w) (λ x w. refl) a rest flaw (bounds h) b)
 body_fails_again s (primitive_array_dump a) rest flaw h b =
     rw (kind_says (primitive_array_dump a)) (kind_fails_again s 0x23 primitive_array_dump (primitive_array_format s)
-    (λ x. refl) (λ x w. w) (λ x w. refl) a rest flaw h.1 b)
+    (λ x. refl) (λ x w. w) (λ x w. refl) a rest flaw (bounds h) b)
 
 unknown_read : (s tag : ℕ) (rest : List ℕ) → is_sub_tag tag ≡ false → sub_record_at s (tag ∷ rest) ≡ Err UnknownTag
 unfolding sub_record_at

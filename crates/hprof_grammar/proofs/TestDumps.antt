@@ -11,6 +11,7 @@ use Rattle.hprof_grammar.specs.SubRecord.{Class, Instance, IsSubRecord, ObjectAr
 use Rattle.hprof_grammar.specs.SubRecord.RootOrigin.{java_frame, jni_global, jni_local, monitor_used, native_stack, sticky_class, thread_block, thread_object, unknown}
 use Rattle.hprof_grammar.specs.SubRecord.SubRecord.{class_dump, instance_dump, object_array_dump, primitive_array_dump, root}
 use Rattle.hprof_grammar.specs.Tables.{is_length_of, is_sub_tag, is_type_at, size_of}
+use Rattle.hprof_grammar.proofs.BoundsLaws.{formed_by}
 
 -- a sub-record or a record stands where its spelling does
 pub seen : {bytes : List ℕ} (v : Sight) (s at : ℕ) (sub : SubRecord) → v.bytes ≡ bytes → v.id_size ≡ s → IsSubRecord s sub → take (length (spelling_of s sub)) (drop at bytes) ≡ spelling_of s sub → Stands v at sub
@@ -71,76 +72,107 @@ root_of object origin = record { object = object; origin = origin }
 pub class_four : IsSubRecord 4 (class_dump (the_class 4))
 unfolding is_type_at is_sub_tag size_of
 class_four = record {
-  formed = (
-    refl,
-    record {
-      object = lit< tt;
-      stack = lit< tt;
-      super = lit< tt;
-      loader = lit< tt;
-      signers = lit< tt;
-      domain = lit< tt;
-      reserved = lit< tt;
-      reserved_too = lit< tt;
-      instance_size = lit< tt;
-      constant_count = lit< tt;
-      constants = (record { index = lit< tt; value = refl }, (record { index = lit< tt; value = refl }, tt));
-      static_count = lit< tt;
-      statics = (record { name = lit< tt; value = refl }, (record { name = lit< tt; value = refl }, tt));
-      member_count = lit< tt;
-      members = (lit< tt, (lit< tt, tt));
-    },
-  );
+  formed = formed_by refl
+      (record {
+        object = lit< tt;
+        stack = lit< tt;
+        super = lit< tt;
+        loader = lit< tt;
+        signers = lit< tt;
+        domain = lit< tt;
+        reserved = lit< tt;
+        reserved_too = lit< tt;
+        instance_size = lit< tt;
+        constant_count = lit< tt;
+        constants = (record { index = lit< tt; value = refl }, (record { index = lit< tt; value = refl }, tt));
+        static_count = lit< tt;
+        statics = (record { name = lit< tt; value = refl }, (record { name = lit< tt; value = refl }, tt));
+        member_count = lit< tt;
+        members = (lit< tt, (lit< tt, tt));
+      });
   allowed = (tt, (tt, (tt, (tt, (tt, (tt, (tt, (tt, (tt, (tt, (tt, (refl, (tt, (tt, (refl, (tt, (tt, (tt, (refl, (tt, (tt, (refl, (tt, (tt, (tt, (refl, (tt, (refl, tt))))))))))))))))))))))))))));
 }
 
 pub instance_four : IsSubRecord 4 (instance_dump (the_instance 4))
 unfolding is_sub_tag
-instance_four = record { formed = (refl, record { object = lit< tt; stack = lit< tt; class = lit< tt; values = lit< tt }); allowed = (tt, (tt, (tt, (tt, (tt, tt))))) }
+instance_four =
+    record {
+      formed = formed_by refl (record { object = lit< tt; stack = lit< tt; class = lit< tt; values = lit< tt });
+      allowed = (tt, (tt, (tt, (tt, (tt, tt)))));
+    }
 
 pub objects_four : IsSubRecord 4 (object_array_dump the_objects)
 unfolding is_sub_tag
-objects_four = record { formed = (refl, record { object = lit< tt; stack = lit< tt; class = lit< tt; count = lit< tt; elements = (lit< tt, (lit< tt, tt)) }); allowed = (tt, (tt, (tt, (tt, (tt, (tt, tt)))))) }
+objects_four =
+    record {
+      formed = formed_by refl (record {
+        object = lit< tt;
+        stack = lit< tt;
+        class = lit< tt;
+        count = lit< tt;
+        elements = (lit< tt, (lit< tt, tt));
+      });
+      allowed = (tt, (tt, (tt, (tt, (tt, (tt, tt))))));
+    }
 
 pub shorts_four : IsSubRecord 4 (primitive_array_dump the_shorts)
 unfolding is_type_at is_sub_tag size_of
-shorts_four = record { formed = (refl, record { object = lit< tt; stack = lit< tt; count = lit< tt; values = refl }); allowed = (tt, (tt, (tt, (refl, (tt, tt))))) }
+shorts_four =
+    record {
+      formed = formed_by refl (record { object = lit< tt; stack = lit< tt; count = lit< tt; values = refl });
+      allowed = (tt, (tt, (tt, (refl, (tt, tt)))));
+    }
 
 pub unknown_four : IsSubRecord 4 (root (root_of 0x100 unknown))
 unfolding is_sub_tag
-unknown_four = record { formed = (refl, record { object = lit< tt; origin = tt }); allowed = (tt, tt) }
+unknown_four = record { formed = formed_by refl (record { object = lit< tt; origin = tt }); allowed = (tt, tt) }
 
 pub jni_global_four : IsSubRecord 4 (root (root_of 0x301 (jni_global 0x401)))
 unfolding is_sub_tag
-jni_global_four = record { formed = (refl, record { object = lit< tt; origin = lit< tt }); allowed = (tt, (tt, tt)) }
+jni_global_four =
+    record { formed = formed_by refl (record { object = lit< tt; origin = lit< tt }); allowed = (tt, (tt, tt)) }
 
 pub jni_local_four : IsSubRecord 4 (root (root_of 0x301 (jni_local 13 14)))
 unfolding is_sub_tag
-jni_local_four = record { formed = (refl, record { object = lit< tt; origin = (lit< tt, lit< tt) }); allowed = (tt, (tt, (tt, tt))) }
+jni_local_four =
+    record {
+      formed = formed_by refl (record { object = lit< tt; origin = (lit< tt, lit< tt) });
+      allowed = (tt, (tt, (tt, tt)));
+    }
 
 pub java_frame_four : IsSubRecord 4 (root (root_of 0x301 (java_frame 15 16)))
 unfolding is_sub_tag
-java_frame_four = record { formed = (refl, record { object = lit< tt; origin = (lit< tt, lit< tt) }); allowed = (tt, (tt, (tt, tt))) }
+java_frame_four =
+    record {
+      formed = formed_by refl (record { object = lit< tt; origin = (lit< tt, lit< tt) });
+      allowed = (tt, (tt, (tt, tt)));
+    }
 
 pub native_stack_four : IsSubRecord 4 (root (root_of 0x301 (native_stack 17)))
 unfolding is_sub_tag
-native_stack_four = record { formed = (refl, record { object = lit< tt; origin = lit< tt }); allowed = (tt, (tt, tt)) }
+native_stack_four =
+    record { formed = formed_by refl (record { object = lit< tt; origin = lit< tt }); allowed = (tt, (tt, tt)) }
 
 pub sticky_class_four : IsSubRecord 4 (root (root_of 0x301 sticky_class))
 unfolding is_sub_tag
-sticky_class_four = record { formed = (refl, record { object = lit< tt; origin = tt }); allowed = (tt, tt) }
+sticky_class_four = record { formed = formed_by refl (record { object = lit< tt; origin = tt }); allowed = (tt, tt) }
 
 pub thread_block_four : IsSubRecord 4 (root (root_of 0x301 (thread_block 18)))
 unfolding is_sub_tag
-thread_block_four = record { formed = (refl, record { object = lit< tt; origin = lit< tt }); allowed = (tt, (tt, tt)) }
+thread_block_four =
+    record { formed = formed_by refl (record { object = lit< tt; origin = lit< tt }); allowed = (tt, (tt, tt)) }
 
 pub monitor_used_four : IsSubRecord 4 (root (root_of 0x301 monitor_used))
 unfolding is_sub_tag
-monitor_used_four = record { formed = (refl, record { object = lit< tt; origin = tt }); allowed = (tt, tt) }
+monitor_used_four = record { formed = formed_by refl (record { object = lit< tt; origin = tt }); allowed = (tt, tt) }
 
 pub thread_object_four : IsSubRecord 4 (root (root_of 0x301 (thread_object 19 20)))
 unfolding is_sub_tag
-thread_object_four = record { formed = (refl, record { object = lit< tt; origin = (lit< tt, lit< tt) }); allowed = (tt, (tt, (tt, tt))) }
+thread_object_four =
+    record {
+      formed = formed_by refl (record { object = lit< tt; origin = (lit< tt, lit< tt) });
+      allowed = (tt, (tt, (tt, tt)));
+    }
 
 pub string_four : IsRecord 4 (string 21 1 (0x41 ∷ []))
 unfolding is_length_of
@@ -155,76 +187,107 @@ load_four = record { parts = (lit< tt, lit< tt, lit< tt, lit< tt); time = lit< t
 pub class_eight : IsSubRecord 8 (class_dump (the_class 8))
 unfolding is_type_at is_sub_tag size_of
 class_eight = record {
-  formed = (
-    refl,
-    record {
-      object = lit< tt;
-      stack = lit< tt;
-      super = lit< tt;
-      loader = lit< tt;
-      signers = lit< tt;
-      domain = lit< tt;
-      reserved = lit< tt;
-      reserved_too = lit< tt;
-      instance_size = lit< tt;
-      constant_count = lit< tt;
-      constants = (record { index = lit< tt; value = refl }, (record { index = lit< tt; value = refl }, tt));
-      static_count = lit< tt;
-      statics = (record { name = lit< tt; value = refl }, (record { name = lit< tt; value = refl }, tt));
-      member_count = lit< tt;
-      members = (lit< tt, (lit< tt, tt));
-    },
-  );
+  formed = formed_by refl
+      (record {
+        object = lit< tt;
+        stack = lit< tt;
+        super = lit< tt;
+        loader = lit< tt;
+        signers = lit< tt;
+        domain = lit< tt;
+        reserved = lit< tt;
+        reserved_too = lit< tt;
+        instance_size = lit< tt;
+        constant_count = lit< tt;
+        constants = (record { index = lit< tt; value = refl }, (record { index = lit< tt; value = refl }, tt));
+        static_count = lit< tt;
+        statics = (record { name = lit< tt; value = refl }, (record { name = lit< tt; value = refl }, tt));
+        member_count = lit< tt;
+        members = (lit< tt, (lit< tt, tt));
+      });
   allowed = (tt, (tt, (tt, (tt, (tt, (tt, (tt, (tt, (tt, (tt, (tt, (refl, (tt, (tt, (refl, (tt, (tt, (tt, (refl, (tt, (tt, (refl, (tt, (tt, (tt, (refl, (tt, (refl, tt))))))))))))))))))))))))))));
 }
 
 pub instance_eight : IsSubRecord 8 (instance_dump (the_instance 8))
 unfolding is_sub_tag
-instance_eight = record { formed = (refl, record { object = lit< tt; stack = lit< tt; class = lit< tt; values = lit< tt }); allowed = (tt, (tt, (tt, (tt, (tt, tt))))) }
+instance_eight =
+    record {
+      formed = formed_by refl (record { object = lit< tt; stack = lit< tt; class = lit< tt; values = lit< tt });
+      allowed = (tt, (tt, (tt, (tt, (tt, tt)))));
+    }
 
 pub objects_eight : IsSubRecord 8 (object_array_dump the_objects)
 unfolding is_sub_tag
-objects_eight = record { formed = (refl, record { object = lit< tt; stack = lit< tt; class = lit< tt; count = lit< tt; elements = (lit< tt, (lit< tt, tt)) }); allowed = (tt, (tt, (tt, (tt, (tt, (tt, tt)))))) }
+objects_eight =
+    record {
+      formed = formed_by refl (record {
+        object = lit< tt;
+        stack = lit< tt;
+        class = lit< tt;
+        count = lit< tt;
+        elements = (lit< tt, (lit< tt, tt));
+      });
+      allowed = (tt, (tt, (tt, (tt, (tt, (tt, tt))))));
+    }
 
 pub shorts_eight : IsSubRecord 8 (primitive_array_dump the_shorts)
 unfolding is_type_at is_sub_tag size_of
-shorts_eight = record { formed = (refl, record { object = lit< tt; stack = lit< tt; count = lit< tt; values = refl }); allowed = (tt, (tt, (tt, (refl, (tt, tt))))) }
+shorts_eight =
+    record {
+      formed = formed_by refl (record { object = lit< tt; stack = lit< tt; count = lit< tt; values = refl });
+      allowed = (tt, (tt, (tt, (refl, (tt, tt)))));
+    }
 
 pub unknown_eight : IsSubRecord 8 (root (root_of 0x100 unknown))
 unfolding is_sub_tag
-unknown_eight = record { formed = (refl, record { object = lit< tt; origin = tt }); allowed = (tt, tt) }
+unknown_eight = record { formed = formed_by refl (record { object = lit< tt; origin = tt }); allowed = (tt, tt) }
 
 pub jni_global_eight : IsSubRecord 8 (root (root_of 0x301 (jni_global 0x401)))
 unfolding is_sub_tag
-jni_global_eight = record { formed = (refl, record { object = lit< tt; origin = lit< tt }); allowed = (tt, (tt, tt)) }
+jni_global_eight =
+    record { formed = formed_by refl (record { object = lit< tt; origin = lit< tt }); allowed = (tt, (tt, tt)) }
 
 pub jni_local_eight : IsSubRecord 8 (root (root_of 0x301 (jni_local 13 14)))
 unfolding is_sub_tag
-jni_local_eight = record { formed = (refl, record { object = lit< tt; origin = (lit< tt, lit< tt) }); allowed = (tt, (tt, (tt, tt))) }
+jni_local_eight =
+    record {
+      formed = formed_by refl (record { object = lit< tt; origin = (lit< tt, lit< tt) });
+      allowed = (tt, (tt, (tt, tt)));
+    }
 
 pub java_frame_eight : IsSubRecord 8 (root (root_of 0x301 (java_frame 15 16)))
 unfolding is_sub_tag
-java_frame_eight = record { formed = (refl, record { object = lit< tt; origin = (lit< tt, lit< tt) }); allowed = (tt, (tt, (tt, tt))) }
+java_frame_eight =
+    record {
+      formed = formed_by refl (record { object = lit< tt; origin = (lit< tt, lit< tt) });
+      allowed = (tt, (tt, (tt, tt)));
+    }
 
 pub native_stack_eight : IsSubRecord 8 (root (root_of 0x301 (native_stack 17)))
 unfolding is_sub_tag
-native_stack_eight = record { formed = (refl, record { object = lit< tt; origin = lit< tt }); allowed = (tt, (tt, tt)) }
+native_stack_eight =
+    record { formed = formed_by refl (record { object = lit< tt; origin = lit< tt }); allowed = (tt, (tt, tt)) }
 
 pub sticky_class_eight : IsSubRecord 8 (root (root_of 0x301 sticky_class))
 unfolding is_sub_tag
-sticky_class_eight = record { formed = (refl, record { object = lit< tt; origin = tt }); allowed = (tt, tt) }
+sticky_class_eight = record { formed = formed_by refl (record { object = lit< tt; origin = tt }); allowed = (tt, tt) }
 
 pub thread_block_eight : IsSubRecord 8 (root (root_of 0x301 (thread_block 18)))
 unfolding is_sub_tag
-thread_block_eight = record { formed = (refl, record { object = lit< tt; origin = lit< tt }); allowed = (tt, (tt, tt)) }
+thread_block_eight =
+    record { formed = formed_by refl (record { object = lit< tt; origin = lit< tt }); allowed = (tt, (tt, tt)) }
 
 pub monitor_used_eight : IsSubRecord 8 (root (root_of 0x301 monitor_used))
 unfolding is_sub_tag
-monitor_used_eight = record { formed = (refl, record { object = lit< tt; origin = tt }); allowed = (tt, tt) }
+monitor_used_eight = record { formed = formed_by refl (record { object = lit< tt; origin = tt }); allowed = (tt, tt) }
 
 pub thread_object_eight : IsSubRecord 8 (root (root_of 0x301 (thread_object 19 20)))
 unfolding is_sub_tag
-thread_object_eight = record { formed = (refl, record { object = lit< tt; origin = (lit< tt, lit< tt) }); allowed = (tt, (tt, (tt, tt))) }
+thread_object_eight =
+    record {
+      formed = formed_by refl (record { object = lit< tt; origin = (lit< tt, lit< tt) });
+      allowed = (tt, (tt, (tt, tt)));
+    }
 
 pub string_eight : IsRecord 8 (string 21 1 (0x41 ∷ []))
 unfolding is_length_of

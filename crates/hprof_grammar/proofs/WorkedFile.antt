@@ -8,6 +8,7 @@ use Rattle.hprof_grammar.specs.SubRecord.{Class, Instance, IsSubRecord, Root, Su
 use Rattle.hprof_grammar.specs.SubRecord.RootOrigin.{unknown}
 use Rattle.hprof_grammar.specs.SubRecord.SubRecord.{class_dump, instance_dump, root}
 use Rattle.hprof_grammar.specs.Tables.{is_id_size, is_length_of, is_sub_tag, is_type_at}
+use Rattle.hprof_grammar.proofs.BoundsLaws.{formed_by}
 
 abbrev file : List ℕ
 file =
@@ -71,46 +72,44 @@ places_are = refl
 class_is : IsSubRecord 4 (class_dump the_class)
 unfolding is_type_at is_sub_tag
 class_is = record {
-  formed = (
-    refl,
-    record {
-      object = lit< tt;
-      stack = lit< tt;
-      super = lit< tt;
-      loader = lit< tt;
-      signers = lit< tt;
-      domain = lit< tt;
-      reserved = lit< tt;
-      reserved_too = lit< tt;
-      instance_size = lit< tt;
-      constant_count = lit< tt;
-      constants = tt;
-      static_count = lit< tt;
-      statics = tt;
-      member_count = lit< tt;
-      members = (lit< tt, tt);
-    },
-  );
+  formed = formed_by refl
+      (record {
+        object = lit< tt;
+        stack = lit< tt;
+        super = lit< tt;
+        loader = lit< tt;
+        signers = lit< tt;
+        domain = lit< tt;
+        reserved = lit< tt;
+        reserved_too = lit< tt;
+        instance_size = lit< tt;
+        constant_count = lit< tt;
+        constants = tt;
+        static_count = lit< tt;
+        statics = tt;
+        member_count = lit< tt;
+        members = (lit< tt, tt);
+      });
   allowed = (tt, (tt, (tt, (tt, (tt, (tt, (tt, (tt, (tt, (tt, (tt, (tt, (tt, (refl, tt))))))))))))));
 }
 
 first_is : IsSubRecord 4 (instance_dump first)
 unfolding is_sub_tag
 first_is = record {
-  formed = (refl, record { object = lit< tt; stack = lit< tt; class = lit< tt; values = lit< tt });
+  formed = formed_by refl (record { object = lit< tt; stack = lit< tt; class = lit< tt; values = lit< tt });
   allowed = (tt, (tt, (tt, (tt, (tt, tt)))));
 }
 
 second_is : IsSubRecord 4 (instance_dump second)
 unfolding is_sub_tag
 second_is = record {
-  formed = (refl, record { object = lit< tt; stack = lit< tt; class = lit< tt; values = lit< tt });
+  formed = formed_by refl (record { object = lit< tt; stack = lit< tt; class = lit< tt; values = lit< tt });
   allowed = (tt, (tt, (tt, (tt, (tt, tt)))));
 }
 
 root_is : IsSubRecord 4 (root the_root)
 unfolding is_sub_tag
-root_is = record { formed = (refl, record { object = lit< tt; origin = tt }); allowed = (tt, tt) }
+root_is = record { formed = formed_by refl (record { object = lit< tt; origin = tt }); allowed = (tt, tt) }
 
 string_is : IsRecord 4 (string 0 1 (0x41 ∷ []))
 unfolding is_length_of

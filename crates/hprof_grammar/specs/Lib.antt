@@ -1,6 +1,7 @@
 pub mod Tables
 pub mod Spelling
 pub mod SubRecord
+pub mod Bounds
 pub mod Kinds
 pub mod Record
 pub mod Dump

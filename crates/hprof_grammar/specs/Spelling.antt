@@ -1,5 +1,5 @@
 -- A field of a sub-record, and its bytes.
-use Rattle.std.specs.Prelude.{List, [], false, flat_map, length, true, ℕ, ◌++◌, ◌<◌, ◌∷◌, ◌≡◌}
+use Rattle.std.specs.Prelude.{List, [], false, flat_map, length, true, ℕ, ◌++◌, ◌<◌, ◌^◌, ◌∷◌, ◌≡◌}
 use Rattle.std.specs.List.{AllByRecursion}
 use Rattle.byteorder.specs.Endian.{big_bytes}
 use Rattle.hprof_grammar.specs.Tables.{is_type_at}
@@ -22,6 +22,11 @@ bytes_of (raw bytes) = bytes
 -- the fields one after the other
 abbrev pub spelled : List Field → List ℕ
 spelled fields = flat_map bytes_of fields
+
+-- a number fits its bytes
+abbrev pub Fits : Field → Type 0
+Fits (number width value) = value < 256 ^ width
+Fits field = Unit {0}
 
 abbrev pub IsAllowed : Field → Type 0
 IsAllowed (type_code place code) = is_type_at place code ≡ true

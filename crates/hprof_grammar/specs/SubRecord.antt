@@ -1,8 +1,8 @@
 -- The sub-records of a heap record, and their fields in the order that the manual gives them.
-use Rattle.std.specs.Prelude.{List, [], flat_map, length, map, true, ℕ, ◌*◌, ◌++◌, ◌<◌, ◌^◌, ◌∷◌, ◌≡◌}
+use Rattle.std.specs.Prelude.{List, [], flat_map, length, map, true, ℕ, ◌*◌, ◌++◌, ◌∷◌, ◌≡◌}
 use Rattle.std.specs.List.{AllByRecursion}
 use Rattle.hprof_grammar.specs.Tables.{is_sub_tag, size_of}
-use Rattle.hprof_grammar.specs.Spelling.{AreAllowed, Field, spelled}
+use Rattle.hprof_grammar.specs.Spelling.{AreAllowed, Field, Fits, spelled}
 use Rattle.hprof_grammar.specs.Spelling.Field.{number, raw, type_code}
 use Rattle.hprof_grammar.specs.declared.kinds.TypePlace.TheVariants.{InArray, InConstant, InMember, InStatic}
 
@@ -162,79 +162,20 @@ fields_of s (primitive_array_dump a) = primitive_array_fields s a
 abbrev pub spelling_of : ℕ → SubRecord → List ℕ
 spelling_of s sub = tag_of sub ∷ spelled (fields_of s sub)
 
--- Each number fits its bytes, and each value has the size that its type or its count says.
-pub record IsConstant (s : ℕ) (c : Constant) : Type 0 where
-  pub index : c.index < 256 ^ 2
-  pub value : length c.value ≡ size_of s c.type
+-- Each value has the size that its type says, and those of a primitive array that of so many.
+abbrev pub HasSizes : ℕ → SubRecord → Type 0
+HasSizes s (class_dump c) =
+    AllByRecursion (λ k. length k.value ≡ size_of s k.type) c.constants
+    × AllByRecursion (λ f. length f.value ≡ size_of s f.type) c.statics
+HasSizes s (primitive_array_dump a) = length a.values ≡ a.count * size_of s a.type
+HasSizes s sub = Unit {0}
 
-pub record IsStatic (s : ℕ) (f : Static) : Type 0 where
-  pub name : f.name < 256 ^ s
-  pub value : length f.value ≡ size_of s f.type
-
-abbrev pub IsMember : ℕ → Member → Type 0
-IsMember s m = m.name < 256 ^ s
-
-pub record IsClass (s : ℕ) (c : Class) : Type 0 where
-  pub object : c.object < 256 ^ s
-  pub stack : c.stack < 256 ^ 4
-  pub super : c.super < 256 ^ s
-  pub loader : c.loader < 256 ^ s
-  pub signers : c.signers < 256 ^ s
-  pub domain : c.domain < 256 ^ s
-  pub reserved : c.reserved < 256 ^ s
-  pub reserved_too : c.reserved_too < 256 ^ s
-  pub instance_size : c.instance_size < 256 ^ 4
-  pub constant_count : length c.constants < 256 ^ 2
-  pub constants : AllByRecursion (IsConstant s) c.constants
-  pub static_count : length c.statics < 256 ^ 2
-  pub statics : AllByRecursion (IsStatic s) c.statics
-  pub member_count : length c.members < 256 ^ 2
-  pub members : AllByRecursion (IsMember s) c.members
-
-pub record IsInstance (s : ℕ) (i : Instance) : Type 0 where
-  pub object : i.object < 256 ^ s
-  pub stack : i.stack < 256 ^ 4
-  pub class : i.class < 256 ^ s
-  pub values : length i.values < 256 ^ 4
-
-pub record IsObjectArray (s : ℕ) (a : ObjectArray) : Type 0 where
-  pub object : a.object < 256 ^ s
-  pub stack : a.stack < 256 ^ 4
-  pub class : a.class < 256 ^ s
-  pub count : length a.elements < 256 ^ 4
-  pub elements : AllByRecursion (λ e. e < 256 ^ s) a.elements
-
-pub record IsPrimitiveArray (s : ℕ) (a : PrimitiveArray) : Type 0 where
-  pub object : a.object < 256 ^ s
-  pub stack : a.stack < 256 ^ 4
-  pub count : a.count < 256 ^ 4
-  pub values : length a.values ≡ a.count * size_of s a.type
-
-abbrev pub IsOrigin : ℕ → RootOrigin → Type 0
-IsOrigin s unknown = Unit {0}
-IsOrigin s (jni_global reference) = reference < 256 ^ s
-IsOrigin s (jni_local thread frame) = (thread < 256 ^ 4) × (frame < 256 ^ 4)
-IsOrigin s (java_frame thread frame) = (thread < 256 ^ 4) × (frame < 256 ^ 4)
-IsOrigin s (native_stack thread) = thread < 256 ^ 4
-IsOrigin s sticky_class = Unit {0}
-IsOrigin s (thread_block thread) = thread < 256 ^ 4
-IsOrigin s monitor_used = Unit {0}
-IsOrigin s (thread_object thread stack) = (thread < 256 ^ 4) × (stack < 256 ^ 4)
-
-pub record IsRoot (s : ℕ) (r : Root) : Type 0 where
-  pub object : r.object < 256 ^ s
-  pub origin : IsOrigin s r.origin
-
-abbrev pub HasBounds : ℕ → SubRecord → Type 0
-HasBounds s (root r) = IsRoot s r
-HasBounds s (class_dump c) = IsClass s c
-HasBounds s (instance_dump i) = IsInstance s i
-HasBounds s (object_array_dump a) = IsObjectArray s a
-HasBounds s (primitive_array_dump a) = IsPrimitiveArray s a
-
--- a sub-record, but that its type codes may be any: its tag is in the table, and it keeps these bounds
-abbrev pub IsFormed : ℕ → SubRecord → Type 0
-IsFormed s sub = (is_sub_tag (tag_of sub) ≡ true) × HasBounds s sub
+-- a sub-record, but that its type codes may be any: its tag is in the table, each number fits its bytes, and the values
+-- have their sizes
+pub record IsFormed (s : ℕ) (sub : SubRecord) : Type 0 where
+  pub tag : is_sub_tag (tag_of sub) ≡ true
+  pub numbers : AllByRecursion Fits (fields_of s sub)
+  pub sizes : HasSizes s sub
 
 -- A sub-record: each type code is one that is allowed where it stands.
 pub record IsSubRecord (s : ℕ) (sub : SubRecord) : Type 0 where

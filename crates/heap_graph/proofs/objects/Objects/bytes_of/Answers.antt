@@ -5,6 +5,7 @@ use Rattle.hprof_grammar.specs.Series.{LabelledValue, of_static}
 use Rattle.hprof_grammar.specs.SubRecord.{SubRecord}
 use Rattle.hprof_grammar.specs.SubRecord.SubRecord.{class_dump, instance_dump, object_array_dump, primitive_array_dump}
 use Rattle.hprof_grammar.specs.Tables.{size_of}
+use Rattle.hprof_grammar.proofs.BoundsLaws.{bounds}
 use Rattle.heap_graph.specs.Rows.{bytes_of}
 use Rattle.heap_graph.proofs.EntryLaws.{static_bytes}
 use Rattle.heap_graph.proofs.FieldLaws.{size_of_id}
@@ -26,7 +27,7 @@ pub bytes_together-requires : goal.bytes_together-requires
 bytes_together-requires g c =
     let it = there_at c.args.self.now.view c.args.self.now.places.items c.args.self.now.index c.requires.heap.0 c.args.number c.index-place.result.now c.requires.heap.1 c.requires.below c.index-place.ensures in
     let o = class_at c.args.self.now.view c.requires.heap.0 c.args.number c.index-place.result.now it c.in-Class.ensures in
-    let few : length o.0.statics < 256 ^ 2 = o.1.stands.is.formed.1.static_count in
+    let few : length o.0.statics < 256 ^ 2 = (bounds o.1.stands.is.formed).static_count in
     omega (arith, few, ap length (c.statics.ensures o.0 o.1.stands), length-map o.0.statics of_static)
 
 pub returns-in-Class : goal.returns-in-Class
@@ -58,7 +59,7 @@ pub overflow_mul-result : goal.overflow_mul-result
 overflow_mul-result g c =
     let it = there_at c.args.self.now.view c.args.self.now.places.items c.args.self.now.index c.requires.heap.0 c.args.number c.index-place.result.now c.requires.heap.1 c.requires.below c.index-place.ensures in
     let o = array_at c.args.self.now.view c.requires.heap.0 c.args.number c.index-place.result.now it c.in-ObjectArray.ensures in
-    let few : length o.0.elements < 256 ^ 4 = o.1.stands.is.formed.1.count in
+    let few : length o.0.elements < 256 ^ 4 = (bounds o.1.stands.is.formed).count in
     let size : c.from-size.result ≤ 255 = omega arith in
     omega (arith, few, c.len.ensures, ap length (c.array_elements.ensures o.0 o.1.stands), mul-le-mul_left c.len.result size)
 

@@ -1,9 +1,17 @@
 use Rattle.std.proofs.Common.{ap, arith, length}
+use Rattle.hprof_grammar.proofs.BoundsLaws.{bounds}
 use Rattle.heap_graph.proofs.HeldLaws.{class_holds, few_in_class}
 use Rattle.heap_graph.proofs.objects.Objects.ids_of_class.Goals as goal
 
 pub invariant_of-result : goal.invariant_of-result
-invariant_of-result g c = omega (arith, ap length (c.new.ensures c.requires.dump.0 c.requires.dump.1), few_in_class c.args.self.now.view.id_size c.requires.dump.0 c.requires.dump.1.is.formed.1)
+invariant_of-result g c =
+    omega (
+      arith,
+      ap length (c.new.ensures c.requires.dump.0 c.requires.dump.1),
+      few_in_class c.args.self.now.view.id_size c.requires.dump.0 (bounds c.requires.dump.1.is.formed),
+    )
 
 pub returns : goal.returns
-returns g c = λ heap d stands. class_holds c.args.self.now.view.id_size heap d c.new.result stands.is.formed.1 (c.new.ensures d stands)
+returns g c =
+    λ heap d stands. class_holds c.args.self.now.view.id_size heap d c.new.result (bounds stands.is.formed)
+    (c.new.ensures d stands)

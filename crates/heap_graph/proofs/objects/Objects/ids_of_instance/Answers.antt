@@ -1,3 +1,4 @@
+use Rattle.hprof_grammar.proofs.BoundsLaws.{bounds}
 use Rattle.heap_graph.specs.working.Chains.{layout_types}
 use Rattle.heap_graph.specs.working.ClassTable.{ids_of}
 use Rattle.heap_graph.specs.working.HeldIds.{IsFirstOfInstance}
@@ -30,7 +31,7 @@ invariant_of-result g c =
     first values) in
     few_in_instance c.args.self.now.view.id_size c.requires.0 (ids_of c.args.self.now.classes.table.entries)
     c.requires.2 c.args.first first c.new.result c.instance_values-values.result.now c.requires.3.low
-    c.requires.5.stands.is.formed.1.values values fields
+    (bounds c.requires.5.stands.is.formed).values values fields
 
 pub returns : goal.returns
 returns g c = λ heap n i linked told at first.
@@ -39,5 +40,6 @@ returns g c = λ heap n i linked told at first.
     c.new.ensures heap (layout_types first.chain) told
     (layout_from c.args.self.now heap i c.args.first c.instance_values-values.result.now first values) in
     instance_holds c.args.self.now.view.id_size heap (ids_of c.args.self.now.classes.table.entries) i c.args.first first
-    c.instance_class.result c.new.result c.instance_values-values.result.now linked.low at.stands.is.formed.1.values
+    c.instance_class.result c.new.result c.instance_values-values.result.now linked.low
+    (bounds at.stands.is.formed).values
     (c.instance_class.ensures i at.stands) values fields

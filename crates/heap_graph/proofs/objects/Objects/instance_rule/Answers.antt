@@ -1,5 +1,6 @@
 use Rattle.std.proofs.Common.{None, ap, arith, length, subst, sym, ◌<◌, ◌^◌, ◌∙◌, ◌≡◌, ℕ}
 use Rattle.std.proofs.lemmas.Grind.{common_steps}
+use Rattle.hprof_grammar.proofs.BoundsLaws.{bounds}
 use Rattle.heap_graph.specs.declared.classes.fate.Fate.{Fate}
 use Rattle.heap_graph.specs.declared.classes.fate.Fate.TheVariants as fates
 use Rattle.heap_graph.specs.Heap.{class_named}
@@ -24,14 +25,14 @@ pub returns-then-layout-instance_values : goal.returns-then-layout-instance_valu
 returns-then-layout-instance_values g c = λ heap i told st.
     let it : IsFateFound c.args.self.now.view.id_size heap (ids_of c.args.self.now.classes.table.entries) c.args.self.now.fates.items i.class c.in-Some.number = subst (λ (id : ℕ). IsFateFound c.args.self.now.view.id_size heap (ids_of c.args.self.now.classes.table.entries) c.args.self.now.fates.items id c.in-Some.number) (c.instance_class.ensures i st) (fate_found c.args.self.now.view heap c.args.self.now.classes.table.entries c.args.self.now.classes.id_places.items c.args.self.now.fates.items c.instance_class.result c.in-Some.number told (sym c.in-Some.ensures)) in
     let fate : IsFate c.args.self.now.view.id_size heap (ids_of c.args.self.now.classes.table.entries) i.class (fates.Whole c.in-Whole.layout) = subst (λ (f : Fate). IsFate c.args.self.now.view.id_size heap (ids_of c.args.self.now.classes.table.entries) i.class f) (same_fate c.args.self.now.fates.items c.in-Some.number it.fate c.index.result.now it.is c.index.ensures ∙ c.in-Whole.is) it.says in
-    let few : length i.values < 2 ^ 32 = st.is.formed.1.values in
+    let few : length i.values < 2 ^ 32 = (bounds st.is.formed).values in
     instance_wrong c.args.self.now.view.id_size heap i it.class fate.0 it.named fate.1 (size_wrong c.args.self.now.view.id_size heap (ids_of c.args.self.now.classes.table.entries) i.class (length i.values) c.in-Whole.layout fate few (λ e. omega (arith, e, ap length (c.instance_values.ensures i st))))
 
 pub returns-in-Whole : goal.returns-in-Whole
 returns-in-Whole g c = λ heap i told st.
     let it : IsFateFound c.args.self.now.view.id_size heap (ids_of c.args.self.now.classes.table.entries) c.args.self.now.fates.items i.class c.in-Some.number = subst (λ (id : ℕ). IsFateFound c.args.self.now.view.id_size heap (ids_of c.args.self.now.classes.table.entries) c.args.self.now.fates.items id c.in-Some.number) (c.instance_class.ensures i st) (fate_found c.args.self.now.view heap c.args.self.now.classes.table.entries c.args.self.now.classes.id_places.items c.args.self.now.fates.items c.instance_class.result c.in-Some.number told (sym c.in-Some.ensures)) in
     let fate : IsFate c.args.self.now.view.id_size heap (ids_of c.args.self.now.classes.table.entries) i.class (fates.Whole c.in-Whole.layout) = subst (λ (f : Fate). IsFate c.args.self.now.view.id_size heap (ids_of c.args.self.now.classes.table.entries) i.class f) (same_fate c.args.self.now.fates.items c.in-Some.number it.fate c.index.result.now it.is c.index.ensures ∙ c.in-Whole.is) it.says in
-    let few : length i.values < 2 ^ 32 = st.is.formed.1.values in
+    let few : length i.values < 2 ^ 32 = (bounds st.is.formed).values in
     instance_fine c.args.self.now.view.id_size heap i it.class it.named (size_right c.args.self.now.view.id_size heap (ids_of c.args.self.now.classes.table.entries) i.class (length i.values) c.in-Whole.layout fate few (omega (arith, ap length (c.instance_values.ensures i st))))
 
 pub returns-in_default : goal.returns-in_default

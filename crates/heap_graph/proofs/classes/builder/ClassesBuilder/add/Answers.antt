@@ -1,12 +1,13 @@
 use Rattle.std.proofs.Common.{List, ap, arith, length, map, refl, ℕ, ◌++◌, ◌<◌, ◌^◌, ◌∙◌, ◌≡◌}
 use Rattle.std.proofs.lemmas.Grind.{common_steps}
 use Rattle.hprof_grammar.specs.SubRecord.{Member}
+use Rattle.hprof_grammar.proofs.BoundsLaws.{bounds}
 use Rattle.heap_graph.specs.working.IdPlaces.{id_places, size_together}
 use Rattle.heap_graph.proofs.classes.builder.ClassesBuilder.add.Goals as goal
 
 pub push_id_places-requires : goal.push_id_places-requires
 push_id_places-requires g c =
-    let few : length c.requires.0.members < 256 ^ 2 = c.requires.1.is.formed.1.member_count in
+    let few : length c.requires.0.members < 256 ^ 2 = (bounds c.requires.1.is.formed).member_count in
     omega (arith, few, ap length (c.members-members.ensures c.requires.0 c.requires.1))
 
 same_size : (s size : ℕ) (read ms : List Member) → size ≡ size_together s (map (λ m. m.type) read) → read ≡ ms → size ≡ size_together s (map (λ m. m.type) ms)

@@ -1,4 +1,5 @@
 use Rattle.std.proofs.Common.{ap, arith, length}
+use Rattle.hprof_grammar.proofs.BoundsLaws.{bounds}
 use Rattle.heap_graph.proofs.HeldLaws.{class_constants, class_parts, class_statics}
 use Rattle.heap_graph.proofs.held.class_ids.ClassIds.new.Goals as goal
 
@@ -9,10 +10,14 @@ invariant_of-result c =
     let stands = c.requires.dump.1 in
     record {
       few = omega (arith, ap length (c.leading_ids.ensures d stands));
-      constants = class_constants s d c.constants.result c.requires.size.0 c.requires.size.1 stands.is.formed.1 (c.constants.ensures d stands);
-      statics = class_statics s d c.statics.result c.requires.size.0 c.requires.size.1 stands.is.formed.1 (c.statics.ensures d stands);
+      constants = class_constants s d c.constants.result c.requires.size.0 c.requires.size.1 (bounds stands.is.formed)
+          (c.constants.ensures d stands);
+      statics = class_statics s d c.statics.result c.requires.size.0 c.requires.size.1 (bounds stands.is.formed)
+          (c.statics.ensures d stands);
     }
 
 pub returns : goal.returns
 returns c = λ d stands.
-    class_parts c.args.view.now.id_size d c.leading_ids.result c.constants.result c.statics.result stands.is.formed.1 (c.leading_ids.ensures d stands) (c.constants.ensures d stands) (c.statics.ensures d stands)
+    class_parts c.args.view.now.id_size d c.leading_ids.result c.constants.result c.statics.result
+    (bounds stands.is.formed) (c.leading_ids.ensures d stands) (c.constants.ensures d stands)
+    (c.statics.ensures d stands)
