@@ -11,7 +11,6 @@ use Rattle.atomic_table.proofs.Lists.{at_map}
 use Rattle.mark_core.specs.declared.which.Which.TheVariants.{Full}
 use Rattle.mark_core.specs.Lists.{StandsAt, times}
 use Rattle.mark_core.specs.World.{Setup, Marking}
-use Rattle.mark_core.specs.Event.{Event}
 use Rattle.mark_core.specs.Counts.{Counts, LeadTo}
 use Rattle.mark_core.specs.Law.{Law}
 use Rattle.mark_core.specs.Shares.{whole}
@@ -21,42 +20,36 @@ use Rattle.mark_core.proofs.Closing.{closes}
 use Rattle.mark_core.proofs.Counting.{lawful_where}
 use Rattle.buffer_pool.specs.declared.seat_view.SeatView.{SeatView}
 use Rattle.buffer_pool.specs.Book.{Book, counts_of}
-use Rattle.buffer_pool.specs.Closing.{Ends}
-use Rattle.buffer_pool.specs.Story.{EndsStory, deeds}
+use Rattle.buffer_pool.specs.Closing.{IsAtTheEnd, MarksTell}
+use Rattle.buffer_pool.specs.Story.{deeds}
 use Rattle.buffer_pool.specs.working.Told.{IsSettled, IsTold}
 use Rattle.buffer_pool.specs.working.Packed.{mark_in, mark_of, marks_in, pair_mark}
 use Rattle.buffer_pool.specs.working.Table.{Reading, Rule, first_mark, marking_of, view_counts}
 use Rattle.buffer_pool.proofs.Bits.{cut_object, cut_past, pair_read}
 use Rattle.buffer_pool.proofs.States.{stands}
 
--- of any marking with these marks
-ends :
-    (b : Book) (marks : List ℕ) (events : List Event) (last : Marking) (counts : List Counts) (w : ℕ) → length marks ≡ b.setup.objects → 0 < b.setup.buffers → LeadTo b.setup events last counts
-    → StandsAt last.accounts w b.account → StandsAt counts w (counts_of b) → ((o : ℕ) → slice_index marks o ≡ last.mark o)
-    → b.account.share ≡ whole → b.account.held ≡ [] → b.account.charge ≡ [] → Ends b marks
-ends b marks events last counts w count some_buffer led own own_counts same all none_held none_charged =
+-- of any marking with these marks, to which a list of events led
+tell :
+    (b : Book) (marks : List ℕ) (last : Marking) (w : ℕ) → length marks ≡ b.setup.objects → Law b.setup last
+    → StandsAt last.accounts w b.account → ((o : ℕ) → slice_index marks o ≡ last.mark o)
+    → b.account.share ≡ whole → b.account.held ≡ [] → b.account.charge ≡ [] → MarksTell b last marks
+tell b marks last w count law own same all none_held none_charged =
     record {
-      count = count;
-      events = events;
-      last = last;
-      counts = counts;
-      led = led;
       law = law;
-      own = (w, own, own_counts);
-      same_marks = same;
+      count = count;
       finished = λ o. (λ two. (closed.finished o).0 (sym (same o) ∙ two), λ k. same o ∙ (closed.finished o).1 k);
       once = closed.once;
-      claimed = λ full list o. (λ one. (closed.claimed full list o).0 (sym (same o) ∙ one), λ lies. same o ∙ (closed.claimed full list o).1 lies);
+      claimed = λ full list o.
+          let both = closed.claimed full list o in
+          (λ one. both.0 (sym (same o) ∙ one), λ lies. same o ∙ both.1 lies);
       emptied = emptied;
-      buffers = λ full empty first second i. omega (arith, closed.buffers full empty first second i, ap (times i) none_held);
+      buffers = λ full empty first second i.
+          omega (arith, closed.buffers full empty first second i, ap (times i) none_held);
       seen = λ o k. omega (arith, law.coloured.saw w b.account own o k, same o);
       successors = λ o s two pair. omega (arith, law.coloured.closed o s (sym (same o) ∙ two) pair, same s);
       reachable = λ o one. law.coloured.reachable o (omega (arith, one, same o));
     }
   where
-    law : Law b.setup last
-    law = lawful_where b.setup events last counts some_buffer led
-
     closed : IsClosed b.setup last w b.account
     closed = closes b.setup last law w b.account own all none_charged
 
@@ -81,15 +74,20 @@ pub ends_of :
     {B : Type 0} (r : Reading B) (e : Setup) (id : ℕ) (v : SeatView) (words : List ℕ) (slots : List (Option B))
     (first objects : ℕ) → first ≡ 32 + e.buffers → objects ≡ e.objects → Final (Seen (Rule r e) id v) words slots
     → v.book.account.share ≡ whole → v.book.account.held ≡ [] → v.book.account.charge ≡ [] → IsSettled v
-    → (ended : Ends v.book (marks_in words first objects)) × EndsStory v.log ended.events
-    × (ended.own.0 ≡ v.log.number)
-unfolding ends
+    → (end : IsAtTheEnd v.log v.book (marks_in words first objects))
+    × MarksTell v.book end.last (marks_in words first objects)
 ends_of r e id v words slots first objects place number final all none_held none_charged done = (
-  ends v.book (marks_in words first objects) rule.reached.events last (map view_counts final.0.views) id count
-      some_buffer led (stands r e final.0 rule id v final.1.1) (at_map view_counts final.0.views id v final.1.1) marks
-      all none_held none_charged,
-  (told.since, told.goes_on, ap (λ n. deeds n told.since) (told.number done.named) ∙ told.unsaid ∙ done.unsaid),
-  sym (told.number done.named),
+  record {
+    events = rule.reached.events;
+    last = last;
+    counts = each;
+    story = (told.since, told.goes_on, ap (λ n. deeds n told.since) mine ∙ told.unsaid ∙ done.unsaid);
+    led = led;
+    own = (own, own_counts);
+    same_marks = marks;
+  },
+  tell v.book (marks_in words first objects) last v.log.number count
+      (lawful_where v.book.setup rule.reached.events last each some_buffer led) own marks all none_held none_charged,
 )
   where
     rule : Rule r e final.0
@@ -101,14 +99,28 @@ ends_of r e id v words slots first objects place number final all none_held none
     last : Marking
     last = marking_of r e final.0
 
+    each : List Counts
+    each = map view_counts final.0.views
+
+    -- the worker's number is that of its seat
+    mine : v.log.number ≡ id
+    mine = told.number done.named
+
+    own : StandsAt last.accounts v.log.number v.book.account
+    own = subst (λ n. StandsAt last.accounts n v.book.account) (sym mine) (stands r e final.0 rule id v final.1.1)
+
+    own_counts : StandsAt each v.log.number (counts_of v.book)
+    own_counts =
+        subst (λ n. StandsAt each n (counts_of v.book)) (sym mine) (at_map view_counts final.0.views id v final.1.1)
+
     same : v.book.setup ≡ e
     same = rule.same_setup id v final.1.1 (omega (arith, all))
 
     some_buffer : 0 < v.book.setup.buffers
     some_buffer = subst (λ (g : Setup). 0 < g.buffers) (sym same) rule.some_buffer
 
-    led : LeadTo v.book.setup rule.reached.events last (map view_counts final.0.views)
-    led = subst (λ (g : Setup). LeadTo g rule.reached.events last (map view_counts final.0.views)) (sym same) rule.reached.led
+    led : LeadTo v.book.setup rule.reached.events last each
+    led = subst (λ (g : Setup). LeadTo g rule.reached.events last each) (sym same) rule.reached.led
 
     marks : (o : ℕ) → slice_index (marks_in words first objects) o ≡ last.mark o
     marks o = ⊎_elim inside past (cases_lt o objects)

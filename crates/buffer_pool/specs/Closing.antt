@@ -9,23 +9,29 @@ use Rattle.mark_core.specs.Counts.{Counts, LeadTo}
 use Rattle.mark_core.specs.Law.{Law}
 use Rattle.mark_core.specs.Runs.{IsListOf, LiesIn}
 use Rattle.buffer_pool.specs.Book.{Book, counts_of}
+use Rattle.buffer_pool.specs.Story.{Log, EndsStory}
 
 -- of so many places none has a value
 abbrev pub IsEmptied : ℕ → List Bool → Type 0
 IsEmptied count filled = (k : ℕ) → k < count → slice_index_or filled k false ≡ false
 
-pub record Ends (b : Book) (marks : List ℕ) : Type 0 where
-  -- one mark for each object
-  pub count : length marks ≡ b.setup.objects
-  -- a list of events led from the opening to the marking and the counts as the last step left them
+-- what is said: a list of events, which begins with the worker's story, led from the opening to a marking and counts as
+-- the last step left them. What stands there at the worker's number is its book, and these are the marks.
+pub record IsAtTheEnd (log : Log) (b : Book) (marks : List ℕ) : Type 0 where
   pub events : List Event
   pub last : Marking
   pub counts : List Counts
+  pub story : EndsStory log events
   pub led : LeadTo b.setup events last counts
-  -- so the law holds of it. The worker's account and counts are those of one number, and these are the marks
-  pub law : Law b.setup last
-  pub own : (w : ℕ) × StandsAt last.accounts w b.account × StandsAt counts w (counts_of b)
+  pub own : StandsAt last.accounts log.number b.account × StandsAt counts log.number (counts_of b)
   pub same_marks : (o : ℕ) → slice_index marks o ≡ last.mark o
+
+-- what follows where that worker has the whole share, no buffer and no charge
+pub record MarksTell (b : Book) (last : Marking) (marks : List ℕ) : Type 0 where
+  -- the law holds of the marking
+  pub law : Law b.setup last
+  -- one mark for each object
+  pub count : length marks ≡ b.setup.objects
   -- the finished objects are those of the finished list, each once
   pub finished : (o : ℕ) → (slice_index marks o ≡ 2) ↔ Contains b.account.finished o
   pub once : (o : ℕ) → times o b.account.finished ≤ 1

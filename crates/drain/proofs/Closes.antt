@@ -2,13 +2,13 @@
 use Rattle.std.proofs.Common.{◌≡◌, ◌↔◌, false, ℕ, zero, suc, ◌≤◌, List, [], ◌∷◌, map, slice_index, Contains, ap, sym, subst, ◌∙◌, leb-true, le-leb, arith}
 use Rattle.std.proofs.lemmas.Bool.{false≢true}
 use Rattle.std.proofs.lemmas.List.{length-map}
-use Rattle.mark_core.specs.World.{Setup}
+use Rattle.mark_core.specs.World.{Setup, Marking}
 use Rattle.mark_core.specs.Colours as colours
 use Rattle.heap_graph.specs.ObjectGraph.{ObjectGraph, object_count}
 use Rattle.heap_graph.specs.Reachable.{IsMarked, IsReachable, IsReferenceOf, IsRootOf, MarksReachableOf}
 use Rattle.buffer_pool.specs.Book.{Book, new_book}
 use Rattle.buffer_pool.specs.Calls.{Holder}
-use Rattle.buffer_pool.specs.Closing.{Ends}
+use Rattle.buffer_pool.specs.Closing.{MarksTell}
 use Rattle.drain.specs.Marks.{is_set}
 use Rattle.drain.specs.working.Pairs.{pairs_of}
 use Rattle.drain.specs.working.AtWork.{IsSetupOf, SawRoots}
@@ -38,9 +38,11 @@ module _ (g : ObjectGraph) (e : Setup) (setup : IsSetupOf (object_count g) g.roo
   path_there (p ∷ back) o leads =
       next_reachable (IsRootOf g) (IsReferenceOf g) p o (path_there back p leads.1) ((pair_is_reference g p o).1 (subst (λ (ps : List (ℕ × ℕ)). Contains ps (p, o)) setup.pairs leads.0))
 
-  pub exactly_marked : (w : Holder) (marks : List ℕ) → w.book.setup ≡ e → w.book.account.open_push ≡ false → SawRoots w → Ends w.book marks → MarksReachableOf g (map is_set marks)
-  exactly_marked w marks made closed_push saw ends = record {
-    one_each = length-map marks is_set ∙ ends.count ∙ ap (λ (s : Setup). s.objects) made ∙ setup.objects;
+  pub exactly_marked :
+      (w : Holder) (last : Marking) (marks : List ℕ) → w.book.setup ≡ e → w.book.account.open_push ≡ false → SawRoots w
+      → MarksTell w.book last marks → MarksReachableOf g (map is_set marks)
+  exactly_marked w last marks made closed_push saw tells = record {
+    one_each = length-map marks is_set ∙ tells.count ∙ ap (λ (s : Setup). s.objects) made ∙ setup.objects;
     exact = λ o.
         let both = exactly_reachable (IsRootOf g) (IsReferenceOf g) holds closed roots sound o in
         (λ h. both.0 ((marked_where_set marks o).0 h), λ h. (marked_where_set marks o).1 (both.1 h));
@@ -53,12 +55,12 @@ module _ (g : ObjectGraph) (e : Setup) (setup : IsSetupOf (object_count g) g.roo
       closed a b here refers =
           let pair : Contains (pairs_of g) (a, b) = (pair_is_reference g a b).0 refers in
           let there : Contains w.book.setup.pairs (a, b) = subst (λ (ps : List (ℕ × ℕ)). Contains ps (a, b)) (sym (ap (λ (s : Setup). s.pairs) made ∙ setup.pairs)) pair in
-          ends.successors a b (ends.emptied closed_push a here) there
+          tells.successors a b (tells.emptied closed_push a here) there
 
       roots : (o : ℕ) → IsRootOf g o → holds o
       roots o root =
           let there : Contains w.book.setup.roots o = subst (λ (rs : List ℕ). Contains rs o) (sym (ap (λ (s : Setup). s.roots) made ∙ setup.roots)) root in
-          ends.seen o (saw o there)
+          tells.seen o (saw o there)
 
       sound : (o : ℕ) → holds o → IsReachable (IsRootOf g) (IsReferenceOf g) o
-      sound o here = let path = subst (λ (s : Setup). colours.IsReachable s o) made (ends.reachable o here) in path_there path.0 o path.1
+      sound o here = let path = subst (λ (s : Setup). colours.IsReachable s o) made (tells.reachable o here) in path_there path.0 o path.1

@@ -3,8 +3,7 @@ ghost use Rattle.std.specs.Prelude.{◌≡◌, ◌↔◌, ℕ, ◌+◌, ◌/◌,
 ghost use Rattle.buffer_pool.specs.working.Packed.{mark_of};
 ghost use Rattle.mark_core.specs.Shares.{whole};
 ghost use Rattle.std.specs.Slots.{IsFull, slots_filled, slots_len};
-ghost use Rattle.buffer_pool.specs.Closing.{Ends, IsEmptied};
-ghost use Rattle.buffer_pool.specs.Story.{EndsStory};
+ghost use Rattle.buffer_pool.specs.Closing.{IsAtTheEnd, IsEmptied, MarksTell};
 
 use crate::buffer::Buffer;
 use crate::layout::{FIRST_LINK, mark_place};
@@ -94,8 +93,7 @@ impl<A: Allocator> Pool<A> {
         requires share { worker.book.account.share ≡ whole }
         requires held { worker.book.account.held ≡ [] }
         requires charge { worker.book.account.charge ≡ [] }
-        ensures { (ends : Ends worker.book result) × EndsStory worker.log ends.events
-            × (ends.own.0 ≡ worker.log.number) }
+        ensures { (end : IsAtTheEnd worker.log worker.book result) × MarksTell worker.book end.last result }
     {
         let Pool {
             table,

@@ -26,5 +26,7 @@ returns g c =
     let leader = c.in-Ok.opened.1 in
     let setup = opened_setup graph c.buffers.result c.buffer.result c.first_tag.result whole leader.book c.in-Ok.ensures.2 in
     let led = c.in_ok-leader.ensures in
-    let exact = exactly_marked graph leader.book.setup setup c.in_ok-leader.leader c.close.result led.setup led.free.open_push led.saw c.close.ensures.0 in
+    let exact =
+    exactly_marked graph leader.book.setup setup c.in_ok-leader.leader c.close.ensures.0.last c.close.result led.setup
+    led.free.open_push led.saw c.close.ensures.1 in
     subst (MarksReachableOf graph) (sym c.new-2.ensures) exact

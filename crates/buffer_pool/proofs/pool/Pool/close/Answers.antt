@@ -1,10 +1,9 @@
-use Rattle.std.proofs.Common.{◌≡◌, ◌∙◌, ℕ, ◌+◌, List, ap, subst, sym}
+use Rattle.std.proofs.Common.{◌∙◌, ℕ, ◌+◌, List, ap, subst, sym}
 use Rattle.std.specs.Slots.{slots_items}
 use Rattle.buffer_pool.specs.working.Buffers.{buffer_reading}
 use Rattle.buffer_pool.specs.Calls.{Holder}
-use Rattle.buffer_pool.specs.Closing.{Ends}
+use Rattle.buffer_pool.specs.Closing.{IsAtTheEnd, MarksTell}
 use Rattle.buffer_pool.specs.working.Packed.{marks_in}
-use Rattle.buffer_pool.specs.Story.{EndsStory}
 use Rattle.buffer_pool.specs.working.Setups.{setup_of}
 use Rattle.buffer_pool.proofs.Closes.{ends_of}
 use Rattle.buffer_pool.proofs.pool.Pool.close.Goals as goal
@@ -23,8 +22,8 @@ returns g c =
     (ap (λ (x : Holder). x.book.account.share) is ∙ c.requires.share)
     (ap (λ (x : Holder). x.book.account.held) is ∙ c.requires.held)
     (ap (λ (x : Holder). x.book.account.charge) is ∙ c.requires.charge) c.worker.invariant.settled in
-    subst (λ (ws : List ℕ). (ended : Ends c.args.worker.book (marks_in ws first objects))
-    × EndsStory c.args.worker.log ended.events
-    × (ended.own.0 ≡ c.args.worker.log.number)) (sym (ap slots_items c.empty_slots.ensures.words))
-    (subst (λ (x : Holder). (ended : Ends x.book (marks_in words first objects)) × EndsStory x.log ended.events
-    × (ended.own.0 ≡ x.log.number)) is told)
+    subst (λ (ws : List ℕ). (end : IsAtTheEnd c.args.worker.log c.args.worker.book (marks_in ws first objects))
+    × MarksTell c.args.worker.book end.last (marks_in ws first objects))
+    (sym (ap slots_items c.empty_slots.ensures.words))
+    (subst (λ (x : Holder). (end : IsAtTheEnd x.log x.book (marks_in words first objects))
+    × MarksTell x.book end.last (marks_in words first objects)) is told)
