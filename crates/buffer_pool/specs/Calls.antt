@@ -1,5 +1,6 @@
 -- What the calls of a pool do to the book of the worker that makes them.
-use Rattle.std.specs.Prelude.{◌≡◌, ◌↔◌, ℕ, ◌<◌, List, [], Option, Some, None, Contains, IsTrue, Bool}
+use Rattle.std.specs.Prelude.{◌≡◌, ◌↔◌, ℕ, ◌<◌, List, [], Option, Some, None, Result, Ok, Err, Contains, IsTrue}
+use Rattle.std.specs.Prelude.{Bool}
 use Rattle.atomic_table.specs.Seated.{TableId}
 use Rattle.tagged_index.specs.Head.{Head, last_tag}
 use Rattle.mark_core.specs.declared.which.Which.{Which}
@@ -67,16 +68,25 @@ pub data LostPops (q : Which) : Book → Book → Type 0 where
   none : (b : Book) → LostPops q b b
   more : (old mid new : Book) → LostPops q old mid → Pops q mid new try_pop.Lost → LostPops q old new
 
+-- the try with which a pop ended
+abbrev pub last_try : {H : Type 0} → Popped H → TryPopped H
+last_try (pop.Took h) = try_pop.Took h
+last_try pop.Empty = try_pop.Empty
+last_try pop.Spent = try_pop.Spent
+
 -- tries until one is not lost
 abbrev pub PopsAtLast : Which → Book → Book → Popped HeldBuffer → Type 0
-PopsAtLast q old new (pop.Took h) = (mid : Book) × LostPops q old mid × Pops q mid new (try_pop.Took h)
-PopsAtLast q old new pop.Empty = (mid : Book) × LostPops q old mid × Pops q mid new try_pop.Empty
-PopsAtLast q old new pop.Spent = (mid : Book) × LostPops q old mid × Pops q mid new try_pop.Spent
+PopsAtLast q old new result = (mid : Book) × LostPops q old mid × Pops q mid new (last_try result)
 
 -- tries of a push that were all lost
 pub data LostPushes (q : Which) (h : HeldBuffer) : Book → Book → Type 0 where
   none : (b : Book) → LostPushes q h b b
   more : (old mid new : Book) → LostPushes q h old mid → Pushes q h mid new (try_push.Lost h) → LostPushes q h old new
+
+-- how the last try of a push ended: it was done, or the buffer came back
+abbrev pub ended : {U : Type 0} → Result U HeldBuffer → TryPushed HeldBuffer
+ended (Ok done) = try_push.Done
+ended (Err back) = try_push.Spent back
 
 -- tries until one is not lost, and that one ended so
 abbrev pub PushesAtLast : Which → HeldBuffer → Book → Book → TryPushed HeldBuffer → Type 0

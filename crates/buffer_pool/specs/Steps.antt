@@ -1,14 +1,14 @@
 -- Which events each call of a pool is, in order.
-use Rattle.std.specs.Prelude.{ℕ, zero, suc, List, [], ◌∷◌, ◌++◌, Option, Result, Ok, Err}
+use Rattle.std.specs.Prelude.{ℕ, zero, suc, List, [], ◌∷◌, ◌++◌, Option, Result}
 use Rattle.mark_core.specs.declared.which.Which.{Which}
 use Rattle.mark_core.specs.Event.{Kind, Load, LoadLink, StoreLink, Pop, Push, Fail}
-use Rattle.buffer_pool.specs.Calls.{HeldBuffer as Held}
+use Rattle.buffer_pool.specs.Calls.{HeldBuffer as Held, ended, last_try}
+use Rattle.buffer_pool.specs.Story.{Log, Did}
 use Rattle.buffer_pool.specs.declared.answers.TryPopped.{TryPopped}
 use Rattle.buffer_pool.specs.declared.answers.TryPopped.TheVariants as try_pop
 use Rattle.buffer_pool.specs.declared.answers.TryPushed.{TryPushed}
 use Rattle.buffer_pool.specs.declared.answers.TryPushed.TheVariants as try_push
 use Rattle.buffer_pool.specs.declared.answers.Popped.{Popped}
-use Rattle.buffer_pool.specs.declared.answers.Popped.TheVariants as pop
 
 -- one try of a pop
 abbrev pub pop_steps : {H : Type 0} → Which → TryPopped H → List Kind
@@ -28,18 +28,17 @@ abbrev pub lost_pops : Which → ℕ → List Kind
 lost_pops q zero = []
 lost_pops q (suc lost) = lost_pops q lost ++ Load q ∷ LoadLink q ∷ Fail q ∷ []
 
--- the try of a pop that was not lost
-abbrev pub last_pop : {H : Type 0} → Which → Popped H → List Kind
-last_pop q (pop.Took h) = Load q ∷ LoadLink q ∷ Pop q ∷ []
-last_pop q pop.Empty = Load q ∷ []
-last_pop q pop.Spent = Load q ∷ []
+-- a pop: tries that were lost, and the last one
+abbrev pub PopDid : {H : Type 0} → Which → Popped H → Log → Log → Type 0
+PopDid q result old new = (lost : ℕ) × Did old (lost_pops q lost ++ pop_steps q (last_try result)) new
 
 -- a try of a push of this buffer for each of these links, the last link first, each of them lost
 abbrev pub lost_pushes : Which → Held → List (Option ℕ) → List Kind
 lost_pushes q h [] = []
 lost_pushes q h (link ∷ links) = lost_pushes q h links ++ push_steps q h link (try_push.Lost h)
 
--- the try of a push that was not lost: done, or the buffer came back
-abbrev pub last_push : {U : Type 0} → Which → Held → Option ℕ → Result U Held → List Kind
-last_push q h link (Ok done) = push_steps q h link try_push.Done
-last_push q h link (Err back) = push_steps q h link (try_push.Spent back)
+-- a push of this buffer: tries that were lost, and the last one
+abbrev pub PushDid : {U : Type 0} → Which → Held → Result U Held → Log → Log → Type 0
+PushDid q h result old new =
+    (links : List (Option ℕ)) × (link : Option ℕ)
+    × Did old (lost_pushes q h links ++ push_steps q h link (ended result)) new

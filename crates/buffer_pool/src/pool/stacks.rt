@@ -1,10 +1,9 @@
 //! The two stacks, as workers use them.
-ghost use Rattle.std.specs.Prelude.{◌≡◌, ℕ, List, [], ◌∷◌, ◌++◌, Option, MatchResult};
+ghost use Rattle.std.specs.Prelude.{◌≡◌, ℕ, [], ◌∷◌, Option};
 ghost use Rattle.mark_core.specs.Event.{IsBusy, Load};
-ghost use Rattle.buffer_pool.specs.Calls.{LostPops, LostPushes, MayPush, Pops, PopsAtLast, Pushes, PushesAtLast, Sees};
-ghost use Rattle.buffer_pool.specs.Steps.{last_pop, last_push, lost_pops, lost_pushes, pop_steps, push_steps};
+ghost use Rattle.buffer_pool.specs.Calls.{MayPush, Pops, PopsAtLast, Pushes, PushesAtLast, Sees, ended};
+ghost use Rattle.buffer_pool.specs.Steps.{PopDid, PushDid, pop_steps, push_steps};
 ghost use Rattle.buffer_pool.specs.Story.{Did};
-ghost use Rattle.buffer_pool.specs.declared.answers.TryPushed.TheVariants as try_push;
 
 use crate::answers::{Popped, TryPopped, TryPushed};
 use crate::held::Held;
@@ -66,7 +65,7 @@ impl<A: Allocator> Pool<A> {
         requires busy { IsBusy worker.old.book.account }
         ensures pool { worker.new.pool ≡ worker.old.pool }
         ensures pops { PopsAtLast which worker.old.book worker.new.book result }
-        ensures did { (lost : ℕ) × Did worker.old.log (lost_pops which lost ++ last_pop which result) worker.new.log }
+        ensures did { PopDid which result worker.old.log worker.new.log }
     {
         let backoff = Backoff::new();
         for _ in rt.forever() {
@@ -92,10 +91,8 @@ impl<A: Allocator> Pool<A> {
         requires pool { worker.old.pool ≡ self.now }
         requires may { MayPush which held worker.old.book }
         ensures pool { worker.new.pool ≡ worker.old.pool }
-        ensures pushes { MatchResult result (λ _. PushesAtLast which held worker.old.book worker.new.book try_push.Done)
-            (λ back. PushesAtLast which held worker.old.book worker.new.book (try_push.Spent back)) }
-        ensures did { (links : List (Option ℕ)) × (link : Option ℕ)
-            × Did worker.old.log (lost_pushes which held links ++ last_push which held link result) worker.new.log }
+        ensures pushes { PushesAtLast which held worker.old.book worker.new.book (ended result) }
+        ensures did { PushDid which held result worker.old.log worker.new.log }
     {
         let backoff = Backoff::new();
         let mut held = held;
