@@ -1,5 +1,5 @@
 -- What the calls of a pool do to the book of the worker that makes them.
-use Rattle.std.specs.Prelude.{◌≡◌, ◌↔◌, ℕ, ◌<◌, List, [], Option, Some, None, Result, Ok, Err, Contains, IsTrue}
+use Rattle.std.specs.Prelude.{◌≡◌, ◌↔◌, ℕ, ◌<◌, List, [], ◌∷◌, Option, Some, None, Result, Ok, Err, Contains, IsTrue}
 use Rattle.std.specs.Prelude.{Bool}
 use Rattle.atomic_table.specs.Seated.{TableId}
 use Rattle.tagged_index.specs.Head.{Head, last_tag}
@@ -30,19 +30,25 @@ pub record HeldBuffer : Type 0 where
   pub items : List ℕ
   pub size : ℕ
 
--- a try of a pop. Took: the head was loaded and its link, and the exchange won; a buffer of the empty stack has no
--- items. Empty: the head loaded has no buffer. Lost: the exchange failed. Spent: the head loaded has a buffer and the
--- last tag.
+-- these steps lead from one book to the other, the first step first
+abbrev pub After : Book → List (Book → Book) → Book → Type 0
+After old [] new = new ≡ old
+After old (step ∷ steps) new = After (step old) steps new
+
+-- a try of a pop. Its loads found some head and some link: here they are any values, which the account keeps as its
+-- look; that the stack had them then, the worker's story says (LeadsToBook). Took: the head has this buffer, its link
+-- was loaded, and the exchange won; a buffer of the empty stack has no items. Empty: the head has no buffer. Lost: the
+-- exchange failed. Spent: the head has a buffer and the last tag.
 abbrev pub Pops : Which → Book → Book → TryPopped HeldBuffer → Type 0
 Pops q old new (try_pop.Took h) =
     (head : Head) × (link : Option ℕ) × (head.index ≡ Some h.index) × (head.tag < last_tag) × (h.size ≡ old.setup.size)
-    × (new ≡ popped h.index h.items (link_loaded q link (loaded q head old))) × (q ≡ Empty → h.items ≡ [])
-Pops q old new try_pop.Empty = (head : Head) × (head.index ≡ None) × (new ≡ loaded q head old)
+    × After old (loaded q head ∷ link_loaded q link ∷ popped h.index h.items ∷ []) new × (q ≡ Empty → h.items ≡ [])
+Pops q old new try_pop.Empty = (head : Head) × (head.index ≡ None) × After old (loaded q head ∷ []) new
 Pops q old new try_pop.Lost =
     (head : Head) × (i : ℕ) × (link : Option ℕ) × (head.index ≡ Some i) × (head.tag < last_tag)
-    × (new ≡ failed (link_loaded q link (loaded q head old)))
+    × After old (loaded q head ∷ link_loaded q link ∷ failed ∷ []) new
 Pops q old new try_pop.Spent =
-    (head : Head) × (i : ℕ) × (head.index ≡ Some i) × (head.tag ≡ last_tag) × (new ≡ loaded q head old)
+    (head : Head) × (i : ℕ) × (head.index ≡ Some i) × (head.tag ≡ last_tag) × After old (loaded q head ∷ []) new
 
 -- the worker holds the buffer, it is one of the pool's, its items are part of the charge, and there are none for the
 -- empty stack; and for the full one the worker is not idle
@@ -53,15 +59,15 @@ pub record MayPush (q : Which) (h : HeldBuffer) (b : Book) : Type 0 where
   pub bare : q ≡ Empty → h.items ≡ []
   pub busy : q ≡ Full → IsBusy b.account
 
--- a try of a push. Done: the head was loaded, the link stored, and the exchange won. Lost: the exchange failed. Spent:
--- the head loaded has the last tag.
+-- a try of a push. Its load found some head, here too any value; the link that it stores at the buffer is in no book.
+-- Done: the exchange won. Lost: it failed. Spent: the head has the last tag. If it was not done the buffer comes back.
 abbrev pub Pushes : Which → HeldBuffer → Book → Book → TryPushed HeldBuffer → Type 0
 Pushes q h old new try_push.Done =
-    (head : Head) × (head.tag < last_tag) × (new ≡ pushed q h.index h.items (loaded q head old))
+    (head : Head) × (head.tag < last_tag) × After old (loaded q head ∷ pushed q h.index h.items ∷ []) new
 Pushes q h old new (try_push.Lost back) =
-    (head : Head) × (back ≡ h) × (head.tag < last_tag) × (new ≡ failed (loaded q head old))
+    (head : Head) × (back ≡ h) × (head.tag < last_tag) × After old (loaded q head ∷ failed ∷ []) new
 Pushes q h old new (try_push.Spent back) =
-    (head : Head) × (back ≡ h) × (head.tag ≡ last_tag) × (new ≡ loaded q head old)
+    (head : Head) × (back ≡ h) × (head.tag ≡ last_tag) × After old (loaded q head ∷ []) new
 
 -- tries of a pop that were all lost, from one book to another
 pub data LostPops (q : Which) : Book → Book → Type 0 where
