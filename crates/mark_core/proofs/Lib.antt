@@ -21,3 +21,6 @@ pub mod Within
 pub mod Weights
 pub mod Steps
 pub mod Begins
+pub mod SameObjects
+pub mod Chosen
+pub mod Finished
