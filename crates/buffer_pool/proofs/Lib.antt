@@ -19,3 +19,4 @@ pub mod Worked
 pub mod Races
 pub mod Forged
 pub mod Alone
+pub mod Few

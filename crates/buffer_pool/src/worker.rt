@@ -22,6 +22,8 @@ impl<A: Allocator> Model for Worker<A> {
 }
 
 impl<A: Allocator> Worker<A> {
+    ghost use Rattle.std.specs.Prelude.{ℕ, length, ◌≤◌};
+    ghost use Rattle.mark_core.specs.Lists.{times};
     ghost use Rattle.buffer_pool.specs.Ranges.{IsWithin};
     ghost use Rattle.buffer_pool.specs.Story.{LeadsToBook};
 
@@ -29,6 +31,15 @@ impl<A: Allocator> Worker<A> {
     /// objects. Nothing is done.
     pub fn stays_within(&self)
         ensures { IsWithin self.now.book.setup self.now.book.account }
+    {
+        let _seat = &self.seat;
+    }
+
+    /// What each worker keeps, said of this one: it finished no object twice, so no more objects than there are. Nothing
+    /// is done.
+    pub fn has_finished_few(&self)
+        ensures once { (o : ℕ) → times o self.now.book.account.finished ≤ 1 }
+        ensures few { length self.now.book.account.finished ≤ self.now.book.setup.objects }
     {
         let _seat = &self.seat;
     }

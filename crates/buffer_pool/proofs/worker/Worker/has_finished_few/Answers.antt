@@ -1,0 +1,22 @@
+-- A seat that is sound has a story that leads to its book, and lies in a pool whose roots and references are of objects.
+use Rattle.std.proofs.Common.{length, subst, ℕ, ◌≤◌}
+use Rattle.mark_core.specs.Lists.{times}
+use Rattle.buffer_pool.specs.Calls.{Holder}
+use Rattle.buffer_pool.proofs.Few.{few_finished, once_finished}
+use Rattle.buffer_pool.proofs.worker.Worker.has_finished_few.Goals as goal
+
+pub returns-clause-once : goal.returns-clause-once
+returns-clause-once g c =
+    let seat = c.self.inside.seat in
+    let v = seat.me.0 in
+    let sound = c.self.invariant in
+    subst (λ (w : Holder). (o : ℕ) → times o w.book.account.finished ≤ 1) c.self.view_is
+    (once_finished seat.table_id v.log v.book sound.laid sound.story)
+
+pub returns-clause-few : goal.returns-clause-few
+returns-clause-few g c =
+    let seat = c.self.inside.seat in
+    let v = seat.me.0 in
+    let sound = c.self.invariant in
+    subst (λ (w : Holder). length w.book.account.finished ≤ w.book.setup.objects) c.self.view_is
+    (few_finished seat.table_id v.log v.book sound.laid sound.story)
