@@ -8,5 +8,7 @@ pub mod Leading
 pub mod OneMarking
 pub mod Outcomes
 pub mod Pairs
+pub mod Passing
 pub mod Runs
 pub mod Sharing
+pub mod Tallies

@@ -3,5 +3,8 @@ pub mod Duties
 pub mod Idle
 pub mod Pairs
 pub mod RecentlySeen
+pub mod Scans
 pub mod Sharing
+pub mod Tallies
+pub mod Tallying
 pub mod Walk

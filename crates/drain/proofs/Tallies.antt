@@ -1,0 +1,126 @@
+-- A finish is a push on the finished list and a join an append: so a tally takes in an object, or another tally.
+use Rattle.std.proofs.Common.{◌≡◌, ℕ, zero, suc, ◌+◌, ◌*◌, ◌^◌, ◌<◌, ◌≤◌, ◌==◌, Bool, true, false, cond, List, [], ◌∷◌}
+use Rattle.std.proofs.Common.{◌++◌, length, replicate, get_or, set, slice_index_or, slice_set, sum_by, ap, sym, refl}
+use Rattle.std.proofs.Common.{◌∙◌, eq-eqb, ne_eqb, length-set, get_or-set_same, get_or-set_other, subst, arith}
+use Rattle.std.proofs.lemmas.List.{length-replicate}
+use Rattle.std.proofs.lemmas.List.Elements.{All-from_get_or}
+use Rattle.std.proofs.lemmas.List.Sums.{sum_by-append, sum_by-le, sum_by_push}
+use native.Mathlib.Decide.{ℕ_discrete}
+use Rattle.drain.specs.declared.sum.Sum.{Sum}
+use Rattle.drain.specs.working.Tallies.{IsMeasureOf, IsSmall, IsTallyOf, Measure, no_object, one_more, sum_in, together}
+
+-- what an object counts for in a row, and its bytes there
+abbrev counts : Measure → ℕ → ℕ → ℕ
+counts m n o = cond (m.row o == n) 1 0
+
+abbrev weighs : Measure → ℕ → ℕ → ℕ
+weighs m n o = cond (m.row o == n) (m.bytes o) 0
+
+get_or-replicate : {X : Type 0} (x : X) (n k : ℕ) → get_or (replicate n x) k x ≡ x
+get_or-replicate x zero k = refl
+get_or-replicate x (suc n) zero = refl
+get_or-replicate x (suc n) (suc k) = get_or-replicate x n k
+
+pub none_tallied : (m : Measure) → IsTallyOf m [] (replicate m.rows no_object) 0
+none_tallied m = record {
+  each = length-replicate m.rows no_object;
+  right = λ n below. get_or-replicate no_object m.rows n;
+  missing_is = refl;
+}
+
+-- what one object more does to the sum of a row
+sum_push :
+    (m : Measure) (n : ℕ) (xs : List ℕ) (o : ℕ)
+    → sum_in m n (xs ++ o ∷ [])
+    ≡ record { count = (sum_in m n xs).count + counts m n o; bytes = (sum_in m n xs).bytes + weighs m n o }
+sum_push m n xs o = λ k. record { count = sum_by_push (counts m n) xs o k; bytes = sum_by_push (weighs m n) xs o k }
+
+module _ (m : Measure) (objects : List ℕ) (rows : List Sum) (missing o : ℕ) (was : IsTallyOf m objects rows missing)
+    (inside : m.row o < m.rows) where
+  abbrev more : List Sum
+  more = slice_set rows (m.row o) (one_more (slice_index_or rows (m.row o) no_object) (m.bytes o))
+
+  in_its_row : (n : ℕ) → n < m.rows → n ≡ m.row o → get_or more n no_object ≡ sum_in m n (objects ++ o ∷ [])
+  in_its_row n below same =
+      let hit : (m.row o == n) ≡ true = eq-eqb (m.row o) n (sym same) in
+      let before = sum_in m n objects in
+      ap (λ k. get_or more k no_object) same
+      ∙ get_or-set_same rows (m.row o) _ no_object (omega (arith, was.each, inside))
+      ∙ ap (λ s. one_more s (m.bytes o)) (ap (λ k. get_or rows k no_object) (sym same) ∙ was.right n below)
+      ∙ (λ k. record {
+          count = before.count + cond (sym hit k) 1 0;
+          bytes = before.bytes + cond (sym hit k) (m.bytes o) 0;
+        })
+      ∙ sym (sum_push m n objects o)
+
+  in_another : (n : ℕ) → n < m.rows → (n ≡ m.row o → ⊥) → get_or more n no_object ≡ sum_in m n (objects ++ o ∷ [])
+  in_another n below other =
+      let miss : (m.row o == n) ≡ false = ne_eqb (m.row o) n (λ e. other (sym e)) in
+      let zero_more : (x : ℕ) → x ≡ x + 0 = λ x. omega arith in
+      let before = sum_in m n objects in
+      get_or-set_other rows (m.row o) n _ no_object other
+      ∙ was.right n below
+      ∙ (λ k. record { count = zero_more before.count k; bytes = zero_more before.bytes k })
+      ∙ (λ k. record {
+          count = before.count + cond (sym miss k) 1 0;
+          bytes = before.bytes + cond (sym miss k) (m.bytes o) 0;
+        })
+      ∙ sym (sum_push m n objects o)
+
+  pub one_tallied : IsTallyOf m (objects ++ o ∷ []) more (missing + m.missing o)
+  one_tallied = record {
+    each = length-set rows (m.row o) _ ∙ was.each;
+    right = right;
+    missing_is = omega (arith, was.missing_is, sum_by_push m.missing objects o);
+  }
+    where
+      right : (n : ℕ) → n < m.rows → get_or more n no_object ≡ sum_in m n (objects ++ o ∷ [])
+      right n below = go (ℕ_discrete n (m.row o))
+        where
+          go : Dec (n ≡ m.row o) → get_or more n no_object ≡ sum_in m n (objects ++ o ∷ [])
+          go (yes same) = in_its_row n below same
+          go (no other) = in_another n below other
+
+pub both_tallied :
+    (m : Measure) (xs ys : List ℕ) (a b c : List Sum) (p q : ℕ) → IsTallyOf m xs a p → IsTallyOf m ys b q
+    → length c ≡ m.rows
+    → ((n : ℕ) → n < m.rows
+      → slice_index_or c n no_object ≡ together (slice_index_or a n no_object) (slice_index_or b n no_object))
+    → IsTallyOf m (xs ++ ys) c (p + q)
+both_tallied m xs ys a b c p q first second long added = record {
+  each = long;
+  right = λ n below.
+      added n below
+      ∙ (λ k. together (first.right n below k) (second.right n below k))
+      ∙ (λ k. record {
+          count = sym (sum_by-append (counts m n) xs ys) k;
+          bytes = sym (sum_by-append (weighs m n) xs ys) k;
+        });
+  missing_is = omega (arith, first.missing_is, second.missing_is, sum_by-append m.missing xs ys);
+}
+
+at_most : (b : Bool) (x most : ℕ) → x ≤ most → cond b x 0 ≤ most
+at_most true x most h = h
+at_most false x most h = omega arith
+
+module _ (count : ℕ) (m : Measure) (bounded : IsMeasureOf count m) (objects : List ℕ)
+    (few : length objects ≤ count) where
+  few_in : (f : ℕ → ℕ) (most : ℕ) → ((o : ℕ) → f o ≤ most) → sum_by f objects ≤ length objects * most
+  few_in f most small =
+      sum_by-le f most objects (All-from_get_or (λ x. f x ≤ most) objects 0 (λ k inside. small (get_or objects k 0)))
+
+  -- the sums of so few objects are small
+  pub tally_is_small : (rows : List Sum) (missing : ℕ) → IsTallyOf m objects rows missing → IsSmall rows missing
+  tally_is_small rows missing is = record {
+    counts = λ n inside.
+        let here = is.right n (omega (arith, inside, is.each)) in
+        let sums = few_in (counts m n) 1 (λ o. at_most (m.row o == n) 1 1 (omega arith)) in
+        omega (arith, ap (λ (s : Sum). s.count) here, sums, few, bounded.few_objects);
+    bytes = λ n inside.
+        let here = is.right n (omega (arith, inside, is.each)) in
+        let light : (o : ℕ) → weighs m n o ≤ 2 ^ 30 = λ o. at_most (m.row o == n) (m.bytes o) (2 ^ 30) (bounded.few_bytes o) in
+        let sums = few_in (weighs m n) (2 ^ 30) light in
+        omega (arith, ap (λ (s : Sum). s.bytes) here, sums, few, bounded.few_objects);
+    few_missing =
+        omega (arith, is.missing_is, few_in m.missing (2 ^ 33) bounded.few_missing, few, bounded.few_objects);
+  }

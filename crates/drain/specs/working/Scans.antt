@@ -1,0 +1,10 @@
+-- What is read of an object while it is scanned.
+use Rattle.std.specs.Prelude.{ℕ, ◌≡◌}
+use Rattle.drain.specs.declared.scanned.Scanned.{Scanned}
+use Rattle.drain.specs.working.Tallies.{Measure}
+
+-- This is what is read of the object.
+pub record IsScanOf (m : Measure) (o : ℕ) (s : Scanned) : Type 0 where
+  pub row : s.row ≡ m.row o
+  pub bytes : s.bytes ≡ m.bytes o
+  pub unresolved : s.unresolved ≡ m.missing o

@@ -1,0 +1,15 @@
+-- A worker's tally: it says what the worker finished.
+use Rattle.std.specs.Prelude.{List, ℕ}
+use Rattle.buffer_pool.specs.Calls.{Holder}
+use Rattle.drain.specs.declared.tally.Tally.{Tally}
+use Rattle.drain.specs.working.Tallies.{IsSmall, IsTallyOf, Measure}
+
+abbrev pub Tallies : {A : Type 0} → Measure → List ℕ → Tally A → Type 0
+Tallies m objects t = IsTallyOf m objects t.rows.items t.unresolved
+
+abbrev pub HasSmallSums : {A : Type 0} → Tally A → Type 0
+HasSmallSums t = IsSmall t.rows.items t.unresolved
+
+-- the tally of the objects that the worker finished
+abbrev pub HasTallied : {A : Type 0} → Measure → Holder → Tally A → Type 0
+HasTallied m w t = Tallies m w.book.account.finished t

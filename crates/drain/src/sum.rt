@@ -1,0 +1,39 @@
+//! How many objects there are, and their bytes together.
+ghost use Rattle.std.specs.Prelude.{◌≡◌, ◌+◌, ◌^◌, ◌<◌};
+ghost use Rattle.drain.specs.working.Tallies.{no_object, one_more, together};
+
+/// So many objects, and their bytes together.
+#[derive(Clone, Copy)]
+pub(crate) struct Sum {
+    pub(crate) count: u64,
+    pub(crate) bytes: u64,
+}
+
+impl Sum {
+    /// The sum of no object.
+    pub(crate) fn none() -> Sum
+        ensures { result ≡ no_object }
+    {
+        Sum { count: 0, bytes: 0 }
+    }
+
+    /// Takes in one object more.
+    pub(crate) fn add(&mut self, bytes: u64)
+        requires counts { self.old.count + 1 < 2 ^ 64 }
+        requires sums { self.old.bytes + bytes < 2 ^ 64 }
+        ensures { self.new ≡ one_more self.old bytes }
+    {
+        self.count += 1;
+        self.bytes += bytes;
+    }
+
+    /// Takes in other objects.
+    pub(crate) fn join(&mut self, other: Sum)
+        requires counts { self.old.count + other.count < 2 ^ 64 }
+        requires sums { self.old.bytes + other.bytes < 2 ^ 64 }
+        ensures { self.new ≡ together self.old other }
+    {
+        self.count += other.count;
+        self.bytes += other.bytes;
+    }
+}

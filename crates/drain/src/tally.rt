@@ -1,0 +1,59 @@
+//! What a worker counts of the objects that it finished.
+ghost use Rattle.std.specs.Prelude.{◌≡◌, ◌<◌, ◌≤◌, ◌^◌, ◌++◌, ◌∷◌, [], ℕ, IfOk, List, length};
+ghost use Rattle.drain.specs.working.Tallying.{HasSmallSums, Tallies};
+ghost use Rattle.drain.specs.working.Tallies.{Measure};
+ghost use Rattle.drain.specs.working.Scans.{IsScanOf};
+
+use crate::sum::Sum;
+use crate::scanned::Scanned;
+use std::alloc::{AllocError, Allocator};
+
+/// Of each row, by its place, how many objects and how many bytes it has, and how many identifiers of all these objects
+/// are other than 0 and name no object.
+#[derive(Drop)]
+pub(crate) struct Tally<A: Allocator> {
+    pub(crate) rows: Vec<Sum, A>,
+    pub(crate) unresolved: u64,
+}
+
+impl<A: Allocator> Tally<A> {
+    /// The tally of no object, with so many rows. All its memory is taken here.
+    pub(crate) fn new(alloc: A, rows: usize) -> Result<Tally<A>, AllocError>
+        ensures { IfOk result (λ t. (m : Measure) → m.rows ≡ rows → Tallies m [] t) }
+    {
+        let rows = vec![in alloc; Sum::none(); rows]?;
+        Ok(Tally {
+            rows,
+            unresolved: 0,
+        })
+    }
+
+    /// Takes in one object more.
+    pub(crate) fn add(&mut self, object: Scanned)
+        requires row { object.row < length self.old.rows.items }
+        requires small { HasSmallSums self.old }
+        requires bytes { object.bytes ≤ 2 ^ 30 }
+        requires unresolved { object.unresolved ≤ 2 ^ 33 }
+        ensures { (m : Measure) (objects : List ℕ) (o : ℕ) → Tallies m objects self.old → IsScanOf m o object
+            → Tallies m (objects ++ o ∷ []) self.new }
+    {
+        let sum = &mut self.rows[object.row];
+        sum.add(object.bytes);
+        self.unresolved += object.unresolved;
+    }
+
+    /// Takes in the objects of another tally of as many rows.
+    pub(crate) fn join(&mut self, other: &Tally<A>)
+        requires rows { length self.old.rows.items ≡ length other.now.rows.items }
+        requires small { HasSmallSums self.old }
+        requires others { HasSmallSums other.now }
+        ensures { (m : Measure) (xs ys : List ℕ) → Tallies m xs self.old → Tallies m ys other.now
+            → Tallies m (xs ++ ys) self.new }
+    {
+        for row in 0..self.rows.len() {
+            let sum = &mut self.rows[row];
+            sum.join(other.rows[row]);
+        }
+        self.unresolved += other.unresolved;
+    }
+}
