@@ -35,8 +35,8 @@ impl<A: Allocator> Worker<A> {
         let _seat = &self.seat;
     }
 
-    /// What each worker keeps, said of this one: it finished no object twice, so no more objects than there are. Nothing
-    /// is done.
+    /// What each worker keeps, said of this one: it finished no object twice, so no more objects than there are.
+    /// Nothing is done.
     pub fn has_finished_few(&self)
         ensures once { (o : ℕ) → times o self.now.book.account.finished ≤ 1 }
         ensures few { length self.now.book.account.finished ≤ self.now.book.setup.objects }

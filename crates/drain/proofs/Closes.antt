@@ -63,4 +63,6 @@ module _ (g : ObjectGraph) (e : Setup) (setup : IsSetupOf (object_count g) g.roo
           tells.seen o (saw o there)
 
       sound : (o : ℕ) → holds o → IsReachable (IsRootOf g) (IsReferenceOf g) o
-      sound o here = let path = subst (λ (s : Setup). colours.IsReachable s o) made (tells.reachable o here) in path_there path.0 o path.1
+      sound o here =
+          let path = subst (λ (s : Setup). colours.IsReachable s o) made (tells.reachable o here) in
+          path_there path.0 o path.1

@@ -118,7 +118,8 @@ module _ (count : ℕ) (m : Measure) (bounded : IsMeasureOf count m) (objects : 
         omega (arith, ap (λ (s : Sum). s.count) here, sums, few, bounded.few_objects);
     bytes = λ n inside.
         let here = is.right n (omega (arith, inside, is.each)) in
-        let light : (o : ℕ) → weighs m n o ≤ 2 ^ 30 = λ o. at_most (m.row o == n) (m.bytes o) (2 ^ 30) (bounded.few_bytes o) in
+        let light : (o : ℕ) → weighs m n o ≤ 2 ^ 30 =
+            λ o. at_most (m.row o == n) (m.bytes o) (2 ^ 30) (bounded.few_bytes o) in
         let sums = few_in (weighs m n) (2 ^ 30) light in
         omega (arith, ap (λ (s : Sum). s.bytes) here, sums, few, bounded.few_objects);
     few_missing =

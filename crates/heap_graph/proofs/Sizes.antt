@@ -9,7 +9,8 @@ use Rattle.hprof_grammar.specs.Spelling.{Field, spelled}
 use Rattle.hprof_grammar.specs.Spelling.Field.{number, raw, type_code}
 use Rattle.hprof_grammar.specs.Spelling as spelling
 use Rattle.hprof_grammar.specs.Bounds.{IsStatic}
-use Rattle.hprof_grammar.specs.SubRecord.{IsSubRecord, Static, SubRecord, constant_fields, member_fields, spelling_of, static_fields}
+use Rattle.hprof_grammar.specs.SubRecord.{IsSubRecord, Static, SubRecord, constant_fields, member_fields, spelling_of}
+use Rattle.hprof_grammar.specs.SubRecord.{static_fields}
 use Rattle.hprof_grammar.specs.SubRecord.SubRecord.{class_dump, instance_dump, object_array_dump, primitive_array_dump, root}
 use Rattle.hprof_grammar.specs.Tables.{is_id_size, is_type_at, size_of}
 use Rattle.hprof_grammar.specs.declared.kinds.TypePlace.TheVariants.{InArray, InStatic}

@@ -4,11 +4,16 @@ use Rattle.std.specs.List.{AllByRecursion}
 use Rattle.hprof_grammar.specs.Bounds.{HasBounds, IsClass, IsConstant, IsMember, IsOrigin, IsStatic}
 use Rattle.hprof_grammar.specs.Spelling.{Fits}
 use Rattle.hprof_grammar.specs.Spelling.Field.{number}
-use Rattle.hprof_grammar.specs.SubRecord.{Class, Constant, HasSizes, IsFormed, Member, RootOrigin, Static, SubRecord, class_fields, constant_fields, fields_of, member_fields, origin_fields, static_fields, tag_of}
-use Rattle.hprof_grammar.specs.SubRecord.RootOrigin.{java_frame, jni_global, jni_local, monitor_used, native_stack, sticky_class, thread_block, thread_object, unknown}
-use Rattle.hprof_grammar.specs.SubRecord.SubRecord.{class_dump, instance_dump, object_array_dump, primitive_array_dump, root}
+use Rattle.hprof_grammar.specs.SubRecord.{Class, Constant, HasSizes, IsFormed, Member, RootOrigin, Static, SubRecord}
+use Rattle.hprof_grammar.specs.SubRecord.{class_fields, constant_fields, fields_of, member_fields, origin_fields}
+use Rattle.hprof_grammar.specs.SubRecord.{static_fields, tag_of}
+use Rattle.hprof_grammar.specs.SubRecord.RootOrigin.{java_frame, jni_global, jni_local, monitor_used, native_stack}
+use Rattle.hprof_grammar.specs.SubRecord.RootOrigin.{sticky_class, thread_block, thread_object, unknown}
+use Rattle.hprof_grammar.specs.SubRecord.SubRecord.{class_dump, instance_dump, object_array_dump}
+use Rattle.hprof_grammar.specs.SubRecord.SubRecord.{primitive_array_dump, root}
 use Rattle.hprof_grammar.specs.Tables.{is_sub_tag, size_of}
-use Rattle.hprof_grammar.specs.working.ClassParts.{counted_fields, fields_from_constants, fields_from_members, fields_from_statics}
+use Rattle.hprof_grammar.specs.working.ClassParts.{counted_fields, fields_from_constants, fields_from_members}
+use Rattle.hprof_grammar.specs.working.ClassParts.{fields_from_statics}
 use Rattle.hprof_grammar.proofs.Fields.{all_join, all_split}
 
 -- ---- from the fields to the bounds

@@ -3,8 +3,11 @@ use Rattle.std.proofs.Common.{List, [], length, refl, ℕ, ◌*◌, ◌<◌, ◌
 use Rattle.std.proofs.lemmas.List.Concat.{flat_map_single}
 use Rattle.hprof_grammar.specs.working.Reading.{class_at, constant_at, instance_at, member_at, number_at, numbers_at, object_array_at, pair_at, primitive_array_at, static_at}
 use Rattle.hprof_grammar.specs.Spelling.Field.{number}
-use Rattle.hprof_grammar.specs.Bounds.{IsClass, IsConstant, IsInstance, IsMember, IsObjectArray, IsPrimitiveArray, IsStatic}
-use Rattle.hprof_grammar.specs.SubRecord.{Class, Constant, Instance, Member, ObjectArray, PrimitiveArray, Static, class_fields, constant_fields, instance_fields, member_fields, object_array_fields, primitive_array_fields, static_fields}
+use Rattle.hprof_grammar.specs.Bounds.{IsClass, IsConstant, IsInstance, IsMember, IsObjectArray, IsPrimitiveArray}
+use Rattle.hprof_grammar.specs.Bounds.{IsStatic}
+use Rattle.hprof_grammar.specs.SubRecord.{Class, Constant, Instance, Member, ObjectArray, PrimitiveArray, Static}
+use Rattle.hprof_grammar.specs.SubRecord.{class_fields, constant_fields, instance_fields, member_fields}
+use Rattle.hprof_grammar.specs.SubRecord.{object_array_fields, primitive_array_fields, static_fields}
 use Rattle.hprof_grammar.specs.Tables.{size_of}
 use Rattle.hprof_grammar.specs.declared.kinds.TypePlace.TheVariants.{InArray, InConstant, InMember, InStatic}
 use Rattle.hprof_grammar.proofs.Format.{IsFormat, number_format, raw_format, type_format}

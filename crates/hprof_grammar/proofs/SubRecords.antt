@@ -5,7 +5,8 @@ use Rattle.hprof_grammar.specs.Fault.SubFault.{short, unknown_tag, wrong_type}
 use Rattle.hprof_grammar.specs.working.Reading.{as_at, body_at, code_of, lone_root, root_at, root_with, root_with_two, sub_record_at}
 use Rattle.hprof_grammar.specs.Spelling.{AreAllowed, Field, spelled}
 use Rattle.hprof_grammar.specs.Bounds.{HasBounds, IsRoot}
-use Rattle.hprof_grammar.specs.SubRecord.{IsFormed, IsSubRecord, RootOrigin, SubRecord, fields_of, root_fields, spelling_of, tag_of}
+use Rattle.hprof_grammar.specs.SubRecord.{IsFormed, IsSubRecord, RootOrigin, SubRecord, fields_of, root_fields}
+use Rattle.hprof_grammar.specs.SubRecord.{spelling_of, tag_of}
 use Rattle.hprof_grammar.specs.Kinds.{kind_of, origin_kind, root_tag}
 use Rattle.hprof_grammar.specs.SubRecord.RootOrigin.{java_frame, jni_global, jni_local, monitor_used, native_stack, sticky_class, thread_block, thread_object, unknown}
 use Rattle.hprof_grammar.specs.SubRecord.SubRecord.{class_dump, instance_dump, object_array_dump, primitive_array_dump, root}

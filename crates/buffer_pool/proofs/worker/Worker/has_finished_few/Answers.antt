@@ -1,4 +1,5 @@
--- A seat that is sound has a story that leads to its book, and lies in a pool whose roots and references are of objects.
+-- A seat that is sound has a story that leads to its book, and lies in a pool whose roots and references are of
+-- objects.
 use Rattle.std.proofs.Common.{length, subst, ℕ, ◌≤◌}
 use Rattle.mark_core.specs.Lists.{times}
 use Rattle.buffer_pool.specs.Calls.{Holder}
