@@ -48,9 +48,9 @@ module _ (m : Measure) (objects : List ℕ) (rows : List Sum) (missing o : ℕ) 
       ∙ get_or-set_same rows (m.row o) _ no_object (omega (arith, was.each, inside))
       ∙ ap (λ s. one_more s (m.bytes o)) (ap (λ k. get_or rows k no_object) (sym same) ∙ was.right n below)
       ∙ (λ k. record {
-          count = before.count + cond (sym hit k) 1 0;
-          bytes = before.bytes + cond (sym hit k) (m.bytes o) 0;
-        })
+        count = before.count + cond (sym hit k) 1 0;
+        bytes = before.bytes + cond (sym hit k) (m.bytes o) 0;
+      })
       ∙ sym (sum_push m n objects o)
 
   in_another : (n : ℕ) → n < m.rows → (n ≡ m.row o → ⊥) → get_or more n no_object ≡ sum_in m n (objects ++ o ∷ [])
@@ -62,9 +62,9 @@ module _ (m : Measure) (objects : List ℕ) (rows : List Sum) (missing o : ℕ) 
       ∙ was.right n below
       ∙ (λ k. record { count = zero_more before.count k; bytes = zero_more before.bytes k })
       ∙ (λ k. record {
-          count = before.count + cond (sym miss k) 1 0;
-          bytes = before.bytes + cond (sym miss k) (m.bytes o) 0;
-        })
+        count = before.count + cond (sym miss k) 1 0;
+        bytes = before.bytes + cond (sym miss k) (m.bytes o) 0;
+      })
       ∙ sym (sum_push m n objects o)
 
   pub one_tallied : IsTallyOf m (objects ++ o ∷ []) more (missing + m.missing o)
@@ -85,7 +85,7 @@ pub both_tallied :
     (m : Measure) (xs ys : List ℕ) (a b c : List Sum) (p q : ℕ) → IsTallyOf m xs a p → IsTallyOf m ys b q
     → length c ≡ m.rows
     → ((n : ℕ) → n < m.rows
-      → slice_index_or c n no_object ≡ together (slice_index_or a n no_object) (slice_index_or b n no_object))
+    → slice_index_or c n no_object ≡ together (slice_index_or a n no_object) (slice_index_or b n no_object))
     → IsTallyOf m (xs ++ ys) c (p + q)
 both_tallied m xs ys a b c p q first second long added = record {
   each = long;
@@ -93,9 +93,9 @@ both_tallied m xs ys a b c p q first second long added = record {
       added n below
       ∙ (λ k. together (first.right n below k) (second.right n below k))
       ∙ (λ k. record {
-          count = sym (sum_by-append (counts m n) xs ys) k;
-          bytes = sym (sum_by-append (weighs m n) xs ys) k;
-        });
+        count = sym (sum_by-append (counts m n) xs ys) k;
+        bytes = sym (sum_by-append (weighs m n) xs ys) k;
+      });
   missing_is = omega (arith, first.missing_is, second.missing_is, sum_by-append m.missing xs ys);
 }
 
@@ -119,7 +119,7 @@ module _ (count : ℕ) (m : Measure) (bounded : IsMeasureOf count m) (objects : 
     bytes = λ n inside.
         let here = is.right n (omega (arith, inside, is.each)) in
         let light : (o : ℕ) → weighs m n o ≤ 2 ^ 30 =
-            λ o. at_most (m.row o == n) (m.bytes o) (2 ^ 30) (bounded.few_bytes o) in
+        λ o. at_most (m.row o == n) (m.bytes o) (2 ^ 30) (bounded.few_bytes o) in
         let sums = few_in (weighs m n) (2 ^ 30) light in
         omega (arith, ap (λ (s : Sum). s.bytes) here, sums, few, bounded.few_objects);
     few_missing =

@@ -4,8 +4,8 @@ ghost use Rattle.drain.specs.working.Tallying.{HasSmallSums, Tallies};
 ghost use Rattle.drain.specs.working.Tallies.{Measure};
 ghost use Rattle.drain.specs.working.Scans.{IsScanOf};
 
-use crate::sum::Sum;
 use crate::scanned::Scanned;
+use crate::sum::Sum;
 use std::alloc::{AllocError, Allocator};
 
 /// Of each row, by its place, how many objects and how many bytes it has, and how many identifiers of all these objects

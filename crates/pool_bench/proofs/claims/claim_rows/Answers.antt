@@ -7,5 +7,5 @@ pub claim_part-requires-clause-roots : goal.claim_part-requires-clause-roots
 claim_part-requires-clause-roots c =
     λ o below.
     let roots = same_roots c.args.sizes.objects c.args.worker.now c.loop-round.worker c.loop-round.invariant
-        c.requires.roots in
+    c.requires.roots in
     roots o (omega (arith, below, c.min-to.ensures))

@@ -15,8 +15,8 @@ nowhere o is = go (ℕ_discrete (o % 4096) 0)
     go (no other) =
         let below : o % 4096 < 4096 = omega arith in
         let zero : slice_index (slice_set (replicate 4096 0) 0 1) (o % 4096) ≡ 0 =
-            get_or-set_other (replicate 4096 0) 0 (o % 4096) 1 0 other
-            ∙ get_or-replicate 4096 (o % 4096) 0 0 below in
+        get_or-set_other (replicate 4096 0) 0 (o % 4096) 1 0 other
+        ∙ get_or-replicate 4096 (o % 4096) 0 0 below in
         other (omega (arith, zero, is))
 
 pub returns : goal.returns

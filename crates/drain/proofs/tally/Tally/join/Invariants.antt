@@ -9,6 +9,6 @@ invariant-loop-row g l =
     let now = l.self.rows.items in
     (length now ≡ length was) × (l.self.unresolved ≡ l.initial.self.unresolved)
     × ((n : ℕ) → n < l.row
-      → slice_index_or now n no_object
-      ≡ together (slice_index_or was n no_object) (slice_index_or l.other.rows.items n no_object))
+    → slice_index_or now n no_object
+    ≡ together (slice_index_or was n no_object) (slice_index_or l.other.rows.items n no_object))
     × ((n : ℕ) → l.row ≤ n → slice_index_or now n no_object ≡ slice_index_or was n no_object)
