@@ -54,6 +54,11 @@ def answer(program, words, **how):
     return Answer(ran.returncode, ran.stdout, refusal[1] if refusal else "")
 
 
+def heed_interrupts():
+    """What a shell starts in the background ignores them, and so would what it starts."""
+    signal.signal(signal.SIGINT, signal.SIG_DFL)
+
+
 class Rough:
     """One dump, and what is known of it."""
 
@@ -169,7 +174,9 @@ class Rough:
         answer(HEAPMARK, [self.dump])
         takes = time.monotonic() - start
         for _ in range(self.count // 20):
-            run = subprocess.Popen([HEAPMARK, self.dump], stdout=subprocess.PIPE, stderr=subprocess.PIPE)
+            run = subprocess.Popen(
+                [HEAPMARK, self.dump], stdout=subprocess.PIPE, stderr=subprocess.PIPE, preexec_fn=heed_interrupts
+            )
             time.sleep(self.chance.uniform(0, takes))
             run.send_signal(signal.SIGINT)
             out, told = run.communicate(timeout=PATIENCE)
