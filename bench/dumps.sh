@@ -10,6 +10,7 @@
 #   large      Filler with 600 MB, by G1, live
 #   tools      jshell, the virtual machine that it starts, and javac at work
 #   scattered  2,000,000 nodes that refer to one another at random, and a map of them
+#   random     the same with 4,000,000 nodes: 12,000,000 objects
 #   list       one list of 1,000,000 nodes, which ends in a tree of as many, and one of 4,000,000 that ends in one node
 #   map        one map of 4,000,000 entries
 #   odd        no compressed references, no class archive, a dump written at the end of memory
@@ -72,8 +73,18 @@ shaped() {
     ended
 }
 
+# scattered_nodes NAME NODES: the young generation has room for all entries of the map, since a collection amid them
+# would put them in the order of the map's table.
+scattered_nodes() {
+    shaped "$1" -Xms2g -Xmn1g Scattered "$2"
+}
+
 scattered() {
-    shaped scattered-g1-live Scattered 2000000
+    scattered_nodes scattered-g1-live 2000000
+}
+
+random() {
+    scattered_nodes random-g1-live 4000000
 }
 
 list() {
@@ -141,10 +152,10 @@ tools() {
 
 mkdir -p "$room"
 "${java}javac" -d "$room/classes" "$top"/bench/java/*.java
-[ $# -gt 0 ] || set -- small medium large tools scattered list map odd refused
+[ $# -gt 0 ] || set -- small medium large tools scattered random list map odd refused
 for group; do
     case $group in
-        small | medium | large | tools | scattered | list | map | odd | refused) "$group" ;;
+        small | medium | large | tools | scattered | random | list | map | odd | refused) "$group" ;;
         *) echo "no such group: $group" >&2; exit 2 ;;
     esac
 done

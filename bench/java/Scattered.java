@@ -39,15 +39,20 @@ public final class Scattered {
 
     /**
      * Makes all in one order and joins them in another. The collector puts young objects one behind another as it finds
-     * them; so all are old before they are joined.
+     * them; so all are old before they are joined. Of the map's entries, which come last, this holds only where the
+     * young generation has room for all of them.
      */
     static void fill(int count) {
         Node[] nodes = new Node[count];
         Value[] values = new Value[count];
+        Long[] keys = new Long[count / 2];
         for (int number = 0; number < count; number++) {
             nodes[number] = new Node();
             values[number] = new Value();
             values[number].number = number;
+        }
+        for (int entry = 0; entry < keys.length; entry++) {
+            keys[entry] = RANDOM.nextLong();
         }
         System.gc();
         int[] order = shuffled(count);
@@ -60,8 +65,8 @@ public final class Scattered {
             node.value.owner = nodes[RANDOM.nextInt(count)];
         }
         first = nodes[order[0]];
-        for (int entry = 0; entry < count / 2; entry++) {
-            BY_NUMBER.put(RANDOM.nextLong(), nodes[RANDOM.nextInt(count)]);
+        for (Long key : keys) {
+            BY_NUMBER.put(key, nodes[RANDOM.nextInt(count)]);
         }
     }
 

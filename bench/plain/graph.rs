@@ -2,6 +2,7 @@
 
 use crate::dump::{Dump, Fault, Text, fault};
 use crate::index::{ById, Index};
+use crate::tally::{Rows, Visit};
 
 const OBJECTS: usize = 16_777_216;
 
@@ -91,7 +92,7 @@ impl<'a, const ID: usize> Graph<'a, ID> {
 
     /// Notes the fields of type 2 of the class there, and answers the size of all of its own fields.
     fn take_fields(&mut self, at: usize) -> u64 {
-        let mut place = self.text.statics_of(at, |_, _| {});
+        let mut place = self.text.values_of(at, |_, _, _| {});
         let mut size = 0;
         for _ in 0..self.text.u2(place) {
             let code = self.text.bytes[place + 2 + ID];
@@ -183,39 +184,65 @@ impl<'a, const ID: usize> Graph<'a, ID> {
     }
 
     /// The number of the class of the instance or object array there.
-    pub fn class_of(&self, at: usize) -> u32 {
+    fn class_of(&self, at: usize) -> u32 {
         self.class_numbers[&self.text.class_id(at)]
     }
 
-    /// Each reference of the object that is not null: an object, or None where there is none of that ID.
-    pub fn each_reference(&self, object: u32, mut take: impl FnMut(Option<u32>)) {
+    pub fn rows(&self) -> Rows {
+        Rows { classes: self.classes.len() as u32 }
+    }
+
+    /// Gives each object that this one refers to, and answers what else its bytes tell. They are read this once, and
+    /// each of its IDs is looked up once.
+    pub fn visit(&self, object: u32, mut take: impl FnMut(u32)) -> Visit {
         let at = self.at(object);
-        let mut take_id = |id| {
+        let mut unresolved = 0;
+        let take_id = |id| {
             if id != 0 {
-                take(self.find(id));
+                match self.find(id) {
+                    Some(target) => take(target),
+                    None => unresolved += 1,
+                }
             }
         };
-        match self.text.bytes[at] {
-            0x20 => {
-                (0..4).for_each(|place| take_id(self.text.id(at + 5 + ID + place * ID)));
-                self.text.statics_of(at, |place, code| {
-                    if code == 2 {
-                        take_id(self.text.id(place));
-                    }
-                });
-            }
+        let (row, bytes) = match self.text.bytes[at] {
+            0x20 => (self.rows().of_class_objects(), self.visit_class(at, take_id)),
             0x21 => {
-                let class = &self.classes[self.class_of(at) as usize];
+                let row = self.class_of(at);
+                let class = &self.classes[row as usize];
                 self.each_field(at, class, take_id);
-                take(Some(class.object));
+                take(class.object);
+                (row, self.text.u4(at + 5 + 2 * ID))
             }
             0x22 => {
+                let row = self.class_of(at);
                 let elements = &self.text.bytes[at + 9 + 2 * ID..][..self.text.u4(at + 5 + ID) * ID];
-                elements.chunks_exact(ID).for_each(|element| take_id(Text::<ID> { bytes: element }.id(0)));
-                take(Some(self.classes[self.class_of(at) as usize].object));
+                elements.chunks_exact(ID).map(|element| Text::<ID> { bytes: element }.id(0)).for_each(take_id);
+                take(self.classes[row as usize].object);
+                (row, elements.len())
             }
-            _ => {}
-        }
+            _ => {
+                let code = self.text.bytes[at + 9 + ID];
+                let bytes = self.text.u4(at + 5 + ID) * self.text.size_of_type(code).unwrap();
+                (self.rows().of_primitives(code), bytes)
+            }
+        };
+        Visit { row, bytes: bytes as u32, unresolved }
+    }
+
+    /// Gives each ID of the class there, and answers the bytes of its static values.
+    fn visit_class(&self, at: usize, mut take: impl FnMut(u64)) -> usize {
+        (0..4).for_each(|place| take(self.text.id(at + 5 + ID + place * ID)));
+        let mut bytes = 0;
+        self.text.values_of(at, |value, place, code| {
+            if code == 2 {
+                take(self.text.id(place));
+            }
+            if value == Value::Static {
+                bytes += self.text.size_of_type(code).unwrap();
+            }
+        });
+        bytes
     }
 
     fn each_field(&self, at: usize, lowest: &Class, mut take: impl FnMut(u64)) {
@@ -239,9 +266,16 @@ impl<'a, const ID: usize> Graph<'a, ID> {
     }
 }
 
+/// Which of a class's values one is.
+#[derive(Clone, Copy, PartialEq)]
+enum Value {
+    Constant,
+    Static,
+}
+
 impl<const ID: usize> Text<'_, ID> {
     /// The class ID of the instance or object array there.
-    pub fn class_id(&self, at: usize) -> u64 {
+    fn class_id(&self, at: usize) -> u64 {
         match self.bytes[at] {
             0x21 => self.id(at + 5 + ID),
             _ => self.id(at + 9 + ID),
@@ -249,14 +283,14 @@ impl<const ID: usize> Text<'_, ID> {
     }
 
     /// The place and type of each constant and each static value of the class there; answers where its fields begin.
-    pub fn statics_of(&self, at: usize, mut take: impl FnMut(usize, u8)) -> usize {
+    fn values_of(&self, at: usize, mut take: impl FnMut(Value, usize, u8)) -> usize {
         let mut place = at + 9 + 7 * ID;
-        for name in [2, ID] {
+        for (value, name) in [(Value::Constant, 2), (Value::Static, ID)] {
             let count = self.u2(place);
             place += 2;
             for _ in 0..count {
                 let code = self.bytes[place + name];
-                take(place + name + 1, code);
+                take(value, place + name + 1, code);
                 place += name + 1 + self.size_of_type(code).unwrap();
             }
         }

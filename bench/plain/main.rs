@@ -3,8 +3,10 @@
 //! usage: `plain FILE [--threads N] [--references table|bytes] [--count reachable|all]`
 //!
 //! Written to be measured beside `heapmark`, and to agree with it to the byte. Without `--threads` one thread marks and
-//! no step is atomic. `--count all` reports each object of the dump as if it were reachable. How long each phase took,
-//! what was read and the peak of memory go to standard error.
+//! no step is atomic. Each object is visited once, for its references and to be counted: with `--references bytes` in
+//! the dump's bytes; else in a table that is made of them beforehand, in the phase `references`. `--count all` reports
+//! each object of the dump as if it were reachable. How long each phase took, what was read and the peak of memory go
+//! to standard error.
 
 mod dump;
 mod graph;
@@ -13,11 +15,12 @@ mod mark;
 mod report;
 #[cfg(test)]
 mod rows;
+mod tally;
 
 use dump::{Fault, LIMIT, Text, identifier_size};
 use graph::Graph;
 use index::Index;
-use mark::{Successors, Table, mark, mark_with};
+use mark::{Heap, Table, mark, mark_all, mark_with, unmarked};
 use std::fs::File;
 use std::io::{self, Read, Write};
 use std::process::ExitCode;
@@ -84,14 +87,6 @@ fn read_file(name: &str) -> io::Result<Vec<u8>> {
     Ok(bytes)
 }
 
-fn marks_of<const ID: usize>(graph: &Graph<ID>, edges: &impl Successors, roots: &[u32], options: Options) -> Vec<bool> {
-    match options.threads {
-        _ if options.all => vec![true; graph.len()],
-        None => mark(edges, graph.len(), roots),
-        Some(threads) => mark_with(threads, edges, graph.len(), roots),
-    }
-}
-
 fn run<const ID: usize>(bytes: &[u8], options: Options, clock: &mut Clock) -> Result<String, Fault> {
     let text = Text::<ID> { bytes };
     let dump = text.parse()?;
@@ -99,25 +94,35 @@ fn run<const ID: usize>(bytes: &[u8], options: Options, clock: &mut Clock) -> Re
     let index = Index::new(dump.objects.iter().map(|at| text.id(*at as usize + 1)));
     clock.tell("index");
     let graph = Graph::new(text, dump, index)?;
-    let (roots, mut unresolved) = graph.roots();
+    let (roots, unresolved) = graph.roots();
     clock.tell("link");
-    let marks = if options.table {
-        let (table, missing) = Table::new(&graph);
-        unresolved += missing;
-        clock.tell("references");
-        eprintln!("references {}", table.len());
-        marks_of(&graph, &table, &roots, options)
-    } else {
-        for object in 0..graph.len() as u32 {
-            graph.each_reference(object, |target| unresolved += u64::from(target.is_none()));
-        }
-        clock.tell("references");
-        marks_of(&graph, &graph, &roots, options)
+    eprintln!("objects {}", graph.len());
+    if !options.table {
+        return Ok(histogram(&graph, &graph, &roots, unresolved, options, clock));
+    }
+    let (table, missing) = Table::new(&graph);
+    clock.tell("references");
+    eprintln!("references {}", table.references());
+    Ok(histogram(&graph, &table, &roots, unresolved + missing, options, clock))
+}
+
+/// Marks the objects of the graph, and reports on them; some IDs are known to name none.
+fn histogram<const ID: usize>(
+    graph: &Graph<ID>,
+    heap: &impl Heap,
+    roots: &[u32],
+    unresolved: u64,
+    options: Options,
+    clock: &mut Clock,
+) -> String {
+    let (marks, reachable) = match options.threads {
+        _ if options.all => mark_all(heap),
+        None => mark(heap, roots),
+        Some(threads) => mark_with(threads, heap, roots),
     };
     clock.tell("mark");
-    let text = report::report(&graph, &marks, unresolved);
-    eprintln!("objects {}", graph.len());
-    Ok(text)
+    let (unreachable, missing) = unmarked(heap, &marks);
+    report::report(graph, &reachable, unreachable, unresolved + reachable.unresolved + missing)
 }
 
 fn marked(bytes: &[u8], options: Options, clock: &mut Clock) -> Result<String, Fault> {

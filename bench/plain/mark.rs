@@ -1,59 +1,90 @@
-//! Marking from the roots: by one thread, or by several that share chunks of work.
+//! Marking from the roots, with a tally of what is marked: by one thread, or by several that share chunks of work.
 
 use crate::graph::Graph;
+use crate::tally::{Rows, Sum, Tally, Visit};
 use std::sync::atomic::{AtomicU8, AtomicUsize, Ordering::Relaxed};
 use std::sync::{Condvar, Mutex};
 use std::thread;
 
-/// The objects that an object refers to.
-pub trait Successors: Sync {
-    fn each_successor(&self, object: u32, take: impl FnMut(u32));
+/// Objects by number, each to be visited once.
+pub trait Heap: Sync {
+    fn objects(&self) -> usize;
+
+    fn rows(&self) -> Rows;
+
+    /// Gives each object that this one refers to.
+    fn visit(&self, object: u32, take: impl FnMut(u32)) -> Visit;
 }
 
-/// Read from the dump's bytes each time, with a look-up for each reference.
-impl<const ID: usize> Successors for Graph<'_, ID> {
-    fn each_successor(&self, object: u32, mut take: impl FnMut(u32)) {
-        self.each_reference(object, |target| target.into_iter().for_each(&mut take));
+/// Read from the dump's bytes, with a look-up for each reference.
+impl<const ID: usize> Heap for Graph<'_, ID> {
+    fn objects(&self) -> usize {
+        self.len()
+    }
+
+    fn rows(&self) -> Rows {
+        self.rows()
+    }
+
+    fn visit(&self, object: u32, take: impl FnMut(u32)) -> Visit {
+        self.visit(object, take)
     }
 }
 
-/// Looked up beforehand: one flat list, in which each object has a part.
+/// Visited beforehand: a part of one flat list for each object, up to that of the next, and what its bytes told.
 pub struct Table {
-    begins: Vec<u32>,
+    rows: Rows,
+    entries: Vec<Entry>,
     targets: Vec<u32>,
+}
+
+#[derive(Clone, Copy)]
+struct Entry {
+    begin: u32,
+    row: u32,
+    bytes: u32,
 }
 
 impl Table {
     /// The table, and how many references name no object.
     pub fn new<const ID: usize>(graph: &Graph<ID>) -> (Table, u64) {
-        let mut table = Table { begins: Vec::with_capacity(graph.len() + 1), targets: vec![] };
-        let mut unresolved = 0;
+        let mut table = Table { rows: graph.rows(), entries: Vec::with_capacity(graph.len()), targets: vec![] };
+        let mut missing = 0;
         for object in 0..graph.len() as u32 {
-            table.begins.push(table.targets.len() as u32);
-            graph.each_reference(object, |target| match target {
-                Some(target) => table.targets.push(target),
-                None => unresolved += 1,
-            });
+            let begin = table.targets.len() as u32;
+            let Visit { row, bytes, unresolved } = graph.visit(object, |target| table.targets.push(target));
+            table.entries.push(Entry { begin, row, bytes });
+            missing += u64::from(unresolved);
         }
-        table.begins.push(table.targets.len() as u32);
-        (table, unresolved)
+        (table, missing)
     }
 
-    pub fn len(&self) -> usize {
+    pub fn references(&self) -> usize {
         self.targets.len()
     }
 }
 
-impl Successors for Table {
-    fn each_successor(&self, object: u32, take: impl FnMut(u32)) {
-        let (begin, end) = (self.begins[object as usize], self.begins[object as usize + 1]);
-        self.targets[begin as usize..end as usize].iter().copied().for_each(take);
+impl Heap for Table {
+    fn objects(&self) -> usize {
+        self.entries.len()
+    }
+
+    fn rows(&self) -> Rows {
+        self.rows
+    }
+
+    fn visit(&self, object: u32, take: impl FnMut(u32)) -> Visit {
+        let Entry { begin, row, bytes } = self.entries[object as usize];
+        let end = self.entries.get(object as usize + 1).map_or(self.targets.len(), |next| next.begin as usize);
+        self.targets[begin as usize..end].iter().copied().for_each(take);
+        Visit { row, bytes, unresolved: 0 }
     }
 }
 
-/// For each object whether it is reachable.
-pub fn mark(edges: &impl Successors, objects: usize, roots: &[u32]) -> Vec<bool> {
-    let mut marks = vec![false; objects];
+/// For each object whether it is reachable, and the tally of those that are.
+pub fn mark(heap: &impl Heap, roots: &[u32]) -> (Vec<bool>, Tally) {
+    let mut marks = vec![false; heap.objects()];
+    let mut tally = Tally::new(heap.rows());
     let mut stack = vec![];
     let mut claim = |object: u32, stack: &mut Vec<u32>| {
         if !std::mem::replace(&mut marks[object as usize], true) {
@@ -62,9 +93,27 @@ pub fn mark(edges: &impl Successors, objects: usize, roots: &[u32]) -> Vec<bool>
     };
     roots.iter().for_each(|root| claim(*root, &mut stack));
     while let Some(object) = stack.pop() {
-        edges.each_successor(object, |target| claim(target, &mut stack));
+        tally.add(heap.visit(object, |target| claim(target, &mut stack)));
     }
-    marks
+    (marks, tally)
+}
+
+/// Each object as if it were reachable.
+pub fn mark_all(heap: &impl Heap) -> (Vec<bool>, Tally) {
+    let mut tally = Tally::new(heap.rows());
+    (0..heap.objects() as u32).for_each(|object| tally.add(heap.visit(object, |_| {})));
+    (vec![true; heap.objects()], tally)
+}
+
+/// The sum of the objects that are not marked, and how many of their references name no object.
+pub fn unmarked(heap: &impl Heap, marks: &[bool]) -> (Sum, u64) {
+    let (mut sum, mut unresolved) = (Sum::default(), 0);
+    for (object, _) in (0..).zip(marks).filter(|(_, marked)| !**marked) {
+        let visit = heap.visit(object, |_| {});
+        sum.add(visit.sum());
+        unresolved += u64::from(visit.unresolved);
+    }
+    (sum, unresolved)
 }
 
 const CHUNK: usize = 64;
@@ -75,8 +124,8 @@ struct Waiting {
     hungry: usize,
 }
 
-struct Workers<'a, S> {
-    edges: &'a S,
+struct Workers<'a, H> {
+    heap: &'a H,
     marks: Vec<AtomicU8>,
     threads: usize,
     waiting: Mutex<Waiting>,
@@ -85,23 +134,24 @@ struct Workers<'a, S> {
     hungry: AtomicUsize,
 }
 
-pub fn mark_with(threads: usize, edges: &impl Successors, objects: usize, roots: &[u32]) -> Vec<bool> {
-    let marks: Vec<_> = (0..objects).map(|_| AtomicU8::new(0)).collect();
+/// As `mark`, by so many workers. Each has a tally of its own, of what it visits.
+pub fn mark_with(threads: usize, heap: &impl Heap, roots: &[u32]) -> (Vec<bool>, Tally) {
+    let marks: Vec<_> = (0..heap.objects()).map(|_| AtomicU8::new(0)).collect();
     let waiting = Mutex::new(Waiting { chunks: vec![], hungry: 0 });
-    let workers = Workers { edges, marks, threads, waiting, came: Condvar::new(), hungry: AtomicUsize::new(0) };
+    let workers = Workers { heap, marks, threads, waiting, came: Condvar::new(), hungry: AtomicUsize::new(0) };
     let mut stack = vec![];
     roots.iter().for_each(|root| workers.claim(*root, &mut stack));
     let part = stack.len() / threads + 1;
     workers.waiting.lock().unwrap().chunks.extend(stack.chunks(part).map(<[u32]>::to_vec));
+    let mut tally = Tally::new(heap.rows());
     thread::scope(|scope| {
-        for _ in 0..threads {
-            scope.spawn(|| workers.work());
-        }
+        let started: Vec<_> = (0..threads).map(|_| scope.spawn(|| workers.work())).collect();
+        started.into_iter().for_each(|worker| tally.join(worker.join().unwrap()));
     });
-    workers.marks.into_iter().map(|mark| mark.into_inner() != 0).collect()
+    (workers.marks.into_iter().map(|mark| mark.into_inner() != 0).collect(), tally)
 }
 
-impl<S: Successors> Workers<'_, S> {
+impl<H: Heap> Workers<'_, H> {
     fn claim(&self, object: u32, stack: &mut Vec<u32>) {
         let mark = &self.marks[object as usize];
         if mark.load(Relaxed) == 0 && mark.swap(1, Relaxed) == 0 {
@@ -109,15 +159,17 @@ impl<S: Successors> Workers<'_, S> {
         }
     }
 
-    fn work(&self) {
+    fn work(&self) -> Tally {
+        let mut tally = Tally::new(self.heap.rows());
         while let Some(mut stack) = self.next_chunk() {
             while let Some(object) = stack.pop() {
-                self.edges.each_successor(object, |target| self.claim(target, &mut stack));
+                tally.add(self.heap.visit(object, |target| self.claim(target, &mut stack)));
                 if stack.len() >= 2 * CHUNK && self.hungry.load(Relaxed) > 0 {
                     self.share(&mut stack);
                 }
             }
         }
+        tally
     }
 
     /// Gives the oldest half of a stack away, in chunks.

@@ -151,6 +151,20 @@ fn faults_of_links() {
 }
 
 #[test]
+fn ids_that_name_nothing() {
+    let file = named().heap(|heap| {
+        let classes = heap.class(0x100, 0, &[2]).class_with(0x110, [0; 4], &[], &[(2, &id(0x901))]);
+        let instances = classes.instance(0x201, 0x100, &id(0x902)).instance(0x202, 0x100, &id(0x903));
+        instances.objects(0x203, 0x100, &[0x904, 0, 0x201, 0x905]).root(0x201).root(0x906)
+    });
+    gives(file.clone(), "1 4 A, 1 0 <class>, R 2 4, U 3 24, X 6");
+    for table in [true, false] {
+        let all = short(&file, Options { threads: None, table, all: true });
+        assert_eq!(all, "3 24 A, 2 4 <class>, R 5 28, U 0 0, X 6");
+    }
+}
+
+#[test]
 fn references_of_a_class() {
     let values = id(0x205);
     let heap = |heap: File| {
