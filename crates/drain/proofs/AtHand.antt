@@ -11,7 +11,7 @@ use Rattle.buffer_pool.specs.Calls.{Holder}
 use Rattle.work_pair.specs.Deals.{Deals}
 use Rattle.work_pair.specs.Places.{AreOfSize, IsBacked, IsOpen, Places, buffered_items, items_of, no_places, without_spill}
 use Rattle.work_pair.proofs.Calls.{none_last}
-use Rattle.drain.specs.working.AtWork.{AreClaimed, CameFrom, GoesOn, HasAtHand, IsAtWork, IsFree, MayClaim}
+use Rattle.drain.specs.working.AtWork.{AreClaimed, CameFrom, GoesOn, HasAtHand, IsAtWork, IsFree, MayClaim, WorksOn}
 
 pub came_at_all : (w : Holder) → CameFrom w w
 came_at_all w = record { pool = refl; setup = refl; share = refl; seen = λ o h. h }
@@ -25,10 +25,24 @@ came_again a b c s t = record {
 }
 
 pub goes_on_at_all : (w : Holder) → GoesOn w w
-goes_on_at_all w = record { came = came_at_all w; idle = refl }
+goes_on_at_all w = record { came = came_at_all w; idle = refl; finished = refl }
 
 pub goes_on_again : (a b c : Holder) → GoesOn a b → GoesOn b c → GoesOn a c
-goes_on_again a b c s t = record { came = came_again a b c s.came t.came; idle = t.idle ∙ s.idle }
+goes_on_again a b c s t = record {
+  came = came_again a b c s.came t.came;
+  idle = t.idle ∙ s.idle;
+  finished = t.finished ∙ s.finished;
+}
+
+pub works_on_at_all : (w : Holder) → WorksOn w w
+works_on_at_all w = record { came = came_at_all w; idle = refl }
+
+pub works_on_again : (a b c : Holder) → WorksOn a b → WorksOn b c → WorksOn a c
+works_on_again a b c s t = record { came = came_again a b c s.came t.came; idle = t.idle ∙ s.idle }
+
+-- one that goes on works on
+pub works : (a b : Holder) → GoesOn a b → WorksOn a b
+works a b on = record { came = on.came; idle = on.idle }
 
 -- who has the share and the idle number of a busy one is busy
 pub busy_on : (a b : Account) → b.share ≡ a.share → b.idle ≡ a.idle → IsBusy a → IsBusy b
@@ -109,6 +123,7 @@ module _ (old : Places) (before : Holder) (put got : List ℕ) (new : Places) (a
       seen = λ o h. subst (λ (xs : List ℕ). Contains xs o) (sym deals.kept.seen) h;
     };
     idle = deals.kept.idle;
+    finished = deals.kept.finished;
   }
 
 -- what may be claimed by what the worker has at hand
@@ -145,6 +160,7 @@ module _ (old new : Holder) (pool : new.pool ≡ old.pool) (o found : ℕ) (is :
           (Contains-append_left old.book.account.seen (o ∷ []) x h);
     };
     idle = idle_is;
+    finished = ap (λ (c : Book). c.account.finished) is;
   }
 
   pub claimed_busy : IsBusy old.book.account → IsBusy new.book.account
@@ -221,7 +237,7 @@ module _ (o : ℕ) (p : Places) (mid : Holder) (at_work : IsAtWork p (o ∷ []) 
   may_finish saw = (times_stands mid.book.account.charge o charged, saw)
 
   pub scanned : (new : Holder) → new.pool ≡ mid.pool → new.book ≡ finished o mid.book
-      → GoesOn mid new × IsAtWork p [] new
+      → WorksOn mid new × IsAtWork p [] new
   scanned new pool is =
       let setup = ap (λ (c : Book). c.setup) is in
       let share = ap (λ (c : Book). c.account.share) is in

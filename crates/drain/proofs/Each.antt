@@ -1,7 +1,7 @@
 -- What holds of each element of a list holds of the first, and of each of the others, and of one more behind them.
-use Rattle.std.proofs.Common.{◌≡◌, ℕ, suc, ◌+◌, ◌<◌, ◌≤◌, List, [], ◌∷◌, ◌++◌, length, get_or, subst, sym, ⊎_elim, arith}
+use Rattle.std.proofs.Common.{◌≡◌, ℕ, suc, ◌+◌, ◌<◌, ◌≤◌, List, [], ◌∷◌, ◌++◌, All, length, get_or, ap, refl, subst, sym, ◌∙◌, ⊎_elim, arith}
 use Rattle.std.proofs.lemmas.Bool.{cases_lt}
-use Rattle.std.proofs.lemmas.List.{get_or_append_left, get_or_push}
+use Rattle.std.proofs.lemmas.List.{get_or_append_left, get_or_push, length_push}
 
 module _ {X : Type 0} (P : X → Type 0) (len : ℕ) (xs rest : List X) (x : X) (is : xs ≡ x ∷ rest) (all : (k : ℕ) (d : X) → k < len → P (get_or xs k d)) where
   pub first_holds : 0 < len → P x
@@ -17,3 +17,28 @@ pushed_holds {X} P xs ys x n long is all last k d below =
     (λ (low : k < n). subst P (sym (get_or_append_left xs (x ∷ []) d k (omega (arith, low, long)))) (all k d low))
     (λ (high : n ≤ k). subst P (sym (get_or_push xs x d k (omega (arith, high, below, long)))) last)
     (cases_lt k n))
+
+-- and where the last is taken away, of it and of those that are left
+module _ {X : Type 0} (P : X → Type 0) (old left : List X) (x : X) (is : old ≡ left ++ x ∷ []) (all : All P old) where
+  long : length old ≡ length left + 1
+  long = ap (λ (ys : List X). length ys) is ∙ length_push left x
+
+  pub last_holds : P x
+  last_holds =
+      let here : get_or old (length left) x ≡ x =
+      ap (λ (ys : List X). get_or ys (length left) x) is ∙ get_or_push left x x (length left) refl
+      in
+      subst P here (all (length left) x (omega (arith, long)))
+
+  pub left_hold : All P left
+  left_hold k d below =
+      let here : get_or old k d ≡ get_or left k d =
+      ap (λ (ys : List X). get_or ys k d) is ∙ get_or_append_left left (x ∷ []) d k below
+      in
+      subst P here (all k d (omega (arith, below, long)))
+
+-- where it holds of each and of one more
+pub more_hold : {X : Type 0} (P : X → Type 0) (xs : List X) (x : X) → All P xs → P x → All P (xs ++ x ∷ [])
+more_hold P xs x all last k d below =
+    pushed_holds P xs (xs ++ x ∷ []) x (length xs) refl refl (λ j e low. all j e low) last k d
+    (omega (arith, below, length_push xs x))

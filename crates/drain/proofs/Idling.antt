@@ -39,7 +39,8 @@ module _ (begun old new : Holder) (pool : new.pool ≡ old.pool) where
   -- a book that differs in none of these
   module _ (b : Book) (is : new.book ≡ b) (setup : b.setup ≡ old.book.setup)
       (share : b.account.share ≡ old.book.account.share) (held : b.account.held ≡ old.book.account.held)
-      (charge : b.account.charge ≡ old.book.account.charge) (seen : b.account.seen ≡ old.book.account.seen) where
+      (charge : b.account.charge ≡ old.book.account.charge) (seen : b.account.seen ≡ old.book.account.seen)
+      (finished : b.account.finished ≡ old.book.account.finished) where
     seen_is : new.book.account.seen ≡ old.book.account.seen
     seen_is = ap (λ (c : Book). c.account.seen) is ∙ seen
 
@@ -56,6 +57,7 @@ module _ (begun old new : Holder) (pool : new.pool ≡ old.pool) where
       came = came_again begun old new was.came came_after;
       held = ap (λ (c : Book). c.account.held) is ∙ held ∙ was.held;
       charge = ap (λ (c : Book). c.account.charge) is ∙ charge ∙ was.charge;
+      finished = ap (λ (c : Book). c.account.finished) is ∙ finished ∙ was.finished;
       open_push = ap (λ (c : Book). c.account.open_push) is ∙ closed;
       found = ap (λ (c : Book). c.account.found) is ∙ found;
     }
@@ -66,7 +68,7 @@ module _ (begun old new : Holder) (pool : new.pool ≡ old.pool) where
     sees_idle word is =
         let b = idle_loaded word old.book in
         record {
-          still = still_after b is refl refl refl refl refl was.still was.still.open_push was.still.found;
+          still = still_after b is refl refl refl refl refl refl was.still was.still.open_push was.still.found;
           idle = ap (λ (c : Book). c.account.idle) is ∙ was.idle;
           loads = omega (arith, ap (λ (c : Book). c.loads) is, was.loads);
         }
@@ -78,7 +80,7 @@ module _ (begun old new : Holder) (pool : new.pool ≡ old.pool) where
         let closed = ap (λ (was_open : Bool). was_open && is_some sees.head.index) was.still.open_push in
         let found = ap (λ (was_found : Bool). was_found || is_none sees.head.index) was.still.found in
         record {
-          still = still_after b sees.book refl refl refl refl refl was.still closed found;
+          still = still_after b sees.book refl refl refl refl refl refl was.still closed found;
           idle = ap (λ (c : Book). c.account.idle) sees.book ∙ was.idle;
           loads = omega (arith, ap (λ (c : Book). c.loads) sees.book, was.loads);
         }
@@ -86,7 +88,7 @@ module _ (begun old new : Holder) (pool : new.pool ≡ old.pool) where
     -- it comes back
     pub still_back : new.book ≡ woken old.book → IsStill begun new
     still_back is =
-        still_after (woken old.book) is refl refl refl refl refl was.still was.still.open_push was.still.found
+        still_after (woken old.book) is refl refl refl refl refl refl was.still was.still.open_push was.still.found
 
     pub awake_back : IsAwake begun → new.book ≡ woken old.book → IsAwake new
     awake_back awake is = record {
@@ -99,10 +101,17 @@ pub goes_idle : (p : Places) (old new : Holder) → new.pool ≡ old.pool → ne
     → HasNoneLeft p old → IsIdling old 0 new
 goes_idle p old new pool is awake none =
     let still : IsStill old old =
-    record { came = came_at_all old; held = refl; charge = refl; open_push = none.1; found = none.2 }
+    record {
+      came = came_at_all old;
+      held = refl;
+      charge = refl;
+      finished = refl;
+      open_push = none.1;
+      found = none.2;
+    }
     in
     record {
-      still = still_after old old new pool (idled old.book) is refl refl refl refl refl still none.1 none.2;
+      still = still_after old old new pool (idled old.book) is refl refl refl refl refl refl still none.1 none.2;
       idle = omega (arith, ap (λ (c : Book). c.account.idle) is, awake.idle);
       loads = omega (arith, ap (λ (c : Book). c.loads) is);
     }

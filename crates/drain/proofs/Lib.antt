@@ -5,10 +5,14 @@ pub mod Each
 pub mod Exact
 pub mod Idling
 pub mod Leading
+pub mod Markings
 pub mod OneMarking
 pub mod Outcomes
 pub mod Pairs
 pub mod Passing
+pub mod Places
 pub mod Runs
+pub mod Scanning
 pub mod Sharing
 pub mod Tallies
+pub mod Visits

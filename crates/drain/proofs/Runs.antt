@@ -1,5 +1,5 @@
 -- What a loop over an iterator of objects has met, where each run gives a known list.
-use Rattle.std.proofs.Common.{All, List, None, Option, Some, length, map-id, subst, sym, ℕ, ◌≡◌, ◌∙◌}
+use Rattle.std.proofs.Common.{[], ◌∷◌, ◌++◌, All, List, None, Option, Some, length, map-id, refl, subst, sym, ℕ, ◌≡◌, ◌∙◌}
 use Rattle.std.specs.Iterator.{AlwaysYields, Yields}
 use Rattle.std.proofs.lemmas.Iterator.{YieldsList}
 use Rattle.std.proofs.lemmas.Iterator.Consumers.{YieldsList-end, YieldsList-turn}
@@ -15,3 +15,10 @@ module _ {S : Type 0} (steps : S → Option ℕ → S → Type 0) (s start t : S
   -- at the end the whole list was met
   pub met_all : (r : Option ℕ) (u : S) → r ≡ None → steps t r u → met ≡ given
   met_all r u is step = sym (map-id met) ∙ (YieldsList-end list met t run r u is step).0
+
+-- a run goes on by one more object
+pub runs_on :
+    {S : Type 0} (steps : S → Option ℕ → S → Type 0) (met : List ℕ) (s t : S) (o : ℕ) (u : S) → Yields steps s met t
+    → steps t (Some o) u → Yields steps s (met ++ o ∷ []) u
+runs_on steps [] s t o u same step = (u, subst (λ x. steps x (Some o) u) (sym same) step, refl)
+runs_on steps (x ∷ met) s t o u run step = (run.0, run.1, runs_on steps met run.0 t o u run.2 step)

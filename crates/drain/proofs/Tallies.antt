@@ -1,7 +1,7 @@
 -- A finish is a push on the finished list and a join an append: so a tally takes in an object, or another tally.
 use Rattle.std.proofs.Common.{◌≡◌, ℕ, zero, suc, ◌+◌, ◌*◌, ◌^◌, ◌<◌, ◌≤◌, ◌==◌, Bool, true, false, cond, List, [], ◌∷◌}
-use Rattle.std.proofs.Common.{◌++◌, length, replicate, get_or, set, slice_index_or, slice_set, sum_by, ap, sym, refl}
-use Rattle.std.proofs.Common.{◌∙◌, eq-eqb, ne_eqb, length-set, get_or-set_same, get_or-set_other, subst, arith}
+use Rattle.std.proofs.Common.{◌++◌, length, replicate, get_or, slice_index_or, slice_set, sum_by, ap, sym, refl}
+use Rattle.std.proofs.Common.{◌∙◌, eq-eqb, ne_eqb, length-set, get_or-set_same, get_or-set_other, arith}
 use Rattle.std.proofs.lemmas.List.{length-replicate}
 use Rattle.std.proofs.lemmas.List.Elements.{All-from_get_or}
 use Rattle.std.proofs.lemmas.List.Sums.{sum_by-append, sum_by-le, sum_by_push}

@@ -1,4 +1,5 @@
 pub mod Marks
 pub mod Options
 pub mod Stops
+pub mod Totals
 pub mod working

@@ -1,6 +1,25 @@
--- Which marks are those of marked objects.
-use Rattle.std.specs.Prelude.{Bool, nat_le, ℕ}
+-- Which marks are those of marked objects, and what is told of these.
+use Rattle.std.specs.Prelude.{Bool, List, length, nat_le, ℕ, ◌≡◌}
+use Rattle.heap_graph.specs.ObjectGraph.{ObjectGraph, object_count}
+use Rattle.heap_graph.specs.Whole.{missing_of}
+use Rattle.heap_graph.specs.declared.row.RowKey.{RowKey}
+use Rattle.drain.specs.Totals.{marked_objects, of_row, total}
+use Rattle.drain.specs.declared.sum.Sum.{Sum}
+use Rattle.drain.specs.working.Measures.{told_of}
 
 -- a white object has 0, a claimed one 1, and a finished one 2
 abbrev pub is_set : ℕ → Bool
 is_set mark = nat_le 1 mark
+
+-- Of each object whether it is marked, of each row how many of its objects are and their bytes together, the rows by
+-- their places, and how many identifiers of marked objects are other than 0 and name no object.
+pub record MarkedObjects : Type 0 where
+  pub marks : List Bool
+  pub sums : List Sum
+  pub unresolved : ℕ
+
+-- These are marks of the objects of this graph, and it is these objects that are told of.
+pub record IsMarkingOf (g : ObjectGraph) (m : MarkedObjects) : Type 0 where
+  pub one_each : length m.marks ≡ object_count g
+  pub tallies : (row : RowKey) → told_of m.sums row ≡ total g (of_row g row (marked_objects g m.marks))
+  pub unresolved_is : m.unresolved ≡ missing_of g (marked_objects g m.marks)

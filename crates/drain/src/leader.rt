@@ -1,20 +1,25 @@
 //! The call that marks a graph, and the thread that leads.
-ghost use Rattle.std.specs.Prelude.{◌≡◌, ◌<◌, IfOk};
+ghost use Rattle.std.specs.Prelude.{◌≡◌, ◌<◌, [], IfOk, vec_len};
 ghost use Rattle.mark_core.specs.Shares.{whole};
 ghost use Rattle.heap_graph.specs.Reachable.{MarksReachableOf};
+ghost use Rattle.drain.specs.Marks.{IsMarkingOf};
 ghost use Rattle.drain.specs.working.AtWork.{HasLed, IsFree, IsSetupOf};
+ghost use Rattle.drain.specs.working.Tallies.{Measure};
+ghost use Rattle.drain.specs.working.Tallying.{AreTalliesOfNone, HasTallied};
 
 use crate::gate::Gate;
 use crate::marked::{Marked, RunFault};
 use crate::options::Options;
 use crate::paired_worker::PairedWorker;
 use crate::start_hook::{StartHook, StartsAll};
+use crate::tallied::Tallied;
+use crate::tally::Tally;
 use crate::walk::Walk;
 use crate::walked_graph::WalkedGraph;
 use crate::worker_threads::run_workers;
 use buffer_pool::{Pool, PoolFault, Worker};
 use heap_graph::Graph;
-use std::alloc::Allocator;
+use std::alloc::{AllocError, Allocator};
 use std::sync::Wait;
 use std::thread::Threads;
 
@@ -31,7 +36,7 @@ fn lead<T, A, V, G, S>(
     hook: &S,
     leader: Worker<A>,
     workers: u32,
-) -> Result<Worker<A>, RunFault>
+) -> Result<Tallied<A>, RunFault>
 where
     T: Threads + Wait + Sync,
     A: Allocator + Copy + Send + Sync,
@@ -43,15 +48,40 @@ where
     requires free { IsFree leader }
     requires share { workers < leader.book.account.share }
     requires several { 1 < leader.book.account.share }
-    ensures { IfOk result (HasLed leader.book.account.share leader) }
+    requires none { leader.book.account.finished ≡ [] }
+    ensures led { IfOk result (λ t. HasLed leader.book.account.share leader t.worker) }
+    ensures tally { IfOk result (λ t. HasTallied (V.measure graph.now) t.worker t.tally) }
 {
     let threads = Vec::with_capacity(alloc, workers as usize)?;
+    graph.is_measured();
+    let rows = graph.rows();
+    let tallies = tallies_of_none(alloc, workers, rows)?;
+    let tally = Tally::new(alloc, rows)?;
     let mut paired = PairedWorker::open_or_bare(rt, alloc, pool, leader)?;
     paired.claim_roots(rt, pool, graph.roots())?;
     paired.publish(rt, pool)?;
-    let mut paired = run_workers(rt, alloc, graph, pool, gate, hook, paired, workers, threads)?;
-    paired.drain(rt, graph, pool, gate, workers)?;
-    Ok(paired.close(rt, pool)?)
+    let (mut paired, mut tally) = run_workers(
+        rt, alloc, graph, pool, gate, hook, paired, tally, workers, threads, tallies,
+    )?;
+    paired.drain(rt, graph, pool, gate, workers, &mut tally)?;
+    let worker = paired.close(rt, pool)?;
+    Ok(Tallied { worker, tally })
+}
+
+/// A tally for each worker, of no object and with so many rows.
+fn tallies_of_none<A: Allocator + Copy>(
+    alloc: A,
+    workers: u32,
+    rows: usize,
+) -> Result<Vec<Tally<A>, A>, AllocError>
+    ensures count { IfOk result (λ v. vec_len v ≡ workers) }
+    ensures none { IfOk result (λ v. (m : Measure) → m.rows ≡ rows → AreTalliesOfNone m v.items) }
+{
+    let mut tallies = Vec::with_capacity(alloc, workers as usize)?;
+    while tallies.len() < workers as usize {
+        tallies.push_reserved(Tally::new(alloc, rows)?);
+    }
+    Ok(tallies)
 }
 
 /// Marks the objects that a path of references joins to a root, with a thread for each worker.
@@ -72,7 +102,8 @@ where
     A: Allocator + Copy + Send + Sync,
     B: Allocator + Sync,
     G: Gate,
-    ensures { IfOk result (MarksReachableOf graph.now) }
+    ensures reachable { IfOk result (λ m. MarksReachableOf graph.now m.marks) }
+    ensures made { IfOk result (IsMarkingOf graph.now) }
 {
     mark_where(rt, alloc, graph, options, gate, &StartsAll)
 }
@@ -92,7 +123,8 @@ where
     B: Allocator + Sync,
     G: Gate,
     S: StartHook,
-    ensures { IfOk result (MarksReachableOf graph.now) }
+    ensures reachable { IfOk result (λ m. MarksReachableOf graph.now m.marks) }
+    ensures made { IfOk result (IsMarkingOf graph.now) }
 {
     let workers = options.workers();
     let objects = graph.len();
@@ -108,6 +140,7 @@ where
         Err(PoolFault::OutOfMemory) => return Err(RunFault::OutOfMemory),
         Err(PoolFault::BadOptions) => unreachable!(),
     };
-    let leader = lead(rt, alloc, &walked, &pool, gate, hook, leader, workers)?;
-    Ok(Marked::new(pool.close(leader), objects))
+    let tallied = lead(rt, alloc, &walked, &pool, gate, hook, leader, workers)?;
+    let Tallied { worker, tally } = tallied;
+    Ok(Marked::new(pool.close(worker), objects, tally))
 }

@@ -1,6 +1,9 @@
 //! What a marking gives.
 
+use crate::tally::Tally;
+use crate::walked_graph::row_place;
 use buffer_pool::Marks;
+use heap_graph::RowKey;
 use std::alloc::{AllocError, AllocFailed, Allocator};
 use std::marker::Model;
 use thiserror::Error;
@@ -46,20 +49,25 @@ impl From<Stop> for RunFault {
     }
 }
 
-/// The marks of a graph's objects.
+/// The marks of a graph's objects, and a tally of those that are marked.
 #[derive(Drop)]
 pub struct Marked<A: Allocator> {
     marks: Marks<A>,
     objects: u32,
+    tally: Tally<A>,
 }
 
 impl<A: Allocator> Model for Marked<A> {
-    ghost use Rattle.std.specs.Prelude.{Bool, List, length, map, ◌≡◌};
-    ghost use Rattle.drain.specs.Marks.{is_set};
+    ghost use Rattle.std.specs.Prelude.{length, map, ◌≡◌};
+    ghost use Rattle.drain.specs.Marks.{MarkedObjects, is_set};
 
-    ghost Value = { List Bool };
+    ghost Value = { MarkedObjects };
 
-    ghost view = { λ m. map is_set m.marks };
+    ghost view = { λ m. record {
+      marks = map is_set m.marks;
+      sums = m.tally.rows.items;
+      unresolved = m.tally.unresolved;
+    } };
 
     ghost invariant = { λ m. m.objects ≡ length m.marks };
 }
@@ -67,26 +75,35 @@ impl<A: Allocator> Model for Marked<A> {
 impl<A: Allocator> Marked<A> {
     ghost use Rattle.std.specs.Prelude.{◌≡◌, ◌↔◌, IsTrue, count_by, length, map};
     ghost use Rattle.heap_graph.specs.Reachable.{IsMarked};
-    ghost use Rattle.drain.specs.Marks.{is_set};
+    ghost use Rattle.drain.specs.Marks.{MarkedObjects, is_set};
+    ghost use Rattle.drain.specs.working.Measures.{told_of};
 
-    /// The marks of so many objects.
-    pub(crate) fn new(marks: Marks<A>, objects: u32) -> Self
+    /// The marks of so many objects, and the tally of those that are marked.
+    pub(crate) fn new(marks: Marks<A>, objects: u32, tally: Tally<A>) -> Self
         requires { objects ≡ length marks }
-        ensures { result ≡ map is_set marks }
+        ensures { let m : MarkedObjects = record {
+          marks = map is_set marks;
+          sums = tally.rows.items;
+          unresolved = tally.unresolved;
+        } in result ≡ m }
     {
-        Marked { marks, objects }
+        Marked {
+            marks,
+            objects,
+            tally,
+        }
     }
 
     /// Whether the object is marked. A number that no object has is not.
     pub fn is_marked(&self, object: u32) -> bool
-        ensures { IsTrue result ↔ IsMarked self.now object }
+        ensures { IsTrue result ↔ IsMarked self.now.marks object }
     {
         object < self.objects && self.marks.is_claimed(object)
     }
 
     /// How many objects are marked.
     pub fn len(&self) -> u64
-        ensures { result ≡ count_by (λ m. m) self.now }
+        ensures { result ≡ count_by (λ m. m) self.now.marks }
     {
         let mut marked = 0;
         for object in 0..self.objects {
@@ -95,5 +112,22 @@ impl<A: Allocator> Marked<A> {
             }
         }
         marked
+    }
+
+    /// How many objects of a row are marked, and their bytes together. Both are 0 for a row that no object has.
+    pub fn tally(&self, row: &RowKey) -> (u64, u64)
+        ensures { result ≡ told_of self.now.sums row.now }
+    {
+        match *row {
+            RowKey::Primitive(code) if !(4..=11).contains(&code) => (0, 0),
+            row => self.tally.told_at(row_place(row)),
+        }
+    }
+
+    /// How many identifiers that marked objects hold are other than 0 and name no object.
+    pub fn unresolved(&self) -> u64
+        ensures { result ≡ self.now.unresolved }
+    {
+        self.tally.unresolved
     }
 }

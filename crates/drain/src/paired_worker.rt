@@ -3,6 +3,7 @@
 
 use crate::gate::Gate;
 use crate::recently_seen::RecentlySeen;
+use crate::tally::Tally;
 use crate::walk::Walk;
 use buffer_pool::{Pool, Which, Worker};
 use std::alloc::Allocator;
@@ -27,9 +28,11 @@ impl<A: Allocator> PairedWorker<A> {
     ghost use Rattle.work_pair.specs.Places.{buffered_items};
     ghost use Rattle.std.specs.Iterator.{AlwaysYields, IsFinite};
     ghost use Rattle.drain.specs.working.AtWork.{AreClaimed, GoesOn, HasAtHand, HasNoneLeft, IsAtWork};
-    ghost use Rattle.drain.specs.working.AtWork.{IsFree, IsSetupOf, IsThrough, MayClaim, SawRoots};
+    ghost use Rattle.drain.specs.working.AtWork.{IsFree, IsSetupOf, IsThrough, MayClaim, SawRoots, WorksOn};
     ghost use Rattle.drain.specs.working.RecentlySeen.{HasSeenAll, IsNoted};
     ghost use Rattle.drain.specs.working.Sharing.{GivesSome, PutsAgain, SharesWork, Unspills};
+    ghost use Rattle.drain.specs.working.Tallying.{HasTallied};
+    ghost use Rattle.drain.specs.working.Walk.{HasEnded};
 
     /// A pair for a worker that has none yet. `None` where there were not two empty buffers.
     pub(crate) fn open<R: Wait>(
@@ -125,27 +128,28 @@ impl<A: Allocator> PairedWorker<A> {
         Ok(())
     }
 
-    /// Claims each object that the iterator gives, unless it was lately seen, and puts those that were white into the
-    /// pair.
+    /// Claims each object that the iterator gives until its end, unless it was lately seen, and puts those that were
+    /// white into the pair.
     fn claim_all<R: Wait, I: Iterator<Item = u32> + Drop>(
         &mut self,
         rt: &R,
         pool: &Pool<A>,
         seen: &mut RecentlySeen,
-        objects: I,
+        objects: &mut I,
     ) -> Result<(), Stop>
         requires pool { self.old.worker.pool ≡ pool.now }
-        requires can { I.can_next objects }
-        requires ends { IsFinite (I.remaining objects) }
-        requires may { (given : List ℕ) × (besides : List ℕ) × AlwaysYields I.next_gives (λ o. o) objects given
+        requires can { I.can_next objects.old }
+        requires ends { IsFinite (I.remaining objects.old) }
+        requires may { (given : List ℕ) × (besides : List ℕ) × AlwaysYields I.next_gives (λ o. o) objects.old given
             × IsAtWork self.old.pair besides self.old.worker
             × All (MayClaim self.old.worker.book.setup besides) given }
         requires seen { HasSeenAll seen.old self.old.worker }
-        ensures claimed { OnOk result ((given : List ℕ) → AlwaysYields I.next_gives (λ o. o) objects given
+        ensures claimed { OnOk result ((given : List ℕ) → AlwaysYields I.next_gives (λ o. o) objects.old given
             → AreClaimed given self.old.pair self.old.worker self.new.pair self.new.worker) }
+        ensures ended { OnOk result (HasEnded I.next_gives objects.old objects.new) }
         ensures seen { OnOk result (HasSeenAll seen.new self.new.worker) }
     {
-        for object in objects {
+        while let Some(object) = objects.next() {
             self.claim_unless_seen(rt, pool, seen, object)?;
         }
         Ok(())
@@ -248,8 +252,8 @@ impl<A: Allocator> PairedWorker<A> {
         self.give(rt, pool)
     }
 
-    /// Scans an object of the pair, or of the full stack: claims what it refers to, and finishes it. False where none
-    /// is left.
+    /// Scans an object of the pair, or of the full stack: claims what it refers to, finishes it, and adds it to the
+    /// tally. False where none is left.
     fn scan_next<R: Wait, V: Walk, G: Gate>(
         &mut self,
         rt: &R,
@@ -258,14 +262,17 @@ impl<A: Allocator> PairedWorker<A> {
         gate: &G,
         number: u32,
         seen: &mut RecentlySeen,
+        tally: &mut Tally<A>,
     ) -> Result<bool, Stop>
         requires pool { self.old.worker.pool ≡ pool.now }
         requires setup { IsSetupOf (V.count graph.now) (V.roots graph.now) (V.pairs graph.now)
             self.old.worker.book.setup }
         requires at_work { IsAtWork self.old.pair [] self.old.worker }
         requires seen { HasSeenAll seen.old self.old.worker }
-        ensures goes_on { OnOk result (GoesOn self.old.worker self.new.worker) }
+        requires tally { HasTallied (V.measure graph.now) self.old.worker tally.old }
+        ensures goes_on { OnOk result (WorksOn self.old.worker self.new.worker) }
         ensures at_work { OnOk result (IsAtWork self.new.pair [] self.new.worker) }
+        ensures tally { OnOk result (HasTallied (V.measure graph.now) self.new.worker tally.new) }
         ensures seen { OnOk result (HasSeenAll seen.new self.new.worker) }
         ensures none { IfOk result (λ more. more ≡ false → HasNoneLeft self.new.pair self.new.worker) }
     {
@@ -274,8 +281,12 @@ impl<A: Allocator> PairedWorker<A> {
         };
         self.worker.stays_within();
         gate.before_scan(number, object);
-        self.claim_all(rt, pool, seen, graph.successors(object))?;
+        let mut visit = graph.visit(object);
+        self.claim_all(rt, pool, seen, &mut visit)?;
         pool.finish(&mut self.worker, object);
+        self.worker.has_finished_few();
+        graph.is_measured();
+        tally.add(V::read(&visit));
         Ok(true)
     }
 
@@ -287,19 +298,22 @@ impl<A: Allocator> PairedWorker<A> {
         pool: &Pool<A>,
         gate: &G,
         number: u32,
+        tally: &mut Tally<A>,
     ) -> Result<(), Stop>
         requires pool { self.old.worker.pool ≡ pool.now }
         requires setup { IsSetupOf (V.count graph.now) (V.roots graph.now) (V.pairs graph.now)
             self.old.worker.book.setup }
         requires at_work { IsAtWork self.old.pair [] self.old.worker }
-        ensures goes_on { OnOk result (GoesOn self.old.worker self.new.worker) }
+        requires tally { HasTallied (V.measure graph.now) self.old.worker tally.old }
+        ensures goes_on { OnOk result (WorksOn self.old.worker self.new.worker) }
         ensures at_work { OnOk result (IsAtWork self.new.pair [] self.new.worker) }
+        ensures tally { OnOk result (HasTallied (V.measure graph.now) self.new.worker tally.new) }
         ensures none { OnOk result (HasNoneLeft self.new.pair self.new.worker) }
     {
         let mut seen = RecentlySeen::new();
         for _ in rt.forever() {
             self.share(rt, pool)?;
-            if !self.scan_next(rt, graph, pool, gate, number, &mut seen)? {
+            if !self.scan_next(rt, graph, pool, gate, number, &mut seen, tally)? {
                 return Ok(());
             }
         }
@@ -314,18 +328,21 @@ impl<A: Allocator> PairedWorker<A> {
         pool: &Pool<A>,
         gate: &G,
         number: u32,
+        tally: &mut Tally<A>,
     ) -> Result<(), Stop>
         requires pool { self.old.worker.pool ≡ pool.now }
         requires setup { IsSetupOf (V.count graph.now) (V.roots graph.now) (V.pairs graph.now)
             self.old.worker.book.setup }
         requires at_work { IsAtWork self.old.pair [] self.old.worker }
-        ensures goes_on { OnOk result (GoesOn self.old.worker self.new.worker) }
+        requires tally { HasTallied (V.measure graph.now) self.old.worker tally.old }
+        ensures goes_on { OnOk result (WorksOn self.old.worker self.new.worker) }
         ensures at_work { OnOk result (IsAtWork self.new.pair [] self.new.worker) }
+        ensures tally { OnOk result (HasTallied (V.measure graph.now) self.new.worker tally.new) }
         ensures none { OnOk result (HasNoneLeft self.new.pair self.new.worker) }
     {
         let mut seen = RecentlySeen::new();
         for _ in rt.forever() {
-            if !self.scan_next(rt, graph, pool, gate, number, &mut seen)? {
+            if !self.scan_next(rt, graph, pool, gate, number, &mut seen, tally)? {
                 return Ok(());
             }
         }
@@ -337,7 +354,8 @@ impl<A: Allocator> PairedWorker<A> {
         requires pool { self.worker.pool ≡ pool.now }
         requires hand { HasAtHand self.pair [] self.worker }
         requires none { HasNoneLeft self.pair self.worker }
-        ensures { IfOk result (IsThrough self.worker) }
+        ensures through { IfOk result (IsThrough self.worker) }
+        ensures finished { IfOk result (λ w. w.book.account.finished ≡ self.worker.book.account.finished) }
     {
         let PairedWorker { mut worker, pair } = self;
         match pair.dispose(rt, pool, &mut worker) {

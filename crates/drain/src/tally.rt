@@ -1,5 +1,6 @@
 //! What a worker counts of the objects that it finished.
 ghost use Rattle.std.specs.Prelude.{◌≡◌, ◌<◌, ◌≤◌, ◌^◌, ◌++◌, ◌∷◌, [], ℕ, IfOk, List, length};
+ghost use Rattle.drain.specs.working.Measures.{told_at};
 ghost use Rattle.drain.specs.working.Tallying.{HasSmallSums, Tallies};
 ghost use Rattle.drain.specs.working.Tallies.{Measure};
 ghost use Rattle.drain.specs.working.Scans.{IsScanOf};
@@ -55,5 +56,15 @@ impl<A: Allocator> Tally<A> {
             sum.join(other.rows[row]);
         }
         self.unresolved += other.unresolved;
+    }
+
+    /// How many objects the row at that place has, and their bytes together: 0 and 0 where there is no such place.
+    pub(crate) fn told_at(&self, place: usize) -> (u64, u64)
+        ensures { result ≡ told_at self.now.rows.items place }
+    {
+        match self.rows.get(place) {
+            Some(sum) => (sum.count, sum.bytes),
+            None => (0, 0),
+        }
     }
 }

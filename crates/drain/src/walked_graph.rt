@@ -1,9 +1,16 @@
 //! The graph of a heap dump, as marking walks it.
+ghost use Rattle.std.specs.Prelude.{◌≡◌};
+ghost use Rattle.drain.specs.working.Measures as places;
 
+use crate::measured::Measured;
+use crate::scanned::Scanned;
 use crate::walk::Walk;
 use buffer_pool::Edges;
-use heap_graph::{Graph, Successors};
+use heap_graph::{Graph, RowKey, Visit};
 use std::alloc::Allocator;
+
+/// The rows that every graph has: the eight primitive types, and the class objects.
+const FIXED_ROWS: usize = 9;
 
 /// A graph whose roots and references are walked.
 #[derive(Drop)]
@@ -26,14 +33,51 @@ impl<'a, A: Allocator> Edges for WalkedGraph<'a, A> {
     }
 }
 
+/// The place of a row in a tally: the types 4 to 11, then the class objects, then the classes by their numbers.
+pub(crate) fn row_place(row: RowKey) -> usize
+    ensures { result ≡ places.row_place row }
+{
+    match row {
+        RowKey::Class(class) => FIXED_ROWS + class as usize,
+        RowKey::Primitive(code) => usize::from(code).saturating_sub(4),
+        RowKey::ClassObject => FIXED_ROWS - 1,
+    }
+}
+
+impl<'a, A: Allocator> Measured for WalkedGraph<'a, A> {
+    ghost use Rattle.drain.specs.working.Measures.{measure_of};
+
+    ghost measure = { λ l. measure_of l.graph.now };
+
+    fn is_measured(&self) {
+        let _objects = self.graph.len();
+    }
+
+    fn rows(&self) -> usize {
+        FIXED_ROWS + self.graph.classes() as usize
+    }
+}
+
 impl<'a, A: Allocator + Sync> Walk for WalkedGraph<'a, A> {
-    type Successors = Successors<'a, A>;
+    ghost use Rattle.drain.specs.working.Measures.{scanned_in};
+
+    type Visit = Visit<'a, A>;
+
+    ghost read_so_far = { scanned_in };
 
     fn roots(&self) -> &[u32] {
         self.graph.roots()
     }
 
-    fn successors(&self, object: u32) -> Successors<'a, A> {
-        self.graph.successors(object)
+    fn visit(&self, object: u32) -> Visit<'a, A> {
+        self.graph.visit(object)
+    }
+
+    fn read(visit: &Visit<'a, A>) -> Scanned {
+        Scanned {
+            row: row_place(visit.row()),
+            bytes: visit.bytes(),
+            unresolved: visit.missing(),
+        }
     }
 }

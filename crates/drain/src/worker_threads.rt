@@ -4,11 +4,16 @@ ghost use Rattle.drain.specs.declared.marked.RunFault.TheVariants as fault;
 ghost use Rattle.drain.specs.working.AtWork.{HasGiven, IsFree, IsSetupOf, IsThrough, Leads};
 ghost use Rattle.drain.specs.working.Duties.{IsDutyUnder};
 ghost use Rattle.drain.specs.working.Idle.{IsAwake};
+ghost use Rattle.drain.specs.working.Tallies.{IsMeasureOf};
+ghost use Rattle.drain.specs.working.Tallying.{AreTalliesOfNone, HasTallied, Tallies};
 
 use crate::gate::Gate;
 use crate::marked::RunFault;
+use crate::measured::Measured;
 use crate::paired_worker::PairedWorker;
 use crate::start_hook::StartHook;
+use crate::tallied::Tallied;
+use crate::tally::Tally;
 use crate::walk::Walk;
 use buffer_pool::{Pool, Worker};
 use std::alloc::Allocator;
@@ -21,21 +26,25 @@ use work_pair::Stop;
 #[cfg(test)]
 mod tests;
 
-/// What the thread of a worker owes: the worker that it began with, through with its work.
+/// What the thread of a worker owes: the worker that it began with, through with its work, and a tally of what it
+/// finished.
 #[derive(Drop)]
-pub(crate) struct Duty<A: Allocator> {
+pub(crate) struct Duty<A: Allocator, V> {
     begun: Snapshot<Worker<A>>,
+    graph: Snapshot<V>,
 }
 
-impl<A: Allocator> Promise<Result<Worker<A>, Stop>> for Duty<A> {
+impl<A: Allocator, V: Measured> Promise<Result<Tallied<A>, Stop>> for Duty<A, V> {
     ghost use Rattle.std.specs.Prelude.{IfOk};
     ghost use Rattle.drain.specs.working.AtWork.{IsThrough};
+    ghost use Rattle.drain.specs.working.Tallying.{HasTallied};
 
-    ghost kept_by = { λ duty outcome. IfOk outcome (IsThrough duty.begun.value) };
+    ghost kept_by = { λ duty outcome. IfOk outcome (λ t. IsThrough duty.begun.value t.worker
+        × HasTallied (V.measure duty.graph.value) t.worker t.tally) };
 }
 
 /// A worker that was started.
-pub(crate) type Started<A> = PromisedHandle<Result<Worker<A>, Stop>, Duty<A>>;
+pub(crate) type Started<A, V> = PromisedHandle<Result<Tallied<A>, Stop>, Duty<A, V>>;
 
 /// The work of one worker: it scans until it has nothing left, and stays until all are idle or it waited long enough.
 /// It has none to do where there are not two empty buffers for it.
@@ -45,24 +54,28 @@ fn work<T: Wait, A: Allocator, V: Walk, G: Gate>(
     graph: &V,
     pool: &Pool<A>,
     gate: &G,
-    worker: Worker<A>,
+    begun: Tallied<A>,
     number: u32,
     workers: u32,
-) -> Result<Worker<A>, Stop>
-    requires pool { worker.pool ≡ pool.now }
-    requires setup { IsSetupOf (V.count graph.now) (V.roots graph.now) (V.pairs graph.now) worker.book.setup }
-    requires free { IsFree worker }
-    requires awake { IsAwake worker }
-    ensures { IfOk result (IsThrough worker) }
+) -> Result<Tallied<A>, Stop>
+    requires pool { begun.worker.pool ≡ pool.now }
+    requires setup { IsSetupOf (V.count graph.now) (V.roots graph.now) (V.pairs graph.now) begun.worker.book.setup }
+    requires free { IsFree begun.worker }
+    requires awake { IsAwake begun.worker }
+    requires tally { HasTallied (V.measure graph.now) begun.worker begun.tally }
+    ensures through { IfOk result (λ t. IsThrough begun.worker t.worker) }
+    ensures tally { IfOk result (λ t. HasTallied (V.measure graph.now) t.worker t.tally) }
 {
+    let Tallied { worker, mut tally } = begun;
     let mut paired = match PairedWorker::open(rt, alloc, pool, worker)? {
         Ok(paired) => paired,
-        Err(worker) => return Ok(worker),
+        Err(worker) => return Ok(Tallied { worker, tally }),
     };
     for _ in rt.forever() {
-        paired.work_off(rt, graph, pool, gate, number)?;
+        paired.work_off(rt, graph, pool, gate, number, &mut tally)?;
         if !paired.finds_more(rt, pool, workers) {
-            return paired.close(rt, pool);
+            let worker = paired.close(rt, pool)?;
+            return Ok(Tallied { worker, tally });
         }
     }
     unreachable!()
@@ -77,43 +90,50 @@ fn start<'s, E, T, A, V, G, S>(
     pool: &'s Pool<A>,
     gate: &'s G,
     hook: &S,
-    worker: Worker<A>,
+    begun: Tallied<A>,
     number: u32,
     workers: u32,
-) -> Result<Started<A>, RunFault>
+) -> Result<Started<A, V>, RunFault>
 where
     T: Wait + Sync,
     A: Allocator + Copy + Send + Sync + 's,
     V: Walk,
     G: Gate,
     S: StartHook,
-    requires pool { worker.pool ≡ pool.now }
-    requires setup { IsSetupOf (V.count graph.now) (V.roots graph.now) (V.pairs graph.now) worker.book.setup }
-    requires free { IsFree worker }
-    requires awake { IsAwake worker }
-    ensures owes { IfOk result (λ t. t.promise.begun.value ≡ worker) }
+    requires pool { begun.worker.pool ≡ pool.now }
+    requires setup { IsSetupOf (V.count graph.now) (V.roots graph.now) (V.pairs graph.now) begun.worker.book.setup }
+    requires free { IsFree begun.worker }
+    requires awake { IsAwake begun.worker }
+    requires tally { HasTallied (V.measure graph.now) begun.worker begun.tally }
+    ensures owes { IfOk result (λ t. t.promise.begun.value ≡ begun.worker) }
+    ensures graph { IfOk result (λ t. t.promise.graph.value ≡ graph.now) }
     ensures refused { IfErr result (λ e. e ≡ fault.WorkerRefused) }
 {
     if !hook.may_start(number) {
         return Err(RunFault::WorkerRefused);
     }
     let duty = Duty {
-        begun: Snapshot::of(&worker),
+        begun: Snapshot::of(&begun.worker),
+        graph: Snapshot::of(graph),
     };
-    let run = move || -> Result<Worker<A>, Stop>
-        requires pool { worker.pool ≡ pool.now }
-        requires setup { IsSetupOf (V.count graph.now) (V.roots graph.now) (V.pairs graph.now) worker.book.setup }
-        requires free { IsFree worker }
-        requires awake { IsAwake worker }
-        ensures { IfOk result (IsThrough worker) }
-    { work(rt, alloc, graph, pool, gate, worker, number, workers) };
+    let run = move || -> Result<Tallied<A>, Stop>
+        requires pool { begun.worker.pool ≡ pool.now }
+        requires setup { IsSetupOf (V.count graph.now) (V.roots graph.now) (V.pairs graph.now)
+            begun.worker.book.setup }
+        requires free { IsFree begun.worker }
+        requires awake { IsAwake begun.worker }
+        requires tally { HasTallied (V.measure graph.now) begun.worker begun.tally }
+        ensures { IfOk result (λ t. IsThrough begun.worker t.worker
+            × HasTallied (V.measure graph.entry.now) t.worker t.tally) }
+    { work(rt, alloc, graph, pool, gate, begun, number, workers) };
     match scope.spawn_with(duty, run) {
         Ok(thread) => Ok(thread),
         Err(_) => Err(RunFault::WorkerRefused),
     }
 }
 
-/// Splits off one unit for each worker, and starts its thread. What the leader has left comes back with the threads.
+/// Splits off one unit for each worker, and starts its thread with a tally of its own. What the leader has left comes
+/// back with the threads.
 fn start_all<'s, E, T, A, V, G, S>(
     rt: &'s T,
     scope: &'s Scope<'s, E>,
@@ -124,8 +144,9 @@ fn start_all<'s, E, T, A, V, G, S>(
     hook: &S,
     leader: Worker<A>,
     workers: u32,
-    threads: Vec<Started<A>, A>,
-) -> Result<(Worker<A>, Vec<Started<A>, A>), RunFault>
+    threads: Vec<Started<A, V>, A>,
+    tallies: Vec<Tally<A>, A>,
+) -> Result<(Worker<A>, Vec<Started<A, V>, A>), RunFault>
 where
     T: Wait + Sync,
     A: Allocator + Copy + Send + Sync + 's,
@@ -136,45 +157,69 @@ where
     requires setup { IsSetupOf (V.count graph.now) (V.roots graph.now) (V.pairs graph.now) leader.book.setup }
     requires share { workers < leader.book.account.share }
     requires room { (vec_len threads ≡ 0) × (workers ≤ vec_capacity threads) }
+    requires tallies { (workers ≤ vec_len tallies) × AreTalliesOfNone (V.measure graph.now) tallies.items }
     ensures leads { IfOk result (λ s. Leads leader s.0) }
+    ensures finished { IfOk result (λ s. s.0.book.account.finished ≡ leader.book.account.finished) }
     ensures share { IfOk result (λ s. s.0.book.account.share + workers ≡ leader.book.account.share) }
     ensures count { IfOk result (λ s. vec_len s.1 ≡ workers) }
     ensures threads { IfOk result (λ s. (number : ℕ) (t : _) → number < workers
-        → IsDutyUnder leader (get_or s.1.items number t).promise) }
+        → IsDutyUnder graph.now leader (get_or s.1.items number t).promise) }
     ensures refused { IfErr result (λ e. e ≡ fault.WorkerRefused) }
 {
     let mut leader = leader;
     let mut threads = threads;
+    let mut tallies = tallies;
     for number in 0..workers {
         let (rest, worker) = pool.split(leader, 1);
         leader = rest;
+        let Some(tally) = tallies.pop() else {
+            unreachable!();
+        };
+        let begun = Tallied { worker, tally };
         let thread = start(
-            rt, scope, alloc, graph, pool, gate, hook, worker, number, workers,
+            rt, scope, alloc, graph, pool, gate, hook, begun, number, workers,
         )?;
         threads.push_reserved(thread);
     }
     Ok((leader, threads))
 }
 
-/// Waits for each thread in turn, and puts its worker into the leader. Answers at the first worker that was refused.
-fn join_all<T: Threads, A: Allocator>(
+/// Waits for each thread in turn, and puts its worker into the leader, and what it counted into the leader's tally.
+/// Answers at the first worker that was refused.
+fn join_all<T: Threads, A: Allocator, V: Measured>(
     rt: &T,
+    graph: &V,
     pool: &Pool<A>,
-    leader: Worker<A>,
-    threads: Vec<Started<A>, A>,
-) -> Result<Worker<A>, RunFault>
-    requires pool { leader.pool ≡ pool.now }
+    leader: Tallied<A>,
+    threads: Vec<Started<A, V>, A>,
+) -> Result<Tallied<A>, RunFault>
+    requires pool { leader.worker.pool ≡ pool.now }
     requires threads { (number : ℕ) (t : _) → number < vec_len threads
-        → IsDutyUnder leader (get_or threads.items number t).promise }
-    ensures leads { IfOk result (Leads leader) }
-    ensures share { IfOk result (λ w. w.book.account.share ≡ leader.book.account.share + vec_len threads) }
+        → IsDutyUnder graph.now leader.worker (get_or threads.items number t).promise }
+    requires measure { IsMeasureOf leader.worker.book.setup.objects (V.measure graph.now) }
+    requires tally { HasTallied (V.measure graph.now) leader.worker leader.tally }
+    ensures leads { IfOk result (λ t. Leads leader.worker t.worker) }
+    ensures share { IfOk result (λ t.
+        t.worker.book.account.share ≡ leader.worker.book.account.share + vec_len threads) }
+    ensures tally { IfOk result (λ t. HasTallied (V.measure graph.now) t.worker t.tally) }
     ensures refused { IfErr result (λ e. (e ≡ fault.TagSpent) ⊎ (e ≡ fault.OutOfMemory)) }
 {
-    let mut leader = leader;
+    let Tallied {
+        mut worker,
+        mut tally,
+    } = leader;
     for thread in threads {
-        leader = pool.join(leader, thread.join(rt)?);
+        let joined = thread.join(rt)?;
+        worker.has_finished_few();
+        joined.worker.has_finished_few();
+        let Tallied {
+            worker: other,
+            tally: more,
+        } = joined;
+        worker = pool.join(worker, other);
+        tally.join(&more);
     }
-    Ok(leader)
+    Ok(Tallied { worker, tally })
 }
 
 /// Runs so many workers for a leader that has given them what it has to do, and takes all of them in.
@@ -186,9 +231,11 @@ pub(crate) fn run_workers<T, A, V, G, S>(
     gate: &G,
     hook: &S,
     paired: PairedWorker<A>,
+    tally: Tally<A>,
     workers: u32,
-    threads: Vec<Started<A>, A>,
-) -> Result<PairedWorker<A>, RunFault>
+    threads: Vec<Started<A, V>, A>,
+    tallies: Vec<Tally<A>, A>,
+) -> Result<(PairedWorker<A>, Tally<A>), RunFault>
 where
     T: Threads + Wait + Sync,
     A: Allocator + Copy + Send + Sync,
@@ -200,30 +247,38 @@ where
     requires given { HasGiven paired.pair paired.worker }
     requires share { workers < paired.worker.book.account.share }
     requires room { (vec_len threads ≡ 0) × (workers ≤ vec_capacity threads) }
-    ensures leads { IfOk result (λ s. Leads paired.worker s.worker) }
-    ensures pair { IfOk result (λ s. s.pair ≡ paired.pair) }
-    ensures share { IfOk result (λ s. s.worker.book.account.share ≡ paired.worker.book.account.share) }
+    requires tallies { (workers ≤ vec_len tallies) × AreTalliesOfNone (V.measure graph.now) tallies.items }
+    requires measure { IsMeasureOf paired.worker.book.setup.objects (V.measure graph.now) }
+    requires tally { HasTallied (V.measure graph.now) paired.worker tally }
+    ensures leads { IfOk result (λ s. Leads paired.worker s.0.worker) }
+    ensures pair { IfOk result (λ s. s.0.pair ≡ paired.pair) }
+    ensures share { IfOk result (λ s. s.0.worker.book.account.share ≡ paired.worker.book.account.share) }
+    ensures tally { IfOk result (λ s. HasTallied (V.measure graph.now) s.0.worker s.1) }
 {
     let PairedWorker {
         worker: leader,
         pair,
     } = paired;
-    let worker = thread::scope(
+    let Tallied { worker, tally } = thread::scope(
         thread::scope_env(),
         rt,
-        move |scope| -> Result<Worker<A>, RunFault>
+        move |scope| -> Result<Tallied<A>, RunFault>
             requires pool { leader.pool ≡ pool.now }
             requires setup { IsSetupOf (V.count graph.now) (V.roots graph.now) (V.pairs graph.now) leader.book.setup }
             requires share { workers < leader.book.account.share }
             requires room { (vec_len threads ≡ 0) × (workers ≤ vec_capacity threads) }
-            ensures leads { IfOk result (Leads leader) }
-            ensures share { IfOk result (λ w. w.book.account.share ≡ leader.book.account.share) }
+            requires tallies { (workers ≤ vec_len tallies) × AreTalliesOfNone (V.measure graph.now) tallies.items }
+            requires measure { IsMeasureOf leader.book.setup.objects (V.measure graph.now) }
+            requires tally { HasTallied (V.measure graph.now) leader tally }
+            ensures leads { IfOk result (λ t. Leads leader t.worker) }
+            ensures share { IfOk result (λ t. t.worker.book.account.share ≡ leader.book.account.share) }
+            ensures tally { IfOk result (λ t. HasTallied (V.measure graph.entry.now) t.worker t.tally) }
         {
-            let (leader, threads) = start_all(
-                rt, scope, alloc, graph, pool, gate, hook, leader, workers, threads,
+            let (worker, threads) = start_all(
+                rt, scope, alloc, graph, pool, gate, hook, leader, workers, threads, tallies,
             )?;
-            join_all(rt, pool, leader, threads)
+            join_all(rt, graph, pool, Tallied { worker, tally }, threads)
         },
     )?;
-    Ok(PairedWorker { worker, pair })
+    Ok((PairedWorker { worker, pair }, tally))
 }

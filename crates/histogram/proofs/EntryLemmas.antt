@@ -5,12 +5,11 @@ use Rattle.std.proofs.lemmas.Bool.{le-ltb, lt-ltb}
 use Rattle.std.proofs.lemmas.List.{get_or-append-add, get_or_append_left, map-append}
 use Rattle.std.proofs.lemmas.List.FromFn.{fill_by_all, filter_of_map_range_with_len_more, get_or-map-range_with_len, length-map-range_with_len}
 use Rattle.std.proofs.lemmas.Simd.{map-map}
-use Rattle.histogram.specs.Histogram.{Entry, all_rows, entries, entry}
+use Rattle.histogram.specs.Histogram.{Entry, all_rows, entries, entry, of_row, total}
 use Rattle.heap_graph.specs.ObjectGraph.{ObjectGraph, class_count}
 use Rattle.heap_graph.specs.declared.row.RowKey.{RowKey}
 use Rattle.heap_graph.specs.declared.row.RowKey.TheVariants as keys
-use Rattle.histogram.specs.declared.tally.Tally.{Tally}
-use Rattle.histogram.specs.working.Tallies.{AreTallies, entries_below, no_object, numbered_row, row_count, row_entry}
+use Rattle.histogram.specs.working.RowNumbers.{entries_below, numbered_row, row_count, row_entry}
 use Rattle.histogram.proofs.RowLemmas.{at_class, at_objects, at_primitive, number_kinds}
 
 -- the row at each number: of the classes, of the primitive types, of the class objects
@@ -75,37 +74,42 @@ entries_numbered g xs = ap (λ rows. filter (λ e. nat_lt 0 e.count) (map (entry
 pub all_entries : (g : ObjectGraph) (xs : List ℕ) (shown : List Entry) (n : ℕ) → n ≡ row_count g → shown ≡ entries_below g xs n → shown ≡ entries g xs
 all_entries g xs shown n all are = are ∙ ap (entries_below g xs) all ∙ sym (entries_numbered g xs)
 
--- the entry of a row that has a tally
-pub entry_at : (g : ObjectGraph) (xs : List ℕ) (tallies : List Tally) (n : ℕ) (tally : Tally) → AreTallies g xs tallies → n < row_count g
-    → tally ≡ get_or tallies n no_object
-    → row_entry g (numbered_row (class_count g) n) tally ≡ entry g xs (numbered_row (class_count g) n)
-entry_at g xs tallies n tally are below is = rw (is, are.right n below) refl
+-- what is told of a row, and a list of lines that grows by its line
+module _ {X : Type 0} (g : ObjectGraph) (xs : List ℕ) (show : X → Entry) (lines : List X) (n count bytes : ℕ)
+    (told : (count, bytes) ≡ total g (of_row g (numbered_row (class_count g) n) xs))
+    (were : map show lines ≡ entries_below g xs n) where
+  f : ℕ → Entry
+  f k = entry g xs (numbered_row (class_count g) k)
 
--- one line more
-pub line_more : {X : Type 0} (g : ObjectGraph) (xs : List ℕ) (tallies : List Tally) (show : X → Entry) (lines pushed now : List X) (line : X) (row : RowKey) (tally : Tally) (n : ℕ)
-    → AreTallies g xs tallies → n < row_count g → tally ≡ get_or tallies n no_object → 0 < tally.count
-    → row ≡ numbered_row (class_count g) n → show line ≡ row_entry g row tally → pushed ≡ lines ++ line ∷ [] → now ≡ pushed
-    → map show lines ≡ entries_below g xs n → map show now ≡ entries_below g xs (n + 1)
-line_more g xs tallies show lines pushed now line row tally n are below is some row_is line_is more same were =
-    let f : ℕ → Entry = λ k. entry g xs (numbered_row (class_count g) k) in
-    let made = entry_at g xs tallies n tally are below is in
-    let shown : show line ≡ f n = line_is ∙ ap (λ r. row_entry g r tally) row_is ∙ made in
-    let counted : 0 < (f n).count = omega (arith, some, ap (λ e. e.count) made) in
-    rw (
-      same,
-      more,
-      map-append show lines (line ∷ []),
-      were,
-      shown,
-      filter_of_map_range_with_len_more (λ e. nat_lt 0 e.count) f 0 n n (omega arith),
-      lt-ltb 0 ((f n).count) counted,
-    ) refl
+  entry_at : row_entry g (numbered_row (class_count g) n) (count, bytes) ≡ f n
+  unfolding f
+  entry_at = ap (row_entry g (numbered_row (class_count g) n)) told
 
--- or none
-pub line_less : {X : Type 0} (g : ObjectGraph) (xs : List ℕ) (tallies : List Tally) (show : X → Entry) (lines now : List X) (tally : Tally) (n : ℕ)
-    → AreTallies g xs tallies → n < row_count g → tally ≡ get_or tallies n no_object → tally.count ≤ 0 → now ≡ lines
-    → map show lines ≡ entries_below g xs n → map show now ≡ entries_below g xs (n + 1)
-line_less g xs tallies show lines now tally n are below is none same were =
-    let f : ℕ → Entry = λ k. entry g xs (numbered_row (class_count g) k) in
-    let empty : (f n).count ≤ 0 = omega (arith, none, ap (λ e. e.count) (entry_at g xs tallies n tally are below is)) in
-    rw (same, were, filter_of_map_range_with_len_more (λ e. nat_lt 0 e.count) f 0 n n (omega arith), le-ltb 0 ((f n).count) empty) (sym (append-nil (entries_below g xs n)))
+  -- one line more
+  pub line_more :
+      (pushed : List X) (line : X) (row : RowKey) → 0 < count → row ≡ numbered_row (class_count g) n
+      → show line ≡ row_entry g row (count, bytes) → pushed ≡ lines ++ line ∷ []
+      → map show pushed ≡ entries_below g xs (n + 1)
+  unfolding f
+  line_more pushed line row some row_is line_is more =
+      let shown : show line ≡ f n = line_is ∙ ap (λ r. row_entry g r (count, bytes)) row_is ∙ entry_at in
+      let counted : 0 < (f n).count = omega (arith, some, ap (λ (e : Entry). e.count) entry_at) in
+      rw (
+        more,
+        map-append show lines (line ∷ []),
+        were,
+        shown,
+        filter_of_map_range_with_len_more (λ e. nat_lt 0 e.count) f 0 n n (omega arith),
+        lt-ltb 0 ((f n).count) counted,
+      ) refl
+
+  -- or none
+  pub line_less : count ≤ 0 → map show lines ≡ entries_below g xs (n + 1)
+  unfolding f
+  line_less none =
+      let empty : (f n).count ≤ 0 = omega (arith, none, ap (λ (e : Entry). e.count) entry_at) in
+      rw (
+        were,
+        filter_of_map_range_with_len_more (λ e. nat_lt 0 e.count) f 0 n n (omega arith),
+        le-ltb 0 ((f n).count) empty,
+      ) (sym (append-nil (entries_below g xs n)))

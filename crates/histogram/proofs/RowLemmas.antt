@@ -1,18 +1,20 @@
--- Rows by their numbers.
-use Rattle.std.proofs.Common.{Bool, subst, ◌^◌, ◌≡◌, ◌≢◌, ℕ, ◌+◌, ◌-◌, ◌<◌, ◌≤◌, ◌⊎◌, List, [], ◌∷◌, ◌++◌, true, false, inl, inr, length, get_or, set, refl, sym, ap, ◌∙◌, arith, append-nil, eq-eqb, ne_eqb}
-use Rattle.std.proofs.lemmas.Bool.{cases_eq, cases_lt, le-ltb, lt-ltb}
-use Rattle.std.proofs.lemmas.List.{get_or_default, get_or-set_other, get_or-set_same}
-use Rattle.std.proofs.lemmas.List.Elements.{filter-append}
-use Rattle.std.proofs.Math.ListN.{length-set}
-use Rattle.histogram.specs.Histogram.{of_row, same_row}
-use Rattle.heap_graph.specs.ObjectGraph.{object_count, ObjectGraph, bytes_at, class_count, row_at}
+-- Rows by their numbers, and the objects of the rows below a number.
+use Rattle.std.proofs.Common.{Bool, ◌≡◌, ◌≢◌, ℕ, ◌+◌, ◌-◌, ◌<◌, ◌≤◌, ◌^◌, ◌⊎◌, List, [], ◌∷◌, true, false, cond, inl, inr}
+use Rattle.std.proofs.Common.{filter, length, nat_lt, slice_index_or, sum_by, refl, sym, ap, ◌∙◌, ⊎_elim, arith, eq-eqb, ne_eqb}
+use Rattle.std.proofs.lemmas.Bool.{cases_lt, cases_order, le-ltb, lt-ltb}
+use Rattle.std.proofs.lemmas.List.FromFn.{length-range_with_len}
+use Rattle.std.proofs.lemmas.List.Sums.{count_by-le-length, length-filter, sum_by-cons, sum_by-le}
+use Rattle.std.specs.List.{range_with_len}
+use Rattle.hprof_grammar.specs.Dump.{limit}
+use Rattle.mark_core.proofs.Chosen.{ones}
+use Rattle.heap_graph.specs.ObjectGraph.{ObjectGraph, bytes_at, class_count, object_count, row_at}
 use Rattle.heap_graph.specs.Whole.{IsRowIn, IsWhole}
 use Rattle.heap_graph.specs.declared.row.RowKey.{RowKey}
 use Rattle.heap_graph.specs.declared.row.RowKey.TheVariants as keys
-use Rattle.histogram.specs.declared.tally.Tally.{Tally}
-use Rattle.histogram.specs.working.Tallies.{AreTallies, chosen_below, no_object, numbered_row, one_more, row_count, row_number, tally_of}
-use Rattle.hprof_grammar.specs.Dump.{limit}
-use Rattle.histogram.proofs.TallyLemmas.{bytes_fit, chosen_no, chosen_yes, count_fits, length-filter-le, tally_push}
+use Rattle.histogram.specs.Histogram.{marked_objects, of_row, same_row}
+use Rattle.histogram.specs.working.RowNumbers.{numbered_row, objects_below, row_count, row_number}
+use Rattle.drain.proofs.Passing.{passing_sum}
+use Rattle.drain.proofs.Places.{row_there}
 
 pub at_class : (classes n : ℕ) → n < classes → numbered_row classes n ≡ keys.Class n
 at_class classes n h = rw (lt-ltb n classes h) refl
@@ -55,67 +57,131 @@ row_elsewhere g keys.ClassObject n h below other = elim (number_kinds (class_cou
   | inr k ↦ elim k [ inl m ↦ rw (at_primitive (class_count g) n m.0 m.1) refl | inr m ↦ absurd (other (omega (arith, m, below))) ]
 ]
 
--- one object more, in the row or in another
-pub of_row_yes : (g : ObjectGraph) (row : RowKey) (xs : List ℕ) (o : ℕ) → same_row row (row_at g o) ≡ true → of_row g row (xs ++ o ∷ []) ≡ of_row g row xs ++ o ∷ []
-of_row_yes g row xs o e = filter-append (λ x. same_row row (row_at g x)) xs (o ∷ []) ∙ (rw e refl)
+pub number_within : (g : ObjectGraph) (row : RowKey) → IsRowIn g row → row_number (class_count g) row < row_count g
+number_within g (keys.Class n) h = omega (arith, h)
+number_within g (keys.Primitive t) h = omega (arith, h.0, h.1)
+number_within g keys.ClassObject h = omega arith
 
-pub of_row_no : (g : ObjectGraph) (row : RowKey) (xs : List ℕ) (o : ℕ) → same_row row (row_at g o) ≡ false → of_row g row (xs ++ o ∷ []) ≡ of_row g row xs
-of_row_no g row xs o e = filter-append (λ x. same_row row (row_at g x)) xs (o ∷ []) ∙ (rw e (append-nil (of_row g row xs)))
+-- a test that passes where one of two others does, and no object passes both
+two_parts :
+    (f : ℕ → ℕ) (r p q : ℕ → Bool) (xs : List ℕ)
+    → ((o : ℕ) → cond (r o) (f o) 0 ≡ cond (p o) (f o) 0 + cond (q o) (f o) 0)
+    → sum_by f (filter r xs) ≡ sum_by f (filter p xs) + sum_by f (filter q xs)
+two_parts f r p q xs each =
+    omega (arith, passing_sum f r xs, passing_sum f p xs, passing_sum f q xs, weights xs)
+  where
+    weights :
+        (ys : List ℕ) → sum_by (λ o. cond (r o) (f o) 0) ys
+        ≡ sum_by (λ o. cond (p o) (f o) 0) ys + sum_by (λ o. cond (q o) (f o) 0) ys
+    weights [] = refl
+    weights (y ∷ ys) =
+        omega (
+          arith,
+          sum_by-cons (λ o. cond (r o) (f o) 0) y ys,
+          sum_by-cons (λ o. cond (p o) (f o) 0) y ys,
+          sum_by-cons (λ o. cond (q o) (f o) 0) y ys,
+          each y,
+          weights ys,
+        )
 
--- the tallies with one object more: that of its row, and those of the other rows
-module _ (g : ObjectGraph) (xs : List ℕ) (o bytes number : ℕ) (tallies : List Tally) (tally : Tally) (row_in : IsRowIn g (row_at g o))
-    (number_is : number ≡ row_number (class_count g) (row_at g o)) (within : number < row_count g) (bytes_are : bytes ≡ bytes_at g o)
-    (were : AreTallies g xs tallies) (grown : tally ≡ one_more (get_or tallies number no_object) bytes) where
-  tally_here : get_or (set tallies number tally) number no_object ≡ tally_of g (of_row g (numbered_row (class_count g) number) (xs ++ o ∷ []))
-  tally_here =
-      let row = numbered_row (class_count g) number in
-      let short : number < length tallies = omega (arith, were.each) in
-      let same : same_row row (row_at g o) ≡ true = rw number_is (row_here g (row_at g o) row_in) in
-      get_or-set_same tallies number tally no_object short ∙ grown ∙ ap (λ t. one_more t bytes) (were.right number within)
-      ∙ ap (λ b. one_more (tally_of g (of_row g row xs)) b) bytes_are ∙ sym (ap (tally_of g) (of_row_yes g row xs o same) ∙ tally_push g (of_row g row xs) o)
+module _ (g : ObjectGraph) (whole : IsWhole g) where
+  abbrev number_at : ℕ → ℕ
+  number_at o = row_number (class_count g) (row_at g o)
 
-  tally_elsewhere : (n : ℕ) → n < row_count g → n ≢ number → get_or (set tallies number tally) n no_object ≡ tally_of g (of_row g (numbered_row (class_count g) n) (xs ++ o ∷ []))
-  tally_elsewhere n below other =
-      let row = numbered_row (class_count g) n in
-      let apart : same_row row (row_at g o) ≡ false = row_elsewhere g (row_at g o) n row_in below (λ e. other (e ∙ sym number_is)) in
-      get_or-set_other tallies number n tally no_object other ∙ were.right n below ∙ sym (ap (tally_of g) (of_row_no g row xs o apart))
+  -- the rows below the next number: those below this one, and this one
+  next_row :
+      (f : ℕ → ℕ) (n : ℕ) → n < row_count g → (o : ℕ)
+      → cond (nat_lt (number_at o) (n + 1)) (f o) 0
+      ≡ cond (nat_lt (number_at o) n) (f o) 0
+      + cond (same_row (numbered_row (class_count g) n) (row_at g o)) (f o) 0
+  next_row f n below o = go (cases_order (number_at o) n)
+    where
+      here : IsRowIn g (row_at g o)
+      here = row_there g whole o
 
-  tallies_take_in : AreTallies g (xs ++ o ∷ []) (set tallies number tally)
-  tallies_take_in = record {
-    each = length-set tallies number tally ∙ were.each;
-    right = λ n below. elim (cases_eq n number) [ inl e ↦ rw e tally_here | inr ne ↦ tally_elsewhere n below ne ];
-  }
+      made : (a b c : Bool) → nat_lt (number_at o) (n + 1) ≡ a → nat_lt (number_at o) n ≡ b
+          → same_row (numbered_row (class_count g) n) (row_at g o) ≡ c
+          → cond a (f o) 0 ≡ cond b (f o) 0 + cond c (f o) 0
+          → cond (nat_lt (number_at o) (n + 1)) (f o) 0
+          ≡ cond (nat_lt (number_at o) n) (f o) 0
+          + cond (same_row (numbered_row (class_count g) n) (row_at g o)) (f o) 0
+      made a b c is_a is_b is_c e =
+          omega (
+            arith,
+            ap (λ x. cond x (f o) 0) is_a,
+            ap (λ x. cond x (f o) 0) is_b,
+            ap (λ x. cond x (f o) 0) is_c,
+            e,
+          )
 
--- the tally at the number of a row, however it was read
-module _ (g : ObjectGraph) (xs : List ℕ) (number : ℕ) (tallies : List Tally) (tally : Tally) (are : AreTallies g xs tallies) (within : number < row_count g)
-    (read : tally ≡ get_or tallies number tally) where
-  tally_read : tally ≡ get_or tallies number no_object
-  tally_read = let short : number < length tallies = omega (arith, are.each) in read ∙ get_or_default tallies number tally no_object short
+      go : (number_at o ≡ n) ⊎ ((number_at o < n) ⊎ (n < number_at o))
+          → cond (nat_lt (number_at o) (n + 1)) (f o) 0
+          ≡ cond (nat_lt (number_at o) n) (f o) 0
+          + cond (same_row (numbered_row (class_count g) n) (row_at g o)) (f o) 0
+      go h = ⊎_elim
+          (λ same. made true false true
+          (lt-ltb (number_at o) (n + 1) (omega (arith, same))) (le-ltb (number_at o) n (omega (arith, same)))
+          (ap (λ k. same_row (numbered_row (class_count g) k) (row_at g o)) (sym same) ∙ row_here g (row_at g o) here)
+          (omega arith))
+          (⊎_elim
+          (λ low. made true true false
+          (lt-ltb (number_at o) (n + 1) (omega (arith, low))) (lt-ltb (number_at o) n low)
+          (row_elsewhere g (row_at g o) n here below (λ e. omega (arith, e, low))) (omega arith))
+          (λ high. made false false false
+          (le-ltb (number_at o) (n + 1) (omega (arith, high))) (le-ltb (number_at o) n (omega (arith, high)))
+          (row_elsewhere g (row_at g o) n here below (λ e. omega (arith, e, high))) (omega arith)))
+          h
 
-  tally_is : tally ≡ tally_of g (of_row g (numbered_row (class_count g) number) xs)
-  tally_is = tally_read ∙ are.right number within
+  pub below_next :
+      (f : ℕ → ℕ) (n : ℕ) (xs : List ℕ) → n < row_count g
+      → sum_by f (objects_below g (n + 1) xs)
+      ≡ sum_by f (objects_below g n xs) + sum_by f (of_row g (numbered_row (class_count g) n) xs)
+  below_next f n xs below =
+      two_parts f (λ o. nat_lt (number_at o) (n + 1)) (λ o. nat_lt (number_at o) n)
+      (λ o. same_row (numbered_row (class_count g) n) (row_at g o)) xs (next_row f n below)
 
-  few : length xs < object_count g → length (of_row g (numbered_row (class_count g) number) xs) < object_count g
-  few short = omega (arith, short, length-filter-le (λ o. same_row (numbered_row (class_count g) number) (row_at g o)) xs)
+  pub below_none : (f : ℕ → ℕ) (xs : List ℕ) → sum_by f (objects_below g 0 xs) ≡ 0
+  below_none f [] = refl
+  below_none f (x ∷ xs) =
+      (λ k. sum_by f (cond (le-ltb (number_at x) 0 (omega arith) k) (x ∷ objects_below g 0 xs) (objects_below g 0 xs)))
+      ∙ below_none f xs
 
-  -- neither of its numbers goes past 64 bits
-  pub row_count_fits : IsWhole g → length xs < object_count g → tally.count + 1 < 2 ^ 64
-  row_count_fits whole short = count_fits g tally (of_row g (numbered_row (class_count g) number) xs) whole tally_is (few short)
+  pub below_all : (n : ℕ) (xs : List ℕ) → n ≡ row_count g → objects_below g n xs ≡ xs
+  below_all n [] all = refl
+  below_all n (x ∷ xs) all =
+      let within = number_within g (row_at g x) (row_there g whole x) in
+      (λ k. cond (lt-ltb (number_at x) n (omega (arith, within, all)) k) (x ∷ objects_below g n xs) (objects_below g n xs))
+      ∙ ap (λ ys. x ∷ ys) (below_all n xs all)
 
-  pub row_bytes_fit : IsWhole g → length xs < object_count g → (bytes : ℕ) → bytes ≤ limit → tally.bytes + bytes < 2 ^ 64
-  row_bytes_fit whole short bytes small = bytes_fit g tally (of_row g (numbered_row (class_count g) number) xs) bytes whole tally_is (few short) small
+  pub count_next :
+      (n : ℕ) (xs : List ℕ) → n < row_count g
+      → length (objects_below g (n + 1) xs)
+      ≡ length (objects_below g n xs) + length (of_row g (numbered_row (class_count g) n) xs)
+  count_next n xs below =
+      omega (
+        arith,
+        below_next (λ o. 1) n xs below,
+        ones (objects_below g (n + 1) xs),
+        ones (objects_below g n xs),
+        ones (of_row g (numbered_row (class_count g) n) xs),
+      )
 
--- the next object is taken in by its row, or left out
-pub row_takes_in : (g : ObjectGraph) (p : ℕ → Bool) (n bytes number : ℕ) (row : RowKey) (tallies now : List Tally) (before after : Tally) → p n ≡ true
-    → row ≡ row_at g n → IsRowIn g row → number ≡ row_number (class_count g) row → number < row_count g → bytes ≡ bytes_at g n
-    → AreTallies g (chosen_below p n) tallies → before ≡ get_or tallies number before → after ≡ one_more before bytes → now ≡ set tallies number after
-    → AreTallies g (chosen_below p (n + 1)) now
-row_takes_in g p n bytes number row tallies now before after passes row_is row_in number_is within bytes_are were read grown is =
-    let here : IsRowIn g (row_at g n) = subst (IsRowIn g) row_is row_in in
-    let at : number ≡ row_number (class_count g) (row_at g n) = number_is ∙ ap (row_number (class_count g)) row_is in
-    let more : after ≡ one_more (get_or tallies number no_object) bytes = grown ∙ ap (λ t. one_more t bytes) (tally_read g (chosen_below p n) number tallies before were within read) in
-    rw (is, chosen_yes p n passes) (tallies_take_in g (chosen_below p n) n bytes number tallies after here at within bytes_are were more)
+  pub count_none : (xs : List ℕ) → length (objects_below g 0 xs) ≡ 0
+  count_none xs = sym (ones (objects_below g 0 xs)) ∙ below_none (λ o. 1) xs
 
-pub row_leaves_out : (g : ObjectGraph) (p : ℕ → Bool) (n : ℕ) (tallies now : List Tally) → p n ≡ false → AreTallies g (chosen_below p n) tallies → now ≡ tallies
-    → AreTallies g (chosen_below p (n + 1)) now
-row_leaves_out g p n tallies now fails were same = rw (same, chosen_no p n fails) were
+  -- the marked objects of some rows are few, and their bytes too
+  pub small_part :
+      (n : ℕ) (marks : List Bool)
+      → (length (objects_below g n (marked_objects g marks)) ≤ 2 ^ 24)
+      × (sum_by (bytes_at g) (objects_below g n (marked_objects g marks)) ≤ 2 ^ 54)
+  small_part n marks =
+      let objects = range_with_len 0 (object_count g) in
+      let marked = marked_objects g marks in
+      let below = objects_below g n marked in
+      let passing = length-filter (λ o. nat_lt (number_at o) n) marked in
+      let no_more = count_by-le-length (λ o. nat_lt (number_at o) n) marked in
+      let chosen = length-filter (λ o. slice_index_or marks o false) objects in
+      let few = count_by-le-length (λ o. slice_index_or marks o false) objects in
+      let all = length-range_with_len 0 (object_count g) in
+      let count : length below ≤ 2 ^ 24 = omega (arith, passing, no_more, chosen, few, all, whole.few_objects) in
+      (count, omega (arith, count, sum_by-le (bytes_at g) limit below (λ k d h. whole.few_bytes _)))

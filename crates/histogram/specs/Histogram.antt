@@ -1,8 +1,9 @@
 -- The histogram of a graph with marks: how many objects each row has, and how many bytes.
-use Rattle.std.specs.Prelude.{Bool, IsPermutation, IsSorted, List, [], false, filter, length, map, nat_lt, not}
-use Rattle.std.specs.Prelude.{slice_index_or, sum_by, true, ℕ, ◌++◌, ◌==◌, ◌∷◌, ◌≡◌}
+use Rattle.std.specs.Prelude.{Bool, IsPermutation, IsSorted, List, [], filter, length, map, nat_lt, sum_by, ℕ}
+use Rattle.std.specs.Prelude.{◌++◌, ◌∷◌, ◌≡◌}
 use Rattle.std.specs.List.{range_with_len}
-use Rattle.heap_graph.specs.ObjectGraph.{ObjectGraph, bytes_at, class_count, object_count, row_at}
+use Rattle.heap_graph.specs.ObjectGraph.{ObjectGraph, bytes_at, class_count}
+pub use Rattle.drain.specs.Totals.{marked_objects, of_row, same_row, total, unmarked_objects}
 use Rattle.histogram.specs.ShownRows.{row_id, shown_row}
 use Rattle.std.specs.Ordering.{nat_cmp, ordering_then}
 use Rattle.std.specs.Cmp.Lexicographic.{slice_cmp}
@@ -10,33 +11,11 @@ use Rattle.std.specs.declared.cmp.Ordering.{Ordering}
 use Rattle.heap_graph.specs.declared.row.RowKey.{RowKey}
 use Rattle.heap_graph.specs.declared.row.RowKey.TheVariants as keys
 
--- a test whether two rows are the same
-abbrev pub same_row : RowKey → RowKey → Bool
-same_row (keys.Class a) (keys.Class b) = a == b
-same_row (keys.Primitive a) (keys.Primitive b) = a == b
-same_row keys.ClassObject keys.ClassObject = true
-same_row a b = false
-
 -- all rows: the classes by their numbers, the eight primitive types, the class objects
 abbrev pub all_rows : ObjectGraph → List RowKey
 all_rows g =
     map keys.Class (range_with_len 0 (class_count g))
     ++ (map keys.Primitive (range_with_len 4 8) ++ keys.ClassObject ∷ [])
-
--- the objects that are marked, and those that are not
-abbrev pub marked_objects : ObjectGraph → List Bool → List ℕ
-marked_objects g marks = filter (λ o. slice_index_or marks o false) (range_with_len 0 (object_count g))
-
-abbrev pub unmarked_objects : ObjectGraph → List Bool → List ℕ
-unmarked_objects g marks = filter (λ o. not (slice_index_or marks o false)) (range_with_len 0 (object_count g))
-
--- those of these objects that belong to the row
-abbrev pub of_row : ObjectGraph → RowKey → List ℕ → List ℕ
-of_row g row numbers = filter (λ o. same_row row (row_at g o)) numbers
-
--- how many objects these are, and their bytes together
-abbrev pub total : ObjectGraph → List ℕ → ℕ × ℕ
-total g numbers = (length numbers, sum_by (bytes_at g) numbers)
 
 -- a row with its shown name, the identifier of its class or 0, its number of objects and their bytes together
 pub record Entry : Type 0 where

@@ -7,10 +7,11 @@ mod lines;
 mod names;
 mod reading;
 mod report;
-mod tally;
+mod row_numbers;
 #[cfg(test)]
 mod tests;
 mod text;
+mod unmarked;
 mod whole;
 mod writing;
 

@@ -22,9 +22,15 @@ pub record CameFrom (old new : Holder) : Type 0 where
   pub seen : (o : ℕ) → Contains old.book.account.seen o → Contains new.book.account.seen o
 
 -- The same, and its idle number is what it was: so where it was busy it is busy.
+pub record WorksOn (old new : Holder) : Type 0 where
+  pub came : CameFrom old new
+  pub idle : new.book.account.idle ≡ old.book.account.idle
+
+-- The same, and it finished nothing since.
 pub record GoesOn (old new : Holder) : Type 0 where
   pub came : CameFrom old new
   pub idle : new.book.account.idle ≡ old.book.account.idle
+  pub finished : new.book.account.finished ≡ old.book.account.finished
 
 -- A worker with its pair: it holds the pair's buffers and no others, and answers for the pair's items and for these
 -- objects, which it is about to put or to finish, and for no others.

@@ -13,6 +13,7 @@ pub record IsStill (begun w : Holder) : Type 0 where
   pub came : CameFrom begun w
   pub held : w.book.account.held ≡ begun.book.account.held
   pub charge : w.book.account.charge ≡ begun.book.account.charge
+  pub finished : w.book.account.finished ≡ begun.book.account.finished
   pub open_push : w.book.account.open_push ≡ false
   pub found : w.book.account.found ≡ true
 

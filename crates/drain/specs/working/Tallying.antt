@@ -1,5 +1,5 @@
 -- A worker's tally: it says what the worker finished.
-use Rattle.std.specs.Prelude.{List, ℕ}
+use Rattle.std.specs.Prelude.{All, List, [], ℕ}
 use Rattle.buffer_pool.specs.Calls.{Holder}
 use Rattle.drain.specs.declared.tally.Tally.{Tally}
 use Rattle.drain.specs.working.Tallies.{IsSmall, IsTallyOf, Measure}
@@ -13,3 +13,7 @@ HasSmallSums t = IsSmall t.rows.items t.unresolved
 -- the tally of the objects that the worker finished
 abbrev pub HasTallied : {A : Type 0} → Measure → Holder → Tally A → Type 0
 HasTallied m w t = Tallies m w.book.account.finished t
+
+-- these tallies are each of no object
+abbrev pub AreTalliesOfNone : {A : Type 0} → Measure → List (Tally A) → Type 0
+AreTalliesOfNone m tallies = All (Tallies m []) tallies

@@ -3,8 +3,10 @@
 
 use super::*;
 use crate::gate::NoGate;
+use crate::measured::Measured;
+use crate::scanned::Scanned;
 use buffer_pool::Edges;
-use heap_graph::Successors;
+use heap_graph::Visit;
 use hprof_grammar::read;
 use std::alloc::{AllocError, Global};
 use std::sync::atomic::{AtomicU64, Ordering};
@@ -12,6 +14,7 @@ use std::test::Fail;
 use work_pair::Pair;
 
 mod gate_calls;
+mod tallies;
 
 /// A heap with class 0x100, without a superclass, fields and values.
 fn one_class(alloc: Global) -> Result<Vec<u8>, AllocError> {
@@ -122,18 +125,40 @@ impl Edges for Watched<'_> {
     }
 }
 
+impl Measured for Watched<'_> {
+    ghost use Rattle.drain.specs.working.Measures.{measure_of};
+
+    ghost measure = { λ w. measure_of w.walked.graph.now };
+
+    fn is_measured(&self) {
+        self.walked.is_measured();
+    }
+
+    fn rows(&self) -> usize {
+        self.walked.rows()
+    }
+}
+
 impl<'a> Walk for Watched<'a> {
-    type Successors = Successors<'a, Global>;
+    ghost use Rattle.drain.specs.working.Measures.{scanned_in};
+
+    type Visit = Visit<'a, Global>;
+
+    ghost read_so_far = { scanned_in };
 
     fn roots(&self) -> &[u32] {
         self.walked.roots()
     }
 
-    fn successors(&self, object: u32) -> Successors<'a, Global> {
+    fn visit(&self, object: u32) -> Visit<'a, Global> {
         if self.told.load(Ordering::SeqCst) & (1 << (object % 64)) == 0 {
             self.early.fetch_add(1, Ordering::SeqCst);
         }
-        self.walked.successors(object)
+        self.walked.visit(object)
+    }
+
+    fn read(visit: &Visit<'a, Global>) -> Scanned {
+        <WalkedGraph<'a, Global> as Walk>::read(visit)
     }
 }
 

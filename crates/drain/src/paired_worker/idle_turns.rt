@@ -23,6 +23,7 @@ impl<A: Allocator> PairedWorker<A> {
         requires hand { HasAtHand self.old.pair [] self.old.worker }
         requires none { HasNoneLeft self.old.pair self.old.worker }
         ensures came { CameFrom self.old.worker self.new.worker }
+        ensures finished { self.new.worker.book.account.finished ≡ self.old.worker.book.account.finished }
         ensures hand { HasAtHand self.new.pair [] self.new.worker }
         ensures none { HasNoneLeft self.new.pair self.new.worker }
         ensures awake { IsTrue result → IsAwake self.new.worker }

@@ -2,6 +2,8 @@
 ghost use Rattle.std.specs.Prelude.{◌≡◌, ◌<◌, ◌≤◌, ℕ, IfOk, get_or, length, vec_capacity, vec_len};
 ghost use Rattle.drain.specs.working.AtWork.{IsFree, IsThrough, Leads};
 ghost use Rattle.drain.specs.working.Duties.{IsDutyUnder};
+ghost use Rattle.drain.specs.working.Tallies.{IsMeasureOf};
+ghost use Rattle.drain.specs.working.Tallying.{HasTallied};
 
 use super::*;
 use buffer_pool::Edges;
@@ -26,24 +28,44 @@ impl Edges for Nothing {
     }
 }
 
-/// A thread that answers the worker, or that it was stopped.
-fn answer<'s, E>(
+impl Measured for Nothing {
+    ghost use Rattle.std.specs.Prelude.{ℕ};
+    ghost use Rattle.drain.specs.working.Tallies.{Measure};
+
+    ghost measure = { λ _. record { rows = 1; row = λ _. 0; bytes = λ _. 0; missing = λ _. 0 } };
+
+    fn is_measured(&self) {}
+
+    fn rows(&self) -> usize {
+        1
+    }
+}
+
+/// A thread that answers the worker and the tally, or that it was stopped.
+fn answer<'s, E, V: Measured + Sync>(
     scope: &'s Scope<'s, E>,
-    worker: Worker<Global>,
+    graph: &'s V,
+    begun: Tallied<Global>,
     stop: Option<Stop>,
-) -> Result<Started<Global>, RunFault>
-    requires free { IsFree worker }
-    ensures owes { IfOk result (λ t. t.promise.begun.value ≡ worker) }
+) -> Result<Started<Global, V>, RunFault>
+    requires free { IsFree begun.worker }
+    requires tally { HasTallied (V.measure graph.now) begun.worker begun.tally }
+    ensures owes { IfOk result (λ t. t.promise.begun.value ≡ begun.worker) }
+    ensures graph { IfOk result (λ t. t.promise.graph.value ≡ graph.now) }
 {
     let duty = Duty {
-        begun: Snapshot::of(&worker),
+        begun: Snapshot::of(&begun.worker),
+        graph: Snapshot::of(graph),
     };
-    let run = move || -> Result<Worker<Global>, Stop>
-        requires free { IsFree worker }
-        ensures { IfOk result (IsThrough worker) }
+    let run = move || -> Result<Tallied<Global>, Stop>
+        requires free { IsFree begun.worker }
+        requires tally { HasTallied (V.measure graph.now) begun.worker begun.tally }
+        ensures { IfOk result (λ t. IsThrough begun.worker t.worker
+            × HasTallied (V.measure graph.entry.now) t.worker t.tally) }
     {
+        graph.is_measured();
         match stop {
-            None => Ok(worker),
+            None => Ok(begun),
             Some(stop) => Err(stop),
         }
     };
@@ -54,55 +76,65 @@ fn answer<'s, E>(
 }
 
 /// For each of these a thread that answers it, with a worker of the leader's.
-fn answer_all<'s, E>(
+fn answer_all<'s, E, V: Measured + Sync>(
     scope: &'s Scope<'s, E>,
+    alloc: Global,
+    graph: &'s V,
     pool: &Pool<Global>,
     leader: Worker<Global>,
     stops: &[Option<Stop>],
-    threads: Vec<Started<Global>>,
-) -> Result<(Worker<Global>, Vec<Started<Global>>), RunFault>
+    threads: Vec<Started<Global, V>>,
+) -> Result<(Worker<Global>, Vec<Started<Global, V>>), RunFault>
     requires pool { leader.pool ≡ pool.now }
     requires share { length stops.now < leader.book.account.share }
     requires room { (vec_len threads ≡ 0) × (length stops.now ≤ vec_capacity threads) }
     ensures leads { IfOk result (λ s. Leads leader s.0) }
+    ensures finished { IfOk result (λ s. s.0.book.account.finished ≡ leader.book.account.finished) }
     ensures count { IfOk result (λ s. vec_len s.1 ≡ length stops.now) }
     ensures threads { IfOk result (λ s. (number : ℕ) (t : _) → number < length stops.now
-        → IsDutyUnder leader (get_or s.1.items number t).promise) }
+        → IsDutyUnder graph.now leader (get_or s.1.items number t).promise) }
 {
     let mut leader = leader;
     let mut threads = threads;
     for number in 0..stops.len() {
         let (rest, worker) = pool.split(leader, 1);
         leader = rest;
-        let thread = answer(scope, worker, stops[number])?;
+        let tally = Tally::new(alloc, graph.rows())?;
+        let begun = Tallied { worker, tally };
+        let thread = answer(scope, graph, begun, stops[number])?;
         threads.push_reserved(thread);
     }
     Ok((leader, threads))
 }
 
 /// What the leader answers where its workers answer these.
-fn told<T: Threads + Wait>(
+fn told<T: Threads + Wait, V: Measured + Sync>(
     rt: &T,
     alloc: Global,
+    graph: &V,
     stops: &[Option<Stop>],
 ) -> Result<Option<RunFault>, Fail>
     requires { length stops.now ≤ 64 }
 {
-    let threads: Vec<Started<Global>> = Vec::with_capacity(alloc, stops.len())?;
-    let Ok((pool, leader)) = Pool::new(alloc, &Nothing, 4, 2, 0) else {
+    let threads: Vec<Started<Global, V>> = Vec::with_capacity(alloc, stops.len())?;
+    let tally = Tally::new(alloc, graph.rows())?;
+    let Ok((pool, leader)) = Pool::new(alloc, graph, 4, 2, 0) else {
         return Err("the pool was refused".into());
     };
     let pool = &pool;
+    graph.is_measured();
     let outcome = thread::scope(
         thread::scope_env(),
         rt,
-        move |scope| -> Result<Worker<Global>, RunFault>
+        move |scope| -> Result<Tallied<Global>, RunFault>
             requires pool { leader.pool ≡ pool.now }
             requires share { length stops.now < leader.book.account.share }
             requires room { (vec_len threads ≡ 0) × (length stops.now ≤ vec_capacity threads) }
+            requires measure { IsMeasureOf leader.book.setup.objects (V.measure graph.now) }
+            requires tally { HasTallied (V.measure graph.now) leader tally }
         {
-            let (leader, threads) = answer_all(scope, pool, leader, stops, threads)?;
-            join_all(rt, pool, leader, threads)
+            let (worker, threads) = answer_all(scope, alloc, graph, pool, leader, stops, threads)?;
+            join_all(rt, graph, pool, Tallied { worker, tally }, threads)
         },
     );
     Ok(outcome.err())
@@ -124,7 +156,7 @@ fn of_the_refused_workers_the_one_with_the_least_number_is_told(
         (&[None, memory, tag, tag], Some(RunFault::OutOfMemory)),
     ];
     for (stops, want) in cases {
-        assert_eq!(rt; told(&rt, rt.alloc(), stops)?, want);
+        assert_eq!(rt; told(&rt, rt.alloc(), &Nothing, stops)?, want);
     }
     Ok(())
 }

@@ -1,10 +1,14 @@
-use Rattle.std.proofs.Common.{sym, subst, arith}
+use Rattle.std.proofs.Common.{ap, rules, sym, subst, ◌∙◌, arith}
 use Rattle.mark_core.specs.Shares.{whole}
 use Rattle.buffer_pool.specs.Faults.{Refuses}
 use Rattle.buffer_pool.specs.Ranges.{IsInside}
 use Rattle.heap_graph.specs.ObjectGraph.{object_count}
 use Rattle.heap_graph.specs.Reachable.{MarksReachableOf}
+use Rattle.mark_core.specs.World.{Setup}
+use Rattle.buffer_pool.specs.Book.{Book}
+use Rattle.drain.specs.Marks.{IsMarkingOf, MarkedObjects}
 use Rattle.drain.proofs.Closes.{exactly_marked, opened_setup}
+use Rattle.drain.proofs.Markings.{marking_of}
 use Rattle.drain.proofs.leader.mark_where.Goals as goal
 
 pub unreachable-requires : goal.unreachable-requires
@@ -20,13 +24,34 @@ unreachable-requires g c =
       tag = omega (arith, c.first_tag.ensures, allowed.last_tag);
     })
 
-pub returns : goal.returns
-returns g c =
+pub lead-requires-clause-none : goal.lead-requires-clause-none
+lead-requires-clause-none g c =
+    let none = ap (λ (b : Book). b.account.finished) c.in-Ok.ensures.2 in
+    search (rules, none)
+
+pub returns-clause-reachable : goal.returns-clause-reachable
+returns-clause-reachable g c =
     let graph = c.args.graph.now in
     let leader = c.in-Ok.opened.1 in
-    let setup = opened_setup graph c.buffers.result c.buffer.result c.first_tag.result whole leader.book c.in-Ok.ensures.2 in
-    let led = c.in_ok-leader.ensures in
+    let setup =
+    opened_setup graph c.buffers.result c.buffer.result c.first_tag.result whole leader.book c.in-Ok.ensures.2 in
+    let led = c.in_ok-tallied.ensures.led in
     let exact =
-    exactly_marked graph leader.book.setup setup c.in_ok-leader.leader c.close.ensures.0.last c.close.result led.setup
+    exactly_marked graph leader.book.setup setup c.in_ok-tallied.tallied.worker c.close.ensures.0.last c.close.result led.setup
     led.free.open_push led.saw c.close.ensures.1 in
-    subst (MarksReachableOf graph) (sym c.new-2.ensures) exact
+    subst (λ (m : MarkedObjects). MarksReachableOf graph m.marks) (sym c.new-2.ensures) exact
+
+pub returns-clause-made : goal.returns-clause-made
+returns-clause-made g c =
+    let graph = c.args.graph.now in
+    let leader = c.in-Ok.opened.1 in
+    let setup =
+    opened_setup graph c.buffers.result c.buffer.result c.first_tag.result whole leader.book c.in-Ok.ensures.2 in
+    let worker = c.in_ok-tallied.tallied.worker in
+    let tally = c.in_ok-tallied.tallied.tally in
+    let led = c.in_ok-tallied.ensures.led in
+    let objects = ap (λ (e : Setup). e.objects) led.setup ∙ setup.objects in
+    let made =
+    marking_of graph worker.book c.close.ensures.0.last c.close.result c.close.ensures.1 led.free.open_push objects
+    c.len-objects.ensures.whole tally.rows.items tally.unresolved c.in_ok-tallied.ensures.tally in
+    subst (IsMarkingOf graph) (sym c.new-2.ensures) made

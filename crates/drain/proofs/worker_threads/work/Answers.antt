@@ -1,19 +1,30 @@
 -- The worker comes from the one that was given, turn after turn, and is not idle where it goes on.
-use Rattle.std.proofs.Common.{◌∙◌}
+use Rattle.std.proofs.Common.{◌≡◌, ◌∙◌, List, subst, sym, ℕ}
+use Rattle.buffer_pool.specs.Calls.{Holder}
+use Rattle.drain.specs.declared.tally.Tally.{Tally}
+use Rattle.drain.specs.working.Tallies.{Measure}
+use Rattle.drain.specs.working.Tallying.{HasTallied, Tallies}
 use Rattle.drain.proofs.AtHand.{came_again, came_at_all}
 use Rattle.drain.proofs.Idling.{awake_at_work}
-use Rattle.drain.proofs.Outcomes.{at_ok, if_ok}
+use Rattle.drain.proofs.Outcomes.{at_ok}
 use Rattle.drain.proofs.worker_threads.work.Goals as goal
+
+-- the tally of a worker is that of one that finished the same
+same_tally : {A : Type 0} (m : Measure) (old new : Holder) (t : Tally A)
+    → new.book.account.finished ≡ old.book.account.finished → HasTallied m old t → HasTallied m new t
+same_tally m old new t same was = subst (λ (xs : List ℕ). Tallies m xs t) (sym same) was
 
 pub loop-init : goal.loop-init
 loop-init g c =
-    let opened = at_ok _ c.in_ok-paired.field-0 c.in-Ok.paired c.in_ok-paired.ensures.opened c.in-Ok.is in (
+    let opened = at_ok _ c.in_ok-paired.field-0 c.in-Ok.paired c.in_ok-paired.ensures.opened c.in-Ok.is in
+    let m = g.V.Measured.measure c.args.graph.now in (
       came_at_all c.in-Ok.paired.worker,
       opened.1,
       record {
         share = opened.0.came.share ∙ c.requires.awake.share;
         idle = opened.0.idle ∙ c.requires.awake.idle;
       },
+      same_tally m c.args.begun.worker c.in-Ok.paired.worker c.args.begun.tally opened.0.finished c.requires.tally,
     )
 
 pub finds_more-requires-clause-awake : goal.finds_more-requires-clause-awake
@@ -30,19 +41,31 @@ loop-preserved g c =
     let end = c.finds_more.new.self in
     let on = came_again c.loop.paired.worker worked end.worker c.in_ok-work_off.ensures.goes_on.came
     c.finds_more.ensures.came in
+    let m = g.V.Measured.measure c.args.graph.now in
     let awake = c.finds_more.ensures.awake c.if-not-finds_more.false in (
       came_again c.in-Ok.paired.worker c.loop.paired.worker end.worker c.loop.invariant.0 on,
       awake_at_work end.pair end.worker awake c.finds_more.ensures.hand,
       awake,
+      same_tally m worked end.worker c.work_off.new.tally c.finds_more.ensures.finished c.in_ok-work_off.ensures.tally,
     )
 
-pub returns-then-not-finds_more : goal.returns-then-not-finds_more
-returns-then-not-finds_more g c =
+pub returns-then-not-finds_more-clause-through : goal.returns-then-not-finds_more-clause-through
+returns-then-not-finds_more-clause-through g c =
     let opened = at_ok _ c.in_ok-paired.field-0 c.in-Ok.paired c.in_ok-paired.ensures.opened c.in-Ok.is in
+    let begun = c.args.begun.worker in
     let worked = c.work_off.new.self.worker in
     let end = c.finds_more.new.self.worker in
     let on = came_again c.loop.paired.worker worked end c.in_ok-work_off.ensures.goes_on.came
     c.finds_more.ensures.came in
     let since = came_again c.in-Ok.paired.worker c.loop.paired.worker end c.loop.invariant.0 on in
-    let came = came_again c.args.worker c.in-Ok.paired.worker end opened.0.came since in
-    if_ok c.close.result c.close.ensures (λ w through. (came_again c.args.worker end w came through.0, through.1))
+    let came = came_again begun c.in-Ok.paired.worker end opened.0.came since in
+    let through = c.in_ok-worker.ensures.through in
+    (came_again begun end c.in_ok-worker.worker came through.0, through.1)
+
+pub returns-then-not-finds_more-clause-tally : goal.returns-then-not-finds_more-clause-tally
+returns-then-not-finds_more-clause-tally g c =
+    let worked = c.work_off.new.self.worker in
+    let end = c.finds_more.new.self.worker in
+    let m = g.V.Measured.measure c.args.graph.now in
+    let same = c.in_ok-worker.ensures.finished ∙ c.finds_more.ensures.finished in
+    same_tally m worked c.in_ok-worker.worker c.work_off.new.tally same c.in_ok-work_off.ensures.tally

@@ -4,7 +4,7 @@ use super::Reported;
 use crate::tests::dumps::Record::{Heap, Load, Other, Segment, Text};
 use crate::tests::dumps::Sub::{Class, Instance, Objects, Raw, Root, Static, Values};
 
-pub static REPORTED: [Reported; 8] = [
+pub static REPORTED: [Reported; 10] = [
     (
         "two more that no root reaches",
         4,
@@ -51,6 +51,66 @@ pub static REPORTED: [Reported; 8] = [
             (3, 8, "(reachable)"),
             (0, 0, "(unreachable)"),
             (1, 0, "(unresolved)"),
+        ],
+    ),
+    (
+        "identifiers that name nothing, in objects that are reachable and not, and in a root",
+        4,
+        &[
+            Text(1, b"A"),
+            Load(0x100, 1),
+            Heap(&[
+                Class(0x100, 0, &[2]),
+                Instance(0x201, 0x100, &[0, 0, 9, 9]),
+                Instance(0x202, 0x100, &[0, 0, 9, 8]),
+                Objects(0x203, 0x100, &[0x998, 0, 0x201, 0x997]),
+                Root(0x201),
+                Root(0x996),
+                Root(0),
+            ]),
+        ],
+        &[
+            (1, 4, "A"),
+            (1, 0, "<class>"),
+            (2, 4, "(reachable)"),
+            (2, 20, "(unreachable)"),
+            (5, 0, "(unresolved)"),
+        ],
+    ),
+    (
+        "a row for each primitive type",
+        4,
+        &[Heap(&[
+            Values(0x301, 4, 1, &[1]),
+            Values(0x302, 5, 1, &[1, 2]),
+            Values(0x303, 6, 1, &[1, 2, 3, 4]),
+            Values(0x304, 7, 1, &[1, 2, 3, 4, 5, 6, 7, 8]),
+            Values(0x305, 8, 1, &[1]),
+            Values(0x306, 9, 1, &[1, 2]),
+            Values(0x307, 10, 1, &[1, 2, 3, 4]),
+            Values(0x308, 11, 1, &[1, 2, 3, 4, 5, 6, 7, 8]),
+            Values(0x309, 11, 0, &[]),
+            Root(0x301),
+            Root(0x302),
+            Root(0x303),
+            Root(0x304),
+            Root(0x305),
+            Root(0x306),
+            Root(0x307),
+            Root(0x308),
+        ])],
+        &[
+            (1, 8, "double[]"),
+            (1, 8, "long[]"),
+            (1, 4, "float[]"),
+            (1, 4, "int[]"),
+            (1, 2, "char[]"),
+            (1, 2, "short[]"),
+            (1, 1, "boolean[]"),
+            (1, 1, "byte[]"),
+            (8, 30, "(reachable)"),
+            (1, 0, "(unreachable)"),
+            (0, 0, "(unresolved)"),
         ],
     ),
     (

@@ -10,8 +10,11 @@ dispose-requires-clause-spill g c =
     let p = c.args.self.pair in
     inl (none_first p.spill (buffered_items p) c.requires.none.0)
 
-pub returns-in-Ok : goal.returns-in-Ok
-returns-in-Ok g c =
+pub returns-in-Ok-clause-finished : goal.returns-in-Ok-clause-finished
+returns-in-Ok-clause-finished g c = c.in-Ok.ensures.gone.0.kept.finished
+
+pub returns-in-Ok-clause-through : goal.returns-in-Ok-clause-through
+returns-in-Ok-clause-through g c =
     let p = c.args.self.pair in
     let old = c.args.self.worker in
     let new = c.dispose.new.worker in

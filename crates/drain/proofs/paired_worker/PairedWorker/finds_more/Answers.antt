@@ -56,6 +56,7 @@ returns-then-all_idle g c =
     let same = c.loop-turn.invariant.1 in
     record {
       came = one.still.came;
+      finished = one.still.finished;
       hand = hand_still begun.pair before.pair begun.worker end same one.still c.requires.hand;
       none = none_still begun.pair before.pair begun.worker end same one.still c.requires.none;
       awake = λ more. absurd (false≢true more);
@@ -80,6 +81,7 @@ returns-then-not-sees_empty g c =
     let same = c.loop-turn.invariant.1 in
     record {
       came = still.came;
+      finished = still.finished;
       hand = hand_still begun.pair before.pair begun.worker end same still c.requires.hand;
       none = none_still begun.pair before.pair begun.worker end same still c.requires.none;
       awake = λ more. awake_back begun.worker looked end down.pool (made + 1 + 1) two c.requires.awake down.event;
@@ -95,6 +97,7 @@ returns g c =
     let same = c.loop-turn.invariant.1 in
     record {
       came = idling.still.came;
+      finished = idling.still.finished;
       hand = hand_still begun.pair end.pair begun.worker end.worker same idling.still c.requires.hand;
       none = none_still begun.pair end.pair begun.worker end.worker same idling.still c.requires.none;
       awake = λ more. absurd (false≢true more);

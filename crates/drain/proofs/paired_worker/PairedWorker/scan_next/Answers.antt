@@ -1,12 +1,16 @@
-use Rattle.std.proofs.Common.{[], ◌∷◌, ◌∙◌, ◌<◌, ◌≡◌, ℕ, List, Contains, ap, subst, sym}
+use Rattle.std.proofs.Common.{arith, [], ◌∷◌, ◌∙◌, ◌<◌, ◌≡◌, ℕ, List, Contains, ap, subst, sym}
 use Rattle.std.specs.Prelude.{IfSome}
 use Rattle.mark_core.specs.World.{Setup}
 use Rattle.work_pair.specs.Deals.{Deals}
 use Rattle.drain.proofs.AtHand.{all_claimable, dealt, dealt_goes_on, goes_on_again, got_is_object, may_finish, scanned}
+use Rattle.drain.specs.working.Scans.{IsScanOf}
+use Rattle.drain.specs.working.Tallying.{Tallies}
+use Rattle.drain.proofs.AtHand.{works, works_on_again}
+use Rattle.drain.proofs.Scanning.{finished_is, scan_fits, small_before, tally_before}
 use Rattle.drain.proofs.paired_worker.PairedWorker.scan_next.Goals as goal
 
-pub successors-requires : goal.successors-requires
-successors-requires g c =
+pub visit-visit-requires : goal.visit-visit-requires
+visit-visit-requires g c =
     let old = c.args.self.now.worker in
     let got = c.get.new.worker in
     let o = c.in-Some.object in
@@ -20,7 +24,7 @@ claim_all-requires-clause-may g c =
     let old = c.args.self.now.worker in
     let got = c.get.new.worker in
     let o = c.in-Some.object in
-    let given = c.successors.ensures.exact in
+    let given = c.visit-visit.ensures.exact in
     let deals = subst (λ r. IfSome r (λ x. Deals c.args.self.now.pair old.book [] (x ∷ []) c.get.new.self got.book)) c.in-Some.is c.in_ok-object.ensures.got in
     let at_work = dealt c.args.self.now.pair old [] (o ∷ []) c.get.new.self got deals [] c.in_ok-object.ensures.going c.requires.at_work in
     let pairs : got.book.setup.pairs ≡ g.V.Edges.pairs c.args.graph.now = ap (λ (e : Setup). e.pairs) deals.kept.setup ∙ c.requires.setup.pairs in (
@@ -37,7 +41,7 @@ finish-requires-clause-can g c =
     let got = c.get.new.worker in
     let mid = c.claim_all.new.self in
     let o = c.in-Some.object in
-    let given = c.successors.ensures.exact in
+    let given = c.visit-visit.ensures.exact in
     let deals = subst (λ r. IfSome r (λ x. Deals c.args.self.now.pair old.book [] (x ∷ []) c.get.new.self got.book)) c.in-Some.is c.in_ok-object.ensures.got in
     let at_work = dealt c.args.self.now.pair old [] (o ∷ []) c.get.new.self got deals [] c.in_ok-object.ensures.going c.requires.at_work in
     let are = c.in_ok-claim_all.ensures.claimed given.objects given.gives in
@@ -50,13 +54,15 @@ returns-clause-goes_on g c =
     let got = c.get.new.worker in
     let mid = c.claim_all.new.self in
     let o = c.in-Some.object in
-    let given = c.successors.ensures.exact in
+    let given = c.visit-visit.ensures.exact in
     let deals = subst (λ r. IfSome r (λ x. Deals c.args.self.now.pair old.book [] (x ∷ []) c.get.new.self got.book)) c.in-Some.is c.in_ok-object.ensures.got in
     let at_work = dealt c.args.self.now.pair old [] (o ∷ []) c.get.new.self got deals [] c.in_ok-object.ensures.going c.requires.at_work in
     let are = c.in_ok-claim_all.ensures.claimed given.objects given.gives in
     let done = scanned o mid.pair mid.worker (are.at_work (o ∷ []) at_work) c.finish.new.worker c.finish.ensures.pool c.finish.ensures.event in
-    goes_on_again old got c.finish.new.worker (dealt_goes_on c.args.self.now.pair old [] (o ∷ []) c.get.new.self got deals c.in_ok-object.ensures.pool)
-    (goes_on_again got mid.worker c.finish.new.worker are.goes_on done.0)
+    let scan = dealt_goes_on c.args.self.now.pair old [] (o ∷ []) c.get.new.self got deals
+    c.in_ok-object.ensures.pool in
+    let on = goes_on_again old got mid.worker scan are.goes_on in
+    works_on_again old mid.worker c.finish.new.worker (works old mid.worker on) done.0
 
 pub returns-clause-at_work : goal.returns-clause-at_work
 returns-clause-at_work g c =
@@ -64,8 +70,104 @@ returns-clause-at_work g c =
     let got = c.get.new.worker in
     let mid = c.claim_all.new.self in
     let o = c.in-Some.object in
-    let given = c.successors.ensures.exact in
+    let given = c.visit-visit.ensures.exact in
     let deals = subst (λ r. IfSome r (λ x. Deals c.args.self.now.pair old.book [] (x ∷ []) c.get.new.self got.book)) c.in-Some.is c.in_ok-object.ensures.got in
     let at_work = dealt c.args.self.now.pair old [] (o ∷ []) c.get.new.self got deals [] c.in_ok-object.ensures.going c.requires.at_work in
     let are = c.in_ok-claim_all.ensures.claimed given.objects given.gives in
     (scanned o mid.pair mid.worker (are.at_work (o ∷ []) at_work) c.finish.new.worker c.finish.ensures.pool c.finish.ensures.event).1
+
+pub add-requires-clause-small : goal.add-requires-clause-small
+add-requires-clause-small g c =
+    let old = c.args.self.now.worker in
+    let got = c.get.new.worker in
+    let mid = c.claim_all.new.self.worker in
+    let o = c.in-Some.object in
+    let given = c.visit-visit.ensures.exact in
+    let deals =
+    subst (λ r. IfSome r (λ x. Deals c.args.self.now.pair old.book [] (x ∷ []) c.get.new.self got.book)) c.in-Some.is
+    c.in_ok-object.ensures.got in
+    let are = c.in_ok-claim_all.ensures.claimed given.objects given.gives in
+    let m = g.V.Measured.measure c.args.graph.now in
+    let count = g.V.Edges.count c.args.graph.now in
+    let kept = are.goes_on.finished ∙ deals.kept.finished in
+    let setup = are.goes_on.came.setup ∙ deals.kept.setup in
+    let objects : mid.book.setup.objects ≡ count = ap (λ (e : Setup). e.objects) setup ∙ c.requires.setup.objects in
+    small_before m count c.is_measured.ensures o old mid c.finish.new.worker c.args.tally.now.rows.items
+    c.args.tally.now.unresolved kept objects c.finish.ensures.event c.has_finished_few.ensures.few c.requires.tally
+
+pub add-requires-clause-row : goal.add-requires-clause-row
+add-requires-clause-row g c =
+    let old = c.args.self.now.worker in
+    let got = c.get.new.worker in
+    let mid = c.claim_all.new.self.worker in
+    let o = c.in-Some.object in
+    let given = c.visit-visit.ensures.exact in
+    let deals =
+    subst (λ r. IfSome r (λ x. Deals c.args.self.now.pair old.book [] (x ∷ []) c.get.new.self got.book)) c.in-Some.is
+    c.in_ok-object.ensures.got in
+    let are = c.in_ok-claim_all.ensures.claimed given.objects given.gives in
+    let m = g.V.Measured.measure c.args.graph.now in
+    let count = g.V.Edges.count c.args.graph.now in
+    let kept = are.goes_on.finished ∙ deals.kept.finished in
+    let setup = are.goes_on.came.setup ∙ deals.kept.setup in
+    let objects : mid.book.setup.objects ≡ count = ap (λ (e : Setup). e.objects) setup ∙ c.requires.setup.objects in
+    let scan =
+    subst (IsScanOf m o) (sym c.read.ensures)
+    (c.visit-visit.ensures.ends c.claim_all.new.objects c.in_ok-claim_all.ensures.ended) in
+    let at_work =
+    dealt c.args.self.now.pair old [] (o ∷ []) c.get.new.self got deals [] c.in_ok-object.ensures.going
+    c.requires.at_work in
+    let there : got.book.setup.objects ≡ count =
+    ap (λ (e : Setup). e.objects) deals.kept.setup ∙ c.requires.setup.objects in
+    let below =
+    subst (λ (n : ℕ). o < n) there (got_is_object o c.get.new.self got at_work c.stays_within.ensures.charge) in
+    scan_fits m count o c.read.result c.args.tally.now.rows.items c.is_measured.ensures below scan
+    c.requires.tally.each
+
+pub add-requires-clause-bytes : goal.add-requires-clause-bytes
+add-requires-clause-bytes g c =
+    let o = c.in-Some.object in
+    let m = g.V.Measured.measure c.args.graph.now in
+    let scan =
+    subst (IsScanOf m o) (sym c.read.ensures)
+    (c.visit-visit.ensures.ends c.claim_all.new.objects c.in_ok-claim_all.ensures.ended) in
+    omega (arith, scan.bytes, c.is_measured.ensures.few_bytes o)
+
+pub add-requires-clause-unresolved : goal.add-requires-clause-unresolved
+add-requires-clause-unresolved g c =
+    let o = c.in-Some.object in
+    let m = g.V.Measured.measure c.args.graph.now in
+    let scan =
+    subst (IsScanOf m o) (sym c.read.ensures)
+    (c.visit-visit.ensures.ends c.claim_all.new.objects c.in_ok-claim_all.ensures.ended) in
+    omega (arith, scan.unresolved, c.is_measured.ensures.few_missing o)
+
+pub returns-clause-tally : goal.returns-clause-tally
+returns-clause-tally g c =
+    let old = c.args.self.now.worker in
+    let got = c.get.new.worker in
+    let mid = c.claim_all.new.self.worker in
+    let o = c.in-Some.object in
+    let given = c.visit-visit.ensures.exact in
+    let deals =
+    subst (λ r. IfSome r (λ x. Deals c.args.self.now.pair old.book [] (x ∷ []) c.get.new.self got.book)) c.in-Some.is
+    c.in_ok-object.ensures.got in
+    let are = c.in_ok-claim_all.ensures.claimed given.objects given.gives in
+    let m = g.V.Measured.measure c.args.graph.now in
+    let count = g.V.Edges.count c.args.graph.now in
+    let kept = are.goes_on.finished ∙ deals.kept.finished in
+    let setup = are.goes_on.came.setup ∙ deals.kept.setup in
+    let objects : mid.book.setup.objects ≡ count = ap (λ (e : Setup). e.objects) setup ∙ c.requires.setup.objects in
+    let scan =
+    subst (IsScanOf m o) (sym c.read.ensures)
+    (c.visit-visit.ensures.ends c.claim_all.new.objects c.in_ok-claim_all.ensures.ended) in
+    let end = c.finish.new.worker in
+    let few = c.has_finished_few.ensures.few in
+    let event = c.finish.ensures.event in
+    let rows = c.args.tally.now.rows.items in
+    let missing = c.args.tally.now.unresolved in
+    let bounded = c.is_measured.ensures in
+    let before = tally_before m count bounded o old mid end rows missing kept objects event few c.requires.tally in
+    let after = c.add.ensures m mid.book.account.finished o before scan in
+    let longer = finished_is m count bounded o old mid end rows missing kept objects event few c.requires.tally in
+    subst (λ (xs : List ℕ). Tallies m xs c.add.new.self) (sym longer) after

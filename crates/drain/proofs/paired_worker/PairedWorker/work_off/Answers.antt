@@ -1,15 +1,33 @@
-use Rattle.drain.proofs.AtHand.{goes_on_again}
+-- What it shares changes nothing that it finished, and what it scans its tally takes in.
+use Rattle.std.proofs.Common.{List, rules, subst, sym, ℕ}
+use Rattle.drain.specs.working.Tallying.{HasTallied, Tallies}
+use Rattle.drain.proofs.AtHand.{works, works_on_again}
 use Rattle.drain.proofs.paired_worker.PairedWorker.work_off.Goals as goal
+
+pub scan_next-requires-clause-tally : goal.scan_next-requires-clause-tally
+scan_next-requires-clause-tally g c =
+    let m = g.V.Measured.measure c.args.graph.now in
+    let had : HasTallied m c.share.new.self.worker c.loop.tally =
+    subst (λ (xs : List ℕ). Tallies m xs c.loop.tally) (sym c.in_ok-share.ensures.goes_on.finished) c.loop.invariant.3
+    in
+    search (rules, had)
 
 pub returns-then-not-branch-clause-goes_on : goal.returns-then-not-branch-clause-goes_on
 returns-then-not-branch-clause-goes_on g c =
-    goes_on_again c.args.self.now.worker c.loop.self.worker c.scan_next.new.self.worker c.loop.invariant.0
-    (goes_on_again c.loop.self.worker c.share.new.self.worker c.scan_next.new.self.worker c.in_ok-share.ensures.goes_on c.in_ok-scan_next.ensures.goes_on)
+    let shared = c.share.new.self.worker in
+    let end = c.scan_next.new.self.worker in
+    let on = works c.loop.self.worker shared c.in_ok-share.ensures.goes_on in
+    works_on_again c.args.self.now.worker c.loop.self.worker end c.loop.invariant.0
+    (works_on_again c.loop.self.worker shared end on c.in_ok-scan_next.ensures.goes_on)
 
 pub loop-preserved : goal.loop-preserved
-loop-preserved g c = (
-  goes_on_again c.args.self.now.worker c.loop.self.worker c.scan_next.new.self.worker c.loop.invariant.0
-      (goes_on_again c.loop.self.worker c.share.new.self.worker c.scan_next.new.self.worker c.in_ok-share.ensures.goes_on c.in_ok-scan_next.ensures.goes_on),
-  c.in_ok-scan_next.ensures.at_work,
-  c.in_ok-scan_next.ensures.seen,
-)
+loop-preserved g c =
+    let shared = c.share.new.self.worker in
+    let end = c.scan_next.new.self.worker in
+    let on = works c.loop.self.worker shared c.in_ok-share.ensures.goes_on in (
+      works_on_again c.args.self.now.worker c.loop.self.worker end c.loop.invariant.0
+          (works_on_again c.loop.self.worker shared end on c.in_ok-scan_next.ensures.goes_on),
+      c.in_ok-scan_next.ensures.at_work,
+      c.in_ok-scan_next.ensures.seen,
+      c.in_ok-scan_next.ensures.tally,
+    )

@@ -1,9 +1,10 @@
 use Rattle.std.proofs.Common.{[]}
-use Rattle.drain.specs.working.AtWork.{GoesOn, IsAtWork}
+use Rattle.drain.specs.working.AtWork.{IsAtWork, WorksOn}
 use Rattle.drain.specs.working.RecentlySeen.{HasSeenAll}
+use Rattle.drain.specs.working.Tallying.{HasTallied}
 use Rattle.drain.proofs.paired_worker.PairedWorker.work_off.Given as goal
 
 abbrev pub invariant-loop : goal.invariant-loop
 invariant-loop g l =
-    GoesOn l.initial.self.worker l.self.worker × IsAtWork l.self.pair [] l.self.worker
-    × HasSeenAll l.seen l.self.worker
+    WorksOn l.initial.self.worker l.self.worker × IsAtWork l.self.pair [] l.self.worker
+    × HasSeenAll l.seen l.self.worker × HasTallied (g.V.Measured.measure l.graph) l.self.worker l.tally

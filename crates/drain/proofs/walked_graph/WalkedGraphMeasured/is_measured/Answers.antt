@@ -1,0 +1,5 @@
+use Rattle.drain.proofs.Visits.{measured}
+use Rattle.drain.proofs.walked_graph.WalkedGraphMeasured.is_measured.Goals as goal
+
+pub returns : goal.returns
+returns g c = measured c.args.self.now.graph.now c.len-objects.ensures.whole

@@ -1,0 +1,12 @@
+//! A worker that is through with its work, and what it counted.
+
+use crate::tally::Tally;
+use buffer_pool::Worker;
+use std::alloc::Allocator;
+
+/// A worker, and the tally of the objects that it finished.
+#[derive(Drop)]
+pub(crate) struct Tallied<A: Allocator> {
+    pub(crate) worker: Worker<A>,
+    pub(crate) tally: Tally<A>,
+}
