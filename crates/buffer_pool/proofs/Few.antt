@@ -1,6 +1,6 @@
 -- A worker's story leads to a lawful marking. Of its finished objects each can be reached, so it is an object, and none
--- was finished twice: so they are no more than there are.
-use Rattle.std.proofs.Common.{ℕ, ◌<◌, ◌≤◌, [], ◌∷◌, length, arith}
+-- was finished twice: so they are no more than there are, and their number is small.
+use Rattle.std.proofs.Common.{◌≡◌, ℕ, ◌<◌, ◌≤◌, [], ◌∷◌, length, arith}
 use Rattle.std.proofs.lemmas.List.Elements.{All-contains}
 use Rattle.atomic_table.specs.Seated.{TableId}
 use Rattle.mark_core.specs.Colours.{IsReachable}
@@ -32,3 +32,6 @@ module _ (t : TableId) (log : Log) (b : Book) (laid : IsLaid t b.setup) (story :
     where
       within : (o : ℕ) → 1 ≤ story.0.mark o → o < b.setup.objects
       within o marked = reached_within t b.setup laid o (law.coloured.reachable o marked)
+
+  pub small_count : (count : ℕ) → count ≡ length b.account.finished → count ≤ 16777216
+  small_count count counted = omega (arith, counted, few_finished, laid.objects)

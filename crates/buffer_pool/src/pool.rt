@@ -99,7 +99,7 @@ impl<A: Allocator + Clone> Pool<A> {
                 buffers,
                 objects,
             },
-            Worker { seat },
+            Worker { seat, finished: 0 },
         ))
     }
 }

@@ -4,13 +4,17 @@ use crate::rules::Token;
 use std::alloc::Allocator;
 use std::marker::Model;
 
-/// A worker of one pool: a share of it, the buffers that it holds, the objects that it answers for. It has no bytes.
+/// A worker of one pool: a share of it, the buffers that it holds, the objects that it answers for, and those that it
+/// finished. It has no bytes but the count of the last.
 #[derive(Drop)]
 pub struct Worker<A: Allocator> {
     pub(crate) seat: Token<A>,
+    /// How many objects it finished, with those that the workers it took in had finished.
+    pub(crate) finished: u64,
 }
 
 impl<A: Allocator> Model for Worker<A> {
+    ghost use Rattle.std.specs.Prelude.{◌≡◌, length};
     ghost use Rattle.buffer_pool.specs.Calls.{Holder};
     ghost use Rattle.buffer_pool.specs.working.Laid.{IsSound};
 
@@ -18,7 +22,8 @@ impl<A: Allocator> Model for Worker<A> {
 
     ghost view = { λ w. record { pool = w.seat.table_id; book = w.seat.me.0.book; log = w.seat.me.0.log } };
 
-    ghost invariant = { λ w. IsSound w.seat.table_id w.seat.me };
+    ghost invariant = { λ w. IsSound w.seat.table_id w.seat.me
+        × (w.finished ≡ length w.seat.me.0.book.account.finished) };
 }
 
 impl<A: Allocator> Worker<A> {

@@ -1,20 +1,24 @@
--- How many marks are set, one more after the other.
-use Rattle.std.proofs.Common.{◌≡◌, ℕ, ◌+◌, ◌<◌, ◌≤◌, Bool, true, false, List, map, take, length, get_or, slice_index, count_by, refl, arith}
-use Rattle.std.proofs.lemmas.List.{length-map}
-use Rattle.std.proofs.lemmas.List.Sums.{count_by_more_no, count_by_more_yes}
-use Rattle.drain.specs.Marks.{is_set}
-use Rattle.drain.proofs.Closes.{marked_where_set}
+-- As many marks are set as tell of a finished object, where each claimed object was finished.
+use Rattle.std.proofs.Common.{◌≡◌, ℕ, zero, suc, ◌+◌, ◌≤◌, ◌==◌, Bool, List, [], ◌∷◌, cond, count_by, map, ap, refl, sym, ◌∙◌, arith}
+use Rattle.std.proofs.lemmas.List.Sums.{sum_by-cons}
+use Rattle.drain.specs.Marks.{AreFinished, is_set}
 
-module _ (marks : List ℕ) (o : ℕ) (inside : o < length marks) where
-  within : o < length (map is_set marks)
-  within = omega (arith, inside, length-map marks is_set)
+-- one mark in front of others that are counted alike
+one_more : (m n k : ℕ) → (1 ≤ m → m ≡ 2) → n ≡ k → cond (m == 2) 1 0 + n ≡ cond (is_set m) 1 0 + k
+one_more zero n k two same = ap (λ (x : ℕ). 0 + x) same
+one_more (suc m) n k two same =
+    let is : suc m ≡ 2 = two (omega (arith)) in
+    ap (λ (x : ℕ). cond (x == 2) 1 0 + n) is
+    ∙ ap (λ (x : ℕ). 1 + x) same
+    ∙ ap (λ (x : ℕ). cond (is_set x) 1 0 + k) (sym is)
 
-  pub one_counted : 1 ≤ slice_index marks o → count_by (λ m. m) (take (o + 1) (map is_set marks)) ≡ count_by (λ m. m) (take o (map is_set marks)) + 1
-  one_counted claimed = count_by_more_yes (λ m. m) (map is_set marks) o false within ((marked_where_set marks o).1 claimed)
-
-  pub none_counted : (1 ≤ slice_index marks o → ⊥) → count_by (λ m. m) (take (o + 1) (map is_set marks)) ≡ count_by (λ m. m) (take o (map is_set marks))
-  none_counted white = go (get_or (map is_set marks) o false) refl
-    where
-      go : (b : Bool) → get_or (map is_set marks) o false ≡ b → count_by (λ m. m) (take (o + 1) (map is_set marks)) ≡ count_by (λ m. m) (take o (map is_set marks))
-      go false is = count_by_more_no (λ m. m) (map is_set marks) o false within is
-      go true is = absurd (white ((marked_where_set marks o).0 is))
+pub finished_are_set :
+    (marks : List ℕ) → AreFinished marks → count_by (λ m. m == 2) marks ≡ count_by (λ m. m) (map is_set marks)
+finished_are_set [] all = refl
+finished_are_set (m ∷ ms) all =
+    let others : count_by (λ (n : ℕ). n == 2) ms ≡ count_by (λ (b : Bool). b) (map is_set ms) =
+    finished_are_set ms (λ o. all (suc o))
+    in
+    sum_by-cons (λ (n : ℕ). cond (n == 2) 1 0) m ms
+    ∙ one_more m (count_by (λ (n : ℕ). n == 2) ms) (count_by (λ (b : Bool). b) (map is_set ms)) (all 0) others
+    ∙ sym (sum_by-cons (λ (b : Bool). cond b 1 0) (is_set m) (map is_set ms))

@@ -1,5 +1,5 @@
 -- Which marks are those of marked objects, and what is told of these.
-use Rattle.std.specs.Prelude.{Bool, List, length, nat_le, ℕ, ◌≡◌}
+use Rattle.std.specs.Prelude.{Bool, List, length, nat_le, slice_index, ℕ, ◌≡◌, ◌≤◌}
 use Rattle.heap_graph.specs.ObjectGraph.{ObjectGraph, object_count}
 use Rattle.heap_graph.specs.Whole.{missing_of}
 use Rattle.heap_graph.specs.declared.row.RowKey.{RowKey}
@@ -10,6 +10,10 @@ use Rattle.drain.specs.working.Measures.{told_of}
 -- a white object has 0, a claimed one 1, and a finished one 2
 abbrev pub is_set : ℕ → Bool
 is_set mark = nat_le 1 mark
+
+-- each object that was claimed was finished
+abbrev pub AreFinished : List ℕ → Type 0
+AreFinished marks = (o : ℕ) → 1 ≤ slice_index marks o → slice_index marks o ≡ 2
 
 -- Of each object whether it is marked, of each row how many of its objects are and their bytes together, the rows by
 -- their places, and how many identifiers of marked objects are other than 0 and name no object.

@@ -59,7 +59,7 @@ pub struct Marked<A: Allocator> {
 
 impl<A: Allocator> Model for Marked<A> {
     ghost use Rattle.std.specs.Prelude.{length, map, ◌≡◌};
-    ghost use Rattle.drain.specs.Marks.{MarkedObjects, is_set};
+    ghost use Rattle.drain.specs.Marks.{AreFinished, MarkedObjects, is_set};
 
     ghost Value = { MarkedObjects };
 
@@ -69,18 +69,19 @@ impl<A: Allocator> Model for Marked<A> {
       unresolved = m.tally.unresolved;
     } };
 
-    ghost invariant = { λ m. m.objects ≡ length m.marks };
+    ghost invariant = { λ m. (m.objects ≡ length m.marks) × AreFinished m.marks };
 }
 
 impl<A: Allocator> Marked<A> {
     ghost use Rattle.std.specs.Prelude.{◌≡◌, ◌↔◌, IsTrue, count_by, length, map};
     ghost use Rattle.heap_graph.specs.Reachable.{IsMarked};
-    ghost use Rattle.drain.specs.Marks.{MarkedObjects, is_set};
+    ghost use Rattle.drain.specs.Marks.{AreFinished, MarkedObjects, is_set};
     ghost use Rattle.drain.specs.working.Measures.{told_of};
 
     /// The marks of so many objects, and the tally of those that are marked.
     pub(crate) fn new(marks: Marks<A>, objects: u32, tally: Tally<A>) -> Self
-        requires { objects ≡ length marks }
+        requires objects { objects ≡ length marks }
+        requires finished { AreFinished marks }
         ensures { let m : MarkedObjects = record {
           marks = map is_set marks;
           sums = tally.rows.items;
@@ -105,13 +106,7 @@ impl<A: Allocator> Marked<A> {
     pub fn len(&self) -> u64
         ensures { result ≡ count_by (λ m. m) self.now.marks }
     {
-        let mut marked = 0;
-        for object in 0..self.objects {
-            if self.marks.is_claimed(object) {
-                marked += 1;
-            }
-        }
-        marked
+        self.marks.finished_len()
     }
 
     /// How many objects of a row are marked, and their bytes together. Both are 0 for a row that no object has.

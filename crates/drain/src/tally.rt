@@ -9,6 +9,9 @@ use crate::scanned::Scanned;
 use crate::sum::Sum;
 use std::alloc::{AllocError, Allocator};
 
+#[cfg(test)]
+mod tests;
+
 /// Of each row, by its place, how many objects and how many bytes it has, and how many identifiers of all these objects
 /// are other than 0 and name no object.
 #[derive(Drop)]

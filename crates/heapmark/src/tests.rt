@@ -5,6 +5,7 @@
 mod cuts;
 mod dumps;
 mod idle;
+mod many_rows;
 mod marking;
 mod memory;
 mod process;

@@ -93,5 +93,6 @@ impl<A: Allocator> Pool<A> {
         ensures once { (o : ℕ) → times o worker.new.book.account.finished ≤ 1 }
     {
         raise_to_finished(&self.table.shared, &mut worker.seat, self.buffers, object);
+        worker.finished += 1;
     }
 }

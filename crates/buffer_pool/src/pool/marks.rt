@@ -1,5 +1,6 @@
 //! The marks of a pool that is closed.
 ghost use Rattle.std.specs.Prelude.{◌≡◌, ◌↔◌, ℕ, ◌+◌, ◌/◌, ◌%◌, ◌<◌, ◌≤◌, [], length, slice_index, IsTrue};
+ghost use Rattle.std.specs.Prelude.{◌==◌, count_by};
 ghost use Rattle.buffer_pool.specs.working.Packed.{mark_of};
 ghost use Rattle.mark_core.specs.Shares.{whole};
 ghost use Rattle.std.specs.Slots.{IsFull, slots_filled, slots_len};
@@ -18,10 +19,12 @@ pub struct Marks<A: Allocator> {
     closed: Closed<Option<Buffer<A>>, A>,
     first_mark: usize,
     objects: u32,
+    /// How many objects are finished.
+    finished: u64,
 }
 
 impl<A: Allocator> Model for Marks<A> {
-    ghost use Rattle.std.specs.Prelude.{◌≡◌, ◌+◌, ℕ, List};
+    ghost use Rattle.std.specs.Prelude.{◌≡◌, ◌==◌, ◌+◌, ℕ, List, count_by};
     ghost use Rattle.std.specs.Slots.{IsFull, slots_filled, slots_items, slots_len};
     ghost use Rattle.buffer_pool.specs.Closing.{IsEmptied};
     ghost use Rattle.buffer_pool.specs.working.Packed.{mark_words, marks_in};
@@ -32,7 +35,8 @@ impl<A: Allocator> Model for Marks<A> {
 
     ghost invariant = { λ m. IsFull m.closed.words
         × IsEmptied (slots_len m.closed.slots) (slots_filled m.closed.slots)
-        × (m.first_mark + mark_words m.objects ≡ slots_len m.closed.words) };
+        × (m.first_mark + mark_words m.objects ≡ slots_len m.closed.words)
+        × (m.finished ≡ count_by (λ k. k == 2) (marks_in (slots_items m.closed.words) m.first_mark m.objects)) };
 }
 
 // Drops each buffer.
@@ -72,6 +76,14 @@ impl<A: Allocator> Marks<A> {
     {
         self.bits(object) == 3
     }
+
+    /// How many objects were finished: 0 up to the number of objects. One that was claimed and not finished does not
+    /// count. The workers counted them, so no mark is read.
+    pub fn finished_len(&self) -> u64
+        ensures { result ≡ count_by (λ m. m == 2) self.now }
+    {
+        self.finished
+    }
 }
 
 impl<A: Allocator> Drop for Marks<A> {
@@ -80,6 +92,7 @@ impl<A: Allocator> Drop for Marks<A> {
             closed,
             first_mark: _,
             objects: _,
+            finished: _,
         } = self;
         closed.free();
     }
@@ -100,13 +113,14 @@ impl<A: Allocator> Pool<A> {
             buffers,
             objects,
         } = self;
-        let Worker { seat } = worker;
+        let Worker { seat, finished } = worker;
         let mut closed = table.close_with(seat);
         empty_slots(&mut closed);
         Marks {
             closed,
             first_mark: FIRST_LINK + buffers as usize,
             objects,
+            finished,
         }
     }
 }

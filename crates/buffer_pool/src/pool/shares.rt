@@ -63,9 +63,13 @@ impl<A: Allocator> Pool<A> {
         ensures new { IsNewcomer worker.log result.1.log }
         ensures apart { result.1.log.number ≢ result.0.log.number }
     {
-        let Worker { mut seat } = worker;
+        let Worker { mut seat, finished } = worker;
         let other = give_part(&self.table.shared, &mut seat, u64::from(units));
-        (Worker { seat }, Worker { seat: other })
+        let newcomer = Worker {
+            seat: other,
+            finished: 0,
+        };
+        (Worker { seat, finished }, newcomer)
     }
 
     /// Puts two workers together: shares and counts are added, and so are buffers, charges, objects seen and
@@ -78,9 +82,15 @@ impl<A: Allocator> Pool<A> {
         ensures did { Did worker.log (Join other.log.number ∷ []) result.log }
         ensures knows { EndsStory other.log result.log.story }
     {
-        let Worker { mut seat } = worker;
-        let Worker { seat: other } = other;
+        let Worker { mut seat, finished } = worker;
+        let Worker {
+            seat: other,
+            finished: finished_by_other,
+        } = other;
         take_in(&self.table.shared, &mut seat, other);
-        Worker { seat }
+        Worker {
+            seat,
+            finished: finished + finished_by_other,
+        }
     }
 }

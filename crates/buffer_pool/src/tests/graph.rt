@@ -98,5 +98,6 @@ fn successors_of_a_root(rt: HostRuntime) -> Result<(), Fail> {
         assert!(rt; marks.is_claimed(object), "object {object}");
         assert!(rt; marks.is_finished(object), "object {object}");
     }
+    assert_eq!(rt; marks.finished_len(), u64::from(OBJECTS));
     Ok(())
 }

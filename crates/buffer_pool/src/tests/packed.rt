@@ -1,6 +1,6 @@
 //! The two bits of each object, as they lie in the words of marks.
 ghost use Rattle.std.specs.Prelude.{◌≡◌, ◌<◌};
-ghost use Rattle.buffer_pool.specs.Book.{claimed};
+ghost use Rattle.buffer_pool.specs.Book.{claimed, finished};
 ghost use Rattle.buffer_pool.specs.tests.Packed.{LowWithHigh};
 ghost use Rattle.buffer_pool.specs.tests.Rounds.{HasRoots, IsSameWorker};
 ghost use Rattle.buffer_pool.specs.working.Buffers.{buffer_reading};
@@ -54,6 +54,7 @@ fn claim_and_finish<R: Abort, A: Allocator>(
     ensures pool { worker.new.pool ≡ worker.old.pool }
     ensures roots { HasRoots OBJECTS worker.new }
     ensures awake { worker.new.book.account.idle ≡ 0 }
+    ensures book { worker.new.book ≡ finished object (claimed object 0 worker.old.book) }
 {
     claim_root(rt, pool, worker, object);
     let claimed = word_now(pool, 0);
@@ -78,6 +79,9 @@ fn bits_of_33_objects(rt: HostRuntime) -> Result<(), Fail> {
     assert_eq!(rt; word_now(&pool, 0), Some(13_835_058_055_282_163_715));
     assert_eq!(rt; word_now(&pool, 1), Some(1));
     assert_eq!(rt; word_now(&pool, 2), None);
+    pool.finish(&mut worker, 32);
+    let marks = pool.close(worker);
+    assert_eq!(rt; marks.finished_len(), 3);
     Ok(())
 }
 

@@ -232,5 +232,6 @@ fn four_threads(rt: HostRuntime) -> Result<(), Fail> {
     for object in 0..OBJECTS {
         assert!(rt; marks.is_finished(object), "object {object}");
     }
+    assert_eq!(rt; marks.finished_len(), u64::from(OBJECTS));
     Ok(())
 }

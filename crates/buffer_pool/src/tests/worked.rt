@@ -26,6 +26,31 @@ fn marks_of_each_kind(rt: HostRuntime) -> Result<(), Fail> {
         assert_eq!(rt; marks.is_claimed(object), claimed, "object {object}");
         assert_eq!(rt; marks.is_finished(object), finished, "object {object}");
     }
+    assert_eq!(rt; marks.finished_len(), 2);
+    Ok(())
+}
+
+/// One worker finishes objects 0 and 1, another one object 2, and 3 is claimed and not finished.
+#[test]
+fn finished_by_two_workers(rt: HostRuntime) -> Result<(), Fail> {
+    let (pool, worker) = pool_of_roots(rt.alloc(), OBJECTS, 4, 2)?;
+    let (mut worker, mut other) = pool.split(worker, 1);
+    fill_buffer(&rt, &pool, &mut worker, 0, 2);
+    finish_buffer(&rt, &pool, &mut worker);
+    fill_buffer(&rt, &pool, &mut worker, 2, 3);
+    finish_buffer(&rt, &pool, &mut other);
+    fill_buffer(&rt, &pool, &mut other, 3, 4);
+    let worker = pool.join(worker, other);
+    let marks = pool.close(worker);
+    assert_eq!(rt; marks.finished_len(), 3);
+    Ok(())
+}
+
+/// Nothing was claimed, so nothing is finished.
+#[test]
+fn finished_by_nobody(rt: HostRuntime) -> Result<(), Fail> {
+    let (pool, worker) = pool_of_roots(rt.alloc(), OBJECTS, 4, 2)?;
+    assert_eq!(rt; pool.close(worker).finished_len(), 0);
     Ok(())
 }
 

@@ -55,3 +55,6 @@ returns-clause-made g c =
     marking_of graph worker.book c.close.ensures.0.last c.close.result c.close.ensures.1 led.free.open_push objects
     c.len-objects.ensures.whole tally.rows.items tally.unresolved c.in_ok-tallied.ensures.tally in
     subst (IsMarkingOf graph) (sym c.new-2.ensures) made
+
+pub new-requires-2-clause-finished : goal.new-requires-2-clause-finished
+new-requires-2-clause-finished g c = c.close.ensures.1.emptied c.in_ok-tallied.ensures.led.free.open_push

@@ -1,5 +1,9 @@
--- The words and buffers are those of an opening. The first tag is named nowhere here: that it is the one asked for is what the clause has to find.
-use Rattle.std.proofs.Common.{ℕ, ◌+◌, ◌<◌, All, length, ap, subst, sym, arith}
+-- The words and buffers are those of an opening, and the first worker finished nothing. The first tag is named nowhere
+-- here: that it is the one asked for is what the clause has to find.
+use Rattle.std.proofs.Common.{ℕ, ◌+◌, ◌<◌, All, Option, length, ap, subst, sym, arith}
+use Rattle.atomic_table.specs.Table.{Me}
+use Rattle.buffer_pool.specs.declared.buffer.Buffer.{Buffer}
+use Rattle.buffer_pool.specs.declared.seat_view.SeatView.{SeatView}
 use Rattle.buffer_pool.specs.working.Buffers.{buffer_reading}
 use Rattle.buffer_pool.specs.working.Setups.{setup_of}
 use Rattle.buffer_pool.specs.working.Opening.{HasFirstWords}
@@ -13,25 +17,36 @@ use Rattle.buffer_pool.proofs.pool.Pool.new.Goals as goal
 
 pub new-requires : goal.new-requires
 new-requires g c =
-    let inside : IsInside c.objects-objects.result c.args.buffers c.args.size c.args.first_tag = c.is_inside.ensures.0 c.if-not-is_inside.false in
+    let inside : IsInside c.objects-objects.result c.args.buffers c.args.size c.args.first_tag =
+    c.is_inside.ensures.0 c.if-not-is_inside.false in
     starts buffer_reading _ c.as_slice.result.now c.in_ok-slots.slots.items (omega (arith, inside.few))
     (subst (HasFirstWords (32 + c.args.buffers + mark_words c.objects-objects.result) _ c.args.buffers)
     (sym c.as_slice.ensures.value) c.in_ok-words.ensures) c.in_ok-slots.ensures.0 c.in_ok-slots.ensures.1
 
 -- the key with this first tag
 key_of : (g : given.Over) → goal.In-Ok g → ℕ → Key
-key_of g c tag = record { named = c.of.result; objects = c.objects-objects.result; buffers = c.args.buffers; size = c.args.size; first_tag = tag }
+key_of g c tag =
+    record {
+      named = c.of.result;
+      objects = c.objects-objects.result;
+      buffers = c.args.buffers;
+      size = c.args.size;
+      first_tag = tag;
+    }
 
 laid : (g : given.Over) (c : goal.In-Ok g) (tag : ℕ) → IsLaid c.in-Ok.table.shared.table_id (setup_of (key_of g c tag))
 unfolding key_of
 laid g c tag =
-    let inside : IsInside c.objects-objects.result c.args.buffers c.args.size c.args.first_tag = c.is_inside.ensures.0 c.if-not-is_inside.false in
+    let inside : IsInside c.objects-objects.result c.args.buffers c.args.size c.args.first_tag =
+    c.is_inside.ensures.0 c.if-not-is_inside.false in
     let first =
     subst (HasFirstWords (32 + c.args.buffers + mark_words c.objects-objects.result) _ c.args.buffers)
     (sym c.as_slice.ensures.value) c.in_ok-words.ensures in
-    laid_first c.in-Ok.table.shared.table_id (setup_of (key_of g c tag)) _ c.args.first_tag c.as_slice.result.now (length c.in_ok-slots.slots.items) c.in-Ok.ensures.ok.0 c.in-Ok.ensures.ok.1 first c.in_ok-slots.ensures.0 inside
+    laid_first c.in-Ok.table.shared.table_id (setup_of (key_of g c tag)) _ c.args.first_tag c.as_slice.result.now
+    (length c.in_ok-slots.slots.items) c.in-Ok.ensures.ok.0 c.in-Ok.ensures.ok.1 first c.in_ok-slots.ensures.0 inside
     (subst (All (λ o. o < c.objects-objects.result)) (sym c.of.ensures.0) c.objects-objects.ensures.roots)
-    (subst (All (λ p. (p.0 < c.objects-objects.result) × (p.1 < c.objects-objects.result))) (sym c.of.ensures.1) c.objects-objects.ensures.pairs)
+    (subst (All (λ p. (p.0 < c.objects-objects.result) × (p.1 < c.objects-objects.result))) (sym c.of.ensures.1)
+    c.objects-objects.ensures.pairs)
 
 pub invariant_of-result : goal.invariant_of-result
 unfolding key_of
@@ -41,9 +56,17 @@ invariant_of-result g c = (
   sym (ap (λ (k : Key). k.objects) c.in-Ok.ensures.ok.5),
 )
 
+-- what the first worker steps with
+abbrev Seat : given.Over → Type 0
+Seat g = Me (Option (Buffer g.row.A.Denot)) SeatView
+
 laid_there : (g : given.Over) (c : goal.In-Ok g) (tag : ℕ) → IsLaid c.in-Ok.seat.table_id (setup_of (key_of g c tag))
 laid_there g c tag = subst (λ t. IsLaid t (setup_of (key_of g c tag))) (sym c.in-Ok.ensures.ok.2) (laid g c tag)
 
 pub invariant_of-result-2 : goal.invariant_of-result-2
 unfolding key_of
-invariant_of-result-2 g c = subst (IsSound c.in-Ok.seat.table_id) (sym c.in-Ok.ensures.ok.4) (sound_first c.in-Ok.seat.table_id _ (laid_there g c _))
+invariant_of-result-2 g c = (
+  subst (IsSound c.in-Ok.seat.table_id) (sym c.in-Ok.ensures.ok.4)
+      (sound_first c.in-Ok.seat.table_id _ (laid_there g c _)),
+  sym (ap (λ (m : Seat g). length m.0.book.account.finished) c.in-Ok.ensures.ok.4),
+)

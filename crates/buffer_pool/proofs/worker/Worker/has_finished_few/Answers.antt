@@ -10,7 +10,7 @@ pub returns-clause-once : goal.returns-clause-once
 returns-clause-once g c =
     let seat = c.self.inside.seat in
     let v = seat.me.0 in
-    let sound = c.self.invariant in
+    let sound = c.self.invariant.0 in
     subst (λ (w : Holder). (o : ℕ) → times o w.book.account.finished ≤ 1) c.self.view_is
     (once_finished seat.table_id v.log v.book sound.laid sound.story)
 
@@ -18,6 +18,6 @@ pub returns-clause-few : goal.returns-clause-few
 returns-clause-few g c =
     let seat = c.self.inside.seat in
     let v = seat.me.0 in
-    let sound = c.self.invariant in
+    let sound = c.self.invariant.0 in
     subst (λ (w : Holder). length w.book.account.finished ≤ w.book.setup.objects) c.self.view_is
     (few_finished seat.table_id v.log v.book sound.laid sound.story)
