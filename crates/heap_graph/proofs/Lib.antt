@@ -40,3 +40,4 @@ pub mod Superclasses
 pub mod AllTold
 pub mod Wholeness
 pub mod Building
+pub mod SkipLaws

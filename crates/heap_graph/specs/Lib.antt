@@ -6,6 +6,8 @@ pub mod Roots
 pub mod Walks
 pub mod Rows
 pub mod ClassNames
+pub mod Skips
+pub mod SkipText
 pub mod Linked
 pub mod LinkFault
 pub mod ObjectGraph

@@ -7,6 +7,8 @@ ghost use Rattle.hprof_grammar.specs.Record.{IsOrderly, Record, tag_of};
 ghost use Rattle.heap_graph.specs.LinkFault.{HasLinkFault};
 ghost use Rattle.heap_graph.specs.Linked.{IsAccepted};
 ghost use Rattle.heap_graph.specs.ObjectGraph.{IsGraphOfText, ObjectGraph};
+ghost use Rattle.heap_graph.specs.SkipText.{SpellsSkips};
+ghost use Rattle.heap_graph.specs.Skips.{SkipEntry};
 
 use hprof_grammar::dump_is_placed;
 
@@ -24,3 +26,9 @@ pub fn always_linked_or_fault()
 {
     dump_is_placed();
 }
+
+/// A text spells at most one list of fields that are not followed.
+pub fn one_skip_list()
+    ensures { (text : List ℕ) (list other : List SkipEntry) → SpellsSkips text list → SpellsSkips text other
+        → list ≡ other }
+{}

@@ -1,0 +1,26 @@
+-- Fields that are not followed, by the names of the class that declares the field and of the field itself.
+use Rattle.std.specs.Prelude.{Bool, List, None, Option, Some, false, ◌&&◌, ℕ}
+use Rattle.std.specs.List.{list_any}
+use Rattle.std.specs.Str.{bytes_eq}
+use Rattle.heap_graph.specs.ClassNames.{class_text, string_named}
+use Rattle.hprof_grammar.specs.Record.{Record}
+use Rattle.hprof_grammar.specs.SubRecord.{Class, Member}
+
+-- the bytes of the two names
+pub record SkipEntry : Type 0 where
+  pub class : List ℕ
+  pub field : List ℕ
+
+-- a text that is not there equals nothing
+abbrev pub is_text : Option (List ℕ) → List ℕ → Bool
+is_text None name = false
+is_text (Some text) name = bytes_eq text name
+
+abbrev pub is_entry_of : List Record → Class → Member → SkipEntry → Bool
+is_entry_of records c m e =
+    is_text (class_text records c.object) e.class && is_text (string_named records m.name) e.field
+
+-- The text that names the class which declares the field, and the string of the field's name, are an entry of the list,
+-- byte for byte.
+abbrev pub is_skipped : List Record → List SkipEntry → Class → Member → Bool
+is_skipped records skip c m = list_any (is_entry_of records c m) skip
