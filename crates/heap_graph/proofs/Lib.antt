@@ -41,3 +41,4 @@ pub mod AllTold
 pub mod Wholeness
 pub mod Building
 pub mod SkipLaws
+pub mod SkipCutting

@@ -31,7 +31,7 @@ first_cut k (x ∷ xs) (y ∷ ys) r t no_x no_y e =
     (λ i. same i ∷ rest.0 i, rest.1)
 
 -- cut at a number that does not stand behind the cut
-last_cut : (k : ℕ) (xs ys r t : List ℕ) → (Contains r k → ⊥) → (Contains t k → ⊥) → xs ++ k ∷ r ≡ ys ++ k ∷ t
+pub last_cut : (k : ℕ) (xs ys r t : List ℕ) → (Contains r k → ⊥) → (Contains t k → ⊥) → xs ++ k ∷ r ≡ ys ++ k ∷ t
     → (xs ≡ ys) × (r ≡ t)
 last_cut k [] [] r t no_r no_t e = (refl, tail_of k k r t e)
 last_cut k [] (y ∷ ys) r t no_r no_t e =

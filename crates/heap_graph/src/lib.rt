@@ -12,6 +12,7 @@ mod objects;
 mod refusal;
 mod row;
 mod rule;
+mod skip;
 mod successors;
 mod types;
 mod visit;
@@ -21,6 +22,7 @@ pub use laws::{always_linked_or_fault, one_graph, one_skip_list};
 pub use refusal::{LinkFault, LinkRefusal};
 pub use row::RowKey;
 pub use rule::LinkRule;
+pub use skip::{Skip, SkipRefusal};
 pub use successors::Successors;
 pub use visit::Visit;
 

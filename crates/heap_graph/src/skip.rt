@@ -1,0 +1,74 @@
+//! The list of fields that are not followed.
+
+ghost use Rattle.std.specs.Prelude.{IfOk, List, [], ◌≡◌};
+ghost use Rattle.heap_graph.specs.SkipText.{SpellsSkips};
+ghost use Rattle.heap_graph.specs.Skips.{SkipEntry};
+
+mod entry;
+mod refusal;
+
+pub(crate) use entry::SkipPair;
+use entry::{entry_of, first_piece};
+pub use refusal::SkipRefusal;
+use std::alloc::Allocator;
+use std::marker::Model;
+
+/// The most entries of a list.
+const MOST_ENTRIES: usize = 64;
+
+/// Fields that are not followed, each by the text that names the class that declares it and the string of its own name.
+#[derive(Drop)]
+pub struct Skip<'t, A: Allocator> {
+    pairs: Vec<SkipPair<'t>, A>,
+}
+
+impl<'t, A: Allocator> Model for Skip<'t, A> {
+    ghost use Rattle.std.specs.Prelude.{List};
+    ghost use Rattle.heap_graph.specs.Skips.{SkipEntry};
+
+    ghost Value = { List SkipEntry };
+
+    ghost view = { λ skip. skip.pairs.items };
+}
+
+impl<'t, A: Allocator> Skip<'t, A> {
+    /// No field. It takes no memory.
+    pub fn none(alloc: A) -> Self
+        ensures { result ≡ [] }
+    {
+        Skip {
+            pairs: Vec::new(alloc),
+        }
+    }
+
+    /// The fields that a text lists: 1 to 64 entries `Class.field` with commas between. The last dot of an entry parts
+    /// class from field, and neither is empty. Any other text is `BadOptions`.
+    pub fn new(alloc: A, text: &'t str) -> Result<Self, SkipRefusal>
+        ensures list { IfOk result (λ skip. SpellsSkips text.now skip) }
+        ensures bad { result ≡ Err SkipRefusal.BadOptions → (list : List SkipEntry) → SpellsSkips text.now list → ⊥ }
+    {
+        let mut pairs = Vec::new(alloc);
+        let mut rest = text;
+        while pairs.len() < MOST_ENTRIES {
+            let (piece, more) = first_piece(rest);
+            let Some(pair) = entry_of(piece) else {
+                return Err(SkipRefusal::BadOptions);
+            };
+            if pairs.push(pair).is_err() {
+                return Err(SkipRefusal::OutOfMemory);
+            }
+            let Some(behind) = more else {
+                return Ok(Skip { pairs });
+            };
+            rest = behind;
+        }
+        Err(SkipRefusal::BadOptions)
+    }
+
+    /// The entries, in the order of the text.
+    pub(crate) fn pairs(&self) -> &[SkipPair<'t>]
+        ensures { result.now ≡ self.now }
+    {
+        &self.pairs
+    }
+}

@@ -1,0 +1,65 @@
+//! An entry of the list of fields that are not followed, and how its text is cut.
+
+ghost use Rattle.std.specs.Prelude.{Contains, IfNone, IfSome, MatchOption, ◌++◌, ◌∷◌, ◌≡◌};
+ghost use Rattle.heap_graph.specs.SkipText.{IsEntry, entry_text};
+ghost use Rattle.heap_graph.specs.Skips.{SkipEntry};
+
+use std::marker::Model;
+
+/// A field that is not followed.
+#[derive(Drop)]
+pub(crate) struct SkipPair<'t> {
+    class: &'t [u8],
+    field: &'t [u8],
+}
+
+impl<'t> Model for SkipPair<'t> {
+    ghost use Rattle.heap_graph.specs.Skips.{SkipEntry};
+
+    ghost Value = { SkipEntry };
+
+    ghost view = { λ pair. record { class = pair.class.now; field = pair.field.now } };
+}
+
+impl<'t> SkipPair<'t> {
+    /// The text that names the class that declares the field.
+    pub(crate) fn class(&self) -> &'t [u8]
+        ensures { result.now ≡ self.now.class }
+    {
+        self.class
+    }
+
+    /// The field's own name.
+    pub(crate) fn field(&self) -> &'t [u8]
+        ensures { result.now ≡ self.now.field }
+    {
+        self.field
+    }
+}
+
+/// What stands before the first comma, and what behind it.
+pub(super) fn first_piece(text: &str) -> (&str, Option<&str>)
+    ensures no_comma { Contains result.0.now 44 → ⊥ }
+    ensures whole { MatchOption result.1 (text.now ≡ result.0.now) (λ more. text.now ≡ result.0.now ++ 44 ∷ more.now) }
+{
+    match text.split_once(',') {
+        Some((piece, more)) => (piece, Some(more)),
+        None => (text, None),
+    }
+}
+
+/// The entry that a piece of the text without a comma spells. Its last dot parts class from field.
+pub(super) fn entry_of(piece: &str) -> Option<SkipPair<'_>>
+    requires { Contains piece.now 44 → ⊥ }
+    ensures entry { IfSome result (λ e. IsEntry e × (entry_text e ≡ piece.now)) }
+    ensures none { IfNone result ((e : SkipEntry) → IsEntry e → entry_text e ≡ piece.now → ⊥) }
+{
+    let (class, field) = piece.rsplit_once('.')?;
+    if class.is_empty() || field.is_empty() {
+        return None;
+    }
+    Some(SkipPair {
+        class: class.as_bytes(),
+        field: field.as_bytes(),
+    })
+}

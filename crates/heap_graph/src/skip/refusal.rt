@@ -1,0 +1,29 @@
+//! Why no list of fields was made.
+
+use std::error::Error;
+use std::fmt;
+
+/// Why no list of fields was made.
+#[derive(Clone, Copy, Debug, PartialEq, Eq)]
+pub enum SkipRefusal {
+    /// The text is no list of 1 to 64 entries `Class.field` with commas between.
+    BadOptions,
+    /// A growth was refused.
+    OutOfMemory,
+}
+
+impl fmt::Display for SkipRefusal {
+    ghost use Rattle.std.specs.Prelude.{Some};
+    ghost use Rattle.heap_graph.specs.SkipRefusals.{skip_refusal_text};
+
+    ghost output = { λ refusal. Some (skip_refusal_text refusal) };
+
+    fn fmt<W: fmt::Write>(&self, f: &mut fmt::Formatter<W>) -> fmt::Result {
+        match self {
+            SkipRefusal::BadOptions => write!(f, "the list of skipped fields is malformed"),
+            SkipRefusal::OutOfMemory => write!(f, "out of memory"),
+        }
+    }
+}
+
+impl Error for SkipRefusal {}
