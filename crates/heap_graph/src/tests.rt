@@ -4,5 +4,6 @@ mod chains;
 mod faults;
 mod graphs;
 mod memory;
+mod skips;
 mod walks;
 mod worked;
