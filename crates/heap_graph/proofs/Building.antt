@@ -10,8 +10,10 @@ use Rattle.hprof_grammar.specs.Standing.{IsPlaced, RecordStands, RecordStandsAt,
 use Rattle.hprof_grammar.specs.SubRecord.{SubRecord, spelling_of}
 use Rattle.heap_graph.specs.declared.entry.ClassEntry.{ClassEntry}
 use Rattle.heap_graph.specs.declared.objects.Objects.{Objects}
+use Rattle.heap_graph.specs.declared.plan.Plan.{Plan}
 use Rattle.heap_graph.specs.declared.refusal.LinkFault.{LinkFault}
 use Rattle.heap_graph.specs.Heap.{heap_of, objects}
+use Rattle.heap_graph.specs.working.ClassPlans.{IsPlanOf}
 use Rattle.heap_graph.specs.working.HeldIds.{AreLinked, AreLinkedOf}
 use Rattle.heap_graph.specs.LinkFault.{HasLinkFault, IsFirstFault}
 use Rattle.heap_graph.specs.Linked.{IsLinked}
@@ -170,20 +172,22 @@ graph_made o records linked told =
     graph_is o.view.id_size records (lists_of o records linked told)
     (are_lists o.view.id_size (heap_of records) (held_lists o (heap_of records) linked told))
 
-pub stand_for : {A : Type 0} (o : Objects A) (records : List Record) (roots : List ℕ) (classes : List ClassEntry)
-    (missing : ℕ)
+pub stand_for : {A : Type 0} (o : Objects A) (plan : Plan A) (records : List Record) (roots : List ℕ)
+    (classes : List ClassEntry) (missing : ℕ)
     → ((at : ℕ) (sub : SubRecord) → Stands o.view at sub
     → at + length (spelling_of o.view.id_size sub) ≤ length o.view.bytes) → length (root_ids (heap_of records)) ≤ limit
-    → (linked : AreLinkedOf o (heap_of records)) → (told : AreToldOf o (heap_of records)) → map named_class
-    classes ≡ named_classes records → AreRootsOf (heap_of records) roots missing → StandFor o roots classes missing
+    → (linked : AreLinkedOf o (heap_of records)) → (told : AreToldOf o (heap_of records))
+    → IsPlanOf o (heap_of records) plan → map named_class classes ≡ named_classes records
+    → AreRootsOf (heap_of records) roots missing → StandFor o plan roots classes missing
     (graph_with o.view.id_size records (lists_of o records linked told))
-stand_for o records roots classes missing within few_roots linked told classes_are found =
+stand_for o plan records roots classes missing within few_roots linked told planned classes_are found =
     let g : ObjectGraph = graph_with o.view.id_size records (lists_of o records linked told) in
     let graph : IsGraphOf o.view.id_size records g = graph_made o records linked told in
     record {
       records = records;
       linked = linked;
       told = told;
+      planned = planned;
       graph = graph;
       whole =
           is_whole o.view o.places.items o.index records g linked within

@@ -1,6 +1,6 @@
 -- What the table of classes says of one class, and how it grows.
 use Rattle.std.proofs.Common.{Bool, Contains, List, None, Option, Some, [], ap, arith, cond, false, length, map, not, refl, slice_get, subst, suc, sym, true, zero, ℕ, ◌+◌, ◌<◌, ◌^◌, ◌∙◌, ◌∷◌, ◌≡◌, ◌≤◌}
-use Rattle.std.specs.Prelude.{position, slice_index, slice_index_or, slice_range, ◌==◌}
+use Rattle.std.specs.Prelude.{position, slice_index, slice_index_or, ◌==◌}
 use Rattle.std.specs.List.{position_or_len}
 use Rattle.std.proofs.lemmas.Bool.{eq-eqb, eqb-true}
 use Rattle.std.proofs.lemmas.List.{length-map}
@@ -10,18 +10,18 @@ use Rattle.hprof_grammar.specs.SubRecord.{Class, Member, SubRecord}
 use Rattle.hprof_grammar.specs.SubRecord.SubRecord.{class_dump}
 use Rattle.heap_graph.specs.Heap.{class_named}
 use Rattle.heap_graph.specs.working.Chains.{IsUnder}
-use Rattle.heap_graph.specs.working.ClassTable.{AreClasses, Entry, HasIdPlaces, IsEntry, entry_at, id_places_of, ids_of, own_types}
-use Rattle.heap_graph.specs.working.IdPlaces.{id_places, size_together}
-use Rattle.heap_graph.specs.declared.classes.ClassPlaces.{ClassPlaces}
+use Rattle.heap_graph.specs.working.ClassTable.{AreClasses, Entry, IsEntry, entry_at, ids_of, own_types}
+use Rattle.heap_graph.specs.working.IdPlaces.{size_together}
+use Rattle.heap_graph.specs.declared.classes.ClassPlace.{ClassPlace}
 use Rattle.heap_graph.proofs.FieldLaws.{own_size}
 use Rattle.heap_graph.proofs.Firsts.{IsHit, position_hit, position_past}
 
 -- the class of a number
-pub record IsNumbered (v : Sight) (heap : List SubRecord) (entries : List Entry) (places : List ℕ) (k : ℕ) : Type 0 where
+pub record IsNumbered (v : Sight) (heap : List SubRecord) (entries : List Entry) (k : ℕ) : Type 0 where
   pub entry : Entry
   pub is : slice_get entries k ≡ Some entry
   pub id_is : slice_index (ids_of entries) k ≡ entry.0
-  pub holds : IsEntry v heap places entry
+  pub holds : IsEntry v heap entry
 
 pub there_is : {X : Type 0} (xs : List X) (k : ℕ) → k < length xs → (x : X) × (slice_get xs k ≡ Some x)
 there_is [] k h = absurd (omega (arith, h))
@@ -33,27 +33,37 @@ id_at [] k e is = absurd (let wrong : None ≡ Some e = is in cc)
 id_at (x ∷ xs) zero e is = let same : x ≡ e = cc in ap (λ (y : Entry). y.0) same
 id_at (x ∷ xs) (suc k) e is = id_at xs k e is
 
-pub numbered : (v : Sight) (heap : List SubRecord) (entries : List Entry) (places : List ℕ) (k : ℕ) → AreClasses v heap entries places → k < length entries → IsNumbered v heap entries places k
-numbered v heap entries places k are h =
+pub numbered : (v : Sight) (heap : List SubRecord) (entries : List Entry) (k : ℕ) → AreClasses v heap entries
+    → k < length entries → IsNumbered v heap entries k
+numbered v heap entries k are h =
     let it = there_is entries k h in
     record { entry = it.0; is = it.1; id_is = id_at entries k it.0 it.1; holds = are.each k it.0 it.1 }
 
 pub same_count : (entries : List Entry) → length (ids_of entries) ≡ length entries
 same_count entries = length-map entries (λ (e : Entry). e.0)
 
-pub named_at : (v : Sight) (heap : List SubRecord) (entries : List Entry) (places : List ℕ) (k : ℕ) (it : IsNumbered v heap entries places k) → class_named heap (slice_index (ids_of entries) k) ≡ Some it.holds.class
-named_at v heap entries places k it = ap (λ (id : ℕ). class_named heap id) it.id_is ∙ it.holds.named
+pub named_at : (v : Sight) (heap : List SubRecord) (entries : List Entry) (k : ℕ) (it : IsNumbered v heap entries k)
+    → class_named heap (slice_index (ids_of entries) k) ≡ Some it.holds.class
+named_at v heap entries k it = ap (λ (id : ℕ). class_named heap id) it.id_is ∙ it.holds.named
 
 -- what a class of the table has above it
-pub under : (v : Sight) (heap : List SubRecord) (entries : List Entry) (places : List ℕ) (k : ℕ) (it : IsNumbered v heap entries places k) → k < length entries → IsUnder heap (ids_of entries) k it.holds.class.super
-under v heap entries places k it h = record { class = it.holds.class; below = omega (arith, same_count entries, h); named = named_at v heap entries places k it; super_is = refl }
+pub under : (v : Sight) (heap : List SubRecord) (entries : List Entry) (k : ℕ) (it : IsNumbered v heap entries k)
+    → k < length entries → IsUnder heap (ids_of entries) k it.holds.class.super
+under v heap entries k it h = record {
+  class = it.holds.class;
+  below = omega (arith, same_count entries, h);
+  named =
+      named_at v heap entries k it;
+  super_is = refl;
+}
 
 some_inj : {X : Type 0} {x y : X} → Some x ≡ Some y → x ≡ y
 some_inj {X} {x} {y} e = cc
 
 -- and it is the class of that number, however it is told
-pub same_class : (v : Sight) (heap : List SubRecord) (entries : List Entry) (places : List ℕ) (k : ℕ) (c : Class) (it : IsNumbered v heap entries places k) → class_named heap (slice_index (ids_of entries) k) ≡ Some c → it.holds.class ≡ c
-same_class v heap entries places k c it named = some_inj (sym (named_at v heap entries places k it) ∙ named)
+pub same_class : (v : Sight) (heap : List SubRecord) (entries : List Entry) (k : ℕ) (c : Class)
+    (it : IsNumbered v heap entries k) → class_named heap (slice_index (ids_of entries) k) ≡ Some c → it.holds.class ≡ c
+same_class v heap entries k c it named = some_inj (sym (named_at v heap entries k it) ∙ named)
 
 -- ---- what a look-up finds
 
@@ -87,78 +97,78 @@ no_class : (heap : List SubRecord) (id : ℕ) (o : Option Class) → class_named
 no_class heap id None e none = e
 no_class heap id (Some c) e none = absurd (none c e)
 
-pub not_found : (v : Sight) (heap : List SubRecord) (entries : List Entry) (places : List ℕ) (id : ℕ) → AreClasses v heap entries places → position (λ x. x == id) (ids_of entries) ≡ None → class_named heap id ≡ None
-not_found v heap entries places id are none = no_class heap id (class_named heap id) refl (λ c named. not_there (ids_of entries) id none (are.complete id c named))
+pub not_found : (v : Sight) (heap : List SubRecord) (entries : List Entry) (id : ℕ) → AreClasses v heap entries
+    → position (λ x. x == id) (ids_of entries) ≡ None → class_named heap id ≡ None
+not_found v heap entries id are none = no_class heap id (class_named heap id) refl
+    (λ c named. not_there (ids_of entries) id none (are.complete id c named))
 
 -- ---- what is read of a class
 
 -- this is what is kept at that number
-abbrev pub IsKept : List Entry → ℕ → ClassPlaces → Type 0
+abbrev pub IsKept : List Entry → ℕ → ClassPlace → Type 0
 IsKept entries k kept = (e : Entry) → slice_get entries k ≡ Some e → kept ≡ e.1
 
-pub stands_at : (v : Sight) (heap : List SubRecord) (entries : List Entry) (places : List ℕ) (k : ℕ) (kept : ClassPlaces) → AreClasses v heap entries places → k < length entries → IsKept entries k kept
+pub stands_at : (v : Sight) (heap : List SubRecord) (entries : List Entry) (k : ℕ) (kept : ClassPlace)
+    → AreClasses v heap entries → k < length entries → IsKept entries k kept
     → (c : Class) × Stands v kept.place (class_dump c)
-stands_at v heap entries places k kept are h read =
-    let it : IsNumbered v heap entries places k = numbered v heap entries places k are h in
-    (it.holds.class, subst (λ (p : ClassPlaces). Stands v p.place (class_dump it.holds.class)) (sym (read it.entry it.is)) it.holds.stands)
+stands_at v heap entries k kept are h read =
+    let it : IsNumbered v heap entries k = numbered v heap entries k are h in (
+      it.holds.class,
+      subst (λ (p : ClassPlace). Stands v p.place (class_dump it.holds.class))
+          (sym (read it.entry it.is)) it.holds.stands,
+    )
 
-pub read_super : (v : Sight) (heap : List SubRecord) (entries : List Entry) (places : List ℕ) (k : ℕ) (kept : ClassPlaces) (super got : ℕ) → AreClasses v heap entries places → k < length entries → IsKept entries k kept
+pub read_super : (v : Sight) (heap : List SubRecord) (entries : List Entry) (k : ℕ) (kept : ClassPlace) (super got : ℕ)
+    → AreClasses v heap entries → k < length entries → IsKept entries k kept
     → IsUnder heap (ids_of entries) k super → ((c : Class) → Stands v kept.place (class_dump c) → got ≡ c.super) → got ≡ super
-read_super v heap entries places k kept super got are h read under says =
-    let it : IsNumbered v heap entries places k = numbered v heap entries places k are h in
-    let same : it.holds.class ≡ under.class = same_class v heap entries places k under.class it under.named in
-    says it.holds.class (subst (λ (p : ClassPlaces). Stands v p.place (class_dump it.holds.class)) (sym (read it.entry it.is)) it.holds.stands)
+read_super v heap entries k kept super got are h read under says =
+    let it : IsNumbered v heap entries k = numbered v heap entries k are h in
+    let same : it.holds.class ≡ under.class = same_class v heap entries k under.class it under.named in
+    says it.holds.class (subst (λ (p : ClassPlace). Stands v p.place (class_dump it.holds.class))
+    (sym (read it.entry it.is)) it.holds.stands)
     ∙ ap (λ (c : Class). c.super) same ∙ under.super_is
 
 -- ---- the entry of a number
 
 pub entry_is : (entries : List Entry) (k : ℕ) (e : Entry) → slice_get entries k ≡ Some e → entry_at entries k ≡ e.1
-entry_is entries k e is = ap (λ (x : Entry). x.1) (get_or_from_slice_get entries k e (0, record { place = 0; start = 0; end = 0; size = 0 }) is)
+entry_is entries k e is = ap (λ (x : Entry). x.1) (get_or_from_slice_get entries k e (0, record { place = 0; size = 0 })
+    is)
 
-pub read_entry : (entries : List Entry) (k : ℕ) (kept : ClassPlaces) → k < length entries → IsKept entries k kept → kept ≡ entry_at entries k
+pub read_entry : (entries : List Entry) (k : ℕ) (kept : ClassPlace) → k < length entries → IsKept entries k kept
+    → kept ≡ entry_at entries k
 read_entry entries k kept h read = let it = there_is entries k h in read it.0 it.1 ∙ sym (entry_is entries k it.0 it.1)
 
-pub has_id_places : (v : Sight) (heap : List SubRecord) (entries : List Entry) (places : List ℕ) (k : ℕ) → AreClasses v heap entries places → k < length entries → HasIdPlaces entries places k
-has_id_places v heap entries places k are h =
-    let it : IsNumbered v heap entries places k = numbered v heap entries places k are h in
-    record {
-      rising = subst (λ (p : ClassPlaces). p.start ≤ p.end) (sym (entry_is entries k it.entry it.is)) it.holds.rising;
-      within = subst (λ (p : ClassPlaces). p.end ≤ length places) (sym (entry_is entries k it.entry it.is)) it.holds.within;
-    }
-
-pub places_of_class : (v : Sight) (heap : List SubRecord) (entries : List Entry) (places : List ℕ) (k : ℕ) (c : Class) → AreClasses v heap entries places → k < length entries
-    → class_named heap (slice_index (ids_of entries) k) ≡ Some c → id_places_of entries places k ≡ id_places v.id_size 0 (own_types c)
-places_of_class v heap entries places k c are h named =
-    let it : IsNumbered v heap entries places k = numbered v heap entries places k are h in
-    ap (λ (p : ClassPlaces). slice_range places p.start p.end) (entry_is entries k it.entry it.is) ∙ it.holds.places_are
-    ∙ ap (λ (d : Class). id_places v.id_size 0 (own_types d)) (same_class v heap entries places k c it named)
-
-pub size_of_class : (v : Sight) (heap : List SubRecord) (entries : List Entry) (places : List ℕ) (k : ℕ) (c : Class) → AreClasses v heap entries places → k < length entries
+pub size_of_class : (v : Sight) (heap : List SubRecord) (entries : List Entry) (k : ℕ) (c : Class)
+    → AreClasses v heap entries → k < length entries
     → class_named heap (slice_index (ids_of entries) k) ≡ Some c → (entry_at entries k).size ≡ size_together v.id_size (own_types c)
-size_of_class v heap entries places k c are h named =
-    let it : IsNumbered v heap entries places k = numbered v heap entries places k are h in
-    ap (λ (p : ClassPlaces). p.size) (entry_is entries k it.entry it.is) ∙ it.holds.size_is
-    ∙ ap (λ (d : Class). size_together v.id_size (own_types d)) (same_class v heap entries places k c it named)
+size_of_class v heap entries k c are h named =
+    let it : IsNumbered v heap entries k = numbered v heap entries k are h in
+    ap (λ (p : ClassPlace). p.size) (entry_is entries k it.entry it.is) ∙ it.holds.size_is
+    ∙ ap (λ (d : Class). size_together v.id_size (own_types d)) (same_class v heap entries k c it named)
 
-pub few_bytes : (v : Sight) (heap : List SubRecord) (entries : List Entry) (places : List ℕ) (k : ℕ) → AreClasses v heap entries places → k < length entries → (entry_at entries k).size < 2 ^ 32
-few_bytes v heap entries places k are h =
-    let it : IsNumbered v heap entries places k = numbered v heap entries places k are h in
-    subst (λ (p : ClassPlaces). p.size < 2 ^ 32) (sym (entry_is entries k it.entry it.is)) it.holds.few_bytes
+pub few_bytes : (v : Sight) (heap : List SubRecord) (entries : List Entry) (k : ℕ) → AreClasses v heap entries
+    → k < length entries → (entry_at entries k).size < 2 ^ 32
+few_bytes v heap entries k are h =
+    let it : IsNumbered v heap entries k = numbered v heap entries k are h in
+    subst (λ (p : ClassPlace). p.size < 2 ^ 32) (sym (entry_is entries k it.entry it.is)) it.holds.few_bytes
 
 -- a class without bytes has no fields, and the others have some
-pub no_fields : (v : Sight) (heap : List SubRecord) (entries : List Entry) (places : List ℕ) (k : ℕ) (c : Class) → AreClasses v heap entries places → k < length entries
+pub no_fields : (v : Sight) (heap : List SubRecord) (entries : List Entry) (k : ℕ) (c : Class)
+    → AreClasses v heap entries → k < length entries
     → class_named heap (slice_index (ids_of entries) k) ≡ Some c → (entry_at entries k).size ≡ 0 → own_types c ≡ []
-no_fields v heap entries places k c are h named empty =
-    let it : IsNumbered v heap entries places k = numbered v heap entries places k are h in
-    let same : it.holds.class ≡ c = same_class v heap entries places k c it named in
-    let no_bytes : size_together v.id_size (own_types it.holds.class) ≡ 0 = sym it.holds.size_is ∙ ap (λ (p : ClassPlaces). p.size) (sym (entry_is entries k it.entry it.is)) ∙ empty in
+no_fields v heap entries k c are h named empty =
+    let it : IsNumbered v heap entries k = numbered v heap entries k are h in
+    let same : it.holds.class ≡ c = same_class v heap entries k c it named in
+    let no_bytes : size_together v.id_size (own_types it.holds.class) ≡ 0 = sym it.holds.size_is
+    ∙ ap (λ (p : ClassPlace). p.size) (sym (entry_is entries k it.entry it.is)) ∙ empty in
     ap (λ (d : Class). own_types d) (sym same) ∙ no_types (it.holds.class.members) (own_size v.id_size it.holds.class are.low it.holds.stands.is.allowed) no_bytes
   where
     no_types : (ms : List Member) → ((ms ≡ [] → ⊥) → 1 ≤ size_together v.id_size (map (λ m. m.type) ms)) → size_together v.id_size (map (λ m. m.type) ms) ≡ 0 → map (λ m. m.type) ms ≡ []
     no_types [] some e = refl
     no_types (m ∷ ms) some e = absurd (let h : 1 ≤ size_together v.id_size (map (λ x. x.type) (m ∷ ms)) = some (λ wrong. absurd cc) in omega (arith, h, e))
 
-pub some_fields : (v : Sight) (heap : List SubRecord) (entries : List Entry) (places : List ℕ) (k : ℕ) (c : Class) → AreClasses v heap entries places → k < length entries
+pub some_fields : (v : Sight) (heap : List SubRecord) (entries : List Entry) (k : ℕ) (c : Class)
+    → AreClasses v heap entries → k < length entries
     → class_named heap (slice_index (ids_of entries) k) ≡ Some c → ((entry_at entries k).size ≡ 0 → ⊥) → own_types c ≡ [] → ⊥
-some_fields v heap entries places k c are h named some none =
-    some (size_of_class v heap entries places k c are h named ∙ ap (λ (ts : List ℕ). size_together v.id_size ts) none)
+some_fields v heap entries k c are h named some none =
+    some (size_of_class v heap entries k c are h named ∙ ap (λ (ts : List ℕ). size_together v.id_size ts) none)

@@ -13,25 +13,30 @@ use Rattle.heap_graph.proofs.ClassTableLaws.{numbered, same_count, under}
 use Rattle.heap_graph.proofs.FateLaws.{climb_on, fates_off, fates_on, set_here, stay_known, top_off, top_under}
 use Rattle.heap_graph.proofs.PathLaws.{contains_cases, contains_none, path_on}
 
-pub class_under : (v : Sight) (heap : List SubRecord) (entries : List Entry) (places : List ℕ) (k : ℕ) → AreClasses v heap entries places → k < length (ids_of entries) → (super : ℕ) × IsUnder heap (ids_of entries) k super
-class_under v heap entries places k are h =
+pub class_under : (v : Sight) (heap : List SubRecord) (entries : List Entry) (k : ℕ) → AreClasses v heap entries
+    → k < length (ids_of entries) → (super : ℕ) × IsUnder heap (ids_of entries) k super
+class_under v heap entries k are h =
     let below : k < length entries = omega (arith, h, same_count entries) in
-    let it = numbered v heap entries places k are below in
-    (it.holds.class.super, under v heap entries places k it below)
+    let it = numbered v heap entries k are below in
+    (it.holds.class.super, under v heap entries k it below)
 
-pub climb_step : (v : Sight) (heap : List SubRecord) (entries : List Entry) (places : List ℕ) (first : ℕ) (path : List ℕ) (known : List Fate) (at next : ℕ) → AreClasses v heap entries places → IsClimb v.id_size heap (ids_of entries) first path known at
+pub climb_step : (v : Sight) (heap : List SubRecord) (entries : List Entry) (first : ℕ) (path : List ℕ)
+    (known : List Fate) (at next : ℕ) → AreClasses v heap entries → IsClimb v.id_size heap (ids_of entries) first path
+    known at
     → ((super : ℕ) → AreFates v.id_size heap (ids_of entries) (path ++ at ∷ []) (set known at fates.OnPath) → IsUnder heap (ids_of entries) at super → IsPath heap (ids_of entries) (path ++ at ∷ []) super → IsStep v.id_size heap (ids_of entries) (set known at fates.OnPath) super (steps.Up next))
     → IsClimb v.id_size heap (ids_of entries) first (path ++ at ∷ []) (set known at fates.OnPath) next
-climb_step v heap entries places first path known at next are climb says =
-    let u = class_under v heap entries places at are climb.below in
+climb_step v heap entries first path known at next are climb says =
+    let u = class_under v heap entries at are climb.below in
     let step : IsStep v.id_size heap (ids_of entries) (set known at fates.OnPath) u.0 (steps.Up next) = says u.0 (fates_on v.id_size heap (ids_of entries) path known at climb.fates_are climb.below) u.1 (path_on heap (ids_of entries) path at u.0 climb.path_is u.1) in
     climb_on v.id_size heap (ids_of entries) first path known at next u.0 climb u.1 step.0 step.1 step.2
 
-pub climb_end : (v : Sight) (heap : List SubRecord) (entries : List Entry) (places : List ℕ) (first : ℕ) (path : List ℕ) (known : List Fate) (at : ℕ) (fate : Fate) → AreClasses v heap entries places → IsClimb v.id_size heap (ids_of entries) first path known at
+pub climb_end : (v : Sight) (heap : List SubRecord) (entries : List Entry) (first : ℕ) (path : List ℕ)
+    (known : List Fate) (at : ℕ) (fate : Fate) → AreClasses v heap entries → IsClimb v.id_size heap (ids_of entries)
+    first path known at
     → ((super : ℕ) → AreFates v.id_size heap (ids_of entries) (path ++ at ∷ []) (set known at fates.OnPath) → IsUnder heap (ids_of entries) at super → IsPath heap (ids_of entries) (path ++ at ∷ []) super → IsStep v.id_size heap (ids_of entries) (set known at fates.OnPath) super (steps.End fate))
     → AreFates v.id_size heap (ids_of entries) (path ++ at ∷ []) (set known at fates.OnPath) × IsTop v.id_size heap (ids_of entries) (path ++ at ∷ []) fate × Contains (path ++ at ∷ []) first
-climb_end v heap entries places first path known at fate are climb says =
-    let u = class_under v heap entries places at are climb.below in
+climb_end v heap entries first path known at fate are climb says =
+    let u = class_under v heap entries at are climb.below in
     let on : AreFates v.id_size heap (ids_of entries) (path ++ at ∷ []) (set known at fates.OnPath) = fates_on v.id_size heap (ids_of entries) path known at climb.fates_are climb.below in
     let p : IsPath heap (ids_of entries) (path ++ at ∷ []) u.0 = path_on heap (ids_of entries) path at u.0 climb.path_is u.1 in
     let step : IsStep v.id_size heap (ids_of entries) (set known at fates.OnPath) u.0 (steps.End fate) = says u.0 on u.1 p in

@@ -22,8 +22,10 @@ same_number heap ids id are =
     ∙ position_or_len-map (λ (c : Class). c.object) (λ x. x == id) (class_dumps heap)
 
 -- and of the class that was found in the table
-pub number_told : (v : Sight) (heap : List SubRecord) (entries : List Entry) (types : List ℕ) (fates : List Fate) (id class k : ℕ) → AreTold v heap entries types fates → Some k ≡ position (λ x. x == id) (ids_of entries) → id ≡ class → IsLinked v.id_size heap → k ≡ class_number heap class
-number_told v heap entries types fates id class k told found same linked =
+pub number_told : (v : Sight) (heap : List SubRecord) (entries : List Entry) (fates : List Fate) (id class k : ℕ)
+    → AreTold v heap entries fates → Some k ≡ position (λ x. x == id) (ids_of entries) → id ≡ class
+    → IsLinked v.id_size heap → k ≡ class_number heap class
+number_told v heap entries fates id class k told found same linked =
     position_at (λ x. x == id) (ids_of entries) k found ∙ same_number heap (ids_of entries) id (told.classes.in_order linked) ∙ ap (λ (x : ℕ). class_number heap x) same
 
 pub static_bytes : (s : ℕ) (fs : List Static) → sum_by (λ v. size_of s v.type) (map of_static fs) ≡ sum_by (λ f. size_of s f.type) fs

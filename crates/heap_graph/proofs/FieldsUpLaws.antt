@@ -12,17 +12,18 @@ use Rattle.hprof_grammar.specs.SubRecord.{Class, Member, SubRecord}
 use Rattle.hprof_grammar.specs.Tables.{size_of}
 use Rattle.heap_graph.specs.declared.classes.fate.Fate.{Fate}
 use Rattle.heap_graph.specs.declared.classes.fate.Fate.TheVariants as fates
-use Rattle.heap_graph.specs.Heap.{class_named}
+use Rattle.heap_graph.specs.declared.plan.ClassPlan.{ClassPlan}
 use Rattle.heap_graph.specs.Layout.{IsChain}
 use Rattle.heap_graph.specs.working.Chains.{BeginsAt, IsFate, IsFirst, IsKnown, IsSettled, layout_types, tail}
-use Rattle.heap_graph.specs.working.ClassTable.{Entry, HasIdPlaces, entry_at, id_places_of, ids_of, own_types}
+use Rattle.heap_graph.specs.working.ClassPlans.{IsPlan, id_places_of, plan_at}
+use Rattle.heap_graph.specs.working.ClassTable.{Entry, ids_of, own_types}
 use Rattle.heap_graph.specs.working.FieldsUp.{AreUp, HasFields, HaveFields, StandInside, Up, Up-prop, ids_up, next_above, next_in}
 use Rattle.heap_graph.specs.working.IdPlaces.{id_places, ids_at, size_together}
 use Rattle.heap_graph.specs.working.ToldClasses.{AreTold}
 use Rattle.heap_graph.specs.working.TypedFields.{typed_ids}
 use Rattle.heap_graph.proofs.ChainLaws.{chain_ends, cut_is_no_chain, one_chain}
-use Rattle.heap_graph.proofs.ClassTableLaws.{has_id_places, places_of_class, same_count, size_of_class}
 use Rattle.heap_graph.proofs.FieldLaws.{ids_of_both, size_of_id_type}
+use Rattle.heap_graph.proofs.PlanLaws.{AreOwnFields, fields_of_class}
 
 -- ---- the identifiers of one class
 
@@ -58,25 +59,16 @@ few_places s at [] low = omega arith
 few_places s at (t ∷ ts) low =
     omega (arith, sum_by-cons (λ x. size_of s x) t ts, few_places s (at + size_of s t) ts low, one_id_fits s at t (t == 2) refl low, length-append (if t == 2 then at ∷ [] else []) (id_places s (at + size_of s t) ts))
 
--- the fields of the class of a number
-pub record AreOwnFields (s : ℕ) (entries : List Entry) (places types : List ℕ) (k : ℕ) : Type 0 where
-  pub has : HasIdPlaces entries places k
-  pub places_are : id_places_of entries places k ≡ id_places s 0 types
-  pub size_is : (entry_at entries k).size ≡ size_together s types
-
-own_fields : (v : Sight) (heap : List SubRecord) (entries : List Entry) (places : List ℕ) (known : List Fate) (k : ℕ) (c : Class) → AreTold v heap entries places known → k < length entries → class_named heap (slice_index (ids_of entries) k) ≡ Some c → AreOwnFields v.id_size entries places (own_types c) k
-own_fields v heap entries places known k c told below named = record {
-  has = has_id_places v heap entries places k told.classes below;
-  places_are = places_of_class v heap entries places k c told.classes below named;
-  size_is = size_of_class v heap entries places k c told.classes below named;
-}
-
-own_stand : (s : ℕ) (entries : List Entry) (places types values : List ℕ) (k : ℕ) → AreOwnFields s entries places types k → 1 ≤ s → size_together s types ≤ length values → StandInside s (id_places_of entries places k) (entry_at entries k).size values
-own_stand s entries places types values k own low room =
+own_stand : (s : ℕ) (plans : List ClassPlan) (places types values : List ℕ) (k : ℕ) → AreOwnFields s plans places types
+    k → 1 ≤ s → size_together s types ≤ length values → StandInside s (id_places_of plans places k)
+    (plan_at plans k).size values
+own_stand s plans places types values k own low room =
     rw (own.places_are, own.size_is) (record { inside = λ i place is. omega (arith, places_inside s 0 types i place is); few = few_places s 0 types low; room = room })
 
-own_ids : (s : ℕ) (entries : List Entry) (places types values : List ℕ) (k : ℕ) → AreOwnFields s entries places types k → ids_at s (id_places_of entries places k) values ≡ typed_ids s types values
-own_ids s entries places types values k own = ap (λ (ps : List ℕ). ids_at s ps values) own.places_are ∙ ids_at_places s 0 types values
+own_ids : (s : ℕ) (plans : List ClassPlan) (places types values : List ℕ) (k : ℕ) → AreOwnFields s plans places types k
+    → ids_at s (id_places_of plans places k) values ≡ typed_ids s types values
+own_ids s plans places types values k own = ap (λ (ps : List ℕ). ids_at s ps values) own.places_are
+    ∙ ids_at_places s 0 types values
 
 -- ---- the classes above a class
 
@@ -87,8 +79,10 @@ fate_says s heap ids id c rest (fates.Whole l) settled is chain = subst (λ (cs 
 fate_says s heap ids id c rest fates.Broken settled is chain = absurd (cut_is_no_chain heap id is.0 (c ∷ rest) is.1 chain)
 fate_says s heap ids id c rest fates.Endless settled is chain = absurd (chain_ends heap id (c ∷ rest) chain is)
 
-first_above : (v : Sight) (heap : List SubRecord) (entries : List Entry) (places types : List ℕ) (known : List Fate) (k : ℕ) → AreTold v heap entries places known → (b : BeginsAt heap (ids_of entries) types k) → IsFirst heap (ids_of entries) (layout_types b.rest) (next_above known k)
-first_above v heap entries places types known k told b =
+first_above : (v : Sight) (heap : List SubRecord) (entries : List Entry) (types : List ℕ) (known : List Fate) (k : ℕ)
+    → AreTold v heap entries known → (b : BeginsAt heap (ids_of entries) types k) → IsFirst heap (ids_of entries)
+    (layout_types b.rest) (next_above known k)
+first_above v heap entries types known k told b =
     let it : IsKnown known k = told.settled.each_known k b.below in
     let read : it.fate ≡ slice_index_or known k fates.Unknown = sym (get_or_from_slice_get known k it.fate fates.Unknown it.is) in
     subst (λ (f : Fate). IsFirst heap (ids_of entries) (layout_types b.rest) (next_in f)) read
@@ -105,51 +99,76 @@ fewer_types : (heap : List SubRecord) (ids types : List ℕ) (k : ℕ) (b : Begi
 fewer_types heap ids types k b = omega (arith, ap length b.types_are, length-append (own_types b.class) (layout_types b.rest), one_type b.class.members b.some_field)
 
 -- the classes up from the first one are finitely many
-up_within : (v : Sight) (heap : List SubRecord) (entries : List Entry) (places : List ℕ) (known : List Fate) (n : ℕ) (types : List ℕ) (first : Option ℕ) → AreTold v heap entries places known → length types ≤ n → IsFirst heap (ids_of entries) types first → Up known first
-up_within v heap entries places known n types None told few is = ([], refl)
-up_within v heap entries places known zero types (Some k) told few b = absurd (omega (arith, few, fewer_types heap (ids_of entries) types k b))
-up_within v heap entries places known (suc n) types (Some k) told few b =
-    let rest : Up known (next_above known k) = up_within v heap entries places known n (layout_types b.rest) (next_above known k) told (omega (arith, few, fewer_types heap (ids_of entries) types k b)) (first_above v heap entries places types known k told b) in
+up_within : (v : Sight) (heap : List SubRecord) (entries : List Entry) (known : List Fate) (n : ℕ) (types : List ℕ)
+    (first : Option ℕ) → AreTold v heap entries known → length types ≤ n → IsFirst heap (ids_of entries) types first
+    → Up known first
+up_within v heap entries known n types None told few is = ([], refl)
+up_within v heap entries known zero types (Some k) told few b =
+    absurd (omega (arith, few, fewer_types heap (ids_of entries) types k b))
+up_within v heap entries known (suc n) types (Some k) told few b =
+    let rest : Up known (next_above known k) = up_within v heap entries known n (layout_types b.rest)
+    (next_above known k) told (omega (arith, few, fewer_types heap (ids_of entries) types k b))
+    (first_above v heap entries types known k told b) in
     (k ∷ rest.0, (refl, rest.1))
 
-pub up_from : (v : Sight) (heap : List SubRecord) (entries : List Entry) (places : List ℕ) (known : List Fate) (types : List ℕ) (first : Option ℕ) → AreTold v heap entries places known → IsFirst heap (ids_of entries) types first → Up known first
-up_from v heap entries places known types first told is = up_within v heap entries places known (length types) types first told (omega arith) is
+pub up_from : (v : Sight) (heap : List SubRecord) (entries : List Entry) (known : List Fate) (types : List ℕ)
+    (first : Option ℕ) → AreTold v heap entries known → IsFirst heap (ids_of entries) types first → Up known first
+up_from v heap entries known types first told is = up_within v heap entries known (length types) types first told
+    (omega arith) is
 
 -- ---- the fields of all classes of a layout
 
-both_sizes : (s : ℕ) (heap : List SubRecord) (ids types : List ℕ) (k : ℕ) (b : BeginsAt heap ids types k) → size_together s types ≡ size_together s (own_types b.class) + size_together s (layout_types b.rest)
-both_sizes s heap ids types k b = ap (λ (ts : List ℕ). sum_by (λ t. size_of s t) ts) b.types_are ∙ sum_by-append (λ t. size_of s t) (own_types b.class) (layout_types b.rest)
+both_sizes : (s : ℕ) (heap : List SubRecord) (ids types : List ℕ) (k : ℕ) (b : BeginsAt heap ids types k)
+    → size_together s types ≡ size_together s (own_types b.class) + size_together s (layout_types b.rest)
+both_sizes s heap ids types k b =
+    ap (λ (ts : List ℕ). sum_by (λ t. size_of s t) ts) b.types_are
+    ∙ sum_by-append (λ t. size_of s t) (own_types b.class) (layout_types b.rest)
 
-pub have_fields : (v : Sight) (heap : List SubRecord) (entries : List Entry) (places : List ℕ) (known : List Fate) (ks types values : List ℕ) (first : Option ℕ) → 1 ≤ v.id_size → AreTold v heap entries places known → IsFirst heap (ids_of entries) types first → size_together v.id_size types ≤ length values → AreUp known first ks
-    → HaveFields v.id_size entries places known ks values
-have_fields v heap entries places known [] types values first low told is room up = tt
-have_fields v heap entries places known (k ∷ ks) types values first low told is room up =
+pub have_fields : (v : Sight) (heap : List SubRecord) (entries : List Entry) (plans : List ClassPlan) (places : List ℕ)
+    (known : List Fate) (ks types values : List ℕ) (first : Option ℕ) → 1 ≤ v.id_size → AreTold v heap entries known
+    → IsPlan v.id_size heap (ids_of entries) plans places → IsFirst heap (ids_of entries) types first
+    → size_together v.id_size types ≤ length values → AreUp known first ks
+    → HaveFields v.id_size plans places known ks values
+have_fields v heap entries plans places known [] types values first low told plan is room up = tt
+have_fields v heap entries plans places known (k ∷ ks) types values first low told plan is room up =
     let b : BeginsAt heap (ids_of entries) types k = begins_at heap (ids_of entries) types first k up.0 is in
-    let below : k < length entries = omega (arith, b.below, same_count entries) in
-    let own : AreOwnFields v.id_size entries places (own_types b.class) k = own_fields v heap entries places known k b.class told below b.named in
-    let sizes : size_together v.id_size types ≡ size_together v.id_size (own_types b.class) + size_together v.id_size (layout_types b.rest) = both_sizes v.id_size heap (ids_of entries) types k b in (
+    let own : AreOwnFields v.id_size plans places (own_types b.class) k =
+    fields_of_class v.id_size heap (ids_of entries) plans places k b.class plan b.below b.named in
+    let sizes : size_together v.id_size types
+    ≡ size_together v.id_size (own_types b.class) + size_together v.id_size (layout_types b.rest) =
+    both_sizes v.id_size heap (ids_of entries) types k b in (
       record {
-        below = below;
+        below = omega (arith, b.below, plan.one_each);
         has_fate = omega (arith, b.below, told.settled.fates_are.one_each);
         has = own.has;
-        stand = own_stand v.id_size entries places (own_types b.class) values k own low (omega (arith, sizes, room));
+        stand = own_stand v.id_size
+            plans places (own_types b.class) values k own low (omega (arith, sizes, room));
       },
-      have_fields v heap entries places known ks (layout_types b.rest) (drop (entry_at entries k).size values) (next_above known k) low told (first_above v heap entries places types known k told b)
-          (omega (arith, sizes, room, own.size_is, length-drop (entry_at entries k).size values)) up.1,
+      have_fields v heap entries plans places known ks (layout_types b.rest) (drop (plan_at plans k).size values)
+          (next_above known k) low told plan (first_above v heap entries types known k told b)
+          (omega (arith, sizes, room, own.size_is, length-drop (plan_at plans k).size values)) up.1,
     )
 
-pub ids_up_are : (v : Sight) (heap : List SubRecord) (entries : List Entry) (places : List ℕ) (known : List Fate) (ks types values : List ℕ) (first : Option ℕ) → AreTold v heap entries places known → IsFirst heap (ids_of entries) types first → AreUp known first ks → ids_up v.id_size entries places ks values ≡ typed_ids v.id_size types values
-ids_up_are v heap entries places known [] types values first told is up =
+pub ids_up_are : (v : Sight) (heap : List SubRecord) (entries : List Entry) (plans : List ClassPlan) (places : List ℕ)
+    (known : List Fate) (ks types values : List ℕ) (first : Option ℕ) → AreTold v heap entries known
+    → IsPlan v.id_size heap (ids_of entries) plans places → IsFirst heap (ids_of entries) types first
+    → AreUp known first ks → ids_up v.id_size plans places ks values ≡ typed_ids v.id_size types values
+ids_up_are v heap entries plans places known [] types values first told plan is up =
     let none : types ≡ [] = subst (λ (f : Option ℕ). IsFirst heap (ids_of entries) types f) up is in
     ap (λ (ts : List ℕ). typed_ids v.id_size ts values) (sym none)
-ids_up_are v heap entries places known (k ∷ ks) types values first told is up =
+ids_up_are v heap entries plans places known (k ∷ ks) types values first told plan is up =
     let b : BeginsAt heap (ids_of entries) types k = begins_at heap (ids_of entries) types first k up.0 is in
-    let own : AreOwnFields v.id_size entries places (own_types b.class) k = own_fields v heap entries places known k b.class told (omega (arith, b.below, same_count entries)) b.named in
-    ap (λ (ids : List ℕ). ids ++ ids_up v.id_size entries places ks (drop (entry_at entries k).size values)) (own_ids v.id_size entries places (own_types b.class) values k own)
+    let own : AreOwnFields v.id_size plans places (own_types b.class) k =
+    fields_of_class v.id_size heap (ids_of entries) plans places k b.class plan b.below b.named in
+    let behind : List ℕ = drop (plan_at plans k).size values in
+    ap (λ (ids : List ℕ). ids ++ ids_up v.id_size plans places ks behind)
+    (own_ids v.id_size plans places (own_types b.class) values k own)
     ∙ ap (λ (ids : List ℕ). typed_ids v.id_size (own_types b.class) values ++ ids)
-    (ids_up_are v heap entries places known ks (layout_types b.rest) (drop (entry_at entries k).size values) (next_above known k) told (first_above v heap entries places types known k told b) up.1
+    (ids_up_are v heap entries plans places known ks (layout_types b.rest) behind (next_above known k) told plan
+    (first_above v heap entries types known k told b) up.1
     ∙ ap (λ (n : ℕ). typed_ids v.id_size (layout_types b.rest) (drop n values)) own.size_is)
-    ∙ sym (ap (λ (ts : List ℕ). typed_ids v.id_size ts values) b.types_are ∙ ids_of_both v.id_size (own_types b.class) (layout_types b.rest) values)
+    ∙ sym (ap (λ (ts : List ℕ). typed_ids v.id_size ts values) b.types_are
+    ∙ ids_of_both v.id_size (own_types b.class) (layout_types b.rest) values)
 
 -- ---- what is left of the identifiers of an instance
 
@@ -157,10 +176,11 @@ pub nothing_stands : (s : ℕ) (values : List ℕ) → StandInside s [] 0 values
 nothing_stands s values = record { inside = λ k place is. absurd (let wrong : None ≡ Some place = is in cc); few = omega arith; room = omega arith }
 
 -- these are left, of a class and of those above it
-pub record IsLeft (s : ℕ) (entries : List Entry) (places : List ℕ) (known : List Fate) (here : List ℕ) (own : ℕ) (values ks ids : List ℕ) : Type 0 where
+pub record IsLeft (s : ℕ) (plans : List ClassPlan) (places : List ℕ) (known : List Fate) (here : List ℕ) (own : ℕ)
+    (values ks ids : List ℕ) : Type 0 where
   pub stand : StandInside s here own values
-  pub above : HaveFields s entries places known ks (drop own values)
-  pub left : ids_at s here values ++ ids_up s entries places ks (drop own values) ≡ ids
+  pub above : HaveFields s plans places known ks (drop own values)
+  pub left : ids_at s here values ++ ids_up s plans places ks (drop own values) ≡ ids
 
 same_up : (known : List Fate) (first : Option ℕ) (ks ms : List ℕ) → AreUp known first ks → AreUp known first ms → ks ≡ ms
 same_up known first ks ms h e = ap (λ (u : Up known first). u.0) (Up-prop known first (ks, h) (ms, e))
@@ -176,20 +196,27 @@ rest_stands s own here values rest place stand e = record {
 }
 
 -- the first one is given away
-pub first_gone : (s : ℕ) (entries : List Entry) (places : List ℕ) (known : List Fate) (here : List ℕ) (own : ℕ) (values ks ms ids rest : List ℕ) (next : Option ℕ) (place : ℕ) → IsLeft s entries places known here own values ks ids → here ≡ place ∷ rest → AreUp known next ks → AreUp known next ms
-    → IsLeft s entries places known rest own values ms (ids_at s rest values ++ ids_up s entries places ms (drop own values))
-first_gone s entries places known here own values ks ms ids rest next place it e h m = record {
+pub first_gone : (s : ℕ) (plans : List ClassPlan) (places : List ℕ) (known : List Fate) (here : List ℕ) (own : ℕ)
+    (values ks ms ids rest : List ℕ) (next : Option ℕ) (place : ℕ) → IsLeft s plans places known here own values ks ids
+    → here ≡ place ∷ rest → AreUp known next ks → AreUp known next ms
+    → IsLeft s plans places known rest own values ms (ids_at s rest values ++ ids_up s plans places ms
+    (drop own values))
+first_gone s plans places known here own values ks ms ids rest next place it e h m = record {
   stand = rest_stands s own here values rest place it.stand e;
-  above = subst (λ (xs : List ℕ). HaveFields s entries places known xs (drop own values)) (same_up known next ks ms h m) it.above;
+  above = subst (λ (xs : List ℕ). HaveFields s plans places known xs (drop own values)) (same_up known next ks ms h m)
+      it.above;
   left = refl;
 }
 
-pub first_given : (s : ℕ) (entries : List Entry) (places : List ℕ) (known : List Fate) (here : List ℕ) (own : ℕ) (values ks ms ids rest : List ℕ) (next : Option ℕ) (place id : ℕ) → IsLeft s entries places known here own values ks ids → here ≡ place ∷ rest → id ≡ big_number s (drop place values) → AreUp known next ks → AreUp known next ms
-    → ids ≡ id ∷ (ids_at s rest values ++ ids_up s entries places ms (drop own values))
-first_given s entries places known here own values ks ms ids rest next place id it e is h m =
-    sym it.left ∙ ap (λ (ps : List ℕ). ids_at s ps values ++ ids_up s entries places ks (drop own values)) e
-    ∙ ap (λ (n : ℕ). n ∷ (ids_at s rest values ++ ids_up s entries places ks (drop own values))) (sym is)
-    ∙ ap (λ (xs : List ℕ). id ∷ (ids_at s rest values ++ ids_up s entries places xs (drop own values))) (same_up known next ks ms h m)
+pub first_given : (s : ℕ) (plans : List ClassPlan) (places : List ℕ) (known : List Fate) (here : List ℕ) (own : ℕ)
+    (values ks ms ids rest : List ℕ) (next : Option ℕ) (place id : ℕ) → IsLeft s plans places known here own values ks
+    ids → here ≡ place ∷ rest → id ≡ big_number s (drop place values) → AreUp known next ks → AreUp known next ms
+    → ids ≡ id ∷ (ids_at s rest values ++ ids_up s plans places ms (drop own values))
+first_given s plans places known here own values ks ms ids rest next place id it e is h m =
+    sym it.left ∙ ap (λ (ps : List ℕ). ids_at s ps values ++ ids_up s plans places ks (drop own values)) e
+    ∙ ap (λ (n : ℕ). n ∷ (ids_at s rest values ++ ids_up s plans places ks (drop own values))) (sym is)
+    ∙ ap (λ (xs : List ℕ). id ∷ (ids_at s rest values ++ ids_up s plans places xs (drop own values)))
+    (same_up known next ks ms h m)
 
 pub fewer_left : (ids left : List ℕ) (id : ℕ) → ids ≡ id ∷ left → length left < length ids
 fewer_left ids left id e = omega (arith, ap length e)
@@ -202,44 +229,66 @@ none_above : (known : List Fate) (ks : List ℕ) → AreUp known None ks → ks 
 none_above known [] h = refl
 none_above known (k ∷ ks) h = absurd (let wrong : None ≡ Some k = h.0 in cc)
 
-pub none_left : (s : ℕ) (entries : List Entry) (places : List ℕ) (known : List Fate) (here : List ℕ) (own : ℕ) (values ks ids : List ℕ) (next : Option ℕ) → IsLeft s entries places known here own values ks ids → length here ≡ 0 → next ≡ None → AreUp known next ks
-    → (ids ≡ []) × (ids_at s here values ++ ids_up s entries places ks (drop own values) ≡ [])
-none_left s entries places known here own values ks ids next it e none h =
+pub none_left : (s : ℕ) (plans : List ClassPlan) (places : List ℕ) (known : List Fate) (here : List ℕ) (own : ℕ)
+    (values ks ids : List ℕ) (next : Option ℕ) → IsLeft s plans places known here own values ks ids → length here ≡ 0
+    → next ≡ None → AreUp known next ks
+    → (ids ≡ []) × (ids_at s here values ++ ids_up s plans places ks (drop own values) ≡ [])
+none_left s plans places known here own values ks ids next it e none h =
     let no_class : ks ≡ [] = none_above known ks (subst (λ (f : Option ℕ). AreUp known f ks) none h) in
-    let nothing : ids_at s here values ++ ids_up s entries places ks (drop own values) ≡ [] = ap (λ (ps : List ℕ). ids_at s ps values ++ ids_up s entries places ks (drop own values)) (none_there here e) ∙ ap (λ (xs : List ℕ). ids_up s entries places xs (drop own values)) no_class in
+    let nothing : ids_at s here values ++ ids_up s plans places ks (drop own values) ≡ [] =
+    ap (λ (ps : List ℕ). ids_at s ps values ++ ids_up s plans places ks (drop own values)) (none_there here e)
+    ∙ ap (λ (xs : List ℕ). ids_up s plans places xs (drop own values)) no_class in
     (sym it.left ∙ nothing, nothing)
 
 -- the first class above, and those above it
-pub record HasNext (s : ℕ) (entries : List Entry) (places : List ℕ) (known : List Fate) (values : List ℕ) (k : ℕ) (ks : List ℕ) : Type 0 where
+pub record HasNext (s : ℕ) (plans : List ClassPlan) (places : List ℕ) (known : List Fate) (values : List ℕ) (k : ℕ)
+    (ks : List ℕ) : Type 0 where
   pub rest : List ℕ
   pub are : ks ≡ k ∷ rest
   pub up : AreUp known (next_above known k) rest
-  pub fields : HasFields s entries places known values k
-  pub above : HaveFields s entries places known rest (drop (entry_at entries k).size values)
+  pub fields : HasFields s plans places known values k
+  pub above : HaveFields s plans places known rest (drop (plan_at plans k).size values)
 
-pub has_next : (s : ℕ) (entries : List Entry) (places : List ℕ) (known : List Fate) (values ks : List ℕ) (next : Option ℕ) (k : ℕ) → next ≡ Some k → AreUp known next ks → HaveFields s entries places known ks values → HasNext s entries places known values k ks
-has_next s entries places known values [] next k e h have = absurd (let wrong : Some k ≡ None = sym e ∙ h in cc)
-has_next s entries places known values (m ∷ ms) next k e h have =
+pub has_next : (s : ℕ) (plans : List ClassPlan) (places : List ℕ) (known : List Fate) (values ks : List ℕ)
+    (next : Option ℕ) (k : ℕ) → next ≡ Some k → AreUp known next ks → HaveFields s plans places known ks values
+    → HasNext s plans places known values k ks
+has_next s plans places known values [] next k e h have = absurd (let wrong : Some k ≡ None = sym e ∙ h in cc)
+has_next s plans places known values (m ∷ ms) next k e h have =
     let both : Some m ≡ Some k = sym h.0 ∙ e in
     let same : m ≡ k = cc in
-    subst (λ (n : ℕ). HasNext s entries places known values n (m ∷ ms)) same (record { rest = ms; are = refl; up = h.1; fields = have.0; above = have.1 })
+    subst (λ (n : ℕ). HasNext s plans places known values n (m ∷ ms)) same
+    (record { rest = ms; are = refl; up = h.1; fields = have.0; above = have.1 })
 
 -- the fields of the class are all given away: those of the next one follow
-pub next_left : (s : ℕ) (entries : List Entry) (places : List ℕ) (known : List Fate) (here : List ℕ) (own : ℕ) (values ks ids : List ℕ) (k : ℕ) (its : List ℕ) (size : ℕ) (behind : List ℕ) (above : Option ℕ) (ms : List ℕ) → IsLeft s entries places known here own values ks ids → length here ≡ 0 → HasNext s entries places known (drop own values) k ks
-    → its ≡ id_places_of entries places k → size ≡ (entry_at entries k).size → behind ≡ drop own values → above ≡ next_above known k → AreUp known above ms → IsLeft s entries places known its size behind ms ids
-next_left s entries places known here own values ks ids k its size behind above ms it e n its_are size_is behind_is above_is h =
+pub next_left : (s : ℕ) (plans : List ClassPlan) (places : List ℕ) (known : List Fate) (here : List ℕ) (own : ℕ)
+    (values ks ids : List ℕ) (k : ℕ) (its : List ℕ) (size : ℕ) (behind : List ℕ) (above : Option ℕ) (ms : List ℕ)
+    → IsLeft s plans places known here own values ks ids → length here ≡ 0 → HasNext s plans places known
+    (drop own values) k ks
+    → its ≡ id_places_of plans places k → size ≡ (plan_at plans k).size → behind ≡ drop own values
+    → above ≡ next_above known k → AreUp known above ms → IsLeft s plans places known its size behind ms ids
+next_left s plans places known here own values ks ids k its size behind above ms it e n its_are size_is behind_is
+    above_is h =
     let same : n.rest ≡ ms = same_up known (next_above known k) n.rest ms n.up (subst (λ (f : Option ℕ). AreUp known f ms) above_is h) in
-    subst (λ (xs : List ℕ). IsLeft s entries places known its size behind xs ids) same
+    subst (λ (xs : List ℕ). IsLeft s plans places known its size behind xs ids) same
     (rw (its_are, size_is, behind_is) (record {
       stand = n.fields.stand;
       above = n.above;
       left =
-          sym (ap (λ (xs : List ℕ). ids_up s entries places xs (drop own values)) n.are)
-          ∙ sym (ap (λ (ps : List ℕ). ids_at s ps values ++ ids_up s entries places ks (drop own values)) (none_there here e)) ∙ it.left;
+          sym (ap (λ (xs : List ℕ). ids_up s plans places xs (drop own values)) n.are)
+          ∙ sym (ap (λ (ps : List ℕ). ids_at s ps values ++ ids_up s plans places ks (drop own values))
+          (none_there here e)) ∙ it.left;
     }))
 
-pub fewer_above : (s : ℕ) (entries : List Entry) (places : List ℕ) (known : List Fate) (values ks : List ℕ) (k : ℕ) (above : Option ℕ) (ms : List ℕ) → HasNext s entries places known values k ks → above ≡ next_above known k → AreUp known above ms → length ms < length ks
-fewer_above s entries places known values ks k above ms n above_is h = omega (arith, ap length n.are, ap length (same_up known (next_above known k) n.rest ms n.up (subst (λ (f : Option ℕ). AreUp known f ms) above_is h)))
+pub fewer_above : (s : ℕ) (plans : List ClassPlan) (places : List ℕ) (known : List Fate) (values ks : List ℕ) (k : ℕ)
+    (above : Option ℕ) (ms : List ℕ) → HasNext s plans places known values k ks → above ≡ next_above known k
+    → AreUp known above ms → length ms < length ks
+fewer_above s plans places known values ks k above ms n above_is h =
+    omega (
+      arith,
+      ap length n.are,
+      ap length (same_up known (next_above known k) n.rest ms n.up
+          (subst (λ (f : Option ℕ). AreUp known f ms) above_is h)),
+    )
 
 -- ---- how many identifiers are left
 
@@ -261,18 +310,21 @@ steps_are known (suc n) (Some m) (k ∷ ks) h few =
     ap suc (ap (λ (x : ℕ). steps_up known n (next_above known x)) same ∙ steps_are known n (next_above known k) ks h.1 (omega (arith, few)))
 
 -- so many identifiers are counted, of that many; those of the classes from that one up are left, in that many bytes
-pub record IsCounted (s : ℕ) (entries : List Entry) (places : List ℕ) (known : List Fate) (most bytes all : ℕ) (first : Option ℕ) (counted : ℕ) : Type 0 where
+pub record IsCounted (s : ℕ) (plans : List ClassPlan) (places : List ℕ) (known : List Fate) (most bytes all : ℕ)
+    (first : Option ℕ) (counted : ℕ) : Type 0 where
   pub classes : List ℕ
   pub values : List ℕ
   pub up : AreUp known first classes
-  pub have : HaveFields s entries places known classes values
+  pub have : HaveFields s plans places known classes values
   pub few_classes : length classes ≤ most
   pub room : counted + length values ≤ bytes
-  pub count : counted + length (ids_up s entries places classes values) ≡ all
+  pub count : counted + length (ids_up s plans places classes values) ≡ all
 
-pub none_counted : (s : ℕ) (entries : List Entry) (places : List ℕ) (known : List Fate) (here : List ℕ) (own : ℕ) (values ks ids : List ℕ) (next : Option ℕ) → IsLeft s entries places known here own values ks ids → AreUp known next ks
-    → IsCounted s entries places known (length ks) (length values) (length ids) next (length here)
-none_counted s entries places known here own values ks ids next it h = record {
+pub none_counted : (s : ℕ) (plans : List ClassPlan) (places : List ℕ) (known : List Fate) (here : List ℕ) (own : ℕ)
+    (values ks ids : List ℕ) (next : Option ℕ) → IsLeft s plans places known here own values ks ids
+    → AreUp known next ks
+    → IsCounted s plans places known (length ks) (length values) (length ids) next (length here)
+none_counted s plans places known here own values ks ids next it h = record {
   classes = ks;
   values = drop own values;
   up = h;
@@ -280,45 +332,80 @@ none_counted s entries places known here own values ks ids next it h = record {
   few_classes = omega arith;
   room = omega (arith, it.stand.few, it.stand.room, length-drop own values);
   count =
-      omega (arith, ap length it.left, length-append (ids_at s here values) (ids_up s entries places ks (drop own values)), length-map here (λ p. big_number s (drop p values)));
+      omega (
+        arith,
+        ap length it.left,
+        length-append (ids_at s here values)
+            (ids_up s plans places ks (drop own values)),
+        length-map here (λ p. big_number s (drop p values)),
+      );
 }
 
-pub next_counted : (s : ℕ) (entries : List Entry) (places : List ℕ) (known : List Fate) (most bytes all : ℕ) (first : Option ℕ) (counted k : ℕ) (it : IsCounted s entries places known most bytes all first counted) → first ≡ Some k → HasNext s entries places known it.values k it.classes
-next_counted s entries places known most bytes all first counted k it e = has_next s entries places known it.values it.classes first k e it.up it.have
+pub next_counted : (s : ℕ) (plans : List ClassPlan) (places : List ℕ) (known : List Fate) (most bytes all : ℕ)
+    (first : Option ℕ) (counted k : ℕ) (it : IsCounted s plans places known most bytes all first counted)
+    → first ≡ Some k → HasNext s plans places known it.values k it.classes
+next_counted s plans places known most bytes all first counted k it e = has_next s plans places known it.values
+    it.classes first k e it.up it.have
 
-pub more_counted : (s : ℕ) (entries : List Entry) (places : List ℕ) (known : List Fate) (most bytes all : ℕ) (first : Option ℕ) (counted k : ℕ) (its : List ℕ) (above : Option ℕ) → IsCounted s entries places known most bytes all first counted → first ≡ Some k → its ≡ id_places_of entries places k → above ≡ next_above known k
-    → IsCounted s entries places known most bytes all above (counted + length its)
-more_counted s entries places known most bytes all first counted k its above it e its_are above_is =
-    let n : HasNext s entries places known it.values k it.classes = next_counted s entries places known most bytes all first counted k it e in
+pub more_counted : (s : ℕ) (plans : List ClassPlan) (places : List ℕ) (known : List Fate) (most bytes all : ℕ)
+    (first : Option ℕ) (counted k : ℕ) (its : List ℕ) (above : Option ℕ) → IsCounted s plans places known most bytes all
+    first counted → first ≡ Some k → its ≡ id_places_of plans places k → above ≡ next_above known k
+    → IsCounted s plans places known most bytes all above (counted + length its)
+more_counted s plans places known most bytes all first counted k its above it e its_are above_is =
+    let n : HasNext s plans places known it.values k it.classes = next_counted s plans places known most bytes all first
+    counted k it e in
     rw above_is (record {
       classes = n.rest;
-      values = drop (entry_at entries k).size it.values;
+      values = drop (plan_at plans k).size it.values;
       up = n.up;
       have = n.above;
       few_classes = omega (arith, it.few_classes, ap length n.are);
-      room = omega (arith, it.room, n.fields.stand.few, n.fields.stand.room, ap length its_are, length-drop (entry_at entries k).size it.values);
+      room = omega (
+        arith,
+        it.room,
+        n.fields.stand.few,
+        n.fields.stand.room,
+        ap length its_are,
+        length-drop
+            (plan_at plans k).size it.values,
+      );
       count =
           omega (
             arith,
             it.count,
             ap length its_are,
-            ap (λ (xs : List ℕ). length (ids_up s entries places xs it.values)) n.are,
-            length-append (ids_at s (id_places_of entries places k) it.values) (ids_up s entries places n.rest (drop (entry_at entries k).size it.values)),
-            length-map (id_places_of entries places k) (λ p. big_number s (drop p it.values)),
+            ap (λ (xs : List ℕ). length (ids_up s plans places xs it.values)) n.are,
+            length-append (ids_at s (id_places_of plans places k) it.values) (ids_up s plans places n.rest
+                (drop (plan_at plans k).size it.values)),
+            length-map (id_places_of plans places k) (λ p. big_number s (drop p it.values)),
           );
     })
 
-pub counted_fits : (s : ℕ) (entries : List Entry) (places : List ℕ) (known : List Fate) (most bytes all : ℕ) (first : Option ℕ) (counted k : ℕ) (its : List ℕ) → IsCounted s entries places known most bytes all first counted → first ≡ Some k → its ≡ id_places_of entries places k → counted + length its ≤ bytes
-counted_fits s entries places known most bytes all first counted k its it e its_are =
-    let n : HasNext s entries places known it.values k it.classes = next_counted s entries places known most bytes all first counted k it e in
+pub counted_fits : (s : ℕ) (plans : List ClassPlan) (places : List ℕ) (known : List Fate) (most bytes all : ℕ)
+    (first : Option ℕ) (counted k : ℕ) (its : List ℕ) → IsCounted s plans places known most bytes all first counted
+    → first ≡ Some k → its ≡ id_places_of plans places k → counted + length its ≤ bytes
+counted_fits s plans places known most bytes all first counted k its it e its_are =
+    let n : HasNext s plans places known it.values k it.classes = next_counted s plans places known most bytes all first
+    counted k it e in
     omega (arith, it.room, n.fields.stand.few, n.fields.stand.room, ap length its_are)
 
-pub fewer_steps : (s : ℕ) (entries : List Entry) (places : List ℕ) (known : List Fate) (most bytes all : ℕ) (first : Option ℕ) (counted k : ℕ) (above : Option ℕ) → IsCounted s entries places known most bytes all first counted → first ≡ Some k → above ≡ next_above known k → steps_up known most above < steps_up known most first
-fewer_steps s entries places known most bytes all first counted k above it e above_is =
-    let n : HasNext s entries places known it.values k it.classes = next_counted s entries places known most bytes all first counted k it e in
+pub fewer_steps : (s : ℕ) (plans : List ClassPlan) (places : List ℕ) (known : List Fate) (most bytes all : ℕ)
+    (first : Option ℕ) (counted k : ℕ) (above : Option ℕ) → IsCounted s plans places known most bytes all first counted
+    → first ≡ Some k → above ≡ next_above known k → steps_up known most above < steps_up known most first
+fewer_steps s plans places known most bytes all first counted k above it e above_is =
+    let n : HasNext s plans places known it.values k it.classes = next_counted s plans places known most bytes all first
+    counted k it e in
     let fewer : length n.rest < length it.classes = omega (arith, ap length n.are) in
     omega (arith, fewer, steps_are known most first it.classes it.up it.few_classes, ap (λ (f : Option ℕ). steps_up known most f) above_is, steps_are known most (next_above known k) n.rest n.up (omega (arith, fewer, it.few_classes)))
 
-pub all_counted : (s : ℕ) (entries : List Entry) (places : List ℕ) (known : List Fate) (most bytes all : ℕ) (first : Option ℕ) (counted : ℕ) → IsCounted s entries places known most bytes all first counted → ((k : ℕ) → first ≡ Some k → ⊥) → counted ≡ all
-all_counted s entries places known most bytes all None counted it none = omega (arith, it.count, ap (λ (xs : List ℕ). length (ids_up s entries places xs it.values)) (none_above known it.classes it.up))
-all_counted s entries places known most bytes all (Some k) counted it none = absurd (none k refl)
+pub all_counted : (s : ℕ) (plans : List ClassPlan) (places : List ℕ) (known : List Fate) (most bytes all : ℕ)
+    (first : Option ℕ) (counted : ℕ) → IsCounted s plans places known most bytes all first counted
+    → ((k : ℕ) → first ≡ Some k → ⊥) → counted ≡ all
+all_counted s plans places known most bytes all None counted it none =
+    omega (
+      arith,
+      it.count,
+      ap (λ (xs : List ℕ). length (ids_up s plans places xs it.values))
+          (none_above known it.classes it.up),
+    )
+all_counted s plans places known most bytes all (Some k) counted it none = absurd (none k refl)

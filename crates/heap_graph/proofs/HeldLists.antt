@@ -49,37 +49,37 @@ first_by s heap ids known n k i fates.Endless linked is it e =
     absurd (linked_whole s heap ids i.class it.class it.fate linked it.named it.settled
     (λ l h. let wrong : fates.Endless ≡ fates.Whole l = sym e ∙ h in cc) it.says)
 
-first_at : (v : Sight) (heap : List SubRecord) (entries : List Entry) (places : List ℕ) (known : List Fate) (n : ℕ)
-    (i : Instance) (o : Option ℕ) → IsLinked v.id_size heap → AreTold v heap entries places known
+first_at : (v : Sight) (heap : List SubRecord) (entries : List Entry) (known : List Fate) (n : ℕ)
+    (i : Instance) (o : Option ℕ) → IsLinked v.id_size heap → AreTold v heap entries known
     → slice_get (objects heap) n ≡ Some (instance_dump i) → position (λ x. x == i.class) (ids_of entries) ≡ o
     → (first : Option ℕ) × IsFirstOfInstance v.id_size heap (ids_of entries) i first
-first_at v heap entries places known n i None linked told is e =
-    absurd (no_unknown v.id_size heap n i linked is (not_found v heap entries places i.class told.classes e))
-first_at v heap entries places known n i (Some k) linked told is e =
+first_at v heap entries known n i None linked told is e =
+    absurd (no_unknown v.id_size heap n i linked is (not_found v heap entries i.class told.classes e))
+first_at v heap entries known n i (Some k) linked told is e =
     let it : IsFateFound v.id_size heap (ids_of entries) known i.class k =
-    fate_found v heap entries places known i.class k told e in
+    fate_found v heap entries known i.class k told e in
     first_by v.id_size heap (ids_of entries) known n k i it.fate linked is it refl
 
 -- ---- the identifiers of one object
 
-ids_here : (v : Sight) (heap : List SubRecord) (entries : List Entry) (places : List ℕ) (known : List Fate) (n at : ℕ)
-    (x : SubRecord) → IsLinked v.id_size heap → 1 ≤ v.id_size → AreTold v heap entries places known
+ids_here : (v : Sight) (heap : List SubRecord) (entries : List Entry) (known : List Fate) (n at : ℕ)
+    (x : SubRecord) → IsLinked v.id_size heap → 1 ≤ v.id_size → AreTold v heap entries known
     → slice_get (objects heap) n ≡ Some x → Stands v at x → (ids : List ℕ) × AreIdsOf v.id_size heap x ids
-ids_here v heap entries places known n at (root r) linked low told is stands =
+ids_here v heap entries known n at (root r) linked low told is stands =
     ([], record { are = refl; few = omega arith })
-ids_here v heap entries places known n at (class_dump c) linked low told is stands =
+ids_here v heap entries known n at (class_dump c) linked low told is stands =
     (class_ids v.id_size c, class_holds v.id_size heap c (class_ids v.id_size c) (bounds stands.is.formed) refl)
-ids_here v heap entries places known n at (instance_dump i) linked low told is stands =
+ids_here v heap entries known n at (instance_dump i) linked low told is stands =
     let found =
-    first_at v heap entries places known n i (position (λ x. x == i.class) (ids_of entries)) linked told is refl in
+    first_at v heap entries known n i (position (λ x. x == i.class) (ids_of entries)) linked told is refl in
     let fields : List ℕ = typed_ids v.id_size (layout_types found.1.chain) i.values in (
       i.class ∷ fields,
       instance_holds v.id_size heap (ids_of entries) i found.0 found.1 i.class fields i.values low
           (bounds stands.is.formed).values refl refl refl,
     )
-ids_here v heap entries places known n at (object_array_dump a) linked low told is stands =
+ids_here v heap entries known n at (object_array_dump a) linked low told is stands =
     (a.class ∷ a.elements, array_holds v.id_size heap a a.class a.elements (bounds stands.is.formed).count refl refl)
-ids_here v heap entries places known n at (primitive_array_dump a) linked low told is stands =
+ids_here v heap entries known n at (primitive_array_dump a) linked low told is stands =
     ([], nothing_held v.id_size heap a)
 
 -- ---- those of all objects
@@ -125,7 +125,7 @@ held_lists o heap linked told = all (chosen (AreIdsOf o.view.id_size heap) (obje
         let it : IsThere o.view heap n (get_or o.places.items n 0) =
         there o.view o.places.items o.index heap n linked.are below in
         let same : it.object ≡ x = one_object heap n it.object x it.is is in
-        ids_here o.view heap o.classes.table.entries o.classes.id_places.items o.fates.items n
+        ids_here o.view heap o.classes.table.entries o.fates.items n
         (get_or o.places.items n 0) x linked.linked linked.low told is
         (subst (λ (y : SubRecord). Stands o.view (get_or o.places.items n 0) y) same it.stands)
 

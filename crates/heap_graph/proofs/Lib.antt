@@ -17,6 +17,7 @@ pub mod ClassTableLaws
 pub mod SpreadLaws
 pub mod RuleLaws
 pub mod InstanceLaws
+pub mod PlanLaws
 pub mod FieldsUpLaws
 pub mod TableGrowth
 pub mod Counting

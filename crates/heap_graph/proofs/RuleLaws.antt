@@ -48,18 +48,21 @@ pub record IsFateFound (s : ℕ) (heap : List SubRecord) (ids : List ℕ) (fates
   pub named : class_named heap id ≡ Some class
   pub below : k < length fates
 
-pub fate_found : (v : Sight) (heap : List SubRecord) (entries : List Entry) (types : List ℕ) (fates : List Fate) (id k : ℕ) → AreTold v heap entries types fates → position (λ x. x == id) (ids_of entries) ≡ Some k → IsFateFound v.id_size heap (ids_of entries) fates id k
-fate_found v heap entries types fates id k told e =
+pub fate_found : (v : Sight) (heap : List SubRecord) (entries : List Entry) (fates : List Fate) (id k : ℕ)
+    → AreTold v heap entries fates → position (λ x. x == id) (ids_of entries) ≡ Some k → IsFateFound v.id_size heap
+    (ids_of entries) fates id k
+fate_found v heap entries fates id k told e =
     let it : IsFound (ids_of entries) id k = found (ids_of entries) id k e in
     let known : IsKnown fates k = told.settled.each_known k it.below in
-    let class : IsNumbered v heap entries types k = numbered v heap entries types k told.classes (omega (arith, it.below, same_count entries)) in
+    let class : IsNumbered v heap entries k = numbered v heap entries k told.classes
+    (omega (arith, it.below, same_count entries)) in
     record {
       fate = known.fate;
       is = known.is;
       settled = known.settled;
       says = subst (λ (n : ℕ). IsFate v.id_size heap (ids_of entries) n known.fate) it.is (told.settled.fates_are.each k known.fate known.is);
       class = class.holds.class;
-      named = ap (λ (n : ℕ). class_named heap n) (sym it.is) ∙ named_at v heap entries types k class;
+      named = ap (λ (n : ℕ). class_named heap n) (sym it.is) ∙ named_at v heap entries k class;
       below = omega (arith, it.below, told.settled.fates_are.one_each);
     }
 

@@ -1,11 +1,12 @@
 -- The table of classes: one more object.
-use Rattle.std.proofs.Common.{Bool, Contains, List, None, Option, Some, [], append-nil, ap, arith, cond, drop, false, inl, inr, length, length-append, map, not, refl, slice_get, subst, suc, sym, take, true, zero, ⊎_elim, ℕ, ◌++◌, ◌+◌, ◌-◌, ◌<◌, ◌∙◌, ◌∷◌, ◌≡◌, ◌≤◌, ◌⊎◌}
-use Rattle.std.specs.Prelude.{filter_map, nat_lt, option_and_then, position, slice_range, ◌==◌}
+use Rattle.std.proofs.Common.{Bool, Contains, List, None, Option, Some, [], append-nil, ap, arith, cond, false, inl}
+use Rattle.std.proofs.Common.{inr, length, length-append, map, not, refl, slice_get, subst, suc, sym, take, true, zero}
+use Rattle.std.proofs.Common.{⊎_elim, ℕ, ◌++◌, ◌+◌, ◌<◌, ◌∙◌, ◌∷◌, ◌≡◌, ◌≤◌, ◌⊎◌}
+use Rattle.std.specs.Prelude.{filter_map, nat_lt, option_and_then, position, ◌==◌}
 use Rattle.std.specs.List.{cons_option, position_or_len}
 use Rattle.std.proofs.lemmas.Bool.{cases_order, eq-eqb, eqb-true, lt-ltb, ne_eqb}
-use Rattle.std.proofs.lemmas.List.{drop-append-le, length-drop, map-append, take-append-le, take_all}
+use Rattle.std.proofs.lemmas.List.{map-append, take_all}
 use Rattle.std.proofs.lemmas.List.Elements.{Contains-append_cases, Contains-append_left, Contains-append_right, filter_map-append}
-use Rattle.std.proofs.Math.Seq.{drop-append_seam, take-length}
 use Rattle.hprof_grammar.specs.Standing.{Sight, Stands}
 use Rattle.hprof_grammar.specs.Dump.{id_of}
 use Rattle.hprof_grammar.specs.SubRecord.{Class, SubRecord}
@@ -13,8 +14,7 @@ use Rattle.hprof_grammar.specs.SubRecord.SubRecord.{class_dump}
 use Rattle.heap_graph.specs.declared.rule.LinkRule.TheVariants.{DuplicateObject, ZeroObject}
 use Rattle.heap_graph.specs.Heap.{as_class, class_named, number_named, objects}
 use Rattle.heap_graph.specs.Linked.{IsLinked}
-use Rattle.heap_graph.specs.working.ClassTable.{AddsEntry, AreClasses, AreClassesAmong, Entry, IsEntry, ids_of, own_types}
-use Rattle.heap_graph.specs.working.IdPlaces.{id_places}
+use Rattle.heap_graph.specs.working.ClassTable.{AddsEntry, AreClasses, AreClassesAmong, Entry, IsEntry, ids_of}
 use Rattle.heap_graph.specs.working.PlacedObjects.{AreObjects}
 use Rattle.heap_graph.proofs.ChainLaws.{some_inj, some_none}
 use Rattle.heap_graph.proofs.EntryLaws.{take_one}
@@ -62,9 +62,11 @@ below_next k n h = ⊎_elim (λ e. inr e) (⊎_elim (λ l. inl l) (λ l. absurd 
 
 -- ---- an object that is no class, or that its identifier does not name
 
-pub among_skip : (v : Sight) (heap : List SubRecord) (n : ℕ) (entries : List Entry) (places : List ℕ) (o : SubRecord) → AreClassesAmong v heap n entries places → slice_get (objects heap) n ≡ Some o
-    → ((id : ℕ) (c : Class) → class_named heap id ≡ Some c → number_named heap id ≡ Some n → ⊥) → (IsLinked v.id_size heap → as_class o ≡ None) → AreClassesAmong v heap (n + 1) entries places
-among_skip v heap n entries places o among is none no_class = record {
+pub among_skip : (v : Sight) (heap : List SubRecord) (n : ℕ) (entries : List Entry) (o : SubRecord)
+    → AreClassesAmong v heap n entries → slice_get (objects heap) n ≡ Some o
+    → ((id : ℕ) (c : Class) → class_named heap id ≡ Some c → number_named heap id ≡ Some n → ⊥)
+    → (IsLinked v.id_size heap → as_class o ≡ None) → AreClassesAmong v heap (n + 1) entries
+among_skip v heap n entries o among is none no_class = record {
   each = among.each;
   complete = λ id number c named at h. ⊎_elim (λ l. among.complete id number c named at l) (λ e. absurd (none id c named (at ∙ ap (λ (k : ℕ). Some k) e))) (below_next number n h);
   only = λ id c. let it = among.only id c in (it.0, it.1, omega (arith, it.2));
@@ -105,49 +107,24 @@ repeated_linked v places ids heap n o are is again linked = linked n DuplicateOb
 
 -- ---- a class is added
 
-kept_places : (all more : List ℕ) (a b : ℕ) → a ≤ b → b ≤ length all → slice_range (all ++ more) a b ≡ slice_range all a b
-kept_places all more a b h k =
-    ap (λ (xs : List ℕ). take (b - a) xs) (drop-append-le a all more (omega (arith, h, k)))
-    ∙ take-append-le (b - a) (drop a all) more (omega (arith, length-drop a all, h, k))
-
-last_places : (all more : List ℕ) (a b : ℕ) → a ≡ length all → b ≡ length (all ++ more) → slice_range (all ++ more) a b ≡ more
-last_places all more a b e f =
-    let size : b - a ≡ length more = omega (arith, e, f, length-append all more) in
-    ap (λ (n : ℕ). take n (drop a (all ++ more))) size ∙ ap (λ (n : ℕ). take (length more) (drop n (all ++ more))) e ∙ ap (λ (xs : List ℕ). take (length more) xs) (drop-append_seam all more) ∙ take-length more
-
-old_entry : (v : Sight) (heap : List SubRecord) (places more : List ℕ) (e : Entry) → IsEntry v heap places e → IsEntry v heap (places ++ more) e
-old_entry v heap places more e is = record {
-  class = is.class;
-  named = is.named;
-  stands = is.stands;
-  rising = is.rising;
-  within = omega (arith, is.within, length-append places more);
-  places_are = kept_places places more e.1.start e.1.end is.rising is.within ∙ is.places_are;
-  size_is = is.size_is;
-  few_bytes = is.few_bytes;
-}
-
 pub each_more : (v : Sight) (heap : List SubRecord) (entries : List Entry) (P : Entry → Type 0) (new : Entry) → ((k : ℕ) (e : Entry) → slice_get entries k ≡ Some e → P e) → P new → (k : ℕ) (e : Entry) → slice_get (entries ++ new ∷ []) k ≡ Some e → P e
 each_more v heap [] P new each last zero e is = subst (λ (x : Entry). P x) (some_inj is) last
 each_more v heap [] P new each last (suc k) e is = absurd (some_none (sym is))
 each_more v heap (x ∷ xs) P new each last zero e is = each zero e is
 each_more v heap (x ∷ xs) P new each last (suc k) e is = each_more v heap xs P new (λ j y h. each (suc j) y h) last k e is
 
-pub among_more : (v : Sight) (heap : List SubRecord) (n id place : ℕ) (old new : List Entry) (old_places places : List ℕ) (c : Class) → AreClassesAmong v heap n old old_places → slice_get (objects heap) n ≡ Some (class_dump c) → c.object ≡ id → number_named heap id ≡ Some n → class_named heap id ≡ Some c → Stands v place (class_dump c)
-    → AddsEntry v.id_size c id place old old_places new places → AreClassesAmong v heap (n + 1) new places
-among_more v heap n id place old new old_places places c among is id_is at named stands adds =
-    let more : List ℕ = id_places v.id_size 0 (own_types c) in
-    subst (λ (es : List Entry). AreClassesAmong v heap (n + 1) es places) (sym adds.entries_are)
-    (subst (λ (ps : List ℕ). AreClassesAmong v heap (n + 1) (old ++ (id, adds.entry) ∷ []) ps) (sym adds.places_are)
+pub among_more : (v : Sight) (heap : List SubRecord) (n id place : ℕ) (old new : List Entry) (c : Class)
+    → AreClassesAmong v heap n old → slice_get (objects heap) n ≡ Some (class_dump c) → c.object ≡ id
+    → number_named heap id ≡ Some n → class_named heap id ≡ Some c → Stands v place (class_dump c)
+    → AddsEntry v.id_size c id place old new → AreClassesAmong v heap (n + 1) new
+among_more v heap n id place old new c among is id_is at named stands adds =
+    subst (λ (es : List Entry). AreClassesAmong v heap (n + 1) es) (sym adds.entries_are)
     (record {
-      each = each_more v heap old (λ e. IsEntry v heap (old_places ++ more) e) (id, adds.entry) (λ k e h. old_entry v heap old_places more e (among.each k e h))
+      each = each_more v heap old (λ e. IsEntry v heap e) (id, adds.entry) among.each
           (record {
             class = c;
             named = named;
             stands = subst (λ (p : ℕ). Stands v p (class_dump c)) (sym adds.place_is) stands;
-            rising = omega (arith, adds.start_is, adds.end_is, ap length adds.places_are, length-append old_places more);
-            within = omega (arith, adds.end_is, ap length adds.places_are);
-            places_are = last_places old_places more adds.entry.start adds.entry.end adds.start_is (adds.end_is ∙ ap length adds.places_are);
             size_is = adds.size_is;
             few_bytes = adds.few_bytes;
           });
@@ -167,7 +144,7 @@ among_more v heap n id place old new old_places places c among is id_is at named
           ∙ ap (λ (cs : List Class). map (λ (d : Class). d.object) cs) (filter_map-append as_class (take n (objects heap)) (class_dump c ∷ []))
           ∙ map-append (λ (d : Class). d.object) (filter_map as_class (take n (objects heap))) (c ∷ []));
       few = omega (arith, among.few, length-append old ((id, adds.entry) ∷ []));
-    }))
+    })
   where
     ids_more : (es : List Entry) (e : Entry) → ids_of (es ++ e ∷ []) ≡ ids_of es ++ e.0 ∷ []
     ids_more [] e = refl
@@ -182,8 +159,9 @@ bearer_there heap id c named = at (number_named heap id) refl
     at None e = absurd (some_none (sym named ∙ class_is heap id None (not_0 heap id c named) e))
     at (Some n) e = (n, e, (position_hit (λ x. id_of x == id) (objects heap) n e).below)
 
-pub among_all : (v : Sight) (heap : List SubRecord) (n : ℕ) (entries : List Entry) (places : List ℕ) → 1 ≤ v.id_size → AreClassesAmong v heap n entries places → length (objects heap) ≤ n → AreClasses v heap entries places
-among_all v heap n entries places low among all = record {
+pub among_all : (v : Sight) (heap : List SubRecord) (n : ℕ) (entries : List Entry) → 1 ≤ v.id_size
+    → AreClassesAmong v heap n entries → length (objects heap) ≤ n → AreClasses v heap entries
+among_all v heap n entries low among all = record {
   low = low;
   each = among.each;
   complete = λ id c named. let it = bearer_there heap id c named in among.complete id it.0 c named it.1 (omega (arith, it.2, all));

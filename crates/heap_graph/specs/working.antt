@@ -14,6 +14,7 @@ pub mod Chains
 pub mod ToldClasses
 pub mod TypedFields
 pub mod IdPlaces
+pub mod ClassPlans
 pub mod FieldsUp
 pub mod Rests
 pub mod CountedIds

@@ -12,13 +12,10 @@ use hprof_grammar::View;
 use std::alloc::Allocator;
 use table::ClassTable;
 
-/// What is kept of a class: the place of its dump, where the places of its fields of type 2 stand, and how many bytes
-/// the values of all fields have that it declares.
+/// What is kept of a class: the place of its dump, and how many bytes the values of all fields have that it declares.
 #[derive(Clone, Copy)]
-pub(crate) struct ClassPlaces {
+pub(crate) struct ClassPlace {
     pub(crate) place: u32,
-    pub(crate) start: usize,
-    pub(crate) end: usize,
     pub(crate) size: u64,
 }
 
@@ -27,7 +24,4 @@ pub(crate) struct ClassPlaces {
 pub(crate) struct Classes<'d, A: Allocator> {
     pub(crate) view: View<'d>,
     pub(crate) table: ClassTable<A>,
-    /// The places of the fields of type 2 that the classes declare, one class after the other. A field's place is how
-    /// many bytes the values of the class's fields before it have.
-    pub(crate) id_places: Vec<u32, A>,
 }

@@ -11,6 +11,7 @@ ghost use Rattle.heap_graph.specs.working.OnlyGraph.{GraphOf, GraphOf-prop};
 
 use crate::entry::ClassEntry;
 use crate::objects::Objects;
+use crate::plan::Plan;
 use crate::row::RowKey;
 use crate::successors::Successors;
 use crate::visit::Visit;
@@ -22,6 +23,7 @@ use std::marker::Model;
 #[derive(Drop)]
 pub struct Graph<'a, A: Allocator> {
     objects: Objects<'a, A>,
+    plan: Plan<A>,
     roots: Vec<u32, A>,
     classes: Vec<ClassEntry<'a>, A>,
     /// How many identifiers of roots name no object.
@@ -38,7 +40,7 @@ impl<'a, A: Allocator> Model for Graph<'a, A> {
 
     ghost view = { λ g. g.graph.0 };
 
-    ghost invariant = { λ g. StandFor g.objects g.roots.items g.classes.items g.missing g.graph.0 };
+    ghost invariant = { λ g. StandFor g.objects g.plan g.roots.items g.classes.items g.missing g.graph.0 };
 }
 
 impl<'a, A: Allocator> Graph<'a, A> {
@@ -66,7 +68,8 @@ impl<'a, A: Allocator> Graph<'a, A> {
         ensures steps { result ≡ map (step_in self.now.ids) (held_by self.now object) }
         ensures within { All (λ o. o < object_count self.now) (references_of self.now object) }
     {
-        Successors::new(&self.objects.index, self.objects.ids_of(object as usize))
+        let ids = self.objects.ids_of(&self.plan, object as usize);
+        Successors::new(&self.objects.index, ids)
     }
 
     /// The row and the bytes of an object, and the objects that it refers to, in order, repeats kept. They are found as
@@ -82,7 +85,7 @@ impl<'a, A: Allocator> Graph<'a, A> {
         ensures within { All (λ o. o < object_count self.now) (references_of self.now object) }
         ensures missing { result.missing + missing_in result.left ≡ missing_at self.now object }
     {
-        let (row, bytes, ids) = self.objects.scan(object as usize);
+        let (row, bytes, ids) = self.objects.scan(&self.plan, object as usize);
         Visit::new(&self.objects.index, ids, row, bytes)
     }
 
@@ -110,7 +113,7 @@ impl<'a, A: Allocator> Graph<'a, A> {
         ensures value { result ≡ missing_at self.now object }
         ensures within { result ≤ 2 ^ 33 }
     {
-        self.objects.unresolved_of(object as usize)
+        self.objects.unresolved_of(&self.plan, object as usize)
     }
 
     /// How many identifiers of roots are other than 0 and name no object.

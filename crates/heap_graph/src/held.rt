@@ -7,6 +7,7 @@ pub(crate) use self::class_ids::ClassIds;
 pub(crate) use self::field_ids::FieldIds;
 use crate::classes::Fate;
 use crate::objects::Objects;
+use crate::plan::Plan;
 use hprof_grammar::{Ids, ObjectKind};
 use std::alloc::Allocator;
 use std::marker::Model;
@@ -91,6 +92,7 @@ impl<'d, A: Allocator> Objects<'d, A> {
     ghost use Rattle.hprof_grammar.specs.SubRecord.SubRecord.{class_dump, instance_dump, object_array_dump};
     ghost use Rattle.hprof_grammar.specs.Standing.{Stands};
     ghost use Rattle.heap_graph.specs.Heap.{class_number};
+    ghost use Rattle.heap_graph.specs.working.ClassPlans.{IsPlanOf};
     ghost use Rattle.heap_graph.specs.working.ClassTable.{ids_of};
     ghost use Rattle.heap_graph.specs.working.HeldIds.{AreIdsOf, AreIdsOfNumber, AreLinkedOf, IsObjectAt};
     ghost use Rattle.heap_graph.specs.working.HeldIds.{IsFirstOfInstance};
@@ -131,19 +133,26 @@ impl<'d, A: Allocator> Objects<'d, A> {
     }
 
     /// The identifiers that an instance holds: its class, and then its fields, of a layout that begins at that class.
-    pub(crate) fn ids_of_instance(&self, at: u32, first: Option<u32>) -> HeldIds<'_, A>
+    pub(crate) fn ids_of_instance<'g>(
+        &'g self,
+        plan: &'g Plan<A>,
+        at: u32,
+        first: Option<u32>,
+    ) -> HeldIds<'g, A>
         requires { (heap : List SubRecord) × (n : ℕ) × (i : Instance) × AreLinkedOf self.now heap
-            × AreToldOf self.now heap × IsObjectAt self.now.view heap n at (instance_dump i)
+            × AreToldOf self.now heap × IsPlanOf self.now heap plan.now
+            × IsObjectAt self.now.view heap n at (instance_dump i)
             × IsFirstOfInstance self.now.view.id_size heap (ids_of self.now.classes.table.entries) i first }
         ensures { (heap : List SubRecord) (n : ℕ) (i : Instance) → AreLinkedOf self.now heap
-            → AreToldOf self.now heap → IsObjectAt self.now.view heap n at (instance_dump i)
+            → AreToldOf self.now heap → IsPlanOf self.now heap plan.now
+            → IsObjectAt self.now.view heap n at (instance_dump i)
             → IsFirstOfInstance self.now.view.id_size heap (ids_of self.now.classes.table.entries) i first
             → AreIdsOf self.now.view.id_size heap (instance_dump i) result }
     {
         let values = self.view.instance_values(at);
         HeldIds {
             class: Some(self.view.instance_class(at)),
-            rest: Rest::Fields(FieldIds::new(self, first, values)),
+            rest: Rest::Fields(FieldIds::new(self, plan, first, values)),
         }
     }
 
@@ -160,16 +169,19 @@ impl<'d, A: Allocator> Objects<'d, A> {
     }
 
     /// The identifiers that an object holds.
-    pub(crate) fn ids_of(&self, number: usize) -> HeldIds<'_, A>
+    pub(crate) fn ids_of<'g>(&'g self, plan: &'g Plan<A>, number: usize) -> HeldIds<'g, A>
         requires below { number < length self.now.places.items }
-        requires heap { (heap : List SubRecord) × AreLinkedOf self.now heap × AreToldOf self.now heap }
+        requires heap { (heap : List SubRecord) × AreLinkedOf self.now heap × AreToldOf self.now heap
+            × IsPlanOf self.now heap plan.now }
         ensures { (heap : List SubRecord) → AreLinkedOf self.now heap → AreToldOf self.now heap
-            → AreIdsOfNumber self.now.view.id_size heap number result }
+            → IsPlanOf self.now heap plan.now → AreIdsOfNumber self.now.view.id_size heap number result }
     {
         let place = self.places[number];
         match self.view.kind(place) {
             ObjectKind::Class => return self.ids_of_class(place),
-            ObjectKind::Instance => return self.ids_of_instance(place, self.class_of(place).1),
+            ObjectKind::Instance => {
+                return self.ids_of_instance(plan, place, self.class_of(place).1);
+            }
             ObjectKind::ObjectArray => return self.ids_of_array(place),
             ObjectKind::PrimitiveArray => {
                 return HeldIds {

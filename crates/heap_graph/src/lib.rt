@@ -9,6 +9,7 @@ mod index;
 mod laws;
 mod names;
 mod objects;
+mod plan;
 mod refusal;
 mod row;
 mod rule;

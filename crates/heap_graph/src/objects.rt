@@ -2,6 +2,7 @@
 
 mod check;
 mod classes;
+mod plan;
 mod rows;
 mod scan;
 pub(crate) mod table;

@@ -1,10 +1,10 @@
 -- Classes in a list, and their identifiers spread over 64 bits.
 use Rattle.std.specs.Prelude.{All, List, map, ℕ, ◌%◌, ◌*◌, ◌<◌, ◌^◌, ◌≡◌}
-use Rattle.heap_graph.specs.declared.classes.ClassPlaces.{ClassPlaces}
+use Rattle.heap_graph.specs.declared.classes.ClassPlace.{ClassPlace}
 
 -- a class: its identifier, and what is kept of it
 abbrev pub Entry : Type 0
-Entry = ℕ × ClassPlaces
+Entry = ℕ × ClassPlace
 
 abbrev pub ids_of : List Entry → List ℕ
 ids_of entries = map (λ e. e.0) entries

@@ -5,7 +5,8 @@ use Rattle.std.proofs.Common.{refl, subst, sym, ◌∙◌}
 use Rattle.std.proofs.Math.Path.{Σ_path, to_path_p}
 use Rattle.heap_graph.specs.declared.classes.fate.Fate.{Fate}
 use Rattle.heap_graph.specs.declared.classes.fate.Fate.TheVariants as fates
-use Rattle.heap_graph.specs.working.ClassTable.{Entry, HasIdPlaces, entry_at, id_places_of}
+use Rattle.heap_graph.specs.declared.plan.ClassPlan.{ClassPlan}
+use Rattle.heap_graph.specs.working.ClassPlans.{HasIdPlaces, id_places_of, plan_at}
 use Rattle.heap_graph.specs.working.IdPlaces.{ids_at}
 
 abbrev pub next_in : Fate → Option ℕ
@@ -52,11 +53,11 @@ Up-prop known first = λ x y.
     Σ_path same (to_path_p (λ i. AreUp known first (same i)) (AreUp-prop known first y.0 _ y.1))
 
 -- the identifiers in the fields that these classes declare, whose values stand one class after the other
-abbrev pub ids_up : ℕ → List Entry → List ℕ → List ℕ → List ℕ → List ℕ
-ids_up s entries places [] values = []
-ids_up s entries places (k ∷ ks) values =
-    ids_at s (id_places_of entries places k) values
-    ++ ids_up s entries places ks (drop (entry_at entries k).size values)
+abbrev pub ids_up : ℕ → List ClassPlan → List ℕ → List ℕ → List ℕ → List ℕ
+ids_up s plans places [] values = []
+ids_up s plans places (k ∷ ks) values =
+    ids_at s (id_places_of plans places k) values
+    ++ ids_up s plans places ks (drop (plan_at plans k).size values)
 
 -- identifiers at these places stand among the first bytes of the values, no more of them than bytes
 pub record StandInside (s : ℕ) (places : List ℕ) (size : ℕ) (values : List ℕ) : Type 0 where
@@ -65,15 +66,15 @@ pub record StandInside (s : ℕ) (places : List ℕ) (size : ℕ) (values : List
   pub room : size ≤ length values
 
 -- the class is there, and the values have room for its fields
-pub record HasFields (s : ℕ) (entries : List Entry) (places : List ℕ) (known : List Fate) (values : List ℕ)
+pub record HasFields (s : ℕ) (plans : List ClassPlan) (places : List ℕ) (known : List Fate) (values : List ℕ)
     (k : ℕ) : Type 0 where
-  pub below : k < length entries
+  pub below : k < length plans
   pub has_fate : k < length known
-  pub has : HasIdPlaces entries places k
-  pub stand : StandInside s (id_places_of entries places k) (entry_at entries k).size values
+  pub has : HasIdPlaces plans places k
+  pub stand : StandInside s (id_places_of plans places k) (plan_at plans k).size values
 
 -- so are those above it
-abbrev pub HaveFields : ℕ → List Entry → List ℕ → List Fate → List ℕ → List ℕ → Type 0
-HaveFields s entries places known [] values = Unit {0}
-HaveFields s entries places known (k ∷ ks) values = HasFields s entries places known values k
-    × HaveFields s entries places known ks (drop (entry_at entries k).size values)
+abbrev pub HaveFields : ℕ → List ClassPlan → List ℕ → List Fate → List ℕ → List ℕ → Type 0
+HaveFields s plans places known [] values = Unit {0}
+HaveFields s plans places known (k ∷ ks) values = HasFields s plans places known values k
+    × HaveFields s plans places known ks (drop (plan_at plans k).size values)

@@ -1,5 +1,5 @@
 -- What is told of the classes of a dump: their table and their fates.
-use Rattle.std.specs.Prelude.{List, length, ℕ, ◌<◌, ◌^◌}
+use Rattle.std.specs.Prelude.{List, length, ◌<◌, ◌^◌}
 use Rattle.hprof_grammar.specs.Standing.{Sight}
 use Rattle.hprof_grammar.specs.SubRecord.{SubRecord}
 use Rattle.heap_graph.specs.declared.classes.fate.Fate.{Fate}
@@ -7,11 +7,10 @@ use Rattle.heap_graph.specs.declared.objects.Objects.{Objects}
 use Rattle.heap_graph.specs.working.Chains.{AreSettled}
 use Rattle.heap_graph.specs.working.ClassTable.{AreClasses, Entry, ids_of}
 
-pub record AreTold (v : Sight) (heap : List SubRecord) (entries : List Entry) (places : List ℕ)
-    (fates : List Fate) : Type 0 where
-  pub classes : AreClasses v heap entries places
+pub record AreTold (v : Sight) (heap : List SubRecord) (entries : List Entry) (fates : List Fate) : Type 0 where
+  pub classes : AreClasses v heap entries
   pub settled : AreSettled v.id_size heap (ids_of entries) fates
   pub few : length entries < 2 ^ 32
 
 abbrev pub AreToldOf : {A : Type 0} → Objects A → List SubRecord → Type 0
-AreToldOf o heap = AreTold o.view heap o.classes.table.entries o.classes.id_places.items o.fates.items
+AreToldOf o heap = AreTold o.view heap o.classes.table.entries o.fates.items

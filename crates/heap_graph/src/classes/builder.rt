@@ -1,45 +1,34 @@
 //! How the table of classes is filled.
 
-ghost use Rattle.std.specs.Prelude.{IfOk, OnOk, [], length, map, ◌++◌, ◌<◌, ◌^◌, ◌≡◌};
-ghost use Rattle.heap_graph.specs.working.IdPlaces.{id_places, size_together};
+ghost use Rattle.std.specs.Prelude.{IfOk, OnOk, [], length, map, ◌<◌, ◌^◌, ◌≡◌};
+ghost use Rattle.heap_graph.specs.working.IdPlaces.{size_together};
 ghost use Rattle.hprof_grammar.specs.Standing.{Stands};
 ghost use Rattle.hprof_grammar.specs.SubRecord.{Class};
 ghost use Rattle.hprof_grammar.specs.SubRecord.SubRecord.{class_dump};
 
 use crate::classes::table::ClassTable;
-use crate::classes::{ClassPlaces, Classes};
-use crate::types::OBJECT_TYPE;
+use crate::classes::{ClassPlace, Classes};
 use hprof_grammar::{Members, View};
 use std::alloc::{AllocError, Allocator};
 
-/// The classes that were met so far, with their identifiers and the places of their fields of type 2.
+/// The classes that were met so far, with their identifiers.
 #[derive(Drop)]
 pub(crate) struct ClassesBuilder<'d, A: Allocator> {
     pub(crate) view: View<'d>,
-    pub(crate) entries: Vec<(u64, ClassPlaces), A>,
-    pub(crate) id_places: Vec<u32, A>,
+    pub(crate) entries: Vec<(u64, ClassPlace), A>,
 }
 
-/// Appends the places of the fields of type 2 among these, and answers how many bytes the values of all have.
-fn push_id_places<A: Allocator>(
-    view: &View<'_>,
-    members: Members<'_>,
-    places: &mut Vec<u32, A>,
-) -> Result<u64, AllocError>
+/// How many bytes the values of these fields have together.
+fn bytes_of_fields(view: &View<'_>, members: Members<'_>) -> u64
     requires { length members < 2 ^ 16 }
-    ensures places { OnOk result (places.new.items
-        ≡ places.old.items ++ id_places view.now.id_size 0 (map (λ m. m.type) members.entry)) }
-    ensures size { IfOk result (λ size. size ≡ size_together view.now.id_size (map (λ m. m.type) members.entry)) }
-    ensures few { IfOk result (λ size. size < 2 ^ 32) }
+    ensures value { result ≡ size_together view.now.id_size (map (λ m. m.type) members.entry) }
+    ensures few { result < 2 ^ 32 }
 {
-    let mut size = 0;
+    let mut bytes = 0;
     for member in members {
-        if member.type_code == OBJECT_TYPE {
-            places.push(size)?;
-        }
-        size += u32::from(view.size_of(member.type_code));
+        bytes += u64::from(view.size_of(member.type_code));
     }
-    Ok(u64::from(size))
+    bytes
 }
 
 impl<'d, A: Allocator + Copy> ClassesBuilder<'d, A> {
@@ -47,12 +36,10 @@ impl<'d, A: Allocator + Copy> ClassesBuilder<'d, A> {
     pub(crate) fn new(alloc: A, view: View<'d>) -> Self
         ensures view { result.view ≡ view.entry }
         ensures entries { result.entries.items ≡ [] }
-        ensures places { result.id_places.items ≡ [] }
     {
         ClassesBuilder {
             view,
             entries: Vec::new(alloc),
-            id_places: Vec::new(alloc),
         }
     }
 
@@ -61,13 +48,11 @@ impl<'d, A: Allocator + Copy> ClassesBuilder<'d, A> {
         requires { length self.entries.items < 2 ^ 32 }
         ensures view { IfOk result (λ classes. classes.view ≡ self.entry.view) }
         ensures entries { IfOk result (λ classes. classes.table.entries ≡ self.entry.entries.items) }
-        ensures places { IfOk result (λ classes. classes.id_places.items ≡ self.entry.id_places.items) }
     {
         let table = ClassTable::of(alloc, self.entries)?;
         Ok(Classes {
             view: self.view,
             table,
-            id_places: self.id_places,
         })
     }
 }
@@ -80,20 +65,11 @@ impl<'d, A: Allocator> ClassesBuilder<'d, A> {
         requires { (c : Class) × Stands self.old.view place (class_dump c) }
         ensures view { OnOk result (self.new.view ≡ self.old.view) }
         ensures added { OnOk result ((c : Class) → Stands self.old.view place (class_dump c)
-            → AddsEntry self.old.view.id_size c id place self.old.entries.items self.old.id_places.items
-            self.new.entries.items self.new.id_places.items) }
+            → AddsEntry self.old.view.id_size c id place self.old.entries.items self.new.entries.items) }
     {
-        let start = self.id_places.len();
         let members = self.view.members(place);
-        let size = push_id_places(&self.view, members, &mut self.id_places)?;
-        let end = self.id_places.len();
-        let places = ClassPlaces {
-            place,
-            start,
-            end,
-            size,
-        };
-        self.entries.push((id, places))?;
+        let size = bytes_of_fields(&self.view, members);
+        self.entries.push((id, ClassPlace { place, size }))?;
         Ok(())
     }
 }

@@ -10,18 +10,8 @@ use std::alloc::Allocator;
 const MOST_SIZE: u64 = 4_294_967_296;
 
 impl<'d, A: Allocator> Classes<'d, A> {
-    ghost use Rattle.heap_graph.specs.working.ClassTable.{AreClassesOf, HasIdPlaces, id_places_of, ids_of};
+    ghost use Rattle.heap_graph.specs.working.ClassTable.{AreClassesOf, ids_of};
     ghost use Rattle.heap_graph.specs.working.Chains.{IsChainAtOf, IsFateOf, IsFirstOf, IsLayoutAtOf, IsSettled, IsUnderOf};
-
-    /// The places of the fields of type 2 that a class declares.
-    pub(crate) fn id_places(&self, number: u32) -> &[u32]
-        requires below { number < length self.now.table.entries }
-        requires within { HasIdPlaces self.now.table.entries self.now.id_places.items number }
-        ensures { result.now ≡ id_places_of self.now.table.entries self.now.id_places.items number }
-    {
-        let entry = self.entry(number);
-        &self.id_places[entry.start..entry.end]
-    }
 
     /// The first class that declares fields, of a class with such fields and those above it.
     fn first_of(&self, number: u32, above: Option<u32>) -> Option<u32>

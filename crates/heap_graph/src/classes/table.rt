@@ -4,7 +4,7 @@ ghost use Rattle.std.specs.Prelude.{IfOk, Some, length, position, slice_get, sli
 ghost use Rattle.heap_graph.specs.working.ClassList.{Entry, ids_of};
 ghost use Rattle.heap_graph.specs.working.ClassList as list;
 
-use crate::classes::{ClassPlaces, Classes};
+use crate::classes::{ClassPlace, Classes};
 use crate::index::{Index, IndexBuilder};
 use std::alloc::{AllocError, Allocator};
 use std::marker::Model;
@@ -23,7 +23,7 @@ fn spread(id: u64) -> u64
 /// spread over 64 bits that are indexed: few of them are in one bucket of the index.
 #[derive(Drop)]
 pub(crate) struct ClassTable<A: Allocator> {
-    entries: Vec<(u64, ClassPlaces), A>,
+    entries: Vec<(u64, ClassPlace), A>,
     /// The identifiers, spread.
     index: Index<A>,
 }
@@ -40,7 +40,7 @@ impl<A: Allocator> Model for ClassTable<A> {
 
 impl<A: Allocator + Copy> ClassTable<A> {
     /// The table of these classes.
-    pub(crate) fn of(alloc: A, entries: Vec<(u64, ClassPlaces), A>) -> Result<Self, AllocError>
+    pub(crate) fn of(alloc: A, entries: Vec<(u64, ClassPlace), A>) -> Result<Self, AllocError>
         requires { length entries.items < 2 ^ 32 }
         ensures { IfOk result (λ table. table.entries ≡ entries.items) }
     {
@@ -70,7 +70,7 @@ impl<A: Allocator> ClassTable<A> {
     }
 
     /// The class of that number.
-    fn get(&self, number: u32) -> (u64, ClassPlaces)
+    fn get(&self, number: u32) -> (u64, ClassPlace)
         requires { number < length self.now.entries }
         ensures { (e : Entry) → slice_get self.now.entries number ≡ Some e → result ≡ e }
     {
@@ -96,7 +96,7 @@ impl<'d, A: Allocator> Classes<'d, A> {
     }
 
     /// What is kept of the class of that number.
-    pub(crate) fn entry(&self, number: u32) -> ClassPlaces
+    pub(crate) fn entry(&self, number: u32) -> ClassPlace
         requires { number < length self.now.table.entries }
         ensures { (e : Entry) → slice_get self.now.table.entries number ≡ Some e → result ≡ e.1 }
     {

@@ -78,12 +78,14 @@ impl<'a, A: Allocator + Copy> Graph<'a, A> {
         ensures { IfOk result (λ g. IsGraphOfText objects.entry.view.bytes g) }
     {
         stands_within();
+        let plan = objects.plan(alloc)?;
         let classes = objects.classes(alloc, names)?;
         let root_ids = read_ids(alloc, &objects.view, root_places)?;
         let mut roots = Vec::new(alloc);
         let missing = objects.index.resolve(&root_ids, &mut roots)?;
         Ok(Graph {
             objects,
+            plan,
             roots,
             classes,
             missing,

@@ -4,6 +4,7 @@ ghost use Rattle.heap_graph.specs.working.FieldsUp.{Up, Up-prop};
 
 use crate::classes::Fate;
 use crate::objects::Objects;
+use crate::plan::Plan;
 use std::alloc::Allocator;
 use std::marker::Model;
 
@@ -12,6 +13,7 @@ use std::marker::Model;
 #[derive(Drop)]
 pub(crate) struct FieldIds<'g, A: Allocator> {
     objects: &'g Objects<'g, A>,
+    plan: &'g Plan<A>,
     /// Where those of the class stand in the values.
     places: &'g [u32],
     /// The values of the fields of the class, and of the classes above it.
@@ -32,13 +34,13 @@ impl<'g, A: Allocator> Model for FieldIds<'g, A> {
     ghost Value = { List ℕ };
 
     ghost view = { λ f. ids_at f.objects.now.view.id_size f.places.now f.values.now
-        ++ ids_up f.objects.now.view.id_size f.objects.now.classes.table.entries f.objects.now.classes.id_places.items
+        ++ ids_up f.objects.now.view.id_size f.plan.now.classes.items f.plan.now.places.items
         f.up.0 (drop f.own f.values.now) };
 
     ghost invariant = { λ f. record {
       stand : StandInside f.objects.now.view.id_size f.places.now f.own f.values.now;
-      above : HaveFields f.objects.now.view.id_size f.objects.now.classes.table.entries
-          f.objects.now.classes.id_places.items f.objects.now.fates.items f.up.0 (drop f.own f.values.now);
+      above : HaveFields f.objects.now.view.id_size f.plan.now.classes.items f.plan.now.places.items
+          f.objects.now.fates.items f.up.0 (drop f.own f.values.now);
     } };
 }
 
@@ -61,21 +63,28 @@ impl<'d, A: Allocator> Objects<'d, A> {
 impl<'g, A: Allocator> FieldIds<'g, A> {
     ghost use Rattle.std.specs.Prelude.{List, length, ◌≡◌, ◌≤◌, ℕ};
     ghost use Rattle.hprof_grammar.specs.SubRecord.{SubRecord};
+    ghost use Rattle.heap_graph.specs.working.ClassPlans.{IsPlanOf};
     ghost use Rattle.heap_graph.specs.working.HeldIds.{IsLayoutFrom};
     ghost use Rattle.heap_graph.specs.working.ToldClasses.{AreToldOf};
     ghost use Rattle.heap_graph.specs.working.TypedFields.{typed_ids};
 
     /// Those of a layout, of an instance with these values. `first` is the first class with fields of that layout.
-    pub(crate) fn new(objects: &'g Objects<'g, A>, first: Option<u32>, values: &'g [u8]) -> Self
+    pub(crate) fn new(
+        objects: &'g Objects<'g, A>,
+        plan: &'g Plan<A>,
+        first: Option<u32>,
+        values: &'g [u8],
+    ) -> Self
         requires size { 1 ≤ objects.now.view.id_size }
         requires heap { (heap : List SubRecord) × (types : List ℕ) × AreToldOf objects.now heap
-            × IsLayoutFrom objects.now heap types first values.now }
+            × IsPlanOf objects.now heap plan.now × IsLayoutFrom objects.now heap types first values.now }
         ensures { (heap : List SubRecord) (types : List ℕ) → AreToldOf objects.now heap
-            → IsLayoutFrom objects.now heap types first values.now
+            → IsPlanOf objects.now heap plan.now → IsLayoutFrom objects.now heap types first values.now
             → result ≡ typed_ids objects.now.view.id_size types values.now }
     {
         FieldIds {
             objects,
+            plan,
             places: &[],
             values,
             own: 0,
@@ -90,7 +99,7 @@ impl<'g, A: Allocator> FieldIds<'g, A> {
         let mut ids = self.places.len();
         let mut above = self.next;
         while let Some(number) = above {
-            ids += self.objects.classes.id_places(number).len();
+            ids += self.plan.id_places(number).len();
             above = self.objects.next_of(number);
         }
         ids as u64
@@ -119,8 +128,8 @@ impl<'g, A: Allocator> Iterator for FieldIds<'g, A> {
             let number = self.next?;
             let (_, above) = self.values.split_at(self.own);
             self.values = above;
-            self.own = self.objects.classes.entry(number).size as usize;
-            self.places = self.objects.classes.id_places(number);
+            self.own = self.plan.bytes_of(number) as usize;
+            self.places = self.plan.id_places(number);
             self.next = self.objects.next_of(number);
         }
     }

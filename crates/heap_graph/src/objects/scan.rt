@@ -7,25 +7,32 @@ ghost use Rattle.heap_graph.specs.Rows as rows;
 
 use crate::held::HeldIds;
 use crate::objects::Objects;
+use crate::plan::Plan;
 use crate::row::RowKey;
 use hprof_grammar::ObjectKind;
 use std::alloc::Allocator;
 
 impl<'d, A: Allocator> Objects<'d, A> {
+    ghost use Rattle.heap_graph.specs.working.ClassPlans.{IsPlanOf};
     ghost use Rattle.heap_graph.specs.working.HeldIds.{AreIdsOfNumber, AreLinkedOf};
     ghost use Rattle.heap_graph.specs.working.PlacedObjects.{AreOf};
     ghost use Rattle.heap_graph.specs.working.ToldClasses.{AreToldOf};
 
     /// The row and the bytes of an object, and the identifiers that it holds. Its class is looked up once.
-    pub(crate) fn scan(&self, number: usize) -> (RowKey, u64, HeldIds<'_, A>)
+    pub(crate) fn scan<'g>(
+        &'g self,
+        plan: &'g Plan<A>,
+        number: usize,
+    ) -> (RowKey, u64, HeldIds<'g, A>)
         requires below { number < length self.now.places.items }
-        requires heap { (heap : List SubRecord) × AreLinkedOf self.now heap × AreToldOf self.now heap }
+        requires heap { (heap : List SubRecord) × AreLinkedOf self.now heap × AreToldOf self.now heap
+            × IsPlanOf self.now heap plan.now }
         ensures row { (heap : List SubRecord) (o : SubRecord) → AreLinkedOf self.now heap → AreToldOf self.now heap
             → slice_get (objects heap) number ≡ Some o → result.0 ≡ rows.row_of heap o }
         ensures bytes { (heap : List SubRecord) (o : SubRecord) → AreOf self.now heap
             → slice_get (objects heap) number ≡ Some o → result.1 ≡ rows.bytes_of self.now.view.id_size o }
         ensures ids { (heap : List SubRecord) → AreLinkedOf self.now heap → AreToldOf self.now heap
-            → AreIdsOfNumber self.now.view.id_size heap number result.2 }
+            → IsPlanOf self.now heap plan.now → AreIdsOfNumber self.now.view.id_size heap number result.2 }
     {
         let place = self.places[number];
         match self.view.kind(place) {
@@ -35,14 +42,14 @@ impl<'d, A: Allocator> Objects<'d, A> {
                 return (
                     RowKey::Class(class),
                     bytes,
-                    self.ids_of_instance(place, first),
+                    self.ids_of_instance(plan, place, first),
                 );
             }
             _ => {
                 return (
                     self.row_of(number),
                     self.bytes_of(number),
-                    self.ids_of(number),
+                    self.ids_of(plan, number),
                 );
             }
         }

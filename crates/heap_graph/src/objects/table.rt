@@ -19,11 +19,11 @@ fn add_object<A: Allocator, B: Allocator>(
 ) -> Result<(), AllocError>
     requires below { number < length places.now }
     requires heap { (heap : List SubRecord) × AreObjects classes.old.view places.now index.now heap
-        × AreClassesAmong classes.old.view heap number classes.old.entries.items classes.old.id_places.items }
+        × AreClassesAmong classes.old.view heap number classes.old.entries.items }
     ensures view { OnOk result (classes.new.view ≡ classes.old.view) }
     ensures among { OnOk result ((heap : List SubRecord) → AreObjects classes.old.view places.now index.now heap
-        → AreClassesAmong classes.old.view heap number classes.old.entries.items classes.old.id_places.items
-        → AreClassesAmong classes.old.view heap (number + 1) classes.new.entries.items classes.new.id_places.items) }
+        → AreClassesAmong classes.old.view heap number classes.old.entries.items
+        → AreClassesAmong classes.old.view heap (number + 1) classes.new.entries.items) }
 {
     let place = places[number];
     match classes.view.kind(place) {

@@ -14,7 +14,8 @@ up-preserved g c = record {
   stays = λ k it. stay_open c.up.known c.up.at fates.OnPath fates.Unknown (c.up.invariant.climbs c.requires.heap.0 c.requires.heap.1 c.requires.heap.2).unknown (λ h. h) k (c.up.invariant.stays k it);
   climbs = λ heap are start.
       subst (λ (p : List ℕ). IsClimb c.args.self.now.view.id_size heap (ids_of c.args.self.now.table.entries) c.args.first p (set c.up.known c.up.at fates.OnPath) c.in-Up.next) (sym c.in_ok-push.ensures.items)
-      (climb_step c.args.self.now.view heap c.args.self.now.table.entries c.args.self.now.id_places.items c.args.first c.up.path.items c.up.known c.up.at c.in-Up.next are (c.up.invariant.climbs heap are start)
+      (climb_step c.args.self.now.view heap c.args.self.now.table.entries c.args.first c.up.path.items c.up.known
+      c.up.at c.in-Up.next are (c.up.invariant.climbs heap are start)
       (λ super known under path. c.in-Up.ensures heap (c.up.path.items ++ c.up.at ∷ []) super are known under path));
 }
 
@@ -24,5 +25,6 @@ returns-in-End-clause-stays g c = λ k it. stay_open c.up.known c.up.at fates.On
 pub returns-in-End-clause-top : goal.returns-in-End-clause-top
 returns-in-End-clause-top g c = λ heap are start.
     subst (λ (p : List ℕ). AreFates c.args.self.now.view.id_size heap (ids_of c.args.self.now.table.entries) p (set c.up.known c.up.at fates.OnPath) × IsTop c.args.self.now.view.id_size heap (ids_of c.args.self.now.table.entries) p c.in-End.fate × Contains p c.args.first) (sym c.in_ok-push.ensures.items)
-    (climb_end c.args.self.now.view heap c.args.self.now.table.entries c.args.self.now.id_places.items c.args.first c.up.path.items c.up.known c.up.at c.in-End.fate are (c.up.invariant.climbs heap are start)
+    (climb_end c.args.self.now.view heap c.args.self.now.table.entries c.args.first c.up.path.items c.up.known c.up.at
+    c.in-End.fate are (c.up.invariant.climbs heap are start)
     (λ super known under path. c.in-End.ensures heap (c.up.path.items ++ c.up.at ∷ []) super are known under path))

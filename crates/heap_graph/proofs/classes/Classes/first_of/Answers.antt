@@ -1,6 +1,6 @@
 use Rattle.std.proofs.Common.{ap, sym, ◌∙◌}
 use Rattle.heap_graph.specs.working.ClassTable.{ids_of}
-use Rattle.heap_graph.specs.declared.classes.ClassPlaces.{ClassPlaces}
+use Rattle.heap_graph.specs.declared.classes.ClassPlace.{ClassPlace}
 use Rattle.heap_graph.proofs.ClassTableLaws.{no_fields, read_entry, some_fields}
 use Rattle.heap_graph.proofs.LayoutLaws.{first_above, first_here}
 use Rattle.heap_graph.proofs.classes.Classes.first_of.Goals as goal
@@ -8,9 +8,13 @@ use Rattle.heap_graph.proofs.classes.Classes.first_of.Goals as goal
 pub returns-then-entry-eq0 : goal.returns-then-entry-eq0
 returns-then-entry-eq0 g c = λ heap dump rest are at first.
     let is = read_entry c.args.self.now.table.entries c.args.number c.entry.result c.requires.below c.entry.ensures in
-    first_above heap (ids_of c.args.self.now.table.entries) dump rest c.args.above (no_fields c.args.self.now.view heap c.args.self.now.table.entries c.args.self.now.id_places.items c.args.number dump are c.requires.below at.named (ap (λ (p : ClassPlaces). p.size) (sym is) ∙ c.if-entry-eq0.true)) first
+    first_above heap (ids_of c.args.self.now.table.entries) dump rest c.args.above (no_fields c.args.self.now.view heap
+    c.args.self.now.table.entries c.args.number dump are c.requires.below at.named (ap (λ (p : ClassPlace). p.size)
+    (sym is) ∙ c.if-entry-eq0.true)) first
 
 pub returns : goal.returns
 returns g c = λ heap dump rest are at first.
     let is = read_entry c.args.self.now.table.entries c.args.number c.entry.result c.requires.below c.entry.ensures in
-    first_here heap (ids_of c.args.self.now.table.entries) c.args.number dump rest (some_fields c.args.self.now.view heap c.args.self.now.table.entries c.args.self.now.id_places.items c.args.number dump are c.requires.below at.named (λ e. c.if-entry-eq0.false (ap (λ (p : ClassPlaces). p.size) is ∙ e))) at
+    first_here heap (ids_of c.args.self.now.table.entries) c.args.number dump rest (some_fields c.args.self.now.view
+    heap c.args.self.now.table.entries c.args.number dump are c.requires.below at.named
+    (λ e. c.if-entry-eq0.false (ap (λ (p : ClassPlace). p.size) is ∙ e))) at

@@ -13,8 +13,10 @@ returns-in-Missing g c = λ heap path super are known under path_is. (([], c.in-
 
 pub bounds : goal.bounds
 bounds g c =
-    let it = numbered c.args.self.now.view c.requires.heap.0 c.args.self.now.table.entries c.args.self.now.id_places.items c.args.at c.requires.heap.1 c.requires.below in
-    let is = c.in-Class.ensures c.requires.heap.0 it.holds.class.super c.requires.heap.1 (under c.args.self.now.view c.requires.heap.0 c.args.self.now.table.entries c.args.self.now.id_places.items c.args.at it c.requires.below) in
+    let it = numbered c.args.self.now.view c.requires.heap.0 c.args.self.now.table.entries c.args.at c.requires.heap.1
+    c.requires.below in
+    let is = c.in-Class.ensures c.requires.heap.0 it.holds.class.super c.requires.heap.1
+    (under c.args.self.now.view c.requires.heap.0 c.args.self.now.table.entries c.args.at it c.requires.below) in
     omega (arith, is.0, same_count c.args.self.now.table.entries)
 
 pub returns-in-Unknown : goal.returns-in-Unknown

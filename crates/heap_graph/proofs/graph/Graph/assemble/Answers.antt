@@ -31,11 +31,13 @@ invariant_of-result-2 g c =
     c.in_ok-missing.missing c.requires.3.linked.are.ids_are c.new-roots.ensures.items
     (c.deref.ensures.value ∙ c.in_ok-root_ids.ensures (filter is_root heap) c.requires.5) c.in_ok-missing.ensures in
     given_graph c.args.objects.view.bytes
-    (StandFor c.args.objects c.resolve.new.targets.items c.in_ok-classes.classes.items c.in_ok-missing.missing)
+    (StandFor c.args.objects c.in_ok-plan.plan c.resolve.new.targets.items c.in_ok-classes.classes.items
+    c.in_ok-missing.missing)
     (graph_of g b) (graph_is_of g b)
-    (stand_for c.args.objects c.requires.2.records c.resolve.new.targets.items c.in_ok-classes.classes.items
-    c.in_ok-missing.missing (c.stands_within.ensures c.args.objects.view)
+    (stand_for c.args.objects c.in_ok-plan.plan c.requires.2.records c.resolve.new.targets.items
+    c.in_ok-classes.classes.items c.in_ok-missing.missing (c.stands_within.ensures c.args.objects.view)
     (few_roots_in_dump c.requires.0 c.requires.1 c.requires.2) c.requires.3.linked c.requires.3.told
+    (c.in_ok-plan.ensures heap c.requires.3.told)
     (c.in_ok-classes.ensures c.requires.2.records c.requires.3.linked c.requires.3.told c.requires.4) found) _
     (search rules)
 

@@ -14,20 +14,26 @@ pub returns-clause-value : goal.returns-clause-value
 returns-clause-value g c =
     let inv = c.self.invariant in
     let graph : IsGraphOf c.self.inside.objects.view.id_size inv.records c.args.self.now = subst (λ (v : ObjectGraph). IsGraphOf c.self.inside.objects.view.id_size inv.records v) c.self.view_is inv.graph in
-    let held : AreIdsOfNumber c.self.inside.objects.view.id_size (heap_of inv.records) c.args.object c.ids_of.result = c.ids_of.ensures (heap_of inv.records) inv.linked inv.told in
+    let held : AreIdsOfNumber c.self.inside.objects.view.id_size (heap_of inv.records) c.args.object
+    c.ids_of-ids.result =
+    c.ids_of-ids.ensures (heap_of inv.records) inv.linked inv.told inv.planned in
     ap (λ (steps : List Step). references_in steps) c.new.ensures
-    ∙ targets_of_steps c.self.inside.objects.index c.ids_of.result
-    ∙ same_targets (heap_of inv.records) c.self.inside.objects.index c.ids_of.result inv.linked.are.ids_are
-    ∙ references_here c.self.inside.objects.view.id_size inv.records c.args.self.now c.args.object held.object c.ids_of.result graph held.is held.are.are
+    ∙ targets_of_steps c.self.inside.objects.index c.ids_of-ids.result
+    ∙ same_targets (heap_of inv.records) c.self.inside.objects.index c.ids_of-ids.result inv.linked.are.ids_are
+    ∙ references_here c.self.inside.objects.view.id_size inv.records c.args.self.now c.args.object held.object
+    c.ids_of-ids.result graph held.is held.are.are
 
 pub returns-clause-held : goal.returns-clause-held
 returns-clause-held g c =
     let inv = c.self.invariant in
     let graph : IsGraphOf c.self.inside.objects.view.id_size inv.records c.args.self.now = subst (λ (v : ObjectGraph). IsGraphOf c.self.inside.objects.view.id_size inv.records v) c.self.view_is inv.graph in
-    let held : AreIdsOfNumber c.self.inside.objects.view.id_size (heap_of inv.records) c.args.object c.ids_of.result = c.ids_of.ensures (heap_of inv.records) inv.linked inv.told in
+    let held : AreIdsOfNumber c.self.inside.objects.view.id_size (heap_of inv.records) c.args.object
+    c.ids_of-ids.result =
+    c.ids_of-ids.ensures (heap_of inv.records) inv.linked inv.told inv.planned in
     ap (λ (steps : List Step). ids_in steps) c.new.ensures
-    ∙ ids_of_steps c.self.inside.objects.index c.ids_of.result
-    ∙ held_here c.self.inside.objects.view.id_size inv.records c.args.self.now c.args.object held.object c.ids_of.result graph held.is held.are.are
+    ∙ ids_of_steps c.self.inside.objects.index c.ids_of-ids.result
+    ∙ held_here c.self.inside.objects.view.id_size inv.records c.args.self.now c.args.object held.object
+    c.ids_of-ids.result graph held.is held.are.are
 
 pub returns-clause-steps : goal.returns-clause-steps
 returns-clause-steps g c =
@@ -35,11 +41,12 @@ returns-clause-steps g c =
     let graph : IsGraphOf c.self.inside.objects.view.id_size inv.records c.args.self.now =
     subst (λ (v : ObjectGraph). IsGraphOf c.self.inside.objects.view.id_size inv.records v) c.self.view_is
     inv.graph in
-    let held : AreIdsOfNumber c.self.inside.objects.view.id_size (heap_of inv.records) c.args.object c.ids_of.result =
-    c.ids_of.ensures (heap_of inv.records) inv.linked inv.told in
+    let held : AreIdsOfNumber c.self.inside.objects.view.id_size (heap_of inv.records) c.args.object
+    c.ids_of-ids.result =
+    c.ids_of-ids.ensures (heap_of inv.records) inv.linked inv.told inv.planned in
     c.new.ensures
     ∙ ap (λ (ids : List ℕ). map (step_in c.self.inside.objects.index) ids)
     (held_here c.self.inside.objects.view.id_size inv.records c.args.self.now c.args.object held.object
-    c.ids_of.result graph held.is held.are.are)
+    c.ids_of-ids.result graph held.is held.are.are)
     ∙ ap (λ (all : List ℕ). map (step_in all) (held_by c.args.self.now c.args.object))
     (inv.linked.are.ids_are ∙ sym graph.ids_are)

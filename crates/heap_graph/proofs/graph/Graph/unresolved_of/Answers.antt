@@ -16,7 +16,7 @@ returns-clause-value g c =
     subst (λ (v : ObjectGraph). IsGraphOf c.self.inside.objects.view.id_size inv.records v) c.self.view_is
     inv.graph in
     let it : AreCountedOf c.self.inside.objects.view.id_size (heap_of inv.records) c.args.object
-    c.unresolved_of.result = c.unresolved_of.ensures (heap_of inv.records) inv.linked inv.told in
+    c.unresolved_of.result = c.unresolved_of.ensures (heap_of inv.records) inv.linked inv.told inv.planned in
     it.counted
     ∙ sym (same_missing (heap_of inv.records) c.args.self.now.ids it.ids graph.ids_are)
     ∙ ap (λ (ids : List ℕ). count_by (is_missing c.args.self.now.ids) ids)

@@ -16,7 +16,7 @@ pub new-requires : goal.new-requires
 new-requires g c =
     let inv = c.self.invariant in
     let held : AreIdsOfNumber c.self.inside.objects.view.id_size (heap_of inv.records) c.args.object
-    c.scan-row.result.2 = c.scan-row.ensures.ids (heap_of inv.records) inv.linked inv.told in
+    c.scan-row.result.2 = c.scan-row.ensures.ids (heap_of inv.records) inv.linked inv.told inv.planned in
     held.are.few
 
 pub returns-clause-row : goal.returns-clause-row
@@ -64,7 +64,7 @@ returns-clause-steps g c =
     subst (λ (v : ObjectGraph). IsGraphOf c.self.inside.objects.view.id_size inv.records v) c.self.view_is
     inv.graph in
     let held : AreIdsOfNumber s (heap_of inv.records) c.args.object c.scan-row.result.2 =
-    c.scan-row.ensures.ids (heap_of inv.records) inv.linked inv.told in
+    c.scan-row.ensures.ids (heap_of inv.records) inv.linked inv.told inv.planned in
     ap (λ (v : Visited). v.left) c.new.ensures
     ∙ ap (λ (ids : List ℕ). map (step_in c.self.inside.objects.index) ids)
     (held_here s inv.records c.args.self.now c.args.object held.object c.scan-row.result.2 graph held.is
@@ -80,7 +80,7 @@ returns-clause-value g c =
     subst (λ (v : ObjectGraph). IsGraphOf c.self.inside.objects.view.id_size inv.records v) c.self.view_is
     inv.graph in
     let held : AreIdsOfNumber s (heap_of inv.records) c.args.object c.scan-row.result.2 =
-    c.scan-row.ensures.ids (heap_of inv.records) inv.linked inv.told in
+    c.scan-row.ensures.ids (heap_of inv.records) inv.linked inv.told inv.planned in
     ap (λ (v : Visited). references_in v.left) c.new.ensures
     ∙ targets_of_steps c.self.inside.objects.index c.scan-row.result.2
     ∙ same_targets (heap_of inv.records) c.self.inside.objects.index c.scan-row.result.2 inv.linked.are.ids_are

@@ -83,11 +83,13 @@ returns-clause-told g c = λ dump from.
     let placed = c.dump_is_placed.ensures c.args.bytes.now dump are.is in
     let same : c.in_ok-classes.classes.view ≡ c.new-view.result = c.in_ok-classes.ensures.view
     ∙ same_sight c.new.result c.new-view.result (c.new.ensures.bytes ∙ sym c.new-view.ensures.bytes) (c.new.ensures.size ∙ sym c.new-view.ensures.size) in
-    let classes : AreClasses c.in_ok-classes.classes.view (heap_of are.is.records) c.in_ok-classes.classes.table.entries c.in_ok-classes.classes.id_places.items =
+    let classes : AreClasses c.in_ok-classes.classes.view (heap_of are.is.records)
+    c.in_ok-classes.classes.table.entries =
     c.in_ok-classes.ensures.classes (heap_of are.is.records)
     (are_objects c.args.bytes.now c.args.id_size c.deref-2.result.now dump are placed
     c.new-view.result c.new.result c.in_ok-index.index c.deref.result.now c.new-view.ensures.bytes c.new-view.ensures.size c.new.ensures.bytes c.new.ensures.size (c.deref.ensures.value ∙ sym c.deref-2.ensures.value) c.in_ok-index.ensures) in
-    subst (λ (v : Sight). AreTold v (heap_of are.is.records) c.in_ok-classes.classes.table.entries c.in_ok-classes.classes.id_places.items c.in_ok-fates.fates.items) same
+    subst (λ (v : Sight). AreTold v (heap_of are.is.records) c.in_ok-classes.classes.table.entries
+    c.in_ok-fates.fates.items) same
     (record {
       classes = classes;
       settled = c.in_ok-fates.ensures (heap_of are.is.records) classes;

@@ -21,14 +21,14 @@ pub unreachable-requires : goal.unreachable-requires
 unreachable-requires g c =
     no_unknown c.args.self.now.view.id_size c.requires.0 c.requires.1 c.requires.2 c.requires.3.linked c.requires.5.is
     (subst (λ (id : ℕ). class_named c.requires.0 id ≡ None) (c.instance_class.ensures c.requires.2 c.requires.5.stands)
-    (not_found c.args.self.now.view c.requires.0 c.args.self.now.classes.table.entries
-    c.args.self.now.classes.id_places.items c.instance_class.result c.requires.4.classes (sym c.in-None.ensures)))
+    (not_found c.args.self.now.view c.requires.0 c.args.self.now.classes.table.entries c.instance_class.result
+    c.requires.4.classes (sym c.in-None.ensures)))
 
 pub index-requires : goal.index-requires
 index-requires g c =
     let below : c.in-Some.number < length c.args.self.now.fates.items =
-    (fate_found c.args.self.now.view c.requires.0 c.args.self.now.classes.table.entries
-    c.args.self.now.classes.id_places.items c.args.self.now.fates.items c.instance_class.result c.in-Some.number
+    (fate_found c.args.self.now.view c.requires.0 c.args.self.now.classes.table.entries c.args.self.now.fates.items
+    c.instance_class.result c.in-Some.number
     c.requires.4 (sym c.in-Some.ensures)).below in
     grind (arith, common_steps)
 
@@ -38,8 +38,8 @@ returns-in-Whole-clause-first g c = λ heap n i linked told at.
     c.args.self.now.fates.items i.class c.in-Some.number = subst
     (λ (id : ℕ). IsFateFound c.args.self.now.view.id_size heap (ids_of c.args.self.now.classes.table.entries)
     c.args.self.now.fates.items id c.in-Some.number) (c.instance_class.ensures i at.stands)
-    (fate_found c.args.self.now.view heap c.args.self.now.classes.table.entries
-    c.args.self.now.classes.id_places.items c.args.self.now.fates.items c.instance_class.result c.in-Some.number
+    (fate_found c.args.self.now.view heap c.args.self.now.classes.table.entries c.args.self.now.fates.items
+    c.instance_class.result c.in-Some.number
     told (sym c.in-Some.ensures)) in
     let fate : IsFate c.args.self.now.view.id_size heap (ids_of c.args.self.now.classes.table.entries) i.class
     (fates.Whole c.in-Whole.layout) = subst
@@ -61,8 +61,8 @@ returns-in_default-clause-first g c = λ heap n i linked told at.
     c.args.self.now.fates.items i.class c.in-Some.number = subst
     (λ (id : ℕ). IsFateFound c.args.self.now.view.id_size heap (ids_of c.args.self.now.classes.table.entries)
     c.args.self.now.fates.items id c.in-Some.number) (c.instance_class.ensures i at.stands)
-    (fate_found c.args.self.now.view heap c.args.self.now.classes.table.entries
-    c.args.self.now.classes.id_places.items c.args.self.now.fates.items c.instance_class.result c.in-Some.number
+    (fate_found c.args.self.now.view heap c.args.self.now.classes.table.entries c.args.self.now.fates.items
+    c.instance_class.result c.in-Some.number
     told (sym c.in-Some.ensures)) in
     absurd (linked_whole c.args.self.now.view.id_size heap (ids_of c.args.self.now.classes.table.entries) i.class
     it.class it.fate linked.linked it.named it.settled
@@ -72,12 +72,12 @@ returns-in_default-clause-first g c = λ heap n i linked told at.
 
 pub returns-in-Whole-clause-class : goal.returns-in-Whole-clause-class
 returns-in-Whole-clause-class g c = λ heap n i linked told at. number_told c.args.self.now.view heap
-    c.args.self.now.classes.table.entries c.args.self.now.classes.id_places.items c.args.self.now.fates.items
+    c.args.self.now.classes.table.entries c.args.self.now.fates.items
     c.instance_class.result i.class c.in-Some.number told c.in-Some.ensures (c.instance_class.ensures i at.stands)
     linked.linked
 
 pub returns-in_default-clause-class : goal.returns-in_default-clause-class
 returns-in_default-clause-class g c = λ heap n i linked told at. number_told c.args.self.now.view heap
-    c.args.self.now.classes.table.entries c.args.self.now.classes.id_places.items c.args.self.now.fates.items
+    c.args.self.now.classes.table.entries c.args.self.now.fates.items
     c.instance_class.result i.class c.in-Some.number told c.in-Some.ensures (c.instance_class.ensures i at.stands)
     linked.linked

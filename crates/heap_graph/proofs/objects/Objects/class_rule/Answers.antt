@@ -18,22 +18,32 @@ find-requires g c = c.requires.heap.1.few
 pub returns-in-None : goal.returns-in-None
 returns-in-None g c = λ heap dump told st.
     class_bad c.args.self.now.view.id_size heap dump (missing_super heap dump.super (λ e. omega (arith, e, c.superclass-superclass.ensures dump st))
-    (subst (λ (id : ℕ). class_named heap id ≡ None) (c.superclass-superclass.ensures dump st) (not_found c.args.self.now.view heap c.args.self.now.classes.table.entries c.args.self.now.classes.id_places.items c.superclass-superclass.result told.classes (sym c.in-None.ensures))))
+    (subst (λ (id : ℕ). class_named heap id ≡ None) (c.superclass-superclass.ensures dump st)
+    (not_found c.args.self.now.view heap c.args.self.now.classes.table.entries c.superclass-superclass.result
+    told.classes (sym c.in-None.ensures))))
 
 pub index-requires : goal.index-requires
 index-requires g c =
-    let below : c.in-Some.number < length c.args.self.now.fates.items = (fate_found c.args.self.now.view c.requires.heap.0 c.args.self.now.classes.table.entries c.args.self.now.classes.id_places.items c.args.self.now.fates.items c.superclass-superclass.result c.in-Some.number c.requires.heap.1 (sym c.in-Some.ensures)).below in
+    let below : c.in-Some.number < length c.args.self.now.fates.items =
+    (fate_found c.args.self.now.view c.requires.heap.0 c.args.self.now.classes.table.entries c.args.self.now.fates.items
+    c.superclass-superclass.result c.in-Some.number c.requires.heap.1 (sym c.in-Some.ensures)).below in
     grind (arith, common_steps)
 
 pub returns-in-Endless : goal.returns-in-Endless
 returns-in-Endless g c = λ heap dump told st.
-    let it : IsFateFound c.args.self.now.view.id_size heap (ids_of c.args.self.now.classes.table.entries) c.args.self.now.fates.items c.superclass-superclass.result c.in-Some.number = fate_found c.args.self.now.view heap c.args.self.now.classes.table.entries c.args.self.now.classes.id_places.items c.args.self.now.fates.items c.superclass-superclass.result c.in-Some.number told (sym c.in-Some.ensures) in
+    let it : IsFateFound c.args.self.now.view.id_size heap (ids_of c.args.self.now.classes.table.entries)
+    c.args.self.now.fates.items c.superclass-superclass.result c.in-Some.number = fate_found c.args.self.now.view heap
+    c.args.self.now.classes.table.entries c.args.self.now.fates.items c.superclass-superclass.result c.in-Some.number
+    told (sym c.in-Some.ensures) in
     let never : NeverEnds heap c.superclass-superclass.result = subst (λ (f : Fate). IsFate c.args.self.now.view.id_size heap (ids_of c.args.self.now.classes.table.entries) c.superclass-superclass.result f) (same_fate c.args.self.now.fates.items c.in-Some.number it.fate c.index.result.now it.is c.index.ensures ∙ c.in-Endless.is) it.says in
     class_bad c.args.self.now.view.id_size heap dump (endless_super heap dump.super (subst (λ (id : ℕ). NeverEnds heap id) (c.superclass-superclass.ensures dump st) never))
 
 pub returns-in_default : goal.returns-in_default
 returns-in_default g c = λ heap dump told st.
-    let it : IsFateFound c.args.self.now.view.id_size heap (ids_of c.args.self.now.classes.table.entries) c.args.self.now.fates.items c.superclass-superclass.result c.in-Some.number = fate_found c.args.self.now.view heap c.args.self.now.classes.table.entries c.args.self.now.classes.id_places.items c.args.self.now.fates.items c.superclass-superclass.result c.in-Some.number told (sym c.in-Some.ensures) in
+    let it : IsFateFound c.args.self.now.view.id_size heap (ids_of c.args.self.now.classes.table.entries)
+    c.args.self.now.fates.items c.superclass-superclass.result c.in-Some.number = fate_found c.args.self.now.view heap
+    c.args.self.now.classes.table.entries c.args.self.now.fates.items c.superclass-superclass.result c.in-Some.number
+    told (sym c.in-Some.ensures) in
     let same : c.superclass-superclass.result ≡ dump.super = c.superclass-superclass.ensures dump st in
     class_fine c.args.self.now.view.id_size heap dump (fine_super heap dump.super it.class (subst (λ (id : ℕ). class_named heap id ≡ Some it.class) same it.named)
     (λ never. ends c.args.self.now.view.id_size heap (ids_of c.args.self.now.classes.table.entries) c.superclass-superclass.result it.fate it.settled (λ e. c.in_default.not-Endless (sym (same_fate c.args.self.now.fates.items c.in-Some.number it.fate c.index.result.now it.is c.index.ensures) ∙ e)) it.says (subst (λ (id : ℕ). NeverEnds heap id) (sym same) never)))

@@ -47,6 +47,7 @@ ids_of_instance-requires g c =
       o.0,
       c.requires.heap.1,
       c.requires.heap.2,
+      c.requires.heap.3,
       o.1,
       c.class_of-class.ensures.first
           c.requires.heap.0 c.args.number o.0 c.requires.heap.1 c.requires.heap.2 o.1,
@@ -72,7 +73,7 @@ returns-in-Instance-clause-bytes g c = λ heap object are is.
     (one_object heap c.args.number (instance_dump o.0) object o.1.is is)
 
 pub returns-in-Instance-clause-ids : goal.returns-in-Instance-clause-ids
-returns-in-Instance-clause-ids g c = λ heap linked told.
+returns-in-Instance-clause-ids g c = λ heap linked told plan.
     let it =
     there_at c.args.self.now.view c.args.self.now.places.items c.args.self.now.index heap c.args.number
     c.index-place.result.now linked.are c.requires.below c.index-place.ensures in
@@ -80,6 +81,6 @@ returns-in-Instance-clause-ids g c = λ heap linked told.
     record {
       object = instance_dump o.0;
       is = o.1.is;
-      are = c.ids_of_instance.ensures heap c.args.number o.0 linked told
+      are = c.ids_of_instance.ensures heap c.args.number o.0 linked told plan
           o.1 (c.class_of-class.ensures.first heap c.args.number o.0 linked told o.1);
     }

@@ -24,13 +24,18 @@ pub returns-then-id-eq0-clause-among : goal.returns-then-id-eq0-clause-among
 returns-then-id-eq0-clause-among g c = λ heap are among.
     let it : IsThere c.args.classes.now.view heap c.args.number (get_or c.args.places.now c.args.number 0) = there c.args.classes.now.view c.args.places.now c.args.index.now heap c.args.number are c.requires.below in
     let zero_id : id_of it.object ≡ 0 = sym (c.object_id-id.ensures it.object it.stands) ∙ c.if-id-eq0.true in
-    among_skip c.args.classes.now.view heap c.args.number c.args.classes.now.entries.items c.args.classes.now.id_places.items it.object among it.is (zero_skip heap c.args.number it.object it.is zero_id) (λ linked. absurd (zero_linked c.args.classes.now.view.id_size heap c.args.number it.object it.is zero_id linked))
+    among_skip c.args.classes.now.view heap c.args.number c.args.classes.now.entries.items it.object among it.is
+    (zero_skip heap c.args.number it.object it.is zero_id)
+    (λ linked. absurd (zero_linked c.args.classes.now.view.id_size heap c.args.number it.object it.is zero_id linked))
 
 pub returns-then-is_repeated-clause-among : goal.returns-then-is_repeated-clause-among
 returns-then-is_repeated-clause-among g c = λ heap are among.
     let it : IsThere c.args.classes.now.view heap c.args.number (get_or c.args.places.now c.args.number 0) = there c.args.classes.now.view c.args.places.now c.args.index.now heap c.args.number are c.requires.below in
     let again : Contains (take c.args.number c.args.index.now) (id_of it.object) = subst (λ (id : ℕ). Contains (take c.args.number c.args.index.now) id) (c.object_id-id.ensures it.object it.stands) (c.if-is_repeated.ensures.0 refl) in
-    among_skip c.args.classes.now.view heap c.args.number c.args.classes.now.entries.items c.args.classes.now.id_places.items it.object among it.is (repeated_skip c.args.classes.now.view c.args.places.now c.args.index.now heap c.args.number it.object are it.is again) (λ linked. absurd (repeated_linked c.args.classes.now.view c.args.places.now c.args.index.now heap c.args.number it.object are it.is again linked))
+    among_skip c.args.classes.now.view heap c.args.number c.args.classes.now.entries.items it.object among it.is
+    (repeated_skip c.args.classes.now.view c.args.places.now c.args.index.now heap c.args.number it.object are it.is
+    again) (λ linked. absurd (repeated_linked c.args.classes.now.view c.args.places.now c.args.index.now heap
+    c.args.number it.object are it.is again linked))
 
 pub add-requires : goal.add-requires
 add-requires g c =
@@ -51,7 +56,9 @@ returns-in-Class-clause-among g c = on_ok c.add.result (λ h heap are among.
     let here = it.is ∙ ap (λ (x : SubRecord). Some x) dump.same in
     let stands : Stands c.args.classes.now.view (get_or c.args.places.now c.args.number 0) (class_dump dump.class) = subst (λ (x : SubRecord). Stands c.args.classes.now.view (get_or c.args.places.now c.args.number 0) x) dump.same it.stands in
     let named : class_named heap c.object_id-id.result ≡ Some dump.class = class_is heap c.object_id-id.result (Some c.args.number) (ne_eqb c.object_id-id.result 0 c.if-id-eq0.false) first ∙ ap (λ (x : Option SubRecord). option_and_then as_class x) here in
-    among_more c.args.classes.now.view heap c.args.number c.object_id-id.result (get_or c.args.places.now c.args.number 0) c.args.classes.now.entries.items c.add.new.self.entries.items c.args.classes.now.id_places.items c.add.new.self.id_places.items dump.class among here (sym (ap id_of dump.same) ∙ sym id_is) first named stands (h dump.class stands)) c.add.ensures.added
+    among_more c.args.classes.now.view heap c.args.number c.object_id-id.result (get_or c.args.places.now c.args.number
+    0) c.args.classes.now.entries.items c.add.new.self.entries.items dump.class among here (sym (ap id_of dump.same)
+    ∙ sym id_is) first named stands (h dump.class stands)) c.add.ensures.added
 
 pub returns-in_default : goal.returns-in_default
 returns-in_default g c = record {
@@ -59,5 +66,6 @@ returns-in_default g c = record {
   among = λ heap are among.
       let it : IsThere c.args.classes.now.view heap c.args.number (get_or c.args.places.now c.args.number 0) = there c.args.classes.now.view c.args.places.now c.args.index.now heap c.args.number are c.requires.below in
       let none : as_class it.object ≡ None = no_class_dump it.object c.kind.result (c.kind.ensures it.object it.stands it.describes) c.in_default.not-Class in
-      among_skip c.args.classes.now.view heap c.args.number c.args.classes.now.entries.items c.args.classes.now.id_places.items it.object among it.is (no_class_skip heap c.args.number it.object it.is none) (λ linked. none);
+      among_skip c.args.classes.now.view heap c.args.number c.args.classes.now.entries.items it.object among it.is
+      (no_class_skip heap c.args.number it.object it.is none) (λ linked. none);
 }

@@ -1,5 +1,5 @@
 -- The builder has the classes among all objects, and what is made of it has the same.
-use Rattle.std.proofs.Common.{Err, IfOk, List, Ok, Result, arith, subst, sym, ℕ, ◌∙◌, ◌≡◌}
+use Rattle.std.proofs.Common.{Err, IfOk, List, Ok, Result, arith, subst, sym, ◌∙◌, ◌≡◌}
 use Rattle.hprof_grammar.specs.Standing.{Sight}
 use Rattle.hprof_grammar.specs.SubRecord.{SubRecord}
 use Rattle.heap_graph.specs.declared.classes.Classes.{Classes}
@@ -7,18 +7,16 @@ use Rattle.heap_graph.specs.working.ClassTable.{AreClasses, AreClassesOf, Entry}
 use Rattle.heap_graph.proofs.TableGrowth.{among_all}
 use Rattle.heap_graph.proofs.objects.table.class_table.Goals as goal
 
-if_all : {X E : Type 0} {P Q R S : X → Type 0} (r : Result X E) → ((x : X) → P x → Q x → R x → S x) → IfOk r P
-    → IfOk r Q → IfOk r R → IfOk r S
-if_all (Ok x) f p q r = f x p q r
-if_all (Err e) f p q r = tt
+if_both : {X E : Type 0} {P Q R : X → Type 0} (r : Result X E) → ((x : X) → P x → Q x → R x) → IfOk r P → IfOk r Q
+    → IfOk r R
+if_both (Ok x) f p q = f x p q
+if_both (Err e) f p q = tt
 
-same_classes : {A : Type 0} (v : Sight) (heap : List SubRecord) (entries : List Entry) (places : List ℕ)
-    (classes : Classes A) → classes.view ≡ v → classes.table.entries ≡ entries → classes.id_places.items ≡ places
-    → AreClasses v heap entries places → AreClassesOf classes heap
-same_classes v heap entries places classes view_is entries_are places_are are =
-    subst (λ (w : Sight). AreClasses w heap classes.table.entries classes.id_places.items) (sym view_is)
-    (subst (λ (es : List Entry). AreClasses v heap es classes.id_places.items) (sym entries_are)
-    (subst (λ (ps : List ℕ). AreClasses v heap entries ps) (sym places_are) are))
+same_classes : {A : Type 0} (v : Sight) (heap : List SubRecord) (entries : List Entry) (classes : Classes A)
+    → classes.view ≡ v → classes.table.entries ≡ entries → AreClasses v heap entries → AreClassesOf classes heap
+same_classes v heap entries classes view_is entries_are are =
+    subst (λ (w : Sight). AreClasses w heap classes.table.entries) (sym view_is)
+    (subst (λ (es : List Entry). AreClasses v heap es) (sym entries_are) are)
 
 pub finish-requires : goal.finish-requires
 finish-requires g c =
@@ -28,9 +26,9 @@ finish-requires g c =
 pub returns-clause-classes : goal.returns-clause-classes
 returns-clause-classes g c =
     let builder = c.loop-number.builder in
-    if_all c.finish.result (λ classes view_is entries_are places_are heap are.
-    same_classes c.args.view heap builder.entries.items builder.id_places.items classes
-    (view_is ∙ c.loop-number.invariant.view) entries_are places_are
-    (among_all c.args.view heap c.loop-number.number builder.entries.items builder.id_places.items c.requires.low
+    if_both c.finish.result (λ classes view_is entries_are heap are.
+    same_classes c.args.view heap builder.entries.items classes
+    (view_is ∙ c.loop-number.invariant.view) entries_are
+    (among_all c.args.view heap c.loop-number.number builder.entries.items c.requires.low
     (c.loop-number.invariant.among heap are) (omega (arith, c.loop-number-test.false, are.stand.count))))
-    c.finish.ensures.view c.finish.ensures.entries c.finish.ensures.places
+    c.finish.ensures.view c.finish.ensures.entries

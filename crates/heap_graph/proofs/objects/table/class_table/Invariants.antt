@@ -7,5 +7,6 @@ use Rattle.heap_graph.proofs.objects.table.class_table.Given as goal
 abbrev pub invariant-loop-number : goal.invariant-loop-number
 invariant-loop-number g l = record {
   view : l.builder.view ≡ l.fn.view;
-  among : (heap : List SubRecord) → AreObjects l.fn.view l.places l.index heap → AreClassesAmong l.fn.view heap l.number l.builder.entries.items l.builder.id_places.items;
+  among : (heap : List SubRecord) → AreObjects l.fn.view l.places l.index heap → AreClassesAmong l.fn.view heap l.number
+      l.builder.entries.items;
 }

@@ -6,7 +6,8 @@ pub loop-above-init : goal.loop-above-init
 loop-above-init g c =
     let f = c.self.inside in
     let o = f.objects.now in
-    none_counted o.view.id_size o.classes.table.entries o.classes.id_places.items o.fates.items f.places.now f.own f.values.now f.up.0 c.args.self.now f.next
+    none_counted o.view.id_size f.plan.now.classes.items f.plan.now.places.items o.fates.items f.places.now f.own
+    f.values.now f.up.0 c.args.self.now f.next
     (record { stand = c.self.invariant.stand; above = c.self.invariant.above; left = c.self.view_is }) f.up.1
 
 pub id_places-requires-clause-below : goal.id_places-requires-clause-below

@@ -4,8 +4,10 @@ use Rattle.heap_graph.proofs.held.field_ids.FieldIds.len.Given as goal
 
 abbrev pub invariant-loop-above : goal.invariant-loop-above
 invariant-loop-above g l =
-    let o = l.self-inside.objects.now in
-    IsCounted o.view.id_size o.classes.table.entries o.classes.id_places.items o.fates.items (length l.self-inside.up.0) (length l.self-inside.values.now) (length l.self) l.above l.ids
+    let f = l.self-inside in
+    let o = f.objects.now in
+    IsCounted o.view.id_size f.plan.now.classes.items f.plan.now.places.items o.fates.items (length f.up.0)
+    (length f.values.now) (length l.self) l.above l.ids
 
 abbrev pub decreases-loop-above : goal.decreases-loop-above
 decreases-loop-above g l = steps_up l.self-inside.objects.now.fates.items (length l.self-inside.up.0) l.above

@@ -1,6 +1,4 @@
-use Rattle.std.proofs.Common.{ap, rules}
-use Rattle.heap_graph.specs.declared.classes.ClassPlaces.{ClassPlaces}
-use Rattle.heap_graph.proofs.ClassTableLaws.{read_entry}
+use Rattle.std.proofs.Common.{rules}
 use Rattle.heap_graph.proofs.FieldsUpLaws.{fewer_above, fewer_left, first_given, first_gone, first_room, has_next, next_left, none_left}
 use Rattle.heap_graph.proofs.held.field_ids.FieldIdsIterator.next.Goals as goal
 
@@ -11,14 +9,18 @@ pub invariant_of-self : goal.invariant_of-self
 invariant_of-self g c =
     let f = c.loop-place.self-inside in
     let o = f.objects.now in
-    let it = first_gone o.view.id_size o.classes.table.entries o.classes.id_places.items o.fates.items f.places.now f.own f.values.now f.up.0 _ c.args.self.now c.in-Some.left.now f.next c.in-Some.place.now c.loop-place.invariant c.in-Some.ensures.cases.0 f.up.1 (search rules) in
+    let it = first_gone o.view.id_size f.plan.now.classes.items f.plan.now.places.items o.fates.items f.places.now f.own
+    f.values.now f.up.0 _ c.args.self.now c.in-Some.left.now f.next c.in-Some.place.now c.loop-place.invariant
+    c.in-Some.ensures.cases.0 f.up.1 (search rules) in
     record { stand = it.stand; above = it.above }
 
 pub returns-in-Some-clause-steps : goal.returns-in-Some-clause-steps
 returns-in-Some-clause-steps g c =
     let f = c.loop-place.self-inside in
     let o = f.objects.now in
-    first_given o.view.id_size o.classes.table.entries o.classes.id_places.items o.fates.items f.places.now f.own f.values.now f.up.0 _ c.args.self.now c.in-Some.left.now f.next c.in-Some.place.now c.identifier_at.result c.loop-place.invariant c.in-Some.ensures.cases.0 c.identifier_at.ensures f.up.1 (search rules)
+    first_given o.view.id_size f.plan.now.classes.items f.plan.now.places.items o.fates.items f.places.now f.own
+    f.values.now f.up.0 _ c.args.self.now c.in-Some.left.now f.next c.in-Some.place.now c.identifier_at.result
+    c.loop-place.invariant c.in-Some.ensures.cases.0 c.identifier_at.ensures f.up.1 (search rules)
 
 pub returns-in-Some-clause-goes : goal.returns-in-Some-clause-goes
 returns-in-Some-clause-goes g c = record { on = λ x. (tt, tt, fewer_left _ _ c.identifier_at.result (returns-in-Some-clause-steps g c)); keeps = tt; rests = λ x. tt }
@@ -27,8 +29,9 @@ pub returns-in_err-number-clause-steps : goal.returns-in_err-number-clause-steps
 returns-in_err-number-clause-steps g c =
     rw c.from_residual.ensures (none_left _ _ _ _ _ _ _ _ _ _ c.loop-place.invariant c.in_default.ensures.cases c.in_err-number.was c.loop-place.self-inside.up.1)
 
-pub entry-requires : goal.entry-requires
-entry-requires g c = (has_next _ _ _ _ _ _ _ _ c.in_ok-number.was c.loop-place.self-inside.up.1 c.loop-place.invariant.above).fields.below
+pub bytes_of-requires : goal.bytes_of-requires
+bytes_of-requires g c = (has_next _ _ _ _ _ _ _ _ c.in_ok-number.was c.loop-place.self-inside.up.1
+    c.loop-place.invariant.above).fields.below
 
 pub id_places-self-inside-requires-clause-below : goal.id_places-self-inside-requires-clause-below
 id_places-self-inside-requires-clause-below g c =
@@ -57,5 +60,8 @@ loop-place-preserved g c =
     let f = c.loop-place.self-inside in
     let o = f.objects.now in
     let n = has_next _ _ _ _ _ _ _ _ c.in_ok-number.was c.loop-place.self-inside.up.1 c.loop-place.invariant.above in
-    next_left o.view.id_size o.classes.table.entries o.classes.id_places.items o.fates.items f.places.now f.own f.values.now f.up.0 c.args.self.now c.in_ok-number.number c.id_places-self-inside.result.now c.entry.result.size c.split_at.result.1.now c.next_of-self-inside.result _
-    c.loop-place.invariant c.in_default.ensures.cases n c.id_places-self-inside.ensures (ap (λ (p : ClassPlaces). p.size) (read_entry o.classes.table.entries c.in_ok-number.number c.entry.result n.fields.below c.entry.ensures)) c.split_at.ensures.back c.next_of-self-inside.ensures (search rules)
+    next_left o.view.id_size f.plan.now.classes.items f.plan.now.places.items o.fates.items f.places.now f.own
+    f.values.now f.up.0 c.args.self.now c.in_ok-number.number c.id_places-self-inside.result.now c.bytes_of.result
+    c.split_at.result.1.now c.next_of-self-inside.result _
+    c.loop-place.invariant c.in_default.ensures.cases n c.id_places-self-inside.ensures c.bytes_of.ensures
+    c.split_at.ensures.back c.next_of-self-inside.ensures (search rules)

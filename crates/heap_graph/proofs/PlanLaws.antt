@@ -1,0 +1,125 @@
+-- What is planned for the classes: the plan grows by one class after the other, and tells the fields of each.
+use Rattle.std.proofs.Common.{List, Some, [], ap, arith, drop, inl, inr, length, length-append, map, refl}
+use Rattle.std.proofs.Common.{slice_get}
+use Rattle.std.proofs.Common.{subst, suc, sym, take, zero, ⊎_elim, ℕ, ◌++◌, ◌-◌, ◌<◌, ◌∙◌, ◌∷◌, ◌≡◌, ◌≤◌, ◌⊎◌}
+use Rattle.std.specs.Prelude.{slice_index, slice_range}
+use Rattle.std.proofs.lemmas.List.{drop-append-le, length-drop, take-append-le}
+use Rattle.std.proofs.lemmas.Option.{get_or_from_slice_get}
+use Rattle.std.proofs.Math.Seq.{drop-append_seam, take-length}
+use Rattle.hprof_grammar.specs.Standing.{Sight, Stands}
+use Rattle.hprof_grammar.specs.SubRecord.{Class, Member, SubRecord}
+use Rattle.hprof_grammar.specs.SubRecord.SubRecord.{class_dump}
+use Rattle.heap_graph.specs.declared.classes.ClassPlace.{ClassPlace}
+use Rattle.heap_graph.specs.declared.plan.ClassPlan.{ClassPlan}
+use Rattle.heap_graph.specs.Heap.{class_named}
+use Rattle.heap_graph.specs.working.ClassPlans.{AddsPlan, AreClassPlans, HasIdPlaces, IsClassPlan, IsPlan, id_places_of}
+use Rattle.heap_graph.specs.working.ClassPlans.{plan_at}
+use Rattle.heap_graph.specs.working.ClassTable.{AreClasses, Entry, ids_of, own_types}
+use Rattle.heap_graph.specs.working.IdPlaces.{id_places, size_together}
+use Rattle.heap_graph.proofs.ChainLaws.{some_inj, some_none}
+use Rattle.heap_graph.proofs.ClassTableLaws.{IsKept, IsNumbered, numbered, same_class, there_is}
+
+-- ---- one class more
+
+kept_places : (all more : List ℕ) (a b : ℕ) → a ≤ b → b ≤ length all
+    → slice_range (all ++ more) a b ≡ slice_range all a b
+kept_places all more a b h k =
+    ap (λ (xs : List ℕ). take (b - a) xs) (drop-append-le a all more (omega (arith, h, k)))
+    ∙ take-append-le (b - a) (drop a all) more (omega (arith, length-drop a all, h, k))
+
+last_places : (all more : List ℕ) (a b : ℕ) → a ≡ length all → b ≡ length (all ++ more)
+    → slice_range (all ++ more) a b ≡ more
+last_places all more a b e f =
+    let size : b - a ≡ length more = omega (arith, e, f, length-append all more) in
+    ap (λ (n : ℕ). take n (drop a (all ++ more))) size
+    ∙ ap (λ (n : ℕ). take (length more) (drop n (all ++ more))) e
+    ∙ ap (λ (xs : List ℕ). take (length more) xs) (drop-append_seam all more) ∙ take-length more
+
+old_plan : (s : ℕ) (places more : List ℕ) (c : Class) (p : ClassPlan) → IsClassPlan s places c p
+    → IsClassPlan s (places ++ more) c p
+old_plan s places more c p is = record {
+  rising = is.rising;
+  within = omega (arith, is.within, length-append places more);
+  places_are = kept_places places more p.start p.end is.rising is.within ∙ is.places_are;
+  size_is = is.size_is;
+}
+
+new_plan : (s : ℕ) (types : List ℕ) (old new : List ClassPlan) (old_places places : List ℕ) (c : Class)
+    (adds : AddsPlan s types old old_places new places) → types ≡ own_types c
+    → IsClassPlan s (old_places ++ id_places s 0 types) c adds.class
+new_plan s types old new old_places places c adds same = record {
+  rising = omega (arith, adds.start_is, end, length-append old_places (id_places s 0 types));
+  within = omega (arith, end);
+  places_are =
+      last_places old_places (id_places s 0 types) adds.class.start adds.class.end adds.start_is end
+      ∙ ap (λ (ts : List ℕ). id_places s 0 ts) same;
+  size_is = adds.size_is ∙ ap (λ (ts : List ℕ). size_together s ts) same;
+}
+  where
+    end : adds.class.end ≡ length (old_places ++ id_places s 0 types)
+    end = adds.end_is ∙ ap length adds.places_are
+
+get_more : (old : List ClassPlan) (new : ClassPlan) (k : ℕ) (p : ClassPlan) → slice_get (old ++ new ∷ []) k ≡ Some p
+    → (slice_get old k ≡ Some p) ⊎ ((k ≡ length old) × (new ≡ p))
+get_more [] new zero p is = inr (refl, some_inj is)
+get_more [] new (suc k) p is = absurd (some_none (sym is))
+get_more (x ∷ xs) new zero p is = inl is
+get_more (x ∷ xs) new (suc k) p is = ⊎_elim inl (λ e. inr (omega (arith, e.0), e.1)) (get_more xs new k p is)
+
+pub plan_more : (s : ℕ) (heap : List SubRecord) (ids types : List ℕ) (old new : List ClassPlan)
+    (old_places places : List ℕ) (n : ℕ) → length old ≡ n → AreClassPlans s heap ids old old_places
+    → AddsPlan s types old old_places new places
+    → ((c : Class) → class_named heap (slice_index ids n) ≡ Some c → types ≡ own_types c)
+    → AreClassPlans s heap ids new places
+plan_more s heap ids types old new old_places places n count each adds same = λ k p c is named.
+    subst (λ (ps : List ℕ). IsClassPlan s ps c p) (sym adds.places_are)
+    (⊎_elim (λ h. old_plan s old_places (id_places s 0 types) c p (each k p c h named))
+    (λ e.
+    let at : k ≡ n = e.0 ∙ count in
+    subst (λ (x : ClassPlan). IsClassPlan s (old_places ++ id_places s 0 types) c x) e.1
+    (new_plan s types old new old_places places c adds
+    (same c (ap (λ (m : ℕ). class_named heap (slice_index ids m)) (sym at) ∙ named))))
+    (get_more old adds.class k p (sym (ap (λ (ps : List ClassPlan). slice_get ps k) adds.plans_are) ∙ is)))
+
+pub no_plan : (s : ℕ) (heap : List SubRecord) (ids : List ℕ) (plans : List ClassPlan) (places : List ℕ) → plans ≡ []
+    → AreClassPlans s heap ids plans places
+no_plan s heap ids plans places none = λ k p c is named.
+    absurd (some_none (sym is ∙ ap (λ (ps : List ClassPlan). slice_get ps k) none))
+
+-- ---- the fields that are read are those of the class
+
+pub fields_read : (v : Sight) (heap : List SubRecord) (entries : List Entry) (k : ℕ) (kept : ClassPlace)
+    (read : List Member) → AreClasses v heap entries → k < length entries → IsKept entries k kept
+    → ((c : Class) → Stands v kept.place (class_dump c) → read ≡ c.members)
+    → (c : Class) → class_named heap (slice_index (ids_of entries) k) ≡ Some c → map (λ m. m.type) read ≡ own_types c
+fields_read v heap entries k kept read are h is says c named =
+    let it : IsNumbered v heap entries k = numbered v heap entries k are h in
+    let stands : Stands v kept.place (class_dump it.holds.class) =
+    subst (λ (p : ClassPlace). Stands v p.place (class_dump it.holds.class)) (sym (is it.entry it.is))
+    it.holds.stands in
+    ap (λ (ms : List Member). map (λ m. m.type) ms) (says it.holds.class stands)
+    ∙ ap own_types (same_class v heap entries k c it named)
+
+-- ---- what the plan says of a class
+
+pub record AreOwnFields (s : ℕ) (plans : List ClassPlan) (places types : List ℕ) (k : ℕ) : Type 0 where
+  pub has : HasIdPlaces plans places k
+  pub places_are : id_places_of plans places k ≡ id_places s 0 types
+  pub size_is : (plan_at plans k).size ≡ size_together s types
+
+pub fields_of_class : (s : ℕ) (heap : List SubRecord) (ids : List ℕ) (plans : List ClassPlan) (places : List ℕ) (k : ℕ)
+    (c : Class) → IsPlan s heap ids plans places → k < length ids → class_named heap (slice_index ids k) ≡ Some c
+    → AreOwnFields s plans places (own_types c) k
+fields_of_class s heap ids plans places k c plan below named =
+    let it = there_is plans k (omega (arith, below, plan.one_each)) in
+    let says : IsClassPlan s places c it.0 = plan.each k it.0 c it.1 named in
+    let is : plan_at plans k ≡ it.0 =
+    get_or_from_slice_get plans k it.0 (record { start = 0; end = 0; size = 0 }) it.1 in
+    record {
+      has = record {
+        rising = subst (λ (p : ClassPlan). p.start ≤ p.end) (sym is) says.rising;
+        within = subst (λ (p : ClassPlan). p.end ≤ length places) (sym is) says.within;
+      };
+      places_are = ap (λ (p : ClassPlan). slice_range places p.start p.end) is ∙ says.places_are;
+      size_is = ap (λ (p : ClassPlan). p.size) is ∙ says.size_is;
+    }

@@ -1,0 +1,56 @@
+-- What is planned for the classes of a dump, by their numbers: where the identifiers stand in the fields that they
+-- declare.
+use Rattle.std.specs.Prelude.{List, Some, [], length, slice_get, slice_index, slice_index_or, slice_range, ℕ, ◌++◌, ◌∷◌}
+use Rattle.std.specs.Prelude.{◌≡◌, ◌≤◌}
+use Rattle.hprof_grammar.specs.SubRecord.{Class, SubRecord}
+use Rattle.heap_graph.specs.Heap.{class_named}
+use Rattle.heap_graph.specs.working.ClassTable.{ids_of, own_types}
+use Rattle.heap_graph.specs.working.IdPlaces.{id_places, size_together}
+use Rattle.heap_graph.specs.declared.objects.Objects.{Objects}
+use Rattle.heap_graph.specs.declared.plan.ClassPlan.{ClassPlan}
+use Rattle.heap_graph.specs.declared.plan.Plan.{Plan}
+
+-- what is planned for the class of that number
+abbrev pub plan_at : List ClassPlan → ℕ → ClassPlan
+plan_at plans k = slice_index_or plans k (record { start = 0; end = 0; size = 0 })
+
+-- the places of the fields of type 2 that it declares
+abbrev pub id_places_of : List ClassPlan → List ℕ → ℕ → List ℕ
+id_places_of plans places k = slice_range places (plan_at plans k).start (plan_at plans k).end
+
+-- they stand among the places of all classes
+pub record HasIdPlaces (plans : List ClassPlan) (places : List ℕ) (k : ℕ) : Type 0 where
+  pub rising : (plan_at plans k).start ≤ (plan_at plans k).end
+  pub within : (plan_at plans k).end ≤ length places
+
+-- the places of the fields of type 2 that the class declares stand in that range, and the values of all its fields have
+-- so many bytes
+pub record IsClassPlan (s : ℕ) (places : List ℕ) (c : Class) (p : ClassPlan) : Type 0 where
+  pub rising : p.start ≤ p.end
+  pub within : p.end ≤ length places
+  pub places_are : slice_range places p.start p.end ≡ id_places s 0 (own_types c)
+  pub size_is : p.size ≡ size_together s (own_types c)
+
+-- so it is of each of these classes
+abbrev pub AreClassPlans : ℕ → List SubRecord → List ℕ → List ClassPlan → List ℕ → Type 0
+AreClassPlans s heap ids plans places = (k : ℕ) (p : ClassPlan) (c : Class) → slice_get plans k ≡ Some p
+    → class_named heap (slice_index ids k) ≡ Some c → IsClassPlan s places c p
+
+-- and they are all
+pub record IsPlan (s : ℕ) (heap : List SubRecord) (ids : List ℕ) (plans : List ClassPlan)
+    (places : List ℕ) : Type 0 where
+  pub one_each : length plans ≡ length ids
+  pub each : AreClassPlans s heap ids plans places
+
+abbrev pub IsPlanOf : {A B : Type 0} → Objects A → List SubRecord → Plan B → Type 0
+IsPlanOf o heap p = IsPlan o.view.id_size heap (ids_of o.classes.table.entries) p.classes.items p.places.items
+
+-- a class with fields of these types was added behind the others
+pub record AddsPlan (s : ℕ) (types : List ℕ) (old : List ClassPlan) (old_places : List ℕ) (new : List ClassPlan)
+    (places : List ℕ) : Type 0 where
+  pub class : ClassPlan
+  pub start_is : class.start ≡ length old_places
+  pub end_is : class.end ≡ length places
+  pub size_is : class.size ≡ size_together s types
+  pub places_are : places ≡ old_places ++ id_places s 0 types
+  pub plans_are : new ≡ old ++ class ∷ []

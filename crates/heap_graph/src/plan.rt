@@ -1,0 +1,83 @@
+//! Where the identifiers stand in the fields of instances, class by class.
+
+ghost use Rattle.std.specs.Prelude.{IfOk, OnOk, length, map, ◌++◌, ◌<◌, ◌^◌, ◌≡◌};
+ghost use Rattle.heap_graph.specs.working.IdPlaces.{id_places, size_together};
+
+use crate::types::OBJECT_TYPE;
+use hprof_grammar::{Members, View};
+use std::alloc::{AllocError, Allocator};
+
+/// What is planned for a class: where the places of its fields of type 2 begin and end among those of all classes, and
+/// how many bytes the values of all fields have that it declares.
+#[derive(Clone, Copy)]
+pub(crate) struct ClassPlan {
+    pub(crate) start: usize,
+    pub(crate) end: usize,
+    pub(crate) size: u64,
+}
+
+/// Of each class by its number: where the fields of type 2 that it declares stand among the values of its fields, and
+/// how many bytes these have. That is all of a class that is read while objects are walked.
+#[derive(Drop)]
+pub(crate) struct Plan<A: Allocator> {
+    pub(crate) classes: Vec<ClassPlan, A>,
+    /// The places of the fields of type 2, one class after the other. A field's place is how many bytes the values of
+    /// the class's fields before it have.
+    pub(crate) places: Vec<u32, A>,
+}
+
+/// Appends the places of the fields of type 2 among these, and answers how many bytes the values of all have.
+fn push_id_places<A: Allocator>(
+    view: &View<'_>,
+    members: Members<'_>,
+    places: &mut Vec<u32, A>,
+) -> Result<u64, AllocError>
+    requires { length members < 2 ^ 16 }
+    ensures places { OnOk result (places.new.items
+        ≡ places.old.items ++ id_places view.now.id_size 0 (map (λ m. m.type) members.entry)) }
+    ensures size { IfOk result (λ size. size ≡ size_together view.now.id_size (map (λ m. m.type) members.entry)) }
+{
+    let mut size = 0;
+    for member in members {
+        if member.type_code == OBJECT_TYPE {
+            places.push(size)?;
+        }
+        size += u32::from(view.size_of(member.type_code));
+    }
+    Ok(u64::from(size))
+}
+
+impl<A: Allocator> Plan<A> {
+    ghost use Rattle.heap_graph.specs.working.ClassPlans.{AddsPlan, HasIdPlaces, id_places_of, plan_at};
+
+    /// Adds a class with these fields.
+    pub(crate) fn push(&mut self, view: &View<'_>, members: Members<'_>) -> Result<(), AllocError>
+        requires { length members < 2 ^ 16 }
+        ensures { OnOk result (AddsPlan view.now.id_size (map (λ m. m.type) members.entry)
+            self.old.classes.items self.old.places.items self.new.classes.items self.new.places.items) }
+    {
+        let start = self.places.len();
+        let size = push_id_places(view, members, &mut self.places)?;
+        let end = self.places.len();
+        self.classes.push(ClassPlan { start, end, size })?;
+        Ok(())
+    }
+
+    /// How many bytes the values of all fields have that a class declares.
+    pub(crate) fn bytes_of(&self, number: u32) -> u64
+        requires { number < length self.now.classes.items }
+        ensures { result ≡ (plan_at self.now.classes.items number).size }
+    {
+        self.classes[number as usize].size
+    }
+
+    /// The places of the fields of type 2 that a class declares.
+    pub(crate) fn id_places(&self, number: u32) -> &[u32]
+        requires below { number < length self.now.classes.items }
+        requires within { HasIdPlaces self.now.classes.items self.now.places.items number }
+        ensures { result.now ≡ id_places_of self.now.classes.items self.now.places.items number }
+    {
+        let class = self.classes[number as usize];
+        &self.places[class.start..class.end]
+    }
+}
