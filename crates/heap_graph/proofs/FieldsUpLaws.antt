@@ -124,16 +124,17 @@ both_sizes s heap ids types k b =
     ap (λ (ts : List ℕ). sum_by (λ t. size_of s t) ts) b.types_are
     ∙ sum_by-append (λ t. size_of s t) (own_types b.class) (layout_types b.rest)
 
-pub have_fields : (v : Sight) (heap : List SubRecord) (entries : List Entry) (plans : List ClassPlan) (places : List ℕ)
-    (known : List Fate) (ks types values : List ℕ) (first : Option ℕ) → 1 ≤ v.id_size → AreTold v heap entries known
-    → IsPlan v.id_size heap (ids_of entries) plans places → IsFirst heap (ids_of entries) types first
+pub have_fields : (v : Sight) (heap : List SubRecord) (all : List ℕ) (entries : List Entry) (plans : List ClassPlan)
+    (places : List ℕ) (known : List Fate) (ks types values : List ℕ) (first : Option ℕ) → 1 ≤ v.id_size
+    → AreTold v heap entries known
+    → IsPlan v.id_size heap all (ids_of entries) plans places → IsFirst heap (ids_of entries) types first
     → size_together v.id_size types ≤ length values → AreUp known first ks
     → HaveFields v.id_size plans places known ks values
-have_fields v heap entries plans places known [] types values first low told plan is room up = tt
-have_fields v heap entries plans places known (k ∷ ks) types values first low told plan is room up =
+have_fields v heap all entries plans places known [] types values first low told plan is room up = tt
+have_fields v heap all entries plans places known (k ∷ ks) types values first low told plan is room up =
     let b : BeginsAt heap (ids_of entries) types k = begins_at heap (ids_of entries) types first k up.0 is in
     let own : AreOwnFields v.id_size plans places (own_types b.class) k =
-    fields_of_class v.id_size heap (ids_of entries) plans places k b.class plan b.below b.named in
+    fields_of_class v.id_size heap all (ids_of entries) plans places k b.class plan b.below b.named in
     let sizes : size_together v.id_size types
     ≡ size_together v.id_size (own_types b.class) + size_together v.id_size (layout_types b.rest) =
     both_sizes v.id_size heap (ids_of entries) types k b in (
@@ -144,27 +145,27 @@ have_fields v heap entries plans places known (k ∷ ks) types values first low 
         stand = own_stand v.id_size
             plans places (own_types b.class) values k own low (omega (arith, sizes, room));
       },
-      have_fields v heap entries plans places known ks (layout_types b.rest) (drop (plan_at plans k).size values)
+      have_fields v heap all entries plans places known ks (layout_types b.rest) (drop (plan_at plans k).size values)
           (next_above known k) low told plan (first_above v heap entries types known k told b)
           (omega (arith, sizes, room, own.size_is, length-drop (plan_at plans k).size values)) up.1,
     )
 
-pub ids_up_are : (v : Sight) (heap : List SubRecord) (entries : List Entry) (plans : List ClassPlan) (places : List ℕ)
-    (known : List Fate) (ks types values : List ℕ) (first : Option ℕ) → AreTold v heap entries known
-    → IsPlan v.id_size heap (ids_of entries) plans places → IsFirst heap (ids_of entries) types first
+pub ids_up_are : (v : Sight) (heap : List SubRecord) (all : List ℕ) (entries : List Entry) (plans : List ClassPlan)
+    (places : List ℕ) (known : List Fate) (ks types values : List ℕ) (first : Option ℕ) → AreTold v heap entries known
+    → IsPlan v.id_size heap all (ids_of entries) plans places → IsFirst heap (ids_of entries) types first
     → AreUp known first ks → ids_up v.id_size plans places ks values ≡ typed_ids v.id_size types values
-ids_up_are v heap entries plans places known [] types values first told plan is up =
+ids_up_are v heap all entries plans places known [] types values first told plan is up =
     let none : types ≡ [] = subst (λ (f : Option ℕ). IsFirst heap (ids_of entries) types f) up is in
     ap (λ (ts : List ℕ). typed_ids v.id_size ts values) (sym none)
-ids_up_are v heap entries plans places known (k ∷ ks) types values first told plan is up =
+ids_up_are v heap all entries plans places known (k ∷ ks) types values first told plan is up =
     let b : BeginsAt heap (ids_of entries) types k = begins_at heap (ids_of entries) types first k up.0 is in
     let own : AreOwnFields v.id_size plans places (own_types b.class) k =
-    fields_of_class v.id_size heap (ids_of entries) plans places k b.class plan b.below b.named in
+    fields_of_class v.id_size heap all (ids_of entries) plans places k b.class plan b.below b.named in
     let behind : List ℕ = drop (plan_at plans k).size values in
     ap (λ (ids : List ℕ). ids ++ ids_up v.id_size plans places ks behind)
     (own_ids v.id_size plans places (own_types b.class) values k own)
     ∙ ap (λ (ids : List ℕ). typed_ids v.id_size (own_types b.class) values ++ ids)
-    (ids_up_are v heap entries plans places known ks (layout_types b.rest) behind (next_above known k) told plan
+    (ids_up_are v heap all entries plans places known ks (layout_types b.rest) behind (next_above known k) told plan
     (first_above v heap entries types known k told b) up.1
     ∙ ap (λ (n : ℕ). typed_ids v.id_size (layout_types b.rest) (drop n values)) own.size_is)
     ∙ sym (ap (λ (ts : List ℕ). typed_ids v.id_size ts values) b.types_are

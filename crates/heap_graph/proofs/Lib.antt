@@ -37,6 +37,7 @@ pub mod MissingLaws
 pub mod Walking
 pub mod Visiting
 pub mod Answering
+pub mod FirstNamed
 pub mod Superclasses
 pub mod AllTold
 pub mod Wholeness

@@ -1,5 +1,5 @@
 -- What is planned for the classes: the plan grows by one class after the other, and tells the fields of each.
-use Rattle.std.proofs.Common.{List, Some, [], ap, arith, drop, inl, inr, length, length-append, map, refl}
+use Rattle.std.proofs.Common.{List, None, Option, Some, [], ap, arith, drop, inl, inr, length, length-append, map, refl}
 use Rattle.std.proofs.Common.{slice_get}
 use Rattle.std.proofs.Common.{subst, suc, sym, take, zero, ⊎_elim, ℕ, ◌++◌, ◌-◌, ◌<◌, ◌∙◌, ◌∷◌, ◌≡◌, ◌≤◌, ◌⊎◌}
 use Rattle.std.specs.Prelude.{slice_index, slice_range}
@@ -12,10 +12,12 @@ use Rattle.hprof_grammar.specs.SubRecord.SubRecord.{class_dump}
 use Rattle.heap_graph.specs.declared.classes.ClassPlace.{ClassPlace}
 use Rattle.heap_graph.specs.declared.plan.ClassPlan.{ClassPlan}
 use Rattle.heap_graph.specs.Heap.{class_named}
-use Rattle.heap_graph.specs.working.ClassPlans.{AddsPlan, AreClassPlans, HasIdPlaces, IsClassPlan, IsPlan, id_places_of}
-use Rattle.heap_graph.specs.working.ClassPlans.{plan_at}
+use Rattle.heap_graph.specs.working.ClassPlans.{AddsPlan, AreClassObjects, AreClassPlans, HasIdPlaces, IsClassPlan}
+use Rattle.heap_graph.specs.working.ClassPlans.{IsPlan}
+use Rattle.heap_graph.specs.working.ClassPlans.{id_places_of, plan_at}
 use Rattle.heap_graph.specs.working.ClassTable.{AreClasses, Entry, ids_of, own_types}
 use Rattle.heap_graph.specs.working.IdPlaces.{id_places, size_together}
+use Rattle.heap_graph.specs.working.Resolving.{target_in}
 use Rattle.heap_graph.proofs.ChainLaws.{some_inj, some_none}
 use Rattle.heap_graph.proofs.ClassTableLaws.{IsKept, IsNumbered, numbered, same_class, there_is}
 
@@ -44,10 +46,10 @@ old_plan s places more c p is = record {
   size_is = is.size_is;
 }
 
-new_plan : (s : ℕ) (types : List ℕ) (old new : List ClassPlan) (old_places places : List ℕ) (c : Class)
-    (adds : AddsPlan s types old old_places new places) → types ≡ own_types c
+new_plan : (s : ℕ) (types : List ℕ) (object : Option ℕ) (old new : List ClassPlan) (old_places places : List ℕ)
+    (c : Class) (adds : AddsPlan s types object old old_places new places) → types ≡ own_types c
     → IsClassPlan s (old_places ++ id_places s 0 types) c adds.class
-new_plan s types old new old_places places c adds same = record {
+new_plan s types object old new old_places places c adds same = record {
   rising = omega (arith, adds.start_is, end, length-append old_places (id_places s 0 types));
   within = omega (arith, end);
   places_are =
@@ -66,20 +68,35 @@ get_more [] new (suc k) p is = absurd (some_none (sym is))
 get_more (x ∷ xs) new zero p is = inl is
 get_more (x ∷ xs) new (suc k) p is = ⊎_elim inl (λ e. inr (omega (arith, e.0), e.1)) (get_more xs new k p is)
 
-pub plan_more : (s : ℕ) (heap : List SubRecord) (ids types : List ℕ) (old new : List ClassPlan)
+pub plan_more : (s : ℕ) (heap : List SubRecord) (ids types : List ℕ) (object : Option ℕ) (old new : List ClassPlan)
     (old_places places : List ℕ) (n : ℕ) → length old ≡ n → AreClassPlans s heap ids old old_places
-    → AddsPlan s types old old_places new places
+    → AddsPlan s types object old old_places new places
     → ((c : Class) → class_named heap (slice_index ids n) ≡ Some c → types ≡ own_types c)
     → AreClassPlans s heap ids new places
-plan_more s heap ids types old new old_places places n count each adds same = λ k p c is named.
+plan_more s heap ids types object old new old_places places n count each adds same = λ k p c is named.
     subst (λ (ps : List ℕ). IsClassPlan s ps c p) (sym adds.places_are)
     (⊎_elim (λ h. old_plan s old_places (id_places s 0 types) c p (each k p c h named))
     (λ e.
     let at : k ≡ n = e.0 ∙ count in
     subst (λ (x : ClassPlan). IsClassPlan s (old_places ++ id_places s 0 types) c x) e.1
-    (new_plan s types old new old_places places c adds
+    (new_plan s types object old new old_places places c adds
     (same c (ap (λ (m : ℕ). class_named heap (slice_index ids m)) (sym at) ∙ named))))
     (get_more old adds.class k p (sym (ap (λ (ps : List ClassPlan). slice_get ps k) adds.plans_are) ∙ is)))
+
+pub objects_more : (s : ℕ) (all ids types : List ℕ) (object : Option ℕ) (old new : List ClassPlan)
+    (old_places places : List ℕ) (n : ℕ) → length old ≡ n → AreClassObjects all ids old
+    → AddsPlan s types object old old_places new places → object ≡ target_in all (slice_index ids n)
+    → AreClassObjects all ids new
+objects_more s all ids types object old new old_places places n count each adds same = λ k p is.
+    ⊎_elim (λ h. each k p h)
+    (λ e.
+    ap (λ (x : ClassPlan). x.object) (sym e.1) ∙ adds.object_is ∙ same
+    ∙ ap (λ (m : ℕ). target_in all (slice_index ids m)) (sym (e.0 ∙ count)))
+    (get_more old adds.class k p (sym (ap (λ (ps : List ClassPlan). slice_get ps k) adds.plans_are) ∙ is))
+
+pub no_object : (all ids : List ℕ) (plans : List ClassPlan) → plans ≡ [] → AreClassObjects all ids plans
+no_object all ids plans none = λ k p is.
+    absurd (some_none (sym is ∙ ap (λ (ps : List ClassPlan). slice_get ps k) none))
 
 pub no_plan : (s : ℕ) (heap : List SubRecord) (ids : List ℕ) (plans : List ClassPlan) (places : List ℕ) → plans ≡ []
     → AreClassPlans s heap ids plans places
@@ -107,14 +124,15 @@ pub record AreOwnFields (s : ℕ) (plans : List ClassPlan) (places types : List 
   pub places_are : id_places_of plans places k ≡ id_places s 0 types
   pub size_is : (plan_at plans k).size ≡ size_together s types
 
-pub fields_of_class : (s : ℕ) (heap : List SubRecord) (ids : List ℕ) (plans : List ClassPlan) (places : List ℕ) (k : ℕ)
-    (c : Class) → IsPlan s heap ids plans places → k < length ids → class_named heap (slice_index ids k) ≡ Some c
+pub fields_of_class : (s : ℕ) (heap : List SubRecord) (all ids : List ℕ) (plans : List ClassPlan) (places : List ℕ)
+    (k : ℕ) (c : Class) → IsPlan s heap all ids plans places → k < length ids
+    → class_named heap (slice_index ids k) ≡ Some c
     → AreOwnFields s plans places (own_types c) k
-fields_of_class s heap ids plans places k c plan below named =
+fields_of_class s heap all ids plans places k c plan below named =
     let it = there_is plans k (omega (arith, below, plan.one_each)) in
     let says : IsClassPlan s places c it.0 = plan.each k it.0 c it.1 named in
     let is : plan_at plans k ≡ it.0 =
-    get_or_from_slice_get plans k it.0 (record { start = 0; end = 0; size = 0 }) it.1 in
+    get_or_from_slice_get plans k it.0 (record { start = 0; end = 0; size = 0; object = None }) it.1 in
     record {
       has = record {
         rising = subst (λ (p : ClassPlan). p.start ≤ p.end) (sym is) says.rising;

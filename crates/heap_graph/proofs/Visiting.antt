@@ -1,9 +1,12 @@
 -- A visit of an object: what it misses in all stays the same.
-use Rattle.std.proofs.Common.{Bool, List, None, Option, Some, [], ap, arith, cond, count_by, false, length, map, refl, sym, true, ℕ, ◌+◌, ◌^◌, ◌∙◌, ◌∷◌, ◌≡◌, ◌≤◌}
-use Rattle.std.specs.Prelude.{is_none, position, ◌==◌}
+use Rattle.std.proofs.Common.{Bool, List, None, Option, Some, [], ap, arith, cond, count_by, false, length, map, refl}
+use Rattle.std.proofs.Common.{subst, sym, true, ℕ, ◌+◌, ◌^◌, ◌∙◌, ◌∷◌, ◌≡◌, ◌≤◌}
+use Rattle.std.specs.Iterator.{YieldsFirst}
+use Rattle.std.specs.Prelude.{IfSome, is_none, position, ◌==◌}
 use Rattle.std.proofs.lemmas.List.Sums.{sum_by-cons}
 use Rattle.heap_graph.specs.declared.row.RowKey.{RowKey}
 use Rattle.heap_graph.specs.Walks.{GoesOn, Step, Visited, is_missing, misses, missing_in, step_in, target_in}
+use Rattle.heap_graph.specs.working.Resolving.{Leads}
 use Rattle.heap_graph.proofs.Walking.{HasPassed, goes_to, goes_to_end, passed_none, passed_one}
 
 -- ---- what a step misses
@@ -120,3 +123,21 @@ goes_end old row bytes missing all before after h e f = record {
   bytes_is = h.bytes_is;
   missing_is = ap (λ (ids : List ℕ). missing + missing_in (map (step_in all) ids)) (f ∙ sym e) ∙ h.missing_is;
 }
+
+-- ---- the first step, where it is known what it names
+
+leads_to : (all ids : List ℕ) (first : Option ℕ) (o : ℕ) → IfSome first (Leads all ids) → first ≡ Some o
+    → Leads all ids o
+leads_to all ids first o h e = subst (λ (f : Option ℕ). IfSome f (Leads all ids)) e h
+
+pub leads_nowhere : (all ids : List ℕ) (first : Option ℕ) → first ≡ None → IfSome first (Leads all ids)
+leads_nowhere all ids first e = subst (λ (f : Option ℕ). IfSome f (Leads all ids)) (sym e) tt
+
+-- the identifier that was passed names the object
+pub known : (all : List ℕ) (id o : ℕ) (before after : List ℕ) (first : Option ℕ) → IfSome first (Leads all before)
+    → first ≡ Some o → before ≡ id ∷ after → Some o ≡ target_in all id
+known all id o before after first leads e is =
+    let it : Leads all before o = leads_to all before first o leads e in
+    let both : it.0 ∷ it.1 ≡ id ∷ after = sym it.2 ∙ is in
+    let same : it.0 ≡ id = cc in
+    sym it.3 ∙ ap (λ (x : ℕ). target_in all x) same

@@ -86,7 +86,8 @@ impl<'a, A: Allocator> Graph<'a, A> {
         ensures missing { result.missing + missing_in result.left ≡ missing_at self.now object }
     {
         let (row, bytes, ids) = self.objects.scan(&self.plan, object as usize);
-        Visit::new(&self.objects.index, ids, row, bytes)
+        let first = self.plan.object_of_row(row);
+        Visit::new(&self.objects.index, ids, row, bytes, first)
     }
 
     /// The row of an object in the histogram.

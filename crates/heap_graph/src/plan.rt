@@ -3,21 +3,24 @@
 ghost use Rattle.std.specs.Prelude.{IfOk, OnOk, length, map, ◌++◌, ◌<◌, ◌^◌, ◌≡◌};
 ghost use Rattle.heap_graph.specs.working.IdPlaces.{id_places, size_together};
 
+use crate::row::RowKey;
 use crate::types::OBJECT_TYPE;
 use hprof_grammar::{Members, View};
 use std::alloc::{AllocError, Allocator};
 
-/// What is planned for a class: where the places of its fields of type 2 begin and end among those of all classes, and
-/// how many bytes the values of all fields have that it declares.
+/// What is planned for a class: where the places of its fields of type 2 begin and end among those of all classes, how
+/// many bytes the values of all fields have that it declares, and the object that its identifier names, the class
+/// itself.
 #[derive(Clone, Copy)]
 pub(crate) struct ClassPlan {
     pub(crate) start: usize,
     pub(crate) end: usize,
     pub(crate) size: u64,
+    pub(crate) object: Option<u32>,
 }
 
-/// Of each class by its number: where the fields of type 2 that it declares stand among the values of its fields, and
-/// how many bytes these have. That is all of a class that is read while objects are walked.
+/// Of each class by its number: where the fields of type 2 that it declares stand among the values of its fields, how
+/// many bytes these have, and the number of the class among the objects. A step up a chain reads this and a fate.
 #[derive(Drop)]
 pub(crate) struct Plan<A: Allocator> {
     pub(crate) classes: Vec<ClassPlan, A>,
@@ -48,18 +51,29 @@ fn push_id_places<A: Allocator>(
 }
 
 impl<A: Allocator> Plan<A> {
-    ghost use Rattle.heap_graph.specs.working.ClassPlans.{AddsPlan, HasIdPlaces, id_places_of, plan_at};
+    ghost use Rattle.heap_graph.specs.working.ClassPlans.{AddsPlan, HasIdPlaces, HasPlan, id_places_of, object_of_row};
+    ghost use Rattle.heap_graph.specs.working.ClassPlans.{plan_at};
 
-    /// Adds a class with these fields.
-    pub(crate) fn push(&mut self, view: &View<'_>, members: Members<'_>) -> Result<(), AllocError>
+    /// Adds a class with these fields, whose identifier names that object.
+    pub(crate) fn push(
+        &mut self,
+        view: &View<'_>,
+        members: Members<'_>,
+        object: Option<u32>,
+    ) -> Result<(), AllocError>
         requires { length members < 2 ^ 16 }
-        ensures { OnOk result (AddsPlan view.now.id_size (map (λ m. m.type) members.entry)
+        ensures { OnOk result (AddsPlan view.now.id_size (map (λ m. m.type) members.entry) object
             self.old.classes.items self.old.places.items self.new.classes.items self.new.places.items) }
     {
         let start = self.places.len();
         let size = push_id_places(view, members, &mut self.places)?;
         let end = self.places.len();
-        self.classes.push(ClassPlan { start, end, size })?;
+        self.classes.push(ClassPlan {
+            start,
+            end,
+            size,
+            object,
+        })?;
         Ok(())
     }
 
@@ -79,5 +93,16 @@ impl<A: Allocator> Plan<A> {
     {
         let class = self.classes[number as usize];
         &self.places[class.start..class.end]
+    }
+
+    /// The object that is the class of a row's objects: none for a row that is of no class.
+    pub(crate) fn object_of_row(&self, row: RowKey) -> Option<u32>
+        requires { HasPlan self.now.classes.items row }
+        ensures { result ≡ object_of_row self.now.classes.items row }
+    {
+        match row {
+            RowKey::Class(number) => return self.classes[number as usize].object,
+            _ => return None,
+        }
     }
 }

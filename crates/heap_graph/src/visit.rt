@@ -8,19 +8,22 @@ use std::marker::Model;
 
 /// An iterator over the numbers of the objects that an object refers to. It has the object's row and bytes, and counts
 /// the identifiers other than 0 that name no object. It reads the identifiers from the bytes, and looks each of them
-/// up.
+/// up but the first of an instance or an object array, which names its class.
 #[derive(Drop)]
 pub struct Visit<'g, A: Allocator> {
     index: &'g Index<A>,
     ids: HeldIds<'g, A>,
+    /// The object that the first of these identifiers names, where it is known without a look-up.
+    first: Option<u32>,
     row: RowKey,
     bytes: u64,
     missing: u64,
 }
 
 impl<'g, A: Allocator> Model for Visit<'g, A> {
-    ghost use Rattle.std.specs.Prelude.{length, map, ◌+◌, ◌^◌, ◌≤◌};
+    ghost use Rattle.std.specs.Prelude.{IfSome, length, map, ◌+◌, ◌^◌, ◌≤◌};
     ghost use Rattle.heap_graph.specs.Walks.{Visited, step_in};
+    ghost use Rattle.heap_graph.specs.working.Resolving.{Leads};
 
     ghost Value = { Visited };
 
@@ -31,21 +34,34 @@ impl<'g, A: Allocator> Model for Visit<'g, A> {
       left = map (step_in v.index.now) v.ids;
     } };
 
-    ghost invariant = { λ v. v.missing + length v.ids ≤ 2 ^ 33 };
+    ghost invariant = { λ v. record {
+      few : v.missing + length v.ids ≤ 2 ^ 33;
+      leads : IfSome v.first (Leads v.index.now v.ids);
+    } };
 }
 
 impl<'g, A: Allocator> Visit<'g, A> {
-    ghost use Rattle.std.specs.Prelude.{length, map, ◌^◌, ◌≡◌, ◌≤◌};
+    ghost use Rattle.std.specs.Prelude.{IfSome, length, map, ◌^◌, ◌≡◌, ◌≤◌};
     ghost use Rattle.heap_graph.specs.Walks.{step_in};
+    ghost use Rattle.heap_graph.specs.working.Resolving.{Leads};
 
-    /// The objects that these identifiers name, of an object with that row and so many bytes.
-    pub(crate) fn new(index: &'g Index<A>, ids: HeldIds<'g, A>, row: RowKey, bytes: u64) -> Self
-        requires { length ids ≤ 2 ^ 33 }
+    /// The objects that these identifiers name, of an object with that row and so many bytes. `first` is what the first
+    /// of them names, where it is known.
+    pub(crate) fn new(
+        index: &'g Index<A>,
+        ids: HeldIds<'g, A>,
+        row: RowKey,
+        bytes: u64,
+        first: Option<u32>,
+    ) -> Self
+        requires few { length ids ≤ 2 ^ 33 }
+        requires leads { IfSome first (Leads index.now ids) }
         ensures { result ≡ record { row = row; bytes = bytes; missing = 0; left = map (step_in index.now) ids.entry } }
     {
         Visit {
             index,
             ids,
+            first,
             row,
             bytes,
             missing: 0,
@@ -87,6 +103,9 @@ impl<'g, A: Allocator> Iterator for Visit<'g, A> {
 
     fn next(&mut self) -> Option<u32> {
         while let Some(id) = self.ids.next() {
+            if let Some(object) = self.first.take() {
+                return Some(object);
+            }
             if let Some(object) = self.index.target(id) {
                 return Some(object);
             }

@@ -1,7 +1,8 @@
 -- What is planned for the classes of a dump, by their numbers: where the identifiers stand in the fields that they
 -- declare.
-use Rattle.std.specs.Prelude.{List, Some, [], length, slice_get, slice_index, slice_index_or, slice_range, ℕ, ◌++◌, ◌∷◌}
-use Rattle.std.specs.Prelude.{◌≡◌, ◌≤◌}
+use Rattle.std.specs.Prelude.{List, None, Option, Some, [], length, slice_get, slice_index, slice_index_or, slice_range}
+use Rattle.std.specs.Prelude.{ℕ, ◌++◌, ◌∷◌}
+use Rattle.std.specs.Prelude.{◌<◌, ◌≡◌, ◌≤◌}
 use Rattle.hprof_grammar.specs.SubRecord.{Class, SubRecord}
 use Rattle.heap_graph.specs.Heap.{class_named}
 use Rattle.heap_graph.specs.working.ClassTable.{ids_of, own_types}
@@ -9,14 +10,28 @@ use Rattle.heap_graph.specs.working.IdPlaces.{id_places, size_together}
 use Rattle.heap_graph.specs.declared.objects.Objects.{Objects}
 use Rattle.heap_graph.specs.declared.plan.ClassPlan.{ClassPlan}
 use Rattle.heap_graph.specs.declared.plan.Plan.{Plan}
+use Rattle.heap_graph.specs.declared.row.RowKey.{RowKey}
+use Rattle.heap_graph.specs.declared.row.RowKey.TheVariants as keys
+use Rattle.heap_graph.specs.working.Resolving.{target_in}
 
 -- what is planned for the class of that number
 abbrev pub plan_at : List ClassPlan → ℕ → ClassPlan
-plan_at plans k = slice_index_or plans k (record { start = 0; end = 0; size = 0 })
+plan_at plans k = slice_index_or plans k (record { start = 0; end = 0; size = 0; object = None })
 
 -- the places of the fields of type 2 that it declares
 abbrev pub id_places_of : List ClassPlan → List ℕ → ℕ → List ℕ
 id_places_of plans places k = slice_range places (plan_at plans k).start (plan_at plans k).end
+
+-- the object of the class that the objects of a row are of, and that such a class is planned
+abbrev pub object_of_row : List ClassPlan → RowKey → Option ℕ
+object_of_row plans (keys.Class k) = (plan_at plans k).object
+object_of_row plans (keys.Primitive t) = None
+object_of_row plans keys.ClassObject = None
+
+abbrev pub HasPlan : List ClassPlan → RowKey → Type 0
+HasPlan plans (keys.Class k) = k < length plans
+HasPlan plans (keys.Primitive t) = Unit {0}
+HasPlan plans keys.ClassObject = Unit {0}
 
 -- they stand among the places of all classes
 pub record HasIdPlaces (plans : List ClassPlan) (places : List ℕ) (k : ℕ) : Type 0 where
@@ -36,21 +51,29 @@ abbrev pub AreClassPlans : ℕ → List SubRecord → List ℕ → List ClassPla
 AreClassPlans s heap ids plans places = (k : ℕ) (p : ClassPlan) (c : Class) → slice_get plans k ≡ Some p
     → class_named heap (slice_index ids k) ≡ Some c → IsClassPlan s places c p
 
+-- and of each of them the object that its identifier names, among objects with these identifiers
+abbrev pub AreClassObjects : List ℕ → List ℕ → List ClassPlan → Type 0
+AreClassObjects all ids plans = (k : ℕ) (p : ClassPlan) → slice_get plans k ≡ Some p
+    → p.object ≡ target_in all (slice_index ids k)
+
 -- and they are all
-pub record IsPlan (s : ℕ) (heap : List SubRecord) (ids : List ℕ) (plans : List ClassPlan)
+pub record IsPlan (s : ℕ) (heap : List SubRecord) (all ids : List ℕ) (plans : List ClassPlan)
     (places : List ℕ) : Type 0 where
   pub one_each : length plans ≡ length ids
   pub each : AreClassPlans s heap ids plans places
+  pub objects_are : AreClassObjects all ids plans
 
 abbrev pub IsPlanOf : {A B : Type 0} → Objects A → List SubRecord → Plan B → Type 0
-IsPlanOf o heap p = IsPlan o.view.id_size heap (ids_of o.classes.table.entries) p.classes.items p.places.items
+IsPlanOf o heap p =
+    IsPlan o.view.id_size heap o.index (ids_of o.classes.table.entries) p.classes.items p.places.items
 
--- a class with fields of these types was added behind the others
-pub record AddsPlan (s : ℕ) (types : List ℕ) (old : List ClassPlan) (old_places : List ℕ) (new : List ClassPlan)
-    (places : List ℕ) : Type 0 where
+-- a class with fields of these types, whose identifier names that object, was added behind the others
+pub record AddsPlan (s : ℕ) (types : List ℕ) (object : Option ℕ) (old : List ClassPlan) (old_places : List ℕ)
+    (new : List ClassPlan) (places : List ℕ) : Type 0 where
   pub class : ClassPlan
   pub start_is : class.start ≡ length old_places
   pub end_is : class.end ≡ length places
   pub size_is : class.size ≡ size_together s types
   pub places_are : places ≡ old_places ++ id_places s 0 types
+  pub object_is : class.object ≡ object
   pub plans_are : new ≡ old ++ class ∷ []

@@ -1,6 +1,10 @@
 -- What identifiers name, from the identifiers of the objects in their order.
-use Rattle.std.specs.Prelude.{Bool, List, count_by, filter_map, option_to_list, ℕ, ◌++◌, ◌≡◌}
+use Rattle.std.specs.Prelude.{Bool, List, Some, count_by, filter_map, option_to_list, ℕ, ◌++◌, ◌∷◌, ◌≡◌}
 pub use Rattle.heap_graph.specs.Walks.{is_missing, step_in, target_in}
+
+-- the first of the identifiers names that object
+abbrev pub Leads : List ℕ → List ℕ → ℕ → Type 0
+Leads all ids o = (id : ℕ) × (rest : List ℕ) × (ids ≡ id ∷ rest) × (target_in all id ≡ Some o)
 
 -- the object that the identifier names was appended, or it is missing
 pub record ResolvesOne (all : List ℕ) (id : ℕ) (old new : List ℕ) (missing : Bool) : Type 0 where

@@ -24,7 +24,8 @@ impl<'d, A: Allocator> Objects<'d, A> {
         };
         for number in 0..count {
             let place = self.classes.entry(number as u32).place;
-            plan.push(&self.view, self.view.members(place))?;
+            let object = self.index.target(self.classes.id(number as u32));
+            plan.push(&self.view, self.view.members(place), object)?;
         }
         Ok(plan)
     }

@@ -1,23 +1,64 @@
 -- Row, bytes and identifiers are those of the one object of that number; nothing is missed before the first step.
-use Rattle.std.proofs.Common.{List, ap, arith, map, subst, sym, ℕ, ◌∙◌}
+use Rattle.std.proofs.Common.{List, Option, ap, arith, map, subst, sym, ℕ, ◌∙◌, ◌≡◌}
+use Rattle.std.specs.Prelude.{IfSome}
 use Rattle.heap_graph.specs.declared.row.RowKey.{RowKey}
 use Rattle.heap_graph.specs.Heap.{heap_of}
-use Rattle.heap_graph.specs.ObjectGraph.{IsGraphOf, ObjectGraph}
+use Rattle.heap_graph.specs.ObjectGraph.{IsGraphOf, ObjectGraph, row_at}
+use Rattle.heap_graph.specs.Rows.{row_of}
 use Rattle.heap_graph.specs.Whole.{IsRowIn, IsWhole, held_by}
 use Rattle.heap_graph.specs.Walks.{Step, Visited, missing_in, references_in, step_in}
+use Rattle.heap_graph.specs.working.ClassPlans.{HasPlan, object_of_row}
 use Rattle.heap_graph.specs.working.HeldIds.{AreIdsOfNumber}
+use Rattle.heap_graph.specs.working.Resolving.{Leads}
 use Rattle.heap_graph.proofs.Answering.{IsOneOf, bytes_here, held_here, one_of, references_here, row_here}
+use Rattle.heap_graph.proofs.FirstNamed.{classes_planned, first_leads, row_planned}
 use Rattle.heap_graph.proofs.Targets.{same_targets}
 use Rattle.heap_graph.proofs.Visiting.{missing-steps}
 use Rattle.heap_graph.proofs.Walking.{targets_of_steps}
+use Rattle.heap_graph.proofs.graph.Graph.visit.Goals.{After-scan-row}
 use Rattle.heap_graph.proofs.graph.Graph.visit.Goals as goal
 
-pub new-requires : goal.new-requires
-new-requires g c =
+pub object_of_row-first-requires : goal.object_of_row-first-requires
+object_of_row-first-requires g c =
+    let inv = c.self.invariant in
+    let s = c.self.inside.objects.view.id_size in
+    let graph : IsGraphOf s inv.records c.args.self.now =
+    subst (λ (v : ObjectGraph). IsGraphOf c.self.inside.objects.view.id_size inv.records v) c.self.view_is
+    inv.graph in
+    let whole : IsWhole c.args.self.now = subst (λ (v : ObjectGraph). IsWhole v) c.self.view_is inv.whole in
+    let it : IsOneOf (heap_of inv.records) c.args.object =
+    one_of s inv.records c.args.self.now c.args.object graph c.requires in
+    let row : c.scan-row.result.0 ≡ row_at c.args.self.now c.args.object =
+    c.scan-row.ensures.row (heap_of inv.records) it.object inv.linked inv.told it.is
+    ∙ sym (row_here s inv.records c.args.self.now c.args.object it.object graph it.is) in
+    row_planned c.args.self.now c.self.inside.plan.classes.items c.scan-row.result.0
+    (classes_planned s inv.records c.args.self.now _ _ _ _ graph (inv.told.classes.in_order inv.linked.linked)
+    inv.planned)
+    (subst (λ (r : RowKey). IsRowIn c.args.self.now r) (sym row) (whole.rows_within c.args.object c.requires))
+
+pub new-requires-clause-few : goal.new-requires-clause-few
+new-requires-clause-few g c =
     let inv = c.self.invariant in
     let held : AreIdsOfNumber c.self.inside.objects.view.id_size (heap_of inv.records) c.args.object
     c.scan-row.result.2 = c.scan-row.ensures.ids (heap_of inv.records) inv.linked inv.told inv.planned in
     held.are.few
+
+pub new-requires-clause-leads : goal.new-requires-clause-leads
+new-requires-clause-leads g c =
+    let inv = c.self.invariant in
+    let s = c.self.inside.objects.view.id_size in
+    let plans = c.self.inside.plan.classes.items in
+    let held : AreIdsOfNumber s (heap_of inv.records) c.args.object c.scan-row.result.2 =
+    c.scan-row.ensures.ids (heap_of inv.records) inv.linked inv.told inv.planned in
+    let row : c.scan-row.result.0 ≡ row_of (heap_of inv.records) held.object =
+    c.scan-row.ensures.row (heap_of inv.records) held.object inv.linked inv.told held.is in
+    let has : HasPlan plans (row_of (heap_of inv.records) held.object) =
+    subst (λ (r : RowKey). HasPlan plans r) row
+    (object_of_row-first-requires g (goal.at.new-requires-clause-leads g c).After-scan-row) in
+    subst (λ (o : Option ℕ). IfSome o (Leads c.self.inside.objects.index c.scan-row.result.2))
+    (ap (λ (r : RowKey). object_of_row plans r) (sym row) ∙ sym c.object_of_row-first.ensures)
+    (first_leads s (heap_of inv.records) c.self.inside.objects.index _ c.scan-row.result.2 plans held.object
+    (inv.told.classes.in_order inv.linked.linked) inv.planned.one_each inv.planned.objects_are held.are.are has)
 
 pub returns-clause-row : goal.returns-clause-row
 returns-clause-row g c =

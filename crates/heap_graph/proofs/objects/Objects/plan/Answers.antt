@@ -1,9 +1,10 @@
 -- The class of each number stands at its place, so the fields that are read there are those that are planned.
-use Rattle.std.proofs.Common.{[], ap, arith, length, length-append, ◌<◌, ◌^◌, ◌∷◌}
+use Rattle.std.proofs.Common.{[], ap, arith, length, length-append, ℕ, ◌<◌, ◌^◌, ◌∙◌, ◌∷◌}
 use Rattle.hprof_grammar.proofs.BoundsLaws.{bounds}
 use Rattle.heap_graph.specs.working.ClassTable.{ids_of}
+use Rattle.heap_graph.specs.working.Resolving.{target_in}
 use Rattle.heap_graph.proofs.ClassTableLaws.{same_count, stands_at}
-use Rattle.heap_graph.proofs.PlanLaws.{fields_read, no_plan, plan_more}
+use Rattle.heap_graph.proofs.PlanLaws.{fields_read, no_object, no_plan, objects_more, plan_more}
 use Rattle.heap_graph.proofs.objects.Objects.plan.Goals as goal
 
 pub members-requires : goal.members-requires
@@ -28,6 +29,9 @@ loop-number-init g c = record {
       let o = c.args.self.now in
       no_plan o.view.id_size heap (ids_of o.classes.table.entries) c.in_ok-with_capacity.field-0.items
       c.new.result.items c.in_ok-with_capacity.ensures.items;
+  objects =
+      no_object c.args.self.now.index (ids_of c.args.self.now.classes.table.entries)
+      c.in_ok-with_capacity.field-0.items c.in_ok-with_capacity.ensures.items;
 }
 
 pub loop-number-preserved : goal.loop-number-preserved
@@ -41,12 +45,18 @@ loop-number-preserved g c = record {
       );
   each = λ heap told.
       let o = c.args.self.now in
-      plan_more o.view.id_size heap (ids_of o.classes.table.entries) _ c.loop-number.plan.classes.items _
+      plan_more o.view.id_size heap (ids_of o.classes.table.entries) _ _ c.loop-number.plan.classes.items _
       c.loop-number.plan.places.items _ c.loop-number.number c.loop-number.invariant.count
       (c.loop-number.invariant.each heap told) c.in_ok-push.ensures
       (fields_read o.view heap o.classes.table.entries c.loop-number.number c.entry-place.result c.members.result
       told.classes (omega (arith, c.loop-number-test.true, c.len-count.ensures)) c.entry-place.ensures
       c.members.ensures);
+  objects =
+      let o = c.args.self.now in
+      objects_more o.view.id_size o.index (ids_of o.classes.table.entries) _ _ c.loop-number.plan.classes.items _
+      c.loop-number.plan.places.items _ c.loop-number.number c.loop-number.invariant.count
+      c.loop-number.invariant.objects c.in_ok-push.ensures
+      (c.target-object.ensures ∙ ap (λ (id : ℕ). target_in o.index id) c.id.ensures);
 }
 
 pub returns : goal.returns
@@ -62,4 +72,5 @@ returns g c = λ heap told.
         same_count o.classes.table.entries,
       );
       each = c.loop-number.invariant.each heap told;
+      objects_are = c.loop-number.invariant.objects;
     }

@@ -1,7 +1,7 @@
 -- The classes so far are planned.
 use Rattle.std.proofs.Common.{List, length, ◌≡◌}
 use Rattle.hprof_grammar.specs.SubRecord.{SubRecord}
-use Rattle.heap_graph.specs.working.ClassPlans.{AreClassPlans}
+use Rattle.heap_graph.specs.working.ClassPlans.{AreClassObjects, AreClassPlans}
 use Rattle.heap_graph.specs.working.ClassTable.{ids_of}
 use Rattle.heap_graph.specs.working.ToldClasses.{AreToldOf}
 use Rattle.heap_graph.proofs.objects.Objects.plan.Given as goal
@@ -12,4 +12,5 @@ invariant-loop-number g l = record {
   each : (heap : List SubRecord) → AreToldOf l.self heap
       → AreClassPlans l.self.view.id_size heap (ids_of l.self.classes.table.entries) l.plan.classes.items
       l.plan.places.items;
+  objects : AreClassObjects l.self.index (ids_of l.self.classes.table.entries) l.plan.classes.items;
 }

@@ -1,24 +1,68 @@
 -- Each identifier that is passed is 0, missing or names the object: what is missed in all stays the same.
-use Rattle.std.proofs.Common.{None, Some, ap, arith, length, subst, sym, ◌∙◌, ◌≡◌}
+use Rattle.std.proofs.Common.{List, None, Some, ap, arith, length, subst, sym, ℕ, ◌∙◌, ◌≡◌}
+use Rattle.std.specs.Prelude.{IfSome}
 use Rattle.std.proofs.lemmas.Bool.{eq-eqb, ne_eqb}
 use Rattle.heap_graph.specs.Walks.{GoesOn, Visited, target_in}
-use Rattle.heap_graph.proofs.Visiting.{IsOnTheWay, few_after, goes_end, goes_missing, goes_named, goes_null, start, visited}
+use Rattle.heap_graph.specs.working.Resolving.{Leads}
+use Rattle.heap_graph.proofs.Visiting.{IsOnTheWay, few_after, goes_end, goes_missing, goes_named, goes_null, known}
+use Rattle.heap_graph.proofs.Visiting.{leads_nowhere, start, visited}
 use Rattle.heap_graph.proofs.Walking.{none_of, yields}
 use Rattle.heap_graph.proofs.visit.VisitIterator.next.Goals as goal
 
 pub loop-id-init : goal.loop-id-init
-loop-id-init g c =
-    let v = c.self.inside in
-    subst (λ (old : Visited). IsOnTheWay old v.row v.bytes v.missing v.index.now v.ids) c.self.view_is
-    (start v.row v.bytes v.missing v.index.now v.ids c.self.invariant)
+loop-id-init g c = record {
+  way =
+      let v = c.self.inside in
+      subst (λ (old : Visited). IsOnTheWay old v.row v.bytes v.missing v.index.now v.ids) c.self.view_is
+      (start v.row v.bytes v.missing v.index.now v.ids c.self.invariant.few);
+  leads = c.self.invariant.leads;
+}
 
 pub invariant_of-self : goal.invariant_of-self
 invariant_of-self g c =
     let v = c.loop-id.self-inside in
     let few =
     few_after c.args.self.now v.row v.bytes v.missing v.index.now c.in-Some.id v.ids c.next.new.self
-    c.loop-id.invariant c.in-Some.ensures.steps in
-    omega (arith, few)
+    c.loop-id.invariant.way c.in-Some.ensures.steps in
+    record {
+      few = omega (arith, few);
+      leads = leads_nowhere v.index.now c.next.new.self c.take.new.self c.take.ensures.after;
+    }
+
+pub returns-in-Some-take-clause-steps : goal.returns-in-Some-take-clause-steps
+returns-in-Some-take-clause-steps g c =
+    let v = c.loop-id.self-inside in
+    let first = sym c.take.ensures.value ∙ c.in-Some-take.is in
+    let named : Some c.in-Some-take.object ≡ target_in v.index.now c.in-Some.id =
+    known v.index.now c.in-Some.id c.in-Some-take.object v.ids c.next.new.self v.first c.loop-id.invariant.leads first
+    c.in-Some.ensures.steps in
+    let goes : GoesOn c.args.self.now (Some c.in-Some-take.object)
+    (visited v.row v.bytes v.missing v.index.now c.next.new.self) =
+    goes_named c.args.self.now v.row v.bytes v.missing v.index.now c.in-Some.id c.in-Some-take.object v.ids
+    c.next.new.self c.loop-id.invariant.way c.in-Some.ensures.steps named in (
+      yields c.args.self.now.left (Some c.in-Some-take.object)
+          (visited v.row v.bytes v.missing v.index.now c.next.new.self).left goes.goes,
+      goes,
+    )
+
+pub returns-in-Some-take-clause-goes : goal.returns-in-Some-take-clause-goes
+returns-in-Some-take-clause-goes g c = record {
+  on = λ _. (tt, tt, omega (arith, ap length (returns-in-Some-take-clause-steps g c).0));
+  keeps = tt;
+  rests = λ _.
+      tt;
+}
+
+pub invariant_of-self-in-Some-target : goal.invariant_of-self-in-Some-target
+invariant_of-self-in-Some-target g c =
+    let v = c.loop-id.self-inside in
+    let few =
+    few_after c.args.self.now v.row v.bytes v.missing v.index.now c.in-Some.id v.ids c.next.new.self
+    c.loop-id.invariant.way c.in-Some.ensures.steps in
+    record {
+      few = omega (arith, few);
+      leads = leads_nowhere v.index.now c.next.new.self c.take.new.self c.take.ensures.after;
+    }
 
 pub returns-in-Some-target-clause-steps : goal.returns-in-Some-target-clause-steps
 returns-in-Some-target-clause-steps g c =
@@ -26,7 +70,7 @@ returns-in-Some-target-clause-steps g c =
     let goes : GoesOn c.args.self.now (Some c.in-Some-target.object)
     (visited v.row v.bytes v.missing v.index.now c.next.new.self) =
     goes_named c.args.self.now v.row v.bytes v.missing v.index.now c.in-Some.id c.in-Some-target.object v.ids
-    c.next.new.self c.loop-id.invariant c.in-Some.ensures.steps (sym c.in-Some-target.is ∙ c.target.ensures) in (
+    c.next.new.self c.loop-id.invariant.way c.in-Some.ensures.steps (sym c.in-Some-target.is ∙ c.target.ensures) in (
       yields c.args.self.now.left (Some c.in-Some-target.object)
           (visited v.row v.bytes v.missing v.index.now c.next.new.self).left goes.goes,
       goes,
@@ -45,7 +89,7 @@ overflow_add-self g c =
     let v = c.loop-id.self-inside in
     let few =
     few_after c.args.self.now v.row v.bytes v.missing v.index.now c.in-Some.id v.ids c.next.new.self
-    c.loop-id.invariant c.in-Some.ensures.steps in
+    c.loop-id.invariant.way c.in-Some.ensures.steps in
     omega (arith, few)
 
 pub loop-id-smaller-then-id-ne0 : goal.loop-id-smaller-then-id-ne0
@@ -56,8 +100,11 @@ loop-id-preserved-then-id-ne0 g c =
     let v = c.loop-id.self-inside in
     let named : None ≡ target_in v.index.now c.in-Some.id =
     sym (none_of c.target.result c.in_default-target.not-Some) ∙ c.target.ensures in
-    goes_missing c.args.self.now v.row v.bytes v.missing v.index.now c.in-Some.id v.ids c.next.new.self
-    c.loop-id.invariant c.in-Some.ensures.steps named (ne_eqb c.in-Some.id 0 c.if-id-ne0.true)
+    record {
+      way = goes_missing c.args.self.now v.row v.bytes v.missing v.index.now c.in-Some.id v.ids c.next.new.self
+          c.loop-id.invariant.way c.in-Some.ensures.steps named (ne_eqb c.in-Some.id 0 c.if-id-ne0.true);
+      leads = leads_nowhere v.index.now c.next.new.self c.take.new.self c.take.ensures.after;
+    }
 
 pub loop-id-smaller : goal.loop-id-smaller
 loop-id-smaller g c = omega (arith, ap length c.in-Some.ensures.steps)
@@ -67,17 +114,27 @@ loop-id-preserved g c =
     let v = c.loop-id.self-inside in
     let named : None ≡ target_in v.index.now c.in-Some.id =
     sym (none_of c.target.result c.in_default-target.not-Some) ∙ c.target.ensures in
-    goes_null c.args.self.now v.row v.bytes v.missing v.index.now c.in-Some.id v.ids c.next.new.self c.loop-id.invariant
-    c.in-Some.ensures.steps named (eq-eqb c.in-Some.id 0 c.if-id-ne0.false)
+    record {
+      way = goes_null c.args.self.now v.row v.bytes v.missing v.index.now c.in-Some.id v.ids c.next.new.self
+          c.loop-id.invariant.way c.in-Some.ensures.steps named (eq-eqb c.in-Some.id 0 c.if-id-ne0.false);
+      leads = leads_nowhere v.index.now c.next.new.self c.take.new.self c.take.ensures.after;
+    }
 
 pub invariant_of-self-in_default : goal.invariant_of-self-in_default
-invariant_of-self-in_default g c = omega (arith, c.loop-id.invariant.few, ap length c.in_default.ensures.steps.1)
+invariant_of-self-in_default g c =
+    let v = c.loop-id.self-inside in
+    let steps = c.in_default.ensures.steps in
+    record {
+      few = omega (arith, c.loop-id.invariant.way.few, ap length steps.1);
+      leads = subst (λ (ids : List ℕ). IfSome v.first (Leads v.index.now ids)) (steps.0 ∙ sym steps.1)
+          c.loop-id.invariant.leads;
+    }
 
 pub returns-clause-steps : goal.returns-clause-steps
 returns-clause-steps g c =
     let v = c.loop-id.self-inside in
     let goes : GoesOn c.args.self.now None (visited v.row v.bytes v.missing v.index.now c.next.new.self) =
-    goes_end c.args.self.now v.row v.bytes v.missing v.index.now v.ids c.next.new.self c.loop-id.invariant
+    goes_end c.args.self.now v.row v.bytes v.missing v.index.now v.ids c.next.new.self c.loop-id.invariant.way
     c.in_default.ensures.steps.0 c.in_default.ensures.steps.1 in (
       yields c.args.self.now.left None (visited v.row v.bytes v.missing v.index.now c.next.new.self).left goes.goes,
       goes,

@@ -18,7 +18,7 @@ invariant_of-result-2 g c =
     record {
       stand = nothing_stands o.view.id_size c.args.values.now;
       above = have_fields
-          o.view c.requires.heap.0 o.classes.table.entries p.classes.items p.places.items o.fates.items _
+          o.view c.requires.heap.0 o.index o.classes.table.entries p.classes.items p.places.items o.fates.items _
           c.requires.heap.1 c.args.values.now c.args.first c.requires.size c.requires.heap.2 c.requires.heap.3
           c.requires.heap.4.begins c.requires.heap.4.room (search rules);
     }
@@ -27,5 +27,5 @@ pub returns : goal.returns
 returns g c = λ heap types told plan from.
     let o = c.args.objects.now in
     let p = c.args.plan.now in
-    ids_up_are o.view heap o.classes.table.entries p.classes.items p.places.items o.fates.items _ types
+    ids_up_are o.view heap o.index o.classes.table.entries p.classes.items p.places.items o.fates.items _ types
     c.args.values.now c.args.first told plan from.begins (search rules)
