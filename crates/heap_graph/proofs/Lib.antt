@@ -1,4 +1,7 @@
 pub mod Naming
+pub mod FieldsLaws
+pub mod SkipLaws
+pub mod SkipCutting
 pub mod IndexAscending
 pub mod IndexBuckets
 pub mod IndexHalving
@@ -42,5 +45,3 @@ pub mod Superclasses
 pub mod AllTold
 pub mod Wholeness
 pub mod Building
-pub mod SkipLaws
-pub mod SkipCutting

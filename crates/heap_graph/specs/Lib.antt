@@ -8,6 +8,7 @@ pub mod Rows
 pub mod ClassNames
 pub mod Skips
 pub mod SkipText
+pub mod Fields
 pub mod SkipRefusals
 pub mod Linked
 pub mod LinkFault

@@ -19,7 +19,7 @@ mod types;
 mod visit;
 
 pub use graph::Graph;
-pub use laws::{always_linked_or_fault, one_graph, one_skip_list};
+pub use laws::{always_linked_or_fault, an_empty_list_skips_nothing, one_graph, one_skip_list};
 pub use refusal::{LinkFault, LinkRefusal};
 pub use row::RowKey;
 pub use rule::LinkRule;

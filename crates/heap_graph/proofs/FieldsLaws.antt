@@ -1,0 +1,36 @@
+-- The identifiers in the fields that are followed: where the list is empty, those in all fields.
+use Rattle.std.proofs.Common.{List, [], ap, drop, false, map, refl, take, ℕ, ◌++◌, ◌∙◌, ◌∷◌, ◌≡◌}
+use Rattle.std.specs.Prelude.{if◌then◌else◌, ◌==◌}
+use Rattle.std.proofs.lemmas.List.{map-append}
+use Rattle.byteorder.specs.Endian.{big_number}
+use Rattle.hprof_grammar.specs.Record.{Record}
+use Rattle.hprof_grammar.specs.SubRecord.{Class, Member}
+use Rattle.hprof_grammar.specs.Tables.{size_of}
+use Rattle.heap_graph.specs.Fields.{declared_fields, followed_ids, own_fields}
+use Rattle.heap_graph.specs.Layout.{field_ids, layout}
+use Rattle.heap_graph.specs.Skips.{is_skipped}
+
+own_members : (c : Class) (ms : List Member) → map (λ (f : Class × Member). f.1) (map (λ m. (c, m)) ms) ≡ ms
+own_members c [] = refl
+own_members c (m ∷ ms) = ap (λ (xs : List Member). m ∷ xs) (own_members c ms)
+
+-- without the classes that declare them, they are the layout
+pub members_of : (chain : List Class) → map (λ (f : Class × Member). f.1) (declared_fields chain) ≡ layout chain
+members_of [] = refl
+members_of (c ∷ cs) =
+    map-append (λ (f : Class × Member). f.1) (own_fields c) (declared_fields cs)
+    ∙ ap (λ (xs : List Member). xs ++ map (λ (f : Class × Member). f.1) (declared_fields cs)) (own_members c c.members)
+    ∙ ap (λ (xs : List Member). c.members ++ xs) (members_of cs)
+
+all_followed : (s : ℕ) (fs : List (Class × Member)) (values : List ℕ)
+    → followed_ids (λ c m. false) s fs values ≡ field_ids s (map (λ f. f.1) fs) values
+all_followed s [] values = refl
+all_followed s (f ∷ fs) values =
+    ap (λ (xs : List ℕ). (if f.1.type == 2 then big_number s (take s values) ∷ [] else []) ++ xs)
+    (all_followed s fs (drop (size_of s f.1.type) values))
+
+pub empty_skips_nothing : (records : List Record) (s : ℕ) (chain : List Class) (values : List ℕ)
+    → followed_ids (is_skipped records []) s (declared_fields chain) values ≡ field_ids s (layout chain) values
+empty_skips_nothing records s chain values =
+    all_followed s (declared_fields chain) values
+    ∙ ap (λ (ms : List Member). field_ids s ms values) (members_of chain)

@@ -1,0 +1,20 @@
+-- The fields of an instance, and the identifiers in those that are followed.
+use Rattle.std.specs.Prelude.{Bool, List, [], drop, flat_map, if◌then◌else◌, map, not, take, ℕ, ◌&&◌, ◌++◌, ◌==◌, ◌∷◌}
+use Rattle.byteorder.specs.Endian.{big_number}
+use Rattle.hprof_grammar.specs.SubRecord.{Class, Member}
+use Rattle.hprof_grammar.specs.Tables.{size_of}
+
+-- the fields that a class declares, each beside the class, and those of a layout
+abbrev pub own_fields : Class → List (Class × Member)
+own_fields c = map (λ m. (c, m)) c.members
+
+abbrev pub declared_fields : List Class → List (Class × Member)
+declared_fields chain = flat_map own_fields chain
+
+-- The identifiers in the fields of type 2 that are not skipped. A field's place is the sum of the sizes before it, of
+-- skipped ones too.
+abbrev pub followed_ids : (Class → Member → Bool) → ℕ → List (Class × Member) → List ℕ → List ℕ
+followed_ids skips s [] values = []
+followed_ids skips s (f ∷ fs) values =
+    (if not (skips f.0 f.1) && (f.1.type == 2) then big_number s (take s values) ∷ [] else [])
+    ++ followed_ids skips s fs (drop (size_of s f.1.type) values)
