@@ -1,5 +1,5 @@
 -- What the table of classes says of one class, and how it grows.
-use Rattle.std.proofs.Common.{Bool, Contains, List, None, Option, Some, [], ap, arith, cond, false, length, map, not, refl, slice_get, subst, suc, sym, true, zero, ℕ, ◌+◌, ◌<◌, ◌^◌, ◌∙◌, ◌∷◌, ◌≡◌, ◌≤◌}
+use Rattle.std.proofs.Common.{Bool, Contains, List, None, Option, Some, [], ap, arith, cond, false, length, not, refl, slice_get, subst, suc, sym, true, zero, ℕ, ◌+◌, ◌<◌, ◌^◌, ◌∙◌, ◌∷◌, ◌≡◌, ◌≤◌}
 use Rattle.std.specs.Prelude.{position, slice_index, slice_index_or, ◌==◌}
 use Rattle.std.specs.List.{position_or_len}
 use Rattle.std.proofs.lemmas.Bool.{eq-eqb, eqb-true}
@@ -10,7 +10,7 @@ use Rattle.hprof_grammar.specs.SubRecord.{Class, Member, SubRecord}
 use Rattle.hprof_grammar.specs.SubRecord.SubRecord.{class_dump}
 use Rattle.heap_graph.specs.Heap.{class_named}
 use Rattle.heap_graph.specs.working.Chains.{IsUnder}
-use Rattle.heap_graph.specs.working.ClassTable.{AreClasses, Entry, IsEntry, entry_at, ids_of, own_types}
+use Rattle.heap_graph.specs.working.ClassTable.{AreClasses, Entry, IsEntry, entry_at, ids_of}
 use Rattle.heap_graph.specs.working.IdPlaces.{size_together}
 use Rattle.heap_graph.specs.declared.classes.ClassPlace.{ClassPlace}
 use Rattle.heap_graph.proofs.FieldLaws.{own_size}
@@ -140,11 +140,11 @@ read_entry entries k kept h read = let it = there_is entries k h in read it.0 it
 
 pub size_of_class : (v : Sight) (heap : List SubRecord) (entries : List Entry) (k : ℕ) (c : Class)
     → AreClasses v heap entries → k < length entries
-    → class_named heap (slice_index (ids_of entries) k) ≡ Some c → (entry_at entries k).size ≡ size_together v.id_size (own_types c)
+    → class_named heap (slice_index (ids_of entries) k) ≡ Some c → (entry_at entries k).size ≡ size_together v.id_size c.members
 size_of_class v heap entries k c are h named =
     let it : IsNumbered v heap entries k = numbered v heap entries k are h in
     ap (λ (p : ClassPlace). p.size) (entry_is entries k it.entry it.is) ∙ it.holds.size_is
-    ∙ ap (λ (d : Class). size_together v.id_size (own_types d)) (same_class v heap entries k c it named)
+    ∙ ap (λ (d : Class). size_together v.id_size d.members) (same_class v heap entries k c it named)
 
 pub few_bytes : (v : Sight) (heap : List SubRecord) (entries : List Entry) (k : ℕ) → AreClasses v heap entries
     → k < length entries → (entry_at entries k).size < 2 ^ 32
@@ -155,20 +155,22 @@ few_bytes v heap entries k are h =
 -- a class without bytes has no fields, and the others have some
 pub no_fields : (v : Sight) (heap : List SubRecord) (entries : List Entry) (k : ℕ) (c : Class)
     → AreClasses v heap entries → k < length entries
-    → class_named heap (slice_index (ids_of entries) k) ≡ Some c → (entry_at entries k).size ≡ 0 → own_types c ≡ []
+    → class_named heap (slice_index (ids_of entries) k) ≡ Some c → (entry_at entries k).size ≡ 0 → c.members ≡ []
 no_fields v heap entries k c are h named empty =
     let it : IsNumbered v heap entries k = numbered v heap entries k are h in
     let same : it.holds.class ≡ c = same_class v heap entries k c it named in
-    let no_bytes : size_together v.id_size (own_types it.holds.class) ≡ 0 = sym it.holds.size_is
+    let no_bytes : size_together v.id_size it.holds.class.members ≡ 0 = sym it.holds.size_is
     ∙ ap (λ (p : ClassPlace). p.size) (sym (entry_is entries k it.entry it.is)) ∙ empty in
-    ap (λ (d : Class). own_types d) (sym same) ∙ no_types (it.holds.class.members) (own_size v.id_size it.holds.class are.low it.holds.stands.is.allowed) no_bytes
+    ap (λ (d : Class). d.members) (sym same) ∙ none (it.holds.class.members) (own_size v.id_size it.holds.class are.low it.holds.stands.is.allowed) no_bytes
   where
-    no_types : (ms : List Member) → ((ms ≡ [] → ⊥) → 1 ≤ size_together v.id_size (map (λ m. m.type) ms)) → size_together v.id_size (map (λ m. m.type) ms) ≡ 0 → map (λ m. m.type) ms ≡ []
-    no_types [] some e = refl
-    no_types (m ∷ ms) some e = absurd (let h : 1 ≤ size_together v.id_size (map (λ x. x.type) (m ∷ ms)) = some (λ wrong. absurd cc) in omega (arith, h, e))
+    none : (ms : List Member) → ((ms ≡ [] → ⊥) → 1 ≤ size_together v.id_size ms) → size_together v.id_size ms ≡ 0
+        → ms ≡ []
+    none [] some e = refl
+    none (m ∷ ms) some e =
+        absurd (let h : 1 ≤ size_together v.id_size (m ∷ ms) = some (λ wrong. absurd cc) in omega (arith, h, e))
 
 pub some_fields : (v : Sight) (heap : List SubRecord) (entries : List Entry) (k : ℕ) (c : Class)
     → AreClasses v heap entries → k < length entries
-    → class_named heap (slice_index (ids_of entries) k) ≡ Some c → ((entry_at entries k).size ≡ 0 → ⊥) → own_types c ≡ [] → ⊥
+    → class_named heap (slice_index (ids_of entries) k) ≡ Some c → ((entry_at entries k).size ≡ 0 → ⊥) → c.members ≡ [] → ⊥
 some_fields v heap entries k c are h named some none =
-    some (size_of_class v heap entries k c are h named ∙ ap (λ (ts : List ℕ). size_together v.id_size ts) none)
+    some (size_of_class v heap entries k c are h named ∙ ap (λ (ms : List Member). size_together v.id_size ms) none)

@@ -1,5 +1,6 @@
 -- The identifiers in the fields of an instance, up the classes that declare fields.
-use Rattle.std.proofs.Common.{Bool, List, None, Option, Some, [], ap, arith, drop, false, length, map, refl, slice_get, subst, suc, sum_by, sym, take, true, zero, ℕ, ◌++◌, ◌+◌, ◌<◌, ◌∙◌, ◌∷◌, ◌≡◌, ◌≤◌}
+use Rattle.std.proofs.Common.{Bool, List, None, Option, Some, [], ap, arith, drop, false, length, map, not, refl, slice_get, subst}
+use Rattle.std.proofs.Common.{suc, sym, take, true, zero, ℕ, ◌&&◌, ◌++◌, ◌+◌, ◌<◌, ◌∙◌, ◌∷◌, ◌≡◌, ◌≤◌}
 use Rattle.std.specs.Prelude.{if◌then◌else◌, slice_index, slice_index_or, ◌==◌}
 use Rattle.std.proofs.lemmas.Bool.{eqb-true}
 use Rattle.std.proofs.lemmas.List.{drop-drop, length-append, length-drop, length-map, map-append}
@@ -13,163 +14,209 @@ use Rattle.hprof_grammar.specs.Tables.{size_of}
 use Rattle.heap_graph.specs.declared.classes.fate.Fate.{Fate}
 use Rattle.heap_graph.specs.declared.classes.fate.Fate.TheVariants as fates
 use Rattle.heap_graph.specs.declared.plan.ClassPlan.{ClassPlan}
+use Rattle.heap_graph.specs.Fields.{declared_fields, followed_ids, own_fields}
 use Rattle.heap_graph.specs.Layout.{IsChain}
-use Rattle.heap_graph.specs.working.Chains.{BeginsAt, IsFate, IsFirst, IsKnown, IsSettled, layout_types, tail}
+use Rattle.heap_graph.specs.working.Chains.{BeginsAt, IsFate, IsFirst, IsKnown, IsSettled, tail}
 use Rattle.heap_graph.specs.working.ClassPlans.{IsPlan, id_places_of, plan_at}
-use Rattle.heap_graph.specs.working.ClassTable.{Entry, ids_of, own_types}
+use Rattle.heap_graph.specs.working.ClassTable.{Entry, ids_of}
 use Rattle.heap_graph.specs.working.FieldsUp.{AreUp, HasFields, HaveFields, StandInside, Up, Up-prop, ids_up, next_above, next_in}
-use Rattle.heap_graph.specs.working.IdPlaces.{id_places, ids_at, size_together}
+use Rattle.heap_graph.specs.working.IdPlaces.{id_places, ids_at, size_of_fields, size_together}
 use Rattle.heap_graph.specs.working.ToldClasses.{AreTold}
-use Rattle.heap_graph.specs.working.TypedFields.{typed_ids}
 use Rattle.heap_graph.proofs.ChainLaws.{chain_ends, cut_is_no_chain, one_chain}
-use Rattle.heap_graph.proofs.FieldLaws.{ids_of_both, size_of_id_type}
+use Rattle.heap_graph.proofs.FieldLaws.{ids_of_both, of_id_type, size_of_id_type}
+use Rattle.heap_graph.proofs.LayoutLaws.{own_fields_size}
 use Rattle.heap_graph.proofs.PlanLaws.{AreOwnFields, fields_of_class}
 
 -- ---- the identifiers of one class
 
-id_here : (s at : ℕ) (values : List ℕ) (b : Bool) → ids_at s (if b then at ∷ [] else []) values ≡ (if b then big_number s (take s (drop at values)) ∷ [] else [])
-id_here s at values true = ap (λ (n : ℕ). n ∷ []) (sym (big_from-take 0 s s (drop at values) (omega arith)))
-id_here s at values false = refl
+id_at : (s at : ℕ) (values : List ℕ) (b : Bool) → ids_at s (if b then at ∷ [] else []) values
+    ≡ (if b then big_number s (take s (drop at values)) ∷ [] else [])
+id_at s at values true = ap (λ (n : ℕ). n ∷ []) (sym (big_from-take 0 s s (drop at values) (omega arith)))
+id_at s at values false = refl
 
-ids_at_places : (s at : ℕ) (types values : List ℕ) → ids_at s (id_places s at types) values ≡ typed_ids s types (drop at values)
-ids_at_places s at [] values = refl
-ids_at_places s at (t ∷ ts) values =
-    map-append (λ p. big_number s (drop p values)) (if t == 2 then at ∷ [] else []) (id_places s (at + size_of s t) ts)
-    ∙ ap (λ (ids : List ℕ). ids ++ ids_at s (id_places s (at + size_of s t) ts) values) (id_here s at values (t == 2))
-    ∙ ap (λ (ids : List ℕ). (if t == 2 then big_number s (take s (drop at values)) ∷ [] else []) ++ ids)
-    (ids_at_places s (at + size_of s t) ts values ∙ ap (λ (left : List ℕ). typed_ids s ts left) (sym (drop-drop (size_of s t) at values)))
+ids_at_places : (skips : Class → Member → Bool) (s : ℕ) (c : Class) (at : ℕ) (ms : List Member) (values : List ℕ)
+    → ids_at s (id_places (skips c) s at ms) values ≡ followed_ids skips s (map (λ m. (c, m)) ms) (drop at values)
+ids_at_places skips s c at [] values = refl
+ids_at_places skips s c at (m ∷ ms) values =
+    let size : ℕ = size_of s m.type in
+    let followed : Bool = not (skips c m) && (m.type == 2) in
+    map-append (λ p. big_number s (drop p values)) (if followed then at ∷ [] else []) (id_places (skips c) s (at + size) ms)
+    ∙ ap (λ (ids : List ℕ). ids ++ ids_at s (id_places (skips c) s (at + size) ms) values) (id_at s at values followed)
+    ∙ ap (λ (ids : List ℕ). (if followed then big_number s (take s (drop at values)) ∷ [] else []) ++ ids)
+    (ids_at_places skips s c (at + size) ms values
+    ∙ ap (λ (left : List ℕ). followed_ids skips s (map (λ x. (c, x)) ms) left) (sym (drop-drop size at values)))
 
-first_inside : (s at t n : ℕ) (rest : List ℕ) (b : Bool) → (t == 2) ≡ b → ((k place : ℕ) → slice_get rest k ≡ Some place → place + s ≤ (at + size_of s t) + n)
-    → (k place : ℕ) → slice_get ((if b then at ∷ [] else []) ++ rest) k ≡ Some place → place + s ≤ (at + size_of s t) + n
+first_inside : (s at t n : ℕ) (rest : List ℕ) (b : Bool) → (b ≡ true → t ≡ 2)
+    → ((k place : ℕ) → slice_get rest k ≡ Some place → place + s ≤ (at + size_of s t) + n)
+    → (k place : ℕ) → slice_get ((if b then at ∷ [] else []) ++ rest) k ≡ Some place
+    → place + s ≤ (at + size_of s t) + n
 first_inside s at t n rest false e behind k place is = behind k place is
-first_inside s at t n rest true e behind zero place is = let same : at ≡ place = cc in omega (arith, same, size_of_id_type s t (eqb-true t 2 e))
+first_inside s at t n rest true e behind zero place is =
+    let same : at ≡ place = cc in omega (arith, same, size_of_id_type s t (e refl))
 first_inside s at t n rest true e behind (suc k) place is = behind k place is
 
-places_inside : (s at : ℕ) (types : List ℕ) (k place : ℕ) → slice_get (id_places s at types) k ≡ Some place → place + s ≤ at + size_together s types
-places_inside s at [] k place is = absurd (let wrong : None ≡ Some place = is in cc)
-places_inside s at (t ∷ ts) k place is =
-    omega (arith, sum_by-cons (λ x. size_of s x) t ts, first_inside s at t (size_together s ts) (id_places s (at + size_of s t) ts) (t == 2) refl (places_inside s (at + size_of s t) ts) k place is)
+places_inside : (skips : Member → Bool) (s at : ℕ) (ms : List Member) (k place : ℕ)
+    → slice_get (id_places skips s at ms) k ≡ Some place → place + s ≤ at + size_together s ms
+places_inside skips s at [] k place is = absurd (let wrong : None ≡ Some place = is in cc)
+places_inside skips s at (m ∷ ms) k place is =
+    omega (
+      arith,
+      sum_by-cons (λ (x : Member). size_of s x.type) m ms,
+      first_inside s at m.type (size_together s ms) (id_places skips s (at + size_of s m.type) ms)
+          (not (skips m) && (m.type == 2)) (λ e. eqb-true m.type 2 (of_id_type (skips m) (m.type == 2) e))
+          (places_inside skips s (at + size_of s m.type) ms) k place is,
+    )
 
-one_id_fits : (s at t : ℕ) (b : Bool) → (t == 2) ≡ b → 1 ≤ s → length (if b then at ∷ [] else []) ≤ size_of s t
-one_id_fits s at t true e low = omega (arith, low, size_of_id_type s t (eqb-true t 2 e))
+one_id_fits : (s at t : ℕ) (b : Bool) → (b ≡ true → t ≡ 2) → 1 ≤ s
+    → length (if b then at ∷ [] else []) ≤ size_of s t
+one_id_fits s at t true e low = omega (arith, low, size_of_id_type s t (e refl))
 one_id_fits s at t false e low = omega arith
 
-few_places : (s at : ℕ) (types : List ℕ) → 1 ≤ s → length (id_places s at types) ≤ size_together s types
-few_places s at [] low = omega arith
-few_places s at (t ∷ ts) low =
-    omega (arith, sum_by-cons (λ x. size_of s x) t ts, few_places s (at + size_of s t) ts low, one_id_fits s at t (t == 2) refl low, length-append (if t == 2 then at ∷ [] else []) (id_places s (at + size_of s t) ts))
+few_places : (skips : Member → Bool) (s at : ℕ) (ms : List Member) → 1 ≤ s
+    → length (id_places skips s at ms) ≤ size_together s ms
+few_places skips s at [] low = omega arith
+few_places skips s at (m ∷ ms) low =
+    let followed : Bool = not (skips m) && (m.type == 2) in
+    omega (
+      arith,
+      sum_by-cons (λ (x : Member). size_of s x.type) m ms,
+      few_places skips s (at + size_of s m.type) ms low,
+      one_id_fits s at m.type followed (λ e. eqb-true m.type 2 (of_id_type (skips m) (m.type == 2) e)) low,
+      length-append (if followed then at ∷ [] else []) (id_places skips s (at + size_of s m.type) ms),
+    )
 
-own_stand : (s : ℕ) (plans : List ClassPlan) (places types values : List ℕ) (k : ℕ) → AreOwnFields s plans places types
-    k → 1 ≤ s → size_together s types ≤ length values → StandInside s (id_places_of plans places k)
-    (plan_at plans k).size values
-own_stand s plans places types values k own low room =
-    rw (own.places_are, own.size_is) (record { inside = λ i place is. omega (arith, places_inside s 0 types i place is); few = few_places s 0 types low; room = room })
+own_stand : (skips : Class → Member → Bool) (s : ℕ) (plans : List ClassPlan) (places : List ℕ) (c : Class)
+    (values : List ℕ) (k : ℕ) → AreOwnFields skips s plans places c k → 1 ≤ s
+    → size_together s c.members ≤ length values
+    → StandInside s (id_places_of plans places k) (plan_at plans k).size values
+own_stand skips s plans places c values k own low room =
+    rw (own.places_are, own.size_is) (record {
+      inside = λ i place is. omega (arith, places_inside (skips c) s 0 c.members i place is);
+      few = few_places (skips c) s 0 c.members low;
+      room = room;
+    })
 
-own_ids : (s : ℕ) (plans : List ClassPlan) (places types values : List ℕ) (k : ℕ) → AreOwnFields s plans places types k
-    → ids_at s (id_places_of plans places k) values ≡ typed_ids s types values
-own_ids s plans places types values k own = ap (λ (ps : List ℕ). ids_at s ps values) own.places_are
-    ∙ ids_at_places s 0 types values
+own_ids : (skips : Class → Member → Bool) (s : ℕ) (plans : List ClassPlan) (places : List ℕ) (c : Class)
+    (values : List ℕ) (k : ℕ) → AreOwnFields skips s plans places c k
+    → ids_at s (id_places_of plans places k) values ≡ followed_ids skips s (own_fields c) values
+own_ids skips s plans places c values k own = ap (λ (ps : List ℕ). ids_at s ps values) own.places_are
+    ∙ ids_at_places skips s c 0 c.members values
 
 -- ---- the classes above a class
 
-fate_says : (s : ℕ) (heap : List SubRecord) (ids : List ℕ) (id : ℕ) (c : Class) (rest : List Class) (f : Fate) → IsSettled f → IsFate s heap ids id f → IsChain heap id (c ∷ rest) → IsFirst heap ids (layout_types rest) (next_in f)
+fate_says : (s : ℕ) (heap : List SubRecord) (ids : List ℕ) (id : ℕ) (c : Class) (rest : List Class) (f : Fate) → IsSettled f → IsFate s heap ids id f → IsChain heap id (c ∷ rest) → IsFirst heap ids (declared_fields rest) (next_in f)
 fate_says s heap ids id c rest fates.Unknown settled is chain = absurd settled
 fate_says s heap ids id c rest fates.OnPath settled is chain = absurd settled
-fate_says s heap ids id c rest (fates.Whole l) settled is chain = subst (λ (cs : List Class). IsFirst heap ids (layout_types (tail cs)) l.next) (one_chain heap id is.0 (c ∷ rest) is.1 chain) is.2.next_is
+fate_says s heap ids id c rest (fates.Whole l) settled is chain = subst (λ (cs : List Class). IsFirst heap ids (declared_fields (tail cs)) l.next) (one_chain heap id is.0 (c ∷ rest) is.1 chain) is.2.next_is
 fate_says s heap ids id c rest fates.Broken settled is chain = absurd (cut_is_no_chain heap id is.0 (c ∷ rest) is.1 chain)
 fate_says s heap ids id c rest fates.Endless settled is chain = absurd (chain_ends heap id (c ∷ rest) chain is)
 
-first_above : (v : Sight) (heap : List SubRecord) (entries : List Entry) (types : List ℕ) (known : List Fate) (k : ℕ)
-    → AreTold v heap entries known → (b : BeginsAt heap (ids_of entries) types k) → IsFirst heap (ids_of entries)
-    (layout_types b.rest) (next_above known k)
-first_above v heap entries types known k told b =
+first_above : (v : Sight) (heap : List SubRecord) (entries : List Entry) (fields : List (Class × Member))
+    (known : List Fate) (k : ℕ) → AreTold v heap entries known → (b : BeginsAt heap (ids_of entries) fields k) → IsFirst heap (ids_of entries)
+    (declared_fields b.rest) (next_above known k)
+first_above v heap entries fields known k told b =
     let it : IsKnown known k = told.settled.each_known k b.below in
     let read : it.fate ≡ slice_index_or known k fates.Unknown = sym (get_or_from_slice_get known k it.fate fates.Unknown it.is) in
-    subst (λ (f : Fate). IsFirst heap (ids_of entries) (layout_types b.rest) (next_in f)) read
+    subst (λ (f : Fate). IsFirst heap (ids_of entries) (declared_fields b.rest) (next_in f)) read
     (fate_says v.id_size heap (ids_of entries) (slice_index (ids_of entries) k) b.class b.rest it.fate it.settled (told.settled.fates_are.each k it.fate it.is) (b.named, b.chain))
 
-begins_at : (heap : List SubRecord) (ids types : List ℕ) (first : Option ℕ) (k : ℕ) → first ≡ Some k → IsFirst heap ids types first → BeginsAt heap ids types k
-begins_at heap ids types first k e is = subst (λ (f : Option ℕ). IsFirst heap ids types f) e is
+begins_at : (heap : List SubRecord) (ids : List ℕ) (fields : List (Class × Member)) (first : Option ℕ) (k : ℕ)
+    → first ≡ Some k → IsFirst heap ids fields first → BeginsAt heap ids fields k
+begins_at heap ids fields first k e is = subst (λ (f : Option ℕ). IsFirst heap ids fields f) e is
 
-one_type : (ms : List Member) → (ms ≡ [] → ⊥) → 1 ≤ length (map (λ m. m.type) ms)
-one_type [] some = absurd (some refl)
-one_type (m ∷ ms) some = omega arith
+one_field : (c : Class) (ms : List Member) → (ms ≡ [] → ⊥) → 1 ≤ length {A = Class × Member} (map (λ m. (c, m)) ms)
+one_field c [] some = absurd (some refl)
+one_field c (m ∷ ms) some = omega arith
 
-fewer_types : (heap : List SubRecord) (ids types : List ℕ) (k : ℕ) (b : BeginsAt heap ids types k) → length (layout_types b.rest) < length types
-fewer_types heap ids types k b = omega (arith, ap length b.types_are, length-append (own_types b.class) (layout_types b.rest), one_type b.class.members b.some_field)
+fewer_fields : (heap : List SubRecord) (ids : List ℕ) (fields : List (Class × Member)) (k : ℕ)
+    (b : BeginsAt heap ids fields k) → length (declared_fields b.rest) < length fields
+fewer_fields heap ids fields k b =
+    omega (
+      arith,
+      ap length b.fields_are,
+      length-append (own_fields b.class) (declared_fields b.rest),
+      one_field b.class b.class.members b.some_field,
+    )
 
 -- the classes up from the first one are finitely many
-up_within : (v : Sight) (heap : List SubRecord) (entries : List Entry) (known : List Fate) (n : ℕ) (types : List ℕ)
-    (first : Option ℕ) → AreTold v heap entries known → length types ≤ n → IsFirst heap (ids_of entries) types first
-    → Up known first
-up_within v heap entries known n types None told few is = ([], refl)
-up_within v heap entries known zero types (Some k) told few b =
-    absurd (omega (arith, few, fewer_types heap (ids_of entries) types k b))
-up_within v heap entries known (suc n) types (Some k) told few b =
-    let rest : Up known (next_above known k) = up_within v heap entries known n (layout_types b.rest)
-    (next_above known k) told (omega (arith, few, fewer_types heap (ids_of entries) types k b))
-    (first_above v heap entries types known k told b) in
+up_within : (v : Sight) (heap : List SubRecord) (entries : List Entry) (known : List Fate) (n : ℕ)
+    (fields : List (Class × Member)) (first : Option ℕ) → AreTold v heap entries known → length fields ≤ n
+    → IsFirst heap (ids_of entries) fields first → Up known first
+up_within v heap entries known n fields None told few is = ([], refl)
+up_within v heap entries known zero fields (Some k) told few b =
+    absurd (omega (arith, few, fewer_fields heap (ids_of entries) fields k b))
+up_within v heap entries known (suc n) fields (Some k) told few b =
+    let rest : Up known (next_above known k) = up_within v heap entries known n (declared_fields b.rest)
+    (next_above known k) told (omega (arith, few, fewer_fields heap (ids_of entries) fields k b))
+    (first_above v heap entries fields known k told b) in
     (k ∷ rest.0, (refl, rest.1))
 
-pub up_from : (v : Sight) (heap : List SubRecord) (entries : List Entry) (known : List Fate) (types : List ℕ)
-    (first : Option ℕ) → AreTold v heap entries known → IsFirst heap (ids_of entries) types first → Up known first
-up_from v heap entries known types first told is = up_within v heap entries known (length types) types first told
+pub up_from : (v : Sight) (heap : List SubRecord) (entries : List Entry) (known : List Fate)
+    (fields : List (Class × Member)) (first : Option ℕ) → AreTold v heap entries known
+    → IsFirst heap (ids_of entries) fields first → Up known first
+up_from v heap entries known fields first told is = up_within v heap entries known (length fields) fields first told
     (omega arith) is
 
 -- ---- the fields of all classes of a layout
 
-both_sizes : (s : ℕ) (heap : List SubRecord) (ids types : List ℕ) (k : ℕ) (b : BeginsAt heap ids types k)
-    → size_together s types ≡ size_together s (own_types b.class) + size_together s (layout_types b.rest)
-both_sizes s heap ids types k b =
-    ap (λ (ts : List ℕ). sum_by (λ t. size_of s t) ts) b.types_are
-    ∙ sum_by-append (λ t. size_of s t) (own_types b.class) (layout_types b.rest)
+both_sizes : (s : ℕ) (heap : List SubRecord) (ids : List ℕ) (fields : List (Class × Member)) (k : ℕ)
+    (b : BeginsAt heap ids fields k)
+    → size_of_fields s fields ≡ size_together s b.class.members + size_of_fields s (declared_fields b.rest)
+both_sizes s heap ids fields k b =
+    ap (λ (fs : List (Class × Member)). size_of_fields s fs) b.fields_are
+    ∙ sum_by-append (λ (f : Class × Member). size_of s f.1.type) (own_fields b.class) (declared_fields b.rest)
+    ∙ ap (λ (n : ℕ). n + size_of_fields s (declared_fields b.rest)) (own_fields_size s b.class)
 
-pub have_fields : (v : Sight) (heap : List SubRecord) (all : List ℕ) (entries : List Entry) (plans : List ClassPlan)
-    (places : List ℕ) (known : List Fate) (ks types values : List ℕ) (first : Option ℕ) → 1 ≤ v.id_size
-    → AreTold v heap entries known
-    → IsPlan v.id_size heap all (ids_of entries) plans places → IsFirst heap (ids_of entries) types first
-    → size_together v.id_size types ≤ length values → AreUp known first ks
-    → HaveFields v.id_size plans places known ks values
-have_fields v heap all entries plans places known [] types values first low told plan is room up = tt
-have_fields v heap all entries plans places known (k ∷ ks) types values first low told plan is room up =
-    let b : BeginsAt heap (ids_of entries) types k = begins_at heap (ids_of entries) types first k up.0 is in
-    let own : AreOwnFields v.id_size plans places (own_types b.class) k =
-    fields_of_class v.id_size heap all (ids_of entries) plans places k b.class plan b.below b.named in
-    let sizes : size_together v.id_size types
-    ≡ size_together v.id_size (own_types b.class) + size_together v.id_size (layout_types b.rest) =
-    both_sizes v.id_size heap (ids_of entries) types k b in (
+pub have_fields : (skips : Class → Member → Bool) (v : Sight) (heap : List SubRecord) (all : List ℕ)
+    (entries : List Entry) (plans : List ClassPlan) (places : List ℕ) (known : List Fate) (ks : List ℕ)
+    (fields : List (Class × Member)) (values : List ℕ) (first : Option ℕ) → 1 ≤ v.id_size
+    → AreTold v heap entries known → IsPlan skips v.id_size heap all (ids_of entries) plans places
+    → IsFirst heap (ids_of entries) fields first → size_of_fields v.id_size fields ≤ length values
+    → AreUp known first ks → HaveFields v.id_size plans places known ks values
+have_fields skips v heap all entries plans places known [] fields values first low told plan is room up = tt
+have_fields skips v heap all entries plans places known (k ∷ ks) fields values first low told plan is room up =
+    let b : BeginsAt heap (ids_of entries) fields k = begins_at heap (ids_of entries) fields first k up.0 is in
+    let own : AreOwnFields skips v.id_size plans places b.class k =
+    fields_of_class skips v.id_size heap all (ids_of entries) plans places k b.class plan b.below b.named in
+    let sizes : size_of_fields v.id_size fields
+    ≡ size_together v.id_size b.class.members + size_of_fields v.id_size (declared_fields b.rest) =
+    both_sizes v.id_size heap (ids_of entries) fields k b in (
       record {
         below = omega (arith, b.below, plan.one_each);
         has_fate = omega (arith, b.below, told.settled.fates_are.one_each);
         has = own.has;
-        stand = own_stand v.id_size
-            plans places (own_types b.class) values k own low (omega (arith, sizes, room));
+        stand = own_stand skips v.id_size
+            plans places b.class values k own low (omega (arith, sizes, room));
       },
-      have_fields v heap all entries plans places known ks (layout_types b.rest) (drop (plan_at plans k).size values)
-          (next_above known k) low told plan (first_above v heap entries types known k told b)
+      have_fields skips v heap all entries plans places known ks (declared_fields b.rest)
+          (drop (plan_at plans k).size values)
+          (next_above known k) low told plan (first_above v heap entries fields known k told b)
           (omega (arith, sizes, room, own.size_is, length-drop (plan_at plans k).size values)) up.1,
     )
 
-pub ids_up_are : (v : Sight) (heap : List SubRecord) (all : List ℕ) (entries : List Entry) (plans : List ClassPlan)
-    (places : List ℕ) (known : List Fate) (ks types values : List ℕ) (first : Option ℕ) → AreTold v heap entries known
-    → IsPlan v.id_size heap all (ids_of entries) plans places → IsFirst heap (ids_of entries) types first
-    → AreUp known first ks → ids_up v.id_size plans places ks values ≡ typed_ids v.id_size types values
-ids_up_are v heap all entries plans places known [] types values first told plan is up =
-    let none : types ≡ [] = subst (λ (f : Option ℕ). IsFirst heap (ids_of entries) types f) up is in
-    ap (λ (ts : List ℕ). typed_ids v.id_size ts values) (sym none)
-ids_up_are v heap all entries plans places known (k ∷ ks) types values first told plan is up =
-    let b : BeginsAt heap (ids_of entries) types k = begins_at heap (ids_of entries) types first k up.0 is in
-    let own : AreOwnFields v.id_size plans places (own_types b.class) k =
-    fields_of_class v.id_size heap all (ids_of entries) plans places k b.class plan b.below b.named in
+pub ids_up_are : (skips : Class → Member → Bool) (v : Sight) (heap : List SubRecord) (all : List ℕ)
+    (entries : List Entry) (plans : List ClassPlan) (places : List ℕ) (known : List Fate) (ks : List ℕ)
+    (fields : List (Class × Member)) (values : List ℕ) (first : Option ℕ) → AreTold v heap entries known
+    → IsPlan skips v.id_size heap all (ids_of entries) plans places → IsFirst heap (ids_of entries) fields first
+    → AreUp known first ks → ids_up v.id_size plans places ks values ≡ followed_ids skips v.id_size fields values
+ids_up_are skips v heap all entries plans places known [] fields values first told plan is up =
+    let none : fields ≡ [] = subst (λ (f : Option ℕ). IsFirst heap (ids_of entries) fields f) up is in
+    ap (λ (fs : List (Class × Member)). followed_ids skips v.id_size fs values) (sym none)
+ids_up_are skips v heap all entries plans places known (k ∷ ks) fields values first told plan is up =
+    let s : ℕ = v.id_size in
+    let b : BeginsAt heap (ids_of entries) fields k = begins_at heap (ids_of entries) fields first k up.0 is in
+    let own : AreOwnFields skips s plans places b.class k =
+    fields_of_class skips s heap all (ids_of entries) plans places k b.class plan b.below b.named in
     let behind : List ℕ = drop (plan_at plans k).size values in
-    ap (λ (ids : List ℕ). ids ++ ids_up v.id_size plans places ks behind)
-    (own_ids v.id_size plans places (own_types b.class) values k own)
-    ∙ ap (λ (ids : List ℕ). typed_ids v.id_size (own_types b.class) values ++ ids)
-    (ids_up_are v heap all entries plans places known ks (layout_types b.rest) behind (next_above known k) told plan
-    (first_above v heap entries types known k told b) up.1
-    ∙ ap (λ (n : ℕ). typed_ids v.id_size (layout_types b.rest) (drop n values)) own.size_is)
-    ∙ sym (ap (λ (ts : List ℕ). typed_ids v.id_size ts values) b.types_are
-    ∙ ids_of_both v.id_size (own_types b.class) (layout_types b.rest) values)
+    ap (λ (ids : List ℕ). ids ++ ids_up s plans places ks behind)
+    (own_ids skips s plans places b.class values k own)
+    ∙ ap (λ (ids : List ℕ). followed_ids skips s (own_fields b.class) values ++ ids)
+    (ids_up_are skips v heap all entries plans places known ks (declared_fields b.rest) behind (next_above known k)
+    told plan (first_above v heap entries fields known k told b) up.1
+    ∙ ap (λ (n : ℕ). followed_ids skips s (declared_fields b.rest) (drop n values))
+    (own.size_is ∙ sym (own_fields_size s b.class)))
+    ∙ sym (ap (λ (fs : List (Class × Member)). followed_ids skips s fs values) b.fields_are
+    ∙ ids_of_both skips s (own_fields b.class) (declared_fields b.rest) values)
 
 -- ---- what is left of the identifiers of an instance
 

@@ -1,5 +1,5 @@
 -- The first identifier that an instance or an object array holds is that of its class, whose object the plan has.
-use Rattle.std.proofs.Common.{List, None, Option, Some, ap, arith, length, map, refl, slice_get, subst, sym, ℕ}
+use Rattle.std.proofs.Common.{Bool, List, None, Option, Some, ap, arith, length, map, sym, ℕ}
 use Rattle.std.proofs.Common.{◌<◌, ◌∙◌, ◌∷◌, ◌≡◌}
 use Rattle.std.specs.Prelude.{IfSome, slice_index, ◌==◌}
 use Rattle.std.specs.List.{position_or_len}
@@ -7,7 +7,7 @@ use Rattle.std.proofs.lemmas.Bool.{eqb-true}
 use Rattle.std.proofs.lemmas.List.{length-map}
 use Rattle.std.proofs.lemmas.Option.{get_or_from_slice_get}
 use Rattle.hprof_grammar.specs.Record.{Record}
-use Rattle.hprof_grammar.specs.SubRecord.{Class, SubRecord}
+use Rattle.hprof_grammar.specs.SubRecord.{Class, Member, SubRecord}
 use Rattle.hprof_grammar.specs.SubRecord.SubRecord.{class_dump, instance_dump, object_array_dump, primitive_array_dump}
 use Rattle.hprof_grammar.specs.SubRecord.SubRecord.{root}
 use Rattle.heap_graph.specs.declared.plan.ClassPlan.{ClassPlan}
@@ -73,10 +73,10 @@ row_planned g plans (keys.Primitive t) count is = tt
 row_planned g plans keys.ClassObject count is = tt
 
 -- and as many classes are planned as it has
-pub classes_planned : (s : ℕ) (records : List Record) (g : ObjectGraph) (all ids : List ℕ) (plans : List ClassPlan)
+pub classes_planned : (skips : Class → Member → Bool) (s : ℕ) (records : List Record) (g : ObjectGraph) (all ids : List ℕ) (plans : List ClassPlan)
     (places : List ℕ) → IsGraphOf s records g → ids ≡ map (λ (c : Class). c.object) (class_dumps (heap_of records))
-    → IsPlan s (heap_of records) all ids plans places → class_count g ≡ length plans
-classes_planned s records g all ids plans places graph are plan =
+    → IsPlan skips s (heap_of records) all ids plans places → class_count g ≡ length plans
+classes_planned skips s records g all ids plans places graph are plan =
     omega (
       arith,
       ap length graph.classes_are,

@@ -6,21 +6,20 @@ use Rattle.std.proofs.lemmas.Bool.{eqb-true}
 use Rattle.std.proofs.lemmas.List.{length-map}
 use Rattle.byteorder.specs.Endian.{big_number}
 use Rattle.hprof_grammar.specs.Bounds.{IsClass, IsConstant, IsStatic}
-use Rattle.hprof_grammar.specs.SubRecord.{Class, Constant, Instance, ObjectArray, PrimitiveArray, Static, SubRecord}
+use Rattle.hprof_grammar.specs.SubRecord.{Class, Constant, Instance, Member, ObjectArray, PrimitiveArray, Static, SubRecord}
 use Rattle.hprof_grammar.specs.SubRecord.SubRecord.{class_dump, instance_dump, object_array_dump, primitive_array_dump}
 use Rattle.hprof_grammar.specs.Series.{LabelledValue, of_constant, of_static}
 use Rattle.hprof_grammar.specs.Tables.{size_of}
 use Rattle.heap_graph.specs.declared.objects.Objects.{Objects}
-use Rattle.heap_graph.specs.Layout.{layout}
+use Rattle.heap_graph.specs.Fields.{declared_fields, followed_ids}
 use Rattle.heap_graph.specs.References.{class_ids, constant_ids, static_ids}
-use Rattle.heap_graph.specs.working.Chains.{layout_types}
 use Rattle.heap_graph.specs.working.ClassTable.{ids_of}
 use Rattle.heap_graph.specs.working.HeldIds.{AreIdsOf, IsFirstOfInstance, IsLayoutFrom}
-use Rattle.heap_graph.specs.working.TypedFields.{typed_ids}
 use Rattle.heap_graph.specs.working.Values.{AreClassValues, AreIdValues, IsIdValue, values_ids}
-use Rattle.heap_graph.proofs.FieldLaws.{same_ids, size_of_id_type}
-use Rattle.heap_graph.proofs.InstanceLaws.{few_typed}
-use Rattle.heap_graph.proofs.LayoutLaws.{size_by_types}
+use Rattle.heap_graph.proofs.FieldLaws.{size_of_id_type}
+use Rattle.heap_graph.proofs.FieldsLaws.{empty_skips_nothing}
+use Rattle.heap_graph.proofs.InstanceLaws.{few_fields}
+use Rattle.heap_graph.proofs.LayoutLaws.{size_by_fields}
 
 -- ---- those of a class
 
@@ -96,17 +95,43 @@ class_holds s heap c ids is e = record { are = e; few = omega (arith, ap length 
 
 -- ---- those of the other objects
 
-pub layout_from : {A : Type 0} (o : Objects A) (heap : List SubRecord) (i : Instance) (first : Option ℕ) (values : List ℕ) (it : IsFirstOfInstance o.view.id_size heap (ids_of o.classes.table.entries) i first) → values ≡ i.values → IsLayoutFrom o heap (layout_types it.chain) first values
-layout_from o heap i first values it e = record { begins = it.begins; room = omega (arith, size_by_types o.view.id_size it.chain, it.size_is, ap length e) }
+pub layout_from : {A : Type 0} (o : Objects A) (heap : List SubRecord) (i : Instance) (first : Option ℕ)
+    (values : List ℕ) (it : IsFirstOfInstance o.view.id_size heap (ids_of o.classes.table.entries) i first)
+    → values ≡ i.values → IsLayoutFrom o heap (declared_fields it.chain) first values
+layout_from o heap i first values it e = record {
+  begins = it.begins;
+  room = omega (arith, size_by_fields o.view.id_size it.chain, it.size_is, ap length e);
+}
 
 -- no more identifiers than bytes
-pub few_in_instance : (s : ℕ) (heap : List SubRecord) (ids : List ℕ) (i : Instance) (first : Option ℕ) (it : IsFirstOfInstance s heap ids i first) (fields values : List ℕ) → 1 ≤ s → length i.values < 256 ^ 4 → values ≡ i.values → fields ≡ typed_ids s (layout_types it.chain) values → length fields ≤ 2 ^ 32
-few_in_instance s heap ids i first it fields values low few ev ef = omega (arith, ap length ef, few_typed s (layout_types it.chain) values low, size_by_types s it.chain, it.size_is, few)
+pub few_in_instance : (skips : Class → Member → Bool) (s : ℕ) (heap : List SubRecord) (ids : List ℕ) (i : Instance)
+    (first : Option ℕ) (it : IsFirstOfInstance s heap ids i first) (fields values : List ℕ) → 1 ≤ s
+    → length i.values < 256 ^ 4 → values ≡ i.values
+    → fields ≡ followed_ids skips s (declared_fields it.chain) values → length fields ≤ 2 ^ 32
+few_in_instance skips s heap ids i first it fields values low few ev ef =
+    omega (
+      arith,
+      ap length ef,
+      few_fields skips s (declared_fields it.chain) values low,
+      size_by_fields s it.chain,
+      it.size_is,
+      few,
+    )
 
-pub instance_holds : (s : ℕ) (heap : List SubRecord) (ids : List ℕ) (i : Instance) (first : Option ℕ) (it : IsFirstOfInstance s heap ids i first) (class : ℕ) (fields values : List ℕ) → 1 ≤ s → length i.values < 256 ^ 4 → class ≡ i.class → values ≡ i.values → fields ≡ typed_ids s (layout_types it.chain) values → AreIdsOf s heap (instance_dump i) (class ∷ fields)
+pub instance_holds : (s : ℕ) (heap : List SubRecord) (ids : List ℕ) (i : Instance) (first : Option ℕ)
+    (it : IsFirstOfInstance s heap ids i first) (class : ℕ) (fields values : List ℕ) → 1 ≤ s
+    → length i.values < 256 ^ 4 → class ≡ i.class → values ≡ i.values
+    → fields ≡ followed_ids (λ c m. false) s (declared_fields it.chain) values
+    → AreIdsOf s heap (instance_dump i) (class ∷ fields)
 instance_holds s heap ids i first it class fields values low few ec ev ef = record {
-  are = (it.chain, it.is, ap (λ (x : ℕ). x ∷ fields) ec ∙ ap (λ (xs : List ℕ). i.class ∷ xs) (ef ∙ ap (λ (vs : List ℕ). typed_ids s (layout_types it.chain) vs) ev ∙ sym (same_ids s (layout it.chain) i.values)));
-  few = omega (arith, few_in_instance s heap ids i first it fields values low few ev ef);
+  are = (
+    it.chain,
+    it.is,
+    ap (λ (x : ℕ). x ∷ fields) ec ∙ ap (λ (xs : List ℕ). i.class ∷ xs)
+        (ef ∙ ap (λ (vs : List ℕ). followed_ids (λ c m. false) s (declared_fields it.chain) vs) ev
+        ∙ empty_skips_nothing [] s it.chain i.values),
+  );
+  few = omega (arith, few_in_instance (λ c m. false) s heap ids i first it fields values low few ev ef);
 }
 
 pub array_holds : (s : ℕ) (heap : List SubRecord) (a : ObjectArray) (class : ℕ) (elements : List ℕ) → length a.elements < 256 ^ 4 → class ≡ a.class → elements ≡ a.elements → AreIdsOf s heap (object_array_dump a) (class ∷ elements)

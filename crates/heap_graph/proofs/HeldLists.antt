@@ -1,5 +1,5 @@
 -- The objects of a linked heap list hold identifiers: a list for each of them, without a call that reads them.
-use Rattle.std.proofs.Common.{List, None, Option, Some, [], arith, get_or, length, refl, slice_get, subst, suc, sym, zero, ℕ, ◌<◌, ◌∙◌, ◌∷◌, ◌≡◌, ◌≤◌}
+use Rattle.std.proofs.Common.{List, None, Option, Some, [], arith, false, get_or, length, refl, slice_get, subst, suc, sym, zero, ℕ, ◌<◌, ◌∙◌, ◌∷◌, ◌≡◌, ◌≤◌}
 use Rattle.std.specs.Prelude.{position, ◌==◌}
 use Rattle.hprof_grammar.specs.Standing.{Sight, Stands}
 use Rattle.hprof_grammar.specs.SubRecord.{Instance, SubRecord}
@@ -8,14 +8,14 @@ use Rattle.hprof_grammar.proofs.BoundsLaws.{bounds}
 use Rattle.heap_graph.specs.declared.classes.fate.Fate.{Fate}
 use Rattle.heap_graph.specs.declared.classes.fate.Fate.TheVariants as fates
 use Rattle.heap_graph.specs.declared.objects.Objects.{Objects}
+use Rattle.heap_graph.specs.Fields.{declared_fields, followed_ids}
 use Rattle.heap_graph.specs.Heap.{objects}
 use Rattle.heap_graph.specs.References.{AreIdLists, class_ids}
 use Rattle.heap_graph.specs.Linked.{IsLinked}
-use Rattle.heap_graph.specs.working.Chains.{IsFate, IsSettled, layout_types}
+use Rattle.heap_graph.specs.working.Chains.{IsFate, IsSettled}
 use Rattle.heap_graph.specs.working.ClassTable.{Entry, ids_of}
 use Rattle.heap_graph.specs.working.HeldIds.{AreIdsOf, AreLinkedOf, IsFirstOfInstance}
 use Rattle.heap_graph.specs.working.ToldClasses.{AreTold, AreToldOf}
-use Rattle.heap_graph.specs.working.TypedFields.{typed_ids}
 use Rattle.heap_graph.proofs.ClassTableLaws.{not_found}
 use Rattle.heap_graph.proofs.HeldLaws.{array_holds, class_holds, instance_holds, nothing_held}
 use Rattle.heap_graph.proofs.InstanceLaws.{linked_whole, right_size}
@@ -72,7 +72,7 @@ ids_here v heap entries known n at (class_dump c) linked low told is stands =
 ids_here v heap entries known n at (instance_dump i) linked low told is stands =
     let found =
     first_at v heap entries known n i (position (λ x. x == i.class) (ids_of entries)) linked told is refl in
-    let fields : List ℕ = typed_ids v.id_size (layout_types found.1.chain) i.values in (
+    let fields : List ℕ = followed_ids (λ c m. false) v.id_size (declared_fields found.1.chain) i.values in (
       i.class ∷ fields,
       instance_holds v.id_size heap (ids_of entries) i found.0 found.1 i.class fields i.values low
           (bounds stands.is.formed).values refl refl refl,

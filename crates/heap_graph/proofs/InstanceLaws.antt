@@ -1,24 +1,26 @@
 -- The layout of an instance, and the chain of its class.
-use Rattle.std.proofs.Common.{Bool, List, Some, [], arith, drop, inl, inr, length, refl, slice_get, subst, sum_by, sym, take, true, false, ⊎_elim, ℕ, ◌++◌, ◌+◌, ◌∙◌, ◌∷◌, ◌≡◌, ◌≤◌}
+use Rattle.std.proofs.Common.{Bool, List, Some, [], arith, drop, inl, inr, length, length-append, not, refl, slice_get, subst, sym, take}
+use Rattle.std.proofs.Common.{true, false, ⊎_elim, ℕ, ◌&&◌, ◌+◌, ◌∙◌, ◌∷◌, ◌≡◌, ◌≤◌}
 use Rattle.std.specs.Prelude.{if◌then◌else◌, ◌==◌}
 use Rattle.std.proofs.lemmas.Bool.{cases_order, eqb-true}
 use Rattle.std.proofs.lemmas.List.Sums.{sum_by-cons}
 use Rattle.byteorder.specs.Endian.{big_number}
-use Rattle.hprof_grammar.specs.SubRecord.{Class, Instance, SubRecord}
+use Rattle.hprof_grammar.specs.SubRecord.{Class, Instance, Member, SubRecord}
 use Rattle.hprof_grammar.specs.SubRecord.SubRecord.{class_dump, instance_dump}
 use Rattle.hprof_grammar.specs.Tables.{size_of}
 use Rattle.heap_graph.specs.declared.classes.fate.Fate.{Fate}
 use Rattle.heap_graph.specs.declared.classes.fate.Fate.TheVariants as fates
 use Rattle.heap_graph.specs.declared.classes.fate.Layout.{Layout}
 use Rattle.heap_graph.specs.declared.rule.LinkRule.TheVariants.{InstanceSize, SuperChain}
+use Rattle.heap_graph.specs.Fields.{followed_ids}
 use Rattle.heap_graph.specs.Heap.{class_named, objects}
 use Rattle.heap_graph.specs.Layout.{IsChain, IsLine, NeverEnds, layout_size}
 use Rattle.heap_graph.specs.Linked.{IsLinked}
 use Rattle.heap_graph.specs.SuperRule.{IsBadSuper}
 use Rattle.heap_graph.specs.working.Chains.{IsCut, IsFate, IsSettled}
-use Rattle.heap_graph.specs.working.TypedFields.{typed_ids}
+use Rattle.heap_graph.specs.working.IdPlaces.{size_of_fields}
 use Rattle.heap_graph.proofs.ChainLaws.{some_inj, some_none}
-use Rattle.heap_graph.proofs.FieldLaws.{size_of_id_type}
+use Rattle.heap_graph.proofs.FieldLaws.{ids_here, of_id_type, size_of_id_type}
 use Rattle.heap_graph.proofs.Linking.{IsClassThere, class_there}
 
 -- ---- a whole instance
@@ -30,16 +32,25 @@ equal_numbers a b h = ⊎_elim (λ e. e) (⊎_elim (λ l. absurd (h (λ e. omega
 pub right_size : (s : ℕ) (heap : List SubRecord) (n : ℕ) (i : Instance) (chain : List Class) → IsLinked s heap → slice_get (objects heap) n ≡ Some (instance_dump i) → IsChain heap i.class chain → length i.values ≡ layout_size s chain
 right_size s heap n i chain linked is chain_is = equal_numbers (length i.values) (layout_size s chain) (λ other. linked n InstanceSize (instance_dump i, is, (chain, chain_is, other)))
 
-few_if : (s t : ℕ) (rest values : List ℕ) (n : ℕ) (b : Bool) → (t == 2) ≡ b → 1 ≤ s → length rest ≤ n → length ((if b then big_number s (take s values) ∷ [] else []) ++ rest) ≤ size_of s t + n
-few_if s t rest values n true e low h = let size : size_of s t ≡ s = size_of_id_type s t (eqb-true t 2 e) in omega (arith, h, low, size)
-few_if s t rest values n false e low h = omega (arith, h)
+few_if : (s t : ℕ) (values : List ℕ) (b : Bool) → (b ≡ true → t ≡ 2) → 1 ≤ s
+    → length (if b then big_number s (take s values) ∷ [] else []) ≤ size_of s t
+few_if s t values true e low = let size : size_of s t ≡ s = size_of_id_type s t (e refl) in omega (arith, low, size)
+few_if s t values false e low = omega arith
 
 -- no more identifiers than bytes
-pub few_typed : (s : ℕ) (ts values : List ℕ) → 1 ≤ s → length (typed_ids s ts values) ≤ sum_by (λ t. size_of s t) ts
-few_typed s [] values low = omega arith
-few_typed s (t ∷ ts) values low =
-    let h = few_if s t (typed_ids s ts (drop (size_of s t) values)) values (sum_by (λ x. size_of s x) ts) (t == 2) refl low (few_typed s ts (drop (size_of s t) values) low) in
-    omega (arith, h, sum_by-cons (λ x. size_of s x) t ts)
+pub few_fields : (skips : Class → Member → Bool) (s : ℕ) (fs : List (Class × Member)) (values : List ℕ) → 1 ≤ s
+    → length (followed_ids skips s fs values) ≤ size_of_fields s fs
+few_fields skips s [] values low = omega arith
+few_fields skips s (f ∷ fs) values low =
+    let skipped : Bool = skips f.0 f.1 in
+    let typed : Bool = f.1.type == 2 in
+    omega (
+      arith,
+      few_if s f.1.type values (not skipped && typed) (λ e. eqb-true f.1.type 2 (of_id_type skipped typed e)) low,
+      few_fields skips s fs (drop (size_of s f.1.type) values) low,
+      length-append (ids_here skips s f values) (followed_ids skips s fs (drop (size_of s f.1.type) values)),
+      sum_by-cons (λ (g : Class × Member). size_of s g.1.type) f fs,
+    )
 
 -- ---- in a linked heap list each chain is whole
 

@@ -1,36 +1,45 @@
 -- The layout of a class, from that of its superclass.
-use Rattle.std.proofs.Common.{List, None, Option, Some, [], ap, arith, map, min, refl, sum_by, sym, ℕ, ◌++◌, ◌+◌, ◌∙◌, ◌∷◌, ◌≡◌}
-use Rattle.std.proofs.lemmas.List.{map-append}
+use Rattle.std.proofs.Common.{List, None, Option, Some, [], ap, arith, map, min, refl, sym, ℕ, ◌++◌, ◌+◌, ◌∙◌, ◌∷◌, ◌≡◌}
 use Rattle.std.proofs.lemmas.List.Sums.{sum_by-append, sum_by-cons}
 use Rattle.hprof_grammar.specs.SubRecord.{Class, Member, SubRecord}
 use Rattle.hprof_grammar.specs.Tables.{size_of}
+use Rattle.heap_graph.specs.Fields.{declared_fields, own_fields}
 use Rattle.heap_graph.specs.Layout.{layout, layout_size}
-use Rattle.heap_graph.specs.working.ClassTable.{own_types}
-use Rattle.heap_graph.specs.working.Chains.{IsChainAt, IsFirst, layout_types, most_size}
+use Rattle.heap_graph.specs.working.Chains.{IsChainAt, IsFirst, most_size}
+use Rattle.heap_graph.specs.working.IdPlaces.{size_of_fields, size_together}
 
--- ---- types in place of fields
+-- ---- the sizes of fields, each told with its class
 
-pub layout_more : (c : Class) (rest : List Class) → layout_types (c ∷ rest) ≡ own_types c ++ layout_types rest
-layout_more c rest = map-append (λ (m : Member). m.type) c.members (layout rest)
+members_size : (s : ℕ) (c : Class) (ms : List Member) → size_of_fields s (map (λ m. (c, m)) ms) ≡ size_together s ms
+members_size s c [] = refl
+members_size s c (m ∷ ms) =
+    sum_by-cons (λ (f : Class × Member). size_of s f.1.type) (c, m) (map (λ m. (c, m)) ms)
+    ∙ ap (λ (n : ℕ). size_of s m.type + n) (members_size s c ms)
+    ∙ sym (sum_by-cons (λ (x : Member). size_of s x.type) m ms)
 
-types_size : (s : ℕ) (ms : List Member) → sum_by (λ m. size_of s m.type) ms ≡ sum_by (λ t. size_of s t) (map (λ m. m.type) ms)
-types_size s [] = refl
-types_size s (m ∷ ms) =
-    sum_by-cons (λ (x : Member). size_of s x.type) m ms ∙ ap (λ (n : ℕ). size_of s m.type + n) (types_size s ms)
-    ∙ sym (sum_by-cons (λ (t : ℕ). size_of s t) m.type (map (λ x. x.type) ms))
+pub own_fields_size : (s : ℕ) (c : Class) → size_of_fields s (own_fields c) ≡ size_together s c.members
+own_fields_size s c = members_size s c c.members
 
-pub size_by_types : (s : ℕ) (chain : List Class) → layout_size s chain ≡ sum_by (λ t. size_of s t) (layout_types chain)
-size_by_types s chain = types_size s (layout chain)
+pub size_more : (s : ℕ) (c : Class) (rest : List Class)
+    → layout_size s (c ∷ rest) ≡ size_together s c.members + layout_size s rest
+size_more s c rest = sum_by-append (λ (m : Member). size_of s m.type) c.members (layout rest)
 
-pub size_more : (s : ℕ) (c : Class) (rest : List Class) → layout_size s (c ∷ rest) ≡ sum_by (λ t. size_of s t) (own_types c) + layout_size s rest
-size_more s c rest =
-    size_by_types s (c ∷ rest) ∙ ap (λ (ts : List ℕ). sum_by (λ t. size_of s t) ts) (layout_more c rest) ∙ sum_by-append (λ t. size_of s t) (own_types c) (layout_types rest)
-    ∙ ap (λ (n : ℕ). sum_by (λ t. size_of s t) (own_types c) + n) (sym (size_by_types s rest))
+pub size_by_fields : (s : ℕ) (chain : List Class) → layout_size s chain ≡ size_of_fields s (declared_fields chain)
+size_by_fields s [] = refl
+size_by_fields s (c ∷ rest) =
+    size_more s c rest ∙ ap (λ (n : ℕ). size_together s c.members + n) (size_by_fields s rest)
+    ∙ ap (λ (n : ℕ). n + size_of_fields s (declared_fields rest)) (sym (own_fields_size s c))
+    ∙ sym (sum_by-append (λ (f : Class × Member). size_of s f.1.type) (own_fields c) (declared_fields rest))
 
 -- ---- the first class with fields
 
-pub first_above : (heap : List SubRecord) (ids : List ℕ) (c : Class) (rest : List Class) (first : Option ℕ) → own_types c ≡ [] → IsFirst heap ids (layout_types rest) first → IsFirst heap ids (layout_types (c ∷ rest)) first
-first_above heap ids c rest None none is = layout_more c rest ∙ ap (λ (ts : List ℕ). ts ++ layout_types rest) none ∙ is
+no_own_fields : (c : Class) (rest : List Class) → c.members ≡ []
+    → declared_fields (c ∷ rest) ≡ declared_fields rest
+no_own_fields c rest none = ap (λ (ms : List Member). map (λ m. (c, m)) ms ++ declared_fields rest) none
+
+pub first_above : (heap : List SubRecord) (ids : List ℕ) (c : Class) (rest : List Class) (first : Option ℕ)
+    → c.members ≡ [] → IsFirst heap ids (declared_fields rest) first → IsFirst heap ids (declared_fields (c ∷ rest)) first
+first_above heap ids c rest None none is = no_own_fields c rest none ∙ is
 first_above heap ids c rest (Some k) none is = record {
   class = is.class;
   rest = is.rest;
@@ -38,18 +47,19 @@ first_above heap ids c rest (Some k) none is = record {
   named = is.named;
   chain = is.chain;
   some_field = is.some_field;
-  types_are = layout_more c rest ∙ ap (λ (ts : List ℕ). ts ++ layout_types rest) none ∙ is.types_are;
+  fields_are = no_own_fields c rest none ∙ is.fields_are;
 }
 
-pub first_here : (heap : List SubRecord) (ids : List ℕ) (k : ℕ) (c : Class) (rest : List Class) → (own_types c ≡ [] → ⊥) → IsChainAt heap ids k c rest → IsFirst heap ids (layout_types (c ∷ rest)) (Some k)
+pub first_here : (heap : List SubRecord) (ids : List ℕ) (k : ℕ) (c : Class) (rest : List Class) → (c.members ≡ [] → ⊥)
+    → IsChainAt heap ids k c rest → IsFirst heap ids (declared_fields (c ∷ rest)) (Some k)
 first_here heap ids k c rest some at = record {
   class = c;
   rest = rest;
   below = at.below;
   named = at.named;
   chain = at.chain;
-  some_field = λ e. some (ap (λ (ms : List Member). map (λ (m : Member). m.type) ms) e);
-  types_are = layout_more c rest;
+  some_field = some;
+  fields_are = refl;
 }
 
 -- ---- sizes

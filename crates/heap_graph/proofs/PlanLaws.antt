@@ -1,5 +1,5 @@
 -- What is planned for the classes: the plan grows by one class after the other, and tells the fields of each.
-use Rattle.std.proofs.Common.{List, None, Option, Some, [], ap, arith, drop, inl, inr, length, length-append, map, refl}
+use Rattle.std.proofs.Common.{Bool, List, None, Option, Some, [], ap, arith, drop, inl, inr, length, length-append, refl}
 use Rattle.std.proofs.Common.{slice_get}
 use Rattle.std.proofs.Common.{subst, suc, sym, take, zero, ⊎_elim, ℕ, ◌++◌, ◌-◌, ◌<◌, ◌∙◌, ◌∷◌, ◌≡◌, ◌≤◌, ◌⊎◌}
 use Rattle.std.specs.Prelude.{slice_index, slice_range}
@@ -15,7 +15,7 @@ use Rattle.heap_graph.specs.Heap.{class_named}
 use Rattle.heap_graph.specs.working.ClassPlans.{AddsPlan, AreClassObjects, AreClassPlans, HasIdPlaces, IsClassPlan}
 use Rattle.heap_graph.specs.working.ClassPlans.{IsPlan}
 use Rattle.heap_graph.specs.working.ClassPlans.{id_places_of, plan_at}
-use Rattle.heap_graph.specs.working.ClassTable.{AreClasses, Entry, ids_of, own_types}
+use Rattle.heap_graph.specs.working.ClassTable.{AreClasses, Entry, ids_of}
 use Rattle.heap_graph.specs.working.IdPlaces.{id_places, size_together}
 use Rattle.heap_graph.specs.working.Resolving.{target_in}
 use Rattle.heap_graph.proofs.ChainLaws.{some_inj, some_none}
@@ -37,28 +37,30 @@ last_places all more a b e f =
     ∙ ap (λ (n : ℕ). take (length more) (drop n (all ++ more))) e
     ∙ ap (λ (xs : List ℕ). take (length more) xs) (drop-append_seam all more) ∙ take-length more
 
-old_plan : (s : ℕ) (places more : List ℕ) (c : Class) (p : ClassPlan) → IsClassPlan s places c p
-    → IsClassPlan s (places ++ more) c p
-old_plan s places more c p is = record {
+old_plan : (skips : Class → Member → Bool) (s : ℕ) (places more : List ℕ) (c : Class) (p : ClassPlan)
+    → IsClassPlan skips s places c p → IsClassPlan skips s (places ++ more) c p
+old_plan skips s places more c p is = record {
   rising = is.rising;
   within = omega (arith, is.within, length-append places more);
   places_are = kept_places places more p.start p.end is.rising is.within ∙ is.places_are;
   size_is = is.size_is;
 }
 
-new_plan : (s : ℕ) (types : List ℕ) (object : Option ℕ) (old new : List ClassPlan) (old_places places : List ℕ)
-    (c : Class) (adds : AddsPlan s types object old old_places new places) → types ≡ own_types c
-    → IsClassPlan s (old_places ++ id_places s 0 types) c adds.class
-new_plan s types object old new old_places places c adds same = record {
-  rising = omega (arith, adds.start_is, end, length-append old_places (id_places s 0 types));
+new_plan : (skips : Class → Member → Bool) (s : ℕ) (members : List Member) (test : Member → Bool) (object : Option ℕ)
+    (old new : List ClassPlan) (old_places places : List ℕ) (c : Class)
+    (adds : AddsPlan test s members object old old_places new places) → members ≡ c.members → test ≡ skips c
+    → IsClassPlan skips s (old_places ++ id_places test s 0 members) c adds.class
+new_plan skips s members test object old new old_places places c adds same tests = record {
+  rising = omega (arith, adds.start_is, end, length-append old_places (id_places test s 0 members));
   within = omega (arith, end);
   places_are =
-      last_places old_places (id_places s 0 types) adds.class.start adds.class.end adds.start_is end
-      ∙ ap (λ (ts : List ℕ). id_places s 0 ts) same;
-  size_is = adds.size_is ∙ ap (λ (ts : List ℕ). size_together s ts) same;
+      last_places old_places (id_places test s 0 members) adds.class.start adds.class.end adds.start_is end
+      ∙ ap (λ (ms : List Member). id_places test s 0 ms) same
+      ∙ ap (λ (t : Member → Bool). id_places t s 0 c.members) tests;
+  size_is = adds.size_is ∙ ap (λ (ms : List Member). size_together s ms) same;
 }
   where
-    end : adds.class.end ≡ length (old_places ++ id_places s 0 types)
+    end : adds.class.end ≡ length (old_places ++ id_places test s 0 members)
     end = adds.end_is ∙ ap length adds.places_are
 
 get_more : (old : List ClassPlan) (new : ClassPlan) (k : ℕ) (p : ClassPlan) → slice_get (old ++ new ∷ []) k ≡ Some p
@@ -68,26 +70,34 @@ get_more [] new (suc k) p is = absurd (some_none (sym is))
 get_more (x ∷ xs) new zero p is = inl is
 get_more (x ∷ xs) new (suc k) p is = ⊎_elim inl (λ e. inr (omega (arith, e.0), e.1)) (get_more xs new k p is)
 
-pub plan_more : (s : ℕ) (heap : List SubRecord) (ids types : List ℕ) (object : Option ℕ) (old new : List ClassPlan)
-    (old_places places : List ℕ) (n : ℕ) → length old ≡ n → AreClassPlans s heap ids old old_places
-    → AddsPlan s types object old old_places new places
-    → ((c : Class) → class_named heap (slice_index ids n) ≡ Some c → types ≡ own_types c)
-    → AreClassPlans s heap ids new places
-plan_more s heap ids types object old new old_places places n count each adds same = λ k p c is named.
-    subst (λ (ps : List ℕ). IsClassPlan s ps c p) (sym adds.places_are)
-    (⊎_elim (λ h. old_plan s old_places (id_places s 0 types) c p (each k p c h named))
+-- what was added is the plan of that class
+pub record IsOfClass (skips : Class → Member → Bool) (test : Member → Bool) (members : List Member)
+    (c : Class) : Type 0 where
+  pub members_are : members ≡ c.members
+  pub tests : test ≡ skips c
+
+pub plan_more : (skips : Class → Member → Bool) (s : ℕ) (heap : List SubRecord) (ids : List ℕ) (members : List Member)
+    (test : Member → Bool) (object : Option ℕ) (old new : List ClassPlan) (old_places places : List ℕ) (n : ℕ)
+    → length old ≡ n → AreClassPlans skips s heap ids old old_places
+    → AddsPlan test s members object old old_places new places
+    → ((c : Class) → class_named heap (slice_index ids n) ≡ Some c → IsOfClass skips test members c)
+    → AreClassPlans skips s heap ids new places
+plan_more skips s heap ids members test object old new old_places places n count each adds same = λ k p c is named.
+    subst (λ (ps : List ℕ). IsClassPlan skips s ps c p) (sym adds.places_are)
+    (⊎_elim (λ h. old_plan skips s old_places (id_places test s 0 members) c p (each k p c h named))
     (λ e.
     let at : k ≡ n = e.0 ∙ count in
-    subst (λ (x : ClassPlan). IsClassPlan s (old_places ++ id_places s 0 types) c x) e.1
-    (new_plan s types object old new old_places places c adds
-    (same c (ap (λ (m : ℕ). class_named heap (slice_index ids m)) (sym at) ∙ named))))
+    let of : IsOfClass skips test members c =
+    same c (ap (λ (m : ℕ). class_named heap (slice_index ids m)) (sym at) ∙ named) in
+    subst (λ (x : ClassPlan). IsClassPlan skips s (old_places ++ id_places test s 0 members) c x) e.1
+    (new_plan skips s members test object old new old_places places c adds of.members_are of.tests))
     (get_more old adds.class k p (sym (ap (λ (ps : List ClassPlan). slice_get ps k) adds.plans_are) ∙ is)))
 
-pub objects_more : (s : ℕ) (all ids types : List ℕ) (object : Option ℕ) (old new : List ClassPlan)
-    (old_places places : List ℕ) (n : ℕ) → length old ≡ n → AreClassObjects all ids old
-    → AddsPlan s types object old old_places new places → object ≡ target_in all (slice_index ids n)
+pub objects_more : (s : ℕ) (all ids : List ℕ) (members : List Member) (test : Member → Bool) (object : Option ℕ)
+    (old new : List ClassPlan) (old_places places : List ℕ) (n : ℕ) → length old ≡ n → AreClassObjects all ids old
+    → AddsPlan test s members object old old_places new places → object ≡ target_in all (slice_index ids n)
     → AreClassObjects all ids new
-objects_more s all ids types object old new old_places places n count each adds same = λ k p is.
+objects_more s all ids members test object old new old_places places n count each adds same = λ k p is.
     ⊎_elim (λ h. each k p h)
     (λ e.
     ap (λ (x : ClassPlan). x.object) (sym e.1) ∙ adds.object_is ∙ same
@@ -98,9 +108,9 @@ pub no_object : (all ids : List ℕ) (plans : List ClassPlan) → plans ≡ [] �
 no_object all ids plans none = λ k p is.
     absurd (some_none (sym is ∙ ap (λ (ps : List ClassPlan). slice_get ps k) none))
 
-pub no_plan : (s : ℕ) (heap : List SubRecord) (ids : List ℕ) (plans : List ClassPlan) (places : List ℕ) → plans ≡ []
-    → AreClassPlans s heap ids plans places
-no_plan s heap ids plans places none = λ k p c is named.
+pub no_plan : (skips : Class → Member → Bool) (s : ℕ) (heap : List SubRecord) (ids : List ℕ) (plans : List ClassPlan)
+    (places : List ℕ) → plans ≡ [] → AreClassPlans skips s heap ids plans places
+no_plan skips s heap ids plans places none = λ k p c is named.
     absurd (some_none (sym is ∙ ap (λ (ps : List ClassPlan). slice_get ps k) none))
 
 -- ---- the fields that are read are those of the class
@@ -108,29 +118,28 @@ no_plan s heap ids plans places none = λ k p c is named.
 pub fields_read : (v : Sight) (heap : List SubRecord) (entries : List Entry) (k : ℕ) (kept : ClassPlace)
     (read : List Member) → AreClasses v heap entries → k < length entries → IsKept entries k kept
     → ((c : Class) → Stands v kept.place (class_dump c) → read ≡ c.members)
-    → (c : Class) → class_named heap (slice_index (ids_of entries) k) ≡ Some c → map (λ m. m.type) read ≡ own_types c
+    → (c : Class) → class_named heap (slice_index (ids_of entries) k) ≡ Some c → read ≡ c.members
 fields_read v heap entries k kept read are h is says c named =
     let it : IsNumbered v heap entries k = numbered v heap entries k are h in
     let stands : Stands v kept.place (class_dump it.holds.class) =
     subst (λ (p : ClassPlace). Stands v p.place (class_dump it.holds.class)) (sym (is it.entry it.is))
     it.holds.stands in
-    ap (λ (ms : List Member). map (λ m. m.type) ms) (says it.holds.class stands)
-    ∙ ap own_types (same_class v heap entries k c it named)
+    says it.holds.class stands ∙ ap (λ (d : Class). d.members) (same_class v heap entries k c it named)
 
 -- ---- what the plan says of a class
 
-pub record AreOwnFields (s : ℕ) (plans : List ClassPlan) (places types : List ℕ) (k : ℕ) : Type 0 where
+pub record AreOwnFields (skips : Class → Member → Bool) (s : ℕ) (plans : List ClassPlan) (places : List ℕ) (c : Class)
+    (k : ℕ) : Type 0 where
   pub has : HasIdPlaces plans places k
-  pub places_are : id_places_of plans places k ≡ id_places s 0 types
-  pub size_is : (plan_at plans k).size ≡ size_together s types
+  pub places_are : id_places_of plans places k ≡ id_places (skips c) s 0 c.members
+  pub size_is : (plan_at plans k).size ≡ size_together s c.members
 
-pub fields_of_class : (s : ℕ) (heap : List SubRecord) (all ids : List ℕ) (plans : List ClassPlan) (places : List ℕ)
-    (k : ℕ) (c : Class) → IsPlan s heap all ids plans places → k < length ids
-    → class_named heap (slice_index ids k) ≡ Some c
-    → AreOwnFields s plans places (own_types c) k
-fields_of_class s heap all ids plans places k c plan below named =
+pub fields_of_class : (skips : Class → Member → Bool) (s : ℕ) (heap : List SubRecord) (all ids : List ℕ)
+    (plans : List ClassPlan) (places : List ℕ) (k : ℕ) (c : Class) → IsPlan skips s heap all ids plans places
+    → k < length ids → class_named heap (slice_index ids k) ≡ Some c → AreOwnFields skips s plans places c k
+fields_of_class skips s heap all ids plans places k c plan below named =
     let it = there_is plans k (omega (arith, below, plan.one_each)) in
-    let says : IsClassPlan s places c it.0 = plan.each k it.0 c it.1 named in
+    let says : IsClassPlan skips s places c it.0 = plan.each k it.0 c it.1 named in
     let is : plan_at plans k ≡ it.0 =
     get_or_from_slice_get plans k it.0 (record { start = 0; end = 0; size = 0; object = None }) it.1 in
     record {

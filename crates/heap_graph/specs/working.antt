@@ -12,7 +12,6 @@ pub mod ClassList
 pub mod ClassTable
 pub mod Chains
 pub mod ToldClasses
-pub mod TypedFields
 pub mod IdPlaces
 pub mod ClassPlans
 pub mod FieldsUp

@@ -1,6 +1,6 @@
 //! Where the identifiers stand in the fields of instances, class by class.
 
-ghost use Rattle.std.specs.Prelude.{IfOk, OnOk, length, map, ◌++◌, ◌<◌, ◌^◌, ◌≡◌};
+ghost use Rattle.std.specs.Prelude.{IfOk, OnOk, false, length, ◌++◌, ◌<◌, ◌^◌, ◌≡◌};
 ghost use Rattle.heap_graph.specs.working.IdPlaces.{id_places, size_together};
 
 use crate::row::RowKey;
@@ -37,8 +37,8 @@ fn push_id_places<A: Allocator>(
 ) -> Result<u64, AllocError>
     requires { length members < 2 ^ 16 }
     ensures places { OnOk result (places.new.items
-        ≡ places.old.items ++ id_places view.now.id_size 0 (map (λ m. m.type) members.entry)) }
-    ensures size { IfOk result (λ size. size ≡ size_together view.now.id_size (map (λ m. m.type) members.entry)) }
+        ≡ places.old.items ++ id_places (λ m. false) view.now.id_size 0 members.entry) }
+    ensures size { IfOk result (λ size. size ≡ size_together view.now.id_size members.entry) }
 {
     let mut size = 0;
     for member in members {
@@ -62,7 +62,7 @@ impl<A: Allocator> Plan<A> {
         object: Option<u32>,
     ) -> Result<(), AllocError>
         requires { length members < 2 ^ 16 }
-        ensures { OnOk result (AddsPlan view.now.id_size (map (λ m. m.type) members.entry) object
+        ensures { OnOk result (AddsPlan (λ m. false) view.now.id_size members.entry object
             self.old.classes.items self.old.places.items self.new.classes.items self.new.places.items) }
     {
         let start = self.places.len();

@@ -1,10 +1,11 @@
 -- Chains of superclasses by the numbers of classes, and what is known of them. `ids` are the identifiers of the classes
 -- by their numbers.
-use Rattle.std.specs.Prelude.{Bool, Contains, List, None, Option, Some, [], false, length, map, min, slice_get, slice_index, true, ℕ, ◌++◌, ◌<◌, ◌∷◌, ◌≡◌, ◌≢◌}
-use Rattle.hprof_grammar.specs.SubRecord.{Class, SubRecord}
+use Rattle.std.specs.Prelude.{Bool, Contains, List, None, Option, Some, [], false, length, min, slice_get, slice_index, true, ℕ, ◌++◌, ◌<◌, ◌∷◌, ◌≡◌, ◌≢◌}
+use Rattle.hprof_grammar.specs.SubRecord.{Class, Member, SubRecord}
 use Rattle.heap_graph.specs.Heap.{class_named}
-use Rattle.heap_graph.specs.Layout.{IsChain, NeverEnds, layout, layout_size}
-use Rattle.heap_graph.specs.working.ClassTable.{ids_of, own_types}
+use Rattle.heap_graph.specs.Fields.{declared_fields, own_fields}
+use Rattle.heap_graph.specs.Layout.{IsChain, NeverEnds, layout_size}
+use Rattle.heap_graph.specs.working.ClassTable.{ids_of}
 use Rattle.heap_graph.specs.declared.classes.Classes.{Classes}
 use Rattle.heap_graph.specs.declared.classes.chains.Step.{Step}
 use Rattle.heap_graph.specs.declared.classes.chains.Step.TheVariants as steps
@@ -36,22 +37,20 @@ IsCut heap id (c ∷ cs) = (class_named heap id ≡ Some c) × IsCut heap c.supe
 abbrev pub most_size : ℕ
 most_size = 4294967296
 
-abbrev pub layout_types : List Class → List ℕ
-layout_types chain = map (λ m. m.type) (layout chain)
-
--- the layout begins with the fields of the class of that number, and goes on with those of its superclass
-pub record BeginsAt (heap : List SubRecord) (ids types : List ℕ) (k : ℕ) : Type 0 where
+-- The layout begins with the fields of the class of that number, and goes on with those of its superclass.
+-- Each field is told with the class that declares it.
+pub record BeginsAt (heap : List SubRecord) (ids : List ℕ) (fields : List (Class × Member)) (k : ℕ) : Type 0 where
   pub class : Class
   pub rest : List Class
   pub below : k < length ids
   pub named : class_named heap (slice_index ids k) ≡ Some class
   pub chain : IsChain heap class.super rest
   pub some_field : class.members ≢ []
-  pub types_are : types ≡ own_types class ++ layout_types rest
+  pub fields_are : fields ≡ own_fields class ++ declared_fields rest
 
-abbrev pub IsFirst : List SubRecord → List ℕ → List ℕ → Option ℕ → Type 0
-IsFirst heap ids types None = types ≡ []
-IsFirst heap ids types (Some k) = BeginsAt heap ids types k
+abbrev pub IsFirst : List SubRecord → List ℕ → List (Class × Member) → Option ℕ → Type 0
+IsFirst heap ids fields None = fields ≡ []
+IsFirst heap ids fields (Some k) = BeginsAt heap ids fields k
 
 abbrev pub tail : List Class → List Class
 tail [] = []
@@ -59,8 +58,8 @@ tail (c ∷ cs) = cs
 
 pub record IsLayoutOf (s : ℕ) (heap : List SubRecord) (ids : List ℕ) (chain : List Class) (l : Layout) : Type 0 where
   pub size_is : l.size ≡ min most_size (layout_size s chain)
-  pub first_is : IsFirst heap ids (layout_types chain) l.first
-  pub next_is : IsFirst heap ids (layout_types (tail chain)) l.next
+  pub first_is : IsFirst heap ids (declared_fields chain) l.first
+  pub next_is : IsFirst heap ids (declared_fields (tail chain)) l.next
 
 -- what a fate says of the classes from that identifier up
 abbrev pub IsFate : ℕ → List SubRecord → List ℕ → ℕ → Fate → Type 0
@@ -172,7 +171,7 @@ abbrev pub IsChainAtOf : {A : Type 0} → Classes A → List SubRecord → ℕ �
 IsChainAtOf o heap k c rest = IsChainAt heap (ids_of o.table.entries) k c rest
 
 abbrev pub IsFirstOf : {A : Type 0} → Classes A → List SubRecord → List Class → Option ℕ → Type 0
-IsFirstOf o heap chain first = IsFirst heap (ids_of o.table.entries) (layout_types chain) first
+IsFirstOf o heap chain first = IsFirst heap (ids_of o.table.entries) (declared_fields chain) first
 
 abbrev pub IsLayoutAtOf : {A : Type 0} → Classes A → List SubRecord → List Class → Layout → Type 0
 IsLayoutAtOf o heap chain l = IsLayoutOf o.view.id_size heap (ids_of o.table.entries) chain l

@@ -1,11 +1,11 @@
 -- What is planned for the classes of a dump, by their numbers: where the identifiers stand in the fields that they
 -- declare.
-use Rattle.std.specs.Prelude.{List, None, Option, Some, [], length, slice_get, slice_index, slice_index_or, slice_range}
+use Rattle.std.specs.Prelude.{Bool, List, None, Option, Some, [], false, length, slice_get, slice_index, slice_index_or, slice_range}
 use Rattle.std.specs.Prelude.{ℕ, ◌++◌, ◌∷◌}
 use Rattle.std.specs.Prelude.{◌<◌, ◌≡◌, ◌≤◌}
-use Rattle.hprof_grammar.specs.SubRecord.{Class, SubRecord}
+use Rattle.hprof_grammar.specs.SubRecord.{Class, Member, SubRecord}
 use Rattle.heap_graph.specs.Heap.{class_named}
-use Rattle.heap_graph.specs.working.ClassTable.{ids_of, own_types}
+use Rattle.heap_graph.specs.working.ClassTable.{ids_of}
 use Rattle.heap_graph.specs.working.IdPlaces.{id_places, size_together}
 use Rattle.heap_graph.specs.declared.objects.Objects.{Objects}
 use Rattle.heap_graph.specs.declared.plan.ClassPlan.{ClassPlan}
@@ -18,7 +18,7 @@ use Rattle.heap_graph.specs.working.Resolving.{target_in}
 abbrev pub plan_at : List ClassPlan → ℕ → ClassPlan
 plan_at plans k = slice_index_or plans k (record { start = 0; end = 0; size = 0; object = None })
 
--- the places of the fields of type 2 that it declares
+-- the places of the fields of type 2 that it declares, of those that are not skipped
 abbrev pub id_places_of : List ClassPlan → List ℕ → ℕ → List ℕ
 id_places_of plans places k = slice_range places (plan_at plans k).start (plan_at plans k).end
 
@@ -38,18 +38,19 @@ pub record HasIdPlaces (plans : List ClassPlan) (places : List ℕ) (k : ℕ) : 
   pub rising : (plan_at plans k).start ≤ (plan_at plans k).end
   pub within : (plan_at plans k).end ≤ length places
 
--- the places of the fields of type 2 that the class declares stand in that range, and the values of all its fields have
--- so many bytes
-pub record IsClassPlan (s : ℕ) (places : List ℕ) (c : Class) (p : ClassPlan) : Type 0 where
+-- the places of the fields of type 2 that the class declares, but for those that are skipped, stand in that range, and
+-- the values of all its fields have so many bytes
+pub record IsClassPlan (skips : Class → Member → Bool) (s : ℕ) (places : List ℕ) (c : Class)
+    (p : ClassPlan) : Type 0 where
   pub rising : p.start ≤ p.end
   pub within : p.end ≤ length places
-  pub places_are : slice_range places p.start p.end ≡ id_places s 0 (own_types c)
-  pub size_is : p.size ≡ size_together s (own_types c)
+  pub places_are : slice_range places p.start p.end ≡ id_places (skips c) s 0 c.members
+  pub size_is : p.size ≡ size_together s c.members
 
 -- so it is of each of these classes
-abbrev pub AreClassPlans : ℕ → List SubRecord → List ℕ → List ClassPlan → List ℕ → Type 0
-AreClassPlans s heap ids plans places = (k : ℕ) (p : ClassPlan) (c : Class) → slice_get plans k ≡ Some p
-    → class_named heap (slice_index ids k) ≡ Some c → IsClassPlan s places c p
+abbrev pub AreClassPlans : (Class → Member → Bool) → ℕ → List SubRecord → List ℕ → List ClassPlan → List ℕ → Type 0
+AreClassPlans skips s heap ids plans places = (k : ℕ) (p : ClassPlan) (c : Class) → slice_get plans k ≡ Some p
+    → class_named heap (slice_index ids k) ≡ Some c → IsClassPlan skips s places c p
 
 -- and of each of them the object that its identifier names, among objects with these identifiers
 abbrev pub AreClassObjects : List ℕ → List ℕ → List ClassPlan → Type 0
@@ -57,23 +58,23 @@ AreClassObjects all ids plans = (k : ℕ) (p : ClassPlan) → slice_get plans k 
     → p.object ≡ target_in all (slice_index ids k)
 
 -- and they are all
-pub record IsPlan (s : ℕ) (heap : List SubRecord) (all ids : List ℕ) (plans : List ClassPlan)
-    (places : List ℕ) : Type 0 where
+pub record IsPlan (skips : Class → Member → Bool) (s : ℕ) (heap : List SubRecord) (all ids : List ℕ)
+    (plans : List ClassPlan) (places : List ℕ) : Type 0 where
   pub one_each : length plans ≡ length ids
-  pub each : AreClassPlans s heap ids plans places
+  pub each : AreClassPlans skips s heap ids plans places
   pub objects_are : AreClassObjects all ids plans
 
 abbrev pub IsPlanOf : {A B : Type 0} → Objects A → List SubRecord → Plan B → Type 0
 IsPlanOf o heap p =
-    IsPlan o.view.id_size heap o.index (ids_of o.classes.table.entries) p.classes.items p.places.items
+    IsPlan (λ c m. false) o.view.id_size heap o.index (ids_of o.classes.table.entries) p.classes.items p.places.items
 
--- a class with fields of these types, whose identifier names that object, was added behind the others
-pub record AddsPlan (s : ℕ) (types : List ℕ) (object : Option ℕ) (old : List ClassPlan) (old_places : List ℕ)
-    (new : List ClassPlan) (places : List ℕ) : Type 0 where
+-- a class with these fields, whose identifier names that object, was added behind the others
+pub record AddsPlan (skips : Member → Bool) (s : ℕ) (members : List Member) (object : Option ℕ)
+    (old : List ClassPlan) (old_places : List ℕ) (new : List ClassPlan) (places : List ℕ) : Type 0 where
   pub class : ClassPlan
   pub start_is : class.start ≡ length old_places
   pub end_is : class.end ≡ length places
-  pub size_is : class.size ≡ size_together s types
-  pub places_are : places ≡ old_places ++ id_places s 0 types
+  pub size_is : class.size ≡ size_together s members
+  pub places_are : places ≡ old_places ++ id_places skips s 0 members
   pub object_is : class.object ≡ object
   pub plans_are : new ≡ old ++ class ∷ []

@@ -11,16 +11,12 @@ use Rattle.heap_graph.specs.declared.classes.ClassPlace.{ClassPlace}
 pub use Rattle.heap_graph.specs.working.ClassList.{Entry, ids_of}
 use Rattle.heap_graph.specs.declared.classes.Classes.{Classes}
 
--- the types of the fields that a class declares
-abbrev pub own_types : Class → List ℕ
-own_types c = map (λ m. m.type) c.members
-
 -- the class that the identifier names stands at that place, and the values of its fields have so many bytes
 pub record IsEntry (v : Sight) (heap : List SubRecord) (e : Entry) : Type 0 where
   pub class : Class
   pub named : class_named heap e.0 ≡ Some class
   pub stands : Stands v e.1.place (class_dump class)
-  pub size_is : e.1.size ≡ size_together v.id_size (own_types class)
+  pub size_is : e.1.size ≡ size_together v.id_size class.members
   pub few_bytes : e.1.size < 2 ^ 32
 
 -- each entry is a class, and each class that an identifier names has an entry
@@ -49,7 +45,7 @@ pub record AreClassesAmong (v : Sight) (heap : List SubRecord) (n : ℕ) (entrie
 pub record AddsEntry (s : ℕ) (c : Class) (id place : ℕ) (old new : List Entry) : Type 0 where
   pub entry : ClassPlace
   pub place_is : entry.place ≡ place
-  pub size_is : entry.size ≡ size_together s (own_types c)
+  pub size_is : entry.size ≡ size_together s c.members
   pub few_bytes : entry.size < 2 ^ 32
   pub entries_are : new ≡ old ++ (id, entry) ∷ []
 

@@ -1,17 +1,18 @@
 -- What is known while the references of linked objects are read.
-use Rattle.std.specs.Prelude.{List, Option, Some, length, slice_get, sum_by, ℕ, ◌^◌, ◌≡◌, ◌≤◌}
-use Rattle.hprof_grammar.specs.SubRecord.{Class, Instance, SubRecord}
+use Rattle.std.specs.Prelude.{List, Option, Some, length, slice_get, ℕ, ◌^◌, ◌≡◌, ◌≤◌}
+use Rattle.hprof_grammar.specs.SubRecord.{Class, Instance, Member, SubRecord}
 use Rattle.hprof_grammar.specs.Dump.{limit}
 use Rattle.hprof_grammar.specs.Standing.{Sight, Stands}
 use Rattle.heap_graph.specs.declared.objects.Objects.{Objects}
+use Rattle.heap_graph.specs.Fields.{declared_fields}
 use Rattle.heap_graph.specs.Heap.{objects}
 use Rattle.heap_graph.specs.Layout.{IsChain, layout_size}
 use Rattle.heap_graph.specs.Linked.{IsLinked}
 use Rattle.heap_graph.specs.working.PlacedObjects.{AreObjects}
 use Rattle.heap_graph.specs.References.{AreIdsIn}
-use Rattle.heap_graph.specs.working.Chains.{IsFirst, layout_types}
+use Rattle.heap_graph.specs.working.Chains.{IsFirst}
 use Rattle.heap_graph.specs.working.ClassTable.{ids_of}
-use Rattle.hprof_grammar.specs.Tables.{size_of}
+use Rattle.heap_graph.specs.working.IdPlaces.{size_of_fields}
 
 -- the objects stand at their places and are linked, and their identifiers have 1 to 8 bytes
 pub record AreLinked (v : Sight) (places ids : List ℕ) (heap : List SubRecord) : Type 0 where
@@ -45,11 +46,11 @@ pub record IsFirstOfInstance (s : ℕ) (heap : List SubRecord) (ids : List ℕ) 
     (first : Option ℕ) : Type 0 where
   pub chain : List Class
   pub is : IsChain heap i.class chain
-  pub begins : IsFirst heap ids (layout_types chain) first
+  pub begins : IsFirst heap ids (declared_fields chain) first
   pub size_is : length i.values ≡ layout_size s chain
 
--- the layout of these types begins at that class, and the values are as many bytes
-pub record IsLayoutFrom {A : Type 0} (o : Objects A) (heap : List SubRecord) (types : List ℕ) (first : Option ℕ)
-    (values : List ℕ) : Type 0 where
-  pub begins : IsFirst heap (ids_of o.classes.table.entries) types first
-  pub room : sum_by (λ t. size_of o.view.id_size t) types ≤ length values
+-- the layout of these fields begins at that class, and the values are as many bytes
+pub record IsLayoutFrom {A : Type 0} (o : Objects A) (heap : List SubRecord) (fields : List (Class × Member))
+    (first : Option ℕ) (values : List ℕ) : Type 0 where
+  pub begins : IsFirst heap (ids_of o.classes.table.entries) fields first
+  pub room : size_of_fields o.view.id_size fields ≤ length values

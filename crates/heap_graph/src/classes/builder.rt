@@ -1,6 +1,6 @@
 //! How the table of classes is filled.
 
-ghost use Rattle.std.specs.Prelude.{IfOk, OnOk, [], length, map, ◌<◌, ◌^◌, ◌≡◌};
+ghost use Rattle.std.specs.Prelude.{IfOk, OnOk, [], length, ◌<◌, ◌^◌, ◌≡◌};
 ghost use Rattle.heap_graph.specs.working.IdPlaces.{size_together};
 ghost use Rattle.hprof_grammar.specs.Standing.{Stands};
 ghost use Rattle.hprof_grammar.specs.SubRecord.{Class};
@@ -21,7 +21,7 @@ pub(crate) struct ClassesBuilder<'d, A: Allocator> {
 /// How many bytes the values of these fields have together.
 fn bytes_of_fields(view: &View<'_>, members: Members<'_>) -> u64
     requires { length members < 2 ^ 16 }
-    ensures value { result ≡ size_together view.now.id_size (map (λ m. m.type) members.entry) }
+    ensures value { result ≡ size_together view.now.id_size members.entry }
     ensures few { result < 2 ^ 32 }
 {
     let mut bytes = 0;

@@ -2,7 +2,7 @@ use Rattle.std.proofs.Common.{ap, arith, min, sym, ◌+◌, ◌<◌, ◌^◌, �
 use Rattle.heap_graph.specs.Layout.{layout_size}
 use Rattle.heap_graph.specs.declared.classes.ClassPlace.{ClassPlace}
 use Rattle.heap_graph.specs.working.Chains.{most_size}
-use Rattle.heap_graph.specs.working.ClassTable.{entry_at, own_types}
+use Rattle.heap_graph.specs.working.ClassTable.{entry_at}
 use Rattle.heap_graph.specs.working.IdPlaces.{size_together}
 use Rattle.heap_graph.proofs.ClassTableLaws.{few_bytes, read_entry, size_of_class}
 use Rattle.heap_graph.proofs.LayoutLaws.{size_more, size_told}
@@ -19,7 +19,7 @@ pub returns : goal.returns
 returns g c = λ heap dump rest are at above.
     let s : ℕ = c.args.self.now.view.id_size in
     let is = read_entry c.args.self.now.table.entries c.args.number c.entry.result c.requires.below c.entry.ensures in
-    let own : c.entry.result.size ≡ size_together s (own_types dump) = ap (λ (p : ClassPlace). p.size) is
+    let own : c.entry.result.size ≡ size_together s dump.members = ap (λ (p : ClassPlace). p.size) is
     ∙ size_of_class c.args.self.now.view heap c.args.self.now.table.entries c.args.number dump are c.requires.below
     at.named in
     record {

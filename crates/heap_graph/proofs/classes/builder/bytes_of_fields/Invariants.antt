@@ -1,11 +1,10 @@
 -- What was added and what is left make up the bytes of all, and a value has at most 255.
-use Rattle.std.proofs.Common.{length, map, ◌*◌, ◌+◌, ◌≡◌, ◌≤◌}
+use Rattle.std.proofs.Common.{length, ◌*◌, ◌+◌, ◌≡◌, ◌≤◌}
 use Rattle.heap_graph.specs.working.IdPlaces.{size_together}
 use Rattle.heap_graph.proofs.classes.builder.bytes_of_fields.Given as goal
 
 abbrev pub invariant-loop-member : goal.invariant-loop-member
 invariant-loop-member l = record {
-  sum : l.bytes + size_together l.view.id_size (map (λ m. m.type) l.member-iterator)
-      ≡ size_together l.view.id_size (map (λ m. m.type) l.fn.members);
+  sum : l.bytes + size_together l.view.id_size l.member-iterator ≡ size_together l.view.id_size l.fn.members;
   small : l.bytes + 255 * length l.member-iterator ≤ 255 * length l.fn.members;
 }

@@ -32,7 +32,7 @@ object_of_row-first-requires g c =
     c.scan-row.ensures.row (heap_of inv.records) it.object inv.linked inv.told it.is
     ∙ sym (row_here s inv.records c.args.self.now c.args.object it.object graph it.is) in
     row_planned c.args.self.now c.self.inside.plan.classes.items c.scan-row.result.0
-    (classes_planned s inv.records c.args.self.now _ _ _ _ graph (inv.told.classes.in_order inv.linked.linked)
+    (classes_planned _ s inv.records c.args.self.now _ _ _ _ graph (inv.told.classes.in_order inv.linked.linked)
     inv.planned)
     (subst (λ (r : RowKey). IsRowIn c.args.self.now r) (sym row) (whole.rows_within c.args.object c.requires))
 

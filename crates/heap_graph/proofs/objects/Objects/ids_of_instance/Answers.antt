@@ -1,5 +1,6 @@
+use Rattle.std.proofs.Common.{false}
 use Rattle.hprof_grammar.proofs.BoundsLaws.{bounds}
-use Rattle.heap_graph.specs.working.Chains.{layout_types}
+use Rattle.heap_graph.specs.Fields.{declared_fields}
 use Rattle.heap_graph.specs.working.ClassTable.{ids_of}
 use Rattle.heap_graph.specs.working.HeldIds.{IsFirstOfInstance}
 use Rattle.heap_graph.proofs.HeldLaws.{few_in_instance, instance_holds, layout_from}
@@ -13,7 +14,7 @@ new-requires-clause-heap g c =
     let first : IsFirstOfInstance c.args.self.now.view.id_size c.requires.0
     (ids_of c.args.self.now.classes.table.entries) c.requires.2 c.args.first = c.requires.7 in (
       c.requires.0,
-      layout_types first.chain,
+      declared_fields first.chain,
       c.requires.4,
       c.requires.5,
       layout_from c.args.self.now c.requires.0 c.requires.2
@@ -27,10 +28,10 @@ invariant_of-result g c =
     (ids_of c.args.self.now.classes.table.entries) c.requires.2 c.args.first = c.requires.7 in
     let values = c.instance_values-values.ensures c.requires.2 c.requires.6.stands in
     let fields =
-    c.new.ensures c.requires.0 (layout_types first.chain) c.requires.4 c.requires.5
+    c.new.ensures c.requires.0 (declared_fields first.chain) c.requires.4 c.requires.5
     (layout_from c.args.self.now c.requires.0 c.requires.2 c.args.first c.instance_values-values.result.now
     first values) in
-    few_in_instance c.args.self.now.view.id_size c.requires.0 (ids_of c.args.self.now.classes.table.entries)
+    few_in_instance (λ d m. false) c.args.self.now.view.id_size c.requires.0 (ids_of c.args.self.now.classes.table.entries)
     c.requires.2 c.args.first first c.new.result c.instance_values-values.result.now c.requires.3.low
     (bounds c.requires.6.stands.is.formed).values values fields
 
@@ -38,7 +39,7 @@ pub returns : goal.returns
 returns g c = λ heap n i linked told plan at first.
     let values = c.instance_values-values.ensures i at.stands in
     let fields =
-    c.new.ensures heap (layout_types first.chain) told plan
+    c.new.ensures heap (declared_fields first.chain) told plan
     (layout_from c.args.self.now heap i c.args.first c.instance_values-values.result.now first values) in
     instance_holds c.args.self.now.view.id_size heap (ids_of c.args.self.now.classes.table.entries) i c.args.first first
     c.instance_class.result c.new.result c.instance_values-values.result.now linked.low

@@ -1,5 +1,5 @@
 -- The class of each number stands at its place, so the fields that are read there are those that are planned.
-use Rattle.std.proofs.Common.{[], ap, arith, length, length-append, ℕ, ◌<◌, ◌^◌, ◌∙◌, ◌∷◌}
+use Rattle.std.proofs.Common.{[], ap, arith, false, length, length-append, refl, ℕ, ◌<◌, ◌^◌, ◌∙◌, ◌∷◌}
 use Rattle.hprof_grammar.proofs.BoundsLaws.{bounds}
 use Rattle.heap_graph.specs.working.ClassTable.{ids_of}
 use Rattle.heap_graph.specs.working.Resolving.{target_in}
@@ -27,7 +27,7 @@ loop-number-init g c = record {
   count = ap length c.in_ok-with_capacity.ensures.items;
   each = λ heap told.
       let o = c.args.self.now in
-      no_plan o.view.id_size heap (ids_of o.classes.table.entries) c.in_ok-with_capacity.field-0.items
+      no_plan (λ d m. false) o.view.id_size heap (ids_of o.classes.table.entries) c.in_ok-with_capacity.field-0.items
       c.new.result.items c.in_ok-with_capacity.ensures.items;
   objects =
       no_object c.args.self.now.index (ids_of c.args.self.now.classes.table.entries)
@@ -45,15 +45,18 @@ loop-number-preserved g c = record {
       );
   each = λ heap told.
       let o = c.args.self.now in
-      plan_more o.view.id_size heap (ids_of o.classes.table.entries) _ _ c.loop-number.plan.classes.items _
+      plan_more (λ d m. false) o.view.id_size heap (ids_of o.classes.table.entries) _ (λ m. false) _ c.loop-number.plan.classes.items _
       c.loop-number.plan.places.items _ c.loop-number.number c.loop-number.invariant.count
       (c.loop-number.invariant.each heap told) c.in_ok-push.ensures
-      (fields_read o.view heap o.classes.table.entries c.loop-number.number c.entry-place.result c.members.result
-      told.classes (omega (arith, c.loop-number-test.true, c.len-count.ensures)) c.entry-place.ensures
-      c.members.ensures);
+      (λ d named. record {
+        members_are = fields_read
+            o.view heap o.classes.table.entries c.loop-number.number c.entry-place.result c.members.result told.classes
+            (omega (arith, c.loop-number-test.true, c.len-count.ensures)) c.entry-place.ensures c.members.ensures d named;
+        tests = refl;
+      });
   objects =
       let o = c.args.self.now in
-      objects_more o.view.id_size o.index (ids_of o.classes.table.entries) _ _ c.loop-number.plan.classes.items _
+      objects_more o.view.id_size o.index (ids_of o.classes.table.entries) _ (λ m. false) _ c.loop-number.plan.classes.items _
       c.loop-number.plan.places.items _ c.loop-number.number c.loop-number.invariant.count
       c.loop-number.invariant.objects c.in_ok-push.ensures
       (c.target-object.ensures ∙ ap (λ (id : ℕ). target_in o.index id) c.id.ensures);

@@ -1,5 +1,5 @@
 -- The dump at the place has the fields that are read, so the bytes of these are those of the class.
-use Rattle.std.proofs.Common.{List, ap, arith, length, map, refl, ◌<◌, ◌^◌, ◌∙◌}
+use Rattle.std.proofs.Common.{List, ap, arith, length, refl, ◌<◌, ◌^◌, ◌∙◌}
 use Rattle.hprof_grammar.specs.SubRecord.{Member}
 use Rattle.hprof_grammar.proofs.BoundsLaws.{bounds}
 use Rattle.heap_graph.specs.working.IdPlaces.{size_together}
@@ -16,7 +16,7 @@ returns-clause-added g c = λ dump st. record {
   place_is = refl;
   size_is =
       c.bytes_of_fields-size.ensures.value ∙ ap
-      (λ (ms : List Member). size_together c.args.self.now.view.id_size (map (λ m. m.type) ms))
+      (λ (ms : List Member). size_together c.args.self.now.view.id_size ms)
       (c.members-members.ensures dump st);
   few_bytes = c.bytes_of_fields-size.ensures.few;
   entries_are = c.in_ok-push.ensures.items;
