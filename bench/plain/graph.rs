@@ -2,6 +2,8 @@
 
 use crate::dump::{Dump, Fault, Text, fault};
 use crate::index::{ById, Index};
+use crate::names::Names;
+use crate::skip::Skip;
 use crate::tally::{Rows, Visit};
 
 const OBJECTS: usize = 16_777_216;
@@ -25,9 +27,9 @@ pub struct Class {
     /// The sizes of its own fields and of all those above, together.
     size: u64,
     own_size: u64,
-    /// Its own fields of type 2: places in `Graph::fields`.
+    /// Its own fields of type 2 that are followed: places in `Graph::fields`.
     fields: std::ops::Range<u32>,
-    /// The next class above with fields of type 2.
+    /// The next class above with such fields.
     next: Option<u32>,
 }
 
@@ -37,15 +39,15 @@ pub struct Graph<'a, const ID: usize> {
     index: Index,
     pub classes: Vec<Class>,
     class_numbers: ById<u32>,
-    /// The places of fields of type 2 within the values of their class.
+    /// The places of followed fields of type 2 within the values of their class.
     fields: Vec<u32>,
 }
 
 impl<'a, const ID: usize> Graph<'a, ID> {
-    pub fn new(text: Text<'a, ID>, dump: Dump, index: Index) -> Result<Self, Fault> {
+    pub fn new(text: Text<'a, ID>, dump: Dump, index: Index, skip: &Skip) -> Result<Self, Fault> {
         let (classes, class_numbers, fields) = (vec![], ById::default(), vec![]);
         let mut graph = Graph { text, dump, index, classes, class_numbers, fields };
-        graph.take_classes();
+        graph.take_classes(skip);
         graph.link_superclasses();
         let mut path = vec![];
         for number in 0..graph.classes.len() {
@@ -67,7 +69,8 @@ impl<'a, const ID: usize> Graph<'a, ID> {
         self.index.find(id)
     }
 
-    fn take_classes(&mut self) {
+    fn take_classes(&mut self, skip: &Skip) {
+        let names = if skip.is_empty() { Names::default() } else { Names::of(self.text, &self.dump) };
         for object in 0..self.len() as u32 {
             let at = self.at(object);
             let id = self.text.id(at + 1);
@@ -75,7 +78,8 @@ impl<'a, const ID: usize> Graph<'a, ID> {
                 continue;
             }
             let first = self.fields.len() as u32;
-            let own_size = self.take_fields(at);
+            let class = names.class(id);
+            let own_size = self.take_fields(at, |field| skip.has(class, names.string(field)));
             self.class_numbers.insert(id, self.classes.len() as u32);
             self.classes.push(Class {
                 object,
@@ -90,13 +94,14 @@ impl<'a, const ID: usize> Graph<'a, ID> {
         }
     }
 
-    /// Notes the fields of type 2 of the class there, and answers the size of all of its own fields.
-    fn take_fields(&mut self, at: usize) -> u64 {
+    /// Notes the fields of type 2 of the class there but those that are skipped, and answers the size of all of its own
+    /// fields.
+    fn take_fields(&mut self, at: usize, skips: impl Fn(u64) -> bool) -> u64 {
         let mut place = self.text.values_of(at, |_, _, _| {});
         let mut size = 0;
         for _ in 0..self.text.u2(place) {
             let code = self.text.bytes[place + 2 + ID];
-            if code == 2 {
+            if code == 2 && !skips(self.text.id(place + 2)) {
                 self.fields.push(size as u32);
             }
             size += self.text.size_of_type(code).unwrap() as u64;

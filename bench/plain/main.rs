@@ -1,26 +1,29 @@
 //! A plain marker of heap dumps: the same method and the same report as `heapmark`, with Rust's std alone and no proof.
 //!
-//! usage: `plain FILE [--threads N] [--references table|bytes] [--count reachable|all]`
+//! usage: `plain FILE [--threads N] [--references table|bytes] [--count reachable|all] [--skip LIST]`
 //!
 //! Written to be measured beside `heapmark`, and to agree with it to the byte. Without `--threads` one thread marks and
 //! no step is atomic. Each object is visited once, for its references and to be counted: with `--references bytes` in
 //! the dump's bytes; else in a table that is made of them beforehand, in the phase `references`. `--count all` reports
-//! each object of the dump as if it were reachable. How long each phase took, what was read and the peak of memory go
+//! each object of the dump as if it were reachable. `--skip Class.field,..` passes over these fields. How long each phase took, what was read and the peak of memory go
 //! to standard error.
 
 mod dump;
 mod graph;
 mod index;
 mod mark;
+mod names;
 mod report;
 #[cfg(test)]
 mod rows;
+mod skip;
 mod tally;
 
 use dump::{Fault, LIMIT, Text, identifier_size};
 use graph::Graph;
 use index::Index;
 use mark::{Heap, Table, mark, mark_all, mark_with, unmarked};
+use skip::Skip;
 use std::fs::File;
 use std::io::{self, Read, Write};
 use std::process::ExitCode;
@@ -60,8 +63,10 @@ impl Clock {
     }
 }
 
-fn arguments() -> Option<(String, Options)> {
+/// The file, the options and the text of the list, if there is one.
+fn arguments() -> Option<(String, Options, Option<String>)> {
     let mut options = Options { threads: None, table: true, all: false };
+    let mut skip = None;
     let mut words = std::env::args().skip(1);
     let file = words.next()?;
     while let Some(word) = words.next() {
@@ -73,10 +78,11 @@ fn arguments() -> Option<(String, Options)> {
             ("--references", "bytes") => options.table = false,
             ("--count", "reachable") => options.all = false,
             ("--count", "all") => options.all = true,
+            ("--skip", list) if skip.is_none() => skip = Some(list.to_owned()),
             _ => return None,
         }
     }
-    Some((file, options))
+    Some((file, options, skip))
 }
 
 fn read_file(name: &str) -> io::Result<Vec<u8>> {
@@ -87,13 +93,13 @@ fn read_file(name: &str) -> io::Result<Vec<u8>> {
     Ok(bytes)
 }
 
-fn run<const ID: usize>(bytes: &[u8], options: Options, clock: &mut Clock) -> Result<String, Fault> {
+fn run<const ID: usize>(bytes: &[u8], skip: &Skip, options: Options, clock: &mut Clock) -> Result<String, Fault> {
     let text = Text::<ID> { bytes };
     let dump = text.parse()?;
     clock.tell("parse");
     let index = Index::new(dump.objects.iter().map(|at| text.id(*at as usize + 1)));
     clock.tell("index");
-    let graph = Graph::new(text, dump, index)?;
+    let graph = Graph::new(text, dump, index, skip)?;
     let (roots, unresolved) = graph.roots();
     clock.tell("link");
     eprintln!("objects {}", graph.len());
@@ -125,10 +131,10 @@ fn histogram<const ID: usize>(
     report::report(graph, &reachable, unreachable, unresolved + reachable.unresolved + missing)
 }
 
-fn marked(bytes: &[u8], options: Options, clock: &mut Clock) -> Result<String, Fault> {
+fn marked(bytes: &[u8], skip: &Skip, options: Options, clock: &mut Clock) -> Result<String, Fault> {
     match identifier_size(bytes)? {
-        4 => run::<4>(bytes, options, clock),
-        _ => run::<8>(bytes, options, clock),
+        4 => run::<4>(bytes, skip, options, clock),
+        _ => run::<8>(bytes, skip, options, clock),
     }
 }
 
@@ -139,9 +145,13 @@ fn tell_peak() {
 }
 
 fn main() -> ExitCode {
-    let Some((file, options)) = arguments() else {
-        eprintln!("usage: plain FILE [--threads N] [--references table|bytes] [--count reachable|all]");
+    let Some((file, options, list)) = arguments() else {
+        eprintln!("usage: plain FILE [--threads N] [--references table|bytes] [--count reachable|all] [--skip LIST]");
         return ExitCode::from(2);
+    };
+    let Some(skip) = list.map_or(Some(Skip::default()), |list| Skip::new(&list)) else {
+        eprintln!("plain: refused 21 BadOptions");
+        return ExitCode::FAILURE;
     };
     let mut clock = Clock(Instant::now());
     let Ok(bytes) = read_file(&file) else {
@@ -150,7 +160,7 @@ fn main() -> ExitCode {
     };
     clock.tell("read");
     eprintln!("file {}", bytes.len());
-    match marked(&bytes, options, &mut clock) {
+    match marked(&bytes, &skip, options, &mut clock) {
         Ok(text) => {
             let written = io::stdout().write_all(text.as_bytes());
             clock.tell("report");

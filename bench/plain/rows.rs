@@ -2,7 +2,7 @@
 
 mod file;
 
-use crate::{Clock, Options, marked};
+use crate::{Clock, Options, Skip, marked};
 use file::File;
 use std::time::Instant;
 
@@ -15,8 +15,8 @@ fn id(value: u32) -> [u8; 4] {
 }
 
 /// What a report or a refusal comes to in one line: `2 8 A, 1 0 <class>, R 3 8, U 0 0, X 0` or `8 at 31`.
-fn short(file: &File, options: Options) -> String {
-    let text = match marked(&file.bytes, options, &mut Clock(Instant::now())) {
+fn short(file: &File, skip: &Skip, options: Options) -> String {
+    let text = match marked(&file.bytes, skip, options, &mut Clock(Instant::now())) {
         Ok(text) => text,
         Err(fault) => return format!("{} at {}", fault.code, fault.at),
     };
@@ -31,9 +31,13 @@ fn short(file: &File, options: Options) -> String {
 }
 
 fn gives(file: File, wanted: &str) {
+    gives_without(&file, &Skip::default(), wanted);
+}
+
+fn gives_without(file: &File, skip: &Skip, wanted: &str) {
     for table in [true, false] {
         for threads in [None, Some(1), Some(2), Some(64)] {
-            assert_eq!(short(&file, Options { threads, table, all: false }), wanted);
+            assert_eq!(short(file, skip, Options { threads, table, all: false }), wanted);
         }
     }
 }
@@ -159,7 +163,7 @@ fn ids_that_name_nothing() {
     });
     gives(file.clone(), "1 4 A, 1 0 <class>, R 2 4, U 3 24, X 6");
     for table in [true, false] {
-        let all = short(&file, Options { threads: None, table, all: true });
+        let all = short(&file, &Skip::default(), Options { threads: None, table, all: true });
         assert_eq!(all, "3 24 A, 2 4 <class>, R 5 28, U 0 0, X 6");
     }
 }
@@ -181,4 +185,25 @@ fn references_of_a_class() {
         File { id: 4, bytes }
     };
     gives(named().heap(reserved), "1 0 <class>, R 1 0, U 1 0, X 0");
+}
+
+#[test]
+fn fields_that_are_skipped() {
+    let named = narrow().string(1, b"java/lang/ref/Reference").string(2, b"referent").string(3, b"T");
+    let file = named.load(0x100, 1).load(0x110, 3).heap(|heap| {
+        let classes = heap.class(0x100, 0, &[2]).class(0x110, 0x100, &[2]);
+        let two = |one, other| [id(one), id(other)].concat();
+        let first = classes.instance(0x201, 0x110, &two(0x202, 0x203));
+        first.instance(0x202, 0x110, &two(0, 0)).instance(0x203, 0x110, &two(0, 0x999)).root(0x201)
+    });
+    let gives = |list, wanted| gives_without(&file, &Skip::new(list).unwrap(), wanted);
+    gives_without(&file, &Skip::default(), "3 24 T, 2 0 <class>, R 5 24, U 0 0, X 1");
+    gives("T.other", "3 24 T, 2 0 <class>, R 5 24, U 0 0, X 1");
+    gives("java/lang/ref/Reference.referent", "2 16 T, 2 0 <class>, R 4 16, U 1 8, X 0");
+    gives("T.referent", "2 16 T, 2 0 <class>, R 4 16, U 1 8, X 1");
+    gives("T.referent,java/lang/ref/Reference.referent", "1 8 T, 2 0 <class>, R 3 8, U 2 16, X 0");
+    for list in ["referent", "T.", ".f", "T.f,,U.g", "", "T.f,", &"T.f,".repeat(64), &["T.f"; 65].join(",")] {
+        assert!(Skip::new(list).is_none(), "{list}");
+    }
+    assert!(Skip::new(&["T.f"; 64].join(",")).is_some());
 }
