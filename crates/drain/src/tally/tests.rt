@@ -1,11 +1,16 @@
 //! Sums at their bounds: 2^24 objects of 2^30 bytes, each with 2^33 identifiers that name no object.
 
+ghost use Rattle.std.specs.Prelude.{◌≡◌, ◌≤◌, ◌^◌, IfOk, length};
+ghost use Rattle.drain.specs.working.Tallying.{HasSmallSums};
+
 use super::*;
 use std::alloc::Global;
 use std::test::Fail;
 
 const OBJECTS: u64 = 1 << 24;
+
 const BYTES: u64 = 1 << 30;
+
 const UNRESOLVED: u64 = 1 << 33;
 
 /// A tally of so many objects, each of them as large as one can be, all of one row.
