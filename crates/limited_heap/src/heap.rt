@@ -1,12 +1,12 @@
 //! The allocator.
-ghost use Rattle.std.specs.Prelude.{◌≡◌, ◌+◌, ◌<◌, ◌≤◌, ◌^◌};
-ghost use Rattle.limited_heap.specs.Limit.{request_limit};
+ghost use Rattle.std.specs.Prelude.{◌≡◌, ◌+◌, ◌<◌, ◌≤◌, ◌^◌, ℕ, Some, None};
+ghost use Rattle.limited_heap.specs.Limit.{request_limit, refused_request};
 
 use crate::quota::Quota;
 use std::alloc::{AllocError, Allocator, Global};
 
-/// A heap that passes its first requests for memory to the allocator behind it and refuses the
-/// rest. A collection takes a `&` to it.
+/// A heap that passes requests for memory to the allocator behind it, and refuses all of them from
+/// one on, or one alone. A collection takes a `&` to it.
 #[derive(Drop)]
 pub struct LimitedHeap<A: Allocator = Global> {
     inner: A,
@@ -18,14 +18,26 @@ impl<A: Allocator> LimitedHeap<A> {
     /// or shrinking of a block, which moves it to a new one. Giving a block back is none.
     pub fn new(inner: A, requests: u64) -> LimitedHeap<A>
         ensures limit { request_limit result ≡ requests }
+        ensures rest { refused_request result ≡ None }
     {
         LimitedHeap {
             inner,
-            quota: Quota::new(requests),
+            quota: Quota::new(requests, false),
         }
     }
 
-    /// How many more requests will be granted.
+    /// A heap over `inner` that refuses the request of this number, counted from 0, and no other.
+    /// What is a request is as in `new`.
+    pub fn refusing(inner: A, request: u64) -> LimitedHeap<A>
+        ensures refuses { refused_request result ≡ Some request }
+    {
+        LimitedHeap {
+            inner,
+            quota: Quota::new(request, true),
+        }
+    }
+
+    /// How many more requests will be granted before one is refused.
     pub fn requests_left(&self) -> u64
         ensures within { result ≤ request_limit self.now }
     {
@@ -36,6 +48,7 @@ impl<A: Allocator> LimitedHeap<A> {
     /// counted here.
     pub fn refusals(&self) -> u64
         ensures beyond { result + request_limit self.now < 2 ^ 64 }
+        ensures one { (n : ℕ) → refused_request self.now ≡ Some n → result ≤ 1 }
     {
         self.quota.refused()
     }

@@ -1,5 +1,5 @@
-//! A heap for tests of want of memory: it passes a number of requests to the allocator behind it,
-//! and refuses each later one. Threads may share it.
+//! A heap for tests of want of memory: it passes requests to the allocator behind it, and refuses
+//! all of them from a given one on, or that one alone. Threads may share it.
 #![tactic(auto)]
 
 mod heap;

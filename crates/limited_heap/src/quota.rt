@@ -1,33 +1,39 @@
-//! How many requests were made, of a number that is granted.
-ghost use Rattle.std.specs.Prelude.{◌≡◌, ◌+◌, ◌<◌, ◌≤◌, ◌^◌};
+//! Which requests are granted, of those that were made.
+ghost use Rattle.std.specs.Prelude.{◌≡◌, ◌+◌, ◌<◌, ◌≤◌, ◌^◌, true};
 
 use std::sync::atomic::{AtomicU64, Ordering};
 
-/// A number of requests that are granted, and a count of those that were made.
+/// So many requests are granted, and the next is refused: that one alone, or all from there on. And a count of those
+/// that were made.
 #[derive(Drop)]
 pub(crate) struct Quota {
     granted: u64,
+    alone: bool,
     made: AtomicU64,
 }
 
 impl Quota {
-    pub(crate) fn new(granted: u64) -> Quota
-        ensures { result.granted ≡ granted }
+    pub(crate) fn new(granted: u64, alone: bool) -> Quota
+        ensures granted { result.granted ≡ granted }
+        ensures alone { result.alone ≡ alone }
     {
         Quota {
             granted,
+            alone,
             made: AtomicU64::new(0),
         }
     }
 
     /// Counts a request, and tells whether it is granted. Each call gets a number of its own from
-    /// the count, so exactly the first `granted` are, whatever threads they come from. The count
-    /// would begin anew after 2^64 requests, which no run makes.
+    /// the count, so exactly the first `granted` are, and those behind the next one where that is
+    /// refused alone, whatever threads they come from. The count would begin anew after 2^64
+    /// requests, which no run makes.
     pub(crate) fn take(&self) -> bool {
-        self.made.fetch_add(1, Ordering::SeqCst) < self.granted
+        let number = self.made.fetch_add(1, Ordering::SeqCst);
+        number < self.granted || self.alone && number > self.granted
     }
 
-    /// How many more requests will be granted.
+    /// How many more requests will be granted before one is refused.
     pub(crate) fn left(&self) -> u64
         ensures { result ≤ self.now.granted }
     {
@@ -37,9 +43,11 @@ impl Quota {
 
     /// How many requests were not granted.
     pub(crate) fn refused(&self) -> u64
-        ensures { result + self.now.granted < 2 ^ 64 }
+        ensures beyond { result + self.now.granted < 2 ^ 64 }
+        ensures one { self.now.alone ≡ true → result ≤ 1 }
     {
         let made = self.made.load(Ordering::SeqCst);
-        made.saturating_sub(self.granted)
+        let beyond = made.saturating_sub(self.granted);
+        if self.alone { beyond.min(1) } else { beyond }
     }
 }

@@ -55,6 +55,35 @@ fn two_threads_share_the_grants(rt: HostRuntime) -> Result<(), Fail> {
     Ok(())
 }
 
+#[test]
+fn one_request_is_refused_alone(rt: HostRuntime) -> Result<(), Fail> {
+    for refused in 0..4u64 {
+        let heap = LimitedHeap::refusing(rt.alloc(), refused);
+        for request in 0..6u64 {
+            assert_eq!(rt; heap.requests_left(), refused.saturating_sub(request));
+            assert_eq!(rt; Box::new(&heap, 7u8).is_err(), request == refused);
+            assert_eq!(rt; heap.refusals(), u64::from(request >= refused));
+        }
+    }
+    let heap = LimitedHeap::refusing(rt.alloc(), u64::MAX);
+    assert_eq!(rt; (boxes_made(&heap, 6), heap.refusals()), (6, 0));
+    Ok(())
+}
+
+#[test]
+fn two_threads_share_the_refusal(rt: HostRuntime) -> Result<(), Fail> {
+    let heap = LimitedHeap::refusing(rt.alloc(), 700);
+    let shared = &heap;
+    let (one, other) = join(
+        &rt,
+        move || boxes_made(shared, 500),
+        move || boxes_made(shared, 500),
+    );
+    assert_eq!(rt; one.saturating_add(other), 999);
+    assert_eq!(rt; (heap.requests_left(), heap.refusals()), (0, 1));
+    Ok(())
+}
+
 type Lists<'a, A> = (
     Result<Vec<u8, &'a A>, AllocError>,
     Result<Vec<u8, &'a A>, AllocError>,
