@@ -4,8 +4,9 @@ mod dumps;
 mod fields;
 mod format_tables;
 
-use crate::{FormatFault, ReadRefusal, read};
-use linked_list_allocator::LocalHeap;
+use crate::{Dump, FormatFault, ReadRefusal, read};
+use limited_heap::LimitedHeap;
+use std::alloc::{Allocator, Global};
 use std::test::Fail;
 
 /// A class `A` with one field, two instances that refer to each other, and a root: 174 bytes.
@@ -106,27 +107,58 @@ fn one_snapshot(rt: HostRuntime) -> Result<(), Fail> {
     Ok(())
 }
 
-/// Heaps of every size from 0 to one that is large enough, so that each request is refused in turn: each
-/// answer is want of memory, or the right one.
-#[test]
-fn memory_refused_in_turn(rt: HostRuntime) -> Result<(), Fail> {
-    let mut refused = 0u32;
-    let mut read_whole = 0u32;
-    for size in 0..40usize {
-        let heap = LocalHeap::new(rt.alloc(), size * 16)?;
-        match read(&heap, &FILE) {
-            Ok(dump) => {
-                assert_eq!(rt; dump.objects(), [79, 127, 148].as_slice());
-                assert_eq!(rt; dump.roots(), [169].as_slice());
-                read_whole = read_whole.saturating_add(1);
-            }
-            Err(refusal) => {
-                assert_eq!(rt; refusal, ReadRefusal::OutOfMemory);
-                refused = refused.saturating_add(1);
-            }
-        }
+/// Whether this is what the file spells.
+fn is_of_the_file<A: Allocator>(dump: &Dump<A>) -> bool {
+    dump.id_size() == 4
+        && dump.strings() == [31].as_slice()
+        && dump.loaded() == [45].as_slice()
+        && dump.objects() == [79, 127, 148].as_slice()
+        && dump.roots() == [169].as_slice()
+}
+
+/// Whether the file is read over this heap, or want of memory is told where the heap refused a request.
+fn is_right_or_told(heap: &LimitedHeap<Global>) -> bool {
+    match read(heap, &FILE) {
+        Ok(dump) => is_of_the_file(&dump),
+        Err(refusal) => heap.refusals() > 0 && refusal == ReadRefusal::OutOfMemory,
     }
-    assert!(rt; refused > 0);
-    assert!(rt; read_whole > 0);
+}
+
+/// How many requests it takes to read the file where none is refused.
+fn requests_of_the_file(alloc: Global) -> u64 {
+    let heap = LimitedHeap::new(alloc, u64::MAX);
+    let _whole = is_right_or_told(&heap);
+    u64::MAX.saturating_sub(heap.requests_left())
+}
+
+/// Each request is refused in turn: with all behind it, and alone.
+#[test]
+fn memory_refused_in_turn(rt: HostRuntime) {
+    let requests = requests_of_the_file(rt.alloc());
+    assert!(rt; requests > 0);
+    for request in 0..=requests {
+        let from_one_on = LimitedHeap::new(rt.alloc(), request);
+        assert!(rt;
+            is_right_or_told(&from_one_on),
+            "{request} and all behind it"
+        );
+        assert_eq!(rt; from_one_on.refusals() == 0, request == requests);
+        let one_alone = LimitedHeap::refusing(rt.alloc(), request);
+        assert!(rt; is_right_or_told(&one_alone), "{request} alone");
+        assert_eq!(rt; one_alone.refusals() == 0, request == requests);
+    }
+}
+
+/// What a dump tells takes no memory: it is asked while each request would be refused, and makes none. A `View` is
+/// handed no allocator.
+#[test]
+fn reading_fields_takes_no_memory(rt: HostRuntime) -> Result<(), Fail> {
+    let heap = LimitedHeap::new(rt.alloc(), requests_of_the_file(rt.alloc()));
+    let mut dump = read(&heap, &FILE)?;
+    assert_eq!(rt; heap.requests_left(), 0);
+    assert!(rt; is_of_the_file(&dump));
+    dump.forget_objects();
+    assert!(rt; dump.objects().is_empty());
+    assert_eq!(rt; heap.refusals(), 0);
     Ok(())
 }
