@@ -1,7 +1,8 @@
 //! Lists of events, replayed.
 use super::*;
 use crate::event::Kind;
-use linked_list_allocator::LocalHeap;
+use limited_heap::LimitedHeap;
+use std::alloc::Global;
 
 // A world and the allocator that it takes memory from, or no world after an event that is not
 // possible.
@@ -252,24 +253,73 @@ fn who_may_go_idle(rt: HostRuntime) -> Result<(), OutOfMemory> {
     Ok(())
 }
 
+// Whether one of the two replays ends as it has to.
+fn ends_right<A: Allocator + Copy>(alloc: A, of_stacks: bool) -> Result<bool, OutOfMemory> {
+    if of_stacks {
+        Ok(is_overtaken(&overtaken(alloc)?))
+    } else {
+        Ok(marks_are(&all_finished(alloc)?, &[2, 2, 2]))
+    }
+}
+
+// The same over this heap, or want of memory is told where the heap refused a request.
+fn is_right_or_told(heap: &LimitedHeap<Global>, of_stacks: bool) -> bool {
+    match ends_right(heap, of_stacks) {
+        Ok(right) => right,
+        Err(OutOfMemory) => heap.refusals() > 0,
+    }
+}
+
+// How many requests the replay takes where none is refused.
+fn requests_of(alloc: Global, of_stacks: bool) -> u64 {
+    let heap = LimitedHeap::new(alloc, u64::MAX);
+    let _right = is_right_or_told(&heap, of_stacks);
+    u64::MAX.saturating_sub(heap.requests_left())
+}
+
+// One heap serves a whole replay, so what a step takes is refused as well as what the world does: with all requests
+// behind it, and alone.
 #[test]
-fn each_request_may_be_refused(rt: HostRuntime) -> Result<(), OutOfMemory> {
-    let mut refused = false;
-    let mut done = false;
-    for size in 1..80 {
-        let heap = LocalHeap::new(rt.alloc(), size * 64)?;
-        match overtaken(&heap) {
-            Ok(replay) => assert!(rt; is_overtaken(&replay), "stacks in {size}"),
-            Err(OutOfMemory) => refused = true,
-        }
-        match all_finished(&heap) {
-            Ok(replay) => {
-                assert!(rt; marks_are(&replay, &[2, 2, 2]), "marks in {size}");
-                done = true;
-            }
-            Err(OutOfMemory) => refused = true,
+fn each_request_may_be_refused(rt: HostRuntime) {
+    let alloc = rt.alloc();
+    for of_stacks in [true, false] {
+        let requests = requests_of(alloc, of_stacks);
+        assert!(rt; requests > 4);
+        for request in 0..=requests {
+            let from_one_on = LimitedHeap::new(alloc, request);
+            assert!(rt;
+                is_right_or_told(&from_one_on, of_stacks),
+                "{request} and all behind it"
+            );
+            assert_eq!(rt; from_one_on.refusals() == 0, request == requests);
+            let one_alone = LimitedHeap::refusing(alloc, request);
+            assert!(rt; is_right_or_told(&one_alone, of_stacks), "{request} alone");
+            assert_eq!(rt; one_alone.refusals() == 0, request == requests);
         }
     }
-    assert!(rt; refused && done);
+}
+
+// Whether nobody answers for an object any more.
+fn all_discharged<A: Allocator + Copy>(replay: &Replay<A>) -> bool {
+    match &replay.world {
+        Some(world) => world.charge(0) == Some(&[][..]) && world.charge(2).is_none(),
+        None => false,
+    }
+}
+
+// What a world tells takes no memory: it is asked while each request would be refused, and makes none.
+#[test]
+fn looking_takes_no_memory(rt: HostRuntime) -> Result<(), OutOfMemory> {
+    let heap = LimitedHeap::new(rt.alloc(), requests_of(rt.alloc(), true));
+    let stacks = overtaken(&heap)?;
+    assert_eq!(rt; heap.requests_left(), 0);
+    assert!(rt; is_overtaken(&stacks));
+    assert_eq!(rt; heap.refusals(), 0);
+
+    let heap = LimitedHeap::new(rt.alloc(), requests_of(rt.alloc(), false));
+    let finished = all_finished(&heap)?;
+    assert_eq!(rt; heap.requests_left(), 0);
+    assert!(rt; marks_are(&finished, &[2, 2, 2]) && all_discharged(&finished));
+    assert_eq!(rt; heap.refusals(), 0);
     Ok(())
 }
