@@ -54,7 +54,10 @@ fn a_hundred_thousand_rows_are_reported(rt: HostRuntime) -> Result<(), Fail> {
         let (outcome, written) = run_with(&rt, alloc, &options, dump.bytes.as_slice(), written);
         assert_eq!(rt; outcome, Ok(()), "{workers} workers");
         // not told where they differ: that would be millions of numbers
-        assert!(rt; written.as_slice() == report.as_bytes(), "{workers} workers");
+        assert!(rt;
+            written.as_slice() == report.as_bytes(),
+            "{workers} workers"
+        );
     }
     Ok(())
 }
