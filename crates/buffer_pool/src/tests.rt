@@ -5,6 +5,7 @@ mod edges;
 mod forged;
 mod graph;
 mod idle;
+mod memory;
 mod opening;
 mod packed;
 mod race;

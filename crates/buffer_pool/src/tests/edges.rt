@@ -4,7 +4,7 @@ ghost use Rattle.mark_core.specs.Shares.{whole};
 ghost use Rattle.buffer_pool.specs.tests.Rounds.{HasNone, HasRoots, numbers};
 
 use crate::{Edges, Pool, PoolFault, Worker};
-use std::alloc::Global;
+use std::alloc::Allocator;
 
 /// Objects that are all roots, without successors.
 #[derive(Drop)]
@@ -25,12 +25,12 @@ impl Edges for Roots {
 }
 
 /// A pool over roots alone, and its worker.
-pub(super) fn pool_of_roots(
-    alloc: Global,
+pub(super) fn pool_of_roots<A: Allocator + Clone>(
+    alloc: A,
     objects: u32,
     buffers: u32,
     size: u32,
-) -> Result<(Pool<Global>, Worker<Global>), PoolFault>
+) -> Result<(Pool<A>, Worker<A>), PoolFault>
     ensures pool { IfOk result (λ p. p.1.pool ≡ p.0) }
     ensures roots { IfOk result (λ p. HasRoots objects p.1) }
     ensures none { IfOk result (λ p. HasNone p.1) }

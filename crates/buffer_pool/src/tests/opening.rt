@@ -1,10 +1,7 @@
-//! Sizes that are refused, and memory that is.
+//! Sizes that are refused.
 
 use super::edges::Roots;
-use crate::{Pool, PoolFault, Which};
-use linked_list_allocator::LocalHeap;
-use std::alloc::Allocator;
-use std::test::Fail;
+use crate::{Pool, PoolFault};
 use tagged_index::LAST_TAG;
 
 /// Objects, buffers, size and first tag, and whether they are inside.
@@ -38,26 +35,4 @@ fn sizes_at_their_bounds(rt: HostRuntime) {
     }
     let past = Pool::new(rt.alloc(), &Roots { objects: 0 }, 4, 2, LAST_TAG + 1);
     assert_eq!(rt; past.err(), Some(PoolFault::BadOptions));
-}
-
-/// Heaps of every size up to one that is large enough: each answer is want of memory, or a pool.
-#[test]
-fn memory_refused_in_turn(rt: HostRuntime) -> Result<(), Fail> {
-    let mut refused = 0u32;
-    let mut made = 0u32;
-    for size in 1..80usize {
-        let heap = LocalHeap::new(rt.alloc(), size * 16)?;
-        match Pool::new(&heap, &Roots { objects: 3 }, 4, 2, 0) {
-            Ok((pool, mut worker)) => {
-                assert!(rt; !pool.sees_empty(&mut worker, Which::Empty));
-                made = made.saturating_add(1);
-            }
-            Err(fault) => {
-                assert_eq!(rt; fault, PoolFault::OutOfMemory);
-                refused = refused.saturating_add(1);
-            }
-        }
-    }
-    assert!(rt; refused > 4 && made > 4, "{refused} refused, {made} made");
-    Ok(())
 }

@@ -5,9 +5,10 @@ ghost use Rattle.mark_core.specs.Shares.{whole};
 ghost use Rattle.buffer_pool.specs.tests.Worked.{Holds, bare};
 
 use super::edges::Roots;
+use super::memory::heap_of_a_pool;
 use crate::layout::{FIRST_LINK, head_word};
 use crate::{Held, Pool, PoolFault, Popped, Which, Worker};
-use std::alloc::{Allocator, Global};
+use std::alloc::Allocator;
 use std::process::Abort;
 use std::sync::Wait;
 use std::test::Fail;
@@ -16,10 +17,10 @@ use tagged_index::HeadWord;
 pub(super) const BUFFERS: u32 = 4;
 
 /// A pool without objects, of four buffers for two objects each.
-pub(super) fn bare_pool(
-    alloc: Global,
+pub(super) fn bare_pool<A: Allocator + Clone>(
+    alloc: A,
     first_tag: u64,
-) -> Result<(Pool<Global>, Worker<Global>), PoolFault>
+) -> Result<(Pool<A>, Worker<A>), PoolFault>
     ensures pool { IfOk result (λ p. p.1.pool ≡ p.0) }
     ensures none { IfOk result (λ p. Holds 2 [] p.1) }
     ensures share { IfOk result (λ p. p.1.book.account.share ≡ whole) }
@@ -160,7 +161,8 @@ fn stacks_at_the_opening(rt: HostRuntime) -> Result<(), Fail> {
 /// The pops and pushes of the worked table of events: each exchange of a head raises its tag by one.
 #[test]
 fn two_workers_in_turn(rt: HostRuntime) -> Result<(), Fail> {
-    let (pool, worker) = bare_pool(rt.alloc(), 5)?;
+    let heap = heap_of_a_pool(rt.alloc());
+    let (pool, worker) = bare_pool(&heap, 5)?;
     let (mut worker, mut other) = pool.split(worker, 1);
     let (second, third) = pop_three(&rt, &pool, &mut worker);
     push_two(&rt, &pool, &mut worker, second, third);
@@ -170,5 +172,6 @@ fn two_workers_in_turn(rt: HostRuntime) -> Result<(), Fail> {
     pop_two_push_one(&rt, &pool, &mut other);
     assert_eq!(rt; head(&pool, Which::Full), (Some(1), 10));
     assert_eq!(rt; links(&pool), [2, 0, 0, 0]);
+    assert_eq!(rt; heap.refusals(), 0);
     Ok(())
 }

@@ -1,6 +1,7 @@
 //! Small runs of one thread, with their answers.
 
 use super::edges::{Roots, pool_of_roots};
+use super::memory::heap_of_a_pool;
 use super::rounds::{OBJECTS, fill_buffer, finish_buffer};
 use crate::{Pool, TryPopped, Which};
 use std::test::Fail;
@@ -57,7 +58,8 @@ fn finished_by_nobody(rt: HostRuntime) -> Result<(), Fail> {
 /// Five objects put, two of them moved, and all taken: the last first. A full buffer gives an object back.
 #[test]
 fn items_of_buffers(rt: HostRuntime) -> Result<(), Fail> {
-    let (pool, mut worker) = Pool::new(rt.alloc(), &Roots { objects: 0 }, 4, 5, 0)?;
+    let heap = heap_of_a_pool(rt.alloc());
+    let (pool, mut worker) = Pool::new(&heap, &Roots { objects: 0 }, 4, 5, 0)?;
     let TryPopped::Took(mut lower) = pool.try_pop(&mut worker, Which::Empty) else {
         panic!(rt; "there are four buffers");
     };
@@ -79,5 +81,6 @@ fn items_of_buffers(rt: HostRuntime) -> Result<(), Fail> {
         }
         assert_eq!(rt; held.len(), 0);
     }
+    assert_eq!(rt; heap.refusals(), 0);
     Ok(())
 }
