@@ -1,8 +1,8 @@
-//! Want of memory for the spill list.
+//! Want of memory for the spill list, and all that takes none.
 ghost use Rattle.std.specs.Prelude.{◌≤◌, IfOk};
 
-use super::hand::{get, open, pool_of_roots, put_in_vain};
-use super::vectors::{fill, get_all};
+use super::hand::{bare, full_is_empty, get, open, pool_of_roots, publish, put, put_in_vain};
+use super::vectors::{fill, five_objects, get_all};
 use limited_heap::LimitedHeap;
 use std::alloc::Global;
 use std::test::Fail;
@@ -59,5 +59,54 @@ fn a_list_that_cannot_grow_is_given_up(rt: HostRuntime) -> Result<(), Fail> {
     put_in_vain(&rt, &pool, &mut worker, &mut pair, 12);
     assert_eq!(rt; pair.spilled(), 4);
     assert!(rt; pair.dispose(&rt, &pool, &mut worker).is_ok());
+    Ok(())
+}
+
+/// Where the list's first block alone is refused, that object comes back, and the next one is put and got as ever. Each
+/// of the two puts has changed the places of the buffers, so they are where they were.
+#[test]
+fn a_put_behind_a_refused_one(rt: HostRuntime) -> Result<(), Fail> {
+    let heap = LimitedHeap::refusing(rt.alloc(), requests_of_a_pool(rt.alloc())?);
+    let (pool, mut worker) = pool_of_roots(&heap, 4, 2, 0)?;
+    let Some(mut pair) = open(&rt, &heap, &pool, &mut worker) else {
+        panic!(rt; "there are four buffers");
+    };
+    fill(&rt, &pool, &mut worker, &mut pair, 8);
+    put_in_vain(&rt, &pool, &mut worker, &mut pair, 8);
+    assert_eq!(rt; heap.refusals(), 1);
+    put(&rt, &pool, &mut worker, &mut pair, 9);
+    assert_eq!(rt; pair.spilled(), 1);
+    get_all(
+        &rt,
+        &pool,
+        &mut worker,
+        &mut pair,
+        &[9, 7, 6, 5, 4, 3, 2, 1, 0],
+    );
+    Ok(())
+}
+
+/// What a pair does while there is room takes no memory: it is done while each request would be refused, and makes
+/// none.
+#[test]
+fn the_pair_takes_no_memory(rt: HostRuntime) -> Result<(), Fail> {
+    let heap = LimitedHeap::new(rt.alloc(), requests_of_a_pool(rt.alloc())?);
+    let (pool, mut worker) = pool_of_roots(&heap, 4, 8, 0)?;
+    assert_eq!(rt; heap.requests_left(), 0);
+    assert_eq!(rt; bare(&heap, &pool, &worker).lens(), [None, None, None]);
+    let Some(mut pair) = open(&rt, &heap, &pool, &mut worker) else {
+        panic!(rt; "there are four buffers");
+    };
+    five_objects(&rt, &pool, &mut worker, &mut pair);
+    put(&rt, &pool, &mut worker, &mut pair, 5);
+    publish(&rt, &pool, &mut worker, &mut pair);
+    assert!(rt; !full_is_empty(&pool, &mut worker, &pair));
+    get_all(&rt, &pool, &mut worker, &mut pair, &[5]);
+    let None = get(&rt, &pool, &mut worker, &mut pair) else {
+        panic!(rt; "six objects were put");
+    };
+    assert_eq!(rt; pair.spilled(), 0);
+    assert!(rt; pair.dispose(&rt, &pool, &mut worker).is_ok());
+    assert_eq!(rt; heap.refusals(), 0);
     Ok(())
 }

@@ -45,7 +45,7 @@ pub(super) fn get_all<R: Wait + Abort, A: Allocator>(
 }
 
 /// A pair over four buffers for eight objects: five objects, a balance, and all of them back.
-fn five_objects<R: Wait + Abort, A: Allocator>(
+pub(super) fn five_objects<R: Wait + Abort, A: Allocator>(
     rt: &R,
     pool: &Pool<A>,
     worker: &mut Worker<A>,
