@@ -8,7 +8,8 @@ use prog.Memory.{Memory}
 use prog.Routine.{Routine}
 use types.Logic.{Logic, sem}
 use contract.Monad.{Fun}
-use types.Kit.{‵, ◌⊛◌, some, later, ◌$◌, ◌∵◌, !, qed, move, keep, use1, split, join, pick, fjoin, feq_i, feq_l, check, show, await, updating, now as at_once, done}
+use types.Kit.{‵, ◌⊛◌, some, later, ◌$◌, ◌∵◌, !, qed, move, keep, use1, split, join, pick, fjoin, feq_i, feq_l, check}
+use types.Kit.{show, await, updating, now as at_once, done}
 use denote.Memory.{hidden_shr}
 use denote.Builtin.{bool}
 use denote.Steps.{nothing, only}
@@ -25,13 +26,17 @@ module _ {M : Type 1} {𝓤 : Ura M} (𝓛 : Logic 𝓤) (at_mem : Memory → SP
   abbrev pub at_asks : Lft → Share → ℕ × ℕ → Row.Denot → Asks.Ghost
   at_asks κ q c d = (((κ, tt), (q, tt), tt, (record { ref_ptr = c; now = d }, tt), (vptr c.0 c.1 ∷ [], tt)), tt)
 
-module _ {M : Type 1} {𝓤 : Ura M} (𝓛 : Logic 𝓤) (at_mem : Memory → SProp 𝓤) (run : Routine → Fun 𝓤) (κ : Lft) (q : Share) (c : ℕ × ℕ) (d : Row.Denot) where
+module _ {M : Type 1} {𝓤 : Ura M} (𝓛 : Logic 𝓤) (at_mem : Memory → SProp 𝓤) (run : Routine → Fun 𝓤) (κ : Lft)
+    (q : Share) (c : ℕ × ℕ) (d : Row.Denot) where
   open 𝓛 use {H, A}
 
-  pub Asks-goes : ent 𝓤 (sep 𝓤 (sem 𝓛 (hidden_shr Row κ d c.0 c.1)) (A.lft κ q)) ((Asks 𝓛 at_mem run).pre (at_asks 𝓛 at_mem run κ q c d))
+  pub Asks-goes : ent 𝓤 (sep 𝓤 (sem 𝓛 (hidden_shr Row κ d c.0 c.1)) (A.lft κ q))
+      ((Asks 𝓛 at_mem run).pre (at_asks 𝓛 at_mem run κ q c d))
   Asks-goes =
-      qed 𝓛 (‵ (hidden_shr Row κ d c.0 c.1) ∷ ‵ (flft κ q) ∷ []) ∵ feq_i ! (List Val) (vptr c.0 c.1 ∷ []) (vptr c.0 c.1 ∷ []) refl $ fjoin ! $
-      nothing ! $ move ! (1 ∷ []) $ fjoin ! $ nothing ! $ move ! (2 ∷ []) $ join ! $ join ! $ nothing ! $ move ! (1 ∷ []) $ done !
+      qed 𝓛 (‵ (hidden_shr Row κ d c.0 c.1) ∷ ‵ (flft κ q) ∷ []) ∵ feq_i ! (List Val) (vptr c.0 c.1 ∷ [])
+      (vptr c.0 c.1 ∷ []) refl $ fjoin ! $
+      nothing ! $ move ! (1 ∷ []) $ fjoin ! $ nothing ! $ move ! (2 ∷ []) $ join ! $ join ! $ nothing ! $
+      move ! (1 ∷ []) $ done !
 
   abbrev pub Told : Val → Bool → SProp 𝓤
   Told v t = guard 𝓤 (v ≡ vbool t) (A.lft κ q)
@@ -39,5 +44,7 @@ module _ {M : Type 1} {𝓤 : Ura M} (𝓛 : Logic 𝓤) (at_mem : Memory → SP
   pub Asks-gives : (v : Val) → ent 𝓤 ((Asks 𝓛 at_mem run).post (at_asks 𝓛 at_mem run κ q c d) v) (H.⇛ (ex 𝓤 (Told v)))
   Asks-gives v =
       qed 𝓛 (types.Kit.raw ((Asks 𝓛 at_mem run).post (at_asks 𝓛 at_mem run κ q c d) v) ∷ []) ∵ updating ! $
-      use1 𝓛 (later (some (λ (t : Bool). ((‵ (flft κ q) ⊛ ‵ ftrue) ⊛ ‵ (bool.own_val t (v ∷ []))) ⊛ some (λ (ws : Unit {0} × Unit {0}). ‵ (fsep ftrue ftrue) ⊛ ‵ ftrue)))) (id⊢ 𝓤 _) $ await ! tt $ pick ! (λ t.
-      split ! $ split ! $ move ! (1 ∷ []) $ feq_l ! (λ e. split ! $ at_once ! $ show ! (Told v) t $ check ! (ap only e) $ keep ! (0 ∷ []) $ done !))
+      use1 𝓛 (later (some (λ (t : Bool). ((‵ (flft κ q) ⊛ ‵ ftrue) ⊛ ‵ (bool.own_val t (v ∷ []))) ⊛ some
+      (λ (ws : Unit {0} × Unit {0}). ‵ (fsep ftrue ftrue) ⊛ ‵ ftrue)))) (id⊢ 𝓤 _) $ await ! tt $ pick ! (λ t.
+      split ! $ split ! $ move ! (1 ∷ []) $
+      feq_l ! (λ e. split ! $ at_once ! $ show ! (Told v) t $ check ! (ap only e) $ keep ! (0 ∷ []) $ done !))

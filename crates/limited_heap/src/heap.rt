@@ -1,12 +1,13 @@
 //! The allocator.
+
 ghost use Rattle.std.specs.Prelude.{◌≡◌, ◌+◌, ◌<◌, ◌≤◌, ◌^◌, ℕ, Some, None};
 ghost use Rattle.limited_heap.specs.Limit.{request_limit, refused_request};
 
 use crate::quota::Quota;
 use std::alloc::{AllocError, Allocator, Global};
 
-/// A heap that passes requests for memory to the allocator behind it, and refuses all of them from
-/// one on, or one alone. A collection takes a `&` to it.
+/// A heap that passes requests for memory to the allocator behind it, and refuses all of them from one on, or one
+/// alone. A collection takes a `&` to it.
 #[derive(Drop)]
 pub struct LimitedHeap<A: Allocator = Global> {
     inner: A,
@@ -14,8 +15,8 @@ pub struct LimitedHeap<A: Allocator = Global> {
 }
 
 impl<A: Allocator> LimitedHeap<A> {
-    /// A heap over `inner` that grants `requests` requests: each new block is one, and each growth
-    /// or shrinking of a block, which moves it to a new one. Giving a block back is none.
+    /// A heap over `inner` that grants `requests` requests and refuses all others. Each new block is a request, and
+    /// each growth or shrinking of a block, which moves it to a new one. Giving a block back is none.
     pub fn new(inner: A, requests: u64) -> LimitedHeap<A>
         ensures limit { request_limit result ≡ requests }
         ensures rest { refused_request result ≡ None }
@@ -26,8 +27,8 @@ impl<A: Allocator> LimitedHeap<A> {
         }
     }
 
-    /// A heap over `inner` that refuses the request of this number, counted from 0, and no other.
-    /// What is a request is as in `new`.
+    /// A heap over `inner` that refuses the request of this number, counted from 0, and no other. Each new block is a
+    /// request, and each growth or shrinking of a block, which moves it to a new one.
     pub fn refusing(inner: A, request: u64) -> LimitedHeap<A>
         ensures refuses { refused_request result ≡ Some request }
     {
@@ -44,8 +45,7 @@ impl<A: Allocator> LimitedHeap<A> {
         self.quota.left()
     }
 
-    /// How many requests were refused for their number. What the allocator behind refuses is not
-    /// counted here.
+    /// How many requests were refused for their number. What the allocator behind it refuses is not counted.
     pub fn refusals(&self) -> u64
         ensures beyond { result + request_limit self.now < 2 ^ 64 }
         ensures one { (n : ℕ) → refused_request self.now ≡ Some n → result ≤ 1 }

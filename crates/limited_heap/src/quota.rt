@@ -1,4 +1,5 @@
 //! Which requests are granted, of those that were made.
+
 ghost use Rattle.std.specs.Prelude.{◌≡◌, ◌+◌, ◌<◌, ◌≤◌, ◌^◌, true};
 
 use std::sync::atomic::{AtomicU64, Ordering};
@@ -13,6 +14,7 @@ pub(crate) struct Quota {
 }
 
 impl Quota {
+    /// A quota of which no request was made: `granted` are granted, and then one alone is refused, or all are.
     pub(crate) fn new(granted: u64, alone: bool) -> Quota
         ensures granted { result.granted ≡ granted }
         ensures alone { result.alone ≡ alone }
@@ -41,7 +43,7 @@ impl Quota {
         self.granted.saturating_sub(made)
     }
 
-    /// How many requests were not granted.
+    /// How many requests were refused.
     pub(crate) fn refused(&self) -> u64
         ensures beyond { result + self.now.granted < 2 ^ 64 }
         ensures one { self.now.alone ≡ true → result ≤ 1 }

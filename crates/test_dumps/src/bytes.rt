@@ -115,6 +115,7 @@ impl Bytes {
     pub fn sub(&mut self, sub: Sub) -> Result<(), AllocError> {
         match sub {
             Sub::Class(id, above, fields) => self.class(&ClassParts::plain(id, above, fields)),
+            Sub::Named(id, above, fields) => self.class_with_fields(id, above, fields),
             Sub::Static(id, code, value) => self.class_with_static(id, code, value),
             Sub::Whole(parts) => self.class(&parts),
             Sub::Instance(id, class, values) => {
@@ -171,6 +172,22 @@ impl Bytes {
         self.count(class.fields.len())?;
         for code in class.fields {
             self.id(2)?;
+            self.raw(&[*code])?;
+        }
+        Ok(())
+    }
+
+    fn class_with_fields(
+        &mut self,
+        id: u64,
+        above: u64,
+        fields: &[(u64, u8)],
+    ) -> Result<(), AllocError> {
+        self.class_head(id, &[above, 0, 0, 0, 0, 0])?;
+        self.raw(&[0; 4])?;
+        self.count(fields.len())?;
+        for (name, code) in fields {
+            self.id(*name)?;
             self.raw(&[*code])?;
         }
         Ok(())

@@ -3,8 +3,10 @@
 /// A sub-record of a heap dump. All serials are 0.
 #[derive(Clone, Copy)]
 pub enum Sub {
-    /// A class, its superclass, and the types of its fields.
+    /// A class, its superclass, and the types of its fields. The name of each field is 2.
     Class(u64, u64, &'static [u8]),
+    /// A class, its superclass, and the name and the type of each of its fields.
+    Named(u64, u64, &'static [(u64, u8)]),
     /// A class without fields, and the type and the value of its one static field.
     Static(u64, u8, &'static [u8]),
     /// A class with any of its parts.
