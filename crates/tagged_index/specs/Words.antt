@@ -26,8 +26,8 @@ head_of-word_of h small = head_of-spelled h.tag (low_of h.index) small
     ∙ ap (λ i. record h { index = i }) (index_of-low_of h.index)
 
 -- two heads with indices of at most 65,534 have two words
-abbrev pub WordsTellHeads : Type 0
-WordsTellHeads = (g h : Head) → low_of g.index < 65536 → low_of h.index < 65536 → word_of g ≡ word_of h → g ≡ h
+abbrev pub WordsDetermineHeads : Type 0
+WordsDetermineHeads = (g h : Head) → low_of g.index < 65536 → low_of h.index < 65536 → word_of g ≡ word_of h → g ≡ h
 
 pub restored : (w : ℕ) → ◌≡◌ {A = ℕ} (word_of (head_of w)) w
 restored w = word_of-head_of w

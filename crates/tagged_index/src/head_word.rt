@@ -1,5 +1,5 @@
-//! A head in one word: the tag in the upper 48 bits, and in the lower 16 bits 0 for no index, else
-//! the index plus 1.
+//! A head in one word: the tag in the upper 48 bits, and in the lower 16 bits 0 for no index, else the index plus 1.
+
 ghost use Rattle.std.specs.Prelude.{◌≡◌, ◌+◌, ◌<◌, ◌≤◌, MatchOption};
 ghost use Rattle.std.specs.Option.{ForSome};
 ghost use Rattle.tagged_index.specs.Head.{after, head_of, word_of};
@@ -12,10 +12,11 @@ pub const LAST_TAG: u64 = 281_474_976_710_655;
 /// The largest index that a head can hold.
 pub const LAST_INDEX: u32 = 65_534;
 
-// How many values the lower 16 bits have.
+/// How many values the lower 16 bits have.
 const LOW_VALUES: u64 = 65_536;
 
-/// The head of a stack. Contracts see the index and the tag; `word` gives the 64 bits.
+/// The head of a stack: the index of its first buffer, if any, and a tag. Contracts see these two; `word` gives the 64
+/// bits.
 #[derive(Clone, Copy, PartialEq, Eq, Debug)]
 pub struct HeadWord {
     word: u64,
@@ -36,7 +37,7 @@ impl Model for HeadWord {
 }
 
 impl HeadWord {
-    /// The head without an index, of an empty stack.
+    /// The head of an empty stack, with this tag, at most [`LAST_TAG`].
     pub fn none(tag: u64) -> Self
         requires { tag ≤ LAST_TAG }
         ensures { result ≡ record { index = None; tag = tag } }
@@ -46,7 +47,7 @@ impl HeadWord {
         }
     }
 
-    /// The head with this index.
+    /// The head with this index, at most [`LAST_INDEX`], and this tag, at most [`LAST_TAG`].
     pub fn of(index: u32, tag: u64) -> Self
         requires small { index ≤ LAST_INDEX }
         requires tagged { tag ≤ LAST_TAG }
@@ -57,15 +58,14 @@ impl HeadWord {
         }
     }
 
-    /// The head that this word spells. Each word spells one.
+    /// The head that a word spells. Each word of 64 bits spells one.
     pub fn from_word(word: u64) -> Self
         ensures { result ≡ head_of word }
     {
         HeadWord { word }
     }
 
-    /// The word that spells this head: the tag times 65,536, and the index plus 1 where there is
-    /// one.
+    /// The word that spells the head: the tag times 65,536, and the index plus 1 where there is one.
     pub fn word(self) -> u64
         ensures spelled { head_of result ≡ self }
         ensures value { result ≡ word_of self }
@@ -73,7 +73,7 @@ impl HeadWord {
         self.word
     }
 
-    /// The index, None for an empty stack.
+    /// The index, `None` for an empty stack.
     pub fn index(self) -> Option<u32>
         ensures same { result ≡ self.index }
         ensures small { ForSome result (λ i. i ≤ LAST_INDEX) }
@@ -82,7 +82,7 @@ impl HeadWord {
         if low == 0 { None } else { Some(low - 1) }
     }
 
-    /// The tag.
+    /// The tag, which each change of the head makes one higher.
     pub fn tag(self) -> u64
         ensures same { result ≡ self.tag }
         ensures small { result ≤ LAST_TAG }
@@ -90,7 +90,7 @@ impl HeadWord {
         self.word / LOW_VALUES
     }
 
-    /// The head with this index and the tag one higher, None exactly at the last tag.
+    /// The head with this index, at most [`LAST_INDEX`], and the tag one higher: `None` exactly at the last tag.
     pub fn next(self, index: Option<u32>) -> Option<Self>
         requires { ForSome index (λ i. i ≤ LAST_INDEX) }
         ensures { MatchOption result (self.tag ≡ LAST_TAG) (λ h. (self.tag < LAST_TAG) × (h ≡ after self index)) }

@@ -1,5 +1,19 @@
-//! The head word of a stack: the index of the buffer on top, if any, and a tag that counts the
-//! changes, in 64 bits.
+//! The head word of a stack: the index of the buffer on top, if any, and a tag that counts the changes, in 64 bits.
+//!
+//! Who exchanges a head compares the whole word. Each change makes the tag one higher, so a head that was changed and
+//! changed back is another word, and an exchange that began before is refused. At the last tag `next` answers `None`:
+//! tags never begin anew.
+//!
+//! From `src/example.rt`, which is proved and run as a test:
+//!
+//!     let empty = HeadWord::none(7);
+//!     let pushed = empty.next(Some(3));
+//!     let popped = pushed.and_then(|head| head.next(None));
+//!     assert_eq!(rt; popped.map(|head| (head.index(), head.tag())), Some((None, 9)));
+//!     assert!(rt; popped != Some(empty), "the tag tells the two apart");
+//!
+//! What the words mean stands in `specs/Head.antt`; how stacks use them in `docs/MARKING.md`.
+
 #![tactic(auto)]
 
 mod head_word;
@@ -7,3 +21,6 @@ mod law;
 
 pub use head_word::{HeadWord, LAST_INDEX, LAST_TAG};
 pub use law::words_tell_heads_apart;
+
+#[cfg(test)]
+mod example;

@@ -1,0 +1,16 @@
+//! A head that changes, and changes back.
+
+use crate::HeadWord;
+
+/// An empty stack gets a buffer on top, and loses it again.
+#[test]
+fn changed_and_changed_back(rt: HostRuntime) {
+    let empty = HeadWord::none(7);
+    let pushed = empty.next(Some(3));
+    let popped = pushed.and_then(|head| head.next(None));
+    assert_eq!(rt;
+        popped.map(|head| (head.index(), head.tag())),
+        Some((None, 9))
+    );
+    assert!(rt; popped != Some(empty), "the tag tells the two apart");
+}
