@@ -1,11 +1,13 @@
 -- Lists of bytes, and the bytes of a number of any width.
-use Rattle.std.proofs.Common.{◌*◌, ◌+◌, ◌++◌, ◌/◌, ◌<◌, ◌^◌, ◌∙◌, ◌∷◌, ◌≡◌, ◌≤◌, Fits, List, [], ap, arith, drop, length, refl, replicate, slice_index, suc, sym, take, w8, zero, ℕ}
+use Rattle.std.proofs.Common.{◌*◌, ◌+◌, ◌++◌, ◌/◌, ◌<◌, ◌^◌, ◌∙◌, ◌∷◌, ◌≡◌, ◌≤◌, Fits, List, [], ap, arith, drop}
+use Rattle.std.proofs.Common.{length, refl, replicate, slice_index, suc, sym, take, w8, zero, ℕ}
 use Rattle.std.proofs.lemmas.List.{append-nil, get_or-append-add, get_or-drop, length-take-le, take-append-drop}
 use Rattle.std.proofs.Math.Seq.{drop-append_seam, take-append_seam}
 use Rattle.std.proofs.Math.Arith.{digits_div}
 use Rattle.std.specs.Int.{byte_at}
 use Rattle.byteorder.specs.Endian.{big_bytes, big_number}
-use Rattle.byteorder.specs.Numbers.{big_from-cons, big_from-lt, big_from-take, big_number-reads_back, length-bytes_high_first}
+use Rattle.byteorder.specs.Numbers.{big_from-cons, big_from-lt, big_from-take, big_number-reads_back}
+use Rattle.byteorder.specs.Numbers.{length-bytes_high_first}
 
 -- each of these numbers is a byte
 abbrev pub IsBytes : List ℕ → Type 0
@@ -67,7 +69,8 @@ number-cons : (n a : ℕ) (bytes : List ℕ) → big_number (suc n) (a ∷ bytes
 number-cons n a bytes = ap (λ (r : ℕ). a * 256 ^ n + r) (big_from-cons 0 n a bytes)
 
 -- n bytes are known from the number that they make
-same_bytes : (n : ℕ) (xs ys : List ℕ) → IsBytes xs → IsBytes ys → length xs ≡ n → length ys ≡ n → big_number n xs ≡ big_number n ys → xs ≡ ys
+same_bytes : (n : ℕ) (xs ys : List ℕ) → IsBytes xs → IsBytes ys → length xs ≡ n → length ys ≡ n
+    → big_number n xs ≡ big_number n ys → xs ≡ ys
 same_bytes zero [] [] h k p q e = refl
 same_bytes zero [] (y ∷ ys) h k p q e = absurd (omega arith)
 same_bytes zero (x ∷ xs) ys h k p q e = absurd (omega arith)
@@ -76,7 +79,8 @@ same_bytes (suc n) (x ∷ xs) [] h k p q e = absurd (omega arith)
 same_bytes (suc n) (x ∷ xs) (y ∷ ys) h k p q e =
     let low = bytes-tail x xs h in
     let low_too = bytes-tail y ys k in
-    let d = same_digits x y (256 ^ n) (big_number n xs) (big_number n ys) (big_from-lt 0 n xs low) (big_from-lt 0 n ys low_too) (sym (number-cons n x xs) ∙ e ∙ number-cons n y ys) in
+    let d = same_digits x y (256 ^ n) (big_number n xs) (big_number n ys) (big_from-lt 0 n xs low)
+    (big_from-lt 0 n ys low_too) (sym (number-cons n x xs) ∙ e ∙ number-cons n y ys) in
     rw (d.0, same_bytes n xs ys low low_too (omega arith) (omega arith) d.1) refl
 
 pub length-big_bytes : (n x : ℕ) → length (big_bytes n x) ≡ n
@@ -87,14 +91,18 @@ pub number-lt : (n : ℕ) (bytes : List ℕ) → IsBytes bytes → big_number n 
 number-lt n bytes h = big_from-lt 0 n bytes h
 
 -- the bytes of the number in the first n bytes are those bytes
-pub bytes_of_number : (n : ℕ) (bytes : List ℕ) → IsBytes bytes → n ≤ length bytes → big_bytes n (big_number n bytes) ≡ take n bytes
+pub bytes_of_number : (n : ℕ) (bytes : List ℕ) → IsBytes bytes → n ≤ length bytes
+    → big_bytes n (big_number n bytes) ≡ take n bytes
 bytes_of_number n bytes h fits =
     let value = big_number n bytes in
-    let read : big_number n (big_bytes n value) ≡ value = ap (big_number n) (sym (append-nil (big_bytes n value))) ∙ big_number-reads_back n value [] (number-lt n bytes h) in
-    same_bytes n (big_bytes n value) (take n bytes) (big_bytes-bytes n value) (bytes-take n bytes h) (length-big_bytes n value) (length-take-le n bytes fits)
+    let read : big_number n (big_bytes n value) ≡ value = ap (big_number n) (sym (append-nil (big_bytes n value)))
+    ∙ big_number-reads_back n value [] (number-lt n bytes h) in
+    same_bytes n (big_bytes n value) (take n bytes) (big_bytes-bytes n value) (bytes-take n bytes h)
+    (length-big_bytes n value) (length-take-le n bytes fits)
     (read ∙ sym (big_from-take 0 n n bytes (omega arith)))
 
-pub number_parts : (n : ℕ) (bytes : List ℕ) → IsBytes bytes → n ≤ length bytes → bytes ≡ big_bytes n (big_number n bytes) ++ drop n bytes
+pub number_parts : (n : ℕ) (bytes : List ℕ) → IsBytes bytes → n ≤ length bytes
+    → bytes ≡ big_bytes n (big_number n bytes) ++ drop n bytes
 number_parts n bytes h fits = rw (bytes_of_number n bytes h fits) (sym (take-append-drop n bytes))
 
 -- a number that is spelled is read
@@ -112,11 +120,19 @@ pub behind_number : (n x : ℕ) (rest : List ℕ) → drop n (big_bytes n x ++ r
 behind_number n x rest = behind_bytes n (big_bytes n x) rest (length-big_bytes n x)
 
 -- two spellings of numbers of n bytes that begin one text
-pub same_number : (n x y : ℕ) (rest more : List ℕ) → x < 256 ^ n → y < 256 ^ n → big_bytes n x ++ rest ≡ big_bytes n y ++ more → (x ≡ y) × (rest ≡ more)
-same_number n x y rest more h k e =
-    (sym (number_read n x rest h) ∙ ap (big_number n) e ∙ number_read n y more k, sym (behind_number n x rest) ∙ ap (drop n) e ∙ behind_number n y more)
+pub same_number : (n x y : ℕ) (rest more : List ℕ) → x < 256 ^ n → y < 256 ^ n
+    → big_bytes n x ++ rest ≡ big_bytes n y ++ more → (x ≡ y) × (rest ≡ more)
+same_number n x y rest more h k e = (
+  sym (number_read n x rest h) ∙ ap (big_number n) e ∙ number_read n y more k,
+  sym (behind_number n x rest)
+      ∙ ap (drop n) e ∙ behind_number n y more,
+)
 
 -- two fronts of n bytes that begin one text
-pub same_front : (n : ℕ) (xs ys rest more : List ℕ) → length xs ≡ n → length ys ≡ n → xs ++ rest ≡ ys ++ more → (xs ≡ ys) × (rest ≡ more)
-same_front n xs ys rest more h k e =
-    (sym (first_bytes n xs rest h) ∙ ap (take n) e ∙ first_bytes n ys more k, sym (behind_bytes n xs rest h) ∙ ap (drop n) e ∙ behind_bytes n ys more k)
+pub same_front : (n : ℕ) (xs ys rest more : List ℕ) → length xs ≡ n → length ys ≡ n → xs ++ rest ≡ ys ++ more
+    → (xs ≡ ys) × (rest ≡ more)
+same_front n xs ys rest more h k e = (
+  sym (first_bytes n xs rest h) ∙ ap (take n) e ∙ first_bytes n ys more k,
+  sym (behind_bytes n xs rest h)
+      ∙ ap (drop n) e ∙ behind_bytes n ys more k,
+)

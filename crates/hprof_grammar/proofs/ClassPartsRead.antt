@@ -1,5 +1,6 @@
 -- The parts of a class dump that have counts, as they are read.
-use Rattle.std.proofs.Common.{List, [], ap, append_assoc, arith, drop, flat_map, length, map, subst, sym, ℕ, ◌*◌, ◌++◌, ◌+◌, ◌<◌, ◌^◌, ◌∙◌, ◌∷◌, ◌≡◌, ◌≤◌}
+use Rattle.std.proofs.Common.{List, [], ap, append_assoc, arith, drop, flat_map, length, map, subst, sym, ℕ, ◌*◌, ◌++◌}
+use Rattle.std.proofs.Common.{◌+◌, ◌<◌, ◌^◌, ◌∙◌, ◌∷◌, ◌≡◌, ◌≤◌}
 use Rattle.std.proofs.lemmas.List.{length-append, length-drop}
 use Rattle.std.proofs.Math.Seq.{drop-append_seam}
 use Rattle.std.specs.List.{AllByRecursion}
@@ -13,8 +14,10 @@ use Rattle.hprof_grammar.specs.SubRecord.SubRecord.{class_dump}
 use Rattle.hprof_grammar.specs.Tables.{size_of}
 use Rattle.hprof_grammar.specs.declared.kinds.TypePlace.TheVariants.{InConstant, InStatic}
 use Rattle.hprof_grammar.specs.Standing.{Sight, Stands}
-use Rattle.hprof_grammar.specs.Series.{HasCountedValues, LabelledValue, behind_counted_values, count_in, counted_values_in, members_in, of_constant, of_static}
-use Rattle.hprof_grammar.specs.working.ClassParts.{IsPartOf, counted_fields, fields_from_constants, fields_from_members, fields_from_statics}
+use Rattle.hprof_grammar.specs.Series.{HasCountedValues, LabelledValue, behind_counted_values, count_in}
+use Rattle.hprof_grammar.specs.Series.{counted_values_in, members_in, of_constant, of_static}
+use Rattle.hprof_grammar.specs.working.ClassParts.{IsPartOf, counted_fields, fields_from_constants, fields_from_members}
+use Rattle.hprof_grammar.specs.working.ClassParts.{fields_from_statics}
 use Rattle.hprof_grammar.proofs.BoundsLaws.{bounds}
 use Rattle.hprof_grammar.proofs.Fields.{spelled_then}
 use Rattle.hprof_grammar.proofs.Places.{Spell, fields_stand, in_sight, length-spelled}
@@ -31,7 +34,8 @@ count_again : (n : ℕ) (others : List ℕ) → n < 256 ^ 2 → IsCounted n othe
 count_again n others fits = record {
   room = omega (arith, length-append (big_bytes 2 n) others, length-bytes_high_first 2 n);
   count = big_number-reads_back 2 n others fits;
-  behind = subst (λ (k : ℕ). drop k (big_bytes 2 n ++ others) ≡ others) (length-bytes_high_first 2 n) (drop-append_seam (big_bytes 2 n) others);
+  behind = subst (λ (k : ℕ). drop k (big_bytes 2 n ++ others) ≡ others) (length-bytes_high_first 2 n)
+      (drop-append_seam (big_bytes 2 n) others);
 }
 
 -- a count and that many values
@@ -40,7 +44,8 @@ pub record IsCountedValues (s w : ℕ) (them : List LabelledValue) (others bytes
   pub values : counted_values_in s w bytes ≡ them
   pub behind : behind_counted_values s w bytes ≡ others
 
-counted_values : (s w n : ℕ) (them : List LabelledValue) (inner others bytes : List ℕ) → IsCounted n inner bytes → AreValues s w n them others inner → IsCountedValues s w them others bytes
+counted_values : (s w n : ℕ) (them : List LabelledValue) (inner others bytes : List ℕ) → IsCounted n inner bytes
+    → AreValues s w n them others inner → IsCountedValues s w them others bytes
 counted_values s w n them inner others bytes counted are = record {
   room = record { count = counted.room; values = rw (counted.count, counted.behind) are.room };
   values = rw (counted.count, counted.behind) are.values;
@@ -48,18 +53,22 @@ counted_values s w n them inner others bytes counted are = record {
 }
 
 -- from the count on
-counted_first : {X : Type 0} (fields : X → List Field) (xs : List X) (more : List Field) (rest bytes : List ℕ) → length xs < 256 ^ 2 → bytes ≡ spelled (counted_fields fields xs ++ more) ++ rest
+counted_first : {X : Type 0} (fields : X → List Field) (xs : List X) (more : List Field) (rest bytes : List ℕ)
+    → length xs < 256 ^ 2 → bytes ≡ spelled (counted_fields fields xs ++ more) ++ rest
     → IsCounted (length xs) (spelled (flat_map fields xs) ++ (spelled more ++ rest)) bytes
 counted_first {X} fields xs more rest bytes fits e =
     let inner = spelled (flat_map fields xs) ++ (spelled more ++ rest) in
-    let parts : bytes ≡ big_bytes 2 (length xs) ++ inner = e ∙ spelled_then (counted_fields fields xs) more rest ∙ append_assoc (big_bytes 2 (length xs)) (spelled (flat_map fields xs)) (spelled more ++ rest) in
+    let parts : bytes ≡ big_bytes 2 (length xs) ++ inner = e ∙ spelled_then (counted_fields fields xs) more rest
+    ∙ append_assoc (big_bytes 2 (length xs)) (spelled (flat_map fields xs)) (spelled more ++ rest) in
     subst (λ (l : List ℕ). IsCounted (length xs) inner l) (sym parts) (count_again (length xs) inner fits)
 
-constants_fit : (s : ℕ) (xs : List Constant) → AllByRecursion (IsConstant s) xs → AllByRecursion (λ x. (x.index < 256 ^ 2) × (length x.value ≡ size_of s x.type)) xs
+constants_fit : (s : ℕ) (xs : List Constant) → AllByRecursion (IsConstant s) xs
+    → AllByRecursion (λ x. (x.index < 256 ^ 2) × (length x.value ≡ size_of s x.type)) xs
 constants_fit s [] h = tt
 constants_fit s (x ∷ xs) h = ((h.0.index, h.0.value), constants_fit s xs h.1)
 
-statics_fit : (s : ℕ) (xs : List Static) → AllByRecursion (IsStatic s) xs → AllByRecursion (λ x. (x.name < 256 ^ s) × (length x.value ≡ size_of s x.type)) xs
+statics_fit : (s : ℕ) (xs : List Static) → AllByRecursion (IsStatic s) xs
+    → AllByRecursion (λ x. (x.name < 256 ^ s) × (length x.value ≡ size_of s x.type)) xs
 statics_fit s [] h = tt
 statics_fit s (x ∷ xs) h = ((h.0.name, h.0.value), statics_fit s xs h.1)
 
@@ -67,77 +76,114 @@ constant_values : (s : ℕ) (c : Class) (bytes : List ℕ) (h : IsPartOf s c (fi
     → IsCountedValues s 2 (map of_constant c.constants) (spelled (fields_from_statics s c) ++ h.rest) bytes
 constant_values s c bytes h =
     let behind = spelled (fields_from_statics s c) ++ h.rest in
-    counted_values s 2 (length c.constants) (map of_constant c.constants) (spelled (flat_map constant_fields c.constants) ++ behind) behind bytes
+    counted_values s 2 (length c.constants) (map of_constant c.constants)
+    (spelled (flat_map constant_fields c.constants) ++ behind) behind bytes
     (counted_first constant_fields c.constants (fields_from_statics s c) h.rest bytes h.is.constant_count h.bytes_are)
-    (values_again s 2 InConstant (λ k. k.index) (λ k. k.type) (λ k. k.value) c.constants behind (constants_fit s c.constants h.is.constants))
+    (values_again s 2 InConstant (λ k. k.index) (λ k. k.type) (λ k. k.value) c.constants behind
+    (constants_fit s c.constants h.is.constants))
 
-pub constants_room : (s : ℕ) (c : Class) (bytes : List ℕ) → IsPartOf s c (fields_from_constants s c) bytes → HasCountedValues s 2 bytes
+pub constants_room : (s : ℕ) (c : Class) (bytes : List ℕ) → IsPartOf s c (fields_from_constants s c) bytes
+    → HasCountedValues s 2 bytes
 constants_room s c bytes h = (constant_values s c bytes h).room
 
-pub constants_read : (s : ℕ) (c : Class) (bytes : List ℕ) → IsPartOf s c (fields_from_constants s c) bytes → counted_values_in s 2 bytes ≡ map of_constant c.constants
+pub constants_read : (s : ℕ) (c : Class) (bytes : List ℕ) → IsPartOf s c (fields_from_constants s c) bytes
+    → counted_values_in s 2 bytes ≡ map of_constant c.constants
 constants_read s c bytes h = (constant_values s c bytes h).values
 
-pub behind_constants : (s : ℕ) (c : Class) (bytes : List ℕ) → IsPartOf s c (fields_from_constants s c) bytes → IsPartOf s c (fields_from_statics s c) (behind_counted_values s 2 bytes)
+pub behind_constants : (s : ℕ) (c : Class) (bytes : List ℕ) → IsPartOf s c (fields_from_constants s c) bytes
+    → IsPartOf s c (fields_from_statics s c) (behind_counted_values s 2 bytes)
 behind_constants s c bytes h = record { rest = h.rest; bytes_are = (constant_values s c bytes h).behind; is = h.is }
 
 static_values : (s : ℕ) (c : Class) (bytes : List ℕ) (h : IsPartOf s c (fields_from_statics s c) bytes)
     → IsCountedValues s s (map of_static c.statics) (spelled (fields_from_members s c) ++ h.rest) bytes
 static_values s c bytes h =
     let behind = spelled (fields_from_members s c) ++ h.rest in
-    counted_values s s (length c.statics) (map of_static c.statics) (spelled (flat_map (static_fields s) c.statics) ++ behind) behind bytes
+    counted_values s s (length c.statics) (map of_static c.statics)
+    (spelled (flat_map (static_fields s) c.statics) ++ behind) behind bytes
     (counted_first (static_fields s) c.statics (fields_from_members s c) h.rest bytes h.is.static_count h.bytes_are)
-    (values_again s s InStatic (λ f. f.name) (λ f. f.type) (λ f. f.value) c.statics behind (statics_fit s c.statics h.is.statics))
+    (values_again s s InStatic (λ f. f.name) (λ f. f.type) (λ f. f.value) c.statics behind
+    (statics_fit s c.statics h.is.statics))
 
-pub statics_room : (s : ℕ) (c : Class) (bytes : List ℕ) → IsPartOf s c (fields_from_statics s c) bytes → HasCountedValues s s bytes
+pub statics_room : (s : ℕ) (c : Class) (bytes : List ℕ) → IsPartOf s c (fields_from_statics s c) bytes
+    → HasCountedValues s s bytes
 statics_room s c bytes h = (static_values s c bytes h).room
 
-pub statics_read : (s : ℕ) (c : Class) (bytes : List ℕ) → IsPartOf s c (fields_from_statics s c) bytes → counted_values_in s s bytes ≡ map of_static c.statics
+pub statics_read : (s : ℕ) (c : Class) (bytes : List ℕ) → IsPartOf s c (fields_from_statics s c) bytes
+    → counted_values_in s s bytes ≡ map of_static c.statics
 statics_read s c bytes h = (static_values s c bytes h).values
 
-pub behind_statics : (s : ℕ) (c : Class) (bytes : List ℕ) → IsPartOf s c (fields_from_statics s c) bytes → IsPartOf s c (fields_from_members s c) (behind_counted_values s s bytes)
+pub behind_statics : (s : ℕ) (c : Class) (bytes : List ℕ) → IsPartOf s c (fields_from_statics s c) bytes
+    → IsPartOf s c (fields_from_members s c) (behind_counted_values s s bytes)
 behind_statics s c bytes h = record { rest = h.rest; bytes_are = (static_values s c bytes h).behind; is = h.is }
 
-members_counted : (s : ℕ) (c : Class) (bytes : List ℕ) (h : IsPartOf s c (fields_from_members s c) bytes) → IsCounted (length c.members) (spelled (flat_map (member_fields s) c.members) ++ h.rest) bytes
+members_counted : (s : ℕ) (c : Class) (bytes : List ℕ) (h : IsPartOf s c (fields_from_members s c) bytes)
+    → IsCounted (length c.members) (spelled (flat_map (member_fields s) c.members) ++ h.rest) bytes
 members_counted s c bytes h =
     let inner = spelled (flat_map (member_fields s) c.members) ++ h.rest in
-    let parts : bytes ≡ big_bytes 2 (length c.members) ++ inner = h.bytes_are ∙ append_assoc (big_bytes 2 (length c.members)) (spelled (flat_map (member_fields s) c.members)) h.rest in
-    subst (λ (l : List ℕ). IsCounted (length c.members) inner l) (sym parts) (count_again (length c.members) inner h.is.member_count)
+    let parts : bytes ≡ big_bytes 2 (length c.members) ++ inner =
+    h.bytes_are ∙ append_assoc (big_bytes 2 (length c.members)) (spelled (flat_map (member_fields s) c.members))
+    h.rest in
+    subst (λ (l : List ℕ). IsCounted (length c.members) inner l) (sym parts)
+    (count_again (length c.members) inner h.is.member_count)
 
-pub members_room : (s : ℕ) (c : Class) (bytes : List ℕ) → IsPartOf s c (fields_from_members s c) bytes → 2 + count_in bytes * (s + 1) ≤ length bytes
+pub members_room : (s : ℕ) (c : Class) (bytes : List ℕ) → IsPartOf s c (fields_from_members s c) bytes
+    → 2 + count_in bytes * (s + 1) ≤ length bytes
 members_room s c bytes h =
     let counted = members_counted s c bytes h in
     let fields = flat_map (member_fields s) c.members in
-    rw counted.count (omega (arith, counted.room, ap length counted.behind, length-drop 2 bytes, length-append (spelled fields) h.rest, length-spelled fields, widths-members s c.members))
+    rw counted.count (omega (
+      arith,
+      counted.room,
+      ap length counted.behind,
+      length-drop 2 bytes,
+      length-append (spelled fields) h.rest,
+      length-spelled fields,
+      widths-members s c.members,
+    ))
 
-pub members_read : (s : ℕ) (c : Class) (bytes : List ℕ) → IsPartOf s c (fields_from_members s c) bytes → members_in s (count_in bytes) (drop 2 bytes) ≡ c.members
+pub members_read : (s : ℕ) (c : Class) (bytes : List ℕ) → IsPartOf s c (fields_from_members s c) bytes
+    → members_in s (count_in bytes) (drop 2 bytes) ≡ c.members
 members_read s c bytes h =
     let counted = members_counted s c bytes h in
     rw (counted.count, counted.behind) (members_again s c.members h.rest h.is.members)
 
 -- ---- the same where w is what the fields of a view show, and v is the view
 
-pub constants_stand : {v w : Sight} → w ≡ v → (at : ℕ) (c : Class) → Stands v at (class_dump c) → Spell w.bytes (at + 9 + 7 * w.id_size) (spelled (fields_from_constants w.id_size c))
+pub constants_stand : {v w : Sight} → w ≡ v → (at : ℕ) (c : Class) → Stands v at (class_dump c)
+    → Spell w.bytes (at + 9 + 7 * w.id_size) (spelled (fields_from_constants w.id_size c))
 constants_stand {v} {w} e at c h =
     let s = w.id_size in
     fields_stand w.bytes at 0x20 (at + 9 + 7 * s)
-    (number s c.object ∷ number 4 c.stack ∷ number s c.super ∷ number s c.loader ∷ number s c.signers ∷ number s c.domain ∷ number s c.reserved ∷ number s c.reserved_too ∷ number 4 c.instance_size ∷ [])
+    (number s c.object ∷ number 4 c.stack ∷ number s c.super ∷ number s c.loader ∷ number s c.signers ∷ number s
+    c.domain ∷ number s c.reserved ∷ number s c.reserved_too ∷ number 4 c.instance_size ∷ [])
     (fields_from_constants s c) (class_stands e at c h) (omega arith)
 
-pub constants_part : {v w : Sight} → w ≡ v → (at : ℕ) (c : Class) → Stands v at (class_dump c) → IsPartOf v.id_size c (fields_from_constants v.id_size c) (drop (at + 9 + 7 * w.id_size) w.bytes)
+pub constants_part : {v w : Sight} → w ≡ v → (at : ℕ) (c : Class) → Stands v at (class_dump c)
+    → IsPartOf v.id_size c (fields_from_constants v.id_size c) (drop (at + 9 + 7 * w.id_size) w.bytes)
 constants_part {v} {w} e at c h =
     let there = constants_stand e at c h in
-    subst (λ (x : Sight). IsPartOf x.id_size c (fields_from_constants x.id_size c) (drop (at + 9 + 7 * w.id_size) w.bytes)) e
+    subst (λ (x : Sight). IsPartOf x.id_size c (fields_from_constants x.id_size c)
+    (drop (at + 9 + 7 * w.id_size) w.bytes)) e
     (record {
       rest = there.rest;
       bytes_are = there.bytes_are;
       is = bounds (in_sight v w at (class_dump c) e h).is.formed;
     })
 
-pub constants_seen : {v w : Sight} → w ≡ v → (c : Class) (bytes : List ℕ) → IsPartOf v.id_size c (fields_from_constants v.id_size c) bytes → IsPartOf w.id_size c (fields_from_constants w.id_size c) bytes
-constants_seen {v} {w} e c bytes h = subst (λ (x : Sight). IsPartOf x.id_size c (fields_from_constants x.id_size c) bytes) (sym e) h
+pub constants_seen : {v w : Sight} → w ≡ v → (c : Class) (bytes : List ℕ)
+    → IsPartOf v.id_size c (fields_from_constants v.id_size c) bytes
+    → IsPartOf w.id_size c (fields_from_constants w.id_size c) bytes
+constants_seen {v} {w} e c bytes h =
+    subst (λ (x : Sight). IsPartOf x.id_size c (fields_from_constants x.id_size c) bytes) (sym e) h
 
-pub statics_seen : {v w : Sight} → w ≡ v → (c : Class) (bytes : List ℕ) → IsPartOf v.id_size c (fields_from_statics v.id_size c) bytes → IsPartOf w.id_size c (fields_from_statics w.id_size c) bytes
-statics_seen {v} {w} e c bytes h = subst (λ (x : Sight). IsPartOf x.id_size c (fields_from_statics x.id_size c) bytes) (sym e) h
+pub statics_seen : {v w : Sight} → w ≡ v → (c : Class) (bytes : List ℕ)
+    → IsPartOf v.id_size c (fields_from_statics v.id_size c) bytes
+    → IsPartOf w.id_size c (fields_from_statics w.id_size c) bytes
+statics_seen {v} {w} e c bytes h = subst (λ (x : Sight). IsPartOf x.id_size c (fields_from_statics x.id_size c) bytes)
+    (sym e) h
 
-pub statics_shown : {v w : Sight} → w ≡ v → (c : Class) (bytes : List ℕ) → IsPartOf w.id_size c (fields_from_statics w.id_size c) bytes → IsPartOf v.id_size c (fields_from_statics v.id_size c) bytes
-statics_shown {v} {w} e c bytes h = subst (λ (x : Sight). IsPartOf x.id_size c (fields_from_statics x.id_size c) bytes) e h
+pub statics_shown : {v w : Sight} → w ≡ v → (c : Class) (bytes : List ℕ)
+    → IsPartOf w.id_size c (fields_from_statics w.id_size c) bytes
+    → IsPartOf v.id_size c (fields_from_statics v.id_size c) bytes
+statics_shown {v} {w} e c bytes h =
+    subst (λ (x : Sight). IsPartOf x.id_size c (fields_from_statics x.id_size c) bytes) e h

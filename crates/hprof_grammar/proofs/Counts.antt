@@ -1,6 +1,7 @@
 -- Reading one thing after the other, a known number of times: what is left to read at each turn, and numbers that are
 -- passed at once.
-use Rattle.std.proofs.Common.{Bool, Err, List, Ok, Result, arith, ap, drop, false, length, nat_lt, refl, suc, true, zero, ℕ, ◌*◌, ◌+◌, ◌-◌, ◌<◌, ◌∙◌, ◌∷◌, ◌≡◌, ◌≤◌}
+use Rattle.std.proofs.Common.{Bool, Err, List, Ok, Result, arith, ap, drop, false, length, nat_lt, refl, suc, true}
+use Rattle.std.proofs.Common.{zero, ℕ, ◌*◌, ◌+◌, ◌-◌, ◌<◌, ◌∙◌, ◌∷◌, ◌≡◌, ◌≤◌}
 use Rattle.std.proofs.lemmas.Bool.Decides.{nat_tests}
 use Rattle.std.proofs.lemmas.List.{drop-drop, length-drop}
 use Rattle.hprof_grammar.specs.working.Reading.{behind, list_at, number_at, raw_at, ◌>>=◌}
@@ -8,12 +9,14 @@ use Rattle.hprof_grammar.specs.declared.flaw.Flaw.{Flaw}
 use Rattle.hprof_grammar.specs.declared.flaw.Flaw.TheVariants.{Short}
 
 -- what is made of a part does not change what is left behind it
-pub behind_same : {A B : Type 0} (f : A → B) (r : Result (A × List ℕ) Flaw) → behind (r >>= λ x. Ok (f x.0, x.1)) ≡ behind r
+pub behind_same : {A B : Type 0} (f : A → B) (r : Result (A × List ℕ) Flaw)
+    → behind (r >>= λ x. Ok (f x.0, x.1)) ≡ behind r
 behind_same f (Ok x) = refl
 behind_same f (Err e) = refl
 
 -- where the first part leaves these bytes, the others are read there
-pub first_passes : {A : Type 0} (one : List ℕ → Result (A × List ℕ) Flaw) (n : ℕ) (r : Result (A × List ℕ) Flaw) (rest : List ℕ) → behind r ≡ Ok rest
+pub first_passes : {A : Type 0} (one : List ℕ → Result (A × List ℕ) Flaw) (n : ℕ) (r : Result (A × List ℕ) Flaw)
+    (rest : List ℕ) → behind r ≡ Ok rest
     → behind (r >>= λ x. list_at one n x.1 >>= λ xs. Ok (x.0 ∷ xs.0, xs.1)) ≡ behind (list_at one n rest)
 first_passes one n (Ok x) rest e =
     let same : x.1 ≡ rest = cc in
@@ -21,25 +24,29 @@ first_passes one n (Ok x) rest e =
 first_passes one n (Err f) rest e = cc
 
 -- where the first part has a flaw, the whole has it
-pub first_fails : {A : Type 0} (one : List ℕ → Result (A × List ℕ) Flaw) (n : ℕ) (r : Result (A × List ℕ) Flaw) (f : Flaw) → behind r ≡ Err f
+pub first_fails : {A : Type 0} (one : List ℕ → Result (A × List ℕ) Flaw) (n : ℕ) (r : Result (A × List ℕ) Flaw)
+    (f : Flaw) → behind r ≡ Err f
     → behind (r >>= λ x. list_at one n x.1 >>= λ xs. Ok (x.0 ∷ xs.0, xs.1)) ≡ Err f
 first_fails one n (Ok x) f e = cc
 first_fails one n (Err g) f e = e
 
 -- at turn i of n
-pub list_step : {A : Type 0} (one : List ℕ → Result (A × List ℕ) Flaw) (n i : ℕ) (bytes rest : List ℕ) → i < n → behind (one bytes) ≡ Ok rest
+pub list_step : {A : Type 0} (one : List ℕ → Result (A × List ℕ) Flaw) (n i : ℕ) (bytes rest : List ℕ) → i < n
+    → behind (one bytes) ≡ Ok rest
     → behind (list_at one (n - i) bytes) ≡ behind (list_at one (n - (i + 1)) rest)
 list_step one n i bytes rest below e =
     let left : n - i ≡ suc (n - (i + 1)) = omega arith in
     ap (λ k. behind (list_at one k bytes)) left ∙ first_passes one (n - (i + 1)) (one bytes) rest e
 
-pub list_stops : {A : Type 0} (one : List ℕ → Result (A × List ℕ) Flaw) (n i : ℕ) (bytes : List ℕ) (f : Flaw) → i < n → behind (one bytes) ≡ Err f
+pub list_stops : {A : Type 0} (one : List ℕ → Result (A × List ℕ) Flaw) (n i : ℕ) (bytes : List ℕ) (f : Flaw) → i < n
+    → behind (one bytes) ≡ Err f
     → behind (list_at one (n - i) bytes) ≡ Err f
 list_stops one n i bytes f below e =
     let left : n - i ≡ suc (n - (i + 1)) = omega arith in
     ap (λ k. behind (list_at one k bytes)) left ∙ first_fails one (n - (i + 1)) (one bytes) f e
 
-pub list_ends : {A : Type 0} (one : List ℕ → Result (A × List ℕ) Flaw) (n i : ℕ) (bytes : List ℕ) → i ≡ n → behind (list_at one (n - i) bytes) ≡ Ok bytes
+pub list_ends : {A : Type 0} (one : List ℕ → Result (A × List ℕ) Flaw) (n i : ℕ) (bytes : List ℕ) → i ≡ n
+    → behind (list_at one (n - i) bytes) ≡ Ok bytes
 list_ends one n i bytes e =
     let left : n - i ≡ zero = omega arith in
     ap (λ k. behind (list_at one k bytes)) left
@@ -57,16 +64,19 @@ number_is_cut w bytes cut = let here : nat_lt (length bytes) w ≡ true = grind 
 -- where the first number has room, the others are read behind it
 number_then : (w n : ℕ) (bytes : List ℕ) → w ≤ length bytes
     → behind (list_at (number_at w) (suc n) bytes) ≡ behind (list_at (number_at w) n (drop w bytes))
-number_then w n bytes room = first_passes (number_at w) n (number_at w bytes) (drop w bytes) (number_passes w bytes room)
+number_then w n bytes room = first_passes (number_at w) n (number_at w bytes) (drop w bytes)
+    (number_passes w bytes room)
 
 -- n numbers of w bytes have room: what is left behind them
-numbers_pass : (w n : ℕ) (bytes : List ℕ) → n * w ≤ length bytes → behind (list_at (number_at w) n bytes) ≡ Ok (drop (n * w) bytes)
+numbers_pass : (w n : ℕ) (bytes : List ℕ) → n * w ≤ length bytes
+    → behind (list_at (number_at w) n bytes) ≡ Ok (drop (n * w) bytes)
 numbers_pass w zero bytes room = let none : 0 ≡ 0 * w = omega arith in ap (λ (k : ℕ). Ok (drop k bytes)) none
 numbers_pass w (suc n) bytes room =
     let first : w ≤ length bytes = omega arith in
     let others : n * w ≤ length (drop w bytes) = omega (arith, length-drop w bytes) in
     let all : w + n * w ≡ suc n * w = omega arith in
-    number_then w n bytes first ∙ numbers_pass w n (drop w bytes) others ∙ ap Ok (drop-drop (n * w) w bytes ∙ ap (λ (k : ℕ). drop k bytes) all)
+    number_then w n bytes first ∙ numbers_pass w n (drop w bytes) others
+    ∙ ap Ok (drop-drop (n * w) w bytes ∙ ap (λ (k : ℕ). drop k bytes) all)
 
 -- they have none: the first of them that is cut
 numbers_are_cut : (w n : ℕ) (bytes : List ℕ) → length bytes < n * w → behind (list_at (number_at w) n bytes) ≡ Err Short
@@ -84,9 +94,11 @@ numbers_are_cut w (suc n) bytes cut = by (nat_lt (length bytes) w) refl (numbers
         number_then w n bytes here ∙ more (omega (arith, length-drop w bytes))
 
 -- numbers are passed as bytes are
-pub numbers_are_bytes : (w n : ℕ) (bytes : List ℕ) → behind (list_at (number_at w) n bytes) ≡ behind (raw_at (n * w) bytes)
+pub numbers_are_bytes : (w n : ℕ) (bytes : List ℕ)
+    → behind (list_at (number_at w) n bytes) ≡ behind (raw_at (n * w) bytes)
 numbers_are_bytes w n bytes = by (nat_lt (length bytes) (n * w)) refl
   where
-    by : (t : Bool) → nat_lt (length bytes) (n * w) ≡ t → behind (list_at (number_at w) n bytes) ≡ behind (raw_at (n * w) bytes)
+    by : (t : Bool) → nat_lt (length bytes) (n * w) ≡ t
+        → behind (list_at (number_at w) n bytes) ≡ behind (raw_at (n * w) bytes)
     by true e = let cut : length bytes < n * w = grind (arith, nat_tests) in rw e (numbers_are_cut w n bytes cut)
     by false e = let room : n * w ≤ length bytes = grind (arith, nat_tests) in rw e (numbers_pass w n bytes room)

@@ -1,31 +1,35 @@
 -- Lists of fields: their bytes one behind the other, and the first field at which reading breaks off.
-use Rattle.std.proofs.Common.{◌++◌, ◌<◌, ◌∙◌, ◌∷◌, ◌≡◌, ◌⊎◌, List, [], ap, append_assoc, arith, false, inl, inr, length, refl, subst, sym, ℕ}
+use Rattle.std.proofs.Common.{◌++◌, ◌<◌, ◌∙◌, ◌∷◌, ◌≡◌, ◌⊎◌, List, [], ap, append_assoc, arith, false, inl, inr, length}
+use Rattle.std.proofs.Common.{refl, subst, sym, ℕ}
 use Rattle.std.proofs.lemmas.List.{length-append}
 use Rattle.std.proofs.lemmas.Grind.{flat_map-append}
 use Rattle.std.specs.List.{AllByRecursion}
-use Rattle.hprof_grammar.specs.Spelling.{AreAllowed, EndsShort, Field, HasWrongType, IsAllowed, bytes_of, spelled}
+use Rattle.hprof_grammar.specs.Spelling.{AreAllowed, EndsShort, Field, HasWrongType, IsAllowed, field_spelling, spelled}
 use Rattle.hprof_grammar.specs.Spelling.Field.{number, raw, type_code}
 use Rattle.hprof_grammar.specs.Tables.{is_type_at}
 use Rattle.hprof_grammar.specs.declared.flaw.Flaw.{Flaw}
 use Rattle.hprof_grammar.specs.declared.flaw.Flaw.TheVariants.{Short, UnknownTag, WrongType}
 
-pub all_join : {A : Type 0} (P : A → Type 0) (xs ys : List A) → AllByRecursion P xs → AllByRecursion P ys → AllByRecursion P (xs ++ ys)
+pub all_join : {A : Type 0} (P : A → Type 0) (xs ys : List A) → AllByRecursion P xs → AllByRecursion P ys
+    → AllByRecursion P (xs ++ ys)
 all_join P [] ys h k = k
 all_join P (x ∷ xs) ys h k = (h.0, all_join P xs ys h.1 k)
 
-pub all_split : {A : Type 0} (P : A → Type 0) (xs ys : List A) → AllByRecursion P (xs ++ ys) → AllByRecursion P xs × AllByRecursion P ys
+pub all_split : {A : Type 0} (P : A → Type 0) (xs ys : List A) → AllByRecursion P (xs ++ ys) → AllByRecursion P xs
+    × AllByRecursion P ys
 all_split P [] ys h = (tt, h)
 all_split P (x ∷ xs) ys h = let s = all_split P xs ys h.1 in ((h.0, s.0), s.1)
 
 pub spelled-append : (fs gs : List Field) → spelled (fs ++ gs) ≡ spelled fs ++ spelled gs
-spelled-append fs gs = flat_map-append bytes_of fs gs
+spelled-append fs gs = flat_map-append field_spelling fs gs
 
 -- the second of two lists of fields stands behind the first
-pub spelled_then : (fs gs : List Field) (rest : List ℕ) → spelled (fs ++ gs) ++ rest ≡ spelled fs ++ (spelled gs ++ rest)
+pub spelled_then : (fs gs : List Field) (rest : List ℕ)
+    → spelled (fs ++ gs) ++ rest ≡ spelled fs ++ (spelled gs ++ rest)
 spelled_then fs gs rest = rw (spelled-append fs gs) (append_assoc (spelled fs) (spelled gs) rest)
 
-pub spelled_one : (f : Field) (rest : List ℕ) → spelled (f ∷ []) ++ rest ≡ bytes_of f ++ rest
-spelled_one f rest = append_assoc (bytes_of f) [] rest
+pub spelled_one : (f : Field) (rest : List ℕ) → spelled (f ∷ []) ++ rest ≡ field_spelling f ++ rest
+spelled_one f rest = append_assoc (field_spelling f) [] rest
 
 -- a type code that is not allowed stands in place of the field
 abbrev pub IsWrong : Field → List ℕ → Type 0
@@ -35,7 +39,7 @@ IsWrong (raw text) bytes = ⊥
 
 -- what stands in place of a field, by the flaw that is found there
 abbrev pub Spoils : Flaw → Field → List ℕ → Type 0
-Spoils Short field bytes = (missing : List ℕ) × (bytes_of field ≡ bytes ++ missing) × (0 < length missing)
+Spoils Short field bytes = (missing : List ℕ) × (field_spelling field ≡ bytes ++ missing) × (0 < length missing)
 Spoils WrongType field bytes = IsWrong field bytes
 Spoils UnknownTag field bytes = ⊥
 
@@ -50,10 +54,22 @@ pub record Breaks (flaw : Flaw) (fields : List Field) (bytes : List ℕ) : Type 
   pub bytes_are : bytes ≡ spelled front ++ rest
   pub spoiled : Spoils flaw field rest
 
-pub breaks_here : (flaw : Flaw) (f : Field) (fs : List Field) (bytes : List ℕ) → Spoils flaw f bytes → Breaks flaw (f ∷ fs) bytes
-breaks_here flaw f fs bytes h = record { front = []; field = f; more = fs; rest = bytes; in_order = refl; allowed = tt; bytes_are = refl; spoiled = h }
+pub breaks_here : (flaw : Flaw) (f : Field) (fs : List Field) (bytes : List ℕ) → Spoils flaw f bytes
+    → Breaks flaw (f ∷ fs) bytes
+breaks_here flaw f fs bytes h =
+    record {
+      front = [];
+      field = f;
+      more = fs;
+      rest = bytes;
+      in_order = refl;
+      allowed = tt;
+      bytes_are = refl;
+      spoiled = h;
+    }
 
-pub breaks_first : (flaw : Flaw) (fs gs : List Field) (bytes : List ℕ) → Breaks flaw fs bytes → Breaks flaw (fs ++ gs) bytes
+pub breaks_first : (flaw : Flaw) (fs gs : List Field) (bytes : List ℕ) → Breaks flaw fs bytes
+    → Breaks flaw (fs ++ gs) bytes
 breaks_first flaw fs gs bytes b = record {
   front = b.front;
   field = b.field;
@@ -65,7 +81,8 @@ breaks_first flaw fs gs bytes b = record {
   spoiled = b.spoiled;
 }
 
-pub breaks_second : (flaw : Flaw) (fs gs : List Field) (rest : List ℕ) → AreAllowed fs → Breaks flaw gs rest → Breaks flaw (fs ++ gs) (spelled fs ++ rest)
+pub breaks_second : (flaw : Flaw) (fs gs : List Field) (rest : List ℕ) → AreAllowed fs → Breaks flaw gs rest
+    → Breaks flaw (fs ++ gs) (spelled fs ++ rest)
 breaks_second flaw fs gs rest h b = record {
   front = fs ++ b.front;
   field = b.field;
@@ -96,14 +113,32 @@ split_at {A = A} (x ∷ xs) ys (z ∷ front) a more e =
 pub breaks_split : (flaw : Flaw) (fs gs : List Field) (bytes : List ℕ) → Breaks flaw (fs ++ gs) bytes
     → Breaks flaw fs bytes ⊎ ((rest : List ℕ) × AreAllowed fs × (bytes ≡ spelled fs ++ rest) × Breaks flaw gs rest)
 breaks_split flaw fs gs bytes b = elim (split_at fs gs b.front b.field b.more b.in_order) [
-  | inl s ↦ inl (record { front = b.front; field = b.field; more = s.0; rest = b.rest; in_order = s.1; allowed = b.allowed; bytes_are = b.bytes_are; spoiled = b.spoiled })
+  | inl s ↦ inl (record {
+    front = b.front;
+    field = b.field;
+    more = s.0;
+    rest = b.rest;
+    in_order = s.1;
+    allowed = b.allowed;
+    bytes_are = b.bytes_are;
+    spoiled = b.spoiled;
+  })
   | inr s ↦
       let parts = all_split IsAllowed fs s.0 (subst AreAllowed s.1 b.allowed) in
       inr (
         spelled s.0 ++ b.rest,
         parts.0,
         b.bytes_are ∙ ap (λ (x : List Field). spelled x ++ b.rest) s.1 ∙ spelled_then fs s.0 b.rest,
-        record { front = s.0; field = b.field; more = b.more; rest = b.rest; in_order = s.2; allowed = parts.1; bytes_are = refl; spoiled = b.spoiled },
+        record {
+          front = s.0;
+          field = b.field;
+          more = b.more;
+          rest = b.rest;
+          in_order = s.2;
+          allowed = parts.1;
+          bytes_are = refl;
+          spoiled = b.spoiled;
+        },
       )
 ]
 
@@ -113,7 +148,8 @@ breaks_never flaw bytes b = omega (arith, ap length b.in_order, length-append b.
 
 pub breaks_one : (flaw : Flaw) (f : Field) (bytes : List ℕ) → Breaks flaw (f ∷ []) bytes → Spoils flaw f bytes
 breaks_one flaw f bytes b = one b.front b.in_order b.bytes_are where
-  one : (front : List Field) → f ∷ [] ≡ front ++ b.field ∷ b.more → bytes ≡ spelled front ++ b.rest → Spoils flaw f bytes
+  one : (front : List Field) → f ∷ [] ≡ front ++ b.field ∷ b.more → bytes ≡ spelled front ++ b.rest
+      → Spoils flaw f bytes
   one [] e is =
       let h : b.field ≡ f = cc in
       rw is (subst (λ (x : Field). Spoils flaw x b.rest) h b.spoiled)
@@ -147,14 +183,27 @@ breaks_short fields bytes h = record {
   spoiled = (h.missing, h.cut_is, h.not_whole);
 }
 
-wrong_at : (fields front : List Field) (field : Field) (more : List Field) (bytes rest : List ℕ) → fields ≡ front ++ field ∷ more → AreAllowed front → bytes ≡ spelled front ++ rest → IsWrong field rest → HasWrongType fields bytes
+wrong_at : (fields front : List Field) (field : Field) (more : List Field) (bytes rest : List ℕ)
+    → fields ≡ front ++ field ∷ more → AreAllowed front → bytes ≡ spelled front ++ rest → IsWrong field rest
+    → HasWrongType fields bytes
 wrong_at fields front (number width value) more bytes rest e h is w = absurd w
 wrong_at fields front (type_code place code) more bytes rest e h is w =
-    record { front = front; place = place; code = code; more = more; rest = w.1.0; in_order = e; allowed = h; wrong = w.0; bytes_are = is ∙ ap (λ (x : List ℕ). spelled front ++ x) w.1.1 }
+    record {
+      front = front;
+      place = place;
+      code = code;
+      more = more;
+      rest = w.1.0;
+      in_order = e;
+      allowed = h;
+      wrong = w.0;
+      bytes_are = is ∙ ap (λ (x : List ℕ). spelled front ++ x) w.1.1;
+    }
 wrong_at fields front (raw text) more bytes rest e h is w = absurd w
 
 pub has_wrong_type : (fields : List Field) (bytes : List ℕ) → Breaks WrongType fields bytes → HasWrongType fields bytes
-has_wrong_type fields bytes b = wrong_at fields b.front b.field b.more bytes b.rest b.in_order b.allowed b.bytes_are b.spoiled
+has_wrong_type fields bytes b =
+    wrong_at fields b.front b.field b.more bytes b.rest b.in_order b.allowed b.bytes_are b.spoiled
 
 pub breaks_wrong : (fields : List Field) (bytes : List ℕ) → HasWrongType fields bytes → Breaks WrongType fields bytes
 breaks_wrong fields bytes h = record {

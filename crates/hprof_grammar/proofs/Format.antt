@@ -1,5 +1,7 @@
 -- Formats: values, the fields that spell them, and the reading of them, each with the laws that join the three.
-use Rattle.std.proofs.Common.{Bool, Err, List, Ok, Result, [], ap, arith, drop, false, if◌then◌else◌, inl, inr, length, nat_lt, refl, replicate, subst, sym, take, true, ℕ, ◌++◌, ◌-◌, ◌<◌, ◌^◌, ◌∙◌, ◌∷◌, ◌≡◌, ◌≤◌, ◌⊎◌}
+use Rattle.std.proofs.Common.{Bool, Err, List, Ok, Result, [], ap, arith, drop, false, if◌then◌else◌, inl, inr, length}
+use Rattle.std.proofs.Common.{nat_lt, refl, replicate, subst, sym, take, true, ℕ, ◌++◌, ◌-◌, ◌<◌, ◌^◌, ◌∙◌, ◌∷◌, ◌≡◌}
+use Rattle.std.proofs.Common.{◌≤◌, ◌⊎◌}
 use Rattle.std.proofs.lemmas.List.{length-append, length-replicate, length-take-le, take-append-drop, take_all}
 use Rattle.std.proofs.Math.Nat.{one-le-pow}
 use Rattle.std.proofs.lemmas.Bool.{le-ltb, lt-ltb, ltb-false, ltb-true}
@@ -11,25 +13,31 @@ use Rattle.hprof_grammar.specs.Tables.{is_type_at}
 use Rattle.hprof_grammar.specs.declared.kinds.TypePlace.{TypePlace}
 use Rattle.hprof_grammar.specs.declared.flaw.Flaw.{Flaw}
 use Rattle.hprof_grammar.specs.declared.flaw.Flaw.TheVariants.{Short, UnknownTag, WrongType}
-use Rattle.hprof_grammar.proofs.Bytes.{IsBytes, behind_bytes, behind_number, bytes-join, bytes_of_number, first_bytes, length-big_bytes, number-lt, number_parts, number_read, zeros-bytes}
+use Rattle.hprof_grammar.proofs.Bytes.{IsBytes, behind_bytes, behind_number, bytes-join, bytes_of_number, first_bytes}
+use Rattle.hprof_grammar.proofs.Bytes.{length-big_bytes, number-lt, number_parts, number_read, zeros-bytes}
 use Rattle.hprof_grammar.proofs.Fields.{Breaks, Spoils, breaks_here, breaks_one, spelled_one}
 
 -- the value was spelled by the bytes, up to the rest
-pub record Taken {A : Type 0} (IsWell : A → Type 0) (fields : A → List Field) (bytes : List ℕ) (value : A) (rest : List ℕ) : Type 0 where
+pub record Taken {A : Type 0} (IsWell : A → Type 0) (fields : A → List Field) (bytes : List ℕ) (value : A)
+    (rest : List ℕ) : Type 0 where
   pub well : IsWell value
   pub allowed : AreAllowed (fields value)
   pub bytes_are : bytes ≡ spelled (fields value) ++ rest
 
 -- The reading gives just the values that are spelled, and a flaw just where the fields of a value break off.
 -- IsWell says of a value what the types of its fields do not, but for type codes, which may be any.
-pub record IsFormat {A : Type 0} (IsWell : A → Type 0) (fields : A → List Field) (read : List ℕ → Result (A × List ℕ) Flaw) : Type 0 where
+pub record IsFormat {A : Type 0} (IsWell : A → Type 0) (fields : A → List Field)
+    (read : List ℕ → Result (A × List ℕ) Flaw) : Type 0 where
   -- some value: what follows a flaw may be anything
   pub sample : A
   pub sample_well : IsWell sample
   pub takes : (bytes : List ℕ) (z : A × List ℕ) → IsBytes bytes → read bytes ≡ Ok z → Taken IsWell fields bytes z.0 z.1
-  pub again : (x : A) (rest : List ℕ) → IsWell x → AreAllowed (fields x) → read (spelled (fields x) ++ rest) ≡ Ok (x, rest)
-  pub fails : (bytes : List ℕ) (flaw : Flaw) → IsBytes bytes → read bytes ≡ Err flaw → (x : A) × IsWell x × Breaks flaw (fields x) bytes
-  pub fails_again : (x : A) (bytes : List ℕ) (flaw : Flaw) → IsWell x → Breaks flaw (fields x) bytes → read bytes ≡ Err flaw
+  pub again : (x : A) (rest : List ℕ) → IsWell x → AreAllowed (fields x)
+      → read (spelled (fields x) ++ rest) ≡ Ok (x, rest)
+  pub fails : (bytes : List ℕ) (flaw : Flaw) → IsBytes bytes → read bytes ≡ Err flaw → (x : A) × IsWell x
+      × Breaks flaw (fields x) bytes
+  pub fails_again : (x : A) (bytes : List ℕ) (flaw : Flaw) → IsWell x → Breaks flaw (fields x) bytes
+      → read bytes ≡ Err flaw
 
 -- ---- results
 
@@ -40,11 +48,13 @@ err_same : {X E : Type 0} (x y : E) → ◌≡◌ {A = Result X E} (Err x) (Err 
 err_same x y e = cc
 
 -- a step that gave something came behind one that did
-pub bind_ok : {A B : Type 0} (r : Result A Flaw) (f : A → Result B Flaw) (y : B) → r >>= f ≡ Ok y → (x : A) × (r ≡ Ok x) × (f x ≡ Ok y)
+pub bind_ok : {A B : Type 0} (r : Result A Flaw) (f : A → Result B Flaw) (y : B) → r >>= f ≡ Ok y → (x : A)
+    × (r ≡ Ok x) × (f x ≡ Ok y)
 bind_ok (Ok x) f y e = (x, refl, e)
 bind_ok (Err z) f y e = absurd (cc)
 
-pub bind_err : {A B : Type 0} (r : Result A Flaw) (f : A → Result B Flaw) (flaw : Flaw) → r >>= f ≡ Err flaw → (r ≡ Err flaw) ⊎ ((x : A) × (r ≡ Ok x) × (f x ≡ Err flaw))
+pub bind_err : {A B : Type 0} (r : Result A Flaw) (f : A → Result B Flaw) (flaw : Flaw) → r >>= f ≡ Err flaw
+    → (r ≡ Err flaw) ⊎ ((x : A) × (r ≡ Ok x) × (f x ≡ Err flaw))
 bind_err (Ok x) f flaw e = inr (x, refl, e)
 bind_err {B = B} (Err z) f flaw e = inl (ap Err (err_same {X = B} z flaw e))
 
@@ -52,7 +62,8 @@ test_ok : {X E : Type 0} (b : Bool) (flaw : E) (x y : X) → (if b then Err flaw
 test_ok true flaw x y e = absurd (cc)
 test_ok {E = E} false flaw x y e = (refl, ok_same {E = E} x y e)
 
-test_err : {X E : Type 0} (b : Bool) (flaw other : E) (x : X) → ◌≡◌ {A = Result X E} (if b then Err flaw else Ok x) (Err other) → (b ≡ true) × (flaw ≡ other)
+test_err : {X E : Type 0} (b : Bool) (flaw other : E) (x : X) → ◌≡◌ {A = Result X E} (if b then Err flaw else Ok x)
+    (Err other) → (b ≡ true) × (flaw ≡ other)
 test_err {X = X} true flaw other x e = (refl, err_same {X = X} flaw other e)
 test_err false flaw other x e = absurd (cc)
 
@@ -60,7 +71,8 @@ type_ok : {X E : Type 0} (b : Bool) (flaw : E) (x y : X) → (if b then Ok x els
 type_ok {E = E} true flaw x y e = (refl, ok_same {E = E} x y e)
 type_ok false flaw x y e = absurd (cc)
 
-type_err : {X E : Type 0} (b : Bool) (flaw other : E) (x : X) → ◌≡◌ {A = Result X E} (if b then Ok x else Err flaw) (Err other) → (b ≡ false) × (flaw ≡ other)
+type_err : {X E : Type 0} (b : Bool) (flaw other : E) (x : X) → ◌≡◌ {A = Result X E} (if b then Ok x else Err flaw)
+    (Err other) → (b ≡ false) × (flaw ≡ other)
 type_err true flaw other x e = absurd (cc)
 type_err {X = X} false flaw other x e = (refl, err_same {X = X} flaw other e)
 
@@ -77,38 +89,50 @@ number_again w x rest h =
     number_whole w (big_bytes w x ++ rest) (omega (arith, length-append (big_bytes w x) rest, length-big_bytes w x))
     ∙ rw (number_read w x rest h, behind_number w x rest) refl
 
-number_takes : (w : ℕ) (bytes : List ℕ) (z : ℕ × List ℕ) → IsBytes bytes → number_at w bytes ≡ Ok z → Taken (λ x. x < 256 ^ w) (λ x. number w x ∷ []) bytes z.0 z.1
+number_takes : (w : ℕ) (bytes : List ℕ) (z : ℕ × List ℕ) → IsBytes bytes → number_at w bytes ≡ Ok z
+    → Taken (λ x. x < 256 ^ w) (λ x. number w x ∷ []) bytes z.0 z.1
 number_takes w bytes z h e =
     let t = test_ok (nat_lt (length bytes) w) Short (big_number w bytes, drop w bytes) z e in
     subst (λ (y : ℕ × List ℕ). Taken (λ x. x < 256 ^ w) (λ x. number w x ∷ []) bytes y.0 y.1) t.1
-    (record { well = number-lt w bytes h; allowed = (tt, tt); bytes_are = number_parts w bytes h (ltb-false (length bytes) w t.0) ∙ sym (spelled_one (number w (big_number w bytes)) (drop w bytes)) })
+    (record {
+      well = number-lt w bytes h;
+      allowed = (tt, tt);
+      bytes_are = number_parts w bytes h (ltb-false (length bytes) w t.0)
+          ∙ sym (spelled_one (number w (big_number w bytes)) (drop w bytes));
+    })
 
 -- bytes that are too few, and zeros up to n
 abbrev filled : ℕ → List ℕ → List ℕ
 filled n bytes = bytes ++ replicate (n - length bytes) 0
 
 filled-length : (n : ℕ) (bytes : List ℕ) → length bytes ≤ n → length (filled n bytes) ≡ n
-filled-length n bytes h = omega (arith, length-append bytes (replicate (n - length bytes) 0), length-replicate {A = ℕ} (n - length bytes) 0)
+filled-length n bytes h =
+    omega (arith, length-append bytes (replicate (n - length bytes) 0), length-replicate {A = ℕ} (n - length bytes) 0)
 
 filled-more : (n : ℕ) (bytes : List ℕ) → length bytes < n → 0 < length {A = ℕ} (replicate (n - length bytes) 0)
 filled-more n bytes h = omega (arith, length-replicate {A = ℕ} (n - length bytes) 0)
 
-number_fails : (w : ℕ) (bytes : List ℕ) (flaw : Flaw) → IsBytes bytes → number_at w bytes ≡ Err flaw → (x : ℕ) × (x < 256 ^ w) × Breaks flaw (number w x ∷ []) bytes
+number_fails : (w : ℕ) (bytes : List ℕ) (flaw : Flaw) → IsBytes bytes → number_at w bytes ≡ Err flaw → (x : ℕ)
+    × (x < 256 ^ w) × Breaks flaw (number w x ∷ []) bytes
 number_fails w bytes flaw h e =
     let t = test_err (nat_lt (length bytes) w) Short flaw (big_number w bytes, drop w bytes) e in
     let short : length bytes < w = ltb-true (length bytes) w t.0 in
     let whole = filled w bytes in
     let size : length whole ≡ w = filled-length w bytes (omega arith) in
     let are = bytes-join bytes (replicate (w - length bytes) 0) h (zeros-bytes (w - length bytes)) in
-    let spells : big_bytes w (big_number w whole) ≡ whole = bytes_of_number w whole are (omega arith) ∙ take_all w whole (omega arith) in (
+    let spells : big_bytes w (big_number w whole) ≡ whole = bytes_of_number w whole are (omega arith)
+    ∙ take_all w whole (omega arith) in (
       big_number w whole,
       number-lt w whole are,
       subst (λ (y : Flaw). Breaks y (number w (big_number w whole) ∷ []) bytes) t.1
-          (breaks_here Short (number w (big_number w whole)) [] bytes (replicate (w - length bytes) 0, spells, filled-more w bytes short)),
+          (breaks_here Short (number w (big_number w whole)) [] bytes
+          (replicate (w - length bytes) 0, spells, filled-more w bytes short)),
     )
 
-number_fails_again : (w x : ℕ) (bytes : List ℕ) (flaw : Flaw) → Spoils flaw (number w x) bytes → number_at w bytes ≡ Err flaw
-number_fails_again w x bytes Short s = number_cut w bytes (omega (arith, s.2, ap length s.1, length-append bytes s.0, length-big_bytes w x))
+number_fails_again : (w x : ℕ) (bytes : List ℕ) (flaw : Flaw) → Spoils flaw (number w x) bytes
+    → number_at w bytes ≡ Err flaw
+number_fails_again w x bytes Short s =
+    number_cut w bytes (omega (arith, s.2, ap length s.1, length-append bytes s.0, length-big_bytes w x))
 number_fails_again w x bytes WrongType s = absurd s
 number_fails_again w x bytes UnknownTag s = absurd s
 
@@ -131,25 +155,34 @@ raw_cut : (n : ℕ) (bytes : List ℕ) → length bytes < n → raw_at n bytes �
 raw_cut n bytes h = rw (lt-ltb (length bytes) n h) refl
 
 raw_again : (n : ℕ) (text rest : List ℕ) → length text ≡ n → raw_at n (text ++ rest) ≡ Ok (text, rest)
-raw_again n text rest h = raw_whole n (text ++ rest) (omega (arith, length-append text rest)) ∙ rw (first_bytes n text rest h, behind_bytes n text rest h) refl
+raw_again n text rest h = raw_whole n (text ++ rest) (omega (arith, length-append text rest))
+    ∙ rw (first_bytes n text rest h, behind_bytes n text rest h) refl
 
-raw_takes : (n : ℕ) (bytes : List ℕ) (z : List ℕ × List ℕ) → raw_at n bytes ≡ Ok z → Taken (λ x. length x ≡ n) (λ x. raw x ∷ []) bytes z.0 z.1
+raw_takes : (n : ℕ) (bytes : List ℕ) (z : List ℕ × List ℕ) → raw_at n bytes ≡ Ok z
+    → Taken (λ x. length x ≡ n) (λ x. raw x ∷ []) bytes z.0 z.1
 raw_takes n bytes z e =
     let t = test_ok (nat_lt (length bytes) n) Short (take n bytes, drop n bytes) z e in
     subst (λ (y : List ℕ × List ℕ). Taken (λ x. length x ≡ n) (λ x. raw x ∷ []) bytes y.0 y.1) t.1
-    (record { well = length-take-le n bytes (ltb-false (length bytes) n t.0); allowed = (tt, tt); bytes_are = sym (take-append-drop n bytes) ∙ sym (spelled_one (raw (take n bytes)) (drop n bytes)) })
+    (record {
+      well = length-take-le n bytes (ltb-false (length bytes) n t.0);
+      allowed = (tt, tt);
+      bytes_are = sym (take-append-drop n bytes) ∙ sym (spelled_one (raw (take n bytes)) (drop n bytes));
+    })
 
-raw_fails : (n : ℕ) (bytes : List ℕ) (flaw : Flaw) → raw_at n bytes ≡ Err flaw → (x : List ℕ) × (length x ≡ n) × Breaks flaw (raw x ∷ []) bytes
+raw_fails : (n : ℕ) (bytes : List ℕ) (flaw : Flaw) → raw_at n bytes ≡ Err flaw → (x : List ℕ) × (length x ≡ n)
+    × Breaks flaw (raw x ∷ []) bytes
 raw_fails n bytes flaw e =
     let t = test_err (nat_lt (length bytes) n) Short flaw (take n bytes, drop n bytes) e in
     let short : length bytes < n = ltb-true (length bytes) n t.0 in (
       filled n bytes,
       filled-length n bytes (omega arith),
       subst (λ (y : Flaw). Breaks y (raw (filled n bytes) ∷ []) bytes) t.1
-          (breaks_here Short (raw (filled n bytes)) [] bytes (replicate (n - length bytes) 0, refl, filled-more n bytes short)),
+          (breaks_here Short (raw (filled n bytes)) [] bytes
+          (replicate (n - length bytes) 0, refl, filled-more n bytes short)),
     )
 
-raw_fails_again : (n : ℕ) (x bytes : List ℕ) (flaw : Flaw) → length x ≡ n → Spoils flaw (raw x) bytes → raw_at n bytes ≡ Err flaw
+raw_fails_again : (n : ℕ) (x bytes : List ℕ) (flaw : Flaw) → length x ≡ n → Spoils flaw (raw x) bytes
+    → raw_at n bytes ≡ Err flaw
 raw_fails_again n x bytes Short h s = raw_cut n bytes (omega (arith, s.2, ap length s.1, length-append bytes s.0))
 raw_fails_again n x bytes WrongType h s = absurd s
 raw_fails_again n x bytes UnknownTag h s = absurd s
@@ -166,24 +199,36 @@ raw_format n = record {
 
 -- ---- type codes
 
-type_takes : (place : TypePlace) (bytes : List ℕ) (z : ℕ × List ℕ) → type_at place bytes ≡ Ok z → Taken (λ x. Unit {0}) (λ x. type_code place x ∷ []) bytes z.0 z.1
+type_takes : (place : TypePlace) (bytes : List ℕ) (z : ℕ × List ℕ) → type_at place bytes ≡ Ok z
+    → Taken (λ x. Unit {0}) (λ x. type_code place x ∷ []) bytes z.0 z.1
 type_takes place [] z e = absurd (cc)
 type_takes place (t ∷ rest) z e =
     let b = type_ok (is_type_at place t) WrongType (t, rest) z e in
     subst (λ (y : ℕ × List ℕ). Taken (λ x. Unit {0}) (λ x. type_code place x ∷ []) (t ∷ rest) y.0 y.1) b.1
     (record { well = tt; allowed = (b.0, tt); bytes_are = refl })
 
-type_again : (place : TypePlace) (t : ℕ) (rest : List ℕ) → is_type_at place t ≡ true → type_at place (t ∷ rest) ≡ Ok (t, rest)
+type_again : (place : TypePlace) (t : ℕ) (rest : List ℕ) → is_type_at place t ≡ true
+    → type_at place (t ∷ rest) ≡ Ok (t, rest)
 type_again place t rest h = rw h refl
 
-type_fails : (place : TypePlace) (bytes : List ℕ) (flaw : Flaw) → type_at place bytes ≡ Err flaw → (x : ℕ) × Unit {0} × Breaks flaw (type_code place x ∷ []) bytes
-type_fails place [] flaw e =
-    (0, tt, subst (λ (y : Flaw). Breaks y (type_code place 0 ∷ []) []) (err_same {X = ℕ × List ℕ} Short flaw e) (breaks_here Short (type_code place 0) [] [] (0 ∷ [], refl, omega arith)))
+type_fails : (place : TypePlace) (bytes : List ℕ) (flaw : Flaw) → type_at place bytes ≡ Err flaw → (x : ℕ) × Unit {0}
+    × Breaks flaw (type_code place x ∷ []) bytes
+type_fails place [] flaw e = (
+  0,
+  tt,
+  subst (λ (y : Flaw). Breaks y (type_code place 0 ∷ []) []) (err_same {X = ℕ × List ℕ} Short flaw e)
+      (breaks_here Short (type_code place 0) [] [] (0 ∷ [], refl, omega arith)),
+)
 type_fails place (t ∷ rest) flaw e =
-    let b = type_err (is_type_at place t) WrongType flaw (t, rest) e in
-    (t, tt, subst (λ (y : Flaw). Breaks y (type_code place t ∷ []) (t ∷ rest)) b.1 (breaks_here WrongType (type_code place t) [] (t ∷ rest) (b.0, (rest, refl))))
+    let b = type_err (is_type_at place t) WrongType flaw (t, rest) e in (
+      t,
+      tt,
+      subst (λ (y : Flaw). Breaks y (type_code place t ∷ []) (t ∷ rest)) b.1
+          (breaks_here WrongType (type_code place t) [] (t ∷ rest) (b.0, (rest, refl))),
+    )
 
-type_fails_again : (place : TypePlace) (x : ℕ) (bytes : List ℕ) (flaw : Flaw) → Spoils flaw (type_code place x) bytes → type_at place bytes ≡ Err flaw
+type_fails_again : (place : TypePlace) (x : ℕ) (bytes : List ℕ) (flaw : Flaw) → Spoils flaw (type_code place x) bytes
+    → type_at place bytes ≡ Err flaw
 type_fails_again place x [] Short s = refl
 type_fails_again place x (t ∷ rest) Short s = absurd (omega (arith, s.2, ap length s.1, length-append (t ∷ rest) s.0))
 type_fails_again place x bytes WrongType s = rw s.1.1 (rw s.0 refl)

@@ -1,7 +1,9 @@
 -- The formats of the parts of sub-records, one for each kind of part.
 use Rattle.std.proofs.Common.{List, [], length, refl, ℕ, ◌*◌, ◌<◌, ◌^◌, ◌∷◌}
 use Rattle.std.proofs.lemmas.List.Concat.{flat_map_single}
-use Rattle.hprof_grammar.specs.working.Reading.{class_at, constant_at, instance_at, member_at, number_at, numbers_at, object_array_at, pair_at, primitive_array_at, static_at}
+use Rattle.hprof_grammar.specs.working.Reading.{class_dump_at, constant_at, instance_at, member_at, number_at}
+use Rattle.hprof_grammar.specs.working.Reading.{numbers_at}
+use Rattle.hprof_grammar.specs.working.Reading.{object_array_at, then_at, primitive_array_at, static_at}
 use Rattle.hprof_grammar.specs.Spelling.Field.{number}
 use Rattle.hprof_grammar.specs.Bounds.{IsClass, IsConstant, IsInstance, IsMember, IsObjectArray, IsPrimitiveArray}
 use Rattle.hprof_grammar.specs.Bounds.{IsStatic}
@@ -15,7 +17,8 @@ use Rattle.hprof_grammar.proofs.Combined.{as_format, counted_format, list_format
 
 constant_format : (s : ℕ) → IsFormat (IsConstant s) constant_fields (constant_at s)
 constant_format s = as_format {from = λ (c : Constant). (c.index, (c.type, c.value))}
-    (pair_format (number_format 2) (λ (_ : ℕ). pair_format (type_format InConstant) (λ (t : ℕ). raw_format (size_of s t))))
+    (pair_format (number_format 2)
+    (λ (_ : ℕ). pair_format (type_format InConstant) (λ (t : ℕ). raw_format (size_of s t))))
     (record {
       well_to = λ p h. record { index = h.0; value = h.1.1 };
       well_from = λ c h. (h.index, (tt, h.value));
@@ -26,7 +29,8 @@ constant_format s = as_format {from = λ (c : Constant). (c.index, (c.type, c.va
 
 static_format : (s : ℕ) → IsFormat (IsStatic s) (static_fields s) (static_at s)
 static_format s = as_format {from = λ (f : Static). (f.name, (f.type, f.value))}
-    (pair_format (number_format s) (λ (_ : ℕ). pair_format (type_format InStatic) (λ (t : ℕ). raw_format (size_of s t))))
+    (pair_format (number_format s)
+    (λ (_ : ℕ). pair_format (type_format InStatic) (λ (t : ℕ). raw_format (size_of s t))))
     (record {
       well_to = λ p h. record { name = h.0; value = h.1.1 };
       well_from = λ f h. (h.name, (tt, h.value));
@@ -46,14 +50,39 @@ member_format s = as_format {from = λ (m : Member). (m.name, m.type)}
       back = λ m h. refl;
     })
 
-pub class_format : (s : ℕ) → IsFormat (IsClass s) (class_fields s) (class_at s)
-unfolding class_at
+pub class_format : (s : ℕ) → IsFormat (IsClass s) (class_fields s) (class_dump_at s)
+unfolding class_dump_at
 class_format s = as_format
-    {from = λ (c : Class). (c.object, (c.stack, (c.super, (c.loader, (c.signers, (c.domain, (c.reserved, (c.reserved_too, (c.instance_size, (c.constants, (c.statics, c.members)))))))))))}
-    (pair_format (number_format s) (λ (_ : ℕ). pair_format (number_format 4) (λ (_ : ℕ). pair_format (number_format s) (λ (_ : ℕ). pair_format (number_format s) (λ (_ : ℕ).
-    pair_format (number_format s) (λ (_ : ℕ). pair_format (number_format s) (λ (_ : ℕ). pair_format (number_format s) (λ (_ : ℕ). pair_format (number_format s) (λ (_ : ℕ).
+    {from = λ (c : Class). (
+      c.object,
+      (
+        c.stack,
+        (
+          c.super,
+          (
+            c.loader,
+            (
+              c.signers,
+              (
+                c.domain,
+                (
+                  c.reserved,
+                  (c.reserved_too, (c.instance_size, (c.constants, (c.statics, c.members)))),
+                ),
+              ),
+            ),
+          ),
+        ),
+      ),
+    )}
+    (pair_format (number_format s)
+    (λ (_ : ℕ). pair_format (number_format 4)
+    (λ (_ : ℕ). pair_format (number_format s) (λ (_ : ℕ). pair_format (number_format s) (λ (_ : ℕ).
+    pair_format (number_format s) (λ (_ : ℕ). pair_format (number_format s)
+    (λ (_ : ℕ). pair_format (number_format s) (λ (_ : ℕ). pair_format (number_format s) (λ (_ : ℕ).
     pair_format (number_format 4) (λ (_ : ℕ). pair_format (counted_format 2 (constant_format s)) (λ (_ : List Constant).
-    pair_format (counted_format 2 (static_format s)) (λ (_ : List Static). counted_format 2 (member_format s)))))))))))))
+    pair_format (counted_format 2 (static_format s))
+    (λ (_ : List Static). counted_format 2 (member_format s)))))))))))))
     (record {
       well_to = λ p h. record {
         object = h.0;
@@ -108,7 +137,10 @@ class_format s = as_format
 pub instance_format : (s : ℕ) → IsFormat (IsInstance s) (instance_fields s) (instance_at s)
 unfolding instance_at
 instance_format s = as_format {from = λ (i : Instance). (i.object, (i.stack, (i.class, (length i.values, i.values))))}
-    (pair_format (number_format s) (λ (_ : ℕ). pair_format (number_format 4) (λ (_ : ℕ). pair_format (number_format s) (λ (_ : ℕ). pair_format (number_format 4) (λ (n : ℕ). raw_format n)))))
+    (pair_format (number_format s)
+    (λ (_ : ℕ). pair_format (number_format 4)
+    (λ (_ : ℕ). pair_format (number_format s)
+    (λ (_ : ℕ). pair_format (number_format 4) (λ (n : ℕ). raw_format n)))))
     (record {
       well_to = λ p h. record { object = h.0; stack = h.1.0; class = h.1.1.0; values = rw (h.1.1.1.1) h.1.1.1.0 };
       well_from = λ i h. (h.object, (h.stack, (h.class, (h.values, refl))));
@@ -119,10 +151,20 @@ instance_format s = as_format {from = λ (i : Instance). (i.object, (i.stack, (i
 
 pub object_array_format : (s : ℕ) → IsFormat (IsObjectArray s) (object_array_fields s) (object_array_at s)
 unfolding object_array_at
-object_array_format s = as_format {from = λ (a : ObjectArray). (a.object, (a.stack, (length a.elements, (a.class, a.elements))))}
-    (pair_format (number_format s) (λ (_ : ℕ). pair_format (number_format 4) (λ (_ : ℕ). pair_format (number_format 4) (λ (n : ℕ). pair_format (number_format s) (λ (_ : ℕ). list_format (number_format s) n)))))
+object_array_format s = as_format
+    {from = λ (a : ObjectArray). (a.object, (a.stack, (length a.elements, (a.class, a.elements))))}
+    (pair_format (number_format s)
+    (λ (_ : ℕ). pair_format (number_format 4)
+    (λ (_ : ℕ). pair_format (number_format 4)
+    (λ (n : ℕ). pair_format (number_format s) (λ (_ : ℕ). list_format (number_format s) n)))))
     (record {
-      well_to = λ p h. record { object = h.0; stack = h.1.0; class = h.1.1.1.0; count = rw (h.1.1.1.1.0) h.1.1.0; elements = h.1.1.1.1.1 };
+      well_to = λ p h. record {
+        object = h.0;
+        stack = h.1.0;
+        class = h.1.1.1.0;
+        count = rw (h.1.1.1.1.0) h.1.1.0;
+        elements = h.1.1.1.1.1;
+      };
       well_from = λ a h. (h.object, (h.stack, (h.count, (h.class, (refl, h.elements)))));
       fields_to = λ p h. rw (h.1.1.1.1.0, flat_map_single (number s) p.1.1.1.1) refl;
       fields_from = λ a h. rw (flat_map_single (number s) a.elements) refl;
@@ -131,8 +173,12 @@ object_array_format s = as_format {from = λ (a : ObjectArray). (a.object, (a.st
 
 pub primitive_array_format : (s : ℕ) → IsFormat (IsPrimitiveArray s) (primitive_array_fields s) (primitive_array_at s)
 unfolding primitive_array_at
-primitive_array_format s = as_format {from = λ (a : PrimitiveArray). (a.object, (a.stack, (a.count, (a.type, a.values))))}
-    (pair_format (number_format s) (λ (_ : ℕ). pair_format (number_format 4) (λ (_ : ℕ). pair_format (number_format 4) (λ (n : ℕ). pair_format (type_format InArray) (λ (t : ℕ). raw_format (n * size_of s t))))))
+primitive_array_format s = as_format
+    {from = λ (a : PrimitiveArray). (a.object, (a.stack, (a.count, (a.type, a.values))))}
+    (pair_format (number_format s)
+    (λ (_ : ℕ). pair_format (number_format 4)
+    (λ (_ : ℕ). pair_format (number_format 4)
+    (λ (n : ℕ). pair_format (type_format InArray) (λ (t : ℕ). raw_format (n * size_of s t))))))
     (record {
       well_to = λ p h. record { object = h.0; stack = h.1.0; count = h.1.1.0; values = h.1.1.1.1 };
       well_from = λ a h. (h.object, (h.stack, (h.count, (tt, h.values))));
@@ -143,9 +189,11 @@ primitive_array_format s = as_format {from = λ (a : PrimitiveArray). (a.object,
 
 -- roots: an object; and a number; and two of 4 bytes
 
-pub two_numbers : (a b : ℕ) → IsFormat (λ (p : ℕ × ℕ). (p.0 < 256 ^ a) × (p.1 < 256 ^ b)) (λ p. number a p.0 ∷ number b p.1 ∷ []) (numbers_at a b)
+pub two_numbers : (a b : ℕ) → IsFormat (λ (p : ℕ × ℕ). (p.0 < 256 ^ a) × (p.1 < 256 ^ b))
+    (λ p. number a p.0 ∷ number b p.1 ∷ []) (numbers_at a b)
 two_numbers a b = pair_format (number_format a) (λ (_ : ℕ). number_format b)
 
-pub three_numbers : (s : ℕ) → IsFormat (λ (p : ℕ × (ℕ × ℕ)). (p.0 < 256 ^ s) × ((p.1.0 < 256 ^ 4) × (p.1.1 < 256 ^ 4))) (λ p. number s p.0 ∷ number 4 p.1.0 ∷ number 4 p.1.1 ∷ [])
-    (pair_at (number_at s) (λ _. numbers_at 4 4))
+pub three_numbers : (s : ℕ) → IsFormat (λ (p : ℕ × (ℕ × ℕ)). (p.0 < 256 ^ s)
+    × ((p.1.0 < 256 ^ 4) × (p.1.1 < 256 ^ 4))) (λ p. number s p.0 ∷ number 4 p.1.0 ∷ number 4 p.1.1 ∷ [])
+    (then_at (number_at s) (λ _. numbers_at 4 4))
 three_numbers s = pair_format (number_format s) (λ (_ : ℕ). two_numbers 4 4)

@@ -1,9 +1,11 @@
--- The frame of a record: what is read was spelled, what is spelled is read, and where none is read the record runs past the end.
-use Rattle.std.proofs.Common.{Err, List, Ok, Result, [], ap, append_assoc, arith, inl, inr, length, refl, subst, sym, ℕ, ◌++◌, ◌<◌, ◌^◌, ◌∙◌, ◌∷◌, ◌≡◌}
+-- The frame of a record: what is read was spelled, what is spelled is read, and where none is read the record runs
+-- past the end.
+use Rattle.std.proofs.Common.{Err, List, Ok, Result, [], ap, append_assoc, arith, inl, inr, length, refl, subst, sym, ℕ}
+use Rattle.std.proofs.Common.{◌++◌, ◌<◌, ◌^◌, ◌∙◌, ◌∷◌, ◌≡◌}
 use Rattle.std.proofs.lemmas.List.{append-nil, length-append}
 use Rattle.byteorder.specs.Endian.{big_bytes}
 use Rattle.hprof_grammar.specs.Fault.{RunsPastEnd}
-use Rattle.hprof_grammar.specs.working.Reading.{block_at, frame_at, number_at, pair_at}
+use Rattle.hprof_grammar.specs.working.Reading.{block_at, frame_at, number_at, then_at}
 use Rattle.hprof_grammar.specs.Record.{framed}
 use Rattle.hprof_grammar.specs.Spelling.{EndsShort, Field, spelled}
 use Rattle.hprof_grammar.specs.Spelling.Field.{number, raw, type_code}
@@ -23,20 +25,24 @@ HasRoom p = (p.0 < 256 ^ 4) × (length p.1 < 256 ^ 4)
 abbrev frame_fields : ℕ × List ℕ → List Field
 frame_fields p = number 4 p.0 ∷ number 4 (length p.1) ∷ raw p.1 ∷ []
 
-block_format : IsFormat (λ (body : List ℕ). length body < 256 ^ 4) (λ body. number 4 (length body) ∷ raw body ∷ []) block_at
-block_format = as_format {from = λ (body : List ℕ). (length body, body)} (pair_format (number_format 4) (λ (n : ℕ). raw_format n)) (record {
-  well_to = λ p h. rw (h.1) h.0;
-  well_from = λ body h. (h, refl);
-  fields_to = λ p h. rw (h.1) refl;
-  fields_from = λ body h. refl;
-  back = λ body h. refl;
-})
+block_format : IsFormat (λ (body : List ℕ). length body < 256 ^ 4) (λ body. number 4 (length body) ∷ raw body ∷ [])
+    block_at
+block_format = as_format {from = λ (body : List ℕ). (length body, body)}
+    (pair_format (number_format 4) (λ (n : ℕ). raw_format n)) (record {
+      well_to = λ p h. rw (h.1) h.0;
+      well_from = λ body h. (h, refl);
+      fields_to = λ p h. rw (h.1) refl;
+      fields_from = λ body h. refl;
+      back = λ body h. refl;
+    })
 
-behind_tag : IsFormat HasRoom frame_fields (pair_at (number_at 4) (λ _. block_at))
+behind_tag : IsFormat HasRoom frame_fields (then_at (number_at 4) (λ _. block_at))
 behind_tag = pair_format (number_format 4) (λ (_ : ℕ). block_format)
 
-frame_spelled : (tag time : ℕ) (body rest : List ℕ) → tag ∷ (spelled (frame_fields (time, body)) ++ rest) ≡ framed tag time body ++ rest
-frame_spelled tag time body rest = ap (λ (back : List ℕ). (tag ∷ big_bytes 4 time ++ (big_bytes 4 (length body) ++ back)) ++ rest) (append-nil body)
+frame_spelled : (tag time : ℕ) (body rest : List ℕ)
+    → tag ∷ (spelled (frame_fields (time, body)) ++ rest) ≡ framed tag time body ++ rest
+frame_spelled tag time body rest =
+    ap (λ (back : List ℕ). (tag ∷ big_bytes 4 time ++ (big_bytes 4 (length body) ++ back)) ++ rest) (append-nil body)
 
 -- ---- the three laws
 
@@ -46,34 +52,47 @@ pub record FrameTaken (bytes : List ℕ) (tag time : ℕ) (body rest : List ℕ)
   pub length_fits : length body < 256 ^ 4
   pub bytes_are : bytes ≡ framed tag time body ++ rest
 
-taken_as : (bytes : List ℕ) (x z : (ℕ × ℕ × List ℕ) × List ℕ) → ◌≡◌ {A = Result ((ℕ × ℕ × List ℕ) × List ℕ) Flaw} (Ok x) (Ok z) → FrameTaken bytes x.0.0 x.0.1 x.0.2 x.1 → FrameTaken bytes z.0.0 z.0.1 z.0.2 z.1
+taken_as : (bytes : List ℕ) (x z : (ℕ × ℕ × List ℕ) × List ℕ) → ◌≡◌ {A = Result ((ℕ × ℕ × List ℕ) × List ℕ) Flaw}
+    (Ok x) (Ok z) → FrameTaken bytes x.0.0 x.0.1 x.0.2 x.1 → FrameTaken bytes z.0.0 z.0.1 z.0.2 z.1
 taken_as bytes x z e t =
     let same : x ≡ z = cc in
     subst (λ (y : (ℕ × ℕ × List ℕ) × List ℕ). FrameTaken bytes y.0.0 y.0.1 y.0.2 y.1) same t
 
-pub frame_takes : (bytes : List ℕ) (z : (ℕ × ℕ × List ℕ) × List ℕ) → IsBytes bytes → frame_at bytes ≡ Ok z → FrameTaken bytes z.0.0 z.0.1 z.0.2 z.1
+pub frame_takes : (bytes : List ℕ) (z : (ℕ × ℕ × List ℕ) × List ℕ) → IsBytes bytes → frame_at bytes ≡ Ok z
+    → FrameTaken bytes z.0.0 z.0.1 z.0.2 z.1
 unfolding frame_at
 frame_takes [] z h e = absurd (cc)
 frame_takes (tag ∷ bytes) z h e =
-    let p = bind_ok (pair_at (number_at 4) (λ _. block_at) bytes) (λ (x : (ℕ × List ℕ) × List ℕ). Ok ((tag, x.0.0, x.0.1), x.1)) z e in
+    let p = bind_ok (then_at (number_at 4) (λ _. block_at) bytes)
+    (λ (x : (ℕ × List ℕ) × List ℕ). Ok ((tag, x.0.0, x.0.1), x.1)) z e in
     let t = behind_tag.takes bytes p.0 (bytes-tail tag bytes h) p.1 in
     taken_as (tag ∷ bytes) ((tag, p.0.0.0, p.0.0.1), p.0.1) z p.2
-    (record { time_fits = t.well.0; length_fits = t.well.1; bytes_are = ap (λ (back : List ℕ). tag ∷ back) t.bytes_are ∙ frame_spelled tag p.0.0.0 p.0.0.1 p.0.1 })
+    (record {
+      time_fits = t.well.0;
+      length_fits = t.well.1;
+      bytes_are = ap (λ (back : List ℕ). tag ∷ back) t.bytes_are
+          ∙ frame_spelled tag p.0.0.0 p.0.0.1 p.0.1;
+    })
 
-pub frame_again : (tag time : ℕ) (body rest : List ℕ) → time < 256 ^ 4 → length body < 256 ^ 4 → frame_at (framed tag time body ++ rest) ≡ Ok ((tag, time, body), rest)
+pub frame_again : (tag time : ℕ) (body rest : List ℕ) → time < 256 ^ 4 → length body < 256 ^ 4
+    → frame_at (framed tag time body ++ rest) ≡ Ok ((tag, time, body), rest)
 unfolding frame_at
 frame_again tag time body rest t h =
-    ap frame_at (sym (frame_spelled tag time body rest)) ∙ rw (behind_tag.again (time, body) rest (t, h) (tt, (tt, (tt, tt)))) refl
+    ap frame_at (sym (frame_spelled tag time body rest))
+    ∙ rw (behind_tag.again (time, body) rest (t, h) (tt, (tt, (tt, tt)))) refl
 
 -- no field of a frame is a type code
-no_types : (a b c d : ℕ) (text : List ℕ) (front : List Field) (place : TypePlace) (code : ℕ) (more : List Field) → number a b ∷ number c d ∷ raw text ∷ [] ≡ front ++ type_code place code ∷ more → ⊥
+no_types : (a b c d : ℕ) (text : List ℕ) (front : List Field) (place : TypePlace) (code : ℕ) (more : List Field)
+    → number a b ∷ number c d ∷ raw text ∷ [] ≡ front ++ type_code place code ∷ more → ⊥
 no_types a b c d text [] place code more e = cc
 no_types a b c d text (x ∷ []) place code more e = cc
 no_types a b c d text (x ∷ y ∷ []) place code more e = cc
-no_types a b c d text (x ∷ y ∷ z ∷ fs) place code more e = omega (arith, ap length e, length-append fs (type_code place code ∷ more))
+no_types a b c d text (x ∷ y ∷ z ∷ fs) place code more e =
+    omega (arith, ap length e, length-append fs (type_code place code ∷ more))
 
 -- the fields go on behind the bytes that end short
-cut_spelling : (fields : List Field) (rest : List ℕ) (s : EndsShort fields rest) → spelled fields ≡ rest ++ (s.missing ++ spelled s.more)
+cut_spelling : (fields : List Field) (rest : List ℕ) (s : EndsShort fields rest)
+    → spelled fields ≡ rest ++ (s.missing ++ spelled s.more)
 cut_spelling fields rest s =
     ap spelled s.in_order ∙ spelled-append s.front (s.cut ∷ s.more)
     ∙ ap (λ (bytes : List ℕ). spelled s.front ++ (bytes ++ spelled s.more)) s.cut_is
@@ -81,7 +100,8 @@ cut_spelling fields rest s =
     ∙ sym (append_assoc (spelled s.front) s.part (s.missing ++ spelled s.more))
     ∙ ap (λ (bytes : List ℕ). bytes ++ (s.missing ++ spelled s.more)) (sym s.bytes_are)
 
-runs_past : (tag : ℕ) (rest : List ℕ) (p : ℕ × List ℕ) (flaw : Flaw) → HasRoom p → Breaks flaw (frame_fields p) rest → RunsPastEnd (tag ∷ rest)
+runs_past : (tag : ℕ) (rest : List ℕ) (p : ℕ × List ℕ) (flaw : Flaw) → HasRoom p → Breaks flaw (frame_fields p) rest
+    → RunsPastEnd (tag ∷ rest)
 runs_past tag rest p UnknownTag room b = absurd b.spoiled
 runs_past tag rest p WrongType room b =
     let w = has_wrong_type (frame_fields p) rest b in
@@ -94,20 +114,26 @@ runs_past tag rest p Short room b =
       body = p.1;
       missing = s.missing ++ spelled s.more;
       length_fits = room.1;
-      begins = ap (λ (back : List ℕ). tag ∷ big_bytes 4 p.0 ++ (big_bytes 4 (length p.1) ++ back)) (sym (append-nil p.1)) ∙ ap (λ (back : List ℕ). tag ∷ back) (cut_spelling (frame_fields p) rest s);
+      begins = ap (λ (back : List ℕ). tag ∷ big_bytes 4 p.0 ++ (big_bytes 4 (length p.1) ++ back))
+          (sym (append-nil p.1)) ∙ ap (λ (back : List ℕ). tag ∷ back) (cut_spelling (frame_fields p) rest s);
       not_whole = omega (arith, length-append s.missing (spelled s.more), s.not_whole);
     }
 
-frame_fails : (tag : ℕ) (rest : List ℕ) (flaw : Flaw) → IsBytes (tag ∷ rest) → frame_at (tag ∷ rest) ≡ Err flaw → RunsPastEnd (tag ∷ rest)
+frame_fails : (tag : ℕ) (rest : List ℕ) (flaw : Flaw) → IsBytes (tag ∷ rest) → frame_at (tag ∷ rest) ≡ Err flaw
+    → RunsPastEnd (tag ∷ rest)
 unfolding frame_at
-frame_fails tag rest flaw h e = elim (bind_err (pair_at (number_at 4) (λ _. block_at) rest) (λ (x : (ℕ × List ℕ) × List ℕ). Ok ((tag, x.0.0, x.0.1), x.1)) flaw e) [
-  | inl f ↦
-      let b = behind_tag.fails rest flaw (bytes-tail tag rest h) f in
-      runs_past tag rest b.0 flaw b.1 b.2
-  | inr a ↦ absurd (let k : ◌≡◌ {A = Result ((ℕ × ℕ × List ℕ) × List ℕ) Flaw} (Ok ((tag, a.0.0.0, a.0.0.1), a.0.1)) (Err flaw) = a.2 in cc)
-]
+frame_fails tag rest flaw h e =
+    elim (bind_err (then_at (number_at 4) (λ _. block_at) rest)
+    (λ (x : (ℕ × List ℕ) × List ℕ). Ok ((tag, x.0.0, x.0.1), x.1)) flaw e) [
+      | inl f ↦
+          let b = behind_tag.fails rest flaw (bytes-tail tag rest h) f in
+          runs_past tag rest b.0 flaw b.1 b.2
+      | inr a ↦ absurd (let k : ◌≡◌ {A = Result ((ℕ × ℕ × List ℕ) × List ℕ) Flaw} (Ok ((tag, a.0.0.0, a.0.0.1), a.0.1))
+          (Err flaw) = a.2 in cc)
+    ]
 
 -- where bytes are left and no frame is read, the record runs past the end
-pub cut_record : (rest : List ℕ) (flaw : Flaw) → 0 < length rest → IsBytes rest → frame_at rest ≡ Err flaw → RunsPastEnd rest
+pub cut_record : (rest : List ℕ) (flaw : Flaw) → 0 < length rest → IsBytes rest → frame_at rest ≡ Err flaw
+    → RunsPastEnd rest
 cut_record [] flaw some h e = absurd (omega (arith, some))
 cut_record (tag ∷ rest) flaw some h e = frame_fails tag rest flaw h e

@@ -1,6 +1,7 @@
 -- The header of a dump: a text that has it, what is wrong with one that has not, and what the records behind it make of
 -- the text.
-use Rattle.std.proofs.Common.{Bool, List, ap, arith, drop, length, map, refl, subst, sym, false, true, ℕ, ◌++◌, ◌<◌, ◌^◌, ◌∙◌, ◌≡◌, ◌≤◌}
+use Rattle.std.proofs.Common.{Bool, List, ap, arith, drop, length, map, refl, subst, sym, false, true, ℕ, ◌++◌, ◌<◌}
+use Rattle.std.proofs.Common.{◌^◌, ◌∙◌, ◌≡◌, ◌≤◌}
 use Rattle.std.specs.List.{starts_with}
 use Rattle.std.specs.Prelude.{nat_eq}
 use Rattle.std.proofs.lemmas.Bool.Decides.{Decides-eqb}
@@ -22,7 +23,8 @@ use Rattle.hprof_grammar.proofs.SnapshotOrderLaws.{done_is_orderly}
 -- ---- the text of the header
 
 -- what the test of a text's first bytes says
-pub begins_with_magic : (text : List ℕ) (r : Bool) → r ≡ starts_with nat_eq text magic → r ≡ true → text ≡ magic ++ drop 19 text
+pub begins_with_magic : (text : List ℕ) (r : Bool) → r ≡ starts_with nat_eq text magic → r ≡ true
+    → text ≡ magic ++ drop 19 text
 begins_with_magic text r e = (starts_is Decides-eqb text magic r e).0
 
 pub magic_is_found : (text : List ℕ) (r : Bool) → r ≡ starts_with nat_eq text magic → HasMagic text → r ≡ true
@@ -31,61 +33,90 @@ magic_is_found text r e h = (starts_is Decides-eqb text magic r e).1 h.0 h.1
 -- ---- the numbers behind it
 
 -- the size of identifiers, and what stands behind it
-id_size_part : (text : List ℕ) → IsBytes text → 23 ≤ length text → drop 19 text ≡ big_bytes 4 (big_number 4 (drop 19 text)) ++ drop 23 text
+id_size_part : (text : List ℕ) → IsBytes text → 23 ≤ length text
+    → drop 19 text ≡ big_bytes 4 (big_number 4 (drop 19 text)) ++ drop 23 text
 id_size_part text bytes room =
     let within : 4 ≤ length (drop 19 text) = omega (arith, length-drop 19 text) in
-    number_parts 4 (drop 19 text) (bytes-drop 19 text bytes) within ∙ ap (λ rest. big_bytes 4 (big_number 4 (drop 19 text)) ++ rest) (drop-drop 4 19 text)
+    number_parts 4 (drop 19 text) (bytes-drop 19 text bytes) within
+    ∙ ap (λ rest. big_bytes 4 (big_number 4 (drop 19 text)) ++ rest) (drop-drop 4 19 text)
 
-time_part : (text : List ℕ) → IsBytes text → 31 ≤ length text → drop 23 text ≡ big_bytes 8 (big_number 8 (drop 23 text)) ++ drop 31 text
+time_part : (text : List ℕ) → IsBytes text → 31 ≤ length text
+    → drop 23 text ≡ big_bytes 8 (big_number 8 (drop 23 text)) ++ drop 31 text
 time_part text bytes room =
     let within : 8 ≤ length (drop 23 text) = omega (arith, length-drop 23 text) in
-    number_parts 8 (drop 23 text) (bytes-drop 23 text bytes) within ∙ ap (λ rest. big_bytes 8 (big_number 8 (drop 23 text)) ++ rest) (drop-drop 8 23 text)
+    number_parts 8 (drop 23 text) (bytes-drop 23 text bytes) within
+    ∙ ap (λ rest. big_bytes 8 (big_number 8 (drop 23 text)) ++ rest) (drop-drop 8 23 text)
 
-pub header_stands : (s : ℕ) (text : List ℕ) → IsBytes text → length text ≤ limit → 31 ≤ length text → text ≡ magic ++ drop 19 text → s ≡ big_number 4 (drop 19 text) → is_id_size s ≡ true → HasHeader s text
+pub header_stands : (s : ℕ) (text : List ℕ) → IsBytes text → length text ≤ limit → 31 ≤ length text
+    → text ≡ magic ++ drop 19 text → s ≡ big_number 4 (drop 19 text) → is_id_size s ≡ true → HasHeader s text
 header_stands s text bytes size room begins e is =
     let time = big_number 8 (drop 23 text) in
-    let sizes : drop 19 text ≡ big_bytes 4 s ++ drop 23 text = id_size_part text bytes (omega arith) ∙ ap (λ n. big_bytes 4 n ++ drop 23 text) (sym e) in
+    let sizes : drop 19 text ≡ big_bytes 4 s ++ drop 23 text = id_size_part text bytes (omega arith)
+    ∙ ap (λ n. big_bytes 4 n ++ drop 23 text) (sym e) in
     record {
       size = size;
       id_size = is;
       time = time;
       time_fits = number-lt 8 (drop 23 text) (bytes-drop 23 text bytes);
-      whole = begins ∙ ap (λ back. magic ++ back) (sizes ∙ ap (λ back. big_bytes 4 s ++ back) (time_part text bytes room)) ∙ sym (header_parts s time (drop 31 text));
+      whole = begins ∙ ap (λ back. magic ++ back)
+          (sizes ∙ ap (λ back. big_bytes 4 s ++ back) (time_part text bytes room))
+          ∙ sym (header_parts s time (drop 31 text));
     }
 
 -- ---- the faults of a header
 
-fault_at : (text : List ℕ) (fault : FormatFault) (code offset : ℕ) → fault ≡ record { code = code; offset = offset } → FirstFault text code offset → FirstFault text fault.code fault.offset
+fault_at : (text : List ℕ) (fault : FormatFault) (code offset : ℕ) → fault ≡ record { code = code; offset = offset }
+    → FirstFault text code offset → FirstFault text fault.code fault.offset
 fault_at text fault code offset e h = subst (λ (f : FormatFault). FirstFault text f.code f.offset) (sym e) h
 
-pub text_too_large : (text : List ℕ) (fault : FormatFault) → fault ≡ record { code = 14; offset = limit } → limit < length text → FirstFault text fault.code fault.offset
+pub text_too_large : (text : List ℕ) (fault : FormatFault) → fault ≡ record { code = 14; offset = limit }
+    → limit < length text → FirstFault text fault.code fault.offset
 text_too_large text fault e long = fault_at text fault 14 limit e (too_large long)
 
-pub header_missing : (text : List ℕ) (fault : FormatFault) → fault ≡ record { code = 1; offset = 0 } → length text ≤ limit → (HasMagic text → ⊥) → FirstFault text fault.code fault.offset
+pub header_missing : (text : List ℕ) (fault : FormatFault) → fault ≡ record { code = 1; offset = 0 }
+    → length text ≤ limit → (HasMagic text → ⊥) → FirstFault text fault.code fault.offset
 header_missing text fault e size no_magic = fault_at text fault 1 0 e (bad_header size no_magic)
 
-pub header_cut : (text : List ℕ) (fault : FormatFault) → fault ≡ record { code = 3; offset = 0 } → text ≡ magic ++ drop 19 text → length text < 31 → FirstFault text fault.code fault.offset
+pub header_cut : (text : List ℕ) (fault : FormatFault) → fault ≡ record { code = 3; offset = 0 }
+    → text ≡ magic ++ drop 19 text → length text < 31 → FirstFault text fault.code fault.offset
 header_cut text fault e begins small = fault_at text fault 3 0 e (short_header (drop 19 text, begins) small)
 
-pub id_size_wrong : (s : ℕ) (text : List ℕ) (fault : FormatFault) → fault ≡ record { code = 2; offset = 19 } → IsBytes text → length text ≤ limit → 31 ≤ length text → text ≡ magic ++ drop 19 text → s ≡ big_number 4 (drop 19 text) → is_id_size s ≡ false → FirstFault text fault.code fault.offset
+pub id_size_wrong : (s : ℕ) (text : List ℕ) (fault : FormatFault) → fault ≡ record { code = 2; offset = 19 }
+    → IsBytes text → length text ≤ limit → 31 ≤ length text → text ≡ magic ++ drop 19 text
+    → s ≡ big_number 4 (drop 19 text) → is_id_size s ≡ false → FirstFault text fault.code fault.offset
 id_size_wrong s text fault e bytes size room begins is wrong =
-    let sizes : drop 19 text ≡ big_bytes 4 s ++ drop 23 text = id_size_part text bytes (omega arith) ∙ ap (λ n. big_bytes 4 n ++ drop 23 text) (sym is) in
+    let sizes : drop 19 text ≡ big_bytes 4 s ++ drop 23 text = id_size_part text bytes (omega arith)
+    ∙ ap (λ n. big_bytes 4 n ++ drop 23 text) (sym is) in
     let fits : s < 256 ^ 4 = rw is (number-lt 4 (drop 19 text) (bytes-drop 19 text bytes)) in
-    fault_at text fault 2 19 e (bad_id_size s (drop 23 text) size room fits (begins ∙ ap (λ back. magic ++ back) sizes) wrong)
+    fault_at text fault 2 19 e (bad_id_size s (drop 23 text) size room fits
+    (begins ∙ ap (λ back. magic ++ back) sizes) wrong)
 
 -- ---- the records behind the header
 
-pub dump_read : (text : List ℕ) (s : ℕ) (new : Places) → HasHeader s text → AddsAll (drop 31 text) (nothing_of s) new → IsDumpOf text new
+pub dump_read : (text : List ℕ) (s : ℕ) (new : Places) → HasHeader s text → AddsAll (drop 31 text) (nothing_of s) new
+    → IsDumpOf text new
 dump_read text s new head all =
     let order = all.0 in
     let adds = all.2 in
-    let whole : text ≡ header s head.time ++ spellings s adds.records = head.whole ∙ ap (λ (rest : List ℕ). header s head.time ++ rest) (adds.parts ∙ append-nil (spellings s adds.records)) in
+    let whole : text ≡ header s head.time ++ spellings s adds.records =
+    head.whole ∙ ap (λ (rest : List ℕ). header s head.time ++ rest)
+    (adds.parts ∙ append-nil (spellings s adds.records)) in
     subst (IsDumpOf text) (sym adds.joined) (record {
       records = adds.records;
-      spells = record { size = head.size; id_size = head.id_size; time = head.time; time_fits = head.time_fits; whole = whole; each = adds.each };
+      spells = record {
+        size = head.size;
+        id_size = head.id_size;
+        time = head.time;
+        time_fits = head.time_fits;
+        whole = whole;
+        each = adds.each;
+      };
       orderly = done_is_orderly order (map tag_of adds.records) all.1 adds.order;
       places = refl;
     })
 
-pub record_fault_read : (text : List ℕ) (s : ℕ) (fault : FormatFault) → HasHeader s text → HasRecordFault s (drop 31 text) fault → FirstFault text fault.code fault.offset
-record_fault_read text s fault head wrong = in_records s head.time (drop 31 text) wrong.records wrong.rest fault.code fault.offset head.size head.id_size head.whole wrong.longest wrong.wrong
+pub record_fault_read : (text : List ℕ) (s : ℕ) (fault : FormatFault) → HasHeader s text
+    → HasRecordFault s (drop 31 text) fault → FirstFault text fault.code fault.offset
+record_fault_read text s fault head wrong =
+    in_records s head.time (drop 31 text) wrong.records wrong.rest fault.code fault.offset head.size head.id_size
+    head.whole wrong.longest wrong.wrong

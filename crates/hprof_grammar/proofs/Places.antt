@@ -1,14 +1,15 @@
 -- Bytes that stand at a place, and what is read there.
-use Rattle.std.proofs.Common.{List, [], ap, append_assoc, arith, drop, length, refl, slice_index, subst, sym, take, ℕ, ◌++◌, ◌+◌, ◌<◌, ◌^◌, ◌∙◌, ◌∷◌, ◌≡◌, ◌≤◌}
+use Rattle.std.proofs.Common.{List, [], ap, append_assoc, arith, drop, length, refl, slice_index, subst, sym, take, ℕ}
+use Rattle.std.proofs.Common.{◌++◌, ◌+◌, ◌<◌, ◌^◌, ◌∙◌, ◌∷◌, ◌≡◌, ◌≤◌}
 use Rattle.std.proofs.lemmas.List.{drop-drop, get_or-drop, length-append, length-drop}
 use Rattle.std.proofs.Math.Seq.{drop-append_seam, take-append_seam}
 use Rattle.byteorder.specs.Endian.{big_bytes, big_number}
 use Rattle.byteorder.specs.Numbers.{big_number-reads_back, length-bytes_high_first}
-use Rattle.hprof_grammar.specs.Spelling.{Field, bytes_of, spelled}
+use Rattle.hprof_grammar.specs.Spelling.{Field, field_spelling, spelled}
 use Rattle.hprof_grammar.specs.Spelling.Field.{number, raw, type_code}
 use Rattle.hprof_grammar.specs.SubRecord.{SubRecord, fields_of, spelling_of, tag_of}
 use Rattle.hprof_grammar.proofs.Fields.{spelled-append}
-use Rattle.hprof_grammar.specs.Standing.{Sight, Stands, StandsAt}
+use Rattle.hprof_grammar.specs.Standing.{Sight, Stands, SubRecordStandsAt}
 
 -- from that place on stand these bytes
 pub record Spell (bytes : List ℕ) (at : ℕ) (xs : List ℕ) : Type 0 where
@@ -17,7 +18,8 @@ pub record Spell (bytes : List ℕ) (at : ℕ) (xs : List ℕ) : Type 0 where
   pub bytes_are : drop at bytes ≡ xs ++ rest
 
 -- one byte or more, so the place is inside
-pub some_stand : (bytes : List ℕ) (at x : ℕ) (xs rest : List ℕ) → drop at bytes ≡ x ∷ xs ++ rest → Spell bytes at (x ∷ xs)
+pub some_stand : (bytes : List ℕ) (at x : ℕ) (xs rest : List ℕ) → drop at bytes ≡ x ∷ xs ++ rest
+    → Spell bytes at (x ∷ xs)
 some_stand bytes at x xs rest e = record {
   inside = omega (arith, ap length e, length-drop at bytes, length-append xs rest);
   rest = rest;
@@ -31,11 +33,13 @@ first_stands bytes at xs ys h = record {
   bytes_are = h.bytes_are ∙ append_assoc xs ys h.rest;
 }
 
-pub next_stands : (bytes : List ℕ) (at : ℕ) (xs ys : List ℕ) → Spell bytes at (xs ++ ys) → Spell bytes (at + length xs) ys
+pub next_stands : (bytes : List ℕ) (at : ℕ) (xs ys : List ℕ) → Spell bytes at (xs ++ ys)
+    → Spell bytes (at + length xs) ys
 next_stands bytes at xs ys h = record {
   inside = omega (arith, h.inside, length-append xs ys);
   rest = h.rest;
-  bytes_are = sym (drop-drop (length xs) at bytes) ∙ ap (drop (length xs)) (h.bytes_are ∙ append_assoc xs ys h.rest) ∙ drop-append_seam xs (ys ++ h.rest);
+  bytes_are = sym (drop-drop (length xs) at bytes) ∙ ap (drop (length xs)) (h.bytes_are ∙ append_assoc xs ys h.rest)
+      ∙ drop-append_seam xs (ys ++ h.rest);
 }
 
 -- ---- what is read there
@@ -62,7 +66,8 @@ pub record ByteAt (bytes : List ℕ) (at n : ℕ) : Type 0 where
 pub byte_read : (bytes : List ℕ) (at n : ℕ) (xs : List ℕ) → Spell bytes at (n ∷ xs) → ByteAt bytes at n
 byte_read bytes at n xs h = record {
   room = omega (arith, h.inside);
-  value = ap (slice_index bytes) (let same : at ≡ at + 0 = omega arith in same) ∙ sym (get_or-drop at bytes 0 0) ∙ ap (λ (l : List ℕ). slice_index l 0) h.bytes_are;
+  value = ap (slice_index bytes) (let same : at ≡ at + 0 = omega arith in same) ∙ sym (get_or-drop at bytes 0 0)
+      ∙ ap (λ (l : List ℕ). slice_index l 0) h.bytes_are;
 }
 
 -- ---- fields, one after the other
@@ -76,31 +81,39 @@ abbrev pub widths : List Field → ℕ
 widths [] = 0
 widths (f ∷ fs) = width_of f + widths fs
 
-length-bytes_of : (f : Field) → length (bytes_of f) ≡ width_of f
-length-bytes_of (number width value) = length-bytes_high_first width value
-length-bytes_of (type_code place code) = refl
-length-bytes_of (raw bytes) = refl
+length-field_spelling : (f : Field) → length (field_spelling f) ≡ width_of f
+length-field_spelling (number width value) = length-bytes_high_first width value
+length-field_spelling (type_code place code) = refl
+length-field_spelling (raw bytes) = refl
 
 pub length-spelled : (fs : List Field) → length (spelled fs) ≡ widths fs
 length-spelled [] = refl
-length-spelled (f ∷ fs) = omega (arith, length-append (bytes_of f) (spelled fs), length-bytes_of f, length-spelled fs)
+length-spelled (f ∷ fs) = omega
+    (arith, length-append (field_spelling f) (spelled fs), length-field_spelling f, length-spelled fs)
 
 -- behind a tag and some fields stand the others
-pub fields_stand : (bytes : List ℕ) (at tag place : ℕ) (front more : List Field) → Spell bytes at (tag ∷ spelled (front ++ more)) → place ≡ at + (1 + widths front)
+pub fields_stand : (bytes : List ℕ) (at tag place : ℕ) (front more : List Field)
+    → Spell bytes at (tag ∷ spelled (front ++ more)) → place ≡ at + (1 + widths front)
     → Spell bytes place (spelled more)
 fields_stand bytes at tag place front more h place_is =
-    let parted : Spell bytes at ((tag ∷ spelled front) ++ spelled more) = subst (λ (l : List ℕ). Spell bytes at (tag ∷ l)) (spelled-append front more) h in
+    let parted : Spell bytes at ((tag ∷ spelled front) ++ spelled more) =
+    subst (λ (l : List ℕ). Spell bytes at (tag ∷ l)) (spelled-append front more) h in
     let there : at + length (tag ∷ spelled front) ≡ place = omega (arith, place_is, length-spelled front) in
-    subst (λ (n : ℕ). Spell bytes n (spelled more)) there (next_stands bytes at (tag ∷ spelled front) (spelled more) parted)
+    subst (λ (n : ℕ). Spell bytes n (spelled more)) there
+    (next_stands bytes at (tag ∷ spelled front) (spelled more) parted)
 
-pub number_stands : (bytes : List ℕ) (at tag place : ℕ) (front : List Field) (w n : ℕ) (more : List Field) → Spell bytes at (tag ∷ spelled (front ++ number w n ∷ more)) → n < 256 ^ w
+pub number_stands : (bytes : List ℕ) (at tag place : ℕ) (front : List Field) (w n : ℕ) (more : List Field)
+    → Spell bytes at (tag ∷ spelled (front ++ number w n ∷ more)) → n < 256 ^ w
     → place ≡ at + (1 + widths front) → NumberAt bytes place w n
 number_stands bytes at tag place front w n more h fits place_is =
-    number_read bytes place w n fits (first_stands bytes place (big_bytes w n) (spelled more) (fields_stand bytes at tag place front (number w n ∷ more) h place_is))
+    number_read bytes place w n fits
+    (first_stands bytes place (big_bytes w n) (spelled more)
+    (fields_stand bytes at tag place front (number w n ∷ more) h place_is))
 
 -- ---- sub-records
 
-pub sub_stands : (s : ℕ) (bytes : List ℕ) (at : ℕ) (sub : SubRecord) → StandsAt s bytes at sub → Spell bytes at (spelling_of s sub)
+pub sub_stands : (s : ℕ) (bytes : List ℕ) (at : ℕ) (sub : SubRecord) → SubRecordStandsAt s bytes at sub
+    → Spell bytes at (spelling_of s sub)
 sub_stands s bytes at sub h = some_stand bytes at (tag_of sub) (spelled (fields_of s sub)) h.rest h.bytes_are
 
 -- what stands in sight of the fields of a view

@@ -15,32 +15,43 @@ record_seen : {v w : Sight} → w ≡ v → (at : ℕ) (r : Record) → RecordSt
 record_seen {v} {w} e at r h = subst (λ (x : Sight). RecordStands x at r) (sym e) h
 
 -- bytes that stand a number of bytes behind a place
-moved : (bytes : List ℕ) (at size : ℕ) (xs ys : List ℕ) → length xs ≡ size → Spell bytes at (xs ++ ys) → Spell bytes (at + size) ys
+moved : (bytes : List ℕ) (at size : ℕ) (xs ys : List ℕ) → length xs ≡ size → Spell bytes at (xs ++ ys)
+    → Spell bytes (at + size) ys
 moved bytes at size xs ys len h = subst (λ (n : ℕ). Spell bytes (at + n) ys) len (next_stands bytes at xs ys h)
 
-body_length : (bytes : List ℕ) (at tag time : ℕ) (body : List ℕ) → length body < 256 ^ 4 → Spell bytes at (framed tag time body) → NumberAt bytes (at + 5) 4 (length body)
+body_length : (bytes : List ℕ) (at tag time : ℕ) (body : List ℕ) → length body < 256 ^ 4
+    → Spell bytes at (framed tag time body) → NumberAt bytes (at + 5) 4 (length body)
 body_length bytes at tag time body fits h =
     let front = tag ∷ big_bytes 4 time in
     let size = big_bytes 4 (length body) in
-    number_read bytes (at + 5) 4 (length body) fits (first_stands bytes (at + 5) size body (moved bytes at 5 front (size ++ body) (omega (arith, length-bytes_high_first 4 time)) h))
+    number_read bytes (at + 5) 4 (length body) fits
+    (first_stands bytes (at + 5) size body
+    (moved bytes at 5 front (size ++ body) (omega (arith, length-bytes_high_first 4 time)) h))
 
-body_seen : {v w : Sight} → w ≡ v → (at : ℕ) (r : Record) → RecordStands v at r → Spell w.bytes (at + 9) (body_of w.id_size r)
-body_seen {v} {w} e at r h = body_stands w.bytes at (tag_of r) (time_of r) (body_of w.id_size r) (record_stands w.id_size w.bytes at r (record_seen e at r h))
+body_seen : {v w : Sight} → w ≡ v → (at : ℕ) (r : Record) → RecordStands v at r
+    → Spell w.bytes (at + 9) (body_of w.id_size r)
+body_seen {v} {w} e at r h = body_stands w.bytes at (tag_of r) (time_of r) (body_of w.id_size r)
+    (record_stands w.id_size w.bytes at r (record_seen e at r h))
 
 -- ---- any record, and the header
 
-pub record_time : {v w : Sight} → w ≡ v → (at : ℕ) (r : Record) → RecordStands v at r → NumberAt w.bytes (at + 1) 4 (time_of r)
+pub record_time : {v w : Sight} → w ≡ v → (at : ℕ) (r : Record) → RecordStands v at r
+    → NumberAt w.bytes (at + 1) 4 (time_of r)
 record_time {v} {w} e at r h =
     let seen = record_seen e at r h in
     let body = body_of w.id_size r in
     let more = big_bytes 4 (length body) ++ body in
     number_read w.bytes (at + 1) 4 (time_of r) seen.is.time
-    (first_stands w.bytes (at + 1) (big_bytes 4 (time_of r)) more (moved w.bytes at 1 (tag_of r ∷ []) (big_bytes 4 (time_of r) ++ more) refl (record_stands w.id_size w.bytes at r seen)))
+    (first_stands w.bytes (at + 1) (big_bytes 4 (time_of r)) more
+    (moved w.bytes at 1 (tag_of r ∷ []) (big_bytes 4 (time_of r) ++ more) refl
+    (record_stands w.id_size w.bytes at r seen)))
 
-pub record_length : {v w : Sight} → w ≡ v → (at : ℕ) (r : Record) → RecordStands v at r → NumberAt w.bytes (at + 5) 4 (length (body_of w.id_size r))
+pub record_length : {v w : Sight} → w ≡ v → (at : ℕ) (r : Record) → RecordStands v at r
+    → NumberAt w.bytes (at + 5) 4 (length (body_of w.id_size r))
 record_length {v} {w} e at r h =
     let seen = record_seen e at r h in
-    body_length w.bytes at (tag_of r) (time_of r) (body_of w.id_size r) seen.is.length_fits (record_stands w.id_size w.bytes at r seen)
+    body_length w.bytes at (tag_of r) (time_of r) (body_of w.id_size r) seen.is.length_fits
+    (record_stands w.id_size w.bytes at r seen)
 
 -- the same, as the view says it
 pub length_shown : {v w : Sight} → w ≡ v → (r : Record) → length (body_of w.id_size r) ≡ length (body_of v.id_size r)
@@ -49,62 +60,93 @@ length_shown e r = ap (λ (x : Sight). length (body_of x.id_size r)) e
 pub header_time : {v w : Sight} → w ≡ v → (time : ℕ) → HeaderStands v time → NumberAt w.bytes 23 8 time
 header_time {v} {w} e time h =
     let seen : HeaderStands w time = subst (λ (x : Sight). HeaderStands x time) (sym e) h in
-    let all : Spell w.bytes 0 (header w.id_size time) = record { inside = omega (arith, ap length seen.bytes_are, length-append (header w.id_size time) seen.rest); rest = seen.rest; bytes_are = seen.bytes_are } in
+    let all : Spell w.bytes 0 (header w.id_size time) =
+    record {
+      inside = omega (arith, ap length seen.bytes_are, length-append (header w.id_size time) seen.rest);
+      rest = seen.rest;
+      bytes_are = seen.bytes_are;
+    } in
     let sized = moved w.bytes 0 19 magic (big_bytes 4 w.id_size ++ big_bytes 8 time) refl all in
-    number_read w.bytes 23 8 time seen.fits (moved w.bytes 19 4 (big_bytes 4 w.id_size) (big_bytes 8 time) (length-bytes_high_first 4 w.id_size) sized)
+    number_read w.bytes 23 8 time seen.fits
+    (moved w.bytes 19 4 (big_bytes 4 w.id_size) (big_bytes 8 time) (length-bytes_high_first 4 w.id_size) sized)
 
 -- ---- strings
 
-pub string_id : {v w : Sight} → w ≡ v → (at time id : ℕ) (text : List ℕ) → RecordStands v at (string time id text) → NumberAt w.bytes (at + 9) w.id_size id
+pub string_id : {v w : Sight} → w ≡ v → (at time id : ℕ) (text : List ℕ) → RecordStands v at (string time id text)
+    → NumberAt w.bytes (at + 9) w.id_size id
 string_id {v} {w} e at time id text h =
-    number_read w.bytes (at + 9) w.id_size id (record_seen e at (string time id text) h).is.parts (first_stands w.bytes (at + 9) (big_bytes w.id_size id) text (body_seen e at (string time id text) h))
+    number_read w.bytes (at + 9) w.id_size id (record_seen e at (string time id text) h).is.parts
+    (first_stands w.bytes (at + 9) (big_bytes w.id_size id) text (body_seen e at (string time id text) h))
 
-pub string_length : {v w : Sight} → w ≡ v → (at time id : ℕ) (text : List ℕ) → RecordStands v at (string time id text) → NumberAt w.bytes (at + 5) 4 (w.id_size + length text)
+pub string_length : {v w : Sight} → w ≡ v → (at time id : ℕ) (text : List ℕ) → RecordStands v at (string time id text)
+    → NumberAt w.bytes (at + 5) 4 (w.id_size + length text)
 string_length {v} {w} e at time id text h =
     let seen = record_seen e at (string time id text) h in
     let body = big_bytes w.id_size id ++ text in
-    let len : length body ≡ w.id_size + length text = omega (arith, length-append (big_bytes w.id_size id) text, length-bytes_high_first w.id_size id) in
-    subst (λ (n : ℕ). NumberAt w.bytes (at + 5) 4 n) len (body_length w.bytes at 0x01 time body seen.is.length_fits (record_stands w.id_size w.bytes at (string time id text) seen))
+    let len : length body ≡ w.id_size + length text =
+    omega (arith, length-append (big_bytes w.id_size id) text, length-bytes_high_first w.id_size id) in
+    subst (λ (n : ℕ). NumberAt w.bytes (at + 5) 4 n) len
+    (body_length w.bytes at 0x01 time body seen.is.length_fits
+    (record_stands w.id_size w.bytes at (string time id text) seen))
 
-pub string_text : {v w : Sight} → w ≡ v → (at time id : ℕ) (text : List ℕ) → RecordStands v at (string time id text) → Spell w.bytes (at + 9 + w.id_size) text
+pub string_text : {v w : Sight} → w ≡ v → (at time id : ℕ) (text : List ℕ) → RecordStands v at (string time id text)
+    → Spell w.bytes (at + 9 + w.id_size) text
 string_text {v} {w} e at time id text h =
-    moved w.bytes (at + 9) w.id_size (big_bytes w.id_size id) text (length-bytes_high_first w.id_size id) (body_seen e at (string time id text) h)
+    moved w.bytes (at + 9) w.id_size (big_bytes w.id_size id) text (length-bytes_high_first w.id_size id)
+    (body_seen e at (string time id text) h)
 
 -- ---- loaded classes
 
-behind_serial : {v w : Sight} → w ≡ v → (at time serial class stack name : ℕ) → RecordStands v at (load_class time serial class stack name)
+behind_serial : {v w : Sight} → w ≡ v → (at time serial class stack name : ℕ)
+    → RecordStands v at (load_class time serial class stack name)
     → Spell w.bytes (at + 13) (big_bytes w.id_size class ++ (big_bytes 4 stack ++ big_bytes w.id_size name))
 behind_serial {v} {w} e at time serial class stack name h =
     let s = w.id_size in
     let more = big_bytes s class ++ (big_bytes 4 stack ++ big_bytes s name) in
     let there : at + 9 + 4 ≡ at + 13 = omega arith in
     subst (λ (n : ℕ). Spell w.bytes n more) there
-    (moved w.bytes (at + 9) 4 (big_bytes 4 serial) more (length-bytes_high_first 4 serial) (body_seen e at (load_class time serial class stack name) h))
+    (moved w.bytes (at + 9) 4 (big_bytes 4 serial) more (length-bytes_high_first 4 serial)
+    (body_seen e at (load_class time serial class stack name) h))
 
-pub loaded_class_id : {v w : Sight} → w ≡ v → (at time serial class stack name : ℕ) → RecordStands v at (load_class time serial class stack name) → NumberAt w.bytes (at + 13) w.id_size class
+pub loaded_class_id : {v w : Sight} → w ≡ v → (at time serial class stack name : ℕ)
+    → RecordStands v at (load_class time serial class stack name) → NumberAt w.bytes (at + 13) w.id_size class
 loaded_class_id {v} {w} e at time serial class stack name h =
     let s = w.id_size in
     let fits = (record_seen e at (load_class time serial class stack name) h).is.parts.1 in
-    number_read w.bytes (at + 13) s class fits (first_stands w.bytes (at + 13) (big_bytes s class) (big_bytes 4 stack ++ big_bytes s name) (behind_serial e at time serial class stack name h))
+    number_read w.bytes (at + 13) s class fits
+    (first_stands w.bytes (at + 13) (big_bytes s class) (big_bytes 4 stack ++ big_bytes s name)
+    (behind_serial e at time serial class stack name h))
 
-pub loaded_class_name : {v w : Sight} → w ≡ v → (at time serial class stack name : ℕ) → RecordStands v at (load_class time serial class stack name) → NumberAt w.bytes (at + 17 + w.id_size) w.id_size name
+pub loaded_class_name : {v w : Sight} → w ≡ v → (at time serial class stack name : ℕ)
+    → RecordStands v at (load_class time serial class stack name)
+    → NumberAt w.bytes (at + 17 + w.id_size) w.id_size name
 loaded_class_name {v} {w} e at time serial class stack name h =
     let s = w.id_size in
     let fits = (record_seen e at (load_class time serial class stack name) h).is.parts.3 in
-    let stack_there = moved w.bytes (at + 13) s (big_bytes s class) (big_bytes 4 stack ++ big_bytes s name) (length-bytes_high_first s class) (behind_serial e at time serial class stack name h) in
-    let name_there = moved w.bytes (at + 13 + s) 4 (big_bytes 4 stack) (big_bytes s name) (length-bytes_high_first 4 stack) stack_there in
+    let stack_there = moved w.bytes (at + 13) s (big_bytes s class) (big_bytes 4 stack ++ big_bytes s name)
+    (length-bytes_high_first s class) (behind_serial e at time serial class stack name h) in
+    let name_there = moved w.bytes (at + 13 + s) 4 (big_bytes 4 stack) (big_bytes s name)
+    (length-bytes_high_first 4 stack) stack_there in
     let there : at + 13 + s + 4 ≡ at + 17 + s = omega arith in
-    number_read w.bytes (at + 17 + s) s name fits (subst (λ (n : ℕ). Spell w.bytes n (big_bytes s name)) there name_there)
+    number_read w.bytes (at + 17 + s) s name fits
+    (subst (λ (n : ℕ). Spell w.bytes n (big_bytes s name)) there name_there)
 
-pub loaded_class_serial : {v w : Sight} → w ≡ v → (at time serial class stack name : ℕ) → RecordStands v at (load_class time serial class stack name) → NumberAt w.bytes (at + 9) 4 serial
+pub loaded_class_serial : {v w : Sight} → w ≡ v → (at time serial class stack name : ℕ)
+    → RecordStands v at (load_class time serial class stack name) → NumberAt w.bytes (at + 9) 4 serial
 loaded_class_serial {v} {w} e at time serial class stack name h =
     let s = w.id_size in
     let fits = (record_seen e at (load_class time serial class stack name) h).is.parts.0 in
-    number_read w.bytes (at + 9) 4 serial fits (first_stands w.bytes (at + 9) (big_bytes 4 serial) (big_bytes s class ++ (big_bytes 4 stack ++ big_bytes s name)) (body_seen e at (load_class time serial class stack name) h))
+    number_read w.bytes (at + 9) 4 serial fits
+    (first_stands w.bytes (at + 9) (big_bytes 4 serial)
+    (big_bytes s class ++ (big_bytes 4 stack ++ big_bytes s name))
+    (body_seen e at (load_class time serial class stack name) h))
 
-pub loaded_class_stack : {v w : Sight} → w ≡ v → (at time serial class stack name : ℕ) → RecordStands v at (load_class time serial class stack name) → NumberAt w.bytes (at + 13 + w.id_size) 4 stack
+pub loaded_class_stack : {v w : Sight} → w ≡ v → (at time serial class stack name : ℕ)
+    → RecordStands v at (load_class time serial class stack name) → NumberAt w.bytes (at + 13 + w.id_size) 4 stack
 loaded_class_stack {v} {w} e at time serial class stack name h =
     let s = w.id_size in
     let fits = (record_seen e at (load_class time serial class stack name) h).is.parts.2 in
-    let there = moved w.bytes (at + 13) s (big_bytes s class) (big_bytes 4 stack ++ big_bytes s name) (length-bytes_high_first s class) (behind_serial e at time serial class stack name h) in
-    number_read w.bytes (at + 13 + s) 4 stack fits (first_stands w.bytes (at + 13 + s) (big_bytes 4 stack) (big_bytes s name) there)
+    let there = moved w.bytes (at + 13) s (big_bytes s class) (big_bytes 4 stack ++ big_bytes s name)
+    (length-bytes_high_first s class) (behind_serial e at time serial class stack name h) in
+    number_read w.bytes (at + 13 + s) 4 stack fits
+    (first_stands w.bytes (at + 13 + s) (big_bytes 4 stack) (big_bytes s name) there)

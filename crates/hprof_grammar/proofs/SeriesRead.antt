@@ -1,5 +1,6 @@
 -- What is spelled one after the other is read one after the other.
-use Rattle.std.proofs.Common.{List, [], ap, append_assoc, arith, drop, flat_map, length, map, slice_index, subst, sym, take, refl, suc, zero, ℕ, ◌*◌, ◌+◌, ◌++◌, ◌<◌, ◌^◌, ◌∙◌, ◌∷◌, ◌≡◌, ◌≤◌}
+use Rattle.std.proofs.Common.{List, [], ap, append_assoc, arith, drop, flat_map, length, map, slice_index, subst, sym}
+use Rattle.std.proofs.Common.{take, refl, suc, zero, ℕ, ◌*◌, ◌+◌, ◌++◌, ◌<◌, ◌^◌, ◌∙◌, ◌∷◌, ◌≡◌, ◌≤◌}
 use Rattle.std.proofs.lemmas.List.{append-nil, drop-drop, get_or-drop, length-append}
 use Rattle.std.proofs.Math.Seq.{drop-append_seam, take-append_seam}
 use Rattle.std.specs.List.{AllByRecursion}
@@ -11,7 +12,8 @@ use Rattle.hprof_grammar.specs.Bounds.{IsMember}
 use Rattle.hprof_grammar.specs.SubRecord.{Member, member_fields}
 use Rattle.hprof_grammar.specs.Tables.{size_of}
 use Rattle.hprof_grammar.specs.declared.kinds.TypePlace.{TypePlace}
-use Rattle.hprof_grammar.specs.Series.{HasValues, LabelledValue, behind_values, members_in, numbers_in, value_end, values_in}
+use Rattle.hprof_grammar.specs.Series.{HasValues, LabelledValue, behind_values, members_in, numbers_in, value_end}
+use Rattle.hprof_grammar.specs.Series.{values_in}
 use Rattle.hprof_grammar.proofs.Fields.{spelled_then}
 use Rattle.hprof_grammar.proofs.Places.{widths}
 
@@ -26,9 +28,12 @@ widths-numbers w [] = omega arith
 widths-numbers w (x ∷ xs) = omega (arith, widths-numbers w xs)
 
 behind_bytes : (w x : ℕ) (rest : List ℕ) → drop w (big_bytes w x ++ rest) ≡ rest
-behind_bytes w x rest = ap (λ (n : ℕ). drop n (big_bytes w x ++ rest)) (let len : w ≡ length (big_bytes w x) = omega (arith, length-bytes_high_first w x) in len) ∙ drop-append_seam (big_bytes w x) rest
+behind_bytes w x rest = ap (λ (n : ℕ). drop n (big_bytes w x ++ rest))
+    (let len : w ≡ length (big_bytes w x) = omega (arith, length-bytes_high_first w x) in len)
+    ∙ drop-append_seam (big_bytes w x) rest
 
-pub numbers_again : (w : ℕ) (xs rest : List ℕ) → AllByRecursion (λ x. x < 256 ^ w) xs → numbers_in w (length xs) (spelled (map (number w) xs) ++ rest) ≡ xs
+pub numbers_again : (w : ℕ) (xs rest : List ℕ) → AllByRecursion (λ x. x < 256 ^ w) xs
+    → numbers_in w (length xs) (spelled (map (number w) xs) ++ rest) ≡ xs
 numbers_again w [] rest fit = refl
 numbers_again w (x ∷ xs) rest fit =
     let others = spelled (map (number w) xs) ++ rest in
@@ -45,15 +50,21 @@ pub record IsValue (w size t : ℕ) (text others bytes : List ℕ) : Type 0 wher
   pub behind : drop (w + 1 + size) bytes ≡ others
   pub room : w + 1 + size ≤ length bytes
 
-is_value : (w size t : ℕ) (front value others : List ℕ) → length front ≡ w → length value ≡ size → IsValue w size t value others (front ++ (t ∷ (value ++ others)))
+is_value : (w size t : ℕ) (front value others : List ℕ) → length front ≡ w → length value ≡ size
+    → IsValue w size t value others (front ++ (t ∷ (value ++ others)))
 is_value w size t front value others front_len value_len =
     let bytes = front ++ (t ∷ (value ++ others)) in
-    let here : drop w bytes ≡ t ∷ (value ++ others) = subst (λ (n : ℕ). drop n bytes ≡ t ∷ (value ++ others)) front_len (drop-append_seam front (t ∷ (value ++ others))) in
+    let here : drop w bytes ≡ t ∷ (value ++ others) =
+    subst (λ (n : ℕ). drop n bytes ≡ t ∷ (value ++ others)) front_len
+    (drop-append_seam front (t ∷ (value ++ others))) in
     let after : drop (w + 1) bytes ≡ value ++ others = sym (drop-drop 1 w bytes) ∙ ap (drop 1) here in
     record {
-      type = ap (slice_index bytes) (let same : w ≡ w + 0 = omega arith in same) ∙ sym (get_or-drop w bytes 0 0) ∙ ap (λ (l : List ℕ). slice_index l 0) here;
-      value = ap (take size) after ∙ subst (λ (n : ℕ). take n (value ++ others) ≡ value) value_len (take-append_seam value others);
-      behind = sym (drop-drop size (w + 1) bytes) ∙ ap (drop size) after ∙ subst (λ (n : ℕ). drop n (value ++ others) ≡ others) value_len (drop-append_seam value others);
+      type = ap (slice_index bytes) (let same : w ≡ w + 0 = omega arith in same) ∙ sym (get_or-drop w bytes 0 0)
+          ∙ ap (λ (l : List ℕ). slice_index l 0) here;
+      value = ap (take size) after ∙ subst (λ (n : ℕ). take n (value ++ others) ≡ value) value_len
+          (take-append_seam value others);
+      behind = sym (drop-drop size (w + 1) bytes) ∙ ap (drop size) after
+          ∙ subst (λ (n : ℕ). drop n (value ++ others) ≡ others) value_len (drop-append_seam value others);
       room = omega (arith, length-append front (t ∷ (value ++ others)), length-append value others);
     }
 
@@ -63,7 +74,8 @@ pub record AreValues (s w n : ℕ) (them : List LabelledValue) (others bytes : L
   pub values : values_in s w n bytes ≡ them
   pub behind : behind_values s w n bytes ≡ others
 
-one_more : (s w n label t : ℕ) (value : List ℕ) (values : List LabelledValue) (behind others bytes : List ℕ) → big_number w bytes ≡ label → IsValue w (size_of s t) t value behind bytes → AreValues s w n values others behind
+one_more : (s w n label t : ℕ) (value : List ℕ) (values : List LabelledValue) (behind others bytes : List ℕ)
+    → big_number w bytes ≡ label → IsValue w (size_of s t) t value behind bytes → AreValues s w n values others behind
     → AreValues s w (suc n) (record { label = label; type = t; value = value } ∷ values) others bytes
 one_more s w n label t value values behind others bytes first h more = record {
   room = rw (h.type, h.behind) (h.room, more.room);
@@ -75,24 +87,30 @@ module _ {X : Type 0} (s w : ℕ) (place : TypePlace) (front type : X → ℕ) (
   abbrev pub value_fields : X → List Field
   value_fields x = number w (front x) ∷ type_code place (type x) ∷ raw (value x) ∷ []
 
-  spelled_first : (x : X) (xs : List X) (rest : List ℕ) → spelled (flat_map value_fields (x ∷ xs)) ++ rest ≡ big_bytes w (front x) ++ (type x ∷ (value x ++ (spelled (flat_map value_fields xs) ++ rest)))
+  spelled_first : (x : X) (xs : List X) (rest : List ℕ) → spelled (flat_map value_fields (x ∷ xs)) ++ rest
+      ≡ big_bytes w (front x) ++ (type x ∷ (value x ++ (spelled (flat_map value_fields xs) ++ rest)))
   spelled_first x xs rest =
       spelled_then (value_fields x) (flat_map value_fields xs) rest
       ∙ append_assoc (big_bytes w (front x)) (type x ∷ (value x ++ [])) (spelled (flat_map value_fields xs) ++ rest)
-      ∙ ap (λ (l : List ℕ). big_bytes w (front x) ++ (type x ∷ (l ++ (spelled (flat_map value_fields xs) ++ rest)))) (append-nil (value x))
+      ∙ ap (λ (l : List ℕ). big_bytes w (front x) ++ (type x ∷ (l ++ (spelled (flat_map value_fields xs) ++ rest))))
+      (append-nil (value x))
 
   abbrev pub labelled : X → LabelledValue
   labelled x = record { label = front x; type = type x; value = value x }
 
-  pub values_again : (xs : List X) (rest : List ℕ) → AllByRecursion (λ x. (front x < 256 ^ w) × (length (value x) ≡ size_of s (type x))) xs
+  pub values_again : (xs : List X) (rest : List ℕ)
+      → AllByRecursion (λ x. (front x < 256 ^ w) × (length (value x) ≡ size_of s (type x))) xs
       → AreValues s w (length xs) (map labelled xs) rest (spelled (flat_map value_fields xs) ++ rest)
   values_again [] rest fit = record { room = tt; values = refl; behind = refl }
   values_again (x ∷ xs) rest fit =
       let others = spelled (flat_map value_fields xs) ++ rest in
-      let here = is_value w (size_of s (type x)) (type x) (big_bytes w (front x)) (value x) others (length-bytes_high_first w (front x)) fit.0.1 in
+      let here = is_value w (size_of s (type x)) (type x) (big_bytes w (front x)) (value x) others
+      (length-bytes_high_first w (front x)) fit.0.1 in
       let first = big_number-reads_back w (front x) (type x ∷ (value x ++ others)) fit.0.0 in
-      let all = one_more s w (length xs) (front x) (type x) (value x) (map labelled xs) others rest (big_bytes w (front x) ++ (type x ∷ (value x ++ others))) first here (values_again xs rest fit.1) in
-      subst (λ (l : List ℕ). AreValues s w (length (x ∷ xs)) (map labelled (x ∷ xs)) rest l) (sym (spelled_first x xs rest)) all
+      let all = one_more s w (length xs) (front x) (type x) (value x) (map labelled xs) others rest
+      (big_bytes w (front x) ++ (type x ∷ (value x ++ others))) first here (values_again xs rest fit.1) in
+      subst (λ (l : List ℕ). AreValues s w (length (x ∷ xs)) (map labelled (x ∷ xs)) rest l)
+      (sym (spelled_first x xs rest)) all
 
 pub length-values_in : (s w n : ℕ) (bytes : List ℕ) → length (values_in s w n bytes) ≡ n
 length-values_in s w zero bytes = refl
@@ -108,11 +126,15 @@ pub widths-members : (s : ℕ) (ms : List Member) → widths (flat_map (member_f
 widths-members s [] = omega arith
 widths-members s (m ∷ ms) = omega (arith, widths-members s ms)
 
-pub members_again : (s : ℕ) (ms : List Member) (rest : List ℕ) → AllByRecursion (IsMember s) ms → members_in s (length ms) (spelled (flat_map (member_fields s) ms) ++ rest) ≡ ms
+pub members_again : (s : ℕ) (ms : List Member) (rest : List ℕ) → AllByRecursion (IsMember s) ms
+    → members_in s (length ms) (spelled (flat_map (member_fields s) ms) ++ rest) ≡ ms
 members_again s [] rest fit = refl
 members_again s (m ∷ ms) rest fit =
     let others = spelled (flat_map (member_fields s) ms) ++ rest in
     let here = is_value s 0 m.type (big_bytes s m.name) [] others (length-bytes_high_first s m.name) refl in
-    let name : big_number s (big_bytes s m.name ++ (m.type ∷ others)) ≡ m.name = big_number-reads_back s m.name (m.type ∷ others) fit.0 in
-    let behind : drop (s + 1) (big_bytes s m.name ++ (m.type ∷ others)) ≡ others = ap (λ (n : ℕ). drop n (big_bytes s m.name ++ (m.type ∷ others))) (let same : s + 1 ≡ s + 1 + 0 = omega arith in same) ∙ here.behind in
+    let name : big_number s (big_bytes s m.name ++ (m.type ∷ others)) ≡ m.name =
+    big_number-reads_back s m.name (m.type ∷ others) fit.0 in
+    let behind : drop (s + 1) (big_bytes s m.name ++ (m.type ∷ others)) ≡ others =
+    ap (λ (n : ℕ). drop n (big_bytes s m.name ++ (m.type ∷ others)))
+    (let same : s + 1 ≡ s + 1 + 0 = omega arith in same) ∙ here.behind in
     rw (append_assoc, name, here.type, behind, members_again s ms rest fit.1) refl

@@ -1,5 +1,6 @@
 -- What the order of the snapshot's records says of the tags that have come.
-use Rattle.std.proofs.Common.{Bool, List, [], add-one, ap, append_assoc, arith, cond, false, inl, inr, refl, replicate, subst, suc, sym, true, zero, ℕ, ◌++◌, ◌∙◌, ◌∷◌, ◌≡◌, ◌≢◌}
+use Rattle.std.proofs.Common.{Bool, List, [], add-one, ap, append_assoc, arith, cond, false, inl, inr, refl, replicate}
+use Rattle.std.proofs.Common.{subst, suc, sym, true, zero, ℕ, ◌++◌, ◌∙◌, ◌∷◌, ◌≡◌, ◌≢◌}
 use Rattle.std.proofs.lemmas.List.{append-nil, replicate_more}
 use Rattle.std.proofs.lemmas.List.Elements.{filter-append}
 use Rattle.hprof_grammar.specs.Record.{CanGoOn, IsOrderly, snapshot_tags}
@@ -10,17 +11,20 @@ use Rattle.hprof_grammar.specs.declared.snapshot_order.Order.TheVariants.{Before
 
 -- ---- rows of one number, and what ends them
 
-row_end : (c a d n m : ℕ) (xs ys : List ℕ) → a ≢ c → d ≢ c → replicate n c ++ a ∷ xs ≡ replicate m c ++ d ∷ ys → (a ≡ d) × (xs ≡ ys)
+row_end : (c a d n m : ℕ) (xs ys : List ℕ) → a ≢ c → d ≢ c → replicate n c ++ a ∷ xs ≡ replicate m c ++ d ∷ ys
+    → (a ≡ d) × (xs ≡ ys)
 row_end c a d zero zero xs ys na nd e = (cc, cc)
 row_end c a d zero (suc m) xs ys na nd e = absurd (na (cc))
 row_end c a d (suc n) zero xs ys na nd e = absurd (nd (cc))
-row_end c a d (suc n) (suc m) xs ys na nd e = let tails : replicate n c ++ a ∷ xs ≡ replicate m c ++ d ∷ ys = cc in row_end c a d n m xs ys na nd tails
+row_end c a d (suc n) (suc m) xs ys na nd e = let tails : replicate n c ++ a ∷ xs ≡ replicate m c ++ d ∷ ys = cc in
+    row_end c a d n m xs ys na nd tails
 
 row_no_end : (c d n m : ℕ) (ys : List ℕ) → d ≢ c → replicate n c ≡ replicate m c ++ d ∷ ys → ⊥
 row_no_end c d zero zero ys nd e = cc
 row_no_end c d zero (suc m) ys nd e = cc
 row_no_end c d (suc n) zero ys nd e = nd (cc)
-row_no_end c d (suc n) (suc m) ys nd e = let tails : replicate n c ≡ replicate m c ++ d ∷ ys = cc in row_no_end c d n m ys nd tails
+row_no_end c d (suc n) (suc m) ys nd e = let tails : replicate n c ≡ replicate m c ++ d ∷ ys = cc in
+    row_no_end c d n m ys nd tails
 
 no_start : (a b : ℕ) (xs ys : List ℕ) → a ≢ b → a ∷ xs ≡ b ∷ ys → ⊥
 no_start a b xs ys ne e = ne (cc)
@@ -39,13 +43,18 @@ segment_is_no_dump = λ e. omega (arith, e)
 
 -- ---- one more record
 
-comes : (tags : List ℕ) (tag : ℕ) → is_snapshot_tag tag ≡ true → snapshot_tags (tags ++ tag ∷ []) ≡ snapshot_tags tags ++ tag ∷ []
-comes tags tag is = filter-append is_snapshot_tag tags (tag ∷ []) ∙ ap (λ (b : Bool). snapshot_tags tags ++ cond b (tag ∷ []) []) is
+comes : (tags : List ℕ) (tag : ℕ) → is_snapshot_tag tag ≡ true
+    → snapshot_tags (tags ++ tag ∷ []) ≡ snapshot_tags tags ++ tag ∷ []
+comes tags tag is = filter-append is_snapshot_tag tags (tag ∷ [])
+    ∙ ap (λ (b : Bool). snapshot_tags tags ++ cond b (tag ∷ []) []) is
 
-stays_out : (tags : List ℕ) (tag : ℕ) → is_snapshot_tag tag ≡ false → snapshot_tags (tags ++ tag ∷ []) ≡ snapshot_tags tags
-stays_out tags tag is = filter-append is_snapshot_tag tags (tag ∷ []) ∙ ap (λ (b : Bool). snapshot_tags tags ++ cond b (tag ∷ []) []) is ∙ append-nil (snapshot_tags tags)
+stays_out : (tags : List ℕ) (tag : ℕ) → is_snapshot_tag tag ≡ false
+    → snapshot_tags (tags ++ tag ∷ []) ≡ snapshot_tags tags
+stays_out tags tag is = filter-append is_snapshot_tag tags (tag ∷ [])
+    ∙ ap (λ (b : Bool). snapshot_tags tags ++ cond b (tag ∷ []) []) is ∙ append-nil (snapshot_tags tags)
 
-pub others_keep : (order : Order) (tags : List ℕ) (tag : ℕ) → is_snapshot_tag tag ≡ false → IsAt order tags → IsAt order (tags ++ tag ∷ [])
+pub others_keep : (order : Order) (tags : List ℕ) (tag : ℕ) → is_snapshot_tag tag ≡ false → IsAt order tags
+    → IsAt order (tags ++ tag ∷ [])
 others_keep Before tags tag is h = stays_out tags tag is ∙ h
 others_keep Whole tags tag is h = stays_out tags tag is ∙ h
 others_keep Segments tags tag is h = (h.0, stays_out tags tag is ∙ h.1)
@@ -58,7 +67,11 @@ pub first_segment : (tags : List ℕ) → IsAt Before tags → IsAt Segments (ta
 first_segment tags h = (0, comes tags 0x1C refl ∙ ap (λ (front : List ℕ). front ++ 0x1C ∷ []) h)
 
 pub next_segment : (tags : List ℕ) → IsAt Segments tags → IsAt Segments (tags ++ 0x1C ∷ [])
-next_segment tags h = (suc h.0, comes tags 0x1C refl ∙ ap (λ (front : List ℕ). front ++ 0x1C ∷ []) h.1 ∙ replicate_more (suc h.0) 0x1C ∙ ap (λ (n : ℕ). replicate n 0x1C) (add-one (suc h.0)))
+next_segment tags h = (
+  suc h.0,
+  comes tags 0x1C refl ∙ ap (λ (front : List ℕ). front ++ 0x1C ∷ []) h.1
+      ∙ replicate_more (suc h.0) 0x1C ∙ ap (λ (n : ℕ). replicate n 0x1C) (add-one (suc h.0)),
+)
 
 pub segments_end : (tags : List ℕ) → IsAt Segments tags → IsAt Ended (tags ++ 0x2C ∷ [])
 segments_end tags h = (h.0, comes tags 0x2C refl ∙ ap (λ (front : List ℕ). front ++ 0x2C ∷ []) h.1)
@@ -78,36 +91,46 @@ end_first more (inr (n, e)) = no_start 0x2C 0x1C more (replicate n 0x1C ++ 0x2C 
 -- segments, and a heap dump
 dump_in_segments : (n : ℕ) (more : List ℕ) → IsSnapshot (replicate (suc n) 0x1C ++ 0x0C ∷ more) → ⊥
 dump_in_segments n more (inl e) = no_start 0x1C 0x0C (replicate n 0x1C ++ 0x0C ∷ more) [] segment_is_no_dump e
-dump_in_segments n more (inr (m, e)) = end_is_no_dump (sym (row_end 0x1C 0x0C 0x2C (suc n) (suc m) more [] dump_is_no_segment end_is_no_segment e).0)
+dump_in_segments n more (inr (m, e)) =
+    end_is_no_dump (sym (row_end 0x1C 0x0C 0x2C (suc n) (suc m) more [] dump_is_no_segment end_is_no_segment e).0)
 
 -- segments and their end, and more
 after_end : (n tag : ℕ) (more : List ℕ) → IsSnapshot ((replicate (suc n) 0x1C ++ 0x2C ∷ []) ++ tag ∷ more) → ⊥
-after_end n tag more (inl e) = no_start 0x1C 0x0C ((replicate n 0x1C ++ 0x2C ∷ []) ++ tag ∷ more) [] segment_is_no_dump e
+after_end n tag more (inl e) =
+    no_start 0x1C 0x0C ((replicate n 0x1C ++ 0x2C ∷ []) ++ tag ∷ more) [] segment_is_no_dump e
 after_end n tag more (inr (m, e)) =
     let joined = sym (append_assoc (replicate (suc n) 0x1C) (0x2C ∷ []) (tag ∷ more)) ∙ e in
-    let none : tag ∷ more ≡ [] = (row_end 0x1C 0x2C 0x2C (suc n) (suc m) (tag ∷ more) [] end_is_no_segment end_is_no_segment joined).1 in
+    let none : tag ∷ more ≡ [] = (row_end 0x1C 0x2C 0x2C (suc n) (suc m) (tag ∷ more)
+    [] end_is_no_segment end_is_no_segment joined).1 in
     cc
 
 -- ---- a record that breaks the order
 
 -- what a snapshot with one record more would have to be
-too_many : (tags front : List ℕ) (tag : ℕ) → is_snapshot_tag tag ≡ true → snapshot_tags tags ≡ front → CanGoOn (tags ++ tag ∷ []) → (more : List ℕ) × IsSnapshot (front ++ tag ∷ more)
+too_many : (tags front : List ℕ) (tag : ℕ) → is_snapshot_tag tag ≡ true → snapshot_tags tags ≡ front
+    → CanGoOn (tags ++ tag ∷ []) → (more : List ℕ) × IsSnapshot (front ++ tag ∷ more)
 too_many tags front tag is come (more, orderly) = (snapshot_tags more, subst IsSnapshot parts orderly)
   where
     parts : snapshot_tags ((tags ++ tag ∷ []) ++ more) ≡ front ++ tag ∷ snapshot_tags more
-    parts = filter-append is_snapshot_tag (tags ++ tag ∷ []) more ∙ ap (λ (l : List ℕ). l ++ snapshot_tags more) (comes tags tag is ∙ ap (λ (l : List ℕ). l ++ tag ∷ []) come) ∙ append_assoc front (tag ∷ []) (snapshot_tags more)
+    parts = filter-append is_snapshot_tag (tags ++ tag ∷ []) more
+        ∙ ap (λ (l : List ℕ). l ++ snapshot_tags more) (comes tags tag is ∙ ap (λ (l : List ℕ). l ++ tag ∷ []) come)
+        ∙ append_assoc front (tag ∷ []) (snapshot_tags more)
 
 pub no_end_first : (tags : List ℕ) → IsAt Before tags → CanGoOn (tags ++ 0x2C ∷ []) → ⊥
 no_end_first tags h on = let found = too_many tags [] 0x2C refl h on in end_first found.0 found.1
 
 pub no_dump_in_segments : (tags : List ℕ) → IsAt Segments tags → CanGoOn (tags ++ 0x0C ∷ []) → ⊥
-no_dump_in_segments tags h on = let found = too_many tags (replicate (suc h.0) 0x1C) 0x0C refl h.1 on in dump_in_segments h.0 found.0 found.1
+no_dump_in_segments tags h on = let found = too_many tags (replicate (suc h.0) 0x1C) 0x0C refl h.1 on in
+    dump_in_segments h.0 found.0 found.1
 
-pub no_more : (order : Order) (tags : List ℕ) (tag : ℕ) → is_done order ≡ true → is_snapshot_tag tag ≡ true → IsAt order tags → CanGoOn (tags ++ tag ∷ []) → ⊥
+pub no_more : (order : Order) (tags : List ℕ) (tag : ℕ) → is_done order ≡ true → is_snapshot_tag tag ≡ true
+    → IsAt order tags → CanGoOn (tags ++ tag ∷ []) → ⊥
 no_more Before tags tag done is h on = cc
-no_more Whole tags tag done is h on = let found = too_many tags (0x0C ∷ []) tag is h on in after_whole tag found.0 found.1
+no_more Whole tags tag done is h on = let found = too_many tags (0x0C ∷ []) tag is h on in
+    after_whole tag found.0 found.1
 no_more Segments tags tag done is h on = cc
-no_more Ended tags tag done is h on = let found = too_many tags (replicate (suc h.0) 0x1C ++ 0x2C ∷ []) tag is h.1 on in after_end h.0 tag found.0 found.1
+no_more Ended tags tag done is h on = let found = too_many tags (replicate (suc h.0) 0x1C ++ 0x2C ∷ []) tag is h.1 on
+    in after_end h.0 tag found.0 found.1
 
 -- ---- where the records end
 

@@ -1,34 +1,62 @@
 -- What stands in the dumps of the tests, by computation: one part of every kind, with identifiers of 4 bytes and of 8.
-use Rattle.std.proofs.Common.{List, Option, Some, [], ap, drop, length, lit<, refl, sym, take, ℕ, ◌++◌, ◌<◌, ◌^◌, ◌∙◌, ◌≡◌, ◌∷◌}
+use Rattle.std.proofs.Common.{Bool, List, Option, Some, [], ap, drop, length, lit<, refl, sym, take, true, ℕ, ◌++◌}
+use Rattle.std.proofs.Common.{◌<◌, ◌^◌, ◌∙◌, ◌≡◌, ◌∷◌}
+use Rattle.std.specs.Prelude.{◌&&◌}
+use Rattle.std.proofs.lemmas.Bool.{and_parts}
 use Rattle.std.proofs.lemmas.List.{take-append-drop}
 use Rattle.byteorder.specs.Endian.{big_bytes}
 use Rattle.hprof_grammar.specs.Dump.{header}
 use Rattle.hprof_grammar.specs.RootFields.{RootSays}
 use Rattle.hprof_grammar.specs.Record.{IsRecord, Record, record_spelling}
 use Rattle.hprof_grammar.specs.Record.Record.{load_class, string}
+use Rattle.hprof_grammar.specs.Spelling.{AreAllowed, Field}
+use Rattle.hprof_grammar.specs.Spelling.Field.{number, raw, type_code}
 use Rattle.hprof_grammar.specs.Standing.{HeaderStands, RecordStands, Sight, Stands}
-use Rattle.hprof_grammar.specs.SubRecord.{Class, Instance, IsSubRecord, ObjectArray, PrimitiveArray, Root, RootOrigin, SubRecord, spelling_of}
-use Rattle.hprof_grammar.specs.SubRecord.RootOrigin.{java_frame, jni_global, jni_local, monitor_used, native_stack, sticky_class, thread_block, thread_object, unknown}
-use Rattle.hprof_grammar.specs.SubRecord.SubRecord.{class_dump, instance_dump, object_array_dump, primitive_array_dump, root}
+use Rattle.hprof_grammar.specs.SubRecord.{Class, Instance, IsSubRecord, ObjectArray, PrimitiveArray, Root, RootOrigin}
+use Rattle.hprof_grammar.specs.SubRecord.{SubRecord, fields_of, spelling_of}
+use Rattle.hprof_grammar.specs.SubRecord.RootOrigin.{java_frame, jni_global, jni_local, monitor_used, native_stack}
+use Rattle.hprof_grammar.specs.SubRecord.RootOrigin.{sticky_class, thread_block, thread_object, unknown}
+use Rattle.hprof_grammar.specs.SubRecord.SubRecord.{class_dump, instance_dump, object_array_dump, primitive_array_dump}
+use Rattle.hprof_grammar.specs.SubRecord.SubRecord.{root}
 use Rattle.hprof_grammar.specs.Tables.{is_length_of, is_sub_tag, is_type_at, size_of}
 use Rattle.hprof_grammar.proofs.BoundsLaws.{formed_by}
 
+-- each type code among the fields is allowed where it stands
+abbrev types_fit : List Field → Bool
+types_fit [] = true
+types_fit (number width value ∷ fields) = types_fit fields
+types_fit (type_code place code ∷ fields) = is_type_at place code && types_fit fields
+types_fit (raw text ∷ fields) = types_fit fields
+
+allowed_by : (fields : List Field) → types_fit fields ≡ true → AreAllowed fields
+allowed_by [] e = tt
+allowed_by (number width value ∷ fields) e = (tt, allowed_by fields e)
+allowed_by (type_code place code ∷ fields) e =
+    let both = and_parts (is_type_at place code) (types_fit fields) e in
+    (both.0, allowed_by fields both.1)
+allowed_by (raw text ∷ fields) e = (tt, allowed_by fields e)
+
 -- a sub-record or a record stands where its spelling does
-pub seen : {bytes : List ℕ} (v : Sight) (s at : ℕ) (sub : SubRecord) → v.bytes ≡ bytes → v.id_size ≡ s → IsSubRecord s sub → take (length (spelling_of s sub)) (drop at bytes) ≡ spelling_of s sub → Stands v at sub
+pub seen : {bytes : List ℕ} (v : Sight) (s at : ℕ) (sub : SubRecord) → v.bytes ≡ bytes → v.id_size ≡ s
+    → IsSubRecord s sub → take (length (spelling_of s sub)) (drop at bytes) ≡ spelling_of s sub → Stands v at sub
 seen {bytes} v s at sub b i is e = rw (b, i) (record {
   rest = drop (length (spelling_of s sub)) (drop at bytes);
-  bytes_are = sym (take-append-drop (length (spelling_of s sub)) (drop at bytes)) ∙ ap (λ (l : List ℕ). l ++ drop (length (spelling_of s sub)) (drop at bytes)) e;
+  bytes_are = sym (take-append-drop (length (spelling_of s sub)) (drop at bytes))
+      ∙ ap (λ (l : List ℕ). l ++ drop (length (spelling_of s sub)) (drop at bytes)) e;
   is = is;
 })
 
-pub record_seen : {bytes : List ℕ} (v : Sight) (s at : ℕ) (r : Record) → v.bytes ≡ bytes → v.id_size ≡ s → IsRecord s r → take (length (record_spelling s r)) (drop at bytes) ≡ record_spelling s r → RecordStands v at r
+pub record_seen : {bytes : List ℕ} (v : Sight) (s at : ℕ) (r : Record) → v.bytes ≡ bytes → v.id_size ≡ s
+    → IsRecord s r → take (length (record_spelling s r)) (drop at bytes) ≡ record_spelling s r → RecordStands v at r
 record_seen {bytes} v s at r b i is e = rw (b, i) (record {
   rest = drop (length (record_spelling s r)) (drop at bytes);
-  bytes_are = sym (take-append-drop (length (record_spelling s r)) (drop at bytes)) ∙ ap (λ (l : List ℕ). l ++ drop (length (record_spelling s r)) (drop at bytes)) e;
+  bytes_are = sym (take-append-drop (length (record_spelling s r)) (drop at bytes))
+      ∙ ap (λ (l : List ℕ). l ++ drop (length (record_spelling s r)) (drop at bytes)) e;
   is = is;
 })
 
-pub header_seen : {bytes : List ℕ} (v : Sight) (s time : ℕ) → v.bytes ≡ bytes → v.id_size ≡ s → time < 256 ^ 8 → take 31 bytes ≡ header s time → HeaderStands v time
+pub header_seen : {bytes : List ℕ} (v : Sight) (s time : ℕ) → v.bytes ≡ bytes → v.id_size ≡ s → time < 256 ^ 8
+    → take 31 bytes ≡ header s time → HeaderStands v time
 header_seen {bytes} v s time b i fits e = rw (b, i) (record {
   rest = drop 31 bytes;
   bytes_are = sym (take-append-drop 31 bytes) ∙ ap (λ (l : List ℕ). l ++ drop 31 bytes) e;
@@ -36,7 +64,8 @@ header_seen {bytes} v s time b i fits e = rw (b, i) (record {
 })
 
 -- what a root says that stands there
-pub says : {v : Sight} {at : ℕ} (r : Root) (field : RootOrigin → Option ℕ) (n : ℕ) → Stands v at (root r) → field r.origin ≡ Some n → RootSays v at field n
+pub says : {v : Sight} {at : ℕ} (r : Root) (field : RootOrigin → Option ℕ) (n : ℕ) → Stands v at (root r)
+    → field r.origin ≡ Some n → RootSays v at field n
 says r field n h e = record { root_is = r; stands = h; says = e }
 
 abbrev pub the_class : ℕ → Class
@@ -50,8 +79,10 @@ the_class s = record {
   reserved = 0x204;
   reserved_too = 0x205;
   instance_size = 12;
-  constants = record { index = 1; type = 5; value = 0 ∷ 0x41 ∷ [] } ∷ record { index = 2; type = 2; value = big_bytes s 0x206 } ∷ [];
-  statics = record { name = 3; type = 10; value = 0 ∷ 0 ∷ 0 ∷ 7 ∷ [] } ∷ record { name = 4; type = 2; value = big_bytes s 0x207 } ∷ [];
+  constants = record { index = 1; type = 5; value = 0 ∷ 0x41 ∷ [] }
+      ∷ record { index = 2; type = 2; value = big_bytes s 0x206 } ∷ [];
+  statics = record { name = 3; type = 10; value = 0 ∷ 0 ∷ 0 ∷ 7 ∷ [] }
+      ∷ record { name = 4; type = 2; value = big_bytes s 0x207 } ∷ [];
   members = record { name = 5; type = 2 } ∷ record { name = 6; type = 4 } ∷ [];
 }
 
@@ -90,7 +121,7 @@ class_four = record {
         member_count = lit< tt;
         members = (lit< tt, (lit< tt, tt));
       });
-  allowed = (tt, (tt, (tt, (tt, (tt, (tt, (tt, (tt, (tt, (tt, (tt, (refl, (tt, (tt, (refl, (tt, (tt, (tt, (refl, (tt, (tt, (refl, (tt, (tt, (tt, (refl, (tt, (refl, tt))))))))))))))))))))))))))));
+  allowed = allowed_by (fields_of 4 (class_dump (the_class 4))) refl;
 }
 
 pub instance_four : IsSubRecord 4 (instance_dump (the_instance 4))
@@ -180,7 +211,12 @@ string_four = record { parts = lit< tt; time = lit< tt; length_fits = lit< tt; l
 
 pub load_four : IsRecord 4 (load_class 22 7 0x100 8 1)
 unfolding is_length_of
-load_four = record { parts = (lit< tt, lit< tt, lit< tt, lit< tt); time = lit< tt; length_fits = lit< tt; length_allowed = refl }
+load_four = record {
+  parts = (lit< tt, lit< tt, lit< tt, lit< tt);
+  time = lit< tt;
+  length_fits = lit< tt;
+  length_allowed = refl;
+}
 
 -- ---- identifiers of 8 bytes
 
@@ -205,7 +241,7 @@ class_eight = record {
         member_count = lit< tt;
         members = (lit< tt, (lit< tt, tt));
       });
-  allowed = (tt, (tt, (tt, (tt, (tt, (tt, (tt, (tt, (tt, (tt, (tt, (refl, (tt, (tt, (refl, (tt, (tt, (tt, (refl, (tt, (tt, (refl, (tt, (tt, (tt, (refl, (tt, (refl, tt))))))))))))))))))))))))))));
+  allowed = allowed_by (fields_of 8 (class_dump (the_class 8))) refl;
 }
 
 pub instance_eight : IsSubRecord 8 (instance_dump (the_instance 8))
@@ -295,4 +331,9 @@ string_eight = record { parts = lit< tt; time = lit< tt; length_fits = lit< tt; 
 
 pub load_eight : IsRecord 8 (load_class 22 7 0x100 8 1)
 unfolding is_length_of
-load_eight = record { parts = (lit< tt, lit< tt, lit< tt, lit< tt); time = lit< tt; length_fits = lit< tt; length_allowed = refl }
+load_eight = record {
+  parts = (lit< tt, lit< tt, lit< tt, lit< tt);
+  time = lit< tt;
+  length_fits = lit< tt;
+  length_allowed = refl;
+}

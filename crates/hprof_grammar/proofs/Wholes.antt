@@ -1,5 +1,6 @@
 -- The records that the bytes behind the header begin with.
-use Rattle.std.proofs.Common.{List, [], ap, append_assoc, arith, false, inl, inr, length, map, refl, subst, sym, true, ℕ, ◌++◌, ◌+◌, ◌-◌, ◌<◌, ◌∙◌, ◌∷◌, ◌≡◌, ◌≤◌}
+use Rattle.std.proofs.Common.{List, [], ap, append_assoc, arith, false, inl, inr, length, map, refl, subst, sym, true}
+use Rattle.std.proofs.Common.{ℕ, ◌++◌, ◌+◌, ◌-◌, ◌<◌, ◌∙◌, ◌∷◌, ◌≡◌, ◌≤◌}
 use Rattle.std.specs.List.{AllByRecursion, flat_map}
 use Rattle.std.proofs.lemmas.List.{append-nil, length-append, map-append}
 use Rattle.hprof_grammar.specs.Dump.{spellings}
@@ -10,7 +11,8 @@ use Rattle.hprof_grammar.specs.Fault.SubFault.{short, unknown_tag, wrong_type}
 use Rattle.hprof_grammar.specs.working.Joining.{AddsRecords, FrameFault, HasRecordFault}
 use Rattle.hprof_grammar.specs.working.Joining.FrameFault.{wrong_heap, wrong_length, wrong_order}
 use Rattle.hprof_grammar.specs.working.SnapshotOrder.{IsAt, is_done}
-use Rattle.hprof_grammar.specs.Record.{CanGoOn, IsOrderly, IsRecord, Record, body_of, framed, record_spelling, tag_of, time_of}
+use Rattle.hprof_grammar.specs.Record.{CanGoOn, IsOrderly, IsRecord, Record, body_of, framed, record_spelling, tag_of}
+use Rattle.hprof_grammar.specs.Record.{time_of}
 use Rattle.hprof_grammar.specs.Record.Record.{heap, load_class, other, string}
 use Rattle.hprof_grammar.specs.SubRecord.{IsSubRecord, SubRecord, spelling_of}
 use Rattle.hprof_grammar.specs.Tables.{is_heap_tag, is_length_of}
@@ -36,24 +38,32 @@ goes_on_front tags more h = (more ++ h.0, subst IsOrderly (append_assoc tags mor
 
 -- no record stands here with which the list can go on
 abbrev pub IsStuck : ℕ → List Record → List ℕ → Type 0
-IsStuck s records rest = (z : Record) (left : List ℕ) → IsRecord s z → rest ≡ record_spelling s z ++ left → CanGoOn (map tag_of records ++ tag_of z ∷ []) → ⊥
+IsStuck s records rest = (z : Record) (left : List ℕ) → IsRecord s z → rest ≡ record_spelling s z ++ left
+    → CanGoOn (map tag_of records ++ tag_of z ∷ []) → ⊥
 
-no_longer : (s : ℕ) (records others : List Record) (rest left : List ℕ) → AllByRecursion (IsRecord s) records → AllByRecursion (IsRecord s) others → IsStuck s records rest → CanGoOn (tags_of others)
+no_longer : (s : ℕ) (records others : List Record) (rest left : List ℕ) → AllByRecursion (IsRecord s) records
+    → AllByRecursion (IsRecord s) others → IsStuck s records rest → CanGoOn (tags_of others)
     → spellings s records ++ rest ≡ spellings s others ++ left → length others ≤ length records
-no_longer s records others rest left h k stuck go e = elim (fronts (record_spelling s) (IsRecord s) (records_determined s) records others rest left h k e) [
-  | inl g ↦ ends g.0 g.1 g.2
-  | inr g ↦ omega (arith, ap length g.1, length-append others g.0)
-] where
-  ends : (zs : List Record) → others ≡ records ++ zs → rest ≡ spellings s zs ++ left → length others ≤ length records
-  ends [] p q = omega (arith, ap length p, length-append records [])
-  ends (z ∷ zs) p q =
-      let all = all_split (IsRecord s) records (z ∷ zs) (rw p at k) in
-      let tags : tags_of others ≡ (tags_of records ++ tag_of z ∷ []) ++ tags_of zs =
-      ap tags_of p ∙ map-append tag_of records (z ∷ zs) ∙ sym (append_assoc (tags_of records) (tag_of z ∷ []) (tags_of zs)) in
-      absurd (stuck z (spellings s zs ++ left) all.1.0 (q ∙ append_assoc (record_spelling s z) (spellings s zs) left)
-      (goes_on_front (tags_of records ++ tag_of z ∷ []) (tags_of zs) (subst CanGoOn tags go)))
+no_longer s records others rest left h k stuck go e =
+    elim (fronts (record_spelling s) (IsRecord s) (records_determined s) records others rest left h k e) [
+      | inl g ↦ ends g.0 g.1 g.2
+      | inr g ↦ omega (arith, ap length g.1, length-append others g.0)
+    ] where
+      ends : (zs : List Record) → others ≡ records ++ zs → rest ≡ spellings s zs ++ left
+          → length others ≤ length records
+      ends [] p q = omega (arith, ap length p, length-append records [])
+      ends (z ∷ zs) p q =
+          let all = all_split (IsRecord s) records (z ∷ zs) (rw p at k) in
+          let tags : tags_of others ≡ (tags_of records ++ tag_of z ∷ []) ++ tags_of zs =
+          ap tags_of p ∙ map-append tag_of records (z ∷ zs)
+          ∙ sym (append_assoc (tags_of records) (tag_of z ∷ []) (tags_of zs)) in
+          absurd (stuck z (spellings s zs ++ left) all.1.0
+          (q ∙ append_assoc (record_spelling s z) (spellings s zs) left)
+          (goes_on_front (tags_of records ++ tag_of z ∷ []) (tags_of zs) (subst CanGoOn tags go)))
 
-pub longest_records : (s : ℕ) (bytes : List ℕ) (records : List Record) (rest : List ℕ) → bytes ≡ spellings s records ++ rest → AllByRecursion (IsRecord s) records → CanGoOn (map tag_of records) → IsStuck s records rest
+pub longest_records : (s : ℕ) (bytes : List ℕ) (records : List Record) (rest : List ℕ)
+    → bytes ≡ spellings s records ++ rest → AllByRecursion (IsRecord s) records → CanGoOn (map tag_of records)
+    → IsStuck s records rest
     → LongestRecords s bytes records rest
 longest_records s bytes records rest parts each goes stuck = record {
   parts = parts;
@@ -65,10 +75,12 @@ longest_records s bytes records rest parts each goes stuck = record {
 -- ---- where the list is stuck
 
 pub stuck_at_end : (s : ℕ) (records : List Record) → IsStuck s records []
-stuck_at_end s records z left is e go = omega (arith, ap length e, length-framed (tag_of z) (time_of z) (body_of s z) left)
+stuck_at_end s records z left is e go =
+    omega (arith, ap length e, length-framed (tag_of z) (time_of z) (body_of s z) left)
 
 pub stuck_where_cut : (s : ℕ) (records : List Record) (rest : List ℕ) → RunsPastEnd rest → IsStuck s records rest
-stuck_where_cut s records rest cut z left is e go = cut_or_whole rest (tag_of z) (time_of z) (body_of s z) left is.length_fits e cut
+stuck_where_cut s records rest cut z left is e go =
+    cut_or_whole rest (tag_of z) (time_of z) (body_of s z) left is.length_fits e cut
 
 -- something stands where a sub-record has a fault
 fault_some : (s : ℕ) (rest : List ℕ) (code : ℕ) → SubFault s rest code → rest ≡ [] → ⊥
@@ -77,10 +89,12 @@ fault_some s rest code (short x left f e) h = cc
 fault_some s rest code (wrong_type x left f e) h = cc
 
 -- a body in which a sub-record has a fault is no list of whole sub-records
-no_whole_body : (s : ℕ) (body : List ℕ) (subs others : List SubRecord) (rest : List ℕ) (code : ℕ) → body ≡ flat_map (spelling_of s) subs ++ rest → AllByRecursion (IsSubRecord s) subs → SubFault s rest code
+no_whole_body : (s : ℕ) (body : List ℕ) (subs others : List SubRecord) (rest : List ℕ) (code : ℕ)
+    → body ≡ flat_map (spelling_of s) subs ++ rest → AllByRecursion (IsSubRecord s) subs → SubFault s rest code
     → AllByRecursion (IsSubRecord s) others → body ≡ flat_map (spelling_of s) others → ⊥
 no_whole_body s body subs others rest code parts each fault all e =
-    elim (fronts (spelling_of s) (IsSubRecord s) (subs_determined s) subs others rest [] each all (sym parts ∙ e ∙ sym (append-nil (flat_map (spelling_of s) others)))) [
+    elim (fronts (spelling_of s) (IsSubRecord s) (subs_determined s) subs others rest [] each all
+    (sym parts ∙ e ∙ sym (append-nil (flat_map (spelling_of s) others)))) [
       | inl g ↦ goes g.0 g.1 g.2
       | inr g ↦ stops g.0 g.2
     ] where
@@ -88,45 +102,57 @@ no_whole_body s body subs others rest code parts each fault all e =
       goes [] p q = fault_some s rest code fault q
       goes (z ∷ zs) p q =
           let is = all_split (IsSubRecord s) subs (z ∷ zs) (rw p at all) in
-          no_sub_fault s z (flat_map (spelling_of s) zs ++ []) code is.1.0 (subst (λ (l : List ℕ). SubFault s l code) (q ∙ append_assoc (spelling_of s z) (flat_map (spelling_of s) zs) []) fault)
+          no_sub_fault s z (flat_map (spelling_of s) zs ++ []) code is.1.0
+          (subst (λ (l : List ℕ). SubFault s l code)
+          (q ∙ append_assoc (spelling_of s z) (flat_map (spelling_of s) zs) []) fault)
 
       stops : (zs : List SubRecord) → [] ≡ flat_map (spelling_of s) zs ++ rest → ⊥
       stops [] q = fault_some s rest code fault (sym q)
       stops (z ∷ zs) q = cc
 
 -- a heap record's body is the spelling of its sub-records
-heap_body : (s : ℕ) (z : Record) → IsRecord s z → is_heap_tag (tag_of z) ≡ true → (subs : List SubRecord) × AllByRecursion (IsSubRecord s) subs × (body_of s z ≡ flat_map (spelling_of s) subs)
+heap_body : (s : ℕ) (z : Record) → IsRecord s z → is_heap_tag (tag_of z) ≡ true → (subs : List SubRecord)
+    × AllByRecursion (IsSubRecord s) subs × (body_of s z ≡ flat_map (spelling_of s) subs)
 heap_body s (string time id text) is h = absurd (cc)
 heap_body s (load_class time serial class stack name) is h = absurd (cc)
 heap_body s (heap tag time subs) is h = (subs, is.parts.1, refl)
 heap_body s (other tag time body) is h = absurd (let no_heap = is.parts.2 in cc)
 
-module _ (s at tag time : ℕ) (body after rest : List ℕ) (records : List Record) (was : Order) (fault : FormatFault) (frame : FrameTaken rest tag time body after) (comes : IsAt was (map tag_of records)) where
+module _ (s at tag time : ℕ) (body after rest : List ℕ) (records : List Record) (was : Order) (fault : FormatFault)
+    (frame : FrameTaken rest tag time body after) (comes : IsAt was (map tag_of records)) where
   -- a fault in a frame leaves no whole record there with which the list can go on
   stuck_in_frame : FrameFault s at tag body was fault → IsStuck s records rest
   stuck_in_frame wrong z left is e go =
-      let same = same_frame tag time body after (tag_of z) (time_of z) (body_of s z) left frame.length_fits is.length_fits (sym frame.bytes_are ∙ e) in
+      let same = same_frame tag time body after (tag_of z) (time_of z)
+      (body_of s z) left frame.length_fits is.length_fits (sym frame.bytes_are ∙ e) in
       let tags : tag ≡ tag_of z = same.tags in
       let bodies : body ≡ body_of s z = same.bodies in
       let allowed_here : is_length_of s tag (length body) ≡ true = rw (tags, bodies) is.length_allowed in
       elim wrong [
         | wrong_length code place not_allowed ↦ cc
-        | wrong_order code place allowed breaks ↦ breaks (map tag_of records) comes (subst (λ (n : ℕ). CanGoOn (map tag_of records ++ n ∷ [])) (sym tags) go)
+        | wrong_order code place allowed breaks ↦ breaks (map tag_of records) comes
+            (subst (λ (n : ℕ). CanGoOn (map tag_of records ++ n ∷ [])) (sym tags) go)
         | wrong_heap is_heap allowed goes bad ↦
             let whole = heap_body s z is (subst (λ (n : ℕ). is_heap_tag n ≡ true) tags is_heap) in
-            no_whole_body s body bad.subs whole.0 bad.rest fault.code bad.longest.parts bad.longest.each bad.wrong whole.1 (bodies ∙ whole.2)
+            no_whole_body s body bad.subs whole.0 bad.rest fault.code bad.longest.parts bad.longest.each bad.wrong
+            whole.1 (bodies ∙ whole.2)
       ]
 
-  told : (code place : ℕ) → fault.code ≡ code → fault.offset ≡ place → RecordFault s records at (framed tag time body ++ after) code place → RecordFault s records at rest fault.code fault.offset
+  told : (code place : ℕ) → fault.code ≡ code → fault.offset ≡ place
+      → RecordFault s records at (framed tag time body ++ after) code place
+      → RecordFault s records at rest fault.code fault.offset
   told code place c p h = rw (frame.bytes_are, c, p) h
 
   fault_in_frame : FrameFault s at tag body was fault → RecordFault s records at rest fault.code fault.offset
   fault_in_frame wrong = elim wrong [
-    | wrong_length code place not_allowed ↦ told 4 at code place (bad_length tag time body after frame.length_fits not_allowed)
-    | wrong_order code place allowed breaks ↦ told 8 at code place (out_of_order tag time body after frame.length_fits allowed (breaks (map tag_of records) comes))
+    | wrong_length code place not_allowed ↦ told 4 at code place
+        (bad_length tag time body after frame.length_fits not_allowed)
+    | wrong_order code place allowed breaks ↦ told 8 at code place
+        (out_of_order tag time body after frame.length_fits allowed (breaks (map tag_of records) comes))
     | wrong_heap is_heap allowed goes bad ↦
         told fault.code (at + 9 + length (flat_map (spelling_of s) bad.subs)) refl bad.place
-        (in_heap tag time body after bad.subs bad.rest fault.code frame.length_fits is_heap (goes (map tag_of records) comes) bad.longest bad.wrong)
+        (in_heap tag time body after bad.subs bad.rest fault.code frame.length_fits is_heap
+        (goes (map tag_of records) comes) bad.longest bad.wrong)
   ]
 
 -- ---- the loop over the records: its faults
@@ -136,43 +162,61 @@ module _ (bytes rest : List ℕ) (was : Order) (old new : Places) (adds : AddsRe
   place_of : (at : ℕ) → at ≡ 31 + (length bytes - length rest) → 31 + length (spellings old.id_size adds.records) ≡ at
   place_of at e = omega (arith, e, ap length adds.parts, length-append (spellings old.id_size adds.records) rest)
 
-  fault_here : (at : ℕ) (fault : FormatFault) → at ≡ 31 + (length bytes - length rest) → IsStuck old.id_size adds.records rest → RecordFault old.id_size adds.records at rest fault.code fault.offset → HasRecordFault old.id_size bytes fault
+  fault_here : (at : ℕ) (fault : FormatFault) → at ≡ 31 + (length bytes - length rest)
+      → IsStuck old.id_size adds.records rest → RecordFault old.id_size adds.records at rest fault.code fault.offset
+      → HasRecordFault old.id_size bytes fault
   fault_here at fault e stuck wrong = record {
     records = adds.records;
     rest = rest;
-    longest = longest_records old.id_size bytes adds.records rest adds.parts adds.each (at_goes_on was (map tag_of adds.records) adds.order) stuck;
+    longest = longest_records old.id_size bytes adds.records rest adds.parts adds.each
+        (at_goes_on was (map tag_of adds.records) adds.order) stuck;
     wrong = rw (place_of at e) wrong;
   }
 
   pub same_id_size : new.id_size ≡ old.id_size
   same_id_size = ap (λ (p : Places). p.id_size) adds.joined
 
-  pub fault_in_record : (at tag time : ℕ) (body after : List ℕ) (fault : FormatFault) → FrameTaken rest tag time body after → at ≡ 31 + (length bytes - length rest) → FrameFault new.id_size at tag body was fault → HasRecordFault old.id_size bytes fault
+  pub fault_in_record : (at tag time : ℕ) (body after : List ℕ) (fault : FormatFault)
+      → FrameTaken rest tag time body after → at ≡ 31 + (length bytes - length rest)
+      → FrameFault new.id_size at tag body was fault → HasRecordFault old.id_size bytes fault
   fault_in_record at tag time body after fault frame e wrong =
-      let here : FrameFault old.id_size at tag body was fault = subst (λ (s : ℕ). FrameFault s at tag body was fault) same_id_size wrong in
-      fault_here at fault e (stuck_in_frame old.id_size at tag time body after rest adds.records was fault frame adds.order here)
+      let here : FrameFault old.id_size at tag body was fault =
+      subst (λ (s : ℕ). FrameFault s at tag body was fault) same_id_size wrong in
+      fault_here at fault e (stuck_in_frame old.id_size at tag time body after rest adds.records was fault frame
+      adds.order here)
       (fault_in_frame old.id_size at tag time body after rest adds.records was fault frame adds.order here)
 
-  pub fault_where_cut : (at : ℕ) (fault : FormatFault) → 0 < length rest → RunsPastEnd rest → at ≡ 31 + (length bytes - length rest) → fault ≡ record { code = 3; offset = at } → HasRecordFault old.id_size bytes fault
+  pub fault_where_cut : (at : ℕ) (fault : FormatFault) → 0 < length rest → RunsPastEnd rest
+      → at ≡ 31 + (length bytes - length rest) → fault ≡ record { code = 3; offset = at }
+      → HasRecordFault old.id_size bytes fault
   fault_where_cut at fault some cut e f =
       subst (λ (x : FormatFault). HasRecordFault old.id_size bytes x) (sym f)
-      (fault_here at (record { code = 3; offset = at }) e (stuck_where_cut old.id_size adds.records rest cut) (truncated rest some cut))
+      (fault_here at (record { code = 3; offset = at }) e (stuck_where_cut old.id_size adds.records rest cut)
+      (truncated rest some cut))
 
-  pub fault_at_end : (at : ℕ) (fault : FormatFault) → rest ≡ [] → is_done was ≡ false → at ≡ 31 + length bytes → fault ≡ record { code = 8; offset = at } → HasRecordFault old.id_size bytes fault
+  pub fault_at_end : (at : ℕ) (fault : FormatFault) → rest ≡ [] → is_done was ≡ false → at ≡ 31 + length bytes
+      → fault ≡ record { code = 8; offset = at } → HasRecordFault old.id_size bytes fault
   fault_at_end at fault none undone e f =
       let place : at ≡ 31 + (length bytes - length rest) = omega (arith, e, ap length none) in
-      let stuck : IsStuck old.id_size adds.records rest = subst (IsStuck old.id_size adds.records) (sym none) (stuck_at_end old.id_size adds.records) in
+      let stuck : IsStuck old.id_size adds.records rest =
+      subst (IsStuck old.id_size adds.records) (sym none) (stuck_at_end old.id_size adds.records) in
       subst (λ (x : FormatFault). HasRecordFault old.id_size bytes x) (sym f)
       (fault_here at (record { code = 8; offset = at }) place stuck
-      (subst (λ (l : List ℕ). RecordFault old.id_size adds.records at l 8 at) (sym none) (no_snapshot (not_done_is_not was (map tag_of adds.records) undone adds.order))))
+      (subst (λ (l : List ℕ). RecordFault old.id_size adds.records at l 8 at) (sym none)
+      (no_snapshot (not_done_is_not was (map tag_of adds.records) undone adds.order))))
 
 -- ---- what is left to read at a turn of the loop
 
-pub bytes_left : (bytes rest : List ℕ) (was : Order) (old new : Places) → AddsRecords bytes rest was old new → IsBytes bytes → IsBytes rest
-bytes_left bytes rest was old new adds h = bytes-behind (spellings old.id_size adds.records) rest (subst IsBytes adds.parts h)
+pub bytes_left : (bytes rest : List ℕ) (was : Order) (old new : Places) → AddsRecords bytes rest was old new
+    → IsBytes bytes → IsBytes rest
+bytes_left bytes rest was old new adds h =
+    bytes-behind (spellings old.id_size adds.records) rest (subst IsBytes adds.parts h)
 
-pub left_within : (bytes rest : List ℕ) (was : Order) (old new : Places) → AddsRecords bytes rest was old new → length rest ≤ length bytes
-left_within bytes rest was old new adds = omega (arith, ap length adds.parts, length-append (spellings old.id_size adds.records) rest)
+pub left_within : (bytes rest : List ℕ) (was : Order) (old new : Places) → AddsRecords bytes rest was old new
+    → length rest ≤ length bytes
+left_within bytes rest was old new adds =
+    omega (arith, ap length adds.parts, length-append (spellings old.id_size adds.records) rest)
 
-pub frame_room : (rest : List ℕ) (tag time : ℕ) (body left : List ℕ) → FrameTaken rest tag time body left → length rest ≡ 9 + (length body + length left)
+pub frame_room : (rest : List ℕ) (tag time : ℕ) (body left : List ℕ) → FrameTaken rest tag time body left
+    → length rest ≡ 9 + (length body + length left)
 frame_room rest tag time body left frame = ap length frame.bytes_are ∙ length-framed tag time body left

@@ -12,7 +12,8 @@ use Rattle.hprof_grammar.proofs.BoundsLaws.{formed_by}
 
 abbrev file : List ℕ
 file =
-    0x4A ∷ 0x41 ∷ 0x56 ∷ 0x41 ∷ 0x20 ∷ 0x50 ∷ 0x52 ∷ 0x4F ∷ 0x46 ∷ 0x49 ∷ 0x4C ∷ 0x45 ∷ 0x20 ∷ 0x31 ∷ 0x2E ∷ 0x30 ∷ 0x2E ∷ 0x32 ∷ 0 ∷
+    0x4A ∷ 0x41 ∷ 0x56 ∷ 0x41 ∷ 0x20 ∷ 0x50 ∷ 0x52 ∷ 0x4F ∷ 0x46 ∷ 0x49 ∷ 0x4C ∷ 0x45 ∷ 0x20 ∷ 0x31 ∷ 0x2E ∷ 0x30 ∷
+    0x2E ∷ 0x32 ∷ 0 ∷
     0 ∷ 0 ∷ 0 ∷ 4 ∷ 0 ∷ 0 ∷ 0 ∷ 0 ∷ 0 ∷ 0 ∷ 0 ∷ 0 ∷
     1 ∷ 0 ∷ 0 ∷ 0 ∷ 0 ∷ 0 ∷ 0 ∷ 0 ∷ 5 ∷
     0 ∷ 0 ∷ 0 ∷ 1 ∷ 0x41 ∷
@@ -117,18 +118,35 @@ string_is = record { parts = lit< tt; time = lit< tt; length_fits = lit< tt; len
 
 load_is : IsRecord 4 (load_class 0 1 0x100 0 1)
 unfolding is_length_of
-load_is = record { parts = (lit< tt, lit< tt, lit< tt, lit< tt); time = lit< tt; length_fits = lit< tt; length_allowed = refl }
+load_is = record {
+  parts = (lit< tt, lit< tt, lit< tt, lit< tt);
+  time = lit< tt;
+  length_fits = lit< tt;
+  length_allowed = refl;
+}
 
 heap_is : IsRecord 4 (heap 0x0C 0 subs)
 unfolding is_length_of
-heap_is = record { parts = (refl, (class_is, (first_is, (second_is, (root_is, tt))))); time = lit< tt; length_fits = lit< tt; length_allowed = refl }
+heap_is = record {
+  parts = (refl, (class_is, (first_is, (second_is, (root_is, tt)))));
+  time = lit< tt;
+  length_fits = lit< tt;
+  length_allowed = refl;
+}
 
 -- the file spells a dump, with these places
 file_is_dump : IsDumpOf file places
 unfolding is_id_size
 file_is_dump = record {
   records = records;
-  spells = record { size = lit≤ tt; id_size = refl; time = 0; time_fits = lit< tt; whole = file_is; each = (string_is, (load_is, (heap_is, tt))) };
+  spells = record {
+    size = lit≤ tt;
+    id_size = refl;
+    time = 0;
+    time_fits = lit< tt;
+    whole = file_is;
+    each = (string_is, (load_is, (heap_is, tt)));
+  };
   orderly = inl refl;
   places = places_are;
 }

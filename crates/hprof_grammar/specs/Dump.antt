@@ -1,11 +1,13 @@
 -- A text that spells a dump: its header and its records, and the heap list of these.
-use Rattle.std.specs.Prelude.{Bool, List, [], codes, false, filter, flat_map, length, map, true, ℕ, ◌++◌, ◌+◌, ◌<◌, ◌^◌, ◌∷◌, ◌≡◌, ◌≤◌}
+use Rattle.std.specs.Prelude.{Bool, List, [], codes, false, filter, flat_map, length, map, true, ℕ, ◌++◌, ◌+◌, ◌<◌, ◌^◌}
+use Rattle.std.specs.Prelude.{◌∷◌, ◌≡◌, ◌≤◌}
 use Rattle.std.specs.List.{AllByRecursion}
 use Rattle.byteorder.specs.Endian.{big_bytes}
 use Rattle.hprof_grammar.specs.Record.{IsRecord, Record, record_spelling, subs_of}
 use Rattle.hprof_grammar.specs.Tables.{is_id_size}
 use Rattle.hprof_grammar.specs.SubRecord.{SubRecord, spelling_of}
-use Rattle.hprof_grammar.specs.SubRecord.SubRecord.{class_dump, instance_dump, object_array_dump, primitive_array_dump, root}
+use Rattle.hprof_grammar.specs.SubRecord.SubRecord.{class_dump, instance_dump, object_array_dump, primitive_array_dump}
+use Rattle.hprof_grammar.specs.SubRecord.SubRecord.{root}
 
 -- the bytes of the longest text that is read: 1 GiB
 abbrev pub limit : ℕ

@@ -1,12 +1,16 @@
 -- The kinds of sub-records as the code has them, by their tags.
 use Rattle.std.specs.Prelude.{None, Option, Some, if◌then◌else◌, ℕ, ◌==◌}
 use Rattle.hprof_grammar.specs.SubRecord.{RootOrigin, SubRecord}
-use Rattle.hprof_grammar.specs.SubRecord.RootOrigin.{java_frame, jni_global, jni_local, monitor_used, native_stack, sticky_class, thread_block, thread_object, unknown}
-use Rattle.hprof_grammar.specs.SubRecord.SubRecord.{class_dump, instance_dump, object_array_dump, primitive_array_dump, root}
+use Rattle.hprof_grammar.specs.SubRecord.RootOrigin.{java_frame, jni_global, jni_local, monitor_used, native_stack}
+use Rattle.hprof_grammar.specs.SubRecord.RootOrigin.{sticky_class, thread_block, thread_object, unknown}
+use Rattle.hprof_grammar.specs.SubRecord.SubRecord.{class_dump, instance_dump, object_array_dump, primitive_array_dump}
+use Rattle.hprof_grammar.specs.SubRecord.SubRecord.{root}
 use Rattle.hprof_grammar.specs.declared.kinds.Kind.{Kind}
 use Rattle.hprof_grammar.specs.declared.kinds.Kind.TheVariants.{Class, Instance, ObjectArray, PrimitiveArray, Root}
 use Rattle.hprof_grammar.specs.declared.kinds.RootKind.{RootKind}
-use Rattle.hprof_grammar.specs.declared.kinds.RootKind.TheVariants.{JavaFrame, JniGlobal, JniLocal, MonitorUsed, NativeStack, StickyClass, ThreadBlock, ThreadObject, Unknown}
+use Rattle.hprof_grammar.specs.declared.kinds.RootKind.TheVariants.{JavaFrame, JniGlobal, JniLocal, MonitorUsed}
+use Rattle.hprof_grammar.specs.declared.kinds.RootKind.TheVariants.{NativeStack, StickyClass, ThreadBlock, ThreadObject}
+use Rattle.hprof_grammar.specs.declared.kinds.RootKind.TheVariants.{Unknown}
 
 -- what makes an object a root, as a kind
 abbrev pub origin_kind : RootOrigin → RootKind

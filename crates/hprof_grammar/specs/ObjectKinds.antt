@@ -1,7 +1,8 @@
 -- The kinds of the sub-records that describe objects.
 use Rattle.std.specs.Prelude.{None, Option, Some}
 use Rattle.hprof_grammar.specs.SubRecord.{SubRecord}
-use Rattle.hprof_grammar.specs.SubRecord.SubRecord.{class_dump, instance_dump, object_array_dump, primitive_array_dump, root}
+use Rattle.hprof_grammar.specs.SubRecord.SubRecord.{class_dump, instance_dump, object_array_dump, primitive_array_dump}
+use Rattle.hprof_grammar.specs.SubRecord.SubRecord.{root}
 use Rattle.hprof_grammar.specs.declared.view.ObjectKind.{ObjectKind}
 use Rattle.hprof_grammar.specs.declared.view.ObjectKind.TheVariants.{Class, Instance, ObjectArray, PrimitiveArray}
 

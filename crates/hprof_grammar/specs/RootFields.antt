@@ -2,7 +2,8 @@
 use Rattle.std.specs.Prelude.{None, Option, Some, ℕ, ◌≡◌}
 use Rattle.hprof_grammar.specs.Standing.{Sight, Stands}
 use Rattle.hprof_grammar.specs.SubRecord.{Root, RootOrigin}
-use Rattle.hprof_grammar.specs.SubRecord.RootOrigin.{java_frame, jni_global, jni_local, native_stack, thread_block, thread_object}
+use Rattle.hprof_grammar.specs.SubRecord.RootOrigin.{java_frame, jni_global, jni_local, native_stack, thread_block}
+use Rattle.hprof_grammar.specs.SubRecord.RootOrigin.{thread_object}
 use Rattle.hprof_grammar.specs.SubRecord.SubRecord.{root}
 
 -- the ID of a JNI global reference

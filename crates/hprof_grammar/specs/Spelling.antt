@@ -14,14 +14,14 @@ pub data Field : Type 0 where
   raw : (bytes : List ℕ) → Field
 
 -- numbers are big-endian
-abbrev pub bytes_of : Field → List ℕ
-bytes_of (number width value) = big_bytes width value
-bytes_of (type_code place code) = code ∷ []
-bytes_of (raw bytes) = bytes
+abbrev pub field_spelling : Field → List ℕ
+field_spelling (number width value) = big_bytes width value
+field_spelling (type_code place code) = code ∷ []
+field_spelling (raw bytes) = bytes
 
 -- the fields one after the other
 abbrev pub spelled : List Field → List ℕ
-spelled fields = flat_map bytes_of fields
+spelled fields = flat_map field_spelling fields
 
 -- a number fits its bytes
 abbrev pub Fits : Field → Type 0
@@ -45,7 +45,7 @@ pub record EndsShort (fields : List Field) (bytes : List ℕ) : Type 0 where
   pub in_order : fields ≡ front ++ cut ∷ more
   pub allowed : AreAllowed front
   pub bytes_are : bytes ≡ spelled front ++ part
-  pub cut_is : bytes_of cut ≡ part ++ missing
+  pub cut_is : field_spelling cut ≡ part ++ missing
   pub not_whole : 0 < length missing
 
 -- the bytes begin with the first of these fields, all allowed, and a type code that is not

@@ -2,13 +2,14 @@
 use Rattle.std.specs.Prelude.{List, None, Option, Some, drop, filter, length, slice_get, ℕ, ◌++◌, ◌<◌, ◌^◌, ◌≡◌}
 use Rattle.hprof_grammar.specs.Record.{IsRecord, Record, record_spelling}
 use Rattle.hprof_grammar.specs.SubRecord.{IsSubRecord, SubRecord, spelling_of}
-use Rattle.hprof_grammar.specs.SubRecord.SubRecord.{class_dump, instance_dump, object_array_dump, primitive_array_dump, root}
+use Rattle.hprof_grammar.specs.SubRecord.SubRecord.{class_dump, instance_dump, object_array_dump, primitive_array_dump}
+use Rattle.hprof_grammar.specs.SubRecord.SubRecord.{root}
 use Rattle.hprof_grammar.specs.Record.Record.{load_class, string}
 use Rattle.hprof_grammar.specs.Dump.{header, heap_of, is_object, is_root}
 use Rattle.hprof_grammar.specs.Places.{Places, is_load, is_string}
 
 -- the bytes from that place on are the spelling of the sub-record, and then a rest
-pub record StandsAt (s : ℕ) (bytes : List ℕ) (at : ℕ) (sub : SubRecord) : Type 0 where
+pub record SubRecordStandsAt (s : ℕ) (bytes : List ℕ) (at : ℕ) (sub : SubRecord) : Type 0 where
   pub rest : List ℕ
   pub bytes_are : drop at bytes ≡ spelling_of s sub ++ rest
   pub is : IsSubRecord s sub
@@ -31,7 +32,7 @@ pub record Sight : Type 0 where
   pub id_size : ℕ
 
 abbrev pub Stands : Sight → ℕ → SubRecord → Type 0
-Stands v at sub = StandsAt v.id_size v.bytes at sub
+Stands v at sub = SubRecordStandsAt v.id_size v.bytes at sub
 
 abbrev pub RecordStands : Sight → ℕ → Record → Type 0
 RecordStands v at r = RecordStandsAt v.id_size v.bytes at r
@@ -65,5 +66,5 @@ pub record IsPlaced (text : List ℕ) (dump : Places) (records : List Record) : 
   pub header : HeaderStandsAt dump.id_size text time
   pub strings : StandInTurn (RecordStandsAt dump.id_size text) dump.strings (filter is_string records)
   pub loaded : StandInTurn (RecordStandsAt dump.id_size text) dump.loaded (filter is_load records)
-  pub roots : StandInTurn (StandsAt dump.id_size text) dump.roots (filter is_root (heap_of records))
-  pub objects : StandInTurn (StandsAt dump.id_size text) dump.objects (filter is_object (heap_of records))
+  pub roots : StandInTurn (SubRecordStandsAt dump.id_size text) dump.roots (filter is_root (heap_of records))
+  pub objects : StandInTurn (SubRecordStandsAt dump.id_size text) dump.objects (filter is_object (heap_of records))

@@ -1,4 +1,4 @@
-//! The codes by which the faults of a dump are told.
+//! The codes of the faults of a dump, by name.
 
 /// The text of the header is wrong, or is not all there.
 pub const BAD_HEADER: u8 = 1;

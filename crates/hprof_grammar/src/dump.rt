@@ -8,8 +8,8 @@ use crate::kinds::Kind;
 use std::alloc::Allocator;
 use std::marker::Model;
 
-/// What is kept of a dump: the size of its identifiers, and the places of its parts in the bytes, each list in
-/// the order of the file.
+/// What is kept of a dump: the size of its identifiers, and the places of its parts, each list in the order of the
+/// file. The place of a record or a sub-record is where its tag stands, counted in bytes from the first of the dump.
 #[derive(Debug, Drop)]
 pub struct Dump<A: Allocator> {
     id_size: u8,
@@ -34,7 +34,7 @@ impl<A: Allocator> Model for Dump<A> {
 }
 
 impl<A: Allocator> Dump<A> {
-    /// The bytes of an identifier.
+    /// How many bytes an identifier has: 4 or 8.
     pub fn id_size(&self) -> u8
         ensures { result ≡ self.now.id_size }
     {
@@ -69,7 +69,7 @@ impl<A: Allocator> Dump<A> {
         &self.objects
     }
 
-    /// Gives the memory of the objects' places back, once whoever reads them has them.
+    /// Gives back the memory of the objects' places: the list of them is empty from then on.
     pub fn forget_objects(&mut self)
         ensures { self.new ≡ record self.old { objects = [] } }
     {
@@ -77,7 +77,7 @@ impl<A: Allocator> Dump<A> {
         self.objects.shrink_to_fit();
     }
 
-    /// Notes where a sub-record stands.
+    /// Notes where a sub-record of this kind stands.
     pub(crate) fn note(&mut self, kind: Kind, at: u32) -> Result<(), ReadRefusal>
         ensures ok { OnOk result (self.new ≡ noted self.old kind at) }
         ensures memory { IfErr result (λ e. e ≡ ReadRefusal.OutOfMemory) }

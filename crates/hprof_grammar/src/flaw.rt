@@ -19,9 +19,9 @@ impl Flaw {
     ghost use Rattle.std.specs.Prelude.{◌≡◌};
     ghost use Rattle.hprof_grammar.specs.working.Reading as reading;
 
-    /// The code by which it is told.
+    /// The code of a fault of this kind.
     pub fn code(self) -> u8
-        ensures { result ≡ reading.code_of self }
+        ensures { result ≡ reading.flaw_code self }
     {
         match self {
             Flaw::UnknownTag => codes::BAD_SUB_TAG,
@@ -38,14 +38,14 @@ pub struct FormatFault {
     /// record, 5 the tag of a sub-record, 6 a sub-record is cut, 7 a type code, 8 the order of the snapshot's
     /// records, 14 too many bytes.
     pub code: u8,
-    /// The place of the fault in the bytes.
+    /// The place of the fault: how many bytes stand before it.
     pub offset: u64,
 }
 
 impl FormatFault {
     ghost use Rattle.std.specs.Prelude.{◌≡◌};
 
-    /// A fault at a place.
+    /// The fault of this code at this place.
     pub(crate) fn new(code: u8, at: u32) -> Self
         ensures { result ≡ record { code = code; offset = at } }
     {
@@ -76,7 +76,7 @@ impl Error for FormatFault {}
 pub enum ReadRefusal {
     /// The bytes are no dump.
     Fault(FormatFault),
-    /// A growth was refused.
+    /// A request for memory was refused.
     OutOfMemory,
 }
 

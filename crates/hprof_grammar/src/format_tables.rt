@@ -7,7 +7,7 @@ ghost use Rattle.hprof_grammar.specs.Tables as tables;
 use crate::kinds::{Kind, RootKind, TypePlace};
 use crate::tags;
 
-/// Whether identifiers may have so many bytes.
+/// Whether identifiers may have so many bytes: 4 or 8.
 #[tactic(auto, unfolding(crate::specs::Tables::is_id_size))]
 pub fn is_id_size(size: u32) -> bool
     ensures { result ≡ tables.is_id_size size }
@@ -15,7 +15,7 @@ pub fn is_id_size(size: u32) -> bool
     size == 4 || size == 8
 }
 
-/// Whether a type code may stand there.
+/// Whether this type code may stand at such a place.
 #[tactic(auto, unfolding(crate::specs::Tables::is_type_at))]
 pub fn is_type_at(place: TypePlace, code: u8) -> bool
     ensures { result ≡ tables.is_type_at place code }
@@ -28,7 +28,7 @@ pub fn is_type_at(place: TypePlace, code: u8) -> bool
     }
 }
 
-/// The bytes of a value of that type, 0 for a code that is no type.
+/// How many bytes a value of this type code has, 0 for a code that is no type.
 #[tactic(auto, unfolding(crate::specs::Tables::size_of))]
 pub fn size_of(id_size: u8, code: u8) -> u8
     ensures { result ≡ tables.size_of id_size code }
@@ -43,7 +43,7 @@ pub fn size_of(id_size: u8, code: u8) -> u8
     }
 }
 
-/// The kind of a root with that tag, if it is one.
+/// The kind of a root with this tag, `None` where it is the tag of no root.
 #[tactic(auto, unfolding(crate::specs::Kinds::root_kind))]
 fn root_kind(tag: u8) -> Option<RootKind>
     ensures { result ≡ kind_tables.root_kind tag }
@@ -62,7 +62,7 @@ fn root_kind(tag: u8) -> Option<RootKind>
     }
 }
 
-/// What the tag of a sub-record says, if it is one.
+/// What this tag of a sub-record says, `None` where it is in no table.
 #[tactic(auto, unfolding(crate::specs::Kinds::kind_of))]
 pub fn kind_of(tag: u8) -> Option<Kind>
     ensures { result ≡ kind_tables.kind_of tag }
@@ -76,7 +76,7 @@ pub fn kind_of(tag: u8) -> Option<Kind>
     }
 }
 
-/// Whether the body of a record with that tag may have so many bytes.
+/// Whether the body of a record with this tag may have so many bytes.
 #[tactic(auto, unfolding(crate::specs::Tables::is_length_of))]
 pub fn is_length_of(id_size: u8, tag: u8, length: usize) -> bool
     ensures { result ≡ tables.is_length_of id_size tag length }

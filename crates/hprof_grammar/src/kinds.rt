@@ -26,10 +26,15 @@ pub enum RootKind {
 /// What the tag of a sub-record says.
 #[derive(Clone, Copy, Debug, PartialEq, Eq)]
 pub enum Kind {
+    /// A root of this kind.
     Root(RootKind),
+    /// CLASS DUMP.
     Class,
+    /// INSTANCE DUMP.
     Instance,
+    /// OBJECT ARRAY DUMP.
     ObjectArray,
+    /// PRIMITIVE ARRAY DUMP.
     PrimitiveArray,
 }
 

@@ -1,4 +1,21 @@
 //! Records and sub-records of an HPROF heap dump (JAVA PROFILE 1.0.2), as places in its bytes.
+//!
+//! `read` answers the one dump that the bytes spell, or their first fault with its code and place. It keeps places
+//! alone, 4 bytes for each string, loaded class, root and object; a `View` then reads a field of what stands at a
+//! place.
+//!
+//! From `src/tests.rt`, which is proved and run:
+//!
+//!     let dump = read(rt.alloc(), &FILE)?;
+//!     assert_eq!(rt; dump.id_size(), 4);
+//!     assert_eq!(rt; dump.strings(), [31].as_slice());
+//!     assert_eq!(rt; dump.loaded(), [45].as_slice());
+//!     assert_eq!(rt; dump.objects(), [79, 127, 148].as_slice());
+//!     assert_eq!(rt; dump.roots(), [169].as_slice());
+//!
+//! README.md beside this folder has a proved caller and the order in which to read the definitions; what is accepted
+//! and what is refused stands in `docs/FORMAT.md`.
+
 #![tactic(auto)]
 
 mod codes;

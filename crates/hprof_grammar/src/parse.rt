@@ -44,8 +44,10 @@ fn header_id_size(bytes: &[u8]) -> Result<u8, ReadRefusal>
     Ok(size as u8)
 }
 
-/// Reads a dump in the format of the HPROF manual, JAVA PROFILE 1.0.2: the dump that the bytes spell, as
-/// places in them, or their first fault. `OutOfMemory` only where a growth was refused.
+/// Reads a dump in the format of the HPROF manual, JAVA PROFILE 1.0.2, of at most 2^30 bytes: the dump that the bytes
+/// spell, as places in them.
+///
+/// `Fault`: they spell none, and this is their first fault. `OutOfMemory`: a request for memory was refused.
 pub fn read<A: Allocator + Copy>(alloc: A, bytes: &[u8]) -> Result<Dump<A>, ReadRefusal>
     ensures dump { IfOk result (λ dump. IsDumpOf bytes.now dump) }
     ensures fault { IfFault result (λ fault. FirstFault bytes.now fault.code fault.offset) }

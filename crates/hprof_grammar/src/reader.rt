@@ -1,7 +1,7 @@
 //! Bytes that are read from left to right.
 
 ghost use Rattle.std.specs.Prelude.{◌≡◌, ◌==◌, length};
-ghost use Rattle.hprof_grammar.specs.working.Reading.{Gives, GivesAs, Passes, list_at, number_at, raw_at, type_at};
+ghost use Rattle.hprof_grammar.specs.working.Reading.{Reads, ReadsAs, Passes, list_at, number_at, raw_at, type_at};
 
 use crate::flaw::Flaw;
 use crate::format_tables::is_type_at;
@@ -11,27 +11,28 @@ use byteorder::{BigEndian, ByteOrder};
 /// The bytes that are left to read.
 #[derive(Clone, Copy)]
 pub struct Reader<'a> {
+    /// The bytes behind those that were read.
     pub rest: &'a [u8],
 }
 
 impl<'a> Reader<'a> {
-    /// Reads these bytes.
+    /// A reader of these bytes, of which none is read yet.
     pub fn new(bytes: &'a [u8]) -> Self
         ensures { result.rest.now ≡ bytes.now }
     {
         Reader { rest: bytes }
     }
 
-    /// Whether nothing is left.
+    /// Whether no byte is left.
     pub fn is_empty(&self) -> bool
         ensures { result ≡ (length self.now.rest.now == 0) }
     {
         self.rest.is_empty()
     }
 
-    /// So many bytes, as they are.
+    /// The next `count` bytes, as they are: `Short` where fewer are left.
     pub fn raw(&mut self, count: u64) -> Result<&'a [u8], Flaw>
-        ensures { GivesAs (λ x. x.now) result self.new.rest.now (raw_at count self.old.rest.now) }
+        ensures { ReadsAs (λ x. x.now) result self.new.rest.now (raw_at count self.old.rest.now) }
     {
         let bytes = self.rest;
         let end = count as usize;
@@ -51,7 +52,7 @@ impl<'a> Reader<'a> {
         Ok(())
     }
 
-    /// So many numbers of `width` bytes, passed at once.
+    /// `count` numbers of `width` bytes each, passed at once and not looked at.
     #[tactic(auto, using(crate::proofs::Counts::numbers_are_bytes))]
     pub fn pass_all(&mut self, count: u32, width: u8) -> Result<(), Flaw>
         ensures { Passes result self.new.rest.now (list_at (number_at width) count self.old.rest.now) }
@@ -60,27 +61,27 @@ impl<'a> Reader<'a> {
         Ok(())
     }
 
-    /// A number of 2 bytes.
+    /// A big-endian number of 2 bytes.
     pub fn u16(&mut self) -> Result<u16, Flaw>
-        ensures { Gives result self.new.rest.now (number_at 2 self.old.rest.now) }
+        ensures { Reads result self.new.rest.now (number_at 2 self.old.rest.now) }
     {
         let bytes = self.rest;
         self.raw(2)?;
         Ok(BigEndian::read_u16(bytes))
     }
 
-    /// A number of 4 bytes.
+    /// A big-endian number of 4 bytes.
     pub fn u32(&mut self) -> Result<u32, Flaw>
-        ensures { Gives result self.new.rest.now (number_at 4 self.old.rest.now) }
+        ensures { Reads result self.new.rest.now (number_at 4 self.old.rest.now) }
     {
         let bytes = self.rest;
         self.raw(4)?;
         Ok(BigEndian::read_u32(bytes))
     }
 
-    /// A type code that may stand there.
+    /// A type code that may stand at such a place: `WrongType` where it may not.
     pub fn type_code(&mut self, place: TypePlace) -> Result<u8, Flaw>
-        ensures { Gives result self.new.rest.now (type_at place self.old.rest.now) }
+        ensures { Reads result self.new.rest.now (type_at place self.old.rest.now) }
     {
         let [code, behind @ ..] = self.rest else {
             return Err(Flaw::Short);

@@ -14,13 +14,13 @@ use crate::sub_record_list::note_subs;
 use crate::{codes, tags};
 use std::alloc::Allocator;
 
-/// Where the records begin.
+/// Where the records of a dump begin: the place behind its header.
 pub const FIRST_RECORD: u32 = 31;
 
 /// The bytes of a record before its body: a tag, a time and a length.
 const FRAME: u32 = 9;
 
-/// Notes a record that stands at that place, and tells what has come of the snapshot with it.
+/// Notes a record that stands at this place, and answers what has come of the snapshot with it.
 fn note_record<A: Allocator>(
     dump: &mut Dump<A>,
     order: Order,

@@ -19,7 +19,7 @@ pub enum Order {
 }
 
 impl Order {
-    /// What has come with a record of that tag, or nothing where it breaks the order.
+    /// What has come once a record of this tag has, `None` where it breaks the order.
     pub fn after(self, tag: u8) -> Option<Order>
         ensures { orders.StepsTo self tag result }
     {

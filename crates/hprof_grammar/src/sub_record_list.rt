@@ -10,7 +10,7 @@ use crate::reader::Reader;
 use crate::sub_records::sub_record;
 use std::alloc::Allocator;
 
-/// Notes the sub-records of a heap record, of which the body stands at that place.
+/// Notes the sub-records of a heap record, whose body stands at this place.
 pub fn note_subs<A: Allocator>(dump: &mut Dump<A>, body: &[u8], at: u32) -> Result<(), ReadRefusal>
     requires low { 1 ≤ dump.old.id_size }
     requires high { dump.old.id_size ≤ 8 }

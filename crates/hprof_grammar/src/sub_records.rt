@@ -5,7 +5,11 @@ ghost use Rattle.std.specs.Prelude.{◌≡◌, ◌≤◌, IfOk, Some, slice_get,
 ghost use Rattle.std.specs.Option.{option_and_then};
 ghost use Rattle.hprof_grammar.specs.Kinds as kind_tables;
 ghost use Rattle.hprof_grammar.specs.Tables as tables;
-ghost use Rattle.hprof_grammar.specs.working.Reading.{Passes, class_at, constant_at, counted_at, instance_at, list_at, member_at, number_at, object_array_at, pair_at, primitive_array_at, raw_at, root_at, static_at, sub_record_at, type_at};
+ghost use Rattle.hprof_grammar.specs.working.Reading.{Passes, class_dump_at, constant_at, counted_at, instance_at};
+ghost use Rattle.hprof_grammar.specs.working.Reading.{list_at};
+ghost use Rattle.hprof_grammar.specs.working.Reading.{member_at, number_at, object_array_at, then_at};
+ghost use Rattle.hprof_grammar.specs.working.Reading.{primitive_array_at, raw_at, root_at, static_at, sub_record_at};
+ghost use Rattle.hprof_grammar.specs.working.Reading.{type_at};
 
 use crate::flaw::Flaw;
 use crate::format_tables::{kind_of, size_of};
@@ -15,7 +19,7 @@ use crate::reader::Reader;
 /// A type code, and a value of that type.
 fn typed_value(reader: &mut Reader<'_>, id_size: u8, place: TypePlace) -> Result<(), Flaw>
     ensures { Passes result reader.new.rest.now
-        (pair_at (type_at place) (λ t. raw_at (tables.size_of id_size t)) reader.old.rest.now) }
+        (then_at (type_at place) (λ t. raw_at (tables.size_of id_size t)) reader.old.rest.now) }
 {
     let code = reader.type_code(place)?;
     reader.raw(u64::from(size_of(id_size, code)))?;
@@ -94,12 +98,12 @@ fn members(reader: &mut Reader<'_>, id_size: u8) -> Result<(), Flaw>
     Ok(())
 }
 
-/// Behind the tag of a CLASS DUMP.
-#[tactic(auto, unfolding(crate::specs::working::Reading::class_at))]
+/// The fields of a CLASS DUMP behind its tag.
+#[tactic(auto, unfolding(crate::specs::working::Reading::class_dump_at))]
 fn class(reader: &mut Reader<'_>, id_size: u8) -> Result<(), Flaw>
     requires low { 1 ≤ id_size }
     requires high { id_size ≤ 8 }
-    ensures { Passes result reader.new.rest.now (class_at id_size reader.old.rest.now) }
+    ensures { Passes result reader.new.rest.now (class_dump_at id_size reader.old.rest.now) }
 {
     reader.pass(id_size)?; // the object
     reader.pass(4)?; // the stack trace
@@ -115,7 +119,7 @@ fn class(reader: &mut Reader<'_>, id_size: u8) -> Result<(), Flaw>
     members(reader, id_size)
 }
 
-/// Behind the tag of an INSTANCE DUMP.
+/// The fields of an INSTANCE DUMP behind its tag.
 #[tactic(auto, unfolding(crate::specs::working::Reading::instance_at))]
 fn instance(reader: &mut Reader<'_>, id_size: u8) -> Result<(), Flaw>
     requires low { 1 ≤ id_size }
@@ -130,7 +134,7 @@ fn instance(reader: &mut Reader<'_>, id_size: u8) -> Result<(), Flaw>
     Ok(())
 }
 
-/// Behind the tag of an OBJECT ARRAY DUMP.
+/// The fields of an OBJECT ARRAY DUMP behind its tag.
 #[tactic(auto, unfolding(crate::specs::working::Reading::object_array_at))]
 fn object_array(reader: &mut Reader<'_>, id_size: u8) -> Result<(), Flaw>
     requires low { 1 ≤ id_size }
@@ -144,7 +148,7 @@ fn object_array(reader: &mut Reader<'_>, id_size: u8) -> Result<(), Flaw>
     reader.pass_all(count, id_size)
 }
 
-/// Behind the tag of a PRIMITIVE ARRAY DUMP.
+/// The fields of a PRIMITIVE ARRAY DUMP behind its tag.
 #[tactic(auto, unfolding(crate::specs::working::Reading::primitive_array_at))]
 fn primitive_array(reader: &mut Reader<'_>, id_size: u8) -> Result<(), Flaw>
     requires low { 1 ≤ id_size }
@@ -159,7 +163,7 @@ fn primitive_array(reader: &mut Reader<'_>, id_size: u8) -> Result<(), Flaw>
     Ok(())
 }
 
-/// Behind the tag of a root: its object, and what its kind says of it.
+/// The fields of a root behind its tag: its object, and what its kind says of it.
 fn root(reader: &mut Reader<'_>, id_size: u8, kind: RootKind) -> Result<(), Flaw>
     requires low { 1 ≤ id_size }
     requires high { id_size ≤ 8 }

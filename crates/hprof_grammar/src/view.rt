@@ -27,7 +27,7 @@ use std::marker::Model;
 /// Where the fields of a sub-record stand behind the place of its tag, each but for the identifiers before it.
 const OBJECT: usize = 1;
 
-/// In the dump of an object.
+/// Where the dump of an object has the serial number of its stack trace.
 const STACK_TRACE: usize = OBJECT;
 
 const BEHIND_STACK_TRACE: usize = STACK_TRACE + 4;
@@ -35,13 +35,17 @@ const BEHIND_STACK_TRACE: usize = STACK_TRACE + 4;
 /// The kind of a sub-record that describes an object.
 #[derive(Clone, Copy, Debug, PartialEq, Eq)]
 pub enum ObjectKind {
+    /// A class: CLASS DUMP.
     Class,
+    /// An instance: INSTANCE DUMP.
     Instance,
+    /// An array of objects: OBJECT ARRAY DUMP.
     ObjectArray,
+    /// An array of values of a primitive type: PRIMITIVE ARRAY DUMP.
     PrimitiveArray,
 }
 
-/// The bytes of a dump, and the size of its identifiers.
+/// The bytes of a dump and the size of its identifiers, by which the fields of its parts are read at their places.
 #[derive(Drop)]
 pub struct View<'a> {
     bytes: &'a [u8],
@@ -62,7 +66,7 @@ impl<'a> Model for View<'a> {
 impl<'a> View<'a> {
     ghost use Rattle.hprof_grammar.specs.ObjectKinds.{object_kind};
 
-    /// The view of these bytes, with identifiers of `id_size` bytes.
+    /// A view of the bytes of a dump whose identifiers have `id_size` bytes, from 1 to 8.
     pub fn new(bytes: &'a [u8], id_size: u8) -> Self
         requires low { 1 ≤ id_size }
         requires high { id_size ≤ 8 }
@@ -72,7 +76,7 @@ impl<'a> View<'a> {
         View { bytes, id_size }
     }
 
-    /// The bytes of an identifier.
+    /// How many bytes an identifier has, from 1 to 8.
     pub fn id_size(&self) -> u8
         ensures size { result ≡ self.now.id_size }
         ensures low { 1 ≤ self.now.id_size }
@@ -81,14 +85,14 @@ impl<'a> View<'a> {
         self.id_size
     }
 
-    /// How many bytes a value of that type takes.
+    /// How many bytes a value of this type code has, 0 for a code that is no type.
     pub fn size_of(&self, type_code: u8) -> u8
         ensures { result ≡ tables.size_of self.now.id_size type_code }
     {
         format_tables::size_of(self.id_size, type_code)
     }
 
-    /// The kind of the object that a sub-record describes.
+    /// The kind of the object that the sub-record at a place describes.
     pub fn kind(&self, at: u32) -> ObjectKind
         requires { (sub : SubRecord) × Stands self.now at sub × (is_object sub ≡ true) }
         ensures { (sub : SubRecord) → Stands self.now at sub → is_object sub ≡ true → object_kind sub ≡ Some result }
@@ -101,7 +105,7 @@ impl<'a> View<'a> {
         }
     }
 
-    /// The first identifier of a sub-record: the object that a root names, or that a dump describes.
+    /// The first identifier of the sub-record at a place: the object that a root names, or that a dump describes.
     pub fn object_id(&self, at: u32) -> u64
         requires { (sub : SubRecord) × Stands self.now at sub }
         ensures { (sub : SubRecord) → Stands self.now at sub → result ≡ id_of sub }
@@ -109,7 +113,7 @@ impl<'a> View<'a> {
         number_at(self.bytes, at as usize + OBJECT, self.id_size as usize)
     }
 
-    /// The identifier at a place of bytes of a dump, such as the values of an instance.
+    /// The identifier at a place of these bytes, such as the values of an instance.
     pub fn identifier_at(&self, bytes: &[u8], at: usize) -> u64
         requires room { at + self.now.id_size ≤ length bytes.now }
         ensures { result ≡ big_number self.now.id_size (drop at bytes.now) }
@@ -127,7 +131,8 @@ impl<'a> View<'a> {
     }
 }
 
-/// The number of `width` bytes at a place. Each width that a field has is read at a width that is known here.
+/// The big-endian number of `width` bytes at a place. Each width that a field has is read at a width that is known
+/// here.
 fn number_at(bytes: &[u8], at: usize, width: usize) -> u64
     requires low { 1 ≤ width }
     requires high { width ≤ 8 }
@@ -143,7 +148,7 @@ fn number_at(bytes: &[u8], at: usize, width: usize) -> u64
     }
 }
 
-/// The number of 4 bytes at a place.
+/// The big-endian number of 4 bytes at a place.
 fn u32_at(bytes: &[u8], at: usize) -> u32
     requires { at + 4 ≤ length bytes.now }
     ensures { result ≡ big_number 4 (drop at bytes.now) }

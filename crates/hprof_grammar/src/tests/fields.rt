@@ -193,11 +193,11 @@ fn trace_root(view: &View<'_>, at: u32) -> (RootKind, u64, u32, u32)
 }
 
 /// The places of a dump's parts: strings, loaded classes, objects, roots.
-type Places<'a> = [&'a [u32]; 4];
+type PlacesOfParts<'a> = [&'a [u32]; 4];
 
 #[test]
 fn places(rt: HostRuntime) -> Result<(), Fail> {
-    let dumps: [(&[u8], u8, Places<'_>); 2] = [
+    let dumps: [(&[u8], u8, PlacesOfParts<'_>); 2] = [
         (
             &WITH_FOUR,
             4,

@@ -11,12 +11,12 @@ use crate::view::{BEHIND_STACK_TRACE, View, bytes_at, number_at, u32_at};
 /// Where the fields of array dumps stand, each but for the identifiers before it.
 const COUNT: usize = BEHIND_STACK_TRACE;
 
-/// In an object array.
+/// Where an object array has the identifier of its class.
 const CLASS: usize = COUNT + 4;
 
 const ELEMENTS: usize = CLASS;
 
-/// In a primitive array.
+/// Where a primitive array has the type code of its elements.
 const TYPE: usize = COUNT + 4;
 
 const PACKED_ELEMENTS: usize = TYPE + 1;
@@ -31,7 +31,7 @@ impl<'a> View<'a> {
         number_at(self.bytes, at as usize + CLASS + size, size)
     }
 
-    /// The identifiers that an object array holds.
+    /// The identifiers that an object array holds, in order.
     pub fn array_elements(&self, at: u32) -> Ids<'a>
         requires { (a : ObjectArray) × Stands self.now at (object_array_dump a) }
         ensures { (a : ObjectArray) → Stands self.now at (object_array_dump a) → result ≡ a.elements }
@@ -42,7 +42,7 @@ impl<'a> View<'a> {
         Ids::new(self.bytes, elements, self.id_size, count)
     }
 
-    /// The type code of a primitive array's elements.
+    /// The type code of a primitive array's elements, 4 to 11.
     pub fn element_type(&self, at: u32) -> u8
         requires { (a : PrimitiveArray) × Stands self.now at (primitive_array_dump a) }
         ensures { (a : PrimitiveArray) → Stands self.now at (primitive_array_dump a) → result ≡ a.type }
@@ -60,7 +60,7 @@ impl<'a> View<'a> {
         u32_at(self.bytes, at as usize + COUNT + size)
     }
 
-    /// The elements of a primitive array, packed, of the size that their type has.
+    /// The bytes of a primitive array's elements, one element after the other, each of the size that its type has.
     pub fn packed_elements(&self, at: u32) -> &'a [u8]
         requires { (a : PrimitiveArray) × Stands self.now at (primitive_array_dump a) }
         ensures { (a : PrimitiveArray) → Stands self.now at (primitive_array_dump a) → result.now ≡ a.values }

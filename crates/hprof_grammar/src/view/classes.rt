@@ -20,10 +20,10 @@ const INSTANCE_SIZE: usize = FIRST_ID;
 
 const CONSTANTS: usize = INSTANCE_SIZE + 4;
 
-/// The identifiers that stand before its instance size: the object, and those behind the stack trace.
+/// How many identifiers of a class dump stand before its instance size: the object, and those behind the stack trace.
 const IDS: usize = 7;
 
-/// The bytes of a constant's index.
+/// How many bytes a constant's index has.
 const INDEX_SIZE: u8 = 2;
 
 /// The identifiers of a class dump behind its stack trace, by their places among them.
@@ -39,7 +39,8 @@ const RESERVED: usize = 4;
 
 const RESERVED_TOO: usize = 5;
 
-/// Those of them that are followed. They are the first, and those that the manual reserves stand behind them.
+/// How many of the identifiers behind the stack trace are followed: the first ones. Those that the manual reserves
+/// stand behind them.
 const LEADING_IDS: u32 = 4;
 
 impl<'a> View<'a> {
@@ -91,8 +92,8 @@ impl<'a> View<'a> {
         self.class_id(at, RESERVED_TOO)
     }
 
-    /// The identifiers of a class dump that are followed and stand one after the other: superclass, loader, signers,
-    /// protection domain.
+    /// The four identifiers of a class dump that are followed and stand one after the other: superclass, loader,
+    /// signers, protection domain.
     pub fn leading_ids(&self, at: u32) -> Ids<'a>
         requires { (c : Class) × Stands self.now at (class_dump c) }
         ensures { (c : Class) → Stands self.now at (class_dump c)
@@ -103,7 +104,7 @@ impl<'a> View<'a> {
         Ids::new(self.bytes, first, self.id_size, LEADING_IDS)
     }
 
-    /// The bytes of an instance of a class, as the dump says. Nothing rests on it.
+    /// How many bytes an instance of a class has, as the dump says. Nothing rests on it.
     pub fn instance_size(&self, at: u32) -> u32
         requires { (c : Class) × Stands self.now at (class_dump c) }
         ensures { (c : Class) → Stands self.now at (class_dump c) → result ≡ c.instance_size }
@@ -128,7 +129,7 @@ impl<'a> View<'a> {
         Values::new(self.statics_from(at), self.id_size, self.id_size)
     }
 
-    /// The instance fields that a class declares.
+    /// The instance fields that a class declares, without those of its superclasses.
     pub fn members(&self, at: u32) -> Members<'a>
         requires { (c : Class) × Stands self.now at (class_dump c) }
         ensures { (c : Class) → Stands self.now at (class_dump c) → result ≡ c.members }
@@ -137,7 +138,7 @@ impl<'a> View<'a> {
         Members::new(members, self.id_size)
     }
 
-    /// The identifier at that place among those behind a class's stack trace.
+    /// The identifier at this place among those behind a class's stack trace.
     fn class_id(&self, at: u32, nth: usize) -> u64
         requires stands { (c : Class) × Stands self.now at (class_dump c) }
         requires nth { nth < 6 }

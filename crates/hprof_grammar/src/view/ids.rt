@@ -6,7 +6,7 @@ ghost use Rattle.hprof_grammar.specs.Series.{numbers_in};
 use crate::view::number_at;
 use std::marker::Model;
 
-/// The identifiers that are left of a list.
+/// Identifiers that stand one after the other in a dump: those that are left to read.
 #[derive(Drop)]
 pub struct Ids<'a> {
     bytes: &'a [u8],
@@ -41,14 +41,14 @@ impl<'a> Ids<'a> {
         }
     }
 
-    /// How many are left.
+    /// How many identifiers are left.
     pub fn len(&self) -> usize
         ensures { result ≡ length self.now }
     {
         self.left as usize
     }
 
-    /// Whether none is left.
+    /// Whether no identifier is left.
     pub fn is_empty(&self) -> bool
         ensures { IsTrue result ↔ (self.now ≡ []) }
     {

@@ -24,7 +24,7 @@ impl<'a> View<'a> {
         number_at(self.bytes, at as usize + CLASS + size, size)
     }
 
-    /// The values of an instance's fields: those of its class, then those of its superclass, and so on.
+    /// The bytes of the values of an instance's fields: those of its class, then those of its superclass, and so on.
     pub fn instance_values(&self, at: u32) -> &'a [u8]
         requires { (i : Instance) × Stands self.now at (instance_dump i) }
         ensures { (i : Instance) → Stands self.now at (instance_dump i) → result.now ≡ i.values }

@@ -12,7 +12,7 @@ use std::marker::Model;
 pub struct MemberField {
     /// The identifier of the string that names it.
     pub name: u64,
-    /// The type of its values.
+    /// The type code of its values: 2, or 4 to 11.
     pub type_code: u8,
 }
 
@@ -52,14 +52,14 @@ impl<'a> Members<'a> {
         }
     }
 
-    /// How many are left.
+    /// How many fields are left.
     pub fn len(&self) -> usize
         ensures { result ≡ length self.now }
     {
         self.left as usize
     }
 
-    /// Whether none is left.
+    /// Whether no field is left.
     pub fn is_empty(&self) -> bool
         ensures { IsTrue result ↔ (self.now ≡ []) }
     {

@@ -6,7 +6,7 @@ ghost use Rattle.hprof_grammar.specs.Standing.{HeaderStands, LoadStands, RecordS
 
 use crate::view::{View, bytes_at, number_at, u32_at};
 
-/// Where the two words of the header's time stand.
+/// Where the two words of the header's time stand in the bytes of a dump.
 const HEADER_TIME: usize = 23;
 
 /// Where the fields of a record stand behind its tag: its time, its length, its body.
@@ -34,7 +34,7 @@ impl<'a> View<'a> {
         number_at(self.bytes, HEADER_TIME, 8)
     }
 
-    /// The time of a record, in microseconds since that of the dump.
+    /// The time of a record, in microseconds since the time of the header.
     pub fn record_time(&self, at: u32) -> u32
         requires { (r : Record) × RecordStands self.now at r }
         ensures { (r : Record) → RecordStands self.now at r → result ≡ time_of r }
@@ -58,7 +58,7 @@ impl<'a> View<'a> {
         number_at(self.bytes, at as usize + BODY, self.id_size as usize)
     }
 
-    /// The bytes of a string.
+    /// The bytes of a string's text.
     pub fn string_text(&self, at: u32) -> &'a [u8]
         requires { (time id : ℕ) × (text : List ℕ) × StringStands self.now at time id text }
         ensures { (time id : ℕ) (text : List ℕ) → StringStands self.now at time id text → result.now ≡ text }

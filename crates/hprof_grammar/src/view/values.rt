@@ -1,7 +1,8 @@
 //! The values of constants and of static fields.
 
 ghost use Rattle.std.specs.Prelude.{◌≡◌, ◌≤◌, ◌↔◌, [], IsTrue, drop, length, slice_index};
-ghost use Rattle.hprof_grammar.specs.Series.{HasCountedValues, behind_counted_values, count_in, counted_values_in, value_end, value_in};
+ghost use Rattle.hprof_grammar.specs.Series.{HasCountedValues, behind_counted_values, count_in, counted_values_in};
+ghost use Rattle.hprof_grammar.specs.Series.{value_end, value_in};
 
 use crate::format_tables::size_of;
 use crate::view::{bytes_at, number_at};
@@ -13,13 +14,13 @@ use std::marker::Model;
 pub struct TypedValue<'a> {
     /// The index of the constant, or the identifier of the string that names the static field.
     pub label: u64,
-    /// The value's type.
+    /// The type code of the value: 2, or 4 to 11.
     pub type_code: u8,
-    /// The value's bytes.
+    /// The bytes of the value, as many as its type has.
     pub value: &'a [u8],
 }
 
-/// The values that are left of a class's constants or static fields.
+/// The constants or the static fields of a class: those that are left to read.
 #[derive(Drop)]
 pub struct Values<'a> {
     bytes: &'a [u8],
@@ -56,7 +57,7 @@ impl<'a> Values<'a> {
         }
     }
 
-    /// Those that are left once more.
+    /// Another iterator over the values that are left. This one stays where it is.
     pub fn again(&self) -> Values<'a>
         ensures { result ≡ self.now }
     {
@@ -68,14 +69,14 @@ impl<'a> Values<'a> {
         }
     }
 
-    /// How many are left.
+    /// How many values are left.
     pub fn len(&self) -> usize
         ensures { result ≡ length self.now }
     {
         self.left as usize
     }
 
-    /// Whether none is left.
+    /// Whether no value is left.
     pub fn is_empty(&self) -> bool
         ensures { IsTrue result ↔ (self.now ≡ []) }
     {
@@ -135,7 +136,7 @@ fn split_value(bytes: &[u8], id_size: u8, front: u8) -> (u8, &[u8], &[u8])
     (type_code, value, behind)
 }
 
-/// The bytes behind the values in these, which their count precedes.
+/// The bytes behind values that stand in these bytes after their count.
 pub(crate) fn skip_values(bytes: &[u8], id_size: u8, front: u8) -> &[u8]
     requires { HasCountedValues id_size front bytes.now }
     ensures { result.now ≡ behind_counted_values id_size front bytes.now }

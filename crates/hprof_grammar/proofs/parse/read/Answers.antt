@@ -1,3 +1,4 @@
+-- The header ends at byte 31: what is told of the bytes from there on is told of the whole text.
 use Rattle.std.proofs.Common.{List, ap, arith, drop, length, subst, take, ℕ, ◌-◌, ◌≡◌}
 use Rattle.std.proofs.lemmas.List.{take_rest}
 use Rattle.std.proofs.lemmas.Result.{err_from_is_err_and}
@@ -22,17 +23,25 @@ note_records-requires-clause-high g c =
 pub returns-in_err-note_records-clause-fault : goal.returns-in_err-note_records-clause-fault
 returns-in_err-note_records-clause-fault g c =
     let text = c.args.bytes.now in
-    let exit = err_from_is_err_and c.from_residual-in_err-note_records.result c.from_residual-in_err-note_records.ensures.1 in
-    let size : c.new-dump.result.id_size ≡ c.in_ok-id_size.id_size = ap (λ (p : Places). p.id_size) c.new-dump.ensures in
-    fault_passes (Unit {0}) c.from_residual-in_err-note_records.result c.in_err-note_records.field-0.0 (HasRecordFault c.new-dump.result.id_size (take (length text - 31) (drop 31 text)))
+    let exit = err_from_is_err_and c.from_residual-in_err-note_records.result
+    c.from_residual-in_err-note_records.ensures.1 in
+    let size : c.new-dump.result.id_size ≡ c.in_ok-id_size.id_size =
+    ap (λ (p : Places). p.id_size) c.new-dump.ensures in
+    fault_passes (Unit {0}) c.from_residual-in_err-note_records.result c.in_err-note_records.field-0.0
+    (HasRecordFault c.new-dump.result.id_size (take (length text - 31) (drop 31 text)))
     (λ fault. FirstFault c.args.bytes.now fault.code fault.offset) exit
     (λ fault wrong. record_fault_read c.args.bytes.now c.in_ok-id_size.id_size fault c.in_ok-id_size.ensures.ok
-    (subst (λ (s : ℕ). HasRecordFault s (drop 31 c.args.bytes.now) fault) size (subst (λ (l : List ℕ). HasRecordFault c.new-dump.result.id_size l fault) (take_rest c.args.bytes.now 31) wrong)))
+    (subst (λ (s : ℕ). HasRecordFault s (drop 31 c.args.bytes.now) fault) size
+    (subst (λ (l : List ℕ). HasRecordFault c.new-dump.result.id_size l fault)
+    (take_rest c.args.bytes.now 31) wrong)))
     c.in_err-note_records.ensures.fault
 
 pub returns-clause-dump : goal.returns-clause-dump
 returns-clause-dump g c =
     let text = c.args.bytes.now in
     let adds = c.in_ok-note_records.ensures.adds in
-    let start : AddsAll (drop 31 c.args.bytes.now) c.new-dump.result c.note_records.new.dump = subst (λ (l : List ℕ). AddsAll l c.new-dump.result c.note_records.new.dump) (take_rest c.args.bytes.now 31) adds in
-    dump_read c.args.bytes.now c.in_ok-id_size.id_size c.note_records.new.dump c.in_ok-id_size.ensures.ok (subst (λ (p : Places). AddsAll (drop 31 c.args.bytes.now) p c.note_records.new.dump) c.new-dump.ensures start)
+    let start : AddsAll (drop 31 c.args.bytes.now) c.new-dump.result c.note_records.new.dump =
+    subst (λ (l : List ℕ). AddsAll l c.new-dump.result c.note_records.new.dump)
+    (take_rest c.args.bytes.now 31) adds in
+    dump_read c.args.bytes.now c.in_ok-id_size.id_size c.note_records.new.dump c.in_ok-id_size.ensures.ok
+    (subst (λ (p : Places). AddsAll (drop 31 c.args.bytes.now) p c.note_records.new.dump) c.new-dump.ensures start)

@@ -1,3 +1,4 @@
+-- The bytes from its place on begin with its spelling, so they are no fewer.
 use Rattle.hprof_grammar.proofs.Places.{sub_stands}
 use Rattle.hprof_grammar.proofs.placed.stands_within.Goals as goal
 

@@ -1,3 +1,4 @@
+-- The bytes are the records so far, which have joined, and then the rest. The rest gets shorter.
 use Rattle.std.proofs.Common.{length}
 use Rattle.hprof_grammar.specs.working.Joining.{AddsRecords}
 use Rattle.hprof_grammar.proofs.record_list.note_records.Given as goal

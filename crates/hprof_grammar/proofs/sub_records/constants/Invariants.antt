@@ -1,6 +1,8 @@
+-- To read the constants that are left ends as reading all of them does: in the same bytes, or in the same flaw.
 use Rattle.std.proofs.Common.{◌-◌, ◌≡◌}
 use Rattle.hprof_grammar.specs.working.Reading.{behind, constant_at, list_at}
 use Rattle.hprof_grammar.proofs.sub_records.constants.Given as goal
 
 abbrev pub invariant-loop-i : goal.invariant-loop-i
-invariant-loop-i l = behind (list_at (constant_at l.id_size) (l.count - l._i) l.reader.rest.now) ≡ behind (list_at (constant_at l.id_size) l.count l.initial.reader.rest.now)
+invariant-loop-i l = behind (list_at (constant_at l.id_size) (l.count - l._i) l.reader.rest.now)
+    ≡ behind (list_at (constant_at l.id_size) l.count l.initial.reader.rest.now)

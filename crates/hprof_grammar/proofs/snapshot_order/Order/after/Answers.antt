@@ -1,3 +1,4 @@
+-- Behind segments a dump breaks the order and a segment goes on; behind a whole snapshot no tag of a snapshot may come.
 use Rattle.std.proofs.Common.{[], inl, inr, refl, subst, sym, true, ℕ, ◌++◌, ◌∷◌, ◌≡◌, ◌⊎◌}
 use Rattle.hprof_grammar.specs.working.SnapshotOrder.{IsAt, is_done}
 use Rattle.hprof_grammar.specs.Record.{CanGoOn}
@@ -30,4 +31,5 @@ of_the_snapshot tag h = elim h [ inl e ↦ rw e refl | inr k ↦ elim k [ inl e 
 
 -- more behind a whole snapshot
 pub returns-in-12-tag-2 : goal.returns-in-12-tag-2
-returns-in-12-tag-2 c = λ tags h on. no_more c.args.self tags c.args.tag (done_at c.args.self c.in-Whole.is) (of_the_snapshot c.args.tag c.in-12-tag-2.is) h on
+returns-in-12-tag-2 c = λ tags h on. no_more c.args.self tags c.args.tag (done_at c.args.self c.in-Whole.is)
+    (of_the_snapshot c.args.tag c.in-12-tag-2.is) h on

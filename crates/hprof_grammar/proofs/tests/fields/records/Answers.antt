@@ -29,8 +29,13 @@ has_records-requires-2-clause-header g c =
 pub has_records-requires-2-clause-string : goal.has_records-requires-2-clause-string
 has_records-requires-2-clause-string g c =
     let text = 0x41 ∷ [] in
-    let view = c.new-2 in
-    (21, 1, text, record_seen view.result 8 31 (string 21 1 text) view.ensures.bytes view.ensures.size string_eight refl)
+    let view = c.new-2 in (
+      21,
+      1,
+      text,
+      record_seen view.result 8 31 (string 21 1 text) view.ensures.bytes view.ensures.size string_eight
+          refl,
+    )
 
 pub has_records-requires-2-clause-loaded : goal.has_records-requires-2-clause-loaded
 has_records-requires-2-clause-loaded g c =

@@ -5,7 +5,8 @@ use Rattle.hprof_grammar.specs.SubRecord.RootOrigin.{java_frame, jni_global, jni
 use Rattle.hprof_grammar.specs.SubRecord.RootOrigin.{sticky_class, thread_block, thread_object, unknown}
 use Rattle.hprof_grammar.specs.SubRecord.SubRecord.{root}
 use Rattle.hprof_grammar.proofs.TestDumps.{java_frame_eight, jni_global_eight, jni_local_eight, monitor_used_eight}
-use Rattle.hprof_grammar.proofs.TestDumps.{native_stack_eight, root_of, says, seen, sticky_class_eight, thread_block_eight}
+use Rattle.hprof_grammar.proofs.TestDumps.{native_stack_eight, root_of, says, seen, sticky_class_eight}
+use Rattle.hprof_grammar.proofs.TestDumps.{thread_block_eight}
 use Rattle.hprof_grammar.proofs.TestDumps.{thread_object_eight, unknown_eight}
 use Rattle.hprof_grammar.proofs.tests.fields.roots_with_ids_of_eight.Goals as goal
 

@@ -1,3 +1,4 @@
+-- Six identifiers stand one after the other behind the stack trace, so one is found by its place among them.
 use Rattle.std.proofs.Common.{arith}
 use Rattle.hprof_grammar.proofs.FieldsStand.{class_id}
 use Rattle.hprof_grammar.proofs.view.View.class_id.Goals as goal

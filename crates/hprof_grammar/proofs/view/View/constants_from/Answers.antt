@@ -1,3 +1,4 @@
+-- Seven identifiers, stack trace and instance size stand before the constants: the rest begins with their count.
 use Rattle.std.proofs.Common.{List, arith, subst, sym, ℕ}
 use Rattle.hprof_grammar.specs.working.ClassParts.{IsPartOf, fields_from_constants}
 use Rattle.hprof_grammar.proofs.ClassPartsRead.{constants_part, constants_stand}
@@ -12,4 +13,5 @@ pub returns : goal.returns
 returns c = λ k h.
     let s = c.args.self.now.id_size in
     let bytes = c.self.inside.bytes.now in
-    subst (λ (l : List ℕ). IsPartOf s k (fields_from_constants s k) l) (sym c.bytes_from.ensures) (constants_part c.self.view_is c.args.at k h)
+    subst (λ (l : List ℕ). IsPartOf s k (fields_from_constants s k) l) (sym c.bytes_from.ensures)
+    (constants_part c.self.view_is c.args.at k h)

@@ -1,3 +1,4 @@
+-- The type code of a primitive array is one byte, behind its count.
 use Rattle.std.proofs.Common.{arith}
 use Rattle.hprof_grammar.proofs.FieldsStand.{element_type}
 use Rattle.hprof_grammar.proofs.view.View.element_type.Goals as goal

@@ -1,3 +1,4 @@
+-- The bytes begin with a header, which has its time in the 8 bytes from place 23 on.
 use Rattle.std.proofs.Common.{arith, ◌∙◌}
 use Rattle.hprof_grammar.proofs.RecordsStand.{header_time}
 use Rattle.hprof_grammar.proofs.view.View.header_time.Goals as goal

@@ -1,3 +1,4 @@
+-- The number behind the class is the length of the values, so that many bytes behind it are the values.
 use Rattle.std.proofs.Common.{arith, ◌*◌, ◌+◌}
 use Rattle.hprof_grammar.proofs.FieldsStand.{instance_count, instance_values}
 use Rattle.hprof_grammar.proofs.Places.{raw_read}
@@ -17,5 +18,6 @@ bytes_at-requires c =
 pub returns : goal.returns
 returns c = λ i h.
     let count = instance_count c.self.view_is c.args.at i h in
-    let values = raw_read c.self.inside.bytes.now (c.args.at + 9 + 2 * c.self.inside.id_size) i.values (instance_values c.self.view_is c.args.at i h) in
+    let values = raw_read c.self.inside.bytes.now (c.args.at + 9 + 2 * c.self.inside.id_size) i.values
+    (instance_values c.self.view_is c.args.at i h) in
     cc (c.u32_at-count.ensures, count.value, c.bytes_at.ensures, values)

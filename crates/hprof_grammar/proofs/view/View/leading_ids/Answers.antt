@@ -1,3 +1,4 @@
+-- Superclass, loader, signers and domain stand one after the other, so four numbers read from the first on are they.
 use Rattle.std.proofs.Common.{arith, ◌∙◌}
 use Rattle.hprof_grammar.proofs.FieldsStand.{leading_ids, leading_ids_room}
 use Rattle.hprof_grammar.proofs.view.View.leading_ids.Goals as goal

@@ -1,10 +1,12 @@
+-- The name of a LOAD CLASS is the last of its fields, behind the stack trace.
 use Rattle.std.proofs.Common.{arith}
 use Rattle.hprof_grammar.proofs.RecordsStand.{loaded_class_name}
 use Rattle.hprof_grammar.proofs.view.View.loaded_class_name.Goals as goal
 
 pub number_at-requires-clause-room : goal.number_at-requires-clause-room
 number_at-requires-clause-room c =
-    let there = loaded_class_name c.self.view_is c.args.at c.requires.0 c.requires.1 c.requires.2 c.requires.3 c.requires.4 c.requires.5 in
+    let there = loaded_class_name c.self.view_is c.args.at c.requires.0 c.requires.1 c.requires.2 c.requires.3
+    c.requires.4 c.requires.5 in
     omega (arith, there.room)
 
 pub returns : goal.returns

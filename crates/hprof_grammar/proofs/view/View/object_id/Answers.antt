@@ -1,3 +1,4 @@
+-- Every sub-record has an identifier right behind its tag.
 use Rattle.std.proofs.Common.{arith}
 use Rattle.hprof_grammar.proofs.FieldsStand.{object_id}
 use Rattle.hprof_grammar.proofs.view.View.object_id.Goals as goal

@@ -1,3 +1,4 @@
+-- Count times size of an element is the length of the values, so that many bytes behind the type code are the values.
 use Rattle.std.proofs.Common.{ap, length, subst, sym, ℕ, ◌*◌, ◌+◌, ◌∙◌, ◌≡◌, ◌≤◌}
 use Rattle.hprof_grammar.specs.Tables.{size_of}
 use Rattle.hprof_grammar.proofs.FieldsStand.{packed_elements, packed_size}
@@ -10,13 +11,19 @@ bytes_at-requires c =
     let a = c.requires.0 in
     let h = c.requires.1 in
     let total : c.element_count-count.result * c.size_of-size.result ≡ length a.values =
-    ap (λ (n : ℕ). n * c.size_of-size.result) (c.element_count-count.ensures a h) ∙ ap (λ (n : ℕ). a.count * n) (c.size_of-size.ensures ∙ ap (size_of v.id_size) (c.element_type.ensures a h)) ∙ sym (packed_size c.self.view_is c.args.at a h) in
-    subst (λ (n : ℕ). c.args.at + 10 + c.self.inside.id_size + n ≤ length c.self.inside.bytes.now) (sym total) (packed_elements c.self.view_is c.args.at a h).inside
+    ap (λ (n : ℕ). n * c.size_of-size.result) (c.element_count-count.ensures a h)
+    ∙ ap (λ (n : ℕ). a.count * n) (c.size_of-size.ensures ∙ ap (size_of v.id_size) (c.element_type.ensures a h))
+    ∙ sym (packed_size c.self.view_is c.args.at a h) in
+    subst (λ (n : ℕ). c.args.at + 10 + c.self.inside.id_size + n ≤ length c.self.inside.bytes.now) (sym total)
+    (packed_elements c.self.view_is c.args.at a h).inside
 
 pub returns : goal.returns
 returns c = λ a h.
     let v = c.args.self.now in
     let total : c.element_count-count.result * c.size_of-size.result ≡ length a.values =
-    ap (λ (n : ℕ). n * c.size_of-size.result) (c.element_count-count.ensures a h) ∙ ap (λ (n : ℕ). a.count * n) (c.size_of-size.ensures ∙ ap (size_of v.id_size) (c.element_type.ensures a h)) ∙ sym (packed_size c.self.view_is c.args.at a h) in
-    let same = raw_read c.self.inside.bytes.now (c.args.at + 10 + c.self.inside.id_size) a.values (packed_elements c.self.view_is c.args.at a h) in
+    ap (λ (n : ℕ). n * c.size_of-size.result) (c.element_count-count.ensures a h)
+    ∙ ap (λ (n : ℕ). a.count * n) (c.size_of-size.ensures ∙ ap (size_of v.id_size) (c.element_type.ensures a h))
+    ∙ sym (packed_size c.self.view_is c.args.at a h) in
+    let same = raw_read c.self.inside.bytes.now (c.args.at + 10 + c.self.inside.id_size) a.values
+    (packed_elements c.self.view_is c.args.at a h) in
     cc (c.bytes_at.ensures, total, same)

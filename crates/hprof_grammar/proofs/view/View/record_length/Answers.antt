@@ -1,3 +1,4 @@
+-- The frame has the length of the body in 4 bytes, behind the tag and the time.
 use Rattle.std.proofs.Common.{arith, ◌∙◌}
 use Rattle.hprof_grammar.proofs.RecordsStand.{length_shown, record_length}
 use Rattle.hprof_grammar.proofs.view.View.record_length.Goals as goal

@@ -1,3 +1,4 @@
+-- The byte at the place is the tag of the root's origin, and the table of tags says its kind: no other case can be.
 use Rattle.std.proofs.Common.{arith}
 use Rattle.hprof_grammar.proofs.RootsStand.{root_tagged}
 use Rattle.hprof_grammar.proofs.view.View.root_kind.Goals as goal

@@ -1,3 +1,4 @@
+-- The identifier of a string is the first field of its body.
 use Rattle.std.proofs.Common.{arith}
 use Rattle.hprof_grammar.proofs.RecordsStand.{string_id}
 use Rattle.hprof_grammar.proofs.view.View.string_id.Goals as goal

@@ -1,3 +1,4 @@
+-- The body of a string is an identifier and the text, so the text is as long as the body without an identifier.
 use Rattle.std.proofs.Common.{arith, length, ◌+◌, ◌-◌, ◌≡◌}
 use Rattle.hprof_grammar.proofs.RecordsStand.{string_length, string_text}
 use Rattle.hprof_grammar.proofs.Places.{raw_read}
@@ -22,6 +23,8 @@ bytes_at-requires c =
 pub returns : goal.returns
 returns c = λ time id text h.
     let whole = string_length c.self.view_is c.args.at time id text h in
-    let count : c.u32_at-length.result - c.self.inside.id_size ≡ length text = omega (arith, c.u32_at-length.ensures, whole.value) in
-    let same = raw_read c.self.inside.bytes.now (c.args.at + 9 + c.self.inside.id_size) text (string_text c.self.view_is c.args.at time id text h) in
+    let count : c.u32_at-length.result - c.self.inside.id_size ≡ length text =
+    omega (arith, c.u32_at-length.ensures, whole.value) in
+    let same = raw_read c.self.inside.bytes.now (c.args.at + 9 + c.self.inside.id_size) text
+    (string_text c.self.view_is c.args.at time id text h) in
     cc (c.bytes_at.ensures, count, same)

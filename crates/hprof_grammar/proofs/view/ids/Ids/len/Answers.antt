@@ -1,3 +1,4 @@
+-- The view reads one identifier for each that is left.
 use Rattle.hprof_grammar.proofs.SeriesRead.{length-numbers_in}
 use Rattle.hprof_grammar.proofs.view.ids.Ids.len.Goals as goal
 
