@@ -1,5 +1,6 @@
 -- The tables of the opening.
-use Rattle.std.proofs.Common.{◌≡◌, ℕ, zero, suc, ◌+◌, ◌<◌, ◌≤◌, All, length, subst, List, [], ◌∷◌, ◌++◌, get_or, replicate, Some, None, ap, sym, refl, ◌∙◌, arith}
+use Rattle.std.proofs.Common.{◌≡◌, ℕ, zero, suc, ◌+◌, ◌<◌, ◌≤◌, All, length, subst, List, [], ◌∷◌, ◌++◌, get_or}
+use Rattle.std.proofs.Common.{replicate, Some, None, ap, sym, refl, ◌∙◌, arith}
 use Rattle.std.proofs.lemmas.List.{replicate-append-replicate}
 use Rattle.mark_core.specs.declared.which.Which.{Which}
 use Rattle.mark_core.specs.declared.which.Which.TheVariants.{Full, Empty}
@@ -12,7 +13,8 @@ use Rattle.mark_core.specs.Law.{Law}
 use Rattle.mark_core.proofs.Openings.{opening_keeps}
 use Rattle.mark_core.proofs.Weights.{AreNumbered, numbered_opening}
 
-pub one_more : {X : Type 0} (xs ys : List X) (n : ℕ) (x : X) → xs ≡ replicate n x → ys ≡ xs ++ x ∷ [] → ys ≡ replicate (n + 1) x
+pub one_more : {X : Type 0} (xs ys : List X) (n : ℕ) (x : X) → xs ≡ replicate n x → ys ≡ xs ++ x ∷ []
+    → ys ≡ replicate (n + 1) x
 one_more xs ys n x before now = now ∙ ap (λ l. l ++ x ∷ []) before ∙ replicate-append-replicate n 1 x
 
 zero_at : (n o : ℕ) → ◌≡◌ {A = ℕ} (get_or (replicate n 0) o 0) 0
@@ -20,7 +22,8 @@ zero_at zero o = refl
 zero_at (suc n) zero = refl
 zero_at (suc n) (suc o) = zero_at n o
 
-heads_open : (s : Listing) (tag : ℕ) → s.full ≡ record { index = None; tag = tag } → s.empty ≡ record { index = Some 0; tag = tag } → heads_of s ≡ first_heads tag
+heads_open : (s : Listing) (tag : ℕ) → s.full ≡ record { index = None; tag = tag }
+    → s.empty ≡ record { index = Some 0; tag = tag } → heads_of s ≡ first_heads tag
 heads_open s tag full empty = λ t q. at q t
   where
     at : (q : Which) → heads_of s q ≡ first_heads tag q
@@ -28,7 +31,8 @@ heads_open s tag full empty = λ t q. at q t
     at Empty = empty
 
 pub opens :
-    (s : Listing) (d e : Setup) (tag : ℕ) → d ≡ e → s.full ≡ record { index = None; tag = tag } → s.empty ≡ record { index = Some 0; tag = tag }
+    (s : Listing) (d e : Setup) (tag : ℕ) → d ≡ e → s.full ≡ record { index = None; tag = tag }
+    → s.empty ≡ record { index = Some 0; tag = tag }
     → ((i : ℕ) → get_or s.links i None ≡ first_link d.buffers i) → s.marks ≡ replicate d.objects 0
     → s.slots ≡ replicate d.buffers (Some []) → s.idle ≡ 0 → s.accounts ≡ part whole ∷ []
     → marking_of s ≡ opening e tag
@@ -46,8 +50,10 @@ opens s d e tag same full empty links marks slots idle accounts = opened ∙ ap 
 
 -- the opening is under the law
 pub lawful_opening :
-    (s : Listing) (e : Setup) (tag : ℕ) → marking_of s ≡ opening e tag → s.setup ≡ e → length s.links ≡ e.buffers → length s.slots ≡ e.buffers → length s.marks ≡ e.objects
-    → 0 < e.buffers → e.buffers ≤ 65534 → All (λ o. o < e.objects) e.roots → All (λ p. (p.0 < e.objects) × (p.1 < e.objects)) e.pairs → IsLawful s
+    (s : Listing) (e : Setup) (tag : ℕ) → marking_of s ≡ opening e tag → s.setup ≡ e → length s.links ≡ e.buffers
+    → length s.slots ≡ e.buffers → length s.marks ≡ e.objects
+    → 0 < e.buffers → e.buffers ≤ 65534 → All (λ o. o < e.objects) e.roots
+    → All (λ p. (p.0 < e.objects) × (p.1 < e.objects)) e.pairs → IsLawful s
 lawful_opening s e tag opened same links slots marks some few rooted paired =
     let law : Law e (marking_of s) = subst (Law e) (sym opened) (opening_keeps e tag some) in
     let back : e ≡ s.setup = sym same in

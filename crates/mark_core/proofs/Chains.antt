@@ -1,5 +1,6 @@
 -- The list that the links give from an index on.
-use Rattle.std.proofs.Common.{◌≡◌, ◌⊎◌, ℕ, ◌<◌, List, [], ◌∷◌, Option, Some, None, ap, sym, refl, subst, ◌∙◌, inl, inr, arith}
+use Rattle.std.proofs.Common.{◌≡◌, ◌⊎◌, ℕ, ◌<◌, List, [], ◌∷◌, Option, Some, None, ap, sym, refl, subst, ◌∙◌, inl, inr}
+use Rattle.std.proofs.Common.{arith}
 use Rattle.tagged_index.specs.Head.{Head, after}
 use Rattle.mark_core.specs.Lists.{times}
 use Rattle.mark_core.specs.Account.{Look, blank}
@@ -19,7 +20,8 @@ chain_one link n (x ∷ xs) (y ∷ ys) c d =
     cc
 
 -- the list stays where the links of its buffers stay
-pub chain_links : (link new : ℕ → Option ℕ) (n : Option ℕ) (xs : List ℕ) → ((i : ℕ) → 0 < times i xs → new i ≡ link i) → Chain link n xs → Chain new n xs
+pub chain_links : (link new : ℕ → Option ℕ) (n : Option ℕ) (xs : List ℕ) → ((i : ℕ) → 0 < times i xs → new i ≡ link i)
+    → Chain link n xs → Chain new n xs
 chain_links link new n [] same c = c
 chain_links link new n (x ∷ xs) same c =
     let here : new x ≡ link x = same x (omega (arith, only-same x x refl)) in
@@ -30,7 +32,8 @@ chain_none link n [] c e = refl
 chain_none link n (x ∷ xs) c e = let d = c.0 in cc
 
 -- the buffer on top, and the rest behind its link
-pub chain_rest : (link : ℕ → Option ℕ) (n : Option ℕ) (xs : List ℕ) (i : ℕ) → Chain link n xs → n ≡ Some i → (rest : List ℕ) × (xs ≡ i ∷ rest) × Chain link (link i) rest
+pub chain_rest : (link : ℕ → Option ℕ) (n : Option ℕ) (xs : List ℕ) (i : ℕ) → Chain link n xs → n ≡ Some i
+    → (rest : List ℕ) × (xs ≡ i ∷ rest) × Chain link (link i) rest
 chain_rest link n [] i c e = let f : ⊥ = cc in absurd f
 chain_rest link n (x ∷ xs) i c e =
     let d = c.0 in
@@ -38,7 +41,8 @@ chain_rest link n (x ∷ xs) i c e =
     (xs, ap (λ z. z ∷ xs) s, subst (λ z. Chain link (link z) xs) s c.1)
 
 -- the list is one longer where a buffer that leads to it is on top
-pub chain_more : (link : ℕ → Option ℕ) (n : Option ℕ) (xs : List ℕ) (i : ℕ) → Chain link n xs → link i ≡ n → Chain link (Some i) (i ∷ xs)
+pub chain_more : (link : ℕ → Option ℕ) (n : Option ℕ) (xs : List ℕ) (i : ℕ) → Chain link n xs → link i ≡ n
+    → Chain link (Some i) (i ∷ xs)
 chain_more link n xs i c e = (refl, subst (λ m. Chain link m xs) (sym e) c)
 
 -- nothing was loaded
@@ -50,36 +54,56 @@ pub recent_loaded : (link : ℕ → Option ℕ) (now : Head) → IsRecent link n
 recent_loaded link now h e = inr ((let s : now ≡ h = cc in s), (λ i l n k. let f : ⊥ = cc in absurd f))
 
 -- the link of the last head's buffer was loaded
-pub recent_linked : (link : ℕ → Option ℕ) (now g : Head) (i : ℕ) (old : Option (Option ℕ)) → g.index ≡ Some i → IsRecent link now (record { head = Some g; link = old }) → IsRecent link now (record { head = Some g; link = Some (link i) })
+pub recent_linked : (link : ℕ → Option ℕ) (now g : Head) (i : ℕ) (old : Option (Option ℕ)) → g.index ≡ Some i
+    → IsRecent link now (record { head = Some g; link = old })
+    → IsRecent link now (record { head = Some g; link = Some (link i) })
 recent_linked link now g i old top r h e = go (r h e)
   where
-    go : (h.tag < now.tag) ⊎ ((now ≡ h) × ((j : ℕ) (l : Option ℕ) → h.index ≡ Some j → old ≡ Some l → link j ≡ l)) →
-        (h.tag < now.tag) ⊎ ((now ≡ h) × ((j : ℕ) (l : Option ℕ) → h.index ≡ Some j → Some (link i) ≡ Some l → link j ≡ l))
+    go : (h.tag < now.tag) ⊎ ((now ≡ h) × ((j : ℕ) (l : Option ℕ) → h.index ≡ Some j → old ≡ Some l → link j ≡ l))
+        → (h.tag < now.tag)
+        ⊎ ((now ≡ h) × ((j : ℕ) (l : Option ℕ) → h.index ≡ Some j → Some (link i) ≡ Some l → link j ≡ l))
     go (inl p) = inl p
-    go (inr p) = inr (p.0, (λ j l n k. let s : g ≡ h = cc in let t : g.index ≡ h.index = ap (λ (x : Head). x.index) s in let u : i ≡ j = cc in let v : link i ≡ l = cc in sym (ap link u) ∙ v))
+    go (inr p) = inr (
+      p.0,
+      (λ j l n k. let s : g ≡ h = cc in let t : g.index ≡ h.index = ap (λ (x : Head). x.index) s
+          in let u : i ≡ j = cc in let v : link i ≡ l = cc in sym (ap link u) ∙ v),
+    )
 
 -- after the head changed, whatever was loaded is outdated by its tag
-pub recent_after : (link : ℕ → Option ℕ) (now : Head) (look : Look) (i : Option ℕ) → IsRecent link now look → IsRecent link (after now i) look
+pub recent_after : (link : ℕ → Option ℕ) (now : Head) (look : Look) (i : Option ℕ) → IsRecent link now look
+    → IsRecent link (after now i) look
 recent_after link now look i r h e = go (r h e)
   where
-    go : (h.tag < now.tag) ⊎ ((now ≡ h) × ((j : ℕ) (l : Option ℕ) → h.index ≡ Some j → look.link ≡ Some l → link j ≡ l)) →
-        (h.tag < (after now i).tag) ⊎ ((after now i ≡ h) × ((j : ℕ) (l : Option ℕ) → h.index ≡ Some j → look.link ≡ Some l → link j ≡ l))
+    go : (h.tag < now.tag)
+        ⊎ ((now ≡ h) × ((j : ℕ) (l : Option ℕ) → h.index ≡ Some j → look.link ≡ Some l → link j ≡ l))
+        → (h.tag < (after now i).tag)
+        ⊎ ((after now i ≡ h) × ((j : ℕ) (l : Option ℕ) → h.index ≡ Some j → look.link ≡ Some l → link j ≡ l))
     go (inl p) = inl (omega arith)
     go (inr p) = let t : now.tag ≡ h.tag = ap (λ (x : Head). x.tag) p.0 in inl (omega arith)
 
 -- other links change nothing that was loaded
-pub recent_links : (link new : ℕ → Option ℕ) (now : Head) (look : Look) → ((i : ℕ) → now.index ≡ Some i → new i ≡ link i) → IsRecent link now look → IsRecent new now look
+pub recent_links : (link new : ℕ → Option ℕ) (now : Head) (look : Look)
+    → ((i : ℕ) → now.index ≡ Some i → new i ≡ link i) → IsRecent link now look → IsRecent new now look
 recent_links link new now look same r h e = go (r h e)
   where
-    go : (h.tag < now.tag) ⊎ ((now ≡ h) × ((j : ℕ) (l : Option ℕ) → h.index ≡ Some j → look.link ≡ Some l → link j ≡ l)) →
-        (h.tag < now.tag) ⊎ ((now ≡ h) × ((j : ℕ) (l : Option ℕ) → h.index ≡ Some j → look.link ≡ Some l → new j ≡ l))
+    go : (h.tag < now.tag)
+        ⊎ ((now ≡ h) × ((j : ℕ) (l : Option ℕ) → h.index ≡ Some j → look.link ≡ Some l → link j ≡ l))
+        → (h.tag < now.tag)
+        ⊎ ((now ≡ h) × ((j : ℕ) (l : Option ℕ) → h.index ≡ Some j → look.link ≡ Some l → new j ≡ l))
     go (inl p) = inl p
-    go (inr p) = inr (p.0, (λ j l n k. let t : now.index ≡ h.index = ap (λ (x : Head). x.index) p.0 in same j (t ∙ n) ∙ p.1 j l n k))
+    go (inr p) = inr (
+      p.0,
+      (λ j l n k. let t : now.index ≡ h.index = ap (λ (x : Head). x.index) p.0 in
+          same j (t ∙ n) ∙ p.1 j l n k),
+    )
 
 -- the link that was loaded of the head that stands is the one that stands
-pub recent_link : (link : ℕ → Option ℕ) (now : Head) (look : Look) (i : ℕ) (l : Option ℕ) → IsRecent link now look → look.head ≡ Some now → now.index ≡ Some i → look.link ≡ Some l → link i ≡ l
+pub recent_link : (link : ℕ → Option ℕ) (now : Head) (look : Look) (i : ℕ) (l : Option ℕ) → IsRecent link now look
+    → look.head ≡ Some now → now.index ≡ Some i → look.link ≡ Some l → link i ≡ l
 recent_link link now look i l r e n k = go (r now e)
   where
-    go : (now.tag < now.tag) ⊎ ((now ≡ now) × ((j : ℕ) (m : Option ℕ) → now.index ≡ Some j → look.link ≡ Some m → link j ≡ m)) → link i ≡ l
+    go : (now.tag < now.tag)
+        ⊎ ((now ≡ now) × ((j : ℕ) (m : Option ℕ) → now.index ≡ Some j → look.link ≡ Some m → link j ≡ m))
+        → link i ≡ l
     go (inl p) = absurd (omega arith)
     go (inr p) = p.1 i l n k

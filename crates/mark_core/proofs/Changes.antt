@@ -1,5 +1,6 @@
 -- What an event leaves of the two lists, of the tags and of the marks.
-use Rattle.std.proofs.Common.{◌≡◌, ◌≢◌, ◌⊎◌, ℕ, ◌+◌, List, ◌∷◌, Option, Some, None, ap, sym, refl, subst, ◌∙◌, inl, inr, ◌<◌, ◌≤◌, max, arith}
+use Rattle.std.proofs.Common.{◌≡◌, ◌≢◌, ◌⊎◌, ℕ, ◌+◌, List, ◌∷◌, Option, Some, None, ap, sym, refl, subst, ◌∙◌, inl, inr}
+use Rattle.std.proofs.Common.{◌<◌, ◌≤◌, max, arith}
 use native.Mathlib.Decide.{ℕ_discrete}
 use Rattle.tagged_index.specs.Head.{Head, after}
 use Rattle.mark_core.specs.declared.which.Which.{Which}
@@ -7,7 +8,8 @@ use Rattle.mark_core.specs.declared.which.Which.TheVariants.{Full, Empty}
 use Rattle.mark_core.specs.Lists.{times}
 use Rattle.mark_core.specs.Account.{Account, look_of, no_share}
 use Rattle.mark_core.specs.World.{Setup, Marking, account_at, IsThere, put, put_which}
-use Rattle.mark_core.specs.Event.{Kind, Claim, Finish, Split, Join, Load, LoadLink, StoreLink, Pop, Push, Fail, IdleUp, IdleDown, LoadIdle, Allows, effect, popped}
+use Rattle.mark_core.specs.Event.{Kind, Claim, Finish, Split, Join, Load, LoadLink, StoreLink, Pop, Push, Fail, IdleUp}
+use Rattle.mark_core.specs.Event.{IdleDown, LoadIdle, Allows, effect, stack_popped}
 use Rattle.mark_core.specs.Ownership.{Chain}
 use Rattle.mark_core.specs.Law.{Law}
 use Rattle.mark_core.specs.Runs.{IsListOf, Changes, StacksChange, TagsRise, PopsFindLinks, MarksRise}
@@ -19,17 +21,23 @@ use Rattle.mark_core.proofs.Colours.{charged}
 
 -- an exchange of one head: of its stack one list is left, and of the other stack the same
 exchanged :
-    (link : ℕ → Option ℕ) (head : Which → Head) (p q : Which) (h : Head) (old new list : List ℕ) → Chain link (head q).index old → Chain link h.index list → Chain link (put_which p h head q).index new
+    (link : ℕ → Option ℕ) (head : Which → Head) (p q : Which) (h : Head) (old new list : List ℕ)
+    → Chain link (head q).index old → Chain link h.index list → Chain link (put_which p h head q).index new
     → (p ≡ q → new ≡ list) × (p ≢ q → new ≡ old)
-exchanged link head Full Full h old new list c d n = ((λ e. chain_one link h.index new list n d), (λ k. absurd (k refl)))
-exchanged link head Full Empty h old new list c d n = ((λ e. let f : ⊥ = cc in absurd f), (λ k. chain_one link (head Empty).index new old n c))
-exchanged link head Empty Full h old new list c d n = ((λ e. let f : ⊥ = cc in absurd f), (λ k. chain_one link (head Full).index new old n c))
-exchanged link head Empty Empty h old new list c d n = ((λ e. chain_one link h.index new list n d), (λ k. absurd (k refl)))
+exchanged link head Full Full h old new list c d n =
+    ((λ e. chain_one link h.index new list n d), (λ k. absurd (k refl)))
+exchanged link head Full Empty h old new list c d n =
+    ((λ e. let f : ⊥ = cc in absurd f), (λ k. chain_one link (head Empty).index new old n c))
+exchanged link head Empty Full h old new list c d n =
+    ((λ e. let f : ⊥ = cc in absurd f), (λ k. chain_one link (head Full).index new old n c))
+exchanged link head Empty Empty h old new list c d n =
+    ((λ e. chain_one link h.index new list n d), (λ k. absurd (k refl)))
 
 module _ (e : Setup) (m : Marking) (law : Law e m) (w : ℕ) (a : Account) (there : IsThere m.accounts w a) where
   -- after a pop: the rest of the stack, whose list this was
   pub pop_takes :
-      (p q : Which) (i : ℕ) (l : Option ℕ) → (look_of a p).head ≡ Some (m.head p) → (m.head p).index ≡ Some i → (look_of a p).link ≡ Some l
+      (p q : Which) (i : ℕ) (l : Option ℕ) → (look_of a p).head ≡ Some (m.head p) → (m.head p).index ≡ Some i
+      → (look_of a p).link ≡ Some l
       → (old new : List ℕ) → IsListOf m q old → Chain m.link (put_which p (after (m.head p) l) m.head q).index new
       → (p ≡ q → (k : ℕ) × (old ≡ k ∷ new)) × (p ≢ q → new ≡ old)
   pop_takes p q i l hit top next old new c n = (taken, both.1)
@@ -41,32 +49,40 @@ module _ (e : Setup) (m : Marking) (law : Law e m) (w : ℕ) (a : Account) (ther
       stands = recent_link m.link (m.head p) (look_of a p) i l (law.owned.recent p w a there.0) hit top next
 
       both : (p ≡ q → new ≡ r.0) × (p ≢ q → new ≡ old)
-      both = exchanged m.link m.head p q (after (m.head p) l) old new r.0 c (subst (λ x. Chain m.link x r.0) stands r.2) n
+      both = exchanged m.link m.head p q (after (m.head p) l) old new r.0 c
+          (subst (λ x. Chain m.link x r.0) stands r.2) n
 
       taken : p ≡ q → (k : ℕ) × (old ≡ k ∷ new)
       taken s =
-          let was : old ≡ law.stack p = chain_one m.link (m.head p).index old (law.stack p) (subst (λ z. IsListOf m z old) (sym s) c) (law.owned.chain p) in
+          let was : old ≡ law.stack p = chain_one m.link (m.head p).index old (law.stack p)
+          (subst (λ z. IsListOf m z old) (sym s) c) (law.owned.chain p) in
           let rest = both.0 s in
           (i, was ∙ (r.1 ∙ ap (λ xs. i ∷ xs) (sym rest)))
 
   -- after a push: the buffer and the stack, whose list this was
   pub push_puts :
       (p q : Which) (i : ℕ) → m.link i ≡ (m.head p).index
-      → (old new : List ℕ) → IsListOf m q old → Chain m.link (put_which p (after (m.head p) (Some i)) m.head q).index new
+      → (old new : List ℕ) → IsListOf m q old
+      → Chain m.link (put_which p (after (m.head p) (Some i)) m.head q).index new
       → (p ≡ q → new ≡ i ∷ old) × (p ≢ q → new ≡ old)
   push_puts p q i leads old new c n = (put_on, both.1)
     where
       both : (p ≡ q → new ≡ i ∷ law.stack p) × (p ≢ q → new ≡ old)
-      both = exchanged m.link m.head p q (after (m.head p) (Some i)) old new (i ∷ law.stack p) c (chain_more m.link (m.head p).index (law.stack p) i (law.owned.chain p) leads) n
+      both = exchanged m.link m.head p q (after (m.head p) (Some i)) old new (i ∷ law.stack p) c
+          (chain_more m.link (m.head p).index (law.stack p) i (law.owned.chain p) leads) n
 
       put_on : p ≡ q → new ≡ i ∷ old
       put_on s =
-          let was : old ≡ law.stack p = chain_one m.link (m.head p).index old (law.stack p) (subst (λ z. IsListOf m z old) (sym s) c) (law.owned.chain p) in
+          let was : old ≡ law.stack p = chain_one m.link (m.head p).index old (law.stack p)
+          (subst (λ z. IsListOf m z old) (sym s) c) (law.owned.chain p) in
           both.0 s ∙ ap (λ xs. i ∷ xs) (sym was)
 
   -- a store at a held buffer changes no list
-  pub store_leaves : (q : Which) (i : ℕ) (l : Option ℕ) → 0 < times i a.held → (old new : List ℕ) → IsListOf m q old → Chain (put i l m.link) (m.head q).index new → new ≡ old
-  store_leaves q i l mine old new c n = chain_one (put i l m.link) (m.head q).index new old n (chain_links m.link (put i l m.link) (m.head q).index old (λ b h. put_else i b l m.link (other b h)) c)
+  pub store_leaves : (q : Which) (i : ℕ) (l : Option ℕ) → 0 < times i a.held → (old new : List ℕ) → IsListOf m q old
+      → Chain (put i l m.link) (m.head q).index new → new ≡ old
+  store_leaves q i l mine old new c n =
+      chain_one (put i l m.link) (m.head q).index new old n
+      (chain_links m.link (put i l m.link) (m.head q).index old (λ b h. put_else i b l m.link (other b h)) c)
     where
       apart : (i < e.buffers) × (times i (law.stack Full) ≡ 0) × (times i (law.stack Empty) ≡ 0)
       apart = held_apart e.buffers m.head m.link m.accounts law.stack law.owned w a there.0 i mine
@@ -81,7 +97,8 @@ module _ (e : Setup) (m : Marking) (law : Law e m) (w : ℕ) (a : Account) (ther
           let t : times b old ≡ times i (law.stack q) = ap (λ j. times j old) s ∙ ap (times i) was in
           absurd (omega (arith, on_no q))
 
-  pub effect_changes : (kind : Kind) → Allows e m w a kind → (q : Which) (old new : List ℕ) → IsListOf m q old → IsListOf (effect m w a kind) q new → Changes q kind old new
+  pub effect_changes : (kind : Kind) → Allows e m w a kind → (q : Which) (old new : List ℕ) → IsListOf m q old
+      → IsListOf (effect m w a kind) q new → Changes q kind old new
   effect_changes (Claim o) can q old new c n = chain_one m.link (m.head q).index new old n c
   effect_changes (Finish o) can q old new c n = chain_one m.link (m.head q).index new old n c
   effect_changes (Split units) can q old new c n = chain_one m.link (m.head q).index new old n c
@@ -91,7 +108,8 @@ module _ (e : Setup) (m : Marking) (law : Law e m) (w : ℕ) (a : Account) (ther
   effect_changes (StoreLink i l) can q old new c n = store_leaves q i l (stands_times a.held i can) old new c n
   effect_changes (Pop p) can q old new c n =
       pop_takes p q can.0.1.0 can.0.2.0 can.0.0.0 can.0.1.1 can.0.2.1 old new c
-      (subst (λ k. IsListOf (popped m w a p (Some can.0.1.0) k) q new) can.0.2.1 (subst (λ x. IsListOf (popped m w a p x (look_of a p).link) q new) can.0.1.1 n))
+      (subst (λ k. IsListOf (stack_popped m w a p (Some can.0.1.0) k) q new) can.0.2.1
+      (subst (λ x. IsListOf (stack_popped m w a p x (look_of a p).link) q new) can.0.1.1 n))
   effect_changes (Push p i items) can q old new c n = push_puts p q i can.2 old new c n
   effect_changes (Fail p) can q old new c n = chain_one m.link (m.head q).index new old n c
   effect_changes IdleUp can q old new c n = chain_one m.link (m.head q).index new old n c
@@ -101,13 +119,17 @@ module _ (e : Setup) (m : Marking) (law : Law e m) (w : ℕ) (a : Account) (ther
 pub stacks_change : StacksChange
 stacks_change e m event law can q old new c n =
     effect_changes e m law event.worker can.0 can.1 event.kind can.2 q old new c
-    (subst (λ x. IsListOf (effect m event.worker x event.kind) q new) (at_get_or m.accounts event.worker can.0 no_share can.1.0) n)
+    (subst (λ x. IsListOf (effect m event.worker x event.kind) q new)
+    (at_get_or m.accounts event.worker can.0 no_share can.1.0) n)
 
 -- the head that an exchange writes has the next tag
-tag_after : (m : Marking) (p q : Which) (i : Option ℕ) → (put_which p (after (m.head p) i) m.head q ≡ m.head q) ⊎ ((put_which p (after (m.head p) i) m.head q).tag ≡ (m.head q).tag + 1)
-tag_after m p q i = put_one (λ r h. (h ≡ m.head r) ⊎ (h.tag ≡ (m.head r).tag + 1)) p (after (m.head p) i) m.head (inr refl) (λ r. inl refl) q
+tag_after : (m : Marking) (p q : Which) (i : Option ℕ) → (put_which p (after (m.head p) i) m.head q ≡ m.head q)
+    ⊎ ((put_which p (after (m.head p) i) m.head q).tag ≡ (m.head q).tag + 1)
+tag_after m p q i = put_one (λ r h. (h ≡ m.head r) ⊎ (h.tag ≡ (m.head r).tag + 1)) p (after (m.head p) i) m.head
+    (inr refl) (λ r. inl refl) q
 
-effect_rises : (m : Marking) (w : ℕ) (a : Account) (kind : Kind) (q : Which) → ((effect m w a kind).head q ≡ m.head q) ⊎ (((effect m w a kind).head q).tag ≡ (m.head q).tag + 1)
+effect_rises : (m : Marking) (w : ℕ) (a : Account) (kind : Kind) (q : Which) → ((effect m w a kind).head q ≡ m.head q)
+    ⊎ (((effect m w a kind).head q).tag ≡ (m.head q).tag + 1)
 effect_rises m w a (Claim o) q = inl refl
 effect_rises m w a (Finish o) q = inl refl
 effect_rises m w a (Split units) q = inl refl
@@ -117,7 +139,8 @@ effect_rises m w a (LoadLink p) q = inl refl
 effect_rises m w a (StoreLink i l) q = inl refl
 effect_rises m w a (Pop p) q = go (m.head p).index (look_of a p).link
   where
-    go : (x : Option ℕ) (k : Option (Option ℕ)) → ((popped m w a p x k).head q ≡ m.head q) ⊎ (((popped m w a p x k).head q).tag ≡ (m.head q).tag + 1)
+    go : (x : Option ℕ) (k : Option (Option ℕ)) → ((stack_popped m w a p x k).head q ≡ m.head q)
+        ⊎ (((stack_popped m w a p x k).head q).tag ≡ (m.head q).tag + 1)
     go (Some i) (Some l) = tag_after m p q l
     go (Some i) None = inl refl
     go None k = inl refl
@@ -131,7 +154,8 @@ pub tags_rise : TagsRise
 tags_rise m event q = effect_rises m event.worker (account_at m.accounts event.worker) event.kind q
 
 pub pops_find_links : PopsFindLinks
-pops_find_links e m law w a q is can i l top next = recent_link m.link (m.head q) (look_of a q) i l (law.owned.recent q w a is) can.0.0 top next
+pops_find_links e m law w a q is can i l top next =
+    recent_link m.link (m.head q) (look_of a q) i l (law.owned.recent q w a is) can.0.0 top next
 
 -- a number put in that is no smaller makes none smaller
 put_rises : (mark : ℕ → ℕ) (p x : ℕ) → mark p ≤ x → (o : ℕ) → mark o ≤ put p x mark o
@@ -141,10 +165,12 @@ put_rises mark p x h o = go (ℕ_discrete o p)
     go (yes s) = let t : mark o ≡ mark p = ap mark s in omega (arith, put_here p o x mark s)
     go (no n) = omega (arith, put_else p o x mark n)
 
-effect_marks : (e : Setup) (m : Marking) → Law e m → (w : ℕ) (a : Account) → IsThere m.accounts w a → (kind : Kind) → Allows e m w a kind → (o : ℕ) → m.mark o ≤ (effect m w a kind).mark o
+effect_marks : (e : Setup) (m : Marking) → Law e m → (w : ℕ) (a : Account) → IsThere m.accounts w a → (kind : Kind)
+    → Allows e m w a kind → (o : ℕ) → m.mark o ≤ (effect m w a kind).mark o
 effect_marks e m law w a there (Claim p) can o = put_rises m.mark p (max (m.mark p) 1) (omega arith) o
 effect_marks e m law w a there (Finish p) can o =
-    let was = charged e m.mark m.slots m.accounts law.coloured w a there.0 p (stands_times a.charge p can.0) in put_rises m.mark p 2 (omega (arith, was.0)) o
+    let was = charged e m.mark m.slots m.accounts law.coloured w a there.0 p (stands_times a.charge p can.0) in
+    put_rises m.mark p 2 (omega (arith, was.0)) o
 effect_marks e m law w a there (Split units) can o = omega arith
 effect_marks e m law w a there (Join v) can o = omega arith
 effect_marks e m law w a there (Load p) can o = omega arith
@@ -152,7 +178,7 @@ effect_marks e m law w a there (LoadLink p) can o = omega arith
 effect_marks e m law w a there (StoreLink i l) can o = omega arith
 effect_marks e m law w a there (Pop p) can o = go (m.head p).index (look_of a p).link
   where
-    go : (x : Option ℕ) (k : Option (Option ℕ)) → m.mark o ≤ (popped m w a p x k).mark o
+    go : (x : Option ℕ) (k : Option (Option ℕ)) → m.mark o ≤ (stack_popped m w a p x k).mark o
     go (Some i) (Some l) = omega arith
     go (Some i) None = omega arith
     go None k = omega arith
@@ -164,5 +190,6 @@ effect_marks e m law w a there LoadIdle can o = omega arith
 
 pub marks_rise : MarksRise
 marks_rise e m event law can o =
-    subst (λ x. m.mark o ≤ (effect m event.worker x event.kind).mark o) (sym (at_get_or m.accounts event.worker can.0 no_share can.1.0))
+    subst (λ x. m.mark o ≤ (effect m event.worker x event.kind).mark o)
+    (sym (at_get_or m.accounts event.worker can.0 no_share can.1.0))
     (effect_marks e m law event.worker can.0 can.1 event.kind can.2 o)

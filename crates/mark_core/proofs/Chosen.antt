@@ -9,7 +9,7 @@ use Rattle.std.proofs.lemmas.List.Sums.{count_by-le-length, length-filter, sum_b
 use native.Mathlib.Decide.{ℕ_discrete}
 use Rattle.mark_core.specs.Lists.{one_where, only, times}
 use Rattle.mark_core.proofs.SameObjects.{same_sums}
-use Rattle.mark_core.proofs.Sums.{only-same, only-other, stands_times, times_stands, total-append}
+use Rattle.mark_core.proofs.Sums.{only-same, only-other, stands_times, times_stands, sum_of-append}
 
 -- each number at most once
 abbrev pub IsOnce : List ℕ → Type 0
@@ -79,7 +79,7 @@ times-range o (suc n) = go (times-range o n) (cases_order o n)
     more =
         let last : 0 + n ≡ n = omega arith in
         ap (times o) (range_suc 0 n ∙ ap (λ m. range_with_len 0 n ++ m ∷ []) last)
-        ∙ total-append (only o) (range_with_len 0 n) (n ∷ []) ∙ omega arith
+        ∙ sum_of-append (only o) (range_with_len 0 n) (n ∷ []) ∙ omega arith
 
     below : (m : ℕ) → o < m → one_where (nat_lt o m) ≡ 1
     below m low = ap one_where (lt-ltb o m low)

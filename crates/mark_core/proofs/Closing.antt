@@ -1,5 +1,6 @@
 -- What accounts have apart, and what one account with the whole share may conclude.
-use Rattle.std.proofs.Common.{◌≡◌, ◌≢◌, ◌⊎◌, ℕ, ◌+◌, ◌*◌, ◌<◌, ◌≤◌, true, false, true≢false, nat_lt, List, [], Option, Some, None, Contains, ap, sym, subst, ◌∙◌, inl, inr, arith}
+use Rattle.std.proofs.Common.{◌≡◌, ◌≢◌, ◌⊎◌, ℕ, ◌+◌, ◌*◌, ◌<◌, ◌≤◌, true, false, true≢false, nat_lt, List, [], Option}
+use Rattle.std.proofs.Common.{Some, None, Contains, ap, sym, subst, ◌∙◌, inl, inr, arith}
 use native.Mathlib.Decide.{dec_le, ℕ_discrete}
 use Rattle.mark_core.specs.declared.which.Which.TheVariants.{Full, Empty}
 use Rattle.mark_core.specs.Lists.{StandsAt, times, one_where}
@@ -9,9 +10,10 @@ use Rattle.mark_core.specs.Ownership.{HasOpenPush, held_times}
 use Rattle.mark_core.specs.Colours.{stacked_times, charged_times, finished_times}
 use Rattle.mark_core.specs.Shares.{HasNothing, whole}
 use Rattle.mark_core.specs.Law.{Law}
-use Rattle.mark_core.specs.Runs.{IsListOf, HasEachOnce, AccountsHaveEachOnce, AreApart, AccountsAreApart, LiesIn, IsClosed, ClosedIsTold}
+use Rattle.mark_core.specs.Runs.{IsListOf, HasEachOnce, AccountsHaveEachOnce, AreApart, AccountsAreApart, LiesIn}
+use Rattle.mark_core.specs.Runs.{IsClosed, ClosedIsDetermined}
 use Rattle.mark_core.proofs.Places.{at_below, at_one}
-use Rattle.mark_core.proofs.Sums.{term_le, terms_le, total-alone, some_term, stands_times, times_stands}
+use Rattle.mark_core.proofs.Sums.{term_le, terms_le, sum_of-alone, some_term, stands_times, times_stands}
 use Rattle.mark_core.proofs.Chains.{chain_one}
 use Rattle.mark_core.proofs.Ownership.{place_one}
 use Rattle.mark_core.proofs.Colours.{linear}
@@ -21,7 +23,11 @@ module _ (e : Setup) (m : Marking) (law : Law e m) where
   has_each_once w a is = record { held = held; objects = objects }
     where
       held : (i : ℕ) → times i a.held ≤ 1
-      held i = omega (arith, place_one e.buffers m.head m.link m.accounts law.stack law.owned i, term_le (λ (x : Account). times i x.held) m.accounts w a is)
+      held i = omega (
+        arith,
+        place_one e.buffers m.head m.link m.accounts law.stack law.owned i,
+        term_le (λ (x : Account). times i x.held) m.accounts w a is,
+      )
 
       objects : (o : ℕ) → times o a.charge + times o a.finished ≤ 1
       objects o =
@@ -36,7 +42,11 @@ module _ (e : Setup) (m : Marking) (law : Law e m) where
   are_apart w v a b n is at = record { held = held; objects = objects }
     where
       held : (i : ℕ) → times i a.held + times i b.held ≤ 1
-      held i = omega (arith, place_one e.buffers m.head m.link m.accounts law.stack law.owned i, terms_le (λ (x : Account). times i x.held) m.accounts w v a b n is at)
+      held i = omega (
+        arith,
+        place_one e.buffers m.head m.link m.accounts law.stack law.owned i,
+        terms_le (λ (x : Account). times i x.held) m.accounts w v a b n is at,
+      )
 
       objects : (o : ℕ) → (times o a.charge + times o a.finished) + (times o b.charge + times o b.finished) ≤ 1
       objects o =
@@ -49,23 +59,28 @@ module _ (e : Setup) (m : Marking) (law : Law e m) where
 
   module _ (w : ℕ) (a : Account) (is : StandsAt m.accounts w a) (all : a.share ≡ whole) where
     pub others_nothing : (v : ℕ) (b : Account) → v ≢ w → StandsAt m.accounts v b → HasNothing b
-    others_nothing v b n at = law.shared.no_share v b at (omega (arith, law.shared.sum, terms_le (λ (x : Account). x.share) m.accounts w v a b n is at))
+    others_nothing v b n at = law.shared.no_share v b at
+        (omega (arith, law.shared.sum, terms_le (λ (x : Account). x.share) m.accounts w v a b n is at))
 
     pub alone_held : (i : ℕ) → held_times i m.accounts ≡ times i a.held
-    alone_held i = total-alone (λ (x : Account). times i x.held) m.accounts w a is (λ v b n at. ap (times i) (others_nothing v b n at).held)
+    alone_held i = sum_of-alone (λ (x : Account). times i x.held) m.accounts w a is
+        (λ v b n at. ap (times i) (others_nothing v b n at).held)
 
     pub alone_charged : (o : ℕ) → charged_times o m.accounts ≡ times o a.charge
-    alone_charged o = total-alone (λ (x : Account). times o x.charge) m.accounts w a is (λ v b n at. ap (times o) (others_nothing v b n at).charge)
+    alone_charged o = sum_of-alone (λ (x : Account). times o x.charge) m.accounts w a is
+        (λ v b n at. ap (times o) (others_nothing v b n at).charge)
 
     pub alone_finished : (o : ℕ) → finished_times o m.accounts ≡ times o a.finished
-    alone_finished o = total-alone (λ (x : Account). times o x.finished) m.accounts w a is (λ v b n at. ap (times o) (others_nothing v b n at).finished)
+    alone_finished o = sum_of-alone (λ (x : Account). times o x.finished) m.accounts w a is
+        (λ v b n at. ap (times o) (others_nothing v b n at).finished)
 
     -- an open push is its own
     pub alone_open : HasOpenPush m.accounts → a.open_push ≡ true
     alone_open o = go (ℕ_discrete o.0 w)
       where
         go : Dec (o.0 ≡ w) → a.open_push ≡ true
-        go (yes s) = let t : o.1 ≡ a = at_one m.accounts w o.1 a (subst (λ u. StandsAt m.accounts u o.1) s o.2) is in sym (ap (λ (x : Account). x.open_push) t) ∙ o.3
+        go (yes s) = let t : o.1 ≡ a = at_one m.accounts w o.1 a (subst (λ u. StandsAt m.accounts u o.1) s o.2) is in
+            sym (ap (λ (x : Account). x.open_push) t) ∙ o.3
         go (no n) = let t = (others_nothing o.0 o.1 n o.2).open_push in absurd (true≢false (sym o.3 ∙ t))
 
     pub closes : a.charge ≡ [] → IsClosed e m w a
@@ -79,7 +94,8 @@ module _ (e : Setup) (m : Marking) (law : Law e m) where
           others = others_nothing;
         }
       where
-        sums : (o : ℕ) → (m.mark o ≡ stacked_times o m.slots + 2 * times o a.finished) × (stacked_times o m.slots + times o a.finished ≤ 1)
+        sums : (o : ℕ) → (m.mark o ≡ stacked_times o m.slots + 2 * times o a.finished)
+            × (stacked_times o m.slots + times o a.finished ≤ 1)
         sums o =
             let t = linear e m.mark m.slots m.accounts law.coloured o in
             let c : times o a.charge ≡ 0 = ap (times o) bare in
@@ -92,7 +108,8 @@ module _ (e : Setup) (m : Marking) (law : Law e m) where
         is_finished o k = omega (arith, sums o, stands_times a.finished o k)
 
         -- a buffer with items stands on the full stack
-        on_full : (b : ℕ) (items : List ℕ) (o : ℕ) → StandsAt m.slots b (Some items) → 0 < times o items → 0 < times b (law.stack Full)
+        on_full : (b : ℕ) (items : List ℕ) (o : ℕ) → StandsAt m.slots b (Some items) → 0 < times o items
+            → 0 < times b (law.stack Full)
         on_full b items o at some = go (dec_le 1 (times b (law.stack Full))) (dec_le 1 (times b (law.stack Empty)))
           where
             go : Dec (1 ≤ times b (law.stack Full)) → Dec (1 ≤ times b (law.stack Empty)) → 0 < times b (law.stack Full)
@@ -104,7 +121,8 @@ module _ (e : Setup) (m : Marking) (law : Law e m) where
                 absurd (omega arith)
             go (no n) (no k) =
                 let low : b < e.buffers = omega (arith, at_below m.slots b (Some items) at, law.shelved.places) in
-                let same : Some items ≡ None = at_one m.slots b (Some items) None at (law.shelved.away b low (omega arith) (omega arith)) in
+                let same : Some items ≡ None =
+                at_one m.slots b (Some items) None at (law.shelved.away b low (omega arith) (omega arith)) in
                 let f : ⊥ = cc in
                 absurd f
 
@@ -119,19 +137,32 @@ module _ (e : Setup) (m : Marking) (law : Law e m) where
 
             go : (slot : Option (List ℕ)) → StandsAt m.slots t.0 slot → 0 < times o (items_of slot) → LiesIn m full o
             go None at h = absurd (omega arith)
-            go (Some items) at h = (t.0, items, times_stands full t.0 (subst (λ xs. 0 < times t.0 xs) same (on_full t.0 items o at h)), at, times_stands items o h)
+            go (Some items) at h = (
+              t.0,
+              items,
+              times_stands full t.0 (subst (λ xs. 0 < times t.0 xs) same (on_full t.0 items o at h)),
+              at,
+              times_stands items o h,
+            )
 
         is_claimed : (full : List ℕ) (o : ℕ) → LiesIn m full o → m.mark o ≡ 1
-        is_claimed full o k = omega (arith, sums o, stands_times k.1 o k.4, term_le (λ slot. times o (items_of slot)) m.slots k.0 (Some k.1) k.3)
+        is_claimed full o k = omega (
+          arith,
+          sums o,
+          stands_times k.1 o k.4,
+          term_le (λ slot. times o (items_of slot)) m.slots k.0 (Some k.1) k.3,
+        )
 
         emptied : a.open_push ≡ false → (full : List ℕ) → IsListOf m Full full → full ≡ []
-        emptied closed full c = chain_one m.link (m.head Full).index full (law.stack Full) c (law.owned.chain Full) ∙ go law.owned.owed
+        emptied closed full c = chain_one m.link (m.head Full).index full (law.stack Full) c (law.owned.chain Full)
+            ∙ go law.owned.owed
           where
             go : (law.stack Full ≡ []) ⊎ HasOpenPush m.accounts → law.stack Full ≡ []
             go (inl p) = p
             go (inr p) = absurd (true≢false (sym (alone_open p) ∙ closed))
 
-        buffers : (full empty : List ℕ) → IsListOf m Full full → IsListOf m Empty empty → (b : ℕ) → times b full + times b empty + times b a.held ≡ one_where (nat_lt b e.buffers)
+        buffers : (full empty : List ℕ) → IsListOf m Full full → IsListOf m Empty empty → (b : ℕ)
+            → times b full + times b empty + times b a.held ≡ one_where (nat_lt b e.buffers)
         buffers full empty c d b =
             let f = chain_one m.link (m.head Full).index full (law.stack Full) c (law.owned.chain Full) in
             let g = chain_one m.link (m.head Empty).index empty (law.stack Empty) d (law.owned.chain Empty) in
@@ -143,5 +174,5 @@ each_once = has_each_once
 pub apart : AccountsAreApart
 apart = are_apart
 
-pub closed_is_told : ClosedIsTold
-closed_is_told = closes
+pub closed_is_determined : ClosedIsDetermined
+closed_is_determined = closes

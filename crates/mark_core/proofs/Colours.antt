@@ -1,21 +1,22 @@
 -- What each event leaves of the colours.
-use Rattle.std.proofs.Common.{◌≡◌, ◌≢◌, ◌⊎◌, ℕ, zero, suc, ◌+◌, ◌*◌, ◌<◌, ◌≤◌, List, [], ◌∷◌, ◌++◌, Option, Some, None, Contains, set, ap, sym, refl, subst, ◌∙◌, inl, inr, ⊎_elim, arith}
+use Rattle.std.proofs.Common.{◌≡◌, ◌≢◌, ◌⊎◌, ℕ, zero, suc, ◌+◌, ◌*◌, ◌<◌, ◌≤◌, List, [], ◌∷◌, ◌++◌, Option, Some, None}
+use Rattle.std.proofs.Common.{Contains, set, ap, sym, refl, subst, ◌∙◌, inl, inr, ⊎_elim, arith}
 use native.Mathlib.Decide.{ℕ_discrete}
 use Rattle.mark_core.specs.declared.which.Which.{Which}
 use Rattle.mark_core.specs.Lists.{StandsAt, times, only, IsPart}
 use Rattle.mark_core.specs.Account.{Account, part, no_share, after_join, after_pop, after_push}
 use Rattle.mark_core.specs.World.{Setup, items_of, put}
-use Rattle.mark_core.specs.Colours.{IsColoured, Tells, IsReachable, stacked_times, charged_times, finished_times}
+use Rattle.mark_core.specs.Colours.{IsColoured, HasColour, IsReachableIn, stacked_times, charged_times, finished_times}
 use Rattle.mark_core.proofs.Places.{at_set, at_push, set_else, put_here, put_else}
-use Rattle.mark_core.proofs.Sums.{total-set, total-append, term_le, times-without, stands_append, stands_times}
+use Rattle.mark_core.proofs.Sums.{sum_of-set, sum_of-append, term_le, times-without, stands_append, stands_times}
 
 -- the three cases in linear form, and back
-pub tells_sums : (m w d : ℕ) → Tells m w d → (m ≡ w + 2 * d) × (w + d ≤ 1)
+pub tells_sums : (m w d : ℕ) → HasColour m w d → (m ≡ w + 2 * d) × (w + d ≤ 1)
 tells_sums m w d (inl t) = (omega arith, omega arith)
 tells_sums m w d (inr (inl t)) = (omega arith, omega arith)
 tells_sums m w d (inr (inr t)) = (omega arith, omega arith)
 
-pub sums_tell : (m w d : ℕ) → m ≡ w + 2 * d → w + d ≤ 1 → Tells m w d
+pub sums_tell : (m w d : ℕ) → m ≡ w + 2 * d → w + d ≤ 1 → HasColour m w d
 sums_tell m zero zero e h = inl (omega arith, refl, refl)
 sums_tell m (suc zero) zero e h = inr (inl (omega arith, refl, refl))
 sums_tell m (suc (suc w)) zero e h = absurd (omega arith)
@@ -23,144 +24,177 @@ sums_tell m zero (suc zero) e h = inr (inr (omega arith, refl, refl))
 sums_tell m (suc w) (suc d) e h = absurd (omega arith)
 sums_tell m zero (suc (suc d)) e h = absurd (omega arith)
 
-module _ (e : Setup) (mark : ℕ → ℕ) (slots : List (Option (List ℕ))) (accounts : List Account) (c : IsColoured e mark slots accounts) where
+module _ (e : Setup) (mark : ℕ → ℕ) (slots : List (Option (List ℕ))) (accounts : List Account)
+    (c : IsColoured e mark slots accounts) where
   -- the linear form at an object
-  pub linear : (o : ℕ) → (mark o ≡ stacked_times o slots + charged_times o accounts + 2 * finished_times o accounts) × (stacked_times o slots + charged_times o accounts + finished_times o accounts ≤ 1)
-  linear o = tells_sums (mark o) (stacked_times o slots + charged_times o accounts) (finished_times o accounts) (c.tells o)
+  pub linear : (o : ℕ) → (mark o ≡ stacked_times o slots + charged_times o accounts + 2 * finished_times o accounts)
+      × (stacked_times o slots + charged_times o accounts + finished_times o accounts ≤ 1)
+  linear o = tells_sums (mark o) (stacked_times o slots + charged_times o accounts) (finished_times o accounts)
+      (c.tells o)
 
   -- other slots and accounts, in which each object stands as often as before
   pub coloured_recount :
-      (slots' : List (Option (List ℕ))) (accounts' : List Account) → ((o : ℕ) → stacked_times o slots' + charged_times o accounts' ≡ stacked_times o slots + charged_times o accounts)
+      (slots' : List (Option (List ℕ))) (accounts' : List Account)
+      → ((o : ℕ) → stacked_times o slots' + charged_times o accounts'
+      ≡ stacked_times o slots + charged_times o accounts)
       → ((o : ℕ) → finished_times o accounts' ≡ finished_times o accounts)
       → ((w : ℕ) (a : Account) → StandsAt accounts' w a → (o : ℕ) → Contains a.seen o → 1 ≤ mark o)
       → IsColoured e mark slots' accounts'
-  coloured_recount slots' accounts' working done saw = record { tells = tells; closed = c.closed; reachable = c.reachable; saw = saw }
+  coloured_recount slots' accounts' working done saw =
+      record { tells = tells; closed = c.closed; reachable = c.reachable; saw = saw }
     where
-      tells : (o : ℕ) → Tells (mark o) (stacked_times o slots' + charged_times o accounts') (finished_times o accounts')
-      tells o = let t = linear o in sums_tell (mark o) (stacked_times o slots' + charged_times o accounts') (finished_times o accounts') (omega (arith, working o, done o)) (omega (arith, working o, done o))
+      tells : (o : ℕ)
+          → HasColour (mark o) (stacked_times o slots' + charged_times o accounts') (finished_times o accounts')
+      tells o = let t = linear o in sums_tell (mark o) (stacked_times o slots' + charged_times o accounts')
+          (finished_times o accounts') (omega (arith, working o, done o)) (omega (arith, working o, done o))
 
   -- a mark is written: what is told of that object is told anew, no mark falls, and the object is reachable
   pub coloured_put :
-      (o x : ℕ) (accounts' : List Account) → 1 ≤ x → mark o ≤ x → Tells x (stacked_times o slots + charged_times o accounts') (finished_times o accounts')
-      → ((y : ℕ) → y ≢ o → (charged_times y accounts' ≡ charged_times y accounts) × (finished_times y accounts' ≡ finished_times y accounts))
-      → (x ≡ 2 → (s : ℕ) → Contains e.pairs (o, s) → 1 ≤ mark s) → IsReachable e o
+      (o x : ℕ) (accounts' : List Account) → 1 ≤ x → mark o ≤ x
+      → HasColour x (stacked_times o slots + charged_times o accounts') (finished_times o accounts')
+      → ((y : ℕ) → y ≢ o → (charged_times y accounts' ≡ charged_times y accounts)
+      × (finished_times y accounts' ≡ finished_times y accounts))
+      → (x ≡ 2 → (s : ℕ) → Contains e.pairs (o, s) → 1 ≤ mark s) → IsReachableIn e o
       → ((w : ℕ) (a : Account) → StandsAt accounts' w a → (y : ℕ) → Contains a.seen y → (1 ≤ mark y) ⊎ (y ≡ o))
       → IsColoured e (put o x mark) slots accounts'
   coloured_put o x accounts' some grows here others next reach saw =
-      record { tells = λ y. tells y (ℕ_discrete y o); closed = λ y s. closed y s (ℕ_discrete y o); reachable = λ y. reachable y (ℕ_discrete y o); saw = λ w a at y k. marked y (saw w a at y k) (ℕ_discrete y o) }
+      record {
+        tells = λ y. tells y (ℕ_discrete y o);
+        closed = λ y s. closed y s (ℕ_discrete y o);
+        reachable = λ y. reachable y (ℕ_discrete y o);
+        saw =
+            λ w a at y k. marked y (saw w a at y k) (ℕ_discrete y o);
+      }
     where
       marked : (y : ℕ) → (1 ≤ mark y) ⊎ (y ≡ o) → Dec (y ≡ o) → 1 ≤ put o x mark y
       marked y h (yes p) = omega (arith, put_here o y x mark p)
       marked y (inl h) (no n) = omega (arith, put_else o y x mark n)
       marked y (inr h) (no n) = absurd (n h)
 
-      tells : (y : ℕ) → Dec (y ≡ o) → Tells (put o x mark y) (stacked_times y slots + charged_times y accounts') (finished_times y accounts')
+      tells : (y : ℕ) → Dec (y ≡ o) → HasColour (put o x mark y) (stacked_times y slots + charged_times y accounts')
+          (finished_times y accounts')
       tells y (yes p) =
-          subst (λ z. Tells z (stacked_times y slots + charged_times y accounts') (finished_times y accounts')) (sym (put_here o y x mark p))
-          (subst (λ z. Tells x (stacked_times z slots + charged_times z accounts') (finished_times z accounts')) (sym p) here)
+          subst (λ z. HasColour z (stacked_times y slots + charged_times y accounts') (finished_times y accounts'))
+          (sym (put_here o y x mark p))
+          (subst (λ z. HasColour x (stacked_times z slots + charged_times z accounts') (finished_times z accounts'))
+          (sym p) here)
       tells y (no n) =
           let t = linear y in
           let s = others y n in
           let m = put_else o y x mark n in
-          sums_tell (put o x mark y) (stacked_times y slots + charged_times y accounts') (finished_times y accounts') (omega arith) (omega arith)
+          sums_tell (put o x mark y) (stacked_times y slots + charged_times y accounts') (finished_times y accounts')
+          (omega arith) (omega arith)
 
       closed : (y s : ℕ) → Dec (y ≡ o) → put o x mark y ≡ 2 → Contains e.pairs (y, s) → 1 ≤ put o x mark s
-      closed y s (yes p) m k = marked s (inl (next (sym (put_here o y x mark p) ∙ m) s (subst (λ z. Contains e.pairs (z, s)) p k))) (ℕ_discrete s o)
+      closed y s (yes p) m k = marked s
+          (inl (next (sym (put_here o y x mark p) ∙ m) s (subst (λ z. Contains e.pairs (z, s)) p k))) (ℕ_discrete s o)
       closed y s (no n) m k = marked s (inl (c.closed y s (sym (put_else o y x mark n) ∙ m) k)) (ℕ_discrete s o)
 
-      reachable : (y : ℕ) → Dec (y ≡ o) → 1 ≤ put o x mark y → IsReachable e y
-      reachable y (yes p) m = subst (IsReachable e) (sym p) reach
+      reachable : (y : ℕ) → Dec (y ≡ o) → 1 ≤ put o x mark y → IsReachableIn e y
+      reachable y (yes p) m = subst (IsReachableIn e) (sym p) reach
       reachable y (no n) m = c.reachable y (omega (arith, put_else o y x mark n))
 
   -- a new account that has only units
   pub coloured_part : (units : ℕ) → IsColoured e mark slots (accounts ++ part units ∷ [])
   coloured_part units =
       coloured_recount slots (accounts ++ part units ∷ [])
-      (λ o. omega (arith, total-append (λ (x : Account). times o x.charge) accounts (part units ∷ [])))
-      (λ o. omega (arith, total-append (λ (x : Account). times o x.finished) accounts (part units ∷ [])))
+      (λ o. omega (arith, sum_of-append (λ (x : Account). times o x.charge) accounts (part units ∷ [])))
+      (λ o. omega (arith, sum_of-append (λ (x : Account). times o x.finished) accounts (part units ∷ [])))
       saw
     where
-      saw : (v : ℕ) (x : Account) → StandsAt (accounts ++ part units ∷ []) v x → (o : ℕ) → Contains x.seen o → 1 ≤ mark o
+      saw : (v : ℕ) (x : Account) → StandsAt (accounts ++ part units ∷ []) v x → (o : ℕ) → Contains x.seen o
+          → 1 ≤ mark o
       saw v x at o k = go (at_push accounts (part units) x v at)
         where
           go : StandsAt accounts v x ⊎ (part units ≡ x) → 1 ≤ mark o
           go (inl p) = c.saw v x p o k
-          go (inr p) = let none : Contains [] o = subst (λ (y : Account). Contains y.seen o) (sym p) k in absurd (omega (arith, none.1))
+          go (inr p) = let none : Contains [] o = subst (λ (y : Account). Contains y.seen o) (sym p) k in
+              absurd (omega (arith, none.1))
 
   module _ (w : ℕ) (a : Account) (is : StandsAt accounts w a) where
     -- an object in the charge is claimed
-    pub charged : (o : ℕ) → 0 < times o a.charge → (mark o ≡ 1) × (stacked_times o slots ≡ 0) × (charged_times o accounts ≡ 1) × (finished_times o accounts ≡ 0)
+    pub charged : (o : ℕ) → 0 < times o a.charge → (mark o ≡ 1) × (stacked_times o slots ≡ 0)
+        × (charged_times o accounts ≡ 1) × (finished_times o accounts ≡ 0)
     charged o h =
         let t = linear o in
         let l = term_le (λ (x : Account). times o x.charge) accounts w a is in
         (omega arith, omega arith, omega arith, omega arith)
 
-    pub reachable_next : (p o : ℕ) → Contains a.charge p → Contains e.pairs (p, o) → IsReachable e o
-    reachable_next p o mine pair = let r = c.reachable p (omega (arith, charged p (stands_times a.charge p mine))) in (p ∷ r.0, (pair, r.1))
+    pub reachable_next : (p o : ℕ) → Contains a.charge p → Contains e.pairs (p, o) → IsReachableIn e o
+    reachable_next p o mine pair = let r = c.reachable p (omega (arith, charged p (stands_times a.charge p mine))) in
+        (p ∷ r.0, (pair, r.1))
 
-    saw_set : (b : Account) → ((o : ℕ) → Contains b.seen o → 1 ≤ mark o) → (v : ℕ) (x : Account) → StandsAt (set accounts w b) v x → (o : ℕ) → Contains x.seen o → 1 ≤ mark o
+    saw_set : (b : Account) → ((o : ℕ) → Contains b.seen o → 1 ≤ mark o) → (v : ℕ) (x : Account)
+        → StandsAt (set accounts w b) v x → (o : ℕ) → Contains x.seen o → 1 ≤ mark o
     saw_set b new v x at o k = go (at_set accounts w v b x at)
       where
         go : ((v ≡ w) × (b ≡ x)) ⊎ ((v ≢ w) × StandsAt accounts v x) → 1 ≤ mark o
         go (inl p) = new o (subst (λ (y : Account). Contains y.seen o) (sym p.1) k)
         go (inr p) = c.saw v x p.1 o k
 
-    keeps_seen : (b : Account) → b.seen ≡ a.seen → (v : ℕ) (x : Account) → StandsAt (set accounts w b) v x → (o : ℕ) → Contains x.seen o → 1 ≤ mark o
+    keeps_seen : (b : Account) → b.seen ≡ a.seen → (v : ℕ) (x : Account) → StandsAt (set accounts w b) v x → (o : ℕ)
+        → Contains x.seen o → 1 ≤ mark o
     keeps_seen b same = saw_set b (λ o k. c.saw w a is o (subst (λ xs. Contains xs o) same k))
 
     -- the account changes in nothing that the colours read
-    pub coloured_same : (b : Account) → b.charge ≡ a.charge → b.finished ≡ a.finished → b.seen ≡ a.seen → IsColoured e mark slots (set accounts w b)
+    pub coloured_same : (b : Account) → b.charge ≡ a.charge → b.finished ≡ a.finished → b.seen ≡ a.seen
+        → IsColoured e mark slots (set accounts w b)
     coloured_same b charge finished seen =
         coloured_recount slots (set accounts w b)
-        (λ o. let t : times o b.charge ≡ times o a.charge = ap (times o) charge in omega (arith, total-set (λ (x : Account). times o x.charge) accounts w a b is))
-        (λ o. let t : times o b.finished ≡ times o a.finished = ap (times o) finished in omega (arith, total-set (λ (x : Account). times o x.finished) accounts w a b is))
+        (λ o. let t : times o b.charge ≡ times o a.charge = ap (times o) charge in
+        omega (arith, sum_of-set (λ (x : Account). times o x.charge) accounts w a b is))
+        (λ o. let t : times o b.finished ≡ times o a.finished = ap (times o) finished in
+        omega (arith, sum_of-set (λ (x : Account). times o x.finished) accounts w a b is))
         (keeps_seen b seen)
 
     -- the items of a popped buffer go from its slot to the charge
-    pub coloured_pop : (i : ℕ) (items : List ℕ) → StandsAt slots i (Some items) → IsColoured e mark (set slots i None) (set accounts w (after_pop i items a))
+    pub coloured_pop : (i : ℕ) (items : List ℕ) → StandsAt slots i (Some items)
+        → IsColoured e mark (set slots i None) (set accounts w (after_pop i items a))
     coloured_pop i items at =
         coloured_recount (set slots i None) (set accounts w (after_pop i items a))
         (λ o.
         omega (
           arith,
-          total-set (λ (x : Account). times o x.charge) accounts w a (after_pop i items a) is,
-          total-append (only o) a.charge items,
-          total-set (λ (x : Option (List ℕ)). times o (items_of x)) slots i (Some items) None at,
+          sum_of-set (λ (x : Account). times o x.charge) accounts w a (after_pop i items a) is,
+          sum_of-append (only o) a.charge items,
+          sum_of-set (λ (x : Option (List ℕ)). times o (items_of x)) slots i (Some items) None at,
         ))
-        (λ o. omega (arith, total-set (λ (x : Account). times o x.finished) accounts w a (after_pop i items a) is))
+        (λ o. omega (arith, sum_of-set (λ (x : Account). times o x.finished) accounts w a (after_pop i items a) is))
         (keeps_seen (after_pop i items a) refl)
 
     -- the items of a pushed buffer go from the charge to its slot
-    pub coloured_push : (q : Which) (i : ℕ) (items : List ℕ) → StandsAt slots i None → IsPart items a.charge → IsColoured e mark (set slots i (Some items)) (set accounts w (after_push q i items a))
+    pub coloured_push : (q : Which) (i : ℕ) (items : List ℕ) → StandsAt slots i None → IsPart items a.charge
+        → IsColoured e mark (set slots i (Some items)) (set accounts w (after_push q i items a))
     coloured_push q i items at part =
         coloured_recount (set slots i (Some items)) (set accounts w (after_push q i items a))
         (λ o.
         omega (
           arith,
-          total-set (λ (x : Account). times o x.charge) accounts w a (after_push q i items a) is,
+          sum_of-set (λ (x : Account). times o x.charge) accounts w a (after_push q i items a) is,
           times-without items a.charge part o,
-          total-set (λ (x : Option (List ℕ)). times o (items_of x)) slots i None (Some items) at,
+          sum_of-set (λ (x : Option (List ℕ)). times o (items_of x)) slots i None (Some items) at,
         ))
-        (λ o. omega (arith, total-set (λ (x : Account). times o x.finished) accounts w a (after_push q i items a) is))
+        (λ o. omega (arith, sum_of-set (λ (x : Account). times o x.finished) accounts w a (after_push q i items a) is))
         (keeps_seen (after_push q i items a) refl)
 
     -- two accounts are put together
-    pub coloured_join : (v : ℕ) (b : Account) → v ≢ w → StandsAt accounts v b → IsColoured e mark slots (set (set accounts w (after_join a b)) v no_share)
+    pub coloured_join : (v : ℕ) (b : Account) → v ≢ w → StandsAt accounts v b
+        → IsColoured e mark slots (set (set accounts w (after_join a b)) v no_share)
     coloured_join v b apart at =
         coloured_recount slots (set (set accounts w both) v no_share)
         (λ o.
         omega (
           arith,
-          total-set (λ (x : Account). times o x.charge) accounts w a both is,
-          total-set (λ (x : Account). times o x.charge) (set accounts w both) v b no_share still,
-          total-append (only o) a.charge b.charge,
+          sum_of-set (λ (x : Account). times o x.charge) accounts w a both is,
+          sum_of-set (λ (x : Account). times o x.charge) (set accounts w both) v b no_share still,
+          sum_of-append (only o) a.charge b.charge,
         ))
         (λ o.
         omega (
           arith,
-          total-set (λ (x : Account). times o x.finished) accounts w a both is,
-          total-set (λ (x : Account). times o x.finished) (set accounts w both) v b no_share still,
-          total-append (only o) a.finished b.finished,
+          sum_of-set (λ (x : Account). times o x.finished) accounts w a both is,
+          sum_of-set (λ (x : Account). times o x.finished) (set accounts w both) v b no_share still,
+          sum_of-append (only o) a.finished b.finished,
         ))
         saw
       where
@@ -173,9 +207,11 @@ module _ (e : Setup) (mark : ℕ → ℕ) (slots : List (Option (List ℕ))) (ac
         mine : (o : ℕ) → Contains (a.seen ++ b.seen) o → 1 ≤ mark o
         mine o k = ⊎_elim (c.saw w a is o) (c.saw v b at o) (stands_append a.seen b.seen o k)
 
-        saw : (u : ℕ) (x : Account) → StandsAt (set (set accounts w both) v no_share) u x → (o : ℕ) → Contains x.seen o → 1 ≤ mark o
+        saw : (u : ℕ) (x : Account) → StandsAt (set (set accounts w both) v no_share) u x → (o : ℕ)
+            → Contains x.seen o → 1 ≤ mark o
         saw u x s o k = go (at_set (set accounts w both) v u no_share x s)
           where
             go : ((u ≡ v) × (no_share ≡ x)) ⊎ ((u ≢ v) × StandsAt (set accounts w both) u x) → 1 ≤ mark o
-            go (inl p) = let none : Contains [] o = subst (λ (y : Account). Contains y.seen o) (sym p.1) k in absurd (omega (arith, none.1))
+            go (inl p) = let none : Contains [] o = subst (λ (y : Account). Contains y.seen o) (sym p.1) k in
+                absurd (omega (arith, none.1))
             go (inr p) = saw_set both mine u x p.1 o k

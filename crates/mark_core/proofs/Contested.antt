@@ -1,14 +1,19 @@
 -- Between a load and a failed exchange of one worker another one exchanged that head: else the head is the one loaded,
 -- or the worker was taken in.
-use Rattle.std.proofs.Common.{◌≡◌, ◌≢◌, ◌⊎◌, ℕ, suc, List, [], ◌∷◌, ◌++◌, Option, Some, None, set, slice_index_or, ap, sym, refl, subst, ◌∙◌, inl, inr, ⊎_elim, arith}
+use Rattle.std.proofs.Common.{◌≡◌, ◌≢◌, ◌⊎◌, ℕ, suc, List, [], ◌∷◌, ◌++◌, Option, Some, None, set, slice_index_or, ap}
+use Rattle.std.proofs.Common.{sym, refl, subst, ◌∙◌, inl, inr, ⊎_elim, arith}
 use native.Mathlib.Decide.{ℕ_discrete}
 use Rattle.tagged_index.specs.Head.{Head, after}
 use Rattle.mark_core.specs.declared.which.Which.{Which}
 use Rattle.mark_core.specs.declared.which.Which.TheVariants.{Full, Empty}
 use Rattle.mark_core.specs.Lists.{StandsAt}
-use Rattle.mark_core.specs.Account.{Account, look_of, part, no_share, after_claim, after_finish, after_split, after_join, after_load, after_load_link, after_pop, after_push, after_idle_up, after_idle_down, after_load_idle}
+use Rattle.mark_core.specs.Account.{Account, look_of, part, no_share, after_claim, after_finish, after_split}
+use Rattle.mark_core.specs.Account.{after_join, after_load, after_load_link, after_pop, after_push, after_idle_up}
+use Rattle.mark_core.specs.Account.{after_idle_down, after_load_idle}
 use Rattle.mark_core.specs.World.{Setup, Marking, account_at, items_of, put_which}
-use Rattle.mark_core.specs.Event.{Kind, Claim, Finish, Split, Join, Load, LoadLink, StoreLink, Pop, Push, Fail, IdleUp, IdleDown, LoadIdle, Event, Allows, IsPossible, effect, happens, popped, last_link}
+use Rattle.mark_core.specs.Event.{Kind, Claim, Finish, Split, Join, Load, LoadLink, StoreLink, Pop, Push, Fail, IdleUp}
+use Rattle.mark_core.specs.Event.{IdleDown, LoadIdle, Event, Allows, IsPossible, effect, happens, stack_popped}
+use Rattle.mark_core.specs.Event.{last_link}
 use Rattle.mark_core.specs.Runs.{Run}
 use Rattle.mark_core.specs.Conclusions.{Exchanges, LossesAreContested}
 use Rattle.mark_core.proofs.Places.{at_get_or, at_longer, at_one, set_else, set_here}
@@ -26,7 +31,7 @@ head_beside Empty Empty x f other = absurd (other refl)
 
 popped_head :
     (m : Marking) (w : ℕ) (a : Account) (p q : Which) (x : Option ℕ) (y : Option (Option ℕ)) → (p ≡ q → ⊥)
-    → (popped m w a p x y).head q ≡ m.head q
+    → (stack_popped m w a p x y).head q ≡ m.head q
 popped_head m w a p q None y other = refl
 popped_head m w a p q (Some i) None other = refl
 popped_head m w a p q (Some i) (Some l) other = head_beside p q (after (m.head p) l) m.head other
@@ -111,7 +116,7 @@ module _ (m : Marking) (w : ℕ) (a : Account) (at : StandsAt m.accounts w a) (q
       → (b' : Account) × StandsAt (set m.accounts w b) w b' × ((look_of b' q).head ≡ (look_of a q).head)
   still_set b same = (b, set_here m.accounts w b a at, same)
 
-  popped_still : (p : Which) (x : Option ℕ) (y : Option (Option ℕ)) → Still (popped m w a p x y)
+  popped_still : (p : Which) (x : Option ℕ) (y : Option (Option ℕ)) → Still (stack_popped m w a p x y)
   popped_still p None y = (a, at, refl)
   popped_still p (Some i) None = (a, at, refl)
   popped_still p (Some i) (Some l) =
@@ -147,7 +152,8 @@ module _ (m : Marking) (w : ℕ) (a : Account) (at : StandsAt m.accounts w a) (q
   beside u b apart = set_else m.accounts u w b apart ∙ at
 
   popped_left :
-      (u : ℕ) (b : Account) → w ≢ u → (p : Which) (x : Option ℕ) (y : Option (Option ℕ)) → Left (popped m u b p x y)
+      (u : ℕ) (b : Account) → w ≢ u → (p : Which) (x : Option ℕ) (y : Option (Option ℕ))
+      → Left (stack_popped m u b p x y)
   popped_left u b apart p None y = inl at
   popped_left u b apart p (Some i) None = inl at
   popped_left u b apart p (Some i) (Some l) = inl (beside u _ apart)

@@ -1,22 +1,27 @@
 -- Each event keeps the law. A lemma speaks of one marking after one write, so it serves each way to lay a marking out.
-use Rattle.std.proofs.Common.{◌≡◌, ◌≢◌, ◌⊎◌, ℕ, ◌+◌, ◌<◌, ◌≤◌, max, Bool, true, ◌&&◌, List, [], ◌∷◌, ◌++◌, Option, Some, None, is_some, cond, Contains, set, ap, sym, refl, subst, inl, inr, eq-eqb, ne_eqb, arith}
+use Rattle.std.proofs.Common.{◌≡◌, ◌≢◌, ◌⊎◌, ℕ, ◌+◌, ◌<◌, ◌≤◌, max, Bool, true, ◌&&◌, List, [], ◌∷◌, ◌++◌, Option, Some}
+use Rattle.std.proofs.Common.{None, is_some, cond, Contains, set, ap, sym, refl, subst, inl, inr, eq-eqb, ne_eqb, arith}
 use native.Mathlib.Decide.{ℕ_discrete}
 use Rattle.tagged_index.specs.Head.{Head, after}
 use Rattle.mark_core.specs.declared.which.Which.{Which}
 use Rattle.mark_core.specs.declared.which.Which.TheVariants.{Full, Empty}
 use Rattle.mark_core.specs.Lists.{StandsAt, times, only, IsPart}
-use Rattle.mark_core.specs.Account.{Account, look_of, part, no_share, after_claim, after_finish, after_split, after_join, after_load, after_load_link, after_pop, after_push}
+use Rattle.mark_core.specs.Account.{Account, look_of, part, no_share, after_claim, after_finish, after_split}
+use Rattle.mark_core.specs.Account.{after_join, after_load, after_load_link, after_pop, after_push}
 use Rattle.mark_core.specs.World.{Setup, Marking, put, put_which}
 use Rattle.mark_core.specs.Event.{CanClaim, CanFinish}
 use Rattle.mark_core.specs.Ownership.{IsRecent, IsOwned}
-use Rattle.mark_core.specs.Colours.{Tells, IsReachable, stacked_times, charged_times, finished_times}
+use Rattle.mark_core.specs.Colours.{HasColour, IsReachableIn, stacked_times, charged_times, finished_times}
 use Rattle.mark_core.specs.Law.{Law}
 use Rattle.mark_core.proofs.Places.{at_set, put_else, put_one}
-use Rattle.mark_core.proofs.Sums.{total-set, total-append, only-same, only-other, stands_push, stands_times, times-remove_one}
+use Rattle.mark_core.proofs.Sums.{sum_of-set, sum_of-append, only-same, only-other, stands_push, stands_times}
+use Rattle.mark_core.proofs.Sums.{times-remove_one}
 use Rattle.mark_core.proofs.Chains.{chain_none, recent_loaded, recent_linked}
-use Rattle.mark_core.proofs.Ownership.{popped_sum, pushed_sum, owned_links, owned_part, stacked_below, held_apart, place_one, owned_set, owned_same, owned_pop, owned_push, owned_join}
+use Rattle.mark_core.proofs.Ownership.{popped_sum, pushed_sum, owned_links, owned_part, stacked_below, held_apart}
+use Rattle.mark_core.proofs.Ownership.{place_one, owned_set, owned_same, owned_pop, owned_push, owned_join}
 use Rattle.mark_core.proofs.Shelves.{shelved_set}
-use Rattle.mark_core.proofs.Colours.{linear, sums_tell, charged, reachable_next, coloured_same, coloured_put, coloured_part, coloured_pop, coloured_push, coloured_join}
+use Rattle.mark_core.proofs.Colours.{linear, sums_tell, charged, reachable_next, coloured_same, coloured_put}
+use Rattle.mark_core.proofs.Colours.{coloured_part, coloured_pop, coloured_push, coloured_join}
 use Rattle.mark_core.proofs.Shares.{shared_set, shared_split, shared_join}
 
 -- the charge after a claim of an object that was white, and of one that was marked
@@ -30,21 +35,26 @@ and_some : (x : Bool) (n : Option ℕ) (i : ℕ) → n ≡ Some i → x ≡ true
 and_some x n i e t = cc
 
 -- the law reads the links of buffers alone
-pub relink_keeps : (e : Setup) (m : Marking) → Law e m → (new : ℕ → Option ℕ) → ((b : ℕ) → b < e.buffers → new b ≡ m.link b) → Law e (record m { link = new })
+pub relink_keeps : (e : Setup) (m : Marking) → Law e m → (new : ℕ → Option ℕ)
+    → ((b : ℕ) → b < e.buffers → new b ≡ m.link b) → Law e (record m { link = new })
 relink_keeps e m law new same =
     record {
       stack = law.stack;
-      owned = owned_links e.buffers m.head m.link m.accounts law.stack law.owned new (λ q b h. same b (stacked_below e.buffers m.head m.link m.accounts law.stack law.owned q b h));
+      owned = owned_links e.buffers m.head m.link m.accounts law.stack law.owned new
+          (λ q b h. same b (stacked_below e.buffers m.head m.link m.accounts law.stack law.owned q b h));
       shelved = law.shelved;
       coloured = law.coloured;
       shared = law.shared;
     }
 
-module _ (e : Setup) (m : Marking) (law : Law e m) (w : ℕ) (a : Account) (is : StandsAt m.accounts w a) (there : 0 < a.share) where
+module _ (e : Setup) (m : Marking) (law : Law e m) (w : ℕ) (a : Account) (is : StandsAt m.accounts w a)
+    (there : 0 < a.share) where
   -- what the account knows of the stacks changes, and nothing else
   pub looks_keep :
-      (b : Account) → ((q : Which) → IsRecent m.link (m.head q) (look_of b q)) → b.share ≡ a.share → b.held ≡ a.held → b.charge ≡ a.charge → b.seen ≡ a.seen → b.finished ≡ a.finished
-      → (a.open_push ≡ true → (law.stack Full ≡ []) ⊎ (b.open_push ≡ true)) → Law e (record m { accounts = set m.accounts w b })
+      (b : Account) → ((q : Which) → IsRecent m.link (m.head q) (look_of b q)) → b.share ≡ a.share → b.held ≡ a.held
+      → b.charge ≡ a.charge → b.seen ≡ a.seen → b.finished ≡ a.finished
+      → (a.open_push ≡ true → (law.stack Full ≡ []) ⊎ (b.open_push ≡ true))
+      → Law e (record m { accounts = set m.accounts w b })
   looks_keep b recent share held charge seen finished push =
       record {
         stack = law.stack;
@@ -55,13 +65,15 @@ module _ (e : Setup) (m : Marking) (law : Law e m) (w : ℕ) (a : Account) (is :
       }
 
   pub load_keeps : (q : Which) → Law e (record m { accounts = set m.accounts w (after_load q (m.head q) a) })
-  load_keeps Full = looks_keep (after_load Full (m.head Full) a) recent refl refl refl refl refl (push (m.head Full).index refl)
+  load_keeps Full = looks_keep (after_load Full (m.head Full) a) recent refl refl refl refl refl
+      (push (m.head Full).index refl)
     where
       recent : (p : Which) → IsRecent m.link (m.head p) (look_of (after_load Full (m.head Full) a) p)
       recent Full = recent_loaded m.link (m.head Full)
       recent Empty = law.owned.recent Empty w a is
 
-      push : (n : Option ℕ) → (m.head Full).index ≡ n → a.open_push ≡ true → (law.stack Full ≡ []) ⊎ ((a.open_push && is_some (m.head Full).index) ≡ true)
+      push : (n : Option ℕ) → (m.head Full).index ≡ n → a.open_push ≡ true → (law.stack Full ≡ [])
+          ⊎ ((a.open_push && is_some (m.head Full).index) ≡ true)
       push None none t = inl (chain_none m.link (m.head Full).index (law.stack Full) (law.owned.chain Full) none)
       push (Some i) top t = inr (and_some a.open_push (m.head Full).index i top t)
   load_keeps Empty = looks_keep (after_load Empty (m.head Empty) a) recent refl refl refl refl refl (λ t. inr t)
@@ -70,30 +82,38 @@ module _ (e : Setup) (m : Marking) (law : Law e m) (w : ℕ) (a : Account) (is :
       recent Full = law.owned.recent Full w a is
       recent Empty = recent_loaded m.link (m.head Empty)
 
-  pub load_link_keeps : (q : Which) (h : Head) (i : ℕ) → (look_of a q).head ≡ Some h → h.index ≡ Some i → Law e (record m { accounts = set m.accounts w (after_load_link q (m.link i) a) })
-  load_link_keeps Full h i last top = looks_keep (after_load_link Full (m.link i) a) recent refl refl refl refl refl (λ t. inr t)
+  pub load_link_keeps : (q : Which) (h : Head) (i : ℕ) → (look_of a q).head ≡ Some h → h.index ≡ Some i
+      → Law e (record m { accounts = set m.accounts w (after_load_link q (m.link i) a) })
+  load_link_keeps Full h i last top = looks_keep (after_load_link Full (m.link i) a) recent refl refl refl refl refl
+      (λ t. inr t)
     where
       old : IsRecent m.link (m.head Full) (record { head = Some h; link = a.full.link })
-      old = subst (λ x. IsRecent m.link (m.head Full) (record { head = x; link = a.full.link })) last (law.owned.recent Full w a is)
+      old = subst (λ x. IsRecent m.link (m.head Full) (record { head = x; link = a.full.link })) last
+          (law.owned.recent Full w a is)
 
       recent : (p : Which) → IsRecent m.link (m.head p) (look_of (after_load_link Full (m.link i) a) p)
-      recent Full = subst (λ x. IsRecent m.link (m.head Full) (record { head = x; link = Some (m.link i) })) (sym last) (recent_linked m.link (m.head Full) h i a.full.link top old)
+      recent Full = subst (λ x. IsRecent m.link (m.head Full) (record { head = x; link = Some (m.link i) }))
+          (sym last) (recent_linked m.link (m.head Full) h i a.full.link top old)
       recent Empty = law.owned.recent Empty w a is
-  load_link_keeps Empty h i last top = looks_keep (after_load_link Empty (m.link i) a) recent refl refl refl refl refl (λ t. inr t)
+  load_link_keeps Empty h i last top = looks_keep (after_load_link Empty (m.link i) a) recent refl refl refl refl refl
+      (λ t. inr t)
     where
       old : IsRecent m.link (m.head Empty) (record { head = Some h; link = a.empty.link })
-      old = subst (λ x. IsRecent m.link (m.head Empty) (record { head = x; link = a.empty.link })) last (law.owned.recent Empty w a is)
+      old = subst (λ x. IsRecent m.link (m.head Empty) (record { head = x; link = a.empty.link })) last
+          (law.owned.recent Empty w a is)
 
       recent : (p : Which) → IsRecent m.link (m.head p) (look_of (after_load_link Empty (m.link i) a) p)
       recent Full = law.owned.recent Full w a is
-      recent Empty = subst (λ x. IsRecent m.link (m.head Empty) (record { head = x; link = Some (m.link i) })) (sym last) (recent_linked m.link (m.head Empty) h i a.empty.link top old)
+      recent Empty = subst (λ x. IsRecent m.link (m.head Empty) (record { head = x; link = Some (m.link i) }))
+          (sym last) (recent_linked m.link (m.head Empty) h i a.empty.link top old)
 
   -- no stacked buffer is held, so a store at a held one changes no stack
   pub store_keeps : (i : ℕ) (l : Option ℕ) → 0 < times i a.held → Law e (record m { link = put i l m.link })
   store_keeps i l mine =
       record {
         stack = law.stack;
-        owned = owned_links e.buffers m.head m.link m.accounts law.stack law.owned (put i l m.link) (λ q b h. put_else i b l m.link (other q b h));
+        owned = owned_links e.buffers m.head m.link m.accounts law.stack law.owned (put i l m.link)
+            (λ q b h. put_else i b l m.link (other q b h));
         shelved = law.shelved;
         coloured = law.coloured;
         shared = law.shared;
@@ -107,41 +127,68 @@ module _ (e : Setup) (m : Marking) (law : Law e m) (w : ℕ) (a : Account) (is :
       on_no Empty = apart.2
 
       other : (q : Which) (b : ℕ) → 0 < times b (law.stack q) → b ≢ i
-      other q b h s = let t : times b (law.stack q) ≡ times i (law.stack q) = ap (λ j. times j (law.stack q)) s in absurd (omega (arith, on_no q))
+      other q b h s = let t : times b (law.stack q) ≡ times i (law.stack q) = ap (λ j. times j (law.stack q)) s in
+          absurd (omega (arith, on_no q))
 
   pub pop_keeps :
-      (q : Which) (i : ℕ) (l : Option ℕ) (items : List ℕ) → (look_of a q).head ≡ Some (m.head q) → (m.head q).index ≡ Some i → (look_of a q).link ≡ Some l → StandsAt m.slots i (Some items)
-      → Law e (record m { head = put_which q (after (m.head q) l) m.head; slots = set m.slots i None; accounts = set m.accounts w (after_pop i items a) })
+      (q : Which) (i : ℕ) (l : Option ℕ) (items : List ℕ) → (look_of a q).head ≡ Some (m.head q)
+      → (m.head q).index ≡ Some i → (look_of a q).link ≡ Some l → StandsAt m.slots i (Some items)
+      → Law e (record m {
+        head = put_which q (after (m.head q) l) m.head;
+        slots = set m.slots i None;
+        accounts = set m.accounts w (after_pop i items a);
+      })
   pop_keeps q i l items hit top next at =
       record {
         stack = new;
         owned = taken.2;
-        shelved = shelved_set e.buffers m.slots law.stack new i (Some items) None law.shelved at others (λ p h. absurd (omega (arith, gone p))) (λ h. absurd (omega (arith, gone Empty))) (λ f g. refl);
+        shelved = shelved_set e.buffers m.slots law.stack new i (Some items) None law.shelved at others
+            (λ p h. absurd (omega (arith, gone p))) (λ h. absurd (omega (arith, gone Empty))) (λ f g. refl);
         coloured = coloured_pop e m.mark m.slots m.accounts law.coloured w a is i items at;
         shared = shared_set m.accounts law.shared w a is there (after_pop i items a) refl;
       }
     where
-      taken : (rest : List ℕ) × (law.stack q ≡ i ∷ rest) × IsOwned e.buffers (put_which q (after (m.head q) l) m.head) m.link (set m.accounts w (after_pop i items a)) (put_which q rest law.stack)
+      taken : (rest : List ℕ) × (law.stack q ≡ i ∷ rest)
+          × IsOwned e.buffers (put_which q (after (m.head q) l) m.head) m.link
+          (set m.accounts w (after_pop i items a)) (put_which q rest law.stack)
       taken = owned_pop e.buffers m.head m.link m.accounts law.stack law.owned w a is q i l items hit top next
 
       new : Which → List ℕ
       new = put_which q taken.0 law.stack
 
       others : (p : Which) (b : ℕ) → b ≢ i → times b (new p) ≡ times b (law.stack p)
-      others p b n = put_one (λ r xs. times b xs ≡ times b (law.stack r)) q taken.0 law.stack (omega (arith, ap (times b) taken.1, only-other b i (λ s. n (sym s)))) (λ r. refl) p
+      others p b n = put_one (λ r xs. times b xs ≡ times b (law.stack r)) q taken.0 law.stack
+          (omega (arith, ap (times b) taken.1, only-other b i (λ s. n (sym s)))) (λ r. refl) p
 
       gone : (p : Which) → times i (new p) ≡ 0
-      gone Full = omega (arith, popped_sum q i taken.0 law.stack taken.1 i, only-same i i refl, place_one e.buffers m.head m.link m.accounts law.stack law.owned i)
-      gone Empty = omega (arith, popped_sum q i taken.0 law.stack taken.1 i, only-same i i refl, place_one e.buffers m.head m.link m.accounts law.stack law.owned i)
+      gone Full = omega (
+        arith,
+        popped_sum q i taken.0 law.stack taken.1 i,
+        only-same i i refl,
+        place_one e.buffers m.head m.link m.accounts law.stack law.owned i,
+      )
+      gone Empty = omega (
+        arith,
+        popped_sum q i taken.0 law.stack taken.1 i,
+        only-same i i refl,
+        place_one e.buffers m.head m.link m.accounts law.stack law.owned i,
+      )
 
   pub push_keeps :
-      (q : Which) (i : ℕ) (items : List ℕ) → 0 < times i a.held → m.link i ≡ (m.head q).index → IsPart items a.charge → (q ≡ Empty → items ≡ [])
-      → Law e (record m { head = put_which q (after (m.head q) (Some i)) m.head; slots = set m.slots i (Some items); accounts = set m.accounts w (after_push q i items a) })
+      (q : Which) (i : ℕ) (items : List ℕ) → 0 < times i a.held → m.link i ≡ (m.head q).index → IsPart items a.charge
+      → (q ≡ Empty → items ≡ [])
+      → Law e (record m {
+        head = put_which q (after (m.head q) (Some i)) m.head;
+        slots = set m.slots i (Some items);
+        accounts = set m.accounts w (after_push q i items a);
+      })
   push_keeps q i items mine leads some none =
       record {
         stack = new;
         owned = owned_push e.buffers m.head m.link m.accounts law.stack law.owned w a is q i items mine leads;
-        shelved = shelved_set e.buffers m.slots law.stack new i None (Some items) law.shelved at others (λ p h. (items, refl)) (bare q none) (λ f g. absurd (omega (arith, pushed_sum q i law.stack i, only-same i i refl)));
+        shelved = shelved_set e.buffers m.slots law.stack new i None (Some items) law.shelved at others
+            (λ p h. (items, refl)) (bare q none)
+            (λ f g. absurd (omega (arith, pushed_sum q i law.stack i, only-same i i refl)));
         coloured = coloured_push e m.mark m.slots m.accounts law.coloured w a is q i items at some;
         shared = shared_set m.accounts law.shared w a is there (after_push q i items a) refl;
       }
@@ -156,53 +203,70 @@ module _ (e : Setup) (m : Marking) (law : Law e m) (w : ℕ) (a : Account) (is :
       new = put_which q (i ∷ law.stack q) law.stack
 
       others : (p : Which) (b : ℕ) → b ≢ i → times b (new p) ≡ times b (law.stack p)
-      others p b n = put_one (λ r xs. times b xs ≡ times b (law.stack r)) q (i ∷ law.stack q) law.stack (omega (arith, only-other b i (λ s. n (sym s)))) (λ r. refl) p
+      others p b n = put_one (λ r xs. times b xs ≡ times b (law.stack r)) q (i ∷ law.stack q) law.stack
+          (omega (arith, only-other b i (λ s. n (sym s)))) (λ r. refl) p
 
-      bare : (r : Which) → (r ≡ Empty → items ≡ []) → 0 < times i (put_which r (i ∷ law.stack r) law.stack Empty) → Some items ≡ Some []
+      bare : (r : Which) → (r ≡ Empty → items ≡ []) → 0 < times i (put_which r (i ∷ law.stack r) law.stack Empty)
+          → Some items ≡ Some []
       bare Full bare_of h = absurd (omega (arith, apart.2))
       bare Empty bare_of h = ap {B = Option (List ℕ)} Some (bare_of refl)
 
-  pub claim_keeps : (o : ℕ) → IsReachable e o → Law e (record m { mark = put o (max (m.mark o) 1) m.mark; accounts = set m.accounts w (after_claim o (m.mark o) a) })
+  pub claim_keeps : (o : ℕ) → IsReachableIn e o
+      → Law e (record m {
+        mark = put o (max (m.mark o) 1) m.mark;
+        accounts = set m.accounts w (after_claim o (m.mark o) a);
+      })
   claim_keeps o reach =
       record {
         stack = law.stack;
         owned = owned_same e.buffers m.head m.link m.accounts law.stack law.owned w a is b refl refl refl refl;
         shelved = law.shelved;
-        coloured = coloured_put e m.mark m.slots m.accounts law.coloured o (max (m.mark o) 1) (set m.accounts w b) (omega arith) (omega arith) (here (ℕ_discrete (m.mark o) 0)) (others (ℕ_discrete (m.mark o) 0)) next reach saw;
+        coloured = coloured_put e m.mark m.slots m.accounts law.coloured o (max (m.mark o) 1) (set m.accounts w b)
+            (omega arith) (omega arith) (here (ℕ_discrete (m.mark o) 0))
+            (others (ℕ_discrete (m.mark o) 0)) next reach saw;
         shared = shared_set m.accounts law.shared w a is there b refl;
       }
     where
       b : Account
       b = after_claim o (m.mark o) a
 
-      charges : (y : ℕ) → charged_times y (set m.accounts w b) + times y a.charge ≡ charged_times y m.accounts + times y b.charge
-      charges y = total-set (λ (x : Account). times y x.charge) m.accounts w a b is
+      charges : (y : ℕ)
+          → charged_times y (set m.accounts w b) + times y a.charge ≡ charged_times y m.accounts + times y b.charge
+      charges y = sum_of-set (λ (x : Account). times y x.charge) m.accounts w a b is
 
       done : (y : ℕ) → finished_times y (set m.accounts w b) ≡ finished_times y m.accounts
-      done y = omega (arith, total-set (λ (x : Account). times y x.finished) m.accounts w a b is)
+      done y = omega (arith, sum_of-set (λ (x : Account). times y x.finished) m.accounts w a b is)
 
       more : (y : ℕ) → m.mark o ≡ 0 → times y b.charge ≡ times y a.charge + only y o
-      more y z = omega (arith, ap (times y) (charge_white o (m.mark o) a z), total-append (only y) a.charge (o ∷ []))
+      more y z = omega (arith, ap (times y) (charge_white o (m.mark o) a z), sum_of-append (only y) a.charge (o ∷ []))
 
-      here : Dec (m.mark o ≡ 0) → Tells (max (m.mark o) 1) (stacked_times o m.slots + charged_times o (set m.accounts w b)) (finished_times o (set m.accounts w b))
+      here : Dec (m.mark o ≡ 0) → HasColour (max (m.mark o) 1)
+          (stacked_times o m.slots + charged_times o (set m.accounts w b)) (finished_times o (set m.accounts w b))
       here (yes z) =
           let t = linear e m.mark m.slots m.accounts law.coloured o in
-          sums_tell (max (m.mark o) 1) (stacked_times o m.slots + charged_times o (set m.accounts w b)) (finished_times o (set m.accounts w b))
-          (omega (arith, charges o, done o, more o z, only-same o o refl)) (omega (arith, charges o, done o, more o z, only-same o o refl))
+          sums_tell (max (m.mark o) 1) (stacked_times o m.slots + charged_times o (set m.accounts w b))
+          (finished_times o (set m.accounts w b))
+          (omega (arith, charges o, done o, more o z, only-same o o refl))
+          (omega (arith, charges o, done o, more o z, only-same o o refl))
       here (no n) =
           let t = linear e m.mark m.slots m.accounts law.coloured o in
           let s : times o b.charge ≡ times o a.charge = ap (times o) (charge_marked o (m.mark o) a n) in
-          sums_tell (max (m.mark o) 1) (stacked_times o m.slots + charged_times o (set m.accounts w b)) (finished_times o (set m.accounts w b))
+          sums_tell (max (m.mark o) 1) (stacked_times o m.slots + charged_times o (set m.accounts w b))
+          (finished_times o (set m.accounts w b))
           (omega (arith, charges o, done o)) (omega (arith, charges o, done o))
 
-      others : Dec (m.mark o ≡ 0) → (y : ℕ) → y ≢ o → (charged_times y (set m.accounts w b) ≡ charged_times y m.accounts) × (finished_times y (set m.accounts w b) ≡ finished_times y m.accounts)
+      others : Dec (m.mark o ≡ 0) → (y : ℕ) → y ≢ o
+          → (charged_times y (set m.accounts w b) ≡ charged_times y m.accounts)
+          × (finished_times y (set m.accounts w b) ≡ finished_times y m.accounts)
       others (yes z) y n = (omega (arith, charges y, more y z, only-other y o (λ s. n (sym s))), done y)
-      others (no k) y n = let s : times y b.charge ≡ times y a.charge = ap (times y) (charge_marked o (m.mark o) a k) in (omega (arith, charges y), done y)
+      others (no k) y n = let s : times y b.charge ≡ times y a.charge =
+          ap (times y) (charge_marked o (m.mark o) a k) in (omega (arith, charges y), done y)
 
       next : max (m.mark o) 1 ≡ 2 → (s : ℕ) → Contains e.pairs (o, s) → 1 ≤ m.mark s
       next two s pair = law.coloured.closed o s (omega arith) pair
 
-      saw : (v : ℕ) (x : Account) → StandsAt (set m.accounts w b) v x → (y : ℕ) → Contains x.seen y → (1 ≤ m.mark y) ⊎ (y ≡ o)
+      saw : (v : ℕ) (x : Account) → StandsAt (set m.accounts w b) v x → (y : ℕ) → Contains x.seen y → (1 ≤ m.mark y)
+          ⊎ (y ≡ o)
       saw v x at y k = go (at_set m.accounts w v b x at)
         where
           mine : Contains a.seen y ⊎ (o ≡ y) → (1 ≤ m.mark y) ⊎ (y ≡ o)
@@ -214,17 +278,19 @@ module _ (e : Setup) (m : Marking) (law : Law e m) (w : ℕ) (a : Account) (is :
           go (inr p) = inl (law.coloured.saw v x p.1 y k)
 
   -- an account may claim what is reachable alone
-  pub can_claim : (o : ℕ) → CanClaim e o a → IsReachable e o
+  pub can_claim : (o : ℕ) → CanClaim e o a → IsReachableIn e o
   can_claim o (inl root) = ([], root)
   can_claim o (inr p) = reachable_next e m.mark m.slots m.accounts law.coloured w a is p.0 o p.1 p.2
 
-  pub finish_keeps : (o : ℕ) → CanFinish e o a → Law e (record m { mark = put o 2 m.mark; accounts = set m.accounts w (after_finish o a) })
+  pub finish_keeps : (o : ℕ) → CanFinish e o a
+      → Law e (record m { mark = put o 2 m.mark; accounts = set m.accounts w (after_finish o a) })
   finish_keeps o can =
       record {
         stack = law.stack;
         owned = owned_same e.buffers m.head m.link m.accounts law.stack law.owned w a is b refl refl refl refl;
         shelved = law.shelved;
-        coloured = coloured_put e m.mark m.slots m.accounts law.coloured o 2 (set m.accounts w b) (omega arith) (omega (arith, was)) here others next (law.coloured.reachable o (omega (arith, was))) saw;
+        coloured = coloured_put e m.mark m.slots m.accounts law.coloured o 2 (set m.accounts w b) (omega arith)
+            (omega (arith, was)) here others next (law.coloured.reachable o (omega (arith, was))) saw;
         shared = shared_set m.accounts law.shared w a is there b refl;
       }
     where
@@ -234,48 +300,66 @@ module _ (e : Setup) (m : Marking) (law : Law e m) (w : ℕ) (a : Account) (is :
       mine : 0 < times o a.charge
       mine = stands_times a.charge o can.0
 
-      was : (m.mark o ≡ 1) × (stacked_times o m.slots ≡ 0) × (charged_times o m.accounts ≡ 1) × (finished_times o m.accounts ≡ 0)
+      was : (m.mark o ≡ 1) × (stacked_times o m.slots ≡ 0) × (charged_times o m.accounts ≡ 1)
+          × (finished_times o m.accounts ≡ 0)
       was = charged e m.mark m.slots m.accounts law.coloured w a is o mine
 
       charges : (y : ℕ) → charged_times y (set m.accounts w b) + only y o ≡ charged_times y m.accounts
-      charges y = omega (arith, total-set (λ (x : Account). times y x.charge) m.accounts w a b is, times-remove_one y o a.charge mine)
+      charges y = omega (
+        arith,
+        sum_of-set (λ (x : Account). times y x.charge) m.accounts w a b is,
+        times-remove_one y o a.charge mine,
+      )
 
       done : (y : ℕ) → finished_times y (set m.accounts w b) ≡ finished_times y m.accounts + only y o
-      done y = omega (arith, total-set (λ (x : Account). times y x.finished) m.accounts w a b is, total-append (only y) a.finished (o ∷ []))
+      done y = omega (
+        arith,
+        sum_of-set (λ (x : Account). times y x.finished) m.accounts w a b is,
+        sum_of-append (only y) a.finished (o ∷ []),
+      )
 
-      here : Tells 2 (stacked_times o m.slots + charged_times o (set m.accounts w b)) (finished_times o (set m.accounts w b))
+      here : HasColour 2 (stacked_times o m.slots + charged_times o (set m.accounts w b))
+          (finished_times o (set m.accounts w b))
       here =
-          sums_tell 2 (stacked_times o m.slots + charged_times o (set m.accounts w b)) (finished_times o (set m.accounts w b))
-          (omega (arith, was, charges o, done o, only-same o o refl)) (omega (arith, was, charges o, done o, only-same o o refl))
+          sums_tell 2 (stacked_times o m.slots + charged_times o (set m.accounts w b))
+          (finished_times o (set m.accounts w b))
+          (omega (arith, was, charges o, done o, only-same o o refl))
+          (omega (arith, was, charges o, done o, only-same o o refl))
 
-      others : (y : ℕ) → y ≢ o → (charged_times y (set m.accounts w b) ≡ charged_times y m.accounts) × (finished_times y (set m.accounts w b) ≡ finished_times y m.accounts)
+      others : (y : ℕ) → y ≢ o → (charged_times y (set m.accounts w b) ≡ charged_times y m.accounts)
+          × (finished_times y (set m.accounts w b) ≡ finished_times y m.accounts)
       others y n = let z = only-other y o (λ s. n (sym s)) in (omega (arith, charges y), omega (arith, done y))
 
       next : ◌≡◌ {A = ℕ} 2 2 → (s : ℕ) → Contains e.pairs (o, s) → 1 ≤ m.mark s
       next two s pair = law.coloured.saw w a is s (can.1 s pair)
 
-      saw : (v : ℕ) (x : Account) → StandsAt (set m.accounts w b) v x → (y : ℕ) → Contains x.seen y → (1 ≤ m.mark y) ⊎ (y ≡ o)
+      saw : (v : ℕ) (x : Account) → StandsAt (set m.accounts w b) v x → (y : ℕ) → Contains x.seen y → (1 ≤ m.mark y)
+          ⊎ (y ≡ o)
       saw v x at y k = go (at_set m.accounts w v b x at)
         where
           go : ((v ≡ w) × (b ≡ x)) ⊎ ((v ≢ w) × StandsAt m.accounts v x) → (1 ≤ m.mark y) ⊎ (y ≡ o)
           go (inl p) = inl (law.coloured.saw w a is y (subst (λ (z : Account). Contains z.seen y) (sym p.1) k))
           go (inr p) = inl (law.coloured.saw v x p.1 y k)
 
-  pub split_keeps : (units : ℕ) → 0 < units → units < a.share → Law e (record m { accounts = set m.accounts w (after_split units a) ++ part units ∷ [] })
+  pub split_keeps : (units : ℕ) → 0 < units → units < a.share
+      → Law e (record m { accounts = set m.accounts w (after_split units a) ++ part units ∷ [] })
   split_keeps units some less =
       record {
         stack = law.stack;
         owned =
-            owned_part e.buffers m.head m.link (set m.accounts w b) law.stack (owned_same e.buffers m.head m.link m.accounts law.stack law.owned w a is b refl refl refl refl) units;
+            owned_part e.buffers m.head m.link (set m.accounts w b) law.stack
+            (owned_same e.buffers m.head m.link m.accounts law.stack law.owned w a is b refl refl refl refl) units;
         shelved = law.shelved;
-        coloured = coloured_part e m.mark m.slots (set m.accounts w b) (coloured_same e m.mark m.slots m.accounts law.coloured w a is b refl refl refl) units;
+        coloured = coloured_part e m.mark m.slots (set m.accounts w b)
+            (coloured_same e m.mark m.slots m.accounts law.coloured w a is b refl refl refl) units;
         shared = shared_split m.accounts law.shared w a is there units some less;
       }
     where
       b : Account
       b = after_split units a
 
-  pub join_keeps : (v : ℕ) (b : Account) → v ≢ w → StandsAt m.accounts v b → Law e (record m { accounts = set (set m.accounts w (after_join a b)) v no_share })
+  pub join_keeps : (v : ℕ) (b : Account) → v ≢ w → StandsAt m.accounts v b
+      → Law e (record m { accounts = set (set m.accounts w (after_join a b)) v no_share })
   join_keeps v b apart at =
       record {
         stack = law.stack;

@@ -1,5 +1,8 @@
--- Heads in a run: which heads accounts have loaded, and that a failed exchange and an open push are found only where a head has changed.
-use Rattle.std.proofs.Common.{◌≡◌, ◌⊎◌, ℕ, zero, suc, ◌<◌, ◌≤◌, Bool, true, false, ◌&&◌, ◌||◌, is_some, List, [], ◌∷◌, ◌++◌, Option, Some, None, set, slice_index_or, ap, sym, refl, subst, ◌∙◌, inl, inr, ⊎_elim, arith}
+-- Heads in a run: which heads accounts have loaded, and that a failed exchange and an open push are found only where a
+-- head has changed.
+use Rattle.std.proofs.Common.{◌≡◌, ◌⊎◌, ℕ, zero, suc, ◌<◌, ◌≤◌, Bool, true, false, ◌&&◌, ◌||◌, is_some, List, [], ◌∷◌}
+use Rattle.std.proofs.Common.{◌++◌, Option, Some, None, set, slice_index_or, ap, sym, refl, subst, ◌∙◌, inl, inr}
+use Rattle.std.proofs.Common.{⊎_elim, arith}
 use Rattle.std.proofs.lemmas.Bool.{false≢true}
 use mathlib.Core.Option.{some-ne-none}
 use native.Mathlib.Decide.{dec_le}
@@ -7,12 +10,17 @@ use Rattle.tagged_index.specs.Head.{Head}
 use Rattle.mark_core.specs.declared.which.Which.{Which}
 use Rattle.mark_core.specs.declared.which.Which.TheVariants.{Full, Empty}
 use Rattle.mark_core.specs.Lists.{StandsAt}
-use Rattle.mark_core.specs.Account.{Account, look_of, part, no_share, after_claim, after_finish, after_split, after_join, after_load, after_load_link, after_push, after_idle_up, after_idle_down, after_load_idle}
+use Rattle.mark_core.specs.Account.{Account, look_of, part, no_share, after_claim, after_finish, after_split}
+use Rattle.mark_core.specs.Account.{after_join, after_load, after_load_link, after_push, after_idle_up, after_idle_down}
+use Rattle.mark_core.specs.Account.{after_load_idle}
 use Rattle.mark_core.specs.World.{Setup, Marking, account_at}
-use Rattle.mark_core.specs.Event.{Kind, Claim, Finish, Split, Join, Load, LoadLink, StoreLink, Pop, Push, Fail, IdleUp, IdleDown, LoadIdle, Event, Allows, IsPossible, effect, happens, popped, last_link}
+use Rattle.mark_core.specs.Event.{Kind, Claim, Finish, Split, Join, Load, LoadLink, StoreLink, Pop, Push, Fail, IdleUp}
+use Rattle.mark_core.specs.Event.{IdleDown, LoadIdle, Event, Allows, IsPossible, effect, happens, stack_popped}
+use Rattle.mark_core.specs.Event.{last_link}
 use Rattle.mark_core.specs.Shares.{whole}
 use Rattle.mark_core.specs.Runs.{Run, first_heads, opening}
-use Rattle.mark_core.specs.Counts.{Counts, LeadTo, add_counts, all_counted, count_failure, count_load, count_load_idle, counted, counts_at, no_counts}
+use Rattle.mark_core.specs.Counts.{Counts, LeadTo, add_counts, all_counted, count_failure, count_load, count_load_idle}
+use Rattle.mark_core.specs.Counts.{counted, counts_at, no_counts}
 use Rattle.mark_core.specs.Conclusions.{FirstTagsAreFirst, HadHead, HasChanged, LoadedHeadsWere, PushesFollowChanges}
 use Rattle.mark_core.proofs.Places.{at_get_or, at_push, at_set}
 use Rattle.mark_core.proofs.Changes.{tags_rise}
@@ -51,23 +59,33 @@ module _ (S : Which → Head → Type 0) where
   knows_nothing : (units : ℕ) → Knows (part units)
   knows_nothing units = (nothing_loaded Full, nothing_loaded Empty)
 
-  popped_knows : (m : Marking) (w : ℕ) (a : Account) (q : Which) (x : Option ℕ) (y : Option (Option ℕ)) → OfEach Knows m.accounts → Knows a → OfEach Knows (popped m w a q x y).accounts
+  popped_knows : (m : Marking) (w : ℕ) (a : Account) (q : Which) (x : Option ℕ) (y : Option (Option ℕ))
+      → OfEach Knows m.accounts → Knows a → OfEach Knows (stack_popped m w a q x y).accounts
   popped_knows m w a q None y all own = all
   popped_knows m w a q (Some i) None all own = all
   popped_knows m w a q (Some i) (Some l) all own = set_all Knows m.accounts w _ all own
 
   -- after an event: what they knew before, and the heads as they were
-  effect_knows : (m : Marking) (w : ℕ) (a : Account) (kind : Kind) → OfEach Knows m.accounts → Knows a → ((q : Which) → S q (m.head q)) → OfEach Knows (effect m w a kind).accounts
+  effect_knows : (m : Marking) (w : ℕ) (a : Account) (kind : Kind) → OfEach Knows m.accounts → Knows a
+      → ((q : Which) → S q (m.head q)) → OfEach Knows (effect m w a kind).accounts
   effect_knows m w a (Claim o) all own heads = set_all Knows m.accounts w (after_claim o (m.mark o) a) all own
   effect_knows m w a (Finish o) all own heads = set_all Knows m.accounts w (after_finish o a) all own
   effect_knows m w a (Split units) all own heads =
-      push_all Knows (set m.accounts w (after_split units a)) (part units) (set_all Knows m.accounts w (after_split units a) all own) (knows_nothing units)
+      push_all Knows (set m.accounts w (after_split units a)) (part units)
+      (set_all Knows m.accounts w (after_split units a) all own) (knows_nothing units)
   effect_knows m w a (Join v) all own heads =
-      set_all Knows (set m.accounts w (after_join a (account_at m.accounts v))) v no_share (set_all Knows m.accounts w (after_join a (account_at m.accounts v)) all own) (knows_nothing 0)
-  effect_knows m w a (Load Full) all own heads = set_all Knows m.accounts w (after_load Full (m.head Full) a) all ((λ h e. loaded_one Full (m.head Full) h (heads Full) e), own.1)
-  effect_knows m w a (Load Empty) all own heads = set_all Knows m.accounts w (after_load Empty (m.head Empty) a) all (own.0, (λ h e. loaded_one Empty (m.head Empty) h (heads Empty) e))
-  effect_knows m w a (LoadLink Full) all own heads = set_all Knows m.accounts w (after_load_link Full (last_link m.link a.full.head) a) all own
-  effect_knows m w a (LoadLink Empty) all own heads = set_all Knows m.accounts w (after_load_link Empty (last_link m.link a.empty.head) a) all own
+      set_all Knows (set m.accounts w (after_join a (account_at m.accounts v))) v no_share
+      (set_all Knows m.accounts w (after_join a (account_at m.accounts v)) all own) (knows_nothing 0)
+  effect_knows m w a (Load Full) all own heads =
+      set_all Knows m.accounts w (after_load Full (m.head Full) a) all
+      ((λ h e. loaded_one Full (m.head Full) h (heads Full) e), own.1)
+  effect_knows m w a (Load Empty) all own heads =
+      set_all Knows m.accounts w (after_load Empty (m.head Empty) a) all
+      (own.0, (λ h e. loaded_one Empty (m.head Empty) h (heads Empty) e))
+  effect_knows m w a (LoadLink Full) all own heads =
+      set_all Knows m.accounts w (after_load_link Full (last_link m.link a.full.head) a) all own
+  effect_knows m w a (LoadLink Empty) all own heads =
+      set_all Knows m.accounts w (after_load_link Empty (last_link m.link a.empty.head) a) all own
   effect_knows m w a (StoreLink i l) all own heads = all
   effect_knows m w a (Pop q) all own heads = popped_knows m w a q (m.head q).index (look_of a q).link all own
   effect_knows m w a (Push q i items) all own heads = set_all Knows m.accounts w (after_push q i items a) all own
@@ -76,9 +94,11 @@ module _ (S : Which → Head → Type 0) where
   effect_knows m w a IdleDown all own heads = set_all Knows m.accounts w (after_idle_down a) all own
   effect_knows m w a LoadIdle all own heads = set_all Knows m.accounts w (after_load_idle m.idle a) all own
 
-  happens_knows : (e : Setup) (m : Marking) (event : Event) → IsPossible e m event → OfEach Knows m.accounts → ((q : Which) → S q (m.head q)) → OfEach Knows (happens m event).accounts
+  happens_knows : (e : Setup) (m : Marking) (event : Event) → IsPossible e m event → OfEach Knows m.accounts
+      → ((q : Which) → S q (m.head q)) → OfEach Knows (happens m event).accounts
   happens_knows e m event can all heads =
-      subst (λ x. OfEach Knows (effect m event.worker x event.kind).accounts) (sym (at_get_or m.accounts event.worker can.0 no_share can.1.0))
+      subst (λ x. OfEach Knows (effect m event.worker x event.kind).accounts)
+      (sym (at_get_or m.accounts event.worker can.0 no_share can.1.0))
       (effect_knows m event.worker can.0 event.kind all (all event.worker can.0 can.1.0) heads)
 
 -- a head that the stack has now, it had
@@ -87,15 +107,18 @@ had_now m [] q = refl
 had_now m (event ∷ events) q = inl refl
 
 run_knows :
-    (S : Which → Head → Type 0) (e : Setup) (events : List Event) (first last : Marking) → ((q : Which) (h : Head) → HadHead first events q h → S q h) → Run e first events last
+    (S : Which → Head → Type 0) (e : Setup) (events : List Event) (first last : Marking)
+    → ((q : Which) (h : Head) → HadHead first events q h → S q h) → Run e first events last
     → OfEach (Knows S) first.accounts → OfEach (Knows S) last.accounts
 run_knows S e [] first last had run all = subst (λ (m : Marking). OfEach (Knows S) m.accounts) (sym run) all
 run_knows S e (event ∷ events) first last had run all =
-    run_knows S e events (happens first event) last (λ q h k. had q h (inr k)) run.1 (happens_knows S e first event run.0 all (λ q. had q (first.head q) (inl refl)))
+    run_knows S e events (happens first event) last (λ q h k. had q h (inr k)) run.1
+    (happens_knows S e first event run.0 all (λ q. had q (first.head q) (inl refl)))
 
 -- at the opening nothing was loaded
 opening_knows : (S : Which → Head → Type 0) (e : Setup) → OfEach (Knows S) (opening e e.first_tag).accounts
-opening_knows S e = push_all (Knows S) [] (part whole) (λ k x at. absurd (some-ne-none x (sym at))) (knows_nothing S whole)
+opening_knows S e = push_all (Knows S) [] (part whole) (λ k x at. absurd (some-ne-none x (sym at)))
+    (knows_nothing S whole)
 
 pub loaded_heads_were : LoadedHeadsWere
 loaded_heads_were e events m run w a q h at last =
@@ -114,13 +137,19 @@ module _ (C : Type 0) where
   at_fails : (counts : List Counts) (w : ℕ) → OfEach Failed counts → Failed (counts_at counts w)
   at_fails counts w all = or_default Failed counts w no_counts all (λ h. absurd (omega (arith, h)))
 
-  counted_fails : (m : Marking) (counts : List Counts) (w : ℕ) (kind : Kind) → OfEach Failed counts → ((q : Which) → kind ≡ Fail q → C) → OfEach Failed (counted m counts w kind)
-  counted_fails m counts w (Load q) all fail = set_all Failed counts w (count_load q (m.head q) (counts_at counts w)) all (load_fails_not q (m.head q) (counts_at counts w) (at_fails counts w all))
-  counted_fails m counts w (Fail q) all fail = set_all Failed counts w (count_failure (counts_at counts w)) all (λ h. fail q refl)
-  counted_fails m counts w (Split units) all fail = push_all Failed counts no_counts all (λ h. absurd (omega (arith, h)))
+  counted_fails : (m : Marking) (counts : List Counts) (w : ℕ) (kind : Kind) → OfEach Failed counts
+      → ((q : Which) → kind ≡ Fail q → C) → OfEach Failed (counted m counts w kind)
+  counted_fails m counts w (Load q) all fail =
+      set_all Failed counts w (count_load q (m.head q) (counts_at counts w)) all
+      (load_fails_not q (m.head q) (counts_at counts w) (at_fails counts w all))
+  counted_fails m counts w (Fail q) all fail =
+      set_all Failed counts w (count_failure (counts_at counts w)) all (λ h. fail q refl)
+  counted_fails m counts w (Split units) all fail =
+      push_all Failed counts no_counts all (λ h. absurd (omega (arith, h)))
   counted_fails m counts w (Join v) all fail =
       set_all Failed (set counts w (add_counts (counts_at counts w) (counts_at counts v))) v no_counts
-      (set_all Failed counts w (add_counts (counts_at counts w) (counts_at counts v)) all (both (counts_at counts w) (counts_at counts v) (at_fails counts w all) (at_fails counts v all)))
+      (set_all Failed counts w (add_counts (counts_at counts w) (counts_at counts v)) all
+      (both (counts_at counts w) (counts_at counts v) (at_fails counts w all) (at_fails counts v all)))
       (λ h. absurd (omega (arith, h)))
     where
       both : (a b : Counts) → Failed a → Failed b → Failed (add_counts a b)
@@ -137,7 +166,8 @@ module _ (C : Type 0) where
   counted_fails m counts w (Push q i items) all fail = all
   counted_fails m counts w IdleUp all fail = all
   counted_fails m counts w IdleDown all fail = all
-  counted_fails m counts w LoadIdle all fail = set_all Failed counts w (count_load_idle (counts_at counts w)) all (at_fails counts w all)
+  counted_fails m counts w LoadIdle all fail =
+      set_all Failed counts w (count_load_idle (counts_at counts w)) all (at_fails counts w all)
 
   -- open pushes, after an event: those of before, or one on full
   abbrev Pushed : Account → Type 0
@@ -151,29 +181,40 @@ module _ (C : Type 0) where
   or_cases true b h first second = first refl
   or_cases false b h first second = second h
 
-  popped_pushed : (m : Marking) (w : ℕ) (a : Account) (q : Which) (x : Option ℕ) (y : Option (Option ℕ)) → OfEach Pushed m.accounts → Pushed a → OfEach Pushed (popped m w a q x y).accounts
+  popped_pushed : (m : Marking) (w : ℕ) (a : Account) (q : Which) (x : Option ℕ) (y : Option (Option ℕ))
+      → OfEach Pushed m.accounts → Pushed a → OfEach Pushed (stack_popped m w a q x y).accounts
   popped_pushed m w a q None y all own = all
   popped_pushed m w a q (Some i) None all own = all
   popped_pushed m w a q (Some i) (Some l) all own = set_all Pushed m.accounts w _ all own
 
   effect_pushed :
-      (m : Marking) (w : ℕ) (a : Account) (kind : Kind) → OfEach Pushed m.accounts → Pushed a → ((v : ℕ) → Pushed (account_at m.accounts v)) → ((i : ℕ) (items : List ℕ) → kind ≡ Push Full i items → C)
+      (m : Marking) (w : ℕ) (a : Account) (kind : Kind) → OfEach Pushed m.accounts → Pushed a
+      → ((v : ℕ) → Pushed (account_at m.accounts v)) → ((i : ℕ) (items : List ℕ) → kind ≡ Push Full i items → C)
       → OfEach Pushed (effect m w a kind).accounts
   effect_pushed m w a (Claim o) all own others push = set_all Pushed m.accounts w (after_claim o (m.mark o) a) all own
   effect_pushed m w a (Finish o) all own others push = set_all Pushed m.accounts w (after_finish o a) all own
   effect_pushed m w a (Split units) all own others push =
-      push_all Pushed (set m.accounts w (after_split units a)) (part units) (set_all Pushed m.accounts w (after_split units a) all own) (λ h. absurd (false≢true h))
+      push_all Pushed (set m.accounts w (after_split units a)) (part units)
+      (set_all Pushed m.accounts w (after_split units a) all own) (λ h. absurd (false≢true h))
   effect_pushed m w a (Join v) all own others push =
       set_all Pushed (set m.accounts w (after_join a (account_at m.accounts v))) v no_share
-      (set_all Pushed m.accounts w (after_join a (account_at m.accounts v)) all (λ h. or_cases a.open_push (account_at m.accounts v).open_push h own (others v))) (λ h. absurd (false≢true h))
-  effect_pushed m w a (Load Full) all own others push = set_all Pushed m.accounts w (after_load Full (m.head Full) a) all (λ h. own (and_left a.open_push (is_some (m.head Full).index) h))
-  effect_pushed m w a (Load Empty) all own others push = set_all Pushed m.accounts w (after_load Empty (m.head Empty) a) all own
-  effect_pushed m w a (LoadLink Full) all own others push = set_all Pushed m.accounts w (after_load_link Full (last_link m.link a.full.head) a) all own
-  effect_pushed m w a (LoadLink Empty) all own others push = set_all Pushed m.accounts w (after_load_link Empty (last_link m.link a.empty.head) a) all own
+      (set_all Pushed m.accounts w (after_join a (account_at m.accounts v)) all
+      (λ h. or_cases a.open_push (account_at m.accounts v).open_push h own (others v))) (λ h. absurd (false≢true h))
+  effect_pushed m w a (Load Full) all own others push =
+      set_all Pushed m.accounts w (after_load Full (m.head Full) a) all
+      (λ h. own (and_left a.open_push (is_some (m.head Full).index) h))
+  effect_pushed m w a (Load Empty) all own others push =
+      set_all Pushed m.accounts w (after_load Empty (m.head Empty) a) all own
+  effect_pushed m w a (LoadLink Full) all own others push =
+      set_all Pushed m.accounts w (after_load_link Full (last_link m.link a.full.head) a) all own
+  effect_pushed m w a (LoadLink Empty) all own others push =
+      set_all Pushed m.accounts w (after_load_link Empty (last_link m.link a.empty.head) a) all own
   effect_pushed m w a (StoreLink i l) all own others push = all
   effect_pushed m w a (Pop q) all own others push = popped_pushed m w a q (m.head q).index (look_of a q).link all own
-  effect_pushed m w a (Push Full i items) all own others push = set_all Pushed m.accounts w (after_push Full i items a) all (λ h. push i items refl)
-  effect_pushed m w a (Push Empty i items) all own others push = set_all Pushed m.accounts w (after_push Empty i items a) all own
+  effect_pushed m w a (Push Full i items) all own others push =
+      set_all Pushed m.accounts w (after_push Full i items a) all (λ h. push i items refl)
+  effect_pushed m w a (Push Empty i items) all own others push =
+      set_all Pushed m.accounts w (after_push Empty i items a) all own
   effect_pushed m w a (Fail q) all own others push = all
   effect_pushed m w a IdleUp all own others push = set_all Pushed m.accounts w (after_idle_up a) all own
   effect_pushed m w a IdleDown all own others push = set_all Pushed m.accounts w (after_idle_down a) all own
@@ -201,15 +242,19 @@ one_changed : (e : Setup) (m : Marking) (q : Which) → HasChanged e m q → Som
 one_changed e m Full h = inl h
 one_changed e m Empty h = inr h
 
-module _ (e : Setup) (m : Marking) (counts : List Counts) (event : Event) (can : IsPossible e m event) (was : Firsts e m counts) where
+module _ (e : Setup) (m : Marking) (counts : List Counts) (event : Event) (can : IsPossible e m event)
+    (was : Firsts e m counts) where
   now : Marking
   now = happens m event
 
   rises : (q : Which) → (m.head q).tag ≤ ((happens m event).head q).tag
-  rises q = ⊎_elim (λ same. omega (arith, ap (λ (h : Head). h.tag) same)) (λ up. omega (arith, up)) (tags_rise m event q)
+  rises q = ⊎_elim (λ same. omega (arith, ap (λ (h : Head). h.tag) same)) (λ up. omega (arith, up))
+      (tags_rise m event q)
 
   heads_now : (q : Which) → IsFirstOr e q ((happens m event).head q)
-  heads_now q = ⊎_elim (λ same. subst (IsFirstOr e q) (sym same) (was.heads q)) (λ up. (omega (arith, up, (was.heads q).0), (λ first. absurd (omega (arith, first, up, (was.heads q).0))))) (tags_rise m event q)
+  heads_now q = ⊎_elim (λ same. subst (IsFirstOr e q) (sym same) (was.heads q))
+      (λ up. (omega (arith, up, (was.heads q).0), (λ first. absurd (omega (arith, first, up, (was.heads q).0)))))
+      (tags_rise m event q)
 
   still : (q : Which) → HasChanged e m q → HasChanged e (happens m event) q
   still q h = omega (arith, h, rises q)
@@ -220,7 +265,8 @@ module _ (e : Setup) (m : Marking) (counts : List Counts) (event : Event) (can :
   looks_now : (k : ℕ) (a : Account) → StandsAt (happens m event).accounts k a → Knows (WasSeen e (happens m event)) a
   looks_now =
       happens_knows (WasSeen e (happens m event)) e m event can
-      (λ k a at. let old = was.looks k a at in ((λ h l. seen_still Full h (old.0 h l)), (λ h l. seen_still Empty h (old.1 h l))))
+      (λ k a at. let old = was.looks k a at in
+      ((λ h l. seen_still Full h (old.0 h l)), (λ h l. seen_still Empty h (old.1 h l))))
       (λ q. (was.heads q, rises q))
 
   some_still : SomeChanged e m → SomeChanged e (happens m event)
@@ -242,35 +288,46 @@ module _ (e : Setup) (m : Marking) (counts : List Counts) (event : Event) (can :
           let there : may.0 ≡ first_heads e.first_tag q = seen.0.1 (omega (arith, low, seen.0.0, seen.1)) in
           absurd (may.2 (here ∙ sym there))
 
-  failures_now : (k : ℕ) (c : Counts) → StandsAt (counted m counts event.worker event.kind) k c → Failed (SomeChanged e (happens m event)) c
-  failures_now = counted_fails (SomeChanged e (happens m event)) m counts event.worker event.kind (λ k c at h. some_still (was.failures k c at h)) failed_now
+  failures_now : (k : ℕ) (c : Counts) → StandsAt (counted m counts event.worker event.kind) k c
+      → Failed (SomeChanged e (happens m event)) c
+  failures_now = counted_fails (SomeChanged e (happens m event)) m counts event.worker event.kind
+      (λ k c at h. some_still (was.failures k c at h)) failed_now
 
-  pushes_now : (k : ℕ) (a : Account) → StandsAt (happens m event).accounts k a → Pushed (HasChanged e (happens m event) Full) a
+  pushes_now : (k : ℕ) (a : Account) → StandsAt (happens m event).accounts k a
+      → Pushed (HasChanged e (happens m event) Full) a
   pushes_now =
-      effect_pushed (HasChanged e (happens m event) Full) m event.worker (account_at m.accounts event.worker) event.kind old (others event.worker) others
-      (λ i items is. subst (λ k. e.first_tag < ((effect m event.worker (account_at m.accounts event.worker) k).head Full).tag) (sym is) (omega (arith, (was.heads Full).0)))
+      effect_pushed (HasChanged e (happens m event) Full) m event.worker
+      (account_at m.accounts event.worker) event.kind old (others event.worker) others
+      (λ i items is. subst
+      (λ k. e.first_tag < ((effect m event.worker (account_at m.accounts event.worker) k).head Full).tag)
+      (sym is) (omega (arith, (was.heads Full).0)))
     where
       old : (k : ℕ) (a : Account) → StandsAt m.accounts k a → Pushed (HasChanged e (happens m event) Full) a
       old k a at h = still Full (was.pushes k a at h)
 
       others : (v : ℕ) → Pushed (HasChanged e (happens m event) Full) (account_at m.accounts v)
-      others v = or_default (Pushed (HasChanged e (happens m event) Full)) m.accounts v no_share old (λ h. absurd (false≢true h))
+      others v = or_default (Pushed (HasChanged e (happens m event) Full)) m.accounts v no_share old
+          (λ h. absurd (false≢true h))
 
   firsts_next : Firsts e (happens m event) (counted m counts event.worker event.kind)
   firsts_next = record { heads = heads_now; looks = looks_now; failures = failures_now; pushes = pushes_now }
 
-firsts_run : (e : Setup) (events : List Event) (first last : Marking) (counts : List Counts) → Firsts e first counts → Run e first events last → Firsts e last (all_counted first counts events)
+firsts_run : (e : Setup) (events : List Event) (first last : Marking) (counts : List Counts) → Firsts e first counts
+    → Run e first events last → Firsts e last (all_counted first counts events)
 firsts_run e [] first last counts was run = subst (λ (m : Marking). Firsts e m counts) (sym run) was
 firsts_run e (event ∷ events) first last counts was run =
-    firsts_run e events (happens first event) last (counted first counts event.worker event.kind) (firsts_next e first counts event run.0 was) run.1
+    firsts_run e events (happens first event) last (counted first counts event.worker event.kind)
+    (firsts_next e first counts event run.0 was) run.1
 
 firsts_open : (e : Setup) → Firsts e (opening e e.first_tag) (no_counts ∷ [])
 firsts_open e =
     record {
       heads = heads;
       looks = opening_knows (WasSeen e (opening e e.first_tag)) e;
-      failures = push_all (Failed (SomeChanged e (opening e e.first_tag))) [] no_counts (λ k c at. absurd (some-ne-none c (sym at))) (λ h. absurd (omega (arith, h)));
-      pushes = push_all (Pushed (HasChanged e (opening e e.first_tag) Full)) [] (part whole) (λ k a at. absurd (some-ne-none a (sym at))) (λ h. absurd (false≢true h));
+      failures = push_all (Failed (SomeChanged e (opening e e.first_tag))) [] no_counts
+          (λ k c at. absurd (some-ne-none c (sym at))) (λ h. absurd (omega (arith, h)));
+      pushes = push_all (Pushed (HasChanged e (opening e e.first_tag) Full)) [] (part whole)
+          (λ k a at. absurd (some-ne-none a (sym at))) (λ h. absurd (false≢true h));
     }
   where
     heads : (q : Which) → IsFirstOr e q (first_heads e.first_tag q)
@@ -279,18 +336,24 @@ firsts_open e =
 
 -- each head that a stack had is one of these
 had_first :
-    (e : Setup) (events : List Event) (first last : Marking) (counts : List Counts) (q : Which) (h : Head) → Firsts e first counts → Run e first events last
+    (e : Setup) (events : List Event) (first last : Marking) (counts : List Counts) (q : Which) (h : Head)
+    → Firsts e first counts → Run e first events last
     → HadHead first events q h → IsFirstOr e q h
 had_first e [] first last counts q h was run had = subst (IsFirstOr e q) had (was.heads q)
 had_first e (event ∷ events) first last counts q h was run had =
     ⊎_elim (λ here. subst (IsFirstOr e q) here (was.heads q))
-    (λ later. had_first e events (happens first event) last (counted first counts event.worker event.kind) q h (firsts_next e first counts event run.0 was) run.1 later) had
+    (λ later. had_first e events (happens first event) last (counted first counts event.worker event.kind) q h
+    (firsts_next e first counts event run.0 was) run.1 later) had
 
 pub first_tags_are_first : FirstTagsAreFirst
-first_tags_are_first e events m run q h had same = (had_first e events (opening e e.first_tag) m (no_counts ∷ []) q h (firsts_open e) run had).1 same
+first_tags_are_first e events m run q h had same =
+    (had_first e events (opening e e.first_tag) m (no_counts ∷ []) q h (firsts_open e) run had).1 same
 
-pub firsts_where : (e : Setup) (events : List Event) (m : Marking) (counts : List Counts) → LeadTo e events m counts → Firsts e m counts
-firsts_where e events m counts led = subst (Firsts e m) (sym led.counts) (firsts_run e events (opening e e.first_tag) m (no_counts ∷ []) (firsts_open e) led.run)
+pub firsts_where : (e : Setup) (events : List Event) (m : Marking) (counts : List Counts) → LeadTo e events m counts
+    → Firsts e m counts
+firsts_where e events m counts led =
+    subst (Firsts e m) (sym led.counts)
+    (firsts_run e events (opening e e.first_tag) m (no_counts ∷ []) (firsts_open e) led.run)
 
 -- an account counts a failed exchange only where a head has changed
 pub failures_follow_changes :
@@ -299,4 +362,5 @@ pub failures_follow_changes :
 failures_follow_changes e events m counts led w c at some = (firsts_where e events m counts led).failures w c at some
 
 pub pushes_follow_changes : PushesFollowChanges
-pushes_follow_changes e events m counts led w a at open_one = (firsts_where e events m counts led).pushes w a at open_one
+pushes_follow_changes e events m counts led w a at open_one =
+    (firsts_where e events m counts led).pushes w a at open_one

@@ -1,5 +1,7 @@
 -- The law holds of an opening marking.
-use Rattle.std.proofs.Common.{◌≡◌, ◌⊎◌, ℕ, zero, suc, ◌+◌, ◌<◌, ◌≤◌, nat_lt, List, [], ◌∷◌, Option, Some, None, Contains, if◌then◌else◌, length, replicate, ap, sym, refl, subst, inl, inr, lt-ltb, le-ltb, arith}
+use Rattle.std.proofs.Common.{◌≡◌, ◌⊎◌, ℕ, zero, suc, ◌+◌, ◌<◌, ◌≤◌, nat_lt, List, [], ◌∷◌, Option, Some, None}
+use Rattle.std.proofs.Common.{Contains, if◌then◌else◌, length, replicate, ap, sym, refl, subst, inl, inr, lt-ltb}
+use Rattle.std.proofs.Common.{le-ltb, arith}
 use mathlib.Core.Option.{some-injective, some-ne-none}
 use native.Mathlib.Decide.{dec_le, ℕ_discrete}
 use lib.ListN.{length-replicate}
@@ -14,7 +16,7 @@ use Rattle.mark_core.specs.Shares.{IsShared, whole}
 use Rattle.mark_core.specs.Law.{Law}
 use Rattle.mark_core.specs.Runs.{first_heads, first_link, opening}
 use Rattle.mark_core.specs.Conclusions.{first_length}
-use Rattle.mark_core.proofs.Sums.{total-nothing, only-same, only-other}
+use Rattle.mark_core.proofs.Sums.{sum_of-nothing, only-same, only-other}
 use Rattle.mark_core.proofs.Chains.{recent_blank}
 
 -- n numbers from k on
@@ -24,8 +26,10 @@ numbers k (suc n) = k ∷ numbers (suc k) n
 
 numbers_none : (n k b : ℕ) → (b < k) ⊎ (k + n ≤ b) → times b (numbers k n) ≡ 0
 numbers_none zero k b h = refl
-numbers_none (suc n) k b (inl h) = omega (arith, only-other b k (λ e. omega arith), numbers_none n (suc k) b (inl (omega arith)))
-numbers_none (suc n) k b (inr h) = omega (arith, only-other b k (λ e. omega arith), numbers_none n (suc k) b (inr (omega arith)))
+numbers_none (suc n) k b (inl h) =
+    omega (arith, only-other b k (λ e. omega arith), numbers_none n (suc k) b (inl (omega arith)))
+numbers_none (suc n) k b (inr h) =
+    omega (arith, only-other b k (λ e. omega arith), numbers_none n (suc k) b (inr (omega arith)))
 
 numbers_once : (n k b : ℕ) → k ≤ b → b < k + n → times b (numbers k n) ≡ 1
 numbers_once zero k b low high = absurd (omega arith)
@@ -54,7 +58,9 @@ chain_numbers : (buffers n k : ℕ) → k + n ≡ buffers → Chain (first_link 
 chain_numbers buffers zero k e = ap (λ t. if t then Some k else None) (le-ltb k buffers (omega arith))
 chain_numbers buffers (suc n) k e = (
   ap (λ t. if t then Some k else None) (lt-ltb k buffers (omega arith)),
-  (let s : suc k ≡ k + 1 = omega arith in subst (λ j. Chain (first_link buffers) (below buffers j) (numbers (suc k) n)) s (chain_numbers buffers n (suc k) (omega arith))),
+  (let s : suc k ≡ k + 1 = omega arith in
+      subst (λ j. Chain (first_link buffers) (below buffers j) (numbers (suc k) n)) s
+      (chain_numbers buffers n (suc k) (omega arith))),
 )
 
 at_replicate : {X : Type 0} (n i : ℕ) (x : X) → i < n → StandsAt (replicate n x) i x
@@ -79,19 +85,28 @@ module _ (e : Setup) (tag : ℕ) (some_buffer : 0 < e.buffers) where
 
   first_owned : IsOwned e.buffers (first_heads tag) (first_link e.buffers) (part whole ∷ []) first_stack
   unfolding first_stack
-  first_owned = record { chain = chain; once = λ b. omega (arith, numbers_counted e.buffers b); recent = recent; owed = inl refl }
+  first_owned = record {
+    chain = chain;
+    once = λ b. omega (arith, numbers_counted e.buffers b);
+    recent = recent;
+    owed = inl refl;
+  }
     where
       chain : (q : Which) → Chain (first_link e.buffers) (first_heads tag q).index (first_stack q)
       chain Full = refl
       chain Empty =
-          subst (λ n. Chain (first_link e.buffers) n (numbers 0 e.buffers)) (ap (λ t. if t then Some 0 else None) (lt-ltb 0 e.buffers some_buffer)) (chain_numbers e.buffers e.buffers 0 (omega arith))
+          subst (λ n. Chain (first_link e.buffers) n (numbers 0 e.buffers))
+          (ap (λ t. if t then Some 0 else None) (lt-ltb 0 e.buffers some_buffer))
+          (chain_numbers e.buffers e.buffers 0 (omega arith))
 
       blank : (q : Which) → IsRecent (first_link e.buffers) (first_heads tag q) (look_of (part whole) q)
       blank Full = recent_blank (first_link e.buffers) (first_heads tag Full)
       blank Empty = recent_blank (first_link e.buffers) (first_heads tag Empty)
 
-      recent : (q : Which) (w : ℕ) (a : Account) → StandsAt (part whole ∷ []) w a → IsRecent (first_link e.buffers) (first_heads tag q) (look_of a q)
-      recent q w a at = subst (λ x. IsRecent (first_link e.buffers) (first_heads tag q) (look_of x q)) (alone w (part whole) a at) (blank q)
+      recent : (q : Which) (w : ℕ) (a : Account) → StandsAt (part whole ∷ []) w a
+          → IsRecent (first_link e.buffers) (first_heads tag q) (look_of a q)
+      recent q w a at = subst (λ x. IsRecent (first_link e.buffers) (first_heads tag q) (look_of x q))
+          (alone w (part whole) a at) (blank q)
 
   first_shelved : IsShelved e.buffers (replicate e.buffers (Some [])) first_stack
   unfolding first_stack
@@ -104,14 +119,17 @@ module _ (e : Setup) (tag : ℕ) (some_buffer : 0 < e.buffers) where
           go (yes l) = absurd (omega (arith, numbers_none e.buffers 0 b (inr (omega arith))))
           go (no d) = omega arith
 
-      bare : (b : ℕ) → 0 < times b (first_stack Empty) → StandsAt {X = Option (List ℕ)} (replicate e.buffers (Some [])) b (Some [])
+      bare : (b : ℕ) → 0 < times b (first_stack Empty)
+          → StandsAt {X = Option (List ℕ)} (replicate e.buffers (Some [])) b (Some [])
       bare b h = at_replicate e.buffers b (Some []) (inside b h)
 
-      stacked : (q : Which) (b : ℕ) → 0 < times b (first_stack q) → (items : List ℕ) × StandsAt {X = Option (List ℕ)} (replicate e.buffers (Some [])) b (Some items)
+      stacked : (q : Which) (b : ℕ) → 0 < times b (first_stack q) → (items : List ℕ)
+          × StandsAt {X = Option (List ℕ)} (replicate e.buffers (Some [])) b (Some items)
       stacked Full b h = absurd (omega arith)
       stacked Empty b h = ([], bare b h)
 
-      away : (b : ℕ) → b < e.buffers → times b (first_stack Full) ≡ 0 → times b (first_stack Empty) ≡ 0 → StandsAt {X = Option (List ℕ)} (replicate e.buffers (Some [])) b None
+      away : (b : ℕ) → b < e.buffers → times b (first_stack Full) ≡ 0 → times b (first_stack Empty) ≡ 0
+          → StandsAt {X = Option (List ℕ)} (replicate e.buffers (Some [])) b None
       away b l f g = absurd (omega (arith, numbers_once e.buffers 0 b (omega arith) (omega arith)))
 
   first_coloured : IsColoured e (λ o. 0) (replicate e.buffers (Some [])) (part whole ∷ [])
@@ -120,17 +138,30 @@ module _ (e : Setup) (tag : ℕ) (some_buffer : 0 < e.buffers) where
         tells = λ o. inl (refl, omega (arith, bare o), refl);
         closed = λ o s two pair. absurd (omega arith);
         reachable = λ o one. absurd (omega arith);
-        saw = λ w a at o k. let none : Contains [] o = subst (λ (x : Account). Contains x.seen o) (sym (alone w (part whole) a at)) k in absurd (omega (arith, none.1));
+        saw = λ w a at o k. let none : Contains [] o =
+            subst (λ (x : Account). Contains x.seen o) (sym (alone w (part whole) a at)) k in
+            absurd (omega (arith, none.1));
       }
     where
       bare : (o : ℕ) → stacked_times o (replicate e.buffers (Some [])) ≡ 0
-      bare o = total-nothing (λ slot. times o (items_of slot)) (replicate e.buffers (Some [])) (λ i slot at. sym (ap (λ s. times o (items_of s)) (in_replicate e.buffers i (Some []) slot at)))
+      bare o = sum_of-nothing (λ slot. times o (items_of slot)) (replicate e.buffers (Some []))
+          (λ i slot at. sym (ap (λ s. times o (items_of s)) (in_replicate e.buffers i (Some []) slot at)))
 
   first_shared : IsShared (part whole ∷ [])
-  first_shared = record { sum = omega arith; no_share = λ w a at none. let t : whole ≡ a.share = ap (λ (x : Account). x.share) (alone w (part whole) a at) in absurd (omega arith) }
+  first_shared = record {
+    sum = omega arith;
+    no_share = λ w a at none. let t : whole ≡ a.share = ap (λ (x : Account). x.share) (alone w (part whole) a at) in
+        absurd (omega arith);
+  }
 
   pub opening_keeps : Law e (opening e tag)
-  opening_keeps = record { stack = first_stack; owned = first_owned; shelved = first_shelved; coloured = first_coloured; shared = first_shared }
+  opening_keeps = record {
+    stack = first_stack;
+    owned = first_owned;
+    shelved = first_shelved;
+    coloured = first_coloured;
+    shared = first_shared;
+  }
 
   -- how many buffers each stack has
   pub opening_length : (q : Which) → length (opening_keeps.stack q) ≡ first_length e q

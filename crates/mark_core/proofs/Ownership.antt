@@ -1,5 +1,7 @@
 -- What each event leaves of the ownership of the buffers.
-use Rattle.std.proofs.Common.{◌≡◌, ◌≢◌, ◌⊎◌, ℕ, ◌+◌, ◌<◌, ◌≤◌, Bool, true, false, ◌||◌, nat_lt, List, [], ◌∷◌, ◌++◌, Option, Some, set, ap, sym, refl, subst, ◌∙◌, inl, inr, lt-ltb, le-ltb, lt_of_not-le, arith}
+use Rattle.std.proofs.Common.{◌≡◌, ◌≢◌, ◌⊎◌, ℕ, ◌+◌, ◌<◌, ◌≤◌, Bool, true, false, ◌||◌, nat_lt, List, [], ◌∷◌, ◌++◌}
+use Rattle.std.proofs.Common.{Option, Some, set, ap, sym, refl, subst, ◌∙◌, inl, inr, lt-ltb, le-ltb, lt_of_not-le}
+use Rattle.std.proofs.Common.{arith}
 use native.Mathlib.Decide.{dec_le, ℕ_discrete}
 use Rattle.tagged_index.specs.Head.{Head, after}
 use Rattle.mark_core.specs.declared.which.Which.{Which}
@@ -9,8 +11,9 @@ use Rattle.mark_core.specs.Account.{Account, look_of, part, no_share, after_pop,
 use Rattle.mark_core.specs.World.{put_which}
 use Rattle.mark_core.specs.Ownership.{Chain, IsRecent, IsOwned, HasOpenPush, held_times}
 use Rattle.mark_core.proofs.Places.{at_set, at_push, at_longer, at_one, set_here, set_else, put_one, put_two}
-use Rattle.mark_core.proofs.Sums.{total-set, total-append, term_le, times-remove_one, only-same}
-use Rattle.mark_core.proofs.Chains.{chain_links, chain_rest, chain_more, recent_blank, recent_after, recent_links, recent_link}
+use Rattle.mark_core.proofs.Sums.{sum_of-set, sum_of-append, term_le, times-remove_one, only-same}
+use Rattle.mark_core.proofs.Chains.{chain_links, chain_rest, chain_more, recent_blank, recent_after, recent_links}
+use Rattle.mark_core.proofs.Chains.{recent_link}
 
 -- a number counted among the buffers is below their number
 pub counted_below : (b n : ℕ) → 0 < one_where (nat_lt b n) → b < n
@@ -40,7 +43,8 @@ or_second true y e = refl
 or_second false y e = e
 
 -- an open push stays where the account that changes keeps its own
-pub open_set : (accounts : List Account) (w : ℕ) (a b : Account) → StandsAt accounts w a → (a.open_push ≡ true → b.open_push ≡ true) → HasOpenPush accounts → HasOpenPush (set accounts w b)
+pub open_set : (accounts : List Account) (w : ℕ) (a b : Account) → StandsAt accounts w a
+    → (a.open_push ≡ true → b.open_push ≡ true) → HasOpenPush accounts → HasOpenPush (set accounts w b)
 open_set accounts w a b is keep o = go (ℕ_discrete o.0 w)
   where
     go : Dec (o.0 ≡ w) → HasOpenPush (set accounts w b)
@@ -51,22 +55,29 @@ open_set accounts w a b is keep o = go (ℕ_discrete o.0 w)
     go (no n) = (o.0, o.1, set_else accounts w o.0 b n ∙ o.2, o.3)
 
 -- what a pop and a push leave of how often a buffer is stacked
-pub popped_sum : (q : Which) (i : ℕ) (rest : List ℕ) (stack : Which → List ℕ) → stack q ≡ i ∷ rest → (b : ℕ) → times b (put_which q rest stack Full) + times b (put_which q rest stack Empty) + only b i ≡ times b (stack Full) + times b (stack Empty)
+pub popped_sum : (q : Which) (i : ℕ) (rest : List ℕ) (stack : Which → List ℕ) → stack q ≡ i ∷ rest → (b : ℕ)
+    → times b (put_which q rest stack Full) + times b (put_which q rest stack Empty) + only b i
+    ≡ times b (stack Full) + times b (stack Empty)
 popped_sum Full i rest stack e b = omega (arith, ap (times b) e)
 popped_sum Empty i rest stack e b = omega (arith, ap (times b) e)
 
-pub pushed_sum : (q : Which) (i : ℕ) (stack : Which → List ℕ) (b : ℕ) → times b (put_which q (i ∷ stack q) stack Full) + times b (put_which q (i ∷ stack q) stack Empty) ≡ times b (stack Full) + times b (stack Empty) + only b i
+pub pushed_sum : (q : Which) (i : ℕ) (stack : Which → List ℕ) (b : ℕ)
+    → times b (put_which q (i ∷ stack q) stack Full) + times b (put_which q (i ∷ stack q) stack Empty)
+    ≡ times b (stack Full) + times b (stack Empty) + only b i
 pushed_sum Full i stack b = omega arith
 pushed_sum Empty i stack b = omega arith
 
-popped_nothing : (q : Which) (i : ℕ) (rest : List ℕ) (stack : Which → List ℕ) → stack q ≡ i ∷ rest → stack Full ≡ [] → put_which q rest stack Full ≡ []
+popped_nothing : (q : Which) (i : ℕ) (rest : List ℕ) (stack : Which → List ℕ) → stack q ≡ i ∷ rest → stack Full ≡ []
+    → put_which q rest stack Full ≡ []
 popped_nothing Full i rest stack e n = let f : ⊥ = cc in absurd f
 popped_nothing Empty i rest stack e n = n
 
-pub chain_top : (link : ℕ → Option ℕ) (n : Option ℕ) (xs : List ℕ) (i : ℕ) → Chain link n xs → n ≡ Some i → 0 < times i xs
+pub chain_top : (link : ℕ → Option ℕ) (n : Option ℕ) (xs : List ℕ) (i : ℕ) → Chain link n xs → n ≡ Some i
+    → 0 < times i xs
 chain_top link n xs i c e = let r = chain_rest link n xs i c e in omega (arith, ap (times i) r.1, only-same i i refl)
 
-module _ (buffers : ℕ) (head : Which → Head) (link : ℕ → Option ℕ) (accounts : List Account) (stack : Which → List ℕ) (o : IsOwned buffers head link accounts stack) where
+module _ (buffers : ℕ) (head : Which → Head) (link : ℕ → Option ℕ) (accounts : List Account) (stack : Which → List ℕ)
+    (o : IsOwned buffers head link accounts stack) where
   -- a buffer stands in one place
   pub place_one : (b : ℕ) → times b (stack Full) + times b (stack Empty) + held_times b accounts ≤ 1
   place_one b = omega (arith, o.once b, counted_once (nat_lt b buffers))
@@ -83,12 +94,14 @@ module _ (buffers : ℕ) (head : Which → Head) (link : ℕ → Option ℕ) (ac
   stacked_below Empty b h = place_below b (omega arith)
 
   -- other links of buffers that are not stacked change nothing
-  pub owned_links : (new : ℕ → Option ℕ) → ((q : Which) (b : ℕ) → 0 < times b (stack q) → new b ≡ link b) → IsOwned buffers head new accounts stack
+  pub owned_links : (new : ℕ → Option ℕ) → ((q : Which) (b : ℕ) → 0 < times b (stack q) → new b ≡ link b)
+      → IsOwned buffers head new accounts stack
   owned_links new same =
       record {
         chain = λ q. chain_links link new (head q).index (stack q) (same q) (o.chain q);
         once = o.once;
-        recent = λ q v x at. recent_links link new (head q) (look_of x q) (λ i e. same q i (top_stands q i e)) (o.recent q v x at);
+        recent = λ q v x at. recent_links link new (head q) (look_of x q) (λ i e. same q i (top_stands q i e))
+            (o.recent q v x at);
         owed = o.owed;
       }
 
@@ -96,10 +109,12 @@ module _ (buffers : ℕ) (head : Which → Head) (link : ℕ → Option ℕ) (ac
   pub owned_part : (units : ℕ) → IsOwned buffers head link (accounts ++ part units ∷ []) stack
   owned_part units = record { chain = o.chain; once = once; recent = recent; owed = owed o.owed }
     where
-      once : (b : ℕ) → times b (stack Full) + times b (stack Empty) + held_times b (accounts ++ part units ∷ []) ≡ one_where (nat_lt b buffers)
-      once b = omega (arith, o.once b, total-append (λ (x : Account). times b x.held) accounts (part units ∷ []))
+      once : (b : ℕ) → times b (stack Full) + times b (stack Empty) + held_times b (accounts ++ part units ∷ [])
+          ≡ one_where (nat_lt b buffers)
+      once b = omega (arith, o.once b, sum_of-append (λ (x : Account). times b x.held) accounts (part units ∷ []))
 
-      recent : (q : Which) (v : ℕ) (x : Account) → StandsAt (accounts ++ part units ∷ []) v x → IsRecent link (head q) (look_of x q)
+      recent : (q : Which) (v : ℕ) (x : Account) → StandsAt (accounts ++ part units ∷ []) v x
+          → IsRecent link (head q) (look_of x q)
       recent q v x at = go (at_push accounts (part units) x v at)
         where
           blank : (p : Which) → IsRecent link (head p) (look_of (part units) p)
@@ -116,13 +131,15 @@ module _ (buffers : ℕ) (head : Which → Head) (link : ℕ → Option ℕ) (ac
 
   module _ (w : ℕ) (a : Account) (is : StandsAt accounts w a) where
     -- a held buffer is a buffer, and on no stack
-    pub held_apart : (i : ℕ) → 0 < times i a.held → (i < buffers) × (times i (stack Full) ≡ 0) × (times i (stack Empty) ≡ 0)
+    pub held_apart : (i : ℕ) → 0 < times i a.held → (i < buffers) × (times i (stack Full) ≡ 0)
+        × (times i (stack Empty) ≡ 0)
     held_apart i h =
         let t = term_le (λ (x : Account). times i x.held) accounts w a is in
         let p = place_one i in
         (place_below i (omega arith), omega arith, omega arith)
 
-    recent_set : (b : Account) → ((q : Which) → IsRecent link (head q) (look_of b q)) → (q : Which) (v : ℕ) (x : Account) → StandsAt (set accounts w b) v x → IsRecent link (head q) (look_of x q)
+    recent_set : (b : Account) → ((q : Which) → IsRecent link (head q) (look_of b q))
+        → (q : Which) (v : ℕ) (x : Account) → StandsAt (set accounts w b) v x → IsRecent link (head q) (look_of x q)
     recent_set b new q v x at = go (at_set accounts w v b x at)
       where
         go : ((v ≡ w) × (b ≡ x)) ⊎ ((v ≢ w) × StandsAt accounts v x) → IsRecent link (head q) (look_of x q)
@@ -130,17 +147,21 @@ module _ (buffers : ℕ) (head : Which → Head) (link : ℕ → Option ℕ) (ac
         go (inr p) = o.recent q v x p.1
 
     -- what the account loaded stays
-    keeps_looks : (b : Account) → b.full ≡ a.full → b.empty ≡ a.empty → (q : Which) → IsRecent link (head q) (look_of b q)
+    keeps_looks : (b : Account) → b.full ≡ a.full → b.empty ≡ a.empty → (q : Which)
+        → IsRecent link (head q) (look_of b q)
     keeps_looks b f g q = subst (λ l. IsRecent link (head q) l) (sym (same_looks a b f g q)) (o.recent q w a is)
 
     -- the account changes, and holds the same buffers
     pub owned_set :
         (b : Account) → ((q : Which) → IsRecent link (head q) (look_of b q)) → b.held ≡ a.held
-        → (a.open_push ≡ true → (stack Full ≡ []) ⊎ (b.open_push ≡ true)) → IsOwned buffers head link (set accounts w b) stack
+        → (a.open_push ≡ true → (stack Full ≡ []) ⊎ (b.open_push ≡ true))
+        → IsOwned buffers head link (set accounts w b) stack
     owned_set b new held push = record { chain = o.chain; once = once; recent = recent_set b new; owed = owed o.owed }
       where
-        once : (x : ℕ) → times x (stack Full) + times x (stack Empty) + held_times x (set accounts w b) ≡ one_where (nat_lt x buffers)
-        once x = let t : times x b.held ≡ times x a.held = ap (times x) held in omega (arith, o.once x, total-set (λ (y : Account). times x y.held) accounts w a b is)
+        once : (x : ℕ) → times x (stack Full) + times x (stack Empty) + held_times x (set accounts w b)
+            ≡ one_where (nat_lt x buffers)
+        once x = let t : times x b.held ≡ times x a.held = ap (times x) held in
+            omega (arith, o.once x, sum_of-set (λ (y : Account). times x y.held) accounts w a b is)
 
         owed : (stack Full ≡ []) ⊎ HasOpenPush accounts → (stack Full ≡ []) ⊎ HasOpenPush (set accounts w b)
         owed (inl p) = inl p
@@ -158,14 +179,18 @@ module _ (buffers : ℕ) (head : Which → Head) (link : ℕ → Option ℕ) (ac
             go (no n) = inr (p.0, p.1, set_else accounts w p.0 b n ∙ p.2, p.3)
 
     -- the account changes in nothing that ownership reads
-    pub owned_same : (b : Account) → b.full ≡ a.full → b.empty ≡ a.empty → b.held ≡ a.held → b.open_push ≡ a.open_push → IsOwned buffers head link (set accounts w b) stack
+    pub owned_same : (b : Account) → b.full ≡ a.full → b.empty ≡ a.empty → b.held ≡ a.held → b.open_push ≡ a.open_push
+        → IsOwned buffers head link (set accounts w b) stack
     owned_same b f g held push = owned_set b (keeps_looks b f g) held (λ e. inr (push ∙ e))
 
     -- a pop takes the first buffer off its stack
     pub owned_pop :
-        (q : Which) (i : ℕ) (l : Option ℕ) (items : List ℕ) → (look_of a q).head ≡ Some (head q) → (head q).index ≡ Some i → (look_of a q).link ≡ Some l
-        → (rest : List ℕ) × (stack q ≡ i ∷ rest) × IsOwned buffers (put_which q (after (head q) l) head) link (set accounts w (after_pop i items a)) (put_which q rest stack)
-    owned_pop q i l items hit top next = (rest, r.1, record { chain = chain; once = once; recent = recent; owed = owed o.owed })
+        (q : Which) (i : ℕ) (l : Option ℕ) (items : List ℕ) → (look_of a q).head ≡ Some (head q)
+        → (head q).index ≡ Some i → (look_of a q).link ≡ Some l
+        → (rest : List ℕ) × (stack q ≡ i ∷ rest) × IsOwned buffers (put_which q (after (head q) l) head) link
+        (set accounts w (after_pop i items a)) (put_which q rest stack)
+    owned_pop q i l items hit top next =
+        (rest, r.1, record { chain = chain; once = once; recent = recent; owed = owed o.owed })
       where
         r : (xs : List ℕ) × (stack q ≡ i ∷ xs) × Chain link (link i) xs
         r = chain_rest link (head q).index (stack q) i (o.chain q) top
@@ -180,49 +205,75 @@ module _ (buffers : ℕ) (head : Which → Head) (link : ℕ → Option ℕ) (ac
         stands = recent_link link (head q) (look_of a q) i l (o.recent q w a is) hit top next
 
         chain : (p : Which) → Chain link (put_which q (after (head q) l) head p).index (put_which q rest stack p)
-        chain = put_two (λ (h : Head) (xs : List ℕ). Chain link h.index xs) q (after (head q) l) rest head stack (subst (λ n. Chain link n rest) stands r.2) o.chain
+        chain = put_two (λ (h : Head) (xs : List ℕ). Chain link h.index xs) q (after (head q) l) rest head stack
+            (subst (λ n. Chain link n rest) stands r.2) o.chain
 
-        once : (x : ℕ) → times x (put_which q rest stack Full) + times x (put_which q rest stack Empty) + held_times x (set accounts w b) ≡ one_where (nat_lt x buffers)
-        once x = omega (arith, o.once x, popped_sum q i rest stack r.1 x, total-set (λ (y : Account). times x y.held) accounts w a b is, total-append (only x) a.held (i ∷ []))
+        once : (x : ℕ) → times x (put_which q rest stack Full) + times x (put_which q rest stack Empty) + held_times x
+            (set accounts w b) ≡ one_where (nat_lt x buffers)
+        once x = omega (
+          arith,
+          o.once x,
+          popped_sum q i rest stack r.1 x,
+          sum_of-set (λ (y : Account). times x y.held) accounts w a b is,
+          sum_of-append (only x) a.held (i ∷ []),
+        )
 
-        recent : (p : Which) (v : ℕ) (x : Account) → StandsAt (set accounts w b) v x → IsRecent link (put_which q (after (head q) l) head p) (look_of x p)
+        recent : (p : Which) (v : ℕ) (x : Account) → StandsAt (set accounts w b) v x
+            → IsRecent link (put_which q (after (head q) l) head p) (look_of x p)
         recent =
-            put_one (λ p (h : Head). (v : ℕ) (x : Account) → StandsAt (set accounts w b) v x → IsRecent link h (look_of x p)) q (after (head q) l) head
+            put_one (λ p (h : Head). (v : ℕ) (x : Account) → StandsAt (set accounts w b) v x
+            → IsRecent link h (look_of x p)) q (after (head q) l) head
             (λ v x at. recent_after link (head q) (look_of x q) l (recent_set b (keeps_looks b refl refl) q v x at))
             (recent_set b (keeps_looks b refl refl))
 
-        owed : (stack Full ≡ []) ⊎ HasOpenPush accounts → (put_which q rest stack Full ≡ []) ⊎ HasOpenPush (set accounts w b)
+        owed : (stack Full ≡ []) ⊎ HasOpenPush accounts → (put_which q rest stack Full ≡ [])
+            ⊎ HasOpenPush (set accounts w b)
         owed (inl p) = inl (popped_nothing q i rest stack r.1 p)
         owed (inr p) = inr (open_set accounts w a b is (λ e. e) p)
 
     -- a push puts the buffer before its stack
     pub owned_push :
         (q : Which) (i : ℕ) (items : List ℕ) → 0 < times i a.held → link i ≡ (head q).index
-        → IsOwned buffers (put_which q (after (head q) (Some i)) head) link (set accounts w (after_push q i items a)) (put_which q (i ∷ stack q) stack)
+        → IsOwned buffers (put_which q (after (head q) (Some i)) head) link (set accounts w (after_push q i items a))
+        (put_which q (i ∷ stack q) stack)
     owned_push q i items mine leads = record { chain = chain; once = once; recent = recent; owed = owed q o.owed }
       where
         b : Account
         b = after_push q i items a
 
-        chain : (p : Which) → Chain link (put_which q (after (head q) (Some i)) head p).index (put_which q (i ∷ stack q) stack p)
-        chain = put_two (λ (h : Head) (xs : List ℕ). Chain link h.index xs) q (after (head q) (Some i)) (i ∷ stack q) head stack (chain_more link (head q).index (stack q) i (o.chain q) leads) o.chain
+        chain : (p : Which) → Chain link (put_which q (after (head q) (Some i)) head p).index
+            (put_which q (i ∷ stack q) stack p)
+        chain = put_two (λ (h : Head) (xs : List ℕ). Chain link h.index xs) q (after (head q) (Some i))
+            (i ∷ stack q) head stack (chain_more link (head q).index (stack q) i (o.chain q) leads) o.chain
 
-        once : (x : ℕ) → times x (put_which q (i ∷ stack q) stack Full) + times x (put_which q (i ∷ stack q) stack Empty) + held_times x (set accounts w b) ≡ one_where (nat_lt x buffers)
-        once x = omega (arith, o.once x, pushed_sum q i stack x, total-set (λ (y : Account). times x y.held) accounts w a b is, times-remove_one x i a.held mine)
+        once : (x : ℕ) → times x (put_which q (i ∷ stack q) stack Full) + times x
+            (put_which q (i ∷ stack q) stack Empty) + held_times x (set accounts w b) ≡ one_where (nat_lt x buffers)
+        once x = omega (
+          arith,
+          o.once x,
+          pushed_sum q i stack x,
+          sum_of-set (λ (y : Account). times x y.held) accounts w a b is,
+          times-remove_one x i a.held mine,
+        )
 
-        recent : (p : Which) (v : ℕ) (x : Account) → StandsAt (set accounts w b) v x → IsRecent link (put_which q (after (head q) (Some i)) head p) (look_of x p)
+        recent : (p : Which) (v : ℕ) (x : Account) → StandsAt (set accounts w b) v x
+            → IsRecent link (put_which q (after (head q) (Some i)) head p) (look_of x p)
         recent =
-            put_one (λ p (h : Head). (v : ℕ) (x : Account) → StandsAt (set accounts w b) v x → IsRecent link h (look_of x p)) q (after (head q) (Some i)) head
-            (λ v x at. recent_after link (head q) (look_of x q) (Some i) (recent_set b (keeps_looks b refl refl) q v x at))
+            put_one (λ p (h : Head). (v : ℕ) (x : Account) → StandsAt (set accounts w b) v x
+            → IsRecent link h (look_of x p)) q (after (head q) (Some i)) head
+            (λ v x at. recent_after link (head q) (look_of x q) (Some i)
+            (recent_set b (keeps_looks b refl refl) q v x at))
             (recent_set b (keeps_looks b refl refl))
 
-        owed : (p : Which) → (stack Full ≡ []) ⊎ HasOpenPush accounts → (put_which p (i ∷ stack p) stack Full ≡ []) ⊎ HasOpenPush (set accounts w (after_push p i items a))
+        owed : (p : Which) → (stack Full ≡ []) ⊎ HasOpenPush accounts → (put_which p (i ∷ stack p) stack Full ≡ [])
+            ⊎ HasOpenPush (set accounts w (after_push p i items a))
         owed Full old = inr (w, after_push Full i items a, set_here accounts w (after_push Full i items a) a is, refl)
         owed Empty (inl e) = inl e
         owed Empty (inr e) = inr (open_set accounts w a (after_push Empty i items a) is (λ t. t) e)
 
     -- two accounts are put together
-    pub owned_join : (v : ℕ) (b : Account) → v ≢ w → StandsAt accounts v b → IsOwned buffers head link (set (set accounts w (after_join a b)) v no_share) stack
+    pub owned_join : (v : ℕ) (b : Account) → v ≢ w → StandsAt accounts v b
+        → IsOwned buffers head link (set (set accounts w (after_join a b)) v no_share) stack
     owned_join v b apart at = record { chain = o.chain; once = once; recent = recent; owed = owed o.owed }
       where
         both : Account
@@ -231,31 +282,35 @@ module _ (buffers : ℕ) (head : Which → Head) (link : ℕ → Option ℕ) (ac
         still : StandsAt (set accounts w both) v b
         still = set_else accounts w v both apart ∙ at
 
-        once : (x : ℕ) → times x (stack Full) + times x (stack Empty) + held_times x (set (set accounts w both) v no_share) ≡ one_where (nat_lt x buffers)
+        once : (x : ℕ) → times x (stack Full) + times x (stack Empty) + held_times x
+            (set (set accounts w both) v no_share) ≡ one_where (nat_lt x buffers)
         once x =
             omega (
               arith,
               o.once x,
-              total-set (λ (y : Account). times x y.held) accounts w a both is,
-              total-set (λ (y : Account). times x y.held) (set accounts w both) v b no_share still,
-              total-append (only x) a.held b.held,
+              sum_of-set (λ (y : Account). times x y.held) accounts w a both is,
+              sum_of-set (λ (y : Account). times x y.held) (set accounts w both) v b no_share still,
+              sum_of-append (only x) a.held b.held,
             )
 
-        recent : (q : Which) (u : ℕ) (x : Account) → StandsAt (set (set accounts w both) v no_share) u x → IsRecent link (head q) (look_of x q)
+        recent : (q : Which) (u : ℕ) (x : Account) → StandsAt (set (set accounts w both) v no_share) u x
+            → IsRecent link (head q) (look_of x q)
         recent q u x e = go (at_set (set accounts w both) v u no_share x e)
           where
             blank : (p : Which) → IsRecent link (head p) (look_of no_share p)
             blank Full = recent_blank link (head Full)
             blank Empty = recent_blank link (head Empty)
 
-            go : ((u ≡ v) × (no_share ≡ x)) ⊎ ((u ≢ v) × StandsAt (set accounts w both) u x) → IsRecent link (head q) (look_of x q)
+            go : ((u ≡ v) × (no_share ≡ x)) ⊎ ((u ≢ v) × StandsAt (set accounts w both) u x)
+                → IsRecent link (head q) (look_of x q)
             go (inl p) = subst (λ y. IsRecent link (head q) (look_of y q)) p.1 (blank q)
             go (inr p) = recent_set both (keeps_looks both refl refl) q u x p.1
 
         first : Account → Account → StandsAt (set (set accounts w both) v no_share) w both
         first x y = set_else (set accounts w both) v w no_share (λ e. apart (sym e)) ∙ set_here accounts w both a is
 
-        owed : (stack Full ≡ []) ⊎ HasOpenPush accounts → (stack Full ≡ []) ⊎ HasOpenPush (set (set accounts w both) v no_share)
+        owed : (stack Full ≡ []) ⊎ HasOpenPush accounts → (stack Full ≡ [])
+            ⊎ HasOpenPush (set (set accounts w both) v no_share)
         owed (inl p) = inl p
         owed (inr p) = go (ℕ_discrete p.0 w) (ℕ_discrete p.0 v)
           where
@@ -268,4 +323,10 @@ module _ (buffers : ℕ) (head : Which → Head) (link : ℕ → Option ℕ) (ac
                 let s : p.1 ≡ b = at_one accounts v p.1 b (subst (λ u. StandsAt accounts u p.1) e p.2) at in
                 let t : p.1.open_push ≡ b.open_push = ap (λ (x : Account). x.open_push) s in
                 inr (w, both, first a a, or_second a.open_push b.open_push (sym t ∙ p.3))
-            go (no n) (no k) = inr (p.0, p.1, set_else (set accounts w both) v p.0 no_share k ∙ (set_else accounts w p.0 both n ∙ p.2), p.3)
+            go (no n) (no k) = inr (
+              p.0,
+              p.1,
+              set_else (set accounts w both) v p.0 no_share k
+                  ∙ (set_else accounts w p.0 both n ∙ p.2),
+              p.3,
+            )

@@ -1,11 +1,13 @@
 -- Tag and length of a stack in a run.
-use Rattle.std.proofs.Common.{◌≡◌, ◌≢◌, ℕ, ◌+◌, ◌*◌, List, [], ◌∷◌, length, Option, Some, ap, sym, refl, subst, ◌∙◌, arith}
+use Rattle.std.proofs.Common.{◌≡◌, ◌≢◌, ℕ, ◌+◌, ◌*◌, List, [], ◌∷◌, length, Option, Some, ap, sym, refl, subst, ◌∙◌}
+use Rattle.std.proofs.Common.{arith}
 use Rattle.tagged_index.specs.Head.{Head, after}
 use Rattle.mark_core.specs.declared.which.Which.{Which}
 use Rattle.mark_core.specs.declared.which.Which.TheVariants.{Full, Empty}
 use Rattle.mark_core.specs.Account.{Account, look_of, no_share}
 use Rattle.mark_core.specs.World.{Setup, Marking, IsThere, put_which}
-use Rattle.mark_core.specs.Event.{Kind, Claim, Finish, Split, Join, Load, LoadLink, StoreLink, Pop, Push, Fail, IdleUp, IdleDown, LoadIdle, Event, Allows, IsPossible, effect, happens, popped}
+use Rattle.mark_core.specs.Event.{Kind, Claim, Finish, Split, Join, Load, LoadLink, StoreLink, Pop, Push, Fail, IdleUp}
+use Rattle.mark_core.specs.Event.{IdleDown, LoadIdle, Event, Allows, IsPossible, effect, happens, stack_popped}
 use Rattle.mark_core.specs.Law.{Law}
 use Rattle.mark_core.specs.Runs.{Changes, IsListOf, Run, opening}
 use Rattle.mark_core.specs.Conclusions.{TagsKeepParity, one_stack, push_count, pushes_among}
@@ -24,7 +26,8 @@ empty_is_not_full e = cc
 
 -- a head was exchanged, and its stack got one buffer less
 pop_parity :
-    (head : Which → Head) (p q : Which) (l : Option ℕ) (old new : List ℕ) → (p ≡ q → (i : ℕ) × (old ≡ i ∷ new)) × (p ≢ q → new ≡ old)
+    (head : Which → Head) (p q : Which) (l : Option ℕ) (old new : List ℕ) → (p ≡ q → (i : ℕ) × (old ≡ i ∷ new))
+    × (p ≢ q → new ≡ old)
     → (put_which p (after (head p) l) head q).tag + length new ≡ (head q).tag + length old
 pop_parity head Full Full l old new c = let taken = c.0 refl in omega (arith, ap length taken.1)
 pop_parity head Full Empty l old new c = omega (arith, ap length (c.1 full_is_not_empty))
@@ -44,12 +47,14 @@ push_parity head Empty Empty i old new c = omega (arith, ap length (c.0 refl))
 abbrev Keeps : Marking → Marking → Kind → Which → List ℕ → List ℕ → Type 0
 Keeps m n kind q old new = (n.head q).tag + length new ≡ (m.head q).tag + length old + 2 * push_count kind q
 
-same_list : (m : Marking) (q : Which) (old new : List ℕ) → new ≡ old → (m.head q).tag + length new ≡ (m.head q).tag + length old + 2 * 0
+same_list : (m : Marking) (q : Which) (old new : List ℕ) → new ≡ old
+    → (m.head q).tag + length new ≡ (m.head q).tag + length old + 2 * 0
 same_list m q old new same = omega (arith, ap length same)
 
 module _ (e : Setup) (m : Marking) (law : Law e m) (w : ℕ) (a : Account) (there : IsThere m.accounts w a) where
   effect_parity :
-      (kind : Kind) → Allows e m w a kind → (q : Which) (old new : List ℕ) → Changes q kind old new → Keeps m (effect m w a kind) kind q old new
+      (kind : Kind) → Allows e m w a kind → (q : Which) (old new : List ℕ) → Changes q kind old new
+      → Keeps m (effect m w a kind) kind q old new
   effect_parity (Claim o) can q old new c = same_list m q old new c
   effect_parity (Finish o) can q old new c = same_list m q old new c
   effect_parity (Split units) can q old new c = same_list m q old new c
@@ -60,9 +65,11 @@ module _ (e : Setup) (m : Marking) (law : Law e m) (w : ℕ) (a : Account) (ther
   effect_parity (Pop p) can q old new c =
       let i = can.0.1.0 in
       let l = can.0.2.0 in
-      let first : popped m w a p (m.head p).index (look_of a p).link ≡ popped m w a p (Some i) (look_of a p).link =
-      ap (λ x. popped m w a p x (look_of a p).link) can.0.1.1 in
-      let second : popped m w a p (Some i) (look_of a p).link ≡ popped m w a p (Some i) (Some l) = ap (λ x. popped m w a p (Some i) x) can.0.2.1 in
+      let first : stack_popped m w a p (m.head p).index (look_of a p).link
+      ≡ stack_popped m w a p (Some i) (look_of a p).link =
+      ap (λ x. stack_popped m w a p x (look_of a p).link) can.0.1.1 in
+      let second : stack_popped m w a p (Some i) (look_of a p).link ≡ stack_popped m w a p (Some i) (Some l) =
+      ap (λ x. stack_popped m w a p (Some i) x) can.0.2.1 in
       omega (arith, ap (λ (n : Marking). (n.head q).tag) (first ∙ second), pop_parity m.head p q l old new c)
   effect_parity (Push p i items) can q old new c = push_parity m.head p q i old new c
   effect_parity (Fail p) can q old new c = same_list m q old new c
@@ -71,16 +78,19 @@ module _ (e : Setup) (m : Marking) (law : Law e m) (w : ℕ) (a : Account) (ther
   effect_parity LoadIdle can q old new c = same_list m q old new c
 
 happens_parity :
-    (e : Setup) (m : Marking) (event : Event) → Law e m → IsPossible e m event → (q : Which) (old new : List ℕ) → IsListOf m q old → IsListOf (happens m event) q new
+    (e : Setup) (m : Marking) (event : Event) → Law e m → IsPossible e m event → (q : Which) (old new : List ℕ)
+    → IsListOf m q old → IsListOf (happens m event) q new
     → Keeps m (happens m event) event.kind q old new
 happens_parity e m event law can q old new c n =
     let same = at_get_or m.accounts event.worker can.0 no_share can.1.0 in
     let after_it = subst (λ x. IsListOf (effect m event.worker x event.kind) q new) same n in
     subst (λ x. Keeps m (effect m event.worker x event.kind) event.kind q old new) (sym same)
-    (effect_parity e m law event.worker can.0 can.1 event.kind can.2 q old new (effect_changes e m law event.worker can.0 can.1 event.kind can.2 q old new c after_it))
+    (effect_parity e m law event.worker can.0 can.1 event.kind can.2 q old new
+    (effect_changes e m law event.worker can.0 can.1 event.kind can.2 q old new c after_it))
 
 run_parity :
-    (e : Setup) (events : List Event) (first last : Marking) → Law e first → Run e first events last → (q : Which) (old new : List ℕ) → IsListOf first q old → IsListOf last q new
+    (e : Setup) (events : List Event) (first last : Marking) → Law e first → Run e first events last
+    → (q : Which) (old new : List ℕ) → IsListOf first q old → IsListOf last q new
     → (last.head q).tag + length new ≡ (first.head q).tag + length old + 2 * pushes_among events q
 run_parity e [] first last law run q old new c n =
     let same : new ≡ old = chain_one first.link (first.head q).index new old (subst (λ m. IsListOf m q new) run n) c in

@@ -1,5 +1,6 @@
 -- Lists by place, and functions with one value put in.
-use Rattle.std.proofs.Common.{◌≡◌, ◌≢◌, ◌⊎◌, ℕ, zero, suc, ◌<◌, List, [], ◌∷◌, ◌++◌, length, get_or, set, cond, ap, sym, refl, inl, inr, ⊎_elim, eq-eqb, ne_eqb, arith}
+use Rattle.std.proofs.Common.{◌≡◌, ◌≢◌, ◌⊎◌, ℕ, zero, suc, ◌<◌, List, [], ◌∷◌, ◌++◌, length, get_or, set, cond, ap, sym}
+use Rattle.std.proofs.Common.{refl, inl, inr, ⊎_elim, eq-eqb, ne_eqb, arith}
 use mathlib.Core.Option.{some-injective, some-ne-none}
 use lib.ListN.{get_elem?}
 use Rattle.mark_core.specs.declared.which.Which.{Which}
@@ -9,12 +10,14 @@ use Rattle.mark_core.specs.World.{put, put_which}
 
 module _ {X : Type 0} where
   -- what stands at j after a write at i
-  pub at_set : (l : List X) (i j : ℕ) (a b : X) → StandsAt (set l i a) j b → ((j ≡ i) × (a ≡ b)) ⊎ ((j ≢ i) × StandsAt l j b)
+  pub at_set : (l : List X) (i j : ℕ) (a b : X) → StandsAt (set l i a) j b → ((j ≡ i) × (a ≡ b))
+      ⊎ ((j ≢ i) × StandsAt l j b)
   at_set [] i j a b e = absurd (some-ne-none b (sym e))
   at_set (x ∷ xs) zero zero a b e = inl (refl, some-injective a b e)
   at_set (x ∷ xs) zero (suc j) a b e = inr ((λ h. omega arith), e)
   at_set (x ∷ xs) (suc i) zero a b e = inr ((λ h. omega arith), e)
-  at_set (x ∷ xs) (suc i) (suc j) a b e = ⊎_elim (λ t. inl (ap suc t.0, t.1)) (λ t. let n = t.0 in inr ((λ h. n (omega arith)), t.1)) (at_set xs i j a b e)
+  at_set (x ∷ xs) (suc i) (suc j) a b e =
+      ⊎_elim (λ t. inl (ap suc t.0, t.1)) (λ t. let n = t.0 in inr ((λ h. n (omega arith)), t.1)) (at_set xs i j a b e)
 
   pub set_here : (l : List X) (i : ℕ) (a b : X) → StandsAt l i b → StandsAt (set l i a) i a
   set_here [] i a b e = absurd (some-ne-none b (sym e))
@@ -60,14 +63,16 @@ module _ {X : Type 0} where
   put_else i j x f n = ap (λ t. cond t x (f j)) (ne_eqb j i n)
 
   -- what holds of the value put in and of each other one holds of all
-  pub put_one : (C : Which → X → Type 0) (q : Which) (x : X) (f : Which → X) → C q x → ((p : Which) → C p (f p)) → (p : Which) → C p (put_which q x f p)
+  pub put_one : (C : Which → X → Type 0) (q : Which) (x : X) (f : Which → X) → C q x → ((p : Which) → C p (f p))
+      → (p : Which) → C p (put_which q x f p)
   put_one C Full x f here each Full = here
   put_one C Full x f here each Empty = each Empty
   put_one C Empty x f here each Full = each Full
   put_one C Empty x f here each Empty = here
 
 -- the same of two functions
-pub put_two : {X Y : Type 0} (C : X → Y → Type 0) (q : Which) (x : X) (y : Y) (f : Which → X) (g : Which → Y) → C x y → ((p : Which) → C (f p) (g p)) → (p : Which) → C (put_which q x f p) (put_which q y g p)
+pub put_two : {X Y : Type 0} (C : X → Y → Type 0) (q : Which) (x : X) (y : Y) (f : Which → X) (g : Which → Y) → C x y
+    → ((p : Which) → C (f p) (g p)) → (p : Which) → C (put_which q x f p) (put_which q y g p)
 put_two C Full x y f g here each Full = here
 put_two C Full x y f g here each Empty = each Empty
 put_two C Empty x y f g here each Full = each Full

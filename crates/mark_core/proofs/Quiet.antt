@@ -1,19 +1,25 @@
 -- Idle accounts: what is known of them after each event of a run, and that nothing is left where it is quiet.
-use Rattle.std.proofs.Common.{◌≡◌, ◌≢◌, ◌⊎◌, ℕ, zero, suc, ◌+◌, ◌-◌, ◌%◌, ◌^◌, ◌<◌, ◌≤◌, Bool, true, false, ◌||◌, is_none, List, [], ◌∷◌, ◌++◌, length, length-set, Option, Some, None, Contains, set, slice_index_or, ap, sym, refl, subst, ◌∙◌, inl, inr, ⊎_elim, arith}
+use Rattle.std.proofs.Common.{◌≡◌, ◌≢◌, ◌⊎◌, ℕ, zero, suc, ◌+◌, ◌-◌, ◌%◌, ◌^◌, ◌<◌, ◌≤◌, Bool, true, false, ◌||◌}
+use Rattle.std.proofs.Common.{is_none, List, [], ◌∷◌, ◌++◌, length, length-set, Option, Some, None, Contains, set}
+use Rattle.std.proofs.Common.{slice_index_or, ap, sym, refl, subst, ◌∙◌, inl, inr, ⊎_elim, arith}
 use Rattle.std.proofs.lemmas.Bool.{false≢true}
 use mathlib.Core.Option.{some-injective, some-ne-none}
 use native.Mathlib.Decide.{ℕ_discrete}
 use Rattle.mark_core.specs.declared.which.Which.{Which}
 use Rattle.mark_core.specs.declared.which.Which.TheVariants.{Full, Empty}
-use Rattle.mark_core.specs.Lists.{StandsAt, total, without}
-use Rattle.mark_core.specs.Account.{Account, look_of, part, no_share, after_claim, after_finish, after_split, after_join, after_load, after_load_link, after_pop, after_push, after_idle_up, after_idle_down, after_load_idle}
+use Rattle.mark_core.specs.Lists.{StandsAt, sum_of, without}
+use Rattle.mark_core.specs.Account.{Account, look_of, part, no_share, after_claim, after_finish, after_split}
+use Rattle.mark_core.specs.Account.{after_join, after_load, after_load_link, after_pop, after_push, after_idle_up}
+use Rattle.mark_core.specs.Account.{after_idle_down, after_load_idle}
 use Rattle.mark_core.specs.World.{Setup, Marking, items_of, IsThere}
-use Rattle.mark_core.specs.Event.{Kind, Claim, Finish, Split, Join, Load, LoadLink, StoreLink, Pop, Push, Fail, IdleUp, IdleDown, LoadIdle, Event, IsBusy, Allows, IsPossible, effect, happens, popped, last_link, word_up, word_down}
+use Rattle.mark_core.specs.Event.{Kind, Claim, Finish, Split, Join, Load, LoadLink, StoreLink, Pop, Push, Fail, IdleUp}
+use Rattle.mark_core.specs.Event.{IdleDown, LoadIdle, Event, IsBusy, Allows, IsPossible, effect, happens, stack_popped}
+use Rattle.mark_core.specs.Event.{last_link, word_up, word_down}
 use Rattle.mark_core.specs.Shares.{whole}
 use Rattle.mark_core.specs.Runs.{Run, IsRun, opening}
 use Rattle.mark_core.specs.Quiet.{HasGivenUnits, QuietIsDone}
 use Rattle.mark_core.proofs.Places.{at_below, at_get_or, at_one, at_set, at_push, set_here, set_else}
-use Rattle.mark_core.proofs.Sums.{total-set, total-append, term_le}
+use Rattle.mark_core.proofs.Sums.{sum_of-set, sum_of-append, term_le}
 use Rattle.mark_core.proofs.Chains.{chain_none}
 use Rattle.mark_core.proofs.Runs.{runs_keep_law}
 
@@ -33,7 +39,7 @@ pub record HaveFound (accounts : List Account) : Type 0 where
   pub others : (k : ℕ) (a : Account) → 0 < k → StandsAt accounts k a → a.found ≡ true
 
 abbrev pub idle_sum : List Account → ℕ
-idle_sum accounts = total (λ a. a.idle) accounts
+idle_sum accounts = sum_of (λ a. a.idle) accounts
 
 -- the idle word is the sum of the idle numbers, and where the accounts have found the full stack empty it is
 pub record IsHushed (idle : ℕ) (top : Option ℕ) (accounts : List Account) : Type 0 where
@@ -166,7 +172,7 @@ module _
     counted_same : b.idle ≡ a.idle → idle ≡ idle_sum now % 2 ^ 64
     counted_same same =
         let sums : idle_sum accounts ≡ idle_sum now =
-        omega (arith, same, total-set (λ (x : Account). x.idle) accounts w a b is) in
+        omega (arith, same, sum_of-set (λ (x : Account). x.idle) accounts w a b is) in
         s.counted ∙ ap (λ n. n % 2 ^ 64) sums
 
     -- it changes in nothing that others may find
@@ -215,7 +221,7 @@ module _
       long = omega (arith, at_below accounts w a is, length-set accounts w b)
 
       sums : idle_sum fewer ≡ idle_sum (fewer ++ part units ∷ [])
-      sums = omega (arith, total-append (λ (x : Account). x.idle) fewer (part units ∷ []))
+      sums = omega (arith, sum_of-append (λ (x : Account). x.idle) fewer (part units ∷ []))
 
       rest : IsResting b
       rest alone =
@@ -270,7 +276,7 @@ module _
       sums : idle_sum accounts ≡ idle_sum second
       sums =
           let idle_of : Account → ℕ = λ (x : Account). x.idle in
-          omega (arith, total-set idle_of accounts w a both is, total-set idle_of first v b no_share still)
+          omega (arith, sum_of-set idle_of accounts w a both is, sum_of-set idle_of first v b no_share still)
 
       -- each account after the join is one that was joined, or one of before
       from : (k : ℕ) (x : Account) → StandsAt second k x → (x.joined ≡ true) ⊎ StandsAt accounts k x
@@ -361,7 +367,7 @@ module _ (e : Setup) (m : Marking) (s : Hushed m) (w : ℕ) (a : Account) (there
 
   pop_hushed :
       (q : Which) (i : ℕ) (l : Option ℕ) → (m.head q).index ≡ Some i → IsBusy a
-      → Hushed (popped m w a q (Some i) (Some l))
+      → Hushed (stack_popped m w a q (Some i) (Some l))
   pop_hushed Full i l top busy =
       let b = after_pop i (items_of (slice_index_or m.slots i None)) a in
       let emptied : HaveFound (set m.accounts w b) → l ≡ None =
@@ -405,15 +411,15 @@ module _ (e : Setup) (m : Marking) (s : Hushed m) (w : ℕ) (a : Account) (there
   effect_hushed (Pop q) can =
       let i = can.0.1.0 in
       let hushed = pop_hushed q i can.0.2.0 can.0.1.1 can.1 in
-      subst (λ n. Hushed (popped m w a q n (look_of a q).link)) (sym can.0.1.1)
-      (subst (λ k. Hushed (popped m w a q (Some i) k)) (sym can.0.2.1) hushed)
+      subst (λ n. Hushed (stack_popped m w a q n (look_of a q).link)) (sym can.0.1.1)
+      (subst (λ k. Hushed (stack_popped m w a q (Some i) k)) (sym can.0.2.1) hushed)
   effect_hushed (Push q i items) can = push_hushed q i items can.1.3 can.3
   effect_hushed (Fail q) can = s
   effect_hushed IdleUp can =
       let b = after_idle_up a in
       let sum = idle_sum m.accounts in
       let more : idle_sum (set m.accounts w b) ≡ sum + 1 =
-      omega (arith, total-set (λ (x : Account). x.idle) m.accounts w a b there.0) in
+      omega (arith, sum_of-set (λ (x : Account). x.idle) m.accounts w a b there.0) in
       change b (word_up m.idle) (m.head Full).index
       (up_counted m.idle sum (idle_sum (set m.accounts w b)) s.counted more)
       (λ alone. (there.1, inr (omega (arith, can.1), can.0, can.2, can.3))) refl refl
@@ -422,7 +428,7 @@ module _ (e : Setup) (m : Marking) (s : Hushed m) (w : ℕ) (a : Account) (there
       let b = after_idle_down a in
       let sum = idle_sum m.accounts in
       let less : idle_sum (set m.accounts w b) + 1 ≡ sum =
-      omega (arith, total-set (λ (x : Account). x.idle) m.accounts w a b there.0, can.1, idle_le) in
+      omega (arith, sum_of-set (λ (x : Account). x.idle) m.accounts w a b there.0, can.1, idle_le) in
       change b (word_down m.idle) (m.head Full).index
       (down_counted m.idle sum (idle_sum (set m.accounts w b)) s.counted less)
       (λ alone. (there.1, inl (omega (arith, can.1)))) refl refl
@@ -466,7 +472,7 @@ abbrev AllApart : List Account → Type 0
 AllApart cs = (k : ℕ) (a : Account) → StandsAt cs k a → (a.joined ≡ false) × IsResting a
 
 abbrev share_sum : List Account → ℕ
-share_sum cs = total (λ a. a.share) cs
+share_sum cs = sum_of (λ a. a.share) cs
 
 one_le : (a : Account) → a.joined ≡ false → IsResting a → a.idle ≤ a.share
 one_le a apart rest = ⊎_elim (λ z. omega (arith, z)) (λ o. omega (arith, o.0, o.1)) (rest apart).1

@@ -20,7 +20,8 @@ shelved_set buffers slots stack new i was x s at others stacked bare away =
     record { places = length-set slots i x ∙ s.places; stacked = in_slots; bare = in_bare; away = in_away }
   where
     here : (b : ℕ) (y : Option (List ℕ)) → b ≡ i → x ≡ y → StandsAt (set slots i x) b y
-    here b y e f = subst (λ j. StandsAt (set slots i x) j y) (sym e) (subst (λ z. StandsAt (set slots i x) i z) f (set_here slots i x was at))
+    here b y e f = subst (λ j. StandsAt (set slots i x) j y) (sym e)
+        (subst (λ z. StandsAt (set slots i x) i z) f (set_here slots i x was at))
 
     else : (b : ℕ) (y : Option (List ℕ)) → b ≢ i → StandsAt slots b y → StandsAt (set slots i x) b y
     else b y n e = set_else slots i b x n ∙ e
@@ -43,5 +44,6 @@ shelved_set buffers slots stack new i was x s at others stacked bare away =
     in_away b l f g = go (ℕ_discrete b i)
       where
         go : Dec (b ≡ i) → StandsAt (set slots i x) b None
-        go (yes e) = here b None e (away (subst (λ j. times j (new Full) ≡ 0) e f) (subst (λ j. times j (new Empty) ≡ 0) e g))
+        go (yes e) = here b None e (away (subst (λ j. times j (new Full) ≡ 0) e f)
+            (subst (λ j. times j (new Empty) ≡ 0) e g))
         go (no n) = else b None n (s.away b l (omega (arith, others Full b n)) (omega (arith, others Empty b n)))

@@ -1,51 +1,62 @@
 -- Sums over lists, and how often a number stands in a list.
-use Rattle.std.proofs.Common.{◌≡◌, ◌≢◌, ◌⊎◌, ℕ, zero, suc, ◌+◌, ◌<◌, ◌≤◌, List, [], ◌∷◌, ◌++◌, length, get_or, set, cond, Contains, ap, sym, refl, inl, inr, eq-eqb, ne_eqb, arith}
+use Rattle.std.proofs.Common.{◌≡◌, ◌≢◌, ◌⊎◌, ℕ, zero, suc, ◌+◌, ◌<◌, ◌≤◌, List, [], ◌∷◌, ◌++◌, length, get_or, set}
+use Rattle.std.proofs.Common.{cond, Contains, ap, sym, refl, inl, inr, eq-eqb, ne_eqb, arith}
 use mathlib.Core.Option.{some-injective, some-ne-none}
 use native.Mathlib.Decide.{dec_le, ℕ_discrete}
-use Rattle.mark_core.specs.Lists.{StandsAt, total, one_where, only, times, remove_one, without, IsPart}
+use Rattle.mark_core.specs.Lists.{StandsAt, sum_of, one_where, only, times, remove_one, without, IsPart}
 
 module _ {X : Type 0} (f : X → ℕ) where
-  pub total-append : (xs ys : List X) → total f (xs ++ ys) ≡ total f xs + total f ys
-  total-append [] ys = omega arith
-  total-append (x ∷ xs) ys = omega (arith, total-append xs ys)
+  pub sum_of-append : (xs ys : List X) → sum_of f (xs ++ ys) ≡ sum_of f xs + sum_of f ys
+  sum_of-append [] ys = omega arith
+  sum_of-append (x ∷ xs) ys = omega (arith, sum_of-append xs ys)
 
-  pub total-set : (xs : List X) (i : ℕ) (a b : X) → StandsAt xs i a → total f (set xs i b) + f a ≡ total f xs + f b
-  total-set [] i a b e = absurd (some-ne-none a (sym e))
-  total-set (x ∷ xs) zero a b e = let s : f x ≡ f a = ap f (some-injective x a e) in omega arith
-  total-set (x ∷ xs) (suc i) a b e = omega (arith, total-set xs i a b e)
+  pub sum_of-set : (xs : List X) (i : ℕ) (a b : X) → StandsAt xs i a → sum_of f (set xs i b) + f a ≡ sum_of f xs + f b
+  sum_of-set [] i a b e = absurd (some-ne-none a (sym e))
+  sum_of-set (x ∷ xs) zero a b e = let s : f x ≡ f a = ap f (some-injective x a e) in omega arith
+  sum_of-set (x ∷ xs) (suc i) a b e = omega (arith, sum_of-set xs i a b e)
 
-  pub term_le : (xs : List X) (i : ℕ) (a : X) → StandsAt xs i a → f a ≤ total f xs
+  pub term_le : (xs : List X) (i : ℕ) (a : X) → StandsAt xs i a → f a ≤ sum_of f xs
   term_le [] i a e = absurd (some-ne-none a (sym e))
   term_le (x ∷ xs) zero a e = let s : f x ≡ f a = ap f (some-injective x a e) in omega arith
   term_le (x ∷ xs) (suc i) a e = omega (arith, term_le xs i a e)
 
-  pub terms_le : (xs : List X) (i j : ℕ) (a b : X) → j ≢ i → StandsAt xs i a → StandsAt xs j b → f a + f b ≤ total f xs
+  pub terms_le : (xs : List X) (i j : ℕ) (a b : X) → j ≢ i → StandsAt xs i a → StandsAt xs j b → f a + f b ≤ sum_of f xs
   terms_le [] i j a b n d e = absurd (some-ne-none a (sym d))
   terms_le (x ∷ xs) zero zero a b n d e = absurd (n refl)
-  terms_le (x ∷ xs) zero (suc j) a b n d e = let s : f x ≡ f a = ap f (some-injective x a d) in omega (arith, term_le xs j b e)
-  terms_le (x ∷ xs) (suc i) zero a b n d e = let s : f x ≡ f b = ap f (some-injective x b e) in omega (arith, term_le xs i a d)
+  terms_le (x ∷ xs) zero (suc j) a b n d e = let s : f x ≡ f a = ap f (some-injective x a d) in
+      omega (arith, term_le xs j b e)
+  terms_le (x ∷ xs) (suc i) zero a b n d e = let s : f x ≡ f b = ap f (some-injective x b e) in
+      omega (arith, term_le xs i a d)
   terms_le (x ∷ xs) (suc i) (suc j) a b n d e = omega (arith, terms_le xs i j a b (λ s. n (ap suc s)) d e)
 
   -- a sum of which each term is 0
-  pub total-nothing : (xs : List X) → ((i : ℕ) (a : X) → StandsAt xs i a → f a ≡ 0) → total f xs ≡ 0
-  total-nothing [] each = refl
-  total-nothing (x ∷ xs) each = omega (arith, each 0 x refl, total-nothing xs (λ i a e. each (suc i) a e))
+  pub sum_of-nothing : (xs : List X) → ((i : ℕ) (a : X) → StandsAt xs i a → f a ≡ 0) → sum_of f xs ≡ 0
+  sum_of-nothing [] each = refl
+  sum_of-nothing (x ∷ xs) each = omega (arith, each 0 x refl, sum_of-nothing xs (λ i a e. each (suc i) a e))
 
   -- a sum of which each term but one is 0
-  pub total-alone : (xs : List X) (i : ℕ) (a : X) → StandsAt xs i a → ((j : ℕ) (b : X) → j ≢ i → StandsAt xs j b → f b ≡ 0) → total f xs ≡ f a
-  total-alone [] i a e each = absurd (some-ne-none a (sym e))
-  total-alone (x ∷ xs) zero a e each = let s : f x ≡ f a = ap f (some-injective x a e) in omega (arith, total-nothing xs (λ j b d. each (suc j) b (λ n. omega arith) d))
-  total-alone (x ∷ xs) (suc i) a e each = omega (arith, each 0 x (λ n. omega arith) refl, total-alone xs i a e (λ j b n d. each (suc j) b (λ s. n (omega arith)) d))
+  pub sum_of-alone : (xs : List X) (i : ℕ) (a : X) → StandsAt xs i a
+      → ((j : ℕ) (b : X) → j ≢ i → StandsAt xs j b → f b ≡ 0) → sum_of f xs ≡ f a
+  sum_of-alone [] i a e each = absurd (some-ne-none a (sym e))
+  sum_of-alone (x ∷ xs) zero a e each = let s : f x ≡ f a = ap f (some-injective x a e) in
+      omega (arith, sum_of-nothing xs (λ j b d. each (suc j) b (λ n. omega arith) d))
+  sum_of-alone (x ∷ xs) (suc i) a e each =
+      omega (
+        arith,
+        each 0 x (λ n. omega arith) refl,
+        sum_of-alone xs i a e (λ j b n d. each (suc j) b (λ s. n (omega arith)) d),
+      )
 
   -- a sum that is not 0 has a term that is not
-  pub some_term : (xs : List X) → 0 < total f xs → (i : ℕ) × (a : X) × StandsAt xs i a × (0 < f a)
+  pub some_term : (xs : List X) → 0 < sum_of f xs → (i : ℕ) × (a : X) × StandsAt xs i a × (0 < f a)
   some_term [] h = absurd (omega arith)
   some_term (x ∷ xs) h = go (dec_le 1 (f x)) (some_term xs)
     where
       later : (i : ℕ) × (a : X) × StandsAt xs i a × (0 < f a) → (i : ℕ) × (a : X) × StandsAt (x ∷ xs) i a × (0 < f a)
       later t = (suc t.0, t.1, t.2, t.3)
 
-      go : Dec (1 ≤ f x) → (0 < total f xs → (i : ℕ) × (a : X) × StandsAt xs i a × (0 < f a)) → (i : ℕ) × (a : X) × StandsAt (x ∷ xs) i a × (0 < f a)
+      go : Dec (1 ≤ f x) → (0 < sum_of f xs → (i : ℕ) × (a : X) × StandsAt xs i a × (0 < f a)) → (i : ℕ) × (a : X)
+          × StandsAt (x ∷ xs) i a × (0 < f a)
       go (yes p) rest = (0, x, refl, p)
       go (no p) rest = later (rest (omega arith))
 
@@ -87,7 +98,7 @@ stands_push xs y x c = go (dec_le 1 (times x xs))
   where
     go : Dec (1 ≤ times x xs) → Contains xs x ⊎ (y ≡ x)
     go (yes p) = inl (times_stands xs x p)
-    go (no p) = inr (only_one x y (omega (arith, stands_times (xs ++ y ∷ []) x c, total-append (only x) xs (y ∷ []))))
+    go (no p) = inr (only_one x y (omega (arith, stands_times (xs ++ y ∷ []) x c, sum_of-append (only x) xs (y ∷ []))))
 
 -- an element of one of two lists
 pub stands_append : (xs ys : List ℕ) (x : ℕ) → Contains (xs ++ ys) x → Contains xs x ⊎ Contains ys x
@@ -95,7 +106,7 @@ stands_append xs ys x c = go (dec_le 1 (times x xs))
   where
     go : Dec (1 ≤ times x xs) → Contains xs x ⊎ Contains ys x
     go (yes p) = inl (times_stands xs x p)
-    go (no p) = inr (times_stands ys x (omega (arith, stands_times (xs ++ ys) x c, total-append (only x) xs ys)))
+    go (no p) = inr (times_stands ys x (omega (arith, stands_times (xs ++ ys) x c, sum_of-append (only x) xs ys)))
 
 pub remove_one-same : (x y : ℕ) (ys : List ℕ) → y ≡ x → remove_one x (y ∷ ys) ≡ ys
 remove_one-same x y ys e = ap (λ t. cond t ys (y ∷ remove_one x ys)) (eq-eqb y x e)
@@ -107,9 +118,12 @@ pub times-remove_one : (x y : ℕ) (ys : List ℕ) → 0 < times y ys → times 
 times-remove_one x y [] h = absurd (omega arith)
 times-remove_one x y (z ∷ zs) h = go (ℕ_discrete z y) (times-remove_one x y zs)
   where
-    go : Dec (z ≡ y) → (0 < times y zs → times x (remove_one y zs) + only x y ≡ times x zs) → times x (remove_one y (z ∷ zs)) + only x y ≡ times x (z ∷ zs)
-    go (yes e) rest = let s : only x z ≡ only x y = ap (only x) e in omega (arith, ap (times x) (remove_one-same y z zs e))
-    go (no n) rest = let p : 0 < times y zs = omega (arith, only-other y z n) in omega (arith, ap (times x) (remove_one-other y z zs n), rest p)
+    go : Dec (z ≡ y) → (0 < times y zs → times x (remove_one y zs) + only x y ≡ times x zs)
+        → times x (remove_one y (z ∷ zs)) + only x y ≡ times x (z ∷ zs)
+    go (yes e) rest = let s : only x z ≡ only x y = ap (only x) e in
+        omega (arith, ap (times x) (remove_one-same y z zs e))
+    go (no n) rest = let p : 0 < times y zs = omega (arith, only-other y z n) in
+        omega (arith, ap (times x) (remove_one-other y z zs n), rest p)
 
 pub times-without : (xs ys : List ℕ) → IsPart xs ys → (x : ℕ) → times x (without xs ys) + times x xs ≡ times x ys
 times-without [] ys part x = omega arith

@@ -1,9 +1,12 @@
 -- Taking numbers out of a list, one after another.
-use Rattle.std.proofs.Common.{◌≡◌, ◌≢◌, ℕ, zero, suc, ◌+◌, ◌<◌, ◌==◌, false, List, [], ◌∷◌, length, get_or, drop, Contains, Some, None, IsSome, IsTrue, ap, sym, subst, refl, ◌∙◌, add-one, drop-cons, eqb-true, eq-eqb, arith}
+use Rattle.std.proofs.Common.{◌≡◌, ◌≢◌, ℕ, zero, suc, ◌+◌, ◌<◌, ◌==◌, false, List, [], ◌∷◌, length, get_or, drop}
+use Rattle.std.proofs.Common.{Contains, Some, None, IsSome, IsTrue, ap, sym, subst, refl, ◌∙◌, add-one, drop-cons}
+use Rattle.std.proofs.Common.{eqb-true, eq-eqb, arith}
 use Rattle.std.specs.List.{remove, position}
 use Rattle.std.proofs.lemmas.List.Quantifiers.{position-Some}
 use Rattle.mark_core.specs.Lists.{remove_one, without, IsPart}
-use Rattle.mark_core.proofs.Sums.{only-same, stands_times, times_stands, remove_one-same, remove_one-other, times-remove_one}
+use Rattle.mark_core.proofs.Sums.{only-same, stands_times, times_stands, remove_one-same, remove_one-other}
+use Rattle.mark_core.proofs.Sums.{times-remove_one}
 
 pub none_is_not_some : IsSome {T = ℕ} None → ⊥
 none_is_not_some h = cc
@@ -12,17 +15,20 @@ pub false_is_not_true : IsTrue false → ⊥
 false_is_not_true h = cc
 
 -- the first x is at i
-pub remove-place : (xs : List ℕ) (x i : ℕ) → i < length xs → get_or xs i x ≡ x → ((k : ℕ) → k < i → get_or xs k x ≢ x) → remove xs i ≡ remove_one x xs
+pub remove-place : (xs : List ℕ) (x i : ℕ) → i < length xs → get_or xs i x ≡ x → ((k : ℕ) → k < i → get_or xs k x ≢ x)
+    → remove xs i ≡ remove_one x xs
 remove-place [] x i h e n = absurd (omega arith)
 remove-place (y ∷ ys) x zero h e n = sym (remove_one-same x y ys e)
 remove-place (y ∷ ys) x (suc i) h e n =
     let other : y ≢ x = n 0 (omega arith) in
-    ap (λ zs. y ∷ zs) (remove-place ys x i (omega arith) e (λ k lt. n (suc k) (omega arith))) ∙ sym (remove_one-other x y ys other)
+    ap (λ zs. y ∷ zs) (remove-place ys x i (omega arith) e (λ k lt. n (suc k) (omega arith)))
+    ∙ sym (remove_one-other x y ys other)
 
 pub remove-position : (xs : List ℕ) (x i : ℕ) → position (λ y. y == x) xs ≡ Some i → remove xs i ≡ remove_one x xs
 remove-position xs x i e =
     let found = position-Some (λ y. y == x) xs i x e in
-    remove-place xs x i found.0 (eqb-true (get_or xs i x) x found.1) (λ k lt same. let no = found.2 k lt in let yes = eq-eqb (get_or xs k x) x same in cc)
+    remove-place xs x i found.0 (eqb-true (get_or xs i x) x found.1) (λ k lt same. let no = found.2 k lt in
+    let yes = eq-eqb (get_or xs k x) x same in cc)
 
 pub remove_one-none : (xs : List ℕ) (x : ℕ) → ¬ Contains xs x → remove_one x xs ≡ xs
 remove_one-none [] x n = refl

@@ -1,29 +1,36 @@
 -- What the vectors of a world are after each event.
-use Rattle.std.proofs.Common.{◌≡◌, ◌≢◌, ◌↔◌, Bool, true, false, IsTrue, ℕ, ◌<◌, ◌≤◌, max, List, [], length, get_or, set, Option, Some, None, Contains, ap, sym, subst, refl, ◌∙◌, get_or-set_same, get_or-set_other, length-set}
+use Rattle.std.proofs.Common.{◌≡◌, ◌≢◌, ◌↔◌, Bool, true, false, IsTrue, ℕ, ◌<◌, ◌≤◌, max, List, [], length, get_or, set}
+use Rattle.std.proofs.Common.{Option, Some, None, Contains, ap, sym, subst, refl, ◌∙◌, get_or-set_same}
+use Rattle.std.proofs.Common.{get_or-set_other, length-set}
 use Rattle.std.proofs.lemmas.List.{get_or_default, set_comm}
 use native.Mathlib.Decide.{ℕ_discrete}
 use Rattle.tagged_index.specs.Head.{Head, after, last_tag}
 use Rattle.mark_core.specs.declared.which.Which.{Which}
 use Rattle.mark_core.specs.declared.which.Which.TheVariants.{Full, Empty}
 use Rattle.mark_core.specs.Lists.{IsPart}
-use Rattle.mark_core.specs.Account.{Account, Look, look_of, no_share, after_claim, after_finish, after_join, after_pop, after_push}
+use Rattle.mark_core.specs.Account.{Account, Look, look_of, no_share, after_claim, after_finish, after_join, after_pop}
+use Rattle.mark_core.specs.Account.{after_push}
 use Rattle.mark_core.specs.World.{Marking, items_of, account_at, put, put_which}
-use Rattle.mark_core.specs.Event.{Claim, Finish, Join, StoreLink, Pop, Push, popped, IsBusy, CanClaim, CanFinish, CanPop}
-use Rattle.mark_core.specs.Step.{Listing, IsLawful, Does, Tries, heads_of, with_head, exchanged, marking_of, MayPush}
+use Rattle.mark_core.specs.Event.{Claim, Finish, Join, StoreLink, Pop, Push, stack_popped, IsBusy, CanClaim, CanFinish}
+use Rattle.mark_core.specs.Event.{CanPop}
+use Rattle.mark_core.specs.Step.{Listing, IsLawful, Does, Tries, heads_of, with_head, exchanged, marking_of}
+use Rattle.mark_core.specs.Step.{IsReadyToPush}
 use Rattle.std.specs.Bool.{OnTrue}
 use Rattle.mark_core.proofs.Taking.{false_is_not_true}
 use Rattle.mark_core.proofs.Places.{put_here, put_else}
 use Rattle.mark_core.proofs.Within.{stands_here, held_within}
 
 -- a value written into a list is put into the function that reads it
-pub put_in : {X : Type 0} (l : List X) (i : ℕ) (x d : X) → i < length l → ◌≡◌ {A = ℕ → X} (λ j. get_or (set l i x) j d) (put i x (λ j. get_or l j d))
+pub put_in : {X : Type 0} (l : List X) (i : ℕ) (x d : X) → i < length l
+    → ◌≡◌ {A = ℕ → X} (λ j. get_or (set l i x) j d) (put i x (λ j. get_or l j d))
 put_in l i x d inside = λ t j. at j t
   where
     at : (j : ℕ) → get_or (set l i x) j d ≡ put i x (λ k. get_or l k d) j
     at j = go (ℕ_discrete j i)
       where
         go : Dec (j ≡ i) → get_or (set l i x) j d ≡ put i x (λ k. get_or l k d) j
-        go (yes e) = subst (λ k. get_or (set l i x) k d ≡ x) (sym e) (get_or-set_same l i x d inside) ∙ sym (put_here i j x (λ k. get_or l k d) e)
+        go (yes e) = subst (λ k. get_or (set l i x) k d ≡ x) (sym e) (get_or-set_same l i x d inside)
+            ∙ sym (put_here i j x (λ k. get_or l k d) e)
         go (no n) = get_or-set_other l i j x d n ∙ sym (put_else i j x (λ k. get_or l k d) n)
 
 -- a head exchanged
@@ -36,7 +43,8 @@ heads_turned l q h = λ t p. at q p t
     at Empty Full = refl
     at Empty Empty = refl
 
-pub marking_headed : (l : Listing) (q : Which) (h : Head) → marking_of (with_head l q h) ≡ record (marking_of l) { head = put_which q h (heads_of l) }
+pub marking_headed : (l : Listing) (q : Which) (h : Head)
+    → marking_of (with_head l q h) ≡ record (marking_of l) { head = put_which q h (heads_of l) }
 marking_headed l Full h = ap (λ f. record (marking_of l) { head = f }) (heads_turned l Full h)
 marking_headed l Empty h = ap (λ f. record (marking_of l) { head = f }) (heads_turned l Empty h)
 
@@ -52,7 +60,8 @@ tables_headed l Full h = record { setup = refl; links = refl; slots = refl; mark
 tables_headed l Empty h = record { setup = refl; links = refl; slots = refl; marks = refl }
 
 -- the account read at w
-pub account_here : (accounts : List Account) (w : ℕ) (a : Account) → w < length accounts → a ≡ get_or accounts w a → a ≡ account_at accounts w
+pub account_here : (accounts : List Account) (w : ℕ) (a : Account) → w < length accounts → a ≡ get_or accounts w a
+    → a ≡ account_at accounts w
 account_here accounts w a inside is = is ∙ get_or_default accounts w a no_share inside
 
 -- what the tests of a pop tell, where this is the stack's head
@@ -64,7 +73,8 @@ pub record PopTold (head : Head) (a : Account) (q : Which) (i : ℕ) (l : Option
 
 pub pop_told :
     (head : Head) (a : Account) (q : Which) (i : ℕ) (l : Option ℕ) (look : Look) (now : Head)
-    → look ≡ look_of a q → now ≡ head → look.head ≡ Some now → now.index ≡ Some i → look.link ≡ Some l → IsBusy a → PopTold head a q i l
+    → look ≡ look_of a q → now ≡ head → look.head ≡ Some now → now.index ≡ Some i → look.link ≡ Some l → IsBusy a
+    → PopTold head a q i l
 pop_told head a q i l look now looked loaded shows top link busy =
     record {
       shows = sym (ap (λ (x : Look). x.head) looked) ∙ shows ∙ ap Some loaded;
@@ -73,44 +83,55 @@ pop_told head a q i l look now looked loaded shows top link busy =
       busy = busy;
     }
 
-module _ (s : Listing) (w : ℕ) (a b c : Account) (there : w < length s.accounts) (is_a : a ≡ get_or s.accounts w a) (is_b : b ≡ get_or s.accounts w b) where
+module _ (s : Listing) (w : ℕ) (a b c : Account) (there : w < length s.accounts) (is_a : a ≡ get_or s.accounts w a)
+    (is_b : b ≡ get_or s.accounts w b) where
   same_a : a ≡ account_at s.accounts w
   same_a = account_here s.accounts w a there is_a
 
   same_b : b ≡ account_at s.accounts w
   same_b = account_here s.accounts w b there is_b
 
-  pub does_claim : (o f : ℕ) (marks : List ℕ) → o < length s.marks → CanClaim s.setup o a × IsBusy a → f ≡ get_or s.marks o 0 → marks ≡ set s.marks o (max f 1) → c ≡ after_claim o f b → Does s w (Claim o) (record s { marks = marks; accounts = set s.accounts w c })
+  pub does_claim : (o f : ℕ) (marks : List ℕ) → o < length s.marks → CanClaim s.setup o a × IsBusy a
+      → f ≡ get_or s.marks o 0 → marks ≡ set s.marks o (max f 1) → c ≡ after_claim o f b
+      → Does s w (Claim o) (record s { marks = marks; accounts = set s.accounts w c })
   does_claim o f marks inside can found raised new =
       let mark : ℕ = get_or s.marks o 0 in
       let written : marks ≡ set s.marks o (max mark 1) = raised ∙ ap (λ x. set s.marks o (max x 1)) found in
-      let last : c ≡ after_claim o mark (account_at s.accounts w) = new ∙ ap (λ x. after_claim o x b) found ∙ ap (after_claim o mark) same_b in
+      let last : c ≡ after_claim o mark (account_at s.accounts w) = new ∙ ap (λ x. after_claim o x b) found
+      ∙ ap (after_claim o mark) same_b in
       record {
         allowed = subst (λ (x : Account). CanClaim s.setup o x × IsBusy x) same_a can;
         marking =
-            ap (λ (ms : List ℕ). record (marking_of s) { mark = λ j. get_or ms j 0; accounts = set s.accounts w c }) written
-            ∙ ap (λ f. record (marking_of s) { mark = f; accounts = set s.accounts w c }) (put_in s.marks o (max mark 1) 0 inside)
-            ∙ ap (λ x. record (marking_of s) { mark = put o (max mark 1) (λ j. get_or s.marks j 0); accounts = set s.accounts w x }) last;
+            ap (λ (ms : List ℕ). record (marking_of s) { mark = λ j. get_or ms j 0; accounts = set s.accounts w c })
+            written
+            ∙ ap (λ f. record (marking_of s) { mark = f; accounts = set s.accounts w c })
+            (put_in s.marks o (max mark 1) 0 inside)
+            ∙ ap (λ x. record (marking_of s)
+            { mark = put o (max mark 1) (λ j. get_or s.marks j 0); accounts = set s.accounts w x }) last;
         setup = refl;
         links = refl;
         slots = refl;
         marks = ap (λ (ms : List ℕ). length ms) written ∙ length-set s.marks o (max mark 1);
       }
 
-  pub does_finish : (o : ℕ) → o < length s.marks → CanFinish s.setup o a → c ≡ after_finish o b → Does s w (Finish o) (record s { marks = set s.marks o 2; accounts = set s.accounts w c })
+  pub does_finish : (o : ℕ) → o < length s.marks → CanFinish s.setup o a → c ≡ after_finish o b
+      → Does s w (Finish o) (record s { marks = set s.marks o 2; accounts = set s.accounts w c })
   does_finish o inside can new =
       record {
         allowed = subst (CanFinish s.setup o) same_a can;
         marking =
             ap (λ f. record (marking_of s) { mark = f; accounts = set s.accounts w c }) (put_in s.marks o 2 0 inside)
-            ∙ ap (λ x. record (marking_of s) { mark = put o 2 (λ j. get_or s.marks j 0); accounts = set s.accounts w x }) (new ∙ ap (after_finish o) same_b);
+            ∙ ap (λ x. record (marking_of s)
+            { mark = put o 2 (λ j. get_or s.marks j 0); accounts = set s.accounts w x })
+            (new ∙ ap (after_finish o) same_b);
         setup = refl;
         links = refl;
         slots = refl;
         marks = length-set s.marks o 2;
       }
 
-  pub does_store : (i : ℕ) (l : Option ℕ) → i < length s.links → Contains a.held i → Does s w (StoreLink i l) (record s { links = set s.links i l })
+  pub does_store : (i : ℕ) (l : Option ℕ) → i < length s.links → Contains a.held i
+      → Does s w (StoreLink i l) (record s { links = set s.links i l })
   does_store i l inside held =
       record {
         allowed = subst (λ (x : Account). Contains x.held i) same_a held;
@@ -122,8 +143,10 @@ module _ (s : Listing) (w : ℕ) (a b c : Account) (there : w < length s.account
       }
 
   pub does_pop :
-      (q : Which) (i : ℕ) (l : Option ℕ) → i < length s.slots → PopTold (heads_of s q) a q i l → (heads_of s q).tag < last_tag
-      → (h : Head) → h ≡ after (heads_of s q) l → (slot emptied : Option (List ℕ)) → slot ≡ get_or s.slots i slot → emptied ≡ None → c ≡ after_pop i (items_of slot) b
+      (q : Which) (i : ℕ) (l : Option ℕ) → i < length s.slots → PopTold (heads_of s q) a q i l
+      → (heads_of s q).tag < last_tag
+      → (h : Head) → h ≡ after (heads_of s q) l → (slot emptied : Option (List ℕ)) → slot ≡ get_or s.slots i slot
+      → emptied ≡ None → c ≡ after_pop i (items_of slot) b
       → Does s w (Pop q) (with_head (record s { slots = set s.slots i emptied; accounts = set s.accounts w c }) q h)
   does_pop q i l inside told low h next slot emptied read gone new =
       let now : Head = heads_of s q in
@@ -132,17 +155,29 @@ module _ (s : Listing) (w : ℕ) (a b c : Account) (there : w < length s.account
       let tables : Listing = record s { slots = set s.slots i emptied; accounts = set s.accounts w c } in
       let same = tables_headed tables q h in
       let found : slot ≡ get_or s.slots i None = read ∙ get_or_default s.slots i slot None inside in
-      let last : c ≡ after_pop i (items_of (get_or s.slots i None)) here = new ∙ ap (λ x. after_pop i (items_of x) b) found ∙ ap (after_pop i (items_of (get_or s.slots i None))) same_b in
-      let linked_here : (look_of here q).link ≡ Some l = subst (λ (x : Account). (look_of x q).link ≡ Some l) same_a told.link in
+      let last : c ≡ after_pop i (items_of (get_or s.slots i None)) here =
+      new ∙ ap (λ x. after_pop i (items_of x) b) found
+      ∙ ap (after_pop i (items_of (get_or s.slots i None))) same_b in
+      let linked_here : (look_of here q).link ≡ Some l =
+      subst (λ (x : Account). (look_of x q).link ≡ Some l) same_a told.link in
       let can : CanPop now (look_of a q) = ((told.shows, low), (i, told.top), (l, told.link)) in
       record {
         allowed = subst (λ (x : Account). CanPop now (look_of x q) × IsBusy x) same_a (can, told.busy);
         marking =
             marking_headed tables q h
             ∙ ap (λ x. record (marking_of tables) { head = put_which q x (heads_of s) }) next
-            ∙ ap (λ x. record m { head = put_which q (after now l) (heads_of s); slots = set s.slots i x; accounts = set s.accounts w c }) gone
-            ∙ ap (λ x. record m { head = put_which q (after now l) (heads_of s); slots = set s.slots i None; accounts = set s.accounts w x }) last
-            ∙ sym (ap (λ n. popped m w here q n (look_of here q).link) told.top ∙ ap (popped m w here q (Some i)) linked_here);
+            ∙ ap (λ x. record m {
+              head = put_which q (after now l) (heads_of s);
+              slots = set s.slots i x;
+              accounts = set s.accounts w c;
+            }) gone
+            ∙ ap (λ x. record m {
+              head = put_which q (after now l) (heads_of s);
+              slots = set s.slots i None;
+              accounts = set s.accounts w x;
+            }) last
+            ∙ sym (ap (λ n. stack_popped m w here q n (look_of here q).link) told.top
+            ∙ ap (stack_popped m w here q (Some i)) linked_here);
         setup = same.setup;
         links = same.links;
         slots = same.slots ∙ length-set s.slots i emptied;
@@ -150,9 +185,11 @@ module _ (s : Listing) (w : ℕ) (a b c : Account) (there : w < length s.account
       }
 
   pub does_push :
-      (q : Which) (i : ℕ) (items : List ℕ) → MayPush s w q i items → (heads_of s q).tag < last_tag → IsPart items b.charge
+      (q : Which) (i : ℕ) (items : List ℕ) → IsReadyToPush s w q i items → (heads_of s q).tag < last_tag
+      → IsPart items b.charge
       → (h : Head) → h ≡ after (heads_of s q) (Some i) → c ≡ after_push q i items b
-      → Does s w (Push q i items) (with_head (record s { slots = set s.slots i (Some items); accounts = set s.accounts w c }) q h)
+      → Does s w (Push q i items) (with_head
+      (record s { slots = set s.slots i (Some items); accounts = set s.accounts w c }) q h)
   does_push q i items may low part h next new =
       let now : Head = heads_of s q in
       let m : Marking = marking_of s in
@@ -164,7 +201,12 @@ module _ (s : Listing) (w : ℕ) (a b c : Account) (there : w < length s.account
         marking =
             marking_headed tables q h
             ∙ ap (λ x. record (marking_of tables) { head = put_which q x (heads_of s) }) next
-            ∙ ap (λ x. record m { head = put_which q (after now (Some i)) (heads_of s); slots = set s.slots i (Some items); accounts = set s.accounts w x }) (new ∙ ap (after_push q i items) same_b);
+            ∙ ap (λ x. record m {
+              head = put_which q (after now (Some i)) (heads_of s);
+              slots = set s.slots i (Some items);
+              accounts = set s.accounts w x;
+            })
+            (new ∙ ap (after_push q i items) same_b);
         setup = same.setup;
         links = same.links;
         slots = same.slots ∙ length-set s.slots i (Some items);
@@ -174,27 +216,39 @@ module _ (s : Listing) (w : ℕ) (a b c : Account) (there : w < length s.account
   -- the exchange of a pop, which is done where the tag is not the last
   pub tries_pop :
       (q : Which) (i : ℕ) (l : Option ℕ) → i < length s.slots → PopTold (heads_of s q) a q i l
-      → (slot emptied : Option (List ℕ)) → slot ≡ get_or s.slots i slot → emptied ≡ None → c ≡ after_pop i (items_of slot) b
-      → (done : Bool) (new : Listing) → IsTrue done ↔ ((heads_of s q).tag < last_tag) → OnTrue done (new ≡ exchanged (record s { slots = set s.slots i emptied; accounts = set s.accounts w c }) q l)
+      → (slot emptied : Option (List ℕ)) → slot ≡ get_or s.slots i slot → emptied ≡ None
+      → c ≡ after_pop i (items_of slot) b
+      → (done : Bool) (new : Listing) → IsTrue done ↔ ((heads_of s q).tag < last_tag)
+      → OnTrue done (new ≡ exchanged (record s { slots = set s.slots i emptied; accounts = set s.accounts w c }) q
+      l)
       → Tries s w (Pop q) done new
   tries_pop q i l inside told slot emptied read gone changed true new low next =
-      subst (Does s w (Pop q)) (sym next) (does_pop q i l inside told (low.0 refl) (after (heads_of s q) l) refl slot emptied read gone changed)
-  tries_pop q i l inside told slot emptied read gone changed false new low next = λ can. false_is_not_true (low.1 can.0.0.1)
+      subst (Does s w (Pop q)) (sym next)
+      (does_pop q i l inside told (low.0 refl) (after (heads_of s q) l) refl slot emptied read gone changed)
+  tries_pop q i l inside told slot emptied read gone changed false new low next =
+      λ can. false_is_not_true (low.1 can.0.0.1)
 
   pub tries_push :
-      (q : Which) (i : ℕ) (items : List ℕ) → MayPush s w q i items → IsPart items b.charge → c ≡ after_push q i items b
-      → (done : Bool) (new : Listing) → IsTrue done ↔ ((heads_of s q).tag < last_tag) → OnTrue done (new ≡ exchanged (record s { slots = set s.slots i (Some items); accounts = set s.accounts w c }) q (Some i))
+      (q : Which) (i : ℕ) (items : List ℕ) → IsReadyToPush s w q i items → IsPart items b.charge
+      → c ≡ after_push q i items b
+      → (done : Bool) (new : Listing) → IsTrue done ↔ ((heads_of s q).tag < last_tag)
+      → OnTrue done (new ≡ exchanged
+      (record s { slots = set s.slots i (Some items); accounts = set s.accounts w c }) q (Some i))
       → Tries s w (Push q i items) done new
-  tries_push q i items may part changed true new low next = subst (Does s w (Push q i items)) (sym next) (does_push q i items may (low.0 refl) part (after (heads_of s q) (Some i)) refl changed)
+  tries_push q i items may part changed true new low next =
+      subst (Does s w (Push q i items)) (sym next)
+      (does_push q i items may (low.0 refl) part (after (heads_of s q) (Some i)) refl changed)
   tries_push q i items may part changed false new low next = λ can. false_is_not_true (low.1 can.0.1)
 
   pub does_join :
-      (v : ℕ) (d e : Account) → v ≢ w → v < length s.accounts → d ≡ get_or s.accounts v d → 0 < d.share → e ≡ no_share → c ≡ after_join b d
+      (v : ℕ) (d e : Account) → v ≢ w → v < length s.accounts → d ≡ get_or s.accounts v d → 0 < d.share → e ≡ no_share
+      → c ≡ after_join b d
       → Does s w (Join v) (record s { accounts = set (set s.accounts v e) w c })
   does_join v d e other inside read there bare new =
       let m : Marking = marking_of s in
       let same_d : d ≡ account_at s.accounts v = account_here s.accounts v d inside read in
-      let last : c ≡ after_join (account_at s.accounts w) (account_at s.accounts v) = new ∙ ap (λ x. after_join x d) same_b ∙ ap (after_join (account_at s.accounts w)) same_d in
+      let last : c ≡ after_join (account_at s.accounts w) (account_at s.accounts v) =
+      new ∙ ap (λ x. after_join x d) same_b ∙ ap (after_join (account_at s.accounts w)) same_d in
       record {
         allowed = (other, (d, (stands_here s.accounts v d inside read, there)));
         marking =
@@ -210,11 +264,14 @@ module _ (s : Listing) (w : ℕ) (a b c : Account) (there : w < length s.account
 -- what the tests of a push tell
 pub may_push :
     (s : Listing) (w : ℕ) (a : Account) → w < length s.accounts → a ≡ get_or s.accounts w a
-    → (q : Which) (i : ℕ) (items : List ℕ) (look : Look) (now : Head) → look ≡ look_of a q → now ≡ heads_of s q → look.head ≡ Some now
-    → Contains a.held i → length items ≤ s.setup.size → (q ≡ Empty → items ≡ []) → get_or s.links i None ≡ now.index → (q ≡ Full → IsBusy a) → MayPush s w q i items
+    → (q : Which) (i : ℕ) (items : List ℕ) (look : Look) (now : Head) → look ≡ look_of a q → now ≡ heads_of s q
+    → look.head ≡ Some now
+    → Contains a.held i → length items ≤ s.setup.size → (q ≡ Empty → items ≡ []) → get_or s.links i None ≡ now.index
+    → (q ≡ Full → IsBusy a) → IsReadyToPush s w q i items
 may_push s w a inside is q i items look now looked loaded shows held fits bare link busy =
     let here : a ≡ account_at s.accounts w = account_here s.accounts w a inside is in
-    let head : (look_of a q).head ≡ Some (heads_of s q) = sym (ap (λ (l : Look). l.head) looked) ∙ shows ∙ ap Some loaded in
+    let head : (look_of a q).head ≡ Some (heads_of s q) = sym (ap (λ (l : Look). l.head) looked) ∙ shows
+    ∙ ap Some loaded in
     record {
       head = subst (λ (x : Account). (look_of x q).head ≡ Some (heads_of s q)) here head;
       held = subst (λ (x : Account). Contains x.held i) here held;
@@ -225,7 +282,8 @@ may_push s w a inside is q i items look now looked loaded shows held fits bare l
     }
 
 -- a buffer that may be pushed is one that a head can hold
-pub push_within : (s : Listing) (w : ℕ) → IsLawful s → w < length s.accounts → (q : Which) (i : ℕ) (items : List ℕ) → MayPush s w q i items → i < s.setup.buffers
+pub push_within : (s : Listing) (w : ℕ) → IsLawful s → w < length s.accounts → (q : Which) (i : ℕ) (items : List ℕ)
+    → IsReadyToPush s w q i items → i < s.setup.buffers
 push_within s w lawful there q i items may =
     let a : Account = account_at s.accounts w in
     held_within s lawful w a there (get_or_default s.accounts w no_share a there) i may.held

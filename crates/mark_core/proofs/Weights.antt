@@ -1,20 +1,25 @@
 -- The accounts that were made bound the idle numbers: each event keeps it so.
-use Rattle.std.proofs.Common.{◌≡◌, ◌≢◌, ℕ, ◌+◌, ◌<◌, ◌≤◌, List, [], ◌∷◌, ◌++◌, length, length-set, Option, Some, None, set, slice_index_or, sym, refl, subst, ◌∙◌, arith}
+use Rattle.std.proofs.Common.{◌≡◌, ◌≢◌, ℕ, ◌+◌, ◌<◌, ◌≤◌, List, [], ◌∷◌, ◌++◌, length, length-set, Option, Some, None}
+use Rattle.std.proofs.Common.{set, slice_index_or, sym, refl, subst, ◌∙◌, arith}
 use Rattle.std.proofs.lemmas.List.{length-append}
 use Rattle.mark_core.specs.declared.which.Which.{Which}
 use Rattle.mark_core.specs.declared.which.Which.TheVariants.{Full, Empty}
-use Rattle.mark_core.specs.Lists.{StandsAt, total}
-use Rattle.mark_core.specs.Account.{Account, look_of, part, no_share, after_claim, after_finish, after_split, after_join, after_load, after_load_link, after_pop, after_push, after_idle_up, after_idle_down, after_load_idle}
+use Rattle.mark_core.specs.Lists.{StandsAt, sum_of}
+use Rattle.mark_core.specs.Account.{Account, look_of, part, no_share, after_claim, after_finish, after_split}
+use Rattle.mark_core.specs.Account.{after_join, after_load, after_load_link, after_pop, after_push, after_idle_up}
+use Rattle.mark_core.specs.Account.{after_idle_down, after_load_idle}
 use Rattle.mark_core.specs.World.{Setup, Marking, items_of, IsThere}
-use Rattle.mark_core.specs.Event.{Kind, Claim, Finish, Split, Join, Load, LoadLink, StoreLink, Pop, Push, Fail, IdleUp, IdleDown, LoadIdle, Event, Allows, IsPossible, effect, happens, popped, last_link}
+use Rattle.mark_core.specs.Event.{Kind, Claim, Finish, Split, Join, Load, LoadLink, StoreLink, Pop, Push, Fail, IdleUp}
+use Rattle.mark_core.specs.Event.{IdleDown, LoadIdle, Event, Allows, IsPossible, effect, happens, stack_popped}
+use Rattle.mark_core.specs.Event.{last_link}
 use Rattle.mark_core.specs.Step.{HasNumber, weight}
 use Rattle.mark_core.proofs.Places.{at_get_or, set_else}
-use Rattle.mark_core.proofs.Sums.{total-set, total-append}
+use Rattle.mark_core.proofs.Sums.{sum_of-set, sum_of-append}
 
 -- each account has a number, and the idle numbers are no more than the accounts
 pub record AreNumbered (accounts : List Account) : Type 0 where
   pub numbered : length accounts ≤ 4294967295
-  pub weights : total weight accounts ≤ length accounts
+  pub weights : sum_of weight accounts ≤ length accounts
 
 module _ (accounts : List Account) (n : AreNumbered accounts) (w : ℕ) (a : Account) (is : StandsAt accounts w a) where
   -- an account changes, and counts for the same
@@ -23,7 +28,7 @@ module _ (accounts : List Account) (n : AreNumbered accounts) (w : ℕ) (a : Acc
       let long = length-set accounts w b in
       record {
         numbered = omega (arith, n.numbered, long);
-        weights = omega (arith, n.weights, same, long, total-set weight accounts w a b is);
+        weights = omega (arith, n.weights, same, long, sum_of-set weight accounts w a b is);
       }
 
   -- units go to a new account, which counts for one
@@ -33,8 +38,8 @@ module _ (accounts : List Account) (n : AreNumbered accounts) (w : ℕ) (a : Acc
   numbered_split units least less room =
       let before = length-set accounts w b in
       let long = length-append (set accounts w b) (part units ∷ []) in
-      let changed = total-set weight accounts w a b is in
-      let added = total-append weight (set accounts w b) (part units ∷ []) in
+      let changed = sum_of-set weight accounts w a b is in
+      let added = sum_of-append weight (set accounts w b) (part units ∷ []) in
       record {
         numbered = omega (arith, room, before, long);
         weights = omega (arith, n.weights, same, new, before, long, changed, added);
@@ -54,8 +59,8 @@ module _ (accounts : List Account) (n : AreNumbered accounts) (w : ℕ) (a : Acc
       (v : ℕ) (b : Account) → v ≢ w → StandsAt accounts v b
       → AreNumbered (set (set accounts w (after_join a b)) v no_share)
   numbered_join v b apart at =
-      let one = total-set weight accounts w a both is in
-      let other = total-set weight first v b no_share still in
+      let one = sum_of-set weight accounts w a both is in
+      let other = sum_of-set weight first v b no_share still in
       record {
         numbered = omega (arith, n.numbered, lengths);
         weights = omega (arith, n.weights, lengths, fewer, one, other);
@@ -82,7 +87,7 @@ module _
   put : (b : Account) → weight b ≡ weight a → AreNumbered (set m.accounts w b)
   put = numbered_set m.accounts n w a there.0
 
-  popped_numbered : (q : Which) (x : Option ℕ) (y : Option (Option ℕ)) → AreNumbered (popped m w a q x y).accounts
+  popped_numbered : (q : Which) (x : Option ℕ) (y : Option (Option ℕ)) → AreNumbered (stack_popped m w a q x y).accounts
   popped_numbered q None y = n
   popped_numbered q (Some i) None = n
   popped_numbered q (Some i) (Some l) = put (after_pop i (items_of (slice_index_or m.slots i None)) a) refl

@@ -1,28 +1,28 @@
 -- Colours: the mark of an object tells where it stands, what is marked is reachable, and a finished object has no white
 -- successor.
 use Rattle.std.specs.Prelude.{◌≡◌, ◌⊎◌, ℕ, ◌+◌, ◌≤◌, List, [], ◌∷◌, Option, Contains}
-use Rattle.mark_core.specs.Lists.{StandsAt, total, times}
+use Rattle.mark_core.specs.Lists.{StandsAt, sum_of, times}
 use Rattle.mark_core.specs.Account.{Account}
 use Rattle.mark_core.specs.World.{Setup, items_of}
 
 -- how often the object stands in stacked buffers, in charges, and in finished lists
 abbrev pub stacked_times : ℕ → List (Option (List ℕ)) → ℕ
-stacked_times o slots = total (λ slot. times o (items_of slot)) slots
+stacked_times o slots = sum_of (λ slot. times o (items_of slot)) slots
 
 abbrev pub charged_times : ℕ → List Account → ℕ
-charged_times o accounts = total (λ a. times o a.charge) accounts
+charged_times o accounts = sum_of (λ a. times o a.charge) accounts
 
 abbrev pub finished_times : ℕ → List Account → ℕ
-finished_times o accounts = total (λ a. times o a.finished) accounts
+finished_times o accounts = sum_of (λ a. times o a.finished) accounts
 
 -- a path leads to the object: a root first, and each object behind one of its predecessors. The list has those before
 -- the object, the nearest first
-abbrev pub Leads : Setup → List ℕ → ℕ → Type 0
-Leads e [] o = Contains e.roots o
-Leads e (p ∷ back) o = Contains e.pairs (p, o) × Leads e back p
+abbrev pub IsPathTo : Setup → List ℕ → ℕ → Type 0
+IsPathTo e [] o = Contains e.roots o
+IsPathTo e (p ∷ back) o = Contains e.pairs (p, o) × IsPathTo e back p
 
-abbrev pub IsReachable : Setup → ℕ → Type 0
-IsReachable e o = (back : List ℕ) × Leads e back o
+abbrev pub IsReachableIn : Setup → ℕ → Type 0
+IsReachableIn e o = (back : List ℕ) × IsPathTo e back o
 
 -- white: the object stands nowhere
 abbrev pub IsWhite : ℕ → ℕ → ℕ → Type 0
@@ -37,12 +37,13 @@ abbrev pub IsFinished : ℕ → ℕ → ℕ → Type 0
 IsFinished mark working done = (mark ≡ 2) × (working ≡ 0) × (done ≡ 1)
 
 -- the mark of an object, how often it stands in stacked buffers and charges, and how often in finished lists
-abbrev pub Tells : ℕ → ℕ → ℕ → Type 0
-Tells mark working done = IsWhite mark working done ⊎ (IsClaimed mark working done ⊎ IsFinished mark working done)
+abbrev pub HasColour : ℕ → ℕ → ℕ → Type 0
+HasColour mark working done = IsWhite mark working done ⊎ (IsClaimed mark working done ⊎ IsFinished mark working done)
 
 pub record IsColoured
     (e : Setup) (mark : ℕ → ℕ) (slots : List (Option (List ℕ))) (accounts : List Account) : Type 0 where
-  pub tells : (o : ℕ) → Tells (mark o) (stacked_times o slots + charged_times o accounts) (finished_times o accounts)
+  pub tells : (o : ℕ)
+      → HasColour (mark o) (stacked_times o slots + charged_times o accounts) (finished_times o accounts)
   pub closed : (o s : ℕ) → mark o ≡ 2 → Contains e.pairs (o, s) → 1 ≤ mark s
-  pub reachable : (o : ℕ) → 1 ≤ mark o → IsReachable e o
+  pub reachable : (o : ℕ) → 1 ≤ mark o → IsReachableIn e o
   pub saw : (w : ℕ) (a : Account) → StandsAt accounts w a → (o : ℕ) → Contains a.seen o → 1 ≤ mark o

@@ -4,7 +4,7 @@ use Rattle.std.specs.Prelude.{◌≡◌, ◌≢◌, ◌⊎◌, ℕ, ◌+◌, ◌
 use Rattle.tagged_index.specs.Head.{Head}
 use Rattle.mark_core.specs.declared.which.Which.{Which}
 use Rattle.mark_core.specs.declared.which.Which.TheVariants.{Full, Empty}
-use Rattle.mark_core.specs.Lists.{StandsAt, total}
+use Rattle.mark_core.specs.Lists.{StandsAt, sum_of}
 use Rattle.mark_core.specs.Account.{Account, look_of}
 use Rattle.mark_core.specs.World.{Setup, Marking}
 use Rattle.mark_core.specs.Event.{Kind, Load, Pop, Push, Fail, Event, happens}
@@ -54,7 +54,7 @@ push_count (Push p i items) q = one_stack p q
 push_count kind q = 0
 
 abbrev pub pushes_among : List Event → Which → ℕ
-pushes_among events q = total (λ event. push_count event.kind q) events
+pushes_among events q = sum_of (λ event. push_count event.kind q) events
 
 -- Tag and length of a stack have one parity: a pop raises the tag by one and takes one buffer, a push raises it by one
 -- and puts one. So the two together rise by two at each push, and at nothing else

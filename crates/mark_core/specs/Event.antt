@@ -1,11 +1,14 @@
 -- The events: when each is possible, and what it does. Each is one step on a shared word, but for split and join, which
 -- touch none.
-use Rattle.std.specs.Prelude.{◌≡◌, ◌≢◌, ◌⊎◌, ℕ, ◌+◌, ◌-◌, ◌%◌, ◌^◌, ◌<◌, ◌≤◌, max, true, List, [], ◌∷◌, ◌++◌, length, Option, Some, None, Contains, slice_set, slice_index_or}
+use Rattle.std.specs.Prelude.{◌≡◌, ◌≢◌, ◌⊎◌, ℕ, ◌+◌, ◌-◌, ◌%◌, ◌^◌, ◌<◌, ◌≤◌, max, true, List, [], ◌∷◌, ◌++◌, length}
+use Rattle.std.specs.Prelude.{Option, Some, None, Contains, slice_set, slice_index_or}
 use Rattle.tagged_index.specs.Head.{Head, after, last_tag}
 use Rattle.mark_core.specs.declared.which.Which.{Which}
 use Rattle.mark_core.specs.declared.which.Which.TheVariants.{Full, Empty}
 use Rattle.mark_core.specs.Lists.{IsPart}
-use Rattle.mark_core.specs.Account.{Account, Look, look_of, part, no_share, after_claim, after_finish, after_split, after_join, after_load, after_load_link, after_pop, after_push, after_idle_up, after_idle_down, after_load_idle}
+use Rattle.mark_core.specs.Account.{Account, Look, look_of, part, no_share, after_claim, after_finish, after_split}
+use Rattle.mark_core.specs.Account.{after_join, after_load, after_load_link, after_pop, after_push, after_idle_up}
+use Rattle.mark_core.specs.Account.{after_idle_down, after_load_idle}
 use Rattle.mark_core.specs.World.{Setup, Marking, items_of, account_at, IsThere, put, put_which}
 
 pub data Kind : Type 0 where
@@ -114,15 +117,15 @@ last_link link None = None
 last_link link (Some h) = link_from link h.index
 
 -- the first buffer i of a stack, whose link was loaded as l, goes to the account
-abbrev pub popped : Marking → ℕ → Account → Which → Option ℕ → Option (Option ℕ) → Marking
-popped m w a q (Some i) (Some l) =
+abbrev pub stack_popped : Marking → ℕ → Account → Which → Option ℕ → Option (Option ℕ) → Marking
+stack_popped m w a q (Some i) (Some l) =
     record m {
       head = put_which q (after (m.head q) l) m.head;
       slots = slice_set m.slots i None;
       accounts = slice_set m.accounts w (after_pop i (items_of (slice_index_or m.slots i None)) a);
     }
-popped m w a q None l = m
-popped m w a q (Some i) None = m
+stack_popped m w a q None l = m
+stack_popped m w a q (Some i) None = m
 
 -- the marking after the account w, which is a, did this
 abbrev pub effect : Marking → ℕ → Account → Kind → Marking
@@ -136,7 +139,7 @@ effect m w a (Load q) = record m { accounts = slice_set m.accounts w (after_load
 effect m w a (LoadLink q) =
     record m { accounts = slice_set m.accounts w (after_load_link q (last_link m.link (look_of a q).head) a) }
 effect m w a (StoreLink i l) = record m { link = put i l m.link }
-effect m w a (Pop q) = popped m w a q (m.head q).index (look_of a q).link
+effect m w a (Pop q) = stack_popped m w a q (m.head q).index (look_of a q).link
 effect m w a (Push q i items) =
     record m {
       head = put_which q (after (m.head q) (Some i)) m.head;

@@ -8,9 +8,9 @@ abbrev pub StandsAt : {X : Type 0} → List X → ℕ → X → Type 0
 StandsAt xs i x = get_elem? xs i ≡ some x
 
 -- the sum over the list of what each element counts for
-abbrev pub total : {X : Type 0} → (X → ℕ) → List X → ℕ
-total f [] = 0
-total f (x ∷ xs) = f x + total f xs
+abbrev pub sum_of : {X : Type 0} → (X → ℕ) → List X → ℕ
+sum_of f [] = 0
+sum_of f (x ∷ xs) = f x + sum_of f xs
 
 -- 1 where the test is true, else 0
 abbrev pub one_where : Bool → ℕ
@@ -23,7 +23,7 @@ only x y = one_where (y == x)
 
 -- how often x stands in the list
 abbrev pub times : ℕ → List ℕ → ℕ
-times x xs = total (only x) xs
+times x xs = sum_of (only x) xs
 
 -- the list with the first x taken out
 abbrev pub remove_one : ℕ → List ℕ → List ℕ

@@ -4,7 +4,7 @@ use Rattle.std.specs.Prelude.{◌≡◌, ◌⊎◌, ℕ, ◌+◌, ◌<◌, nat_l
 use Rattle.tagged_index.specs.Head.{Head}
 use Rattle.mark_core.specs.declared.which.Which.{Which}
 use Rattle.mark_core.specs.declared.which.Which.TheVariants.{Full, Empty}
-use Rattle.mark_core.specs.Lists.{StandsAt, total, times, one_where}
+use Rattle.mark_core.specs.Lists.{StandsAt, sum_of, times, one_where}
 use Rattle.mark_core.specs.Account.{Account, Look, look_of}
 
 -- from this index on the links give the list
@@ -22,7 +22,7 @@ IsRecent link now look =
 
 -- how often the accounts hold the buffer
 abbrev pub held_times : ℕ → List Account → ℕ
-held_times b accounts = total (λ a. times b a.held) accounts
+held_times b accounts = sum_of (λ a. times b a.held) accounts
 
 -- some account has an open push
 abbrev pub HasOpenPush : List Account → Type 0

@@ -1,5 +1,6 @@
 -- How a marking begins, and what holds of every run.
-use Rattle.std.specs.Prelude.{◌≡◌, ◌≢◌, ◌⊎◌, ◌↔◌, ℕ, ◌+◌, ◌<◌, ◌≤◌, nat_lt, if◌then◌else◌, false, List, [], ◌∷◌, replicate, Option, Some, None, Contains}
+use Rattle.std.specs.Prelude.{◌≡◌, ◌≢◌, ◌⊎◌, ◌↔◌, ℕ, ◌+◌, ◌<◌, ◌≤◌, nat_lt, if◌then◌else◌, false, List, [], ◌∷◌}
+use Rattle.std.specs.Prelude.{replicate, Option, Some, None, Contains}
 use Rattle.tagged_index.specs.Head.{Head}
 use Rattle.mark_core.specs.declared.which.Which.{Which}
 use Rattle.mark_core.specs.declared.which.Which.TheVariants.{Full, Empty}
@@ -132,7 +133,7 @@ pub record IsClosed (e : Setup) (m : Marking) (w : ℕ) (a : Account) : Type 0 w
 
 -- where one account has the whole share and answers for nothing, the marks are told by its finished list and the full
 -- stack
-abbrev pub ClosedIsTold : Type 0
-ClosedIsTold =
+abbrev pub ClosedIsDetermined : Type 0
+ClosedIsDetermined =
     (e : Setup) (m : Marking) → Law e m
     → (w : ℕ) (a : Account) → StandsAt m.accounts w a → a.share ≡ whole → a.charge ≡ [] → IsClosed e m w a

@@ -1,6 +1,6 @@
 -- Shares: they add up to the whole, and an account without a share has nothing.
 use Rattle.std.specs.Prelude.{◌≡◌, ℕ, List, [], false}
-use Rattle.mark_core.specs.Lists.{StandsAt, total}
+use Rattle.mark_core.specs.Lists.{StandsAt, sum_of}
 use Rattle.mark_core.specs.Account.{Account}
 
 -- all units together
@@ -8,7 +8,7 @@ abbrev pub whole : ℕ
 whole = 65536
 
 abbrev pub shares : List Account → ℕ
-shares accounts = total (λ a. a.share) accounts
+shares accounts = sum_of (λ a. a.share) accounts
 
 -- it holds, answers for and finished nothing, and has no open push
 pub record HasNothing (a : Account) : Type 0 where

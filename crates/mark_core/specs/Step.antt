@@ -1,14 +1,16 @@
 -- What `step` is given and what it answers.
-use Rattle.std.specs.Prelude.{◌≡◌, ℕ, ◌<◌, ◌≤◌, max, min, Bool, MatchBool, List, [], length, All, Contains, Option, Some, None, slice_index, slice_index_or, vec_items}
+use Rattle.std.specs.Prelude.{◌≡◌, ℕ, ◌<◌, ◌≤◌, max, min, Bool, MatchBool, List, [], length, All, Contains, Option}
+use Rattle.std.specs.Prelude.{Some, None, slice_index, slice_index_or, vec_items}
 use Rattle.tagged_index.specs.Head.{Head, after}
 use Rattle.mark_core.specs.declared.which.Which.{Which}
 use Rattle.mark_core.specs.declared.which.Which.TheVariants.{Full, Empty}
-use Rattle.mark_core.specs.Lists.{total}
+use Rattle.mark_core.specs.Lists.{sum_of}
 use Rattle.mark_core.specs.declared.event.Kind as given
 use Rattle.mark_core.specs.declared.event.Event as given_event
 use Rattle.mark_core.specs.Account.{Account, look_of}
 use Rattle.mark_core.specs.World.{Setup, Marking, account_at}
-use Rattle.mark_core.specs.Event.{Kind, Claim, Finish, Split, Join, Load, LoadLink, StoreLink, Pop, Push, Fail, IdleUp, IdleDown, LoadIdle, Event, IsBusy, Allows, effect, IsPossible, happens}
+use Rattle.mark_core.specs.Event.{Kind, Claim, Finish, Split, Join, Load, LoadLink, StoreLink, Pop, Push, Fail, IdleUp}
+use Rattle.mark_core.specs.Event.{IdleDown, LoadIdle, Event, IsBusy, Allows, effect, IsPossible, happens}
 use Rattle.mark_core.specs.Law.{Law}
 
 -- a marking as lists, with its setup: what callers see of a `World`
@@ -39,23 +41,23 @@ marking_of l =
     }
 
 -- the event that a caller means
-abbrev pub kind_of : {A : Type 0} → given.Kind A → Kind
-kind_of (given.TheVariants.Claim o) = Claim o
-kind_of (given.TheVariants.Finish o) = Finish o
-kind_of (given.TheVariants.Split units) = Split units
-kind_of (given.TheVariants.Join v) = Join v
-kind_of (given.TheVariants.Load q) = Load q
-kind_of (given.TheVariants.LoadLink q) = LoadLink q
-kind_of (given.TheVariants.StoreLink i l) = StoreLink i l
-kind_of (given.TheVariants.Pop q) = Pop q
-kind_of (given.TheVariants.Push q i items) = Push q i (vec_items items)
-kind_of (given.TheVariants.Fail q) = Fail q
-kind_of given.TheVariants.IdleUp = IdleUp
-kind_of given.TheVariants.IdleDown = IdleDown
-kind_of given.TheVariants.LoadIdle = LoadIdle
+abbrev pub meant_kind : {A : Type 0} → given.Kind A → Kind
+meant_kind (given.TheVariants.Claim o) = Claim o
+meant_kind (given.TheVariants.Finish o) = Finish o
+meant_kind (given.TheVariants.Split units) = Split units
+meant_kind (given.TheVariants.Join v) = Join v
+meant_kind (given.TheVariants.Load q) = Load q
+meant_kind (given.TheVariants.LoadLink q) = LoadLink q
+meant_kind (given.TheVariants.StoreLink i l) = StoreLink i l
+meant_kind (given.TheVariants.Pop q) = Pop q
+meant_kind (given.TheVariants.Push q i items) = Push q i (vec_items items)
+meant_kind (given.TheVariants.Fail q) = Fail q
+meant_kind given.TheVariants.IdleUp = IdleUp
+meant_kind given.TheVariants.IdleDown = IdleDown
+meant_kind given.TheVariants.LoadIdle = LoadIdle
 
 abbrev pub event_of : {A : Type 0} → given_event.Event A → Event
-event_of event = record { worker = event.worker; kind = kind_of event.kind }
+event_of event = record { worker = event.worker; kind = meant_kind event.kind }
 
 -- the lists with this head for one of the stacks
 abbrev pub with_head : Listing → Which → Head → Listing
@@ -79,7 +81,7 @@ pub record IsLawful (l : Listing) : Type 0 where
   pub marks : length l.marks ≡ l.setup.objects
   -- each account has a number, and the idle numbers together are no more than the accounts
   pub numbered : length l.accounts ≤ 4294967295
-  pub weights : total weight l.accounts ≤ length l.accounts
+  pub weights : sum_of weight l.accounts ≤ length l.accounts
   -- each buffer is an index that a head can hold
   pub few : l.setup.buffers ≤ 65534
   -- roots and pairs are of objects
@@ -108,7 +110,7 @@ abbrev pub Tries : Listing → ℕ → Kind → Bool → Listing → Type 0
 Tries old w kind done new = MatchBool done (Does old w kind new) (¬ MayDo old w kind)
 
 -- what a push asks, but that the items are part of the charge and that the tag is not the last
-pub record MayPush (l : Listing) (w : ℕ) (q : Which) (i : ℕ) (items : List ℕ) : Type 0 where
+pub record IsReadyToPush (l : Listing) (w : ℕ) (q : Which) (i : ℕ) (items : List ℕ) : Type 0 where
   pub head : (look_of (account_at l.accounts w) q).head ≡ Some (heads_of l q)
   pub held : Contains (account_at l.accounts w).held i
   pub fits : length items ≤ l.setup.size

@@ -1,4 +1,5 @@
 //! What one worker has, and what it knows.
+
 ghost use Rattle.std.specs.Prelude.{◌≡◌, ◌↔◌, ◌<◌, ◌≤◌, ◌+◌, ◌^◌, ℕ, IsTrue, OnOk, Contains};
 ghost use Rattle.std.specs.Bool.{OnTrue};
 ghost use Rattle.mark_core.specs.Account.{part, no_share, look_of, after_claim, after_finish};
@@ -85,7 +86,7 @@ impl<A: Allocator + Copy> Account<A> {
         }
     }
 
-    /// What is left of an account that was put into another.
+    /// The account that is left where one was put into another: it has nothing.
     pub fn gone(alloc: A) -> Self
         ensures { result ≡ no_share }
     {
@@ -103,21 +104,21 @@ impl<A: Allocator> Account<A> {
         self.share > 0
     }
 
-    /// The buffers that it holds.
+    /// The numbers of the buffers that the account holds.
     pub fn held(&self) -> &[u32]
         ensures { result.now ≡ self.now.held }
     {
         self.held.as_slice()
     }
 
-    /// The objects that it answers for.
+    /// The objects that the account answers for.
     pub fn charge(&self) -> &[u32]
         ensures { result.now ≡ self.now.charge }
     {
         self.charge.as_slice()
     }
 
-    /// What it last loaded of this stack.
+    /// What the account last loaded of this stack.
     pub fn look(&self, which: Which) -> Look
         ensures { result ≡ look_of self.now which }
     {
@@ -127,6 +128,7 @@ impl<A: Allocator> Account<A> {
         }
     }
 
+    /// Whether the account holds this buffer.
     pub fn holds(&self, buffer: u32) -> bool
         ensures { IsTrue result ↔ Contains self.now.held buffer }
     {
@@ -157,30 +159,36 @@ impl<A: Allocator> Account<A> {
         setup.is_root(object) || setup.has_pair_from(self.charge.as_slice(), object)
     }
 
+    /// Whether the account may claim this object: it is not idle, and reaches it.
     pub fn may_claim(&self, setup: &Setup<A>, object: u32) -> bool
         ensures { IsTrue result ↔ (CanClaim setup.now object self.now × IsBusy self.now) }
     {
         self.reaches(setup, object) && self.is_busy()
     }
 
+    /// Whether the account may finish this object: it answers for it, and saw each successor marked.
     pub fn may_finish(&self, setup: &Setup<A>, object: u32) -> bool
         ensures { IsTrue result ↔ CanFinish setup.now object self.now }
     {
         self.charge.contains(object) && setup.has_successors_in(object, &self.seen)
     }
 
+    /// Whether the account may give so many units away: at least one, and not all.
     pub fn may_split(&self, units: u32) -> bool
         ensures { IsTrue result ↔ CanSplit units self.now }
     {
         0 < units && units < self.share
     }
 
+    /// Whether the account may go idle: it has one unit, is not idle, answers for nothing and found the full stack
+    /// empty.
     pub fn may_idle(&self) -> bool
         ensures { IsTrue result ↔ CanIdle self.now }
     {
         self.share == 1 && self.idle == 0 && self.charge.is_empty() && self.found
     }
 
+    /// Whether the account may come back: it has one unit and is idle.
     pub fn may_wake(&self) -> bool
         ensures { IsTrue result ↔ CanWake self.now }
     {
@@ -198,7 +206,7 @@ impl<A: Allocator> Account<A> {
         Ok(())
     }
 
-    /// Finishes an object.
+    /// Finishes an object: it is no longer answered for.
     pub fn finish(&mut self, object: u32) -> Result<(), OutOfMemory>
         ensures { OnOk result (self.new ≡ after_finish object self.old) }
     {
@@ -216,7 +224,7 @@ impl<A: Allocator> Account<A> {
         self.parted = true;
     }
 
-    /// Takes another account in.
+    /// Takes another account in: its units, buffers and objects.
     pub fn join(&mut self, other: &Account<A>) -> Result<(), OutOfMemory>
         requires shares { self.old.share + other.now.share < 2 ^ 32 }
         requires idles { self.old.idle + other.now.idle < 2 ^ 32 }
@@ -247,7 +255,7 @@ impl<A: Allocator> Account<A> {
         }
     }
 
-    /// Notes that this link was loaded, of the buffer that the last head names.
+    /// Notes that this link was loaded, of the buffer that the head loaded last names.
     pub fn load_link(&mut self, which: Which, link: Option<u32>)
         ensures { self.new ≡ after_load_link which link self.old }
     {
@@ -268,8 +276,8 @@ impl<A: Allocator> Account<A> {
         Ok(())
     }
 
-    /// Lets a buffer go with these items, and answers whether they are part of the charge. Else what
-    /// is left is not told.
+    /// Lets a buffer go with these items, and answers whether they are part of the charge. Where they are not, it is
+    /// not said what is left.
     pub fn push(&mut self, which: Which, buffer: u32, items: &[u32]) -> bool
         ensures part { IsTrue result ↔ IsPart items.now self.old.charge }
         ensures pushed { OnTrue result (self.new ≡ after_push which buffer items.now self.old) }

@@ -1,4 +1,5 @@
 //! What a marking knows of a heap.
+
 ghost use Rattle.std.specs.Prelude.{◌≡◌, ℕ, ◌<◌, List, All};
 
 /// The objects of a heap, as a marking sees them.

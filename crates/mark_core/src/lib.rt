@@ -1,4 +1,24 @@
 //! The world of a marking with many workers, its events, and the law that they keep.
+//!
+//! Everything here is pure: no thread, no atomic word. A `World` is what all workers share (two stacks of buffers, the
+//! marks) and what each of them answers for (its account). An `Event` is one atomic step of one worker. `step` makes it
+//! where it is possible, and `all_runs_keep_law` is the theorem that the rest of the program stands on: after every
+//! list of possible events, in whatever order threads made them, each claimed object lies in exactly one place and each
+//! finished object has its successors marked.
+//!
+//! From `src/example.rt`, which is proved and run as a test:
+//!
+//!     let mut world = World::new(alloc, 2, vec![in alloc; 0]?, vec![in alloc; (0, 1)]?, 4, 2, 0)?;
+//!     for kind in [Kind::Claim(0), Kind::Claim(1), Kind::Finish(0), Kind::Finish(1)] {
+//!         let Some(next) = step(alloc, world, Event { worker: 0, kind })? else {
+//!             panic!(rt; "each of these is possible");
+//!         };
+//!         world = next;
+//!     }
+//!     assert_eq!(rt; world.marks(), &[2, 2][..]);
+//!
+//! The law's parts stand in `specs/Law.antt`, the events in `specs/Event.antt`, and both in words in `docs/MARKING.md`.
+
 #![tactic(auto)]
 
 mod account;
@@ -19,3 +39,6 @@ pub use law::all_runs_keep_law;
 pub use out_of_memory::OutOfMemory;
 pub use which::Which;
 pub use world::{World, step};
+
+#[cfg(test)]
+mod example;

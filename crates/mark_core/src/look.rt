@@ -1,4 +1,5 @@
 //! What an account last loaded of a stack.
+
 ghost use Rattle.std.specs.Prelude.{◌≡◌, ◌≢◌, ◌↔◌, ℕ, IsTrue, MatchOption};
 ghost use Rattle.mark_core.specs.Account.{blank};
 ghost use Rattle.tagged_index.specs.Head.{Head};
@@ -6,8 +7,7 @@ ghost use Rattle.tagged_index.specs.Head.{Head};
 use std::marker::Model;
 use tagged_index::HeadWord;
 
-/// The head of a stack that was loaded last, and the link of its buffer, where that was loaded
-/// after it.
+/// The head of a stack that was loaded last, and the link of its buffer, where that was loaded after it.
 #[derive(Clone, Copy)]
 pub struct Look {
     head: Option<HeadWord>,
@@ -25,7 +25,7 @@ impl Model for Look {
 }
 
 impl Look {
-    /// Nothing was loaded.
+    /// The look of an account that loaded nothing.
     pub fn blank() -> Self
         ensures { result ≡ blank }
     {
@@ -35,7 +35,7 @@ impl Look {
         }
     }
 
-    /// This head was loaded, and no link after it.
+    /// The look of an account that loaded this head, and no link after it.
     pub fn of(head: HeadWord) -> Self
         ensures { result ≡ record { head = Some head; link = None } }
     {
@@ -45,7 +45,7 @@ impl Look {
         }
     }
 
-    /// And then this link.
+    /// The look once this link was loaded, too.
     pub fn with_link(self, link: Option<u32>) -> Self
         ensures { result ≡ record { head = self.head; link = Some link } }
     {

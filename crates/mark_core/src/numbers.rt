@@ -1,4 +1,5 @@
 //! Lists of numbers.
+
 ghost use Rattle.std.specs.Prelude.{◌≡◌, ◌++◌, ◌∷◌, [], ◌↔◌, IsTrue, IsSome, Contains, OnOk, ◌==◌, length};
 ghost use Rattle.std.specs.Prelude.{vec_items, position};
 ghost use Rattle.std.specs.Bool.{OnTrue};
@@ -23,7 +24,7 @@ impl<A: Allocator> Model for Numbers<A> {
 }
 
 impl<A: Allocator> Numbers<A> {
-    /// No numbers.
+    /// A list without numbers.
     pub fn new(alloc: A) -> Self
         ensures { result ≡ [] }
     {
@@ -32,31 +33,35 @@ impl<A: Allocator> Numbers<A> {
         }
     }
 
-    /// These numbers.
+    /// The list of these numbers.
     pub fn of(items: Vec<u32, A>) -> Self
         ensures { result ≡ vec_items items }
     {
         Numbers { items }
     }
 
+    /// The numbers as a slice.
     pub fn as_slice(&self) -> &[u32]
         ensures { result.now ≡ self.now }
     {
         self.items.as_slice()
     }
 
+    /// How many numbers there are, repeats counted.
     pub fn len(&self) -> usize
         ensures { result ≡ length self.now }
     {
         self.items.len()
     }
 
+    /// Whether there is no number.
     pub fn is_empty(&self) -> bool
         ensures { IsTrue result ↔ (self.now ≡ []) }
     {
         self.items.is_empty()
     }
 
+    /// Whether this number is one of them.
     pub fn contains(&self, number: u32) -> bool
         ensures { IsTrue result ↔ Contains self.now number }
     {
@@ -79,7 +84,7 @@ impl<A: Allocator> Numbers<A> {
         Ok(())
     }
 
-    // The place of the first of this number.
+    /// Where this number stands first.
     fn place_of(&self, number: u32) -> Option<usize>
         ensures there { IsSome result ↔ Contains self.now number }
         ensures first { result ≡ position (λ item. item == number) self.now }
@@ -87,7 +92,7 @@ impl<A: Allocator> Numbers<A> {
         self.items.iter().position(|item| *item == number)
     }
 
-    /// Takes the first of this number out, and answers whether there is one.
+    /// Takes this number out where it stands first, and answers whether it was there.
     pub fn take_one(&mut self, number: u32) -> bool
         ensures there { IsTrue result ↔ Contains self.old number }
         ensures left { self.new ≡ remove_one number self.old }
@@ -101,8 +106,8 @@ impl<A: Allocator> Numbers<A> {
         }
     }
 
-    /// Takes each of these numbers out once, and answers whether each stood there as often as here.
-    /// Else what is left is not told.
+    /// Takes each of these numbers out once, and answers whether the list had each as often as it is given. Where it
+    /// had not, it is not said what is left.
     pub fn take_all(&mut self, numbers: &[u32]) -> bool
         ensures part { IsTrue result ↔ IsPart numbers.now self.old }
         ensures left { OnTrue result (self.new ≡ without numbers.now self.old) }

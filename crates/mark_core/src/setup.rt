@@ -1,4 +1,5 @@
 //! What no event changes.
+
 ghost use Rattle.std.specs.Prelude.{◌≡◌, ◌↔◌, ◌≤◌, ℕ, IsTrue, Contains, [], length};
 ghost use Rattle.mark_core.specs.World.{Setup};
 
@@ -7,15 +8,20 @@ use crate::which::Which;
 use std::alloc::Allocator;
 use std::marker::Model;
 
-/// The numbers of objects and of buffers, the most items of a buffer, the tag that both heads begin
-/// with, the roots, and the pairs of an object and a successor.
+/// What a marking is made with, and no event changes.
 #[derive(Drop)]
 pub struct Setup<A: Allocator> {
+    /// How many objects there are, numbered from 0.
     pub objects: u32,
+    /// How many buffers there are, numbered from 0.
     pub buffers: u32,
+    /// The most objects of a buffer.
     pub size: u32,
+    /// The tag that both heads begin with.
     pub first_tag: u64,
+    /// The objects at which reachability begins.
     pub roots: Vec<u32, A>,
+    /// Each object with each of its successors.
     pub pairs: Vec<(u32, u32), A>,
 }
 
@@ -35,6 +41,7 @@ impl<A: Allocator> Model for Setup<A> {
 }
 
 impl<A: Allocator> Setup<A> {
+    /// Whether the object is a root.
     pub fn is_root(&self, object: u32) -> bool
         ensures { IsTrue result ↔ Contains self.now.roots object }
     {
@@ -71,8 +78,8 @@ impl<A: Allocator> Setup<A> {
         true
     }
 
-    /// Whether a buffer may go on this stack with these items: at most as many as it takes, and on
-    /// the empty stack none.
+    /// Whether a buffer may go on this stack with these items: at most as many as it takes, and none on the empty
+    /// stack.
     pub fn takes(&self, which: Which, items: &Numbers<A>) -> bool
         ensures { IsTrue result
             ↔ ((length items.now ≤ self.now.size) × (which ≡ Which.Empty → items.now ≡ [])) }

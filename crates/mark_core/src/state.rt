@@ -1,4 +1,5 @@
 //! The tables of a world, and what each event does to them.
+
 ghost use Rattle.std.specs.Prelude.{◌≡◌, ◌↔◌, IsTrue, IsSome, IfSome, length};
 ghost use Rattle.std.specs.Prelude.{slice_index_or};
 ghost use Rattle.mark_core.specs.Step.{HasAccount, heads_of, with_head};
@@ -71,14 +72,14 @@ impl<A: Allocator> State<A> {
         }
     }
 
-    /// The link of a buffer, None also where there is no such buffer.
+    /// The link of a buffer: the next one, if any. `None` also where there is no such buffer.
     pub fn link(&self, buffer: u32) -> Option<u32>
         ensures { result ≡ slice_index_or self.now.links buffer None }
     {
         self.links.get(buffer as usize).copied().flatten()
     }
 
-    /// The account of this number, where it is there.
+    /// The account of this number, `None` where it is not there.
     pub fn account(&self, worker: u32) -> Option<&Account<A>>
         ensures there { IsSome result ↔ HasAccount self.now worker }
         ensures same { IfSome result (λ a. a.now ≡ account_at self.now.accounts worker) }
@@ -89,13 +90,14 @@ impl<A: Allocator> State<A> {
         }
     }
 
-    /// The mark of each object.
+    /// The mark of each object: 0 for white, 1 for claimed, 2 for finished.
     pub fn marks(&self) -> &[u8]
         ensures { result.now ≡ self.now.marks }
     {
         self.marks.as_slice()
     }
 
+    /// Gives a stack this head.
     fn set_head(&mut self, which: Which, head: HeadWord)
         ensures { self.new ≡ with_head self.old which head }
     {

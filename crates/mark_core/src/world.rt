@@ -1,4 +1,5 @@
 //! A world, which keeps the law from one event to the next.
+
 ghost use Rattle.std.specs.Prelude.{◌≡◌, ◌↔◌, ◌<◌, ◌≤◌, All, IfErr, IfOk, IsSome, IfSome, length};
 ghost use Rattle.std.specs.Prelude.{vec_items};
 ghost use Rattle.mark_core.specs.Runs.{opening};
@@ -33,10 +34,10 @@ impl<A: Allocator> Model for World<A> {
 }
 
 impl<A: Allocator + Copy> World<A> {
-    /// The opening world of a heap with this many objects, these roots and these pairs of an object
-    /// and a successor: all objects are white, all buffers lie on the empty stack with 0 on top and
-    /// rising numbers below, both heads bear the first tag, and account 0 has the whole share of
-    /// 65,536 units.
+    /// The opening world of a heap with so many objects, at most 16,777,216, these roots, and these pairs of an object
+    /// and a successor; with 4 to 65,534 buffers for 2 to 4,096 objects each. All objects are white, all buffers lie on
+    /// the empty stack with 0 on top and rising numbers below, both heads bear the first tag, and account 0 has the
+    /// whole share of 65,536 units.
     pub fn new(
         alloc: A,
         objects: u32,
@@ -85,7 +86,7 @@ impl<A: Allocator> World<A> {
         self.state.marks()
     }
 
-    /// The objects that an account answers for, None where the account is not there.
+    /// The objects that an account answers for, `None` where the account is not there.
     pub fn charge(&self, worker: u32) -> Option<&[u32]>
         ensures there { IsSome result ↔ HasAccount self.now worker }
         ensures charge { IfSome result (λ c. c.now ≡ (account_at self.now.accounts worker).charge) }
@@ -94,7 +95,7 @@ impl<A: Allocator> World<A> {
         Some(account.charge())
     }
 
-    /// The buffers that an account holds, None where the account is not there.
+    /// The buffers that an account holds, `None` where the account is not there.
     pub fn held(&self, worker: u32) -> Option<&[u32]>
         ensures there { IsSome result ↔ HasAccount self.now worker }
         ensures held { IfSome result (λ h. h.now ≡ (account_at self.now.accounts worker).held) }
@@ -103,14 +104,14 @@ impl<A: Allocator> World<A> {
         Some(account.held())
     }
 
-    /// The head of a stack.
+    /// The head of a stack: its first buffer, if any, and its tag.
     pub fn head(&self, which: Which) -> HeadWord
         ensures { result ≡ (marking_of self.now).head which }
     {
         self.state.head(which)
     }
 
-    /// The link of a buffer: the next one, if any. None also where there is no such buffer.
+    /// The link of a buffer: the next one, if any. `None` also where there is no such buffer.
     pub fn link(&self, i: u32) -> Option<u32>
         ensures { result ≡ (marking_of self.now).link i }
     {
@@ -118,9 +119,9 @@ impl<A: Allocator> World<A> {
     }
 }
 
-/// The world after this event, None exactly where the event is not possible, or is a split and
-/// 4,294,967,295 accounts were made. Memory is asked for only where the
-/// event is possible. At None and where memory is refused the world is given up.
+/// The world after this event. `None` exactly where the event is not possible, or is a split and 4,294,967,295 accounts
+/// were made. Memory is asked for only where the event is possible. At `None`, and where memory is refused, the world
+/// is given up.
 pub fn step<A: Allocator + Copy>(
     alloc: A,
     world: World<A>,

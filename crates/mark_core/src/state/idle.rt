@@ -1,4 +1,5 @@
 //! The idle word.
+
 ghost use Rattle.std.specs.Prelude.{◌<◌, true, length};
 ghost use Rattle.mark_core.specs.Event.{IdleUp, IdleDown, LoadIdle};
 ghost use Rattle.mark_core.specs.Step.{Tries};

@@ -1,4 +1,5 @@
 //! Loads of heads and links, and exchanges that fail.
+
 ghost use Rattle.std.specs.Prelude.{◌<◌, true, length};
 ghost use Rattle.mark_core.specs.Event.{Load, LoadLink, Fail};
 ghost use Rattle.mark_core.specs.Step.{Tries};
@@ -17,8 +18,7 @@ impl<A: Allocator> State<A> {
         self.accounts[w].load(which, head);
     }
 
-    /// The account `w` loads the link of the buffer that its last head of a stack names, where it
-    /// may.
+    /// The account `w` loads the link of the buffer that its last head of a stack names, where it may.
     pub fn load_link(&mut self, w: usize, which: Which) -> bool
         requires { w < length self.old.accounts }
         ensures { Tries self.old w (LoadLink which) result self.new }

@@ -1,4 +1,5 @@
 //! Claim and finish.
+
 ghost use Rattle.std.specs.Prelude.{◌≡◌, ◌<◌, IfErr, IfOk, length, max, slice_index, slice_set, vec_len};
 ghost use Rattle.mark_core.specs.Event.{Claim, Finish};
 ghost use Rattle.mark_core.specs.Step.{IsLawful, MayDo, Tries};
@@ -39,7 +40,7 @@ impl<A: Allocator> State<A> {
     }
 }
 
-// Raises the mark of an object to this one, where it is lower, and answers what it was.
+/// Raises the mark of an object to this one, where it is lower, and answers what it was.
 fn fetch_max<A: Allocator>(marks: &mut Vec<u8, A>, object: usize, mark: u8) -> u8
     requires { object < vec_len marks.old }
     ensures found { result ≡ slice_index marks.old.items object }

@@ -1,4 +1,5 @@
 //! Split and join.
+
 ghost use Rattle.std.specs.Prelude.{◌<◌, ◌↔◌, IfErr, IfOk, IsTrue, length};
 ghost use Rattle.mark_core.specs.Event.{Split, Join};
 ghost use Rattle.mark_core.specs.Step.{IsLawful, MayDo, Tries};

@@ -1,9 +1,10 @@
 //! Stores of links, pops and pushes.
+
 ghost use Rattle.std.specs.Prelude.{◌≡◌, ◌<◌, ◌≤◌, ◌↔◌, IfErr, IfOk, IsTrue, length, slice_index_or};
 ghost use Rattle.std.specs.Bool.{OnTrue};
 ghost use Rattle.std.specs.Option.{ForSome};
 ghost use Rattle.mark_core.specs.Event.{StoreLink, Pop, Push};
-ghost use Rattle.mark_core.specs.Step.{IsLawful, MayDo, MayPush, Tries, exchanged, heads_of};
+ghost use Rattle.mark_core.specs.Step.{IsLawful, MayDo, IsReadyToPush, Tries, exchanged, heads_of};
 
 use crate::numbers::Numbers;
 use crate::out_of_memory::OutOfMemory;
@@ -73,8 +74,7 @@ impl<A: Allocator> State<A> {
         self.exchange(which, Some(buffer))
     }
 
-    // Exchanges the head of a stack for this index with the next tag, and answers whether there is
-    // a next tag.
+    /// Exchanges the head of a stack for this index with the next tag, and answers whether there is a next tag.
     fn exchange(&mut self, which: Which, index: Option<u32>) -> bool
         requires { ForSome index (λ i. i ≤ LAST_INDEX) }
         ensures low { IsTrue result ↔ ((heads_of self.old which).tag < LAST_TAG) }
@@ -89,11 +89,10 @@ impl<A: Allocator> State<A> {
         }
     }
 
-    // What a push asks besides that the items are part of the charge, and that the tag is not the
-    // last.
+    /// What a push asks besides that the items are part of the charge, and that the tag is not the last.
     fn may_push(&self, w: usize, which: Which, buffer: u32, items: &Numbers<A>) -> bool
         requires { w < length self.now.accounts }
-        ensures { IsTrue result ↔ MayPush self.now w which buffer items.now }
+        ensures { IsTrue result ↔ IsReadyToPush self.now w which buffer items.now }
     {
         let now = self.head(which);
         let account = &self.accounts[w];
@@ -112,7 +111,7 @@ impl<A: Allocator> State<A> {
         self.links_to(buffer, now.index())
     }
 
-    // Whether the buffer's link leads there.
+    /// Whether the buffer's link is this one.
     fn links_to(&self, buffer: u32, next: Option<u32>) -> bool
         ensures { IsTrue result ↔ (slice_index_or self.now.links buffer None ≡ next) }
     {

@@ -1,4 +1,5 @@
 //! Lists of events, replayed.
+
 use super::*;
 use crate::event::Kind;
 use limited_heap::LimitedHeap;

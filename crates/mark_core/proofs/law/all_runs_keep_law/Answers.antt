@@ -1,7 +1,7 @@
 -- Each clause is a lemma of its own.
 use Rattle.mark_core.proofs.Runs.{runs_keep_law, happens_keeps}
 use Rattle.mark_core.proofs.Changes.{stacks_change, tags_rise, pops_find_links, marks_rise}
-use Rattle.mark_core.proofs.Closing.{each_once, apart, closed_is_told}
+use Rattle.mark_core.proofs.Closing.{each_once, apart, closed_is_determined}
 use Rattle.mark_core.proofs.Counting.{lawful_where}
 use Rattle.mark_core.proofs.Contested.{losses_are_contested}
 use Rattle.mark_core.proofs.Firsts.{first_tags_are_first, loaded_heads_were, pushes_follow_changes}
@@ -34,7 +34,7 @@ pub returns-clause-apart : goal.returns-clause-apart
 returns-clause-apart c = apart
 
 pub returns-clause-closed : goal.returns-clause-closed
-returns-clause-closed c = closed_is_told
+returns-clause-closed c = closed_is_determined
 
 pub returns-clause-lists : goal.returns-clause-lists
 returns-clause-lists c = lawful_where

@@ -1,3 +1,4 @@
+-- A step leads from a lawful state to a lawful one. Where none was made, the event allows none.
 use Rattle.mark_core.proofs.Steps.{always, lawful_after}
 use Rattle.mark_core.proofs.world.step.Goals as goal
 
@@ -13,4 +14,5 @@ pub returns-else-branch-clause-done : goal.returns-else-branch-clause-done
 returns-else-branch-clause-done g c = rw (← c.world.view_is) (rw c.if-branch.false at c.in_ok-act.ensures.done)
 
 pub returns-in_err-act-clause-refused : goal.returns-in_err-act-clause-refused
-returns-in_err-act-clause-refused g c = rw (← c.world.view_is) (always _ c.from_residual.result c.in_err-act.ensures.refused)
+returns-in_err-act-clause-refused g c =
+    rw (← c.world.view_is) (always _ c.from_residual.result c.in_err-act.ensures.refused)

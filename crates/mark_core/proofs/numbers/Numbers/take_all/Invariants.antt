@@ -1,3 +1,4 @@
+-- To take the numbers to come out of what is left is to take all of them out of the list.
 use Rattle.std.proofs.Common.{drop}
 use Rattle.mark_core.proofs.Taking.{Takes}
 use Rattle.mark_core.proofs.numbers.Numbers.take_all.Given as goal

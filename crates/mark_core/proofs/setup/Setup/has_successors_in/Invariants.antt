@@ -1,5 +1,7 @@
+-- What the object refers to by the pairs before this one was seen.
 use Rattle.std.proofs.Common.{◌≡◌, ℕ, ◌<◌, get_or, Contains}
 use Rattle.mark_core.proofs.setup.Setup.has_successors_in.Given as goal
 
 abbrev pub invariant-loop-before : goal.invariant-loop-before
-invariant-loop-before g l = (s k : ℕ) → k < l.before-index → get_or l.self.pairs k (l.object, s) ≡ (l.object, s) → Contains l.seen s
+invariant-loop-before g l = (s k : ℕ) → k < l.before-index → get_or l.self.pairs k (l.object, s) ≡ (l.object, s)
+    → Contains l.seen s

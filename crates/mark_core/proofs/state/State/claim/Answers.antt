@@ -1,3 +1,4 @@
+-- An object that may be claimed has a mark, since the state is lawful: what was found there says which claim it is.
 use Rattle.std.proofs.Common.{sym, subst, refl}
 use Rattle.mark_core.specs.Account.{Account}
 use Rattle.mark_core.specs.Event.{CanClaim, IsBusy}
@@ -16,10 +17,14 @@ returns-clause-done g c =
     let can = c.if-not-may_claim.ensures.0 refl in
     let inside = claim_within _ lawful c.args.w asked there c.index.ensures c.args.object can.0 in
     rw (← c.self.view_is)
-    (does_claim _ c.args.w asked changed _ there c.index.ensures c.index_mut.ensures.value c.args.object c.fetch_max-found.result _ inside can c.fetch_max-found.ensures.found c.fetch_max-found.ensures.raised c.in_ok-claim.ensures)
+    (does_claim _ c.args.w asked changed _ there c.index.ensures c.index_mut.ensures.value c.args.object
+    c.fetch_max-found.result _ inside can c.fetch_max-found.ensures.found c.fetch_max-found.ensures.raised
+    c.in_ok-claim.ensures)
 
 pub returns-in_err-claim-clause-refused : goal.returns-in_err-claim-clause-refused
 returns-in_err-claim-clause-refused g c =
     let there = rw (← c.self.view_is) at c.requires.there in
     let same = account_here _ c.args.w c.index.result.now there c.index.ensures in
-    rw (← c.self.view_is) (always _ c.from_residual.result (subst (λ (x : Account). CanClaim c.self.inside.setup c.args.object x × IsBusy x) same (c.if-not-may_claim.ensures.0 refl)))
+    rw (← c.self.view_is) (always _ c.from_residual.result
+    (subst (λ (x : Account). CanClaim c.self.inside.setup c.args.object x × IsBusy x) same
+    (c.if-not-may_claim.ensures.0 refl)))

@@ -1,3 +1,4 @@
+-- An object of the charge has a mark, since the state is lawful. Want of memory is told only where it may be finished.
 use Rattle.std.proofs.Common.{sym, subst, refl, arith}
 use Rattle.mark_core.specs.Event.{CanFinish}
 use Rattle.mark_core.specs.Step.{IsLawful}
@@ -11,7 +12,8 @@ pub returns-then-not-may_finish-clause-done : goal.returns-then-not-may_finish-c
 returns-then-not-may_finish-clause-done g c =
     let there = rw (← c.self.view_is) at c.requires.there in
     let same = account_here _ c.args.w c.index.result.now there c.index.ensures in
-    rw (← c.self.view_is) (λ can. false_is_not_true (c.if-not-may_finish.ensures.1 (subst (CanFinish c.self.inside.setup c.args.object) (sym same) can)))
+    rw (← c.self.view_is) (λ can. false_is_not_true
+    (c.if-not-may_finish.ensures.1 (subst (CanFinish c.self.inside.setup c.args.object) (sym same) can)))
 
 pub index_mut-requires-2 : goal.index_mut-requires-2
 index_mut-requires-2 g c =
@@ -28,10 +30,12 @@ returns-clause-done g c =
     let changed = c.index_mut.result.now in
     let can = c.if-not-may_finish.ensures.0 refl in
     let inside = charge_within _ lawful c.args.w asked there c.index.ensures c.args.object can.0 in
-    rw (← c.self.view_is) (does_finish _ c.args.w asked changed _ there c.index.ensures c.index_mut.ensures.value c.args.object inside can c.in_ok-finish.ensures)
+    rw (← c.self.view_is) (does_finish _ c.args.w asked changed _ there c.index.ensures c.index_mut.ensures.value
+    c.args.object inside can c.in_ok-finish.ensures)
 
 pub returns-in_err-finish-clause-refused : goal.returns-in_err-finish-clause-refused
 returns-in_err-finish-clause-refused g c =
     let there = rw (← c.self.view_is) at c.requires.there in
     let same = account_here _ c.args.w c.index.result.now there c.index.ensures in
-    rw (← c.self.view_is) (always _ c.from_residual.result (subst (CanFinish c.self.inside.setup c.args.object) same (c.if-not-may_finish.ensures.0 refl)))
+    rw (← c.self.view_is) (always _ c.from_residual.result
+    (subst (CanFinish c.self.inside.setup c.args.object) same (c.if-not-may_finish.ensures.0 refl)))

@@ -1,3 +1,4 @@
+-- Table by table this is the opening: its heads, its links, white marks, slots without items, and one account.
 use Rattle.std.proofs.Common.{List, [], ◌∷◌, ◌++◌, ap, refl, ◌∙◌}
 use Rattle.mark_core.specs.Account.{Account}
 use Rattle.mark_core.specs.World.{Setup}
@@ -8,7 +9,9 @@ use Rattle.mark_core.proofs.state.State.opening.Goals as goal
 
 pub returns-clause-marking : goal.returns-clause-marking
 returns-clause-marking g c =
-    let accounts = c.in_ok-push.ensures.items ∙ ap (λ (xs : List Account). xs ++ c.new.result ∷ []) c.new-accounts.ensures.items ∙ ap (λ (a : Account). a ∷ []) c.new.ensures in
+    let accounts = c.in_ok-push.ensures.items
+    ∙ ap (λ (xs : List Account). xs ++ c.new.result ∷ []) c.new-accounts.ensures.items
+    ∙ ap (λ (a : Account). a ∷ []) c.new.ensures in
     let tables : Listing =
     record {
       setup = c.args.setup;
@@ -21,5 +24,7 @@ returns-clause-marking g c =
       accounts = c.push.new.self.items;
     }
     in
-    opens tables _ c.args.setup c.setup.inside.first_tag c.setup.view_is c.none.ensures c.of.ensures c.in_ok-links.ensures.links (c.in_ok-marks.ensures.items_if_clones_equal (λ y e. e)) c.in_ok-slots.ensures refl accounts
+    opens tables _ c.args.setup c.setup.inside.first_tag c.setup.view_is c.none.ensures c.of.ensures
+    c.in_ok-links.ensures.links (c.in_ok-marks.ensures.items_if_clones_equal (λ y e. e)) c.in_ok-slots.ensures
+    refl accounts
     ∙ ap (λ (e : Setup). opening c.args.setup e.first_tag) c.setup.view_is

@@ -1,3 +1,4 @@
+-- A buffer that is held is one of the setup's, since the state is lawful: it has a slot, and its number fits a head.
 use Rattle.std.proofs.Common.{◌≡◌, sym, subst, refl, arith}
 use Rattle.mark_core.specs.Step.{IsLawful}
 use Rattle.mark_core.proofs.Vectors.{tries_push, push_within}
@@ -5,7 +6,8 @@ use Rattle.mark_core.proofs.state.State.push.Goals as goal
 
 pub exchange-requires : goal.exchange-requires
 exchange-requires g c = λ x e.
-    let within = push_within _ c.args.w c.requires.lawful c.requires.there c.args.which c.args.buffer c.args.items (c.if-not-may_push.ensures.0 refl) in
+    let within = push_within _ c.args.w c.requires.lawful c.requires.there c.args.which c.args.buffer c.args.items
+    (c.if-not-may_push.ensures.0 refl) in
     let same : c.args.buffer ≡ x = cc e in
     omega (arith, within, c.requires.lawful.few)
 
@@ -23,5 +25,6 @@ returns g c =
     let pushed = rw c.as_slice.ensures at (c.if-not-push.ensures) in
     let changed = c.index_mut.result.now in
     rw (← c.self.view_is)
-    (tries_push _ c.args.w changed changed c.push.new.self there c.index_mut.ensures.value c.index_mut.ensures.value c.args.which c.args.buffer c.args.items may (pushed.part.0 refl) pushed.pushed
+    (tries_push _ c.args.w changed changed c.push.new.self there c.index_mut.ensures.value c.index_mut.ensures.value
+    c.args.which c.args.buffer c.args.items may (pushed.part.0 refl) pushed.pushed
     c.exchange.result c.exchange.new.self c.exchange.ensures.low c.exchange.ensures.next)

@@ -1,3 +1,4 @@
+-- So many slots are there, each with a buffer without items.
 use Rattle.std.proofs.Common.{◌≡◌, Some, [], replicate}
 use Rattle.mark_core.proofs.state.opening.slots_of.Given as goal
 
