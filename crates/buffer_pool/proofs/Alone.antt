@@ -1,6 +1,7 @@
 -- A worker with the whole share loses no push: nobody else does anything, and a loss is contested. This rests on the
 -- clauses of the calls alone, whatever the rule of the table.
-use Rattle.std.proofs.Common.{◌≡◌, ℕ, zero, suc, ◌<◌, if◌then◌else◌, List, [], ◌∷◌, ◌++◌, Option, ap, sym, refl, subst, ◌∙◌, eq-eqb, arith}
+use Rattle.std.proofs.Common.{◌≡◌, ℕ, zero, suc, ◌<◌, if◌then◌else◌, List, [], ◌∷◌, ◌++◌, Option, ap, sym, refl, subst}
+use Rattle.std.proofs.Common.{◌∙◌, eq-eqb, arith}
 use mathlib.Core.Option.{some-injective, some-ne-none}
 use native.Mathlib.Decide.{ℕ_discrete}
 use Rattle.tagged_index.specs.Head.{Head}
@@ -21,8 +22,8 @@ use Rattle.mark_core.proofs.Counting.{lawful_where}
 use Rattle.mark_core.proofs.Runs.{happens_keeps}
 use Rattle.mark_core.proofs.Contested.{losses_are_contested}
 use Rattle.buffer_pool.specs.Book.{Book, loaded, failed}
-use Rattle.buffer_pool.specs.Calls.{HeldBuffer, Pushes}
-use Rattle.buffer_pool.specs.Steps.{push_steps}
+use Rattle.buffer_pool.specs.Calls.{HeldBuffer, TriesPush}
+use Rattle.buffer_pool.specs.Steps.{try_push_steps}
 use Rattle.buffer_pool.specs.Story.{Log, Did, LeadsToBook, deeds}
 use Rattle.buffer_pool.specs.tests.Forged.{WasNotLost}
 use Rattle.buffer_pool.specs.declared.answers.TryPushed.{TryPushed}
@@ -170,7 +171,7 @@ lost_alone a b old new q head i link some_buffer all first is did second =
 pub was_not_lost :
     (a b : Log) (old new : Book) (q : Which) (h : HeldBuffer) (result : TryPushed HeldBuffer) → 0 < old.setup.buffers
     → old.account.share ≡ whole
-    → LeadsToBook a old → Pushes q h old new result → (link : Option ℕ) × Did a (push_steps q h link result) b
+    → LeadsToBook a old → TriesPush q h old new result → (link : Option ℕ) × Did a (try_push_steps q h link result) b
     → LeadsToBook b new → WasNotLost result
 was_not_lost a b old new q h try_push.Done some_buffer all first pushes did second = tt
 was_not_lost a b old new q h (try_push.Spent back) some_buffer all first pushes did second = tt

@@ -1,7 +1,11 @@
 -- Pairs of bits of a word, and what setting one pair leaves.
-use Rattle.std.proofs.Common.{◌≡◌, ◌≢◌, ◌⊎◌, ◌↔◌, ℕ, suc, ◌+◌, ◌-◌, ◌*◌, ◌/◌, ◌%◌, ◌^◌, ◌<◌, ◌≤◌, ◌==◌, max, IsTrue, Bool, true, false, nat_lt, if◌then◌else◌, bit_and, bit_or, ap, sym, refl, ◌∙◌, inl, inr, ⊎_elim, eq-eqb, eqb-true, lt-ltb, le-ltb, pow_pos, pow_mono, pow-add, shr-shr, mod-eq_of_lt, mul-le-mul_right, suc-mul, arith}
+use Rattle.std.proofs.Common.{◌≡◌, ◌≢◌, ◌⊎◌, ◌↔◌, ℕ, suc, ◌+◌, ◌-◌, ◌*◌, ◌/◌, ◌%◌, ◌^◌, ◌<◌, ◌≤◌, ◌==◌, max, IsTrue}
+use Rattle.std.proofs.Common.{Bool, true, false, nat_lt, if◌then◌else◌, bit_and, bit_or, ap, sym, refl, ◌∙◌, inl, inr}
+use Rattle.std.proofs.Common.{⊎_elim, eq-eqb, eqb-true, lt-ltb, le-ltb, pow_pos, pow_mono, pow-add, shr-shr}
+use Rattle.std.proofs.Common.{mod-eq_of_lt, mul-le-mul_right, suc-mul, arith}
 use Rattle.std.proofs.lemmas.Bool.{cases_lt}
-use Rattle.std.proofs.lemmas.Nat.Bits.{bit_at_or, bit_at_cat_low, bit_at_cat_high, bit_at_above, bit_at-zero, shr_and_one}
+use Rattle.std.proofs.lemmas.Nat.Bits.{bit_at_or, bit_at_cat_low, bit_at_cat_high, bit_at_above, bit_at-zero}
+use Rattle.std.proofs.lemmas.Nat.Bits.{shr_and_one}
 use Rattle.std.specs.Int.{bit_at}
 use native.Mathlib.Decide.{ℕ_discrete}
 use Rattle.buffer_pool.specs.working.Packed.{cut_marks, mark_of, pair_mark}

@@ -1,11 +1,12 @@
 -- Claims and finishes keep the rule, and are the events of those names.
-use Rattle.std.proofs.Common.{◌≡◌, ℕ, ◌+◌, ◌/◌, ◌%◌, ◌<◌, ◌≤◌, max, bit_or, true, [], ◌∷◌, map, List, Option, None, set, slice_index, ap, sym, refl, subst, ◌∙◌, ⊎_elim, length-set, arith}
+use Rattle.std.proofs.Common.{◌≡◌, ℕ, ◌+◌, ◌/◌, ◌%◌, ◌<◌, ◌≤◌, max, bit_or, true, [], ◌∷◌, map, List, Option, None, set}
+use Rattle.std.proofs.Common.{slice_index, ap, sym, refl, subst, ◌∙◌, ⊎_elim, length-set, arith}
 use Rattle.std.proofs.lemmas.List.Elements.{All-contains}
 use Rattle.std.specs.Int.{bit_at}
 use mathlib.Core.Option.{none, some}
 use lib.ListN.{get_elem?}
 use Rattle.atomic_table.specs.Seated.{TableId}
-use Rattle.atomic_table.specs.Table.{State, Me, Allows, step, keeps}
+use Rattle.atomic_table.specs.Table.{State, Me, Step, Allows, step, keeps}
 use Rattle.atomic_table.proofs.Lists.{set_here}
 use Rattle.tagged_index.specs.Head.{head_of, index_of}
 use Rattle.mark_core.specs.Account.{Account, after_claim}
@@ -21,15 +22,20 @@ use Rattle.buffer_pool.specs.Book.{claimed, finished}
 use Rattle.buffer_pool.specs.working.Plays.{rested, claim_made, finish_made}
 use Rattle.buffer_pool.specs.working.Laid.{IsLaid}
 use Rattle.buffer_pool.specs.working.Packed.{mark_in, pair_bits, pair_mark}
-use Rattle.buffer_pool.specs.working.Table.{Reading, Rule, Carries, first_mark, free, link_word, mark_word, marking_of, view_counts}
+use Rattle.buffer_pool.specs.working.Layout.{first_mark, link_word, mark_word}
+use Rattle.buffer_pool.specs.working.Slots.{Reading, Carries, free}
+use Rattle.buffer_pool.specs.working.Table.{Rule, marking_of, view_counts}
 use Rattle.buffer_pool.proofs.Bits.{cut_object, mark_claimed, mark_finished, one_pair}
-use Rattle.buffer_pool.proofs.States.{agrees, lawful, cut_same, accounts_set, counts_same, happened, leads_now, log_after, told_after, did_after, freed}
+use Rattle.buffer_pool.proofs.States.{agrees, lawful, cut_same, accounts_set, counts_same, happened, leads_now}
+use Rattle.buffer_pool.proofs.States.{log_after, told_after, did_after, freed}
 use Rattle.buffer_pool.specs.Story.{Did, LeadsToBook}
-use Rattle.buffer_pool.specs.working.Told.{IsSettled, noted}
+use Rattle.buffer_pool.specs.working.Views.{HasSaidAll, logged}
 use Rattle.buffer_pool.proofs.Loads.{noticed, each_once}
-use Rattle.buffer_pool.proofs.Words.{head_beside_mark, idle_beside_mark, link_beside_mark, marks_after, raised, raised_words}
+use Rattle.buffer_pool.proofs.Words.{head_beside_mark, idle_beside_mark, link_beside_mark, marks_after, raised}
+use Rattle.buffer_pool.proofs.Words.{raised_words}
 
-module _ {B : Type 0} (r : Reading B) (e : Setup) (s : State (Option B) SeatView) (rule : Rule r e s) (id : ℕ) (v : SeatView) (is : get_elem? s.views id ≡ some v) (bare : v.out ≡ 0) (there : 0 < v.book.account.share) where
+module _ {B : Type 0} (r : Reading B) (e : Setup) (s : State (Option B) SeatView) (rule : Rule r e s) (id : ℕ)
+    (v : SeatView) (is : get_elem? s.views id ≡ some v) (bare : v.out ≡ 0) (there : 0 < v.book.account.share) where
   -- the marking in which an object has this mark, and the seat this account
   abbrev marked_now : ℕ → ℕ → Account → Marking
   marked_now o x a =
@@ -89,7 +95,7 @@ one_object first o p c small odd word bits =
 
 module _ {B : Type 0} (r : Reading B) (e : Setup) (slots id : ℕ) where
   pub claims :
-      (me : Me (Option B) SeatView) (o : ℕ) → Carries me → 0 < me.0.book.account.share → IsSettled me.0
+      (me : Me (Option B) SeatView) (o : ℕ) → Carries me → 0 < me.0.book.account.share → HasSaidAll me.0
       → CanClaim me.0.book.setup o me.0.book.account → IsBusy me.0.book.account → o < me.0.book.setup.objects
       → Allows (Rule r e) slots id me (mark_word e o) (λ n. bit_or n (pair_bits 1 o))
       (claim_made (step slots (mark_word e o) (pair_bits 1 o) 0 none) me)
@@ -100,7 +106,7 @@ module _ {B : Type 0} (r : Reading B) (e : Setup) (slots id : ℕ) where
       let found : ℕ = pair_mark n (o % 32) in
       let v : SeatView = free me.0 in
       let log = log_after r e s rule id (Claim o) in
-      let w : SeatView = record (noted log v) { book = claimed o found me.0.book } in
+      let w : SeatView = record (logged log v) { book = claimed o found me.0.book } in
       let m = marking_of r e s in
       let a = me.0.book.account in
       let same : me.0.book.setup ≡ e = rule.same_setup id v is there in
@@ -133,7 +139,7 @@ module _ {B : Type 0} (r : Reading B) (e : Setup) (slots id : ℕ) where
       ))
 
   pub finishes :
-      (me : Me (Option B) SeatView) (o : ℕ) → Carries me → 0 < me.0.book.account.share → IsSettled me.0
+      (me : Me (Option B) SeatView) (o : ℕ) → Carries me → 0 < me.0.book.account.share → HasSaidAll me.0
       → CanFinish me.0.book.setup o me.0.book.account → o < me.0.book.setup.objects
       → Allows (Rule r e) slots id me (mark_word e o) (λ n. bit_or n (pair_bits 3 o))
       (finish_made (step slots (mark_word e o) (pair_bits 3 o) 0 none) me)
@@ -143,7 +149,7 @@ module _ {B : Type 0} (r : Reading B) (e : Setup) (slots id : ℕ) where
       let n = slice_index s.words (mark_word e o) in
       let v : SeatView = free me.0 in
       let log = log_after r e s rule id (Finish o) in
-      let w : SeatView = record (noted log v) { book = finished o me.0.book } in
+      let w : SeatView = record (logged log v) { book = finished o me.0.book } in
       let a = me.0.book.account in
       let same : me.0.book.setup ≡ e = rule.same_setup id v is there in
       let can' : CanFinish e o a = subst (λ (g : Setup). CanFinish g o a) same can in
@@ -179,13 +185,32 @@ module _
   pub own_word : word ≡ mark_word f o
   own_word = omega (arith, slots, laid.slots, own.slots, is, at)
 
-  pub word_there : o < f.objects → word < z.words
+  word_there : o < f.objects → word < z.words
   word_there below =
       omega (arith, own_word, below, own.words, ap (λ (x : TableId). x.words) same)
 
+  -- so a step that sets bits at the object's pair may be made there
+  pub sets_pair :
+      {B : Type 0} (r : Reading B) (id : ℕ) (me : Me (Option B) SeatView) (bits set : ℕ) → set ≡ pair_bits bits o
+      → o < f.objects → (made : Step (Option B) → Me (Option B) SeatView → ℕ → Me (Option B) SeatView → Type 0)
+      → Allows (Rule r e) z.slots id me (mark_word e o) (λ n. bit_or n (pair_bits bits o))
+      (made (step z.slots (mark_word e o) (pair_bits bits o) 0 none) me)
+      → (t ≡ z) × (word < z.words)
+      × Allows (Rule r e) z.slots id me word (λ n. bit_or n set) (made (step z.slots word set 0 none) me)
+  sets_pair r id me bits set is_pair below made may = (
+    same,
+    word_there below,
+    subst (λ x. Allows (Rule r e) z.slots id me x (λ n. bit_or n set) (made (step z.slots x set 0 none) me))
+        (sym (omega (arith, is, at)))
+        (subst (λ y. Allows (Rule r e) z.slots id me (mark_word e o) (λ n. bit_or n y)
+        (made (step z.slots (mark_word e o) y 0 none) me)) (sym is_pair) may),
+  )
+
 -- what an account may claim is an object, and what it may finish as well
 pub claimable_within : (t : TableId) (e : Setup) (a : Account) (o : ℕ) → IsLaid t e → CanClaim e o a → o < e.objects
-claimable_within t e a o laid can = ⊎_elim (λ root. All-contains (λ x. x < e.objects) e.roots o laid.roots root) (λ next. (All-contains (λ (p : ℕ × ℕ). (p.0 < e.objects) × (p.1 < e.objects)) e.pairs (next.0, o) laid.pairs next.2).1) can
+claimable_within t e a o laid can = ⊎_elim (λ root. All-contains (λ x. x < e.objects) e.roots o laid.roots root)
+    (λ next. (All-contains (λ (p : ℕ × ℕ). (p.0 < e.objects) × (p.1 < e.objects)) e.pairs
+    (next.0, o) laid.pairs next.2).1) can
 
 pub low_with_high : {B : Type 0} (r : Reading B) → LowWithHigh r
 low_with_high r e s rule o below high = omega (arith, high, mark_known r e s rule o below)

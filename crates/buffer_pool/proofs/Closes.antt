@@ -1,5 +1,6 @@
 -- What holds of the last state of a pool that is closed.
-use Rattle.std.proofs.Common.{◌≡◌, ℕ, ◌+◌, ◌*◌, ◌/◌, ◌%◌, ◌^◌, ◌<◌, ◌≤◌, false, List, [], length, map, Contains, Option, slice_index, ap, sym, subst, ◌∙◌, ⊎_elim, arith}
+use Rattle.std.proofs.Common.{◌≡◌, ℕ, ◌+◌, ◌*◌, ◌/◌, ◌%◌, ◌^◌, ◌<◌, ◌≤◌, false, List, [], length, map, Contains, Option}
+use Rattle.std.proofs.Common.{slice_index, ap, sym, subst, ◌∙◌, ⊎_elim, arith}
 use Rattle.std.proofs.lemmas.Bool.{cases_lt}
 use Rattle.std.proofs.lemmas.List.{get_or_past}
 use Rattle.std.proofs.lemmas.List.FromFn.{get_or-map-range_with_len, length-map-range_with_len}
@@ -22,9 +23,11 @@ use Rattle.buffer_pool.specs.declared.seat_view.SeatView.{SeatView}
 use Rattle.buffer_pool.specs.Book.{Book, counts_of}
 use Rattle.buffer_pool.specs.Closing.{IsAtTheEnd, MarksTell}
 use Rattle.buffer_pool.specs.Story.{deeds}
-use Rattle.buffer_pool.specs.working.Told.{IsSettled, IsTold}
+use Rattle.buffer_pool.specs.working.Views.{HasSaidAll, IsViewOf}
 use Rattle.buffer_pool.specs.working.Packed.{mark_in, mark_of, marks_in, pair_mark}
-use Rattle.buffer_pool.specs.working.Table.{Reading, Rule, first_mark, marking_of, view_counts}
+use Rattle.buffer_pool.specs.working.Layout.{first_mark}
+use Rattle.buffer_pool.specs.working.Slots.{Reading}
+use Rattle.buffer_pool.specs.working.Table.{Rule, marking_of, view_counts}
 use Rattle.buffer_pool.proofs.Bits.{cut_object, cut_past, pair_read}
 use Rattle.buffer_pool.proofs.States.{stands}
 
@@ -55,14 +58,21 @@ tell b marks last w count law own same all none_held none_charged =
 
     -- with no open push the full stack has no buffer, so no object lies there
     emptied : b.account.open_push ≡ false → (o : ℕ) → 1 ≤ slice_index marks o → slice_index marks o ≡ 2
-    emptied shut o one = omega (arith, one, same o, linear b.setup last.mark last.slots last.accounts law.coloured o, unclaimed)
+    emptied shut o one = omega (
+      arith,
+      one,
+      same o,
+      linear b.setup last.mark last.slots last.accounts law.coloured o,
+      unclaimed,
+    )
       where
         list : law.stack Full ≡ []
         list = closed.emptied shut (law.stack Full) (law.owned.chain Full)
 
         unclaimed : last.mark o ≡ 1 → ⊥
         unclaimed claimed =
-            let lies : LiesIn last (law.stack Full) o = (closed.claimed (law.stack Full) (law.owned.chain Full) o).0 claimed in
+            let lies : LiesIn last (law.stack Full) o =
+            (closed.claimed (law.stack Full) (law.owned.chain Full) o).0 claimed in
             let k : Contains [] lies.0 = subst (λ (l : List ℕ). Contains l lies.0) list lies.2 in
             omega (arith, k.1)
 
@@ -73,7 +83,7 @@ marks_length words first objects = length-map-range_with_len (mark_in words firs
 pub ends_of :
     {B : Type 0} (r : Reading B) (e : Setup) (id : ℕ) (v : SeatView) (words : List ℕ) (slots : List (Option B))
     (first objects : ℕ) → first ≡ 32 + e.buffers → objects ≡ e.objects → Final (Seen (Rule r e) id v) words slots
-    → v.book.account.share ≡ whole → v.book.account.held ≡ [] → v.book.account.charge ≡ [] → IsSettled v
+    → v.book.account.share ≡ whole → v.book.account.held ≡ [] → v.book.account.charge ≡ [] → HasSaidAll v
     → (end : IsAtTheEnd v.log v.book (marks_in words first objects))
     × MarksTell v.book end.last (marks_in words first objects)
 ends_of r e id v words slots first objects place number final all none_held none_charged done = (
@@ -93,7 +103,7 @@ ends_of r e id v words slots first objects place number final all none_held none
     rule : Rule r e final.0
     rule = final.1.0
 
-    told : IsTold rule.reached.events id v
+    told : IsViewOf rule.reached.events id v
     told = rule.reached.told id v final.1.1 (omega (arith, all))
 
     last : Marking

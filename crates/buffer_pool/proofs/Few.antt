@@ -3,7 +3,7 @@
 use Rattle.std.proofs.Common.{◌≡◌, ℕ, ◌<◌, ◌≤◌, [], ◌∷◌, length, arith}
 use Rattle.std.proofs.lemmas.List.Elements.{All-contains}
 use Rattle.atomic_table.specs.Seated.{TableId}
-use Rattle.mark_core.specs.Colours.{IsReachable}
+use Rattle.mark_core.specs.Colours.{IsReachableIn}
 use Rattle.mark_core.specs.Law.{Law}
 use Rattle.mark_core.specs.World.{Setup}
 use Rattle.mark_core.specs.Lists.{times}
@@ -15,7 +15,7 @@ use Rattle.buffer_pool.specs.Story.{LeadsToBook, Log}
 use Rattle.buffer_pool.specs.working.Laid.{IsLaid}
 
 -- what a path of references leads to is an object
-reached_within : (t : TableId) (e : Setup) → IsLaid t e → (o : ℕ) → IsReachable e o → o < e.objects
+reached_within : (t : TableId) (e : Setup) → IsLaid t e → (o : ℕ) → IsReachableIn e o → o < e.objects
 reached_within t e laid o ([], root) = All-contains (λ x. x < e.objects) e.roots o laid.roots root
 reached_within t e laid o (p ∷ back, leads) =
     (All-contains (λ (x : ℕ × ℕ). (x.0 < e.objects) × (x.1 < e.objects)) e.pairs (p, o) laid.pairs leads.0).1

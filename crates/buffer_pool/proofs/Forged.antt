@@ -1,5 +1,6 @@
 -- What the rule leaves no room for.
-use Rattle.std.proofs.Common.{◌≡◌, ℕ, ◌≤◌, List, length, map, slice_index, slice_set, ap, sym, subst, ◌∙◌, ⊎_elim, arith}
+use Rattle.std.proofs.Common.{◌≡◌, ℕ, ◌≤◌, List, length, map, slice_index, slice_set, ap, sym, subst, ◌∙◌, ⊎_elim}
+use Rattle.std.proofs.Common.{arith}
 use Rattle.std.proofs.lemmas.List.{get_or-set_same}
 use mathlib.Core.Option.{some}
 use lib.ListN.{get_elem?}
@@ -12,19 +13,24 @@ use Rattle.mark_core.specs.Ownership.{Chain}
 use Rattle.mark_core.proofs.Places.{at_below}
 use Rattle.mark_core.proofs.Chains.{chain_rest, chain_links}
 use Rattle.mark_core.proofs.Ownership.{stacked_below, top_stands}
-use Rattle.mark_core.proofs.Firsts.{failures_follow_changes, first_tags_are_first, loaded_heads_were, pushes_follow_changes}
+use Rattle.mark_core.proofs.Firsts.{failures_follow_changes, first_tags_are_first, loaded_heads_were}
+use Rattle.mark_core.proofs.Firsts.{pushes_follow_changes}
 use Rattle.mark_core.proofs.Parity.{tags_keep_parity}
 use Rattle.buffer_pool.specs.declared.seat_view.SeatView.{SeatView}
-use Rattle.buffer_pool.specs.working.Table.{Reading, Rule, account_of, head_word, link_word, marking_of, view_counts}
+use Rattle.buffer_pool.specs.working.Layout.{head_word, link_word}
+use Rattle.buffer_pool.specs.working.Slots.{Reading}
+use Rattle.buffer_pool.specs.working.Table.{Rule, account_of, marking_of, view_counts}
 use Rattle.buffer_pool.specs.tests.Forged.{NoEvenPop, NoForgedHead, NoForgedLoss, NoForgedPush, OtherFirstHeadsWereNot}
 use Rattle.buffer_pool.proofs.States.{cut_below, lawful}
 use Rattle.buffer_pool.proofs.Words.{links_beside_head}
 
 pub other_first_heads_were_not : OtherFirstHeadsWereNot
-other_first_heads_were_not e q h first other events m run had = other (first_tags_are_first e events m run q h had first)
+other_first_heads_were_not e q h first other events m run had =
+    other (first_tags_are_first e events m run q h had first)
 
 -- the seat's view stands in a table after its step
-viewed : (views : List SeatView) (id : ℕ) (v w : SeatView) → get_elem? views id ≡ some v → get_elem? (slice_set views id w) id ≡ some w
+viewed : (views : List SeatView) (id : ℕ) (v w : SeatView) → get_elem? views id ≡ some v
+    → get_elem? (slice_set views id w) id ≡ some w
 viewed views id v w is = set_here views id w (at_below views id v is)
 
 module _ {B : Type 0} (r : Reading B) where
@@ -34,7 +40,8 @@ module _ {B : Type 0} (r : Reading B) where
       let t = stepped s word (f (slice_index s.words word)) id me.1 a.0 a.1 in
       let rule : Rule r e t = a.3 in
       let here = at_map view_counts t.views id a.0 (viewed s.views id me.0 a.0 at.view) in
-      let changed = failures_follow_changes e rule.reached.events (marking_of r e t) (map view_counts t.views) rule.reached.led id (view_counts a.0) here a.4 in
+      let changed = failures_follow_changes e rule.reached.events (marking_of r e t)
+      (map view_counts t.views) rule.reached.led id (view_counts a.0) here a.4 in
       ⊎_elim (λ full. omega (arith, full, first Full)) (λ empty. omega (arith, empty, first Empty)) changed
 
   pub no_forged_head : NoForgedHead r
@@ -52,7 +59,8 @@ module _ {B : Type 0} (r : Reading B) where
       let t = stepped s word (f (slice_index s.words word)) id me.1 a.0 a.1 in
       let rule : Rule r e t = a.3 in
       let here = at_map account_of t.views id a.0 (viewed s.views id me.0 a.0 at.view) in
-      let changed = pushes_follow_changes e rule.reached.events (marking_of r e t) (map view_counts t.views) rule.reached.led id (account_of a.0) here a.4 in
+      let changed = pushes_follow_changes e rule.reached.events (marking_of r e t)
+      (map view_counts t.views) rule.reached.led id (account_of a.0) here a.4 in
       omega (arith, changed, first)
 
   -- tag and length of the stack before the step and after it
@@ -66,17 +74,23 @@ module _ {B : Type 0} (r : Reading B) where
       let k = marking_of r e t in
       let law = lawful r e s at.rule in
       let on_top = ap (λ (h : Head). h.index) is ∙ top in
-      let below = stacked_below e.buffers m.head m.link m.accounts law.stack law.owned q i (top_stands e.buffers m.head m.link m.accounts law.stack law.owned q i on_top) in
+      let below = stacked_below e.buffers m.head m.link m.accounts law.stack law.owned q i
+      (top_stands e.buffers m.head m.link m.accounts law.stack law.owned q i on_top) in
       let rest = chain_rest m.link (m.head q).index (law.stack q) i (law.owned.chain q) on_top in
       let long : 32 ≤ length s.words = omega (arith, at.rule.word_count) in
       let here : k.head q ≡ next = written s.words x long q ∙ becomes in
-      let link : m.link i ≡ (k.head q).index = cut_below e.buffers (λ j. index_of (slice_index s.words (link_word j))) i below ∙ sym leads ∙ sym (ap (λ (h : Head). h.index) here) in
+      let link : m.link i ≡ (k.head q).index =
+      cut_below e.buffers (λ j. index_of (slice_index s.words (link_word j))) i below ∙ sym leads
+      ∙ sym (ap (λ (h : Head). h.index) here) in
       let left : Chain k.link (k.head q).index rest.0 =
-      subst (λ y. Chain k.link y rest.0) link (chain_links m.link k.link (m.link i) rest.0 (λ j stacked. links_beside_head e s.words q x j) rest.2) in
-      let before = tags_keep_parity e at.rule.reached.events m at.rule.some_buffer at.rule.reached.led.run q (law.stack q) (law.owned.chain q) in
+      subst (λ y. Chain k.link y rest.0) link
+      (chain_links m.link k.link (m.link i) rest.0 (λ j stacked. links_beside_head e s.words q x j) rest.2) in
+      let before = tags_keep_parity e at.rule.reached.events m at.rule.some_buffer at.rule.reached.led.run q
+      (law.stack q) (law.owned.chain q) in
       let after_it = tags_keep_parity e rule.reached.events k rule.some_buffer rule.reached.led.run q rest.0 left in
       omega (arith, before, after_it, ap length rest.1, ap (λ (h : Head). h.tag) here, ap (λ (h : Head). h.tag) is, tag)
     where
-      written : (words : List ℕ) (x : ℕ) → 32 ≤ length words → (p : Which) → head_of (slice_index (slice_set words (head_word p) x) (head_word p)) ≡ head_of x
+      written : (words : List ℕ) (x : ℕ) → 32 ≤ length words → (p : Which)
+          → head_of (slice_index (slice_set words (head_word p) x) (head_word p)) ≡ head_of x
       written words x long Full = ap head_of (get_or-set_same words 0 x 0 (omega (arith, long)))
       written words x long Empty = ap head_of (get_or-set_same words 16 x 0 (omega (arith, long)))

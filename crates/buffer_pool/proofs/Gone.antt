@@ -1,5 +1,6 @@
 -- An account that was taken in does nothing any more.
-use Rattle.std.proofs.Common.{◌≡◌, ◌≢◌, ℕ, zero, suc, List, [], ◌∷◌, ◌++◌, Option, Some, None, set, ap, sym, refl, subst, ◌∙◌, ne_eqb, cond, arith}
+use Rattle.std.proofs.Common.{◌≡◌, ◌≢◌, ℕ, zero, suc, List, [], ◌∷◌, ◌++◌, Option, Some, None, set, ap, sym, refl}
+use Rattle.std.proofs.Common.{subst, ◌∙◌, ne_eqb, cond, arith}
 use Rattle.std.proofs.lemmas.List.{append_assoc}
 use mathlib.Core.Option.{some-ne-none}
 use native.Mathlib.Decide.{ℕ_discrete}
@@ -8,11 +9,12 @@ use Rattle.mark_core.specs.declared.which.Which.{Which}
 use Rattle.mark_core.specs.Lists.{StandsAt}
 use Rattle.mark_core.specs.Account.{Account, look_of, part, no_share, after_split, after_join}
 use Rattle.mark_core.specs.World.{Setup, Marking, account_at, IsThere}
-use Rattle.mark_core.specs.Event.{Event, Kind, Claim, Finish, Split, Join, Load, LoadLink, StoreLink, Pop, Push, Fail, IdleUp, IdleDown, LoadIdle, effect, happens, popped}
+use Rattle.mark_core.specs.Event.{Event, Kind, Claim, Finish, Split, Join, Load, LoadLink, StoreLink, Pop, Push, Fail}
+use Rattle.mark_core.specs.Event.{IdleUp, IdleDown, LoadIdle, effect, happens, stack_popped}
 use Rattle.mark_core.specs.Runs.{Run}
 use Rattle.mark_core.proofs.Places.{at_below, at_one}
 use Rattle.buffer_pool.specs.Story.{EndsStory, deeds}
-use Rattle.buffer_pool.specs.working.Told.{IsTakenIn}
+use Rattle.buffer_pool.specs.working.Views.{IsTakenIn}
 use Rattle.buffer_pool.proofs.Deeds.{deeds_on}
 
 -- an account without a share
@@ -32,7 +34,7 @@ gone_beside accounts n w b gone other = (gone.0, set_else accounts w n b other �
 
 popped_gone :
     (m : Marking) (n w : ℕ) (a : Account) (q : Which) (index : Option ℕ) (link : Option (Option ℕ))
-    → IsGone m.accounts n → n ≢ w → IsGone (popped m w a q index link).accounts n
+    → IsGone m.accounts n → n ≢ w → IsGone (stack_popped m w a q index link).accounts n
 popped_gone m n w a q None link gone other = gone
 popped_gone m n w a q (Some i) None gone other = gone
 popped_gone m n w a q (Some i) (Some l) gone other = (gone.0, set_else m.accounts w n _ other ∙ gone.1, gone.2)

@@ -1,5 +1,6 @@
 -- Going idle, coming back and looking at the idle word keep the rule, and are the events of those names.
-use Rattle.std.proofs.Common.{◌≡◌, ℕ, ◌<◌, true, [], map, length-set, List, Option, None, set, slice_index, ap, sym, refl, subst, ◌∙◌, arith}
+use Rattle.std.proofs.Common.{◌≡◌, ℕ, ◌<◌, true, [], map, length-set, List, Option, None, set, slice_index, ap, sym}
+use Rattle.std.proofs.Common.{refl, subst, ◌∙◌, arith}
 use mathlib.Core.Option.{none, some}
 use lib.ListN.{get_elem?}
 use Rattle.atomic_table.specs.Table.{State, Me, Allows, step, keeps}
@@ -15,9 +16,12 @@ use Rattle.buffer_pool.specs.declared.seat_view.SeatView.{SeatView}
 use Rattle.buffer_pool.specs.Book.{idled, woken, idle_loaded}
 use Rattle.buffer_pool.specs.Calls.{Shows}
 use Rattle.buffer_pool.specs.working.Plays.{went_idle, came_back, idle_seen}
-use Rattle.buffer_pool.specs.working.Table.{Reading, Reached, Rule, Carries, free, idle_word, link_word, marking_of, view_counts}
-use Rattle.buffer_pool.specs.working.Told.{IsSettled, noted}
-use Rattle.buffer_pool.proofs.States.{agrees, cut_same, accounts_set, counts_same, counts_changed, happened, happened_led, leads_now, log_after, told_after, did_after, freed}
+use Rattle.buffer_pool.specs.working.Layout.{idle_word, link_word}
+use Rattle.buffer_pool.specs.working.Slots.{Reading, Carries, free}
+use Rattle.buffer_pool.specs.working.Table.{Reached, Rule, marking_of, view_counts}
+use Rattle.buffer_pool.specs.working.Views.{HasSaidAll, logged}
+use Rattle.buffer_pool.proofs.States.{agrees, cut_same, accounts_set, counts_same, counts_changed, happened}
+use Rattle.buffer_pool.proofs.States.{happened_led, leads_now, log_after, told_after, did_after, freed}
 use Rattle.buffer_pool.proofs.Loads.{noticed, written_again}
 use Rattle.buffer_pool.proofs.Words.{head_beside_idle, link_beside_idle, marks_beside_idle, idle_here}
 
@@ -65,7 +69,7 @@ module _
 
 module _ {B : Type 0} (r : Reading B) (e : Setup) (slots id : ℕ) where
   pub goes_idle :
-      (me : Me (Option B) SeatView) → Carries me → 0 < me.0.book.account.share → IsSettled me.0
+      (me : Me (Option B) SeatView) → Carries me → 0 < me.0.book.account.share → HasSaidAll me.0
       → CanIdle me.0.book.account
       → Allows (Rule r e) slots id me idle_word (λ n. word_up n) (went_idle (step slots idle_word 1 0 none) me)
   goes_idle me carries there done can =
@@ -73,7 +77,7 @@ module _ {B : Type 0} (r : Reading B) (e : Setup) (slots id : ℕ) where
       freed r e slots id idle_word (λ n. word_up n) told me carries (λ s rule count is fits.
       let v : SeatView = free me.0 in
       let log = log_after r e s rule id IdleUp in
-      let w : SeatView = record (noted log v) { book = idled me.0.book } in
+      let w : SeatView = record (logged log v) { book = idled me.0.book } in
       let x : ℕ = word_up (slice_index s.words idle_word) in
       let t : State (Option B) SeatView =
       record { words = set s.words idle_word x; homes = s.homes; views = set s.views id w } in
@@ -85,7 +89,7 @@ module _ {B : Type 0} (r : Reading B) (e : Setup) (slots id : ℕ) where
       (w, keeps, tt, after, (refl, did, story)))
 
   pub comes_back :
-      (me : Me (Option B) SeatView) → Carries me → 0 < me.0.book.account.share → IsSettled me.0
+      (me : Me (Option B) SeatView) → Carries me → 0 < me.0.book.account.share → HasSaidAll me.0
       → CanWake me.0.book.account
       → Allows (Rule r e) slots id me idle_word (λ n. word_down n) (came_back (step slots idle_word 1 0 none) me)
   comes_back me carries there done can =
@@ -93,7 +97,7 @@ module _ {B : Type 0} (r : Reading B) (e : Setup) (slots id : ℕ) where
       freed r e slots id idle_word (λ n. word_down n) told me carries (λ s rule count is fits.
       let v : SeatView = free me.0 in
       let log = log_after r e s rule id IdleDown in
-      let w : SeatView = record (noted log v) { book = woken me.0.book } in
+      let w : SeatView = record (logged log v) { book = woken me.0.book } in
       let x : ℕ = word_down (slice_index s.words idle_word) in
       let t : State (Option B) SeatView =
       record { words = set s.words idle_word x; homes = s.homes; views = set s.views id w } in
@@ -105,7 +109,7 @@ module _ {B : Type 0} (r : Reading B) (e : Setup) (slots id : ℕ) where
       (w, keeps, tt, after, (refl, did, story)))
 
   pub sees_idle :
-      (me : Me (Option B) SeatView) → Carries me → 0 < me.0.book.account.share → IsSettled me.0
+      (me : Me (Option B) SeatView) → Carries me → 0 < me.0.book.account.share → HasSaidAll me.0
       → Allows (Rule r e) slots id me idle_word (λ n. n) (idle_seen (step slots idle_word 0 0 none) me)
   sees_idle me carries there done =
       let seen = idle_seen (step slots idle_word 0 0 none) me in
@@ -113,7 +117,7 @@ module _ {B : Type 0} (r : Reading B) (e : Setup) (slots id : ℕ) where
       let n = slice_index s.words idle_word in
       let v : SeatView = free me.0 in
       let log = log_after r e s rule id LoadIdle in
-      let w : SeatView = record (noted log v) { book = idle_loaded n me.0.book } in
+      let w : SeatView = record (logged log v) { book = idle_loaded n me.0.book } in
       let m = marking_of r e s in
       let t : State (Option B) SeatView = record { words = s.words; homes = s.homes; views = set s.views id w } in
       let same : me.0.book.setup ≡ e = rule.same_setup id v is there in

@@ -1,5 +1,7 @@
 -- A number that no account has yet did nothing, so the new worker of a split did nothing.
-use Rattle.std.proofs.Common.{◌≡◌, ◌≢◌, ◌⊎◌, ℕ, zero, suc, ◌<◌, ◌≤◌, true, List, [], ◌∷◌, ◌++◌, length, Option, Some, None, set, ap, sym, refl, subst, ◌∙◌, inl, inr, ⊎_elim, length-set, length-append, ne_eqb, cond, arith}
+use Rattle.std.proofs.Common.{◌≡◌, ◌≢◌, ◌⊎◌, ℕ, zero, suc, ◌<◌, ◌≤◌, true, List, [], ◌∷◌, ◌++◌, length, Option, Some}
+use Rattle.std.proofs.Common.{None, set, ap, sym, refl, subst, ◌∙◌, inl, inr, ⊎_elim, length-set, length-append, ne_eqb}
+use Rattle.std.proofs.Common.{cond, arith}
 use Rattle.std.proofs.lemmas.Bool.{false≢true}
 use Rattle.std.proofs.lemmas.List.{append_assoc}
 use mathlib.Core.Option.{some, some-injective, some-ne-none}
@@ -7,12 +9,13 @@ use lib.ListN.{get_elem?}
 use Rattle.mark_core.specs.declared.which.Which.{Which}
 use Rattle.mark_core.specs.Account.{Account, look_of, part, no_share, after_split, after_join}
 use Rattle.mark_core.specs.World.{Setup, Marking, account_at}
-use Rattle.mark_core.specs.Event.{Event, Kind, Claim, Finish, Split, Join, Load, LoadLink, StoreLink, Pop, Push, Fail, IdleUp, IdleDown, LoadIdle, effect, happens, popped}
+use Rattle.mark_core.specs.Event.{Event, Kind, Claim, Finish, Split, Join, Load, LoadLink, StoreLink, Pop, Push, Fail}
+use Rattle.mark_core.specs.Event.{IdleUp, IdleDown, LoadIdle, effect, happens, stack_popped}
 use Rattle.mark_core.specs.Runs.{Run}
 use Rattle.mark_core.proofs.Places.{at_below}
 use Rattle.buffer_pool.specs.declared.seat_view.SeatView.{SeatView}
 use Rattle.buffer_pool.specs.Story.{deeds}
-use Rattle.buffer_pool.specs.working.Told.{AreTold, IsTakenIn, IsTold}
+use Rattle.buffer_pool.specs.working.Views.{AreViewsOf, IsTakenIn, IsViewOf}
 use Rattle.buffer_pool.specs.working.Setups.{kept_part, given_part, joined_view, no_share_view}
 use Rattle.buffer_pool.proofs.Deeds.{deeds_on, no_deed, taken_on, told_mine, told_theirs, told_set}
 
@@ -20,17 +23,28 @@ same_some : (a b : ℕ) → Some a ≡ Some b → a ≡ b
 same_some a b e = cc
 
 -- accounts never become fewer
-popped_long : (m : Marking) (w : ℕ) (a : Account) (q : Which) (index : Option ℕ) (link : Option (Option ℕ)) → length m.accounts ≤ length (popped m w a q index link).accounts
+popped_long : (m : Marking) (w : ℕ) (a : Account) (q : Which) (index : Option ℕ) (link : Option (Option ℕ))
+    → length m.accounts ≤ length (stack_popped m w a q index link).accounts
 popped_long m w a q None link = omega arith
 popped_long m w a q (Some i) None = omega arith
 popped_long m w a q (Some i) (Some l) = omega (arith, length-set m.accounts w)
 
-effect_long : (m : Marking) (w : ℕ) (a : Account) (kind : Kind) → length m.accounts ≤ length (effect m w a kind).accounts
+effect_long : (m : Marking) (w : ℕ) (a : Account) (kind : Kind)
+    → length m.accounts ≤ length (effect m w a kind).accounts
 effect_long m w a (Claim o) = omega (arith, length-set m.accounts w)
 effect_long m w a (Finish o) = omega (arith, length-set m.accounts w)
-effect_long m w a (Split units) = omega (arith, length-set m.accounts w (after_split units a), length-append (set m.accounts w (after_split units a)) (part units ∷ []))
+effect_long m w a (Split units) =
+    omega (
+      arith,
+      length-set m.accounts w (after_split units a),
+      length-append (set m.accounts w (after_split units a)) (part units ∷ []),
+    )
 effect_long m w a (Join v) =
-    omega (arith, length-set m.accounts w (after_join a (account_at m.accounts v)), length-set (set m.accounts w (after_join a (account_at m.accounts v))) v no_share)
+    omega (
+      arith,
+      length-set m.accounts w (after_join a (account_at m.accounts v)),
+      length-set (set m.accounts w (after_join a (account_at m.accounts v))) v no_share,
+    )
 effect_long m w a (Load q) = omega (arith, length-set m.accounts w)
 effect_long m w a (LoadLink q) = omega (arith, length-set m.accounts w)
 effect_long m w a (StoreLink i l) = omega arith
@@ -41,38 +55,51 @@ effect_long m w a IdleUp = omega (arith, length-set m.accounts w)
 effect_long m w a IdleDown = omega (arith, length-set m.accounts w)
 effect_long m w a LoadIdle = omega (arith, length-set m.accounts w)
 
-run_long : (e : Setup) (events : List Event) (first last : Marking) → Run e first events last → length first.accounts ≤ length last.accounts
+run_long : (e : Setup) (events : List Event) (first last : Marking) → Run e first events last
+    → length first.accounts ≤ length last.accounts
 run_long e [] first last run = omega (arith, ap (λ (m : Marking). length m.accounts) run)
 run_long e (event ∷ events) first last run =
-    omega (arith, effect_long first event.worker (account_at first.accounts event.worker) event.kind, run_long e events (happens first event) last run.1)
+    omega (
+      arith,
+      effect_long first event.worker (account_at first.accounts event.worker) event.kind,
+      run_long e events (happens first event) last run.1,
+    )
 
-pub nothing_done : (e : Setup) (events : List Event) (first last : Marking) (n : ℕ) → Run e first events last → length last.accounts ≤ n → deeds n events ≡ []
+pub nothing_done : (e : Setup) (events : List Event) (first last : Marking) (n : ℕ) → Run e first events last
+    → length last.accounts ≤ n → deeds n events ≡ []
 nothing_done e [] first last n run past = refl
 nothing_done e (event ∷ events) first last n run past =
     let below : event.worker < length first.accounts = at_below first.accounts event.worker run.0.0 run.0.1.0 in
     let long = run_long e (event ∷ events) first last run in
     let other : event.worker ≢ n = λ same. omega (arith, same, below, long, past) in
-    ap (λ t. cond t (event.kind ∷ deeds n events) (deeds n events)) (ne_eqb event.worker n other) ∙ nothing_done e events (happens first event) last n run.1 past
+    ap (λ t. cond t (event.kind ∷ deeds n events) (deeds n events)) (ne_eqb event.worker n other)
+    ∙ nothing_done e events (happens first event) last n run.1 past
 
 -- what stands in a list with one element more, and where
-pub at_end : {X : Type 0} (xs : List X) (x u : X) (k : ℕ) → get_elem? (xs ++ x ∷ []) k ≡ some u → (get_elem? xs k ≡ some u) ⊎ ((k ≡ length xs) × (x ≡ u))
+pub at_end : {X : Type 0} (xs : List X) (x u : X) (k : ℕ) → get_elem? (xs ++ x ∷ []) k ≡ some u
+    → (get_elem? xs k ≡ some u) ⊎ ((k ≡ length xs) × (x ≡ u))
 at_end [] x u zero at = inr (refl, some-injective x u at)
 at_end [] x u (suc k) at = absurd (some-ne-none u (sym at))
 at_end (y ∷ ys) x u zero at = inl at
 at_end (y ∷ ys) x u (suc k) at = ⊎_elim (λ t. inl t) (λ t. inr (omega (arith, t.0), t.1)) (at_end ys x u k at)
 
-module _ (events : List Event) (views : List SeatView) (told : AreTold events views) (id : ℕ) (v : SeatView) (is : get_elem? views id ≡ some v) (there : 0 < v.book.account.share) (known : v.named ≡ true) where
-  own : IsTold events id v
+module _ (events : List Event) (views : List SeatView) (told : AreViewsOf events views) (id : ℕ) (v : SeatView)
+    (is : get_elem? views id ≡ some v) (there : 0 < v.book.account.share) (known : v.named ≡ true) where
+  own : IsViewOf events id v
   own = told id v is there
 
   -- after a split: the worker that gave units notes it, and the new one has a number that nobody had
   pub told_split :
       deeds (length views) events ≡ []
-      → AreTold (events ++ record { worker = id; kind = Split v.aside } ∷ []) (set views id (kept_part v) ++ given_part v ∷ [])
+      → AreViewsOf (events ++ record { worker = id; kind = Split v.aside } ∷ [])
+      (set views id (kept_part v) ++ given_part v ∷ [])
   told_split nobody k u at share =
       ⊎_elim
-      (λ t. told_set later views id (kept_part v) (λ j x other here x_share. told_theirs events j x (told j x here x_share) event (λ same. other (sym same))) (λ h. kept) k u t share)
-      (λ t. subst (λ n. IsTold later n u) (sym (t.0 ∙ length-set views id (kept_part v))) (subst (IsTold later (length views)) t.1 given))
+      (λ t. told_set later views id (kept_part v)
+      (λ j x other here x_share. told_theirs events j x (told j x here x_share) event (λ same. other (sym same)))
+      (λ h. kept) k u t share)
+      (λ t. subst (λ n. IsViewOf later n u) (sym (t.0 ∙ length-set views id (kept_part v)))
+      (subst (IsViewOf later (length views)) t.1 given))
       (at_end (set views id (kept_part v)) (given_part v) u k at)
     where
       event : Event
@@ -81,7 +108,7 @@ module _ (events : List Event) (views : List SeatView) (told : AreTold events vi
       later : List Event
       later = events ++ event ∷ []
 
-      kept : IsTold later id (kept_part v)
+      kept : IsViewOf later id (kept_part v)
       kept =
           told_mine events id v own event (kept_part v) known refl refl known refl (own.taken.0 ++ event ∷ [])
           (ap (λ xs. xs ++ event ∷ []) own.taken.1 ∙ append_assoc v.taken own.taken.0 (event ∷ [])) own.apart
@@ -92,19 +119,24 @@ module _ (events : List Event) (views : List SeatView) (told : AreTold events vi
           let other : id ≢ length views = λ same. omega (arith, same, at_below views id v is) in
           deeds_on (length views) events (event ∷ []) ∙ (λ i. nobody i ++ no_deed (length views) event other i)
 
-      given : IsTold later (length views) (given_part v)
+      given : IsViewOf later (length views) (given_part v)
       given =
           record {
             number = λ named. absurd (false≢true named);
             since = later;
             goes_on = refl;
             unsaid = none;
-            taken = (own.since ++ event ∷ [], ap (λ xs. xs ++ event ∷ []) own.goes_on ∙ append_assoc v.log.story own.since (event ∷ []));
+            taken = (
+              own.since ++ event ∷ [],
+              ap (λ xs. xs ++ event ∷ []) own.goes_on
+                  ∙ append_assoc v.log.story own.since (event ∷ []),
+            );
             fresh = λ new. none;
             leads = λ named. absurd (false≢true named);
             apart =
-                λ n from. λ same. let giver : v.log.number ≡ n = same_some v.log.number n from in omega
-                (arith, giver, same, own.number known, at_below views id v is);
+                λ n from. λ same.
+                let giver : v.log.number ≡ n = same_some v.log.number n from in
+                omega (arith, giver, same, own.number known, at_below views id v is);
             ended = λ named. absurd (false≢true named);
           }
 
@@ -112,10 +144,13 @@ module _ (events : List Event) (views : List SeatView) (told : AreTold events vi
   pub told_join :
       (other : ℕ) (w : SeatView) → other ≢ id → get_elem? views other ≡ some w → 0 < w.book.account.share
       → w.named ≡ true → w.unsaid ≡ []
-      → AreTold (events ++ record { worker = id; kind = Join other } ∷ []) (set (set views id (joined_view v w)) other no_share_view)
+      → AreViewsOf (events ++ record { worker = id; kind = Join other } ∷ [])
+      (set (set views id (joined_view v w)) other no_share_view)
   told_join other w apart at theirs_there theirs_known theirs_said =
       told_set later (set views id (joined_view v w)) other no_share_view
-      (λ k u differ here share. told_set later views id (joined_view v w) (λ j x apart_too stood x_share. told_theirs events j x (told j x stood x_share) event (λ same. apart_too (sym same))) (λ h. both) k u here share)
+      (λ k u differ here share. told_set later views id (joined_view v w)
+      (λ j x apart_too stood x_share. told_theirs events j x (told j x stood x_share) event
+      (λ same. apart_too (sym same))) (λ h. both) k u here share)
       (λ h. absurd (omega (arith, h)))
     where
       event : Event
@@ -124,7 +159,7 @@ module _ (events : List Event) (views : List SeatView) (told : AreTold events vi
       later : List Event
       later = events ++ event ∷ []
 
-      theirs : IsTold events other w
+      theirs : IsViewOf events other w
       theirs = told other w at theirs_there
 
       joined_from : (n : ℕ) → Some w.log.number ≡ Some n → other ≡ n
@@ -142,8 +177,9 @@ module _ (events : List Event) (views : List SeatView) (told : AreTold events vi
             nothing = theirs.unsaid ∙ theirs_said;
           })
 
-      both : IsTold later id (joined_view v w)
+      both : IsViewOf later id (joined_view v w)
       both =
-          told_mine events id v own event (joined_view v w) known refl refl known (ap (λ n. v.unsaid ++ Join n ∷ []) (theirs.number theirs_known)) (theirs.since ++ event ∷ [])
+          told_mine events id v own event (joined_view v w) known refl refl known
+          (ap (λ n. v.unsaid ++ Join n ∷ []) (theirs.number theirs_known)) (theirs.since ++ event ∷ [])
           (ap (λ xs. xs ++ event ∷ []) theirs.goes_on ∙ append_assoc w.log.story theirs.since (event ∷ []))
           (λ n from. λ same. apart (joined_from n from ∙ same)) taken_in

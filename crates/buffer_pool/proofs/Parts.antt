@@ -1,5 +1,6 @@
 -- A split of a worker, and a join of two, keep the rule.
-use Rattle.std.proofs.Common.{◌≡◌, ◌≢◌, ℕ, ◌<◌, ◌≤◌, true, false, length, List, [], ◌∷◌, ◌++◌, map, Option, Some, None, set, ap, sym, refl, subst, ◌∙◌, ⊎_elim, arith}
+use Rattle.std.proofs.Common.{◌≡◌, ◌≢◌, ℕ, ◌<◌, ◌≤◌, true, false, length, List, [], ◌∷◌, ◌++◌, map, Option, Some, None}
+use Rattle.std.proofs.Common.{set, ap, sym, refl, subst, ◌∙◌, ⊎_elim, arith}
 use Rattle.std.proofs.lemmas.List.{map-append}
 use mathlib.Core.Option.{some}
 use native.Mathlib.Decide.{dec_le}
@@ -13,17 +14,18 @@ use Rattle.mark_core.specs.World.{Setup, Marking, account_at}
 use Rattle.mark_core.specs.Runs.{AreApart, HasEachOnce, opening}
 use Rattle.mark_core.specs.Event.{Event, Split, Join, effect}
 use Rattle.mark_core.specs.Counts.{Counts, add_counts, counts_at, no_counts}
-use Rattle.mark_core.proofs.Sums.{total-append}
+use Rattle.mark_core.proofs.Sums.{sum_of-append}
 use Rattle.mark_core.proofs.Places.{at_get_or}
 use Rattle.buffer_pool.specs.declared.seat_view.SeatView.{SeatView}
 use Rattle.buffer_pool.specs.Book.{joined, new_book, parted}
 use Rattle.buffer_pool.specs.Ranges.{IsWithin}
 use Rattle.buffer_pool.specs.working.Laid.{IsLaid, IsSound}
 use Rattle.buffer_pool.specs.Story.{Log, Did, EndsStory, IsNewcomer, LeadsToBook, deeds}
-use Rattle.buffer_pool.specs.working.Told.{noted}
+use Rattle.buffer_pool.specs.working.Views.{logged}
 use Rattle.buffer_pool.specs.working.Plays.{IsUpToDate}
 use Rattle.buffer_pool.specs.working.Setups.{kept_part, given_part, joined_view, no_share_view}
-use Rattle.buffer_pool.specs.working.Table.{Reading, Reached, Rule, Carries, IsTied, Rests, account_of, free, marking_of, view_counts}
+use Rattle.buffer_pool.specs.working.Slots.{Reading, Carries, IsTied, Rests, free}
+use Rattle.buffer_pool.specs.working.Table.{Reached, Rule, account_of, marking_of, view_counts}
 use Rattle.buffer_pool.proofs.States.{agrees, stands, accounts_set, counts_set, counts_same, happened}
 use Rattle.buffer_pool.proofs.Loads.{nothing_out}
 use Rattle.std.proofs.lemmas.List.{append_assoc, length-map}
@@ -42,7 +44,8 @@ module _ {B : Type 0} (r : Reading B) (e : Setup) (s : State (Option B) SeatView
 
   -- the rule after views alone changed
   with_views :
-      (views : List SeatView) → ((k : ℕ) (u : SeatView) → get_elem? views k ≡ some u → Suits e s u) → Reached r e (record { words = s.words; homes = s.homes; views = views })
+      (views : List SeatView) → ((k : ℕ) (u : SeatView) → get_elem? views k ≡ some u → Suits e s u)
+      → Reached r e (record { words = s.words; homes = s.homes; views = views })
       → Rule r e (record { words = s.words; homes = s.homes; views = views })
   with_views views all reached =
       record {
@@ -58,7 +61,8 @@ module _ {B : Type 0} (r : Reading B) (e : Setup) (s : State (Option B) SeatView
       }
 
 module _ {B : Type 0} (r : Reading B) (e : Setup) (id : ℕ) (v : SeatView) where
-  pub splits : 0 < v.aside → v.aside < v.book.account.share → v.named ≡ true → Splits (Rule r e) id v (kept_part v) (given_part v)
+  pub splits : 0 < v.aside → v.aside < v.book.account.share → v.named ≡ true
+      → Splits (Rule r e) id v (kept_part v) (given_part v)
   splits some_units less known s rule is = with_views r e s rule views all reached
     where
       m : Marking
@@ -80,11 +84,16 @@ module _ {B : Type 0} (r : Reading B) (e : Setup) (id : ℕ) (v : SeatView) wher
       kept = record { tied = own.tied; rests = own.rests; same_setup = λ h. own.same_setup there }
 
       given : Suits e s (given_part v)
-      given = record { tied = λ i out. absurd (nothing_out 0 refl i out); rests = λ i mine out. absurd (omega (arith, mine)); same_setup = λ h. own.same_setup there }
+      given = record {
+        tied = λ i out. absurd (nothing_out 0 refl i out);
+        rests = λ i mine out. absurd (omega (arith, mine));
+        same_setup = λ h. own.same_setup there;
+      }
 
       all : (k : ℕ) (u : SeatView) → get_elem? views k ≡ some u → Suits e s u
       all k u at =
-          ⊎_elim (λ t. ⊎_elim (λ x. subst (Suits e s) x.1 kept) (λ x. suits r e s rule k u x.1) (at_set s.views id k (kept_part v) u t)) (λ same. subst (Suits e s) same given)
+          ⊎_elim (λ t. ⊎_elim (λ x. subst (Suits e s) x.1 kept) (λ x. suits r e s rule k u x.1)
+          (at_set s.views id k (kept_part v) u t)) (λ same. subst (Suits e s) same given)
           (at_snoc (set s.views id (kept_part v)) (given_part v) u k at)
 
       t : State (Option B) SeatView
@@ -93,14 +102,17 @@ module _ {B : Type 0} (r : Reading B) (e : Setup) (id : ℕ) (v : SeatView) wher
       -- the new number is nobody's so far
       nobody : deeds (length s.views) rule.reached.events ≡ []
       nobody =
-          nothing_done e rule.reached.events (opening e e.first_tag) m (length s.views) rule.reached.led.run (omega (arith, length-map s.views account_of))
+          nothing_done e rule.reached.events (opening e e.first_tag) m (length s.views) rule.reached.led.run
+          (omega (arith, length-map s.views account_of))
 
       reached : Reached r e t
       reached =
           happened r e s rule id v is (Split v.aside) there (some_units, less) t
           (agrees (marking_of r e t) (effect m id a (Split v.aside)) (λ q. refl) (λ i. refl) (λ o. refl) refl refl
-          (map-append account_of (set s.views id (kept_part v)) (given_part v ∷ []) ∙ ap (λ (xs : List Account). xs ++ part v.aside ∷ []) (accounts_set s.views id (kept_part v))))
-          (map-append view_counts (set s.views id (kept_part v)) (given_part v ∷ []) ∙ ap (λ (xs : List Counts). xs ++ no_counts ∷ []) (counts_same r e s rule id v is (kept_part v) refl))
+          (map-append account_of (set s.views id (kept_part v)) (given_part v ∷ [])
+          ∙ ap (λ (xs : List Account). xs ++ part v.aside ∷ []) (accounts_set s.views id (kept_part v))))
+          (map-append view_counts (set s.views id (kept_part v)) (given_part v ∷ [])
+          ∙ ap (λ (xs : List Counts). xs ++ no_counts ∷ []) (counts_same r e s rule id v is (kept_part v) refl))
           (λ x counts accounts each led. told_split rule.reached.events s.views rule.reached.told id v is there known
           nobody)
 
@@ -134,22 +146,36 @@ module _ {B : Type 0} (r : Reading B) (e : Setup) (id : ℕ) (v : SeatView) wher
           where
             go : Dec (1 ≤ times i v.book.account.held) → get_elem? s.homes i ≡ some (some None)
             go (yes h) = own.rests i h out
-            go (no h) = theirs.rests i (omega (arith, total-append (only i) v.book.account.held w.book.account.held)) (nothing_out w.out bare i)
+            go (no h) = theirs.rests i (omega (arith, sum_of-append (only i) v.book.account.held w.book.account.held))
+                (nothing_out w.out bare i)
 
         together : Suits e s both
         together =
             record {
-              tied = λ i out. (omega (arith, (own.tied i out).0, total-append (only i) v.book.account.held w.book.account.held), (own.tied i out).1);
+              tied = λ i out. (
+                omega (
+                  arith,
+                  (own.tied i out).0,
+                  sum_of-append (only i) v.book.account.held w.book.account.held,
+                ),
+                (own.tied i out).1,
+              );
               rests = rests;
               same_setup = λ h. own.same_setup there;
             }
 
         gone : Suits e s no_share_view
-        gone = record { tied = λ i out. absurd (nothing_out 0 refl i out); rests = λ i mine out. absurd (omega (arith, mine)); same_setup = λ h. absurd (omega (arith, h)) }
+        gone = record {
+          tied = λ i out. absurd (nothing_out 0 refl i out);
+          rests = λ i mine out. absurd (omega (arith, mine));
+          same_setup = λ h. absurd (omega (arith, h));
+        }
 
         all : (k : ℕ) (u : SeatView) → get_elem? views k ≡ some u → Suits e s u
         all k u stood =
-            ⊎_elim (λ t. subst (Suits e s) t.1 gone) (λ t. ⊎_elim (λ x. subst (Suits e s) x.1 together) (λ x. suits r e s rule k u x.1) (at_set s.views id k both u t.1))
+            ⊎_elim (λ t. subst (Suits e s) t.1 gone)
+            (λ t. ⊎_elim (λ x. subst (Suits e s) x.1 together) (λ x. suits r e s rule k u x.1)
+            (at_set s.views id k both u t.1))
             (at_set (set s.views id both) other k no_share_view u stood)
 
         t : State (Option B) SeatView
@@ -168,13 +194,17 @@ module _ {B : Type 0} (r : Reading B) (e : Setup) (id : ℕ) (v : SeatView) wher
         second = at_get_or counts other (view_counts w) no_counts (at_map view_counts s.views other w at)
 
         added : map view_counts views ≡ set (set counts id (add_counts (view_counts v) (view_counts w))) other no_counts
-        added = counts_set (set s.views id both) other no_share_view ∙ ap (λ (xs : List Counts). set xs other no_counts) (counts_set s.views id both)
+        added = counts_set (set s.views id both) other no_share_view
+            ∙ ap (λ (xs : List Counts). set xs other no_counts) (counts_set s.views id both)
 
         reached : Reached r e t
         reached =
-            happened r e s rule id v is (Join other) there (apart, (w.book.account, (stands r e s rule other w at, theirs_there))) t
-            (agrees (marking_of r e t) (effect m id v.book.account (Join other)) (λ q. refl) (λ i. refl) (λ o. refl) refl refl
-            (accounts_set (set s.views id both) other no_share_view ∙ ap (λ (xs : List Account). set xs other no_share) (accounts_set s.views id both)
+            happened r e s rule id v is (Join other) there
+            (apart, (w.book.account, (stands r e s rule other w at, theirs_there))) t
+            (agrees (marking_of r e t) (effect m id v.book.account (Join other)) (λ q. refl) (λ i. refl)
+            (λ o. refl) refl refl
+            (accounts_set (set s.views id both) other no_share_view
+            ∙ ap (λ (xs : List Account). set xs other no_share) (accounts_set s.views id both)
             ∙ ap (λ a. set (set m.accounts id (after_join v.book.account a)) other no_share) (sym account)))
             (added ∙ (λ k. set (set counts id (add_counts (sym first k) (sym second k))) other no_counts))
             (λ x ns accounts each led. told_join rule.reached.events s.views rule.reached.told id v is there known other
@@ -182,13 +212,16 @@ module _ {B : Type 0} (r : Reading B) (e : Setup) (id : ℕ) (v : SeatView) wher
 
 -- the units of a split are as they were noted, and the worker knows its number
 pub noted_units :
-    {B : Type 0} (m n : Me (Option B) SeatView) (log : Log) (units : ℕ) → n ≡ (record (noted log (free m.0)) { aside = units }, []) → 0 < units → units < m.0.book.account.share
+    {B : Type 0} (m n : Me (Option B) SeatView) (log : Log) (units : ℕ)
+    → n ≡ (record (logged log (free m.0)) { aside = units }, []) → 0 < units → units < m.0.book.account.share
     → (0 < n.0.aside) × (n.0.aside < n.0.book.account.share) × (n.0.named ≡ true)
 noted_units {B} m n log units is some_units less =
-    subst {A = Me (Option B) SeatView} (λ x. (0 < x.0.aside) × (x.0.aside < x.0.book.account.share) × (x.0.named ≡ true)) (sym {A = Me (Option B) SeatView} is) (some_units, less, refl)
+    subst {A = Me (Option B) SeatView} (λ x. (0 < x.0.aside) × (x.0.aside < x.0.book.account.share)
+    × (x.0.named ≡ true)) (sym {A = Me (Option B) SeatView} is) (some_units, less, refl)
 
 -- a seat whose log is up to date, over what it was before: sound where that was, but for its log
-module _ {B : Type 0} (t u : TableId) (m n : Me (Option B) SeatView) (table : u ≡ t) (same : n ≡ (noted n.0.log (free m.0), [])) where
+module _ {B : Type 0} (t u : TableId) (m n : Me (Option B) SeatView) (table : u ≡ t)
+    (same : n ≡ (logged n.0.log (free m.0), [])) where
   pub sound_now :
       IsLaid t m.0.book.setup → 0 < m.0.book.account.share → IsWithin m.0.book.setup m.0.book.account
       → LeadsToBook n.0.log n.0.book → IsSound u n
@@ -196,7 +229,7 @@ module _ {B : Type 0} (t u : TableId) (m n : Me (Option B) SeatView) (table : u 
       subst (λ x. IsSound x n) (sym table) (subst {A = Me (Option B) SeatView} (IsSound t)
       (sym {A = Me (Option B) SeatView} same) here)
     where
-      here : IsSound {B = B} t (noted n.0.log (free m.0), [])
+      here : IsSound {B = B} t (logged n.0.log (free m.0), [])
       here =
           record {
             laid = laid;
@@ -212,47 +245,60 @@ module _ {B : Type 0} (t u : TableId) (m n : Me (Option B) SeatView) (table : u 
   book_now = ap (λ (x : Me (Option B) SeatView). x.0.book) same
 
 -- A split: the units were noted (two), the views were cut (kept and given), and each has its log up to date (now)
-module _ {B : Type 0} (t u : TableId) (m two : Me (Option B) SeatView) (units : ℕ) (table : u ≡ t) (log : Log) (sound : IsSound t m)
-    (aside : two ≡ (record (noted log (free m.0)) { aside = units }, [])) (did : Did m.0.log [] log) where
+module _ {B : Type 0} (t u : TableId) (m two : Me (Option B) SeatView) (units : ℕ) (table : u ≡ t) (log : Log)
+    (sound : IsSound t m)
+    (aside : two ≡ (record (logged log (free m.0)) { aside = units }, [])) (did : Did m.0.log [] log) where
   pub keeps_part :
-      (kept now : Me (Option B) SeatView) → kept ≡ (kept_part two.0, two.1) → IsUpToDate kept now → units < m.0.book.account.share
+      (kept now : Me (Option B) SeatView) → kept ≡ (kept_part two.0, two.1) → IsUpToDate kept now
+      → units < m.0.book.account.share
       → (IsSound u now × (now.0.book ≡ parted units m.0.book)) × Did m.0.log (Split units ∷ []) now.0.log
   keeps_part kept now cut told less = (
     (
       sound_now t u kept now table told.same laid share within told.story,
-      book_now t u kept now table told.same ∙ ap
-          (λ (x : Me (Option B) SeatView). x.0.book) is,
+      book_now t u kept now table told.same
+          ∙ ap (λ (x : Me (Option B) SeatView). x.0.book) is,
     ),
     did_on m.0.log log now.0.log [] (Split units ∷ []) did second,
   )
     where
-      is : kept ≡ (kept_part (record (noted log (free m.0)) { aside = units }), [])
+      is : kept ≡ (kept_part (record (logged log (free m.0)) { aside = units }), [])
       is = cut ∙ ap (λ (x : Me (Option B) SeatView). (kept_part x.0, x.1)) aside
 
       laid : IsLaid t kept.0.book.setup
-      laid = subst {A = Me (Option B) SeatView} (λ x. IsLaid t x.0.book.setup) (sym {A = Me (Option B) SeatView} is) sound.laid
+      laid = subst {A = Me (Option B) SeatView} (λ x. IsLaid t x.0.book.setup)
+          (sym {A = Me (Option B) SeatView} is) sound.laid
 
       share : 0 < kept.0.book.account.share
-      share = subst {A = Me (Option B) SeatView} (λ x. 0 < x.0.book.account.share) (sym {A = Me (Option B) SeatView} is) (omega (arith, less))
+      share = subst {A = Me (Option B) SeatView} (λ x. 0 < x.0.book.account.share)
+          (sym {A = Me (Option B) SeatView} is) (omega (arith, less))
 
       within : IsWithin kept.0.book.setup kept.0.book.account
       within =
-          subst {A = Me (Option B) SeatView} (λ x. IsWithin x.0.book.setup x.0.book.account) (sym {A = Me (Option B) SeatView} is) (record { held = sound.within.held; charge = sound.within.charge })
+          subst {A = Me (Option B) SeatView} (λ x. IsWithin x.0.book.setup x.0.book.account)
+          (sym {A = Me (Option B) SeatView} is) (record { held = sound.within.held; charge = sound.within.charge })
 
       second : Did log (Split units ∷ []) now.0.log
       second =
-          subst {A = Me (Option B) SeatView} (λ x. Did x.0.log x.0.unsaid now.0.log) is (told.did (subst {A = Me (Option B) SeatView} (λ x. x.0.named ≡ true) (sym {A = Me (Option B) SeatView} is) refl))
+          subst {A = Me (Option B) SeatView} (λ x. Did x.0.log x.0.unsaid now.0.log) is
+          (told.did (subst {A = Me (Option B) SeatView} (λ x. x.0.named ≡ true)
+          (sym {A = Me (Option B) SeatView} is) refl))
 
   -- what the loads after the cut ask
-  pub kept_may : (kept : Me (Option B) SeatView) → kept ≡ (kept_part two.0, two.1) → units < m.0.book.account.share → Carries kept × (0 < kept.0.book.account.share)
+  pub kept_may : (kept : Me (Option B) SeatView) → kept ≡ (kept_part two.0, two.1) → units < m.0.book.account.share
+      → Carries kept × (0 < kept.0.book.account.share)
   kept_may kept cut less =
-      let is : kept ≡ (kept_part (record (noted log (free m.0)) { aside = units }), []) = cut ∙ ap (λ (x : Me (Option B) SeatView). (kept_part x.0, x.1)) aside in
-      subst {A = Me (Option B) SeatView} (λ x. Carries x × (0 < x.0.book.account.share)) (sym {A = Me (Option B) SeatView} is) (refl, omega (arith, less))
+      let is : kept ≡ (kept_part (record (logged log (free m.0)) { aside = units }), []) =
+      cut ∙ ap (λ (x : Me (Option B) SeatView). (kept_part x.0, x.1)) aside in
+      subst {A = Me (Option B) SeatView} (λ x. Carries x × (0 < x.0.book.account.share))
+      (sym {A = Me (Option B) SeatView} is) (refl, omega (arith, less))
 
-  pub given_may : (given : Me (Option B) SeatView) → given ≡ (given_part two.0, []) → 0 < units → Carries given × (0 < given.0.book.account.share)
+  pub given_may : (given : Me (Option B) SeatView) → given ≡ (given_part two.0, []) → 0 < units → Carries given
+      × (0 < given.0.book.account.share)
   given_may given cut some_units =
-      let is : given ≡ (given_part (record (noted log (free m.0)) { aside = units }), []) = cut ∙ ap (λ (x : Me (Option B) SeatView). (given_part x.0, [])) aside in
-      subst {A = Me (Option B) SeatView} (λ x. Carries x × (0 < x.0.book.account.share)) (sym {A = Me (Option B) SeatView} is) (refl, some_units)
+      let is : given ≡ (given_part (record (logged log (free m.0)) { aside = units }), []) =
+      cut ∙ ap (λ (x : Me (Option B) SeatView). (given_part x.0, [])) aside in
+      subst {A = Me (Option B) SeatView} (λ x. Carries x × (0 < x.0.book.account.share))
+      (sym {A = Me (Option B) SeatView} is) (refl, some_units)
 
   pub has_part :
       (given now : Me (Option B) SeatView) → given ≡ (given_part two.0, []) → IsUpToDate given now → 0 < units
@@ -268,24 +314,29 @@ module _ {B : Type 0} (t u : TableId) (m two : Me (Option B) SeatView) (units : 
     other,
   )
     where
-      is : given ≡ (given_part (record (noted log (free m.0)) { aside = units }), [])
+      is : given ≡ (given_part (record (logged log (free m.0)) { aside = units }), [])
       is = cut ∙ ap (λ (x : Me (Option B) SeatView). (given_part x.0, [])) aside
 
       laid : IsLaid t given.0.book.setup
-      laid = subst {A = Me (Option B) SeatView} (λ x. IsLaid t x.0.book.setup) (sym {A = Me (Option B) SeatView} is) sound.laid
+      laid = subst {A = Me (Option B) SeatView} (λ x. IsLaid t x.0.book.setup)
+          (sym {A = Me (Option B) SeatView} is) sound.laid
 
       share : 0 < given.0.book.account.share
-      share = subst {A = Me (Option B) SeatView} (λ x. 0 < x.0.book.account.share) (sym {A = Me (Option B) SeatView} is) some_units
+      share = subst {A = Me (Option B) SeatView} (λ x. 0 < x.0.book.account.share)
+          (sym {A = Me (Option B) SeatView} is) some_units
 
       within : IsWithin given.0.book.setup given.0.book.account
       within =
-          subst {A = Me (Option B) SeatView} (λ x. IsWithin x.0.book.setup x.0.book.account) (sym {A = Me (Option B) SeatView} is)
+          subst {A = Me (Option B) SeatView} (λ x. IsWithin x.0.book.setup x.0.book.account)
+          (sym {A = Me (Option B) SeatView} is)
           (record { held = λ i k. absurd (omega (arith, k.1)); charge = λ o k. absurd (omega (arith, k.1)) })
 
       -- the story of the first at the split is a beginning, and what it was before is a beginning of that
       knows : (more : List Event) × (now.0.log.story ≡ m.0.log.story ++ more)
       knows =
-          let first : (more : List Event) × (now.0.log.story ≡ log.story ++ more) = subst {A = Me (Option B) SeatView} (λ x. (more : List Event) × (now.0.log.story ≡ x.0.taken ++ more)) is told.knows in (
+          let first : (more : List Event) × (now.0.log.story ≡ log.story ++ more) =
+          subst {A = Me (Option B) SeatView} (λ x. (more : List Event) × (now.0.log.story ≡ x.0.taken ++ more)) is
+          told.knows in (
             did.0 ++ first.0,
             first.1 ∙ ap (λ (x : Log). x.story ++ first.0) did.1 ∙ append_assoc m.0.log.story did.0 first.0,
           )
@@ -296,15 +347,17 @@ module _ {B : Type 0} (t u : TableId) (m two : Me (Option B) SeatView) (units : 
           did.1)
 
       fresh : deeds now.0.log.number now.0.log.story ≡ []
-      fresh = told.fresh (subst {A = Me (Option B) SeatView} (λ x. x.0.named ≡ false) (sym {A = Me (Option B) SeatView} is) refl)
+      fresh = told.fresh (subst {A = Me (Option B) SeatView} (λ x. x.0.named ≡ false)
+          (sym {A = Me (Option B) SeatView} is) refl)
 
 -- A join: the other's log was brought up to date (freed), the two were joined (both), and then its own (now)
-module _ {B : Type 0} (t u : TableId) (m o freed both now : Me (Option B) SeatView) (table : u ≡ t) (first : IsSound t m) (second : IsSound t o)
+module _ {B : Type 0} (t u : TableId) (m o freed both now : Me (Option B) SeatView) (table : u ≡ t)
+    (first : IsSound t m) (second : IsSound t o)
     (other : IsUpToDate o freed) (joint : both ≡ (joined_view m.0 freed.0, m.1)) (told : IsUpToDate both now) where
-  is : both ≡ (joined_view m.0 (noted freed.0.log (free o.0)), m.1)
+  is : both ≡ (joined_view m.0 (logged freed.0.log (free o.0)), m.1)
   is = joint ∙ ap (λ (x : Me (Option B) SeatView). (joined_view m.0 x.0, m.1)) other.same
 
-  at : (P : Me (Option B) SeatView → Type 0) → P (joined_view m.0 (noted freed.0.log (free o.0)), m.1) → P both
+  at : (P : Me (Option B) SeatView → Type 0) → P (joined_view m.0 (logged freed.0.log (free o.0)), m.1) → P both
   at P here = subst {A = Me (Option B) SeatView} P (sym {A = Me (Option B) SeatView} is) here
 
   theirs : Did o.0.log [] freed.0.log
@@ -315,14 +368,16 @@ module _ {B : Type 0} (t u : TableId) (m o freed both now : Me (Option B) SeatVi
 
   pub has_both : IsSound u now × (now.0.book ≡ joined m.0.book o.0.book)
   has_both = (
-    sound_now t u both now table told.same (at (λ x. IsLaid t x.0.book.setup) first.laid) (at (λ x. 0 < x.0.book.account.share) (omega (arith, first.share)))
+    sound_now t u both now table told.same (at (λ x. IsLaid t x.0.book.setup) first.laid)
+        (at (λ x. 0 < x.0.book.account.share) (omega (arith, first.share)))
         told.within told.story,
     book_now t u both now table told.same ∙ ap (λ (x : Me (Option B) SeatView). x.0.book) is,
   )
 
   pub did_join : Did m.0.log (Join o.0.log.number ∷ []) now.0.log
   did_join =
-      let did = subst {A = Me (Option B) SeatView} (λ x. x.0.named ≡ true → Did x.0.log x.0.unsaid now.0.log) is told.did first.settled.named in
+      let did = subst {A = Me (Option B) SeatView} (λ x. x.0.named ≡ true → Did x.0.log x.0.unsaid now.0.log) is
+      told.did first.settled.named in
       (did.0, did.1, did.2 ∙ (λ k. first.settled.unsaid k ++ Join (number k) ∷ []))
 
   pub ends_other : EndsStory o.0.log now.0.log.story
@@ -339,13 +394,20 @@ module _ {B : Type 0} (t u : TableId) (m o freed both now : Me (Option B) SeatVi
       )
 
 -- its slot is where it was
-pub carries_joined : {B : Type 0} (m o n : Me (Option B) SeatView) → n ≡ (joined_view m.0 o.0, m.1) → Carries m → Carries n
-carries_joined {B} m o n is carries = subst {A = Me (Option B) SeatView} Carries (sym {A = Me (Option B) SeatView} is) carries
+pub carries_joined : {B : Type 0} (m o n : Me (Option B) SeatView) → n ≡ (joined_view m.0 o.0, m.1)
+    → Carries m → Carries n
+carries_joined {B} m o n is carries =
+    subst {A = Me (Option B) SeatView} Carries (sym {A = Me (Option B) SeatView} is) carries
 
 -- where the two together have each thing once, they have nothing in common
 pub apart_by : (a b : Account) → HasEachOnce (after_join a b) → AreApart a b
 apart_by a b each =
     record {
-      held = λ i. omega (arith, each.held i, total-append (only i) a.held b.held);
-      objects = λ o. omega (arith, each.objects o, total-append (only o) a.charge b.charge, total-append (only o) a.finished b.finished);
+      held = λ i. omega (arith, each.held i, sum_of-append (only i) a.held b.held);
+      objects = λ o. omega (
+        arith,
+        each.objects o,
+        sum_of-append (only o) a.charge b.charge,
+        sum_of-append (only o) a.finished b.finished,
+      );
     }

@@ -5,7 +5,7 @@ use Rattle.mark_core.specs.Lists.{remove_one}
 use Rattle.mark_core.specs.World.{Setup}
 use Rattle.mark_core.proofs.Sums.{remove_one-same}
 use Rattle.buffer_pool.specs.Book.{loaded, link_loaded}
-use Rattle.buffer_pool.specs.Calls.{Holder, HeldBuffer, Pops, PopsAtLast}
+use Rattle.buffer_pool.specs.Calls.{Holder, HeldBuffer, TriesPop, Pops}
 use Rattle.buffer_pool.specs.Calls.LostPops.{none as no_pop}
 use Rattle.buffer_pool.specs.tests.Worked.{Holds, bare}
 use Rattle.buffer_pool.specs.declared.answers.TryPopped.TheVariants as try_pop
@@ -14,7 +14,8 @@ use Rattle.buffer_pool.proofs.Rounds.{IsLook, look_head, look_link}
 use Rattle.buffer_pool.proofs.Worked.{look_failed, look_then, lost_pops, pops_bare}
 
 -- a worker that only looked has what it had
-holds_still : (old new : Holder) (n : ℕ) (list : List ℕ) → IsLook old.book new.book → Holds n list old → Holds n list new
+holds_still : (old new : Holder) (n : ℕ) (list : List ℕ) → IsLook old.book new.book → Holds n list old
+    → Holds n list new
 holds_still old new n list look was =
     record {
       held = look.held ∙ was.held;
@@ -24,21 +25,24 @@ holds_still old new n list look was =
     }
 
 module _ (old new : Holder) (n : ℕ) (list : List ℕ) (was : Holds n list old) where
-  pub found_nothing : (q : Which) → PopsAtLast q old.book new.book pop.Empty → Holds n list new
+  pub found_nothing : (q : Which) → Pops q old.book new.book pop.Empty → Holds n list new
   found_nothing q p =
       let looked : IsLook p.0 new.book = subst (IsLook p.0) (sym p.2.2) (look_head q p.2.0 p.0) in
       holds_still old new n list (look_then old.book p.0 new.book (lost_pops q old.book p.0 p.1) looked) was
 
-  pub tried_nothing : (q : Which) → Pops q old.book new.book try_pop.Empty → Holds n list new
+  pub tried_nothing : (q : Which) → TriesPop q old.book new.book try_pop.Empty → Holds n list new
   tried_nothing q p = holds_still old new n list (subst (IsLook old.book) (sym p.2) (look_head q p.0 old.book)) was
 
-  pub lost_try : (q : Which) → Pops q old.book new.book try_pop.Lost → Holds n list new
-  lost_try q p = holds_still old new n list (look_failed old.book (link_loaded q p.2 (loaded q p.0 old.book)) new.book (look_link q p.0 p.2 old.book) p.5) was
+  pub lost_try : (q : Which) → TriesPop q old.book new.book try_pop.Lost → Holds n list new
+  lost_try q p = holds_still old new n list
+      (look_failed old.book (link_loaded q p.2 (loaded q p.0 old.book)) new.book (look_link q p.0 p.2 old.book) p.5) was
 
-  pub took_at_last : (q : Which) (h : HeldBuffer) → PopsAtLast q old.book new.book (pop.Took h) → length h.items ≡ 0 → Holds n (list ++ h.index ∷ []) new × (h ≡ bare n h.index)
+  pub took_at_last : (q : Which) (h : HeldBuffer) → Pops q old.book new.book (pop.Took h) → length h.items ≡ 0
+      → Holds n (list ++ h.index ∷ []) new × (h ≡ bare n h.index)
   took_at_last q h p none = pops_bare old new n list was q h h.index p refl none
 
-  pub took_try : (q : Which) (h : HeldBuffer) → Pops q old.book new.book (try_pop.Took h) → length h.items ≡ 0 → Holds n (list ++ h.index ∷ []) new × (h ≡ bare n h.index)
+  pub took_try : (q : Which) (h : HeldBuffer) → TriesPop q old.book new.book (try_pop.Took h) → length h.items ≡ 0
+      → Holds n (list ++ h.index ∷ []) new × (h ≡ bare n h.index)
   took_try q h p none = pops_bare old new n list was q h h.index (old.book, no_pop old.book, p) refl none
 
 -- the one buffer that it had was given away

@@ -1,5 +1,7 @@
 -- What a worker has between the calls of a round.
-use Rattle.std.proofs.Common.{◌≡◌, ◌≢◌, ◌↔◌, ℕ, Bool, false, IsTrue, ◌+◌, ◌<◌, List, [], ◌∷◌, ◌++◌, Option, All, Contains, if◌then◌else◌, ◌==◌, cond, eq-eqb, ne_eqb, ap, sym, refl, subst, ◌∙◌, inl, inr, arith}
+use Rattle.std.proofs.Common.{◌≡◌, ◌≢◌, ◌↔◌, ℕ, Bool, false, IsTrue, ◌+◌, ◌<◌, List, [], ◌∷◌, ◌++◌, Option, All}
+use Rattle.std.proofs.Common.{Contains, if◌then◌else◌, ◌==◌, cond, eq-eqb, ne_eqb, ap, sym, refl, subst, ◌∙◌, inl, inr}
+use Rattle.std.proofs.Common.{arith}
 use Rattle.std.proofs.lemmas.Bool.{false≢true}
 use Rattle.std.proofs.lemmas.List.FromFn.{length-range_with_len, get_or-range_with_len}
 use Rattle.tagged_index.specs.Head.{Head}
@@ -8,20 +10,26 @@ use Rattle.mark_core.specs.declared.which.Which.TheVariants.{Full, Empty}
 use Rattle.mark_core.specs.Lists.{times, only, remove_one, without}
 use Rattle.mark_core.specs.World.{Setup}
 use Rattle.mark_core.specs.Event.{CanClaim, CanFinish}
-use Rattle.mark_core.proofs.Sums.{total-append, only-same, remove_one-same, times-remove_one, times-without, times_stands}
+use Rattle.mark_core.proofs.Sums.{sum_of-append, only-same, remove_one-same, times-remove_one, times-without}
+use Rattle.mark_core.proofs.Sums.{times_stands}
 use Rattle.buffer_pool.specs.Book.{Book, loaded, link_loaded, failed, claimed, finished}
-use Rattle.buffer_pool.specs.Calls.{Holder, HeldBuffer, MayPush, Pops, Pushes}
+use Rattle.buffer_pool.specs.Calls.{Holder, HeldBuffer, MayPush, TriesPop, TriesPush}
 use Rattle.buffer_pool.specs.tests.Rounds.{HasNone, HasOne, HasRoots, IsSameWorker, numbers}
 use Rattle.buffer_pool.specs.declared.answers.TryPopped.TheVariants as try_pop
 use Rattle.buffer_pool.specs.declared.answers.TryPushed.TheVariants as try_push
 
 pub roots_below : (n : ℕ) → All (λ o. o < n) (numbers n)
 unfolding numbers
-roots_below n i d below = let k : i < n = omega (arith, below, length-range_with_len 0 n) in omega (arith, k, get_or-range_with_len 0 n i d k)
+roots_below n i d below = let k : i < n = omega (arith, below, length-range_with_len 0 n) in
+    omega (arith, k, get_or-range_with_len 0 n i d k)
 
 is_root : (n o : ℕ) → o < n → Contains (numbers n) o
 unfolding numbers
-is_root n o below = (o, omega (arith, below, length-range_with_len 0 n), omega (arith, get_or-range_with_len 0 n o o below))
+is_root n o below = (
+  o,
+  omega (arith, below, length-range_with_len 0 n),
+  omega (arith, get_or-range_with_len 0 n o o below),
+)
 
 pub same_worker : (w : Holder) → IsSameWorker w w
 same_worker w = record { pool = refl; setup = refl; share = refl; idle = refl }
@@ -90,7 +98,8 @@ module _ (old new : Holder) (pool : new.pool ≡ old.pool) where
       }
 
   -- a pop took this buffer
-  pub took : (q : Which) (h : HeldBuffer) → HasNone old → Pops q old.book new.book (try_pop.Took h) → IsSameWorker old new × HasOne new h
+  pub took : (q : Which) (h : HeldBuffer) → HasNone old → TriesPop q old.book new.book (try_pop.Took h)
+      → IsSameWorker old new × HasOne new h
   took q h none p =
       let l = look_link q p.0 p.1 old.book in
       let setup : new.book.setup ≡ old.book.setup = ap (λ (c : Book). c.setup) p.5 ∙ l.setup in
@@ -98,16 +107,20 @@ module _ (old new : Holder) (pool : new.pool ≡ old.pool) where
         record { pool = pool; setup = setup; share = ap (λ (c : Book). c.account.share) p.5 ∙ l.share; idle = idle },
         record {
           held = ap (λ (c : Book). c.account.held) p.5 ∙ ap (λ xs. xs ++ h.index ∷ []) (l.held ∙ none.held);
-          charge = λ o. ap (λ (c : Book). times o c.account.charge) p.5 ∙ ap (λ xs. times o (xs ++ h.items)) (l.charge ∙ none.charge);
+          charge = λ o. ap (λ (c : Book). times o c.account.charge) p.5
+              ∙ ap (λ xs. times o (xs ++ h.items)) (l.charge ∙ none.charge);
           size = p.4 ∙ ap (λ e. e.size) (sym setup);
           awake = idle ∙ none.awake;
         },
       )
 
-  pub found_none : (q : Which) → HasNone old → Pops q old.book new.book try_pop.Empty → IsSameWorker old new × HasNone new
-  found_none q none p = let b = loaded q p.0 old.book in let l = look_head q p.0 old.book in (looked b l p.2, none_still b l p.2 none)
+  pub found_none : (q : Which) → HasNone old → TriesPop q old.book new.book try_pop.Empty
+      → IsSameWorker old new × HasNone new
+  found_none q none p = let b = loaded q p.0 old.book in let l = look_head q p.0 old.book in
+      (looked b l p.2, none_still b l p.2 none)
 
-  pub lost_pop : (q : Which) → HasNone old → Pops q old.book new.book try_pop.Lost → IsSameWorker old new × HasNone new
+  pub lost_pop : (q : Which) → HasNone old → TriesPop q old.book new.book try_pop.Lost
+      → IsSameWorker old new × HasNone new
   lost_pop q none p =
       let b = failed (link_loaded q p.2 (loaded q p.0 old.book)) in
       let k = look_link q p.0 p.2 old.book in
@@ -116,7 +129,8 @@ module _ (old new : Holder) (pool : new.pool ≡ old.pool) where
       (looked b l p.5, none_still b l p.5 none)
 
   -- a push put this buffer on a stack
-  pub done : (q : Which) (h : HeldBuffer) → HasOne old h → Pushes q h old.book new.book try_push.Done → IsSameWorker old new × HasNone new
+  pub done : (q : Which) (h : HeldBuffer) → HasOne old h → TriesPush q h old.book new.book try_push.Done
+      → IsSameWorker old new × HasNone new
   done q h one p =
       let l = look_head q p.0 old.book in
       let before = (loaded q p.0 old.book).account in
@@ -131,14 +145,16 @@ module _ (old new : Holder) (pool : new.pool ≡ old.pool) where
           idle = idle;
         },
         record {
-          held = ap (λ (c : Book). c.account.held) p.2 ∙ ap (remove_one h.index) (l.held ∙ one.held) ∙ remove_one-same h.index h.index [] refl;
+          held = ap (λ (c : Book). c.account.held) p.2 ∙ ap (remove_one h.index) (l.held ∙ one.held)
+              ∙ remove_one-same h.index h.index [] refl;
           charge = ap (λ (c : Book). c.account.charge) p.2 ∙ nothing (without h.items before.charge) gone;
           awake = idle ∙ one.awake;
         },
       )
 
   -- a push was lost, and its buffer came back
-  pub lost_push : (q : Which) (h back : HeldBuffer) → HasOne old h → Pushes q h old.book new.book (try_push.Lost back) → IsSameWorker old new × HasOne new back × (back ≡ h)
+  pub lost_push : (q : Which) (h back : HeldBuffer) → HasOne old h
+      → TriesPush q h old.book new.book (try_push.Lost back) → IsSameWorker old new × HasOne new back × (back ≡ h)
   lost_push q h back one p =
       let k = look_head q p.0 old.book in
       let setup : new.book.setup ≡ old.book.setup = ap (λ (c : Book). c.setup) p.3 ∙ k.setup in
@@ -155,22 +171,27 @@ module _ (old new : Holder) (pool : new.pool ≡ old.pool) where
       )
 
   -- a claim of a white object, which went into the buffer
-  pub put_in : (h : HeldBuffer) (o found : ℕ) → HasOne old h → new.book ≡ claimed o found old.book → found ≡ 0 → HasOne new (record h { items = h.items ++ o ∷ [] })
+  pub put_in : (h : HeldBuffer) (o found : ℕ) → HasOne old h → new.book ≡ claimed o found old.book → found ≡ 0
+      → HasOne new (record h { items = h.items ++ o ∷ [] })
   put_in h o found one is white =
       record {
         held = ap (λ (c : Book). c.account.held) is ∙ one.held;
         charge =
-            λ x. ap (λ (c : Book). times x c.account.charge) is ∙ ap (times x) (charge_white o found old.book.account.charge white) ∙ total-append (only x) old.book.account.charge (o ∷ [])
-            ∙ ap (λ n. n + times x (o ∷ [])) (one.charge x) ∙ sym (total-append (only x) h.items (o ∷ []));
+            λ x. ap (λ (c : Book). times x c.account.charge) is
+            ∙ ap (times x) (charge_white o found old.book.account.charge white)
+            ∙ sum_of-append (only x) old.book.account.charge (o ∷ [])
+            ∙ ap (λ n. n + times x (o ∷ [])) (one.charge x) ∙ sym (sum_of-append (only x) h.items (o ∷ []));
         size = one.size ∙ ap (λ (c : Book). c.setup.size) (sym is);
         awake = ap (λ (c : Book). c.account.idle) is ∙ one.awake;
       }
 
-  pub left_out : (h : HeldBuffer) (o found : ℕ) → HasOne old h → new.book ≡ claimed o found old.book → found ≢ 0 → HasOne new h
+  pub left_out : (h : HeldBuffer) (o found : ℕ) → HasOne old h → new.book ≡ claimed o found old.book → found ≢ 0
+      → HasOne new h
   left_out h o found one is marked =
       record {
         held = ap (λ (c : Book). c.account.held) is ∙ one.held;
-        charge = λ x. ap (λ (c : Book). times x c.account.charge) is ∙ ap (times x) (charge_marked o found old.book.account.charge marked) ∙ one.charge x;
+        charge = λ x. ap (λ (c : Book). times x c.account.charge) is
+            ∙ ap (times x) (charge_marked o found old.book.account.charge marked) ∙ one.charge x;
         size = one.size ∙ ap (λ (c : Book). c.setup.size) (sym is);
         awake = ap (λ (c : Book). c.account.idle) is ∙ one.awake;
       }
@@ -194,14 +215,16 @@ module _ (old new : Holder) (pool : new.pool ≡ old.pool) where
       }
 
   -- the object that was taken last out of the buffer is finished
-  pub taken : (h rest : HeldBuffer) (o : ℕ) → HasOne old h → h.items ≡ rest.items ++ o ∷ [] → rest ≡ record h { items = rest.items } → new.book ≡ finished o old.book → HasOne new rest
+  pub taken : (h rest : HeldBuffer) (o : ℕ) → HasOne old h → h.items ≡ rest.items ++ o ∷ []
+      → rest ≡ record h { items = rest.items } → new.book ≡ finished o old.book → HasOne new rest
   taken h rest o one last same is =
       let before : (x : ℕ) → times x old.book.account.charge ≡ times x rest.items + times x (o ∷ []) =
-      λ x. one.charge x ∙ ap (times x) last ∙ total-append (only x) rest.items (o ∷ []) in
+      λ x. one.charge x ∙ ap (times x) last ∙ sum_of-append (only x) rest.items (o ∷ []) in
       let here : 0 < times o old.book.account.charge = omega (arith, before o, only-same o o refl) in
       record {
         held = ap (λ (c : Book). c.account.held) is ∙ one.held ∙ ap (λ (k : HeldBuffer). k.index ∷ []) (sym same);
-        charge = λ x. ap (λ (c : Book). times x c.account.charge) is ∙ omega (arith, times-remove_one x o old.book.account.charge here, before x);
+        charge = λ x. ap (λ (c : Book). times x c.account.charge) is
+            ∙ omega (arith, times-remove_one x o old.book.account.charge here, before x);
         size = ap (λ (k : HeldBuffer). k.size) same ∙ one.size ∙ ap (λ (c : Book). c.setup.size) (sym is);
         awake = ap (λ (c : Book). c.account.idle) is ∙ one.awake;
       }
@@ -215,12 +238,14 @@ no_pair n w roots o s pair =
     let k : Contains [] (o, s) = subst (λ (ps : List (ℕ × ℕ)). Contains ps (o, s)) roots.pairs pair in
     omega (arith, k.1)
 
-pub may_finish : (n : ℕ) (w : Holder) (h rest : HeldBuffer) (o : ℕ) → HasRoots n w → HasOne w h → h.items ≡ rest.items ++ o ∷ [] → CanFinish w.book.setup o w.book.account
+pub may_finish : (n : ℕ) (w : Holder) (h rest : HeldBuffer) (o : ℕ) → HasRoots n w → HasOne w h
+    → h.items ≡ rest.items ++ o ∷ [] → CanFinish w.book.setup o w.book.account
 may_finish n w h rest o roots one last =
     (times_stands w.book.account.charge o here, λ s pair. absurd (no_pair n w roots o s pair))
   where
     here : 0 < times o w.book.account.charge
-    here = omega (arith, one.charge o, ap (times o) last, total-append (only o) rest.items (o ∷ []), only-same o o refl)
+    here = omega
+        (arith, one.charge o, ap (times o) last, sum_of-append (only o) rest.items (o ∷ []), only-same o o refl)
 
 -- an object that was white and is claimed now
 pub claimed_finishable :
@@ -235,7 +260,7 @@ claimed_finishable n old new o found roots is white =
           arith,
           ap (λ (c : Book). times o c.account.charge) is,
           ap (times o) (charge_white o found old.book.account.charge white),
-          total-append (only o) old.book.account.charge (o ∷ []),
+          sum_of-append (only o) old.book.account.charge (o ∷ []),
           only-same o o refl,
         )
 
@@ -245,7 +270,8 @@ may_claim n w o roots below = inl (subst (λ (rs : List ℕ). Contains rs o) (sy
 pub may_push : (q : Which) (w : Holder) (h : HeldBuffer) → HasOne w h → (q ≡ Empty → h.items ≡ []) → MayPush q h w.book
 may_push q w h one bare =
     record {
-      held = times_stands w.book.account.held h.index (omega (arith, ap (times h.index) one.held, only-same h.index h.index refl));
+      held = times_stands w.book.account.held h.index
+          (omega (arith, ap (times h.index) one.held, only-same h.index h.index refl));
       size = one.size;
       charged = λ o. omega (arith, one.charge o);
       bare = bare;

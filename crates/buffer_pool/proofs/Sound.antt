@@ -1,5 +1,6 @@
 -- What a seat keeps between two calls is kept by each step.
-use Rattle.std.proofs.Common.{◌≡◌, ◌==◌, Bool, true, false, if◌then◌else◌, ℕ, suc, ◌<◌, List, [], ◌∷◌, ◌++◌, Option, None, Contains, sym, ap, refl, subst, ⊎_elim, arith}
+use Rattle.std.proofs.Common.{◌≡◌, ◌==◌, Bool, true, false, if◌then◌else◌, ℕ, suc, ◌<◌, List, [], ◌∷◌, ◌++◌, Option}
+use Rattle.std.proofs.Common.{None, Contains, sym, ap, refl, subst, ⊎_elim, arith}
 use Rattle.atomic_table.specs.Table.{Me}
 use Rattle.atomic_table.specs.Seated.{TableId}
 use Rattle.tagged_index.specs.Head.{Head}
@@ -7,15 +8,17 @@ use Rattle.mark_core.specs.declared.which.Which.{Which}
 use Rattle.mark_core.specs.declared.which.Which.TheVariants.{Full, Empty}
 use Rattle.mark_core.specs.Lists.{times, remove_one, without, IsPart}
 use Rattle.mark_core.specs.World.{Setup}
-use Rattle.mark_core.proofs.Sums.{stands_times, times_stands, stands_push, stands_append, times-remove_one, times-without}
+use Rattle.mark_core.proofs.Sums.{stands_times, times_stands, stands_push, stands_append, times-remove_one}
+use Rattle.mark_core.proofs.Sums.{times-without}
 use Rattle.buffer_pool.specs.declared.seat_view.SeatView.{SeatView}
-use Rattle.buffer_pool.specs.Book.{Book, loaded, link_loaded, failed, popped, pushed, claimed, finished, idled, woken, idle_loaded}
+use Rattle.buffer_pool.specs.Book.{Book, loaded, link_loaded, failed, popped, pushed, claimed, finished, idled, woken}
+use Rattle.buffer_pool.specs.Book.{idle_loaded}
 use Rattle.buffer_pool.specs.Ranges.{IsWithin}
 use Rattle.buffer_pool.specs.working.Laid.{IsBare, IsLaid, IsSound}
 use Rattle.buffer_pool.specs.working.Plays.{rested}
 use Rattle.buffer_pool.specs.Story.{Log, LeadsToBook}
-use Rattle.buffer_pool.specs.working.Told.{IsSettled, noted}
-use Rattle.buffer_pool.specs.working.Table.{slots_of}
+use Rattle.buffer_pool.specs.working.Views.{HasSaidAll, logged}
+use Rattle.buffer_pool.specs.working.Slots.{slots_of}
 
 module _ {B : Type 0} (t : TableId) (m : Me (Option B) SeatView) (sound : IsSound t m) where
   -- nothing that is kept changed but the view's book
@@ -83,9 +86,12 @@ module _ {B : Type 0} (t : TableId) (m : Me (Option B) SeatView) (sound : IsSoun
       (record { held = sound.within.held; charge = either_way (found == 0) }) story
     where
       old : (x : ℕ) → Contains (m.0.book.account.charge ++ o ∷ []) x → x < m.0.book.setup.objects
-      old x here = ⊎_elim (λ before. sound.within.charge x before) (λ same. subst (λ y. y < m.0.book.setup.objects) same below) (stands_push m.0.book.account.charge o x here)
+      old x here = ⊎_elim (λ before. sound.within.charge x before)
+          (λ same. subst (λ y. y < m.0.book.setup.objects) same below) (stands_push m.0.book.account.charge o x here)
 
-      either_way : (white : Bool) (x : ℕ) → Contains (if white then m.0.book.account.charge ++ o ∷ [] else m.0.book.account.charge) x → x < m.0.book.setup.objects
+      either_way : (white : Bool) (x : ℕ)
+          → Contains (if white then m.0.book.account.charge ++ o ∷ [] else m.0.book.account.charge) x
+          → x < m.0.book.setup.objects
       either_way true x here = old x here
       either_way false x here = sound.within.charge x here
 
@@ -98,11 +104,13 @@ module _ {B : Type 0} (t : TableId) (m : Me (Option B) SeatView) (sound : IsSoun
       charge : (x : ℕ) → Contains (remove_one o m.0.book.account.charge) x → x < m.0.book.setup.objects
       charge x here =
           let n = stands_times (remove_one o m.0.book.account.charge) x here in
-          sound.within.charge x (times_stands m.0.book.account.charge x (omega (arith, times-remove_one x o m.0.book.account.charge mine)))
+          sound.within.charge x (times_stands m.0.book.account.charge x
+          (omega (arith, times-remove_one x o m.0.book.account.charge mine)))
 
   pub sound_popped :
-      (after : Me (Option B) SeatView) (i : ℕ) (items : List ℕ) → i < m.0.book.setup.buffers → ((o : ℕ) → Contains items o → o < m.0.book.setup.objects)
-      → after.1 ≡ (i, None) ∷ [] → after.0.out ≡ suc i → after.0.book ≡ popped i items m.0.book → IsSettled after.0
+      (after : Me (Option B) SeatView) (i : ℕ) (items : List ℕ) → i < m.0.book.setup.buffers
+      → ((o : ℕ) → Contains items o → o < m.0.book.setup.objects)
+      → after.1 ≡ (i, None) ∷ [] → after.0.out ≡ suc i → after.0.book ≡ popped i items m.0.book → HasSaidAll after.0
       → LeadsToBook after.0.log after.0.book → IsSound t after
   sound_popped after i items below objects carried out book done story =
       record {
@@ -115,10 +123,12 @@ module _ {B : Type 0} (t : TableId) (m : Me (Option B) SeatView) (sound : IsSoun
       }
     where
       held : (j : ℕ) → Contains (m.0.book.account.held ++ i ∷ []) j → j < m.0.book.setup.buffers
-      held j here = ⊎_elim (λ before. sound.within.held j before) (λ same. subst (λ y. y < m.0.book.setup.buffers) same below) (stands_push m.0.book.account.held i j here)
+      held j here = ⊎_elim (λ before. sound.within.held j before)
+          (λ same. subst (λ y. y < m.0.book.setup.buffers) same below) (stands_push m.0.book.account.held i j here)
 
       charge : (o : ℕ) → Contains (m.0.book.account.charge ++ items) o → o < m.0.book.setup.objects
-      charge o here = ⊎_elim (λ before. sound.within.charge o before) (λ item. objects o item) (stands_append m.0.book.account.charge items o here)
+      charge o here = ⊎_elim (λ before. sound.within.charge o before) (λ item. objects o item)
+          (stands_append m.0.book.account.charge items o here)
 
   -- a buffer that was pushed is no longer held, and its items are no longer charged
   pub sound_pushed :
@@ -130,12 +140,14 @@ module _ {B : Type 0} (t : TableId) (m : Me (Option B) SeatView) (sound : IsSoun
       held : (j : ℕ) → Contains (remove_one i m.0.book.account.held) j → j < m.0.book.setup.buffers
       held j here =
           let n = stands_times (remove_one i m.0.book.account.held) j here in
-          sound.within.held j (times_stands m.0.book.account.held j (omega (arith, times-remove_one j i m.0.book.account.held mine)))
+          sound.within.held j (times_stands m.0.book.account.held j
+          (omega (arith, times-remove_one j i m.0.book.account.held mine)))
 
       charge : (o : ℕ) → Contains (without items m.0.book.account.charge) o → o < m.0.book.setup.objects
       charge o here =
           let n = stands_times (without items m.0.book.account.charge) o here in
-          sound.within.charge o (times_stands m.0.book.account.charge o (omega (arith, times-without items m.0.book.account.charge part o)))
+          sound.within.charge o (times_stands m.0.book.account.charge o
+          (omega (arith, times-without items m.0.book.account.charge part o)))
 
       go :
           (p : Which) → LeadsToBook log (pushed p i items m.0.book)
@@ -161,7 +173,7 @@ bare_rested m n log b same = subst IsBare (sym same) (record { slots = refl; out
 module _ {B : Type 0} (t : TableId) (m : Me (Option B) SeatView) (sound : IsSound t m) (log : Log) (i n : ℕ) where
   pub sound_stored :
       LeadsToBook log m.0.book
-      → IsSound {B = B} t (record (noted log m.0) { out = suc i; out_link = n }, (i, None) ∷ [])
+      → IsSound {B = B} t (record (logged log m.0) { out = suc i; out_link = n }, (i, None) ∷ [])
   sound_stored story =
       record {
         story = story;
@@ -174,7 +186,7 @@ module _ {B : Type 0} (t : TableId) (m : Me (Option B) SeatView) (sound : IsSoun
 
   pub sound_missed :
       (out : m.0.out ≡ suc i) → LeadsToBook log (failed m.0.book)
-      → IsSound {B = B} t (record (noted log m.0) { book = failed m.0.book }, (i, None) ∷ [])
+      → IsSound {B = B} t (record (logged log m.0) { book = failed m.0.book }, (i, None) ∷ [])
   sound_missed out story =
       record {
         story = story;

@@ -1,5 +1,7 @@
 -- The words and slots that a pool is made of meet the rule.
-use Rattle.std.proofs.Common.{◌≡◌, ℕ, zero, suc, ◌+◌, ◌%◌, ◌<◌, ◌≤◌, if◌then◌else◌, List, [], ◌∷◌, ◌++◌, length, map, replicate, Option, Some, None, All, set, slice_index, ap, sym, refl, subst, ◌∙◌, length-set, lt-ltb, le-ltb, arith}
+use Rattle.std.proofs.Common.{◌≡◌, ℕ, zero, suc, ◌+◌, ◌%◌, ◌<◌, ◌≤◌, if◌then◌else◌, List, [], ◌∷◌, ◌++◌, length, map}
+use Rattle.std.proofs.Common.{replicate, Option, Some, None, All, set, slice_index, ap, sym, refl, subst, ◌∙◌}
+use Rattle.std.proofs.Common.{length-set, lt-ltb, le-ltb, arith}
 use Rattle.std.proofs.lemmas.List.{get_or-set_same, get_or-set_other, length-replicate, length-map}
 use Rattle.std.proofs.lemmas.List.Elements.{All-append}
 use mathlib.Core.Option.{some, some-injective, some-ne-none}
@@ -23,12 +25,14 @@ use Rattle.buffer_pool.specs.working.Laid.{IsLaid, IsSound}
 use Rattle.buffer_pool.specs.working.Setups.{first_view}
 use Rattle.buffer_pool.specs.working.Opening.{HasFirstWords, IsFirstSlot}
 use Rattle.buffer_pool.specs.working.Packed.{mark_in, mark_words, pair_mark}
-use Rattle.buffer_pool.specs.working.Table.{Reading, Rule, IsTied, Rests, cut, first_mark, head_word, link_word, mark_word, marking_of, marks_of, slot_of}
+use Rattle.buffer_pool.specs.working.Layout.{first_mark, head_word, link_word, mark_word}
+use Rattle.buffer_pool.specs.working.Slots.{Reading, IsTied, Rests, slot_of}
+use Rattle.buffer_pool.specs.working.Table.{Rule, cut, marking_of, marks_of}
 use Rattle.buffer_pool.proofs.Bits.{cut_white, white_pair}
 use Rattle.buffer_pool.proofs.States.{agrees, cut_below}
 use Rattle.buffer_pool.proofs.Loads.{nothing_out}
 use Rattle.buffer_pool.proofs.Deeds.{told_now}
-use Rattle.buffer_pool.specs.working.Told.{IsTold}
+use Rattle.buffer_pool.specs.working.Views.{IsViewOf}
 use Rattle.buffer_pool.proofs.Words.{head_below}
 
 zeros : (n i : ℕ) → slice_index (replicate n 0) i ≡ 0
@@ -40,7 +44,14 @@ zeros (suc n) (suc i) = zeros n i
 pub heads_alone :
     (count tag x y : ℕ) → 32 ≤ count → head_of x ≡ first_heads tag Full → head_of y ≡ first_heads tag Empty
     → HasFirstWords count tag 1 (set (set (replicate count 0) 0 x) 16 y)
-heads_alone count tag x y long full empty = record { word_count = length-set bare 16 y ∙ long_as; heads = heads; idle = idle; links = λ i low. absurd (omega (arith, low)); rest = rest }
+heads_alone count tag x y long full empty =
+    record {
+      word_count = length-set bare 16 y ∙ long_as;
+      heads = heads;
+      idle = idle;
+      links = λ i low. absurd (omega (arith, low));
+      rest = rest;
+    }
   where
     bare : List ℕ
     bare = set (replicate count 0) 0 x
@@ -49,21 +60,33 @@ heads_alone count tag x y long full empty = record { word_count = length-set bar
     long_as = length-set (replicate count 0) 0 x ∙ length-replicate count 0
 
     heads : (q : Which) → head_of (slice_index (set bare 16 y) (head_word q)) ≡ first_heads tag q
-    heads Full = ap head_of (get_or-set_other bare 16 0 y 0 (λ f. omega (arith, f)) ∙ get_or-set_same (replicate count 0) 0 x 0 (omega (arith, long, length-replicate {A = ℕ} count 0))) ∙ full
+    heads Full = ap head_of (get_or-set_other bare 16 0 y 0 (λ f. omega (arith, f))
+        ∙ get_or-set_same (replicate count 0) 0 x 0 (omega (arith, long, length-replicate {A = ℕ} count 0))) ∙ full
     heads Empty = ap head_of (get_or-set_same bare 16 y 0 (omega (arith, long, long_as))) ∙ empty
 
     idle : slice_index (set bare 16 y) 8 ≡ 0
-    idle = get_or-set_other bare 16 8 y 0 (λ f. omega (arith, f)) ∙ get_or-set_other (replicate count 0) 0 8 x 0 (λ f. omega (arith, f)) ∙ zeros count 8
+    idle = get_or-set_other bare 16 8 y 0 (λ f. omega (arith, f))
+        ∙ get_or-set_other (replicate count 0) 0 8 x 0 (λ f. omega (arith, f)) ∙ zeros count 8
 
     rest : (k : ℕ) → 31 + 1 ≤ k → slice_index (set bare 16 y) k ≡ 0
-    rest k far = get_or-set_other bare 16 k y 0 (λ f. omega (arith, f, far)) ∙ get_or-set_other (replicate count 0) 0 k x 0 (λ f. omega (arith, f, far)) ∙ zeros count k
+    rest k far = get_or-set_other bare 16 k y 0 (λ f. omega (arith, f, far))
+        ∙ get_or-set_other (replicate count 0) 0 k x 0 (λ f. omega (arith, f, far)) ∙ zeros count k
 
 -- one more link is laid
-pub link_laid : (count tag next at x : ℕ) (words : List ℕ) → HasFirstWords count tag next words → 0 < next → at ≡ 31 + next → at < count → x ≡ next + 1 → HasFirstWords count tag (next + 1) (set words at x)
-link_laid count tag next at x words first some_link place inside value = record { word_count = length-set words at x ∙ first.word_count; heads = heads; idle = get_or-set_other words at 8 x 0 (λ f. omega (arith, f, place)) ∙ first.idle; links = links; rest = rest }
+pub link_laid : (count tag next at x : ℕ) (words : List ℕ) → HasFirstWords count tag next words → 0 < next
+    → at ≡ 31 + next → at < count → x ≡ next + 1 → HasFirstWords count tag (next + 1) (set words at x)
+link_laid count tag next at x words first some_link place inside value =
+    record {
+      word_count = length-set words at x ∙ first.word_count;
+      heads = heads;
+      idle = get_or-set_other words at 8 x 0 (λ f. omega (arith, f, place)) ∙ first.idle;
+      links = links;
+      rest = rest;
+    }
   where
     heads : (q : Which) → head_of (slice_index (set words at x) (head_word q)) ≡ first_heads tag q
-    heads q = ap head_of (get_or-set_other words at (head_word q) x 0 (λ f. omega (arith, f, head_below q))) ∙ first.heads q
+    heads q = ap head_of (get_or-set_other words at (head_word q) x 0 (λ f. omega (arith, f, head_below q)))
+        ∙ first.heads q
 
     links : (i : ℕ) → i + 1 < next + 1 → slice_index (set words at x) (link_word i) ≡ i + 2
     links i low = go (dec_le next (i + 1))
@@ -71,15 +94,18 @@ link_laid count tag next at x words first some_link place inside value = record 
         go : Dec (next ≤ i + 1) → slice_index (set words at x) (link_word i) ≡ i + 2
         go (yes last) =
             let here : at ≡ 32 + i = omega (arith, last, low) in
-            subst (λ k. slice_index (set words at x) k ≡ i + 2) here (get_or-set_same words at x 0 (omega (arith, first.word_count, inside)) ∙ omega (arith, last, low))
-        go (no earlier) = get_or-set_other words at (link_word i) x 0 (λ f. omega (arith, f, earlier)) ∙ first.links i (omega (arith, earlier))
+            subst (λ k. slice_index (set words at x) k ≡ i + 2) here
+            (get_or-set_same words at x 0 (omega (arith, first.word_count, inside)) ∙ omega (arith, last, low))
+        go (no earlier) = get_or-set_other words at (link_word i) x 0 (λ f. omega (arith, f, earlier))
+            ∙ first.links i (omega (arith, earlier))
 
     rest : (k : ℕ) → 31 + (next + 1) ≤ k → slice_index (set words at x) k ≡ 0
     rest k far = get_or-set_other words at k x 0 (λ f. omega (arith, f, far)) ∙ first.rest k (omega (arith, far))
 
 -- slots of new buffers are those of an opening marking
 module _ {B : Type 0} (r : Reading B) (size : ℕ) where
-  slots_bare : (slots : List (Option B)) → All (IsFirstSlot r size) slots → map (slot_of r) (map some slots) ≡ replicate (length slots) (Some [])
+  slots_bare : (slots : List (Option B)) → All (IsFirstSlot r size) slots
+      → map (slot_of r) (map some slots) ≡ replicate (length slots) (Some [])
   slots_bare [] all = refl
   slots_bare (s ∷ ss) all =
       let t : IsFirstSlot r size s = all 0 s (omega arith) in
@@ -87,7 +113,8 @@ module _ {B : Type 0} (r : Reading B) (size : ℕ) where
       let rest = slots_bare ss (λ k d low. all (suc k) d (omega (arith, low))) in
       λ k. here k ∷ rest k
 
-  slots_sized : (slots : List (Option B)) (i : ℕ) (b : B) → All (IsFirstSlot r size) slots → get_elem? (map some slots) i ≡ some (some (Some b)) → r.size b ≡ size
+  slots_sized : (slots : List (Option B)) (i : ℕ) (b : B) → All (IsFirstSlot r size) slots
+      → get_elem? (map some slots) i ≡ some (some (Some b)) → r.size b ≡ size
   slots_sized [] i b all at = absurd (some-ne-none (some (Some b)) (sym at))
   slots_sized (s ∷ ss) zero b all at =
       let t : IsFirstSlot r size s = all 0 s (omega arith) in
@@ -101,8 +128,8 @@ one_view : (w : ℕ) (v u : SeatView) → get_elem? (v ∷ []) w ≡ some u → 
 one_view zero v u at = some-injective v u at
 one_view (suc w) v u at = absurd (some-ne-none u (sym at))
 
-one_told : (w : ℕ) (v u : SeatView) → get_elem? (v ∷ []) w ≡ some u → IsTold [] 0 v → IsTold [] w u
-one_told zero v u at told = subst (IsTold [] 0) (some-injective v u at) told
+one_told : (w : ℕ) (v u : SeatView) → get_elem? (v ∷ []) w ≡ some u → IsViewOf [] 0 v → IsViewOf [] w u
+one_told zero v u at told = subst (IsViewOf [] 0) (some-injective v u at) told
 one_told (suc w) v u at told = absurd (some-ne-none u (sym at))
 
 -- the empty story leads to the first book
@@ -120,9 +147,12 @@ starts {B} r e words slots some_buffer first count all =
       slot_count = length-map slots some ∙ count;
       sized = λ i b at. slots_sized r e.size slots i b all at;
       linked = linked;
-      tied = λ w v at. subst (IsTied words) (one_view w (first_view e) v at) (λ i out. absurd (nothing_out 0 refl i out));
-      rests = λ w v at. subst (Rests (map some slots)) (one_view w (first_view e) v at) (λ i mine out. absurd (omega (arith, mine)));
-      same_setup = λ w v at. subst (λ (x : SeatView). 0 < x.book.account.share → x.book.setup ≡ e) (one_view w (first_view e) v at) (λ h. refl);
+      tied = λ w v at. subst (IsTied words) (one_view w (first_view e) v at)
+          (λ i out. absurd (nothing_out 0 refl i out));
+      rests = λ w v at. subst (Rests (map some slots)) (one_view w (first_view e) v at)
+          (λ i mine out. absurd (omega (arith, mine)));
+      same_setup = λ w v at. subst (λ (x : SeatView). 0 < x.book.account.share → x.book.setup ≡ e)
+          (one_view w (first_view e) v at) (λ h. refl);
       some_buffer = some_buffer;
       reached =
           record {
@@ -145,17 +175,22 @@ starts {B} r e words slots some_buffer first count all =
     linked_first i low = go (dec_le e.buffers (i + 1))
       where
         go : Dec (e.buffers ≤ i + 1) → index_of (slice_index words (link_word i)) ≡ first_link e.buffers i
-        go (yes last) = ap index_of (first.rest (link_word i) (omega (arith, last))) ∙ sym (ap (λ t. if t then Some (i + 1) else None) (le-ltb (i + 1) e.buffers last))
+        go (yes last) = ap index_of (first.rest (link_word i) (omega (arith, last)))
+            ∙ sym (ap (λ t. if t then Some (i + 1) else None) (le-ltb (i + 1) e.buffers last))
         go (no earlier) =
-            let two : slice_index words (link_word i) ≡ suc (i + 1) = omega (arith, first.links i (omega (arith, earlier))) in
-            ap index_of two ∙ sym (ap (λ t. if t then Some (i + 1) else None) (lt-ltb (i + 1) e.buffers (omega (arith, earlier))))
+            let two : slice_index words (link_word i) ≡ suc (i + 1) =
+            omega (arith, first.links i (omega (arith, earlier))) in
+            ap index_of two ∙ sym (ap (λ t. if t then Some (i + 1) else None)
+            (lt-ltb (i + 1) e.buffers (omega (arith, earlier))))
 
     -- past the buffers both have no link
     links : (i : ℕ) → cut e.buffers (λ k. index_of (slice_index words (link_word k))) i ≡ first_link e.buffers i
     links i = go (dec_le e.buffers i)
       where
-        go : Dec (e.buffers ≤ i) → cut e.buffers (λ k. index_of (slice_index words (link_word k))) i ≡ first_link e.buffers i
-        go (no below) = cut_below e.buffers (λ k. index_of (slice_index words (link_word k))) i (omega (arith, below)) ∙ linked_first i (omega (arith, below))
+        go : Dec (e.buffers ≤ i)
+            → cut e.buffers (λ k. index_of (slice_index words (link_word k))) i ≡ first_link e.buffers i
+        go (no below) = cut_below e.buffers (λ k. index_of (slice_index words (link_word k))) i (omega (arith, below))
+            ∙ linked_first i (omega (arith, below))
         go (yes past) =
             ap (λ t. if t then index_of (slice_index words (link_word i)) else None) (le-ltb i e.buffers past)
             ∙ sym (ap (λ t. if t then Some (i + 1) else None) (le-ltb (i + 1) e.buffers (omega (arith, past))))
@@ -171,7 +206,9 @@ starts {B} r e words slots some_buffer first count all =
         white (slots_bare r e.size slots all ∙ ap (λ n. replicate n (Some [])) count) first.idle refl
 
 -- one more slot has its buffer
-pub slot_pushed : {B : Type 0} (r : Reading B) (size : ℕ) (slots : List (Option B)) (b : B) → All (IsFirstSlot r size) slots → r.items b ≡ [] → r.size b ≡ size → All (IsFirstSlot r size) (slots ++ Some b ∷ [])
+pub slot_pushed : {B : Type 0} (r : Reading B) (size : ℕ) (slots : List (Option B)) (b : B)
+    → All (IsFirstSlot r size) slots → r.items b ≡ [] → r.size b ≡ size
+    → All (IsFirstSlot r size) (slots ++ Some b ∷ [])
 slot_pushed r size slots b all bare sized = All-append (IsFirstSlot r size) slots (Some b ∷ []) all one
   where
     one : All (IsFirstSlot r size) (Some b ∷ [])
@@ -182,9 +219,18 @@ slot_pushed r size slots b all bare sized = All-append (IsFirstSlot r size) slot
 pub laid_first :
     (t : TableId) (e : Setup) (tag asked : ℕ) (words : List ℕ) (slots : ℕ) → t.words ≡ length words → t.slots ≡ slots
     → HasFirstWords (32 + e.buffers + mark_words e.objects) tag e.buffers words → slots ≡ e.buffers
-    → IsInside e.objects e.buffers e.size asked → All (λ o. o < e.objects) e.roots → All (λ p. (p.0 < e.objects) × (p.1 < e.objects)) e.pairs → IsLaid t e
+    → IsInside e.objects e.buffers e.size asked → All (λ o. o < e.objects) e.roots
+    → All (λ p. (p.0 < e.objects) × (p.1 < e.objects)) e.pairs → IsLaid t e
 laid_first t e tag asked words slots word_count slot_count first count inside roots pairs =
-    record { words = word_count ∙ first.word_count; slots = slot_count ∙ count; few = inside.few; many = inside.many; objects = inside.objects; roots = roots; pairs = pairs }
+    record {
+      words = word_count ∙ first.word_count;
+      slots = slot_count ∙ count;
+      few = inside.few;
+      many = inside.many;
+      objects = inside.objects;
+      roots = roots;
+      pairs = pairs;
+    }
 
 -- the first seat is sound
 pub sound_first : {B : Type 0} (t : TableId) (e : Setup) → IsLaid t e → IsSound {B = B} t (first_view e, [])

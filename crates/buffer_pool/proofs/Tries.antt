@@ -1,28 +1,37 @@
--- A try of a push that was lost may be made again.
+-- A try that was lost may be made again.
 use Rattle.std.proofs.Common.{◌≡◌, ◌∙◌, ℕ, Option, sym, subst}
 use Rattle.tagged_index.specs.Head.{Head}
 use Rattle.mark_core.specs.declared.which.Which.{Which}
 use Rattle.mark_core.specs.declared.which.Which.TheVariants.{Full, Empty}
 use Rattle.buffer_pool.specs.Book.{Book, loaded, link_loaded, failed}
-use Rattle.buffer_pool.specs.Calls.{Holder, HeldBuffer, MayPush, Pops, Pushes}
+use Rattle.buffer_pool.specs.Calls.{Holder, HeldBuffer, MayPush, TriesPop, TriesPush}
 use Rattle.buffer_pool.specs.declared.answers.TryPopped.TheVariants as try_pop
 use Rattle.buffer_pool.specs.declared.answers.TryPushed.TheVariants as try_push
 use Rattle.mark_core.specs.Event.{IsBusy}
 
-may_loaded : (q : Which) (h : HeldBuffer) (head : Head) (b : Book) → MayPush q h b → MayPush q h (failed (loaded q head b))
-may_loaded Full h head b may = record { held = may.held; size = may.size; charged = may.charged; bare = may.bare; busy = may.busy }
-may_loaded Empty h head b may = record { held = may.held; size = may.size; charged = may.charged; bare = may.bare; busy = may.busy }
+may_loaded : (q : Which) (h : HeldBuffer) (head : Head) (b : Book) → MayPush q h b
+    → MayPush q h (failed (loaded q head b))
+may_loaded Full h head b may =
+    record { held = may.held; size = may.size; charged = may.charged; bare = may.bare; busy = may.busy }
+may_loaded Empty h head b may =
+    record { held = may.held; size = may.size; charged = may.charged; bare = may.bare; busy = may.busy }
 
-pub may_again : (q : Which) (h back : HeldBuffer) (old new : Book) → MayPush q h old → Pushes q h old new (try_push.Lost back) → MayPush q back new
-may_again q h back old new may lost = subst (λ (k : HeldBuffer). MayPush q k new) (sym lost.1) (subst (MayPush q h) (sym lost.3) (may_loaded q h lost.0 old may))
+pub may_again : (q : Which) (h back : HeldBuffer) (old new : Book) → MayPush q h old
+    → TriesPush q h old new (try_push.Lost back) → MayPush q back new
+may_again q h back old new may lost =
+    subst (λ (k : HeldBuffer). MayPush q k new) (sym lost.1)
+    (subst (MayPush q h) (sym lost.3) (may_loaded q h lost.0 old may))
 
 -- a worker that is not idle may try a pop again
-busy_looked : (q : Which) (head : Head) (link : Option ℕ) (b : Book) → IsBusy b.account → IsBusy (failed (link_loaded q link (loaded q head b))).account
+busy_looked : (q : Which) (head : Head) (link : Option ℕ) (b : Book) → IsBusy b.account
+    → IsBusy (failed (link_loaded q link (loaded q head b))).account
 busy_looked Full head link b busy = busy
 busy_looked Empty head link b busy = busy
 
-pub busy_again : (q : Which) (old new : Book) → IsBusy old.account → Pops q old new try_pop.Lost → IsBusy new.account
-busy_again q old new busy lost = subst (λ (b : Book). IsBusy b.account) (sym lost.5) (busy_looked q lost.0 lost.2 old busy)
+pub busy_again : (q : Which) (old new : Book) → IsBusy old.account → TriesPop q old new try_pop.Lost
+    → IsBusy new.account
+busy_again q old new busy lost =
+    subst (λ (b : Book). IsBusy b.account) (sym lost.5) (busy_looked q lost.0 lost.2 old busy)
 
 -- a worker stays in its pool
 pub same_pool : (a b c : Holder) → b.pool ≡ a.pool → c.pool ≡ b.pool → c.pool ≡ a.pool

@@ -1,5 +1,6 @@
 -- The words of a table after one of them changed.
-use Rattle.std.proofs.Common.{◌≡◌, ◌≢◌, ℕ, ◌+◌, ◌/◌, ◌%◌, ◌<◌, ◌≤◌, ◌==◌, bit_or, nat_lt, if◌then◌else◌, List, length, None, set, slice_index, ap, sym, ◌∙◌, eq-eqb, ne_eqb, arith}
+use Rattle.std.proofs.Common.{◌≡◌, ◌≢◌, ℕ, ◌+◌, ◌/◌, ◌%◌, ◌<◌, ◌≤◌, ◌==◌, bit_or, nat_lt, if◌then◌else◌, List, length}
+use Rattle.std.proofs.Common.{None, set, slice_index, ap, sym, ◌∙◌, eq-eqb, ne_eqb, arith}
 use Rattle.std.proofs.lemmas.List.{get_or-set_same, get_or-set_other}
 use native.Mathlib.Decide.{ℕ_discrete}
 use prog.Atomic.{either}
@@ -10,7 +11,8 @@ use Rattle.mark_core.specs.declared.which.Which.TheVariants.{Full, Empty}
 use Rattle.mark_core.specs.World.{Setup, put, put_which}
 use Rattle.mark_core.proofs.Places.{put_here, put_else}
 use Rattle.buffer_pool.specs.working.Packed.{mark_in, pair_bits, pair_mark}
-use Rattle.buffer_pool.specs.working.Table.{cut, first_mark, head_word, link_word, mark_word, marks_of}
+use Rattle.buffer_pool.specs.working.Layout.{first_mark, head_word, link_word, mark_word}
+use Rattle.buffer_pool.specs.working.Table.{cut, marks_of}
 use Rattle.buffer_pool.proofs.Bits.{cut_object, mark_beside}
 
 -- a head has one word
@@ -38,12 +40,14 @@ module _ (e : Setup) (words : List ℕ) where
 
   -- after a write of a head
   module _ (q : Which) (x : ℕ) where
-    pub link_beside_head : (i : ℕ) → slice_index (set words (head_word q) x) (link_word i) ≡ slice_index words (link_word i)
+    pub link_beside_head : (i : ℕ)
+        → slice_index (set words (head_word q) x) (link_word i) ≡ slice_index words (link_word i)
     link_beside_head i = get_or-set_other words (head_word q) (link_word i) x 0 (λ h. omega (arith, h, head_below q))
 
     pub links_beside_head :
         (i : ℕ)
-        → cut e.buffers (λ k. index_of (slice_index (set words (head_word q) x) (link_word k))) i ≡ cut e.buffers (λ k. index_of (slice_index words (link_word k))) i
+        → cut e.buffers (λ k. index_of (slice_index (set words (head_word q) x) (link_word k))) i
+        ≡ cut e.buffers (λ k. index_of (slice_index words (link_word k))) i
     links_beside_head i = ap (λ y. if nat_lt i e.buffers then index_of y else None) (link_beside_head i)
 
     pub idle_beside_head : slice_index (set words (head_word q) x) 8 ≡ slice_index words 8
@@ -58,10 +62,13 @@ module _ (e : Setup) (words : List ℕ) where
         same_mark (set words (head_word q) x) o
         (get_or-set_other words (head_word q) (mark_word e o) x 0 (λ h. omega (arith, h, head_below q)))
 
-    pub heads_after : (h : Head) → 32 ≤ length words → head_of x ≡ h → (p : Which) → head_of (slice_index (set words (head_word q) x) (head_word p)) ≡ put_which q h (λ k. head_of (slice_index words (head_word k))) p
+    pub heads_after : (h : Head) → 32 ≤ length words → head_of x ≡ h → (p : Which)
+        → head_of (slice_index (set words (head_word q) x) (head_word p))
+        ≡ put_which q h (λ k. head_of (slice_index words (head_word k))) p
     heads_after h long is p = go q p is
       where
-        go : (q p : Which) → head_of x ≡ h → head_of (slice_index (set words (head_word q) x) (head_word p)) ≡ put_which q h (λ k. head_of (slice_index words (head_word k))) p
+        go : (q p : Which) → head_of x ≡ h → head_of (slice_index (set words (head_word q) x) (head_word p))
+            ≡ put_which q h (λ k. head_of (slice_index words (head_word k))) p
         go Full Full is = ap head_of (get_or-set_same words 0 x 0 (omega arith)) ∙ is
         go Full Empty is = ap head_of (get_or-set_other words 0 16 x 0 (λ f. omega (arith, f)))
         go Empty Full is = ap head_of (get_or-set_other words 16 0 x 0 (λ f. omega (arith, f)))
@@ -69,13 +76,15 @@ module _ (e : Setup) (words : List ℕ) where
 
   -- after a write of a buffer's link
   module _ (i x : ℕ) where
-    pub head_beside_link : (q : Which) → slice_index (set words (link_word i) x) (head_word q) ≡ slice_index words (head_word q)
+    pub head_beside_link : (q : Which)
+        → slice_index (set words (link_word i) x) (head_word q) ≡ slice_index words (head_word q)
     head_beside_link q = get_or-set_other words (link_word i) (head_word q) x 0 (λ h. omega (arith, h, head_below q))
 
     pub idle_beside_link : slice_index (set words (link_word i) x) 8 ≡ slice_index words 8
     idle_beside_link = get_or-set_other words (link_word i) 8 x 0 (λ h. omega (arith, h))
 
-    pub link_beside_link : (j : ℕ) → j ≢ i → slice_index (set words (link_word i) x) (link_word j) ≡ slice_index words (link_word j)
+    pub link_beside_link : (j : ℕ) → j ≢ i
+        → slice_index (set words (link_word i) x) (link_word j) ≡ slice_index words (link_word j)
     link_beside_link j other = get_or-set_other words (link_word i) (link_word j) x 0 (λ h. other (omega (arith, h)))
 
     pub link_here : 32 + i < length words → slice_index (set words (link_word i) x) (link_word i) ≡ x
@@ -86,12 +95,18 @@ module _ (e : Setup) (words : List ℕ) where
         same_mark (set words (link_word i) x) o
         (get_or-set_other words (link_word i) (mark_word e o) x 0 (λ h. omega (arith, h, below)))
 
-    pub links_after : 32 + i < length words → (j : ℕ) → index_of (slice_index (set words (link_word i) x) (link_word j)) ≡ put i (index_of x) (λ k. index_of (slice_index words (link_word k))) j
+    pub links_after : 32 + i < length words → (j : ℕ)
+        → index_of (slice_index (set words (link_word i) x) (link_word j))
+        ≡ put i (index_of x) (λ k. index_of (slice_index words (link_word k))) j
     links_after below j = go (ℕ_discrete j i)
       where
-        go : Dec (j ≡ i) → index_of (slice_index (set words (link_word i) x) (link_word j)) ≡ put i (index_of x) (λ k. index_of (slice_index words (link_word k))) j
-        go (yes same) = ap (λ k. index_of (slice_index (set words (link_word i) x) (link_word k))) same ∙ ap index_of (link_here below) ∙ sym (put_here i j (index_of x) (λ k. index_of (slice_index words (link_word k))) same)
-        go (no other) = ap index_of (link_beside_link j other) ∙ sym (put_else i j (index_of x) (λ k. index_of (slice_index words (link_word k))) other)
+        go : Dec (j ≡ i) → index_of (slice_index (set words (link_word i) x) (link_word j))
+            ≡ put i (index_of x) (λ k. index_of (slice_index words (link_word k))) j
+        go (yes same) = ap (λ k. index_of (slice_index (set words (link_word i) x) (link_word k))) same
+            ∙ ap index_of (link_here below)
+            ∙ sym (put_here i j (index_of x) (λ k. index_of (slice_index words (link_word k))) same)
+        go (no other) = ap index_of (link_beside_link j other)
+            ∙ sym (put_else i j (index_of x) (λ k. index_of (slice_index words (link_word k))) other)
 
   -- after the bits of c were set at an object's pair
   module _ (o c : ℕ) where

@@ -6,7 +6,7 @@ use Rattle.mark_core.specs.Event.{CanClaim}
 use Rattle.mark_core.specs.Lists.{times, remove_one, without}
 use Rattle.mark_core.specs.World.{Setup}
 use Rattle.buffer_pool.specs.Book.{Book, loaded, link_loaded, failed, popped, pushed, finished}
-use Rattle.buffer_pool.specs.Calls.{Holder, HeldBuffer, LostPops, LostPushes, MayPush, PopsAtLast, PushesAtLast}
+use Rattle.buffer_pool.specs.Calls.{Holder, HeldBuffer, LostPops, LostPushes, MayPush, Pops, Pushes}
 use Rattle.buffer_pool.specs.Calls.LostPops.{none as no_pop, more as more_pops}
 use Rattle.buffer_pool.specs.Calls.LostPushes.{none as no_push, more as more_pushes}
 use Rattle.buffer_pool.specs.tests.Worked.{Holds, bare, root_finished}
@@ -37,17 +37,20 @@ look_failed a b c look is =
 pub lost_pops : (q : Which) (old new : Book) → LostPops q old new → IsLook old new
 lost_pops q old new (no_pop b) = look_same b
 lost_pops q old new (more_pops a mid b before last) =
-    look_then a mid b (lost_pops q a mid before) (look_failed mid (link_loaded q last.2 (loaded q last.0 mid)) b (look_link q last.0 last.2 mid) last.5)
+    look_then a mid b (lost_pops q a mid before)
+    (look_failed mid (link_loaded q last.2 (loaded q last.0 mid)) b (look_link q last.0 last.2 mid) last.5)
 
 lost_pushes : (q : Which) (h : HeldBuffer) (old new : Book) → LostPushes q h old new → IsLook old new
 lost_pushes q h old new (no_push b) = look_same b
 lost_pushes q h old new (more_pushes a mid b before last) =
-    look_then a mid b (lost_pushes q h a mid before) (look_failed mid (loaded q last.0 mid) b (look_head q last.0 mid) last.3)
+    look_then a mid b (lost_pushes q h a mid before)
+    (look_failed mid (loaded q last.0 mid) b (look_head q last.0 mid) last.3)
 
 module _ (old new : Holder) (n : ℕ) (list : List ℕ) (was : Holds n list old) where
   -- a buffer without items was popped
   pub pops_bare :
-      (q : Which) (h : HeldBuffer) (wanted : ℕ) → PopsAtLast q old.book new.book (pop.Took h) → h.index ≡ wanted → length h.items ≡ 0
+      (q : Which) (h : HeldBuffer) (wanted : ℕ) → Pops q old.book new.book (pop.Took h) → h.index ≡ wanted
+      → length h.items ≡ 0
       → Holds n (list ++ wanted ∷ []) new × (h ≡ bare n wanted)
   pops_bare q h wanted p index none = (
     record {
@@ -81,7 +84,8 @@ module _ (old new : Holder) (n : ℕ) (list : List ℕ) (was : Holds n list old)
       size = p.2.4 ∙ ap (λ (e : Setup). e.size) lost.setup ∙ was.room
 
   -- a buffer without items was pushed
-  pub pushes_bare : (q : Which) (h : HeldBuffer) → PushesAtLast q h old.book new.book try_push.Done → h.items ≡ [] → Holds n (remove_one h.index list) new
+  pub pushes_bare : (q : Which) (h : HeldBuffer) → Pushes q h old.book new.book try_push.Done → h.items ≡ []
+      → Holds n (remove_one h.index list) new
   pushes_bare q h p none =
       record {
         held = ap (λ (b : Book). b.account.held) is ∙ ap (remove_one h.index) (look.held ∙ was.held);
@@ -115,9 +119,12 @@ may_push_bare q w n list h was here is =
     }
 
 -- a buffer of this number is one of its own number
-pub by_number : (n i : ℕ) (list : List ℕ) (h : HeldBuffer) → h ≡ bare n i → Contains list i → Contains list h.index × (h ≡ bare n h.index)
-by_number n i list h is here = let index : h.index ≡ i = ap (λ (l : HeldBuffer). l.index) is in (subst (Contains list) (sym index) here, is ∙ ap (bare n) (sym index))
+pub by_number : (n i : ℕ) (list : List ℕ) (h : HeldBuffer) → h ≡ bare n i → Contains list i → Contains list h.index
+    × (h ≡ bare n h.index)
+by_number n i list h is here = let index : h.index ≡ i = ap (λ (l : HeldBuffer). l.index) is in
+    (subst (Contains list) (sym index) here, is ∙ ap (bare n) (sym index))
 
 -- object 2 is answered for and refers to the class
 pub may_claim_again : (b : Book) → b ≡ finished 0 root_finished → CanClaim b.setup 0 b.account
-may_claim_again b is = subst (λ (x : Book). CanClaim x.setup 0 x.account) (sym is) (inr (2, (0, omega arith, refl), (2, omega arith, refl)))
+may_claim_again b is = subst (λ (x : Book). CanClaim x.setup 0 x.account) (sym is)
+    (inr (2, (0, omega arith, refl), (2, omega arith, refl)))

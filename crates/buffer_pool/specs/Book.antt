@@ -4,7 +4,9 @@ use Rattle.std.specs.Prelude.{ℕ, ◌+◌, List, [], Option}
 use Rattle.mark_core.specs.declared.which.Which.{Which}
 use Rattle.mark_core.specs.declared.which.Which.TheVariants.{Full, Empty}
 use Rattle.tagged_index.specs.Head.{Head}
-use Rattle.mark_core.specs.Account.{Account, part, no_share, after_claim, after_finish, after_split, after_join, after_load, after_load_link, after_pop, after_push, after_idle_up, after_idle_down, after_load_idle}
+use Rattle.mark_core.specs.Account.{Account, part, no_share, after_claim, after_finish, after_split, after_join}
+use Rattle.mark_core.specs.Account.{after_load, after_load_link, after_pop, after_push, after_idle_up, after_idle_down}
+use Rattle.mark_core.specs.Account.{after_load_idle}
 use Rattle.mark_core.specs.World.{Setup}
 use Rattle.mark_core.specs.Counts.{Counts, none_found}
 

@@ -35,19 +35,19 @@ abbrev pub After : Book → List (Book → Book) → Book → Type 0
 After old [] new = new ≡ old
 After old (step ∷ steps) new = After (step old) steps new
 
--- a try of a pop. Its loads found some head and some link: here they are any values, which the account keeps as its
+-- one try of a pop. Its loads found some head and some link: here they are any values, which the account keeps as its
 -- look; that the stack had them then, the worker's story says (LeadsToBook). Took: the head has this buffer, its link
 -- was loaded, and the exchange won; a buffer of the empty stack has no items. Empty: the head has no buffer. Lost: the
 -- exchange failed. Spent: the head has a buffer and the last tag.
-abbrev pub Pops : Which → Book → Book → TryPopped HeldBuffer → Type 0
-Pops q old new (try_pop.Took h) =
+abbrev pub TriesPop : Which → Book → Book → TryPopped HeldBuffer → Type 0
+TriesPop q old new (try_pop.Took h) =
     (head : Head) × (link : Option ℕ) × (head.index ≡ Some h.index) × (head.tag < last_tag) × (h.size ≡ old.setup.size)
     × After old (loaded q head ∷ link_loaded q link ∷ popped h.index h.items ∷ []) new × (q ≡ Empty → h.items ≡ [])
-Pops q old new try_pop.Empty = (head : Head) × (head.index ≡ None) × After old (loaded q head ∷ []) new
-Pops q old new try_pop.Lost =
+TriesPop q old new try_pop.Empty = (head : Head) × (head.index ≡ None) × After old (loaded q head ∷ []) new
+TriesPop q old new try_pop.Lost =
     (head : Head) × (i : ℕ) × (link : Option ℕ) × (head.index ≡ Some i) × (head.tag < last_tag)
     × After old (loaded q head ∷ link_loaded q link ∷ failed ∷ []) new
-Pops q old new try_pop.Spent =
+TriesPop q old new try_pop.Spent =
     (head : Head) × (i : ℕ) × (head.index ≡ Some i) × (head.tag ≡ last_tag) × After old (loaded q head ∷ []) new
 
 -- the worker holds the buffer, it is one of the pool's, its items are part of the charge, and there are none for the
@@ -59,20 +59,20 @@ pub record MayPush (q : Which) (h : HeldBuffer) (b : Book) : Type 0 where
   pub bare : q ≡ Empty → h.items ≡ []
   pub busy : q ≡ Full → IsBusy b.account
 
--- a try of a push. Its load found some head, here too any value; the link that it stores at the buffer is in no book.
+-- one try of a push. Its load found some head, here too any value; the link that it stores at the buffer is in no book.
 -- Done: the exchange won. Lost: it failed. Spent: the head has the last tag. If it was not done the buffer comes back.
-abbrev pub Pushes : Which → HeldBuffer → Book → Book → TryPushed HeldBuffer → Type 0
-Pushes q h old new try_push.Done =
+abbrev pub TriesPush : Which → HeldBuffer → Book → Book → TryPushed HeldBuffer → Type 0
+TriesPush q h old new try_push.Done =
     (head : Head) × (head.tag < last_tag) × After old (loaded q head ∷ pushed q h.index h.items ∷ []) new
-Pushes q h old new (try_push.Lost back) =
+TriesPush q h old new (try_push.Lost back) =
     (head : Head) × (back ≡ h) × (head.tag < last_tag) × After old (loaded q head ∷ failed ∷ []) new
-Pushes q h old new (try_push.Spent back) =
+TriesPush q h old new (try_push.Spent back) =
     (head : Head) × (back ≡ h) × (head.tag ≡ last_tag) × After old (loaded q head ∷ []) new
 
 -- tries of a pop that were all lost, from one book to another
 pub data LostPops (q : Which) : Book → Book → Type 0 where
   none : (b : Book) → LostPops q b b
-  more : (old mid new : Book) → LostPops q old mid → Pops q mid new try_pop.Lost → LostPops q old new
+  more : (old mid new : Book) → LostPops q old mid → TriesPop q mid new try_pop.Lost → LostPops q old new
 
 -- the try with which a pop ended
 abbrev pub last_try : {H : Type 0} → Popped H → TryPopped H
@@ -80,23 +80,24 @@ last_try (pop.Took h) = try_pop.Took h
 last_try pop.Empty = try_pop.Empty
 last_try pop.Spent = try_pop.Spent
 
--- tries until one is not lost
-abbrev pub PopsAtLast : Which → Book → Book → Popped HeldBuffer → Type 0
-PopsAtLast q old new result = (mid : Book) × LostPops q old mid × Pops q mid new (last_try result)
+-- a pop: tries until one is not lost
+abbrev pub Pops : Which → Book → Book → Popped HeldBuffer → Type 0
+Pops q old new result = (mid : Book) × LostPops q old mid × TriesPop q mid new (last_try result)
 
 -- tries of a push that were all lost
 pub data LostPushes (q : Which) (h : HeldBuffer) : Book → Book → Type 0 where
   none : (b : Book) → LostPushes q h b b
-  more : (old mid new : Book) → LostPushes q h old mid → Pushes q h mid new (try_push.Lost h) → LostPushes q h old new
+  more : (old mid new : Book) → LostPushes q h old mid → TriesPush q h mid new (try_push.Lost h)
+      → LostPushes q h old new
 
 -- how the last try of a push ended: it was done, or the buffer came back
 abbrev pub ended : {U : Type 0} → Result U HeldBuffer → TryPushed HeldBuffer
 ended (Ok done) = try_push.Done
 ended (Err back) = try_push.Spent back
 
--- tries until one is not lost, and that one ended so
-abbrev pub PushesAtLast : Which → HeldBuffer → Book → Book → TryPushed HeldBuffer → Type 0
-PushesAtLast q h old new last = (mid : Book) × LostPushes q h old mid × Pushes q h mid new last
+-- a push: tries until one is not lost, and that one ended so
+abbrev pub Pushes : Which → HeldBuffer → Book → Book → TryPushed HeldBuffer → Type 0
+Pushes q h old new last = (mid : Book) × LostPushes q h old mid × TriesPush q h mid new last
 
 -- one load of the head told this
 pub record Sees (q : Which) (old new : Book) (answer : Bool) : Type 0 where

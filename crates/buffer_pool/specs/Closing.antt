@@ -1,9 +1,10 @@
 -- What the marks tell once one worker has the whole share, holds no buffer and answers for no object.
-use Rattle.std.specs.Prelude.{◌≡◌, ◌↔◌, ℕ, ◌+◌, ◌<◌, ◌≤◌, nat_lt, Bool, false, List, length, Contains, slice_index, slice_index_or}
+use Rattle.std.specs.Prelude.{◌≡◌, ◌↔◌, ℕ, ◌+◌, ◌<◌, ◌≤◌, nat_lt, Bool, false, List, length, Contains, slice_index}
+use Rattle.std.specs.Prelude.{slice_index_or}
 use Rattle.mark_core.specs.declared.which.Which.TheVariants.{Full, Empty}
 use Rattle.mark_core.specs.Lists.{StandsAt, one_where, times}
 use Rattle.mark_core.specs.World.{Marking}
-use Rattle.mark_core.specs.Colours.{IsReachable}
+use Rattle.mark_core.specs.Colours.{IsReachableIn}
 use Rattle.mark_core.specs.Event.{Event}
 use Rattle.mark_core.specs.Counts.{Counts, LeadTo}
 use Rattle.mark_core.specs.Law.{Law}
@@ -46,4 +47,4 @@ pub record MarksTell (b : Book) (last : Marking) (marks : List ℕ) : Type 0 whe
   -- what was seen marked is marked, successors of finished objects are marked, and what is marked can be reached
   pub seen : (o : ℕ) → Contains b.account.seen o → 1 ≤ slice_index marks o
   pub successors : (o s : ℕ) → slice_index marks o ≡ 2 → Contains b.setup.pairs (o, s) → 1 ≤ slice_index marks s
-  pub reachable : (o : ℕ) → 1 ≤ slice_index marks o → IsReachable b.setup o
+  pub reachable : (o : ℕ) → 1 ≤ slice_index marks o → IsReachableIn b.setup o

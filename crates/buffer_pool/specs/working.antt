@@ -1,6 +1,8 @@
-pub mod Told
+pub mod Views
 pub mod Codes
 pub mod Packed
+pub mod Layout
+pub mod Slots
 pub mod Table
 pub mod Plays
 pub mod Buffers

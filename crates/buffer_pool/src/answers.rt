@@ -1,6 +1,6 @@
 //! What tries of pops and pushes answer.
 
-/// One try of a pop.
+/// What one try of a pop answers.
 #[derive(Drop)]
 pub enum TryPopped<H> {
     /// The buffer that was on top.
@@ -13,7 +13,7 @@ pub enum TryPopped<H> {
     Spent,
 }
 
-/// One try of a push.
+/// What one try of a push answers.
 #[derive(Drop)]
 pub enum TryPushed<H> {
     /// The buffer is on the stack.
@@ -24,7 +24,7 @@ pub enum TryPushed<H> {
     Spent(H),
 }
 
-/// Tries of a pop until one was not lost.
+/// What a pop answers: the first of its tries that was not lost.
 #[derive(Drop)]
 pub enum Popped<H> {
     /// The buffer that was on top.

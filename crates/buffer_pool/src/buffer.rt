@@ -1,5 +1,6 @@
 //! A buffer of object numbers, with room for all that it takes.
-ghost use Rattle.std.specs.Prelude.{◌≡◌, ◌↔◌, ◌+◌, ◌-◌, ◌/◌, ◌<◌, ◌≤◌, [], ◌∷◌, ◌++◌, vec_len, vec_capacity, take, drop, IsTrue, IfOk, MatchOption};
+ghost use Rattle.std.specs.Prelude.{◌≡◌, ◌↔◌, ◌+◌, ◌-◌, ◌/◌, ◌<◌, ◌≤◌, [], ◌∷◌, ◌++◌, vec_len, vec_capacity, take};
+ghost use Rattle.std.specs.Prelude.{drop, IsTrue, IfOk, MatchOption};
 
 use std::alloc::{AllocError, Allocator};
 

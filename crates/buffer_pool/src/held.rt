@@ -1,5 +1,6 @@
 //! A buffer that a worker holds.
-ghost use Rattle.std.specs.Prelude.{◌≡◌, ◌+◌, ◌-◌, ◌/◌, ◌<◌, ◌≤◌, [], ◌∷◌, ◌++◌, length, take, drop, MatchOption, OnOk, IfErr};
+ghost use Rattle.std.specs.Prelude.{◌≡◌, ◌+◌, ◌-◌, ◌/◌, ◌<◌, ◌≤◌, [], ◌∷◌, ◌++◌, length, take, drop, MatchOption, OnOk};
+ghost use Rattle.std.specs.Prelude.{IfErr};
 
 use crate::buffer::Buffer;
 use std::alloc::Allocator;
@@ -28,7 +29,7 @@ impl<A: Allocator> Held<A> {
         self.buffer.len()
     }
 
-    /// Puts an object into the buffer. A full buffer gives it back.
+    /// Puts an object into the buffer: `Err` with the object where it is full.
     pub fn put(&mut self, object: u32) -> Result<(), u32>
         ensures ok { OnOk result ((length self.old.items < self.old.size)
             × (self.new ≡ record self.old { items = self.old.items ++ object ∷ [] })) }
@@ -43,7 +44,7 @@ impl<A: Allocator> Held<A> {
         Ok(())
     }
 
-    /// Takes the object that was put last.
+    /// Takes the object that was put last, `None` where there is none.
     pub fn take(&mut self) -> Option<u32>
         ensures { MatchOption result ((self.old.items ≡ []) × (self.new ≡ self.old))
             (λ o. (self.old.items ≡ self.new.items ++ o ∷ [])

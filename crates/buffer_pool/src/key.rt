@@ -36,7 +36,7 @@ impl Drop for Named {
     }
 }
 
-/// The setup of a pool.
+/// The setup of a pool, as its table keeps it.
 #[derive(Drop)]
 pub struct Key {
     pub(crate) named: Named,

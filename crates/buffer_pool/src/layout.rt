@@ -1,21 +1,24 @@
 //! Which word of the table is what: two heads, the idle word, a link for each buffer, and words of marks, in which each
 //! object has two bits.
 
+ghost use Rattle.std.specs.Prelude.{◌≡◌, ◌+◌, ◌*◌, ◌/◌, ◌%◌, ◌<◌, ◌≤◌};
+ghost use Rattle.buffer_pool.specs.working.Packed.{mark_words, pair_bits};
+ghost use Rattle.buffer_pool.specs.working.Layout.{head_word, link_word};
+
 use mark_core::Which;
 
-// The heads lie 128 bytes apart, so that they share no cache line with each other or with the links.
+/// The word of the full stack's head. The heads lie 128 bytes apart, so that they share no cache line with each other
+/// or with the links.
 const FULL_HEAD: usize = 0;
 
+/// The word of the empty stack's head.
 const EMPTY_HEAD: usize = 16;
 
 /// The idle word, 64 bytes from each head.
 pub(crate) const IDLE: usize = 8;
 
+/// The word of the first buffer's link; those of the others follow.
 pub(crate) const FIRST_LINK: usize = 32;
-
-ghost use Rattle.std.specs.Prelude.{◌≡◌, ◌+◌, ◌*◌, ◌/◌, ◌%◌, ◌<◌, ◌≤◌};
-ghost use Rattle.buffer_pool.specs.working.Packed.{mark_words, pair_bits};
-ghost use Rattle.buffer_pool.specs.working.Table.{head_word, link_word};
 
 /// The word of a stack's head.
 pub(crate) fn head_word(which: Which) -> usize
@@ -49,7 +52,7 @@ pub(crate) fn mark_place(object: u32) -> u32
     2 * (object % 32)
 }
 
-/// These two bits at the place of an object.
+/// These two bits, shifted to the place of an object in its word.
 #[tactic(auto, using(crate::proofs::Bits::bits_fit))]
 pub(crate) fn pair_bits(bits: u64, object: u32) -> u64
     requires { bits < 4 }

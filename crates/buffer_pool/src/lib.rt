@@ -1,4 +1,21 @@
 //! A pool of buffers on two lock-free stacks, and the marks of objects, for workers that mark a heap together.
+//!
+//! A worker pops a buffer of objects from the stack of full ones, claims what these refer to, pushes what it claimed,
+//! and finishes each object that it scanned. A claim, a finish, a pop and a push are one atomic step each, or several
+//! tries of one. Each call's contract says which events of `mark_core` it made, so the law of the marking holds of the
+//! pool's words between any two steps, and `close` tells what it says once all workers are joined.
+//!
+//! From `src/tests/worked.rt`, which is proved and run:
+//!
+//!     let (pool, worker) = pool_of_roots(rt.alloc(), OBJECTS, 4, 2)?;
+//!     let (mut worker, mut other) = pool.split(worker, 1);
+//!     fill_buffer(&rt, &pool, &mut worker, 0, 2);
+//!     finish_buffer(&rt, &pool, &mut other);
+//!     fill_buffer(&rt, &pool, &mut worker, 2, 4);
+//!     let worker = pool.join(worker, other);
+//!     let marks = pool.close(worker);
+//!
+//! README.md beside this folder has a table of the calls; what the words mean stands in `docs/MARKING.md`.
 #![tactic(auto)]
 
 mod answers;

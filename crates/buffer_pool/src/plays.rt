@@ -1,7 +1,7 @@
 //! What each step on the table tells, as types that the steps name.
 ghost use Rattle.buffer_pool.specs.working.Buffers.{buffer_reading};
 ghost use Rattle.buffer_pool.specs.working.Plays.{claim_made, came_back, finish_made, head_seen, idle_seen};
-ghost use Rattle.buffer_pool.specs.working.Plays.{link_seen, link_stored, pop_tried, push_tried, set_aside, settled};
+ghost use Rattle.buffer_pool.specs.working.Plays.{link_seen, link_stored, top_taken, top_put, set_aside, settled};
 ghost use Rattle.buffer_pool.specs.working.Plays.{went_idle};
 ghost use Rattle.mark_core.specs.declared.which.Which.TheVariants.{Full, Empty};
 
@@ -39,24 +39,24 @@ impl<A: Allocator> Play<Option<Buffer<A>>, SeatView> for StoreLink {
 }
 
 /// An exchange of a head for the link of its buffer.
-pub struct TryPop;
+pub struct TakeTop;
 
-impl<A: Allocator> Play<Option<Buffer<A>>, SeatView> for TryPop {
-    ghost then = { pop_tried buffer_reading };
+impl<A: Allocator> Play<Option<Buffer<A>>, SeatView> for TakeTop {
+    ghost then = { top_taken buffer_reading };
 }
 
 /// An exchange of the full head for a held buffer.
-pub struct TryPushFull;
+pub struct PutTopFull;
 
-impl<A: Allocator> Play<Option<Buffer<A>>, SeatView> for TryPushFull {
-    ghost then = { push_tried buffer_reading Full };
+impl<A: Allocator> Play<Option<Buffer<A>>, SeatView> for PutTopFull {
+    ghost then = { top_put buffer_reading Full };
 }
 
 /// An exchange of the empty head for a held buffer.
-pub struct TryPushEmpty;
+pub struct PutTopEmpty;
 
-impl<A: Allocator> Play<Option<Buffer<A>>, SeatView> for TryPushEmpty {
-    ghost then = { push_tried buffer_reading Empty };
+impl<A: Allocator> Play<Option<Buffer<A>>, SeatView> for PutTopEmpty {
+    ghost then = { top_put buffer_reading Empty };
 }
 
 /// A claim of an object.

@@ -8,16 +8,18 @@ ghost use Rattle.buffer_pool.specs.Faults.{Refuses};
 ghost use Rattle.buffer_pool.specs.Ranges.{IsInside};
 ghost use Rattle.buffer_pool.specs.Story.{first_log};
 
+mod close;
 mod first;
 mod idle;
 pub(crate) mod limits;
 mod marking;
 pub(crate) mod marks;
-mod pop_try;
-mod push_try;
 mod shares;
+mod slots;
 mod stacks;
 mod steps;
+mod try_pop;
+mod try_push;
 
 use crate::buffer::Buffer;
 use crate::key::{Key, Named};
@@ -25,9 +27,10 @@ use crate::rules::MarkingRule;
 use crate::seat_view::SeatView;
 use crate::worker::Worker;
 use atomic_table::Table;
-use first::{first_buffers, first_words};
+use first::first_words;
 use limits::{PoolFault, is_inside};
 use mark_core::Edges;
+use slots::first_slots;
 use std::alloc::Allocator;
 use std::marker::Model;
 
@@ -82,7 +85,7 @@ impl<A: Allocator + Clone> Pool<A> {
             return Err(PoolFault::BadOptions);
         }
         let words = first_words(alloc.clone()?, objects, buffers, first_tag)?;
-        let slots = first_buffers(alloc.clone()?, buffers, size)?;
+        let slots = first_slots(alloc.clone()?, buffers, size)?;
         let key = Key {
             named: Named::of(edges),
             objects,

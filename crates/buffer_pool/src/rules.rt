@@ -1,6 +1,7 @@
 //! The rule of the pool's table, how a worker's view is cut in two, and how two are put together.
 ghost use Rattle.buffer_pool.specs.working.Buffers.{buffer_reading};
-ghost use Rattle.buffer_pool.specs.working.Setups.{first_view, setup_of, given_part, joined_view, kept_part, no_share_view};
+ghost use Rattle.buffer_pool.specs.working.Setups.{first_view, setup_of, given_part, joined_view, kept_part};
+ghost use Rattle.buffer_pool.specs.working.Setups.{no_share_view};
 ghost use Rattle.buffer_pool.specs.working.Table.{Rule};
 
 use crate::buffer::Buffer;

@@ -33,7 +33,7 @@ impl<A: Allocator> Worker<A> {
     ghost use Rattle.buffer_pool.specs.Story.{LeadsToBook};
 
     /// What each worker keeps, said of this one: the buffers that it holds are the pool's, and what it answers for are
-    /// objects. Nothing is done.
+    /// objects. The call does nothing.
     pub fn stays_within(&self)
         ensures { IsWithin self.now.book.setup self.now.book.account }
     {
@@ -41,7 +41,7 @@ impl<A: Allocator> Worker<A> {
     }
 
     /// What each worker keeps, said of this one: it finished no object twice, so no more objects than there are.
-    /// Nothing is done.
+    /// The call does nothing.
     pub fn has_finished_few(&self)
         ensures once { (o : ℕ) → times o self.now.book.account.finished ≤ 1 }
         ensures few { length self.now.book.account.finished ≤ self.now.book.setup.objects }
@@ -52,7 +52,7 @@ impl<A: Allocator> Worker<A> {
     /// What each worker keeps, said of this one: its story is a run from the opening of the pool, and at the end of it
     /// the worker has its book. So what it was told happened: a `Lost` has a failed exchange in the story that was
     /// possible there, and another worker exchanged that head since its load (`mark_core::all_runs_keep_law`, clause
-    /// `losses`). Nothing is done.
+    /// `losses`). The call does nothing.
     pub fn keeps_its_story(&self)
         ensures { LeadsToBook self.now.log self.now.book }
     {

@@ -1,12 +1,13 @@
 -- Roots, what was seen, and what a worker may push after a pop.
-use Rattle.std.proofs.Common.{◌≡◌, ℕ, Bool, true, false, ◌+◌, ◌<◌, ◌≤◌, [], ◌∷◌, ◌++◌, All, Contains, ap, subst, sym, refl, ◌∙◌, inl, inr, ⊎_elim, arith, below_more}
+use Rattle.std.proofs.Common.{◌≡◌, ℕ, Bool, true, false, ◌+◌, ◌<◌, ◌≤◌, [], ◌∷◌, ◌++◌, All, Contains, ap, subst, sym}
+use Rattle.std.proofs.Common.{refl, ◌∙◌, inl, inr, ⊎_elim, arith, below_more}
 use Rattle.std.proofs.lemmas.List.FromFn.{length-range_with_len, get_or-range_with_len}
 use Rattle.std.proofs.lemmas.List.Elements.{Contains-append_left, Contains-append_right}
 use Rattle.mark_core.specs.declared.which.Which.TheVariants.{Empty}
 use Rattle.mark_core.specs.Lists.{times}
 use Rattle.mark_core.specs.Event.{CanClaim}
 use Rattle.buffer_pool.specs.Book.{Book, claimed}
-use Rattle.buffer_pool.specs.Calls.{Holder, HeldBuffer, LostPops, LostPushes, MayPush, PopsAtLast, PushesAtLast}
+use Rattle.buffer_pool.specs.Calls.{Holder, HeldBuffer, LostPops, LostPushes, MayPush, Pops, Pushes}
 use Rattle.buffer_pool.specs.Calls.LostPops.{none as no_pop, more as more_pops}
 use Rattle.buffer_pool.specs.Calls.LostPushes.{none as no_push, more as more_pushes}
 use Rattle.buffer_pool.specs.declared.answers.Popped.{Popped}
@@ -17,11 +18,16 @@ use Rattle.pool_bench.specs.Holders.{AreRoots, HasSeen, PopsAndPushes, SamePool,
 
 pub roots_below : (n : ℕ) → All (λ o. o < n) (numbers n)
 unfolding numbers
-roots_below n i d below = let k : i < n = omega (arith, below, length-range_with_len 0 n) in omega (arith, k, get_or-range_with_len 0 n i d k)
+roots_below n i d below = let k : i < n = omega (arith, below, length-range_with_len 0 n) in
+    omega (arith, k, get_or-range_with_len 0 n i d k)
 
 pub is_number : (n o : ℕ) → o < n → Contains (numbers n) o
 unfolding numbers
-is_number n o below = (o, omega (arith, below, length-range_with_len 0 n), omega (arith, get_or-range_with_len 0 n o o below))
+is_number n o below = (
+  o,
+  omega (arith, below, length-range_with_len 0 n),
+  omega (arith, get_or-range_with_len 0 n o o below),
+)
 
 pub same_roots : (n : ℕ) (a b : Holder) → SamePool a b → AreRoots n a → AreRoots n b
 same_roots n a b s r o below = subst (λ rs. Contains rs o) (ap (λ e. e.roots) (sym s.setup)) (r o below)
@@ -30,8 +36,10 @@ pub may_claim : (n o : ℕ) (w : Holder) → AreRoots n w → o < n → CanClaim
 may_claim n o w r below = inl (r o below)
 
 -- a claim adds one object to those that were seen
-pub one_more_seen : (from o found : ℕ) (old new : Holder) → new.book ≡ claimed o found old.book → HasSeen from o old → HasSeen from (o + 1) new
-one_more_seen from o found old new is seen x low high = subst (λ (b : Book). Contains b.account.seen x) (sym is) (below_more Now o earlier last x high low)
+pub one_more_seen : (from o found : ℕ) (old new : Holder) → new.book ≡ claimed o found old.book → HasSeen from o old
+    → HasSeen from (o + 1) new
+one_more_seen from o found old new is seen x low high =
+    subst (λ (b : Book). Contains b.account.seen x) (sym is) (below_more Now o earlier last x high low)
   where
     Now : ℕ → Type 0
     Now k = from ≤ k → Contains (old.book.account.seen ++ o ∷ []) k
@@ -54,7 +62,7 @@ lost_pushes h old new (more_pushes a mid b before last) =
     ap (λ (c : Book). c.account.idle) last.3 ∙ lost_pushes h a mid before
 
 pub after_pops :
-    (old new : Book) (answer : Popped HeldBuffer) → PopsAtLast Empty old new answer → old.account.idle ≡ 0
+    (old new : Book) (answer : Popped HeldBuffer) → Pops Empty old new answer → old.account.idle ≡ 0
     → new.account.idle ≡ 0
 after_pops old new (pop.Took h) p awake =
     ap (λ (c : Book). c.account.idle) p.2.5 ∙ lost_pops old p.0 p.1 ∙ awake
@@ -62,7 +70,7 @@ after_pops old new pop.Empty p awake = ap (λ (c : Book). c.account.idle) p.2.2 
 after_pops old new pop.Spent p awake = ap (λ (c : Book). c.account.idle) p.2.4 ∙ lost_pops old p.0 p.1 ∙ awake
 
 pub after_pushes :
-    (h : HeldBuffer) (old new : Book) (last : TryPushed HeldBuffer) → PushesAtLast Empty h old new last
+    (h : HeldBuffer) (old new : Book) (last : TryPushed HeldBuffer) → Pushes Empty h old new last
     → old.account.idle ≡ 0 → new.account.idle ≡ 0
 after_pushes h old new try_push.Done p awake =
     ap (λ (c : Book). c.account.idle) p.2.2 ∙ lost_pushes h old p.0 p.1 ∙ awake
@@ -84,12 +92,13 @@ after_turn old new false p awake =
 
 -- the buffer that the last pop took from the empty stack has no items
 pub may_push :
-    (old new : Book) (h : HeldBuffer) → PopsAtLast Empty old new (pop.Took h) → old.account.idle ≡ 0
+    (old new : Book) (h : HeldBuffer) → Pops Empty old new (pop.Took h) → old.account.idle ≡ 0
     → MayPush Empty h new
 may_push old new h p awake =
     let q = p.2 in
     record {
-      held = subst (λ (b : Book). Contains b.account.held h.index) (sym q.5) (Contains-append_right p.0.account.held (h.index ∷ []) h.index (0, omega arith, refl));
+      held = subst (λ (b : Book). Contains b.account.held h.index) (sym q.5)
+          (Contains-append_right p.0.account.held (h.index ∷ []) h.index (0, omega arith, refl));
       size = q.4 ∙ ap (λ (b : Book). b.setup.size) (sym q.5);
       charged = λ x. let none : times x h.items ≡ 0 = ap (times x) (q.6 refl) in omega (arith, none);
       bare = q.6;

@@ -3,7 +3,7 @@ use Rattle.std.specs.Prelude.{◌≡◌, ◌⊎◌, ℕ, ◌<◌, ◌≤◌, Boo
 use Rattle.std.specs.List.{range_with_len}
 use Rattle.mark_core.specs.declared.which.Which.TheVariants.{Empty}
 use Rattle.buffer_pool.specs.Book.{Book}
-use Rattle.buffer_pool.specs.Calls.{Holder, HeldBuffer, PopsAtLast, PushesAtLast}
+use Rattle.buffer_pool.specs.Calls.{Holder, HeldBuffer, Pops, Pushes}
 use Rattle.buffer_pool.specs.declared.answers.Popped.TheVariants as pop
 use Rattle.buffer_pool.specs.declared.answers.TryPushed.TheVariants as try_push
 
@@ -28,8 +28,8 @@ pub record SamePool (one other : Holder) : Type 0 where
 -- a buffer was popped from the empty stack and pushed there
 abbrev pub PopsAndPushes : Book → Book → Bool → Type 0
 PopsAndPushes old new true =
-    (mid : Book) × (h : HeldBuffer) × PopsAtLast Empty old mid (pop.Took h) × PushesAtLast Empty h mid new try_push.Done
+    (mid : Book) × (h : HeldBuffer) × Pops Empty old mid (pop.Took h) × Pushes Empty h mid new try_push.Done
 PopsAndPushes old new false =
-    PopsAtLast Empty old new pop.Empty ⊎ PopsAtLast Empty old new pop.Spent
-    ⊎ ((mid : Book) × (h : HeldBuffer) × (back : HeldBuffer) × PopsAtLast Empty old mid (pop.Took h)
-    × PushesAtLast Empty h mid new (try_push.Spent back))
+    Pops Empty old new pop.Empty ⊎ Pops Empty old new pop.Spent
+    ⊎ ((mid : Book) × (h : HeldBuffer) × (back : HeldBuffer) × Pops Empty old mid (pop.Took h)
+    × Pushes Empty h mid new (try_push.Spent back))

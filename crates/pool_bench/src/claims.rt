@@ -1,4 +1,5 @@
 //! Claims of objects, each thread's in rows of its own.
+
 ghost use Rattle.std.specs.Prelude.{◌≡◌, All};
 ghost use Rattle.pool_bench.specs.Holders.{AreRoots, HasSeen, SamePool};
 
@@ -9,7 +10,7 @@ use std::alloc::{AllocError, Allocator, Global};
 use std::thread;
 use std::thread::Threads;
 
-/// Claims these objects, and answers how many were white.
+/// Claims the objects from `from` up to `to`, and answers how many were white.
 fn claim_part<A: Allocator>(pool: &Pool<A>, worker: &mut Worker<A>, from: u32, to: u32) -> u32
     requires pool { worker.old.pool ≡ pool.now }
     requires roots { AreRoots to worker.old }

@@ -1,4 +1,8 @@
 //! Measures the pool alone: claims of objects, and pops and pushes of buffers, on some threads.
+//!
+//! `bench/pool.sh` runs it beside the same work with std alone (`bench/std_baseline.rs`), and `docs/PERFORMANCE.md` has
+//! what came of it. Its words are numbers: see `src/sizes.rt`.
+
 #![tactic(auto)]
 
 mod claims;

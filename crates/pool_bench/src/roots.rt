@@ -1,4 +1,5 @@
 //! A pool over objects that are all roots.
+
 ghost use Rattle.std.specs.Prelude.{◌≡◌, ℕ, [], IfErr, IfOk};
 ghost use Rattle.mark_core.specs.Shares.{whole};
 ghost use Rattle.buffer_pool.specs.Faults.{Refuses};
@@ -8,10 +9,10 @@ ghost use Rattle.pool_bench.specs.Holders.{AreRoots, numbers};
 use buffer_pool::{Edges, Pool, PoolFault, Worker};
 use std::alloc::Global;
 
-/// The buffers of a pool.
+/// How many buffers a pool has.
 const BUFFERS: u32 = 64;
 
-/// The objects that a buffer is made for.
+/// How many objects a buffer is made for.
 const SIZE: u32 = 256;
 
 /// Objects that are all roots, without successors.

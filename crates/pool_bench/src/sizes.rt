@@ -1,4 +1,5 @@
 //! The words of the command line.
+
 ghost use Rattle.std.specs.Prelude.{◌<◌, ◌≤◌};
 
 use anyhow::{Context, Result, bail, ensure};
@@ -6,12 +7,12 @@ use anyhow::{Context, Result, bail, ensure};
 /// The most threads.
 const MOST_THREADS: u32 = 64;
 
-/// How much is done.
+/// How much is done, and by how many threads.
 #[derive(Clone, Copy)]
 pub(crate) struct Sizes {
-    /// Threads, from 1 to 64.
+    /// How many threads there are, from 1 to 64.
     pub(crate) threads: u32,
-    /// Objects of the pool. The threads claim them by rows, in turn.
+    /// How many objects the pool has. The threads claim them by rows, in turn.
     pub(crate) objects: u32,
     /// How many objects side by side are claimed by one thread before those of the next begin, from 1 on.
     pub(crate) row: u32,

@@ -1,4 +1,5 @@
 //! Pops from the empty stack, and pushes on it.
+
 ghost use Rattle.std.specs.Prelude.{◌≡◌, ◌≤◌, All};
 ghost use Rattle.pool_bench.specs.Holders.{PopsAndPushes};
 

@@ -1,4 +1,5 @@
 //! A worker for each thread.
+
 ghost use Rattle.std.specs.Prelude.{◌≡◌, ◌<◌, ◌≤◌, All, IfOk, vec_len};
 ghost use Rattle.pool_bench.specs.Holders.{SamePool};
 
@@ -8,7 +9,9 @@ use std::alloc::{AllocError, Global};
 /// A worker with its number, from 0 on.
 #[derive(Drop)]
 pub(crate) struct NumberedWorker {
+    /// The worker of one thread.
     pub(crate) worker: Worker<Global>,
+    /// The number of that thread.
     pub(crate) number: u32,
 }
 

@@ -15,7 +15,9 @@ use Rattle.mark_core.specs.Conclusions.{HadHead}
 use Rattle.buffer_pool.specs.declared.seat_view.SeatView.{SeatView}
 use Rattle.buffer_pool.specs.declared.answers.TryPushed.{TryPushed}
 use Rattle.buffer_pool.specs.declared.answers.TryPushed.TheVariants as try_push
-use Rattle.buffer_pool.specs.working.Table.{Reading, Rule, head_word, link_word}
+use Rattle.buffer_pool.specs.working.Layout.{head_word, link_word}
+use Rattle.buffer_pool.specs.working.Slots.{Reading}
+use Rattle.buffer_pool.specs.working.Table.{Rule}
 
 -- a try of a push that was not lost
 abbrev pub WasNotLost : {H : Type 0} → TryPushed H → Type 0
@@ -24,7 +26,7 @@ WasNotLost (try_push.Lost back) = ⊥
 WasNotLost (try_push.Spent back) = Unit {0}
 
 -- a table between two steps, at which the seat of this number is, and which has this word
-pub record IsAt {B : Type 0} (r : Reading B) (e : Setup) (slots id word : ℕ) (me : Me (Option B) SeatView)
+pub record IsBetweenSteps {B : Type 0} (r : Reading B) (e : Setup) (slots id word : ℕ) (me : Me (Option B) SeatView)
     (s : State (Option B) SeatView) : Type 0 where
   pub rule : Rule r e s
   pub slot_count : length s.homes ≡ slots
@@ -56,21 +58,21 @@ module _ {B : Type 0} (r : Reading B) where
   abbrev pub NoForgedLoss : Type 0
   NoForgedLoss =
       (e : Setup) (slots id word : ℕ) (me : Me (Option B) SeatView) (f : ℕ → ℕ) (s : State (Option B) SeatView)
-      → IsAt r e slots id word me s → ((q : Which) → HasFirstTag e (words_after s word f) q)
+      → IsBetweenSteps r e slots id word me s → ((q : Which) → HasFirstTag e (words_after s word f) q)
       → Allows (Rule r e) slots id me word f (λ n after. 0 < after.0.book.failures) → ⊥
 
   -- no step on any word may tell that the head loaded last is one that never was
   abbrev pub NoForgedHead : Type 0
   NoForgedHead =
       (e : Setup) (slots id word : ℕ) (me : Me (Option B) SeatView) (f : ℕ → ℕ) (s : State (Option B) SeatView)
-      → IsAt r e slots id word me s → (q : Which) (h : Head) → NeverWas e q h
+      → IsBetweenSteps r e slots id word me s → (q : Which) (h : Head) → NeverWas e q h
       → Allows (Rule r e) slots id me word f (λ n after. (look_of after.0.book.account q).head ≡ Some h) → ⊥
 
   -- while the full head has not changed, no step may tell a push on full, as of an exchange of the empty head
   abbrev pub NoForgedPush : Type 0
   NoForgedPush =
       (e : Setup) (slots id word : ℕ) (me : Me (Option B) SeatView) (f : ℕ → ℕ) (s : State (Option B) SeatView)
-      → IsAt r e slots id word me s → HasFirstTag e (words_after s word f) Full
+      → IsBetweenSteps r e slots id word me s → HasFirstTag e (words_after s word f) Full
       → Allows (Rule r e) slots id me word f (λ n after. after.0.book.account.open_push ≡ true) → ⊥
 
   -- no step may exchange a head for the link of its buffer under the same tag, or under one that is two more: whatever
@@ -78,7 +80,7 @@ module _ {B : Type 0} (r : Reading B) where
   abbrev pub NoEvenPop : Type 0
   NoEvenPop =
       (e : Setup) (slots id : ℕ) (q : Which) (me : Me (Option B) SeatView) (f : ℕ → ℕ) (s : State (Option B) SeatView)
-      → IsAt r e slots id (head_word q) me s → (i n : ℕ) (now next : Head)
+      → IsBetweenSteps r e slots id (head_word q) me s → (i n : ℕ) (now next : Head)
       → head_of (slice_index s.words (head_word q)) ≡ now → head_of (f (slice_index s.words (head_word q))) ≡ next
       → now.index ≡ Some i → next.index ≡ index_of (slice_index s.words (link_word i)) → next.tag ≡ now.tag + 2 * n
       → Allows (Rule r e) slots id me (head_word q) f (λ found after. Unit {0}) → ⊥

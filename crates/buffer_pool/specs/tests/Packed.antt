@@ -4,7 +4,9 @@ use Rattle.std.specs.Int.{bit_at}
 use Rattle.atomic_table.specs.Table.{State}
 use Rattle.mark_core.specs.World.{Setup}
 use Rattle.buffer_pool.specs.declared.seat_view.SeatView.{SeatView}
-use Rattle.buffer_pool.specs.working.Table.{Reading, Rule, mark_word}
+use Rattle.buffer_pool.specs.working.Layout.{mark_word}
+use Rattle.buffer_pool.specs.working.Slots.{Reading}
+use Rattle.buffer_pool.specs.working.Table.{Rule}
 
 -- between any two steps an object whose high bit is set has its low bit set: the pair 10 never stands
 abbrev pub LowWithHigh : {B : Type 0} → Reading B → Type 0

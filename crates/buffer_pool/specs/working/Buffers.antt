@@ -1,6 +1,6 @@
 -- How the pool's buffers are read.
 use Rattle.buffer_pool.specs.declared.buffer.Buffer.{Buffer}
-use Rattle.buffer_pool.specs.working.Table.{Reading}
+use Rattle.buffer_pool.specs.working.Slots.{Reading}
 
 abbrev pub buffer_reading : {A : Type 0} → Reading (Buffer A)
 buffer_reading = record { items = λ b. b.items.items; size = λ b. b.size }

@@ -7,8 +7,8 @@ use Rattle.buffer_pool.specs.declared.seat_view.SeatView.{SeatView}
 use Rattle.buffer_pool.specs.Ranges.{IsWithin}
 use Rattle.buffer_pool.specs.Story.{LeadsToBook}
 use Rattle.buffer_pool.specs.working.Packed.{mark_words}
-use Rattle.buffer_pool.specs.working.Table.{Carries}
-use Rattle.buffer_pool.specs.working.Told.{IsSettled}
+use Rattle.buffer_pool.specs.working.Slots.{Carries}
+use Rattle.buffer_pool.specs.working.Views.{HasSaidAll}
 
 -- the table has the words and slots of this setup, and roots and pairs are of objects
 pub record IsLaid (t : TableId) (e : Setup) : Type 0 where
@@ -26,7 +26,7 @@ pub record IsSound {B : Type 0} (t : TableId) (m : Me (Option B) SeatView) : Typ
   pub share : 0 < m.0.book.account.share
   pub carries : Carries m
   pub within : IsWithin m.0.book.setup m.0.book.account
-  pub settled : IsSettled m.0
+  pub settled : HasSaidAll m.0
   pub story : LeadsToBook m.0.log m.0.book
 
 -- a seat keeps its table and its number

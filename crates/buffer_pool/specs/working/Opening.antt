@@ -3,7 +3,8 @@ use Rattle.std.specs.Prelude.{◌≡◌, ℕ, ◌+◌, ◌<◌, ◌≤◌, List,
 use Rattle.tagged_index.specs.Head.{head_of}
 use Rattle.mark_core.specs.declared.which.Which.{Which}
 use Rattle.mark_core.specs.Runs.{first_heads}
-use Rattle.buffer_pool.specs.working.Table.{Reading, head_word, idle_word, link_word}
+use Rattle.buffer_pool.specs.working.Layout.{head_word, idle_word, link_word}
+use Rattle.buffer_pool.specs.working.Slots.{Reading}
 
 -- the full stack has no buffer, each of the first buffers of the empty stack links to the next one, and every later
 -- word is 0

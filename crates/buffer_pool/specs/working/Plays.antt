@@ -1,6 +1,7 @@
 -- What each step on the table tells the worker that makes it: of the step, the seat before, the number found and the
 -- seat after.
-use Rattle.std.specs.Prelude.{Contains, ◌≡◌, ◌≢◌, ℕ, suc, ◌%◌, ◌<◌, ◌≤◌, true, false, List, [], ◌∷◌, ◌++◌, length, Option, Some, None}
+use Rattle.std.specs.Prelude.{Contains, ◌≡◌, ◌≢◌, ℕ, suc, ◌%◌, ◌<◌, ◌≤◌, true, false, List, [], ◌∷◌, ◌++◌, length}
+use Rattle.std.specs.Prelude.{Option, Some, None}
 use Rattle.atomic_table.specs.Table.{Me, Step}
 use Rattle.tagged_index.specs.Head.{head_of, index_of, after, last_tag}
 use Rattle.mark_core.specs.declared.which.Which.{Which}
@@ -8,20 +9,23 @@ use Rattle.mark_core.specs.declared.which.Which.TheVariants.{Full, Empty}
 use Rattle.mark_core.specs.Lists.{times, IsPart}
 use Rattle.mark_core.specs.Account.{look_of}
 use Rattle.mark_core.specs.World.{Setup}
-use Rattle.mark_core.specs.Event.{Kind, Event, Claim, Finish, Load, LoadLink, StoreLink, Pop, Push, Fail, IdleUp, IdleDown, LoadIdle, IsBusy}
+use Rattle.mark_core.specs.Event.{Kind, Event, Claim, Finish, Load, LoadLink, StoreLink, Pop, Push, Fail, IdleUp}
+use Rattle.mark_core.specs.Event.{IdleDown, LoadIdle, IsBusy}
 use Rattle.mark_core.specs.Runs.{HasEachOnce}
 use Rattle.buffer_pool.specs.declared.seat_view.SeatView.{SeatView}
-use Rattle.buffer_pool.specs.Book.{Book, loaded, link_loaded, failed, popped, pushed, claimed, finished, idled, woken, idle_loaded}
+use Rattle.buffer_pool.specs.Book.{Book, loaded, link_loaded, failed, popped, pushed, claimed, finished, idled, woken}
+use Rattle.buffer_pool.specs.Book.{idle_loaded}
 use Rattle.buffer_pool.specs.Calls.{Shows}
 use Rattle.buffer_pool.specs.Story.{Log, Did, EndsStory, LeadsToBook, deeds}
 use Rattle.buffer_pool.specs.Ranges.{IsWithin}
-use Rattle.buffer_pool.specs.working.Told.{IsSettled, noted}
+use Rattle.buffer_pool.specs.working.Views.{HasSaidAll, logged}
 use Rattle.buffer_pool.specs.working.Packed.{pair_bits, pair_mark}
-use Rattle.buffer_pool.specs.working.Table.{Reading, head_word, link_word, mark_word, free}
+use Rattle.buffer_pool.specs.working.Layout.{head_word, link_word, mark_word}
+use Rattle.buffer_pool.specs.working.Slots.{Reading, free}
 
 -- the seat between two calls, with this log and this book and no slot out
 abbrev pub rested : {B : Type 0} → Me (Option B) SeatView → Log → Book → Me (Option B) SeatView
-rested m log b = (record (noted log (free m.0)) { book = b }, [])
+rested m log b = (record (logged log (free m.0)) { book = b }, [])
 
 -- a buffer of this setup: it takes as many items, and its items are objects
 pub record IsOurs {B : Type 0} (r : Reading B) (e : Setup) (b : B) : Type 0 where
@@ -34,7 +38,7 @@ pub record CanPut
   pub carried : m.1 ≡ (i, Some b) ∷ []
   pub out : m.0.out ≡ suc i
   pub share : 0 < m.0.book.account.share
-  pub settled : IsSettled m.0
+  pub settled : HasSaidAll m.0
   pub held : 0 < times i m.0.book.account.held
   pub last : (look_of m.0.book.account q).head ≡ Some (head_of old)
   pub short : (head_of old).tag < last_tag
@@ -47,12 +51,12 @@ pub record CanPut
   pub busy : q ≡ Full → IsBusy m.0.book.account
 
 -- the seat did just this, which its log tells after it
-abbrev pub Tells : {B : Type 0} → Me (Option B) SeatView → List Kind → Me (Option B) SeatView → Type 0
-Tells m kinds after = Did m.0.log kinds after.0.log
+abbrev pub SeatDid : {B : Type 0} → Me (Option B) SeatView → List Kind → Me (Option B) SeatView → Type 0
+SeatDid m kinds after = Did m.0.log kinds after.0.log
 
 -- the seat's story leads to its book
-abbrev pub Leads : {B : Type 0} → Me (Option B) SeatView → Type 0
-Leads after = LeadsToBook after.0.log after.0.book
+abbrev pub StoryLeads : {B : Type 0} → Me (Option B) SeatView → Type 0
+StoryLeads after = LeadsToBook after.0.log after.0.book
 
 module _ {B : Type 0} where
   -- a load of a head: the slot that was out goes home
@@ -60,21 +64,21 @@ module _ {B : Type 0} where
   head_seen st m n after =
       (q : Which) → st.word ≡ head_word q
       → (after ≡ rested m after.0.log (loaded q (head_of n) m.0.book))
-      × ((i : ℕ) → (head_of n).index ≡ Some i → i < m.0.book.setup.buffers) × Tells m (Load q ∷ []) after
-      × Leads after
+      × ((i : ℕ) → (head_of n).index ≡ Some i → i < m.0.book.setup.buffers) × SeatDid m (Load q ∷ []) after
+      × StoryLeads after
 
   -- a load of the link of the last head's buffer
   abbrev pub link_seen : Which → Step (Option B) → Me (Option B) SeatView → ℕ → Me (Option B) SeatView → Type 0
   link_seen q st m n after =
       (after ≡ rested m after.0.log (link_loaded q (index_of n) m.0.book)) × (n ≤ m.0.book.setup.buffers)
-      × Tells m (LoadLink q ∷ []) after × Leads after
+      × SeatDid m (LoadLink q ∷ []) after × StoryLeads after
 
   -- a store of the link of a held buffer: its slot comes out
   abbrev pub link_stored : Step (Option B) → Me (Option B) SeatView → ℕ → Me (Option B) SeatView → Type 0
   link_stored st m n after =
       (i : ℕ) → st.word ≡ link_word i
-      → (after ≡ (record (noted after.0.log m.0) { out = suc i; out_link = n }, (i, None) ∷ []))
-      × Tells m (StoreLink i (index_of n) ∷ []) after × Leads after
+      → (after ≡ (record (logged after.0.log m.0) { out = suc i; out_link = n }, (i, None) ∷ []))
+      × SeatDid m (StoreLink i (index_of n) ∷ []) after × StoryLeads after
 
   -- an exchange of a head for the link of its buffer i has won: the buffer comes out, and its slot has this value
   pub record HasTaken
@@ -84,17 +88,18 @@ module _ {B : Type 0} where
     pub book : after.0.book ≡ popped i (r.items b) m.0.book
     pub ours : IsOurs r m.0.book.setup b
     pub bare : q ≡ Empty → r.items b ≡ []
-    pub settled : IsSettled after.0
-    pub did : Tells m (Pop q ∷ []) after
-    pub story : Leads after
+    pub settled : HasSaidAll after.0
+    pub did : SeatDid m (Pop q ∷ []) after
+    pub story : StoryLeads after
 
   -- an exchange of a head has failed, and the seat has no slot out
   abbrev pub HasMissed : Which → Me (Option B) SeatView → Me (Option B) SeatView → Type 0
-  HasMissed q m after = (after ≡ rested m after.0.log (failed m.0.book)) × Tells m (Fail q ∷ []) after × Leads after
+  HasMissed q m after = (after ≡ rested m after.0.log (failed m.0.book)) × SeatDid m (Fail q ∷ []) after
+      × StoryLeads after
 
   -- an exchange of a head for its buffer's link: it pops, or it has failed
-  abbrev pub pop_tried : Reading B → Step (Option B) → Me (Option B) SeatView → ℕ → Me (Option B) SeatView → Type 0
-  pop_tried r st m n after =
+  abbrev pub top_taken : Reading B → Step (Option B) → Me (Option B) SeatView → ℕ → Me (Option B) SeatView → Type 0
+  top_taken r st m n after =
       (q : Which) → st.word ≡ head_word q
       → (n ≡ st.first → (i : ℕ) → (head_of n).index ≡ Some i → (b : B) × HasTaken r q i (Some b) m after b)
       × ((n ≡ st.first → ⊥) → HasMissed q m after)
@@ -102,18 +107,19 @@ module _ {B : Type 0} where
   -- an exchange of a head for the buffer i has won: its slot goes home with it
   abbrev pub HasPushed : Which → ℕ → List ℕ → Me (Option B) SeatView → Me (Option B) SeatView → Type 0
   HasPushed q i items m after =
-      (after ≡ rested m after.0.log (pushed q i items m.0.book)) × Tells m (Push q i items ∷ []) after × Leads after
+      (after ≡ rested m after.0.log (pushed q i items m.0.book)) × SeatDid m (Push q i items ∷ []) after
+      × StoryLeads after
 
   -- it has failed, and the slots that are out stay out
   abbrev pub HasKept : Which → List (ℕ × Option B) → Me (Option B) SeatView → Me (Option B) SeatView → Type 0
   HasKept q slots m after =
-      (after ≡ (record (noted after.0.log m.0) { book = failed m.0.book }, slots)) × Tells m (Fail q ∷ []) after
-      × Leads after
+      (after ≡ (record (logged after.0.log m.0) { book = failed m.0.book }, slots)) × SeatDid m (Fail q ∷ []) after
+      × StoryLeads after
 
   -- an exchange of a head for a held buffer: the slot goes home with it, or the exchange has failed
-  abbrev pub push_tried :
+  abbrev pub top_put :
       Reading B → Which → Step (Option B) → Me (Option B) SeatView → ℕ → Me (Option B) SeatView → Type 0
-  push_tried r q st m n after =
+  top_put r q st m n after =
       (n ≡ st.first → (i : ℕ) (b : B) → m.1 ≡ (i, Some b) ∷ [] → HasPushed q i (r.items b) m after)
       × ((n ≡ st.first → ⊥) → HasKept q m.1 m after)
 
@@ -122,41 +128,44 @@ module _ {B : Type 0} where
   claim_made st m n after =
       (o : ℕ) → st.word ≡ mark_word m.0.book.setup o → st.first ≡ pair_bits 1 o
       → (after ≡ rested m after.0.log (claimed o (pair_mark n (o % 32)) m.0.book)) × (pair_mark n (o % 32) ≤ 2)
-      × Tells m (Claim o ∷ []) after × Leads after
+      × SeatDid m (Claim o ∷ []) after × StoryLeads after
 
   -- a finish: both bits of the object's pair are set
   abbrev pub finish_made : Step (Option B) → Me (Option B) SeatView → ℕ → Me (Option B) SeatView → Type 0
   finish_made st m n after =
       (o : ℕ) → st.word ≡ mark_word m.0.book.setup o → st.first ≡ pair_bits 3 o
       → (after ≡ rested m after.0.log (finished o m.0.book)) × ((p : ℕ) → times p after.0.book.account.finished ≤ 1)
-      × Tells m (Finish o ∷ []) after × Leads after
+      × SeatDid m (Finish o ∷ []) after × StoryLeads after
 
   -- the worker went idle, or came back
   abbrev pub went_idle : Step (Option B) → Me (Option B) SeatView → ℕ → Me (Option B) SeatView → Type 0
-  went_idle st m n after = (after ≡ rested m after.0.log (idled m.0.book)) × Tells m (IdleUp ∷ []) after × Leads after
+  went_idle st m n after = (after ≡ rested m after.0.log (idled m.0.book)) × SeatDid m (IdleUp ∷ []) after
+      × StoryLeads after
 
   abbrev pub came_back : Step (Option B) → Me (Option B) SeatView → ℕ → Me (Option B) SeatView → Type 0
-  came_back st m n after = (after ≡ rested m after.0.log (woken m.0.book)) × Tells m (IdleDown ∷ []) after × Leads after
+  came_back st m n after = (after ≡ rested m after.0.log (woken m.0.book)) × SeatDid m (IdleDown ∷ []) after
+      × StoryLeads after
 
   -- the idle word was loaded: the worker's story leads to a marking that has it
   abbrev pub idle_seen : Step (Option B) → Me (Option B) SeatView → ℕ → Me (Option B) SeatView → Type 0
   idle_seen st m n after =
-      (after ≡ rested m after.0.log (idle_loaded n m.0.book)) × Tells m (LoadIdle ∷ []) after
-      × Shows m.0.book.setup after.0.log.story n × Leads after
+      (after ≡ rested m after.0.log (idle_loaded n m.0.book)) × SeatDid m (LoadIdle ∷ []) after
+      × Shows m.0.book.setup after.0.log.story n × StoryLeads after
 
   -- the units of a split were noted
   abbrev pub set_aside : Step (Option B) → Me (Option B) SeatView → ℕ → Me (Option B) SeatView → Type 0
-  set_aside st m n after = (after ≡ (record (noted after.0.log (free m.0)) { aside = st.first }, [])) × Tells m [] after
+  set_aside st m n after = (after ≡ (record (logged after.0.log (free m.0)) { aside = st.first }, []))
+      × SeatDid m [] after
 
   -- The slot that was out went home, and the account has each thing once, all of it the pool's. The log is up to date:
   -- it tells what was noted, and goes on from the story that was taken in. That story is another worker's, who did
   -- nothing more where it was joined; and a worker that learns its number just now did nothing
   pub record IsUpToDate (m after : Me (Option B) SeatView) : Type 0 where
-    pub same : after ≡ (noted after.0.log (free m.0), [])
+    pub same : after ≡ (logged after.0.log (free m.0), [])
     pub each : HasEachOnce m.0.book.account
     pub within : IsWithin m.0.book.setup m.0.book.account
-    pub did : m.0.named ≡ true → Tells m m.0.unsaid after
-    pub story : Leads after
+    pub did : m.0.named ≡ true → SeatDid m m.0.unsaid after
+    pub story : StoryLeads after
     pub knows : (more : List Event) × (after.0.log.story ≡ m.0.taken ++ more)
     pub apart : (n : ℕ) → m.0.from ≡ Some n → n ≢ after.0.log.number
     pub ended :

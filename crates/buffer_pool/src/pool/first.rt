@@ -1,10 +1,8 @@
-//! The words and the buffers that a pool begins with.
-ghost use Rattle.std.specs.Prelude.{◌≡◌, ℕ, ◌+◌, ◌<◌, ◌≤◌, All, IfOk, length};
-ghost use Rattle.buffer_pool.specs.working.Buffers.{buffer_reading};
-ghost use Rattle.buffer_pool.specs.working.Opening.{HasFirstWords, IsFirstSlot};
+//! The words that a pool begins with.
+ghost use Rattle.std.specs.Prelude.{◌+◌, ◌<◌, ◌≤◌, IfOk};
+ghost use Rattle.buffer_pool.specs.working.Opening.{HasFirstWords};
 ghost use Rattle.buffer_pool.specs.working.Packed.{mark_words};
 
-use crate::buffer::Buffer;
 use crate::layout::{FIRST_LINK, head_word, mark_words};
 use mark_core::Which;
 use std::alloc::{AllocError, Allocator};
@@ -30,20 +28,4 @@ pub(crate) fn first_words<A: Allocator>(
         words[FIRST_LINK + next as usize - 1] = u64::from(next) + 1;
     }
     Ok(words)
-}
-
-/// For each buffer a slot with it, without items.
-pub(crate) fn first_buffers<A: Allocator + Clone>(
-    alloc: A,
-    buffers: u32,
-    size: u32,
-) -> Result<Vec<Option<Buffer<A>>, A>, AllocError>
-    requires { 0 < size }
-    ensures { IfOk result (λ s. (length s.items ≡ buffers) × All (IsFirstSlot buffer_reading size) s.items) }
-{
-    let mut slots = Vec::with_capacity(alloc.clone()?, buffers as usize)?;
-    while slots.len() < buffers as usize {
-        slots.push_reserved(Some(Buffer::new(alloc.clone()?, size)?));
-    }
-    Ok(slots)
 }

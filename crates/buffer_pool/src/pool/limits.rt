@@ -9,13 +9,13 @@ use thiserror::Error;
 /// The most objects that a pool can have marks for.
 pub const MOST_OBJECTS: u32 = 16_777_216;
 
-/// The least buffers of a pool.
+/// The fewest buffers of a pool.
 pub const LEAST_BUFFERS: u32 = 4;
 
 /// The most buffers of a pool.
 pub const MOST_BUFFERS: u32 = 65_534;
 
-/// The least objects that a buffer can be made for.
+/// The fewest objects that a buffer can be made for.
 pub const LEAST_SIZE: u32 = 2;
 
 /// The most objects that a buffer can be made for.
@@ -27,7 +27,7 @@ pub enum PoolFault {
     /// A number is out of its range.
     #[error("an option is out of its range")]
     BadOptions,
-    /// A growth was refused.
+    /// A request for memory was refused.
     #[error("out of memory")]
     OutOfMemory,
 }

@@ -5,7 +5,7 @@ ghost use Rattle.mark_core.specs.Event as events;
 ghost use Rattle.mark_core.specs.Lists.{times};
 ghost use Rattle.buffer_pool.specs.Book.{claimed, finished};
 ghost use Rattle.buffer_pool.specs.working.Laid.{IsLaid, IsSound};
-ghost use Rattle.buffer_pool.specs.working.Plays.{Tells, rested};
+ghost use Rattle.buffer_pool.specs.working.Plays.{SeatDid, rested};
 ghost use Rattle.buffer_pool.specs.working.Setups.{setup_of};
 ghost use Rattle.buffer_pool.specs.Story.{Did};
 
@@ -16,9 +16,10 @@ use crate::rules::{Token, Words};
 use crate::worker::Worker;
 use std::alloc::Allocator;
 
-// The bits of a claimed object (the low one) and of a finished one (both). A white object has none.
+/// The bits of a claimed object: the low one of its two. A white object has none.
 const CLAIMED: u64 = 1;
 
+/// The bits of a finished object: both.
 const FINISHED: u64 = 3;
 
 /// Raises the mark of an object to claimed: true exactly where it was white.
@@ -38,7 +39,7 @@ fn raise_to_claimed<A: Allocator>(
     ensures told { (found : ℕ)
         × (seat.new.me ≡ rested seat.old.me seat.new.me.0.log (claimed object found seat.old.me.0.book))
         × (IsTrue result ↔ (found ≡ 0)) }
-    ensures did { Tells seat.old.me (events.Claim object ∷ []) seat.new.me }
+    ensures did { SeatDid seat.old.me (events.Claim object ∷ []) seat.new.me }
 {
     let word = words.fetch_or::<Claim>(
         seat,
@@ -57,7 +58,7 @@ fn raise_to_finished<A: Allocator>(words: &Words<A>, seat: &mut Token<A>, buffer
     ensures same { seat.new.table_id ≡ seat.old.table_id }
     ensures sound { IsSound seat.new.table_id seat.new.me }
     ensures told { seat.new.me ≡ rested seat.old.me seat.new.me.0.log (finished object seat.old.me.0.book) }
-    ensures did { Tells seat.old.me (events.Finish object ∷ []) seat.new.me }
+    ensures did { SeatDid seat.old.me (events.Finish object ∷ []) seat.new.me }
     ensures once { (o : ℕ) → times o seat.new.me.0.book.account.finished ≤ 1 }
 {
     words.fetch_or::<Finish>(

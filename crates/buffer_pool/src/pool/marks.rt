@@ -1,26 +1,21 @@
 //! The marks of a pool that is closed.
-ghost use Rattle.std.specs.Prelude.{◌≡◌, ◌↔◌, ℕ, ◌+◌, ◌/◌, ◌%◌, ◌<◌, ◌≤◌, [], length, slice_index, IsTrue};
+ghost use Rattle.std.specs.Prelude.{◌≡◌, ◌↔◌, ◌/◌, ◌%◌, ◌<◌, ◌≤◌, length, slice_index, IsTrue};
 ghost use Rattle.std.specs.Prelude.{◌==◌, count_by};
 ghost use Rattle.buffer_pool.specs.working.Packed.{mark_of};
-ghost use Rattle.mark_core.specs.Shares.{whole};
-ghost use Rattle.std.specs.Slots.{IsFull, slots_filled, slots_len};
-ghost use Rattle.buffer_pool.specs.Closing.{IsAtTheEnd, IsEmptied, MarksTell};
 
 use crate::buffer::Buffer;
-use crate::layout::{FIRST_LINK, mark_place};
-use crate::pool::Pool;
-use crate::worker::Worker;
+use crate::layout::mark_place;
 use atomic_table::Closed;
 use std::alloc::Allocator;
 use std::marker::Model;
 
 /// Which objects were claimed and which were finished. No worker steps any more.
 pub struct Marks<A: Allocator> {
-    closed: Closed<Option<Buffer<A>>, A>,
-    first_mark: usize,
-    objects: u32,
+    pub(super) closed: Closed<Option<Buffer<A>>, A>,
+    pub(super) first_mark: usize,
+    pub(super) objects: u32,
     /// How many objects are finished.
-    finished: u64,
+    pub(super) finished: u64,
 }
 
 impl<A: Allocator> Model for Marks<A> {
@@ -39,19 +34,8 @@ impl<A: Allocator> Model for Marks<A> {
         × (m.finished ≡ count_by (λ k. k == 2) (marks_in (slots_items m.closed.words) m.first_mark m.objects)) };
 }
 
-// Drops each buffer.
-fn empty_slots<A: Allocator>(closed: &mut Closed<Option<Buffer<A>>, A>)
-    requires full { IsFull closed.old.slots }
-    ensures words { closed.new.words ≡ closed.old.words }
-    ensures empty { IsEmptied (slots_len closed.new.slots) (slots_filled closed.new.slots) }
-{
-    for slot in 0..closed.slot_count() {
-        drop(closed.take(slot));
-    }
-}
-
 impl<A: Allocator> Marks<A> {
-    /// The two bits of an object.
+    /// The two bits of an object's mark.
     fn bits(&self, object: u32) -> u64
         requires { object < length self.now }
         ensures few { result < 4 }
@@ -95,32 +79,5 @@ impl<A: Allocator> Drop for Marks<A> {
             finished: _,
         } = self;
         closed.free();
-    }
-}
-
-impl<A: Allocator> Pool<A> {
-    /// Ends the marking. The worker has the whole share, no buffer and no charge, so no other worker has
-    /// anything. The buffers are given back.
-    pub fn close(self, worker: Worker<A>) -> Marks<A>
-        requires pool { worker.pool ≡ self }
-        requires share { worker.book.account.share ≡ whole }
-        requires held { worker.book.account.held ≡ [] }
-        requires charge { worker.book.account.charge ≡ [] }
-        ensures { (end : IsAtTheEnd worker.log worker.book result) × MarksTell worker.book end.last result }
-    {
-        let Pool {
-            table,
-            buffers,
-            objects,
-        } = self;
-        let Worker { seat, finished } = worker;
-        let mut closed = table.close_with(seat);
-        empty_slots(&mut closed);
-        Marks {
-            closed,
-            first_mark: FIRST_LINK + buffers as usize,
-            objects,
-            finished,
-        }
     }
 }

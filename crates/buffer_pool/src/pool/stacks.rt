@@ -1,16 +1,16 @@
 //! The two stacks, as workers use them.
 ghost use Rattle.std.specs.Prelude.{◌≡◌, ℕ, [], ◌∷◌, Option};
 ghost use Rattle.mark_core.specs.Event.{IsBusy, Load};
-ghost use Rattle.buffer_pool.specs.Calls.{MayPush, Pops, PopsAtLast, Pushes, PushesAtLast, Sees, ended};
-ghost use Rattle.buffer_pool.specs.Steps.{PopDid, PushDid, pop_steps, push_steps};
+ghost use Rattle.buffer_pool.specs.Calls.{MayPush, TriesPop, Pops, TriesPush, Pushes, Sees, ended};
+ghost use Rattle.buffer_pool.specs.Steps.{PopDid, PushDid, try_pop_steps, try_push_steps};
 ghost use Rattle.buffer_pool.specs.Story.{Did};
 
 use crate::answers::{Popped, TryPopped, TryPushed};
 use crate::held::Held;
 use crate::pool::Pool;
-use crate::pool::pop_try::pop_from;
-use crate::pool::push_try::push_to;
 use crate::pool::steps::load_head;
+use crate::pool::try_pop::try_pop;
+use crate::pool::try_push::try_push;
 use crate::worker::Worker;
 use crossbeam_utils::Backoff;
 use mark_core::Which;
@@ -36,10 +36,10 @@ impl<A: Allocator> Pool<A> {
         requires pool { worker.old.pool ≡ self.now }
         requires busy { IsBusy worker.old.book.account }
         ensures pool { worker.new.pool ≡ worker.old.pool }
-        ensures pops { Pops which worker.old.book worker.new.book result }
-        ensures did { Did worker.old.log (pop_steps which result) worker.new.log }
+        ensures pops { TriesPop which worker.old.book worker.new.book result }
+        ensures did { Did worker.old.log (try_pop_steps which result) worker.new.log }
     {
-        pop_from(&self.table.shared, &mut worker.seat, which)
+        try_pop(&self.table.shared, &mut worker.seat, which)
     }
 
     /// Tries once to put a held buffer on a stack. Waits for nobody and takes no memory. Its items have to be
@@ -53,10 +53,10 @@ impl<A: Allocator> Pool<A> {
         requires pool { worker.old.pool ≡ self.now }
         requires may { MayPush which held worker.old.book }
         ensures pool { worker.new.pool ≡ worker.old.pool }
-        ensures pushes { Pushes which held worker.old.book worker.new.book result }
-        ensures did { (link : Option ℕ) × Did worker.old.log (push_steps which held link result) worker.new.log }
+        ensures pushes { TriesPush which held worker.old.book worker.new.book result }
+        ensures did { (link : Option ℕ) × Did worker.old.log (try_push_steps which held link result) worker.new.log }
     {
-        push_to(&self.table.shared, &mut worker.seat, which, held)
+        try_push(&self.table.shared, &mut worker.seat, which, held)
     }
 
     /// Tries to take the buffer on top of a stack until a try is not lost.
@@ -64,7 +64,7 @@ impl<A: Allocator> Pool<A> {
         requires pool { worker.old.pool ≡ self.now }
         requires busy { IsBusy worker.old.book.account }
         ensures pool { worker.new.pool ≡ worker.old.pool }
-        ensures pops { PopsAtLast which worker.old.book worker.new.book result }
+        ensures pops { Pops which worker.old.book worker.new.book result }
         ensures did { PopDid which result worker.old.log worker.new.log }
     {
         let backoff = Backoff::new();
@@ -91,7 +91,7 @@ impl<A: Allocator> Pool<A> {
         requires pool { worker.old.pool ≡ self.now }
         requires may { MayPush which held worker.old.book }
         ensures pool { worker.new.pool ≡ worker.old.pool }
-        ensures pushes { PushesAtLast which held worker.old.book worker.new.book (ended result) }
+        ensures pushes { Pushes which held worker.old.book worker.new.book (ended result) }
         ensures did { PushDid which held result worker.old.log worker.new.log }
     {
         let backoff = Backoff::new();

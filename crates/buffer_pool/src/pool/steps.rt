@@ -1,5 +1,6 @@
 //! The steps of a pop and of a push, each one atomic step on the table or one access to a slot that is out.
-ghost use Rattle.std.specs.Prelude.{◌≡◌, ℕ, suc, ◌+◌, ◌<◌, ◌≤◌, [], ◌∷◌, Option, Some, None, MatchOption, MatchResult, Contains, length};
+ghost use Rattle.std.specs.Prelude.{◌≡◌, ℕ, suc, ◌+◌, ◌<◌, ◌≤◌, [], ◌∷◌, Option, Some, None, MatchOption, MatchResult};
+ghost use Rattle.std.specs.Prelude.{Contains, length};
 ghost use Rattle.std.specs.Option.{ForSome};
 ghost use Rattle.tagged_index.specs.Head.{Head, after, last_tag, low_of};
 ghost use Rattle.mark_core.specs.declared.which.Which.TheVariants.{Empty};
@@ -11,16 +12,16 @@ ghost use Rattle.buffer_pool.specs.working.Buffers.{buffer_reading};
 ghost use Rattle.buffer_pool.specs.Book.{link_loaded, loaded};
 ghost use Rattle.buffer_pool.specs.Calls.{MayPush};
 ghost use Rattle.buffer_pool.specs.working.Laid.{IsBare, IsLaid, IsSound};
-ghost use Rattle.buffer_pool.specs.working.Plays.{CanPut, HasKept, HasMissed, HasPushed, HasTaken, Leads, Tells};
-ghost use Rattle.buffer_pool.specs.working.Plays.{push_tried, rested};
+ghost use Rattle.buffer_pool.specs.working.Plays.{CanPut, HasKept, HasMissed, HasPushed, HasTaken, StoryLeads, SeatDid};
+ghost use Rattle.buffer_pool.specs.working.Plays.{top_put, rested};
 ghost use Rattle.buffer_pool.specs.working.Setups.{setup_of};
-ghost use Rattle.buffer_pool.specs.working.Told.{IsSettled, noted};
+ghost use Rattle.buffer_pool.specs.working.Views.{HasSaidAll, logged};
 
 use crate::buffer::Buffer;
 use crate::held::Held;
 use crate::layout::{FIRST_LINK, head_word};
 use crate::plays::{
-    SeeEmptyLink, SeeFullLink, SeeHead, StoreLink, TryPop, TryPushEmpty, TryPushFull,
+    PutTopEmpty, PutTopFull, SeeEmptyLink, SeeFullLink, SeeHead, StoreLink, TakeTop,
 };
 use crate::rules::{Token, Words};
 use mark_core::Which;
@@ -38,7 +39,7 @@ pub(crate) fn load_head<A: Allocator>(
     ensures same { (seat.new.table_id ≡ seat.old.table_id) × (seat.new.id ≡ seat.old.id) }
     ensures sound { IsSound seat.new.table_id seat.new.me }
     ensures told { seat.new.me ≡ rested seat.old.me seat.new.me.0.log (loaded which result seat.old.me.0.book) }
-    ensures did { Tells seat.old.me (Load which ∷ []) seat.new.me }
+    ensures did { SeatDid seat.old.me (Load which ∷ []) seat.new.me }
     ensures within { (i : ℕ) → result.index ≡ Some i → i < seat.old.me.0.book.setup.buffers }
 {
     HeadWord::from_word(words.load::<SeeHead>(seat, head_word(which)))
@@ -57,8 +58,8 @@ pub(crate) fn load_link<A: Allocator>(
         × (h.index ≡ Some index) × (index < seat.old.me.0.book.setup.buffers) }
     ensures same { (seat.new.table_id ≡ seat.old.table_id) × (seat.new.id ≡ seat.old.id) }
     ensures told { seat.new.me ≡ rested seat.old.me seat.new.me.0.log (link_loaded which result seat.old.me.0.book) }
-    ensures did { Tells seat.old.me (LoadLink which ∷ []) seat.new.me }
-    ensures story { Leads seat.new.me }
+    ensures did { SeatDid seat.old.me (LoadLink which ∷ []) seat.new.me }
+    ensures story { StoryLeads seat.new.me }
     ensures within { ForSome result (λ i. i < seat.old.me.0.book.setup.buffers) }
 {
     let word = FIRST_LINK + index as usize;
@@ -94,7 +95,7 @@ pub(crate) fn take_top<A: Allocator>(
         (λ b. HasTaken buffer_reading which index None seat.old.me seat.new.me b) }
 {
     let word = head.word();
-    if words.compare_exchange::<TryPop>(seat, head_word(which), word, next.word()) != word {
+    if words.compare_exchange::<TakeTop>(seat, head_word(which), word, next.word()) != word {
         return None;
     }
     let Some(buffer) = words.exchange(seat, index as usize, None) else {
@@ -127,11 +128,11 @@ pub(crate) fn store_link<A: Allocator>(
     ensures same { (seat.new.table_id ≡ seat.old.table_id) × (seat.new.id ≡ seat.old.id) }
     ensures told { seat.new.me
         ≡ (
-          record (noted seat.new.me.0.log seat.old.me.0) { out = suc index; out_link = low_of head.index },
+          record (logged seat.new.me.0.log seat.old.me.0) { out = suc index; out_link = low_of head.index },
           (index, None) ∷ [],
         ) }
-    ensures did { Tells seat.old.me (StoreLinkOf index head.index ∷ []) seat.new.me }
-    ensures story { Leads seat.new.me }
+    ensures did { SeatDid seat.old.me (StoreLinkOf index head.index ∷ []) seat.new.me }
+    ensures story { StoryLeads seat.new.me }
 {
     words.store::<StoreLink>(seat, FIRST_LINK + index as usize, link_to(head));
 }
@@ -147,13 +148,13 @@ fn exchange_for_buffer<A: Allocator>(
     requires table { (seat.old.table_id ≡ words.now.table_id) × IsLaid words.now.table_id (setup_of words.now.key) }
     requires put { (i : ℕ) × (b : _) × CanPut buffer_reading which seat.old.me old new i b }
     ensures same { (seat.new.table_id ≡ seat.old.table_id) × (seat.new.id ≡ seat.old.id) }
-    ensures told { push_tried buffer_reading which (step words.now.table_id.slots 0 old new none) seat.old.me
+    ensures told { top_put buffer_reading which (step words.now.table_id.slots 0 old new none) seat.old.me
         result seat.new.me }
 {
     let word = head_word(which);
     match which {
-        Which::Full => words.compare_exchange::<TryPushFull>(seat, word, old, new),
-        Which::Empty => words.compare_exchange::<TryPushEmpty>(seat, word, old, new),
+        Which::Full => words.compare_exchange::<PutTopFull>(seat, word, old, new),
+        Which::Empty => words.compare_exchange::<PutTopEmpty>(seat, word, old, new),
     }
 }
 
@@ -169,7 +170,7 @@ pub(crate) fn put_top<A: Allocator>(
     requires table { (seat.old.table_id ≡ words.now.table_id) × IsLaid words.now.table_id (setup_of words.now.key) }
     requires stored { (seat.old.me.1 ≡ (held.index, None) ∷ []) × (seat.old.me.0.out ≡ suc held.index)
         × (seat.old.me.0.out_link ≡ low_of head.index) × (0 < seat.old.me.0.book.account.share) }
-    requires settled { IsSettled seat.old.me.0 }
+    requires settled { HasSaidAll seat.old.me.0 }
     requires loaded { ((look_of seat.old.me.0.book.account which).head ≡ Some head) × (head.tag < last_tag) }
     requires next { next ≡ after head (Some held.index) }
     requires may { MayPush which held seat.old.me.0.book }

@@ -1,4 +1,4 @@
--- the worker stays in its pool, and a pass finds no more white objects than there are
+-- The worker stays in its pool, and a pass finds no more white objects than there are.
 use Rattle.std.proofs.Common.{◌*◌, ◌≤◌}
 use Rattle.pool_bench.specs.Holders.{SamePool}
 use Rattle.pool_bench.proofs.claims.claim_passes.Given as goal

@@ -1,4 +1,4 @@
--- the worker stays in its pool
+-- The worker stays in its pool.
 use Rattle.pool_bench.specs.Holders.{SamePool}
 use Rattle.pool_bench.proofs.claims.claim_rows.Given as goal
 

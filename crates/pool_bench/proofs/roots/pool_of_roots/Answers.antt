@@ -7,4 +7,6 @@ use Rattle.pool_bench.proofs.roots.pool_of_roots.Goals as goal
 
 pub returns-clause-roots : goal.returns-clause-roots
 returns-clause-roots c =
-    MatchResult-weaker c.new.result c.new.ensures (λ p is o below. subst (λ (b : Book). Contains b.setup.roots o) (sym is.2) (is_number c.args.objects o below)) (λ _ _. tt)
+    MatchResult-weaker c.new.result c.new.ensures
+    (λ p is o below. subst (λ (b : Book). Contains b.setup.roots o) (sym is.2) (is_number c.args.objects o below))
+    (λ _ _. tt)

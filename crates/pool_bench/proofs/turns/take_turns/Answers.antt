@@ -8,7 +8,10 @@ pub loop-preserved : goal.loop-preserved
 loop-preserved g c =
     let was = c.loop.invariant in
     let moved : c.if-turn.moved ≤ c.loop.counter + 1 =
-    elim c.if-turn.branch [ then-turn w ↦ omega (arith, was.1, w.moved-is) | else-turn w ↦ omega (arith, was.1, w.moved-is) ] in (
+    elim c.if-turn.branch [
+      | then-turn w ↦ omega (arith, was.1, w.moved-is)
+      | else-turn w ↦ omega (arith, was.1, w.moved-is)
+    ] in (
       c.turn.ensures.pool ∙ was.0,
       moved,
       after_turn c.loop.worker.book c.turn.new.worker.book c.turn.result c.turn.ensures.turns was.2,

@@ -1,4 +1,4 @@
--- the worker stays in its pool, and is not idle
+-- The worker stays in its pool, and is not idle.
 use Rattle.std.proofs.Common.{◌≡◌, ◌≤◌}
 use Rattle.pool_bench.proofs.turns.take_turns.Given as goal
 

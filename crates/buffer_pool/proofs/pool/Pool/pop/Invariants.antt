@@ -1,4 +1,4 @@
--- so far the tries were lost, and the worker did those alone
+-- So far the tries were lost, and the worker did those alone.
 use Rattle.std.proofs.Common.{◌≡◌, ℕ}
 use Rattle.mark_core.specs.Event.{IsBusy}
 use Rattle.buffer_pool.specs.Calls.{LostPops}

@@ -1,4 +1,4 @@
--- so far the tries were lost, the buffer came back, and the worker did those tries alone
+-- So far the tries were lost, the buffer came back, and the worker did those tries alone.
 use Rattle.std.proofs.Common.{◌≡◌, ℕ, List, Option}
 use Rattle.buffer_pool.specs.Calls.{LostPushes, MayPush}
 use Rattle.buffer_pool.specs.Steps.{lost_pushes}

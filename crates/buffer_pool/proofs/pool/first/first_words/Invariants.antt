@@ -1,4 +1,4 @@
--- the links before this number are laid
+-- The links before this number are laid.
 use Rattle.std.proofs.Common.{◌<◌}
 use Rattle.buffer_pool.specs.working.Opening.{HasFirstWords}
 use Rattle.buffer_pool.proofs.pool.first.first_words.Given as goal

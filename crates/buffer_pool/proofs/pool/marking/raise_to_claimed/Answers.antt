@@ -1,15 +1,13 @@
 -- The step keeps the rule, and is the event.
-use Rattle.std.proofs.Common.{◌≡◌, ℕ, ◌%◌, bit_or, refl, sym, subst}
-use mathlib.Core.Option.{none}
-use Rattle.atomic_table.specs.Table.{Allows, step}
+use Rattle.std.proofs.Common.{◌≡◌, ℕ, ◌%◌}
 use Rattle.buffer_pool.specs.Book.{claimed}
 use Rattle.buffer_pool.specs.working.Buffers.{buffer_reading}
 use Rattle.buffer_pool.specs.working.Packed.{pair_mark}
 use Rattle.buffer_pool.specs.working.Plays.{claim_made, rested}
 use Rattle.buffer_pool.specs.working.Setups.{setup_of}
-use Rattle.buffer_pool.specs.working.Table.{Rule, mark_word}
+use Rattle.buffer_pool.specs.working.Layout.{mark_word}
 use Rattle.buffer_pool.proofs.Bits.{low_tells}
-use Rattle.buffer_pool.proofs.Claims.{claims, claimable_within, own_word, word_there}
+use Rattle.buffer_pool.proofs.Claims.{claims, claimable_within, own_word, sets_pair}
 use Rattle.buffer_pool.proofs.Sound.{same_story, sound_claimed, sound_same}
 use Rattle.buffer_pool.proofs.pool.marking.raise_to_claimed.Given as given
 use Rattle.buffer_pool.proofs.pool.marking.raise_to_claimed.Goals as goal
@@ -32,20 +30,13 @@ fetch_or-word-requires g c =
     let object = c.args.object in
     let table = c.requires.table in
     let sound = c.requires.sound in
-    let at = c.mark_word.ensures in
     let below =
     claimable_within c.args.seat.now.table_id me.0.book.setup me.0.book.account object sound.laid c.requires.can in
-    let word = own_word z z e e refl table.1 table.1 c.args.buffers object c.mark_word.result table.2 at in (
-      table.0,
-      word_there c.args.seat.now.table_id z e me.0.book.setup table.0 table.1 sound.laid c.args.buffers object
-          c.mark_word.result table.2 at below,
-      subst (λ x. Allows (Rule buffer_reading e) z.slots id me x (λ n. bit_or n c.pair_bits.result)
-          (claim_made (step z.slots x c.pair_bits.result 0 none) me)) (sym word)
-          (subst (λ y. Allows (Rule buffer_reading e) z.slots id me (mark_word e object) (λ n. bit_or n y)
-          (claim_made (step z.slots (mark_word e object) y 0 none) me)) (sym c.pair_bits.ensures)
-          (claims buffer_reading e z.slots id me object sound.carries sound.share sound.settled c.requires.can
-          c.requires.busy below)),
-    )
+    sets_pair c.args.seat.now.table_id z e me.0.book.setup table.0 table.1 sound.laid c.args.buffers object
+    c.mark_word.result table.2 c.mark_word.ensures buffer_reading id me 1 c.pair_bits.result c.pair_bits.ensures
+    below claim_made
+    (claims buffer_reading e z.slots id me object sound.carries sound.share sound.settled c.requires.can
+    c.requires.busy below)
 
 pub returns-clause-sound : goal.returns-clause-sound
 returns-clause-sound g c =

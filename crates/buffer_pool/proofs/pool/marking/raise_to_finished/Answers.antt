@@ -1,14 +1,12 @@
 -- The step keeps the rule, and is the event.
-use Rattle.std.proofs.Common.{◌≡◌, bit_or, refl, sym, subst}
-use mathlib.Core.Option.{none}
-use Rattle.atomic_table.specs.Table.{Allows, step}
+use Rattle.std.proofs.Common.{◌≡◌}
 use Rattle.mark_core.proofs.Sums.{stands_times}
 use Rattle.buffer_pool.specs.Book.{finished}
 use Rattle.buffer_pool.specs.working.Buffers.{buffer_reading}
 use Rattle.buffer_pool.specs.working.Plays.{finish_made, rested}
 use Rattle.buffer_pool.specs.working.Setups.{setup_of}
-use Rattle.buffer_pool.specs.working.Table.{Rule, mark_word}
-use Rattle.buffer_pool.proofs.Claims.{finishes, own_word, word_there}
+use Rattle.buffer_pool.specs.working.Layout.{mark_word}
+use Rattle.buffer_pool.proofs.Claims.{finishes, own_word, sets_pair}
 use Rattle.buffer_pool.proofs.Sound.{same_story, sound_finished, sound_same}
 use Rattle.buffer_pool.proofs.pool.marking.raise_to_finished.Given as given
 use Rattle.buffer_pool.proofs.pool.marking.raise_to_finished.Goals as goal
@@ -31,19 +29,12 @@ fetch_or-requires g c =
     let object = c.args.object in
     let table = c.requires.table in
     let sound = c.requires.sound in
-    let at = c.mark_word.ensures in
     let below = sound.within.charge object c.requires.can.0 in
-    let word = own_word z z e e refl table.1 table.1 c.args.buffers object c.mark_word.result table.2 at in (
-      table.0,
-      word_there c.args.seat.now.table_id z e me.0.book.setup table.0 table.1 sound.laid c.args.buffers object
-          c.mark_word.result table.2 at below,
-      subst (λ x. Allows (Rule buffer_reading e) z.slots id me x (λ n. bit_or n c.pair_bits.result)
-          (finish_made (step z.slots x c.pair_bits.result 0 none) me)) (sym word)
-          (subst (λ y. Allows (Rule buffer_reading e) z.slots id me (mark_word e object) (λ n. bit_or n y)
-          (finish_made (step z.slots (mark_word e object) y 0 none) me)) (sym c.pair_bits.ensures)
-          (finishes buffer_reading e z.slots id me object sound.carries sound.share sound.settled c.requires.can
-          below)),
-    )
+    sets_pair c.args.seat.now.table_id z e me.0.book.setup table.0 table.1 sound.laid c.args.buffers object
+    c.mark_word.result table.2 c.mark_word.ensures buffer_reading id me 3 c.pair_bits.result c.pair_bits.ensures
+    below finish_made
+    (finishes buffer_reading e z.slots id me object sound.carries sound.share sound.settled c.requires.can
+    below)
 
 pub returns-clause-sound : goal.returns-clause-sound
 returns-clause-sound g c =

@@ -1,3 +1,4 @@
+-- The units are set aside, the seat is split, and both parts are settled: each is sound, with its part of the share.
 use Rattle.std.proofs.Common.{◌∙◌, ap, refl, sym, Option, arith}
 use Rattle.atomic_table.specs.Table.{Me}
 use Rattle.atomic_table.specs.Seated.{TableId}
@@ -18,38 +19,45 @@ pub compare_exchange-requires : goal.compare_exchange-requires
 compare_exchange-requires g c = (
   c.requires.table,
   omega (arith, c.requires.sound.laid.words, ap (λ (t : TableId). t.words) c.requires.table),
-  sets_aside buffer_reading (setup_of c.args.words.now.key) c.args.words.now.table_id.slots c.args.seat.now.id c.args.seat.now.me 0 c.args.units c.requires.sound.carries c.requires.sound.share c.requires.sound.settled,
+  sets_aside buffer_reading (setup_of c.args.words.now.key) c.args.words.now.table_id.slots c.args.seat.now.id
+      c.args.seat.now.me 0 c.args.units c.requires.sound.carries c.requires.sound.share c.requires.sound.settled,
 )
 
 pub split_seat-other-requires : goal.split_seat-other-requires
 split_seat-other-requires g c =
     let told = c.compare_exchange.ensures.2 in
-    let noted = noted_units c.args.seat.now.me c.compare_exchange.new.seat.me c.compare_exchange.new.seat.me.0.log c.args.units told.0 c.requires.units.0 c.requires.units.1 in (
+    let noted = noted_units c.args.seat.now.me c.compare_exchange.new.seat.me c.compare_exchange.new.seat.me.0.log
+    c.args.units told.0 c.requires.units.0 c.requires.units.1 in (
       c.compare_exchange.ensures.0 ∙ c.requires.table,
       omega (arith, c.requires.sound.laid.words, ap (λ (t : TableId). t.words) c.requires.table),
-      splits buffer_reading (setup_of c.args.words.now.key) c.compare_exchange.new.seat.id c.compare_exchange.new.seat.me.0 noted.0 noted.1 noted.2,
+      splits buffer_reading (setup_of c.args.words.now.key) c.compare_exchange.new.seat.id
+          c.compare_exchange.new.seat.me.0 noted.0 noted.1 noted.2,
     )
 
 pub load-requires : goal.load-requires
 load-requires g c =
     let told = c.compare_exchange.ensures.2 in
     let may =
-    kept_may c.args.seat.now.table_id c.args.seat.now.table_id c.args.seat.now.me c.compare_exchange.new.seat.me c.args.units refl c.compare_exchange.new.seat.me.0.log c.requires.sound told.0 told.1
+    kept_may c.args.seat.now.table_id c.args.seat.now.table_id c.args.seat.now.me c.compare_exchange.new.seat.me
+    c.args.units refl c.compare_exchange.new.seat.me.0.log c.requires.sound told.0 told.1
     c.split_seat-other.new.seat.me c.split_seat-other.ensures.2 c.requires.units.1 in (
       c.split_seat-other.ensures.0 ∙ c.compare_exchange.ensures.0 ∙ c.requires.table,
       omega (arith, c.requires.sound.laid.words, ap (λ (t : TableId). t.words) c.requires.table),
-      settles buffer_reading (setup_of c.args.words.now.key) c.args.words.now.table_id.slots c.split_seat-other.new.seat.id c.split_seat-other.new.seat.me 0 may.0 may.1,
+      settles buffer_reading (setup_of c.args.words.now.key) c.args.words.now.table_id.slots
+          c.split_seat-other.new.seat.id c.split_seat-other.new.seat.me 0 may.0 may.1,
     )
 
 pub load-requires-2 : goal.load-requires-2
 load-requires-2 g c =
     let told = c.compare_exchange.ensures.2 in
     let may =
-    given_may c.args.seat.now.table_id c.args.seat.now.table_id c.args.seat.now.me c.compare_exchange.new.seat.me c.args.units refl c.compare_exchange.new.seat.me.0.log c.requires.sound told.0 told.1
+    given_may c.args.seat.now.table_id c.args.seat.now.table_id c.args.seat.now.me c.compare_exchange.new.seat.me
+    c.args.units refl c.compare_exchange.new.seat.me.0.log c.requires.sound told.0 told.1
     c.split_seat-other.result.me c.split_seat-other.ensures.4 c.requires.units.0 in (
       c.split_seat-other.ensures.3 ∙ c.compare_exchange.ensures.0 ∙ c.requires.table,
       omega (arith, c.requires.sound.laid.words, ap (λ (t : TableId). t.words) c.requires.table),
-      settles buffer_reading (setup_of c.args.words.now.key) c.args.words.now.table_id.slots c.split_seat-other.result.id c.split_seat-other.result.me 0 may.0 may.1,
+      settles buffer_reading (setup_of c.args.words.now.key) c.args.words.now.table_id.slots
+          c.split_seat-other.result.id c.split_seat-other.result.me 0 may.0 may.1,
     )
 
 pub returns : goal.returns
@@ -59,13 +67,20 @@ returns g c =
     let one = c.compare_exchange.ensures.0 in
     let t = c.args.seat.now.table_id in
     let kept =
-    keeps_part t c.load.new.seat.table_id c.args.seat.now.me c.compare_exchange.new.seat.me c.args.units (c.load.ensures.0 ∙ c.split_seat-other.ensures.0 ∙ one) log c.requires.sound told.0 told.1
-    c.split_seat-other.new.seat.me c.load.new.seat.me c.split_seat-other.ensures.2 c.load.ensures.2 c.requires.units.1 in
+    keeps_part t c.load.new.seat.table_id c.args.seat.now.me c.compare_exchange.new.seat.me c.args.units
+    (c.load.ensures.0 ∙ c.split_seat-other.ensures.0 ∙ one) log c.requires.sound told.0 told.1
+    c.split_seat-other.new.seat.me c.load.new.seat.me c.split_seat-other.ensures.2 c.load.ensures.2 c.requires.units.1
+    in
     let given =
-    has_part t c.load-2.new.seat.table_id c.args.seat.now.me c.compare_exchange.new.seat.me c.args.units (c.load-2.ensures.0 ∙ c.split_seat-other.ensures.3 ∙ one) log c.requires.sound told.0 told.1
-    c.split_seat-other.result.me c.load-2.new.seat.me c.split_seat-other.ensures.4 c.load-2.ensures.2 c.requires.units.0 in
+    has_part t c.load-2.new.seat.table_id c.args.seat.now.me c.compare_exchange.new.seat.me c.args.units
+    (c.load-2.ensures.0 ∙ c.split_seat-other.ensures.3 ∙ one) log c.requires.sound told.0 told.1
+    c.split_seat-other.result.me c.load-2.new.seat.me c.split_seat-other.ensures.4 c.load-2.ensures.2
+    c.requires.units.0 in
     record {
-      same = (c.load.ensures.0 ∙ c.split_seat-other.ensures.0 ∙ one, c.load-2.ensures.0 ∙ c.split_seat-other.ensures.3 ∙ one);
+      same = (
+        c.load.ensures.0 ∙ c.split_seat-other.ensures.0 ∙ one,
+        c.load-2.ensures.0 ∙ c.split_seat-other.ensures.3 ∙ one,
+      );
       kept = kept.0;
       given = given.0;
       did = kept.1;

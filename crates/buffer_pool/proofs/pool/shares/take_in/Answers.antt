@@ -1,3 +1,4 @@
+-- The other seat is settled before it is joined, and the joined one after: its book is that of both, each object once.
 use Rattle.std.proofs.Common.{◌∙◌, ap, subst, sym, Option, arith}
 use Rattle.atomic_table.specs.Table.{Me}
 use Rattle.atomic_table.specs.Seated.{TableId}
@@ -22,7 +23,8 @@ load-requires g c =
     let sound = c.requires.sound.1 in (
       c.requires.table.1,
       omega (arith, sound.laid.words, ap (λ (t : TableId). t.words) c.requires.table.1),
-      settles buffer_reading (setup_of c.args.words.now.key) c.args.words.now.table_id.slots c.args.other.id c.args.other.me 0 sound.carries sound.share,
+      settles buffer_reading (setup_of c.args.words.now.key) c.args.words.now.table_id.slots c.args.other.id
+          c.args.other.me 0 sound.carries sound.share,
     )
 
 pub join_seat-requires : goal.join_seat-requires
@@ -33,7 +35,8 @@ join_seat-requires g c =
       c.load.ensures.0 ∙ c.requires.table.1,
       ap (λ (n : Token g). n.1) freed,
       omega (arith, sound.laid.words, ap (λ (t : TableId). t.words) c.requires.table.0),
-      joins buffer_reading (setup_of c.args.words.now.key) c.args.seat.now.id c.args.seat.now.me.0 c.load.new.seat.id c.load.new.seat.me.0 (ap (λ (n : Token g). n.0.out) freed) sound.share sound.settled.named
+      joins buffer_reading (setup_of c.args.words.now.key) c.args.seat.now.id c.args.seat.now.me.0 c.load.new.seat.id
+          c.load.new.seat.me.0 (ap (λ (n : Token g). n.0.out) freed) sound.share sound.settled.named
           (omega (arith, c.requires.sound.1.share, ap (λ (n : Token g). n.0.book.account.share) freed))
           (ap (λ (n : Token g). n.0.named) freed) (ap (λ (n : Token g). n.0.unsaid) freed),
     )
@@ -44,7 +47,9 @@ load-requires-2 g c =
     let both = c.join_seat.ensures.2 in (
       c.join_seat.ensures.0 ∙ c.requires.table.0,
       omega (arith, sound.laid.words, ap (λ (t : TableId). t.words) c.requires.table.0),
-      settles buffer_reading (setup_of c.args.words.now.key) c.args.words.now.table_id.slots c.join_seat.new.seat.id c.join_seat.new.seat.me 0 (carries_joined c.args.seat.now.me c.load.new.seat.me c.join_seat.new.seat.me both sound.carries)
+      settles buffer_reading (setup_of c.args.words.now.key) c.args.words.now.table_id.slots c.join_seat.new.seat.id
+          c.join_seat.new.seat.me 0 (carries_joined c.args.seat.now.me c.load.new.seat.me c.join_seat.new.seat.me both
+          sound.carries)
           (omega (arith, sound.share, ap (λ (n : Token g). n.0.book.account.share) both)),
     )
 
@@ -52,26 +57,33 @@ load-requires-2 g c =
 pub returns-clause-joined : goal.returns-clause-joined
 returns-clause-joined g c =
     let same = sym (c.requires.table.1 ∙ sym c.requires.table.0) in
-    has_both c.args.seat.now.table_id c.load-2.new.seat.table_id c.args.seat.now.me c.args.other.me c.load.new.seat.me c.join_seat.new.seat.me c.load-2.new.seat.me (c.load-2.ensures.0 ∙ c.join_seat.ensures.0)
-    c.requires.sound.0 (subst (λ t. IsSound t c.args.other.me) (sym same) c.requires.sound.1) c.load.ensures.2 c.join_seat.ensures.2 c.load-2.ensures.2
+    has_both c.args.seat.now.table_id c.load-2.new.seat.table_id c.args.seat.now.me c.args.other.me c.load.new.seat.me
+    c.join_seat.new.seat.me c.load-2.new.seat.me (c.load-2.ensures.0 ∙ c.join_seat.ensures.0)
+    c.requires.sound.0 (subst (λ t. IsSound t c.args.other.me) (sym same) c.requires.sound.1) c.load.ensures.2
+    c.join_seat.ensures.2 c.load-2.ensures.2
 
 pub returns-clause-did : goal.returns-clause-did
 returns-clause-did g c =
     let same = sym (c.requires.table.1 ∙ sym c.requires.table.0) in
-    did_join c.args.seat.now.table_id c.load-2.new.seat.table_id c.args.seat.now.me c.args.other.me c.load.new.seat.me c.join_seat.new.seat.me c.load-2.new.seat.me (c.load-2.ensures.0 ∙ c.join_seat.ensures.0)
-    c.requires.sound.0 (subst (λ t. IsSound t c.args.other.me) (sym same) c.requires.sound.1) c.load.ensures.2 c.join_seat.ensures.2 c.load-2.ensures.2
+    did_join c.args.seat.now.table_id c.load-2.new.seat.table_id c.args.seat.now.me c.args.other.me c.load.new.seat.me
+    c.join_seat.new.seat.me c.load-2.new.seat.me (c.load-2.ensures.0 ∙ c.join_seat.ensures.0)
+    c.requires.sound.0 (subst (λ t. IsSound t c.args.other.me) (sym same) c.requires.sound.1) c.load.ensures.2
+    c.join_seat.ensures.2 c.load-2.ensures.2
 
 pub returns-clause-knows : goal.returns-clause-knows
 returns-clause-knows g c =
     let same = sym (c.requires.table.1 ∙ sym c.requires.table.0) in
     ends_other c.args.seat.now.table_id c.load-2.new.seat.table_id c.args.seat.now.me c.args.other.me c.load.new.seat.me
     c.join_seat.new.seat.me c.load-2.new.seat.me (c.load-2.ensures.0 ∙ c.join_seat.ensures.0)
-    c.requires.sound.0 (subst (λ t. IsSound t c.args.other.me) (sym same) c.requires.sound.1) c.load.ensures.2 c.join_seat.ensures.2 c.load-2.ensures.2
+    c.requires.sound.0 (subst (λ t. IsSound t c.args.other.me) (sym same) c.requires.sound.1) c.load.ensures.2
+    c.join_seat.ensures.2 c.load-2.ensures.2
 
 pub returns-clause-apart : goal.returns-clause-apart
 returns-clause-apart g c =
-    let told : HasEachOnce (after_join c.args.seat.now.me.0.book.account c.load.new.seat.me.0.book.account) = subst (λ (n : Token g). HasEachOnce n.0.book.account) c.join_seat.ensures.2 c.load-2.ensures.2.each in
-    subst (λ (n : Token g). AreApart c.args.seat.now.me.0.book.account n.0.book.account) c.load.ensures.2.same (apart_by c.args.seat.now.me.0.book.account c.load.new.seat.me.0.book.account told)
+    let told : HasEachOnce (after_join c.args.seat.now.me.0.book.account c.load.new.seat.me.0.book.account) =
+    subst (λ (n : Token g). HasEachOnce n.0.book.account) c.join_seat.ensures.2 c.load-2.ensures.2.each in
+    subst (λ (n : Token g). AreApart c.args.seat.now.me.0.book.account n.0.book.account) c.load.ensures.2.same
+    (apart_by c.args.seat.now.me.0.book.account c.load.new.seat.me.0.book.account told)
 
 pub returns-clause-once : goal.returns-clause-once
 returns-clause-once g c o =

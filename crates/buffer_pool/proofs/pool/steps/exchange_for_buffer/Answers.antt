@@ -4,7 +4,7 @@ use mathlib.Core.Option.{none}
 use prog.Atomic.{either}
 use Rattle.atomic_table.specs.Table.{Allows, step}
 use Rattle.buffer_pool.specs.working.Buffers.{buffer_reading}
-use Rattle.buffer_pool.specs.working.Plays.{push_tried}
+use Rattle.buffer_pool.specs.working.Plays.{top_put}
 use Rattle.buffer_pool.specs.working.Setups.{setup_of}
 use Rattle.buffer_pool.specs.working.Table.{Rule}
 use Rattle.buffer_pool.proofs.Pushes.{pushes}
@@ -24,9 +24,15 @@ compare_exchange-requires g c =
     let f = λ (n : ℕ). either (n == c.args.old) c.args.new n in (
       c.requires.table.0,
       omega (arith, c.head_word-word.ensures, small, c.requires.table.1.words),
-      subst (λ p. Allows (Rule buffer_reading e) z.slots c.args.seat.now.id me c.head_word-word.result f (push_tried buffer_reading p (step z.slots c.head_word-word.result c.args.old c.args.new none) me)) c.in-Full.is
-          (subst (λ x. Allows (Rule buffer_reading e) z.slots c.args.seat.now.id me x f (push_tried buffer_reading q (step z.slots x c.args.old c.args.new none) me)) (sym c.head_word-word.ensures)
-          (pushes buffer_reading e z.slots c.args.seat.now.id me q c.args.old c.args.new i b can.carried can.out can.share can.settled can.held can.last can.short can.next can.leads can.part can.bare can.size can.fits can.busy)),
+      subst (λ p. Allows (Rule buffer_reading e) z.slots c.args.seat.now.id me c.head_word-word.result f
+          (top_put buffer_reading p (step z.slots c.head_word-word.result c.args.old c.args.new none) me))
+          c.in-Full.is
+          (subst (λ x. Allows (Rule buffer_reading e) z.slots c.args.seat.now.id me x f
+          (top_put buffer_reading q (step z.slots x c.args.old c.args.new none) me))
+          (sym c.head_word-word.ensures)
+          (pushes buffer_reading e z.slots c.args.seat.now.id me q c.args.old c.args.new i b can.carried can.out
+          can.share can.settled can.held can.last can.short can.next can.leads can.part can.bare can.size can.fits
+          can.busy)),
     )
 
 pub compare_exchange-requires-in-Empty : goal.compare_exchange-requires-in-Empty
@@ -42,15 +48,25 @@ compare_exchange-requires-in-Empty g c =
     let f = λ (n : ℕ). either (n == c.args.old) c.args.new n in (
       c.requires.table.0,
       omega (arith, c.head_word-word.ensures, small, c.requires.table.1.words),
-      subst (λ p. Allows (Rule buffer_reading e) z.slots c.args.seat.now.id me c.head_word-word.result f (push_tried buffer_reading p (step z.slots c.head_word-word.result c.args.old c.args.new none) me)) c.in-Empty.is
-          (subst (λ x. Allows (Rule buffer_reading e) z.slots c.args.seat.now.id me x f (push_tried buffer_reading q (step z.slots x c.args.old c.args.new none) me)) (sym c.head_word-word.ensures)
-          (pushes buffer_reading e z.slots c.args.seat.now.id me q c.args.old c.args.new i b can.carried can.out can.share can.settled can.held can.last can.short can.next can.leads can.part can.bare can.size can.fits can.busy)),
+      subst (λ p. Allows (Rule buffer_reading e) z.slots c.args.seat.now.id me c.head_word-word.result f
+          (top_put buffer_reading p (step z.slots c.head_word-word.result c.args.old c.args.new none) me))
+          c.in-Empty.is
+          (subst (λ x. Allows (Rule buffer_reading e) z.slots c.args.seat.now.id me x f
+          (top_put buffer_reading q (step z.slots x c.args.old c.args.new none) me))
+          (sym c.head_word-word.ensures)
+          (pushes buffer_reading e z.slots c.args.seat.now.id me q c.args.old c.args.new i b can.carried can.out
+          can.share can.settled can.held can.last can.short can.next can.leads can.part can.bare can.size can.fits
+          can.busy)),
     )
 
 pub returns-in-Full-clause-told : goal.returns-in-Full-clause-told
 returns-in-Full-clause-told g c =
-    subst (λ p. push_tried buffer_reading p (step c.args.words.now.table_id.slots 0 c.args.old c.args.new none) c.args.seat.now.me c.compare_exchange.result c.compare_exchange.new.seat.me) (sym c.in-Full.is) c.compare_exchange.ensures.2
+    subst (λ p. top_put buffer_reading p (step c.args.words.now.table_id.slots 0 c.args.old c.args.new none)
+    c.args.seat.now.me c.compare_exchange.result c.compare_exchange.new.seat.me)
+    (sym c.in-Full.is) c.compare_exchange.ensures.2
 
 pub returns-in-Empty-clause-told : goal.returns-in-Empty-clause-told
 returns-in-Empty-clause-told g c =
-    subst (λ p. push_tried buffer_reading p (step c.args.words.now.table_id.slots 0 c.args.old c.args.new none) c.args.seat.now.me c.compare_exchange-in-Empty.result c.compare_exchange-in-Empty.new.seat.me) (sym c.in-Empty.is) c.compare_exchange-in-Empty.ensures.2
+    subst (λ p. top_put buffer_reading p (step c.args.words.now.table_id.slots 0 c.args.old c.args.new none)
+    c.args.seat.now.me c.compare_exchange-in-Empty.result c.compare_exchange-in-Empty.new.seat.me)
+    (sym c.in-Empty.is) c.compare_exchange-in-Empty.ensures.2

@@ -21,8 +21,10 @@ load-requires g c =
     let small = head_below c.args.which in (
       c.requires.table.0,
       omega (arith, c.head_word.ensures, small, c.requires.table.1.words),
-      subst (λ x. Allows (Rule buffer_reading e) z.slots c.args.seat.now.id me x (λ n. n) (head_seen (step z.slots x 0 0 none) me)) (sym c.head_word.ensures)
-          (sees_head buffer_reading e z.slots c.args.seat.now.id me c.args.which c.requires.sound.carries c.requires.sound.share c.requires.sound.settled),
+      subst (λ x. Allows (Rule buffer_reading e) z.slots c.args.seat.now.id me x (λ n. n)
+          (head_seen (step z.slots x 0 0 none) me)) (sym c.head_word.ensures)
+          (sees_head buffer_reading e z.slots c.args.seat.now.id me c.args.which c.requires.sound.carries
+          c.requires.sound.share c.requires.sound.settled),
     )
 
 pub returns : goal.returns
@@ -30,7 +32,8 @@ returns g c =
     let me = c.args.seat.now.me in
     let q = c.args.which in
     let told = c.load.ensures.2 q c.head_word.ensures in
-    let now = subst (λ (h : Head). c.load.new.seat.me ≡ rested me c.load.new.seat.me.0.log (loaded q h me.0.book)) (sym c.from_word.ensures) told.0 in
+    let now = subst (λ (h : Head). c.load.new.seat.me ≡ rested me c.load.new.seat.me.0.log (loaded q h me.0.book))
+    (sym c.from_word.ensures) told.0 in
     record {
       same = (c.load.ensures.0, c.load.ensures.1);
       sound =
@@ -40,6 +43,7 @@ returns g c =
           (same_story c.load.new.seat.me (rested me c.load.new.seat.me.0.log (loaded q c.from_word.result me.0.book))
           now told.3)) c.load.ensures.0 now;
       told = now;
-      within = subst (λ (h : Head). (i : ℕ) → h.index ≡ Some i → i < me.0.book.setup.buffers) (sym c.from_word.ensures) told.1;
+      within = subst (λ (h : Head). (i : ℕ) → h.index ≡ Some i → i < me.0.book.setup.buffers)
+          (sym c.from_word.ensures) told.1;
       did = told.2;
     }

@@ -17,7 +17,9 @@ load-link-requires g c =
     let slots : c.args.seat.now.table_id.slots ≡ z.slots = ap (λ (t : TableId). t.slots) c.requires.table.0 in (
       c.requires.table.0,
       omega (arith, looked.3, c.requires.table.1.words, c.requires.table.1.slots, c.requires.sound.0.laid.slots, slots),
-      sees_link buffer_reading e z.slots c.args.seat.now.id me Full looked.0 c.args.index c.requires.sound.0.carries c.requires.sound.0.share c.requires.sound.0.settled (subst (λ q. (look_of me.0.book.account q).head ≡ Some looked.0) c.in-Full.is looked.1) looked.2 looked.3,
+      sees_link buffer_reading e z.slots c.args.seat.now.id me Full looked.0 c.args.index c.requires.sound.0.carries
+          c.requires.sound.0.share c.requires.sound.0.settled
+          (subst (λ q. (look_of me.0.book.account q).head ≡ Some looked.0) c.in-Full.is looked.1) looked.2 looked.3,
     )
 
 pub load-link-requires-in-Empty : goal.load-link-requires-in-Empty
@@ -29,5 +31,7 @@ load-link-requires-in-Empty g c =
     let slots : c.args.seat.now.table_id.slots ≡ z.slots = ap (λ (t : TableId). t.slots) c.requires.table.0 in (
       c.requires.table.0,
       omega (arith, looked.3, c.requires.table.1.words, c.requires.table.1.slots, c.requires.sound.0.laid.slots, slots),
-      sees_link buffer_reading e z.slots c.args.seat.now.id me Empty looked.0 c.args.index c.requires.sound.0.carries c.requires.sound.0.share c.requires.sound.0.settled (subst (λ q. (look_of me.0.book.account q).head ≡ Some looked.0) c.in-Empty.is looked.1) looked.2 looked.3,
+      sees_link buffer_reading e z.slots c.args.seat.now.id me Empty looked.0 c.args.index c.requires.sound.0.carries
+          c.requires.sound.0.share c.requires.sound.0.settled
+          (subst (λ q. (look_of me.0.book.account q).head ≡ Some looked.0) c.in-Empty.is looked.1) looked.2 looked.3,
     )

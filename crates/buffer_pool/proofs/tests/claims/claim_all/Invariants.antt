@@ -1,4 +1,4 @@
--- the worker stays in its pool, with its roots
+-- The worker stays in its pool, with its roots.
 use Rattle.buffer_pool.specs.tests.Rounds.{IsSameWorker}
 use Rattle.buffer_pool.proofs.tests.claims.claim_all.Given as goal
 

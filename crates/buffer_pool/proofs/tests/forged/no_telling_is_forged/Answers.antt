@@ -1,6 +1,7 @@
 -- Each clause is a lemma of its own.
 use Rattle.buffer_pool.specs.working.Buffers.{buffer_reading}
-use Rattle.buffer_pool.proofs.Forged.{no_even_pop, no_forged_head, no_forged_loss, no_forged_push, other_first_heads_were_not}
+use Rattle.buffer_pool.proofs.Forged.{no_even_pop, no_forged_head, no_forged_loss, no_forged_push}
+use Rattle.buffer_pool.proofs.Forged.{other_first_heads_were_not}
 use Rattle.buffer_pool.proofs.tests.forged.no_telling_is_forged.Goals as goal
 
 pub returns-clause-loss : goal.returns-clause-loss

@@ -1,4 +1,4 @@
--- between two rounds nothing is held
+-- Between two rounds nothing is held.
 use Rattle.std.proofs.Common.{◌≡◌, []}
 use Rattle.buffer_pool.specs.tests.Worked.{Holds}
 use Rattle.buffer_pool.proofs.tests.race.run.Given as goal

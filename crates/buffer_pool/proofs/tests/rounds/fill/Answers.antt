@@ -9,7 +9,8 @@ use Rattle.buffer_pool.proofs.tests.rounds.fill.Goals.{then-claim+in-Ok, else-cl
 pub claim-requires-clause-can : goal.claim-requires-clause-can
 claim-requires-clause-can g c =
     let roots = same_roots 4000 c.args.worker.now c.loop-object.worker c.loop-object.invariant.0 c.requires.roots in
-    may_claim 4000 c.loop-object.worker c.loop-object.object roots (omega (arith, c.loop-object-test.true, c.requires.to))
+    may_claim 4000 c.loop-object.worker c.loop-object.object roots
+    (omega (arith, c.loop-object-test.true, c.requires.to))
 
 pub loop-object-preserved : goal.loop-object-preserved
 loop-object-preserved g c =
@@ -22,8 +23,11 @@ loop-object-preserved g c =
     let one : HasOne new c.if-claim.held =
     elim c.if-claim.branch [
       | then-claim+in-Ok w ↦
-          subst (λ (h : HeldBuffer). HasOne new h) (sym (w.held-is ∙ w.in-Ok.ensures.ok.1)) (put_in old new pool c.loop-object.held o event.0 was.1 event.1 (event.2.0 w.if-claim.true))
-      | else-claim w ↦ subst (λ (h : HeldBuffer). HasOne new h) (sym w.held-is) (left_out old new pool c.loop-object.held o event.0 was.1 event.1 (not_white c.claim.result event.0 event.2 w.if-claim.false))
+          subst (λ (h : HeldBuffer). HasOne new h) (sym (w.held-is ∙ w.in-Ok.ensures.ok.1))
+          (put_in old new pool c.loop-object.held o event.0 was.1 event.1 (event.2.0 w.if-claim.true))
+      | else-claim w ↦ subst (λ (h : HeldBuffer). HasOne new h) (sym w.held-is)
+          (left_out old new pool c.loop-object.held o event.0 was.1 event.1
+          (not_white c.claim.result event.0 event.2 w.if-claim.false))
     ] in
     (same_again c.args.worker.now old new was.0 (same_claimed old new pool o event.0 event.1), one)
 

@@ -1,4 +1,4 @@
--- the buffer has what the worker claimed
+-- The buffer has what the worker claimed.
 use Rattle.buffer_pool.specs.tests.Rounds.{HasOne, IsSameWorker}
 use Rattle.buffer_pool.proofs.tests.rounds.fill.Given as goal
 

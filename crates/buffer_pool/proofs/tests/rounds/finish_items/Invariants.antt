@@ -1,4 +1,4 @@
--- the buffer has what the worker still answers for
+-- The buffer has what the worker still answers for.
 use Rattle.std.proofs.Common.{length}
 use Rattle.buffer_pool.specs.tests.Rounds.{HasOne, IsSameWorker}
 use Rattle.buffer_pool.proofs.tests.rounds.finish_items.Given as goal

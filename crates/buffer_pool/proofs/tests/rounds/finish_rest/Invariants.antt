@@ -1,4 +1,4 @@
--- between two buffers nothing is held
+-- Between two buffers nothing is held.
 use Rattle.buffer_pool.specs.tests.Rounds.{HasNone, IsSameWorker}
 use Rattle.buffer_pool.proofs.tests.rounds.finish_rest.Given as goal
 

@@ -1,4 +1,4 @@
--- between two rounds nothing is held
+-- Between two rounds nothing is held.
 use Rattle.buffer_pool.specs.tests.Rounds.{HasNone, IsSameWorker}
 use Rattle.buffer_pool.proofs.tests.rounds.go_through.Given as goal
 

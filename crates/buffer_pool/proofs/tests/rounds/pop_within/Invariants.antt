@@ -1,4 +1,4 @@
--- the tries so far took nothing
+-- The tries so far took nothing.
 use Rattle.buffer_pool.specs.tests.Rounds.{HasNone, IsSameWorker}
 use Rattle.buffer_pool.proofs.tests.rounds.pop_within.Given as goal
 

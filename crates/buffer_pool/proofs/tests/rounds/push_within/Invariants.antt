@@ -1,4 +1,4 @@
--- the buffer came back from the tries so far
+-- The buffer came back from the tries so far.
 use Rattle.std.proofs.Common.{◌≡◌}
 use Rattle.buffer_pool.specs.tests.Rounds.{HasOne, IsSameWorker}
 use Rattle.buffer_pool.proofs.tests.rounds.push_within.Given as goal

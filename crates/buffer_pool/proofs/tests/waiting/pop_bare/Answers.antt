@@ -10,7 +10,8 @@ returns-clause-held g c n list was =
     let inside : c.held.inside.index ≡ h.index = ap (λ (l : HeldBuffer). l.index) c.held.view_is in
     let index : h.index ≡ c.args.wanted = omega (arith, inside) in
     let none : length h.items ≡ 0 = omega arith in
-    pops_bare c.args.worker.now c.pop.new.worker n list was c.args.which h c.args.wanted c.in-Took.ensures.pops index none
+    pops_bare c.args.worker.now c.pop.new.worker n list was c.args.which h c.args.wanted c.in-Took.ensures.pops index
+    none
 
 pub pop-requires-clause-busy : goal.pop-requires-clause-busy
 pop-requires-clause-busy g c = inr c.requires.awake

@@ -1,9 +1,9 @@
-//! A try of a push, over its steps.
+//! One try of a push, as its steps in order.
 ghost use Rattle.std.specs.Prelude.{◌≡◌, ℕ, Option};
-ghost use Rattle.buffer_pool.specs.Calls.{MayPush, Pushes};
+ghost use Rattle.buffer_pool.specs.Calls.{MayPush, TriesPush};
 ghost use Rattle.buffer_pool.specs.working.Laid.{IsLaid, IsSound};
 ghost use Rattle.buffer_pool.specs.working.Setups.{setup_of};
-ghost use Rattle.buffer_pool.specs.Steps.{push_steps};
+ghost use Rattle.buffer_pool.specs.Steps.{try_push_steps};
 ghost use Rattle.buffer_pool.specs.Story.{Did};
 
 use crate::answers::TryPushed;
@@ -14,7 +14,8 @@ use mark_core::Which;
 use std::alloc::Allocator;
 
 /// Loads the head, stores it as the buffer's link, and exchanges it for the buffer.
-pub(crate) fn push_to<A: Allocator>(
+/// It is what `Pool::try_push` does, over the words and the worker's seat: `Pool` and `Worker` are opened around it.
+pub(crate) fn try_push<A: Allocator>(
     words: &Words<A>,
     seat: &mut Token<A>,
     which: Which,
@@ -25,8 +26,8 @@ pub(crate) fn push_to<A: Allocator>(
     requires may { MayPush which held seat.old.me.0.book }
     ensures same { seat.new.table_id ≡ seat.old.table_id }
     ensures sound { IsSound seat.new.table_id seat.new.me }
-    ensures pushes { Pushes which held seat.old.me.0.book seat.new.me.0.book result }
-    ensures did { (link : Option ℕ) × Did seat.old.me.0.log (push_steps which held link result) seat.new.me.0.log }
+    ensures pushes { TriesPush which held seat.old.me.0.book seat.new.me.0.book result }
+    ensures did { (link : Option ℕ) × Did seat.old.me.0.log (try_push_steps which held link result) seat.new.me.0.log }
 {
     let index = held.index;
     let head = load_head(words, seat, which);

@@ -1,8 +1,8 @@
--- the places before this one are empty, the others are not
+-- The places before this one are empty, the others are not.
 use Rattle.std.proofs.Common.{◌≡◌, ℕ, ◌<◌, ◌≤◌, false, true, get_or}
 use Rattle.std.specs.Slots.{slots_filled, slots_len}
 use Rattle.buffer_pool.specs.Closing.{IsEmptied}
-use Rattle.buffer_pool.proofs.pool.marks.empty_slots.Given as goal
+use Rattle.buffer_pool.proofs.pool.slots.empty_slots.Given as goal
 
 abbrev pub invariant-loop-slot : goal.invariant-loop-slot
 invariant-loop-slot g l =

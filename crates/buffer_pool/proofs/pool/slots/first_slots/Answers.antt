@@ -1,8 +1,9 @@
+-- The list had room for all from the start, and the slot that is pushed has a new buffer of that size.
 use Rattle.std.proofs.Common.{◌∙◌, All, subst, sym, arith}
 use Rattle.buffer_pool.specs.working.Buffers.{buffer_reading}
 use Rattle.buffer_pool.specs.working.Opening.{IsFirstSlot}
 use Rattle.buffer_pool.proofs.Starts.{slot_pushed}
-use Rattle.buffer_pool.proofs.pool.first.first_buffers.Goals as goal
+use Rattle.buffer_pool.proofs.pool.slots.first_slots.Goals as goal
 
 pub loop-slots-preserved : goal.loop-slots-preserved
 loop-slots-preserved g c =
@@ -11,5 +12,6 @@ loop-slots-preserved g c =
       within = omega (arith, c.push_reserved.ensures.len, c.loop-slots-test.true);
       slots =
           subst (All (IsFirstSlot buffer_reading c.args.size)) (sym c.push_reserved.ensures.items)
-          (slot_pushed buffer_reading c.args.size c.loop-slots.slots.items c.in_ok-new.field-0 c.loop-slots.invariant.slots c.in_ok-new.ensures.0 c.in_ok-new.ensures.1);
+          (slot_pushed buffer_reading c.args.size c.loop-slots.slots.items c.in_ok-new.field-0
+          c.loop-slots.invariant.slots c.in_ok-new.ensures.0 c.in_ok-new.ensures.1);
     }

@@ -1,10 +1,10 @@
-//! A try of a pop, over its steps.
+//! One try of a pop, as its steps in order.
 ghost use Rattle.std.specs.Prelude.{◌≡◌};
 ghost use Rattle.mark_core.specs.Event.{IsBusy};
-ghost use Rattle.buffer_pool.specs.Calls.{Pops};
+ghost use Rattle.buffer_pool.specs.Calls.{TriesPop};
 ghost use Rattle.buffer_pool.specs.working.Laid.{IsLaid, IsSound};
 ghost use Rattle.buffer_pool.specs.working.Setups.{setup_of};
-ghost use Rattle.buffer_pool.specs.Steps.{pop_steps};
+ghost use Rattle.buffer_pool.specs.Steps.{try_pop_steps};
 ghost use Rattle.buffer_pool.specs.Story.{Did};
 
 use crate::answers::TryPopped;
@@ -17,7 +17,8 @@ use tagged_index::LAST_TAG;
 
 /// Loads the head and its link, and exchanges the head for the link. The tag is tested first: a head with the last tag
 /// is exchanged no more, so its link serves nothing, and such a try has the same one event as a push has there.
-pub(crate) fn pop_from<A: Allocator>(
+/// It is what `Pool::try_pop` does, over the words and the worker's seat: `Pool` and `Worker` are opened around it.
+pub(crate) fn try_pop<A: Allocator>(
     words: &Words<A>,
     seat: &mut Token<A>,
     which: Which,
@@ -27,8 +28,8 @@ pub(crate) fn pop_from<A: Allocator>(
     requires busy { IsBusy seat.old.me.0.book.account }
     ensures same { seat.new.table_id ≡ seat.old.table_id }
     ensures sound { IsSound seat.new.table_id seat.new.me }
-    ensures pops { Pops which seat.old.me.0.book seat.new.me.0.book result }
-    ensures did { Did seat.old.me.0.log (pop_steps which result) seat.new.me.0.log }
+    ensures pops { TriesPop which seat.old.me.0.book seat.new.me.0.book result }
+    ensures did { Did seat.old.me.0.log (try_pop_steps which result) seat.new.me.0.log }
 {
     let head = load_head(words, seat, which);
     let Some(index) = head.index() else {

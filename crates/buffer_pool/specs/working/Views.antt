@@ -1,4 +1,4 @@
--- What a view tells of the events that led to a table.
+-- Views: what each worker knows of the events that led to a table.
 use Rattle.std.specs.Prelude.{◌≡◌, ◌≢◌, ℕ, ◌<◌, true, false, List, [], ◌∷◌, ◌++◌, Some, None}
 use Rattle.mark_core.specs.Lists.{StandsAt}
 use Rattle.mark_core.specs.Event.{Event, Join}
@@ -15,7 +15,7 @@ pub record IsTakenIn (events : List Event) (n : ℕ) (story : List Event) : Type
   pub nothing : deeds n quiet ≡ []
 
 -- the view of the worker w: its log is a beginning of the events
-pub record IsTold (events : List Event) (w : ℕ) (v : SeatView) : Type 0 where
+pub record IsViewOf (events : List Event) (w : ℕ) (v : SeatView) : Type 0 where
   pub number : v.named ≡ true → v.log.number ≡ w
   pub since : List Event
   pub goes_on : events ≡ v.log.story ++ since
@@ -32,14 +32,14 @@ pub record IsTold (events : List Event) (w : ℕ) (v : SeatView) : Type 0 where
   pub leads : v.named ≡ true → v.unsaid ≡ [] → LeadsToBook v.log v.book
 
 -- so it is with each view that has a share
-abbrev pub AreTold : List Event → List SeatView → Type 0
-AreTold events views = (w : ℕ) (v : SeatView) → StandsAt views w v → 0 < v.book.account.share → IsTold events w v
+abbrev pub AreViewsOf : List Event → List SeatView → Type 0
+AreViewsOf events views = (w : ℕ) (v : SeatView) → StandsAt views w v → 0 < v.book.account.share → IsViewOf events w v
 
 -- the view once its log has these events, and nothing is left to say
-abbrev pub noted : Log → SeatView → SeatView
-noted log v = record v { log = log; unsaid = []; taken = []; from = None; named = true }
+abbrev pub logged : Log → SeatView → SeatView
+logged log v = record v { log = log; unsaid = []; taken = []; from = None; named = true }
 
 -- it knows its number, and nothing is left to say
-pub record IsSettled (v : SeatView) : Type 0 where
+pub record HasSaidAll (v : SeatView) : Type 0 where
   pub named : v.named ≡ true
   pub unsaid : v.unsaid ≡ []

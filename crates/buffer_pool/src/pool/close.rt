@@ -1,0 +1,38 @@
+//! How a marking is ended.
+ghost use Rattle.std.specs.Prelude.{◌≡◌, []};
+ghost use Rattle.mark_core.specs.Shares.{whole};
+ghost use Rattle.buffer_pool.specs.Closing.{IsAtTheEnd, MarksTell};
+
+use crate::layout::FIRST_LINK;
+use crate::pool::Pool;
+use crate::pool::marks::Marks;
+use crate::pool::slots::empty_slots;
+use crate::worker::Worker;
+use std::alloc::Allocator;
+
+impl<A: Allocator> Pool<A> {
+    /// Ends the marking. The worker has the whole share, no buffer and no charge, so no other worker has
+    /// anything. The buffers are given back.
+    pub fn close(self, worker: Worker<A>) -> Marks<A>
+        requires pool { worker.pool ≡ self }
+        requires share { worker.book.account.share ≡ whole }
+        requires held { worker.book.account.held ≡ [] }
+        requires charge { worker.book.account.charge ≡ [] }
+        ensures { (end : IsAtTheEnd worker.log worker.book result) × MarksTell worker.book end.last result }
+    {
+        let Pool {
+            table,
+            buffers,
+            objects,
+        } = self;
+        let Worker { seat, finished } = worker;
+        let mut closed = table.close_with(seat);
+        empty_slots(&mut closed);
+        Marks {
+            closed,
+            first_mark: FIRST_LINK + buffers as usize,
+            objects,
+            finished,
+        }
+    }
+}

@@ -1,0 +1,38 @@
+//! The slots of the pool's table, one for each buffer: what they have at first, and how they are emptied at the end.
+//! `steps.rt` has what a step takes from a slot and puts there, `specs/working/Slots.antt` what lies where between two.
+ghost use Rattle.std.specs.Prelude.{◌≡◌, ◌<◌, All, IfOk, length};
+ghost use Rattle.std.specs.Slots.{IsFull, slots_filled, slots_len};
+ghost use Rattle.buffer_pool.specs.Closing.{IsEmptied};
+ghost use Rattle.buffer_pool.specs.working.Buffers.{buffer_reading};
+ghost use Rattle.buffer_pool.specs.working.Opening.{IsFirstSlot};
+
+use crate::buffer::Buffer;
+use atomic_table::Closed;
+use std::alloc::{AllocError, Allocator};
+
+/// For each buffer a slot with it, without items.
+pub(super) fn first_slots<A: Allocator + Clone>(
+    alloc: A,
+    buffers: u32,
+    size: u32,
+) -> Result<Vec<Option<Buffer<A>>, A>, AllocError>
+    requires { 0 < size }
+    ensures { IfOk result (λ s. (length s.items ≡ buffers) × All (IsFirstSlot buffer_reading size) s.items) }
+{
+    let mut slots = Vec::with_capacity(alloc.clone()?, buffers as usize)?;
+    while slots.len() < buffers as usize {
+        slots.push_reserved(Some(Buffer::new(alloc.clone()?, size)?));
+    }
+    Ok(slots)
+}
+
+/// Drops each buffer: no slot has one then.
+pub(super) fn empty_slots<A: Allocator>(closed: &mut Closed<Option<Buffer<A>>, A>)
+    requires full { IsFull closed.old.slots }
+    ensures words { closed.new.words ≡ closed.old.words }
+    ensures empty { IsEmptied (slots_len closed.new.slots) (slots_filled closed.new.slots) }
+{
+    for slot in 0..closed.slot_count() {
+        drop(closed.take(slot));
+    }
+}
