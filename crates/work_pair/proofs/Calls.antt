@@ -10,11 +10,14 @@ use Rattle.buffer_pool.specs.Book.{Book}
 use Rattle.buffer_pool.specs.Calls.{HeldBuffer}
 use Rattle.work_pair.specs.Deals.{Gives, GivesLowerPart, HasMore, lower_part, push_of}
 use Rattle.work_pair.specs.Moves.{Move, Took, Gave, FoundNone, IsOnFull, HasPushOnFull, HasPopFromFull, WasSeenEmpty}
-use Rattle.work_pair.specs.Places.{items_at, number_at, items_of, HasRoom, HasRoomAt, IsOfSize, AreOfSize, AreAlike}
-use Rattle.work_pair.specs.Places.{IsBacked}
+use Rattle.work_pair.specs.PairState.{items_at, buffer_number, pair_items, HasRoom, HasRoomAt, IsOfSize, AreOfSize}
+use Rattle.work_pair.specs.PairState.{AreAlike}
+use Rattle.work_pair.specs.PairState.{IsBacked}
 use Rattle.work_pair.specs.declared.stop.Stop.{Stop}
 use Rattle.work_pair.specs.declared.stop.Stop.TheVariants.{TagSpent, OutOfMemory}
-use Rattle.work_pair.specs.working.Steps.{EndsOut, FindsNone, PublishTells, PublishesAt, PutTells, Renews, RenewTells, Trades}
+use Rattle.work_pair.specs.working.Steps.{EndsOut, FindsNone, PublishAnswers, PublishesAt, PutAnswers, Renews}
+use Rattle.work_pair.specs.working.Steps.{RenewAnswers}
+use Rattle.work_pair.specs.working.Steps.{Trades}
 use Rattle.work_pair.specs.working.Steps.{next_of, places, pushed_part, shelf_of, shelving_of}
 use Rattle.work_pair.proofs.Effects.{busy_after, moves_effect}
 use Rattle.work_pair.proofs.Locals.{put_first, swapped}
@@ -24,8 +27,10 @@ use Rattle.work_pair.proofs.Trading.{backed_after, end_on, first_renewed, items_
 use Rattle.work_pair.proofs.Trading.{out_on, second_renewed, sized_after, still}
 
 -- both buffers were full
-pub full_told : (f s t x : Option HeldBuffer) → x ≡ s → (HasRoomAt f → ⊥) → (HasRoomAt x → ⊥) → {P : Type 0} → HasRoom (places f s t) → P
-full_told f s t x is no_first no_second room = absurd (⊎_elim no_first (λ r. no_second (subst HasRoomAt (sym is) r)) room)
+pub full_told : (f s t x : Option HeldBuffer) → x ≡ s → (HasRoomAt f → ⊥) → (HasRoomAt x → ⊥) → {P : Type 0}
+    → HasRoom (places f s t) → P
+full_told f s t x is no_first no_second room =
+    absurd (⊎_elim no_first (λ r. no_second (subst HasRoomAt (sym is) r)) room)
 
 -- a look for an empty buffer pushes nothing on full
 quiet_alone : (ms : List Move) → ms ≡ FoundNone Empty ∷ [] → HasPushOnFull ms → ⊥
@@ -43,86 +48,149 @@ on_full_is Empty k none = absurd none
 pushed_full : (q : Which) (h k : HeldBuffer) → HasPushOnFull (Took Empty h ∷ Gave q k ∷ []) → q ≡ Full
 pushed_full q h k push = ⊎_elim (λ x. absurd x) (λ rest. ⊎_elim (on_full_is q k) (λ x. absurd x) rest) push
 
-pushes_told : (p : Option HeldBuffer) (h : HeldBuffer) (ms : List Move) → ms ≡ Took Empty h ∷ shelving_of p → (items_at p ≢ [] → HasPushOnFull ms)
+pushes_told : (p : Option HeldBuffer) (h : HeldBuffer) (ms : List Move) → ms ≡ Took Empty h ∷ shelving_of p
+    → (items_at p ≢ [] → HasPushOnFull ms)
     → ((k : HeldBuffer) → p ≡ Some k → k.items ≡ [] → ⊥) → ms ≡ Took Empty h ∷ push_of p
 pushes_told None h ms is push full = is
 pushes_told (Some k) h ms is push full =
-    is ∙ ap (λ (q : Which). Took Empty h ∷ Gave q k ∷ []) (pushed_full (shelf_of k.items) h k (subst HasPushOnFull is (push (full k refl))))
+    is ∙ ap (λ (q : Which). Took Empty h ∷ Gave q k ∷ [])
+    (pushed_full (shelf_of k.items) h k (subst HasPushOnFull is (push (full k refl))))
 
 -- what a balance gave of the first
-gives_lower : (f s t n third : Option HeldBuffer) (h : HeldBuffer) (ms : List Move) → 4 < length (items_at f) → items_at s ≡ []
-    → ms ≡ Took Empty h ∷ shelving_of (pushed_part true f) → n ≡ Some (next_of true f h) → (items_at f ≢ [] → HasPushOnFull ms)
+gives_lower : (f s t n third : Option HeldBuffer) (h : HeldBuffer) (ms : List Move) → 4 < length (items_at f)
+    → items_at s ≡ []
+    → ms ≡ Took Empty h ∷ shelving_of (pushed_part true f) → n ≡ Some (next_of true f h)
+    → (items_at f ≢ [] → HasPushOnFull ms)
     → GivesLowerPart (places f s t) ms (places n s third)
 gives_lower None s t n third h ms many none is n_is push = absurd (omega (arith, many))
 gives_lower (Some k) s t n third h ms many none is n_is push =
     let low : HeldBuffer = record k { items = lower_part k.items } in
-    let on = subst HasPushOnFull is (push (λ empty. omega (arith, many, ap length empty))) in
-    (h, k, none, refl, is ∙ ap (λ (q : Which). Took Empty h ∷ Gave q low ∷ []) (pushed_full (shelf_of low.items) h low on), n_is, refl)
+    let on = subst HasPushOnFull is (push (λ empty. omega (arith, many, ap length empty))) in (
+      h,
+      k,
+      none,
+      refl,
+      is ∙ ap (λ (q : Which). Took Empty h ∷ Gave q low ∷ [])
+          (pushed_full (shelf_of low.items) h low on),
+      n_is,
+      refl,
+    )
 
 some_items : (xs : List ℕ) → 0 < length xs → xs ≢ []
 some_items xs some none = omega (arith, some, ap length none)
 
-module _ (f s t : Option HeldBuffer) (b : Book) (vacant : t ≡ None) (sized : AreOfSize b.setup.size (places f s t)) where
+module _ (f s t : Option HeldBuffer) (b : Book) (vacant : t ≡ None)
+    (sized : AreOfSize b.setup.size (places f s t)) where
   -- both buffers were full, and changed places; then the first was renewed
   module _ (p y : Option HeldBuffer) (p_is : p ≡ s) (y_is : y ≡ f) (n third : Option HeldBuffer) (c : Book) where
     abbrev pub turned : Trades (places f s t) b [] [] (places p y t) b
     turned = still (places f s t) b [] [] (places p y t) (swapped f s t p y p_is y_is) sized
 
     abbrev renewed_then : Renews b.setup.size p b n third c → Trades (places f s t) b [] [] (places n y third) c
-    renewed_then r = on_and_on (places f s t) b (places p y t) b [] [] (places n y third) c turned (first_renewed p y t n third b c vacant r (subst (IsOfSize b.setup.size) (sym y_is) sized.first))
+    renewed_then r = on_and_on (places f s t) b (places p y t) b [] [] (places n y third) c turned
+        (first_renewed p y t n third b c vacant r (subst (IsOfSize b.setup.size) (sym y_is) sized.first))
 
-    pub put_third : (h : HeldBuffer) (o : ℕ) (g : Option HeldBuffer) (r : Renews b.setup.size p b n third c) → n ≡ Some h → g ≡ Some (record h { items = h.items ++ o ∷ [] }) → (HasPopFromFull r.moves → ⊥)
-        → (u : Trades (places f s t) b (o ∷ []) [] (places g y third) c) × (HasPopFromFull u.moves → ⊥) × (u.moves ≡ r.moves)
+    pub put_third : (h : HeldBuffer) (o : ℕ) (g : Option HeldBuffer) (r : Renews b.setup.size p b n third c)
+        → n ≡ Some h → g ≡ Some (record h { items = h.items ++ o ∷ [] }) → (HasPopFromFull r.moves → ⊥)
+        → (u : Trades (places f s t) b (o ∷ []) [] (places g y third) c) × (HasPopFromFull u.moves → ⊥)
+        × (u.moves ≡ r.moves)
     put_third h o g r n_is g_is out =
         let so_far = renewed_then r in
-        let last = still (places n y third) c (o ∷ []) [] (places g y third) (put_first n y third h o g n_is g_is) (sized_after (places f s t) b [] [] (places n y third) c so_far) in
-        (on_and_on (places f s t) b (places n y third) c (o ∷ []) [] (places g y third) c so_far last, out_on r.moves [] out (λ x. x), append-nil r.moves)
+        let last = still (places n y third) c (o ∷ []) [] (places g y third) (put_first n y third h o g n_is g_is)
+        (sized_after (places f s t) b [] [] (places n y third) c so_far) in (
+          on_and_on (places f s t) b (places n y third) c (o ∷ []) [] (places g y third) c so_far last,
+          out_on r.moves [] out (λ x. x),
+          append-nil r.moves,
+        )
 
     -- the second was pushed, and the object is alone in the buffer that was popped
-    pub put_told : (h : HeldBuffer) (o : ℕ) (g : Option HeldBuffer) → RenewTells false Empty b.setup.size p b n third c (Ok true) → n ≡ Some h → g ≡ Some (record h { items = h.items ++ o ∷ [] })
-        → ((k : HeldBuffer) → p ≡ Some k → k.items ≡ [] → ⊥) → PutTells o (places f s t) b (places g y third) c (Ok true)
+    pub put_told : (h : HeldBuffer) (o : ℕ) (g : Option HeldBuffer)
+        → RenewAnswers false Empty b.setup.size p b n third c (Ok true) → n ≡ Some h
+        → g ≡ Some (record h { items = h.items ++ o ∷ [] })
+        → ((k : HeldBuffer) → p ≡ Some k → k.items ≡ [] → ⊥) → PutAnswers o (places f s t) b (places g y third) c
+        (Ok true)
     put_told h o g told n_is g_is full =
         let all = put_third h o g told.0 n_is g_is told.3 in
         let k = told.4.0 in
         let same : h ≡ k = ap (at_some h) (sym n_is ∙ told.4.2) in
-        let moves = all.2 ∙ pushes_told p k told.0.moves told.4.1 told.2 full ∙ ap (λ (q : Option HeldBuffer). Took Empty k ∷ push_of q) p_is in
-        let alone = g_is ∙ ap (λ (j : HeldBuffer). Some (record j { items = j.items ++ o ∷ [] })) same ∙ ap (λ (l : List ℕ). Some (record k { items = l ++ o ∷ [] })) (told.4.3 refl) in
+        let moves = all.2 ∙ pushes_told p k told.0.moves told.4.1 told.2 full
+        ∙ ap (λ (q : Option HeldBuffer). Took Empty k ∷ push_of q) p_is in
+        let alone = g_is ∙ ap (λ (j : HeldBuffer). Some (record j { items = j.items ++ o ∷ [] })) same
+        ∙ ap (λ (l : List ℕ). Some (record k { items = l ++ o ∷ [] })) (told.4.3 refl) in
         (all.0, told.1, all.1, inr (k, moves, alone, y_is))
 
-    pub put_refused : RenewTells false Empty b.setup.size p b n third c (Ok false) → FindsNone (places f s t) b (places n y third) c
+    pub put_refused : RenewAnswers false Empty b.setup.size p b n third c (Ok false)
+        → FindsNone (places f s t) b (places n y third) c
     put_refused told =
         let alike : AreAlike (places f s t) (places n y third) =
         record {
-          items = λ o. omega (arith, items_sum o (places f s t), items_sum o (places n y third), ap (λ (q : Option HeldBuffer). times o (items_at q)) (told.2 ∙ p_is), ap (λ (q : Option HeldBuffer). times o (items_at q)) y_is, ap (λ (q : Option HeldBuffer). times o (items_at q)) (told.1 ∙ sym vacant));
-          buffers = λ i. omega (arith, numbers_sum i (places f s t), numbers_sum i (places n y third), ap (λ (q : Option HeldBuffer). times i (number_at q)) (told.2 ∙ p_is), ap (λ (q : Option HeldBuffer). times i (number_at q)) y_is, ap (λ (q : Option HeldBuffer). times i (number_at q)) (told.1 ∙ sym vacant));
+          items = λ o. omega (
+            arith,
+            items_sum o (places f s t),
+            items_sum o (places n y third),
+            ap (λ (q : Option HeldBuffer). times o (items_at q)) (told.2 ∙ p_is),
+            ap (λ (q : Option HeldBuffer). times o (items_at q)) y_is,
+            ap (λ (q : Option HeldBuffer). times o (items_at q)) (told.1 ∙ sym vacant),
+          );
+          buffers = λ i. omega (
+            arith,
+            numbers_sum i (places f s t),
+            numbers_sum i (places n y third),
+            ap (λ (q : Option HeldBuffer). times i (buffer_number q)) (told.2 ∙ p_is),
+            ap (λ (q : Option HeldBuffer). times i (buffer_number q)) y_is,
+            ap (λ (q : Option HeldBuffer). times i (buffer_number q)) (told.1 ∙ sym vacant),
+          );
         } in (renewed_then told.0, told.1, told.4, alike)
 
-    pub put_stopped : (stop : Stop) → RenewTells false Empty b.setup.size p b n third c (Err stop) → EndsOut (places f s t) b (places n y third) c stop
+    pub put_stopped : (stop : Stop) → RenewAnswers false Empty b.setup.size p b n third c (Err stop)
+        → EndsOut (places f s t) b (places n y third) c stop
     put_stopped TagSpent told = (renewed_then told.0, told.1, told.2)
     put_stopped OutOfMemory none = absurd none
 
   module _ (n third : Option HeldBuffer) (c : Book) where
-    pub second_stopped : (stop : Stop) → RenewTells false Empty b.setup.size s b n third c (Err stop) → EndsOut (places f s t) b (places f n third) c stop
+    pub second_stopped : (stop : Stop) → RenewAnswers false Empty b.setup.size s b n third c (Err stop)
+        → EndsOut (places f s t) b (places f n third) c stop
     second_stopped TagSpent told = (second_renewed f s t n third b c vacant told.0 sized.first, told.1, told.2)
     second_stopped OutOfMemory none = absurd none
 
-    pub first_stopped : (stop : Stop) → RenewTells true Empty b.setup.size f b n third c (Err stop) → EndsOut (places f s t) b (places n s third) c stop
+    pub first_stopped : (stop : Stop) → RenewAnswers true Empty b.setup.size f b n third c (Err stop)
+        → EndsOut (places f s t) b (places n s third) c stop
     first_stopped TagSpent told = (first_renewed f s t n third b c vacant told.0 sized.second, told.1, told.2)
     first_stopped OutOfMemory none = absurd none
 
-    pub second_balanced : (done : Bool) → RenewTells false Empty b.setup.size s b n third c (Ok done) → 0 < length (items_at s)
-        → (u : Trades (places f s t) b [] [] (places f n third) c) × (third ≡ None) × (HasMore (places f s t) → (u.moves ≡ FoundNone Empty ∷ []) ⊎ HasPushOnFull u.moves) × (HasPopFromFull u.moves → ⊥) × Gives (places f s t) u.moves (places f n third)
+    pub second_balanced : (done : Bool) → RenewAnswers false Empty b.setup.size s b n third c (Ok done)
+        → 0 < length (items_at s)
+        → (u : Trades (places f s t) b [] [] (places f n third) c) × (third ≡ None)
+        × (HasMore (places f s t) → (u.moves ≡ FoundNone Empty ∷ []) ⊎ HasPushOnFull u.moves)
+        × (HasPopFromFull u.moves → ⊥) × Gives (places f s t) u.moves (places f n third)
     second_balanced true told some = (
       second_renewed f s t n third b c vacant told.0 sized.first,
       told.1,
       λ more. inr (told.2 (some_items (items_at s) some)),
       told.3,
-      inr (inl (told.4.0, told.4.3 refl, some_items (items_at s) some, pushes_told s told.4.0 told.0.moves told.4.1 told.2 (λ k is none. some_items (items_at s) some (ap items_at is ∙ none)), refl, told.4.2)),
+      inr (inl (
+        told.4.0,
+        told.4.3 refl,
+        some_items (items_at s) some,
+        pushes_told s told.4.0 told.0.moves told.4.1 told.2
+            (λ k is none. some_items (items_at s) some (ap items_at is ∙ none)),
+        refl,
+        told.4.2,
+      )),
     )
-    second_balanced false told some = (second_renewed f s t n third b c vacant told.0 sized.first, told.1, λ more. inl told.4, out_alone told.0.moves told.4, inl (quiet_alone told.0.moves told.4, refl, told.2))
+    second_balanced false told some = (
+      second_renewed f s t n third b c vacant told.0 sized.first,
+      told.1,
+      λ more. inl told.4,
+      out_alone told.0.moves told.4,
+      inl (quiet_alone told.0.moves told.4, refl, told.2),
+    )
 
-    pub first_balanced : (done : Bool) → RenewTells true Empty b.setup.size f b n third c (Ok done) → 4 < length (items_at f) → items_at s ≡ []
-        → (u : Trades (places f s t) b [] [] (places n s third) c) × (third ≡ None) × (HasMore (places f s t) → (u.moves ≡ FoundNone Empty ∷ []) ⊎ HasPushOnFull u.moves) × (HasPopFromFull u.moves → ⊥) × Gives (places f s t) u.moves (places n s third)
+    pub first_balanced : (done : Bool) → RenewAnswers true Empty b.setup.size f b n third c (Ok done)
+        → 4 < length (items_at f) → items_at s ≡ []
+        → (u : Trades (places f s t) b [] [] (places n s third) c) × (third ≡ None)
+        × (HasMore (places f s t) → (u.moves ≡ FoundNone Empty ∷ []) ⊎ HasPushOnFull u.moves)
+        × (HasPopFromFull u.moves → ⊥) × Gives (places f s t) u.moves (places n s third)
     first_balanced true told some none = (
       first_renewed f s t n third b c vacant told.0 sized.second,
       told.1,
@@ -130,13 +198,22 @@ module _ (f s t : Option HeldBuffer) (b : Book) (vacant : t ≡ None) (sized : A
       told.3,
       inr (inr (gives_lower f s t n third told.4.0 told.0.moves some none told.4.1 told.4.2 told.2)),
     )
-    first_balanced false told some none = (first_renewed f s t n third b c vacant told.0 sized.second, told.1, λ more. inl told.4, out_alone told.0.moves told.4, inl (quiet_alone told.0.moves told.4, told.2, refl))
+    first_balanced false told some none = (
+      first_renewed f s t n third b c vacant told.0 sized.second,
+      told.1,
+      λ more. inl told.4,
+      out_alone told.0.moves told.4,
+      inl (quiet_alone told.0.moves told.4, told.2, refl),
+    )
 
   -- nothing was to be done
   pub few_left : length (items_at s) ≤ 0 → length (items_at f) ≤ 4
-      → (u : Trades (places f s t) b [] [] (places f s t) b) × (t ≡ None) × (HasMore (places f s t) → (u.moves ≡ FoundNone Empty ∷ []) ⊎ HasPushOnFull u.moves) × (HasPopFromFull u.moves → ⊥) × Gives (places f s t) u.moves (places f s t)
+      → (u : Trades (places f s t) b [] [] (places f s t) b) × (t ≡ None)
+      × (HasMore (places f s t) → (u.moves ≡ FoundNone Empty ∷ []) ⊎ HasPushOnFull u.moves)
+      × (HasPopFromFull u.moves → ⊥) × Gives (places f s t) u.moves (places f s t)
   few_left none few = (
-    still (places f s t) b [] [] (places f s t) (record { items = λ o. omega arith; buffers = λ i. refl; sized = λ size of. of }) sized,
+    still (places f s t) b [] [] (places f s t)
+        (record { items = λ o. omega arith; buffers = λ i. refl; sized = λ size of. of }) sized,
     vacant,
     λ more. absurd (⊎_elim (λ some. some (none_in (items_at s) none)) (λ many. omega (arith, many, few)) more),
     λ pop. pop,
@@ -152,7 +229,7 @@ none_last [] ys none = none
 none_last (x ∷ xs) ys none = absurd (omega (arith, ap length none))
 
 -- a pair without items has none at its first place, and none at its second
-pub none_at : (f s t : Option HeldBuffer) → items_of (places f s t) ≡ [] → (items_at f ≡ []) × (items_at s ≡ [])
+pub none_at : (f s t : Option HeldBuffer) → pair_items (places f s t) ≡ [] → (items_at f ≡ []) × (items_at s ≡ [])
 none_at f s t none =
     let both = none_first (items_at f ++ items_at s) (items_at t) none in
     (none_first (items_at f) (items_at s) both, none_last (items_at f) (items_at s) both)
@@ -161,8 +238,10 @@ none_of : (xs ys zs : List ℕ) → xs ≡ [] → ys ≡ [] → zs ≡ [] → xs
 none_of xs ys zs x y z = ap (λ (l : List ℕ). l ++ ys ++ zs) x ∙ ap (λ (l : List ℕ). l ++ zs) y ∙ z
 
 -- the first buffer was published, and then the second
-module _ (f s t n third : Option HeldBuffer) (b c : Book) (vacant : t ≡ None) (sized : AreOfSize b.setup.size (places f s t)) where
-  pub publish_stopped : (stop : Stop) → PublishesAt b.setup.size f b n third c (Err stop) → EndsOut (places f s t) b (places n s third) c stop
+module _ (f s t n third : Option HeldBuffer) (b c : Book) (vacant : t ≡ None)
+    (sized : AreOfSize b.setup.size (places f s t)) where
+  pub publish_stopped : (stop : Stop) → PublishesAt b.setup.size f b n third c (Err stop)
+      → EndsOut (places f s t) b (places n s third) c stop
   publish_stopped TagSpent told = (first_renewed f s t n third b c vacant told.0 sized.second, told.1, told.2)
   publish_stopped OutOfMemory none = absurd none
 
@@ -179,17 +258,23 @@ module _ (f s t n third : Option HeldBuffer) (b c : Book) (vacant : t ≡ None) 
     now_sized : AreOfSize c.setup.size (places n s third)
     now_sized = sized_after (places f s t) b [] [] (places n s third) c first_published
 
-    pub both_published : (m last : Option HeldBuffer) (d : Book) (r : Result Unit Stop) → PublishesAt c.setup.size s c m last d r → PublishTells (places f s t) b (places n m last) d r
+    pub both_published : (m last : Option HeldBuffer) (d : Book) (r : Result Unit Stop)
+        → PublishesAt c.setup.size s c m last d r → PublishAnswers (places f s t) b (places n m last) d r
     both_published m last d (Ok again) second =
         let t₂ = second_renewed n s third m last c d first.1 second.0 now_sized.first in
         let all = on_and_on (places f s t) b (places n s third) c [] [] (places n m last) d first_published t₂ in
         let e₁ = moves_effect first.0.moves b c first.0.books in
         let e₂ = moves_effect second.0.moves c d second.0.books in
-        let seen : WasSeenEmpty Empty b d ⊎ (items_of (places n m last) ≡ []) =
+        let seen : WasSeenEmpty Empty b d ⊎ (pair_items (places n m last) ≡ []) =
         ⊎_elim (λ saw. inl (omega (arith, saw, e₂.empties)))
-        (λ none. ⊎_elim (λ saw. inl (omega (arith, saw, e₁.empties))) (λ none₂. inr (none_of (items_at n) (items_at m) (items_at last) none none₂ (ap items_at second.1))) second.2) first.2 in
+        (λ none. ⊎_elim (λ saw. inl (omega (arith, saw, e₁.empties)))
+        (λ none₂. inr (none_of (items_at n) (items_at m) (items_at last) none none₂ (ap items_at second.1)))
+        second.2) first.2 in
         (all, second.1, seen, out_on first.0.moves second.0.moves first.3 second.3)
     both_published m last d (Err TagSpent) second =
-        let t₂ = second_renewed n s third m last c d first.1 second.0 now_sized.first in
-        (on_and_on (places f s t) b (places n s third) c [] [] (places n m last) d first_published t₂, end_on first.0.moves second.0.moves second.1, out_on first.0.moves second.0.moves first.3 second.2)
+        let t₂ = second_renewed n s third m last c d first.1 second.0 now_sized.first in (
+          on_and_on (places f s t) b (places n s third) c [] [] (places n m last) d first_published t₂,
+          end_on first.0.moves second.0.moves second.1,
+          out_on first.0.moves second.0.moves first.3 second.2,
+        )
     both_published m last d (Err OutOfMemory) none = absurd none

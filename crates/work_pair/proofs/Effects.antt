@@ -7,7 +7,7 @@ use Rattle.mark_core.specs.declared.which.Which.TheVariants.{Full, Empty}
 use Rattle.mark_core.specs.Counts.{none_found}
 use Rattle.mark_core.specs.Event.{IsBusy}
 use Rattle.mark_core.specs.Lists.{times, only, IsPart}
-use Rattle.mark_core.proofs.Sums.{total-append, times-remove_one, times-without, stands_times}
+use Rattle.mark_core.proofs.Sums.{sum_of-append, times-remove_one, times-without, stands_times}
 use Rattle.buffer_pool.specs.Book.{Book, loaded, link_loaded, popped, pushed, empties_of}
 use Rattle.buffer_pool.specs.Calls.{HeldBuffer}
 use Rattle.work_pair.specs.Moves.{Move, Took, Gave, FoundNone, Ended, Moved, Moves, taken_items, taken_number}
@@ -23,7 +23,8 @@ pub record IsEffect (old new : Book) (given taken given_numbers taken_numbers : 
   pub seen : new.account.seen ≡ old.account.seen
   pub finished : new.account.finished ≡ old.account.finished
   pub charge : (o : ℕ) → times o new.account.charge + times o given ≡ times o old.account.charge + times o taken
-  pub held : (i : ℕ) → times i new.account.held + times i given_numbers ≡ times i old.account.held + times i taken_numbers
+  pub held : (i : ℕ)
+      → times i new.account.held + times i given_numbers ≡ times i old.account.held + times i taken_numbers
   pub fulls : old.full_empties ≤ new.full_empties
   pub empties : old.empty_empties ≤ new.empty_empties
 
@@ -43,7 +44,8 @@ look_effect old new l =
 
 module _ (q : Which) (h : HeldBuffer) (old new : Book) where
   -- a buffer was popped after a look
-  pop_effect : (b : Book) → IsLook old b → new ≡ popped h.index h.items b → IsEffect old new [] h.items [] (h.index ∷ [])
+  pop_effect : (b : Book) → IsLook old b → new ≡ popped h.index h.items b
+      → IsEffect old new [] h.items [] (h.index ∷ [])
   pop_effect b l is =
       record {
         setup = ap (λ (c : Book). c.setup) is ∙ l.setup;
@@ -51,14 +53,25 @@ module _ (q : Which) (h : HeldBuffer) (old new : Book) where
         idle = ap (λ (c : Book). c.account.idle) is ∙ l.idle;
         seen = ap (λ (c : Book). c.account.seen) is ∙ l.seen;
         finished = ap (λ (c : Book). c.account.finished) is ∙ l.finished;
-        charge = λ o. omega (arith, ap (λ (c : Book). times o c.account.charge) is, total-append (only o) b.account.charge h.items, ap (times o) l.charge);
-        held = λ i. omega (arith, ap (λ (c : Book). times i c.account.held) is, total-append (only i) b.account.held (h.index ∷ []), ap (times i) l.held);
+        charge = λ o. omega (
+          arith,
+          ap (λ (c : Book). times o c.account.charge) is,
+          sum_of-append (only o) b.account.charge h.items,
+          ap (times o) l.charge,
+        );
+        held = λ i. omega (
+          arith,
+          ap (λ (c : Book). times i c.account.held) is,
+          sum_of-append (only i) b.account.held (h.index ∷ []),
+          ap (times i) l.held,
+        );
         fulls = omega (arith, ap (λ (c : Book). c.full_empties) is, l.fulls);
         empties = omega (arith, ap (λ (c : Book). c.empty_empties) is, l.empties);
       }
 
   -- a buffer was pushed after a look
-  push_effect : (b : Book) → IsLook old b → new ≡ pushed q h.index h.items b → 0 < times h.index old.account.held → IsPart h.items old.account.charge
+  push_effect : (b : Book) → IsLook old b → new ≡ pushed q h.index h.items b → 0 < times h.index old.account.held
+      → IsPart h.items old.account.charge
       → IsEffect old new h.items [] (h.index ∷ []) []
   push_effect b l is there part =
       let here : 0 < times h.index b.account.held = omega (arith, there, ap (times h.index) l.held) in
@@ -69,14 +82,25 @@ module _ (q : Which) (h : HeldBuffer) (old new : Book) where
         idle = ap (λ (c : Book). c.account.idle) is ∙ l.idle;
         seen = ap (λ (c : Book). c.account.seen) is ∙ l.seen;
         finished = ap (λ (c : Book). c.account.finished) is ∙ l.finished;
-        charge = λ o. omega (arith, ap (λ (c : Book). times o c.account.charge) is, times-without h.items b.account.charge among o, ap (times o) l.charge);
-        held = λ i. omega (arith, ap (λ (c : Book). times i c.account.held) is, times-remove_one i h.index b.account.held here, ap (times i) l.held);
+        charge = λ o. omega (
+          arith,
+          ap (λ (c : Book). times o c.account.charge) is,
+          times-without h.items b.account.charge among o,
+          ap (times o) l.charge,
+        );
+        held = λ i. omega (
+          arith,
+          ap (λ (c : Book). times i c.account.held) is,
+          times-remove_one i h.index b.account.held here,
+          ap (times i) l.held,
+        );
         fulls = omega (arith, ap (λ (c : Book). c.full_empties) is, l.fulls);
         empties = omega (arith, ap (λ (c : Book). c.empty_empties) is, l.empties);
       }
 
 looked : (q : Which) (head : Head) (old mid new : Book) → IsLook old mid → new ≡ loaded q head mid → IsLook old new
-looked q head old mid new l is = subst (λ (c : Book). IsLook old c) (sym is) (look_again old mid (loaded q head mid) l (look_head q head mid))
+looked q head old mid new l is =
+    subst (λ (c : Book). IsLook old c) (sym is) (look_again old mid (loaded q head mid) l (look_head q head mid))
 
 -- a look that ended a call
 pub ended_look : (q : Which) (old new : Book) → Moved (Ended q) old new → IsLook old new
@@ -88,19 +112,22 @@ ended_look q old new moved = ⊎_elim
 pub empty_look : (q : Which) (old new : Book) → Moved (FoundNone q) old new → IsLook old new
 empty_look q old new p = looked q p.2.0 old p.0 new (lost_pops q old p.0 p.1) p.2.2
 
-pub move_effect : (move : Move) (old new : Book) → Moved move old new → IsEffect old new (given_items move) (taken_items move) (given_number move) (taken_number move)
+pub move_effect : (move : Move) (old new : Book) → Moved move old new
+    → IsEffect old new (given_items move) (taken_items move) (given_number move) (taken_number move)
 move_effect (Took q h) old new p =
     let top = link_loaded q p.2.1 (loaded q p.2.0 p.0) in
     pop_effect q h old new top (look_again old p.0 top (lost_pops q old p.0 p.1) (look_top q p.2.0 p.2.1 p.0)) p.2.5
 move_effect (Gave q h) old new p =
     let t = p.1 in
     let b = loaded q t.2.0 t.0 in
-    push_effect q h old new b (look_again old t.0 b (lost_pushes q h old t.0 t.1) (look_head q t.2.0 t.0)) t.2.2 (stands_times old.account.held h.index p.0.held) p.0.charged
+    push_effect q h old new b (look_again old t.0 b (lost_pushes q h old t.0 t.1) (look_head q t.2.0 t.0)) t.2.2
+    (stands_times old.account.held h.index p.0.held) p.0.charged
 move_effect (FoundNone q) old new p = look_effect old new (empty_look q old new p)
 move_effect (Ended q) old new p = look_effect old new (ended_look q old new p)
 
 -- one effect after another
-effect_again : (a b c : Book) (g₀ t₀ gn₀ tn₀ g₁ t₁ gn₁ tn₁ : List ℕ) → IsEffect a b g₀ t₀ gn₀ tn₀ → IsEffect b c g₁ t₁ gn₁ tn₁ → IsEffect a c (g₀ ++ g₁) (t₀ ++ t₁) (gn₀ ++ gn₁) (tn₀ ++ tn₁)
+effect_again : (a b c : Book) (g₀ t₀ gn₀ tn₀ g₁ t₁ gn₁ tn₁ : List ℕ) → IsEffect a b g₀ t₀ gn₀ tn₀
+    → IsEffect b c g₁ t₁ gn₁ tn₁ → IsEffect a c (g₀ ++ g₁) (t₀ ++ t₁) (gn₀ ++ gn₁) (tn₀ ++ tn₁)
 effect_again a b c g₀ t₀ gn₀ tn₀ g₁ t₁ gn₁ tn₁ s t =
     record {
       setup = t.setup ∙ s.setup;
@@ -108,16 +135,19 @@ effect_again a b c g₀ t₀ gn₀ tn₀ g₁ t₁ gn₁ tn₁ s t =
       idle = t.idle ∙ s.idle;
       seen = t.seen ∙ s.seen;
       finished = t.finished ∙ s.finished;
-      charge = λ o. omega (arith, s.charge o, t.charge o, total-append (only o) g₀ g₁, total-append (only o) t₀ t₁);
-      held = λ i. omega (arith, s.held i, t.held i, total-append (only i) gn₀ gn₁, total-append (only i) tn₀ tn₁);
+      charge = λ o. omega (arith, s.charge o, t.charge o, sum_of-append (only o) g₀ g₁, sum_of-append (only o) t₀ t₁);
+      held = λ i. omega (arith, s.held i, t.held i, sum_of-append (only i) gn₀ gn₁, sum_of-append (only i) tn₀ tn₁);
       fulls = omega (arith, s.fulls, t.fulls);
       empties = omega (arith, s.empties, t.empties);
     }
 
-pub moves_effect : (moves : List Move) (old new : Book) → Moves old moves new → IsEffect old new (pushed_items moves) (popped_items moves) (pushed_numbers moves) (popped_numbers moves)
-moves_effect [] old new same = subst (λ (c : Book). IsEffect old c [] [] [] []) (sym same) (look_effect old old (look_at_all old))
+pub moves_effect : (moves : List Move) (old new : Book) → Moves old moves new
+    → IsEffect old new (pushed_items moves) (popped_items moves) (pushed_numbers moves) (popped_numbers moves)
+moves_effect [] old new same =
+    subst (λ (c : Book). IsEffect old c [] [] [] []) (sym same) (look_effect old old (look_at_all old))
 moves_effect (move ∷ moves) old new p =
-    effect_again old p.0 new (given_items move) (taken_items move) (given_number move) (taken_number move) (pushed_items moves) (popped_items moves) (pushed_numbers moves) (popped_numbers moves)
+    effect_again old p.0 new (given_items move) (taken_items move) (given_number move) (taken_number move)
+    (pushed_items moves) (popped_items moves) (pushed_numbers moves) (popped_numbers moves)
     (move_effect move old p.0 p.1) (moves_effect moves p.0 new p.2)
 
 -- a worker that is not idle stays so
@@ -131,19 +161,23 @@ busy_after moves old new p busy =
     let e = moves_effect moves old new p in busy_on old new e.share e.idle busy
 
 -- without a push on full no push opens
-move_closed : (move : Move) (old new : Book) → Moved move old new → (IsOnFull move → ⊥) → old.account.open_push ≡ false → new.account.open_push ≡ false
+move_closed : (move : Move) (old new : Book) → Moved move old new → (IsOnFull move → ⊥)
+    → old.account.open_push ≡ false → new.account.open_push ≡ false
 move_closed (Took q h) old new p quiet closed =
     let top = link_loaded q p.2.1 (loaded q p.2.0 p.0) in
-    ap (λ (c : Book). c.account.open_push) p.2.5 ∙ (look_again old p.0 top (lost_pops q old p.0 p.1) (look_top q p.2.0 p.2.1 p.0)).closed closed
+    ap (λ (c : Book). c.account.open_push) p.2.5
+    ∙ (look_again old p.0 top (lost_pops q old p.0 p.1) (look_top q p.2.0 p.2.1 p.0)).closed closed
 move_closed (Gave Full h) old new p quiet closed = absurd (quiet tt)
 move_closed (Gave Empty h) old new p quiet closed =
     let t = p.1 in
     let b = loaded Empty t.2.0 t.0 in
-    ap (λ (c : Book). c.account.open_push) t.2.2 ∙ (look_again old t.0 b (lost_pushes Empty h old t.0 t.1) (look_head Empty t.2.0 t.0)).closed closed
+    ap (λ (c : Book). c.account.open_push) t.2.2
+    ∙ (look_again old t.0 b (lost_pushes Empty h old t.0 t.1) (look_head Empty t.2.0 t.0)).closed closed
 move_closed (FoundNone q) old new p quiet closed = (empty_look q old new p).closed closed
 move_closed (Ended q) old new p quiet closed = (ended_look q old new p).closed closed
 
-pub moves_closed : (moves : List Move) (old new : Book) → Moves old moves new → (HasPushOnFull moves → ⊥) → old.account.open_push ≡ false → new.account.open_push ≡ false
+pub moves_closed : (moves : List Move) (old new : Book) → Moves old moves new → (HasPushOnFull moves → ⊥)
+    → old.account.open_push ≡ false → new.account.open_push ≡ false
 moves_closed [] old new same quiet closed = ap (λ (c : Book). c.account.open_push) same ∙ closed
 moves_closed (move ∷ moves) old new p quiet closed =
     moves_closed moves p.0 new p.2 (λ h. quiet (inr h)) (move_closed move old p.0 p.1 (λ h. quiet (inl h)) closed)
@@ -166,7 +200,8 @@ and_false false = refl
 -- a full head without a buffer ends an open push
 pub found_none_closes : (old new : Book) → Moved (FoundNone Full) old new → new.account.open_push ≡ false
 found_none_closes old new p =
-    ap (λ (c : Book). c.account.open_push) p.2.2 ∙ ap (λ (i : Option ℕ). p.0.account.open_push && is_some i) p.2.1 ∙ and_false p.0.account.open_push
+    ap (λ (c : Book). c.account.open_push) p.2.2 ∙ ap (λ (i : Option ℕ). p.0.account.open_push && is_some i) p.2.1
+    ∙ and_false p.0.account.open_push
 
 or_true : (b : Bool) → b || true ≡ true
 or_true true = refl

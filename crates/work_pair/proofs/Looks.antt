@@ -124,7 +124,8 @@ look_failed b =
 
 -- the loads of a head and its link
 pub look_top : (q : Which) (head : Head) (link : Option ℕ) (b : Book) → IsLook b (link_loaded q link (loaded q head b))
-look_top q head link b = look_again b (loaded q head b) (link_loaded q link (loaded q head b)) (look_head q head b) (look_link q link (loaded q head b))
+look_top q head link b = look_again b (loaded q head b) (link_loaded q link (loaded q head b)) (look_head q head b)
+    (look_link q link (loaded q head b))
 
 -- tries that were lost
 pub lost_pops : (q : Which) (old new : Book) → LostPops q old new → IsLook old new

@@ -6,23 +6,29 @@ use Rattle.atomic_table.specs.Seated.{TableId}
 use Rattle.mark_core.specs.Lists.{times, only}
 use Rattle.mark_core.specs.World.{Setup}
 use Rattle.mark_core.specs.Event.{CanClaim, IsBusy}
-use Rattle.mark_core.proofs.Sums.{total-append}
+use Rattle.mark_core.proofs.Sums.{sum_of-append}
 use Rattle.buffer_pool.specs.Book.{Book, claimed}
 use Rattle.buffer_pool.specs.Calls.{Holder}
 use Rattle.work_pair.specs.Deals.{Deals}
-use Rattle.work_pair.specs.Places.{Places, items_of, IsBacked, IsOpen, AreOfSize}
+use Rattle.work_pair.specs.PairState.{PairState, pair_items, IsBacked, IsOpen, AreOfSize}
 use Rattle.work_pair.specs.tests.Ready.{IsReady, IsWorker, numbers}
 use Rattle.work_pair.proofs.Trading.{backed_less}
 
 pub roots_below : (n : ℕ) → All (λ o. o < n) (numbers n)
 unfolding numbers
-roots_below n i d below = let k : i < n = omega (arith, below, length-range_with_len 0 n) in omega (arith, k, get_or-range_with_len 0 n i d k)
+roots_below n i d below = let k : i < n = omega (arith, below, length-range_with_len 0 n) in
+    omega (arith, k, get_or-range_with_len 0 n i d k)
 
 is_root : (n o : ℕ) → o < n → Contains (numbers n) o
 unfolding numbers
-is_root n o below = (o, omega (arith, below, length-range_with_len 0 n), omega (arith, get_or-range_with_len 0 n o o below))
+is_root n o below = (
+  o,
+  omega (arith, below, length-range_with_len 0 n),
+  omega (arith, get_or-range_with_len 0 n o o below),
+)
 
-pub may_claim : (n o : ℕ) (pool : TableId) (w : Holder) → IsWorker n pool w → o < n → CanClaim w.book.setup o w.book.account
+pub may_claim : (n o : ℕ) (pool : TableId) (w : Holder) → IsWorker n pool w → o < n
+    → CanClaim w.book.setup o w.book.account
 may_claim n o pool w worker below = inl (subst (λ (rs : List ℕ). Contains rs o) (sym worker.roots) (is_root n o below))
 
 -- a worker that is not idle may use its stacks
@@ -36,24 +42,27 @@ still_worker n pool old new w same setup idle =
     record { same = same ∙ w.same; roots = ap (λ (e : Setup). e.roots) setup ∙ w.roots; idle = idle ∙ w.idle }
 
 -- a white object was claimed
-pub claimed_backed : (p : Places) (o found : ℕ) (old new : Book) → new ≡ claimed o found old → found ≡ 0 → IsBacked p [] old → IsBacked p (o ∷ []) new
+pub claimed_backed : (p : PairState) (o found : ℕ) (old new : Book) → new ≡ claimed o found old → found ≡ 0
+    → IsBacked p [] old → IsBacked p (o ∷ []) new
 claimed_backed p o found old new is white backed =
-    let charge : new.account.charge ≡ old.account.charge ++ o ∷ [] = ap (λ (b : Book). b.account.charge) is ∙ ap (λ t. cond t (old.account.charge ++ o ∷ []) old.account.charge) (eq-eqb found 0 white) in
+    let charge : new.account.charge ≡ old.account.charge ++ o ∷ [] = ap (λ (b : Book). b.account.charge) is
+    ∙ ap (λ t. cond t (old.account.charge ++ o ∷ []) old.account.charge) (eq-eqb found 0 white) in
     record {
       held = λ x. omega (arith, backed.held x, ap (λ (b : Book). times x b.account.held) is);
       charged = λ x. omega (
         arith,
         backed.charged x,
         ap (times x) charge,
-        total-append (only x) old.account.charge (o ∷ []),
-        total-append (only x) (items_of p) [],
-        total-append (only x) (items_of p) (o ∷ []),
+        sum_of-append (only x) old.account.charge (o ∷ []),
+        sum_of-append (only x) (pair_items p) [],
+        sum_of-append (only x) (pair_items p) (o ∷ []),
       );
       sized = subst (λ (e : Setup). AreOfSize e.size p) (sym (ap (λ (b : Book). b.setup) is)) backed.sized;
     }
 
 -- after a call
-pub ready_after : (n : ℕ) (pool : TableId) (old new : Holder) (p q : Places) (put got : List ℕ) → IsWorker n pool old → new.pool ≡ old.pool → IsOpen q → Deals p old.book put got q new.book → IsReady n pool new q
+pub ready_after : (n : ℕ) (pool : TableId) (old new : Holder) (p q : PairState) (put got : List ℕ) → IsWorker n pool old
+    → new.pool ≡ old.pool → IsOpen q → Deals p old.book put got q new.book → IsReady n pool new q
 ready_after n pool old new p q put got w same going deals =
     record {
       worker = still_worker n pool old new w same deals.kept.setup deals.kept.idle;
@@ -62,7 +71,8 @@ ready_after n pool old new p q put got w same going deals =
     }
 
 -- after a claim
-pub claimed_worker : (n : ℕ) (pool : TableId) (old new : Holder) (o found : ℕ) → IsWorker n pool old → new.pool ≡ old.pool
+pub claimed_worker : (n : ℕ) (pool : TableId) (old new : Holder) (o found : ℕ) → IsWorker n pool old
+    → new.pool ≡ old.pool
     → new.book ≡ claimed o found old.book → IsWorker n pool new
 claimed_worker n pool old new o found w same is =
     still_worker n pool old new w same (ap (λ (b : Book). b.setup) is) (ap (λ (b : Book). b.account.idle) is)

@@ -1,34 +1,46 @@
 -- Pairs with a spill list, from what was done with their buffers.
-use Rattle.std.proofs.Common.{◌≡◌, ℕ, ◌+◌, ◌≤◌, Bool, true, List, [], ◌∷◌, ◌++◌, length, Option, refl, ap, ◌∙◌, length-append, arith}
+use Rattle.std.proofs.Common.{◌≡◌, ℕ, ◌+◌, ◌≤◌, Bool, true, List, [], ◌∷◌, ◌++◌, length, Option, refl, ap, ◌∙◌}
+use Rattle.std.proofs.Common.{length-append, arith}
 use Rattle.mark_core.specs.Lists.{times, only}
-use Rattle.mark_core.proofs.Sums.{total-append}
+use Rattle.mark_core.proofs.Sums.{sum_of-append}
 use Rattle.buffer_pool.specs.Book.{Book}
 use Rattle.buffer_pool.specs.Calls.{HeldBuffer}
 use Rattle.work_pair.specs.Moves.{EndAtLastTag}
-use Rattle.work_pair.specs.Places.{Places, items_of, AreOfSize, IsBacked}
+use Rattle.work_pair.specs.PairState.{PairState, pair_items, AreOfSize, IsBacked}
 use Rattle.work_pair.specs.Deals.{Deals}
 use Rattle.work_pair.specs.working.Steps.{Trades, places}
 use Rattle.work_pair.proofs.Effects.{moves_effect, moves_closed}
 use Rattle.work_pair.proofs.Trading.{items_sum, sized_after, still}
 
 -- a pair with this list
-abbrev pub listed : Places → List ℕ → Bool → Bool → Places
+abbrev pub listed : PairState → List ℕ → Bool → Bool → PairState
 listed p l was hungry = record p { spill = l; stopped = was; starved = hungry }
 
 -- the buffers alone, with the list as a part of what is answered for besides
-pub beside : (f s t : Option HeldBuffer) (l put : List ℕ) (was hungry : Bool) (b : Book) → IsBacked (listed (places f s t) l was hungry) put b → IsBacked (places f s t) (l ++ put) b
+pub beside : (f s t : Option HeldBuffer) (l put : List ℕ) (was hungry : Bool) (b : Book)
+    → IsBacked (listed (places f s t) l was hungry) put b → IsBacked (places f s t) (l ++ put) b
 beside f s t l put was hungry b backed =
     let p = listed (places f s t) l was hungry in
     record {
       held = backed.held;
-      charged = λ x. omega (arith, backed.charged x, total-append (only x) (items_of p) put, total-append (only x) (items_of (places f s t)) (l ++ put), total-append (only x) l put, items_sum x p, items_sum x (places f s t));
+      charged = λ x. omega (
+        arith,
+        backed.charged x,
+        sum_of-append (only x) (pair_items p) put,
+        sum_of-append (only x) (pair_items (places f s t)) (l ++ put),
+        sum_of-append (only x) l put,
+        items_sum x p,
+        items_sum x (places f s t),
+      );
       sized = record { first = backed.sized.first; second = backed.sized.second; third = backed.sized.third };
     }
 
 -- a trade of the buffers, told of the pair, whose list may have taken in what was put, or given what was got
-abbrev pub dealt_listed : (f s t x y z : Option HeldBuffer) (l m took gave put got : List ℕ) (was hungry now starving : Bool) (b c : Book)
+abbrev pub dealt_listed : (f s t x y z : Option HeldBuffer) (l m took gave put got : List ℕ)
+    (was hungry now starving : Bool) (b c : Book)
     → ((o : ℕ) → times o m + times o got + times o took ≡ times o l + times o put + times o gave)
-    → IsBacked (listed (places f s t) l was hungry) put b → (u : Trades (places f s t) b took gave (places x y z) c) → (now ≡ true → EndAtLastTag u.moves)
+    → IsBacked (listed (places f s t) l was hungry) put b → (u : Trades (places f s t) b took gave (places x y z) c)
+    → (now ≡ true → EndAtLastTag u.moves)
     → Deals (listed (places f s t) l was hungry) b put got (listed (places x y z) m now starving) c
 dealt_listed f s t x y z l m took gave put got was hungry now starving b c even backed u ends =
     let old = listed (places f s t) l was hungry in
@@ -38,7 +50,15 @@ dealt_listed f s t x y z l m took gave put got was hungry now starving b c even 
     record {
       moves = u.moves;
       books = u.books;
-      items = λ o. omega (arith, u.items o, even o, items_sum o old, items_sum o new, items_sum o (places f s t), items_sum o (places x y z));
+      items = λ o. omega (
+        arith,
+        u.items o,
+        even o,
+        items_sum o old,
+        items_sum o new,
+        items_sum o (places f s t),
+        items_sum o (places x y z),
+      );
       buffers = u.buffers;
       filled = u.filled;
       charge = e.charge;
@@ -47,7 +67,19 @@ dealt_listed f s t x y z l m took gave put got was hungry now starving b c even 
       backed =
           record {
             held = λ i. omega (arith, backed.held i, u.buffers i, e.held i);
-            charged = λ o. omega (arith, backed.charged o, u.items o, even o, e.charge o, items_sum o old, items_sum o new, items_sum o (places f s t), items_sum o (places x y z), total-append (only o) (items_of old) put, total-append (only o) (items_of new) got);
+            charged = λ o. omega (
+              arith,
+              backed.charged o,
+              u.items o,
+              even o,
+              e.charge o,
+              items_sum o old,
+              items_sum o new,
+              items_sum o (places f s t),
+              items_sum o (places x y z),
+              sum_of-append (only o) (pair_items old) put,
+              sum_of-append (only o) (pair_items new) got,
+            );
             sized = record { first = sized.first; second = sized.second; third = sized.third };
           };
       closed = moves_closed u.moves b c u.books;
@@ -55,28 +87,31 @@ dealt_listed f s t x y z l m took gave put got was hungry now starving b c even 
     }
 
 -- the list stays
-pub kept_list : (l put got : List ℕ) (o : ℕ) → times o l + times o got + times o put ≡ times o l + times o put + times o got
+pub kept_list : (l put got : List ℕ) (o : ℕ)
+    → times o l + times o got + times o put ≡ times o l + times o put + times o got
 kept_list l put got o = omega arith
 
 -- an object was spilled
-pub spilled : (l : List ℕ) (object o : ℕ) → times o (l ++ object ∷ []) + times o [] + times o [] ≡ times o l + times o (object ∷ []) + times o []
-spilled l object o = omega (arith, total-append (only o) l (object ∷ []))
+pub spilled : (l : List ℕ) (object o : ℕ)
+    → times o (l ++ object ∷ []) + times o [] + times o [] ≡ times o l + times o (object ∷ []) + times o []
+spilled l object o = omega (arith, sum_of-append (only o) l (object ∷ []))
 
 -- the last object of the list was got
-pub unspilled : (rest : List ℕ) (object o : ℕ) → times o rest + times o (object ∷ []) + times o [] ≡ times o (rest ++ object ∷ []) + times o [] + times o []
-unspilled rest object o = omega (arith, total-append (only o) rest (object ∷ []))
+pub unspilled : (rest : List ℕ) (object o : ℕ)
+    → times o rest + times o (object ∷ []) + times o [] ≡ times o (rest ++ object ∷ []) + times o [] + times o []
+unspilled rest object o = omega (arith, sum_of-append (only o) rest (object ∷ []))
 
 -- the buffers alone are backed as well
-pub backed_rest : (p : Places) (l put : List ℕ) (b : Book) → IsBacked p (l ++ put) b → IsBacked p put b
+pub backed_rest : (p : PairState) (l put : List ℕ) (b : Book) → IsBacked p (l ++ put) b → IsBacked p put b
 backed_rest p l put b backed =
     record {
       held = backed.held;
       charged = λ x. omega (
         arith,
         backed.charged x,
-        total-append (only x) (items_of p) (l ++ put),
-        total-append (only x) (items_of p) put,
-        total-append (only x) l put,
+        sum_of-append (only x) (pair_items p) (l ++ put),
+        sum_of-append (only x) (pair_items p) put,
+        sum_of-append (only x) l put,
       );
       sized = backed.sized;
     }

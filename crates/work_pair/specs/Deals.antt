@@ -1,13 +1,14 @@
 -- What a call of a pair does to the pair and to the book of its worker.
-use Rattle.std.specs.Prelude.{◌≡◌, ◌≢◌, ◌⊎◌, ℕ, ◌+◌, ◌-◌, ◌/◌, ◌<◌, true, false, List, [], ◌∷◌, ◌++◌, length}
+use Rattle.std.specs.Prelude.{◌≡◌, ◌≢◌, ◌⊎◌, ℕ, ◌-◌, ◌/◌, ◌<◌, true, false, List, [], ◌∷◌, ◌++◌, length}
 use Rattle.std.specs.Prelude.{take, drop, Option, Some, None}
 use Rattle.mark_core.specs.declared.which.Which.TheVariants.{Full, Empty}
 use Rattle.buffer_pool.specs.Book.{Book}
 use Rattle.buffer_pool.specs.Calls.{HeldBuffer}
 use Rattle.work_pair.specs.Moves.{Move, Took, Gave, FoundNone, Moves, popped_items, popped_numbers, pushed_items}
 use Rattle.work_pair.specs.Moves.{pushed_numbers, AreFilled, HasPushOnFull, HasPopFromFull, EndAtLastTag}
-use Rattle.work_pair.specs.Places.{Places, buffered_items, items_of, items_at, numbers_of, no_places, without_spill}
-use Rattle.work_pair.specs.Places.{HasRoom, IsBacked, SameNumbers}
+use Rattle.work_pair.specs.PairState.{PairState, buffered_items, pair_items, items_at, numbers_of, empty_pair}
+use Rattle.work_pair.specs.PairState.{without_spill}
+use Rattle.work_pair.specs.PairState.{HasRoom, IsBacked, SameNumbers}
 
 -- the worker has the same share and the same idle number, saw the same objects and finished the same, and its pool was
 -- made for the same
@@ -19,12 +20,13 @@ pub record Keeps (old new : Book) : Type 0 where
   pub finished : new.account.finished ≡ old.account.finished
 
 -- a call with a pair, in which objects were put and got
-pub record Deals (old : Places) (before : Book) (put got : List ℕ) (new : Places) (after : Book) : Type 0 where
+pub record Deals (old : PairState) (before : Book) (put got : List ℕ) (new : PairState) (after : Book) : Type 0 where
   -- what was popped and pushed, in order
   pub moves : List Move
   pub books : Moves before moves after
   -- the items after: those before, those of buffers popped and those put, without those of buffers pushed and those got
-  pub items : SameNumbers (items_of new ∷ got ∷ pushed_items moves ∷ []) (items_of old ∷ put ∷ popped_items moves ∷ [])
+  pub items : SameNumbers (pair_items new ∷ got ∷ pushed_items moves ∷ [])
+      (pair_items old ∷ put ∷ popped_items moves ∷ [])
   -- the buffers after: those before and those popped, without those pushed
   pub buffers : SameNumbers (numbers_of new ∷ pushed_numbers moves ∷ []) (numbers_of old ∷ popped_numbers moves ∷ [])
   -- only a buffer with items is pushed on full
@@ -43,15 +45,15 @@ pub record Deals (old : Places) (before : Book) (put got : List ℕ) (new : Plac
   pub last_tag : new.stopped ≡ true → EndAtLastTag moves
 
 -- the second buffer has items, or the first more than four
-abbrev pub HasMore : Places → Type 0
+abbrev pub HasMore : PairState → Type 0
 HasMore p = (items_at p.second ≢ []) ⊎ (4 < length (items_at p.first))
 
 -- a call that popped nothing from full
-abbrev pub DealsOut : Places → Book → Places → Book → Type 0
+abbrev pub DealsOut : PairState → Book → PairState → Book → Type 0
 DealsOut old before new after = (deals : Deals old before [] [] new after) × (HasPopFromFull deals.moves → ⊥)
 
 -- a call that pushed nothing on full, and popped nothing from it
-abbrev pub DealsQuietly : Places → Book → Places → Book → Type 0
+abbrev pub DealsQuietly : PairState → Book → PairState → Book → Type 0
 DealsQuietly old before new after =
     (deals : Deals old before [] [] new after)
     × (HasPushOnFull deals.moves → ⊥)
@@ -61,7 +63,7 @@ DealsQuietly old before new after =
 -- popped was given back
 abbrev pub OpensNone : Book → Book → Type 0
 OpensNone before after =
-    (deals : Deals no_places before [] [] no_places after)
+    (deals : Deals empty_pair before [] [] empty_pair after)
     × ((deals.moves ≡ FoundNone Empty ∷ [])
     ⊎ ((h : HeldBuffer) × (deals.moves ≡ Took Empty h ∷ FoundNone Empty ∷ Gave Empty h ∷ [])))
 
@@ -78,28 +80,28 @@ abbrev pub lower_part : List ℕ → List ℕ
 lower_part xs = take (length xs - length xs / 2) xs
 
 -- the second buffer had items, and all of it was pushed; an empty one is in its place, and the first is as before
-abbrev pub GivesSecond : Places → List Move → Places → Type 0
+abbrev pub GivesSecond : PairState → List Move → PairState → Type 0
 GivesSecond old moves new =
     (h : HeldBuffer) × (h.items ≡ []) × (items_at old.second ≢ [])
     × (moves ≡ Took Empty h ∷ push_of old.second) × (new.first ≡ old.first) × (new.second ≡ Some h)
 
 -- the second had none, and stays; the first kept its upper half, now in the buffer that was popped, and the part below
 -- it was pushed
-abbrev pub GivesLowerPart : Places → List Move → Places → Type 0
+abbrev pub GivesLowerPart : PairState → List Move → PairState → Type 0
 GivesLowerPart old moves new =
     (h : HeldBuffer) × (k : HeldBuffer) × (items_at old.second ≡ []) × (old.first ≡ Some k)
     × (moves ≡ Took Empty h ∷ Gave Full (record k { items = lower_part k.items }) ∷ [])
     × (new.first ≡ Some (record h { items = upper_half k.items })) × (new.second ≡ old.second)
 
 -- which buffer a balance gave, and how much of it; or it pushed none, and both are as before
-abbrev pub Gives : Places → List Move → Places → Type 0
+abbrev pub Gives : PairState → List Move → PairState → Type 0
 Gives old moves new =
     ((HasPushOnFull moves → ⊥) × (new.first ≡ old.first) × (new.second ≡ old.second))
     ⊎ (GivesSecond old moves new ⊎ GivesLowerPart old moves new)
 
 -- a balance that pushed a buffer with items on full where there was more than a few, or else did nothing with the
 -- stacks but look for an empty buffer, and found none; it popped nothing from full
-abbrev pub Balances : Places → Book → Places → Book → Type 0
+abbrev pub Balances : PairState → Book → PairState → Book → Type 0
 Balances old before new after =
     (deals : Deals old before [] [] new after)
     × (HasMore old → (deals.moves ≡ FoundNone Empty ∷ []) ⊎ HasPushOnFull deals.moves)
@@ -107,7 +109,7 @@ Balances old before new after =
     × Gives old deals.moves new
 
 -- the second buffer was pushed, the first is the second now, and an empty one that was popped has just the object
-abbrev pub FillsNext : Places → ℕ → List Move → Places → Type 0
+abbrev pub FillsNext : PairState → ℕ → List Move → PairState → Type 0
 FillsNext old object moves new =
     (h : HeldBuffer) × (moves ≡ Took Empty h ∷ push_of old.second)
     × (new.first ≡ Some (record h { items = object ∷ [] })) × (new.second ≡ old.first)
@@ -115,7 +117,7 @@ FillsNext old object moves new =
 -- an object was put: into a buffer, or at the end of the spill list; then all that the call did with the stacks was to
 -- look for an empty buffer, and it found none; it popped nothing from full; where a buffer had room it did nothing with
 -- the stacks, and else it pushed the one that was filled first
-abbrev pub Puts : Places → Book → ℕ → Places → Book → Type 0
+abbrev pub Puts : PairState → Book → ℕ → PairState → Book → Type 0
 Puts old before object new after =
     (deals : Deals old before (object ∷ []) [] new after)
     × ((new.spill ≡ old.spill) ⊎ ((new.spill ≡ old.spill ++ object ∷ []) × (deals.moves ≡ FoundNone Empty ∷ [])))
@@ -125,7 +127,7 @@ Puts old before object new after =
 
 -- a call that gave buffers back, none of them on full where there were no items in them, and popped nothing from full;
 -- a spill list was given up before
-abbrev pub Disposes : Places → Book → Places → Book → Type 0
+abbrev pub Disposes : PairState → Book → PairState → Book → Type 0
 Disposes old before new after =
     (deals : Deals (without_spill old) before [] [] new after)
     × (buffered_items old ≡ [] → HasPushOnFull deals.moves → ⊥)

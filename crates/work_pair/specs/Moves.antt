@@ -3,7 +3,7 @@ use Rattle.std.specs.Prelude.{◌≡◌, ◌≢◌, ◌⊎◌, ℕ, ◌<◌, Lis
 use Rattle.mark_core.specs.declared.which.Which.{Which}
 use Rattle.mark_core.specs.declared.which.Which.TheVariants.{Full, Empty}
 use Rattle.buffer_pool.specs.Book.{Book, empties_of}
-use Rattle.buffer_pool.specs.Calls.{HeldBuffer, MayPush, PopsAtLast, PushesAtLast}
+use Rattle.buffer_pool.specs.Calls.{HeldBuffer, MayPush, Pops, Pushes}
 use Rattle.buffer_pool.specs.declared.answers.Popped.TheVariants as pop
 use Rattle.buffer_pool.specs.declared.answers.TryPushed.TheVariants as try_push
 
@@ -19,11 +19,11 @@ pub data Move : Type 0 where
 
 -- what a move does to the book of the worker that makes it
 abbrev pub Moved : Move → Book → Book → Type 0
-Moved (Took q h) old new = PopsAtLast q old new (pop.Took h)
-Moved (Gave q h) old new = MayPush q h old × PushesAtLast q h old new try_push.Done
-Moved (FoundNone q) old new = PopsAtLast q old new pop.Empty
-Moved (Ended q) old new = PopsAtLast q old new pop.Spent ⊎ ((h : HeldBuffer) × MayPush q h old
-    × PushesAtLast q h old new (try_push.Spent h))
+Moved (Took q h) old new = Pops q old new (pop.Took h)
+Moved (Gave q h) old new = MayPush q h old × Pushes q h old new try_push.Done
+Moved (FoundNone q) old new = Pops q old new pop.Empty
+Moved (Ended q) old new = Pops q old new pop.Spent ⊎ ((h : HeldBuffer) × MayPush q h old
+    × Pushes q h old new (try_push.Spent h))
 
 -- moves one after the other
 abbrev pub Moves : Book → List Move → Book → Type 0

@@ -9,10 +9,11 @@ use std::alloc::Allocator;
 use std::mem::swap;
 use std::sync::Wait;
 
-/// Above so many objects the first buffer is halved.
+/// How many objects are few: the first buffer is halved where it has more.
 const FEW: u32 = 4;
 
-/// Two buffers, and one that a stopped call left over.
+/// Two buffers, and one that a stopped call left over. The calls of [`Pair`](crate::Pair) hand on to these, which know
+/// of no spill list and of no stops told apart: what is shown of buffers and stacks is shown here without them.
 #[derive(Drop)]
 pub(crate) struct Buffers<A: Allocator> {
     pub(crate) first: Option<Held<A>>,
@@ -24,9 +25,10 @@ impl<A: Allocator> Buffers<A> {
     ghost use Rattle.std.specs.Prelude.{◌≡◌, ◌≢◌, None, Ok, true, [], ◌∷◌, IsOk};
     ghost use Rattle.mark_core.specs.Event.{IsBusy};
     ghost use Rattle.work_pair.specs.Deals.{HasMore};
-    ghost use Rattle.work_pair.specs.Places.{HasRoom, IsBacked, items_of};
-    ghost use Rattle.work_pair.specs.working.Steps.{BalanceTells, ClearTells, GetTells, PublishTells, PutTells};
-    ghost use Rattle.work_pair.specs.working.Steps.{Takes, places};
+    ghost use Rattle.work_pair.specs.PairState.{HasRoom, IsBacked, pair_items};
+    ghost use Rattle.work_pair.specs.working.Buffers.{places_of};
+    ghost use Rattle.work_pair.specs.working.Steps.{BalanceAnswers, ClearTells, GetAnswers, PublishAnswers, PutAnswers};
+    ghost use Rattle.work_pair.specs.working.Steps.{Takes};
 
     /// Puts an object into the first buffer, or into the second, which is the first then, or into an empty one. False
     /// where there is none: then nothing changes but the places of the two.
@@ -39,14 +41,12 @@ impl<A: Allocator> Buffers<A> {
     ) -> Result<bool, Stop>
         requires pool { worker.old.pool ≡ pool.now }
         requires third { self.old.third ≡ None }
-        requires backed { IsBacked (places self.old.first self.old.second self.old.third) (object ∷ [])
-            worker.old.book }
+        requires backed { IsBacked (places_of self.old) (object ∷ []) worker.old.book }
         requires busy { IsBusy worker.old.book.account }
         ensures pool { worker.new.pool ≡ worker.old.pool }
-        ensures tells { PutTells object (places self.old.first self.old.second self.old.third) worker.old.book
-            (places self.new.first self.new.second self.new.third) worker.new.book result }
-        ensures room { HasRoom (places self.old.first self.old.second self.old.third)
-            → (worker.new ≡ worker.old) × (result ≡ Ok true) }
+        ensures tells { PutAnswers object (places_of self.old) worker.old.book (places_of self.new)
+            worker.new.book result }
+        ensures room { HasRoom (places_of self.old) → (worker.new ≡ worker.old) × (result ≡ Ok true) }
     {
         if put_at(&mut self.first, object) {
             return Ok(true);
@@ -63,8 +63,7 @@ impl<A: Allocator> Buffers<A> {
 
     /// Takes an object from the first buffer, or from the second, which is the first then.
     fn take(&mut self) -> Option<u32>
-        ensures { Takes (places self.old.first self.old.second self.old.third)
-            (places self.new.first self.new.second self.new.third) result }
+        ensures { Takes (places_of self.old) (places_of self.new) result }
     {
         if let Some(object) = take_at(&mut self.first) {
             return Some(object);
@@ -83,13 +82,11 @@ impl<A: Allocator> Buffers<A> {
     ) -> Result<Option<u32>, Stop>
         requires pool { worker.old.pool ≡ pool.now }
         requires third { self.old.third ≡ None }
-        requires backed { IsBacked (places self.old.first self.old.second self.old.third) [] worker.old.book }
+        requires backed { IsBacked (places_of self.old) [] worker.old.book }
         requires busy { IsBusy worker.old.book.account }
         ensures pool { worker.new.pool ≡ worker.old.pool }
-        ensures tells { GetTells (places self.old.first self.old.second self.old.third) worker.old.book
-            (places self.new.first self.new.second self.new.third) worker.new.book result }
-        ensures own { items_of (places self.old.first self.old.second self.old.third) ≢ []
-            → (worker.new ≡ worker.old) × IsOk result }
+        ensures tells { GetAnswers (places_of self.old) worker.old.book (places_of self.new) worker.new.book result }
+        ensures own { pair_items (places_of self.old) ≢ [] → (worker.new ≡ worker.old) × IsOk result }
     {
         for _ in rt.forever() {
             if let Some(object) = self.take() {
@@ -112,14 +109,13 @@ impl<A: Allocator> Buffers<A> {
     ) -> Result<(), Stop>
         requires pool { worker.old.pool ≡ pool.now }
         requires third { self.old.third ≡ None }
-        requires backed { IsBacked (places self.old.first self.old.second self.old.third) [] worker.old.book }
+        requires backed { IsBacked (places_of self.old) [] worker.old.book }
         requires busy { IsBusy worker.old.book.account }
         ensures pool { worker.new.pool ≡ worker.old.pool }
-        ensures tells { BalanceTells (places self.old.first self.old.second self.old.third) worker.old.book
-            (places self.new.first self.new.second self.new.third) worker.new.book result }
-        ensures few { (HasMore (places self.old.first self.old.second self.old.third) → ⊥)
-            → (places self.new.first self.new.second self.new.third
-            ≡ places self.old.first self.old.second self.old.third) × (worker.new ≡ worker.old) × IsOk result }
+        ensures tells { BalanceAnswers (places_of self.old) worker.old.book (places_of self.new) worker.new.book
+            result }
+        ensures few { (HasMore (places_of self.old) → ⊥) → (places_of self.new ≡ places_of self.old)
+            × (worker.new ≡ worker.old) × IsOk result }
     {
         if len_at(&self.second) > 0 {
             renew(rt, pool, worker, &mut self.second, &mut self.third)?;
@@ -138,14 +134,13 @@ impl<A: Allocator> Buffers<A> {
     ) -> Result<(), Stop>
         requires pool { worker.old.pool ≡ pool.now }
         requires third { self.old.third ≡ None }
-        requires backed { IsBacked (places self.old.first self.old.second self.old.third) [] worker.old.book }
+        requires backed { IsBacked (places_of self.old) [] worker.old.book }
         requires busy { IsBusy worker.old.book.account }
         ensures pool { worker.new.pool ≡ worker.old.pool }
-        ensures tells { PublishTells (places self.old.first self.old.second self.old.third) worker.old.book
-            (places self.new.first self.new.second self.new.third) worker.new.book result }
-        ensures nothing { items_of (places self.old.first self.old.second self.old.third) ≡ []
-            → (places self.new.first self.new.second self.new.third
-            ≡ places self.old.first self.old.second self.old.third) × (worker.new ≡ worker.old) × IsOk result }
+        ensures tells { PublishAnswers (places_of self.old) worker.old.book (places_of self.new) worker.new.book
+            result }
+        ensures nothing { pair_items (places_of self.old) ≡ [] → (places_of self.new ≡ places_of self.old)
+            × (worker.new ≡ worker.old) × IsOk result }
     {
         publish_at(rt, pool, worker, &mut self.first, &mut self.third)?;
         publish_at(rt, pool, worker, &mut self.second, &mut self.third)
@@ -160,12 +155,10 @@ impl<A: Allocator> Buffers<A> {
         worker: &mut Worker<A>,
     ) -> Result<(), Stop>
         requires pool { worker.old.pool ≡ pool.now }
-        requires backed { IsBacked (places self.old.first self.old.second self.old.third) [] worker.old.book }
-        requires busy { items_of (places self.old.first self.old.second self.old.third) ≢ []
-            → IsBusy worker.old.book.account }
+        requires backed { IsBacked (places_of self.old) [] worker.old.book }
+        requires busy { pair_items (places_of self.old) ≢ [] → IsBusy worker.old.book.account }
         ensures pool { worker.new.pool ≡ worker.old.pool }
-        ensures tells { ClearTells (places self.old.first self.old.second self.old.third) worker.old.book
-            (places self.new.first self.new.second self.new.third) worker.new.book result }
+        ensures tells { ClearTells (places_of self.old) worker.old.book (places_of self.new) worker.new.book result }
     {
         clear_at(rt, pool, worker, &mut self.first)?;
         clear_at(rt, pool, worker, &mut self.second)?;

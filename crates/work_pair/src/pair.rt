@@ -28,9 +28,9 @@ pub struct Pair<A: Allocator> {
 }
 
 impl<A: Allocator> Model for Pair<A> {
-    ghost use Rattle.work_pair.specs.Places.{Places};
+    ghost use Rattle.work_pair.specs.PairState.{PairState};
 
-    ghost Value = { Places };
+    ghost Value = { PairState };
 
     ghost view = { λ p. record {
       first = p.buffers.first;
@@ -50,13 +50,13 @@ impl<A: Allocator> Pair<A> {
     ghost use Rattle.work_pair.specs.Deals.{Balances, Deals, DealsOut, DealsQuietly, Disposes, HasMore, OpensNone};
     ghost use Rattle.work_pair.specs.Deals.{Puts};
     ghost use Rattle.work_pair.specs.Moves.{FoundNone, WasSeenEmpty};
-    ghost use Rattle.work_pair.specs.Places.{AreAlike, HasRoom, HasStopped, IsBacked, IsNew, IsOpen, Places};
-    ghost use Rattle.work_pair.specs.Places.{buffered_items, items_of, no_places};
+    ghost use Rattle.work_pair.specs.PairState.{AreAlike, HasRoom, HasStopped, IsBacked, IsNew, IsOpen, PairState};
+    ghost use Rattle.work_pair.specs.PairState.{buffered_items, pair_items, empty_pair};
     ghost use Rattle.work_pair.specs.declared.stop.Stop.TheVariants.{OutOfMemory, TagSpent};
 
     /// A pair with these buffers, and nothing spilled.
     fn of(alloc: A, first: Option<Held<A>>, second: Option<Held<A>>) -> Self
-        ensures { result ≡ record no_places { first = first; second = second } }
+        ensures { result ≡ record empty_pair { first = first; second = second } }
     {
         let buffers = Buffers {
             first,
@@ -74,7 +74,7 @@ impl<A: Allocator> Pair<A> {
     /// A pair with two vacant places, which count as full when an object is put and as without objects when one is
     /// got. It takes no memory.
     pub fn bare(alloc: A) -> Self
-        ensures { result ≡ no_places }
+        ensures { result ≡ empty_pair }
     {
         Pair::of(alloc, None, None)
     }
@@ -90,13 +90,13 @@ impl<A: Allocator> Pair<A> {
         requires pool { worker.old.pool ≡ pool.now }
         requires busy { IsBusy worker.old.book.account }
         ensures pool { worker.new.pool ≡ worker.old.pool }
-        ensures opened { IfOk result (λ r. IfSome r (λ p. IsNew p × DealsQuietly no_places worker.old.book p
+        ensures opened { IfOk result (λ r. IfSome r (λ p. IsNew p × DealsQuietly empty_pair worker.old.book p
             worker.new.book)) }
-        ensures none { IfOk result (λ r. IfNone r (DealsQuietly no_places worker.old.book no_places worker.new.book
+        ensures none { IfOk result (λ r. IfNone r (DealsQuietly empty_pair worker.old.book empty_pair worker.new.book
             × WasSeenEmpty Empty worker.old.book worker.new.book)) }
         ensures not_found { IfOk result (λ r. IfNone r (OpensNone worker.old.book worker.new.book)) }
-        ensures spent { IfErr result (λ s. (s ≡ TagSpent) × ((left : Places) × (left.stopped ≡ true)
-            × DealsQuietly no_places worker.old.book left worker.new.book)) }
+        ensures spent { IfErr result (λ s. (s ≡ TagSpent) × ((left : PairState) × (left.stopped ≡ true)
+            × DealsQuietly empty_pair worker.old.book left worker.new.book)) }
     {
         let Some(first) = pop_one(rt, pool, worker, Which::Empty)? else {
             return Ok(None);
@@ -168,8 +168,8 @@ impl<A: Allocator> Pair<A> {
         ensures got { IfOk result (λ r. IfSome r (λ o. Deals self.old worker.old.book [] (o ∷ []) self.new
             worker.new.book)) }
         ensures none { IfOk result (λ r. IfNone r (Deals self.old worker.old.book [] [] self.new worker.new.book
-            × (items_of self.new ≡ []) × WasSeenEmpty Full worker.old.book worker.new.book)) }
-        ensures own { items_of self.old ≢ [] → (worker.new ≡ worker.old) × IsOk result }
+            × (pair_items self.new ≡ []) × WasSeenEmpty Full worker.old.book worker.new.book)) }
+        ensures own { pair_items self.old ≢ [] → (worker.new ≡ worker.old) × IsOk result }
         ensures last { (o : ℕ) (rest : List ℕ) → self.old.spill ≡ rest ++ o ∷ [] → (result ≡ Ok (Some o)) × (self.new
             ≡ record self.old { spill = rest }) }
         ensures none_spilled { self.old.spill ≡ [] → self.new.spill ≡ [] }
@@ -266,10 +266,10 @@ impl<A: Allocator> Pair<A> {
     ) -> Result<(), (Pair<A>, Stop)>
         requires pool { worker.old.pool ≡ pool.now }
         requires backed { IsBacked self [] worker.old.book }
-        requires busy { items_of self ≢ [] → IsBusy worker.old.book.account }
+        requires busy { pair_items self ≢ [] → IsBusy worker.old.book.account }
         requires spill { (self.spill ≡ []) ⊎ HasStopped self }
         ensures pool { worker.new.pool ≡ worker.old.pool }
-        ensures gone { OnOk result (Disposes self worker.old.book no_places worker.new.book) }
+        ensures gone { OnOk result (Disposes self worker.old.book empty_pair worker.new.book) }
         ensures spent { IfErr result (λ e. (e.1 ≡ TagSpent) × (e.0.stopped ≡ true) × (e.0.spill ≡ [])
             × Disposes self worker.old.book e.0 worker.new.book) }
     {
@@ -294,7 +294,7 @@ impl<A: Allocator> Pair<A> {
         }
     }
 
-    /// How many objects each of its places has, and `None` for a place without a buffer.
+    /// How many objects each place of the pair has, and `None` for a place without a buffer.
     #[cfg(test)]
     pub(crate) fn lens(&self) -> [Option<u32>; 3] {
         let Buffers {
@@ -309,7 +309,7 @@ impl<A: Allocator> Pair<A> {
         ]
     }
 
-    /// How many objects its spill list has.
+    /// How many objects the spill list has.
     pub fn spilled(&self) -> usize
         ensures { result ≡ length self.now.spill }
     {

@@ -6,8 +6,8 @@ ghost use Rattle.mark_core.specs.Event.{IsBusy};
 ghost use Rattle.mark_core.specs.Lists.{times, IsPart};
 ghost use Rattle.mark_core.specs.declared.which.Which.TheVariants.{Empty};
 ghost use Rattle.buffer_pool.specs.Calls.{HeldBuffer};
-ghost use Rattle.work_pair.specs.Places.{items_at, number_at, HasRoomAt, IsOfSize};
-ghost use Rattle.work_pair.specs.working.Steps.{ClearsAt, PublishesAt, PutsOut, RenewTells, next_of};
+ghost use Rattle.work_pair.specs.PairState.{items_at, buffer_number, HasRoomAt, IsOfSize};
+ghost use Rattle.work_pair.specs.working.Steps.{ClearsAt, PublishesAt, PutsOut, RenewAnswers, next_of};
 ghost use Rattle.work_pair.specs.working.Steps.{pushed_part};
 
 use crate::steps::{pop_one, shelve};
@@ -59,7 +59,7 @@ fn split_at<A: Allocator>(place: &mut Option<Held<A>>, upper: &mut Held<A>)
     requires room { IsOfSize upper.old.size place.old }
     ensures shared { (o : ℕ) → times o (items_at place.new) + times o upper.new.items ≡ times o (items_at place.old) }
     ensures some { items_at place.old ≢ [] → items_at place.new ≢ [] }
-    ensures number { number_at place.new ≡ number_at place.old }
+    ensures number { buffer_number place.new ≡ buffer_number place.old }
     ensures sized { (size : ℕ) → IsOfSize size place.old → IsOfSize size place.new }
     ensures lower { place.new ≡ pushed_part true place.old }
     ensures all_upper { upper.new ≡ next_of true place.old upper.old }
@@ -82,7 +82,7 @@ pub(crate) fn put_out<R: Wait, A: Allocator>(
 ) -> Result<(), Stop>
     requires pool { worker.old.pool ≡ pool.now }
     requires third { third.old ≡ None }
-    requires held { IsPart (number_at place.old) worker.old.book.account.held }
+    requires held { IsPart (buffer_number place.old) worker.old.book.account.held }
     requires charged { IsPart (items_at place.old) worker.old.book.account.charge }
     requires sized { IsOfSize worker.old.book.setup.size place.old }
     requires busy { IsBusy worker.old.book.account }
@@ -109,7 +109,7 @@ pub(crate) fn clear_at<R: Wait, A: Allocator>(
     place: &mut Option<Held<A>>,
 ) -> Result<(), Stop>
     requires pool { worker.old.pool ≡ pool.now }
-    requires held { IsPart (number_at place.old) worker.old.book.account.held }
+    requires held { IsPart (buffer_number place.old) worker.old.book.account.held }
     requires charged { IsPart (items_at place.old) worker.old.book.account.charge }
     requires sized { IsOfSize worker.old.book.setup.size place.old }
     requires busy { items_at place.old ≢ [] → IsBusy worker.old.book.account }
@@ -139,12 +139,12 @@ pub(crate) fn renew<R: Wait, A: Allocator>(
 ) -> Result<bool, Stop>
     requires pool { worker.old.pool ≡ pool.now }
     requires third { third.old ≡ None }
-    requires held { IsPart (number_at place.old) worker.old.book.account.held }
+    requires held { IsPart (buffer_number place.old) worker.old.book.account.held }
     requires charged { IsPart (items_at place.old) worker.old.book.account.charge }
     requires sized { IsOfSize worker.old.book.setup.size place.old }
     requires busy { IsBusy worker.old.book.account }
     ensures pool { worker.new.pool ≡ worker.old.pool }
-    ensures renews { RenewTells false Empty worker.old.book.setup.size place.old worker.old.book place.new third.new
+    ensures renews { RenewAnswers false Empty worker.old.book.setup.size place.old worker.old.book place.new third.new
         worker.new.book result }
     ensures bare { IfOk result (λ done. OnTrue done ((h : HeldBuffer) × (place.new ≡ Some h) × (h.items ≡ []))) }
 {
@@ -166,12 +166,12 @@ pub(crate) fn halve<R: Wait, A: Allocator>(
 ) -> Result<bool, Stop>
     requires pool { worker.old.pool ≡ pool.now }
     requires third { third.old ≡ None }
-    requires held { IsPart (number_at place.old) worker.old.book.account.held }
+    requires held { IsPart (buffer_number place.old) worker.old.book.account.held }
     requires charged { IsPart (items_at place.old) worker.old.book.account.charge }
     requires sized { IsOfSize worker.old.book.setup.size place.old }
     requires busy { IsBusy worker.old.book.account }
     ensures pool { worker.new.pool ≡ worker.old.pool }
-    ensures renews { RenewTells true Empty worker.old.book.setup.size place.old worker.old.book place.new third.new
+    ensures renews { RenewAnswers true Empty worker.old.book.setup.size place.old worker.old.book place.new third.new
         worker.new.book result }
 {
     let Some(mut upper) = pop_one(rt, pool, worker, Which::Empty)? else {
@@ -182,7 +182,7 @@ pub(crate) fn halve<R: Wait, A: Allocator>(
     Ok(true)
 }
 
-/// Renews a place whose buffer has items, as [`renew`] does.
+/// Renews a place whose buffer has items, as [`renew`] does, and does nothing where it has none.
 pub(crate) fn publish_at<R: Wait, A: Allocator>(
     rt: &R,
     pool: &Pool<A>,
@@ -192,7 +192,7 @@ pub(crate) fn publish_at<R: Wait, A: Allocator>(
 ) -> Result<(), Stop>
     requires pool { worker.old.pool ≡ pool.now }
     requires third { third.old ≡ None }
-    requires held { IsPart (number_at place.old) worker.old.book.account.held }
+    requires held { IsPart (buffer_number place.old) worker.old.book.account.held }
     requires charged { IsPart (items_at place.old) worker.old.book.account.charge }
     requires sized { IsOfSize worker.old.book.setup.size place.old }
     requires busy { IsBusy worker.old.book.account }

@@ -9,7 +9,8 @@ use buffer_pool::{Held, Pool, Popped, Which, Worker};
 use std::alloc::Allocator;
 use std::sync::Wait;
 
-/// Pops a buffer. `None` where the stack was seen empty.
+/// Pops a buffer. `None` where the stack was seen empty. To `Pool::pop` it adds that a last tag is an error, so that
+/// `?` ends a call there.
 pub(crate) fn pop_one<R: Wait, A: Allocator>(
     rt: &R,
     pool: &Pool<A>,

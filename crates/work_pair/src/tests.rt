@@ -2,5 +2,6 @@
 
 mod hand;
 mod memory;
+mod stopped;
 mod threads;
 mod vectors;

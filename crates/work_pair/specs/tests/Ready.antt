@@ -3,7 +3,7 @@ use Rattle.std.specs.Prelude.{◌≡◌, ℕ, List, []}
 use Rattle.std.specs.List.{range_with_len}
 use Rattle.atomic_table.specs.Seated.{TableId}
 use Rattle.buffer_pool.specs.Calls.{Holder}
-use Rattle.work_pair.specs.Places.{Places, IsOpen, IsBacked}
+use Rattle.work_pair.specs.PairState.{PairState, IsOpen, IsBacked}
 
 -- the numbers below n
 unfoldable pub numbers : ℕ → List ℕ
@@ -16,7 +16,7 @@ pub record IsWorker (n : ℕ) (pool : TableId) (w : Holder) : Type 0 where
   pub idle : w.book.account.idle ≡ 0
 
 -- and with a pair that it backs
-pub record IsReady (n : ℕ) (pool : TableId) (w : Holder) (p : Places) : Type 0 where
+pub record IsReady (n : ℕ) (pool : TableId) (w : Holder) (p : PairState) : Type 0 where
   pub worker : IsWorker n pool w
   pub going : IsOpen p
   pub backed : IsBacked p [] w.book

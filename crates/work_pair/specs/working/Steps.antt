@@ -10,13 +10,14 @@ use Rattle.work_pair.specs.Deals.{FillsNext, Gives, HasMore, lower_part, upper_h
 use Rattle.work_pair.specs.Moves.{Move, Took, Gave, FoundNone, Ended, Moved, Moves, popped_items, popped_numbers}
 use Rattle.work_pair.specs.Moves.{pushed_items, pushed_numbers, AreFilled, HasPushOnFull, HasPopFromFull, EndAtLastTag}
 use Rattle.work_pair.specs.Moves.{WasSeenEmpty}
-use Rattle.work_pair.specs.Places.{Places, items_at, number_at, items_of, numbers_of, no_places, IsOfSize, AreOfSize}
-use Rattle.work_pair.specs.Places.{AreAlike, HasRoom}
+use Rattle.work_pair.specs.PairState.{PairState, items_at, buffer_number, pair_items, numbers_of, empty_pair, IsOfSize}
+use Rattle.work_pair.specs.PairState.{AreOfSize}
+use Rattle.work_pair.specs.PairState.{AreAlike, HasRoom}
 use Rattle.work_pair.specs.declared.stop.Stop.{Stop}
 use Rattle.work_pair.specs.declared.stop.Stop.TheVariants.{TagSpent, OutOfMemory}
 
 -- a pair with these three places
-abbrev pub places : Option HeldBuffer → Option HeldBuffer → Option HeldBuffer → Places
+abbrev pub places : Option HeldBuffer → Option HeldBuffer → Option HeldBuffer → PairState
 places first second third =
     record { first = first; second = second; third = third; spill = []; stopped = false; starved = false }
 
@@ -58,12 +59,12 @@ ClearsAt old before new after (Err TagSpent) = (new ≡ old) × ((q : Which) × 
 ClearsAt old before new after (Err OutOfMemory) = ⊥
 
 -- a pair changed without its worker: objects were put and got, and the buffers are the same
-pub record IsLocal (old new : Places) (put got : List ℕ) : Type 0 where
-  pub items : (o : ℕ) → times o (items_of new) + times o got ≡ times o (items_of old) + times o put
+pub record IsLocal (old new : PairState) (put got : List ℕ) : Type 0 where
+  pub items : (o : ℕ) → times o (pair_items new) + times o got ≡ times o (pair_items old) + times o put
   pub buffers : (i : ℕ) → times i (numbers_of new) ≡ times i (numbers_of old)
   pub sized : (size : ℕ) → AreOfSize size old → AreOfSize size new
 
-abbrev pub Takes : Places → Places → Option ℕ → Type 0
+abbrev pub Takes : PairState → PairState → Option ℕ → Type 0
 Takes old new (Some object) = IsLocal old new [] (object ∷ []) × (new.third ≡ old.third)
 Takes old new None = IsLocal old new [] [] × (new.third ≡ old.third) × (items_at new.first ≡ [])
     × (items_at new.second ≡ []) × (items_at old.first ≡ []) × (items_at old.second ≡ [])
@@ -75,8 +76,8 @@ pub record Renews (size : ℕ) (old : Option HeldBuffer) (before : Book) (new th
   pub books : Moves before moves after
   pub items : (o : ℕ) → times o (items_at new) + times o (items_at third) + times o (pushed_items moves)
       ≡ times o (items_at old) + times o (popped_items moves)
-  pub buffers : (i : ℕ) → times i (number_at new) + times i (number_at third) + times i (pushed_numbers moves)
-      ≡ times i (number_at old) + times i (popped_numbers moves)
+  pub buffers : (i : ℕ) → times i (buffer_number new) + times i (buffer_number third) + times i (pushed_numbers moves)
+      ≡ times i (buffer_number old) + times i (popped_numbers moves)
   pub filled : AreFilled moves
   pub sized : IsOfSize size new
   pub left_sized : IsOfSize size third
@@ -107,16 +108,16 @@ Replaces half q old moves new =
     (h : HeldBuffer) × (moves ≡ Took q h ∷ shelving_of (pushed_part half old)) × (new ≡ Some (next_of half old h))
     × (q ≡ Empty → h.items ≡ [])
 
-abbrev pub RenewTells : Bool → Which → ℕ → Option HeldBuffer → Book → Option HeldBuffer → Option HeldBuffer → Book
+abbrev pub RenewAnswers : Bool → Which → ℕ → Option HeldBuffer → Book → Option HeldBuffer → Option HeldBuffer → Book
     → Result Bool Stop → Type 0
-RenewTells half q size old before new third after (Ok true) = (r : Renews size old before new third after)
+RenewAnswers half q size old before new third after (Ok true) = (r : Renews size old before new third after)
     × (third ≡ None) × ((items_at old ≢ []) → HasPushOnFull r.moves) × (HasPopFromFull r.moves → IsFull q)
     × Replaces half q old r.moves new
-RenewTells half q size old before new third after (Ok false) = (r : Renews size old before new third after)
+RenewAnswers half q size old before new third after (Ok false) = (r : Renews size old before new third after)
     × (third ≡ None) × (new ≡ old) × WasSeenEmpty Empty before after × (r.moves ≡ FoundNone Empty ∷ [])
-RenewTells half q size old before new third after (Err TagSpent) = (r : Renews size old before new third after)
+RenewAnswers half q size old before new third after (Err TagSpent) = (r : Renews size old before new third after)
     × EndAtLastTag r.moves × (HasPopFromFull r.moves → IsFull q)
-RenewTells half q size old before new third after (Err OutOfMemory) = ⊥
+RenewAnswers half q size old before new third after (Err OutOfMemory) = ⊥
 
 -- a place whose buffer has items was renewed
 abbrev pub PublishesAt : ℕ → Option HeldBuffer → Book → Option HeldBuffer → Option HeldBuffer → Book
@@ -128,64 +129,64 @@ PublishesAt size old before new third after (Err TagSpent) = (r : Renews size ol
 PublishesAt size old before new third after (Err OutOfMemory) = ⊥
 
 -- what was done with all three places
-pub record Trades (old : Places) (before : Book) (put got : List ℕ) (new : Places) (after : Book) : Type 0 where
+pub record Trades (old : PairState) (before : Book) (put got : List ℕ) (new : PairState) (after : Book) : Type 0 where
   pub moves : List Move
   pub books : Moves before moves after
-  pub items : (o : ℕ) → times o (items_of new) + times o got + times o (pushed_items moves)
-      ≡ times o (items_of old) + times o put + times o (popped_items moves)
+  pub items : (o : ℕ) → times o (pair_items new) + times o got + times o (pushed_items moves)
+      ≡ times o (pair_items old) + times o put + times o (popped_items moves)
   pub buffers : (i : ℕ) → times i (numbers_of new) + times i (pushed_numbers moves)
       ≡ times i (numbers_of old) + times i (popped_numbers moves)
   pub filled : AreFilled moves
   pub sized : AreOfSize before.setup.size new
 
 -- a call did nothing but look for an empty buffer, and found none
-abbrev pub FindsNone : Places → Book → Places → Book → Type 0
+abbrev pub FindsNone : PairState → Book → PairState → Book → Type 0
 FindsNone old before new after = (t : Trades old before [] [] new after) × (new.third ≡ None)
     × (t.moves ≡ FoundNone Empty ∷ []) × AreAlike old new
 
 -- a call was stopped by a last tag
-abbrev pub Ends : Places → Book → Places → Book → Stop → Type 0
+abbrev pub Ends : PairState → Book → PairState → Book → Stop → Type 0
 Ends old before new after TagSpent = (t : Trades old before [] [] new after) × EndAtLastTag t.moves
 Ends old before new after OutOfMemory = ⊥
 
 -- and nothing was popped from full
-abbrev pub EndsOut : Places → Book → Places → Book → Stop → Type 0
+abbrev pub EndsOut : PairState → Book → PairState → Book → Stop → Type 0
 EndsOut old before new after TagSpent = (t : Trades old before [] [] new after) × EndAtLastTag t.moves
     × (HasPopFromFull t.moves → ⊥)
 EndsOut old before new after OutOfMemory = ⊥
 
-abbrev pub PutTells : ℕ → Places → Book → Places → Book → Result Bool Stop → Type 0
-PutTells object old before new after (Ok true) = (t : Trades old before (object ∷ []) [] new after)
+abbrev pub PutAnswers : ℕ → PairState → Book → PairState → Book → Result Bool Stop → Type 0
+PutAnswers object old before new after (Ok true) = (t : Trades old before (object ∷ []) [] new after)
     × (new.third ≡ None) × (HasPopFromFull t.moves → ⊥)
     × ((HasRoom old × (t.moves ≡ [])) ⊎ FillsNext old object t.moves new)
-PutTells object old before new after (Ok false) = FindsNone old before new after
-PutTells object old before new after (Err stop) = EndsOut old before new after stop
+PutAnswers object old before new after (Ok false) = FindsNone old before new after
+PutAnswers object old before new after (Err stop) = EndsOut old before new after stop
 
-abbrev pub GetTells : Places → Book → Places → Book → Result (Option ℕ) Stop → Type 0
-GetTells old before new after (Ok (Some object)) = Trades old before [] (object ∷ []) new after × (new.third ≡ None)
-GetTells old before new after (Ok None) =
-    Trades old before [] [] new after × (new.third ≡ None) × (items_of new ≡ []) × WasSeenEmpty Full before after
+abbrev pub GetAnswers : PairState → Book → PairState → Book → Result (Option ℕ) Stop → Type 0
+GetAnswers old before new after (Ok (Some object)) = Trades old before [] (object ∷ []) new after × (new.third ≡ None)
+GetAnswers old before new after (Ok None) =
+    Trades old before [] [] new after × (new.third ≡ None) × (pair_items new ≡ []) × WasSeenEmpty Full before after
     × (after.account.open_push ≡ false) × (after.account.found ≡ true)
-GetTells old before new after (Err stop) = Ends old before new after stop
+GetAnswers old before new after (Err stop) = Ends old before new after stop
 
-abbrev pub BalanceTells : Places → Book → Places → Book → Result Unit Stop → Type 0
-BalanceTells old before new after (Ok done) =
+abbrev pub BalanceAnswers : PairState → Book → PairState → Book → Result Unit Stop → Type 0
+BalanceAnswers old before new after (Ok done) =
     (t : Trades old before [] [] new after) × (new.third ≡ None) × (HasMore old → (t.moves
     ≡ FoundNone Empty ∷ []) ⊎ HasPushOnFull t.moves) × (HasPopFromFull t.moves → ⊥) × Gives old t.moves new
-BalanceTells old before new after (Err stop) = EndsOut old before new after stop
+BalanceAnswers old before new after (Err stop) = EndsOut old before new after stop
 
-abbrev pub PublishTells : Places → Book → Places → Book → Result Unit Stop → Type 0
-PublishTells old before new after (Ok done) = (t : Trades old before [] [] new after) × (new.third ≡ None)
-    × (WasSeenEmpty Empty before after ⊎ (items_of new ≡ [])) × (HasPopFromFull t.moves → ⊥)
-PublishTells old before new after (Err stop) = EndsOut old before new after stop
+abbrev pub PublishAnswers : PairState → Book → PairState → Book → Result Unit Stop → Type 0
+PublishAnswers old before new after (Ok done) = (t : Trades old before [] [] new after) × (new.third ≡ None)
+    × (WasSeenEmpty Empty before after ⊎ (pair_items new ≡ [])) × (HasPopFromFull t.moves → ⊥)
+PublishAnswers old before new after (Err stop) = EndsOut old before new after stop
 
 -- buffers were put back, and these are left
-pub record Clears (old : Places) (before : Book) (new : Places) (after : Book) : Type 0 where
+pub record Clears (old : PairState) (before : Book) (new : PairState) (after : Book) : Type 0 where
   pub trades : Trades old before [] [] new after
-  pub quiet : items_of old ≡ [] → HasPushOnFull trades.moves → ⊥
+  pub quiet : pair_items old ≡ [] → HasPushOnFull trades.moves → ⊥
   pub out : HasPopFromFull trades.moves → ⊥
 
-abbrev pub ClearTells : Places → Book → Places → Book → Result Unit Stop → Type 0
-ClearTells old before new after (Ok done) = Clears old before no_places after
+abbrev pub ClearTells : PairState → Book → PairState → Book → Result Unit Stop → Type 0
+ClearTells old before new after (Ok done) = Clears old before empty_pair after
 ClearTells old before new after (Err TagSpent) = (c : Clears old before new after) × EndAtLastTag c.trades.moves
 ClearTells old before new after (Err OutOfMemory) = ⊥

@@ -1,5 +1,6 @@
+-- A place without objects stays as it is. Any other is renewed: it is bare then, or no empty buffer was found.
 use Rattle.std.proofs.Common.{◌≤◌, length, arith}
-use Rattle.work_pair.specs.Places.{items_at}
+use Rattle.work_pair.specs.PairState.{items_at}
 use Rattle.work_pair.proofs.Renewing.{publish_nothing, publish_renewed}
 use Rattle.work_pair.proofs.Spilling.{none_in}
 use Rattle.work_pair.proofs.place.publish_at.Goals as goal
@@ -9,10 +10,12 @@ returns-then-len_at-eq0-clause-publishes g c =
     let place = c.args.place.now in
     let b = c.args.worker.now.book in
     let none : length (items_at place) ≤ 0 = omega (arith, c.if-len_at-eq0.true, c.len_at.ensures) in
-    publish_nothing b.setup.size place b c.args.third.now c.requires.sized c.requires.third (none_in (items_at place) none)
+    publish_nothing b.setup.size place b c.args.third.now c.requires.sized c.requires.third
+    (none_in (items_at place) none)
 
 pub returns-in-Ok-clause-publishes : goal.returns-in-Ok-clause-publishes
 returns-in-Ok-clause-publishes g c =
     let b = c.args.worker.now.book in
     let n = c.renew.new in
-    publish_renewed b.setup.size c.args.place.now b n.place n.third n.worker.book c.in-Ok.field-0 c.in-Ok.ensures.renews c.in-Ok.ensures.bare
+    publish_renewed b.setup.size c.args.place.now b n.place n.third n.worker.book c.in-Ok.field-0
+    c.in-Ok.ensures.renews c.in-Ok.ensures.bare

@@ -1,5 +1,7 @@
-use Rattle.std.proofs.Common.{[], None}
+-- Place after place: what was cleared asks nothing more of the book, which still backs the places to come.
+use Rattle.std.proofs.Common.{[], None, ◌∙◌}
 use Rattle.std.proofs.lemmas.Result.{err_from_is_err_and}
+use Rattle.work_pair.specs.working.Buffers.{places_of}
 use Rattle.work_pair.specs.working.Steps.{places}
 use Rattle.work_pair.proofs.Clearing.{backed_then, first_busy, first_cleared, first_stuck, second_busy, second_cleared}
 use Rattle.work_pair.proofs.Clearing.{second_stuck, third_busy, third_told}
@@ -9,83 +11,83 @@ use Rattle.work_pair.proofs.buffers.Buffers.clear.Goals as goal
 pub clear_at-requires-clause-charged : goal.clear_at-requires-clause-charged
 clear_at-requires-clause-charged g c =
     let m = c.args.self.now in
-    first_charged (places m.first m.second m.third) [] c.args.worker.now.book c.requires.backed
+    first_charged (places_of m) [] c.args.worker.now.book c.requires.backed
 
 pub returns-in_err-clear_at-clause-tells : goal.returns-in_err-clear_at-clause-tells
 returns-in_err-clear_at-clause-tells g c =
     let m = c.args.self.now in
     let p = err_from_is_err_and c.from_residual.result c.from_residual.ensures.1 in
     rw (p.1, p.2)
-    (first_stuck m.first m.second m.third c.args.worker.now.book c.requires.backed.sized c.clear_at.new.worker.book c.clear_at.new.place c.in_err-clear_at.field-0.0 c.in_err-clear_at.ensures.clears)
+    (first_stuck m.first m.second m.third c.args.worker.now.book c.requires.backed.sized c.clear_at.new.worker.book
+    c.clear_at.new.place c.in_err-clear_at.field-0.0 c.in_err-clear_at.ensures.clears)
 
-pub clear_at-requires-2-clause-held : goal.clear_at-requires-2-clause-held
-clear_at-requires-2-clause-held g c = second_held (places None c.args.self.now.second c.args.self.now.third) [] c.clear_at.new.worker.book (backed_then c.args.self.now.first c.args.self.now.second c.args.self.now.third c.args.worker.now.book c.requires.backed.sized c.clear_at.new.worker.book (places None c.args.self.now.second c.args.self.now.third) c.requires.backed
-    (first_cleared c.args.self.now.first c.args.self.now.second c.args.self.now.third c.args.worker.now.book c.requires.backed.sized c.clear_at.new.worker.book c.clear_at.new.place c.in_ok-clear_at.field-0 c.in_ok-clear_at.ensures.clears))
-
-pub clear_at-requires-2-clause-charged : goal.clear_at-requires-2-clause-charged
-clear_at-requires-2-clause-charged g c = second_charged (places None c.args.self.now.second c.args.self.now.third) [] c.clear_at.new.worker.book (backed_then c.args.self.now.first c.args.self.now.second c.args.self.now.third c.args.worker.now.book c.requires.backed.sized c.clear_at.new.worker.book (places None c.args.self.now.second c.args.self.now.third) c.requires.backed
-    (first_cleared c.args.self.now.first c.args.self.now.second c.args.self.now.third c.args.worker.now.book c.requires.backed.sized c.clear_at.new.worker.book c.clear_at.new.place c.in_ok-clear_at.field-0 c.in_ok-clear_at.ensures.clears))
-
-pub clear_at-requires-2-clause-sized : goal.clear_at-requires-2-clause-sized
-clear_at-requires-2-clause-sized g c = (backed_then c.args.self.now.first c.args.self.now.second c.args.self.now.third c.args.worker.now.book c.requires.backed.sized c.clear_at.new.worker.book (places None c.args.self.now.second c.args.self.now.third) c.requires.backed
-    (first_cleared c.args.self.now.first c.args.self.now.second c.args.self.now.third c.args.worker.now.book c.requires.backed.sized c.clear_at.new.worker.book c.clear_at.new.place c.in_ok-clear_at.field-0 c.in_ok-clear_at.ensures.clears)).sized.second
+pub clear_at-requires-2 : goal.clear_at-requires-2
+clear_at-requires-2 g c =
+    let m = c.args.self.now in
+    let b = c.args.worker.now.book in
+    let mid = c.clear_at.new.worker.book in
+    let sized = c.requires.backed.sized in
+    let left = places None m.second m.third in
+    let once = first_cleared m.first m.second m.third b sized mid c.clear_at.new.place c.in_ok-clear_at.field-0
+    c.in_ok-clear_at.ensures.clears in
+    let backed = backed_then m.first m.second m.third b sized mid left c.requires.backed once in
+    record {
+      pool = c.clear_at.ensures.pool ∙ c.requires.pool;
+      held = second_held left [] mid backed;
+      charged = second_charged left [] mid backed;
+      sized = backed.sized.second;
+      busy = second_busy m.first m.second m.third b c.requires.busy left mid once;
+    }
 
 pub returns-in_err-clear_at-2-clause-tells : goal.returns-in_err-clear_at-2-clause-tells
 returns-in_err-clear_at-2-clause-tells g c =
     let m = c.args.self.now in
     let p = err_from_is_err_and c.from_residual-in_err-clear_at-2.result c.from_residual-in_err-clear_at-2.ensures.1 in
     rw (p.1, p.2)
-    (second_stuck m.first m.second m.third c.args.worker.now.book c.requires.backed.sized c.clear_at.new.worker.book c.clear_at-2.new.worker.book c.clear_at.new.place c.clear_at-2.new.place c.in_err-clear_at-2.field-0.0 c.in_ok-clear_at.ensures.clears.0
-    (first_cleared m.first m.second m.third c.args.worker.now.book c.requires.backed.sized c.clear_at.new.worker.book c.clear_at.new.place c.in_ok-clear_at.field-0 c.in_ok-clear_at.ensures.clears) c.in_err-clear_at-2.ensures.clears)
+    (second_stuck m.first m.second m.third c.args.worker.now.book c.requires.backed.sized c.clear_at.new.worker.book
+    c.clear_at-2.new.worker.book c.clear_at.new.place c.clear_at-2.new.place c.in_err-clear_at-2.field-0.0
+    c.in_ok-clear_at.ensures.clears.0
+    (first_cleared m.first m.second m.third c.args.worker.now.book c.requires.backed.sized c.clear_at.new.worker.book
+    c.clear_at.new.place c.in_ok-clear_at.field-0 c.in_ok-clear_at.ensures.clears)
+    c.in_err-clear_at-2.ensures.clears)
 
-pub clear_at-requires-3-clause-held : goal.clear_at-requires-3-clause-held
-clear_at-requires-3-clause-held g c = third_held (places None None c.args.self.now.third) [] c.clear_at-2.new.worker.book (backed_then c.args.self.now.first c.args.self.now.second c.args.self.now.third c.args.worker.now.book c.requires.backed.sized c.clear_at-2.new.worker.book (places None None c.args.self.now.third) c.requires.backed
-    (second_cleared c.args.self.now.first c.args.self.now.second c.args.self.now.third c.args.worker.now.book c.requires.backed.sized c.clear_at.new.worker.book c.clear_at-2.new.worker.book c.clear_at-2.new.place c.in_ok-clear_at-2.field-0
-    (first_cleared c.args.self.now.first c.args.self.now.second c.args.self.now.third c.args.worker.now.book c.requires.backed.sized c.clear_at.new.worker.book c.clear_at.new.place c.in_ok-clear_at.field-0 c.in_ok-clear_at.ensures.clears) c.in_ok-clear_at-2.ensures.clears))
-
-pub clear_at-requires-3-clause-charged : goal.clear_at-requires-3-clause-charged
-clear_at-requires-3-clause-charged g c = third_charged (places None None c.args.self.now.third) [] c.clear_at-2.new.worker.book (backed_then c.args.self.now.first c.args.self.now.second c.args.self.now.third c.args.worker.now.book c.requires.backed.sized c.clear_at-2.new.worker.book (places None None c.args.self.now.third) c.requires.backed
-    (second_cleared c.args.self.now.first c.args.self.now.second c.args.self.now.third c.args.worker.now.book c.requires.backed.sized c.clear_at.new.worker.book c.clear_at-2.new.worker.book c.clear_at-2.new.place c.in_ok-clear_at-2.field-0
-    (first_cleared c.args.self.now.first c.args.self.now.second c.args.self.now.third c.args.worker.now.book c.requires.backed.sized c.clear_at.new.worker.book c.clear_at.new.place c.in_ok-clear_at.field-0 c.in_ok-clear_at.ensures.clears) c.in_ok-clear_at-2.ensures.clears))
-
-pub clear_at-requires-3-clause-sized : goal.clear_at-requires-3-clause-sized
-clear_at-requires-3-clause-sized g c = (backed_then c.args.self.now.first c.args.self.now.second c.args.self.now.third c.args.worker.now.book c.requires.backed.sized c.clear_at-2.new.worker.book (places None None c.args.self.now.third) c.requires.backed
-    (second_cleared c.args.self.now.first c.args.self.now.second c.args.self.now.third c.args.worker.now.book c.requires.backed.sized c.clear_at.new.worker.book c.clear_at-2.new.worker.book c.clear_at-2.new.place c.in_ok-clear_at-2.field-0
-    (first_cleared c.args.self.now.first c.args.self.now.second c.args.self.now.third c.args.worker.now.book c.requires.backed.sized c.clear_at.new.worker.book c.clear_at.new.place c.in_ok-clear_at.field-0 c.in_ok-clear_at.ensures.clears) c.in_ok-clear_at-2.ensures.clears)).sized.third
+pub clear_at-requires-3 : goal.clear_at-requires-3
+clear_at-requires-3 g c =
+    let m = c.args.self.now in
+    let b = c.args.worker.now.book in
+    let mid = c.clear_at.new.worker.book in
+    let last = c.clear_at-2.new.worker.book in
+    let sized = c.requires.backed.sized in
+    let left = places None None m.third in
+    let once = first_cleared m.first m.second m.third b sized mid c.clear_at.new.place c.in_ok-clear_at.field-0
+    c.in_ok-clear_at.ensures.clears in
+    let twice = second_cleared m.first m.second m.third b sized mid last c.clear_at-2.new.place
+    c.in_ok-clear_at-2.field-0 once c.in_ok-clear_at-2.ensures.clears in
+    let backed = backed_then m.first m.second m.third b sized last left c.requires.backed twice in
+    record {
+      pool = c.clear_at-2.ensures.pool ∙ c.clear_at.ensures.pool ∙ c.requires.pool;
+      held = third_held left [] last backed;
+      charged = third_charged left [] last backed;
+      sized = backed.sized.third;
+      busy = third_busy m.first m.second m.third b c.requires.busy left last twice;
+    }
 
 pub clear_at-requires-clause-busy : goal.clear_at-requires-clause-busy
 clear_at-requires-clause-busy g c =
     let m = c.args.self.now in
     first_busy m.first m.second m.third c.args.worker.now.book c.requires.busy
 
-pub clear_at-requires-2-clause-busy : goal.clear_at-requires-2-clause-busy
-clear_at-requires-2-clause-busy g c =
-    let m = c.args.self.now in
-    let b = c.args.worker.now.book in
-    let mid = c.clear_at.new.worker.book in
-    let sized = c.requires.backed.sized in
-    let once = first_cleared m.first m.second m.third b sized mid c.clear_at.new.place c.in_ok-clear_at.field-0
-    c.in_ok-clear_at.ensures.clears in
-    second_busy m.first m.second m.third b c.requires.busy (places None m.second m.third) mid once
-
-pub clear_at-requires-3-clause-busy : goal.clear_at-requires-3-clause-busy
-clear_at-requires-3-clause-busy g c =
-    let m = c.args.self.now in
-    let b = c.args.worker.now.book in
-    let mid = c.clear_at.new.worker.book in
-    let last = c.clear_at-2.new.worker.book in
-    let sized = c.requires.backed.sized in
-    let once = first_cleared m.first m.second m.third b sized mid c.clear_at.new.place c.in_ok-clear_at.field-0
-    c.in_ok-clear_at.ensures.clears in
-    let twice = second_cleared m.first m.second m.third b sized mid last c.clear_at-2.new.place
-    c.in_ok-clear_at-2.field-0 once c.in_ok-clear_at-2.ensures.clears in
-    third_busy m.first m.second m.third b c.requires.busy (places None None m.third) last twice
-
 pub returns-clause-tells : goal.returns-clause-tells
 returns-clause-tells g c =
     let m = c.args.self.now in
     let first =
-    first_cleared m.first m.second m.third c.args.worker.now.book c.requires.backed.sized c.clear_at.new.worker.book c.clear_at.new.place c.in_ok-clear_at.field-0 c.in_ok-clear_at.ensures.clears in
+    first_cleared m.first m.second m.third c.args.worker.now.book c.requires.backed.sized c.clear_at.new.worker.book
+    c.clear_at.new.place c.in_ok-clear_at.field-0 c.in_ok-clear_at.ensures.clears in
     let second =
-    second_cleared m.first m.second m.third c.args.worker.now.book c.requires.backed.sized c.clear_at.new.worker.book c.clear_at-2.new.worker.book c.clear_at-2.new.place c.in_ok-clear_at-2.field-0 first c.in_ok-clear_at-2.ensures.clears in
-    third_told m.first m.second m.third c.args.worker.now.book c.requires.backed.sized c.clear_at-2.new.worker.book c.clear_at-3.new.worker.book c.clear_at.new.place c.clear_at-2.new.place c.clear_at-3.new.place c.clear_at-3.result c.in_ok-clear_at.ensures.clears.0 c.in_ok-clear_at-2.ensures.clears.0 second c.clear_at-3.ensures.clears
+    second_cleared m.first m.second m.third c.args.worker.now.book c.requires.backed.sized c.clear_at.new.worker.book
+    c.clear_at-2.new.worker.book c.clear_at-2.new.place c.in_ok-clear_at-2.field-0 first
+    c.in_ok-clear_at-2.ensures.clears in
+    third_told m.first m.second m.third c.args.worker.now.book c.requires.backed.sized c.clear_at-2.new.worker.book
+    c.clear_at-3.new.worker.book c.clear_at.new.place c.clear_at-2.new.place c.clear_at-3.new.place
+    c.clear_at-3.result c.in_ok-clear_at.ensures.clears.0 c.in_ok-clear_at-2.ensures.clears.0 second
+    c.clear_at-3.ensures.clears

@@ -1,113 +1,125 @@
-use Rattle.std.proofs.Common.{[], Ok, Option, refl, subst, ◌∙◌, arith}
+-- A turn that finds no object puts a buffer of the full stack into a bare pair: one more trade behind the others.
+use Rattle.std.proofs.Common.{◌≡◌, [], Ok, Option, Some, refl, subst, ◌∙◌, arith}
 use Rattle.std.proofs.lemmas.Result.{err_from_is_err_and}
 use Rattle.mark_core.specs.declared.which.Which.TheVariants.{Full}
 use Rattle.buffer_pool.specs.Calls.{HeldBuffer}
-use Rattle.work_pair.specs.working.Steps.{PopsOne, places}
+use Rattle.work_pair.specs.PairState.{pair_items}
+use Rattle.work_pair.specs.working.Buffers.{places_of}
+use Rattle.work_pair.specs.working.Steps.{PopsOne}
 use Rattle.work_pair.proofs.Getting.{all_taken, busy_here, charged_here, got, held_here, none_got, now_busy}
 use Rattle.work_pair.proofs.Getting.{of_size_here, pop_stopped, put_stopped, turned}
 use Rattle.work_pair.proofs.Trading.{still}
+use Rattle.work_pair.proofs.buffers.Buffers.get.Given as given
+use Rattle.work_pair.proofs.buffers.Buffers.get.Goals.{In-Some-2, In_default}
 use Rattle.work_pair.proofs.buffers.Buffers.get.Goals as goal
 
 pub loop-init : goal.loop-init
 loop-init g c =
-    let m = c.args.self.now in
-    let p = places m.first m.second m.third in
+    let p = places_of c.args.self.now in
     record {
       pool = refl;
       third = c.requires.third;
-      trades = still p c.args.worker.now.book [] [] p (record { items = λ o. omega arith; buffers = λ i. refl; sized = λ size of. of }) c.requires.backed.sized;
+      trades = still p c.args.worker.now.book [] [] p
+          (record { items = λ o. omega arith; buffers = λ i. refl; sized = λ size of. of }) c.requires.backed.sized;
       own = λ some. (refl, some);
     }
 
+-- a look that found no object left none, and the buffer that was popped is the next one
+nothing_left : (g : given.Over) (c : In_default g) → pair_items (places_of c.loop.self) ≡ []
+nothing_left g c = all_taken c.loop.self c.take.new.self c.in_default.ensures c.loop.invariant.third
+
+popped :
+    (g : given.Over) (c : In-Some-2 g)
+    → PopsOne Full c.loop.worker.book c.pop_one.new.worker.book (Ok (Some c.in-Some-2.next))
+popped g c = subst (λ (r : Option HeldBuffer). PopsOne Full c.loop.worker.book c.pop_one.new.worker.book (Ok r))
+    c.in-Some-2.is c.in_ok-next.ensures.pops
+
 pub returns-in-Some-take-clause-tells : goal.returns-in-Some-take-clause-tells
 returns-in-Some-take-clause-tells g c =
-    got (places c.args.self.now.first c.args.self.now.second c.args.self.now.third) c.args.worker.now.book c.requires.backed c.loop.self.first c.loop.self.second c.loop.self.third c.loop.worker.book c.loop.invariant.trades c.loop.invariant.third
-    c.take.new.self.first c.take.new.self.second c.take.new.self.third c.in-Some-take.object c.in-Some-take.ensures
+    got (places_of c.args.self.now) c.args.worker.now.book c.requires.backed c.loop.self c.loop.worker.book
+    c.loop.invariant.trades c.loop.invariant.third c.take.new.self c.in-Some-take.object c.in-Some-take.ensures
 
 pub pop_one-requires-clause-busy : goal.pop_one-requires-clause-busy
 pop_one-requires-clause-busy g c =
-    let m = c.args.self.now in
-    let p = places m.first m.second m.third in
-    let l = c.loop in
-    let now = l.invariant in
-    now_busy p c.args.worker.now.book c.requires.backed l.self.first l.self.second l.self.third l.worker.book now.trades
-    now.third c.requires.busy
+    now_busy (places_of c.args.self.now) c.args.worker.now.book c.requires.backed c.loop.self c.loop.worker.book
+    c.loop.invariant.trades c.loop.invariant.third c.requires.busy
 
 pub returns-in_err-next-clause-tells : goal.returns-in_err-next-clause-tells
 returns-in_err-next-clause-tells g c =
     let p = err_from_is_err_and c.from_residual.result c.from_residual.ensures.1 in
     rw (p.1, p.2)
-    (pop_stopped (places c.args.self.now.first c.args.self.now.second c.args.self.now.third) c.args.worker.now.book c.requires.backed c.loop.self.first c.loop.self.second c.loop.self.third c.loop.worker.book c.loop.invariant.trades c.loop.invariant.third
-    c.take.new.self.first c.take.new.self.second c.take.new.self.third c.in_default.ensures c.pop_one.new.worker.book c.in_err-next.field-0.0 c.in_err-next.ensures.pops)
+    (pop_stopped (places_of c.args.self.now) c.args.worker.now.book c.requires.backed c.loop.self c.loop.worker.book
+    c.loop.invariant.trades c.loop.invariant.third c.take.new.self c.in_default.ensures c.pop_one.new.worker.book
+    c.in_err-next.field-0.0 c.in_err-next.ensures.pops)
 
 pub returns-in_default-2-clause-tells : goal.returns-in_default-2-clause-tells
 returns-in_default-2-clause-tells g c =
-    none_got (places c.args.self.now.first c.args.self.now.second c.args.self.now.third) c.args.worker.now.book c.requires.backed c.loop.self.first c.loop.self.second c.loop.self.third c.loop.worker.book c.loop.invariant.trades c.loop.invariant.third
-    c.take.new.self.first c.take.new.self.second c.take.new.self.third c.in_default.ensures c.pop_one.new.worker.book (subst (λ (r : Option HeldBuffer). PopsOne Full c.loop.worker.book c.pop_one.new.worker.book (Ok r)) c.in_default-2.is c.in_ok-next.ensures.pops)
+    none_got (places_of c.args.self.now) c.args.worker.now.book c.requires.backed c.loop.self c.loop.worker.book
+    c.loop.invariant.trades c.loop.invariant.third c.take.new.self c.in_default.ensures c.pop_one.new.worker.book
+    (subst (λ (r : Option HeldBuffer). PopsOne Full c.loop.worker.book c.pop_one.new.worker.book (Ok r))
+    c.in_default-2.is c.in_ok-next.ensures.pops)
 
 pub put_out-requires-clause-held : goal.put_out-requires-clause-held
 put_out-requires-clause-held g c =
-    held_here (places c.args.self.now.first c.args.self.now.second c.args.self.now.third) c.args.worker.now.book c.requires.backed c.loop.self.first c.loop.self.second c.loop.self.third c.loop.worker.book c.loop.invariant.trades c.loop.invariant.third
-    c.take.new.self.first c.take.new.self.second c.take.new.self.third c.in_default.ensures c.in-Some-2.next c.pop_one.new.worker.book
-    (subst (λ (r : Option HeldBuffer). PopsOne Full c.loop.worker.book c.pop_one.new.worker.book (Ok r)) c.in-Some-2.is c.in_ok-next.ensures.pops)
+    held_here (places_of c.args.self.now) c.args.worker.now.book c.requires.backed c.loop.self c.loop.worker.book
+    c.loop.invariant.trades c.loop.invariant.third c.take.new.self c.in_default.ensures c.in-Some-2.next
+    c.pop_one.new.worker.book (popped g (goal.at.put_out-requires-clause-held g c).In-Some-2)
 
 pub put_out-requires-clause-charged : goal.put_out-requires-clause-charged
 put_out-requires-clause-charged g c =
-    charged_here (places c.args.self.now.first c.args.self.now.second c.args.self.now.third) c.args.worker.now.book c.requires.backed c.loop.self.first c.loop.self.second c.loop.self.third c.loop.worker.book c.loop.invariant.trades c.loop.invariant.third
-    c.take.new.self.first c.take.new.self.second c.take.new.self.third c.in_default.ensures c.in-Some-2.next c.pop_one.new.worker.book
-    (subst (λ (r : Option HeldBuffer). PopsOne Full c.loop.worker.book c.pop_one.new.worker.book (Ok r)) c.in-Some-2.is c.in_ok-next.ensures.pops)
+    charged_here (places_of c.args.self.now) c.args.worker.now.book c.requires.backed c.loop.self c.loop.worker.book
+    c.loop.invariant.trades c.loop.invariant.third c.take.new.self c.in_default.ensures c.in-Some-2.next
+    c.pop_one.new.worker.book (popped g (goal.at.put_out-requires-clause-charged g c).In-Some-2)
 
 pub put_out-requires-clause-sized : goal.put_out-requires-clause-sized
 put_out-requires-clause-sized g c =
-    of_size_here (places c.args.self.now.first c.args.self.now.second c.args.self.now.third) c.args.worker.now.book c.requires.backed c.loop.self.first c.loop.self.second c.loop.self.third c.loop.worker.book c.loop.invariant.trades c.loop.invariant.third
-    c.take.new.self.first c.take.new.self.second c.take.new.self.third c.in_default.ensures c.in-Some-2.next c.pop_one.new.worker.book
-    (subst (λ (r : Option HeldBuffer). PopsOne Full c.loop.worker.book c.pop_one.new.worker.book (Ok r)) c.in-Some-2.is c.in_ok-next.ensures.pops)
+    of_size_here (places_of c.args.self.now) c.args.worker.now.book c.requires.backed c.loop.self c.loop.worker.book
+    c.loop.invariant.trades c.loop.invariant.third c.take.new.self c.in_default.ensures c.in-Some-2.next
+    c.pop_one.new.worker.book (popped g (goal.at.put_out-requires-clause-sized g c).In-Some-2)
 
 pub put_out-requires-clause-busy : goal.put_out-requires-clause-busy
 put_out-requires-clause-busy g c =
-    let m = c.args.self.now in
-    let p = places m.first m.second m.third in
-    let l = c.loop in
-    let now = l.invariant in
-    let mid = c.pop_one.new.worker.book in
-    let pops = subst (λ (r : Option HeldBuffer). PopsOne Full l.worker.book mid (Ok r)) c.in-Some-2.is
-    c.in_ok-next.ensures.pops in
-    busy_here p c.args.worker.now.book c.requires.backed l.self.first l.self.second l.self.third l.worker.book
-    now.trades now.third c.take.new.self.first c.take.new.self.second c.take.new.self.third c.in_default.ensures
-    c.in-Some-2.next mid pops c.requires.busy
+    busy_here (places_of c.args.self.now) c.args.worker.now.book c.requires.backed c.loop.self c.loop.worker.book
+    c.loop.invariant.trades c.loop.invariant.third c.take.new.self c.in_default.ensures c.in-Some-2.next
+    c.pop_one.new.worker.book (popped g (goal.at.put_out-requires-clause-busy g c).In-Some-2) c.requires.busy
 
 pub loop-preserved : goal.loop-preserved
 loop-preserved g c =
     let both =
-    turned (places c.args.self.now.first c.args.self.now.second c.args.self.now.third) c.args.worker.now.book c.requires.backed c.loop.self.first c.loop.self.second c.loop.self.third c.loop.worker.book c.loop.invariant.trades c.loop.invariant.third
-    c.take.new.self.first c.take.new.self.second c.take.new.self.third c.in_default.ensures c.in-Some-2.next c.pop_one.new.worker.book
-    (subst (λ (r : Option HeldBuffer). PopsOne Full c.loop.worker.book c.pop_one.new.worker.book (Ok r)) c.in-Some-2.is c.in_ok-next.ensures.pops) c.put_out.new.place c.put_out.new.third c.put_out.new.worker.book c.in_ok-put_out.field-0 c.in_ok-put_out.ensures.out in
+    turned (places_of c.args.self.now) c.args.worker.now.book c.requires.backed c.loop.self c.loop.worker.book
+    c.loop.invariant.trades c.loop.invariant.third c.take.new.self c.in_default.ensures c.in-Some-2.next
+    c.pop_one.new.worker.book (popped g (goal.at.loop-preserved g c).In-Some-2) c.put_out.new.place
+    c.put_out.new.third c.put_out.new.worker.book c.in_ok-put_out.field-0 c.in_ok-put_out.ensures.out in
     record {
       pool = c.put_out.ensures.pool ∙ c.pop_one.ensures.pool ∙ c.loop.invariant.pool;
       third = both.1;
       trades = both.0;
-      own = λ some. absurd ((c.loop.invariant.own some).1 (all_taken c.loop.self.first c.loop.self.second c.loop.self.third c.take.new.self.first c.take.new.self.second c.take.new.self.third c.in_default.ensures c.loop.invariant.third));
+      own = λ some. absurd ((c.loop.invariant.own some).1
+          (nothing_left g (goal.at.loop-preserved g c).In_default));
     }
 
 pub returns-in_err-put_out-clause-tells : goal.returns-in_err-put_out-clause-tells
 returns-in_err-put_out-clause-tells g c =
     let p = err_from_is_err_and c.from_residual-in_err-put_out.result c.from_residual-in_err-put_out.ensures.1 in
     rw (p.1, p.2)
-    (put_stopped (places c.args.self.now.first c.args.self.now.second c.args.self.now.third) c.args.worker.now.book c.requires.backed c.loop.self.first c.loop.self.second c.loop.self.third c.loop.worker.book c.loop.invariant.trades c.loop.invariant.third
-    c.take.new.self.first c.take.new.self.second c.take.new.self.third c.in_default.ensures c.in-Some-2.next c.pop_one.new.worker.book
-    (subst (λ (r : Option HeldBuffer). PopsOne Full c.loop.worker.book c.pop_one.new.worker.book (Ok r)) c.in-Some-2.is c.in_ok-next.ensures.pops) c.put_out.new.place c.put_out.new.third c.put_out.new.worker.book c.in_err-put_out.field-0.0 c.in_err-put_out.ensures.out)
+    (put_stopped (places_of c.args.self.now) c.args.worker.now.book c.requires.backed c.loop.self c.loop.worker.book
+    c.loop.invariant.trades c.loop.invariant.third c.take.new.self c.in_default.ensures c.in-Some-2.next
+    c.pop_one.new.worker.book (popped g (goal.at.returns-in_err-put_out-clause-tells g c).In-Some-2)
+    c.put_out.new.place c.put_out.new.third c.put_out.new.worker.book c.in_err-put_out.field-0.0
+    c.in_err-put_out.ensures.out)
 
 pub returns-in-Some-take-clause-own : goal.returns-in-Some-take-clause-own
 returns-in-Some-take-clause-own g c some = ((c.loop.invariant.own some).0, refl)
 
 pub returns-in_err-next-clause-own : goal.returns-in_err-next-clause-own
 returns-in_err-next-clause-own g c some =
-    absurd ((c.loop.invariant.own some).1 (all_taken c.loop.self.first c.loop.self.second c.loop.self.third c.take.new.self.first c.take.new.self.second c.take.new.self.third c.in_default.ensures c.loop.invariant.third))
+    absurd ((c.loop.invariant.own some).1 (nothing_left g (goal.at.returns-in_err-next-clause-own g c).In_default))
 
 pub returns-in_default-2-clause-own : goal.returns-in_default-2-clause-own
 returns-in_default-2-clause-own g c some =
-    absurd ((c.loop.invariant.own some).1 (all_taken c.loop.self.first c.loop.self.second c.loop.self.third c.take.new.self.first c.take.new.self.second c.take.new.self.third c.in_default.ensures c.loop.invariant.third))
+    absurd ((c.loop.invariant.own some).1 (nothing_left g (goal.at.returns-in_default-2-clause-own g c).In_default))
 
 pub returns-in_err-put_out-clause-own : goal.returns-in_err-put_out-clause-own
 returns-in_err-put_out-clause-own g c some =
-    absurd ((c.loop.invariant.own some).1 (all_taken c.loop.self.first c.loop.self.second c.loop.self.third c.take.new.self.first c.take.new.self.second c.take.new.self.third c.in_default.ensures c.loop.invariant.third))
+    absurd ((c.loop.invariant.own some).1
+    (nothing_left g (goal.at.returns-in_err-put_out-clause-own g c).In_default))

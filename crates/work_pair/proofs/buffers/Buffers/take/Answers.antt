@@ -1,3 +1,4 @@
+-- The object comes from the first place, or from the second once the two have changed places.
 use Rattle.std.proofs.Common.{refl, ◌∙◌}
 use Rattle.work_pair.proofs.Locals.{take_first, taken_second}
 use Rattle.work_pair.proofs.buffers.Buffers.take.Goals as goal
@@ -5,11 +6,15 @@ use Rattle.work_pair.proofs.buffers.Buffers.take.Goals as goal
 pub returns-in-Some : goal.returns-in-Some
 returns-in-Some g c =
     let m = c.args.self.now in
-    let told = c.in-Some.ensures in
-    (take_first m.first m.second m.third told.0 told.1 c.in-Some.object c.take_at.new.place told.2 told.3 told.4 told.5, refl)
+    let told = c.in-Some.ensures in (
+      take_first m.first m.second m.third told.0 told.1 c.in-Some.object c.take_at.new.place told.2 told.3 told.4
+          told.5,
+      refl,
+    )
 
 pub returns : goal.returns
 returns g c =
     let m = c.args.self.now in
     let none = c.in_default.ensures in
-    taken_second m.first m.second m.third c.swap.new.x c.swap.new.y c.take_at-2.new.place c.swap.ensures.x_after (c.swap.ensures.y_after ∙ none.1) none.0 c.take_at-2.result c.take_at-2.ensures
+    taken_second m.first m.second m.third c.swap.new.x c.swap.new.y c.take_at-2.new.place c.swap.ensures.x_after
+    (c.swap.ensures.y_after ∙ none.1) none.0 c.take_at-2.result c.take_at-2.ensures

@@ -1,8 +1,9 @@
+-- Two buffers that were popped are the pair. A single one is pushed back, and then the worker has what it had.
 use Rattle.std.proofs.Common.{Ok, None, Option, Some, [], sym, subst}
 use Rattle.std.proofs.lemmas.Result.{err_from_is_err_and}
 use Rattle.mark_core.specs.declared.which.Which.TheVariants.{Empty}
 use Rattle.buffer_pool.specs.Calls.{HeldBuffer}
-use Rattle.work_pair.specs.Places.{Places, IsNew, no_places}
+use Rattle.work_pair.specs.PairState.{PairState, IsNew, empty_pair}
 use Rattle.work_pair.specs.Deals.{DealsQuietly}
 use Rattle.work_pair.specs.working.Steps.{PopsOne, places}
 use Rattle.work_pair.proofs.Opening.{back_backed, back_busy, back_stopped, both_taken, first_missing, first_stopped}
@@ -13,15 +14,20 @@ use Rattle.work_pair.proofs.pair.Pair.open.Goals as goal
 pub returns-in_err-first-clause-spent : goal.returns-in_err-first-clause-spent
 returns-in_err-first-clause-spent g c =
     let p = err_from_is_err_and c.from_residual.result c.from_residual.ensures.1 in
-    rw (p.1, p.2) (first_stopped c.args.worker.now.book c.pop_one.new.worker.book c.in_err-first.field-0.0 c.in_err-first.ensures.pops)
+    rw (p.1, p.2) (first_stopped c.args.worker.now.book c.pop_one.new.worker.book c.in_err-first.field-0.0
+    c.in_err-first.ensures.pops)
 
 pub returns-in_default-clause-none : goal.returns-in_default-clause-none
 returns-in_default-clause-none g c =
-    first_missing c.args.worker.now.book c.pop_one.new.worker.book (subst (λ (r : Option HeldBuffer). PopsOne Empty c.args.worker.now.book c.pop_one.new.worker.book (Ok r)) c.in_default.is c.in_ok-first.ensures.pops)
+    first_missing c.args.worker.now.book c.pop_one.new.worker.book
+    (subst (λ (r : Option HeldBuffer). PopsOne Empty c.args.worker.now.book c.pop_one.new.worker.book (Ok r))
+    c.in_default.is c.in_ok-first.ensures.pops)
 
 pub returns-in_default-clause-not_found : goal.returns-in_default-clause-not_found
 returns-in_default-clause-not_found g c =
-    first_unfound c.args.worker.now.book c.pop_one.new.worker.book (subst (λ (r : Option HeldBuffer). PopsOne Empty c.args.worker.now.book c.pop_one.new.worker.book (Ok r)) c.in_default.is c.in_ok-first.ensures.pops)
+    first_unfound c.args.worker.now.book c.pop_one.new.worker.book
+    (subst (λ (r : Option HeldBuffer). PopsOne Empty c.args.worker.now.book c.pop_one.new.worker.book (Ok r))
+    c.in_default.is c.in_ok-first.ensures.pops)
 
 pub pop_one-requires-2-clause-busy : goal.pop_one-requires-2-clause-busy
 pop_one-requires-2-clause-busy g c =
@@ -34,24 +40,41 @@ pub returns-in_err-second-clause-spent : goal.returns-in_err-second-clause-spent
 returns-in_err-second-clause-spent g c =
     let p = err_from_is_err_and c.from_residual-in_err-second.result c.from_residual-in_err-second.ensures.1 in
     rw (p.1, p.2)
-    (second_stopped c.args.worker.now.book c.in-Some.first c.pop_one.new.worker.book (subst (λ (r : Option HeldBuffer). PopsOne Empty c.args.worker.now.book c.pop_one.new.worker.book (Ok r)) c.in-Some.is c.in_ok-first.ensures.pops)
+    (second_stopped c.args.worker.now.book c.in-Some.first c.pop_one.new.worker.book
+    (subst (λ (r : Option HeldBuffer). PopsOne Empty c.args.worker.now.book c.pop_one.new.worker.book (Ok r))
+    c.in-Some.is c.in_ok-first.ensures.pops)
     c.pop_one-2.new.worker.book c.in_err-second.field-0.0 c.in_err-second.ensures.pops)
 
 pub returns-in-Some-2-clause-opened : goal.returns-in-Some-2-clause-opened
 returns-in-Some-2-clause-opened g c =
     let told =
-    both_taken c.args.worker.now.book c.in-Some.first c.pop_one.new.worker.book (subst (λ (r : Option HeldBuffer). PopsOne Empty c.args.worker.now.book c.pop_one.new.worker.book (Ok r)) c.in-Some.is c.in_ok-first.ensures.pops)
-    c.in-Some-2.second c.pop_one-2.new.worker.book (subst (λ (r : Option HeldBuffer). PopsOne Empty c.pop_one.new.worker.book c.pop_one-2.new.worker.book (Ok r)) c.in-Some-2.is c.in_ok-second.ensures.pops) in
-    subst (λ (p : Places). IsNew p × DealsQuietly no_places c.args.worker.now.book p c.pop_one-2.new.worker.book) (sym c.of.ensures) told
+    both_taken c.args.worker.now.book c.in-Some.first c.pop_one.new.worker.book
+    (subst (λ (r : Option HeldBuffer). PopsOne Empty c.args.worker.now.book c.pop_one.new.worker.book (Ok r))
+    c.in-Some.is c.in_ok-first.ensures.pops)
+    c.in-Some-2.second c.pop_one-2.new.worker.book
+    (subst (λ (r : Option HeldBuffer). PopsOne Empty c.pop_one.new.worker.book c.pop_one-2.new.worker.book (Ok r))
+    c.in-Some-2.is c.in_ok-second.ensures.pops) in
+    subst (λ (p : PairState). IsNew p × DealsQuietly empty_pair c.args.worker.now.book p c.pop_one-2.new.worker.book)
+    (sym c.of.ensures) told
 
 pub clear_at-requires-clause-held : goal.clear_at-requires-clause-held
 clear_at-requires-clause-held g c =
-    first_held (places (Some c.in-Some.first) None None) [] c.pop_one-2.new.worker.book (back_backed c.args.worker.now.book c.in-Some.first c.pop_one.new.worker.book (subst (λ (r : Option HeldBuffer). PopsOne Empty c.args.worker.now.book c.pop_one.new.worker.book (Ok r)) c.in-Some.is c.in_ok-first.ensures.pops)
-    c.pop_one-2.new.worker.book (subst (λ (r : Option HeldBuffer). PopsOne Empty c.pop_one.new.worker.book c.pop_one-2.new.worker.book (Ok r)) c.in_default-2.is c.in_ok-second.ensures.pops))
+    first_held (places (Some c.in-Some.first) None None) [] c.pop_one-2.new.worker.book
+    (back_backed c.args.worker.now.book c.in-Some.first c.pop_one.new.worker.book
+    (subst (λ (r : Option HeldBuffer). PopsOne Empty c.args.worker.now.book c.pop_one.new.worker.book (Ok r))
+    c.in-Some.is c.in_ok-first.ensures.pops)
+    c.pop_one-2.new.worker.book (subst
+    (λ (r : Option HeldBuffer). PopsOne Empty c.pop_one.new.worker.book c.pop_one-2.new.worker.book (Ok r))
+    c.in_default-2.is c.in_ok-second.ensures.pops))
 
 pub clear_at-requires-clause-sized : goal.clear_at-requires-clause-sized
-clear_at-requires-clause-sized g c = (back_backed c.args.worker.now.book c.in-Some.first c.pop_one.new.worker.book (subst (λ (r : Option HeldBuffer). PopsOne Empty c.args.worker.now.book c.pop_one.new.worker.book (Ok r)) c.in-Some.is c.in_ok-first.ensures.pops)
-    c.pop_one-2.new.worker.book (subst (λ (r : Option HeldBuffer). PopsOne Empty c.pop_one.new.worker.book c.pop_one-2.new.worker.book (Ok r)) c.in_default-2.is c.in_ok-second.ensures.pops)).sized.first
+clear_at-requires-clause-sized g c =
+    (back_backed c.args.worker.now.book c.in-Some.first c.pop_one.new.worker.book
+    (subst (λ (r : Option HeldBuffer). PopsOne Empty c.args.worker.now.book c.pop_one.new.worker.book (Ok r))
+    c.in-Some.is c.in_ok-first.ensures.pops)
+    c.pop_one-2.new.worker.book (subst
+    (λ (r : Option HeldBuffer). PopsOne Empty c.pop_one.new.worker.book c.pop_one-2.new.worker.book (Ok r))
+    c.in_default-2.is c.in_ok-second.ensures.pops)).sized.first
 
 pub clear_at-requires-clause-busy : goal.clear_at-requires-clause-busy
 clear_at-requires-clause-busy g c some =
@@ -67,18 +90,30 @@ pub returns-in_err-clear_at-clause-spent : goal.returns-in_err-clear_at-clause-s
 returns-in_err-clear_at-clause-spent g c =
     let p = err_from_is_err_and c.from_residual-in_err-clear_at.result c.from_residual-in_err-clear_at.ensures.1 in
     rw (p.1, p.2)
-    (back_stopped c.args.worker.now.book c.in-Some.first c.pop_one.new.worker.book (subst (λ (r : Option HeldBuffer). PopsOne Empty c.args.worker.now.book c.pop_one.new.worker.book (Ok r)) c.in-Some.is c.in_ok-first.ensures.pops)
-    c.pop_one-2.new.worker.book (subst (λ (r : Option HeldBuffer). PopsOne Empty c.pop_one.new.worker.book c.pop_one-2.new.worker.book (Ok r)) c.in_default-2.is c.in_ok-second.ensures.pops)
+    (back_stopped c.args.worker.now.book c.in-Some.first c.pop_one.new.worker.book
+    (subst (λ (r : Option HeldBuffer). PopsOne Empty c.args.worker.now.book c.pop_one.new.worker.book (Ok r))
+    c.in-Some.is c.in_ok-first.ensures.pops)
+    c.pop_one-2.new.worker.book (subst
+    (λ (r : Option HeldBuffer). PopsOne Empty c.pop_one.new.worker.book c.pop_one-2.new.worker.book (Ok r))
+    c.in_default-2.is c.in_ok-second.ensures.pops)
     c.clear_at.new.place c.clear_at.new.worker.book c.in_err-clear_at.field-0.0 c.in_err-clear_at.ensures.clears)
 
 pub returns-clause-none : goal.returns-clause-none
 returns-clause-none g c =
-    given_back c.args.worker.now.book c.in-Some.first c.pop_one.new.worker.book (subst (λ (r : Option HeldBuffer). PopsOne Empty c.args.worker.now.book c.pop_one.new.worker.book (Ok r)) c.in-Some.is c.in_ok-first.ensures.pops)
-    c.pop_one-2.new.worker.book (subst (λ (r : Option HeldBuffer). PopsOne Empty c.pop_one.new.worker.book c.pop_one-2.new.worker.book (Ok r)) c.in_default-2.is c.in_ok-second.ensures.pops)
+    given_back c.args.worker.now.book c.in-Some.first c.pop_one.new.worker.book
+    (subst (λ (r : Option HeldBuffer). PopsOne Empty c.args.worker.now.book c.pop_one.new.worker.book (Ok r))
+    c.in-Some.is c.in_ok-first.ensures.pops)
+    c.pop_one-2.new.worker.book (subst
+    (λ (r : Option HeldBuffer). PopsOne Empty c.pop_one.new.worker.book c.pop_one-2.new.worker.book (Ok r))
+    c.in_default-2.is c.in_ok-second.ensures.pops)
     c.clear_at.new.place c.clear_at.new.worker.book c.in_ok-clear_at.field-0 c.in_ok-clear_at.ensures.clears
 
 pub returns-clause-not_found : goal.returns-clause-not_found
 returns-clause-not_found g c =
-    gave_back c.args.worker.now.book c.in-Some.first c.pop_one.new.worker.book (subst (λ (r : Option HeldBuffer). PopsOne Empty c.args.worker.now.book c.pop_one.new.worker.book (Ok r)) c.in-Some.is c.in_ok-first.ensures.pops)
-    c.pop_one-2.new.worker.book (subst (λ (r : Option HeldBuffer). PopsOne Empty c.pop_one.new.worker.book c.pop_one-2.new.worker.book (Ok r)) c.in_default-2.is c.in_ok-second.ensures.pops)
+    gave_back c.args.worker.now.book c.in-Some.first c.pop_one.new.worker.book
+    (subst (λ (r : Option HeldBuffer). PopsOne Empty c.args.worker.now.book c.pop_one.new.worker.book (Ok r))
+    c.in-Some.is c.in_ok-first.ensures.pops)
+    c.pop_one-2.new.worker.book (subst
+    (λ (r : Option HeldBuffer). PopsOne Empty c.pop_one.new.worker.book c.pop_one-2.new.worker.book (Ok r))
+    c.in_default-2.is c.in_ok-second.ensures.pops)
     c.clear_at.new.place c.clear_at.new.worker.book c.in_ok-clear_at.field-0 c.in_ok-clear_at.ensures.clears

@@ -16,10 +16,14 @@ put-requires-clause-backed g c =
 pub put-requires-clause-busy : goal.put-requires-clause-busy
 put-requires-clause-busy g c =
     let event = c.claim.ensures.event in
-    at_work 400 c.args.pool.now c.claim.new.worker (claimed_worker 400 c.args.pool.now c.args.worker.now c.claim.new.worker c.args.object event.0 c.requires.ready.worker c.claim.ensures.pool event.1)
+    at_work 400 c.args.pool.now c.claim.new.worker
+    (claimed_worker 400 c.args.pool.now c.args.worker.now c.claim.new.worker c.args.object event.0
+    c.requires.ready.worker c.claim.ensures.pool event.1)
 
 pub returns : goal.returns
 returns g c =
     let event = c.claim.ensures.event in
-    let worker = claimed_worker 400 c.args.pool.now c.args.worker.now c.claim.new.worker c.args.object event.0 c.requires.ready.worker c.claim.ensures.pool event.1 in
-    ready_after 400 c.args.pool.now c.claim.new.worker c.put.new.worker c.args.pair.now c.put.new.self (c.args.object ∷ []) [] worker c.in-Ok.ensures.pool c.in-Ok.ensures.going c.in-Ok.ensures.put.0
+    let worker = claimed_worker 400 c.args.pool.now c.args.worker.now c.claim.new.worker c.args.object event.0
+    c.requires.ready.worker c.claim.ensures.pool event.1 in
+    ready_after 400 c.args.pool.now c.claim.new.worker c.put.new.worker c.args.pair.now c.put.new.self
+    (c.args.object ∷ []) [] worker c.in-Ok.ensures.pool c.in-Ok.ensures.going c.in-Ok.ensures.put.0

@@ -15,4 +15,6 @@ put-requires-clause-backed g c =
 pub put-requires-clause-busy : goal.put-requires-clause-busy
 put-requires-clause-busy g c =
     let event = c.claim.ensures.event in
-    at_work 400 c.args.pool.now c.claim.new.worker (claimed_worker 400 c.args.pool.now c.args.worker.now c.claim.new.worker c.args.object event.0 c.requires.ready.worker c.claim.ensures.pool event.1)
+    at_work 400 c.args.pool.now c.claim.new.worker
+    (claimed_worker 400 c.args.pool.now c.args.worker.now c.claim.new.worker c.args.object event.0
+    c.requires.ready.worker c.claim.ensures.pool event.1)

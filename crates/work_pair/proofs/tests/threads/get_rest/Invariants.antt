@@ -1,3 +1,4 @@
+-- Between two objects the worker is ready, with a pair that its book backs.
 use Rattle.work_pair.specs.tests.Ready.{IsReady}
 use Rattle.work_pair.proofs.tests.threads.get_rest.Given as goal
 

@@ -1,3 +1,4 @@
+-- Whatever was put so far, the worker is ready for the next object.
 use Rattle.work_pair.specs.tests.Ready.{IsReady}
 use Rattle.work_pair.proofs.tests.threads.put_part.Given as goal
 

@@ -1,3 +1,4 @@
+-- Whatever was got so far, the worker is ready for the next object.
 use Rattle.work_pair.specs.tests.Ready.{IsReady}
 use Rattle.work_pair.proofs.tests.vectors.get_all.Given as goal
 

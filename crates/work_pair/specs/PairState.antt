@@ -5,7 +5,7 @@ use Rattle.buffer_pool.specs.Book.{Book}
 use Rattle.buffer_pool.specs.Calls.{HeldBuffer}
 
 -- a pair: its first and its second buffer, one that a stopped call left over, and its spill list
-pub record Places : Type 0 where
+pub record PairState : Type 0 where
   pub first : Option HeldBuffer
   pub second : Option HeldBuffer
   pub third : Option HeldBuffer
@@ -20,34 +20,34 @@ abbrev pub items_at : Option HeldBuffer → List ℕ
 items_at None = []
 items_at (Some h) = h.items
 
-abbrev pub number_at : Option HeldBuffer → List ℕ
-number_at None = []
-number_at (Some h) = h.index ∷ []
+abbrev pub buffer_number : Option HeldBuffer → List ℕ
+buffer_number None = []
+buffer_number (Some h) = h.index ∷ []
 
 -- the items of a pair's buffers; with those of its spill list; and the numbers of the buffers, without order
-abbrev pub buffered_items : Places → List ℕ
+abbrev pub buffered_items : PairState → List ℕ
 buffered_items p = items_at p.first ++ items_at p.second ++ items_at p.third
 
-abbrev pub items_of : Places → List ℕ
-items_of p = p.spill ++ buffered_items p
+abbrev pub pair_items : PairState → List ℕ
+pair_items p = p.spill ++ buffered_items p
 
-abbrev pub numbers_of : Places → List ℕ
-numbers_of p = number_at p.first ++ number_at p.second ++ number_at p.third
+abbrev pub numbers_of : PairState → List ℕ
+numbers_of p = buffer_number p.first ++ buffer_number p.second ++ buffer_number p.third
 
 -- a pair that holds nothing
-abbrev pub no_places : Places
-no_places = record { first = None; second = None; third = None; spill = []; stopped = false; starved = false }
+abbrev pub empty_pair : PairState
+empty_pair = record { first = None; second = None; third = None; spill = []; stopped = false; starved = false }
 
 -- the pair without its spill list
-abbrev pub without_spill : Places → Places
+abbrev pub without_spill : PairState → PairState
 without_spill p = record p { spill = [] }
 
 -- a call of the pair answered a stop
-abbrev pub HasStopped : Places → Type 0
+abbrev pub HasStopped : PairState → Type 0
 HasStopped p = (p.stopped ≡ true) ⊎ (p.starved ≡ true)
 
 -- no last tag stopped a call, and no buffer is left over
-pub record IsOpen (p : Places) : Type 0 where
+pub record IsOpen (p : PairState) : Type 0 where
   pub going : p.stopped ≡ false
   pub third : p.third ≡ None
 
@@ -57,7 +57,7 @@ HasRoomAt None = ⊥
 HasRoomAt (Some h) = length h.items < h.size
 
 -- one of a pair's two buffers does
-abbrev pub HasRoom : Places → Type 0
+abbrev pub HasRoom : PairState → Type 0
 HasRoom p = HasRoomAt p.first ⊎ HasRoomAt p.second
 
 -- how often a number stands in these lists together
@@ -71,12 +71,12 @@ abbrev pub SameNumbers : List (List ℕ) → List (List ℕ) → Type 0
 SameNumbers new old = (x : ℕ) → times_in_all x new ≡ times_in_all x old
 
 -- two pairs with the same items and the same buffers
-pub record AreAlike (one other : Places) : Type 0 where
-  pub items : SameNumbers (items_of other ∷ []) (items_of one ∷ [])
+pub record AreAlike (one other : PairState) : Type 0 where
+  pub items : SameNumbers (pair_items other ∷ []) (pair_items one ∷ [])
   pub buffers : SameNumbers (numbers_of other ∷ []) (numbers_of one ∷ [])
 
 -- a new pair: two buffers without items, and nothing spilled
-pub record IsNew (p : Places) : Type 0 where
+pub record IsNew (p : PairState) : Type 0 where
   pub going : IsOpen p
   pub none_spilled : p.spill ≡ []
   pub fed : p.starved ≡ false
@@ -89,14 +89,14 @@ IsOfSize size None = Unit {0}
 IsOfSize size (Some h) = h.size ≡ size
 
 -- the buffers of a pair do
-pub record AreOfSize (size : ℕ) (p : Places) : Type 0 where
+pub record AreOfSize (size : ℕ) (p : PairState) : Type 0 where
   pub first : IsOfSize size p.first
   pub second : IsOfSize size p.second
   pub third : IsOfSize size p.third
 
 -- the worker of this book holds the buffers of the pair, which are of its pool, and answers for its items and for
 -- these besides
-pub record IsBacked (p : Places) (besides : List ℕ) (b : Book) : Type 0 where
+pub record IsBacked (p : PairState) (besides : List ℕ) (b : Book) : Type 0 where
   pub held : IsPart (numbers_of p) b.account.held
-  pub charged : IsPart (items_of p ++ besides) b.account.charge
+  pub charged : IsPart (pair_items p ++ besides) b.account.charge
   pub sized : AreOfSize b.setup.size p

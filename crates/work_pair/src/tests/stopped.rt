@@ -1,0 +1,136 @@
+//! A pair that a last tag stopped, in the middle of a call or before it changed anything, keeps each buffer that it
+//! could not push, when it is disposed of too.
+ghost use Rattle.std.specs.Prelude.{◌<◌};
+ghost use Rattle.work_pair.specs.tests.Ready.{IsReady, IsWorker};
+
+use super::hand::{OBJECTS, open, pool_of_roots};
+use super::vectors::{fill, get_all};
+use crate::{Pair, Stop};
+use buffer_pool::{Pool, Worker};
+use std::alloc::{Allocator, Global};
+use std::process::Abort;
+use std::sync::Wait;
+use std::test::Fail;
+
+/// The last tag of a stack's head.
+const LAST_TAG: u64 = 281_474_976_710_655;
+
+/// How many objects the places of a pair have, where a last tag stopped it and where it was disposed of then.
+type Lens = ([Option<u32>; 3], [Option<u32>; 3]);
+
+/// Claims a white object, whose put is stopped, and disposes of the pair.
+fn stopped_by_put<R: Wait + Abort, A: Allocator>(
+    rt: &R,
+    pool: &Pool<A>,
+    worker: &mut Worker<A>,
+    mut pair: Pair<A>,
+    object: u32,
+) -> Lens
+    requires ready { IsReady OBJECTS pool.now worker.old pair }
+    requires object { object < OBJECTS }
+{
+    if !pool.claim(worker, object) {
+        panic!(rt; "the object was claimed before");
+    }
+    match pair.put(rt, pool, worker, object) {
+        Err((back, Stop::TagSpent)) => assert_eq!(rt; back, object),
+        Err((_, Stop::OutOfMemory)) => panic!(rt; "no list has to grow"),
+        Ok(()) => panic!(rt; "a last tag was to be loaded"),
+    }
+    let stopped = pair.lens();
+    match pair.dispose(rt, pool, worker) {
+        Ok(()) => (stopped, [None; 3]),
+        Err((left, _)) => (stopped, left.lens()),
+    }
+}
+
+/// Gets an object of the full stack, which is stopped, and disposes of the pair.
+fn stopped_by_get<R: Wait + Abort, A: Allocator>(
+    rt: &R,
+    pool: &Pool<A>,
+    worker: &mut Worker<A>,
+    mut pair: Pair<A>,
+) -> Lens
+    requires { IsReady OBJECTS pool.now worker.old pair }
+{
+    let Err(_) = pair.get(rt, pool, worker) else {
+        panic!(rt; "a last tag was to be loaded");
+    };
+    let stopped = pair.lens();
+    match pair.dispose(rt, pool, worker) {
+        Ok(()) => (stopped, [None; 3]),
+        Err((left, _)) => (stopped, left.lens()),
+    }
+}
+
+/// Takes a buffer from the full stack, an object from that, and gives it back: two exchanges of that stack's head, and
+/// none of the other's.
+fn exchange_full_twice<R: Wait + Abort, A: Allocator>(
+    rt: &R,
+    alloc: A,
+    pool: &Pool<A>,
+    worker: &mut Worker<A>,
+)
+    requires { IsWorker OBJECTS pool.now worker.old }
+    ensures { IsWorker OBJECTS pool.now worker.new }
+{
+    let mut pair = Pair::bare(alloc);
+    let Ok(Some(_)) = pair.get(rt, pool, worker) else {
+        panic!(rt; "there is a buffer with objects");
+    };
+    let Ok(()) = pair.dispose(rt, pool, worker) else {
+        panic!(rt; "there are two tags more");
+    };
+}
+
+/// A put takes a buffer from the empty stack and cannot push the full one. Each head may be exchanged five times: that
+/// of the empty stack is four times, and that of the full one was five times before.
+fn put_without_a_push<R: Wait + Abort>(rt: &R, alloc: Global) -> Result<Lens, Fail> {
+    let (pool, worker) = pool_of_roots(alloc, 4, 4, LAST_TAG - 5)?;
+    let (mut worker, mut other) = pool.split(worker, 1);
+    let Some(mut pair) = open(rt, alloc, &pool, &mut worker) else {
+        panic!(rt; "there are four buffers");
+    };
+    fill(rt, &pool, &mut worker, &mut pair, 12);
+    exchange_full_twice(rt, alloc, &pool, &mut other);
+    exchange_full_twice(rt, alloc, &pool, &mut other);
+    Ok(stopped_by_put(rt, &pool, &mut worker, pair, 12))
+}
+
+/// A put finds the empty stack at its last tag: its head was exchanged three times, and that of the full stack once.
+fn put_without_a_pop<R: Wait + Abort>(rt: &R, alloc: Global) -> Result<Lens, Fail> {
+    let (pool, mut worker) = pool_of_roots(alloc, 4, 4, LAST_TAG - 3)?;
+    let Some(mut pair) = open(rt, alloc, &pool, &mut worker) else {
+        panic!(rt; "there are four buffers");
+    };
+    fill(rt, &pool, &mut worker, &mut pair, 12);
+    Ok(stopped_by_put(rt, &pool, &mut worker, pair, 12))
+}
+
+/// A get takes a buffer from the full stack and cannot push the empty one: the empty stack's head was exchanged three
+/// times.
+fn get_without_a_push<R: Wait + Abort>(rt: &R, alloc: Global) -> Result<Lens, Fail> {
+    let (pool, mut worker) = pool_of_roots(alloc, 4, 4, LAST_TAG - 3)?;
+    let Some(mut pair) = open(rt, alloc, &pool, &mut worker) else {
+        panic!(rt; "there are four buffers");
+    };
+    fill(rt, &pool, &mut worker, &mut pair, 9);
+    get_all(rt, &pool, &mut worker, &mut pair, &[8, 7, 6, 5, 4]);
+    Ok(stopped_by_get(rt, &pool, &mut worker, pair))
+}
+
+#[test]
+fn stopped_pairs_keep_their_buffers(rt: HostRuntime) -> Result<(), Fail> {
+    let alloc = rt.alloc();
+    let three = [Some(4), Some(4), Some(0)];
+    assert_eq!(rt; put_without_a_push(&rt, alloc)?, (three, three));
+    let full = [Some(4), Some(4), None];
+    assert_eq!(rt;
+        put_without_a_pop(&rt, alloc)?,
+        (full, [None; 3]),
+        "the full stack has tags left"
+    );
+    let three = [Some(0), Some(0), Some(4)];
+    assert_eq!(rt; get_without_a_push(&rt, alloc)?, (three, three));
+    Ok(())
+}
