@@ -1,12 +1,14 @@
 -- From a dump to its graph.
 use Rattle.std.proofs.lemmas.Slice.Zip.{AllZip-map}
-use Rattle.std.proofs.Common.{List, [], ap, arith, count_by, filter, length, map, map-id, refl, slice_get, subst, sym, ℕ, ◌++◌, ◌+◌, ◌∙◌, ◌≡◌, ◌≤◌}
+use Rattle.std.proofs.Common.{List, [], ap, arith, count_by, filter, length, map, map-id, refl, slice_get, subst}
+use Rattle.std.proofs.Common.{sym, ℕ, ◌++◌, ◌+◌, ◌∙◌, ◌≡◌, ◌≤◌}
 use Rattle.std.specs.List.{AllZip}
 use Rattle.std.specs.Prelude.{filter_map}
 use Rattle.hprof_grammar.specs.Dump.{id_of, limit}
 use Rattle.hprof_grammar.specs.Places.{IsDumpOf, Places, is_load, is_string}
 use Rattle.hprof_grammar.specs.Record.{Record}
-use Rattle.hprof_grammar.specs.Standing.{IsPlaced, RecordStands, RecordStandsAt, Sight, StandInTurn, Stands, StandsAt}
+use Rattle.hprof_grammar.specs.Standing.{IsPlaced, RecordStands, RecordStandsAt, Sight, StandInTurn, Stands}
+use Rattle.hprof_grammar.specs.Standing.{SubRecordStandsAt}
 use Rattle.hprof_grammar.specs.SubRecord.{SubRecord, spelling_of}
 use Rattle.heap_graph.specs.declared.entry.ClassEntry.{ClassEntry}
 use Rattle.heap_graph.specs.declared.objects.Objects.{Objects}
@@ -26,48 +28,68 @@ use Rattle.heap_graph.specs.working.PlacedObjects.{AreObjects, ArePlacesOf}
 use Rattle.heap_graph.specs.References.{AreIdLists, is_unresolved, targets}
 use Rattle.heap_graph.specs.Roots.{root_ids, root_objects}
 use Rattle.heap_graph.specs.Rows.{bytes_of, row_of}
+use Rattle.heap_graph.specs.Skips.{SkipEntry, is_skipped}
 use Rattle.heap_graph.specs.working.Refinement.{StandFor, named_class}
 use Rattle.heap_graph.specs.working.RuleAnswers.{IsFaultOf}
-use Rattle.heap_graph.specs.working.ToldClasses.{AreToldOf}
+use Rattle.heap_graph.specs.working.ClassFates.{HaveFatesOf}
 use Rattle.heap_graph.proofs.Counting.{few_in_dump, few_of_records}
 use Rattle.heap_graph.proofs.HeldLists.{are_lists, held_lists}
-use Rattle.heap_graph.proofs.MissingLaws.{few_held, roots_missing}
+use Rattle.heap_graph.proofs.UnresolvedLaws.{few_held, roots_unresolved}
 use Rattle.heap_graph.proofs.Sizes.{id_size_range}
-use Rattle.heap_graph.proofs.Targets.{same_missing, same_targets}
+use Rattle.heap_graph.proofs.Targets.{same_unresolved, same_targets}
 use Rattle.heap_graph.proofs.Wholeness.{is_whole}
 
 -- ---- what stands in the bytes, seen by a view of them
 
-pub seen : (v : Sight) (bytes : List ℕ) (s : ℕ) (places known : List ℕ) (subs : List SubRecord) → v.bytes ≡ bytes → v.id_size ≡ s → places ≡ known → StandInTurn (StandsAt s bytes) known subs → StandInTurn (Stands v) places subs
+pub seen : (v : Sight) (bytes : List ℕ) (s : ℕ) (places known : List ℕ) (subs : List SubRecord) → v.bytes ≡ bytes
+    → v.id_size ≡ s → places ≡ known → StandInTurn (SubRecordStandsAt s bytes) known subs
+    → StandInTurn (Stands v) places subs
 seen v bytes s places known subs bytes_are size_is places_are stand =
     subst (λ (xs : List ℕ). StandInTurn (Stands v) xs subs) (sym places_are)
-    (subst (λ (n : ℕ). StandInTurn (StandsAt n v.bytes) known subs) (sym size_is) (subst (λ (bs : List ℕ). StandInTurn (StandsAt s bs) known subs) (sym bytes_are) stand))
+    (subst (λ (n : ℕ). StandInTurn (SubRecordStandsAt n v.bytes) known subs) (sym size_is)
+    (subst (λ (bs : List ℕ). StandInTurn (SubRecordStandsAt s bs) known subs) (sym bytes_are) stand))
 
 pub same_sight : (v w : Sight) → v.bytes ≡ w.bytes → v.id_size ≡ w.id_size → v ≡ w
 same_sight v w e f = λ i. record { bytes = e i; id_size = f i }
 
-pub seen_records : (v : Sight) (bytes : List ℕ) (s : ℕ) (places known : List ℕ) (rs : List Record) → v.bytes ≡ bytes → v.id_size ≡ s → places ≡ known → StandInTurn (RecordStandsAt s bytes) known rs → StandInTurn (RecordStands v) places rs
+pub seen_records : (v : Sight) (bytes : List ℕ) (s : ℕ) (places known : List ℕ) (rs : List Record) → v.bytes ≡ bytes
+    → v.id_size ≡ s → places ≡ known → StandInTurn (RecordStandsAt s bytes) known rs
+    → StandInTurn (RecordStands v) places rs
 seen_records v bytes s places known rs bytes_are size_is places_are stand =
     subst (λ (xs : List ℕ). StandInTurn (RecordStands v) xs rs) (sym places_are)
-    (subst (λ (n : ℕ). StandInTurn (RecordStandsAt n v.bytes) known rs) (sym size_is) (subst (λ (bs : List ℕ). StandInTurn (RecordStandsAt s bs) known rs) (sym bytes_are) stand))
+    (subst (λ (n : ℕ). StandInTurn (RecordStandsAt n v.bytes) known rs) (sym size_is)
+    (subst (λ (bs : List ℕ). StandInTurn (RecordStandsAt s bs) known rs) (sym bytes_are) stand))
 
-pub are_linked : (bytes : List ℕ) (dump : Places) (is : IsDumpOf bytes dump) (v : Sight) (places ids : List ℕ) → v.bytes ≡ bytes → v.id_size ≡ dump.id_size → AreObjects v places ids (heap_of is.records) → IsLinked v.id_size (heap_of is.records) → AreLinked v places ids (heap_of is.records)
+pub are_linked : (bytes : List ℕ) (dump : Places) (is : IsDumpOf bytes dump) (v : Sight) (places ids : List ℕ)
+    → v.bytes ≡ bytes → v.id_size ≡ dump.id_size → AreObjects v places ids (heap_of is.records)
+    → IsLinked v.id_size (heap_of is.records) → AreLinked v places ids (heap_of is.records)
 are_linked bytes dump is v places ids bytes_are size_is are linked =
     let range = id_size_range dump.id_size is.spells.id_size in
-    record { are = are; low = omega (arith, size_is, range.0); high = omega (arith, size_is, range.1); short = omega (arith, ap length bytes_are, is.spells.size); linked = linked }
+    record {
+      are = are;
+      low = omega (arith, size_is, range.0);
+      high = omega (arith, size_is, range.1);
+      short = omega (arith, ap length bytes_are, is.spells.size);
+      linked = linked;
+    }
 
-pub are_names : (bytes : List ℕ) (dump : Places) (is : IsDumpOf bytes dump) (v : Sight) (strings loaded : List ℕ) → v.bytes ≡ bytes → v.id_size ≡ dump.id_size → strings ≡ dump.strings → loaded ≡ dump.loaded → IsPlaced bytes dump is.records → AreNames v strings loaded is.records
+pub are_names : (bytes : List ℕ) (dump : Places) (is : IsDumpOf bytes dump) (v : Sight) (strings loaded : List ℕ)
+    → v.bytes ≡ bytes → v.id_size ≡ dump.id_size → strings ≡ dump.strings → loaded ≡ dump.loaded
+    → IsPlaced bytes dump is.records → AreNames v strings loaded is.records
 are_names bytes dump is v strings loaded bytes_are size_is strings_are loaded_are placed = record {
   few_strings = omega (arith, ap length strings_are, placed.strings.count, few_of_records is_string bytes dump is);
   few_loaded = omega (arith, ap length loaded_are, placed.loaded.count, few_of_records is_load bytes dump is);
-  string_each = seen_records v bytes dump.id_size strings dump.strings (filter is_string is.records) bytes_are size_is strings_are placed.strings;
-  loaded_each = seen_records v bytes dump.id_size loaded dump.loaded (filter is_load is.records) bytes_are size_is loaded_are placed.loaded;
+  string_each = seen_records v bytes dump.id_size strings dump.strings
+      (filter is_string is.records) bytes_are size_is strings_are placed.strings;
+  loaded_each = seen_records v bytes dump.id_size loaded dump.loaded
+      (filter is_load is.records) bytes_are size_is loaded_are placed.loaded;
 }
 
 -- ---- the objects at the places of a dump
 
 -- a copy of the places of a dump, which has forgotten its own since then
-abbrev pub copied_places : (bytes : List ℕ) (dump now : Places) (s : ℕ) (own copy : List ℕ) → IsDumpOf bytes dump → now ≡ record dump { objects = [] }
+abbrev pub copied_places : (bytes : List ℕ) (dump now : Places) (s : ℕ) (own copy : List ℕ) → IsDumpOf bytes dump
+    → now ≡ record dump { objects = [] }
     → s ≡ now.id_size → own ≡ dump.objects → AllZip (λ x y. y ≡ x) own copy → ArePlacesOf bytes s copy dump
 copied_places bytes dump now s own copy is forgets size_is own_are each = record {
   is = is;
@@ -82,16 +104,21 @@ module _ (bytes : List ℕ) (s : ℕ) (places : List ℕ) (dump : Places) (are :
       (omega (arith, are.size_is, range.0), omega (arith, are.size_is, range.1))
 
   module _ (placed : IsPlaced bytes dump are.is.records) where
-    pub objects_stand : (v : Sight) → v.bytes ≡ bytes → v.id_size ≡ s → StandInTurn (Stands v) places (objects (heap_of are.is.records))
+    pub objects_stand : (v : Sight) → v.bytes ≡ bytes → v.id_size ≡ s
+        → StandInTurn (Stands v) places (objects (heap_of are.is.records))
     objects_stand v bytes_are size_is =
-        seen v bytes dump.id_size places dump.objects (objects (heap_of are.is.records)) bytes_are (size_is ∙ are.size_is) are.places_are placed.objects
+        seen v bytes dump.id_size places dump.objects (objects (heap_of are.is.records)) bytes_are
+        (size_is ∙ are.size_is) are.places_are placed.objects
 
     -- indexed by one view, they are the same objects to another
-    pub are_objects : (v w : Sight) (ids known : List ℕ) → v.bytes ≡ bytes → v.id_size ≡ s → w.bytes ≡ bytes → w.id_size ≡ s → known ≡ places
-        → ((subs : List SubRecord) → StandInTurn (Stands v) known subs → ids ≡ map id_of subs) → AreObjects w places ids (heap_of are.is.records)
+    pub are_objects : (v w : Sight) (ids known : List ℕ) → v.bytes ≡ bytes → v.id_size ≡ s → w.bytes ≡ bytes
+        → w.id_size ≡ s → known ≡ places
+        → ((subs : List SubRecord) → StandInTurn (Stands v) known subs → ids ≡ map id_of subs)
+        → AreObjects w places ids (heap_of are.is.records)
     are_objects v w ids known v_bytes v_size w_bytes w_size same indexed =
         let here = objects (heap_of are.is.records) in
-        let stand : StandInTurn (Stands v) known here = subst (λ (xs : List ℕ). StandInTurn (Stands v) xs here) (sym same) (objects_stand v v_bytes v_size) in
+        let stand : StandInTurn (Stands v) known here =
+        subst (λ (xs : List ℕ). StandInTurn (Stands v) xs here) (sym same) (objects_stand v v_bytes v_size) in
         record { stand = objects_stand w w_bytes w_size; ids_are = indexed here stand }
 
     pub few_objects : length places ≤ limit
@@ -99,7 +126,9 @@ module _ (bytes : List ℕ) (s : ℕ) (places : List ℕ) (dump : Places) (are :
 
 -- ---- the fault
 
-pub has_fault : (bytes : List ℕ) (dump : Places) (is : IsDumpOf bytes dump) (s : ℕ) (places : List ℕ) (fault : LinkFault) → s ≡ dump.id_size → places ≡ dump.objects → IsFaultOf s (heap_of is.records) places fault → HasLinkFault bytes fault.code fault.offset
+pub has_fault : (bytes : List ℕ) (dump : Places) (is : IsDumpOf bytes dump) (s : ℕ) (places : List ℕ)
+    (fault : LinkFault) → s ≡ dump.id_size → places ≡ dump.objects → IsFaultOf s (heap_of is.records) places fault
+    → HasLinkFault bytes fault.code fault.offset
 has_fault bytes dump is s places fault size_is places_are f = record {
   id_size = dump.id_size;
   records = is.records;
@@ -109,20 +138,25 @@ has_fault bytes dump is s places fault size_is places_are f = record {
   rule = f.rule;
   first = subst (λ (n : ℕ). IsFirstFault n (heap_of is.records) f.number f.rule) size_is f.first;
   code_is = f.code_is;
-  place_is = sym (ap (λ (ps : List ℕ). slice_get ps f.number) (places_are ∙ ap (λ (d : Places). d.objects) is.places)) ∙ f.place_is;
+  place_is = sym (ap (λ (ps : List ℕ). slice_get ps f.number) (places_are ∙ ap (λ (d : Places). d.objects) is.places))
+      ∙ f.place_is;
 }
 
 -- ---- the graph
 
 -- the roots that were resolved, and how many were not
-pub record AreRootsOf (heap : List SubRecord) (roots : List ℕ) (missing : ℕ) : Type 0 where
+pub record AreRootsOf (heap : List SubRecord) (roots : List ℕ) (unresolved : ℕ) : Type 0 where
   pub roots_are : roots ≡ targets heap (root_ids heap)
-  pub missing_is : missing ≡ count_by (is_unresolved heap) (root_ids heap)
+  pub unresolved_is : unresolved ≡ count_by (is_unresolved heap) (root_ids heap)
 
-pub roots_resolved : (heap : List SubRecord) (ids wanted old new : List ℕ) (missing : ℕ) → ids ≡ map id_of (objects heap) → old ≡ [] → wanted ≡ root_ids heap → Resolves ids wanted old new missing → AreRootsOf heap new missing
-roots_resolved heap ids wanted old new missing ids_are none wanted_are r = record {
-  roots_are = r.appended ∙ ap (λ (xs : List ℕ). xs ++ filter_map (target_in ids) wanted) none ∙ same_targets heap ids wanted ids_are ∙ ap (λ (ws : List ℕ). targets heap ws) wanted_are;
-  missing_is = r.counted ∙ same_missing heap ids wanted ids_are ∙ ap (λ (ws : List ℕ). count_by (is_unresolved heap) ws) wanted_are;
+pub roots_resolved : (heap : List SubRecord) (ids wanted old new : List ℕ) (unresolved : ℕ)
+    → ids ≡ map id_of (objects heap) → old ≡ [] → wanted ≡ root_ids heap → Resolves ids wanted old new unresolved
+    → AreRootsOf heap new unresolved
+roots_resolved heap ids wanted old new unresolved ids_are none wanted_are r = record {
+  roots_are = r.appended ∙ ap (λ (xs : List ℕ). xs ++ filter_map (target_in ids) wanted) none
+      ∙ same_targets heap ids wanted ids_are ∙ ap (λ (ws : List ℕ). targets heap ws) wanted_are;
+  unresolved_is = r.counted ∙ same_unresolved heap ids wanted ids_are
+      ∙ ap (λ (ws : List ℕ). count_by (is_unresolved heap) ws) wanted_are;
 }
 
 -- the graph, with the identifiers that the objects hold
@@ -139,8 +173,10 @@ graph_with s records held = record {
   unresolved = unresolved_in (heap_of records) held;
 }
 
-pub graph_is : (s : ℕ) (records : List Record) (held : List (List ℕ)) → AreIdLists s (heap_of records) held → IsGraphOf s records (graph_with s records held)
-graph_is s records held are = record {
+pub graph_is : (s : ℕ) (records : List Record) (skip : List SkipEntry) (held : List (List ℕ))
+    → AreIdLists (is_skipped records skip) s (heap_of records) held
+    → IsGraphOf s records skip (graph_with s records held)
+graph_is s records skip held are = record {
   ids_are = refl;
   held_are = are;
   references_are = refl;
@@ -152,37 +188,44 @@ graph_is s records held are = record {
   unresolved_is = refl;
 }
 
-pub text_graph : (bytes : List ℕ) (dump : Places) (is : IsDumpOf bytes dump) (s : ℕ) (g : ObjectGraph) → s ≡ dump.id_size → IsLinked s (heap_of is.records) → IsGraphOf s is.records g → IsGraphOfText bytes g
-text_graph bytes dump is s g size_is linked graph = record {
+pub text_graph : (bytes : List ℕ) (dump : Places) (is : IsDumpOf bytes dump) (s : ℕ) (skip : List SkipEntry)
+    (g : ObjectGraph) → s ≡ dump.id_size → IsLinked s (heap_of is.records) → IsGraphOf s is.records skip g
+    → IsGraphOfText bytes skip g
+text_graph bytes dump is s skip g size_is linked graph = record {
   id_size = dump.id_size;
   records = is.records;
-  accepted = record { spells = is.spells; orderly = is.orderly; linked = subst (λ (n : ℕ). IsLinked n (heap_of is.records)) size_is linked };
-  graph = subst (λ (n : ℕ). IsGraphOf n is.records g) size_is graph;
+  accepted = record {
+    spells = is.spells;
+    orderly = is.orderly;
+    linked = subst (λ (n : ℕ). IsLinked n (heap_of is.records)) size_is linked;
+  };
+  graph = subst (λ (n : ℕ). IsGraphOf n is.records skip g) size_is graph;
 }
 
 -- the lists of identifiers of the objects, and the graph with them
-abbrev pub lists_of : {A : Type 0} (o : Objects A) (records : List Record) → AreLinkedOf o (heap_of records)
-    → AreToldOf o (heap_of records) → List (List ℕ)
-lists_of o records linked told = (held_lists o (heap_of records) linked told).lists
+abbrev pub lists_of : {A : Type 0} (o : Objects A) (records : List Record) (skip : List SkipEntry)
+    → AreLinkedOf o (heap_of records) → HaveFatesOf o (heap_of records) → List (List ℕ)
+lists_of o records skip linked told = (held_lists (is_skipped records skip) o (heap_of records) linked told).lists
 
-pub graph_made : {A : Type 0} (o : Objects A) (records : List Record) (linked : AreLinkedOf o (heap_of records))
-    (told : AreToldOf o (heap_of records))
-    → IsGraphOf o.view.id_size records (graph_with o.view.id_size records (lists_of o records linked told))
-graph_made o records linked told =
-    graph_is o.view.id_size records (lists_of o records linked told)
-    (are_lists o.view.id_size (heap_of records) (held_lists o (heap_of records) linked told))
+pub graph_made : {A : Type 0} (o : Objects A) (records : List Record) (skip : List SkipEntry)
+    (linked : AreLinkedOf o (heap_of records)) (told : HaveFatesOf o (heap_of records))
+    → IsGraphOf o.view.id_size records skip (graph_with o.view.id_size records (lists_of o records skip linked told))
+graph_made o records skip linked told =
+    graph_is o.view.id_size records skip (lists_of o records skip linked told)
+    (are_lists (is_skipped records skip) o.view.id_size (heap_of records)
+    (held_lists (is_skipped records skip) o (heap_of records) linked told))
 
 pub stand_for : {A : Type 0} (o : Objects A) (plan : Plan A) (records : List Record) (roots : List ℕ)
-    (classes : List ClassEntry) (missing : ℕ)
+    (classes : List ClassEntry) (unresolved : ℕ) (skip : List SkipEntry)
     → ((at : ℕ) (sub : SubRecord) → Stands o.view at sub
     → at + length (spelling_of o.view.id_size sub) ≤ length o.view.bytes) → length (root_ids (heap_of records)) ≤ limit
-    → (linked : AreLinkedOf o (heap_of records)) → (told : AreToldOf o (heap_of records))
-    → IsPlanOf o (heap_of records) plan → map named_class classes ≡ named_classes records
-    → AreRootsOf (heap_of records) roots missing → StandFor o plan roots classes missing
-    (graph_with o.view.id_size records (lists_of o records linked told))
-stand_for o plan records roots classes missing within few_roots linked told planned classes_are found =
-    let g : ObjectGraph = graph_with o.view.id_size records (lists_of o records linked told) in
-    let graph : IsGraphOf o.view.id_size records g = graph_made o records linked told in
+    → (linked : AreLinkedOf o (heap_of records)) → (told : HaveFatesOf o (heap_of records))
+    → IsPlanOf (is_skipped records skip) o (heap_of records) plan → map named_class classes ≡ named_classes records
+    → AreRootsOf (heap_of records) roots unresolved → StandFor o plan roots classes unresolved skip
+    (graph_with o.view.id_size records (lists_of o records skip linked told))
+stand_for o plan records roots classes unresolved skip within few_roots linked told planned classes_are found =
+    let g : ObjectGraph = graph_with o.view.id_size records (lists_of o records skip linked told) in
+    let graph : IsGraphOf o.view.id_size records skip g = graph_made o records skip linked told in
     record {
       records = records;
       linked = linked;
@@ -190,22 +233,25 @@ stand_for o plan records roots classes missing within few_roots linked told plan
       planned = planned;
       graph = graph;
       whole =
-          is_whole o.view o.places.items o.index records g linked within
-          (few_held o.view.id_size (heap_of records) (held_lists o (heap_of records) linked told)) few_roots graph;
+          is_whole o.view o.places.items o.index records skip g linked within
+          (few_held (is_skipped records skip) o.view.id_size (heap_of records)
+          (held_lists (is_skipped records skip) o (heap_of records) linked told)) few_roots graph;
       roots_are = sym found.roots_are;
       classes_are = sym classes_are;
-      missing_is = roots_missing o.view.id_size records g graph ∙ sym found.missing_is;
+      unresolved_is = roots_unresolved o.view.id_size records skip g graph ∙ sym found.unresolved_is;
     }
 
 pub text_graph_made : {A : Type 0} (o : Objects A) (text : List ℕ) (dump : Places) (is : IsDumpOf text dump)
-    → (read : IsReadOf text dump is o)
-    → IsGraphOfText o.view.bytes (graph_with o.view.id_size is.records (lists_of o is.records read.linked read.told))
-text_graph_made o text dump is read =
-    let g : ObjectGraph = graph_with o.view.id_size is.records (lists_of o is.records read.linked read.told) in
-    subst (λ (bytes : List ℕ). IsGraphOfText bytes g) (sym read.bytes_are)
-    (text_graph text dump is o.view.id_size g read.size_is read.linked.linked
-    (graph_made o is.records read.linked read.told))
+    (skip : List SkipEntry) (read : IsReadOf text dump is o) → IsGraphOfText o.view.bytes skip
+    (graph_with o.view.id_size is.records (lists_of o is.records skip read.linked read.told))
+text_graph_made o text dump is skip read =
+    let g : ObjectGraph = graph_with o.view.id_size is.records (lists_of o is.records skip read.linked read.told) in
+    subst (λ (bytes : List ℕ). IsGraphOfText bytes skip g) (sym read.bytes_are)
+    (text_graph text dump is o.view.id_size skip g read.size_is read.linked.linked
+    (graph_made o is.records skip read.linked read.told))
 
--- a text has one graph, so what holds of one holds of each
-pub given_graph : (text : List ℕ) (P : ObjectGraph → Type 0) (g : ObjectGraph) → IsGraphOfText text g → P g → (other : ObjectGraph) → ∥ IsGraphOfText text other ∥₁ → P other
-given_graph text P g is holds other given = subst P (ap (λ (x : GraphOf text). x.0) (GraphOf-prop text (g, ∣ is ∣₁) (other, given))) holds
+-- a text and a list have one graph, so what holds of one holds of each
+pub given_graph : (text : List ℕ) (skip : List SkipEntry) (P : ObjectGraph → Type 0) (g : ObjectGraph)
+    → IsGraphOfText text skip g → P g → (other : ObjectGraph) → ∥ IsGraphOfText text skip other ∥₁ → P other
+given_graph text skip P g is holds other given =
+    subst P (ap (λ (x : GraphOf text skip). x.0) (GraphOf-prop text skip (g, ∣ is ∣₁) (other, given))) holds

@@ -1,5 +1,6 @@
 -- How chains of superclasses end: each in one way.
-use Rattle.std.proofs.Common.{List, None, Some, [], ap, arith, length, refl, subst, suc, sym, zero, ℕ, ◌<◌, ◌∙◌, ◌∷◌, ◌≡◌}
+use Rattle.std.proofs.Common.{List, None, Some, [], ap, arith, length, refl, subst, suc, sym, zero, ℕ, ◌<◌, ◌∙◌, ◌∷◌}
+use Rattle.std.proofs.Common.{◌≡◌}
 use Rattle.hprof_grammar.specs.SubRecord.{Class, SubRecord}
 use Rattle.heap_graph.specs.Heap.{class_named}
 use Rattle.heap_graph.specs.Layout.{IsChain, IsLine, NeverEnds}
@@ -15,11 +16,13 @@ some_none {X} {x} e = cc
 pub none_at_0 : (heap : List SubRecord) (id : ℕ) (c : Class) → class_named heap id ≡ Some c → id ≡ 0 → ⊥
 none_at_0 heap id c named e = some_none (sym named ∙ ap (λ (n : ℕ). class_named heap n) e)
 
-same_super : (heap : List SubRecord) (id : ℕ) (c d : Class) → class_named heap id ≡ Some c → class_named heap id ≡ Some d → c ≡ d
+same_super : (heap : List SubRecord) (id : ℕ) (c d : Class) → class_named heap id ≡ Some c
+    → class_named heap id ≡ Some d → c ≡ d
 same_super heap id c d e f = some_inj (sym e ∙ f)
 
 -- there is one chain
-pub one_chain : (heap : List SubRecord) (id : ℕ) (chain other : List Class) → IsChain heap id chain → IsChain heap id other → chain ≡ other
+pub one_chain : (heap : List SubRecord) (id : ℕ) (chain other : List Class) → IsChain heap id chain
+    → IsChain heap id other → chain ≡ other
 one_chain heap id [] [] a b = refl
 one_chain heap id [] (d ∷ ds) a b = absurd (none_at_0 heap id d b.0 a)
 one_chain heap id (c ∷ cs) [] a b = absurd (none_at_0 heap id c a.0 b)
@@ -30,7 +33,8 @@ one_chain heap id (c ∷ cs) (d ∷ ds) a b =
     ap (λ (x : Class). x ∷ cs) same ∙ ap (λ (xs : List Class). d ∷ xs) tails
 
 -- what is cut has no chain
-pub cut_is_no_chain : (heap : List SubRecord) (id : ℕ) (classes chain : List Class) → IsCut heap id classes → IsChain heap id chain → ⊥
+pub cut_is_no_chain : (heap : List SubRecord) (id : ℕ) (classes chain : List Class) → IsCut heap id classes
+    → IsChain heap id chain → ⊥
 cut_is_no_chain heap id [] [] a b = a.0 b
 cut_is_no_chain heap id [] (d ∷ ds) a b = some_none (sym b.0 ∙ a.1)
 cut_is_no_chain heap id (c ∷ cs) [] a b = none_at_0 heap id c a.0 b
@@ -39,14 +43,16 @@ cut_is_no_chain heap id (c ∷ cs) (d ∷ ds) a b =
     cut_is_no_chain heap d.super cs ds (subst (λ (x : Class). IsCut heap x.super cs) same a.1) b.1
 
 -- a line of classes one longer than the classes from here up
-long_chain : (heap : List SubRecord) (id : ℕ) (chain line : List Class) → IsChain heap id chain → IsLine heap id line → length chain < length line → ⊥
+long_chain : (heap : List SubRecord) (id : ℕ) (chain line : List Class) → IsChain heap id chain → IsLine heap id line
+    → length chain < length line → ⊥
 long_chain heap id chain [] a b h = omega (arith, h)
 long_chain heap id [] (d ∷ ds) a b h = none_at_0 heap id d b.0 a
 long_chain heap id (c ∷ cs) (d ∷ ds) a b h =
     let same : c ≡ d = same_super heap id c d a.0 b.0 in
     long_chain heap d.super cs ds (subst (λ (x : Class). IsChain heap x.super cs) same a.1) b.1 (omega (arith, h))
 
-long_cut : (heap : List SubRecord) (id : ℕ) (classes line : List Class) → IsCut heap id classes → IsLine heap id line → length classes < length line → ⊥
+long_cut : (heap : List SubRecord) (id : ℕ) (classes line : List Class) → IsCut heap id classes → IsLine heap id line
+    → length classes < length line → ⊥
 long_cut heap id classes [] a b h = omega (arith, h)
 long_cut heap id [] (d ∷ ds) a b h = some_none (sym b.0 ∙ a.1)
 long_cut heap id (c ∷ cs) (d ∷ ds) a b h =
@@ -55,12 +61,15 @@ long_cut heap id (c ∷ cs) (d ∷ ds) a b h =
 
 -- what ends does not go on
 pub chain_ends : (heap : List SubRecord) (id : ℕ) (chain : List Class) → IsChain heap id chain → NeverEnds heap id → ⊥
-chain_ends heap id chain a never = let line = never (suc (length chain)) in long_chain heap id chain line.0 a line.2 (omega (arith, line.1))
+chain_ends heap id chain a never =
+    let line = never (suc (length chain)) in long_chain heap id chain line.0 a line.2 (omega (arith, line.1))
 
 pub cut_ends : (heap : List SubRecord) (id : ℕ) (classes : List Class) → IsCut heap id classes → NeverEnds heap id → ⊥
-cut_ends heap id classes a never = let line = never (suc (length classes)) in long_cut heap id classes line.0 a line.2 (omega (arith, line.1))
+cut_ends heap id classes a never =
+    let line = never (suc (length classes)) in long_cut heap id classes line.0 a line.2 (omega (arith, line.1))
 
 -- a class below one that goes on goes on
-pub never_below : (heap : List SubRecord) (id : ℕ) (c : Class) → class_named heap id ≡ Some c → NeverEnds heap c.super → NeverEnds heap id
+pub never_below : (heap : List SubRecord) (id : ℕ) (c : Class) → class_named heap id ≡ Some c → NeverEnds heap c.super
+    → NeverEnds heap id
 never_below heap id c named never zero = ([], refl, tt)
 never_below heap id c named never (suc n) = let line = never n in (c ∷ line.0, omega (arith, line.1), (named, line.2))

@@ -1,5 +1,6 @@
 -- A dump has fewer objects than bytes, and fewer roots, strings and loaded classes.
-use Rattle.std.proofs.Common.{Bool, List, [], ap, arith, filter, flat_map, length, length-append, ℕ, ◌++◌, ◌<◌, ◌^◌, ◌∷◌, ◌≡◌, ◌≤◌}
+use Rattle.std.proofs.Common.{Bool, List, [], ap, arith, filter, flat_map, length, length-append, ℕ, ◌++◌, ◌<◌, ◌^◌}
+use Rattle.std.proofs.Common.{◌∷◌, ◌≡◌, ◌≤◌}
 use Rattle.std.proofs.lemmas.List.{length-map}
 use Rattle.std.proofs.lemmas.List.Sums.{count_by-le-length, length-filter}
 use Rattle.byteorder.specs.Endian.{big_bytes}
@@ -23,11 +24,22 @@ in_body s (heap tag time subs) = few_subs s subs
 in_body s (other tag time body) = omega arith
 
 in_record : (s : ℕ) (r : Record) → length (subs_of r) ≤ length (record_spelling s r)
-in_record s r = omega (arith, in_body s r, length-append (big_bytes 4 (time_of r)) (big_bytes 4 (length (body_of s r)) ++ body_of s r), length-append (big_bytes 4 (length (body_of s r))) (body_of s r))
+in_record s r = omega (
+  arith,
+  in_body s r,
+  length-append (big_bytes 4 (time_of r)) (big_bytes 4 (length (body_of s r)) ++ body_of s r),
+  length-append (big_bytes 4 (length (body_of s r))) (body_of s r),
+)
 
 in_records : (s : ℕ) (rs : List Record) → length (heap_of rs) ≤ length (spellings s rs)
 in_records s [] = omega arith
-in_records s (r ∷ rs) = omega (arith, in_record s r, in_records s rs, length-append (subs_of r) (heap_of rs), length-append (record_spelling s r) (spellings s rs))
+in_records s (r ∷ rs) = omega (
+  arith,
+  in_record s r,
+  in_records s rs,
+  length-append (subs_of r) (heap_of rs),
+  length-append (record_spelling s r) (spellings s rs),
+)
 
 few_kept : {X : Type 0} (p : X → Bool) (xs : List X) → length (filter p xs) ≤ length xs
 few_kept p xs = omega (arith, length-filter p xs, count_by-le-length p xs)
@@ -50,7 +62,8 @@ pub few_of_records : (p : Record → Bool) (text : List ℕ) (dump : Places) (is
 few_of_records p text dump is =
     omega (arith, few_kept p is.records, few_records dump.id_size is.records, short_spellings text dump is)
 
-pub few_in_dump : (text : List ℕ) (dump : Places) (is : IsDumpOf text dump) → length (objects (heap_of is.records)) ≤ limit
+pub few_in_dump : (text : List ℕ) (dump : Places) (is : IsDumpOf text dump)
+    → length (objects (heap_of is.records)) ≤ limit
 few_in_dump text dump is = omega (arith, few_kept is_object (heap_of is.records), few_in_heap text dump is)
 
 pub few_placed : (text : List ℕ) (dump : Places) (is : IsDumpOf text dump) (places : List ℕ)

@@ -1,5 +1,6 @@
 -- The identifiers in the fields of an instance, and the sizes of fields.
-use Rattle.std.proofs.Common.{Bool, List, [], append_assoc, ap, arith, drop, false, flat_map, length, not, refl, sym, take, true, ℕ}
+use Rattle.std.proofs.Common.{Bool, List, [], append_assoc, ap, arith, drop, false, flat_map, length, not, refl, sym}
+use Rattle.std.proofs.Common.{take, true, ℕ}
 use Rattle.std.proofs.Common.{◌&&◌, ◌++◌, ◌∙◌, ◌∷◌, ◌≡◌, ◌≤◌}
 use Rattle.std.specs.Prelude.{if◌then◌else◌, ◌==◌}
 use Rattle.std.specs.List.{AllByRecursion}
@@ -12,7 +13,7 @@ use Rattle.hprof_grammar.specs.Spelling.Field.{number}
 use Rattle.hprof_grammar.specs.SubRecord.{Class, Member, class_fields, constant_fields, member_fields, static_fields}
 use Rattle.hprof_grammar.specs.Tables.{is_type_at, size_of}
 use Rattle.hprof_grammar.specs.declared.kinds.TypePlace.TheVariants.{InMember}
-use Rattle.heap_graph.specs.Fields.{followed_ids}
+use Rattle.heap_graph.specs.Fields.{field_ids}
 use Rattle.heap_graph.specs.working.IdPlaces.{size_of_fields, size_together}
 
 -- a value of type 2 is an identifier
@@ -33,19 +34,19 @@ abbrev pub ids_here : (Class → Member → Bool) → ℕ → Class × Member �
 ids_here skips s f values = if not (skips f.0 f.1) && (f.1.type == 2) then big_number s (take s values) ∷ [] else []
 
 pub ids_of_both : (skips : Class → Member → Bool) (s : ℕ) (front more : List (Class × Member)) (values : List ℕ)
-    → followed_ids skips s (front ++ more) values
-    ≡ followed_ids skips s front values ++ followed_ids skips s more (drop (size_of_fields s front) values)
+    → field_ids skips s (front ++ more) values
+    ≡ field_ids skips s front values ++ field_ids skips s more (drop (size_of_fields s front) values)
 ids_of_both skips s [] more values = refl
 ids_of_both skips s (f ∷ front) more values =
     let size : ℕ = size_of s f.1.type in
     ap (λ (xs : List ℕ). ids_here skips s f values ++ xs)
     (ids_of_both skips s front more (drop size values)
-    ∙ ap (λ (xs : List ℕ). followed_ids skips s front (drop size values) ++ followed_ids skips s more xs)
+    ∙ ap (λ (xs : List ℕ). field_ids skips s front (drop size values) ++ field_ids skips s more xs)
     (drop-drop (size_of_fields s front) size values
     ∙ ap (λ (n : ℕ). drop n values)
     (sym (sum_by-cons (λ (g : Class × Member). size_of s g.1.type) f front))))
-    ∙ sym (append_assoc (ids_here skips s f values) (followed_ids skips s front (drop size values))
-    (followed_ids skips s more (drop (size_of_fields s (f ∷ front)) values)))
+    ∙ sym (append_assoc (ids_here skips s f values) (field_ids skips s front (drop size values))
+    (field_ids skips s more (drop (size_of_fields s (f ∷ front)) values)))
 
 -- ---- a class with fields has a size
 
@@ -57,12 +58,18 @@ behind : {X : Type 0} (P : X → Type 0) (xs ys : List X) → AllByRecursion P (
 behind P [] ys h = h
 behind P (x ∷ xs) ys h = behind P xs ys h.1
 
-first_size : (s : ℕ) (ms : List Member) → 1 ≤ s → AreAllowed (flat_map (member_fields s) ms) → (ms ≡ [] → ⊥) → 1 ≤ size_together s ms
+first_size : (s : ℕ) (ms : List Member) → 1 ≤ s → AreAllowed (flat_map (member_fields s) ms) → (ms ≡ [] → ⊥)
+    → 1 ≤ size_together s ms
 first_size s [] low allowed some = absurd (some refl)
-first_size s (m ∷ ms) low allowed some = omega (arith, member_size s m.type low allowed.1.0, sum_by-cons (λ (x : Member). size_of s x.type) m ms)
+first_size s (m ∷ ms) low allowed some =
+    omega (arith, member_size s m.type low allowed.1.0, sum_by-cons (λ (x : Member). size_of s x.type) m ms)
 
-pub own_size : (s : ℕ) (c : Class) → 1 ≤ s → AreAllowed (class_fields s c) → (c.members ≡ [] → ⊥) → 1 ≤ size_together s c.members
+pub own_size : (s : ℕ) (c : Class) → 1 ≤ s → AreAllowed (class_fields s c) → (c.members ≡ [] → ⊥)
+    → 1 ≤ size_together s c.members
 own_size s c low allowed some =
-    let rest = behind IsAllowed (number 2 (length c.constants) ∷ flat_map constant_fields c.constants) ((number 2 (length c.statics) ∷ flat_map (static_fields s) c.statics) ++ (number 2 (length c.members) ∷ flat_map (member_fields s) c.members)) allowed.1.1.1.1.1.1.1.1.1 in
-    let last = behind IsAllowed (number 2 (length c.statics) ∷ flat_map (static_fields s) c.statics) (number 2 (length c.members) ∷ flat_map (member_fields s) c.members) rest in
+    let rest = behind IsAllowed (number 2 (length c.constants) ∷ flat_map constant_fields c.constants)
+    ((number 2 (length c.statics) ∷ flat_map (static_fields s) c.statics) ++
+    (number 2 (length c.members) ∷ flat_map (member_fields s) c.members)) allowed.1.1.1.1.1.1.1.1.1 in
+    let last = behind IsAllowed (number 2 (length c.statics) ∷ flat_map (static_fields s) c.statics)
+    (number 2 (length c.members) ∷ flat_map (member_fields s) c.members) rest in
     first_size s c.members low last.1 some

@@ -4,10 +4,11 @@ use Rattle.std.specs.Prelude.{if◌then◌else◌, ◌==◌}
 use Rattle.std.proofs.lemmas.List.{map-append}
 use Rattle.byteorder.specs.Endian.{big_number}
 use Rattle.hprof_grammar.specs.Record.{Record}
-use Rattle.hprof_grammar.specs.SubRecord.{Class, Member}
+use Rattle.hprof_grammar.specs.SubRecord.{Class, Instance, Member}
 use Rattle.hprof_grammar.specs.Tables.{size_of}
-use Rattle.heap_graph.specs.Fields.{declared_fields, followed_ids, own_fields}
-use Rattle.heap_graph.specs.Layout.{field_ids, layout}
+use Rattle.heap_graph.specs.Fields.{all_field_ids, declared_fields, field_ids, own_fields}
+use Rattle.heap_graph.specs.Layout.{layout}
+use Rattle.heap_graph.specs.References.{instance_ids}
 use Rattle.heap_graph.specs.Skips.{is_skipped}
 
 own_members : (c : Class) (ms : List Member) → map (λ (f : Class × Member). f.1) (map (λ m. (c, m)) ms) ≡ ms
@@ -23,14 +24,15 @@ members_of (c ∷ cs) =
     ∙ ap (λ (xs : List Member). c.members ++ xs) (members_of cs)
 
 all_followed : (s : ℕ) (fs : List (Class × Member)) (values : List ℕ)
-    → followed_ids (λ c m. false) s fs values ≡ field_ids s (map (λ f. f.1) fs) values
+    → field_ids (λ c m. false) s fs values ≡ all_field_ids s (map (λ f. f.1) fs) values
 all_followed s [] values = refl
 all_followed s (f ∷ fs) values =
     ap (λ (xs : List ℕ). (if f.1.type == 2 then big_number s (take s values) ∷ [] else []) ++ xs)
     (all_followed s fs (drop (size_of s f.1.type) values))
 
-pub empty_skips_nothing : (records : List Record) (s : ℕ) (chain : List Class) (values : List ℕ)
-    → followed_ids (is_skipped records []) s (declared_fields chain) values ≡ field_ids s (layout chain) values
-empty_skips_nothing records s chain values =
-    all_followed s (declared_fields chain) values
-    ∙ ap (λ (ms : List Member). field_ids s ms values) (members_of chain)
+pub empty_skips_nothing : (records : List Record) (s : ℕ) (i : Instance) (chain : List Class)
+    → instance_ids (is_skipped records []) s i chain ≡ i.class ∷ all_field_ids s (layout chain) i.values
+empty_skips_nothing records s i chain =
+    ap (λ (ids : List ℕ). i.class ∷ ids)
+    (all_followed s (declared_fields chain) i.values
+    ∙ ap (λ (ms : List Member). all_field_ids s ms i.values) (members_of chain))

@@ -1,5 +1,6 @@
 -- The identifiers in the fields of an instance, up the classes that declare fields.
-use Rattle.std.proofs.Common.{Bool, List, None, Option, Some, [], ap, arith, drop, false, length, map, not, refl, slice_get, subst}
+use Rattle.std.proofs.Common.{Bool, List, None, Option, Some, [], ap, arith, drop, false, length, map, not, refl}
+use Rattle.std.proofs.Common.{slice_get, subst}
 use Rattle.std.proofs.Common.{suc, sym, take, true, zero, ℕ, ◌&&◌, ◌++◌, ◌+◌, ◌<◌, ◌∙◌, ◌∷◌, ◌≡◌, ◌≤◌}
 use Rattle.std.specs.Prelude.{if◌then◌else◌, slice_index, slice_index_or, ◌==◌}
 use Rattle.std.proofs.lemmas.Bool.{eqb-true}
@@ -14,14 +15,15 @@ use Rattle.hprof_grammar.specs.Tables.{size_of}
 use Rattle.heap_graph.specs.declared.classes.fate.Fate.{Fate}
 use Rattle.heap_graph.specs.declared.classes.fate.Fate.TheVariants as fates
 use Rattle.heap_graph.specs.declared.plan.ClassPlan.{ClassPlan}
-use Rattle.heap_graph.specs.Fields.{declared_fields, followed_ids, own_fields}
+use Rattle.heap_graph.specs.Fields.{declared_fields, field_ids, own_fields}
 use Rattle.heap_graph.specs.Layout.{IsChain}
 use Rattle.heap_graph.specs.working.Chains.{BeginsAt, IsFate, IsFirst, IsKnown, IsSettled, tail}
 use Rattle.heap_graph.specs.working.ClassPlans.{IsPlan, id_places_of, plan_at}
-use Rattle.heap_graph.specs.working.ClassTable.{Entry, ids_of}
-use Rattle.heap_graph.specs.working.FieldsUp.{AreUp, HasFields, HaveFields, StandInside, Up, Up-prop, ids_up, next_above, next_in}
+use Rattle.heap_graph.specs.working.ClassTable.{TableEntry, ids_of}
+use Rattle.heap_graph.specs.working.FieldsUp.{AreUp, HasFields, HaveFields, StandInside, Up, Up-prop, ids_up}
+use Rattle.heap_graph.specs.working.FieldsUp.{next_above, next_in}
 use Rattle.heap_graph.specs.working.IdPlaces.{id_places, ids_at, size_of_fields, size_together}
-use Rattle.heap_graph.specs.working.ToldClasses.{AreTold}
+use Rattle.heap_graph.specs.working.ClassFates.{HaveFates}
 use Rattle.heap_graph.proofs.ChainLaws.{chain_ends, cut_is_no_chain, one_chain}
 use Rattle.heap_graph.proofs.FieldLaws.{ids_of_both, of_id_type, size_of_id_type}
 use Rattle.heap_graph.proofs.LayoutLaws.{own_fields_size}
@@ -35,16 +37,17 @@ id_at s at values true = ap (λ (n : ℕ). n ∷ []) (sym (big_from-take 0 s s (
 id_at s at values false = refl
 
 ids_at_places : (skips : Class → Member → Bool) (s : ℕ) (c : Class) (at : ℕ) (ms : List Member) (values : List ℕ)
-    → ids_at s (id_places (skips c) s at ms) values ≡ followed_ids skips s (map (λ m. (c, m)) ms) (drop at values)
+    → ids_at s (id_places (skips c) s at ms) values ≡ field_ids skips s (map (λ m. (c, m)) ms) (drop at values)
 ids_at_places skips s c at [] values = refl
 ids_at_places skips s c at (m ∷ ms) values =
     let size : ℕ = size_of s m.type in
     let followed : Bool = not (skips c m) && (m.type == 2) in
-    map-append (λ p. big_number s (drop p values)) (if followed then at ∷ [] else []) (id_places (skips c) s (at + size) ms)
+    map-append (λ p. big_number s (drop p values)) (if followed then at ∷ [] else [])
+    (id_places (skips c) s (at + size) ms)
     ∙ ap (λ (ids : List ℕ). ids ++ ids_at s (id_places (skips c) s (at + size) ms) values) (id_at s at values followed)
     ∙ ap (λ (ids : List ℕ). (if followed then big_number s (take s (drop at values)) ∷ [] else []) ++ ids)
     (ids_at_places skips s c (at + size) ms values
-    ∙ ap (λ (left : List ℕ). followed_ids skips s (map (λ x. (c, x)) ms) left) (sym (drop-drop size at values)))
+    ∙ ap (λ (left : List ℕ). field_ids skips s (map (λ x. (c, x)) ms) left) (sym (drop-drop size at values)))
 
 first_inside : (s at t n : ℕ) (rest : List ℕ) (b : Bool) → (b ≡ true → t ≡ 2)
     → ((k place : ℕ) → slice_get rest k ≡ Some place → place + s ≤ (at + size_of s t) + n)
@@ -98,27 +101,35 @@ own_stand skips s plans places c values k own low room =
 
 own_ids : (skips : Class → Member → Bool) (s : ℕ) (plans : List ClassPlan) (places : List ℕ) (c : Class)
     (values : List ℕ) (k : ℕ) → AreOwnFields skips s plans places c k
-    → ids_at s (id_places_of plans places k) values ≡ followed_ids skips s (own_fields c) values
+    → ids_at s (id_places_of plans places k) values ≡ field_ids skips s (own_fields c) values
 own_ids skips s plans places c values k own = ap (λ (ps : List ℕ). ids_at s ps values) own.places_are
     ∙ ids_at_places skips s c 0 c.members values
 
 -- ---- the classes above a class
 
-fate_says : (s : ℕ) (heap : List SubRecord) (ids : List ℕ) (id : ℕ) (c : Class) (rest : List Class) (f : Fate) → IsSettled f → IsFate s heap ids id f → IsChain heap id (c ∷ rest) → IsFirst heap ids (declared_fields rest) (next_in f)
+fate_says : (s : ℕ) (heap : List SubRecord) (ids : List ℕ) (id : ℕ) (c : Class) (rest : List Class) (f : Fate)
+    → IsSettled f → IsFate s heap ids id f → IsChain heap id (c ∷ rest)
+    → IsFirst heap ids (declared_fields rest) (next_in f)
 fate_says s heap ids id c rest fates.Unknown settled is chain = absurd settled
 fate_says s heap ids id c rest fates.OnPath settled is chain = absurd settled
-fate_says s heap ids id c rest (fates.Whole l) settled is chain = subst (λ (cs : List Class). IsFirst heap ids (declared_fields (tail cs)) l.next) (one_chain heap id is.0 (c ∷ rest) is.1 chain) is.2.next_is
-fate_says s heap ids id c rest fates.Broken settled is chain = absurd (cut_is_no_chain heap id is.0 (c ∷ rest) is.1 chain)
+fate_says s heap ids id c rest (fates.Whole l) settled is chain =
+    subst (λ (cs : List Class). IsFirst heap ids (declared_fields (tail cs)) l.next)
+    (one_chain heap id is.0 (c ∷ rest) is.1 chain) is.2.next_is
+fate_says s heap ids id c rest fates.Broken settled is chain =
+    absurd (cut_is_no_chain heap id is.0 (c ∷ rest) is.1 chain)
 fate_says s heap ids id c rest fates.Endless settled is chain = absurd (chain_ends heap id (c ∷ rest) chain is)
 
-first_above : (v : Sight) (heap : List SubRecord) (entries : List Entry) (fields : List (Class × Member))
-    (known : List Fate) (k : ℕ) → AreTold v heap entries known → (b : BeginsAt heap (ids_of entries) fields k) → IsFirst heap (ids_of entries)
+first_above : (v : Sight) (heap : List SubRecord) (entries : List TableEntry) (fields : List (Class × Member))
+    (known : List Fate) (k : ℕ) → HaveFates v heap entries known → (b : BeginsAt heap (ids_of entries) fields k)
+    → IsFirst heap (ids_of entries)
     (declared_fields b.rest) (next_above known k)
 first_above v heap entries fields known k told b =
     let it : IsKnown known k = told.settled.each_known k b.below in
-    let read : it.fate ≡ slice_index_or known k fates.Unknown = sym (get_or_from_slice_get known k it.fate fates.Unknown it.is) in
+    let read : it.fate ≡ slice_index_or known k fates.Unknown =
+    sym (get_or_from_slice_get known k it.fate fates.Unknown it.is) in
     subst (λ (f : Fate). IsFirst heap (ids_of entries) (declared_fields b.rest) (next_in f)) read
-    (fate_says v.id_size heap (ids_of entries) (slice_index (ids_of entries) k) b.class b.rest it.fate it.settled (told.settled.fates_are.each k it.fate it.is) (b.named, b.chain))
+    (fate_says v.id_size heap (ids_of entries) (slice_index (ids_of entries) k) b.class b.rest it.fate it.settled
+    (told.settled.fates_are.each k it.fate it.is) (b.named, b.chain))
 
 begins_at : (heap : List SubRecord) (ids : List ℕ) (fields : List (Class × Member)) (first : Option ℕ) (k : ℕ)
     → first ≡ Some k → IsFirst heap ids fields first → BeginsAt heap ids fields k
@@ -139,8 +150,8 @@ fewer_fields heap ids fields k b =
     )
 
 -- the classes up from the first one are finitely many
-up_within : (v : Sight) (heap : List SubRecord) (entries : List Entry) (known : List Fate) (n : ℕ)
-    (fields : List (Class × Member)) (first : Option ℕ) → AreTold v heap entries known → length fields ≤ n
+up_within : (v : Sight) (heap : List SubRecord) (entries : List TableEntry) (known : List Fate) (n : ℕ)
+    (fields : List (Class × Member)) (first : Option ℕ) → HaveFates v heap entries known → length fields ≤ n
     → IsFirst heap (ids_of entries) fields first → Up known first
 up_within v heap entries known n fields None told few is = ([], refl)
 up_within v heap entries known zero fields (Some k) told few b =
@@ -151,8 +162,8 @@ up_within v heap entries known (suc n) fields (Some k) told few b =
     (first_above v heap entries fields known k told b) in
     (k ∷ rest.0, (refl, rest.1))
 
-pub up_from : (v : Sight) (heap : List SubRecord) (entries : List Entry) (known : List Fate)
-    (fields : List (Class × Member)) (first : Option ℕ) → AreTold v heap entries known
+pub up_from : (v : Sight) (heap : List SubRecord) (entries : List TableEntry) (known : List Fate)
+    (fields : List (Class × Member)) (first : Option ℕ) → HaveFates v heap entries known
     → IsFirst heap (ids_of entries) fields first → Up known first
 up_from v heap entries known fields first told is = up_within v heap entries known (length fields) fields first told
     (omega arith) is
@@ -168,9 +179,9 @@ both_sizes s heap ids fields k b =
     ∙ ap (λ (n : ℕ). n + size_of_fields s (declared_fields b.rest)) (own_fields_size s b.class)
 
 pub have_fields : (skips : Class → Member → Bool) (v : Sight) (heap : List SubRecord) (all : List ℕ)
-    (entries : List Entry) (plans : List ClassPlan) (places : List ℕ) (known : List Fate) (ks : List ℕ)
+    (entries : List TableEntry) (plans : List ClassPlan) (places : List ℕ) (known : List Fate) (ks : List ℕ)
     (fields : List (Class × Member)) (values : List ℕ) (first : Option ℕ) → 1 ≤ v.id_size
-    → AreTold v heap entries known → IsPlan skips v.id_size heap all (ids_of entries) plans places
+    → HaveFates v heap entries known → IsPlan skips v.id_size heap all (ids_of entries) plans places
     → IsFirst heap (ids_of entries) fields first → size_of_fields v.id_size fields ≤ length values
     → AreUp known first ks → HaveFields v.id_size plans places known ks values
 have_fields skips v heap all entries plans places known [] fields values first low told plan is room up = tt
@@ -195,13 +206,13 @@ have_fields skips v heap all entries plans places known (k ∷ ks) fields values
     )
 
 pub ids_up_are : (skips : Class → Member → Bool) (v : Sight) (heap : List SubRecord) (all : List ℕ)
-    (entries : List Entry) (plans : List ClassPlan) (places : List ℕ) (known : List Fate) (ks : List ℕ)
-    (fields : List (Class × Member)) (values : List ℕ) (first : Option ℕ) → AreTold v heap entries known
+    (entries : List TableEntry) (plans : List ClassPlan) (places : List ℕ) (known : List Fate) (ks : List ℕ)
+    (fields : List (Class × Member)) (values : List ℕ) (first : Option ℕ) → HaveFates v heap entries known
     → IsPlan skips v.id_size heap all (ids_of entries) plans places → IsFirst heap (ids_of entries) fields first
-    → AreUp known first ks → ids_up v.id_size plans places ks values ≡ followed_ids skips v.id_size fields values
+    → AreUp known first ks → ids_up v.id_size plans places ks values ≡ field_ids skips v.id_size fields values
 ids_up_are skips v heap all entries plans places known [] fields values first told plan is up =
     let none : fields ≡ [] = subst (λ (f : Option ℕ). IsFirst heap (ids_of entries) fields f) up is in
-    ap (λ (fs : List (Class × Member)). followed_ids skips v.id_size fs values) (sym none)
+    ap (λ (fs : List (Class × Member)). field_ids skips v.id_size fs values) (sym none)
 ids_up_are skips v heap all entries plans places known (k ∷ ks) fields values first told plan is up =
     let s : ℕ = v.id_size in
     let b : BeginsAt heap (ids_of entries) fields k = begins_at heap (ids_of entries) fields first k up.0 is in
@@ -210,18 +221,19 @@ ids_up_are skips v heap all entries plans places known (k ∷ ks) fields values 
     let behind : List ℕ = drop (plan_at plans k).size values in
     ap (λ (ids : List ℕ). ids ++ ids_up s plans places ks behind)
     (own_ids skips s plans places b.class values k own)
-    ∙ ap (λ (ids : List ℕ). followed_ids skips s (own_fields b.class) values ++ ids)
+    ∙ ap (λ (ids : List ℕ). field_ids skips s (own_fields b.class) values ++ ids)
     (ids_up_are skips v heap all entries plans places known ks (declared_fields b.rest) behind (next_above known k)
     told plan (first_above v heap entries fields known k told b) up.1
-    ∙ ap (λ (n : ℕ). followed_ids skips s (declared_fields b.rest) (drop n values))
+    ∙ ap (λ (n : ℕ). field_ids skips s (declared_fields b.rest) (drop n values))
     (own.size_is ∙ sym (own_fields_size s b.class)))
-    ∙ sym (ap (λ (fs : List (Class × Member)). followed_ids skips s fs values) b.fields_are
+    ∙ sym (ap (λ (fs : List (Class × Member)). field_ids skips s fs values) b.fields_are
     ∙ ids_of_both skips s (own_fields b.class) (declared_fields b.rest) values)
 
 -- ---- what is left of the identifiers of an instance
 
 pub nothing_stands : (s : ℕ) (values : List ℕ) → StandInside s [] 0 values
-nothing_stands s values = record { inside = λ k place is. absurd (let wrong : None ≡ Some place = is in cc); few = omega arith; room = omega arith }
+nothing_stands s values = record
+    { inside = λ k place is. absurd (let wrong : None ≡ Some place = is in cc); few = omega arith; room = omega arith }
 
 -- these are left, of a class and of those above it
 pub record IsLeft (s : ℕ) (plans : List ClassPlan) (places : List ℕ) (known : List Fate) (here : List ℕ) (own : ℕ)
@@ -230,13 +242,17 @@ pub record IsLeft (s : ℕ) (plans : List ClassPlan) (places : List ℕ) (known 
   pub above : HaveFields s plans places known ks (drop own values)
   pub left : ids_at s here values ++ ids_up s plans places ks (drop own values) ≡ ids
 
-same_up : (known : List Fate) (first : Option ℕ) (ks ms : List ℕ) → AreUp known first ks → AreUp known first ms → ks ≡ ms
+same_up : (known : List Fate) (first : Option ℕ) (ks ms : List ℕ) → AreUp known first ks → AreUp known first ms
+    → ks ≡ ms
 same_up known first ks ms h e = ap (λ (u : Up known first). u.0) (Up-prop known first (ks, h) (ms, e))
 
-pub first_room : (s own : ℕ) (here values rest : List ℕ) (place : ℕ) → StandInside s here own values → here ≡ place ∷ rest → place + s ≤ length values
-first_room s own here values rest place stand e = omega (arith, stand.room, stand.inside 0 place (ap (λ (ps : List ℕ). slice_get ps 0) e))
+pub first_room : (s own : ℕ) (here values rest : List ℕ) (place : ℕ) → StandInside s here own values
+    → here ≡ place ∷ rest → place + s ≤ length values
+first_room s own here values rest place stand e =
+    omega (arith, stand.room, stand.inside 0 place (ap (λ (ps : List ℕ). slice_get ps 0) e))
 
-rest_stands : (s own : ℕ) (here values rest : List ℕ) (place : ℕ) → StandInside s here own values → here ≡ place ∷ rest → StandInside s rest own values
+rest_stands : (s own : ℕ) (here values rest : List ℕ) (place : ℕ) → StandInside s here own values
+    → here ≡ place ∷ rest → StandInside s rest own values
 rest_stands s own here values rest place stand e = record {
   inside = λ k p is. stand.inside (suc k) p (ap (λ (ps : List ℕ). slice_get ps (suc k)) e ∙ is);
   few = omega (arith, stand.few, ap length e);
@@ -316,7 +332,8 @@ pub next_left : (s : ℕ) (plans : List ClassPlan) (places : List ℕ) (known : 
     → above ≡ next_above known k → AreUp known above ms → IsLeft s plans places known its size behind ms ids
 next_left s plans places known here own values ks ids k its size behind above ms it e n its_are size_is behind_is
     above_is h =
-    let same : n.rest ≡ ms = same_up known (next_above known k) n.rest ms n.up (subst (λ (f : Option ℕ). AreUp known f ms) above_is h) in
+    let same : n.rest ≡ ms =
+    same_up known (next_above known k) n.rest ms n.up (subst (λ (f : Option ℕ). AreUp known f ms) above_is h) in
     subst (λ (xs : List ℕ). IsLeft s plans places known its size behind xs ids) same
     (rw (its_are, size_is, behind_is) (record {
       stand = n.fields.stand;
@@ -346,7 +363,8 @@ steps_up known zero first = 0
 steps_up known (suc n) None = 0
 steps_up known (suc n) (Some k) = suc (steps_up known n (next_above known k))
 
-steps_are : (known : List Fate) (n : ℕ) (first : Option ℕ) (ks : List ℕ) → AreUp known first ks → length ks ≤ n → steps_up known n first ≡ length ks
+steps_are : (known : List Fate) (n : ℕ) (first : Option ℕ) (ks : List ℕ) → AreUp known first ks → length ks ≤ n
+    → steps_up known n first ≡ length ks
 steps_are known zero first [] h few = refl
 steps_are known zero first (k ∷ ks) h few = absurd (omega (arith, few))
 steps_are known (suc n) None [] h few = refl
@@ -355,7 +373,8 @@ steps_are known (suc n) None (k ∷ ks) h few = absurd (let wrong : None ≡ Som
 steps_are known (suc n) (Some m) (k ∷ ks) h few =
     let both : Some m ≡ Some k = h.0 in
     let same : m ≡ k = cc in
-    ap suc (ap (λ (x : ℕ). steps_up known n (next_above known x)) same ∙ steps_are known n (next_above known k) ks h.1 (omega (arith, few)))
+    ap suc (ap (λ (x : ℕ). steps_up known n (next_above known x)) same
+    ∙ steps_are known n (next_above known k) ks h.1 (omega (arith, few)))
 
 -- so many identifiers are counted, of that many; those of the classes from that one up are left, in that many bytes
 pub record IsCounted (s : ℕ) (plans : List ClassPlan) (places : List ℕ) (known : List Fate) (most bytes all : ℕ)
@@ -444,7 +463,14 @@ fewer_steps s plans places known most bytes all first counted k above it e above
     let n : HasNext s plans places known it.values k it.classes = next_counted s plans places known most bytes all first
     counted k it e in
     let fewer : length n.rest < length it.classes = omega (arith, ap length n.are) in
-    omega (arith, fewer, steps_are known most first it.classes it.up it.few_classes, ap (λ (f : Option ℕ). steps_up known most f) above_is, steps_are known most (next_above known k) n.rest n.up (omega (arith, fewer, it.few_classes)))
+    omega (
+      arith,
+      fewer,
+      steps_are known most first it.classes it.up it.few_classes,
+      ap (λ (f : Option ℕ). steps_up known most f) above_is,
+      steps_are known most (next_above known k) n.rest n.up
+          (omega (arith, fewer, it.few_classes)),
+    )
 
 pub all_counted : (s : ℕ) (plans : List ClassPlan) (places : List ℕ) (known : List Fate) (most bytes all : ℕ)
     (first : Option ℕ) (counted : ℕ) → IsCounted s plans places known most bytes all first counted

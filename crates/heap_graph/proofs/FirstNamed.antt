@@ -13,20 +13,21 @@ use Rattle.hprof_grammar.specs.SubRecord.SubRecord.{root}
 use Rattle.heap_graph.specs.declared.plan.ClassPlan.{ClassPlan}
 use Rattle.heap_graph.specs.declared.row.RowKey.{RowKey}
 use Rattle.heap_graph.specs.declared.row.RowKey.TheVariants as keys
+use Rattle.heap_graph.specs.Fields.{declared_fields, field_ids}
 use Rattle.heap_graph.specs.Heap.{class_dumps, class_number, heap_of}
-use Rattle.heap_graph.specs.Layout.{field_ids, layout}
 use Rattle.heap_graph.specs.ObjectGraph.{IsGraphOf, ObjectGraph, class_count, named_in}
 use Rattle.heap_graph.specs.References.{AreIdsIn}
 use Rattle.heap_graph.specs.Rows.{row_of}
+use Rattle.heap_graph.specs.Skips.{SkipEntry}
 use Rattle.heap_graph.specs.Whole.{IsRowIn}
 use Rattle.heap_graph.specs.working.ClassPlans.{AreClassObjects, HasPlan, IsPlan, object_of_row, plan_at}
-use Rattle.heap_graph.specs.working.Resolving.{Leads, target_in}
+use Rattle.heap_graph.specs.working.Resolving.{FirstNames, target_in}
 use Rattle.heap_graph.proofs.ClassTableLaws.{there_is}
 use Rattle.heap_graph.proofs.EntryLaws.{same_number}
 use Rattle.heap_graph.proofs.Firsts.{IsHit, hit}
 
 leads_if : (all ids : List ℕ) (id : ℕ) (rest : List ℕ) (object : Option ℕ) → object ≡ target_in all id → ids ≡ id ∷ rest
-    → IfSome object (Leads all ids)
+    → IfSome object (FirstNames all ids)
 leads_if all ids id rest None named is = tt
 leads_if all ids id rest (Some o) named is = (id, rest, is, sym named)
 
@@ -40,7 +41,7 @@ id_of_number ids id below =
 class_leads : (heap : List SubRecord) (all ids held : List ℕ) (id : ℕ) (rest : List ℕ) (plans : List ClassPlan)
     → ids ≡ map (λ (c : Class). c.object) (class_dumps heap) → length plans ≡ length ids
     → AreClassObjects all ids plans → class_number heap id < length plans → held ≡ id ∷ rest
-    → IfSome (plan_at plans (class_number heap id)).object (Leads all held)
+    → IfSome (plan_at plans (class_number heap id)).object (FirstNames all held)
 class_leads heap all ids held id rest plans are count objects below is =
     let at : position_or_len (λ x. x == id) ids ≡ class_number heap id = same_number heap ids id are in
     let it = there_is plans (class_number heap id) below in
@@ -53,17 +54,19 @@ class_leads heap all ids held id rest plans are count objects below is =
     (ap (λ (p : ClassPlan). p.object) read ∙ objects (class_number heap id) it.0 it.1
     ∙ ap (λ (x : ℕ). target_in all x) named) is
 
-pub first_leads : (s : ℕ) (heap : List SubRecord) (all ids held : List ℕ) (plans : List ClassPlan) (o : SubRecord)
+pub first_leads : (skips : Class → Member → Bool) (s : ℕ) (heap : List SubRecord) (all ids held : List ℕ)
+    (plans : List ClassPlan) (o : SubRecord)
     → ids ≡ map (λ (c : Class). c.object) (class_dumps heap) → length plans ≡ length ids
-    → AreClassObjects all ids plans → AreIdsIn s heap o held → HasPlan plans (row_of heap o)
-    → IfSome (object_of_row plans (row_of heap o)) (Leads all held)
-first_leads s heap all ids held plans (root r) are count objects is has = tt
-first_leads s heap all ids held plans (class_dump c) are count objects is has = tt
-first_leads s heap all ids held plans (instance_dump i) are count objects is has =
-    class_leads heap all ids held i.class (field_ids s (layout is.0) i.values) plans are count objects has is.2
-first_leads s heap all ids held plans (object_array_dump a) are count objects is has =
+    → AreClassObjects all ids plans → AreIdsIn skips s heap o held → HasPlan plans (row_of heap o)
+    → IfSome (object_of_row plans (row_of heap o)) (FirstNames all held)
+first_leads skips s heap all ids held plans (root r) are count objects is has = tt
+first_leads skips s heap all ids held plans (class_dump c) are count objects is has = tt
+first_leads skips s heap all ids held plans (instance_dump i) are count objects is has =
+    class_leads heap all ids held i.class (field_ids skips s (declared_fields is.0) i.values) plans are count objects
+    has is.2
+first_leads skips s heap all ids held plans (object_array_dump a) are count objects is has =
     class_leads heap all ids held a.class a.elements plans are count objects has is
-first_leads s heap all ids held plans (primitive_array_dump a) are count objects is has = tt
+first_leads skips s heap all ids held plans (primitive_array_dump a) are count objects is has = tt
 
 -- the class of a row that a graph has is planned
 pub row_planned : (g : ObjectGraph) (plans : List ClassPlan) (row : RowKey) → class_count g ≡ length plans
@@ -73,10 +76,11 @@ row_planned g plans (keys.Primitive t) count is = tt
 row_planned g plans keys.ClassObject count is = tt
 
 -- and as many classes are planned as it has
-pub classes_planned : (skips : Class → Member → Bool) (s : ℕ) (records : List Record) (g : ObjectGraph) (all ids : List ℕ) (plans : List ClassPlan)
-    (places : List ℕ) → IsGraphOf s records g → ids ≡ map (λ (c : Class). c.object) (class_dumps (heap_of records))
+pub classes_planned : (skips : Class → Member → Bool) (s : ℕ) (records : List Record) (skip : List SkipEntry)
+    (g : ObjectGraph) (all ids : List ℕ) (plans : List ClassPlan) (places : List ℕ) → IsGraphOf s records skip g → ids
+    ≡ map (λ (c : Class). c.object) (class_dumps (heap_of records))
     → IsPlan skips s (heap_of records) all ids plans places → class_count g ≡ length plans
-classes_planned skips s records g all ids plans places graph are plan =
+classes_planned skips s records skip g all ids plans places graph are plan =
     omega (
       arith,
       ap length graph.classes_are,

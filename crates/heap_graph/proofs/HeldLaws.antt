@@ -1,97 +1,131 @@
 -- The identifiers that an object holds, one part after the other.
-use Rattle.std.proofs.Common.{Bool, List, Option, [], ap, arith, false, filter, length, length-append, map, refl, subst, sym, true, ℕ, ◌++◌, ◌+◌, ◌<◌, ◌^◌, ◌∙◌, ◌∷◌, ◌≡◌, ◌≤◌}
+use Rattle.std.proofs.Common.{Bool, List, Option, [], ap, arith, false, filter, length, length-append, map, refl, subst}
+use Rattle.std.proofs.Common.{sym, true, ℕ, ◌++◌, ◌+◌, ◌<◌, ◌^◌, ◌∙◌, ◌∷◌, ◌≡◌, ◌≤◌}
 use Rattle.std.specs.Prelude.{if◌then◌else◌, ◌==◌}
 use Rattle.std.specs.List.{AllByRecursion}
 use Rattle.std.proofs.lemmas.Bool.{eqb-true}
 use Rattle.std.proofs.lemmas.List.{length-map}
 use Rattle.byteorder.specs.Endian.{big_number}
 use Rattle.hprof_grammar.specs.Bounds.{IsClass, IsConstant, IsStatic}
-use Rattle.hprof_grammar.specs.SubRecord.{Class, Constant, Instance, Member, ObjectArray, PrimitiveArray, Static, SubRecord}
+use Rattle.hprof_grammar.specs.SubRecord.{Class, Constant, Instance, Member, ObjectArray, PrimitiveArray, Static}
+use Rattle.hprof_grammar.specs.SubRecord.{SubRecord}
 use Rattle.hprof_grammar.specs.SubRecord.SubRecord.{class_dump, instance_dump, object_array_dump, primitive_array_dump}
 use Rattle.hprof_grammar.specs.Series.{LabelledValue, of_constant, of_static}
 use Rattle.hprof_grammar.specs.Tables.{size_of}
 use Rattle.heap_graph.specs.declared.objects.Objects.{Objects}
-use Rattle.heap_graph.specs.Fields.{declared_fields, followed_ids}
+use Rattle.heap_graph.specs.Fields.{declared_fields, field_ids}
 use Rattle.heap_graph.specs.References.{class_ids, constant_ids, static_ids}
 use Rattle.heap_graph.specs.working.ClassTable.{ids_of}
 use Rattle.heap_graph.specs.working.HeldIds.{AreIdsOf, IsFirstOfInstance, IsLayoutFrom}
 use Rattle.heap_graph.specs.working.Values.{AreClassValues, AreIdValues, IsIdValue, values_ids}
 use Rattle.heap_graph.proofs.FieldLaws.{size_of_id_type}
-use Rattle.heap_graph.proofs.FieldsLaws.{empty_skips_nothing}
 use Rattle.heap_graph.proofs.InstanceLaws.{few_fields}
 use Rattle.heap_graph.proofs.LayoutLaws.{size_by_fields}
 
 -- ---- those of a class
 
 id_value : (s type : ℕ) (value : List ℕ) → 1 ≤ s → s ≤ 8 → length value ≡ size_of s type → IsIdValue type value
-id_value s type value low high size is = let e : size_of s type ≡ s = size_of_id_type s type is in (omega (arith, low, e, size), omega (arith, high, e, size))
+id_value s type value low high size is =
+    let e : size_of s type ≡ s = size_of_id_type s type is in
+    (omega (arith, low, e, size), omega (arith, high, e, size))
 
-constant_values : (s : ℕ) (ks : List Constant) → 1 ≤ s → s ≤ 8 → AllByRecursion (IsConstant s) ks → AreIdValues (map of_constant ks)
+constant_values : (s : ℕ) (ks : List Constant) → 1 ≤ s → s ≤ 8 → AllByRecursion (IsConstant s) ks
+    → AreIdValues (map of_constant ks)
 constant_values s [] low high all = tt
-constant_values s (k ∷ ks) low high all = (id_value s k.type k.value low high all.0.value, constant_values s ks low high all.1)
+constant_values s (k ∷ ks) low high all =
+    (id_value s k.type k.value low high all.0.value, constant_values s ks low high all.1)
 
-static_values : (s : ℕ) (fs : List Static) → 1 ≤ s → s ≤ 8 → AllByRecursion (IsStatic s) fs → AreIdValues (map of_static fs)
+static_values : (s : ℕ) (fs : List Static) → 1 ≤ s → s ≤ 8 → AllByRecursion (IsStatic s) fs
+    → AreIdValues (map of_static fs)
 static_values s [] low high all = tt
-static_values s (f ∷ fs) low high all = (id_value s f.type f.value low high all.0.value, static_values s fs low high all.1)
+static_values s (f ∷ fs) low high all =
+    (id_value s f.type f.value low high all.0.value, static_values s fs low high all.1)
 
-one_value : (s type : ℕ) (value : List ℕ) (b : Bool) → (type == 2) ≡ b → length value ≡ size_of s type → (if b then big_number (length value) value ∷ [] else []) ≡ (if b then big_number s value ∷ [] else [])
+one_value : (s type : ℕ) (value : List ℕ) (b : Bool) → (type == 2) ≡ b → length value ≡ size_of s type
+    → (if b then big_number (length value) value ∷ [] else []) ≡ (if b then big_number s value ∷ [] else [])
 one_value s type value false e size = refl
-one_value s type value true e size = ap (λ (n : ℕ). big_number n value ∷ []) (size ∙ size_of_id_type s type (eqb-true type 2 e))
+one_value s type value true e size =
+    ap (λ (n : ℕ). big_number n value ∷ []) (size ∙ size_of_id_type s type (eqb-true type 2 e))
 
-kept_first : {X : Type 0} (g : X → ℕ) (x : X) (xs : List X) (b : Bool) → (if b then g x ∷ [] else []) ++ map g xs ≡ map g (if b then x ∷ xs else xs)
+kept_first : {X : Type 0} (g : X → ℕ) (x : X) (xs : List X) (b : Bool)
+    → (if b then g x ∷ [] else []) ++ map g xs ≡ map g (if b then x ∷ xs else xs)
 kept_first g x xs true = refl
 kept_first g x xs false = refl
 
-constants_are : (s : ℕ) (ks : List Constant) → AllByRecursion (IsConstant s) ks → values_ids (map of_constant ks) ≡ constant_ids s ks
+constants_are : (s : ℕ) (ks : List Constant) → AllByRecursion (IsConstant s) ks
+    → values_ids (map of_constant ks) ≡ constant_ids s ks
 constants_are s [] all = refl
 constants_are s (k ∷ ks) all =
-    ap (λ (xs : List ℕ). xs ++ values_ids (map of_constant ks)) (one_value s k.type k.value (k.type == 2) refl all.0.value)
+    ap (λ (xs : List ℕ). xs ++ values_ids (map of_constant ks))
+    (one_value s k.type k.value (k.type == 2) refl all.0.value)
     ∙ ap (λ (xs : List ℕ). (if k.type == 2 then big_number s k.value ∷ [] else []) ++ xs) (constants_are s ks all.1)
     ∙ kept_first (λ (x : Constant). big_number s x.value) k (filter (λ (x : Constant). x.type == 2) ks) (k.type == 2)
 
-statics_are : (s : ℕ) (fs : List Static) → AllByRecursion (IsStatic s) fs → values_ids (map of_static fs) ≡ static_ids s fs
+statics_are : (s : ℕ) (fs : List Static) → AllByRecursion (IsStatic s) fs
+    → values_ids (map of_static fs) ≡ static_ids s fs
 statics_are s [] all = refl
 statics_are s (f ∷ fs) all =
-    ap (λ (xs : List ℕ). xs ++ values_ids (map of_static fs)) (one_value s f.type f.value (f.type == 2) refl all.0.value)
+    ap (λ (xs : List ℕ). xs ++ values_ids (map of_static fs))
+    (one_value s f.type f.value (f.type == 2) refl all.0.value)
     ∙ ap (λ (xs : List ℕ). (if f.type == 2 then big_number s f.value ∷ [] else []) ++ xs) (statics_are s fs all.1)
     ∙ kept_first (λ (x : Static). big_number s x.value) f (filter (λ (x : Static). x.type == 2) fs) (f.type == 2)
 
-few_kept : {X : Type 0} (g : X → ℕ) (x : X) (xs : List X) (n : ℕ) (b : Bool) → length (map g xs) ≤ n → length (map g (if b then x ∷ xs else xs)) ≤ 1 + n
+few_kept : {X : Type 0} (g : X → ℕ) (x : X) (xs : List X) (n : ℕ) (b : Bool) → length (map g xs) ≤ n
+    → length (map g (if b then x ∷ xs else xs)) ≤ 1 + n
 few_kept g x xs n true h = omega (arith, h)
 few_kept g x xs n false h = omega (arith, h)
 
 few_constants : (s : ℕ) (ks : List Constant) → length (constant_ids s ks) ≤ length ks
 few_constants s [] = omega arith
-few_constants s (k ∷ ks) = let h = few_kept (λ (x : Constant). big_number s x.value) k (filter (λ (x : Constant). x.type == 2) ks) (length ks) (k.type == 2) (few_constants s ks) in omega (arith, h)
+few_constants s (k ∷ ks) =
+    let h = few_kept (λ (x : Constant). big_number s x.value) k (filter (λ (x : Constant). x.type == 2) ks)
+    (length ks) (k.type == 2) (few_constants s ks) in omega (arith, h)
 
 few_statics : (s : ℕ) (fs : List Static) → length (static_ids s fs) ≤ length fs
 few_statics s [] = omega arith
-few_statics s (f ∷ fs) = let h = few_kept (λ (x : Static). big_number s x.value) f (filter (λ (x : Static). x.type == 2) fs) (length fs) (f.type == 2) (few_statics s fs) in omega (arith, h)
+few_statics s (f ∷ fs) =
+    let h = few_kept (λ (x : Static). big_number s x.value) f (filter (λ (x : Static). x.type == 2) fs) (length fs)
+    (f.type == 2) (few_statics s fs) in omega (arith, h)
 
-pub class_constants : (s : ℕ) (c : Class) (values : List LabelledValue) → 1 ≤ s → s ≤ 8 → IsClass s c → values ≡ map of_constant c.constants → AreClassValues values
+pub class_constants : (s : ℕ) (c : Class) (values : List LabelledValue) → 1 ≤ s → s ≤ 8 → IsClass s c
+    → values ≡ map of_constant c.constants → AreClassValues values
 class_constants s c values low high is e = record {
   few = omega (arith, ap length e, length-map c.constants of_constant, is.constant_count);
-  fit = subst (λ (vs : List LabelledValue). AreIdValues vs) (sym e) (constant_values s c.constants low high is.constants);
+  fit = subst (λ (vs : List LabelledValue). AreIdValues vs) (sym e)
+      (constant_values s c.constants low high is.constants);
 }
 
-pub class_statics : (s : ℕ) (c : Class) (values : List LabelledValue) → 1 ≤ s → s ≤ 8 → IsClass s c → values ≡ map of_static c.statics → AreClassValues values
+pub class_statics : (s : ℕ) (c : Class) (values : List LabelledValue) → 1 ≤ s → s ≤ 8 → IsClass s c
+    → values ≡ map of_static c.statics → AreClassValues values
 class_statics s c values low high is e = record {
   few = omega (arith, ap length e, length-map c.statics of_static, is.static_count);
   fit = subst (λ (vs : List LabelledValue). AreIdValues vs) (sym e) (static_values s c.statics low high is.statics);
 }
 
-pub class_parts : (s : ℕ) (c : Class) (leading : List ℕ) (constants statics : List LabelledValue) → IsClass s c → leading ≡ c.super ∷ c.loader ∷ c.signers ∷ c.domain ∷ [] → constants ≡ map of_constant c.constants → statics ≡ map of_static c.statics
+pub class_parts : (s : ℕ) (c : Class) (leading : List ℕ) (constants statics : List LabelledValue) → IsClass s c
+    → leading ≡ c.super ∷ c.loader ∷ c.signers ∷ c.domain ∷ [] → constants ≡ map of_constant c.constants
+    → statics ≡ map of_static c.statics
     → leading ++ values_ids constants ++ values_ids statics ≡ class_ids s c
 class_parts s c leading constants statics is el ek ef =
     ap (λ (xs : List ℕ). xs ++ values_ids constants ++ values_ids statics) el
-    ∙ ap (λ (xs : List ℕ). c.super ∷ c.loader ∷ c.signers ∷ c.domain ∷ xs ++ values_ids statics) (ap (λ (vs : List LabelledValue). values_ids vs) ek ∙ constants_are s c.constants is.constants)
-    ∙ ap (λ (xs : List ℕ). c.super ∷ c.loader ∷ c.signers ∷ c.domain ∷ constant_ids s c.constants ++ xs) (ap (λ (vs : List LabelledValue). values_ids vs) ef ∙ statics_are s c.statics is.statics)
+    ∙ ap (λ (xs : List ℕ). c.super ∷ c.loader ∷ c.signers ∷ c.domain ∷ xs ++ values_ids statics)
+    (ap (λ (vs : List LabelledValue). values_ids vs) ek ∙ constants_are s c.constants is.constants)
+    ∙ ap (λ (xs : List ℕ). c.super ∷ c.loader ∷ c.signers ∷ c.domain ∷ constant_ids s c.constants ++ xs)
+    (ap (λ (vs : List LabelledValue). values_ids vs) ef ∙ statics_are s c.statics is.statics)
 
 pub few_in_class : (s : ℕ) (c : Class) → IsClass s c → length (class_ids s c) ≤ 2 ^ 32
-few_in_class s c is = omega (arith, length-append (constant_ids s c.constants) (static_ids s c.statics), few_constants s c.constants, few_statics s c.statics, is.constant_count, is.static_count)
+few_in_class s c is = omega (
+  arith,
+  length-append (constant_ids s c.constants) (static_ids s c.statics),
+  few_constants s c.constants,
+  few_statics s c.statics,
+  is.constant_count,
+  is.static_count,
+)
 
-pub class_holds : (s : ℕ) (heap : List SubRecord) (c : Class) (ids : List ℕ) → IsClass s c → ids ≡ class_ids s c → AreIdsOf s heap (class_dump c) ids
-class_holds s heap c ids is e = record { are = e; few = omega (arith, ap length e, few_in_class s c is) }
+pub class_holds : (skips : Class → Member → Bool) (s : ℕ) (heap : List SubRecord) (c : Class) (ids : List ℕ)
+    → IsClass s c → ids ≡ class_ids s c → AreIdsOf skips s heap (class_dump c) ids
+class_holds skips s heap c ids is e = record { are = e; few = omega (arith, ap length e, few_in_class s c is) }
 
 -- ---- those of the other objects
 
@@ -107,7 +141,7 @@ layout_from o heap i first values it e = record {
 pub few_in_instance : (skips : Class → Member → Bool) (s : ℕ) (heap : List SubRecord) (ids : List ℕ) (i : Instance)
     (first : Option ℕ) (it : IsFirstOfInstance s heap ids i first) (fields values : List ℕ) → 1 ≤ s
     → length i.values < 256 ^ 4 → values ≡ i.values
-    → fields ≡ followed_ids skips s (declared_fields it.chain) values → length fields ≤ 2 ^ 32
+    → fields ≡ field_ids skips s (declared_fields it.chain) values → length fields ≤ 2 ^ 32
 few_in_instance skips s heap ids i first it fields values low few ev ef =
     omega (
       arith,
@@ -118,27 +152,29 @@ few_in_instance skips s heap ids i first it fields values low few ev ef =
       few,
     )
 
-pub instance_holds : (s : ℕ) (heap : List SubRecord) (ids : List ℕ) (i : Instance) (first : Option ℕ)
-    (it : IsFirstOfInstance s heap ids i first) (class : ℕ) (fields values : List ℕ) → 1 ≤ s
+pub instance_holds : (skips : Class → Member → Bool) (s : ℕ) (heap : List SubRecord) (ids : List ℕ) (i : Instance)
+    (first : Option ℕ) (it : IsFirstOfInstance s heap ids i first) (class : ℕ) (fields values : List ℕ) → 1 ≤ s
     → length i.values < 256 ^ 4 → class ≡ i.class → values ≡ i.values
-    → fields ≡ followed_ids (λ c m. false) s (declared_fields it.chain) values
-    → AreIdsOf s heap (instance_dump i) (class ∷ fields)
-instance_holds s heap ids i first it class fields values low few ec ev ef = record {
+    → fields ≡ field_ids skips s (declared_fields it.chain) values
+    → AreIdsOf skips s heap (instance_dump i) (class ∷ fields)
+instance_holds skips s heap ids i first it class fields values low few ec ev ef = record {
   are = (
     it.chain,
     it.is,
     ap (λ (x : ℕ). x ∷ fields) ec ∙ ap (λ (xs : List ℕ). i.class ∷ xs)
-        (ef ∙ ap (λ (vs : List ℕ). followed_ids (λ c m. false) s (declared_fields it.chain) vs) ev
-        ∙ empty_skips_nothing [] s it.chain i.values),
+        (ef ∙ ap (λ (vs : List ℕ). field_ids skips s (declared_fields it.chain) vs) ev),
   );
-  few = omega (arith, few_in_instance (λ c m. false) s heap ids i first it fields values low few ev ef);
+  few = omega (arith, few_in_instance skips s heap ids i first it fields values low few ev ef);
 }
 
-pub array_holds : (s : ℕ) (heap : List SubRecord) (a : ObjectArray) (class : ℕ) (elements : List ℕ) → length a.elements < 256 ^ 4 → class ≡ a.class → elements ≡ a.elements → AreIdsOf s heap (object_array_dump a) (class ∷ elements)
-array_holds s heap a class elements few ec ee = record {
+pub array_holds : (skips : Class → Member → Bool) (s : ℕ) (heap : List SubRecord) (a : ObjectArray) (class : ℕ)
+    (elements : List ℕ) → length a.elements < 256 ^ 4 → class ≡ a.class → elements ≡ a.elements
+    → AreIdsOf skips s heap (object_array_dump a) (class ∷ elements)
+array_holds skips s heap a class elements few ec ee = record {
   are = ap (λ (x : ℕ). x ∷ elements) ec ∙ ap (λ (xs : List ℕ). a.class ∷ xs) ee;
   few = omega (arith, few, ap length ee);
 }
 
-pub nothing_held : (s : ℕ) (heap : List SubRecord) (a : PrimitiveArray) → AreIdsOf s heap (primitive_array_dump a) []
-nothing_held s heap a = record { are = refl; few = omega arith }
+pub nothing_held : (skips : Class → Member → Bool) (s : ℕ) (heap : List SubRecord) (a : PrimitiveArray)
+    → AreIdsOf skips s heap (primitive_array_dump a) []
+nothing_held skips s heap a = record { are = refl; few = omega arith }

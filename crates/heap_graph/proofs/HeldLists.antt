@@ -1,21 +1,23 @@
 -- The objects of a linked heap list hold identifiers: a list for each of them, without a call that reads them.
-use Rattle.std.proofs.Common.{List, None, Option, Some, [], arith, false, get_or, length, refl, slice_get, subst, suc, sym, zero, ℕ, ◌<◌, ◌∙◌, ◌∷◌, ◌≡◌, ◌≤◌}
+use Rattle.std.proofs.Common.{Bool, List, None, Option, Some, [], arith, get_or, length, refl, slice_get, subst, suc}
+use Rattle.std.proofs.Common.{sym, zero, ℕ, ◌<◌, ◌∙◌, ◌∷◌, ◌≡◌, ◌≤◌}
 use Rattle.std.specs.Prelude.{position, ◌==◌}
 use Rattle.hprof_grammar.specs.Standing.{Sight, Stands}
-use Rattle.hprof_grammar.specs.SubRecord.{Instance, SubRecord}
-use Rattle.hprof_grammar.specs.SubRecord.SubRecord.{class_dump, instance_dump, object_array_dump, primitive_array_dump, root}
+use Rattle.hprof_grammar.specs.SubRecord.{Class, Instance, Member, SubRecord}
+use Rattle.hprof_grammar.specs.SubRecord.SubRecord.{class_dump, instance_dump, object_array_dump, primitive_array_dump}
+use Rattle.hprof_grammar.specs.SubRecord.SubRecord.{root}
 use Rattle.hprof_grammar.proofs.BoundsLaws.{bounds}
 use Rattle.heap_graph.specs.declared.classes.fate.Fate.{Fate}
 use Rattle.heap_graph.specs.declared.classes.fate.Fate.TheVariants as fates
 use Rattle.heap_graph.specs.declared.objects.Objects.{Objects}
-use Rattle.heap_graph.specs.Fields.{declared_fields, followed_ids}
+use Rattle.heap_graph.specs.Fields.{declared_fields, field_ids}
 use Rattle.heap_graph.specs.Heap.{objects}
 use Rattle.heap_graph.specs.References.{AreIdLists, class_ids}
 use Rattle.heap_graph.specs.Linked.{IsLinked}
 use Rattle.heap_graph.specs.working.Chains.{IsFate, IsSettled}
-use Rattle.heap_graph.specs.working.ClassTable.{Entry, ids_of}
+use Rattle.heap_graph.specs.working.ClassTable.{TableEntry, ids_of}
 use Rattle.heap_graph.specs.working.HeldIds.{AreIdsOf, AreLinkedOf, IsFirstOfInstance}
-use Rattle.heap_graph.specs.working.ToldClasses.{AreTold, AreToldOf}
+use Rattle.heap_graph.specs.working.ClassFates.{HaveFates, HaveFatesOf}
 use Rattle.heap_graph.proofs.ClassTableLaws.{not_found}
 use Rattle.heap_graph.proofs.HeldLaws.{array_holds, class_holds, instance_holds, nothing_held}
 use Rattle.heap_graph.proofs.InstanceLaws.{linked_whole, right_size}
@@ -49,8 +51,8 @@ first_by s heap ids known n k i fates.Endless linked is it e =
     absurd (linked_whole s heap ids i.class it.class it.fate linked it.named it.settled
     (λ l h. let wrong : fates.Endless ≡ fates.Whole l = sym e ∙ h in cc) it.says)
 
-first_at : (v : Sight) (heap : List SubRecord) (entries : List Entry) (known : List Fate) (n : ℕ)
-    (i : Instance) (o : Option ℕ) → IsLinked v.id_size heap → AreTold v heap entries known
+first_at : (v : Sight) (heap : List SubRecord) (entries : List TableEntry) (known : List Fate) (n : ℕ)
+    (i : Instance) (o : Option ℕ) → IsLinked v.id_size heap → HaveFates v heap entries known
     → slice_get (objects heap) n ≡ Some (instance_dump i) → position (λ x. x == i.class) (ids_of entries) ≡ o
     → (first : Option ℕ) × IsFirstOfInstance v.id_size heap (ids_of entries) i first
 first_at v heap entries known n i None linked told is e =
@@ -62,25 +64,29 @@ first_at v heap entries known n i (Some k) linked told is e =
 
 -- ---- the identifiers of one object
 
-ids_here : (v : Sight) (heap : List SubRecord) (entries : List Entry) (known : List Fate) (n at : ℕ)
-    (x : SubRecord) → IsLinked v.id_size heap → 1 ≤ v.id_size → AreTold v heap entries known
-    → slice_get (objects heap) n ≡ Some x → Stands v at x → (ids : List ℕ) × AreIdsOf v.id_size heap x ids
-ids_here v heap entries known n at (root r) linked low told is stands =
+ids_here : (skips : Class → Member → Bool) (v : Sight) (heap : List SubRecord) (entries : List TableEntry)
+    (known : List Fate)
+    (n at : ℕ) (x : SubRecord) → IsLinked v.id_size heap → 1 ≤ v.id_size → HaveFates v heap entries known
+    → slice_get (objects heap) n ≡ Some x → Stands v at x → (ids : List ℕ) × AreIdsOf skips v.id_size heap x ids
+ids_here skips v heap entries known n at (root r) linked low told is stands =
     ([], record { are = refl; few = omega arith })
-ids_here v heap entries known n at (class_dump c) linked low told is stands =
-    (class_ids v.id_size c, class_holds v.id_size heap c (class_ids v.id_size c) (bounds stands.is.formed) refl)
-ids_here v heap entries known n at (instance_dump i) linked low told is stands =
+ids_here skips v heap entries known n at (class_dump c) linked low told is stands =
+    (class_ids v.id_size c, class_holds skips v.id_size heap c (class_ids v.id_size c) (bounds stands.is.formed) refl)
+ids_here skips v heap entries known n at (instance_dump i) linked low told is stands =
     let found =
     first_at v heap entries known n i (position (λ x. x == i.class) (ids_of entries)) linked told is refl in
-    let fields : List ℕ = followed_ids (λ c m. false) v.id_size (declared_fields found.1.chain) i.values in (
+    let fields : List ℕ = field_ids skips v.id_size (declared_fields found.1.chain) i.values in (
       i.class ∷ fields,
-      instance_holds v.id_size heap (ids_of entries) i found.0 found.1 i.class fields i.values low
+      instance_holds skips v.id_size heap (ids_of entries) i found.0 found.1 i.class fields i.values low
           (bounds stands.is.formed).values refl refl refl,
     )
-ids_here v heap entries known n at (object_array_dump a) linked low told is stands =
-    (a.class ∷ a.elements, array_holds v.id_size heap a a.class a.elements (bounds stands.is.formed).count refl refl)
-ids_here v heap entries known n at (primitive_array_dump a) linked low told is stands =
-    ([], nothing_held v.id_size heap a)
+ids_here skips v heap entries known n at (object_array_dump a) linked low told is stands = (
+  a.class ∷ a.elements,
+  array_holds skips v.id_size heap a a.class a.elements (bounds stands.is.formed).count refl
+      refl,
+)
+ids_here skips v heap entries known n at (primitive_array_dump a) linked low told is stands =
+    ([], nothing_held skips v.id_size heap a)
 
 -- ---- those of all objects
 
@@ -103,36 +109,38 @@ chosen {O} {X} P (o ∷ os) each = put (each 0 o refl) (chosen P os (λ n x e. e
         here zero y x e h =
             let same : o ≡ y =
             cc in let got : first.0 ≡ x =
-            cc in subst (λ (z : X). P y z) got (subst (λ (z : O). P z first.0) same first.1)
+            cc in
+            subst (λ (z : X). P y z) got (subst (λ (z : O). P z first.0) same first.1)
         here (suc n) y x e h = rest.2 n y x e h
 
 -- the lists of all objects; none is longer than that
-pub record HoldLists (s : ℕ) (heap : List SubRecord) : Type 0 where
+pub record HoldLists (skips : Class → Member → Bool) (s : ℕ) (heap : List SubRecord) : Type 0 where
   pub lists : List (List ℕ)
   pub one_each : length lists ≡ length (objects heap)
   pub each : (n : ℕ) (o : SubRecord) (ids : List ℕ) → slice_get (objects heap) n ≡ Some o → slice_get lists n ≡ Some ids
-      → AreIdsOf s heap o ids
+      → AreIdsOf skips s heap o ids
 
-pub held_lists : {A : Type 0} (o : Objects A) (heap : List SubRecord) → AreLinkedOf o heap → AreToldOf o heap
-    → HoldLists o.view.id_size heap
-held_lists o heap linked told = all (chosen (AreIdsOf o.view.id_size heap) (objects heap) here)
+pub held_lists : {A : Type 0} (skips : Class → Member → Bool) (o : Objects A) (heap : List SubRecord)
+    → AreLinkedOf o heap → HaveFatesOf o heap → HoldLists skips o.view.id_size heap
+held_lists skips o heap linked told = all (chosen (AreIdsOf skips o.view.id_size heap) (objects heap) here)
   where
     here : (n : ℕ) (x : SubRecord) → slice_get (objects heap) n ≡ Some x
-        → (ids : List ℕ) × AreIdsOf o.view.id_size heap x ids
+        → (ids : List ℕ) × AreIdsOf skips o.view.id_size heap x ids
     here n x is =
         let below : n < length o.places.items =
         omega (arith, slice_get_below (objects heap) n x is, linked.are.stand.count) in
         let it : IsThere o.view heap n (get_or o.places.items n 0) =
         there o.view o.places.items o.index heap n linked.are below in
         let same : it.object ≡ x = one_object heap n it.object x it.is is in
-        ids_here o.view heap o.classes.table.entries o.fates.items n
+        ids_here skips o.view heap o.classes.table.entries o.fates.items n
         (get_or o.places.items n 0) x linked.linked linked.low told is
         (subst (λ (y : SubRecord). Stands o.view (get_or o.places.items n 0) y) same it.stands)
 
     all : ((lists : List (List ℕ)) × (length lists ≡ length (objects heap))
         × ((n : ℕ) (x : SubRecord) (ids : List ℕ) → slice_get (objects heap) n ≡ Some x → slice_get lists n ≡ Some ids
-        → AreIdsOf o.view.id_size heap x ids)) → HoldLists o.view.id_size heap
+        → AreIdsOf skips o.view.id_size heap x ids)) → HoldLists skips o.view.id_size heap
     all c = record { lists = c.0; one_each = c.1; each = c.2 }
 
-pub are_lists : (s : ℕ) (heap : List SubRecord) (held : HoldLists s heap) → AreIdLists s heap held.lists
-are_lists s heap held = record { one_each = held.one_each; each = λ n o ids e h. (held.each n o ids e h).are }
+pub are_lists : (skips : Class → Member → Bool) (s : ℕ) (heap : List SubRecord) (held : HoldLists skips s heap)
+    → AreIdLists skips s heap held.lists
+are_lists skips s heap held = record { one_each = held.one_each; each = λ n o ids e h. (held.each n o ids e h).are }

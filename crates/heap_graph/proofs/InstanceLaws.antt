@@ -1,5 +1,6 @@
 -- The layout of an instance, and the chain of its class.
-use Rattle.std.proofs.Common.{Bool, List, Some, [], arith, drop, inl, inr, length, length-append, not, refl, slice_get, subst, sym, take}
+use Rattle.std.proofs.Common.{Bool, List, Some, [], arith, drop, inl, inr, length, length-append, not, refl, slice_get}
+use Rattle.std.proofs.Common.{subst, sym, take}
 use Rattle.std.proofs.Common.{true, false, ⊎_elim, ℕ, ◌&&◌, ◌+◌, ◌∙◌, ◌∷◌, ◌≡◌, ◌≤◌}
 use Rattle.std.specs.Prelude.{if◌then◌else◌, ◌==◌}
 use Rattle.std.proofs.lemmas.Bool.{cases_order, eqb-true}
@@ -12,7 +13,7 @@ use Rattle.heap_graph.specs.declared.classes.fate.Fate.{Fate}
 use Rattle.heap_graph.specs.declared.classes.fate.Fate.TheVariants as fates
 use Rattle.heap_graph.specs.declared.classes.fate.Layout.{Layout}
 use Rattle.heap_graph.specs.declared.rule.LinkRule.TheVariants.{InstanceSize, SuperChain}
-use Rattle.heap_graph.specs.Fields.{followed_ids}
+use Rattle.heap_graph.specs.Fields.{field_ids}
 use Rattle.heap_graph.specs.Heap.{class_named, objects}
 use Rattle.heap_graph.specs.Layout.{IsChain, IsLine, NeverEnds, layout_size}
 use Rattle.heap_graph.specs.Linked.{IsLinked}
@@ -26,11 +27,16 @@ use Rattle.heap_graph.proofs.Linking.{IsClassThere, class_there}
 -- ---- a whole instance
 
 equal_numbers : (a b : ℕ) → ((a ≡ b → ⊥) → ⊥) → a ≡ b
-equal_numbers a b h = ⊎_elim (λ e. e) (⊎_elim (λ l. absurd (h (λ e. omega (arith, e, l)))) (λ l. absurd (h (λ e. omega (arith, e, l))))) (cases_order a b)
+equal_numbers a b h = ⊎_elim (λ e. e)
+    (⊎_elim (λ l. absurd (h (λ e. omega (arith, e, l)))) (λ l. absurd (h (λ e. omega (arith, e, l))))) (cases_order a b)
 
 -- an instance has as many bytes as its layout
-pub right_size : (s : ℕ) (heap : List SubRecord) (n : ℕ) (i : Instance) (chain : List Class) → IsLinked s heap → slice_get (objects heap) n ≡ Some (instance_dump i) → IsChain heap i.class chain → length i.values ≡ layout_size s chain
-right_size s heap n i chain linked is chain_is = equal_numbers (length i.values) (layout_size s chain) (λ other. linked n InstanceSize (instance_dump i, is, (chain, chain_is, other)))
+pub right_size : (s : ℕ) (heap : List SubRecord) (n : ℕ) (i : Instance) (chain : List Class) → IsLinked s heap
+    → slice_get (objects heap) n ≡ Some (instance_dump i) → IsChain heap i.class chain
+    → length i.values ≡ layout_size s chain
+right_size s heap n i chain linked is chain_is =
+    equal_numbers (length i.values) (layout_size s chain)
+    (λ other. linked n InstanceSize (instance_dump i, is, (chain, chain_is, other)))
 
 few_if : (s t : ℕ) (values : List ℕ) (b : Bool) → (b ≡ true → t ≡ 2) → 1 ≤ s
     → length (if b then big_number s (take s values) ∷ [] else []) ≤ size_of s t
@@ -39,7 +45,7 @@ few_if s t values false e low = omega arith
 
 -- no more identifiers than bytes
 pub few_fields : (skips : Class → Member → Bool) (s : ℕ) (fs : List (Class × Member)) (values : List ℕ) → 1 ≤ s
-    → length (followed_ids skips s fs values) ≤ size_of_fields s fs
+    → length (field_ids skips s fs values) ≤ size_of_fields s fs
 few_fields skips s [] values low = omega arith
 few_fields skips s (f ∷ fs) values low =
     let skipped : Bool = skips f.0 f.1 in
@@ -48,30 +54,41 @@ few_fields skips s (f ∷ fs) values low =
       arith,
       few_if s f.1.type values (not skipped && typed) (λ e. eqb-true f.1.type 2 (of_id_type skipped typed e)) low,
       few_fields skips s fs (drop (size_of s f.1.type) values) low,
-      length-append (ids_here skips s f values) (followed_ids skips s fs (drop (size_of s f.1.type) values)),
+      length-append (ids_here skips s f values) (field_ids skips s fs (drop (size_of s f.1.type) values)),
       sum_by-cons (λ (g : Class × Member). size_of s g.1.type) f fs,
     )
 
 -- ---- in a linked heap list each chain is whole
 
-bad_not_linked : (s : ℕ) (heap : List SubRecord) (id : ℕ) (c : Class) → IsLinked s heap → class_named heap id ≡ Some c → IsBadSuper heap c.super → ⊥
-bad_not_linked s heap id c linked named bad = let it : IsClassThere heap id c = class_there heap id c named in linked it.number SuperChain (class_dump c, it.is, bad)
+bad_not_linked : (s : ℕ) (heap : List SubRecord) (id : ℕ) (c : Class) → IsLinked s heap → class_named heap id ≡ Some c
+    → IsBadSuper heap c.super → ⊥
+bad_not_linked s heap id c linked named bad =
+    let it : IsClassThere heap id c = class_there heap id c named in
+    linked it.number SuperChain (class_dump c, it.is, bad)
 
-cut_not_linked : (s : ℕ) (heap : List SubRecord) (id : ℕ) (c : Class) (classes : List Class) → IsLinked s heap → class_named heap id ≡ Some c → IsCut heap id classes → ⊥
+cut_not_linked : (s : ℕ) (heap : List SubRecord) (id : ℕ) (c : Class) (classes : List Class) → IsLinked s heap
+    → class_named heap id ≡ Some c → IsCut heap id classes → ⊥
 cut_not_linked s heap id c [] linked named cut = some_none (sym named ∙ cut.1)
 cut_not_linked s heap id c (d ∷ []) linked named cut = bad_not_linked s heap id d linked cut.0 (inl (cut.1.0, cut.1.1))
-cut_not_linked s heap id c (d ∷ e ∷ rest) linked named cut = cut_not_linked s heap d.super e (e ∷ rest) linked cut.1.0 cut.1
+cut_not_linked s heap id c (d ∷ e ∷ rest) linked named cut =
+    cut_not_linked s heap d.super e (e ∷ rest) linked cut.1.0 cut.1
 
-never_up : (heap : List SubRecord) (id : ℕ) (c : Class) → class_named heap id ≡ Some c → NeverEnds heap id → NeverEnds heap c.super
+never_up : (heap : List SubRecord) (id : ℕ) (c : Class) → class_named heap id ≡ Some c → NeverEnds heap id
+    → NeverEnds heap c.super
 never_up heap id c named never n = up (never (n + 1)).0 (never (n + 1)).1 (never (n + 1)).2
   where
-    up : (line : List Class) → length line ≡ n + 1 → IsLine heap id line → (classes : List Class) × (length classes ≡ n) × IsLine heap c.super classes
+    up : (line : List Class) → length line ≡ n + 1 → IsLine heap id line → (classes : List Class)
+        × (length classes ≡ n) × IsLine heap c.super classes
     up [] e is = absurd (omega (arith, e))
-    up (d ∷ ds) e is = (ds, omega (arith, e), subst (λ (x : Class). IsLine heap x.super ds) (some_inj (sym is.0 ∙ named)) is.1)
+    up (d ∷ ds) e is =
+        (ds, omega (arith, e), subst (λ (x : Class). IsLine heap x.super ds) (some_inj (sym is.0 ∙ named)) is.1)
 
-pub linked_whole : (s : ℕ) (heap : List SubRecord) (ids : List ℕ) (id : ℕ) (c : Class) (f : Fate) → IsLinked s heap → class_named heap id ≡ Some c → IsSettled f → ((l : Layout) → f ≡ fates.Whole l → ⊥) → IsFate s heap ids id f → ⊥
+pub linked_whole : (s : ℕ) (heap : List SubRecord) (ids : List ℕ) (id : ℕ) (c : Class) (f : Fate) → IsLinked s heap
+    → class_named heap id ≡ Some c → IsSettled f → ((l : Layout) → f ≡ fates.Whole l → ⊥) → IsFate s heap ids id f → ⊥
 linked_whole s heap ids id c fates.Unknown linked named settled other fate = settled
 linked_whole s heap ids id c fates.OnPath linked named settled other fate = settled
 linked_whole s heap ids id c (fates.Whole l) linked named settled other fate = other l refl
-linked_whole s heap ids id c fates.Broken linked named settled other fate = cut_not_linked s heap id c fate.0 linked named fate.1
-linked_whole s heap ids id c fates.Endless linked named settled other fate = bad_not_linked s heap id c linked named (inr (never_up heap id c named fate))
+linked_whole s heap ids id c fates.Broken linked named settled other fate =
+    cut_not_linked s heap id c fate.0 linked named fate.1
+linked_whole s heap ids id c fates.Endless linked named settled other fate =
+    bad_not_linked s heap id c linked named (inr (never_up heap id c named fate))

@@ -38,7 +38,8 @@ no_own_fields : (c : Class) (rest : List Class) → c.members ≡ []
 no_own_fields c rest none = ap (λ (ms : List Member). map (λ m. (c, m)) ms ++ declared_fields rest) none
 
 pub first_above : (heap : List SubRecord) (ids : List ℕ) (c : Class) (rest : List Class) (first : Option ℕ)
-    → c.members ≡ [] → IsFirst heap ids (declared_fields rest) first → IsFirst heap ids (declared_fields (c ∷ rest)) first
+    → c.members ≡ [] → IsFirst heap ids (declared_fields rest) first
+    → IsFirst heap ids (declared_fields (c ∷ rest)) first
 first_above heap ids c rest None none is = no_own_fields c rest none ∙ is
 first_above heap ids c rest (Some k) none is = record {
   class = is.class;
@@ -64,5 +65,6 @@ first_here heap ids k c rest some at = record {
 
 -- ---- sizes
 
-pub size_told : (own above size told : ℕ) → above ≡ min most_size size → told ≡ min (own + above) most_size → told ≡ min most_size (own + size)
+pub size_told : (own above size told : ℕ) → above ≡ min most_size size → told ≡ min (own + above) most_size
+    → told ≡ min most_size (own + size)
 size_told own above size told e f = omega (arith, e, f)

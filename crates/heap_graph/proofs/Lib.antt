@@ -36,12 +36,12 @@ pub mod Sizes
 pub mod Targets
 pub mod CountedLaws
 pub mod HeldLists
-pub mod MissingLaws
+pub mod UnresolvedLaws
 pub mod Walking
 pub mod Visiting
 pub mod Answering
 pub mod FirstNamed
 pub mod Superclasses
-pub mod AllTold
+pub mod LinkedOrFault
 pub mod Wholeness
 pub mod Building

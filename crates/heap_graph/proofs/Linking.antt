@@ -4,7 +4,8 @@ use Rattle.std.specs.Prelude.{option_and_then, ◌==◌}
 use Rattle.std.proofs.lemmas.Bool.{eqb-true}
 use Rattle.hprof_grammar.specs.Dump.{id_of}
 use Rattle.hprof_grammar.specs.SubRecord.{Class, Instance, ObjectArray, SubRecord}
-use Rattle.hprof_grammar.specs.SubRecord.SubRecord.{class_dump, instance_dump, object_array_dump, primitive_array_dump, root}
+use Rattle.hprof_grammar.specs.SubRecord.SubRecord.{class_dump, instance_dump, object_array_dump, primitive_array_dump}
+use Rattle.hprof_grammar.specs.SubRecord.SubRecord.{root}
 use Rattle.heap_graph.specs.declared.rule.LinkRule.TheVariants.{UnknownClass}
 use Rattle.heap_graph.specs.Heap.{as_class, class_named, number_named, objects}
 use Rattle.heap_graph.specs.Linked.{IsLinked}
@@ -23,18 +24,28 @@ dump_of (instance_dump i) c e = absurd (let wrong : None ≡ Some c = e in cc)
 dump_of (object_array_dump a) c e = absurd (let wrong : None ≡ Some c = e in cc)
 dump_of (primitive_array_dump a) c e = absurd (let wrong : None ≡ Some c = e in cc)
 
-there_at : (heap : List SubRecord) (id : ℕ) (c : Class) (n : ℕ) (o : Option SubRecord) → slice_get (objects heap) n ≡ o → IsHit (λ x. id_of x == id) (objects heap) n → option_and_then as_class o ≡ Some c → IsClassThere heap id c
+there_at : (heap : List SubRecord) (id : ℕ) (c : Class) (n : ℕ) (o : Option SubRecord)
+    → slice_get (objects heap) n ≡ o → IsHit (λ x. id_of x == id) (objects heap) n
+    → option_and_then as_class o ≡ Some c → IsClassThere heap id c
 there_at heap id c n None e hit h = absurd (let wrong : None ≡ Some c = h in cc)
 there_at heap id c n (Some o) e hit h =
     let same : o ≡ class_dump c = dump_of o c h in
     let what : hit.what ≡ o = let both : Some hit.what ≡ Some o = sym hit.here ∙ e in cc in
-    record { number = n; is = e ∙ ap (λ (x : SubRecord). Some x) same; id_is = sym (ap id_of same) ∙ sym (ap id_of what) ∙ eqb-true (id_of hit.what) id hit.passes }
+    record {
+      number = n;
+      is = e ∙ ap (λ (x : SubRecord). Some x) same;
+      id_is = sym (ap id_of same) ∙ sym (ap id_of what) ∙ eqb-true (id_of hit.what) id hit.passes;
+    }
 
-there_named : (heap : List SubRecord) (id : ℕ) (c : Class) (p : Option ℕ) → number_named heap id ≡ p → option_and_then as_class (option_and_then (λ n. slice_get (objects heap) n) p) ≡ Some c → IsClassThere heap id c
+there_named : (heap : List SubRecord) (id : ℕ) (c : Class) (p : Option ℕ) → number_named heap id ≡ p
+    → option_and_then as_class (option_and_then (λ n. slice_get (objects heap) n) p) ≡ Some c → IsClassThere heap id c
 there_named heap id c None e h = absurd (let wrong : None ≡ Some c = h in cc)
-there_named heap id c (Some n) e h = there_at heap id c n (slice_get (objects heap) n) refl (position_hit (λ x. id_of x == id) (objects heap) n e) h
+there_named heap id c (Some n) e h =
+    there_at heap id c n (slice_get (objects heap) n) refl (position_hit (λ x. id_of x == id) (objects heap) n e) h
 
-there_if : (heap : List SubRecord) (id : ℕ) (c : Class) (b : Bool) → cond b None (option_and_then as_class (option_and_then (λ n. slice_get (objects heap) n) (number_named heap id))) ≡ Some c → IsClassThere heap id c
+there_if : (heap : List SubRecord) (id : ℕ) (c : Class) (b : Bool)
+    → cond b None (option_and_then as_class (option_and_then (λ n. slice_get (objects heap) n) (number_named heap id)))
+    ≡ Some c → IsClassThere heap id c
 there_if heap id c true h = absurd (let wrong : None ≡ Some c = h in cc)
 there_if heap id c false h = there_named heap id c (number_named heap id) refl h
 
@@ -42,9 +53,11 @@ pub class_there : (heap : List SubRecord) (id : ℕ) (c : Class) → class_named
 class_there heap id c h = there_if heap id c (id == 0) h
 
 -- the class of an instance is there
-pub no_unknown : (s : ℕ) (heap : List SubRecord) (n : ℕ) (i : Instance) → IsLinked s heap → slice_get (objects heap) n ≡ Some (instance_dump i) → class_named heap i.class ≡ None → ⊥
+pub no_unknown : (s : ℕ) (heap : List SubRecord) (n : ℕ) (i : Instance) → IsLinked s heap
+    → slice_get (objects heap) n ≡ Some (instance_dump i) → class_named heap i.class ≡ None → ⊥
 no_unknown s heap n i linked is missing = linked n UnknownClass (instance_dump i, is, missing)
 
 -- and that of an array
-pub no_unknown_array : (s : ℕ) (heap : List SubRecord) (n : ℕ) (a : ObjectArray) → IsLinked s heap → slice_get (objects heap) n ≡ Some (object_array_dump a) → class_named heap a.class ≡ None → ⊥
+pub no_unknown_array : (s : ℕ) (heap : List SubRecord) (n : ℕ) (a : ObjectArray) → IsLinked s heap
+    → slice_get (objects heap) n ≡ Some (object_array_dump a) → class_named heap a.class ≡ None → ⊥
 no_unknown_array s heap n a linked is missing = linked n UnknownClass (object_array_dump a, is, missing)

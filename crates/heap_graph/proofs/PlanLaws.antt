@@ -1,5 +1,6 @@
 -- What is planned for the classes: the plan grows by one class after the other, and tells the fields of each.
-use Rattle.std.proofs.Common.{Bool, List, None, Option, Some, [], ap, arith, drop, inl, inr, length, length-append, refl}
+use Rattle.std.proofs.Common.{Bool, List, None, Option, Some, [], ap, arith, drop, inl, inr, length, length-append}
+use Rattle.std.proofs.Common.{refl}
 use Rattle.std.proofs.Common.{slice_get}
 use Rattle.std.proofs.Common.{subst, suc, sym, take, zero, ⊎_elim, ℕ, ◌++◌, ◌-◌, ◌<◌, ◌∙◌, ◌∷◌, ◌≡◌, ◌≤◌, ◌⊎◌}
 use Rattle.std.specs.Prelude.{slice_index, slice_range}
@@ -15,7 +16,7 @@ use Rattle.heap_graph.specs.Heap.{class_named}
 use Rattle.heap_graph.specs.working.ClassPlans.{AddsPlan, AreClassObjects, AreClassPlans, HasIdPlaces, IsClassPlan}
 use Rattle.heap_graph.specs.working.ClassPlans.{IsPlan}
 use Rattle.heap_graph.specs.working.ClassPlans.{id_places_of, plan_at}
-use Rattle.heap_graph.specs.working.ClassTable.{AreClasses, Entry, ids_of}
+use Rattle.heap_graph.specs.working.ClassTable.{AreClasses, TableEntry, ids_of}
 use Rattle.heap_graph.specs.working.IdPlaces.{id_places, size_together}
 use Rattle.heap_graph.specs.working.Resolving.{target_in}
 use Rattle.heap_graph.proofs.ChainLaws.{some_inj, some_none}
@@ -115,7 +116,7 @@ no_plan skips s heap ids plans places none = λ k p c is named.
 
 -- ---- the fields that are read are those of the class
 
-pub fields_read : (v : Sight) (heap : List SubRecord) (entries : List Entry) (k : ℕ) (kept : ClassPlace)
+pub fields_read : (v : Sight) (heap : List SubRecord) (entries : List TableEntry) (k : ℕ) (kept : ClassPlace)
     (read : List Member) → AreClasses v heap entries → k < length entries → IsKept entries k kept
     → ((c : Class) → Stands v kept.place (class_dump c) → read ≡ c.members)
     → (c : Class) → class_named heap (slice_index (ids_of entries) k) ≡ Some c → read ≡ c.members

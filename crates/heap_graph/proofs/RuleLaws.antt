@@ -1,5 +1,6 @@
 -- What the fates of classes say of the rules on superclasses and sizes.
-use Rattle.std.proofs.Common.{List, None, Some, [], ap, arith, inl, inr, get_or, length, refl, slice_get, subst, sym, ⊎_elim, ℕ, ◌<◌, ◌^◌, ◌∙◌, ◌≡◌, ◌≤◌}
+use Rattle.std.proofs.Common.{List, None, Some, [], ap, arith, inl, inr, get_or, length, refl, slice_get, subst, sym}
+use Rattle.std.proofs.Common.{⊎_elim, ℕ, ◌<◌, ◌^◌, ◌∙◌, ◌≡◌, ◌≤◌}
 use Rattle.std.specs.Prelude.{position, ◌==◌}
 use Rattle.std.proofs.lemmas.Option.{get_or_from_slice_get}
 use Rattle.hprof_grammar.specs.Standing.{Sight}
@@ -9,29 +10,32 @@ use Rattle.heap_graph.specs.declared.classes.fate.Fate.{Fate}
 use Rattle.heap_graph.specs.declared.classes.fate.Fate.TheVariants as fates
 use Rattle.heap_graph.specs.declared.classes.fate.Layout.{Layout}
 use Rattle.heap_graph.specs.declared.rule.LinkRule.{LinkRule}
-use Rattle.heap_graph.specs.declared.rule.LinkRule.TheVariants.{DuplicateObject, InstanceSize, SuperChain, TooLarge, UnknownClass, ZeroObject}
+use Rattle.heap_graph.specs.declared.rule.LinkRule.TheVariants.{DuplicateObject, InstanceSize, SuperChain, TooLarge}
+use Rattle.heap_graph.specs.declared.rule.LinkRule.TheVariants.{UnknownClass, ZeroObject}
 use Rattle.heap_graph.specs.Heap.{class_named}
 use Rattle.heap_graph.specs.Layout.{IsChain, NeverEnds, layout_size}
 use Rattle.heap_graph.specs.LinkFault.{code_of}
 use Rattle.heap_graph.specs.Linked.{HasBadChain, HasWrongSize, LacksClass}
 use Rattle.heap_graph.specs.SuperRule.{IsBadSuper}
 use Rattle.heap_graph.specs.working.Chains.{IsFate, IsKnown, IsSettled}
-use Rattle.heap_graph.specs.working.ClassTable.{Entry, ids_of}
+use Rattle.heap_graph.specs.working.ClassTable.{TableEntry, ids_of}
 use Rattle.heap_graph.specs.working.RuleAnswers.{BreaksLate, IsLateRule}
-use Rattle.heap_graph.specs.working.ToldClasses.{AreTold}
+use Rattle.heap_graph.specs.working.ClassFates.{HaveFates}
 use Rattle.heap_graph.proofs.ChainLaws.{chain_ends, cut_ends, cut_is_no_chain, one_chain, some_none}
 use Rattle.heap_graph.proofs.ClassTableLaws.{IsFound, IsNumbered, found, named_at, numbered, same_count}
 
 -- ---- what a known fate rules out
 
-pub ends : (s : ℕ) (heap : List SubRecord) (ids : List ℕ) (id : ℕ) (f : Fate) → IsSettled f → (f ≡ fates.Endless → ⊥) → IsFate s heap ids id f → NeverEnds heap id → ⊥
+pub ends : (s : ℕ) (heap : List SubRecord) (ids : List ℕ) (id : ℕ) (f : Fate) → IsSettled f → (f ≡ fates.Endless → ⊥)
+    → IsFate s heap ids id f → NeverEnds heap id → ⊥
 ends s heap ids id fates.Unknown settled other fate never = settled
 ends s heap ids id fates.OnPath settled other fate never = settled
 ends s heap ids id (fates.Whole l) settled other fate never = chain_ends heap id fate.0 fate.1 never
 ends s heap ids id fates.Broken settled other fate never = cut_ends heap id fate.0 fate.1 never
 ends s heap ids id fates.Endless settled other fate never = other refl
 
-pub no_chain : (s : ℕ) (heap : List SubRecord) (ids : List ℕ) (id : ℕ) (f : Fate) (chain : List Class) → IsSettled f → ((l : Layout) → f ≡ fates.Whole l → ⊥) → IsFate s heap ids id f → IsChain heap id chain → ⊥
+pub no_chain : (s : ℕ) (heap : List SubRecord) (ids : List ℕ) (id : ℕ) (f : Fate) (chain : List Class) → IsSettled f
+    → ((l : Layout) → f ≡ fates.Whole l → ⊥) → IsFate s heap ids id f → IsChain heap id chain → ⊥
 no_chain s heap ids id fates.Unknown chain settled other fate is = settled
 no_chain s heap ids id fates.OnPath chain settled other fate is = settled
 no_chain s heap ids id (fates.Whole l) chain settled other fate is = other l refl
@@ -48,8 +52,8 @@ pub record IsFateFound (s : ℕ) (heap : List SubRecord) (ids : List ℕ) (fates
   pub named : class_named heap id ≡ Some class
   pub below : k < length fates
 
-pub fate_found : (v : Sight) (heap : List SubRecord) (entries : List Entry) (fates : List Fate) (id k : ℕ)
-    → AreTold v heap entries fates → position (λ x. x == id) (ids_of entries) ≡ Some k → IsFateFound v.id_size heap
+pub fate_found : (v : Sight) (heap : List SubRecord) (entries : List TableEntry) (fates : List Fate) (id k : ℕ)
+    → HaveFates v heap entries fates → position (λ x. x == id) (ids_of entries) ≡ Some k → IsFateFound v.id_size heap
     (ids_of entries) fates id k
 fate_found v heap entries fates id k told e =
     let it : IsFound (ids_of entries) id k = found (ids_of entries) id k e in
@@ -60,7 +64,8 @@ fate_found v heap entries fates id k told e =
       fate = known.fate;
       is = known.is;
       settled = known.settled;
-      says = subst (λ (n : ℕ). IsFate v.id_size heap (ids_of entries) n known.fate) it.is (told.settled.fates_are.each k known.fate known.is);
+      says = subst (λ (n : ℕ). IsFate v.id_size heap (ids_of entries) n known.fate) it.is
+          (told.settled.fates_are.each k known.fate known.is);
       class = class.holds.class;
       named = ap (λ (n : ℕ). class_named heap n) (sym it.is) ∙ named_at v heap entries k class;
       below = omega (arith, it.below, told.settled.fates_are.one_each);
@@ -78,7 +83,8 @@ none_late s heap o class chain size TooLarge h = h
 
 -- ---- superclasses
 
-class_least : (s : ℕ) (heap : List SubRecord) (c : Class) (rule : LinkRule) → BreaksLate s heap (class_dump c) rule → code_of SuperChain ≤ code_of rule
+class_least : (s : ℕ) (heap : List SubRecord) (c : Class) (rule : LinkRule) → BreaksLate s heap (class_dump c) rule
+    → code_of SuperChain ≤ code_of rule
 class_least s heap c ZeroObject h = absurd h
 class_least s heap c DuplicateObject h = absurd h
 class_least s heap c UnknownClass h = absurd h
@@ -86,21 +92,25 @@ class_least s heap c SuperChain h = omega arith
 class_least s heap c InstanceSize h = absurd h
 class_least s heap c TooLarge h = absurd h
 
-pub class_bad : (s : ℕ) (heap : List SubRecord) (c : Class) → IsBadSuper heap c.super → IsLateRule s heap (class_dump c) (Some SuperChain)
+pub class_bad : (s : ℕ) (heap : List SubRecord) (c : Class) → IsBadSuper heap c.super
+    → IsLateRule s heap (class_dump c) (Some SuperChain)
 class_bad s heap c bad = (bad, class_least s heap c)
 
-pub class_fine : (s : ℕ) (heap : List SubRecord) (c : Class) → (IsBadSuper heap c.super → ⊥) → IsLateRule s heap (class_dump c) None
+pub class_fine : (s : ℕ) (heap : List SubRecord) (c : Class) → (IsBadSuper heap c.super → ⊥)
+    → IsLateRule s heap (class_dump c) None
 class_fine s heap c fine = none_late s heap (class_dump c) (λ h. h) fine (λ h. h)
 
 pub no_super : (heap : List SubRecord) (super : ℕ) → super ≡ 0 → IsBadSuper heap super → ⊥
 no_super heap super e bad = ⊎_elim (λ h. h.0 e) (λ never. chain_ends heap super [] e never) bad
 
-pub fine_super : (heap : List SubRecord) (super : ℕ) (c : Class) → class_named heap super ≡ Some c → (NeverEnds heap super → ⊥) → IsBadSuper heap super → ⊥
+pub fine_super : (heap : List SubRecord) (super : ℕ) (c : Class) → class_named heap super ≡ Some c
+    → (NeverEnds heap super → ⊥) → IsBadSuper heap super → ⊥
 fine_super heap super c named stops bad = ⊎_elim (λ h. some_none (sym named ∙ h.1)) stops bad
 
 -- ---- classes and sizes of instances and arrays
 
-eleven_least : (s : ℕ) (heap : List SubRecord) (o : SubRecord) (rule : LinkRule) → BreaksLate s heap o rule → code_of UnknownClass ≤ code_of rule
+eleven_least : (s : ℕ) (heap : List SubRecord) (o : SubRecord) (rule : LinkRule) → BreaksLate s heap o rule
+    → code_of UnknownClass ≤ code_of rule
 eleven_least s heap o ZeroObject h = absurd h
 eleven_least s heap o DuplicateObject h = absurd h
 eleven_least s heap o UnknownClass h = omega arith
@@ -108,10 +118,12 @@ eleven_least s heap o SuperChain h = omega arith
 eleven_least s heap o InstanceSize h = omega arith
 eleven_least s heap o TooLarge h = absurd h
 
-pub instance_unknown : (s : ℕ) (heap : List SubRecord) (i : Instance) → class_named heap i.class ≡ None → IsLateRule s heap (instance_dump i) (Some UnknownClass)
+pub instance_unknown : (s : ℕ) (heap : List SubRecord) (i : Instance) → class_named heap i.class ≡ None
+    → IsLateRule s heap (instance_dump i) (Some UnknownClass)
 instance_unknown s heap i e = (e, eleven_least s heap (instance_dump i))
 
-sized_least : (s : ℕ) (heap : List SubRecord) (i : Instance) (c : Class) → class_named heap i.class ≡ Some c → (rule : LinkRule) → BreaksLate s heap (instance_dump i) rule → code_of InstanceSize ≤ code_of rule
+sized_least : (s : ℕ) (heap : List SubRecord) (i : Instance) (c : Class) → class_named heap i.class ≡ Some c
+    → (rule : LinkRule) → BreaksLate s heap (instance_dump i) rule → code_of InstanceSize ≤ code_of rule
 sized_least s heap i c named ZeroObject h = absurd h
 sized_least s heap i c named DuplicateObject h = absurd h
 sized_least s heap i c named UnknownClass h = absurd (some_none (sym named ∙ h))
@@ -119,29 +131,39 @@ sized_least s heap i c named SuperChain h = absurd h
 sized_least s heap i c named InstanceSize h = omega arith
 sized_least s heap i c named TooLarge h = absurd h
 
-pub instance_wrong : (s : ℕ) (heap : List SubRecord) (i : Instance) (c : Class) (chain : List Class) → class_named heap i.class ≡ Some c → IsChain heap i.class chain → (length i.values ≡ layout_size s chain → ⊥) → IsLateRule s heap (instance_dump i) (Some InstanceSize)
+pub instance_wrong : (s : ℕ) (heap : List SubRecord) (i : Instance) (c : Class) (chain : List Class)
+    → class_named heap i.class ≡ Some c → IsChain heap i.class chain → (length i.values ≡ layout_size s chain → ⊥)
+    → IsLateRule s heap (instance_dump i) (Some InstanceSize)
 instance_wrong s heap i c chain named is wrong = ((chain, is, wrong), sized_least s heap i c named)
 
-pub instance_fine : (s : ℕ) (heap : List SubRecord) (i : Instance) (c : Class) → class_named heap i.class ≡ Some c → ((chain : List Class) → IsChain heap i.class chain → length i.values ≡ layout_size s chain) → IsLateRule s heap (instance_dump i) None
+pub instance_fine : (s : ℕ) (heap : List SubRecord) (i : Instance) (c : Class) → class_named heap i.class ≡ Some c
+    → ((chain : List Class) → IsChain heap i.class chain → length i.values ≡ layout_size s chain)
+    → IsLateRule s heap (instance_dump i) None
 instance_fine s heap i c named right =
     none_late s heap (instance_dump i) (λ h. some_none (sym named ∙ h)) (λ h. h) (λ h. h.2 (right h.0 h.1))
 
-pub array_unknown : (s : ℕ) (heap : List SubRecord) (a : ObjectArray) → class_named heap a.class ≡ None → IsLateRule s heap (object_array_dump a) (Some UnknownClass)
+pub array_unknown : (s : ℕ) (heap : List SubRecord) (a : ObjectArray) → class_named heap a.class ≡ None
+    → IsLateRule s heap (object_array_dump a) (Some UnknownClass)
 array_unknown s heap a e = (e, eleven_least s heap (object_array_dump a))
 
-pub array_fine : (s : ℕ) (heap : List SubRecord) (a : ObjectArray) (c : Class) → class_named heap a.class ≡ Some c → IsLateRule s heap (object_array_dump a) None
+pub array_fine : (s : ℕ) (heap : List SubRecord) (a : ObjectArray) (c : Class) → class_named heap a.class ≡ Some c
+    → IsLateRule s heap (object_array_dump a) None
 array_fine s heap a c named = none_late s heap (object_array_dump a) (λ h. some_none (sym named ∙ h)) (λ h. h) (λ h. h)
 
 -- a size that is told is the size, where it is one that an instance can have
-pub size_right : (s : ℕ) (heap : List SubRecord) (ids : List ℕ) (id n : ℕ) (l : Layout) → IsFate s heap ids id (fates.Whole l) → n < 2 ^ 32 → l.size ≡ n → (chain : List Class) → IsChain heap id chain → n ≡ layout_size s chain
+pub size_right : (s : ℕ) (heap : List SubRecord) (ids : List ℕ) (id n : ℕ) (l : Layout)
+    → IsFate s heap ids id (fates.Whole l) → n < 2 ^ 32 → l.size ≡ n → (chain : List Class) → IsChain heap id chain
+    → n ≡ layout_size s chain
 size_right s heap ids id n l fate few e chain is =
     let same : fate.0 ≡ chain = one_chain heap id fate.0 chain fate.1 is in
     omega (arith, few, e, fate.2.size_is, ap (λ (cs : List Class). layout_size s cs) same)
 
-pub size_wrong : (s : ℕ) (heap : List SubRecord) (ids : List ℕ) (id n : ℕ) (l : Layout) (fate : IsFate s heap ids id (fates.Whole l)) → n < 2 ^ 32 → (l.size ≡ n → ⊥) → n ≡ layout_size s fate.0 → ⊥
+pub size_wrong : (s : ℕ) (heap : List SubRecord) (ids : List ℕ) (id n : ℕ) (l : Layout)
+    (fate : IsFate s heap ids id (fates.Whole l)) → n < 2 ^ 32 → (l.size ≡ n → ⊥) → n ≡ layout_size s fate.0 → ⊥
 size_wrong s heap ids id n l fate few other e = other (omega (arith, few, e, fate.2.size_is))
 
-pub missing_super : (heap : List SubRecord) (super : ℕ) → (super ≡ 0 → ⊥) → class_named heap super ≡ None → IsBadSuper heap super
+pub missing_super : (heap : List SubRecord) (super : ℕ) → (super ≡ 0 → ⊥) → class_named heap super ≡ None
+    → IsBadSuper heap super
 missing_super heap super other none = inl (other, none)
 
 pub endless_super : (heap : List SubRecord) (super : ℕ) → NeverEnds heap super → IsBadSuper heap super

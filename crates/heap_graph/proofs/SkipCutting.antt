@@ -1,5 +1,6 @@
 -- How the text of a list of fields is read: entry by entry at its commas, and each at its last dot.
-use Rattle.std.proofs.Common.{Bool, List, MatchOption, None, Option, Some, [], ap, arith, drop, eqb, false, get_or, length, refl, subst, sym, take, true, ℕ, ◌+◌, ◌++◌, ◌<◌, ◌∙◌, ◌∷◌, ◌≡◌, ◌≢◌, ◌≤◌}
+use Rattle.std.proofs.Common.{Bool, List, MatchOption, None, Option, Some, [], ap, arith, drop, eqb, false, get_or}
+use Rattle.std.proofs.Common.{length, refl, subst, sym, take, true, ℕ, ◌+◌, ◌++◌, ◌<◌, ◌∙◌, ◌∷◌, ◌≡◌, ◌≢◌, ◌≤◌}
 use Rattle.std.specs.List.{AllByRecursion, Contains}
 use Rattle.std.specs.Str.{NoCharPasses}
 use Rattle.std.specs.Str.Pattern.{RFindsChar, SplitsAroundMatch}

@@ -1,5 +1,6 @@
 -- Spread identifiers: the odd number has an inverse in 64 bits, so no two identifiers are spread to one number.
-use Rattle.std.proofs.Common.{All, List, None, Some, [], ap, arith, cond, length, map, not, refl, suc, sym, ℕ, ◌%◌, ◌*◌, ◌+◌, ◌<◌, ◌^◌, ◌∙◌, ◌∷◌, ◌≡◌}
+use Rattle.std.proofs.Common.{All, List, None, Some, [], ap, arith, cond, length, map, not, refl, suc, sym, ℕ, ◌%◌, ◌*◌}
+use Rattle.std.proofs.Common.{◌+◌, ◌<◌, ◌^◌, ◌∙◌, ◌∷◌, ◌≡◌}
 use Rattle.std.specs.Prelude.{nat_lt, position, ◌==◌}
 use Rattle.std.specs.List.{position_or_len}
 use Rattle.std.proofs.Math.Decide.{ℕ_discrete}

@@ -5,21 +5,25 @@ use Rattle.hprof_grammar.specs.Dump.{id_of}
 use Rattle.hprof_grammar.specs.SubRecord.{SubRecord}
 use Rattle.heap_graph.specs.Heap.{objects}
 use Rattle.heap_graph.specs.References.{is_unresolved, target_of, targets}
-use Rattle.heap_graph.specs.working.Resolving.{is_missing, target_in}
+use Rattle.heap_graph.specs.working.Resolving.{is_unresolved_in, target_in}
 use Rattle.heap_graph.proofs.Firsts.{position-map}
 
 target_at : (heap : List SubRecord) (id : ℕ) → target_in (map id_of (objects heap)) id ≡ target_of heap id
 target_at heap id = ap (λ (o : Option ℕ). cond (id == 0) None o) (position-map id_of (λ x. x == id) (objects heap))
 
-missing_at : (heap : List SubRecord) (id : ℕ) → is_missing (map id_of (objects heap)) id ≡ is_unresolved heap id
-missing_at heap id = ap (λ (o : Option ℕ). cond (id == 0) false (is_none o)) (position-map id_of (λ x. x == id) (objects heap))
+unresolved_there : (heap : List SubRecord) (id : ℕ)
+    → is_unresolved_in (map id_of (objects heap)) id ≡ is_unresolved heap id
+unresolved_there heap id =
+    ap (λ (o : Option ℕ). cond (id == 0) false (is_none o)) (position-map id_of (λ x. x == id) (objects heap))
 
-pub same_targets : (heap : List SubRecord) (ids wanted : List ℕ) → ids ≡ map id_of (objects heap) → filter_map (target_in ids) wanted ≡ targets heap wanted
+pub same_targets : (heap : List SubRecord) (ids wanted : List ℕ) → ids ≡ map id_of (objects heap)
+    → filter_map (target_in ids) wanted ≡ targets heap wanted
 same_targets heap ids wanted e =
     let same : target_in (map id_of (objects heap)) ≡ target_of heap = λ i id. target_at heap id i in
     ap (λ (xs : List ℕ). filter_map (target_in xs) wanted) e ∙ ap (λ (f : ℕ → Option ℕ). filter_map f wanted) same
 
-pub same_missing : (heap : List SubRecord) (ids wanted : List ℕ) → ids ≡ map id_of (objects heap) → count_by (is_missing ids) wanted ≡ count_by (is_unresolved heap) wanted
-same_missing heap ids wanted e =
-    let same : is_missing (map id_of (objects heap)) ≡ is_unresolved heap = λ i id. missing_at heap id i in
-    ap (λ (xs : List ℕ). count_by (is_missing xs) wanted) e ∙ ap (λ (f : ℕ → Bool). count_by f wanted) same
+pub same_unresolved : (heap : List SubRecord) (ids wanted : List ℕ) → ids ≡ map id_of (objects heap)
+    → count_by (is_unresolved_in ids) wanted ≡ count_by (is_unresolved heap) wanted
+same_unresolved heap ids wanted e =
+    let same : is_unresolved_in (map id_of (objects heap)) ≡ is_unresolved heap = λ i id. unresolved_there heap id i in
+    ap (λ (xs : List ℕ). count_by (is_unresolved_in xs) wanted) e ∙ ap (λ (f : ℕ → Bool). count_by f wanted) same

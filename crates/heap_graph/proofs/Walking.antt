@@ -1,5 +1,6 @@
 -- A walk over identifiers, and the objects that they name.
-use Rattle.std.proofs.Common.{List, None, Option, Some, [], append_assoc, ap, arith, length, map, refl, sym, ℕ, ◌++◌, ◌∙◌, ◌∷◌, ◌≡◌}
+use Rattle.std.proofs.Common.{List, None, Option, Some, [], append_assoc, ap, arith, length, map, refl, sym, ℕ, ◌++◌}
+use Rattle.std.proofs.Common.{◌∙◌, ◌∷◌, ◌≡◌}
 use Rattle.std.specs.Prelude.{filter_map}
 use Rattle.std.specs.Iterator.{MakesProgress, YieldsFirst, item_count}
 use Rattle.std.specs.List.{cons_option}
@@ -28,23 +29,36 @@ pub record HasPassed (old new : List Step) : Type 0 where
 pub passed_none : (steps : List Step) → HasPassed steps steps
 passed_none steps = record { passed = []; none = refl; rest = refl }
 
-one_step : (all : List ℕ) (id : ℕ) (before after : List ℕ) (o : Option ℕ) → before ≡ id ∷ after → o ≡ target_in all id → map (step_in all) before ≡ record { id = id; names = o } ∷ map (step_in all) after
+one_step : (all : List ℕ) (id : ℕ) (before after : List ℕ) (o : Option ℕ) → before ≡ id ∷ after → o ≡ target_in all id
+    → map (step_in all) before ≡ record { id = id; names = o } ∷ map (step_in all) after
 one_step all id before after o e named =
-    ap (λ (xs : List ℕ). map (step_in all) xs) e ∙ ap (λ (p : Option ℕ). record { id = id; names = p } ∷ map (step_in all) after) (sym named)
+    ap (λ (xs : List ℕ). map (step_in all) xs) e
+    ∙ ap (λ (p : Option ℕ). record { id = id; names = p } ∷ map (step_in all) after) (sym named)
 
-pub passed_one : (all : List ℕ) (old : List Step) (id : ℕ) (before after : List ℕ) → before ≡ id ∷ after → None ≡ target_in all id → HasPassed old (map (step_in all) before) → HasPassed old (map (step_in all) after)
+pub passed_one : (all : List ℕ) (old : List Step) (id : ℕ) (before after : List ℕ) → before ≡ id ∷ after
+    → None ≡ target_in all id → HasPassed old (map (step_in all) before) → HasPassed old (map (step_in all) after)
 passed_one all old id before after e named h =
     let step : List Step = record { id = id; names = None } ∷ [] in
     record {
       passed = h.passed ++ step;
       none = filter_map-append (λ (s : Step). s.names) h.passed step ∙ ap (λ (xs : List ℕ). xs ++ []) h.none;
-      rest = h.rest ∙ ap (λ (xs : List Step). h.passed ++ xs) (one_step all id before after None e named) ∙ sym (append_assoc h.passed step (map (step_in all) after));
+      rest = h.rest ∙ ap (λ (xs : List Step). h.passed ++ xs) (one_step all id before after None e named)
+          ∙ sym (append_assoc h.passed step (map (step_in all) after));
     }
 
-pub goes_to : (all : List ℕ) (old : List Step) (id o : ℕ) (before after : List ℕ) → before ≡ id ∷ after → Some o ≡ target_in all id → HasPassed old (map (step_in all) before) → GoesPast old (Some o) (map (step_in all) after)
-goes_to all old id o before after e named h = (h.passed, id, h.none, h.rest ∙ ap (λ (xs : List Step). h.passed ++ xs) (one_step all id before after (Some o) e named))
+pub goes_to : (all : List ℕ) (old : List Step) (id o : ℕ) (before after : List ℕ) → before ≡ id ∷ after
+    → Some o ≡ target_in all id → HasPassed old (map (step_in all) before)
+    → GoesPast old (Some o) (map (step_in all) after)
+goes_to all old id o before after e named h = (
+  h.passed,
+  id,
+  h.none,
+  h.rest ∙ ap (λ (xs : List Step). h.passed ++ xs)
+      (one_step all id before after (Some o) e named),
+)
 
-pub goes_to_end : (all : List ℕ) (old : List Step) (before after : List ℕ) → before ≡ [] → after ≡ [] → HasPassed old (map (step_in all) before) → GoesPast old None (map (step_in all) after)
+pub goes_to_end : (all : List ℕ) (old : List Step) (before after : List ℕ) → before ≡ [] → after ≡ []
+    → HasPassed old (map (step_in all) before) → GoesPast old None (map (step_in all) after)
 goes_to_end all old before after e f h = (
   ap (λ (xs : List Step). references_in xs) (h.rest ∙ ap (λ (xs : List ℕ). h.passed ++ map (step_in all) xs) e)
       ∙ filter_map-append (λ (s : Step). s.names) h.passed [] ∙ ap (λ (xs : List ℕ). xs ++ []) h.none,
@@ -52,7 +66,8 @@ goes_to_end all old before after e f h = (
 )
 
 -- the object is the first that was left
-pub yields : (old : List Step) (object : Option ℕ) (new : List Step) → GoesPast old object new → YieldsFirst references_in old object new
+pub yields : (old : List Step) (object : Option ℕ) (new : List Step) → GoesPast old object new
+    → YieldsFirst references_in old object new
 yields old None new g = (g.0, ap (λ (xs : List Step). references_in xs) g.1)
 yields old (Some o) new (passed, id, none, is) =
     ap (λ (xs : List Step). references_in xs) is
@@ -60,7 +75,8 @@ yields old (Some o) new (passed, id, none, is) =
     ∙ ap (λ (xs : List ℕ). xs ++ o ∷ references_in new) none
 
 -- so fewer are left
-pub falls : (old : List Step) (o : ℕ) (new : List Step) → YieldsFirst references_in old (Some o) new → MakesProgress (λ _. Unit {0}) (item_count references_in) old (Some o) new
+pub falls : (old : List Step) (o : ℕ) (new : List Step) → YieldsFirst references_in old (Some o) new
+    → MakesProgress (λ _. Unit {0}) (item_count references_in) old (Some o) new
 falls old o new h = record { on = λ _. (tt, tt, omega (arith, ap length h)); keeps = tt; rests = λ _. tt }
 
 pub none_of : {X : Type 0} (o : Option X) → ((x : X) → o ≡ Some x → ⊥) → o ≡ None

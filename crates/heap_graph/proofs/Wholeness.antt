@@ -1,5 +1,7 @@
 -- The graph of a linked heap list is whole.
-use Rattle.std.proofs.Common.{All, Bool, List, None, Option, Some, [], ap, arith, cond, false, get_or, length, map, not, refl, slice_get, subst, suc, sym, true, zero, ⊎_elim, ℕ, ◌+◌, ◌<◌, ◌∙◌, ◌∷◌, ◌≡◌, ◌≤◌, ◌^◌}
+use Rattle.std.proofs.Common.{All, Bool, List, None, Option, Some, [], ap, arith, cond, false, get_or, length, map, not}
+use Rattle.std.proofs.Common.{refl, slice_get, subst, suc, sym, true, zero, ⊎_elim, ℕ, ◌+◌, ◌<◌, ◌∙◌, ◌∷◌, ◌≡◌, ◌≤◌}
+use Rattle.std.proofs.Common.{◌^◌}
 use Rattle.std.specs.Prelude.{filter_map, ◌==◌}
 use Rattle.std.specs.List.{cons_option, position_or_len}
 use Rattle.std.proofs.lemmas.Bool.{cases_lt, eq-eqb}
@@ -11,42 +13,51 @@ use Rattle.hprof_grammar.specs.Dump.{id_of, is_object, limit}
 use Rattle.hprof_grammar.specs.Record.{Record}
 use Rattle.hprof_grammar.specs.Standing.{Sight, Stands}
 use Rattle.hprof_grammar.specs.SubRecord.{Class, IsSubRecord, SubRecord, spelling_of}
-use Rattle.hprof_grammar.specs.SubRecord.SubRecord.{class_dump, instance_dump, object_array_dump, primitive_array_dump, root}
+use Rattle.hprof_grammar.specs.SubRecord.SubRecord.{class_dump, instance_dump, object_array_dump, primitive_array_dump}
+use Rattle.hprof_grammar.specs.SubRecord.SubRecord.{root}
 use Rattle.heap_graph.specs.declared.row.RowKey.{RowKey}
 use Rattle.heap_graph.specs.declared.rule.LinkRule.TheVariants.{TooLarge, UnknownClass}
 use Rattle.heap_graph.specs.Heap.{as_class, class_dumps, class_named, class_number, heap_of, number_named, objects}
 use Rattle.heap_graph.specs.working.HeldIds.{AreLinked}
 use Rattle.heap_graph.specs.Linked.{IsLinked, most_objects}
-use Rattle.heap_graph.specs.ObjectGraph.{IsGraphOf, ObjectGraph, bytes_at, class_count, named_in, object_count, references_of}
+use Rattle.heap_graph.specs.ObjectGraph.{IsGraphOf, ObjectGraph, bytes_at, class_count, named_in, object_count}
+use Rattle.heap_graph.specs.ObjectGraph.{references_of}
 use Rattle.heap_graph.specs.Whole.{IsRowIn, IsWhole, held_by}
 use Rattle.heap_graph.specs.References.{target_of, targets}
 use Rattle.heap_graph.specs.Roots.{root_ids}
 use Rattle.heap_graph.specs.Rows.{bytes_of, row_of}
-use Rattle.heap_graph.specs.Walks.{is_missing}
+use Rattle.heap_graph.specs.Skips.{SkipEntry}
+use Rattle.heap_graph.specs.Walks.{is_unresolved_in}
 use Rattle.heap_graph.proofs.Answering.{bytes_here, count_of, row_here}
 use Rattle.heap_graph.proofs.Firsts.{position_hit}
 use Rattle.heap_graph.proofs.Linking.{IsClassThere, class_there}
-use Rattle.heap_graph.proofs.MissingLaws.{parts_missing}
+use Rattle.heap_graph.proofs.UnresolvedLaws.{parts_unresolved}
 use Rattle.heap_graph.proofs.Sizes.{array_type_range, bytes_width}
 use Rattle.heap_graph.proofs.Standings.{IsThere, there}
 
 -- ---- what is named is there
 
-target_if : (heap : List SubRecord) (id : ℕ) (b : Bool) (t : ℕ) → cond b None (number_named heap id) ≡ Some t → t < length (objects heap)
+target_if : (heap : List SubRecord) (id : ℕ) (b : Bool) (t : ℕ) → cond b None (number_named heap id) ≡ Some t
+    → t < length (objects heap)
 target_if heap id true t h = absurd (let wrong : None ≡ Some t = h in cc)
 target_if heap id false t h = (position_hit (λ o. id_of o == id) (objects heap) t h).below
 
-kept_within : (heap : List SubRecord) (o : Option ℕ) (rest : List ℕ) → ((t : ℕ) → o ≡ Some t → t < length (objects heap)) → All (λ t. t < length (objects heap)) rest → All (λ t. t < length (objects heap)) (cons_option o rest)
+kept_within : (heap : List SubRecord) (o : Option ℕ) (rest : List ℕ)
+    → ((t : ℕ) → o ≡ Some t → t < length (objects heap)) → All (λ t. t < length (objects heap)) rest
+    → All (λ t. t < length (objects heap)) (cons_option o rest)
 kept_within heap None rest here all = all
 kept_within heap (Some t) rest here all = All-cons (λ t. t < length (objects heap)) t rest (here t refl) all
 
 pub targets_within : (heap : List SubRecord) (ids : List ℕ) → All (λ t. t < length (objects heap)) (targets heap ids)
 targets_within heap [] = λ k d h. absurd (omega (arith, h))
-targets_within heap (id ∷ ids) = kept_within heap (target_of heap id) (targets heap ids) (λ t h. target_if heap id (id == 0) t h) (targets_within heap ids)
+targets_within heap (id ∷ ids) =
+    kept_within heap (target_of heap id) (targets heap ids) (λ t h. target_if heap id (id == 0) t h)
+    (targets_within heap ids)
 
 -- ---- the classes among the objects
 
-same_classes_if : (o : SubRecord) (rest : List SubRecord) (b : Bool) → is_object o ≡ b → filter_map as_class (cond b (o ∷ rest) rest) ≡ cons_option (as_class o) (filter_map as_class rest)
+same_classes_if : (o : SubRecord) (rest : List SubRecord) (b : Bool) → is_object o ≡ b
+    → filter_map as_class (cond b (o ∷ rest) rest) ≡ cons_option (as_class o) (filter_map as_class rest)
 same_classes_if o rest true e = refl
 same_classes_if (root r) rest false e = refl
 same_classes_if (class_dump c) rest false e = absurd (cc e)
@@ -56,7 +67,8 @@ same_classes_if (primitive_array_dump a) rest false e = absurd (cc e)
 
 pub same_classes : (heap : List SubRecord) → filter_map as_class (objects heap) ≡ class_dumps heap
 same_classes [] = refl
-same_classes (o ∷ rest) = same_classes_if o (objects rest) (is_object o) refl ∙ ap (λ (cs : List Class). cons_option (as_class o) cs) (same_classes rest)
+same_classes (o ∷ rest) = same_classes_if o (objects rest) (is_object o) refl
+    ∙ ap (λ (cs : List Class). cons_option (as_class o) cs) (same_classes rest)
 
 few_kept : (o : Option Class) (rest : List Class) (n : ℕ) → length rest ≤ n → length (cons_option o rest) ≤ 1 + n
 few_kept None rest n h = omega (arith, h)
@@ -64,92 +76,159 @@ few_kept (Some c) rest n h = omega (arith, h)
 
 pub few_classes : (os : List SubRecord) → length (filter_map as_class os) ≤ length os
 few_classes [] = omega arith
-few_classes (o ∷ os) = let h = few_kept (as_class o) (filter_map as_class os) (length os) (few_classes os) in omega (arith, h)
+few_classes (o ∷ os) =
+    let h = few_kept (as_class o) (filter_map as_class os) (length os) (few_classes os) in omega (arith, h)
 
 -- a class among the objects has a number
-found_if : {X : Type 0} (p : X → Bool) (x : X) (xs : List X) (b : Bool) → position_or_len p xs < length xs → cond b (1 + position_or_len p xs) 0 < 1 + length xs
+found_if : {X : Type 0} (p : X → Bool) (x : X) (xs : List X) (b : Bool) → position_or_len p xs < length xs
+    → cond b (1 + position_or_len p xs) 0 < 1 + length xs
 found_if p x xs true h = omega (arith, h)
 found_if p x xs false h = omega arith
 
-found_here : {X : Type 0} (p : X → Bool) (x : X) (xs : List X) → p x ≡ true → position_or_len p (x ∷ xs) < length (x ∷ xs)
-found_here p x xs e = let zero_is : position_or_len p (x ∷ xs) ≡ 0 = ap (λ b. cond (not b) (1 + position_or_len p xs) 0) e in omega (arith, zero_is)
+found_here : {X : Type 0} (p : X → Bool) (x : X) (xs : List X) → p x ≡ true
+    → position_or_len p (x ∷ xs) < length (x ∷ xs)
+found_here p x xs e =
+    let zero_is : position_or_len p (x ∷ xs) ≡ 0 = ap (λ b. cond (not b) (1 + position_or_len p xs) 0) e in
+    omega (arith, zero_is)
 
-found_later : {X : Type 0} (p : X → Bool) (x : X) (xs : List X) → position_or_len p xs < length xs → position_or_len p (x ∷ xs) < length (x ∷ xs)
+found_later : {X : Type 0} (p : X → Bool) (x : X) (xs : List X) → position_or_len p xs < length xs
+    → position_or_len p (x ∷ xs) < length (x ∷ xs)
 found_later p x xs h = let k = found_if p x xs (not (p x)) h in omega (arith, k)
 
-numbered_if : (id : ℕ) (o : SubRecord) (os : List SubRecord) (k : Option Class) → position_or_len (λ c. c.object == id) (filter_map as_class os) < length (filter_map as_class os)
-    → position_or_len (λ c. c.object == id) (cons_option k (filter_map as_class os)) < length (cons_option k (filter_map as_class os))
+numbered_if : (id : ℕ) (o : SubRecord) (os : List SubRecord) (k : Option Class)
+    → position_or_len (λ c. c.object == id) (filter_map as_class os) < length (filter_map as_class os)
+    → position_or_len (λ c. c.object == id) (cons_option k (filter_map as_class os))
+    < length (cons_option k (filter_map as_class os))
 numbered_if id o os None h = h
 numbered_if id o os (Some d) h = found_later (λ (c : Class). c.object == id) d (filter_map as_class os) h
 
-numbered : (id : ℕ) (os : List SubRecord) (n : ℕ) (c : Class) → slice_get os n ≡ Some (class_dump c) → c.object ≡ id → position_or_len (λ c. c.object == id) (filter_map as_class os) < length (filter_map as_class os)
+numbered : (id : ℕ) (os : List SubRecord) (n : ℕ) (c : Class) → slice_get os n ≡ Some (class_dump c) → c.object ≡ id
+    → position_or_len (λ c. c.object == id) (filter_map as_class os) < length (filter_map as_class os)
 numbered id [] n c h e = absurd (let wrong : None ≡ Some (class_dump c) = h in cc)
 numbered id (o ∷ os) zero c h e =
     let same : class_dump c ≡ o = (let both : Some o ≡ Some (class_dump c) = h in cc) in
-    subst (λ (x : SubRecord). position_or_len (λ c. c.object == id) (filter_map as_class (x ∷ os)) < length (filter_map as_class (x ∷ os))) same (found_here (λ (d : Class). d.object == id) c (filter_map as_class os) (eq-eqb c.object id e))
+    subst (λ (x : SubRecord). position_or_len (λ c. c.object == id) (filter_map as_class (x ∷ os))
+    < length (filter_map as_class (x ∷ os))) same
+    (found_here (λ (d : Class). d.object == id) c (filter_map as_class os) (eq-eqb c.object id e))
 numbered id (o ∷ os) (suc n) c h e = numbered_if id o os (as_class o) (numbered id os n c h e)
 
-pub class_number_below : (heap : List SubRecord) (id : ℕ) (c : Class) → class_named heap id ≡ Some c → class_number heap id < length (class_dumps heap)
+pub class_number_below : (heap : List SubRecord) (id : ℕ) (c : Class) → class_named heap id ≡ Some c
+    → class_number heap id < length (class_dumps heap)
 class_number_below heap id c named =
     let it : IsClassThere heap id c = class_there heap id c named in
-    subst (λ (cs : List Class). position_or_len (λ d. d.object == id) cs < length cs) (same_classes heap) (numbered id (objects heap) it.number c it.is it.id_is)
+    subst (λ (cs : List Class). position_or_len (λ d. d.object == id) cs < length cs) (same_classes heap)
+    (numbered id (objects heap) it.number c it.is it.id_is)
 
 -- the class of an object that has one is there
-known_if : (heap : List SubRecord) (id : ℕ) (k : Option Class) → class_named heap id ≡ k → (class_named heap id ≡ None → ⊥) → class_number heap id < length (class_dumps heap)
+known_if : (heap : List SubRecord) (id : ℕ) (k : Option Class) → class_named heap id ≡ k
+    → (class_named heap id ≡ None → ⊥) → class_number heap id < length (class_dumps heap)
 known_if heap id None e known = absurd (known e)
 known_if heap id (Some c) e known = class_number_below heap id c e
 
-row_there : (s : ℕ) (heap : List SubRecord) (n : ℕ) (o : SubRecord) (g : ObjectGraph) → class_count g ≡ length (class_dumps heap) → IsLinked s heap → slice_get (objects heap) n ≡ Some o → IsSubRecord s o → IsRowIn g (row_of heap o)
+row_there : (s : ℕ) (heap : List SubRecord) (n : ℕ) (o : SubRecord) (g : ObjectGraph)
+    → class_count g ≡ length (class_dumps heap) → IsLinked s heap → slice_get (objects heap) n ≡ Some o
+    → IsSubRecord s o → IsRowIn g (row_of heap o)
 row_there s heap n (root r) g e linked is sub = tt
 row_there s heap n (class_dump c) g e linked is sub = tt
-row_there s heap n (instance_dump i) g e linked is sub = omega (arith, e, known_if heap i.class (class_named heap i.class) refl (λ none. linked n UnknownClass (instance_dump i, is, none)))
-row_there s heap n (object_array_dump a) g e linked is sub = omega (arith, e, known_if heap a.class (class_named heap a.class) refl (λ none. linked n UnknownClass (object_array_dump a, is, none)))
+row_there s heap n (instance_dump i) g e linked is sub =
+    omega (
+      arith,
+      e,
+      known_if heap i.class (class_named heap i.class) refl
+          (λ none. linked n UnknownClass (instance_dump i, is, none)),
+    )
+row_there s heap n (object_array_dump a) g e linked is sub =
+    omega (
+      arith,
+      e,
+      known_if heap a.class (class_named heap a.class) refl
+          (λ none. linked n UnknownClass (object_array_dump a, is, none)),
+    )
 row_there s heap n (primitive_array_dump a) g e linked is sub = array_type_range a.type sub.allowed.1.1.1.0
 
 -- ---- the whole graph
 
 abbrev no_class : Class
-no_class = record { object = 0; stack = 0; super = 0; loader = 0; signers = 0; domain = 0; reserved = 0; reserved_too = 0; instance_size = 0; constants = []; statics = []; members = [] }
+no_class = record {
+  object = 0;
+  stack = 0;
+  super = 0;
+  loader = 0;
+  signers = 0;
+  domain = 0;
+  reserved = 0;
+  reserved_too = 0;
+  instance_size = 0;
+  constants = [];
+  statics = [];
+  members = [];
+}
 
 pub few_objects : (s : ℕ) (heap : List SubRecord) → IsLinked s heap → length (objects heap) ≤ most_objects
 few_objects s heap linked =
-    ⊎_elim (λ l. absurd (linked most_objects TooLarge (get_or (objects heap) most_objects (class_dump no_class), slice_get-get_or (objects heap) most_objects (class_dump no_class) l, omega arith)))
+    ⊎_elim (λ l. absurd (linked most_objects TooLarge (
+      get_or (objects heap) most_objects (class_dump no_class),
+      slice_get-get_or (objects heap) most_objects (class_dump no_class) l,
+      omega arith,
+    )))
     (λ l. l) (cases_lt most_objects (length (objects heap)))
 
-refs_within : (heap : List SubRecord) (lists : List (List ℕ)) (o : ℕ) → All (λ t. t < length (objects heap)) (get_or (map (targets heap) lists) o [])
+refs_within : (heap : List SubRecord) (lists : List (List ℕ)) (o : ℕ)
+    → All (λ t. t < length (objects heap)) (get_or (map (targets heap) lists) o [])
 refs_within heap [] o = targets_within heap []
 refs_within heap (ids ∷ lists) zero = targets_within heap ids
 refs_within heap (ids ∷ lists) (suc o) = refs_within heap lists o
 
-pub is_whole : (v : Sight) (places ids : List ℕ) (records : List Record) (g : ObjectGraph) → AreLinked v places ids (heap_of records)
+pub is_whole : (v : Sight) (places ids : List ℕ) (records : List Record) (skip : List SkipEntry) (g : ObjectGraph)
+    → AreLinked v places ids (heap_of records)
     → ((at : ℕ) (sub : SubRecord) → Stands v at sub → at + length (spelling_of v.id_size sub) ≤ length v.bytes)
     → ((n : ℕ) → length (held_by g n) ≤ 2 ^ 33) → length (root_ids (heap_of records)) ≤ limit → IsGraphOf v.id_size
-    records g → IsWhole g
-is_whole v places ids records g linked within few few_roots graph =
+    records skip g → IsWhole g
+is_whole v places ids records skip g linked within few few_roots graph =
     let heap : List SubRecord = heap_of records in
-    let count : object_count g ≡ length (objects heap) = count_of v.id_size records g graph in
-    let class_total : class_count g ≡ length (class_dumps heap) = ap length graph.classes_are ∙ length-map (class_dumps heap) (named_in records) in
+    let count : object_count g ≡ length (objects heap) = count_of v.id_size records skip g graph in
+    let class_total : class_count g ≡ length (class_dumps heap) =
+    ap length graph.classes_are ∙ length-map (class_dumps heap) (named_in records) in
     record {
       held_each = graph.held_are.one_each ∙ sym count;
       row_each = ap length graph.rows_are ∙ length-map (objects heap) (row_of heap) ∙ sym count;
       bytes_each = ap length graph.bytes_are ∙ length-map (objects heap) (bytes_of v.id_size) ∙ sym count;
       few_objects = omega (arith, few_objects v.id_size heap linked.linked, count);
       few_classes = omega (arith, class_total, count, few_classes (objects heap), ap length (same_classes heap));
-      roots_within = subst (λ (n : ℕ). All (λ o. o < n) g.roots) (sym count) (subst (λ (xs : List ℕ). All (λ t. t < length (objects heap)) xs) (sym graph.roots_are) (targets_within heap (root_ids heap)));
-      references_within = λ o. subst (λ (n : ℕ). All (λ b. b < n) (references_of g o)) (sym count) (subst (λ (xs : List (List ℕ)). All (λ t. t < length (objects heap)) (get_or xs o [])) (sym graph.references_are) (refs_within heap g.held o));
+      roots_within = subst (λ (n : ℕ). All (λ o. o < n) g.roots) (sym count)
+          (subst (λ (xs : List ℕ). All (λ t. t < length (objects heap)) xs) (sym graph.roots_are)
+          (targets_within heap (root_ids heap)));
+      references_within = λ o. subst (λ (n : ℕ). All (λ b. b < n) (references_of g o)) (sym count)
+          (subst (λ (xs : List (List ℕ)). All (λ t. t < length (objects heap)) (get_or xs o []))
+          (sym graph.references_are) (refs_within heap g.held o));
       rows_within = λ o h.
-          let it : IsThere v heap o (get_or places o 0) = there v places ids heap o linked.are (omega (arith, h, count, linked.are.stand.count)) in
-          subst (λ (r : RowKey). IsRowIn g r) (sym (row_here v.id_size records g o it.object graph it.is)) (row_there v.id_size heap o it.object g class_total linked.linked it.is it.stands.is);
+          let it : IsThere v heap o (get_or places o 0) =
+          there v places ids heap o linked.are (omega (arith, h, count, linked.are.stand.count)) in
+          subst (λ (r : RowKey). IsRowIn g r) (sym (row_here v.id_size records skip g o it.object graph it.is))
+          (row_there v.id_size heap o it.object g class_total linked.linked it.is it.stands.is);
       few_bytes = λ o. ⊎_elim
           (λ l.
-          let it : IsThere v heap o (get_or places o 0) = there v places ids heap o linked.are (omega (arith, l, linked.are.stand.count)) in
-          omega (arith, bytes_here v.id_size records g o it.object graph it.is, bytes_width v.id_size it.object it.stands.is, within (get_or places o 0) it.object it.stands, linked.short))
+          let it : IsThere v heap o (get_or places o 0) =
+          there v places ids heap o linked.are (omega (arith, l, linked.are.stand.count)) in
+          omega (
+            arith,
+            bytes_here v.id_size records skip g o it.object graph it.is,
+            bytes_width v.id_size it.object it.stands.is,
+            within (get_or places o 0) it.object it.stands,
+            linked.short,
+          ))
           (λ l.
-          let none : bytes_at g o ≡ 0 = get_or_past g.bytes o 0 (omega (arith, ap length graph.bytes_are, length-map (objects heap) (bytes_of v.id_size), l)) in
+          let none : bytes_at g o ≡ 0 = get_or_past g.bytes o 0
+          (omega (arith, ap length graph.bytes_are, length-map (objects heap) (bytes_of v.id_size), l)) in
           omega (arith, none))
           (cases_lt o (length (objects heap)));
-      few_missing = λ o. omega (arith, count_by-le-length (is_missing g.ids) (held_by g o), few o);
-      few_missing_roots =
-          omega (arith, count_by-le-length (is_missing g.ids) g.root_names, ap length graph.root_names_are, few_roots);
-      both_parts = parts_missing v.id_size records g graph (graph.held_are.one_each ∙ sym count);
+      few_unresolved = λ o. omega (arith, count_by-le-length (is_unresolved_in g.ids) (held_by g o), few o);
+      few_unresolved_roots =
+          omega (
+            arith,
+            count_by-le-length (is_unresolved_in g.ids) g.root_names,
+            ap length graph.root_names_are,
+            few_roots,
+          );
+      both_parts = parts_unresolved v.id_size records skip g graph (graph.held_are.one_each ∙ sym count);
     }

@@ -13,8 +13,15 @@ declared_fields chain = flat_map own_fields chain
 
 -- The identifiers in the fields of type 2 that are not skipped. A field's place is the sum of the sizes before it, of
 -- skipped ones too.
-abbrev pub followed_ids : (Class → Member → Bool) → ℕ → List (Class × Member) → List ℕ → List ℕ
-followed_ids skips s [] values = []
-followed_ids skips s (f ∷ fs) values =
+abbrev pub field_ids : (Class → Member → Bool) → ℕ → List (Class × Member) → List ℕ → List ℕ
+field_ids skips s [] values = []
+field_ids skips s (f ∷ fs) values =
     (if not (skips f.0 f.1) && (f.1.type == 2) then big_number s (take s values) ∷ [] else [])
-    ++ followed_ids skips s fs (drop (size_of s f.1.type) values)
+    ++ field_ids skips s fs (drop (size_of s f.1.type) values)
+
+-- Those in all fields of type 2, told without the classes that declare them: what the others are where none is skipped.
+abbrev pub all_field_ids : ℕ → List Member → List ℕ → List ℕ
+all_field_ids s [] values = []
+all_field_ids s (m ∷ ms) values =
+    (if m.type == 2 then big_number s (take s values) ∷ [] else [])
+    ++ all_field_ids s ms (drop (size_of s m.type) values)

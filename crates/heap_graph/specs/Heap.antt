@@ -1,5 +1,6 @@
 -- The heap list of a dump, its objects, and what an identifier names.
-use Rattle.std.specs.Prelude.{List, None, Option, Some, filter, filter_map, if◌then◌else◌, option_and_then, position, slice_get, ℕ, ◌==◌}
+use Rattle.std.specs.Prelude.{List, None, Option, Some, filter, filter_map, if◌then◌else◌, option_and_then, position}
+use Rattle.std.specs.Prelude.{slice_get, ℕ, ◌==◌}
 use Rattle.std.specs.List.{position_or_len}
 use Rattle.hprof_grammar.specs.Dump.{is_object}
 use Rattle.hprof_grammar.specs.SubRecord.{Class, SubRecord}

@@ -1,6 +1,5 @@
 -- The superclasses of a class, and the layout of its instances.
-use Rattle.std.specs.Prelude.{List, Some, [], drop, flat_map, if◌then◌else◌, length, sum_by, take, ℕ, ◌++◌, ◌==◌, ◌∷◌, ◌≡◌}
-use Rattle.byteorder.specs.Endian.{big_number}
+use Rattle.std.specs.Prelude.{List, Some, [], flat_map, length, sum_by, ℕ, ◌∷◌, ◌≡◌}
 use Rattle.heap_graph.specs.Heap.{class_named}
 use Rattle.hprof_grammar.specs.Tables.{size_of}
 use Rattle.hprof_grammar.specs.SubRecord.{Class, Member, SubRecord}
@@ -25,9 +24,3 @@ layout chain = flat_map (λ c. c.members) chain
 
 abbrev pub layout_size : ℕ → List Class → ℕ
 layout_size s chain = sum_by (λ m. size_of s m.type) (layout chain)
-
--- The identifiers in the fields of type 2. A field's place is the sum of the sizes before it.
-abbrev pub field_ids : ℕ → List Member → List ℕ → List ℕ
-field_ids s [] values = []
-field_ids s (m ∷ ms) values =
-    (if m.type == 2 then big_number s (take s values) ∷ [] else []) ++ field_ids s ms (drop (size_of s m.type) values)

@@ -1,6 +1,7 @@
 pub mod Heap
 pub mod Layout
 pub mod SuperRule
+pub mod Fields
 pub mod References
 pub mod Roots
 pub mod Walks
@@ -8,7 +9,6 @@ pub mod Rows
 pub mod ClassNames
 pub mod Skips
 pub mod SkipText
-pub mod Fields
 pub mod SkipRefusals
 pub mod Linked
 pub mod LinkFault

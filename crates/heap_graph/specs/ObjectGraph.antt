@@ -7,6 +7,7 @@ use Rattle.heap_graph.specs.Heap.{class_dumps, heap_of, id_of, objects}
 use Rattle.heap_graph.specs.Linked.{IsAccepted}
 use Rattle.heap_graph.specs.References.{AreIdLists, is_unresolved, targets}
 use Rattle.heap_graph.specs.Rows.{bytes_of, row_of}
+use Rattle.heap_graph.specs.Skips.{SkipEntry, is_skipped}
 use Rattle.hprof_grammar.specs.Record.{Record}
 use Rattle.hprof_grammar.specs.SubRecord.{Class, SubRecord}
 use Rattle.heap_graph.specs.declared.row.RowKey.{RowKey}
@@ -65,10 +66,10 @@ named_classes records = map (named_in records) (class_dumps (heap_of records))
 abbrev pub unresolved_in : List SubRecord → List (List ℕ) → ℕ
 unresolved_in heap lists = count_by (is_unresolved heap) (concat lists ++ root_ids heap)
 
--- This is the graph of the heap list of these records.
-pub record IsGraphOf (s : ℕ) (records : List Record) (g : ObjectGraph) : Type 0 where
+-- This is the graph of the heap list of these records, where the fields on that list are not followed.
+pub record IsGraphOf (s : ℕ) (records : List Record) (skip : List SkipEntry) (g : ObjectGraph) : Type 0 where
   pub ids_are : g.ids ≡ map id_of (objects (heap_of records))
-  pub held_are : AreIdLists s (heap_of records) g.held
+  pub held_are : AreIdLists (is_skipped records skip) s (heap_of records) g.held
   pub references_are : g.references ≡ map (targets (heap_of records)) g.held
   pub root_names_are : g.root_names ≡ root_ids (heap_of records)
   pub roots_are : g.roots ≡ root_objects (heap_of records)
@@ -77,9 +78,9 @@ pub record IsGraphOf (s : ℕ) (records : List Record) (g : ObjectGraph) : Type 
   pub classes_are : g.classes ≡ named_classes records
   pub unresolved_is : g.unresolved ≡ unresolved_in (heap_of records) g.held
 
--- The text is accepted, and this is the graph of the dump that it spells.
-pub record IsGraphOfText (text : List ℕ) (g : ObjectGraph) : Type 0 where
+-- The text is accepted, and this is the graph of the dump that it spells, where those fields are not followed.
+pub record IsGraphOfText (text : List ℕ) (skip : List SkipEntry) (g : ObjectGraph) : Type 0 where
   pub id_size : ℕ
   pub records : List Record
   pub accepted : IsAccepted text id_size records
-  pub graph : IsGraphOf id_size records g
+  pub graph : IsGraphOf id_size records skip g

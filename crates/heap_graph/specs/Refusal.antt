@@ -11,9 +11,10 @@ IfLinkFault (Err (refusals.Fault f)) P = P f
 IfLinkFault (Err refusals.OutOfMemory) P = Unit {0}
 
 -- the code and the place
-abbrev pub fault_text : LinkFault → List ℕ
-fault_text fault = codes "fault " ++ (decimal fault.code ++ (codes " at " ++ decimal fault.offset))
+abbrev pub link_fault_text : LinkFault → List ℕ
+link_fault_text fault = codes "fault " ++ (decimal fault.code ++ (codes " at " ++ decimal fault.offset))
 
 abbrev pub link_refusal_text : LinkRefusal → List ℕ
-link_refusal_text (refusals.Fault fault) = codes "the objects of the heap dump are not linked: " ++ fault_text fault
+link_refusal_text (refusals.Fault fault) = codes "the objects of the heap dump are not linked: "
+    ++ link_fault_text fault
 link_refusal_text refusals.OutOfMemory = codes "out of memory"

@@ -1,5 +1,6 @@
 -- A walk over the identifiers that an object holds, which gives the objects that they name.
-use Rattle.std.specs.Prelude.{Bool, List, None, Option, Some, [], count_by, false, filter_map, if◌then◌else◌, is_none, map, position, ℕ, ◌+◌, ◌++◌, ◌==◌, ◌∷◌, ◌≡◌}
+use Rattle.std.specs.Prelude.{Bool, List, None, Option, Some, [], count_by, false, filter_map, if◌then◌else◌, is_none}
+use Rattle.std.specs.Prelude.{map, position, ℕ, ◌+◌, ◌++◌, ◌==◌, ◌∷◌, ◌≡◌}
 use Rattle.heap_graph.specs.declared.row.RowKey.{RowKey}
 
 -- what an identifier names among objects with these identifiers: 0 is null, else the first that bears it
@@ -7,8 +8,8 @@ abbrev pub target_in : List ℕ → ℕ → Option ℕ
 target_in all id = if id == 0 then None else position (λ x. x == id) all
 
 -- an identifier other than 0 that names none of them
-abbrev pub is_missing : List ℕ → ℕ → Bool
-is_missing all id = if id == 0 then false else is_none (position (λ x. x == id) all)
+abbrev pub is_unresolved_in : List ℕ → ℕ → Bool
+is_unresolved_in all id = if id == 0 then false else is_none (position (λ x. x == id) all)
 
 -- an identifier, and the object that it names: none for 0, and for one that names no object
 pub record Step : Type 0 where
@@ -34,26 +35,26 @@ GoesPast old (Some o) new = (passed : List Step) × (id : ℕ) × (references_in
     × (old ≡ passed ++ record { id = id; names = Some o } ∷ new)
 
 -- of the steps that are left: how many have an identifier other than 0 and name no object
-abbrev pub misses : Step → Bool
-misses s = if s.id == 0 then false else is_none s.names
+abbrev pub is_unresolved_step : Step → Bool
+is_unresolved_step s = if s.id == 0 then false else is_none s.names
 
-abbrev pub missing_in : List Step → ℕ
-missing_in steps = count_by misses steps
+abbrev pub unresolved_left : List Step → ℕ
+unresolved_left steps = count_by is_unresolved_step steps
 
 -- A visit of an object: its row and its bytes, the steps that are left, and how many of those that were passed have an
 -- identifier other than 0 and name no object.
 pub record Visited : Type 0 where
   pub row : RowKey
   pub bytes : ℕ
-  pub missing : ℕ
+  pub unresolved : ℕ
   pub left : List Step
 
 abbrev pub references_left : Visited → List ℕ
 references_left v = references_in v.left
 
 -- a visit goes on: what it misses in all stays the same
-pub record GoesOn (old : Visited) (object : Option ℕ) (new : Visited) : Type 0 where
+pub record Advances (old : Visited) (object : Option ℕ) (new : Visited) : Type 0 where
   pub goes : GoesPast old.left object new.left
   pub row_is : new.row ≡ old.row
   pub bytes_is : new.bytes ≡ old.bytes
-  pub missing_is : new.missing + missing_in new.left ≡ old.missing + missing_in old.left
+  pub unresolved_is : new.unresolved + unresolved_left new.left ≡ old.unresolved + unresolved_left old.left

@@ -3,7 +3,7 @@ use Rattle.std.specs.Prelude.{All, List, [], count_by, length, slice_index_or, s
 use Rattle.std.specs.List.{range_with_len}
 use Rattle.heap_graph.specs.Linked.{most_objects}
 use Rattle.heap_graph.specs.ObjectGraph.{ObjectGraph, bytes_at, class_count, object_count, references_of, row_at}
-use Rattle.heap_graph.specs.Walks.{is_missing}
+use Rattle.heap_graph.specs.Walks.{is_unresolved_in}
 use Rattle.hprof_grammar.specs.Dump.{limit}
 use Rattle.heap_graph.specs.declared.row.RowKey.{RowKey}
 use Rattle.heap_graph.specs.declared.row.RowKey.TheVariants as keys
@@ -13,15 +13,15 @@ abbrev pub held_by : ObjectGraph → ℕ → List ℕ
 held_by g o = slice_index_or g.held o []
 
 -- how many of the identifiers that an object holds are other than 0 and name no object, and how many of those of roots
-abbrev pub missing_at : ObjectGraph → ℕ → ℕ
-missing_at g o = count_by (is_missing g.ids) (held_by g o)
+abbrev pub unresolved_at : ObjectGraph → ℕ → ℕ
+unresolved_at g o = count_by (is_unresolved_in g.ids) (held_by g o)
 
-abbrev pub missing_roots : ObjectGraph → ℕ
-missing_roots g = count_by (is_missing g.ids) g.root_names
+abbrev pub unresolved_roots : ObjectGraph → ℕ
+unresolved_roots g = count_by (is_unresolved_in g.ids) g.root_names
 
 -- the same of these objects together
-abbrev pub missing_of : ObjectGraph → List ℕ → ℕ
-missing_of g numbers = sum_by (missing_at g) numbers
+abbrev pub unresolved_among : ObjectGraph → List ℕ → ℕ
+unresolved_among g numbers = sum_by (unresolved_at g) numbers
 
 -- a row that the graph has
 abbrev pub IsRowIn : ObjectGraph → RowKey → Type 0
@@ -40,7 +40,7 @@ pub record IsWhole (g : ObjectGraph) : Type 0 where
   pub references_within : (o : ℕ) → All (λ b. b < object_count g) (references_of g o)
   pub rows_within : (o : ℕ) → o < object_count g → IsRowIn g (row_at g o)
   pub few_bytes : (o : ℕ) → bytes_at g o ≤ limit
-  pub few_missing : (o : ℕ) → missing_at g o ≤ 2 ^ 33
-  pub few_missing_roots : missing_roots g ≤ limit
+  pub few_unresolved : (o : ℕ) → unresolved_at g o ≤ 2 ^ 33
+  pub few_unresolved_roots : unresolved_roots g ≤ limit
   -- what all objects and the roots miss together is the number that a histogram tells
-  pub both_parts : g.unresolved ≡ missing_of g (range_with_len 0 (object_count g)) + missing_roots g
+  pub both_parts : g.unresolved ≡ unresolved_among g (range_with_len 0 (object_count g)) + unresolved_roots g

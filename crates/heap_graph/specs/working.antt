@@ -11,8 +11,9 @@ pub mod RuleAnswers
 pub mod ClassList
 pub mod ClassTable
 pub mod Chains
-pub mod ToldClasses
+pub mod ClassFates
 pub mod IdPlaces
+pub mod ClassSkips
 pub mod ClassPlans
 pub mod FieldsUp
 pub mod Rests

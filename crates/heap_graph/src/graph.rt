@@ -5,18 +5,20 @@ mod build;
 ghost use Rattle.std.specs.Prelude.{All, ◌+◌, ◌<◌, ◌^◌, ◌≡◌, ◌≤◌, map, option_copied};
 ghost use Rattle.hprof_grammar.specs.Dump.{limit};
 ghost use Rattle.heap_graph.specs.ObjectGraph.{bytes_at, class_at, class_count, object_count, references_of, row_at};
-ghost use Rattle.heap_graph.specs.Whole.{IsRowIn, IsWhole, held_by, missing_at, missing_roots};
-ghost use Rattle.heap_graph.specs.Walks.{ids_in, missing_in, references_in, step_in};
+ghost use Rattle.heap_graph.specs.Whole.{IsRowIn, IsWhole, held_by, unresolved_at, unresolved_roots};
+ghost use Rattle.heap_graph.specs.Walks.{ids_in, unresolved_left, references_in, step_in};
 ghost use Rattle.heap_graph.specs.working.OnlyGraph.{GraphOf, GraphOf-prop};
 
 use crate::entry::ClassEntry;
 use crate::objects::Objects;
 use crate::plan::Plan;
 use crate::row::RowKey;
+use crate::skip::SkipPair;
 use crate::successors::Successors;
 use crate::visit::Visit;
 use std::alloc::Allocator;
 use std::marker::Model;
+use std::snapshot::Snapshot;
 
 /// The objects of a linked dump, numbered from 0 in the order of their sub-records. Of each object its place in the
 /// bytes is kept, and its number by its identifier.
@@ -27,9 +29,11 @@ pub struct Graph<'a, A: Allocator> {
     roots: Vec<u32, A>,
     classes: Vec<ClassEntry<'a>, A>,
     /// How many identifiers of roots name no object.
-    missing: u64,
-    /// The graph of the bytes, which there is once.
-    ghost graph: { GraphOf objects.view.bytes } by { GraphOf-prop objects.view.bytes },
+    unresolved: u64,
+    /// The fields that are not followed, as clauses see them.
+    skip: Snapshot<&'a [SkipPair<'a>]>,
+    /// The graph of the bytes and of that list, which there is once.
+    ghost graph: { GraphOf objects.view.bytes skip.value.now } by { GraphOf-prop objects.view.bytes skip.value.now },
 }
 
 impl<'a, A: Allocator> Model for Graph<'a, A> {
@@ -40,7 +44,8 @@ impl<'a, A: Allocator> Model for Graph<'a, A> {
 
     ghost view = { λ g. g.graph.0 };
 
-    ghost invariant = { λ g. StandFor g.objects g.plan g.roots.items g.classes.items g.missing g.graph.0 };
+    ghost invariant = { λ g. StandFor g.objects g.plan g.roots.items g.classes.items g.unresolved g.skip.value.now
+        g.graph.0 };
 }
 
 impl<'a, A: Allocator> Graph<'a, A> {
@@ -83,7 +88,7 @@ impl<'a, A: Allocator> Graph<'a, A> {
         ensures steps { result.left ≡ map (step_in self.now.ids) (held_by self.now object) }
         ensures value { references_in result.left ≡ references_of self.now object }
         ensures within { All (λ o. o < object_count self.now) (references_of self.now object) }
-        ensures missing { result.missing + missing_in result.left ≡ missing_at self.now object }
+        ensures unresolved { result.unresolved + unresolved_left result.left ≡ unresolved_at self.now object }
     {
         let (row, bytes, ids) = self.objects.scan(&self.plan, object as usize);
         let first = self.plan.object_of_row(row);
@@ -111,7 +116,7 @@ impl<'a, A: Allocator> Graph<'a, A> {
     /// How many of the identifiers that an object holds are other than 0 and name no object.
     pub fn unresolved_of(&self, object: u32) -> u64
         requires { object < object_count self.now }
-        ensures value { result ≡ missing_at self.now object }
+        ensures value { result ≡ unresolved_at self.now object }
         ensures within { result ≤ 2 ^ 33 }
     {
         self.objects.unresolved_of(&self.plan, object as usize)
@@ -119,10 +124,10 @@ impl<'a, A: Allocator> Graph<'a, A> {
 
     /// How many identifiers of roots are other than 0 and name no object.
     pub fn unresolved(&self) -> u64
-        ensures value { result ≡ missing_roots self.now }
+        ensures value { result ≡ unresolved_roots self.now }
         ensures within { result ≤ limit }
     {
-        self.missing
+        self.unresolved
     }
 
     /// How many classes there are. They are numbered from 0 in the order of their dumps.

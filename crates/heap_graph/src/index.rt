@@ -7,8 +7,9 @@ mod tests;
 
 ghost use Rattle.std.specs.Prelude.{Contains, IfOk, IsSorted, IsTrue, ◌==◌, ◌≡◌, ◌↔◌, length, position, take};
 ghost use Rattle.heap_graph.specs.working.IndexBeginnings.{AreBeginnings, IsAround};
-ghost use Rattle.heap_graph.specs.working.IndexPairs.{IsFirstBearer, IsFirstFrom, IsFirstRepeat, IsLeastRepeat, pair_cmp};
-ghost use Rattle.heap_graph.specs.working.Resolving.{Resolves, ResolvesOne, is_missing, target_in};
+ghost use Rattle.heap_graph.specs.working.IndexPairs.{IsFirstBearer, IsFirstFrom, IsFirstRepeat, IsLeastRepeat};
+ghost use Rattle.heap_graph.specs.working.IndexPairs.{pair_cmp};
+ghost use Rattle.heap_graph.specs.working.Resolving.{Resolves, ResolvesOne, is_unresolved_in, target_in};
 
 use self::beginnings::Beginnings;
 pub(crate) use self::builder::IndexBuilder;
@@ -26,14 +27,14 @@ pub(crate) struct Index<A: Allocator> {
 impl<A: Allocator> Model for Index<A> {
     ghost use Rattle.std.specs.Prelude.{List, ℕ};
     ghost use Rattle.heap_graph.specs.working.IndexBeginnings.{AreBeginnings};
-    ghost use Rattle.heap_graph.specs.working.IndexPairs.{IsIndexOf, ids_of};
+    ghost use Rattle.heap_graph.specs.working.IndexPairs.{IsIndexOf, ids_by_number};
 
     ghost Value = { List ℕ };
 
-    ghost view = { λ i. ids_of i.pairs.items };
+    ghost view = { λ i. ids_by_number i.pairs.items };
 
     ghost invariant = { λ i. record {
-      sound : IsIndexOf i.pairs.items (ids_of i.pairs.items);
+      sound : IsIndexOf i.pairs.items (ids_by_number i.pairs.items);
       begun : AreBeginnings i.pairs.items i.beginnings;
     } };
 }
@@ -121,8 +122,8 @@ impl<A: Allocator> Index<A> {
     }
 
     /// Whether an identifier is another than 0 and names no object.
-    pub(crate) fn is_missing(&self, id: u64) -> bool
-        ensures { result ≡ is_missing self.now id }
+    pub(crate) fn is_unresolved(&self, id: u64) -> bool
+        ensures { result ≡ is_unresolved_in self.now id }
     {
         id != 0 && self.find(id).is_none()
     }
@@ -151,7 +152,7 @@ impl<A: Allocator> Index<A> {
         id: u64,
         targets: &mut Vec<u32, B>,
     ) -> Result<bool, AllocError>
-        ensures { IfOk result (λ missing. ResolvesOne self.now id targets.old.items targets.new.items missing) }
+        ensures { IfOk result (λ unresolved. ResolvesOne self.now id targets.old.items targets.new.items unresolved) }
     {
         match self.target(id) {
             Some(number) => {
@@ -168,14 +169,14 @@ impl<A: Allocator> Index<A> {
         ids: &[u64],
         targets: &mut Vec<u32, B>,
     ) -> Result<u64, AllocError>
-        ensures { IfOk result (λ missing. Resolves self.now ids.now targets.old.items targets.new.items missing) }
+        ensures { IfOk result (λ unresolved. Resolves self.now ids.now targets.old.items targets.new.items unresolved) }
     {
-        let mut missing = 0;
+        let mut unresolved = 0;
         for id in ids {
             if self.push_target(*id, targets)? {
-                missing += 1;
+                unresolved += 1;
             }
         }
-        Ok(missing)
+        Ok(unresolved)
     }
 }

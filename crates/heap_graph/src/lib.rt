@@ -1,4 +1,19 @@
 //! The objects of a heap dump: their references, roots, rows and bytes, and the rules that link them.
+//!
+//! `Graph::build` takes the bytes of a dump and what `hprof_grammar::read` found in them, and answers the graph of its
+//! objects, or the first fault of its links. It keeps places and an index of identifiers, and no reference: what an
+//! object refers to is read from the bytes each time that it is asked for, in order and with repeats. The fields that a
+//! `Skip` lists are not followed.
+//!
+//! From `src/tests/graphs.rt`, which is proved and run with the tests:
+//!
+//!     let Ok(dump) = read(alloc, bytes) else {
+//!         return None;
+//!     };
+//!     Graph::build(alloc, bytes, dump, skip).ok()
+//!
+//! README.md beside this folder has a table of the calls; the definitions begin in `specs/ObjectGraph.antt`, and what
+//! is accepted and refused stands in `docs/FORMAT.md`.
 #![tactic(auto)]
 
 mod classes;

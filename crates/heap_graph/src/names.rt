@@ -86,7 +86,7 @@ impl<'n, 'a, A: Allocator> NamesById<'n, 'a, A> {
     }
 
     /// The text of the first string with that identifier.
-    fn string_named(&self, id: u64) -> Option<&'a [u8]>
+    pub(crate) fn string_named(&self, id: u64) -> Option<&'a [u8]>
         requires { (records : List Record) × AreNamesByIdOf self.now records }
         ensures { (records : List Record) → AreNamesByIdOf self.now records
             → option_copied result ≡ named.string_named records id }

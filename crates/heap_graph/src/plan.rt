@@ -1,10 +1,12 @@
 //! Where the identifiers stand in the fields of instances, class by class.
 
-ghost use Rattle.std.specs.Prelude.{IfOk, OnOk, false, length, ◌++◌, ◌<◌, ◌^◌, ◌≡◌};
+ghost use Rattle.std.specs.Prelude.{Bool, IfOk, OnOk, length, ◌++◌, ◌<◌, ◌^◌, ◌≡◌};
+ghost use Rattle.hprof_grammar.specs.SubRecord.{Member};
+ghost use Rattle.heap_graph.specs.working.ClassSkips.{IsSkipTest};
 ghost use Rattle.heap_graph.specs.working.IdPlaces.{id_places, size_together};
 
 use crate::row::RowKey;
-use crate::types::OBJECT_TYPE;
+use crate::skip::ClassSkips;
 use hprof_grammar::{Members, View};
 use std::alloc::{AllocError, Allocator};
 
@@ -29,20 +31,22 @@ pub(crate) struct Plan<A: Allocator> {
     pub(crate) places: Vec<u32, A>,
 }
 
-/// Appends the places of the fields of type 2 among these, and answers how many bytes the values of all have.
-fn push_id_places<A: Allocator>(
+/// Appends the places of the fields among these that are followed, and answers how many bytes the values of all have.
+fn push_id_places<A: Allocator, B: Allocator>(
     view: &View<'_>,
     members: Members<'_>,
+    skips: &ClassSkips<'_, '_, B>,
     places: &mut Vec<u32, A>,
 ) -> Result<u64, AllocError>
-    requires { length members < 2 ^ 16 }
-    ensures places { OnOk result (places.new.items
-        ≡ places.old.items ++ id_places (λ m. false) view.now.id_size 0 members.entry) }
+    requires few { length members < 2 ^ 16 }
+    requires skips { (test : Member → Bool) × IsSkipTest skips.now test }
+    ensures places { OnOk result ((test : Member → Bool) → IsSkipTest skips.now test
+        → places.new.items ≡ places.old.items ++ id_places test view.now.id_size 0 members.entry) }
     ensures size { IfOk result (λ size. size ≡ size_together view.now.id_size members.entry) }
 {
     let mut size = 0;
     for member in members {
-        if member.type_code == OBJECT_TYPE {
+        if skips.follows(member) {
             places.push(size)?;
         }
         size += u32::from(view.size_of(member.type_code));
@@ -55,18 +59,21 @@ impl<A: Allocator> Plan<A> {
     ghost use Rattle.heap_graph.specs.working.ClassPlans.{plan_at};
 
     /// Adds a class with these fields, whose identifier names that object.
-    pub(crate) fn push(
+    pub(crate) fn push<B: Allocator>(
         &mut self,
         view: &View<'_>,
         members: Members<'_>,
+        skips: &ClassSkips<'_, '_, B>,
         object: Option<u32>,
     ) -> Result<(), AllocError>
-        requires { length members < 2 ^ 16 }
-        ensures { OnOk result (AddsPlan (λ m. false) view.now.id_size members.entry object
+        requires few { length members < 2 ^ 16 }
+        requires skips { (test : Member → Bool) × IsSkipTest skips.now test }
+        ensures { OnOk result ((test : Member → Bool) → IsSkipTest skips.now test
+            → AddsPlan test view.now.id_size members.entry object
             self.old.classes.items self.old.places.items self.new.classes.items self.new.places.items) }
     {
         let start = self.places.len();
-        let size = push_id_places(view, members, &mut self.places)?;
+        let size = push_id_places(view, members, skips, &mut self.places)?;
         let end = self.places.len();
         self.classes.push(ClassPlan {
             start,

@@ -34,9 +34,9 @@ pub struct LinkFault {
 
 impl fmt::Display for LinkFault {
     ghost use Rattle.std.specs.Prelude.{Some};
-    ghost use Rattle.heap_graph.specs.Refusal.{fault_text};
+    ghost use Rattle.heap_graph.specs.Refusal.{link_fault_text};
 
-    ghost output = { λ fault. Some (fault_text fault) };
+    ghost output = { λ fault. Some (link_fault_text fault) };
 
     fn fmt<W: fmt::Write>(&self, f: &mut fmt::Formatter<W>) -> fmt::Result {
         let code = self.code;
@@ -52,7 +52,7 @@ impl Error for LinkFault {}
 pub enum LinkRefusal {
     /// The objects of the dump are not linked.
     Fault(LinkFault),
-    /// A growth was refused.
+    /// A request for memory was refused.
     OutOfMemory,
 }
 

@@ -4,9 +4,11 @@ ghost use Rattle.std.specs.Prelude.{IfOk, List, [], ◌≡◌};
 ghost use Rattle.heap_graph.specs.SkipText.{SpellsSkips};
 ghost use Rattle.heap_graph.specs.Skips.{SkipEntry};
 
+mod class_skips;
 mod entry;
 mod refusal;
 
+pub(crate) use class_skips::ClassSkips;
 pub(crate) use entry::SkipPair;
 use entry::{entry_of, first_piece};
 pub use refusal::SkipRefusal;
@@ -32,7 +34,7 @@ impl<'t, A: Allocator> Model for Skip<'t, A> {
 }
 
 impl<'t, A: Allocator> Skip<'t, A> {
-    /// No field. It takes no memory.
+    /// The list of no field: all are followed. It takes no memory.
     pub fn none(alloc: A) -> Self
         ensures { result ≡ [] }
     {

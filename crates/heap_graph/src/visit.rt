@@ -17,33 +17,33 @@ pub struct Visit<'g, A: Allocator> {
     first: Option<u32>,
     row: RowKey,
     bytes: u64,
-    missing: u64,
+    unresolved: u64,
 }
 
 impl<'g, A: Allocator> Model for Visit<'g, A> {
     ghost use Rattle.std.specs.Prelude.{IfSome, length, map, ◌+◌, ◌^◌, ◌≤◌};
     ghost use Rattle.heap_graph.specs.Walks.{Visited, step_in};
-    ghost use Rattle.heap_graph.specs.working.Resolving.{Leads};
+    ghost use Rattle.heap_graph.specs.working.Resolving.{FirstNames};
 
     ghost Value = { Visited };
 
     ghost view = { λ v. record {
       row = v.row;
       bytes = v.bytes;
-      missing = v.missing;
+      unresolved = v.unresolved;
       left = map (step_in v.index.now) v.ids;
     } };
 
     ghost invariant = { λ v. record {
-      few : v.missing + length v.ids ≤ 2 ^ 33;
-      leads : IfSome v.first (Leads v.index.now v.ids);
+      few : v.unresolved + length v.ids ≤ 2 ^ 33;
+      leads : IfSome v.first (FirstNames v.index.now v.ids);
     } };
 }
 
 impl<'g, A: Allocator> Visit<'g, A> {
     ghost use Rattle.std.specs.Prelude.{IfSome, length, map, ◌^◌, ◌≡◌, ◌≤◌};
     ghost use Rattle.heap_graph.specs.Walks.{step_in};
-    ghost use Rattle.heap_graph.specs.working.Resolving.{Leads};
+    ghost use Rattle.heap_graph.specs.working.Resolving.{FirstNames};
 
     /// The objects that these identifiers name, of an object with that row and so many bytes. `first` is what the first
     /// of them names, where it is known.
@@ -55,8 +55,9 @@ impl<'g, A: Allocator> Visit<'g, A> {
         first: Option<u32>,
     ) -> Self
         requires few { length ids ≤ 2 ^ 33 }
-        requires leads { IfSome first (Leads index.now ids) }
-        ensures { result ≡ record { row = row; bytes = bytes; missing = 0; left = map (step_in index.now) ids.entry } }
+        requires leads { IfSome first (FirstNames index.now ids) }
+        ensures { result
+            ≡ record { row = row; bytes = bytes; unresolved = 0; left = map (step_in index.now) ids.entry } }
     {
         Visit {
             index,
@@ -64,7 +65,7 @@ impl<'g, A: Allocator> Visit<'g, A> {
             first,
             row,
             bytes,
-            missing: 0,
+            unresolved: 0,
         }
     }
 
@@ -84,20 +85,20 @@ impl<'g, A: Allocator> Visit<'g, A> {
 
     /// How many of the identifiers that were passed are other than 0 and name no object: behind the last object, how
     /// many of all that the object holds.
-    pub fn missing(&self) -> u64
-        ensures { result ≡ self.now.missing }
+    pub fn unresolved(&self) -> u64
+        ensures { result ≡ self.now.unresolved }
     {
-        self.missing
+        self.unresolved
     }
 }
 
 impl<'g, A: Allocator> Iterator for Visit<'g, A> {
     ghost use Rattle.std.specs.Iterator.{YieldsFirst, item_count};
-    ghost use Rattle.heap_graph.specs.Walks.{GoesOn, references_left};
+    ghost use Rattle.heap_graph.specs.Walks.{Advances, references_left};
 
     type Item = u32;
 
-    ghost next_gives = { λ old object new. YieldsFirst references_left old object new × GoesOn old object new };
+    ghost next_gives = { λ old object new. YieldsFirst references_left old object new × Advances old object new };
 
     ghost remaining = { item_count references_left };
 
@@ -110,7 +111,7 @@ impl<'g, A: Allocator> Iterator for Visit<'g, A> {
                 return Some(object);
             }
             if id != 0 {
-                self.missing += 1;
+                self.unresolved += 1;
             }
         }
         None

@@ -1,6 +1,7 @@
 -- Chains of superclasses by the numbers of classes, and what is known of them. `ids` are the identifiers of the classes
 -- by their numbers.
-use Rattle.std.specs.Prelude.{Bool, Contains, List, None, Option, Some, [], false, length, min, slice_get, slice_index, true, ℕ, ◌++◌, ◌<◌, ◌∷◌, ◌≡◌, ◌≢◌}
+use Rattle.std.specs.Prelude.{Bool, Contains, List, None, Option, Some, [], false, length, min, slice_get, slice_index}
+use Rattle.std.specs.Prelude.{true, ℕ, ◌++◌, ◌<◌, ◌∷◌, ◌≡◌, ◌≢◌}
 use Rattle.hprof_grammar.specs.SubRecord.{Class, Member, SubRecord}
 use Rattle.heap_graph.specs.Heap.{class_named}
 use Rattle.heap_graph.specs.Fields.{declared_fields, own_fields}

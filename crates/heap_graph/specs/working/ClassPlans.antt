@@ -1,6 +1,7 @@
 -- What is planned for the classes of a dump, by their numbers: where the identifiers stand in the fields that they
 -- declare.
-use Rattle.std.specs.Prelude.{Bool, List, None, Option, Some, [], false, length, slice_get, slice_index, slice_index_or, slice_range}
+use Rattle.std.specs.Prelude.{Bool, List, None, Option, Some, [], length, slice_get, slice_index, slice_index_or}
+use Rattle.std.specs.Prelude.{slice_range}
 use Rattle.std.specs.Prelude.{ℕ, ◌++◌, ◌∷◌}
 use Rattle.std.specs.Prelude.{◌<◌, ◌≡◌, ◌≤◌}
 use Rattle.hprof_grammar.specs.SubRecord.{Class, Member, SubRecord}
@@ -64,9 +65,9 @@ pub record IsPlan (skips : Class → Member → Bool) (s : ℕ) (heap : List Sub
   pub each : AreClassPlans skips s heap ids plans places
   pub objects_are : AreClassObjects all ids plans
 
-abbrev pub IsPlanOf : {A B : Type 0} → Objects A → List SubRecord → Plan B → Type 0
-IsPlanOf o heap p =
-    IsPlan (λ c m. false) o.view.id_size heap o.index (ids_of o.classes.table.entries) p.classes.items p.places.items
+abbrev pub IsPlanOf : {A B : Type 0} → (Class → Member → Bool) → Objects A → List SubRecord → Plan B → Type 0
+IsPlanOf skips o heap p =
+    IsPlan skips o.view.id_size heap o.index (ids_of o.classes.table.entries) p.classes.items p.places.items
 
 -- a class with these fields, whose identifier names that object, was added behind the others
 pub record AddsPlan (skips : Member → Bool) (s : ℕ) (members : List Member) (object : Option ℕ)

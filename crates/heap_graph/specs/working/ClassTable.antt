@@ -8,11 +8,11 @@ use Rattle.heap_graph.specs.Heap.{as_class, class_dumps, class_named, number_nam
 use Rattle.heap_graph.specs.Linked.{IsLinked}
 use Rattle.heap_graph.specs.working.IdPlaces.{size_together}
 use Rattle.heap_graph.specs.declared.classes.ClassPlace.{ClassPlace}
-pub use Rattle.heap_graph.specs.working.ClassList.{Entry, ids_of}
+pub use Rattle.heap_graph.specs.working.ClassList.{TableEntry, ids_of}
 use Rattle.heap_graph.specs.declared.classes.Classes.{Classes}
 
 -- the class that the identifier names stands at that place, and the values of its fields have so many bytes
-pub record IsEntry (v : Sight) (heap : List SubRecord) (e : Entry) : Type 0 where
+pub record IsTableEntry (v : Sight) (heap : List SubRecord) (e : TableEntry) : Type 0 where
   pub class : Class
   pub named : class_named heap e.0 ≡ Some class
   pub stands : Stands v e.1.place (class_dump class)
@@ -20,9 +20,9 @@ pub record IsEntry (v : Sight) (heap : List SubRecord) (e : Entry) : Type 0 wher
   pub few_bytes : e.1.size < 2 ^ 32
 
 -- each entry is a class, and each class that an identifier names has an entry
-pub record AreClasses (v : Sight) (heap : List SubRecord) (entries : List Entry) : Type 0 where
+pub record AreClasses (v : Sight) (heap : List SubRecord) (entries : List TableEntry) : Type 0 where
   pub low : 1 ≤ v.id_size
-  pub each : (k : ℕ) (e : Entry) → slice_get entries k ≡ Some e → IsEntry v heap e
+  pub each : (k : ℕ) (e : TableEntry) → slice_get entries k ≡ Some e → IsTableEntry v heap e
   pub complete : (id : ℕ) (c : Class) → class_named heap id ≡ Some c → Contains (ids_of entries) id
   -- in a linked heap list they stand in the order of the class dumps
   pub in_order : IsLinked v.id_size heap → ids_of entries ≡ map (λ c. c.object) (class_dumps heap)
@@ -31,8 +31,8 @@ abbrev pub AreClassesOf : {A : Type 0} → Classes A → List SubRecord → Type
 AreClassesOf o heap = AreClasses o.view heap o.table.entries
 
 -- the classes among the first n objects
-pub record AreClassesAmong (v : Sight) (heap : List SubRecord) (n : ℕ) (entries : List Entry) : Type 0 where
-  pub each : (k : ℕ) (e : Entry) → slice_get entries k ≡ Some e → IsEntry v heap e
+pub record AreClassesAmong (v : Sight) (heap : List SubRecord) (n : ℕ) (entries : List TableEntry) : Type 0 where
+  pub each : (k : ℕ) (e : TableEntry) → slice_get entries k ≡ Some e → IsTableEntry v heap e
   pub complete : (id number : ℕ) (c : Class) → class_named heap id ≡ Some c → number_named heap id ≡ Some number
       → number < n → Contains (ids_of entries) id
   pub only : (id : ℕ) → Contains (ids_of entries) id → (number : ℕ) × (number_named heap id ≡ Some number)
@@ -42,7 +42,7 @@ pub record AreClassesAmong (v : Sight) (heap : List SubRecord) (n : ℕ) (entrie
   pub few : length entries ≤ n
 
 -- the class was added behind the others
-pub record AddsEntry (s : ℕ) (c : Class) (id place : ℕ) (old new : List Entry) : Type 0 where
+pub record AddsEntry (s : ℕ) (c : Class) (id place : ℕ) (old new : List TableEntry) : Type 0 where
   pub entry : ClassPlace
   pub place_is : entry.place ≡ place
   pub size_is : entry.size ≡ size_together s c.members
@@ -51,5 +51,5 @@ pub record AddsEntry (s : ℕ) (c : Class) (id place : ℕ) (old new : List Entr
 
 -- ---- the entry of a number
 
-abbrev pub entry_at : List Entry → ℕ → ClassPlace
+abbrev pub entry_at : List TableEntry → ℕ → ClassPlace
 entry_at entries k = (slice_index_or entries k (0, record { place = 0; size = 0 })).1

@@ -1,5 +1,6 @@
 -- The identifiers in the fields of an instance, by the numbers of the classes up its chain that declare fields.
-use Rattle.std.specs.Prelude.{List, None, Option, Some, [], drop, length, slice_get, slice_index_or, ℕ, ◌++◌, ◌+◌, ◌<◌, ◌∷◌, ◌≡◌, ◌≤◌}
+use Rattle.std.specs.Prelude.{List, None, Option, Some, [], drop, length, slice_get, slice_index_or, ℕ, ◌++◌, ◌+◌, ◌<◌}
+use Rattle.std.specs.Prelude.{◌∷◌, ◌≡◌, ◌≤◌}
 use Rattle.std.specs.Coded.{Coded-set, coded_option, coded_ℕ, ×_prop}
 use Rattle.std.proofs.Common.{refl, subst, sym, ◌∙◌}
 use Rattle.std.proofs.Math.Path.{Σ_path, to_path_p}

@@ -1,5 +1,5 @@
 -- What is known while the references of linked objects are read.
-use Rattle.std.specs.Prelude.{List, Option, Some, length, slice_get, ℕ, ◌^◌, ◌≡◌, ◌≤◌}
+use Rattle.std.specs.Prelude.{Bool, List, Option, Some, length, slice_get, ℕ, ◌^◌, ◌≡◌, ◌≤◌}
 use Rattle.hprof_grammar.specs.SubRecord.{Class, Instance, Member, SubRecord}
 use Rattle.hprof_grammar.specs.Dump.{limit}
 use Rattle.hprof_grammar.specs.Standing.{Sight, Stands}
@@ -31,15 +31,17 @@ pub record IsObjectAt (v : Sight) (heap : List SubRecord) (n at : ℕ) (o : SubR
   pub stands : Stands v at o
 
 -- these are the identifiers that the object holds
-pub record AreIdsOf (s : ℕ) (heap : List SubRecord) (o : SubRecord) (ids : List ℕ) : Type 0 where
-  pub are : AreIdsIn s heap o ids
+pub record AreIdsOf (skips : Class → Member → Bool) (s : ℕ) (heap : List SubRecord) (o : SubRecord)
+    (ids : List ℕ) : Type 0 where
+  pub are : AreIdsIn skips s heap o ids
   pub few : length ids ≤ 2 ^ 33
 
 -- and these those of the object of that number
-pub record AreIdsOfNumber (s : ℕ) (heap : List SubRecord) (n : ℕ) (ids : List ℕ) : Type 0 where
+pub record AreIdsOfNumber (skips : Class → Member → Bool) (s : ℕ) (heap : List SubRecord) (n : ℕ)
+    (ids : List ℕ) : Type 0 where
   pub object : SubRecord
   pub is : slice_get (objects heap) n ≡ Some object
-  pub are : AreIdsOf s heap object ids
+  pub are : AreIdsOf skips s heap object ids
 
 -- the layout of the instance begins at that class
 pub record IsFirstOfInstance (s : ℕ) (heap : List SubRecord) (ids : List ℕ) (i : Instance)

@@ -1,5 +1,6 @@
 -- Pairs of an identifier and the number of an object that bears it.
-use Rattle.std.specs.Prelude.{Contains, IsSorted, List, None, Option, Some, length, map, slice_get, slice_index_or, take, ◌<◌, ◌==◌, ◌^◌, ◌≡◌, ◌≢◌, ◌≤◌, ◌⊎◌, ℕ}
+use Rattle.std.specs.Prelude.{Contains, IsSorted, List, None, Option, Some, length, map, slice_get, slice_index_or}
+use Rattle.std.specs.Prelude.{take, ◌<◌, ◌==◌, ◌^◌, ◌≡◌, ◌≢◌, ◌≤◌, ◌⊎◌, ℕ}
 use Rattle.std.specs.List.{find, range_with_len}
 use Rattle.std.specs.Ordering.{nat_cmp, ordering_then}
 use Rattle.std.specs.Option.{option_map_or}
@@ -20,8 +21,8 @@ abbrev pub id_of_number : List (ℕ × ℕ) → ℕ → ℕ
 id_of_number pairs number = option_map_or (λ pair. pair.0) (find (λ pair. pair.1 == number) pairs) 0
 
 -- the identifiers in the order of the numbers
-abbrev pub ids_of : List (ℕ × ℕ) → List ℕ
-ids_of pairs = map (id_of_number pairs) (range_with_len 0 (length pairs))
+abbrev pub ids_by_number : List (ℕ × ℕ) → List ℕ
+ids_by_number pairs = map (id_of_number pairs) (range_with_len 0 (length pairs))
 
 -- the identifiers that were added, and for how many there is room
 pub record Numbering : Type 0 where
@@ -29,7 +30,7 @@ pub record Numbering : Type 0 where
   pub room : ℕ
 
 -- so many were added, and there is room for so many
-pub record IsFilled (n : Numbering) (count room : ℕ) : Type 0 where
+pub record HasAdded (n : Numbering) (count room : ℕ) : Type 0 where
   pub count_is : length n.ids ≡ count
   pub room_is : n.room ≡ room
 

@@ -1,14 +1,17 @@
 -- A text has at most one graph: its records are determined, so is the chain of a class, and so are the identifiers that
 -- an object holds. A graph has a field without bytes that rests on it, so it stands here and not among the proofs.
-use Rattle.std.proofs.Common.{◌≡◌, ℕ, suc, List, [], ◌∷◌, length, map, Some, None, slice_get, refl, sym, ap, subst, ◌∙◌, arith}
+use Rattle.std.proofs.Common.{Bool, ◌≡◌, ℕ, suc, List, [], ◌∷◌, length, map, Some, None, slice_get, refl, sym, ap}
+use Rattle.std.proofs.Common.{subst, ◌∙◌, arith}
 use Rattle.hprof_grammar.specs.Record.{Record}
-use Rattle.hprof_grammar.specs.SubRecord.{Class, SubRecord}
-use Rattle.hprof_grammar.specs.SubRecord.SubRecord.{class_dump, instance_dump, object_array_dump, primitive_array_dump, root}
+use Rattle.hprof_grammar.specs.SubRecord.{Class, Member, SubRecord}
+use Rattle.hprof_grammar.specs.SubRecord.SubRecord.{class_dump, instance_dump, object_array_dump, primitive_array_dump}
+use Rattle.hprof_grammar.specs.SubRecord.SubRecord.{root}
 use Rattle.hprof_grammar.proofs.OneDump.{one_list}
 use Rattle.heap_graph.specs.Heap.{class_named, heap_of, objects}
 use Rattle.heap_graph.specs.Layout.{IsChain}
 use Rattle.heap_graph.specs.ObjectGraph.{IsGraphOf, IsGraphOfText, ObjectGraph, unresolved_in}
 use Rattle.heap_graph.specs.References.{AreIdLists, AreIdsIn, instance_ids, targets}
+use Rattle.heap_graph.specs.Skips.{SkipEntry, is_skipped}
 
 -- identifier 0 names no class
 no_class : (heap : List SubRecord) (id : ℕ) (c : Class) → id ≡ 0 → class_named heap id ≡ Some c → ⊥
@@ -30,14 +33,15 @@ one_chain heap id (c ∷ cs) (d ∷ ds) h k =
     λ i. same i ∷ rest i
 
 -- an object holds one list of identifiers
-pub one_ids : (s : ℕ) (heap : List SubRecord) (o : SubRecord) (ids others : List ℕ) → AreIdsIn s heap o ids
-    → AreIdsIn s heap o others → ids ≡ others
-one_ids s heap (root r) ids others h k = h ∙ sym k
-one_ids s heap (class_dump c) ids others h k = h ∙ sym k
-one_ids s heap (instance_dump i) ids others h k =
-    h.2 ∙ ap (instance_ids s i) (one_chain heap i.class h.0 k.0 h.1 k.1) ∙ sym k.2
-one_ids s heap (object_array_dump a) ids others h k = h ∙ sym k
-one_ids s heap (primitive_array_dump a) ids others h k = h ∙ sym k
+pub one_ids : (skips : Class → Member → Bool) (s : ℕ) (heap : List SubRecord) (o : SubRecord) (ids others : List ℕ)
+    → AreIdsIn skips s heap o ids
+    → AreIdsIn skips s heap o others → ids ≡ others
+one_ids skips s heap (root r) ids others h k = h ∙ sym k
+one_ids skips s heap (class_dump c) ids others h k = h ∙ sym k
+one_ids skips s heap (instance_dump i) ids others h k =
+    h.2 ∙ ap (instance_ids skips s i) (one_chain heap i.class h.0 k.0 h.1 k.1) ∙ sym k.2
+one_ids skips s heap (object_array_dump a) ids others h k = h ∙ sym k
+one_ids skips s heap (primitive_array_dump a) ids others h k = h ∙ sym k
 
 -- two lists that have at each place what goes with one element are the same
 module _ {O X : Type 0} (P : O → X → Type 0) (one : (o : O) (x y : X) → P o x → P o y → x ≡ y) where
@@ -56,16 +60,16 @@ module _ {O X : Type 0} (P : O → X → Type 0) (one : (o : O) (x y : X) → P 
       (λ n a b at here. q (suc n) a b at here) in
       λ i. first i ∷ rest i
 
-one_id_lists : (s : ℕ) (heap : List SubRecord) (xs ys : List (List ℕ)) → AreIdLists s heap xs → AreIdLists s heap ys
-    → xs ≡ ys
-one_id_lists s heap xs ys h k =
-    same_each (AreIdsIn s heap) (one_ids s heap) (objects heap) xs ys h.one_each k.one_each h.each k.each
+one_id_lists : (skips : Class → Member → Bool) (s : ℕ) (heap : List SubRecord) (xs ys : List (List ℕ))
+    → AreIdLists skips s heap xs → AreIdLists skips s heap ys → xs ≡ ys
+one_id_lists skips s heap xs ys h k =
+    same_each (AreIdsIn skips s heap) (one_ids skips s heap) (objects heap) xs ys h.one_each k.one_each h.each k.each
 
-one_graph_of : (s : ℕ) (records : List Record) (g h : ObjectGraph) → IsGraphOf s records g → IsGraphOf s records h
-    → g ≡ h
-one_graph_of s records g h p q =
+one_graph_of : (s : ℕ) (records : List Record) (skip : List SkipEntry) (g h : ObjectGraph)
+    → IsGraphOf s records skip g → IsGraphOf s records skip h → g ≡ h
+one_graph_of s records skip g h p q =
     let heap = heap_of records in
-    let lists = one_id_lists s heap g.held h.held p.held_are q.held_are in
+    let lists = one_id_lists (is_skipped records skip) s heap g.held h.held p.held_are q.held_are in
     λ i. record {
       ids = (p.ids_are ∙ sym q.ids_are) i;
       held = lists i;
@@ -78,8 +82,10 @@ one_graph_of s records g h p q =
       unresolved = (p.unresolved_is ∙ ap (unresolved_in heap) lists ∙ sym q.unresolved_is) i;
     }
 
-pub one_graph : (text : List ℕ) (g h : ObjectGraph) → IsGraphOfText text g → IsGraphOfText text h → g ≡ h
-one_graph text g h p q =
+pub one_graph : (text : List ℕ) (skip : List SkipEntry) (g h : ObjectGraph) → IsGraphOfText text skip g
+    → IsGraphOfText text skip h → g ≡ h
+one_graph text skip g h p q =
     let one = one_list text p.id_size q.id_size p.records q.records p.accepted.spells q.accepted.spells in
-    let other = subst (λ (rs : List Record). IsGraphOf q.id_size rs h) (sym one.1) q.graph in
-    one_graph_of p.id_size p.records g h p.graph (subst (λ (s : ℕ). IsGraphOf s p.records h) (sym one.0) other)
+    let other = subst (λ (rs : List Record). IsGraphOf q.id_size rs skip h) (sym one.1) q.graph in
+    one_graph_of p.id_size p.records skip g h p.graph
+    (subst (λ (s : ℕ). IsGraphOf s p.records skip h) (sym one.0) other)

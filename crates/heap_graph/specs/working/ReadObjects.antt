@@ -3,7 +3,7 @@ use Rattle.std.specs.Prelude.{List, ℕ, ◌≡◌}
 use Rattle.hprof_grammar.specs.Places.{IsDumpOf, Places}
 use Rattle.heap_graph.specs.Heap.{heap_of}
 use Rattle.heap_graph.specs.working.HeldIds.{AreLinkedOf}
-use Rattle.heap_graph.specs.working.ToldClasses.{AreToldOf}
+use Rattle.heap_graph.specs.working.ClassFates.{HaveFatesOf}
 use Rattle.heap_graph.specs.declared.objects.Objects.{Objects}
 
 -- they are those of the dump that these bytes spell, linked, and this is told of their classes
@@ -12,4 +12,4 @@ pub record IsReadOf {A : Type 0} (text : List ℕ) (dump : Places) (is : IsDumpO
   pub bytes_are : o.view.bytes ≡ text
   pub size_is : o.view.id_size ≡ dump.id_size
   pub linked : AreLinkedOf o (heap_of is.records)
-  pub told : AreToldOf o (heap_of is.records)
+  pub told : HaveFatesOf o (heap_of is.records)

@@ -3,10 +3,11 @@ use Rattle.std.specs.Prelude.{List, map, option_copied, ℕ, ◌≡◌}
 use Rattle.hprof_grammar.specs.Record.{Record}
 use Rattle.heap_graph.specs.Heap.{heap_of}
 use Rattle.heap_graph.specs.ObjectGraph.{IsGraphOf, NamedClass, ObjectGraph}
-use Rattle.heap_graph.specs.Whole.{IsWhole, missing_roots}
+use Rattle.heap_graph.specs.Skips.{SkipEntry, is_skipped}
+use Rattle.heap_graph.specs.Whole.{IsWhole, unresolved_roots}
 use Rattle.heap_graph.specs.working.ClassPlans.{IsPlanOf}
 use Rattle.heap_graph.specs.working.HeldIds.{AreLinkedOf}
-use Rattle.heap_graph.specs.working.ToldClasses.{AreToldOf}
+use Rattle.heap_graph.specs.working.ClassFates.{HaveFatesOf}
 use Rattle.heap_graph.specs.declared.entry.ClassEntry.{ClassEntry}
 use Rattle.heap_graph.specs.declared.objects.Objects.{Objects}
 use Rattle.heap_graph.specs.declared.plan.Plan.{Plan}
@@ -15,15 +16,16 @@ abbrev pub named_class : ClassEntry → NamedClass
 named_class c = record { id = c.id; text = option_copied c.text }
 
 -- the objects of a linked dump with their classes and what is planned for these, its roots, the names of its classes,
--- and how many identifiers of roots name no object: this is the graph that they stand for
+-- how many identifiers of roots name no object, and the fields that are not followed: this is the graph that they stand
+-- for
 pub record StandFor {A : Type 0} (objects : Objects A) (plan : Plan A) (roots : List ℕ) (classes : List ClassEntry)
-    (missing : ℕ) (g : ObjectGraph) : Type 0 where
+    (unresolved : ℕ) (skip : List SkipEntry) (g : ObjectGraph) : Type 0 where
   pub records : List Record
   pub linked : AreLinkedOf objects (heap_of records)
-  pub told : AreToldOf objects (heap_of records)
-  pub planned : IsPlanOf objects (heap_of records) plan
-  pub graph : IsGraphOf objects.view.id_size records g
+  pub told : HaveFatesOf objects (heap_of records)
+  pub planned : IsPlanOf (is_skipped records skip) objects (heap_of records) plan
+  pub graph : IsGraphOf objects.view.id_size records skip g
   pub whole : IsWhole g
   pub roots_are : g.roots ≡ roots
   pub classes_are : g.classes ≡ map named_class classes
-  pub missing_is : missing_roots g ≡ missing
+  pub unresolved_is : unresolved_roots g ≡ unresolved

@@ -1,17 +1,17 @@
 -- What identifiers name, from the identifiers of the objects in their order.
 use Rattle.std.specs.Prelude.{Bool, List, Some, count_by, filter_map, option_to_list, ℕ, ◌++◌, ◌∷◌, ◌≡◌}
-pub use Rattle.heap_graph.specs.Walks.{is_missing, step_in, target_in}
+pub use Rattle.heap_graph.specs.Walks.{is_unresolved_in, step_in, target_in}
 
 -- the first of the identifiers names that object
-abbrev pub Leads : List ℕ → List ℕ → ℕ → Type 0
-Leads all ids o = (id : ℕ) × (rest : List ℕ) × (ids ≡ id ∷ rest) × (target_in all id ≡ Some o)
+abbrev pub FirstNames : List ℕ → List ℕ → ℕ → Type 0
+FirstNames all ids o = (id : ℕ) × (rest : List ℕ) × (ids ≡ id ∷ rest) × (target_in all id ≡ Some o)
 
 -- the object that the identifier names was appended, or it is missing
-pub record ResolvesOne (all : List ℕ) (id : ℕ) (old new : List ℕ) (missing : Bool) : Type 0 where
+pub record ResolvesOne (all : List ℕ) (id : ℕ) (old new : List ℕ) (unresolved : Bool) : Type 0 where
   pub appended : new ≡ old ++ option_to_list (target_in all id)
-  pub told : missing ≡ is_missing all id
+  pub told : unresolved ≡ is_unresolved_in all id
 
 -- the objects that these identifiers name were appended, and so many others name none
-pub record Resolves (all ids old new : List ℕ) (missing : ℕ) : Type 0 where
+pub record Resolves (all ids old new : List ℕ) (unresolved : ℕ) : Type 0 where
   pub appended : new ≡ old ++ filter_map (target_in all) ids
-  pub counted : missing ≡ count_by (is_missing all) ids
+  pub counted : unresolved ≡ count_by (is_unresolved_in all) ids

@@ -47,7 +47,8 @@ fn unknown<B: Allocator>(alloc: B, count: usize) -> Result<Vec<Fate, B>, AllocEr
 
 impl<'d, A: Allocator> Classes<'d, A> {
     ghost use Rattle.heap_graph.specs.working.ClassTable.{AreClassesOf};
-    ghost use Rattle.heap_graph.specs.working.Chains.{AreFatesOf, AreSettledOf, DoesStay, IsAboveOf, IsClimbOf, IsKnown, IsPathOf, IsStepOf, IsTopOf, IsUnderOf};
+    ghost use Rattle.heap_graph.specs.working.Chains.{AreFatesOf, AreSettledOf, DoesStay, IsAboveOf, IsClimbOf};
+    ghost use Rattle.heap_graph.specs.working.Chains.{IsKnown, IsPathOf, IsStepOf, IsTopOf, IsUnderOf};
 
     /// What stands above a class.
     fn above(&self, number: u32) -> Above

@@ -11,7 +11,8 @@ const MOST_SIZE: u64 = 4_294_967_296;
 
 impl<'d, A: Allocator> Classes<'d, A> {
     ghost use Rattle.heap_graph.specs.working.ClassTable.{AreClassesOf, ids_of};
-    ghost use Rattle.heap_graph.specs.working.Chains.{IsChainAtOf, IsFateOf, IsFirstOf, IsLayoutAtOf, IsSettled, IsUnderOf};
+    ghost use Rattle.heap_graph.specs.working.Chains.{IsChainAtOf, IsFateOf, IsFirstOf, IsLayoutAtOf, IsSettled};
+    ghost use Rattle.heap_graph.specs.working.Chains.{IsUnderOf};
 
     /// The first class that declares fields, of a class with such fields and those above it.
     fn first_of(&self, number: u32, above: Option<u32>) -> Option<u32>

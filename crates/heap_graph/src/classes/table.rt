@@ -1,7 +1,7 @@
 //! The table of classes: how a class is found by its identifier, and what is kept of it.
 
 ghost use Rattle.std.specs.Prelude.{IfOk, Some, length, position, slice_get, slice_index, ◌<◌, ◌==◌, ◌^◌, ◌≡◌, ℕ};
-ghost use Rattle.heap_graph.specs.working.ClassList.{Entry, ids_of};
+ghost use Rattle.heap_graph.specs.working.ClassList.{TableEntry, ids_of};
 ghost use Rattle.heap_graph.specs.working.ClassList as list;
 
 use crate::classes::{ClassPlace, Classes};
@@ -72,7 +72,7 @@ impl<A: Allocator> ClassTable<A> {
     /// The class of that number.
     fn get(&self, number: u32) -> (u64, ClassPlace)
         requires { number < length self.now.entries }
-        ensures { (e : Entry) → slice_get self.now.entries number ≡ Some e → result ≡ e }
+        ensures { (e : TableEntry) → slice_get self.now.entries number ≡ Some e → result ≡ e }
     {
         self.entries[number as usize]
     }
@@ -98,7 +98,7 @@ impl<'d, A: Allocator> Classes<'d, A> {
     /// What is kept of the class of that number.
     pub(crate) fn entry(&self, number: u32) -> ClassPlace
         requires { number < length self.now.table.entries }
-        ensures { (e : Entry) → slice_get self.now.table.entries number ≡ Some e → result ≡ e.1 }
+        ensures { (e : TableEntry) → slice_get self.now.table.entries number ≡ Some e → result ≡ e.1 }
     {
         self.table.get(number).1
     }

@@ -11,15 +11,17 @@ ghost use Rattle.heap_graph.specs.Refusal.{IfLinkFault};
 ghost use Rattle.heap_graph.specs.working.PlacedNames.{AreNamesOf};
 ghost use Rattle.heap_graph.specs.working.PlacedObjects.{ArePlacesOf, IsReadFrom};
 ghost use Rattle.heap_graph.specs.working.ReadObjects.{IsReadOf};
-ghost use Rattle.heap_graph.specs.working.ToldClasses.{AreToldOf};
+ghost use Rattle.heap_graph.specs.working.ClassFates.{HaveFatesOf};
 
 use crate::graph::Graph;
-use crate::names::Names;
+use crate::names::{Names, NamesById};
 use crate::objects::table::class_table;
 use crate::objects::{Objects, index_of, read_ids};
 use crate::refusal::LinkRefusal;
+use crate::skip::{Skip, SkipPair};
 use hprof_grammar::{Dump, View, dump_is_placed, stands_within};
 use std::alloc::{AllocError, Allocator};
+use std::snapshot::Snapshot;
 
 /// The objects at these places of a dump, by their identifiers, and its classes.
 fn read_objects<'a, A: Allocator + Copy>(
@@ -32,7 +34,7 @@ fn read_objects<'a, A: Allocator + Copy>(
     ensures objects { IfOk result (λ o. (dump : Places) → ArePlacesOf bytes.now id_size places.items dump
         → IsReadFrom o bytes.now dump) }
     ensures told { IfOk result (λ o. (dump : Places) (are : ArePlacesOf bytes.now id_size places.items dump)
-        → AreToldOf o (heap_of are.is.records)) }
+        → HaveFatesOf o (heap_of are.is.records)) }
 {
     dump_is_placed();
     let view = View::new(bytes, id_size);
@@ -56,7 +58,7 @@ fn take_objects<'a, A: Allocator + Copy, B: Allocator>(
 ) -> Result<Objects<'a, A>, AllocError>
     requires { IsDumpOf bytes.now dump.old }
     ensures objects { IfOk result (λ o. IsReadFrom o bytes.now dump.old) }
-    ensures told { IfOk result (λ o. (is : IsDumpOf bytes.now dump.old) → AreToldOf o (heap_of is.records)) }
+    ensures told { IfOk result (λ o. (is : IsDumpOf bytes.now dump.old) → HaveFatesOf o (heap_of is.records)) }
     ensures rest { OnOk result (dump.new ≡ record dump.old { objects = [] }) }
 {
     let places = dump.objects().to_vec(alloc)?;
@@ -71,36 +73,41 @@ impl<'a, A: Allocator + Copy> Graph<'a, A> {
         objects: Objects<'a, A>,
         names: &Names<'a, '_>,
         root_places: &[u32],
+        skip: &'a [SkipPair<'a>],
     ) -> Result<Graph<'a, A>, AllocError>
         requires { (text : List ℕ) × (dump : Places) × (is : IsDumpOf text dump)
             × IsReadOf text dump is objects × AreNamesOf names.now is.records
             × StandInTurn (Stands objects.view) root_places.now (filter is_root (heap_of is.records)) }
-        ensures { IfOk result (λ g. IsGraphOfText objects.entry.view.bytes g) }
+        ensures { IfOk result (λ g. IsGraphOfText objects.entry.view.bytes skip.now g) }
     {
         stands_within();
-        let plan = objects.plan(alloc)?;
-        let classes = objects.classes(alloc, names)?;
+        let by_id = NamesById::new(alloc, names)?;
+        let plan = objects.plan(alloc, &by_id, skip)?;
+        let classes = objects.classes(alloc, &by_id)?;
+        drop(by_id);
         let root_ids = read_ids(alloc, &objects.view, root_places)?;
         let mut roots = Vec::new(alloc);
-        let missing = objects.index.resolve(&root_ids, &mut roots)?;
+        let unresolved = objects.index.resolve(&root_ids, &mut roots)?;
         Ok(Graph {
             objects,
             plan,
             roots,
             classes,
-            missing,
+            unresolved,
+            skip: Snapshot::of(&skip),
         })
     }
 
-    /// The graph of a dump that was read from these bytes: a fault is the first one of its links, and else only memory
-    /// can be missing.
-    pub fn build<B: Allocator>(
+    /// The graph of a dump that was read from these bytes, in which the fields on the list are not followed: a fault is
+    /// the first one of its links, and else only memory can be missing. To skip no field, lend it `Skip::none`.
+    pub fn build<B: Allocator, C: Allocator>(
         alloc: A,
         bytes: &'a [u8],
         dump: Dump<B>,
+        skip: &'a Skip<'_, C>,
     ) -> Result<Graph<'a, A>, LinkRefusal>
         requires { IsDumpOf bytes.now dump }
-        ensures graph { IfOk result (λ g. IsGraphOfText bytes.now g) }
+        ensures graph { IfOk result (λ g. IsGraphOfText bytes.now skip.now g) }
         ensures fault { IfLinkFault result (λ f. HasLinkFault bytes.now f.code f.offset) }
     {
         dump_is_placed();
@@ -117,7 +124,7 @@ impl<'a, A: Allocator + Copy> Graph<'a, A> {
             strings: dump.strings(),
             loaded: dump.loaded(),
         };
-        match Graph::assemble(alloc, objects, &names, dump.roots()) {
+        match Graph::assemble(alloc, objects, &names, dump.roots(), skip.pairs()) {
             Ok(graph) => return Ok(graph),
             Err(_) => return Err(LinkRefusal::OutOfMemory),
         }

@@ -61,12 +61,12 @@ impl<'d, A: Allocator> Objects<'d, A> {
 }
 
 impl<'g, A: Allocator> FieldIds<'g, A> {
-    ghost use Rattle.std.specs.Prelude.{List, false, length, ◌≡◌, ◌≤◌, ℕ};
+    ghost use Rattle.std.specs.Prelude.{Bool, List, length, ◌≡◌, ◌≤◌, ℕ};
     ghost use Rattle.hprof_grammar.specs.SubRecord.{Class, Member, SubRecord};
-    ghost use Rattle.heap_graph.specs.Fields.{followed_ids};
+    ghost use Rattle.heap_graph.specs.Fields.{field_ids};
     ghost use Rattle.heap_graph.specs.working.ClassPlans.{IsPlanOf};
     ghost use Rattle.heap_graph.specs.working.HeldIds.{IsLayoutFrom};
-    ghost use Rattle.heap_graph.specs.working.ToldClasses.{AreToldOf};
+    ghost use Rattle.heap_graph.specs.working.ClassFates.{HaveFatesOf};
 
     /// Those of a layout, of an instance with these values. `first` is the first class with fields of that layout.
     pub(crate) fn new(
@@ -76,11 +76,13 @@ impl<'g, A: Allocator> FieldIds<'g, A> {
         values: &'g [u8],
     ) -> Self
         requires size { 1 ≤ objects.now.view.id_size }
-        requires heap { (heap : List SubRecord) × (fields : List (Class × Member)) × AreToldOf objects.now heap
-            × IsPlanOf objects.now heap plan.now × IsLayoutFrom objects.now heap fields first values.now }
-        ensures { (heap : List SubRecord) (fields : List (Class × Member)) → AreToldOf objects.now heap
-            → IsPlanOf objects.now heap plan.now → IsLayoutFrom objects.now heap fields first values.now
-            → result ≡ followed_ids (λ c m. false) objects.now.view.id_size fields values.now }
+        requires heap { (skips : Class → Member → Bool) × (heap : List SubRecord) × (fields : List (Class × Member))
+            × HaveFatesOf objects.now heap × IsPlanOf skips objects.now heap plan.now
+            × IsLayoutFrom objects.now heap fields first values.now }
+        ensures { (skips : Class → Member → Bool) (heap : List SubRecord) (fields : List (Class × Member))
+            → HaveFatesOf objects.now heap → IsPlanOf skips objects.now heap plan.now
+            → IsLayoutFrom objects.now heap fields first values.now
+            → result ≡ field_ids skips objects.now.view.id_size fields values.now }
     {
         FieldIds {
             objects,

@@ -1,9 +1,9 @@
 //! Look-ups beside a search one by one.
 
 use crate::index::{Index, IndexBuilder};
+use crate::tests::refused::{Call, requests_of};
 use limited_heap::LimitedHeap;
 use std::alloc::{AllocError, Allocator, Global};
-use std::process::Abort;
 use std::test::Fail;
 
 /// Identifiers that repeat, that stand at both ends of 64 bits, and that crowd into one bucket.
@@ -69,37 +69,82 @@ fn index_of<A: Allocator + Copy>(alloc: A, ids: &[u64]) -> Result<Index<A>, Allo
     builder.finish(alloc)
 }
 
-/// The index answers for this identifier as a search one by one does.
-fn answers<R: Abort>(rt: &R, index: &Index<Global>, ids: &[u64], id: u64) {
-    let first = ids.iter().position(|other| *other == id);
-    assert_eq!(rt;
-        index.find(id).map(|number| number as usize),
-        first,
-        "{id:x}"
-    );
-    for number in 0..30 {
-        let repeated = ids.iter().take(number).any(|other| *other == id);
-        assert_eq!(rt;
-            index.is_repeated(id, number),
-            repeated,
-            "{id:x} before {number}"
-        );
+/// The place of the identifier among these, if it is one of them.
+fn first_of(ids: &[u64], id: u64) -> Option<usize> {
+    for (place, other) in ids.iter().enumerate() {
+        if *other == id {
+            return Some(place);
+        }
+    }
+    None
+}
+
+/// Whether the index finds an identifier there, or not at all.
+fn finds<A: Allocator>(index: &Index<A>, id: u64, first: Option<usize>) -> bool {
+    match index.find(id) {
+        Some(number) => return first == Some(number as usize),
+        None => return first.is_none(),
     }
 }
 
-#[test]
-fn as_one_by_one(rt: HostRuntime) -> Result<(), Fail> {
-    for ids in CASES {
-        let index = index_of(rt.alloc(), ids)?;
-        for id in ids {
-            answers(&rt, &index, ids, *id);
-            answers(&rt, &index, ids, id.wrapping_add(1));
-            answers(&rt, &index, ids, id.wrapping_sub(1));
-            answers(&rt, &index, ids, id ^ 0x8000_0000_0000_0000);
+/// Whether the index answers for this identifier as a search one by one does.
+fn answers<A: Allocator>(index: &Index<A>, ids: &[u64], id: u64) -> bool {
+    let first = first_of(ids, id);
+    for number in 0..30usize {
+        let before = first.is_some_and(|first| first < number);
+        if index.is_repeated(id, number) != before {
+            return false;
         }
-        answers(&rt, &index, ids, 0);
     }
-    Ok(())
+    finds(index, id, first)
+}
+
+/// Whether it answers so for each of them, and for others.
+fn answers_all<A: Allocator>(index: &Index<A>, ids: &[u64]) -> bool {
+    for id in ids {
+        let right = answers(index, ids, *id)
+            && answers(index, ids, id.wrapping_add(1))
+            && answers(index, ids, id.wrapping_sub(1))
+            && answers(index, ids, id ^ 0x8000_0000_0000_0000);
+        if !right {
+            return false;
+        }
+    }
+    answers(index, ids, 0)
+}
+
+/// Makes an index.
+#[derive(Drop)]
+struct Indexing<'a> {
+    ids: &'a [u64],
+}
+
+impl Call for Indexing<'_> {
+    fn is_right(&self, heap: &LimitedHeap<Global>) -> bool {
+        match index_of(heap, self.ids) {
+            Ok(index) => answers_all(&index, self.ids),
+            Err(AllocError) => heap.refusals() > 0,
+        }
+    }
+}
+
+/// Each request is refused in turn, and then the index is as a search one by one.
+#[test]
+fn as_one_by_one_or_want_of_memory(rt: HostRuntime) {
+    for ids in CASES {
+        let requests = requests_of(rt.alloc(), &Indexing { ids });
+        assert!(rt; requests.is_some(), "{} identifiers", ids.len());
+    }
+}
+
+/// Whether the index finds each of the first identifiers where a search one by one does.
+fn finds_all<A: Allocator>(index: &Index<A>, ids: &[u64], most: u64) -> bool {
+    for id in 0..most {
+        if !finds(index, id, first_of(ids, id)) {
+            return false;
+        }
+    }
+    true
 }
 
 /// A thousand identifiers, of which some repeat.
@@ -114,30 +159,6 @@ fn many_identifiers(rt: HostRuntime) -> Result<(), Fail> {
         ids.push((id >> 54) << 3)?;
     }
     let index = index_of(rt.alloc(), &ids)?;
-    for id in 0..8200u64 {
-        let first = ids.iter().position(|other| *other == id);
-        assert_eq!(rt; index.find(id).map(|number| number as usize), first, "{id}");
-    }
-    Ok(())
-}
-
-/// From the first request on until nothing is refused: there is no index, and then a whole one.
-#[test]
-fn memory_refused_in_turn(rt: HostRuntime) -> Result<(), Fail> {
-    for requests in 0..64u64 {
-        let heap = LimitedHeap::new(rt.alloc(), requests);
-        match index_of(&heap, &[9, 3, 9, 3, 1, 1, 9]) {
-            Ok(index) => {
-                assert_eq!(rt; heap.refusals(), 0);
-                assert_eq!(rt; index.find(9), Some(0));
-                assert_eq!(rt; index.find(1), Some(4));
-                assert_eq!(rt; index.find(2), None);
-                assert!(rt; requests > 1);
-                return Ok(());
-            }
-            Err(_) => assert!(rt; heap.refusals() > 0, "{requests} requests"),
-        }
-    }
-    assert!(rt; false, "64 requests are too few");
+    assert!(rt; finds_all(&index, &ids, 8200));
     Ok(())
 }

@@ -20,14 +20,14 @@ impl<'d, A: Allocator> Objects<'d, A> {
     ghost use Rattle.heap_graph.specs.Linked.{IsLinked};
     ghost use Rattle.heap_graph.specs.working.IndexPairs.{IsFirstRepeat};
     ghost use Rattle.heap_graph.specs.working.PlacedObjects.{AreOf};
-    ghost use Rattle.heap_graph.specs.working.ToldClasses.{AreToldOf};
+    ghost use Rattle.heap_graph.specs.working.ClassFates.{HaveFatesOf};
     ghost use Rattle.heap_graph.specs.working.RuleAnswers.{IsFaultOf, IsLateRule, IsLeastRule};
 
     /// The rule on superclasses, if a class dump breaks it.
     fn class_rule(&self, at: u32) -> Option<LinkRule>
         requires object { (c : Class) × Stands self.now.view at (class_dump c) }
-        requires heap { (heap : List SubRecord) × AreToldOf self.now heap }
-        ensures { (heap : List SubRecord) (c : Class) → AreToldOf self.now heap
+        requires heap { (heap : List SubRecord) × HaveFatesOf self.now heap }
+        ensures { (heap : List SubRecord) (c : Class) → HaveFatesOf self.now heap
             → Stands self.now.view at (class_dump c) → IsLateRule self.now.view.id_size heap (class_dump c) result }
     {
         let superclass = self.view.superclass(at);
@@ -47,8 +47,8 @@ impl<'d, A: Allocator> Objects<'d, A> {
     /// The first of the rules on the class and the size of an instance that it breaks.
     fn instance_rule(&self, at: u32) -> Option<LinkRule>
         requires object { (i : Instance) × Stands self.now.view at (instance_dump i) }
-        requires heap { (heap : List SubRecord) × AreToldOf self.now heap }
-        ensures { (heap : List SubRecord) (i : Instance) → AreToldOf self.now heap
+        requires heap { (heap : List SubRecord) × HaveFatesOf self.now heap }
+        ensures { (heap : List SubRecord) (i : Instance) → HaveFatesOf self.now heap
             → Stands self.now.view at (instance_dump i)
             → IsLateRule self.now.view.id_size heap (instance_dump i) result }
     {
@@ -70,8 +70,8 @@ impl<'d, A: Allocator> Objects<'d, A> {
     /// The rule on the class of an object array, if it is broken.
     fn array_rule(&self, at: u32) -> Option<LinkRule>
         requires object { (a : ObjectArray) × Stands self.now.view at (object_array_dump a) }
-        requires heap { (heap : List SubRecord) × AreToldOf self.now heap }
-        ensures { (heap : List SubRecord) (a : ObjectArray) → AreToldOf self.now heap
+        requires heap { (heap : List SubRecord) × HaveFatesOf self.now heap }
+        ensures { (heap : List SubRecord) (a : ObjectArray) → HaveFatesOf self.now heap
             → Stands self.now.view at (object_array_dump a)
             → IsLateRule self.now.view.id_size heap (object_array_dump a) result }
     {
@@ -84,8 +84,8 @@ impl<'d, A: Allocator> Objects<'d, A> {
     /// The first of the rules on classes, superclasses and sizes that an object breaks.
     fn late_rule(&self, at: u32) -> Option<LinkRule>
         requires object { (o : SubRecord) × Stands self.now.view at o × (is_object o ≡ true) }
-        requires heap { (heap : List SubRecord) × AreToldOf self.now heap }
-        ensures { (heap : List SubRecord) (o : SubRecord) → AreToldOf self.now heap → Stands self.now.view at o
+        requires heap { (heap : List SubRecord) × HaveFatesOf self.now heap }
+        ensures { (heap : List SubRecord) (o : SubRecord) → HaveFatesOf self.now heap → Stands self.now.view at o
             → is_object o ≡ true → IsLateRule self.now.view.id_size heap o result }
     {
         match self.view.kind(at) {
@@ -102,8 +102,8 @@ impl<'d, A: Allocator> Objects<'d, A> {
         requires below { number < length self.now.places.items }
         requires repeat { IsFirstRepeat self.now.index repeat }
         requires first { number ≤ repeat }
-        requires heap { (heap : List SubRecord) × AreOf self.now heap × AreToldOf self.now heap }
-        ensures rule { (heap : List SubRecord) → AreOf self.now heap → AreToldOf self.now heap
+        requires heap { (heap : List SubRecord) × AreOf self.now heap × HaveFatesOf self.now heap }
+        ensures rule { (heap : List SubRecord) → AreOf self.now heap → HaveFatesOf self.now heap
             → IsLeastRule self.now.view.id_size heap number result }
         ensures first { IfNone result (number < repeat) }
     {
@@ -126,10 +126,10 @@ impl<'d, A: Allocator> Objects<'d, A> {
 
     /// Tests each object in turn, up to the first fault.
     pub(crate) fn check(&self) -> Result<(), LinkFault>
-        requires { (heap : List SubRecord) × AreOf self.now heap × AreToldOf self.now heap }
-        ensures linked { OnOk result ((heap : List SubRecord) → AreOf self.now heap → AreToldOf self.now heap
+        requires { (heap : List SubRecord) × AreOf self.now heap × HaveFatesOf self.now heap }
+        ensures linked { OnOk result ((heap : List SubRecord) → AreOf self.now heap → HaveFatesOf self.now heap
             → IsLinked self.now.view.id_size heap) }
-        ensures fault { IfErr result (λ f. (heap : List SubRecord) → AreOf self.now heap → AreToldOf self.now heap
+        ensures fault { IfErr result (λ f. (heap : List SubRecord) → AreOf self.now heap → HaveFatesOf self.now heap
             → IsFaultOf self.now.view.id_size heap self.now.places.items f) }
     {
         let repeat = self.index.first_repeat();

@@ -28,13 +28,13 @@ fn bytes_together(view: &View<'_>, values: Values<'_>) -> u64
 impl<'d, A: Allocator> Objects<'d, A> {
     ghost use Rattle.heap_graph.specs.working.HeldIds.{AreLinkedOf};
     ghost use Rattle.heap_graph.specs.working.PlacedObjects.{AreOf};
-    ghost use Rattle.heap_graph.specs.working.ToldClasses.{AreToldOf};
+    ghost use Rattle.heap_graph.specs.working.ClassFates.{HaveFatesOf};
 
     /// The row of the instances or the arrays of a class. The class is there.
     fn class_row(&self, id: u64) -> RowKey
-        requires { (heap : List SubRecord) × AreLinkedOf self.now heap × AreToldOf self.now heap
+        requires { (heap : List SubRecord) × AreLinkedOf self.now heap × HaveFatesOf self.now heap
             × (class_named heap id ≢ None) }
-        ensures { (heap : List SubRecord) → AreLinkedOf self.now heap → AreToldOf self.now heap
+        ensures { (heap : List SubRecord) → AreLinkedOf self.now heap → HaveFatesOf self.now heap
             → class_named heap id ≢ None → result ≡ keys.Class (class_number heap id) }
     {
         match self.classes.find(id) {
@@ -46,8 +46,8 @@ impl<'d, A: Allocator> Objects<'d, A> {
     /// The row of an object.
     pub(crate) fn row_of(&self, number: usize) -> RowKey
         requires below { number < length self.now.places.items }
-        requires heap { (heap : List SubRecord) × AreLinkedOf self.now heap × AreToldOf self.now heap }
-        ensures { (heap : List SubRecord) (o : SubRecord) → AreLinkedOf self.now heap → AreToldOf self.now heap
+        requires heap { (heap : List SubRecord) × AreLinkedOf self.now heap × HaveFatesOf self.now heap }
+        ensures { (heap : List SubRecord) (o : SubRecord) → AreLinkedOf self.now heap → HaveFatesOf self.now heap
             → slice_get (objects heap) number ≡ Some o → result ≡ rows.row_of heap o }
     {
         let place = self.places[number];

@@ -1,7 +1,7 @@
 //! An object with its row, its bytes and the identifiers that it holds, in one step.
 
-ghost use Rattle.std.specs.Prelude.{List, Some, length, slice_get, ◌<◌, ◌≡◌};
-ghost use Rattle.hprof_grammar.specs.SubRecord.{SubRecord};
+ghost use Rattle.std.specs.Prelude.{Bool, List, Some, length, slice_get, ◌<◌, ◌≡◌};
+ghost use Rattle.hprof_grammar.specs.SubRecord.{Class, Member, SubRecord};
 ghost use Rattle.heap_graph.specs.Heap.{objects};
 ghost use Rattle.heap_graph.specs.Rows as rows;
 
@@ -16,7 +16,7 @@ impl<'d, A: Allocator> Objects<'d, A> {
     ghost use Rattle.heap_graph.specs.working.ClassPlans.{IsPlanOf};
     ghost use Rattle.heap_graph.specs.working.HeldIds.{AreIdsOfNumber, AreLinkedOf};
     ghost use Rattle.heap_graph.specs.working.PlacedObjects.{AreOf};
-    ghost use Rattle.heap_graph.specs.working.ToldClasses.{AreToldOf};
+    ghost use Rattle.heap_graph.specs.working.ClassFates.{HaveFatesOf};
 
     /// The row and the bytes of an object, and the identifiers that it holds. Its class is looked up once.
     pub(crate) fn scan<'g>(
@@ -25,14 +25,15 @@ impl<'d, A: Allocator> Objects<'d, A> {
         number: usize,
     ) -> (RowKey, u64, HeldIds<'g, A>)
         requires below { number < length self.now.places.items }
-        requires heap { (heap : List SubRecord) × AreLinkedOf self.now heap × AreToldOf self.now heap
-            × IsPlanOf self.now heap plan.now }
-        ensures row { (heap : List SubRecord) (o : SubRecord) → AreLinkedOf self.now heap → AreToldOf self.now heap
+        requires heap { (skips : Class → Member → Bool) × (heap : List SubRecord) × AreLinkedOf self.now heap
+            × HaveFatesOf self.now heap × IsPlanOf skips self.now heap plan.now }
+        ensures row { (heap : List SubRecord) (o : SubRecord) → AreLinkedOf self.now heap → HaveFatesOf self.now heap
             → slice_get (objects heap) number ≡ Some o → result.0 ≡ rows.row_of heap o }
         ensures bytes { (heap : List SubRecord) (o : SubRecord) → AreOf self.now heap
             → slice_get (objects heap) number ≡ Some o → result.1 ≡ rows.bytes_of self.now.view.id_size o }
-        ensures ids { (heap : List SubRecord) → AreLinkedOf self.now heap → AreToldOf self.now heap
-            → IsPlanOf self.now heap plan.now → AreIdsOfNumber self.now.view.id_size heap number result.2 }
+        ensures ids { (skips : Class → Member → Bool) (heap : List SubRecord) → AreLinkedOf self.now heap
+            → HaveFatesOf self.now heap → IsPlanOf skips self.now heap plan.now
+            → AreIdsOfNumber skips self.now.view.id_size heap number result.2 }
     {
         let place = self.places[number];
         match self.view.kind(place) {

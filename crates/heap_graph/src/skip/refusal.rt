@@ -8,7 +8,7 @@ use std::fmt;
 pub enum SkipRefusal {
     /// The text is no list of 1 to 64 entries `Class.field` with commas between.
     BadOptions,
-    /// A growth was refused.
+    /// A request for memory was refused.
     OutOfMemory,
 }
 

@@ -1,9 +1,9 @@
 //! Dumps that are not linked, with the code and the place of their first fault.
 
 use super::chains::{CHAINS, SIZES};
-use crate::{Graph, LinkFault, LinkRefusal};
+use crate::{Graph, LinkFault, LinkRefusal, Skip};
 use hprof_grammar::read;
-use std::alloc::Allocator;
+use std::alloc::Global;
 use std::test::Fail;
 use test_dumps::Sub::{Class, Instance, Objects, Values};
 use test_dumps::{Bytes, Record, Sub, TWO_OBJECTS};
@@ -144,9 +144,13 @@ static CHANGES: [(usize, u8, u8, u64); 5] = [
     (126, 5, 13, 127),
 ];
 
-/// The code and the place of the fault that refuses a graph.
-pub fn fault_of<A: Allocator>(outcome: Result<Graph<'_, A>, LinkRefusal>) -> Option<(u8, u64)> {
-    match outcome {
+/// The code and the place of the fault that refuses the graph of a whole dump.
+fn fault_in(alloc: Global, bytes: &[u8]) -> Option<(u8, u64)> {
+    let skip = Skip::none(alloc);
+    let Ok(dump) = read(alloc, bytes) else {
+        return None;
+    };
+    match Graph::build(alloc, bytes, dump, &skip) {
         Err(LinkRefusal::Fault(LinkFault { code, offset })) => Some((code, offset)),
         _ => None,
     }
@@ -158,9 +162,8 @@ fn first_faults(rt: HostRuntime) -> Result<(), Fail> {
     for table in [&IDENTIFIERS[..], &CHAINS[..], &SIZES[..]] {
         for (name, subs, code, place) in table {
             let file = Bytes::dump(alloc, 4, &[Record::Heap(subs)])?;
-            let dump = read(alloc, &file.bytes)?;
             assert_eq!(rt;
-                fault_of(Graph::build(alloc, &file.bytes, dump)),
+                fault_in(alloc, &file.bytes),
                 Some((*code, *place)),
                 "{name}"
             );
@@ -176,12 +179,8 @@ fn first_faults_of_changed_bytes(rt: HostRuntime) -> Result<(), Fail> {
         let mut file = Bytes::dump(alloc, 4, TWO_OBJECTS)?;
         assert!(rt; *at < file.bytes.len());
         file.bytes[*at] = *byte;
-        let dump = read(alloc, &file.bytes)?;
-        assert_eq!(rt;
-            fault_of(Graph::build(alloc, &file.bytes, dump)),
-            Some((*code, *place)),
-            "{byte} at {at}"
-        );
+        let fault = fault_in(alloc, &file.bytes);
+        assert_eq!(rt; fault, Some((*code, *place)), "{byte} at {at}");
     }
     Ok(())
 }

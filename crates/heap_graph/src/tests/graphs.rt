@@ -1,57 +1,113 @@
 //! The graphs of worked dumps.
 
-use super::worked::{WORKED, Worked};
-use crate::Graph;
+use super::worked::{ClassRow, Object, WORKED, Worked};
+use crate::{Graph, Skip, Successors, Visit};
 use hprof_grammar::read;
-use std::alloc::{AllocError, Allocator, Global};
-use std::process::Abort;
+use std::alloc::{Allocator, Global};
 use std::test::Fail;
 use test_dumps::Bytes;
 
-/// The graph is the worked one.
-pub fn check<R: Abort, A: Allocator>(
-    rt: &R,
+/// The graph of a dump that is whole and linked.
+pub fn graph_of<'a>(
     alloc: Global,
-    graph: &Graph<'_, A>,
-    worked: &Worked,
-) -> Result<(), AllocError> {
-    let name = worked.name;
-    assert_eq!(rt; graph.len() as usize, worked.objects.len(), "{name}");
-    assert_eq!(rt; graph.roots(), worked.roots, "{name}");
-    let mut unresolved = graph.unresolved();
-    for (number, (references, row, bytes, missing)) in worked.objects.iter().enumerate() {
-        let object = number as u32;
-        assert!(rt; object < graph.len());
-        let found = graph.successors(object).collect::<Vec<u32>>(alloc)?;
-        assert_eq!(rt; found.as_slice(), *references, "{name}, object {object}");
-        assert_eq!(rt; graph.row_of(object), *row, "{name}, object {object}");
-        assert_eq!(rt; graph.bytes_of(object), *bytes, "{name}, object {object}");
-        assert_eq!(rt;
-            graph.unresolved_of(object),
-            *missing,
-            "{name}, object {object}"
-        );
-        unresolved = unresolved.saturating_add(*missing);
-    }
-    assert_eq!(rt; unresolved, worked.unresolved, "{name}");
-    assert_eq!(rt; graph.classes() as usize, worked.classes.len(), "{name}");
-    for (number, (id, text)) in worked.classes.iter().enumerate() {
-        let class = number as u32;
-        assert!(rt; class < graph.classes());
-        assert_eq!(rt; graph.class_id(class), *id, "{name}, class {class}");
-        assert_eq!(rt; graph.class_text(class), *text, "{name}, class {class}");
-    }
-    Ok(())
+    bytes: &'a [u8],
+    skip: &'a Skip<'_, Global>,
+) -> Option<Graph<'a, Global>> {
+    let Ok(dump) = read(alloc, bytes) else {
+        return None;
+    };
+    Graph::build(alloc, bytes, dump, skip).ok()
 }
 
-#[test]
-fn worked_graphs(rt: HostRuntime) -> Result<(), Fail> {
-    let alloc = rt.alloc();
-    for worked in &WORKED {
-        let file = Bytes::dump(alloc, worked.id_size, worked.records)?;
-        let dump = read(alloc, &file.bytes)?;
-        let graph = Graph::build(alloc, &file.bytes, dump)?;
-        check(&rt, alloc, &graph, worked)?;
+/// Whether a walk gives these objects and then none. With each of them fewer identifiers are left, and behind them
+/// none.
+fn gives<A: Allocator>(walk: Successors<'_, A>, objects: &[u32]) -> bool {
+    let mut walk = walk;
+    for object in objects {
+        let left = walk.left();
+        if walk.next() != Some(*object) || walk.left() >= left {
+            return false;
+        }
     }
-    Ok(())
+    walk.next().is_none() && walk.left() == 0 && walk.next().is_none()
+}
+
+/// Whether a visit gives these objects and then none, and has counted so many identifiers that name none.
+fn visits<A: Allocator>(visit: Visit<'_, A>, objects: &[u32], unresolved: u64) -> bool {
+    let mut visit = visit;
+    for object in objects {
+        if visit.next() != Some(*object) {
+            return false;
+        }
+    }
+    visit.next().is_none() && visit.unresolved() == unresolved
+}
+
+/// Whether all that the graph tells of an object is right, and both walks over it are.
+pub fn tells<A: Allocator>(graph: &Graph<'_, A>, object: u32, wanted: &Object<'_>) -> bool {
+    if object >= graph.len() {
+        return false;
+    }
+    let (references, row, bytes, unresolved) = *wanted;
+    let visit = graph.visit(object);
+    graph.row_of(object) == row
+        && graph.bytes_of(object) == bytes
+        && graph.unresolved_of(object) == unresolved
+        && gives(graph.successors(object), references)
+        && visit.row() == row
+        && visit.bytes() == bytes
+        && visits(visit, references, unresolved)
+}
+
+/// Whether these are its objects.
+fn tells_objects<A: Allocator>(graph: &Graph<'_, A>, objects: &[Object<'_>]) -> bool {
+    for object in 0..graph.len() {
+        let Some(wanted) = objects.get(object as usize) else {
+            return false;
+        };
+        if !tells(graph, object, wanted) {
+            return false;
+        }
+    }
+    graph.len() as usize == objects.len()
+}
+
+/// Whether it tells right of a class.
+fn tells_class<A: Allocator>(graph: &Graph<'_, A>, class: u32, wanted: &ClassRow) -> bool {
+    class < graph.classes()
+        && graph.class_id(class) == wanted.0
+        && graph.class_text(class) == wanted.1
+}
+
+/// Whether these are its classes.
+fn tells_classes<A: Allocator>(graph: &Graph<'_, A>, classes: &[ClassRow]) -> bool {
+    for class in 0..graph.classes() {
+        let Some(wanted) = classes.get(class as usize) else {
+            return false;
+        };
+        if !tells_class(graph, class, wanted) {
+            return false;
+        }
+    }
+    graph.classes() as usize == classes.len()
+}
+
+/// How many identifiers other than 0 these objects hold that name no object.
+fn missing_of(objects: &[Object<'_>]) -> u64 {
+    let mut missing = 0u64;
+    for object in objects {
+        missing = missing.saturating_add(object.3);
+    }
+    missing
+}
+
+/// Whether the graph is the worked one.
+pub fn is_worked<A: Allocator>(graph: &Graph<'_, A>, worked: &Worked) -> bool {
+    let unresolved = graph
+        .unresolved()
+        .saturating_add(missing_of(worked.objects));
+    graph.roots() == worked.roots
+        && unresolved == worked.unresolved
+        && tells_objects(graph, worked.objects)
+        && tells_classes(graph, worked.classes)
 }

@@ -1,5 +1,6 @@
 //! The texts that are lists of fields, and those that are none.
 
+use super::refused::{Call, requests_of};
 use crate::{Skip, SkipRefusal};
 use limited_heap::LimitedHeap;
 use std::alloc::{AllocError, Allocator, Global};
@@ -90,32 +91,33 @@ fn at_most_64_entries(rt: HostRuntime) -> Result<(), Fail> {
     Ok(())
 }
 
-/// From the first request on until nothing is refused: want of memory, and then the whole list.
-fn list_or_want_of_memory<R: Abort>(rt: &R, alloc: Global, text: &str, entries: usize) {
-    for requests in 0..16u64 {
-        let heap = LimitedHeap::new(alloc, requests);
-        match Skip::new(&heap, text) {
-            Ok(skip) => {
-                assert_eq!(rt; heap.refusals(), 0);
-                assert_eq!(rt; skip.pairs().len(), entries);
-                assert!(rt; requests > 0);
-                return;
-            }
-            Err(refusal) => {
-                assert_eq!(rt; refusal, SkipRefusal::OutOfMemory);
-                assert!(rt; heap.refusals() > 0, "{requests} requests");
-            }
+/// Reads a list of so many entries.
+#[derive(Drop)]
+struct Reading<'a> {
+    text: &'a str,
+    entries: usize,
+}
+
+impl Call for Reading<'_> {
+    fn is_right(&self, heap: &LimitedHeap<Global>) -> bool {
+        match Skip::new(heap, self.text) {
+            Ok(skip) => skip.pairs().len() == self.entries,
+            Err(refusal) => refusal == SkipRefusal::OutOfMemory && heap.refusals() > 0,
         }
     }
-    assert!(rt; false, "16 requests are too few");
+}
+
+/// How many requests it takes to read it, where each of them was refused before.
+fn requests_to_read(alloc: Global, text: &str, entries: usize) -> Option<u64> {
+    requests_of(alloc, &Reading { text, entries })
 }
 
 #[test]
 fn memory_refused_in_turn(rt: HostRuntime) -> Result<(), Fail> {
     let alloc = rt.alloc();
-    list_or_want_of_memory(&rt, alloc, "T.f,U.g", 2);
-    let many = list_of(alloc, 64)?;
-    list_or_want_of_memory(&rt, alloc, &many, 64);
+    // room for 4 entries, and for twice as many each time
+    assert_eq!(rt; requests_to_read(alloc, "T.f,U.g", 2), Some(1));
+    assert_eq!(rt; requests_to_read(alloc, &list_of(alloc, 64)?, 64), Some(5));
     Ok(())
 }
 

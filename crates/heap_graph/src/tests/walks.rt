@@ -1,13 +1,12 @@
 //! Walks over the identifiers that objects hold.
 
-use super::worked::{Object, WORKED, Worked};
-use crate::Graph;
-use hprof_grammar::read;
+use super::graphs::graph_of;
+use super::worked::{WORKED, Worked};
+use crate::{Skip, Successors};
 use std::alloc::{AllocError, Allocator, Global};
-use std::process::Abort;
 use std::test::Fail;
 use test_dumps::Sub::{Class, Instance, Root};
-use test_dumps::{Bytes, TWO_OBJECTS};
+use test_dumps::{Bytes, Record, TWO_OBJECTS};
 
 /// A dump by its name, an object of it, and how many of its identifiers are left: at first, and after each call of
 /// `next` up to the one that gives none.
@@ -51,34 +50,30 @@ static WALKS: [Walk; 7] = [
     ),
 ];
 
-/// What is left of the identifiers of an object, call by call.
-fn check<R: Abort>(
-    rt: &R,
+/// Whether so many identifiers are left, call by call.
+fn leaves<A: Allocator>(walk: Successors<'_, A>, left: &[u64]) -> bool {
+    let mut walk = walk;
+    for (number, wanted) in left.iter().enumerate() {
+        if walk.left() != *wanted || walk.next().is_some() != (number + 2 < left.len()) {
+            return false;
+        }
+    }
+    true
+}
+
+/// Whether they are in an object of that dump.
+fn leaves_in(
     alloc: Global,
     worked: &Worked,
     object: u32,
     left: &[u64],
-) -> Result<(), Fail> {
+) -> Result<bool, AllocError> {
+    let skip = Skip::none(alloc);
     let file = Bytes::dump(alloc, worked.id_size, worked.records)?;
-    let dump = read(alloc, &file.bytes)?;
-    let graph = Graph::build(alloc, &file.bytes, dump)?;
-    assert!(rt; object < graph.len());
-    let mut successors = graph.successors(object);
-    for (number, wanted) in left.iter().enumerate() {
-        let name = worked.name;
-        assert_eq!(rt;
-            successors.left(),
-            *wanted,
-            "{name}, object {object}, call {number}"
-        );
-        let more = successors.next().is_some();
-        assert_eq!(rt;
-            more,
-            number + 2 < left.len(),
-            "{name}, object {object}, call {number}"
-        );
+    match graph_of(alloc, &file.bytes, &skip) {
+        Some(graph) => return Ok(object < graph.len() && leaves(graph.successors(object), left)),
+        None => return Ok(false),
     }
-    Ok(())
 }
 
 #[test]
@@ -88,54 +83,19 @@ fn identifiers_left(rt: HostRuntime) -> Result<(), Fail> {
         let mut known = false;
         for worked in &WORKED {
             if worked.name == *name {
-                check(&rt, alloc, worked, *object, left)?;
-                known = true;
+                known = leaves_in(alloc, worked, *object, left)?;
             }
         }
-        assert!(rt; known, "{name}");
-    }
-    Ok(())
-}
-
-/// Whether a visit of the object tells its row and its bytes, gives what it refers to, and has counted at its end what
-/// the object misses.
-fn is_visited<A: Allocator>(graph: &Graph<'_, A>, object: u32, wanted: &Object) -> bool {
-    if object >= graph.len() {
-        return false;
-    }
-    let (references, row, bytes, missing) = wanted;
-    let mut visit = graph.visit(object);
-    if visit.row() != *row || visit.bytes() != *bytes {
-        return false;
-    }
-    for reference in *references {
-        if visit.next() != Some(*reference) {
-            return false;
-        }
-    }
-    visit.next().is_none() && visit.missing() == *missing
-}
-
-#[test]
-fn visits(rt: HostRuntime) -> Result<(), Fail> {
-    let alloc = rt.alloc();
-    for worked in &WORKED {
-        let file = Bytes::dump(alloc, worked.id_size, worked.records)?;
-        let dump = read(alloc, &file.bytes)?;
-        let graph = Graph::build(alloc, &file.bytes, dump)?;
-        for (number, wanted) in worked.objects.iter().enumerate() {
-            let is_visited = is_visited(&graph, number as u32, wanted);
-            assert!(rt; is_visited, "{}, object {number}", worked.name);
-        }
+        assert!(rt; known, "{name}, object {object}");
     }
     Ok(())
 }
 
 /// The elements of a long array.
-const MANY: usize = 100_000;
+pub const MANY: usize = 100_000;
 
 /// Two instances, and an array that has the second of them as each of its elements.
-fn long_array(alloc: Global) -> Result<Bytes, AllocError> {
+pub fn long_array(alloc: Global) -> Result<Bytes, AllocError> {
     let mut elements = Vec::new(alloc);
     for _ in 0..MANY {
         elements.push(0x202)?;
@@ -153,21 +113,56 @@ fn long_array(alloc: Global) -> Result<Bytes, AllocError> {
     Ok(file)
 }
 
-#[test]
-fn elements_of_a_long_array(rt: HostRuntime) -> Result<(), Fail> {
-    let alloc = rt.alloc();
-    let file = long_array(alloc)?;
-    let dump = read(alloc, &file.bytes)?;
-    let graph = Graph::build(alloc, &file.bytes, dump)?;
-    assert_eq!(rt; graph.len(), 4);
-    assert!(rt; 3 < graph.len());
-    let mut successors = graph.successors(3);
-    assert_eq!(rt; successors.left(), 100_001);
-    assert_eq!(rt; successors.next(), Some(0));
-    for element in 0..MANY {
-        assert_eq!(rt; successors.next(), Some(2), "element {element}");
+/// An instance of a class that declares a field of the name that its superclass's field has, in `java/lang/ref`.
+pub const REFERENCES: &[Record] = &[
+    Record::Text(1, b"java/lang/ref/Reference"),
+    Record::Text(2, b"referent"),
+    Record::Text(3, b"T"),
+    Record::Load(0x100, 1),
+    Record::Load(0x110, 3),
+    Record::Heap(&[
+        Class(0x100, 0, &[2]),
+        Class(0x110, 0x100, &[2]),
+        Instance(0x201, 0x110, &[0, 0, 2, 2, 0, 0, 2, 3]),
+        Instance(0x202, 0x110, &[0; 8]),
+        Instance(0x203, 0x110, &[0, 0, 0, 0, 0, 0, 9, 0x99]),
+        Root(0x201),
+    ]),
+];
+
+/// A list, how many identifiers object 0x201 holds, and how many of those of 0x203 name no object.
+const SKIPS: [(&str, u64, u64); 3] = [
+    ("T.other", 3, 1),
+    ("T.referent", 2, 1),
+    ("java/lang/ref/Reference.referent", 2, 0),
+];
+
+/// Whether so many are left without the fields of a list.
+fn leaves_without(
+    alloc: Global,
+    list: &str,
+    left: u64,
+    unresolved: u64,
+) -> Result<bool, AllocError> {
+    let file = Bytes::dump(alloc, 4, REFERENCES)?;
+    let Ok(skip) = Skip::new(alloc, list) else {
+        return Ok(false);
+    };
+    match graph_of(alloc, &file.bytes, &skip) {
+        Some(graph) => return Ok(
+            graph.len() == 5
+                && graph.successors(2).left() == left
+                && graph.unresolved_of(4) == unresolved,
+        ),
+        None => return Ok(false),
     }
-    assert_eq!(rt; successors.next(), None);
-    assert_eq!(rt; successors.left(), 0);
+}
+
+#[test]
+fn fields_are_skipped(rt: HostRuntime) -> Result<(), Fail> {
+    for (list, left, unresolved) in SKIPS {
+        let skipped = leaves_without(rt.alloc(), list, left, unresolved)?;
+        assert!(rt; skipped, "{list}");
+    }
     Ok(())
 }

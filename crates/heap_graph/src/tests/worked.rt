@@ -6,7 +6,10 @@ use test_dumps::Sub::{Class, Instance, Objects, Root, Static, Values, Whole};
 use test_dumps::{ClassParts, Record, TWO_OBJECTS};
 
 /// What an object refers to, its row, its bytes, and how many identifiers other than 0 that it holds name no object.
-pub type Object = (&'static [u32], RowKey, u64, u64);
+pub type Object<'a> = (&'a [u32], RowKey, u64, u64);
+
+/// The identifier and the text of a class.
+pub type ClassRow = (u64, Option<&'static [u8]>);
 
 /// A dump and its graph.
 pub struct Worked {
@@ -14,15 +17,14 @@ pub struct Worked {
     pub id_size: u32,
     pub records: &'static [Record],
     pub roots: &'static [u32],
-    pub objects: &'static [Object],
-    /// The identifier and the text of each class.
-    pub classes: &'static [(u64, Option<&'static [u8]>)],
+    pub objects: &'static [Object<'static>],
+    pub classes: &'static [ClassRow],
     /// How many identifiers other than 0, in all objects and in roots, name no object.
     pub unresolved: u64,
 }
 
 /// The row of an object that is a class.
-const A_CLASS: RowKey = RowKey::ClassObject;
+pub const A_CLASS: RowKey = RowKey::ClassObject;
 
 pub static WORKED: [Worked; 11] = [
     Worked {

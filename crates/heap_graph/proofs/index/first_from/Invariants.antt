@@ -1,3 +1,4 @@
+-- The place is from the low end to the high one; looked at in turn, the pairs so far are smaller.
 use Rattle.std.proofs.Common.{◌-◌, ◌<◌, ℕ}
 use Rattle.heap_graph.specs.working.IndexBeginnings.{IsAround}
 use Rattle.heap_graph.specs.working.IndexPairs.{id_at}

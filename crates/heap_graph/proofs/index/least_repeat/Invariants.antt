@@ -1,3 +1,4 @@
+-- It is the least repeat among the pairs before this place.
 use Rattle.heap_graph.specs.working.IndexPairs.{IsLeastRepeat}
 use Rattle.heap_graph.proofs.index.least_repeat.Given as goal
 

@@ -1,3 +1,4 @@
+-- At the next place stands the next object, so its identifier follows those so far, and there is room for it.
 use Rattle.std.proofs.Common.{List, ap, arith, get_or, length, map, sym, take, ◌++◌, ◌∙◌, ◌∷◌, [], ℕ}
 use Rattle.std.proofs.lemmas.Option.{slice_get-get_or}
 use Rattle.hprof_grammar.specs.Dump.{id_of}

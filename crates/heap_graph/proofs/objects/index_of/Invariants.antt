@@ -1,13 +1,14 @@
+-- The builder has the identifiers of the objects so far, and room for those of the others.
 use Rattle.std.proofs.Common.{List, length, map, take, ◌≡◌}
 use Rattle.hprof_grammar.specs.Standing.{StandInTurn, Stands}
 use Rattle.hprof_grammar.specs.Dump.{id_of}
 use Rattle.hprof_grammar.specs.SubRecord.{SubRecord}
-use Rattle.heap_graph.specs.working.IndexPairs.{IsFilled}
+use Rattle.heap_graph.specs.working.IndexPairs.{HasAdded}
 use Rattle.heap_graph.proofs.objects.index_of.Given as goal
 
 abbrev pub invariant-loop-at : goal.invariant-loop-at
 invariant-loop-at g l = record {
-  filled : IsFilled l.builder l.at-index (length l.places);
+  filled : HasAdded l.builder l.at-index (length l.places);
   ids : (subs : List SubRecord) → StandInTurn (Stands l.view) l.places subs
       → l.builder.ids ≡ map id_of (take l.at-index subs);
 }

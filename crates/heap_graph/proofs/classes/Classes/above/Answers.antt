@@ -1,3 +1,4 @@
+-- The superclass that is read is the dump's, and the table has a class of an identifier where the heap has one.
 use Rattle.std.proofs.Common.{None, arith, subst, sym, ◌∙◌, ◌≡◌, ℕ}
 use Rattle.heap_graph.specs.Heap.{class_named}
 use Rattle.heap_graph.specs.working.ClassTable.{ids_of}
@@ -11,17 +12,16 @@ superclass-superclass-requires g c =
 
 pub returns-then-superclass-eq0 : goal.returns-then-superclass-eq0
 returns-then-superclass-eq0 g c = λ heap super are under.
-    let is : c.superclass-superclass.result ≡ super = read_super c.args.self.now.view heap c.args.self.now.table.entries
-    c.args.number c.entry.result super c.superclass-superclass.result are c.requires.below c.entry.ensures under
-    c.superclass-superclass.ensures in
+    let is : c.superclass-superclass.result ≡ super =
+    read_super _ _ _ _ _ _ _ are c.requires.below c.entry.ensures under c.superclass-superclass.ensures in
     omega (arith, is)
 
 pub returns-in-Some : goal.returns-in-Some
 returns-in-Some g c = λ heap super are under.
-    let is : c.superclass-superclass.result ≡ super = read_super c.args.self.now.view heap c.args.self.now.table.entries
-    c.args.number c.entry.result super c.superclass-superclass.result are c.requires.below c.entry.ensures under
-    c.superclass-superclass.ensures in
-    let it : IsFound (ids_of c.args.self.now.table.entries) c.superclass-superclass.result c.in-Some.found = found (ids_of c.args.self.now.table.entries) c.superclass-superclass.result c.in-Some.found (sym c.in-Some.ensures) in
+    let is : c.superclass-superclass.result ≡ super =
+    read_super _ _ _ _ _ _ _ are c.requires.below c.entry.ensures under c.superclass-superclass.ensures in
+    let it = found (ids_of c.args.self.now.table.entries) c.superclass-superclass.result c.in-Some.found
+    (sym c.in-Some.ensures) in
     (it.below, it.is ∙ is)
 
 pub returns-in-None : goal.returns-in-None
@@ -30,6 +30,5 @@ returns-in-None g c = λ heap super are under.
     c.args.number c.entry.result super c.superclass-superclass.result are c.requires.below c.entry.ensures under
     c.superclass-superclass.ensures in (
       λ e. omega (arith, is, e),
-      subst (λ (id : ℕ). class_named heap id ≡ None) is (not_found c.args.self.now.view heap
-          c.args.self.now.table.entries c.superclass-superclass.result are (sym c.in-None.ensures)),
+      subst (λ (id : ℕ). class_named heap id ≡ None) is (not_found _ _ _ _ are (sym c.in-None.ensures)),
     )

@@ -1,3 +1,4 @@
+-- A class that comes onto the path is unknown no more, so fewer are; where the climb ends, it ends above the path.
 use Rattle.std.proofs.Common.{Contains, List, [], set, subst, sym, ℕ, ◌++◌, ◌∷◌}
 use Rattle.heap_graph.specs.declared.classes.fate.Fate.TheVariants as fates
 use Rattle.heap_graph.specs.working.ClassTable.{ids_of}
@@ -7,24 +8,39 @@ use Rattle.heap_graph.proofs.FateLaws.{fewer_unknown, stay_open}
 use Rattle.heap_graph.proofs.classes.Classes.climb.Goals as goal
 
 pub up-smaller : goal.up-smaller
-up-smaller g c = fewer_unknown c.up.known c.up.at (c.up.invariant.climbs c.requires.heap.0 c.requires.heap.1 c.requires.heap.2).unknown
+up-smaller g c = fewer_unknown c.up.known c.up.at
+    (c.up.invariant.climbs c.requires.heap.0 c.requires.heap.1 c.requires.heap.2).unknown
 
 pub up-preserved : goal.up-preserved
 up-preserved g c = record {
-  stays = λ k it. stay_open c.up.known c.up.at fates.OnPath fates.Unknown (c.up.invariant.climbs c.requires.heap.0 c.requires.heap.1 c.requires.heap.2).unknown (λ h. h) k (c.up.invariant.stays k it);
+  stays = λ k it. stay_open c.up.known c.up.at fates.OnPath fates.Unknown
+      (c.up.invariant.climbs c.requires.heap.0 c.requires.heap.1 c.requires.heap.2).unknown (λ h. h) k
+      (c.up.invariant.stays k it);
   climbs = λ heap are start.
-      subst (λ (p : List ℕ). IsClimb c.args.self.now.view.id_size heap (ids_of c.args.self.now.table.entries) c.args.first p (set c.up.known c.up.at fates.OnPath) c.in-Up.next) (sym c.in_ok-push.ensures.items)
+      let s = c.args.self.now.view.id_size in
+      let ids = ids_of c.args.self.now.table.entries in
+      let known = set c.up.known c.up.at fates.OnPath in
+      subst (λ (p : List ℕ). IsClimb s heap ids c.args.first p known c.in-Up.next)
+      (sym c.in_ok-push.ensures.items)
       (climb_step c.args.self.now.view heap c.args.self.now.table.entries c.args.first c.up.path.items c.up.known
       c.up.at c.in-Up.next are (c.up.invariant.climbs heap are start)
       (λ super known under path. c.in-Up.ensures heap (c.up.path.items ++ c.up.at ∷ []) super are known under path));
 }
 
 pub returns-in-End-clause-stays : goal.returns-in-End-clause-stays
-returns-in-End-clause-stays g c = λ k it. stay_open c.up.known c.up.at fates.OnPath fates.Unknown (c.up.invariant.climbs c.requires.heap.0 c.requires.heap.1 c.requires.heap.2).unknown (λ h. h) k (c.up.invariant.stays k it)
+returns-in-End-clause-stays g c =
+    λ k it. stay_open c.up.known c.up.at fates.OnPath fates.Unknown
+    (c.up.invariant.climbs c.requires.heap.0 c.requires.heap.1 c.requires.heap.2).unknown (λ h. h) k
+    (c.up.invariant.stays k it)
 
 pub returns-in-End-clause-top : goal.returns-in-End-clause-top
 returns-in-End-clause-top g c = λ heap are start.
-    subst (λ (p : List ℕ). AreFates c.args.self.now.view.id_size heap (ids_of c.args.self.now.table.entries) p (set c.up.known c.up.at fates.OnPath) × IsTop c.args.self.now.view.id_size heap (ids_of c.args.self.now.table.entries) p c.in-End.fate × Contains p c.args.first) (sym c.in_ok-push.ensures.items)
+    let s = c.args.self.now.view.id_size in
+    let ids = ids_of c.args.self.now.table.entries in
+    let known = set c.up.known c.up.at fates.OnPath in
+    subst
+    (λ (p : List ℕ). AreFates s heap ids p known × IsTop s heap ids p c.in-End.fate × Contains p c.args.first)
+    (sym c.in_ok-push.ensures.items)
     (climb_end c.args.self.now.view heap c.args.self.now.table.entries c.args.first c.up.path.items c.up.known c.up.at
     c.in-End.fate are (c.up.invariant.climbs heap are start)
     (λ super known under path. c.in-End.ensures heap (c.up.path.items ++ c.up.at ∷ []) super are known under path))

@@ -1,3 +1,4 @@
+-- What was known is known, and the climb from the first class has come to this one.
 use Rattle.std.proofs.Common.{List, count_by}
 use Rattle.hprof_grammar.specs.SubRecord.{SubRecord}
 use Rattle.heap_graph.specs.working.ClassTable.{AreClassesOf}
@@ -7,7 +8,9 @@ use Rattle.heap_graph.proofs.classes.Classes.climb.Given as goal
 abbrev pub invariant-up : goal.invariant-up
 invariant-up g l = record {
   stays : DoesStay l.initial.known l.known;
-  climbs : (heap : List SubRecord) → AreClassesOf l.self heap → IsClimbOf l.self heap l.fn.first l.initial.path.items l.initial.known l.fn.first → IsClimbOf l.self heap l.fn.first l.path.items l.known l.at;
+  climbs : (heap : List SubRecord) → AreClassesOf l.self heap
+      → IsClimbOf l.self heap l.fn.first l.initial.path.items l.initial.known l.fn.first
+      → IsClimbOf l.self heap l.fn.first l.path.items l.known l.at;
 }
 
 abbrev pub decreases-up : goal.decreases-up

@@ -1,3 +1,4 @@
+-- A class whose fields have no bytes declares none, so the first with fields is the one above; else it is this one.
 use Rattle.std.proofs.Common.{ap, sym, ◌∙◌}
 use Rattle.heap_graph.specs.working.ClassTable.{ids_of}
 use Rattle.heap_graph.specs.declared.classes.ClassPlace.{ClassPlace}

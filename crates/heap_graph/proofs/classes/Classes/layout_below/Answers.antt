@@ -1,3 +1,4 @@
+-- The bytes of the class and those above are bounded, so the sum fits; to cut it at each step is to cut it once.
 use Rattle.std.proofs.Common.{ap, arith, min, sym, ◌+◌, ◌<◌, ◌^◌, ◌∙◌, ◌≡◌, ℕ}
 use Rattle.heap_graph.specs.Layout.{layout_size}
 use Rattle.heap_graph.specs.declared.classes.ClassPlace.{ClassPlace}
@@ -10,8 +11,8 @@ use Rattle.heap_graph.proofs.classes.Classes.layout_below.Goals as goal
 
 pub overflow_add-bytes : goal.overflow_add-bytes
 overflow_add-bytes g c =
-    let few : (entry_at c.args.self.now.table.entries c.args.number).size < 2 ^ 32 = few_bytes c.args.self.now.view
-    c.requires.heap.0 c.args.self.now.table.entries c.args.number c.requires.heap.3 c.requires.below in
+    let few : (entry_at c.args.self.now.table.entries c.args.number).size < 2 ^ 32 =
+    few_bytes _ _ _ _ c.requires.heap.3 c.requires.below in
     let is = read_entry c.args.self.now.table.entries c.args.number c.entry.result c.requires.below c.entry.ensures in
     omega (arith, few, ap (λ (p : ClassPlace). p.size) is, c.requires.heap.5.size_is)
 
@@ -19,12 +20,13 @@ pub returns : goal.returns
 returns g c = λ heap dump rest are at above.
     let s : ℕ = c.args.self.now.view.id_size in
     let is = read_entry c.args.self.now.table.entries c.args.number c.entry.result c.requires.below c.entry.ensures in
-    let own : c.entry.result.size ≡ size_together s dump.members = ap (λ (p : ClassPlace). p.size) is
-    ∙ size_of_class c.args.self.now.view heap c.args.self.now.table.entries c.args.number dump are c.requires.below
-    at.named in
+    let own : c.entry.result.size ≡ size_together s dump.members =
+    ap (λ (p : ClassPlace). p.size) is ∙ size_of_class _ _ _ _ _ are c.requires.below at.named in
     record {
-      size_is = size_told c.entry.result.size c.args.above.size (layout_size s rest) c.min.result above.size_is c.min.ensures
-          ∙ ap (λ (n : ℕ). min most_size (n + layout_size s rest)) own ∙ ap (λ (n : ℕ). min most_size n) (sym (size_more s dump rest));
+      size_is =
+          size_told c.entry.result.size c.args.above.size (layout_size s rest) c.min.result above.size_is c.min.ensures
+          ∙ ap (λ (n : ℕ). min most_size (n + layout_size s rest)) own
+          ∙ ap (λ (n : ℕ). min most_size n) (sym (size_more s dump rest));
       first_is = c.first_of.ensures heap dump rest are at above.first_is;
       next_is = above.first_is;
     }

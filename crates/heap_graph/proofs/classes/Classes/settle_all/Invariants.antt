@@ -1,3 +1,4 @@
+-- The path is empty, what is said of fates is so, and each class so far is known.
 use Rattle.std.proofs.Common.{List, [], ℕ, ◌<◌, ◌≡◌}
 use Rattle.hprof_grammar.specs.SubRecord.{SubRecord}
 use Rattle.heap_graph.specs.working.ClassTable.{AreClassesOf}

@@ -1,3 +1,4 @@
+-- The places are those of the dump, so what the tests say of the objects there is said of the dump's heap.
 use Rattle.std.proofs.Common.{[], ap, filter, ◌∙◌, ◌≡◌}
 use Rattle.hprof_grammar.specs.Places.{Places}
 use Rattle.hprof_grammar.specs.Dump.{is_root}
@@ -8,28 +9,40 @@ use Rattle.heap_graph.proofs.Building.{are_linked, are_names, has_fault, seen}
 use Rattle.heap_graph.proofs.graph.Graph.build.Goals as goal
 
 pub check-requires : goal.check-requires
-check-requires g c = (heap_of c.requires.records, c.in-Ok.ensures.objects.are c.requires, c.in-Ok.ensures.told c.requires)
+check-requires g c =
+    (heap_of c.requires.records, c.in-Ok.ensures.objects.are c.requires, c.in-Ok.ensures.told c.requires)
 
 pub returns-in-Err-check-clause-fault : goal.returns-in-Err-check-clause-fault
 returns-in-Err-check-clause-fault g c =
-    has_fault c.args.bytes.now c.args.dump c.requires c.in-Ok.objects.view.id_size c.in-Ok.objects.places.items c.in-Err-check.fault c.in-Ok.ensures.objects.size_is c.in-Ok.ensures.objects.places_are
-    (c.in-Err-check.ensures.fault (heap_of c.requires.records) (c.in-Ok.ensures.objects.are c.requires) (c.in-Ok.ensures.told c.requires))
+    has_fault c.args.bytes.now c.args.dump c.requires c.in-Ok.objects.view.id_size c.in-Ok.objects.places.items
+    c.in-Err-check.fault c.in-Ok.ensures.objects.size_is c.in-Ok.ensures.objects.places_are
+    (c.in-Err-check.ensures.fault (heap_of c.requires.records) (c.in-Ok.ensures.objects.are c.requires)
+    (c.in-Ok.ensures.told c.requires))
 
 pub assemble-requires : goal.assemble-requires
 assemble-requires g c =
-    let placed : IsPlaced c.args.bytes.now c.args.dump c.requires.records = c.dump_is_placed.ensures c.args.bytes.now c.args.dump c.requires in
+    let placed : IsPlaced c.args.bytes.now c.args.dump c.requires.records =
+    c.dump_is_placed.ensures c.args.bytes.now c.args.dump c.requires in
     let rest : c.take_objects.new.dump ≡ record c.args.dump { objects = [] } = c.in-Ok.ensures.rest in
     let read : IsReadOf c.args.bytes.now c.args.dump c.requires c.in-Ok.objects = record {
       bytes_are = c.in-Ok.ensures.objects.bytes_are;
       size_is = c.in-Ok.ensures.objects.size_is;
-      linked = are_linked c.args.bytes.now c.args.dump c.requires c.in-Ok.objects.view c.in-Ok.objects.places.items c.in-Ok.objects.index c.in-Ok.ensures.objects.bytes_are c.in-Ok.ensures.objects.size_is (c.in-Ok.ensures.objects.are c.requires)
-          (c.in_default.ensures.linked (heap_of c.requires.records) (c.in-Ok.ensures.objects.are c.requires) (c.in-Ok.ensures.told c.requires));
+      linked = are_linked c.args.bytes.now c.args.dump c.requires c.in-Ok.objects.view c.in-Ok.objects.places.items
+          c.in-Ok.objects.index c.in-Ok.ensures.objects.bytes_are c.in-Ok.ensures.objects.size_is
+          (c.in-Ok.ensures.objects.are c.requires)
+          (c.in_default.ensures.linked (heap_of c.requires.records) (c.in-Ok.ensures.objects.are c.requires)
+          (c.in-Ok.ensures.told c.requires));
       told = c.in-Ok.ensures.told c.requires;
     } in (
       c.args.bytes.now,
       c.args.dump,
       c.requires,
       read,
-      are_names c.args.bytes.now c.args.dump c.requires c.new.result c.strings.result.now c.loaded.result.now c.new.ensures.bytes (c.new.ensures.size ∙ c.id_size.ensures ∙ ap (λ (d : Places). d.id_size) rest) (c.strings.ensures ∙ ap (λ (d : Places). d.strings) rest) (c.loaded.ensures ∙ ap (λ (d : Places). d.loaded) rest) placed,
-      seen c.in-Ok.objects.view c.args.bytes.now c.args.dump.id_size c.roots.result.now c.args.dump.roots (filter is_root (heap_of c.requires.records)) c.in-Ok.ensures.objects.bytes_are c.in-Ok.ensures.objects.size_is (c.roots.ensures ∙ ap (λ (d : Places). d.roots) rest) placed.roots,
+      are_names c.args.bytes.now c.args.dump c.requires c.new.result c.strings.result.now c.loaded.result.now
+          c.new.ensures.bytes (c.new.ensures.size ∙ c.id_size.ensures ∙ ap (λ (d : Places). d.id_size) rest)
+          (c.strings.ensures ∙ ap (λ (d : Places). d.strings) rest)
+          (c.loaded.ensures ∙ ap (λ (d : Places). d.loaded) rest) placed,
+      seen c.in-Ok.objects.view c.args.bytes.now c.args.dump.id_size c.roots.result.now c.args.dump.roots
+          (filter is_root (heap_of c.requires.records)) c.in-Ok.ensures.objects.bytes_are
+          c.in-Ok.ensures.objects.size_is (c.roots.ensures ∙ ap (λ (d : Places). d.roots) rest) placed.roots,
     )

@@ -1,3 +1,4 @@
+-- The object of that number is one of the heap that the graph is of, so the row read at its place is the graph's.
 use Rattle.std.proofs.Common.{subst, sym, ◌∙◌, ◌≡◌}
 use Rattle.heap_graph.specs.Heap.{heap_of}
 use Rattle.heap_graph.specs.ObjectGraph.{IsGraphOf, ObjectGraph, row_at}
@@ -9,12 +10,16 @@ use Rattle.heap_graph.proofs.graph.Graph.row_of.Goals as goal
 pub returns-clause-value : goal.returns-clause-value
 returns-clause-value g c =
     let inv = c.self.invariant in
-    let graph : IsGraphOf c.self.inside.objects.view.id_size inv.records c.args.self.now = subst (λ (v : ObjectGraph). IsGraphOf c.self.inside.objects.view.id_size inv.records v) c.self.view_is inv.graph in
-    let it : IsOneOf (heap_of inv.records) c.args.object = one_of c.self.inside.objects.view.id_size inv.records c.args.self.now c.args.object graph c.requires in
-    c.row_of.ensures (heap_of inv.records) it.object inv.linked inv.told it.is ∙ sym (row_here c.self.inside.objects.view.id_size inv.records c.args.self.now c.args.object it.object graph it.is)
+    let size = c.self.inside.objects.view.id_size in
+    let skip = c.self.inside.skip.value.now in
+    let graph = subst (λ (v : ObjectGraph). IsGraphOf size inv.records skip v) c.self.view_is inv.graph in
+    let it = one_of _ _ _ _ _ graph c.requires in
+    c.row_of.ensures (heap_of inv.records) it.object inv.linked inv.told it.is
+    ∙ sym (row_here _ _ _ _ _ _ graph it.is)
 
 pub returns-clause-within : goal.returns-clause-within
 returns-clause-within g c =
-    let whole : IsWhole c.args.self.now = subst (λ (v : ObjectGraph). IsWhole v) c.self.view_is c.self.invariant.whole in
+    let whole : IsWhole c.args.self.now =
+    subst (λ (v : ObjectGraph). IsWhole v) c.self.view_is c.self.invariant.whole in
     let value : c.row_of.result ≡ row_at c.args.self.now c.args.object = returns-clause-value g c in
     subst (λ (r : RowKey). IsRowIn c.args.self.now r) (sym value) (whole.rows_within c.args.object c.requires)

@@ -1,67 +1,85 @@
+-- At the places stand the objects of one heap, so index, table and fates, made one from another, are all of it.
 use Rattle.std.proofs.Common.{arith, subst, sym, ◌∙◌, ◌≡◌}
 use Rattle.hprof_grammar.specs.Standing.{Sight}
 use Rattle.heap_graph.specs.Heap.{heap_of, objects}
 use Rattle.heap_graph.specs.working.PlacedObjects.{ArePlacesOf}
 use Rattle.heap_graph.specs.working.ClassTable.{AreClasses}
-use Rattle.heap_graph.specs.working.ToldClasses.{AreTold}
+use Rattle.heap_graph.specs.working.ClassFates.{HaveFates}
 use Rattle.heap_graph.proofs.Building.{are_objects, few_objects, objects_stand, same_sight, size_in_range}
 use Rattle.heap_graph.proofs.Counting.{few_placed}
 use Rattle.heap_graph.proofs.graph.build.read_objects.Goals as goal
 
 pub new-view-requires-clause-low : goal.new-view-requires-clause-low
-new-view-requires-clause-low g c = (size_in_range c.args.bytes.now c.args.id_size c.args.places.items c.requires.0 c.requires.1).0
+new-view-requires-clause-low g c = (size_in_range _ _ _ _ c.requires.1).0
 
 pub new-view-requires-clause-high : goal.new-view-requires-clause-high
-new-view-requires-clause-high g c = (size_in_range c.args.bytes.now c.args.id_size c.args.places.items c.requires.0 c.requires.1).1
+new-view-requires-clause-high g c = (size_in_range _ _ _ _ c.requires.1).1
 
 pub index_of-requires-clause-few : goal.index_of-requires-clause-few
-index_of-requires-clause-few g c = few_placed c.args.bytes.now c.requires.0 c.requires.1.is c.deref.result.now
-    (c.dump_is_placed.ensures c.args.bytes.now c.requires.0 c.requires.1.is) (c.deref.ensures.value ∙ c.requires.1.places_are)
+index_of-requires-clause-few g c = few_placed _ _ c.requires.1.is c.deref.result.now
+    (c.dump_is_placed.ensures c.args.bytes.now c.requires.0 c.requires.1.is)
+    (c.deref.ensures.value ∙ c.requires.1.places_are)
 
 pub index_of-requires-clause-stand : goal.index_of-requires-clause-stand
 index_of-requires-clause-stand g c =
     let are : ArePlacesOf c.args.bytes.now c.args.id_size c.deref.result.now c.requires.0 =
-    record { is = c.requires.1.is; size_is = c.requires.1.size_is; places_are = c.deref.ensures.value ∙ c.requires.1.places_are } in (
+    record {
+      is = c.requires.1.is;
+      size_is = c.requires.1.size_is;
+      places_are = c.deref.ensures.value ∙ c.requires.1.places_are;
+    } in (
       objects (heap_of are.is.records),
-      objects_stand c.args.bytes.now c.args.id_size c.deref.result.now c.requires.0 are (c.dump_is_placed.ensures c.args.bytes.now c.requires.0 are.is)
+      objects_stand _ _ _ _ are (c.dump_is_placed.ensures c.args.bytes.now c.requires.0 are.is)
           c.new-view.result c.new-view.ensures.bytes c.new-view.ensures.size,
     )
 
 pub new-requires-clause-low : goal.new-requires-clause-low
-new-requires-clause-low g c = (size_in_range c.args.bytes.now c.args.id_size c.args.places.items c.requires.0 c.requires.1).0
+new-requires-clause-low g c = (size_in_range _ _ _ _ c.requires.1).0
 
 pub new-requires-clause-high : goal.new-requires-clause-high
-new-requires-clause-high g c = (size_in_range c.args.bytes.now c.args.id_size c.args.places.items c.requires.0 c.requires.1).1
+new-requires-clause-high g c = (size_in_range _ _ _ _ c.requires.1).1
 
 pub class_table-requires-clause-low : goal.class_table-requires-clause-low
 class_table-requires-clause-low g c =
-    omega (arith, c.new.ensures.size, (size_in_range c.args.bytes.now c.args.id_size c.args.places.items c.requires.0 c.requires.1).0)
+    omega (arith, c.new.ensures.size, (size_in_range _ _ _ _ c.requires.1).0)
 
 pub class_table-requires-clause-few : goal.class_table-requires-clause-few
-class_table-requires-clause-few g c = few_placed c.args.bytes.now c.requires.0 c.requires.1.is c.deref-2.result.now
-    (c.dump_is_placed.ensures c.args.bytes.now c.requires.0 c.requires.1.is) (c.deref-2.ensures.value ∙ c.requires.1.places_are)
+class_table-requires-clause-few g c = few_placed _ _ c.requires.1.is c.deref-2.result.now
+    (c.dump_is_placed.ensures c.args.bytes.now c.requires.0 c.requires.1.is)
+    (c.deref-2.ensures.value ∙ c.requires.1.places_are)
 
 pub class_table-requires-clause-heap : goal.class_table-requires-clause-heap
 class_table-requires-clause-heap g c =
     let are : ArePlacesOf c.args.bytes.now c.args.id_size c.deref-2.result.now c.requires.0 =
-    record { is = c.requires.1.is; size_is = c.requires.1.size_is; places_are = c.deref-2.ensures.value ∙ c.requires.1.places_are } in (
+    record {
+      is = c.requires.1.is;
+      size_is = c.requires.1.size_is;
+      places_are = c.deref-2.ensures.value ∙ c.requires.1.places_are;
+    } in (
       heap_of are.is.records,
-      are_objects c.args.bytes.now c.args.id_size c.deref-2.result.now c.requires.0 are (c.dump_is_placed.ensures c.args.bytes.now c.requires.0 are.is)
-          c.new-view.result c.new.result c.in_ok-index.index c.deref.result.now c.new-view.ensures.bytes c.new-view.ensures.size c.new.ensures.bytes c.new.ensures.size (c.deref.ensures.value ∙ sym c.deref-2.ensures.value) c.in_ok-index.ensures,
+      are_objects _ _ _ _ are (c.dump_is_placed.ensures c.args.bytes.now c.requires.0 are.is)
+          c.new-view.result c.new.result c.in_ok-index.index c.deref.result.now c.new-view.ensures.bytes
+          c.new-view.ensures.size c.new.ensures.bytes c.new.ensures.size
+          (c.deref.ensures.value ∙ sym c.deref-2.ensures.value) c.in_ok-index.ensures,
     )
 
 pub settle_all-requires : goal.settle_all-requires
 settle_all-requires g c =
     let are : ArePlacesOf c.args.bytes.now c.args.id_size c.deref-2.result.now c.requires.0 =
-    record { is = c.requires.1.is; size_is = c.requires.1.size_is; places_are = c.deref-2.ensures.value ∙ c.requires.1.places_are } in
+    record {
+      is = c.requires.1.is;
+      size_is = c.requires.1.size_is;
+      places_are = c.deref-2.ensures.value ∙ c.requires.1.places_are;
+    } in
     let placed = c.dump_is_placed.ensures c.args.bytes.now c.requires.0 are.is in
     record {
-      few = omega (arith, c.in_ok-classes.ensures.few, few_objects c.args.bytes.now c.args.id_size c.deref-2.result.now c.requires.0 are placed);
+      few = omega (arith, c.in_ok-classes.ensures.few, few_objects _ _ _ _ are placed);
       heap = (
         heap_of are.is.records,
         c.in_ok-classes.ensures.classes (heap_of are.is.records)
-            (are_objects c.args.bytes.now c.args.id_size c.deref-2.result.now c.requires.0 are placed
-            c.new-view.result c.new.result c.in_ok-index.index c.deref.result.now c.new-view.ensures.bytes c.new-view.ensures.size c.new.ensures.bytes c.new.ensures.size (c.deref.ensures.value ∙ sym c.deref-2.ensures.value) c.in_ok-index.ensures),
+            (are_objects _ _ _ _ are placed c.new-view.result c.new.result c.in_ok-index.index c.deref.result.now
+            c.new-view.ensures.bytes c.new-view.ensures.size c.new.ensures.bytes c.new.ensures.size
+            (c.deref.ensures.value ∙ sym c.deref-2.ensures.value) c.in_ok-index.ensures),
       );
     }
 
@@ -71,9 +89,11 @@ returns-clause-objects g c = λ dump are. record {
   size_is = c.new-view.ensures.size ∙ are.size_is;
   places_are = are.places_are;
   are = λ is.
-      let of : ArePlacesOf c.args.bytes.now c.args.id_size c.args.places.items dump = record { is = is; size_is = are.size_is; places_are = are.places_are } in
-      are_objects c.args.bytes.now c.args.id_size c.args.places.items dump of (c.dump_is_placed.ensures c.args.bytes.now dump is)
-      c.new-view.result c.new-view.result c.in_ok-index.index c.deref.result.now c.new-view.ensures.bytes c.new-view.ensures.size c.new-view.ensures.bytes c.new-view.ensures.size c.deref.ensures.value c.in_ok-index.ensures;
+      let of : ArePlacesOf c.args.bytes.now c.args.id_size c.args.places.items dump =
+      record { is = is; size_is = are.size_is; places_are = are.places_are } in
+      are_objects _ _ _ _ of (c.dump_is_placed.ensures c.args.bytes.now dump is) c.new-view.result
+      c.new-view.result c.in_ok-index.index c.deref.result.now c.new-view.ensures.bytes c.new-view.ensures.size
+      c.new-view.ensures.bytes c.new-view.ensures.size c.deref.ensures.value c.in_ok-index.ensures;
 }
 
 pub returns-clause-told : goal.returns-clause-told
@@ -81,17 +101,19 @@ returns-clause-told g c = λ dump from.
     let are : ArePlacesOf c.args.bytes.now c.args.id_size c.deref-2.result.now dump =
     record { is = from.is; size_is = from.size_is; places_are = c.deref-2.ensures.value ∙ from.places_are } in
     let placed = c.dump_is_placed.ensures c.args.bytes.now dump are.is in
-    let same : c.in_ok-classes.classes.view ≡ c.new-view.result = c.in_ok-classes.ensures.view
-    ∙ same_sight c.new.result c.new-view.result (c.new.ensures.bytes ∙ sym c.new-view.ensures.bytes) (c.new.ensures.size ∙ sym c.new-view.ensures.size) in
-    let classes : AreClasses c.in_ok-classes.classes.view (heap_of are.is.records)
-    c.in_ok-classes.classes.table.entries =
+    let same : c.in_ok-classes.classes.view ≡ c.new-view.result =
+    c.in_ok-classes.ensures.view
+    ∙ same_sight c.new.result c.new-view.result (c.new.ensures.bytes ∙ sym c.new-view.ensures.bytes)
+    (c.new.ensures.size ∙ sym c.new-view.ensures.size) in
+    let entries = c.in_ok-classes.classes.table.entries in
+    let classes : AreClasses c.in_ok-classes.classes.view (heap_of are.is.records) entries =
     c.in_ok-classes.ensures.classes (heap_of are.is.records)
-    (are_objects c.args.bytes.now c.args.id_size c.deref-2.result.now dump are placed
-    c.new-view.result c.new.result c.in_ok-index.index c.deref.result.now c.new-view.ensures.bytes c.new-view.ensures.size c.new.ensures.bytes c.new.ensures.size (c.deref.ensures.value ∙ sym c.deref-2.ensures.value) c.in_ok-index.ensures) in
-    subst (λ (v : Sight). AreTold v (heap_of are.is.records) c.in_ok-classes.classes.table.entries
-    c.in_ok-fates.fates.items) same
+    (are_objects _ _ _ _ are placed c.new-view.result c.new.result c.in_ok-index.index c.deref.result.now
+    c.new-view.ensures.bytes c.new-view.ensures.size c.new.ensures.bytes c.new.ensures.size
+    (c.deref.ensures.value ∙ sym c.deref-2.ensures.value) c.in_ok-index.ensures) in
+    subst (λ (v : Sight). HaveFates v (heap_of are.is.records) entries c.in_ok-fates.fates.items) same
     (record {
       classes = classes;
       settled = c.in_ok-fates.ensures (heap_of are.is.records) classes;
-      few = omega (arith, c.in_ok-classes.ensures.few, few_objects c.args.bytes.now c.args.id_size c.deref-2.result.now dump are placed);
+      few = omega (arith, c.in_ok-classes.ensures.few, few_objects _ _ _ _ are placed);
     })

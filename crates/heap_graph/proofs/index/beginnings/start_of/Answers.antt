@@ -1,4 +1,5 @@
-use Rattle.std.proofs.Common.{arith, ◌≤◌}
+-- Buckets rise with identifiers, so behind a pair that is in no earlier bucket no pair is in one.
+use Rattle.std.proofs.Common.{arith, ℕ, ◌≤◌}
 use Rattle.heap_graph.specs.working.IndexBeginnings.{bucket_of}
 use Rattle.heap_graph.specs.working.IndexPairs.{id_at}
 use Rattle.heap_graph.proofs.IndexAscending.{buckets_rise}
@@ -8,5 +9,9 @@ pub returns-then-pairs-at : goal.returns-then-pairs-at
 returns-then-pairs-at c = record {
   within = omega arith;
   before = c.loop-at.invariant;
-  behind = λ k from below. let rise : bucket_of c.args.least c.args.shift (id_at c.args.pairs.now c.loop-at.at) ≤ bucket_of c.args.least c.args.shift (id_at c.args.pairs.now k) = buckets_rise c.args.pairs.now c.args.least c.args.shift c.loop-at.at k c.requires.sorted from below in omega (arith, rise);
+  behind = λ k from below.
+      let bucket = λ (place : ℕ). bucket_of c.args.least c.args.shift (id_at c.args.pairs.now place) in
+      let rise : bucket c.loop-at.at ≤ bucket k =
+      buckets_rise c.args.pairs.now c.args.least c.args.shift c.loop-at.at k c.requires.sorted from below in
+      omega (arith, rise);
 }

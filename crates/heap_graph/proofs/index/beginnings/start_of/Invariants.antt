@@ -1,3 +1,4 @@
+-- The pairs that were passed are in earlier buckets.
 use Rattle.std.proofs.Common.{◌<◌, ℕ}
 use Rattle.heap_graph.specs.working.IndexBeginnings.{bucket_of}
 use Rattle.heap_graph.specs.working.IndexPairs.{id_at}

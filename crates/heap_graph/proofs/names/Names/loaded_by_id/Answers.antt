@@ -1,3 +1,4 @@
+-- At the next place stands the next loaded class, so its identifier follows those so far.
 use Rattle.std.proofs.Common.{arith, filter, get_or, length, ℕ}
 use Rattle.hprof_grammar.specs.Places.{is_load}
 use Rattle.heap_graph.proofs.Adding.{filled_more}
@@ -7,7 +8,7 @@ use Rattle.heap_graph.proofs.names.Names.loaded_by_id.Goals as goal
 
 pub loaded_class_id-requires : goal.loaded_class_id-requires
 loaded_class_id-requires g c =
-    let it : LoadedAt c.args.self.now.view (filter is_load c.requires.0) c.loop-at.at-index (get_or c.args.self.now.loaded.now c.loop-at.at-index 0) = loaded_at c.args.self.now.view c.args.self.now.strings.now c.args.self.now.loaded.now c.requires.0 c.loop-at.at-index c.requires.1 c.loop-at-test.true in
+    let it = loaded_at _ _ _ _ _ c.requires.1 c.loop-at-test.true in
     (it.time, it.serial, it.class, it.stack, it.name, it.stands)
 
 pub with_capacity-requires : goal.with_capacity-requires
@@ -26,8 +27,7 @@ loop-at-preserved g c = record {
   ids = λ records are.
       let n = c.args.self.now in
       let i : ℕ = c.loop-at.at-index in
-      let it : LoadedAt n.view (filter is_load records) i (get_or n.loaded.now i 0) =
-      loaded_at n.view n.strings.now n.loaded.now records i are c.loop-at-test.true in
+      let it = loaded_at _ _ _ _ _ are c.loop-at-test.true in
       let id_is = c.loaded_class_id.ensures it.time it.serial it.class it.stack it.name it.stands in
       name_ids_more n.view n.strings.now n.loaded.now records i c.loaded_class_id.result c.loop-at.builder.ids
       c.push.new.self.ids are c.loop-at-test.true it c.push.ensures.ids id_is (c.loop-at.invariant.ids records are);

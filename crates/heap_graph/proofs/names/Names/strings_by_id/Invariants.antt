@@ -1,13 +1,14 @@
+-- The builder has the identifiers of the strings so far, and room for those of the others.
 use Rattle.std.proofs.Common.{List, filter, length, map, take, ◌≡◌}
 use Rattle.hprof_grammar.specs.Places.{is_string}
 use Rattle.hprof_grammar.specs.Record.{Record}
-use Rattle.heap_graph.specs.working.IndexPairs.{IsFilled}
+use Rattle.heap_graph.specs.working.IndexPairs.{HasAdded}
 use Rattle.heap_graph.specs.working.PlacedNames.{AreNamesOf, string_id}
 use Rattle.heap_graph.proofs.names.Names.strings_by_id.Given as goal
 
 abbrev pub invariant-loop-at : goal.invariant-loop-at
 invariant-loop-at g l = record {
-  filled : IsFilled l.builder l.at-index (length l.self.strings.now);
+  filled : HasAdded l.builder l.at-index (length l.self.strings.now);
   ids : (records : List Record) → AreNamesOf l.self records
       → l.builder.ids ≡ map string_id (take l.at-index (filter is_string records));
 }

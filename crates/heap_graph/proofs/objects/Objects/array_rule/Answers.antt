@@ -1,3 +1,4 @@
+-- The table has a class of that identifier where the heap has one, and an array has no other rule to break.
 use Rattle.std.proofs.Common.{None, Some, subst, sym, ◌≡◌, ℕ}
 use Rattle.heap_graph.specs.Heap.{class_named}
 use Rattle.heap_graph.specs.working.ClassTable.{ids_of}
@@ -10,13 +11,11 @@ find-requires g c = c.requires.heap.1.few
 
 pub returns-in-Some : goal.returns-in-Some
 returns-in-Some g c = λ heap a told st.
-    let it : IsFateFound c.args.self.now.view.id_size heap (ids_of c.args.self.now.classes.table.entries)
-    c.args.self.now.fates.items c.array_class.result c.in-Some.field-0 = fate_found c.args.self.now.view heap
-    c.args.self.now.classes.table.entries c.args.self.now.fates.items c.array_class.result c.in-Some.field-0 told
-    (sym c.in-Some.ensures) in
-    array_fine c.args.self.now.view.id_size heap a it.class (subst (λ (id : ℕ). class_named heap id ≡ Some it.class) (c.array_class.ensures a st) it.named)
+    let it = fate_found _ _ _ _ _ _ told (sym c.in-Some.ensures) in
+    array_fine c.args.self.now.view.id_size heap a it.class
+    (subst (λ (id : ℕ). class_named heap id ≡ Some it.class) (c.array_class.ensures a st) it.named)
 
 pub returns-in-None : goal.returns-in-None
 returns-in-None g c = λ heap a told st. array_unknown c.args.self.now.view.id_size heap a
-    (subst (λ (id : ℕ). class_named heap id ≡ None) (c.array_class.ensures a st) (not_found c.args.self.now.view heap
-    c.args.self.now.classes.table.entries c.array_class.result told.classes (sym c.in-None.ensures)))
+    (subst (λ (id : ℕ). class_named heap id ≡ None) (c.array_class.ensures a st)
+    (not_found _ _ _ _ told.classes (sym c.in-None.ensures)))

@@ -1,35 +1,51 @@
+-- The rules are tested in their order, so the first that is found broken is the least one.
 use Rattle.std.proofs.Common.{arith, sym, ◌∙◌}
 use Rattle.heap_graph.proofs.Standings.{IsThere, there_at}
-use Rattle.heap_graph.proofs.Testing.{IsOwn, fine_object, large_fails, late_fails, own_object, repeated_object, zero_fails}
+use Rattle.heap_graph.proofs.Testing.{IsOwn, fine_object, large_fails, late_fails, own_object, repeated_object}
+use Rattle.heap_graph.proofs.Testing.{zero_fails}
 use Rattle.heap_graph.proofs.objects.Objects.broken_rule.Goals as goal
 
 pub returns-then-id-eq0-clause-rule : goal.returns-then-id-eq0-clause-rule
 returns-then-id-eq0-clause-rule g c = λ heap are told.
-    let it : IsThere c.args.self.now.view heap c.args.number c.index-place.result.now = there_at c.args.self.now.view c.args.self.now.places.items c.args.self.now.index heap c.args.number c.index-place.result.now are c.requires.below c.index-place.ensures in
-    zero_fails c.args.self.now.view.id_size heap c.args.number it.object it.is (sym (c.object_id-id.ensures it.object it.stands) ∙ c.if-id-eq0.true)
+    let it = there_at _ _ _ _ _ _ are c.requires.below c.index-place.ensures in
+    zero_fails c.args.self.now.view.id_size heap c.args.number it.object it.is
+    (sym (c.object_id-id.ensures it.object it.stands) ∙ c.if-id-eq0.true)
 
 pub returns-then-number-repeat-clause-rule : goal.returns-then-number-repeat-clause-rule
 returns-then-number-repeat-clause-rule g c = λ heap are told.
-    let it : IsThere c.args.self.now.view heap c.args.number c.index-place.result.now = there_at c.args.self.now.view c.args.self.now.places.items c.args.self.now.index heap c.args.number c.index-place.result.now are c.requires.below c.index-place.ensures in
-    repeated_object c.args.self.now.view.id_size heap c.args.self.now.index c.args.number c.object_id-id.result c.args.repeat it.object it.is are.ids_are (c.object_id-id.ensures it.object it.stands) c.if-id-eq0.false c.requires.repeat c.if-number-repeat.true
+    let it = there_at _ _ _ _ _ _ are c.requires.below c.index-place.ensures in
+    repeated_object c.args.self.now.view.id_size heap c.args.self.now.index c.args.number c.object_id-id.result
+    c.args.repeat it.object it.is are.ids_are (c.object_id-id.ensures it.object it.stands) c.if-id-eq0.false
+    c.requires.repeat c.if-number-repeat.true
 
 pub late_rule-requires-clause-object : goal.late_rule-requires-clause-object
-late_rule-requires-clause-object g c = let it = there_at c.args.self.now.view c.args.self.now.places.items c.args.self.now.index c.requires.heap.0 c.args.number c.index-place.result.now c.requires.heap.1 c.requires.below c.index-place.ensures in (it.object, it.stands, it.describes)
+late_rule-requires-clause-object g c =
+    let it = there_at _ _ _ _ _ _ c.requires.heap.1 c.requires.below c.index-place.ensures in
+    (it.object, it.stands, it.describes)
 
 pub returns-in-Some-clause-rule : goal.returns-in-Some-clause-rule
 returns-in-Some-clause-rule g c = λ heap are told.
-    let it : IsThere c.args.self.now.view heap c.args.number c.index-place.result.now = there_at c.args.self.now.view c.args.self.now.places.items c.args.self.now.index heap c.args.number c.index-place.result.now are c.requires.below c.index-place.ensures in
-    let own : IsOwn heap c.args.number it.object = own_object heap c.args.self.now.index c.args.number c.object_id-id.result c.args.repeat it.object it.is are.ids_are (c.object_id-id.ensures it.object it.stands) c.if-id-eq0.false c.requires.repeat (omega arith) in
-    late_fails c.args.self.now.view.id_size heap c.args.number it.object c.in-Some.rule own (c.in-Some.ensures heap it.object told it.stands it.describes)
+    let it = there_at _ _ _ _ _ _ are c.requires.below c.index-place.ensures in
+    let own : IsOwn heap c.args.number it.object =
+    own_object heap c.args.self.now.index c.args.number c.object_id-id.result c.args.repeat it.object it.is
+    are.ids_are (c.object_id-id.ensures it.object it.stands) c.if-id-eq0.false c.requires.repeat (omega arith) in
+    late_fails c.args.self.now.view.id_size heap c.args.number it.object c.in-Some.rule own
+    (c.in-Some.ensures heap it.object told it.stands it.describes)
 
 pub returns-then-number-ge-MOST_OBJECTS-clause-rule : goal.returns-then-number-ge-MOST_OBJECTS-clause-rule
 returns-then-number-ge-MOST_OBJECTS-clause-rule g c = λ heap are told.
-    let it : IsThere c.args.self.now.view heap c.args.number c.index-place.result.now = there_at c.args.self.now.view c.args.self.now.places.items c.args.self.now.index heap c.args.number c.index-place.result.now are c.requires.below c.index-place.ensures in
-    let own : IsOwn heap c.args.number it.object = own_object heap c.args.self.now.index c.args.number c.object_id-id.result c.args.repeat it.object it.is are.ids_are (c.object_id-id.ensures it.object it.stands) c.if-id-eq0.false c.requires.repeat (omega arith) in
-    large_fails c.args.self.now.view.id_size heap c.args.number it.object own (c.in_default.ensures heap it.object told it.stands it.describes) c.if-number-ge-MOST_OBJECTS.true
+    let it = there_at _ _ _ _ _ _ are c.requires.below c.index-place.ensures in
+    let own : IsOwn heap c.args.number it.object =
+    own_object heap c.args.self.now.index c.args.number c.object_id-id.result c.args.repeat it.object it.is
+    are.ids_are (c.object_id-id.ensures it.object it.stands) c.if-id-eq0.false c.requires.repeat (omega arith) in
+    large_fails c.args.self.now.view.id_size heap c.args.number it.object own
+    (c.in_default.ensures heap it.object told it.stands it.describes) c.if-number-ge-MOST_OBJECTS.true
 
 pub returns-clause-rule : goal.returns-clause-rule
 returns-clause-rule g c = λ heap are told.
-    let it : IsThere c.args.self.now.view heap c.args.number c.index-place.result.now = there_at c.args.self.now.view c.args.self.now.places.items c.args.self.now.index heap c.args.number c.index-place.result.now are c.requires.below c.index-place.ensures in
-    let own : IsOwn heap c.args.number it.object = own_object heap c.args.self.now.index c.args.number c.object_id-id.result c.args.repeat it.object it.is are.ids_are (c.object_id-id.ensures it.object it.stands) c.if-id-eq0.false c.requires.repeat (omega arith) in
-    fine_object c.args.self.now.view.id_size heap c.args.number it.object own (c.in_default.ensures heap it.object told it.stands it.describes) c.if-number-ge-MOST_OBJECTS.false
+    let it = there_at _ _ _ _ _ _ are c.requires.below c.index-place.ensures in
+    let own : IsOwn heap c.args.number it.object =
+    own_object heap c.args.self.now.index c.args.number c.object_id-id.result c.args.repeat it.object it.is
+    are.ids_are (c.object_id-id.ensures it.object it.stands) c.if-id-eq0.false c.requires.repeat (omega arith) in
+    fine_object c.args.self.now.view.id_size heap c.args.number it.object own
+    (c.in_default.ensures heap it.object told it.stands it.describes) c.if-number-ge-MOST_OBJECTS.false

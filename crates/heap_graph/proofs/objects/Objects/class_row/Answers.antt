@@ -1,3 +1,4 @@
+-- The class is there, so the table has it, and in a linked heap its place there is its number among the dumps.
 use Rattle.std.proofs.Common.{ap, refl, sym, ℕ}
 use Rattle.heap_graph.specs.declared.row.RowKey.TheVariants as keys
 use Rattle.heap_graph.proofs.ClassTableLaws.{not_found}
@@ -5,10 +6,8 @@ use Rattle.heap_graph.proofs.EntryLaws.{number_told}
 use Rattle.heap_graph.proofs.objects.Objects.class_row.Goals as goal
 
 pub returns-in-Some : goal.returns-in-Some
-returns-in-Some g c = λ heap linked told named. ap (λ (n : ℕ). keys.Class n) (number_told c.args.self.now.view heap
-    c.args.self.now.classes.table.entries c.args.self.now.fates.items c.args.id c.args.id c.in-Some.number told
-    c.in-Some.ensures refl linked.linked)
+returns-in-Some g c = λ heap linked told named.
+    ap (λ (n : ℕ). keys.Class n) (number_told _ _ _ _ _ _ _ told c.in-Some.ensures refl linked.linked)
 
 pub unreachable-requires : goal.unreachable-requires
-unreachable-requires g c = c.requires.3 (not_found c.args.self.now.view c.requires.0
-    c.args.self.now.classes.table.entries c.args.id c.requires.2.classes (sym c.in-None.ensures))
+unreachable-requires g c = c.requires.3 (not_found _ _ _ _ c.requires.2.classes (sym c.in-None.ensures))

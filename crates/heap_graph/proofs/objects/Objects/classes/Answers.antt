@@ -1,3 +1,4 @@
+-- A linked heap has its classes in the table in the order of their dumps, so they are named in that order.
 use Rattle.std.proofs.Common.{arith}
 use Rattle.heap_graph.specs.working.ClassTable.{ids_of}
 use Rattle.heap_graph.proofs.ClassLaws.{all_named, none_named, one_more_named}
@@ -5,17 +6,20 @@ use Rattle.heap_graph.proofs.ClassTableLaws.{same_count}
 use Rattle.heap_graph.proofs.objects.Objects.classes.Goals as goal
 
 pub loop-number-init : goal.loop-number-init
-loop-number-init g c = λ records names. none_named records (ids_of c.args.self.now.classes.table.entries) c.in_ok-classes.classes.items c.in_ok-classes.ensures.items
-
-pub class_text-text-requires : goal.class_text-text-requires
-class_text-text-requires g c = (c.requires.names.0, c.in_ok-by_id.ensures c.requires.names.0 c.requires.names.1)
+loop-number-init g c = λ records names. none_named records
+    (ids_of c.args.self.now.classes.table.entries) c.in_ok-classes.classes.items c.in_ok-classes.ensures.items
 
 pub loop-number-preserved : goal.loop-number-preserved
 loop-number-preserved g c = λ records names.
-    one_more_named records (ids_of c.args.self.now.classes.table.entries) c.loop-number.number c.loop-number.classes.items c.push.new.self.items (record { id = c.id-id.result; text = c.class_text-text.result })
-    (omega (arith, same_count c.args.self.now.classes.table.entries, c.loop-number-test.true, c.len-count.ensures)) c.id-id.ensures (c.class_text-text.ensures records names) c.in_ok-push.ensures.items (c.loop-number.invariant records names)
+    one_more_named records (ids_of c.args.self.now.classes.table.entries) c.loop-number.number
+    c.loop-number.classes.items c.push.new.self.items
+    (record { id = c.id-id.result; text = c.class_text-text.result })
+    (omega (arith, same_count c.args.self.now.classes.table.entries, c.loop-number-test.true, c.len-count.ensures))
+    c.id-id.ensures (c.class_text-text.ensures records names) c.in_ok-push.ensures.items
+    (c.loop-number.invariant records names)
 
 pub returns : goal.returns
 returns g c = λ records linked told names.
-    all_named records (ids_of c.args.self.now.classes.table.entries) c.loop-number.number c.loop-number.classes.items (omega (arith, same_count c.args.self.now.classes.table.entries, c.loop-number-test.false, c.len-count.ensures))
-    (told.classes.in_order linked.linked) (c.loop-number.invariant records (c.in_ok-by_id.ensures records names))
+    all_named records (ids_of c.args.self.now.classes.table.entries) c.loop-number.number c.loop-number.classes.items
+    (omega (arith, same_count c.args.self.now.classes.table.entries, c.loop-number-test.false, c.len-count.ensures))
+    (told.classes.in_order linked.linked) (c.loop-number.invariant records names)

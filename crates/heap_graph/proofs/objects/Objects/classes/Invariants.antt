@@ -1,3 +1,4 @@
+-- The classes so far are the first ones of the table, each with the text that names it.
 use Rattle.std.proofs.Common.{List}
 use Rattle.hprof_grammar.specs.Record.{Record}
 use Rattle.heap_graph.specs.working.ClassTable.{ids_of}
@@ -6,4 +7,5 @@ use Rattle.heap_graph.proofs.ClassLaws.{AreNamed}
 use Rattle.heap_graph.proofs.objects.Objects.classes.Given as goal
 
 abbrev pub invariant-loop-number : goal.invariant-loop-number
-invariant-loop-number g l = (records : List Record) → AreNamesByIdOf l.by_id records → AreNamed records (ids_of l.self.classes.table.entries) l.number l.classes.items
+invariant-loop-number g l = (records : List Record) → AreNamesByIdOf l.names records
+    → AreNamed records (ids_of l.self.classes.table.entries) l.number l.classes.items

@@ -1,3 +1,4 @@
+-- An array holds its class and then its elements, of which its form allows no more than the walk has room for.
 use Rattle.std.proofs.Common.{ap, arith, length}
 use Rattle.hprof_grammar.proofs.BoundsLaws.{bounds}
 use Rattle.heap_graph.proofs.HeldLaws.{array_holds}
@@ -8,6 +9,6 @@ invariant_of-result g c =
     omega (arith, ap length (c.array_elements.ensures c.requires.0 c.requires.1), (bounds c.requires.1.is.formed).count)
 
 pub returns : goal.returns
-returns g c =
-    λ heap a stands. array_holds c.args.self.now.view.id_size heap a c.array_class.result c.array_elements.result
+returns g c = λ skips heap a stands.
+    array_holds skips c.args.self.now.view.id_size heap a c.array_class.result c.array_elements.result
     (bounds stands.is.formed).count (c.array_class.ensures a stands) (c.array_elements.ensures a stands)

@@ -1,3 +1,4 @@
+-- A class holds what is read of its dump, whose form allows no more than the walk has room for.
 use Rattle.std.proofs.Common.{ap, arith, length}
 use Rattle.hprof_grammar.proofs.BoundsLaws.{bounds}
 use Rattle.heap_graph.proofs.HeldLaws.{class_holds, few_in_class}
@@ -12,6 +13,6 @@ invariant_of-result g c =
     )
 
 pub returns : goal.returns
-returns g c =
-    λ heap d stands. class_holds c.args.self.now.view.id_size heap d c.new.result (bounds stands.is.formed)
+returns g c = λ skips heap d stands.
+    class_holds skips c.args.self.now.view.id_size heap d c.new.result (bounds stands.is.formed)
     (c.new.ensures d stands)

@@ -1,4 +1,5 @@
-use Rattle.std.proofs.Common.{false}
+-- An instance holds its class and then the fields of its layout, of which there are no more than bytes of values.
+use Rattle.std.proofs.Common.{arith}
 use Rattle.hprof_grammar.proofs.BoundsLaws.{bounds}
 use Rattle.heap_graph.specs.Fields.{declared_fields}
 use Rattle.heap_graph.specs.working.ClassTable.{ids_of}
@@ -7,41 +8,35 @@ use Rattle.heap_graph.proofs.HeldLaws.{few_in_instance, instance_holds, layout_f
 use Rattle.heap_graph.proofs.objects.Objects.ids_of_instance.Goals as goal
 
 pub new-requires-clause-size : goal.new-requires-clause-size
-new-requires-clause-size g c = c.requires.3.low
+new-requires-clause-size g c = c.requires.4.low
 
 pub new-requires-clause-heap : goal.new-requires-clause-heap
 new-requires-clause-heap g c =
-    let first : IsFirstOfInstance c.args.self.now.view.id_size c.requires.0
-    (ids_of c.args.self.now.classes.table.entries) c.requires.2 c.args.first = c.requires.7 in (
+    let first = c.requires.8 in (
       c.requires.0,
+      c.requires.1,
       declared_fields first.chain,
-      c.requires.4,
       c.requires.5,
-      layout_from c.args.self.now c.requires.0 c.requires.2
-          c.args.first c.instance_values-values.result.now first
-          (c.instance_values-values.ensures c.requires.2 c.requires.6.stands),
+      c.requires.6,
+      layout_from c.args.self.now c.requires.1 c.requires.3 c.args.first c.instance_values-values.result.now first
+          (c.instance_values-values.ensures c.requires.3 c.requires.7.stands),
     )
 
 pub invariant_of-result : goal.invariant_of-result
 invariant_of-result g c =
-    let first : IsFirstOfInstance c.args.self.now.view.id_size c.requires.0
-    (ids_of c.args.self.now.classes.table.entries) c.requires.2 c.args.first = c.requires.7 in
-    let values = c.instance_values-values.ensures c.requires.2 c.requires.6.stands in
-    let fields =
-    c.new.ensures c.requires.0 (declared_fields first.chain) c.requires.4 c.requires.5
-    (layout_from c.args.self.now c.requires.0 c.requires.2 c.args.first c.instance_values-values.result.now
+    let first = c.requires.8 in
+    let values = c.instance_values-values.ensures c.requires.3 c.requires.7.stands in
+    let fields = c.new.ensures c.requires.0 c.requires.1 (declared_fields first.chain) c.requires.5 c.requires.6
+    (layout_from c.args.self.now c.requires.1 c.requires.3 c.args.first c.instance_values-values.result.now
     first values) in
-    few_in_instance (λ d m. false) c.args.self.now.view.id_size c.requires.0 (ids_of c.args.self.now.classes.table.entries)
-    c.requires.2 c.args.first first c.new.result c.instance_values-values.result.now c.requires.3.low
-    (bounds c.requires.6.stands.is.formed).values values fields
+    let few = few_in_instance c.requires.0 _ _ _ _ _ first _ _ c.requires.4.low
+    (bounds c.requires.7.stands.is.formed).values values fields in
+    omega (arith, few)
 
 pub returns : goal.returns
-returns g c = λ heap n i linked told plan at first.
+returns g c = λ skips heap n i linked told plan at first.
     let values = c.instance_values-values.ensures i at.stands in
-    let fields =
-    c.new.ensures heap (declared_fields first.chain) told plan
+    let fields = c.new.ensures skips heap (declared_fields first.chain) told plan
     (layout_from c.args.self.now heap i c.args.first c.instance_values-values.result.now first values) in
-    instance_holds c.args.self.now.view.id_size heap (ids_of c.args.self.now.classes.table.entries) i c.args.first first
-    c.instance_class.result c.new.result c.instance_values-values.result.now linked.low
-    (bounds at.stands.is.formed).values
+    instance_holds skips _ _ _ i _ first _ _ _ linked.low (bounds at.stands.is.formed).values
     (c.instance_class.ensures i at.stands) values fields

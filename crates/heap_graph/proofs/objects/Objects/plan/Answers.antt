@@ -1,69 +1,98 @@
 -- The class of each number stands at its place, so the fields that are read there are those that are planned.
-use Rattle.std.proofs.Common.{[], ap, arith, false, length, length-append, refl, ℕ, ◌<◌, ◌^◌, ◌∙◌, ◌∷◌}
+use Rattle.std.proofs.Common.{List, Some, [], ap, arith, length, length-append, sym, ℕ, ◌<◌, ◌^◌, ◌∙◌, ◌∷◌}
+use Rattle.std.proofs.Common.{◌≡◌}
+use Rattle.std.specs.Prelude.{slice_index}
 use Rattle.hprof_grammar.proofs.BoundsLaws.{bounds}
+use Rattle.hprof_grammar.specs.Record.{Record}
+use Rattle.hprof_grammar.specs.SubRecord.{Class}
+use Rattle.heap_graph.specs.Heap.{class_named, heap_of}
+use Rattle.heap_graph.specs.Skips.{SkipEntry, is_skipped}
+use Rattle.heap_graph.specs.working.ClassSkips.{is_skipped_in}
 use Rattle.heap_graph.specs.working.ClassTable.{ids_of}
 use Rattle.heap_graph.specs.working.Resolving.{target_in}
 use Rattle.heap_graph.proofs.ClassTableLaws.{same_count, stands_at}
+use Rattle.heap_graph.proofs.Linking.{IsClassThere, class_there}
 use Rattle.heap_graph.proofs.PlanLaws.{fields_read, no_object, no_plan, objects_more, plan_more}
 use Rattle.heap_graph.proofs.objects.Objects.plan.Goals as goal
+
+-- the class of a number bears its identifier, so the test of that identifier is the test of the class
+same_test : (records : List Record) (skip : List SkipEntry) (ids : List ℕ) (k id : ℕ) (c : Class)
+    → id ≡ slice_index ids k → class_named (heap_of records) (slice_index ids k) ≡ Some c
+    → is_skipped_in records skip id ≡ is_skipped records skip c
+same_test records skip ids k id c is named =
+    let there : IsClassThere (heap_of records) (slice_index ids k) c =
+    class_there (heap_of records) (slice_index ids k) c named in
+    ap (λ (i : ℕ). is_skipped_in records skip i) (is ∙ sym there.id_is)
 
 pub members-requires : goal.members-requires
 members-requires g c =
     let o = c.args.self.now in
-    stands_at o.view c.requires.0 o.classes.table.entries c.loop-number.number c.entry-place.result
-    c.requires.1.classes (omega (arith, c.loop-number-test.true, c.len-count.ensures)) c.entry-place.ensures
+    stands_at o.view c.requires.told.0 o.classes.table.entries c.loop-number.number c.entry-place.result
+    c.requires.told.1.classes (omega (arith, c.loop-number-test.true, c.len-count.ensures)) c.entry-place.ensures
 
-pub push-requires : goal.push-requires
-push-requires g c =
+pub push-requires-clause-few : goal.push-requires-clause-few
+push-requires-clause-few g c =
     let o = c.args.self.now in
     let it =
-    stands_at o.view c.requires.0 o.classes.table.entries c.loop-number.number c.entry-place.result
-    c.requires.1.classes (omega (arith, c.loop-number-test.true, c.len-count.ensures)) c.entry-place.ensures in
+    stands_at o.view c.requires.told.0 o.classes.table.entries c.loop-number.number c.entry-place.result
+    c.requires.told.1.classes (omega (arith, c.loop-number-test.true, c.len-count.ensures)) c.entry-place.ensures in
     let few : length it.0.members < 256 ^ 2 = (bounds it.1.is.formed).member_count in
     omega (arith, few, ap length (c.members.ensures it.0 it.1))
+
+pub push-requires-clause-skips : goal.push-requires-clause-skips
+push-requires-clause-skips g c =
+    let names = c.requires.names in
+    (is_skipped_in names.0 c.args.skip.now c.id-id.result, c.of-skips.ensures names.0 names.1)
 
 pub loop-number-init : goal.loop-number-init
 loop-number-init g c = record {
   count = ap length c.in_ok-with_capacity.ensures.items;
-  each = λ heap told.
+  each = λ records told names.
       let o = c.args.self.now in
-      no_plan (λ d m. false) o.view.id_size heap (ids_of o.classes.table.entries) c.in_ok-with_capacity.field-0.items
-      c.new.result.items c.in_ok-with_capacity.ensures.items;
+      no_plan (is_skipped records c.args.skip.now) o.view.id_size (heap_of records) (ids_of o.classes.table.entries)
+      c.in_ok-with_capacity.field-0.items c.new.result.items c.in_ok-with_capacity.ensures.items;
   objects =
       no_object c.args.self.now.index (ids_of c.args.self.now.classes.table.entries)
       c.in_ok-with_capacity.field-0.items c.in_ok-with_capacity.ensures.items;
 }
 
 pub loop-number-preserved : goal.loop-number-preserved
-loop-number-preserved g c = record {
-  count =
-      omega (
-        arith,
-        c.loop-number.invariant.count,
-        ap length c.in_ok-push.ensures.plans_are,
-        length-append c.loop-number.plan.classes.items (c.in_ok-push.ensures.class ∷ []),
-      );
-  each = λ heap told.
-      let o = c.args.self.now in
-      plan_more (λ d m. false) o.view.id_size heap (ids_of o.classes.table.entries) _ (λ m. false) _ c.loop-number.plan.classes.items _
-      c.loop-number.plan.places.items _ c.loop-number.number c.loop-number.invariant.count
-      (c.loop-number.invariant.each heap told) c.in_ok-push.ensures
-      (λ d named. record {
-        members_are = fields_read
-            o.view heap o.classes.table.entries c.loop-number.number c.entry-place.result c.members.result told.classes
-            (omega (arith, c.loop-number-test.true, c.len-count.ensures)) c.entry-place.ensures c.members.ensures d named;
-        tests = refl;
-      });
-  objects =
-      let o = c.args.self.now in
-      objects_more o.view.id_size o.index (ids_of o.classes.table.entries) _ (λ m. false) _ c.loop-number.plan.classes.items _
-      c.loop-number.plan.places.items _ c.loop-number.number c.loop-number.invariant.count
-      c.loop-number.invariant.objects c.in_ok-push.ensures
-      (c.target-object.ensures ∙ ap (λ (id : ℕ). target_in o.index id) c.id.ensures);
-}
+loop-number-preserved g c =
+    let o = c.args.self.now in
+    let skip = c.args.skip.now in
+    let id = c.id-id.result in
+    let names = c.requires.names in
+    let adds = c.in_ok-push.ensures (is_skipped_in names.0 skip id) (c.of-skips.ensures names.0 names.1) in
+    record {
+      count =
+          omega (
+            arith,
+            c.loop-number.invariant.count,
+            ap length adds.plans_are,
+            length-append c.loop-number.plan.classes.items (adds.class ∷ []),
+          );
+      each = λ records told are.
+          plan_more (is_skipped records skip) o.view.id_size (heap_of records) (ids_of o.classes.table.entries) _
+          (is_skipped_in records skip id) _ c.loop-number.plan.classes.items _ c.loop-number.plan.places.items _
+          c.loop-number.number c.loop-number.invariant.count (c.loop-number.invariant.each records told are)
+          (c.in_ok-push.ensures (is_skipped_in records skip id) (c.of-skips.ensures records are))
+          (λ d named. record {
+            members_are = fields_read
+                o.view (heap_of records) o.classes.table.entries c.loop-number.number c.entry-place.result
+                c.members.result told.classes (omega (arith, c.loop-number-test.true, c.len-count.ensures))
+                c.entry-place.ensures c.members.ensures d named;
+            tests =
+                same_test records skip (ids_of o.classes.table.entries) c.loop-number.number id d c.id-id.ensures named;
+          });
+      objects =
+          objects_more o.view.id_size o.index (ids_of o.classes.table.entries) _ (is_skipped_in names.0 skip id) _
+          c.loop-number.plan.classes.items _ c.loop-number.plan.places.items _ c.loop-number.number
+          c.loop-number.invariant.count c.loop-number.invariant.objects adds
+          (c.target-object.ensures ∙ ap (λ (i : ℕ). target_in o.index i) c.id-id.ensures);
+    }
 
 pub returns : goal.returns
-returns g c = λ heap told.
+returns g c = λ records told names.
     let o = c.args.self.now in
     record {
       one_each = omega (
@@ -74,6 +103,6 @@ returns g c = λ heap told.
         c.len-count.ensures,
         same_count o.classes.table.entries,
       );
-      each = c.loop-number.invariant.each heap told;
+      each = c.loop-number.invariant.each records told names;
       objects_are = c.loop-number.invariant.objects;
     }

@@ -9,78 +9,59 @@ use Rattle.heap_graph.proofs.objects.Objects.scan.Goals as goal
 
 pub kind-requires : goal.kind-requires
 kind-requires g c =
-    let it =
-    there_at c.args.self.now.view c.args.self.now.places.items c.args.self.now.index c.requires.heap.0 c.args.number
-    c.index-place.result.now c.requires.heap.1.are c.requires.below c.index-place.ensures in
+    let it = there_at _ _ _ _ _ _ c.requires.heap.2.are c.requires.below c.index-place.ensures in
     (it.object, it.stands, it.describes)
 
 pub class_of-class-requires : goal.class_of-class-requires
 class_of-class-requires g c =
-    let it =
-    there_at c.args.self.now.view c.args.self.now.places.items c.args.self.now.index c.requires.heap.0 c.args.number
-    c.index-place.result.now c.requires.heap.1.are c.requires.below c.index-place.ensures in
-    let o =
-    instance_at c.args.self.now.view c.requires.heap.0 c.args.number c.index-place.result.now it
-    c.in-Instance.ensures in
-    (c.requires.heap.0, c.args.number, o.0, c.requires.heap.1, c.requires.heap.2, o.1)
+    let it = there_at _ _ _ _ _ _ c.requires.heap.2.are c.requires.below c.index-place.ensures in
+    let o = instance_at _ _ _ _ it c.in-Instance.ensures in
+    (c.requires.heap.1, c.args.number, o.0, c.requires.heap.2, c.requires.heap.3, o.1)
 
 pub instance_values-requires : goal.instance_values-requires
 instance_values-requires g c =
-    let it =
-    there_at c.args.self.now.view c.args.self.now.places.items c.args.self.now.index c.requires.heap.0 c.args.number
-    c.index-place.result.now c.requires.heap.1.are c.requires.below c.index-place.ensures in
-    let o =
-    instance_at c.args.self.now.view c.requires.heap.0 c.args.number c.index-place.result.now it
-    c.in-Instance.ensures in
+    let it = there_at _ _ _ _ _ _ c.requires.heap.2.are c.requires.below c.index-place.ensures in
+    let o = instance_at _ _ _ _ it c.in-Instance.ensures in
     (o.0, o.1.stands)
 
 pub ids_of_instance-requires : goal.ids_of_instance-requires
 ids_of_instance-requires g c =
-    let it =
-    there_at c.args.self.now.view c.args.self.now.places.items c.args.self.now.index c.requires.heap.0 c.args.number
-    c.index-place.result.now c.requires.heap.1.are c.requires.below c.index-place.ensures in
-    let o =
-    instance_at c.args.self.now.view c.requires.heap.0 c.args.number c.index-place.result.now it
-    c.in-Instance.ensures in (
+    let it = there_at _ _ _ _ _ _ c.requires.heap.2.are c.requires.below c.index-place.ensures in
+    let o = instance_at _ _ _ _ it c.in-Instance.ensures in (
       c.requires.heap.0,
+      c.requires.heap.1,
       c.args.number,
       o.0,
-      c.requires.heap.1,
       c.requires.heap.2,
       c.requires.heap.3,
+      c.requires.heap.4,
       o.1,
       c.class_of-class.ensures.first
-          c.requires.heap.0 c.args.number o.0 c.requires.heap.1 c.requires.heap.2 o.1,
+          c.requires.heap.1 c.args.number o.0 c.requires.heap.2 c.requires.heap.3 o.1,
     )
 
 pub returns-in-Instance-clause-row : goal.returns-in-Instance-clause-row
 returns-in-Instance-clause-row g c = λ heap object linked told is.
-    let it =
-    there_at c.args.self.now.view c.args.self.now.places.items c.args.self.now.index heap c.args.number
-    c.index-place.result.now linked.are c.requires.below c.index-place.ensures in
-    let o = instance_at c.args.self.now.view heap c.args.number c.index-place.result.now it c.in-Instance.ensures in
-    ap (λ (n : ℕ). keys.Class n) (c.class_of-class.ensures.class heap c.args.number o.0 linked told o.1) ∙ ap
-    (λ (x : SubRecord). row_of heap x) (one_object heap c.args.number (instance_dump o.0) object o.1.is is)
+    let it = there_at _ _ _ _ _ _ linked.are c.requires.below c.index-place.ensures in
+    let o = instance_at _ _ _ _ it c.in-Instance.ensures in
+    ap (λ (n : ℕ). keys.Class n) (c.class_of-class.ensures.class heap c.args.number o.0 linked told o.1)
+    ∙ ap (λ (x : SubRecord). row_of heap x) (one_object heap c.args.number (instance_dump o.0) object o.1.is is)
 
 pub returns-in-Instance-clause-bytes : goal.returns-in-Instance-clause-bytes
 returns-in-Instance-clause-bytes g c = λ heap object are is.
-    let it =
-    there_at c.args.self.now.view c.args.self.now.places.items c.args.self.now.index heap c.args.number
-    c.index-place.result.now are c.requires.below c.index-place.ensures in
-    let o = instance_at c.args.self.now.view heap c.args.number c.index-place.result.now it c.in-Instance.ensures in
-    ap length (c.instance_values.ensures o.0 o.1.stands) ∙ ap
-    (λ (x : SubRecord). bytes_of c.args.self.now.view.id_size x)
+    let it = there_at _ _ _ _ _ _ are c.requires.below c.index-place.ensures in
+    let o = instance_at _ _ _ _ it c.in-Instance.ensures in
+    ap length (c.instance_values.ensures o.0 o.1.stands)
+    ∙ ap (λ (x : SubRecord). bytes_of c.args.self.now.view.id_size x)
     (one_object heap c.args.number (instance_dump o.0) object o.1.is is)
 
 pub returns-in-Instance-clause-ids : goal.returns-in-Instance-clause-ids
-returns-in-Instance-clause-ids g c = λ heap linked told plan.
-    let it =
-    there_at c.args.self.now.view c.args.self.now.places.items c.args.self.now.index heap c.args.number
-    c.index-place.result.now linked.are c.requires.below c.index-place.ensures in
-    let o = instance_at c.args.self.now.view heap c.args.number c.index-place.result.now it c.in-Instance.ensures in
+returns-in-Instance-clause-ids g c = λ skips heap linked told plan.
+    let it = there_at _ _ _ _ _ _ linked.are c.requires.below c.index-place.ensures in
+    let o = instance_at _ _ _ _ it c.in-Instance.ensures in
     record {
       object = instance_dump o.0;
       is = o.1.is;
-      are = c.ids_of_instance.ensures heap c.args.number o.0 linked told plan
-          o.1 (c.class_of-class.ensures.first heap c.args.number o.0 linked told o.1);
+      are = c.ids_of_instance.ensures skips heap c.args.number o.0 linked told plan o.1
+          (c.class_of-class.ensures.first heap c.args.number o.0 linked told o.1);
     }

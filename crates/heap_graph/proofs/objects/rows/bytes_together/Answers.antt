@@ -1,3 +1,4 @@
+-- No value has more than 255 bytes, and there are few values, so the sum does not overflow.
 use Rattle.std.proofs.Common.{ap, arith, length}
 use Rattle.heap_graph.proofs.objects.rows.bytes_together.Goals as goal
 

@@ -1,9 +1,11 @@
+-- The bytes so far, with those of the values that are left, are all; no value has more than 255.
 use Rattle.std.proofs.Common.{length, sum_by, ◌*◌, ◌+◌, ◌≡◌, ◌≤◌}
 use Rattle.hprof_grammar.specs.Tables.{size_of}
 use Rattle.heap_graph.proofs.objects.rows.bytes_together.Given as goal
 
 abbrev pub invariant-loop-value : goal.invariant-loop-value
 invariant-loop-value l = record {
-  sum : l.bytes + sum_by (λ v. size_of l.view.id_size v.type) l.value-iterator ≡ sum_by (λ v. size_of l.view.id_size v.type) l.fn.values;
+  sum : l.bytes + sum_by (λ v. size_of l.view.id_size v.type) l.value-iterator
+      ≡ sum_by (λ v. size_of l.view.id_size v.type) l.fn.values;
   small : l.bytes + 255 * length l.value-iterator ≤ 255 * length l.fn.values;
 }

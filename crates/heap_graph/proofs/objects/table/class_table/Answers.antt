@@ -3,7 +3,7 @@ use Rattle.std.proofs.Common.{Err, IfOk, List, Ok, Result, arith, subst, sym, �
 use Rattle.hprof_grammar.specs.Standing.{Sight}
 use Rattle.hprof_grammar.specs.SubRecord.{SubRecord}
 use Rattle.heap_graph.specs.declared.classes.Classes.{Classes}
-use Rattle.heap_graph.specs.working.ClassTable.{AreClasses, AreClassesOf, Entry}
+use Rattle.heap_graph.specs.working.ClassTable.{AreClasses, AreClassesOf, TableEntry}
 use Rattle.heap_graph.proofs.TableGrowth.{among_all}
 use Rattle.heap_graph.proofs.objects.table.class_table.Goals as goal
 
@@ -12,11 +12,11 @@ if_both : {X E : Type 0} {P Q R : X → Type 0} (r : Result X E) → ((x : X) �
 if_both (Ok x) f p q = f x p q
 if_both (Err e) f p q = tt
 
-same_classes : {A : Type 0} (v : Sight) (heap : List SubRecord) (entries : List Entry) (classes : Classes A)
+same_classes : {A : Type 0} (v : Sight) (heap : List SubRecord) (entries : List TableEntry) (classes : Classes A)
     → classes.view ≡ v → classes.table.entries ≡ entries → AreClasses v heap entries → AreClassesOf classes heap
 same_classes v heap entries classes view_is entries_are are =
     subst (λ (w : Sight). AreClasses w heap classes.table.entries) (sym view_is)
-    (subst (λ (es : List Entry). AreClasses v heap es) (sym entries_are) are)
+    (subst (λ (es : List TableEntry). AreClasses v heap es) (sym entries_are) are)
 
 pub finish-requires : goal.finish-requires
 finish-requires g c =

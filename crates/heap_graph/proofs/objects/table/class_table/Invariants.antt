@@ -1,3 +1,4 @@
+-- The builder has the classes among the objects so far, and reads the same bytes.
 use Rattle.std.proofs.Common.{List, ◌≡◌}
 use Rattle.hprof_grammar.specs.SubRecord.{SubRecord}
 use Rattle.heap_graph.specs.working.ClassTable.{AreClassesAmong}

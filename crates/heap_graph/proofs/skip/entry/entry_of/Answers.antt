@@ -2,7 +2,8 @@
 use Rattle.std.proofs.Common.{◌∙◌}
 use Rattle.heap_graph.proofs.SkipCutting.{entry_from, no_entry, none_from, only_parts, parted, some_from}
 use Rattle.heap_graph.proofs.skip.entry.entry_of.Goals as goal
-use Rattle.heap_graph.proofs.skip.entry.entry_of.Goals.{then-is_empty-via-then-is_empty, then-is_empty-via-else-is_empty+then-is_empty-2}
+use Rattle.heap_graph.proofs.skip.entry.entry_of.Goals.{then-is_empty-via-then-is_empty}
+use Rattle.heap_graph.proofs.skip.entry.entry_of.Goals.{then-is_empty-via-else-is_empty+then-is_empty-2}
 
 pub returns-in_err-class-clause-none : goal.returns-in_err-class-clause-none
 returns-in_err-class-clause-none c =

@@ -1,3 +1,4 @@
+-- The steps that were passed named no object, and those of the identifiers that are left follow.
 use Rattle.std.proofs.Common.{length, map}
 use Rattle.heap_graph.specs.working.Resolving.{step_in}
 use Rattle.heap_graph.proofs.Walking.{HasPassed}

@@ -2,9 +2,9 @@
 use Rattle.std.proofs.Common.{List, None, Some, ap, arith, length, subst, sym, ℕ, ◌∙◌, ◌≡◌}
 use Rattle.std.specs.Prelude.{IfSome}
 use Rattle.std.proofs.lemmas.Bool.{eq-eqb, ne_eqb}
-use Rattle.heap_graph.specs.Walks.{GoesOn, Visited, target_in}
-use Rattle.heap_graph.specs.working.Resolving.{Leads}
-use Rattle.heap_graph.proofs.Visiting.{IsOnTheWay, few_after, goes_end, goes_missing, goes_named, goes_null, known}
+use Rattle.heap_graph.specs.Walks.{Advances, Visited, target_in}
+use Rattle.heap_graph.specs.working.Resolving.{FirstNames}
+use Rattle.heap_graph.proofs.Visiting.{IsOnTheWay, few_after, goes_end, goes_unresolved, goes_named, goes_null, known}
 use Rattle.heap_graph.proofs.Visiting.{leads_nowhere, start, visited}
 use Rattle.heap_graph.proofs.Walking.{none_of, yields}
 use Rattle.heap_graph.proofs.visit.VisitIterator.next.Goals as goal
@@ -13,8 +13,8 @@ pub loop-id-init : goal.loop-id-init
 loop-id-init g c = record {
   way =
       let v = c.self.inside in
-      subst (λ (old : Visited). IsOnTheWay old v.row v.bytes v.missing v.index.now v.ids) c.self.view_is
-      (start v.row v.bytes v.missing v.index.now v.ids c.self.invariant.few);
+      subst (λ (old : Visited). IsOnTheWay old v.row v.bytes v.unresolved v.index.now v.ids) c.self.view_is
+      (start v.row v.bytes v.unresolved v.index.now v.ids c.self.invariant.few);
   leads = c.self.invariant.leads;
 }
 
@@ -22,7 +22,7 @@ pub invariant_of-self : goal.invariant_of-self
 invariant_of-self g c =
     let v = c.loop-id.self-inside in
     let few =
-    few_after c.args.self.now v.row v.bytes v.missing v.index.now c.in-Some.id v.ids c.next.new.self
+    few_after c.args.self.now v.row v.bytes v.unresolved v.index.now c.in-Some.id v.ids c.next.new.self
     c.loop-id.invariant.way c.in-Some.ensures.steps in
     record {
       few = omega (arith, few);
@@ -36,12 +36,12 @@ returns-in-Some-take-clause-steps g c =
     let named : Some c.in-Some-take.object ≡ target_in v.index.now c.in-Some.id =
     known v.index.now c.in-Some.id c.in-Some-take.object v.ids c.next.new.self v.first c.loop-id.invariant.leads first
     c.in-Some.ensures.steps in
-    let goes : GoesOn c.args.self.now (Some c.in-Some-take.object)
-    (visited v.row v.bytes v.missing v.index.now c.next.new.self) =
-    goes_named c.args.self.now v.row v.bytes v.missing v.index.now c.in-Some.id c.in-Some-take.object v.ids
+    let goes : Advances c.args.self.now (Some c.in-Some-take.object)
+    (visited v.row v.bytes v.unresolved v.index.now c.next.new.self) =
+    goes_named c.args.self.now v.row v.bytes v.unresolved v.index.now c.in-Some.id c.in-Some-take.object v.ids
     c.next.new.self c.loop-id.invariant.way c.in-Some.ensures.steps named in (
       yields c.args.self.now.left (Some c.in-Some-take.object)
-          (visited v.row v.bytes v.missing v.index.now c.next.new.self).left goes.goes,
+          (visited v.row v.bytes v.unresolved v.index.now c.next.new.self).left goes.goes,
       goes,
     )
 
@@ -57,7 +57,7 @@ pub invariant_of-self-in-Some-target : goal.invariant_of-self-in-Some-target
 invariant_of-self-in-Some-target g c =
     let v = c.loop-id.self-inside in
     let few =
-    few_after c.args.self.now v.row v.bytes v.missing v.index.now c.in-Some.id v.ids c.next.new.self
+    few_after c.args.self.now v.row v.bytes v.unresolved v.index.now c.in-Some.id v.ids c.next.new.self
     c.loop-id.invariant.way c.in-Some.ensures.steps in
     record {
       few = omega (arith, few);
@@ -67,12 +67,12 @@ invariant_of-self-in-Some-target g c =
 pub returns-in-Some-target-clause-steps : goal.returns-in-Some-target-clause-steps
 returns-in-Some-target-clause-steps g c =
     let v = c.loop-id.self-inside in
-    let goes : GoesOn c.args.self.now (Some c.in-Some-target.object)
-    (visited v.row v.bytes v.missing v.index.now c.next.new.self) =
-    goes_named c.args.self.now v.row v.bytes v.missing v.index.now c.in-Some.id c.in-Some-target.object v.ids
+    let goes : Advances c.args.self.now (Some c.in-Some-target.object)
+    (visited v.row v.bytes v.unresolved v.index.now c.next.new.self) =
+    goes_named c.args.self.now v.row v.bytes v.unresolved v.index.now c.in-Some.id c.in-Some-target.object v.ids
     c.next.new.self c.loop-id.invariant.way c.in-Some.ensures.steps (sym c.in-Some-target.is ∙ c.target.ensures) in (
       yields c.args.self.now.left (Some c.in-Some-target.object)
-          (visited v.row v.bytes v.missing v.index.now c.next.new.self).left goes.goes,
+          (visited v.row v.bytes v.unresolved v.index.now c.next.new.self).left goes.goes,
       goes,
     )
 
@@ -88,7 +88,7 @@ pub overflow_add-self : goal.overflow_add-self
 overflow_add-self g c =
     let v = c.loop-id.self-inside in
     let few =
-    few_after c.args.self.now v.row v.bytes v.missing v.index.now c.in-Some.id v.ids c.next.new.self
+    few_after c.args.self.now v.row v.bytes v.unresolved v.index.now c.in-Some.id v.ids c.next.new.self
     c.loop-id.invariant.way c.in-Some.ensures.steps in
     omega (arith, few)
 
@@ -101,7 +101,7 @@ loop-id-preserved-then-id-ne0 g c =
     let named : None ≡ target_in v.index.now c.in-Some.id =
     sym (none_of c.target.result c.in_default-target.not-Some) ∙ c.target.ensures in
     record {
-      way = goes_missing c.args.self.now v.row v.bytes v.missing v.index.now c.in-Some.id v.ids c.next.new.self
+      way = goes_unresolved c.args.self.now v.row v.bytes v.unresolved v.index.now c.in-Some.id v.ids c.next.new.self
           c.loop-id.invariant.way c.in-Some.ensures.steps named (ne_eqb c.in-Some.id 0 c.if-id-ne0.true);
       leads = leads_nowhere v.index.now c.next.new.self c.take.new.self c.take.ensures.after;
     }
@@ -115,7 +115,7 @@ loop-id-preserved g c =
     let named : None ≡ target_in v.index.now c.in-Some.id =
     sym (none_of c.target.result c.in_default-target.not-Some) ∙ c.target.ensures in
     record {
-      way = goes_null c.args.self.now v.row v.bytes v.missing v.index.now c.in-Some.id v.ids c.next.new.self
+      way = goes_null c.args.self.now v.row v.bytes v.unresolved v.index.now c.in-Some.id v.ids c.next.new.self
           c.loop-id.invariant.way c.in-Some.ensures.steps named (eq-eqb c.in-Some.id 0 c.if-id-ne0.false);
       leads = leads_nowhere v.index.now c.next.new.self c.take.new.self c.take.ensures.after;
     }
@@ -126,16 +126,16 @@ invariant_of-self-in_default g c =
     let steps = c.in_default.ensures.steps in
     record {
       few = omega (arith, c.loop-id.invariant.way.few, ap length steps.1);
-      leads = subst (λ (ids : List ℕ). IfSome v.first (Leads v.index.now ids)) (steps.0 ∙ sym steps.1)
+      leads = subst (λ (ids : List ℕ). IfSome v.first (FirstNames v.index.now ids)) (steps.0 ∙ sym steps.1)
           c.loop-id.invariant.leads;
     }
 
 pub returns-clause-steps : goal.returns-clause-steps
 returns-clause-steps g c =
     let v = c.loop-id.self-inside in
-    let goes : GoesOn c.args.self.now None (visited v.row v.bytes v.missing v.index.now c.next.new.self) =
-    goes_end c.args.self.now v.row v.bytes v.missing v.index.now v.ids c.next.new.self c.loop-id.invariant.way
+    let goes : Advances c.args.self.now None (visited v.row v.bytes v.unresolved v.index.now c.next.new.self) =
+    goes_end c.args.self.now v.row v.bytes v.unresolved v.index.now v.ids c.next.new.self c.loop-id.invariant.way
     c.in_default.ensures.steps.0 c.in_default.ensures.steps.1 in (
-      yields c.args.self.now.left None (visited v.row v.bytes v.missing v.index.now c.next.new.self).left goes.goes,
+      yields c.args.self.now.left None (visited v.row v.bytes v.unresolved v.index.now c.next.new.self).left goes.goes,
       goes,
     )

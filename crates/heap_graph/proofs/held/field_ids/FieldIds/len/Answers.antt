@@ -1,5 +1,7 @@
+-- Each class up adds its places to the count, and where no class is above, all are counted.
 use Rattle.std.proofs.Common.{arith}
-use Rattle.heap_graph.proofs.FieldsUpLaws.{all_counted, counted_fits, fewer_steps, more_counted, next_counted, none_counted}
+use Rattle.heap_graph.proofs.FieldsUpLaws.{all_counted, counted_fits, fewer_steps, more_counted, next_counted}
+use Rattle.heap_graph.proofs.FieldsUpLaws.{none_counted}
 use Rattle.heap_graph.proofs.held.field_ids.FieldIds.len.Goals as goal
 
 pub loop-above-init : goal.loop-above-init
@@ -20,7 +22,12 @@ id_places-requires-clause-within g c =
 
 pub overflow_add-ids : goal.overflow_add-ids
 overflow_add-ids g c =
-    omega (arith, counted_fits _ _ _ _ _ _ _ _ _ _ c.id_places.result.now c.loop-above.invariant c.in-Some.is c.id_places.ensures, c.self.told)
+    omega (
+      arith,
+      counted_fits _ _ _ _ _ _ _ _ _ _ c.id_places.result.now c.loop-above.invariant c.in-Some.is
+          c.id_places.ensures,
+      c.self.told,
+    )
 
 pub next_of-above-requires : goal.next_of-above-requires
 next_of-above-requires g c =
@@ -30,7 +37,8 @@ pub loop-above-smaller : goal.loop-above-smaller
 loop-above-smaller g c = fewer_steps _ _ _ _ _ _ _ _ _ _ _ c.loop-above.invariant c.in-Some.is c.next_of-above.ensures
 
 pub loop-above-preserved : goal.loop-above-preserved
-loop-above-preserved g c = more_counted _ _ _ _ _ _ _ _ _ _ _ _ c.loop-above.invariant c.in-Some.is c.id_places.ensures c.next_of-above.ensures
+loop-above-preserved g c =
+    more_counted _ _ _ _ _ _ _ _ _ _ _ _ c.loop-above.invariant c.in-Some.is c.id_places.ensures c.next_of-above.ensures
 
 pub returns : goal.returns
 returns g c = all_counted _ _ _ _ _ _ _ _ _ c.loop-above.invariant c.in_default.not-Some

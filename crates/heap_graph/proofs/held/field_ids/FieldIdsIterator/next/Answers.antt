@@ -1,9 +1,14 @@
+-- The first place that is left is given away; where none is left, the next class up brings its own.
 use Rattle.std.proofs.Common.{rules}
-use Rattle.heap_graph.proofs.FieldsUpLaws.{fewer_above, fewer_left, first_given, first_gone, first_room, has_next, next_left, none_left}
+use Rattle.heap_graph.proofs.FieldsUpLaws.{fewer_above, fewer_left, first_given, first_gone, first_room, has_next}
+use Rattle.heap_graph.proofs.FieldsUpLaws.{next_left, none_left}
 use Rattle.heap_graph.proofs.held.field_ids.FieldIdsIterator.next.Goals as goal
 
 pub identifier_at-requires : goal.identifier_at-requires
-identifier_at-requires g c = record { room = first_room _ _ _ _ c.in-Some.left.now c.in-Some.place.now c.loop-place.invariant.stand c.in-Some.ensures.cases.0 }
+identifier_at-requires g c = record {
+  room = first_room _ _ _ _ c.in-Some.left.now c.in-Some.place.now c.loop-place.invariant.stand
+      c.in-Some.ensures.cases.0;
+}
 
 pub invariant_of-self : goal.invariant_of-self
 invariant_of-self g c =
@@ -23,11 +28,17 @@ returns-in-Some-clause-steps g c =
     c.loop-place.invariant c.in-Some.ensures.cases.0 c.identifier_at.ensures f.up.1 (search rules)
 
 pub returns-in-Some-clause-goes : goal.returns-in-Some-clause-goes
-returns-in-Some-clause-goes g c = record { on = λ x. (tt, tt, fewer_left _ _ c.identifier_at.result (returns-in-Some-clause-steps g c)); keeps = tt; rests = λ x. tt }
+returns-in-Some-clause-goes g c =
+    record {
+      on = λ x. (tt, tt, fewer_left _ _ c.identifier_at.result (returns-in-Some-clause-steps g c));
+      keeps = tt;
+      rests = λ x. tt;
+    }
 
 pub returns-in_err-number-clause-steps : goal.returns-in_err-number-clause-steps
 returns-in_err-number-clause-steps g c =
-    rw c.from_residual.ensures (none_left _ _ _ _ _ _ _ _ _ _ c.loop-place.invariant c.in_default.ensures.cases c.in_err-number.was c.loop-place.self-inside.up.1)
+    rw c.from_residual.ensures (none_left _ _ _ _ _ _ _ _ _ _ c.loop-place.invariant c.in_default.ensures.cases
+    c.in_err-number.was c.loop-place.self-inside.up.1)
 
 pub bytes_of-requires : goal.bytes_of-requires
 bytes_of-requires g c = (has_next _ _ _ _ _ _ _ _ c.in_ok-number.was c.loop-place.self-inside.up.1
@@ -35,7 +46,8 @@ bytes_of-requires g c = (has_next _ _ _ _ _ _ _ _ c.in_ok-number.was c.loop-plac
 
 pub id_places-self-inside-requires-clause-below : goal.id_places-self-inside-requires-clause-below
 id_places-self-inside-requires-clause-below g c =
-    (has_next _ _ _ _ _ _ _ _ c.in_ok-number.was c.loop-place.self-inside.up.1 c.loop-place.invariant.above).fields.below
+    (has_next _ _ _ _ _ _ _ _ c.in_ok-number.was c.loop-place.self-inside.up.1
+    c.loop-place.invariant.above).fields.below
 
 pub id_places-self-inside-requires-clause-within :
     goal.id_places-self-inside-requires-clause-within
@@ -44,7 +56,8 @@ id_places-self-inside-requires-clause-within g c =
 
 pub next_of-self-inside-requires : goal.next_of-self-inside-requires
 next_of-self-inside-requires g c =
-    (has_next _ _ _ _ _ _ _ _ c.in_ok-number.was c.loop-place.self-inside.up.1 c.loop-place.invariant.above).fields.has_fate
+    (has_next _ _ _ _ _ _ _ _ c.in_ok-number.was c.loop-place.self-inside.up.1
+    c.loop-place.invariant.above).fields.has_fate
 
 pub invariant_of-self-inside-in-loop-place : goal.invariant_of-self-inside-in-loop-place
 invariant_of-self-inside-in-loop-place g c =
@@ -53,7 +66,8 @@ invariant_of-self-inside-in-loop-place g c =
 
 pub loop-place-smaller : goal.loop-place-smaller
 loop-place-smaller g c =
-    fewer_above _ _ _ _ _ _ _ _ _ (has_next _ _ _ _ _ _ _ _ c.in_ok-number.was c.loop-place.self-inside.up.1 c.loop-place.invariant.above) c.next_of-self-inside.ensures (search rules)
+    fewer_above _ _ _ _ _ _ _ _ _ (has_next _ _ _ _ _ _ _ _ c.in_ok-number.was c.loop-place.self-inside.up.1
+    c.loop-place.invariant.above) c.next_of-self-inside.ensures (search rules)
 
 pub loop-place-preserved : goal.loop-place-preserved
 loop-place-preserved g c =

@@ -1,4 +1,6 @@
-use Rattle.std.proofs.Common.{List, [], ap, arith, length, length-append, slice_index, subst, sym, ℕ, ◌++◌, ◌<◌, ◌∷◌, ◌≡◌}
+-- Before the beginning of a bucket are the pairs of the earlier ones, so the next is looked for from there on.
+use Rattle.std.proofs.Common.{List, [], ap, arith, length, length-append, slice_index, subst, sym, ℕ, ◌++◌, ◌<◌, ◌∷◌}
+use Rattle.std.proofs.Common.{◌≡◌}
 use Rattle.heap_graph.specs.working.IndexBeginnings.{IsBeginning, bucket_of}
 use Rattle.heap_graph.specs.working.IndexPairs.{id_at}
 use Rattle.heap_graph.proofs.IndexBuckets.{one_more}
@@ -14,7 +16,15 @@ loop-bucket-preserved g c =
     let pushed : c.push.new.self.items ≡ starts ++ c.start_of-at.result ∷ [] = c.in_ok-push.ensures.items in
     record {
       within = c.start_of-at.ensures.within;
-      passed = λ k h. let less : bucket_of least shift (id_at pairs k) < bucket = c.start_of-at.ensures.before k h in omega (arith, less);
-      count = omega (arith, ap (λ (xs : List ℕ). length xs) pushed, length-append starts (c.start_of-at.result ∷ []), c.loop-bucket.invariant.count);
-      each = λ b h. subst (λ (xs : List ℕ). IsBeginning pairs least shift b (slice_index xs b)) (sym pushed) (one_more pairs least shift bucket c.start_of-at.result starts c.loop-bucket.invariant.count c.start_of-at.ensures c.loop-bucket.invariant.each b h);
+      passed = λ k h. let less : bucket_of least shift (id_at pairs k) < bucket = c.start_of-at.ensures.before k h in
+          omega (arith, less);
+      count = omega (
+        arith,
+        ap (λ (xs : List ℕ). length xs) pushed,
+        length-append starts (c.start_of-at.result ∷ []),
+        c.loop-bucket.invariant.count,
+      );
+      each = λ b h. subst (λ (xs : List ℕ). IsBeginning pairs least shift b (slice_index xs b)) (sym pushed)
+          (one_more pairs least shift bucket c.start_of-at.result starts c.loop-bucket.invariant.count
+          c.start_of-at.ensures c.loop-bucket.invariant.each b h);
     }

@@ -1,3 +1,4 @@
+-- Each bucket so far has its beginning, and the pairs that were passed are in those buckets.
 use Rattle.std.proofs.Common.{length, slice_index, ◌<◌, ◌≡◌, ◌≤◌, ℕ}
 use Rattle.heap_graph.specs.working.IndexBeginnings.{IsBeginning, bucket_of}
 use Rattle.heap_graph.specs.working.IndexPairs.{id_at}

@@ -1,3 +1,4 @@
+-- To sort pairs loses none, and each has its number beside it, so sorted they are of the same identifiers.
 use Rattle.std.proofs.Common.{List, ap, subst, sym, vec_capacity, ℕ, ◌∙◌}
 use Rattle.heap_graph.specs.working.IndexBeginnings.{AreBeginnings}
 use Rattle.heap_graph.specs.working.IndexPairs.{Numbering}

@@ -1,3 +1,4 @@
+-- There is a pair for each identifier, so where there is room for an identifier there is room for its pair.
 use Rattle.std.proofs.Common.{ap, arith, length}
 use Rattle.std.proofs.lemmas.List.{length-map}
 use Rattle.heap_graph.specs.working.IndexPairs.{Numbering}

@@ -1,21 +1,23 @@
 -- What each object misses, and what the roots miss, make up the number of the histogram.
-use Rattle.std.proofs.Common.{Bool, List, [], ap, arith, cond, count_by, get_or, length, refl, suc, sum_by, sym, zero, ⊎_elim, ℕ, ◌+◌, ◌^◌, ◌∙◌, ◌∷◌, ◌≡◌, ◌≤◌}
+use Rattle.std.proofs.Common.{Bool, List, [], ap, arith, cond, count_by, get_or, length, refl, suc, sum_by, sym, zero}
+use Rattle.std.proofs.Common.{⊎_elim, ℕ, ◌+◌, ◌^◌, ◌∙◌, ◌∷◌, ◌≡◌, ◌≤◌}
 use Rattle.std.specs.List.{concat, range_with_len}
 use Rattle.std.proofs.lemmas.Bool.{cases_lt}
 use Rattle.std.proofs.lemmas.List.{get_or_past}
 use Rattle.std.proofs.lemmas.List.Sums.{sum_by-append, sum_by-cons}
 use Rattle.std.proofs.lemmas.Option.{slice_get-get_or}
 use Rattle.hprof_grammar.specs.Record.{Record}
-use Rattle.hprof_grammar.specs.SubRecord.{SubRecord}
+use Rattle.hprof_grammar.specs.SubRecord.{Class, Member, SubRecord}
 use Rattle.heap_graph.specs.Heap.{heap_of, objects}
 use Rattle.heap_graph.specs.ObjectGraph.{IsGraphOf, ObjectGraph, object_count}
-use Rattle.heap_graph.specs.Whole.{missing_of, missing_roots}
+use Rattle.heap_graph.specs.Whole.{unresolved_among, unresolved_roots}
 use Rattle.heap_graph.specs.References.{is_unresolved}
 use Rattle.heap_graph.specs.Roots.{root_ids}
-use Rattle.heap_graph.specs.Walks.{is_missing}
+use Rattle.heap_graph.specs.Skips.{SkipEntry}
+use Rattle.heap_graph.specs.Walks.{is_unresolved_in}
 use Rattle.heap_graph.proofs.Answering.{slice_get_of}
 use Rattle.heap_graph.proofs.HeldLists.{HoldLists}
-use Rattle.heap_graph.proofs.Targets.{same_missing}
+use Rattle.heap_graph.proofs.Targets.{same_unresolved}
 
 -- ---- a sum over lists, by their numbers
 
@@ -59,37 +61,42 @@ sum-by_number f (ids ∷ lists) =
 
 -- ---- both parts
 
-pub roots_missing : (s : ℕ) (records : List Record) (g : ObjectGraph) → IsGraphOf s records g
-    → missing_roots g ≡ count_by (is_unresolved (heap_of records)) (root_ids (heap_of records))
-roots_missing s records g graph =
-    same_missing (heap_of records) g.ids g.root_names graph.ids_are ∙ ap
+pub roots_unresolved : (s : ℕ) (records : List Record) (skip : List SkipEntry) (g : ObjectGraph)
+    → IsGraphOf s records skip g
+    → unresolved_roots g ≡ count_by (is_unresolved (heap_of records)) (root_ids (heap_of records))
+roots_unresolved s records skip g graph =
+    same_unresolved (heap_of records) g.ids g.root_names graph.ids_are ∙ ap
     (λ (ids : List ℕ). count_by (is_unresolved (heap_of records)) ids) graph.root_names_are
 
-objects_missing : (s : ℕ) (records : List Record) (g : ObjectGraph) → IsGraphOf s records g
-    → count_by (is_unresolved (heap_of records)) (concat g.held) ≡ missing_of g (range_with_len 0 (length g.held))
-objects_missing s records g graph =
-    sym (same_missing (heap_of records) g.ids (concat g.held) graph.ids_are) ∙ count-concat (is_missing g.ids) g.held
-    ∙ sum-by_number (λ (ids : List ℕ). count_by (is_missing g.ids) ids) g.held
+objects_unresolved : (s : ℕ) (records : List Record) (skip : List SkipEntry) (g : ObjectGraph)
+    → IsGraphOf s records skip g
+    → count_by (is_unresolved (heap_of records)) (concat g.held) ≡ unresolved_among g (range_with_len 0 (length g.held))
+objects_unresolved s records skip g graph =
+    sym (same_unresolved (heap_of records) g.ids (concat g.held) graph.ids_are)
+    ∙ count-concat (is_unresolved_in g.ids) g.held
+    ∙ sum-by_number (λ (ids : List ℕ). count_by (is_unresolved_in g.ids) ids) g.held
 
-pub parts_missing : (s : ℕ) (records : List Record) (g : ObjectGraph) → IsGraphOf s records g
-    → length g.held ≡ object_count g → g.unresolved ≡ missing_of g (range_with_len 0 (object_count g)) + missing_roots g
-parts_missing s records g graph each =
+pub parts_unresolved : (s : ℕ) (records : List Record) (skip : List SkipEntry) (g : ObjectGraph)
+    → IsGraphOf s records skip g
+    → length g.held ≡ object_count g
+    → g.unresolved ≡ unresolved_among g (range_with_len 0 (object_count g)) + unresolved_roots g
+parts_unresolved s records skip g graph each =
     omega (
       arith,
       graph.unresolved_is,
       sum_by-append (λ x. cond (is_unresolved (heap_of records) x) 1 0) (concat g.held)
           (root_ids (heap_of records)),
-      objects_missing s records g graph,
+      objects_unresolved s records skip g graph,
       ap
-          (λ (n : ℕ). missing_of g (range_with_len 0 n)) each,
-      roots_missing s records g graph,
+          (λ (n : ℕ). unresolved_among g (range_with_len 0 n)) each,
+      roots_unresolved s records skip g graph,
     )
 
 -- ---- no list is too long
 
-pub few_held : (s : ℕ) (heap : List SubRecord) (held : HoldLists s heap) (n : ℕ)
+pub few_held : (skips : Class → Member → Bool) (s : ℕ) (heap : List SubRecord) (held : HoldLists skips s heap) (n : ℕ)
     → length (get_or held.lists n []) ≤ 2 ^ 33
-few_held s heap held n = ⊎_elim
+few_held skips s heap held n = ⊎_elim
     (λ l.
     let object = slice_get_of (objects heap) n (omega (arith, l, held.one_each)) in
     (held.each n object.0 (get_or held.lists n []) object.1 (slice_get-get_or held.lists n [] l)).few)

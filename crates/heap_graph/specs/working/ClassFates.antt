@@ -1,16 +1,16 @@
--- What is told of the classes of a dump: their table and their fates.
+-- The classes of a dump in their table, and their fates.
 use Rattle.std.specs.Prelude.{List, length, ◌<◌, ◌^◌}
 use Rattle.hprof_grammar.specs.Standing.{Sight}
 use Rattle.hprof_grammar.specs.SubRecord.{SubRecord}
 use Rattle.heap_graph.specs.declared.classes.fate.Fate.{Fate}
 use Rattle.heap_graph.specs.declared.objects.Objects.{Objects}
 use Rattle.heap_graph.specs.working.Chains.{AreSettled}
-use Rattle.heap_graph.specs.working.ClassTable.{AreClasses, Entry, ids_of}
+use Rattle.heap_graph.specs.working.ClassTable.{AreClasses, TableEntry, ids_of}
 
-pub record AreTold (v : Sight) (heap : List SubRecord) (entries : List Entry) (fates : List Fate) : Type 0 where
+pub record HaveFates (v : Sight) (heap : List SubRecord) (entries : List TableEntry) (fates : List Fate) : Type 0 where
   pub classes : AreClasses v heap entries
   pub settled : AreSettled v.id_size heap (ids_of entries) fates
   pub few : length entries < 2 ^ 32
 
-abbrev pub AreToldOf : {A : Type 0} → Objects A → List SubRecord → Type 0
-AreToldOf o heap = AreTold o.view heap o.classes.table.entries o.fates.items
+abbrev pub HaveFatesOf : {A : Type 0} → Objects A → List SubRecord → Type 0
+HaveFatesOf o heap = HaveFates o.view heap o.classes.table.entries o.fates.items

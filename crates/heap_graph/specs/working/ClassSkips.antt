@@ -1,0 +1,30 @@
+-- Which fields of one class are on the list of those that are not followed.
+use Rattle.std.specs.Prelude.{Bool, List, Option, [], option_copied, ℕ, ◌&&◌, ◌≡◌, ◌⊎◌}
+use Rattle.std.specs.List.{list_any}
+use Rattle.hprof_grammar.specs.Record.{Record}
+use Rattle.hprof_grammar.specs.SubRecord.{Member}
+use Rattle.heap_graph.specs.ClassNames.{class_text, string_named}
+use Rattle.heap_graph.specs.Skips.{SkipEntry, is_text}
+use Rattle.heap_graph.specs.working.PlacedNames.{AreNamesByIdOf}
+use Rattle.heap_graph.specs.declared.skip.class_skips.ClassSkips.{ClassSkips}
+
+-- an entry of the list has that text for the class
+abbrev pub names_class : Option (List ℕ) → SkipEntry → Bool
+names_class class e = is_text class e.class
+
+-- an entry of the list has that text for the class, and for the field the string of that identifier
+abbrev pub names_field : List Record → Option (List ℕ) → ℕ → SkipEntry → Bool
+names_field records class name e = is_text class e.class && is_text (string_named records name) e.field
+
+-- what `is_skipped` is for a class of that identifier
+abbrev pub is_skipped_in : List Record → List SkipEntry → ℕ → Member → Bool
+is_skipped_in records skip class m = list_any (names_field records (class_text records class) m.name) skip
+
+-- The test says of each field of a class whether it is on the list. The text that names the class is not looked up
+-- where the list is empty.
+pub record IsSkipTest {A : Type 0} (k : ClassSkips A) (test : Member → Bool) : Type 0 where
+  pub records : List Record
+  pub class : ℕ
+  pub names : AreNamesByIdOf k.names.now records
+  pub text : (k.entries.now ≡ []) ⊎ (option_copied k.class ≡ class_text records class)
+  pub test_is : test ≡ is_skipped_in records k.entries.now class
