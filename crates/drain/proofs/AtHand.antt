@@ -1,15 +1,18 @@
 -- What a worker with its pair has after each call.
-use Rattle.std.proofs.Common.{◌≡◌, ◌≢◌, ℕ, ◌<◌, List, [], ◌∷◌, ◌++◌, All, Contains, false, get_or, if◌then◌else◌, ◌==◌, cond, eq-eqb, ne_eqb, ap, sym, refl, subst, ◌∙◌, inl, inr, ⊎_elim, arith}
-use Rattle.std.proofs.lemmas.List.Elements.{All-from_get_or, Contains-append_cases, Contains-append_left, Contains-get_or, Contains-push, Contains-push_cases}
+use Rattle.std.proofs.Common.{◌≡◌, ◌≢◌, ℕ, ◌<◌, List, [], ◌∷◌, ◌++◌, All, Contains, false, get_or, if◌then◌else◌, ◌==◌}
+use Rattle.std.proofs.Common.{cond, eq-eqb, ne_eqb, ap, sym, refl, subst, ◌∙◌, inl, inr, ⊎_elim, arith}
+use Rattle.std.proofs.lemmas.List.Elements.{All-from_get_or, Contains-append_cases, Contains-append_left}
+use Rattle.std.proofs.lemmas.List.Elements.{Contains-get_or, Contains-push, Contains-push_cases}
 use Rattle.mark_core.specs.Lists.{times, only}
 use Rattle.mark_core.specs.World.{Setup}
 use Rattle.mark_core.specs.Account.{Account}
 use Rattle.mark_core.specs.Event.{CanClaim, CanFinish, IsBusy}
-use Rattle.mark_core.proofs.Sums.{only-same, stands_times, times-remove_one, times_stands, total-append}
+use Rattle.mark_core.proofs.Sums.{only-same, stands_times, times-remove_one, times_stands, sum_of-append}
 use Rattle.buffer_pool.specs.Book.{Book, claimed, finished}
 use Rattle.buffer_pool.specs.Calls.{Holder}
 use Rattle.work_pair.specs.Deals.{Deals}
-use Rattle.work_pair.specs.Places.{AreOfSize, IsBacked, IsOpen, Places, buffered_items, items_of, no_places, without_spill}
+use Rattle.work_pair.specs.PairState.{AreOfSize, IsBacked, IsOpen, PairState, buffered_items, pair_items, empty_pair}
+use Rattle.work_pair.specs.PairState.{without_spill}
 use Rattle.work_pair.proofs.Calls.{none_last}
 use Rattle.drain.specs.working.AtWork.{AreClaimed, CameFrom, GoesOn, HasAtHand, IsAtWork, IsFree, MayClaim, WorksOn}
 
@@ -46,7 +49,8 @@ works a b on = record { came = on.came; idle = on.idle }
 
 -- who has the share and the idle number of a busy one is busy
 pub busy_on : (a b : Account) → b.share ≡ a.share → b.idle ≡ a.idle → IsBusy a → IsBusy b
-busy_on a b share idle busy = ⊎_elim (λ several. inl (λ one. several (sym share ∙ one))) (λ awake. inr (idle ∙ awake)) busy
+busy_on a b share idle busy = ⊎_elim (λ several. inl (λ one. several (sym share ∙ one)))
+    (λ awake. inr (idle ∙ awake)) busy
 
 -- a list in which nothing stands is empty
 pub nothing : (xs : List ℕ) → ((o : ℕ) → times o xs ≡ 0) → xs ≡ []
@@ -58,7 +62,7 @@ pub only_member : (a o : ℕ) → Contains (a ∷ []) o → a ≡ o
 only_member a o h = ⊎_elim (λ e. absurd (omega (arith, e.1))) (λ e. e) (Contains-push_cases [] a o h)
 
 -- a free worker before it has a pair
-pub free_hand : (w : Holder) → IsFree w → HasAtHand no_places [] w
+pub free_hand : (w : Holder) → IsFree w → HasAtHand empty_pair [] w
 free_hand w free = record {
   going = record { going = refl; third = refl };
   sized = record { first = tt; second = tt; third = tt };
@@ -67,7 +71,8 @@ free_hand w free = record {
 }
 
 -- a pair without items has as much at hand without its spill list
-pub hand_without_spill : (p : Places) (w : Holder) → items_of p ≡ [] → HasAtHand p [] w → HasAtHand (without_spill p) [] w
+pub hand_without_spill : (p : PairState) (w : Holder) → pair_items p ≡ [] → HasAtHand p [] w
+    → HasAtHand (without_spill p) [] w
 hand_without_spill p w none hand = record {
   going = record { going = hand.going.going; third = hand.going.third };
   sized = record { first = hand.sized.first; second = hand.sized.second; third = hand.sized.third };
@@ -77,7 +82,7 @@ hand_without_spill p w none hand = record {
 }
 
 -- and once its pair is gone
-pub gone_free : (w : Holder) → HasAtHand no_places [] w → w.book.account.open_push ≡ false → IsFree w
+pub gone_free : (w : Holder) → HasAtHand empty_pair [] w → w.book.account.open_push ≡ false → IsFree w
 gone_free w hand closed = record {
   held = nothing w.book.account.held hand.held;
   charge = nothing w.book.account.charge (λ o. hand.charge o);
@@ -85,14 +90,15 @@ gone_free w hand closed = record {
 }
 
 -- the worker holds the buffers of its pair, and answers for the items and for what it puts
-pub backs : (p : Places) (put rest : List ℕ) (w : Holder) → HasAtHand p (put ++ rest) w → IsBacked p put w.book
+pub backs : (p : PairState) (put rest : List ℕ) (w : Holder) → HasAtHand p (put ++ rest) w → IsBacked p put w.book
 backs p put rest w hand = record {
   held = λ i. omega (arith, hand.held i);
-  charged = λ o. omega (arith, hand.charge o, total-append (only o) (items_of p) put, total-append (only o) put rest);
+  charged = λ o. omega
+      (arith, hand.charge o, sum_of-append (only o) (pair_items p) put, sum_of-append (only o) put rest);
   sized = hand.sized;
 }
 
-module _ (old : Places) (before : Holder) (put got : List ℕ) (new : Places) (after : Holder)
+module _ (old : PairState) (before : Holder) (put got : List ℕ) (new : PairState) (after : Holder)
     (deals : Deals old before.book put got new after.book) where
   -- what was put is in the pair, or went with a buffer of it, and what was got is not
   pub dealt_hand : (rest : List ℕ) → IsOpen new → HasAtHand old (put ++ rest) before
@@ -102,8 +108,8 @@ module _ (old : Places) (before : Holder) (put got : List ℕ) (new : Places) (a
     sized = deals.backed.sized;
     held = λ i. omega (arith, deals.held i, deals.buffers i, was.held i);
     charge = λ o.
-        let puts = total-append (only o) put rest in
-        let gets = total-append (only o) got rest in
+        let puts = sum_of-append (only o) put rest in
+        let gets = sum_of-append (only o) got rest in
         omega (arith, deals.charge o, deals.items o, was.charge o, puts, gets);
   }
 
@@ -127,7 +133,8 @@ module _ (old : Places) (before : Holder) (put got : List ℕ) (new : Places) (a
   }
 
 -- what may be claimed by what the worker has at hand
-pub can_claim : (p : Places) (besides : List ℕ) (w : Holder) (o : ℕ) → HasAtHand p besides w → MayClaim w.book.setup besides o → CanClaim w.book.setup o w.book.account
+pub can_claim : (p : PairState) (besides : List ℕ) (w : Holder) (o : ℕ) → HasAtHand p besides w
+    → MayClaim w.book.setup besides o → CanClaim w.book.setup o w.book.account
 can_claim p besides w o hand may = ⊎_elim inl
     (λ by.
     let here = stands_times besides by.0 by.1 in
@@ -141,7 +148,8 @@ module _ (old new : Holder) (pool : new.pool ≡ old.pool) (o found : ℕ) (is :
   setup_is : new.book.setup ≡ old.book.setup
   setup_is = ap (λ (c : Book). c.setup) is
 
-  charge_is : new.book.account.charge ≡ (if found == 0 then old.book.account.charge ++ o ∷ [] else old.book.account.charge)
+  charge_is : new.book.account.charge
+      ≡ (if found == 0 then old.book.account.charge ++ o ∷ [] else old.book.account.charge)
   charge_is = ap (λ (c : Book). c.account.charge) is
 
   share_is : new.book.account.share ≡ old.book.account.share
@@ -167,23 +175,36 @@ module _ (old new : Holder) (pool : new.pool ≡ old.pool) (o found : ℕ) (is :
   claimed_busy = busy_on old.book.account new.book.account share_is idle_is
 
   pub saw_it : (x : ℕ) → Contains (o ∷ []) x → Contains new.book.account.seen x
-  saw_it x h = subst (λ xs. Contains xs x) (sym seen_is) (subst (Contains (old.book.account.seen ++ o ∷ [])) (only_member o x h) (Contains-push old.book.account.seen o))
+  saw_it x h = subst (λ xs. Contains xs x) (sym seen_is)
+      (subst (Contains (old.book.account.seen ++ o ∷ [])) (only_member o x h) (Contains-push old.book.account.seen o))
 
   -- a white object is answered for
-  pub white_at_hand : found ≡ 0 → (p : Places) (besides : List ℕ) → HasAtHand p besides old → HasAtHand p (o ∷ besides) new
+  pub white_at_hand : found ≡ 0 → (p : PairState) (besides : List ℕ) → HasAtHand p besides old
+      → HasAtHand p (o ∷ besides) new
   white_at_hand white p besides was =
-      let charge : new.book.account.charge ≡ old.book.account.charge ++ o ∷ [] = charge_is ∙ ap (λ t. cond t (old.book.account.charge ++ o ∷ []) old.book.account.charge) (eq-eqb found 0 white) in
+      let charge : new.book.account.charge ≡ old.book.account.charge ++ o ∷ [] =
+      charge_is ∙ ap (λ t. cond t (old.book.account.charge ++ o ∷ []) old.book.account.charge)
+      (eq-eqb found 0 white) in
       record {
         going = was.going;
         sized = subst (λ (e : Setup). AreOfSize e.size p) (sym setup_is) was.sized;
         held = λ i. ap (λ (c : Book). times i c.account.held) is ∙ was.held i;
-        charge = λ x. omega (arith, ap (times x) charge, total-append (only x) old.book.account.charge (o ∷ []), total-append (only x) (o ∷ []) besides, was.charge x);
+        charge = λ x. omega (
+          arith,
+          ap (times x) charge,
+          sum_of-append (only x) old.book.account.charge (o ∷ []),
+          sum_of-append (only x) (o ∷ []) besides,
+          was.charge x,
+        );
       }
 
   -- a marked one is not
-  pub marked_at_hand : found ≢ 0 → (p : Places) (besides : List ℕ) → HasAtHand p besides old → HasAtHand p besides new
+  pub marked_at_hand : found ≢ 0 → (p : PairState) (besides : List ℕ) → HasAtHand p besides old
+      → HasAtHand p besides new
   marked_at_hand marked p besides was =
-      let charge : new.book.account.charge ≡ old.book.account.charge = charge_is ∙ ap (λ t. cond t (old.book.account.charge ++ o ∷ []) old.book.account.charge) (ne_eqb found 0 marked) in
+      let charge : new.book.account.charge ≡ old.book.account.charge =
+      charge_is ∙ ap (λ t. cond t (old.book.account.charge ++ o ∷ []) old.book.account.charge)
+      (ne_eqb found 0 marked) in
       record {
         going = was.going;
         sized = subst (λ (e : Setup). AreOfSize e.size p) (sym setup_is) was.sized;
@@ -191,7 +212,7 @@ module _ (old new : Holder) (pool : new.pool ≡ old.pool) (o found : ℕ) (is :
         charge = λ x. ap (times x) charge ∙ was.charge x;
       }
 
-  pub marked_claimed : found ≢ 0 → (p : Places) → AreClaimed (o ∷ []) p old p new
+  pub marked_claimed : found ≢ 0 → (p : PairState) → AreClaimed (o ∷ []) p old p new
   marked_claimed marked p = record {
     goes_on = claimed_goes_on;
     saw = saw_it;
@@ -199,7 +220,8 @@ module _ (old new : Holder) (pool : new.pool ≡ old.pool) (o found : ℕ) (is :
         record { hand = marked_at_hand marked p besides was.hand; busy = claimed_busy was.busy };
   }
 
-  pub white_claimed : found ≡ 0 → (p q : Places) (end : Holder) → end.pool ≡ new.pool → Deals p new.book (o ∷ []) [] q end.book → IsOpen q → AreClaimed (o ∷ []) p old q end
+  pub white_claimed : found ≡ 0 → (p q : PairState) (end : Holder) → end.pool ≡ new.pool
+      → Deals p new.book (o ∷ []) [] q end.book → IsOpen q → AreClaimed (o ∷ []) p old q end
   white_claimed white p q end same deals going =
       let on = dealt_goes_on p new (o ∷ []) [] q end deals same in
       record {
@@ -212,7 +234,7 @@ module _ (old new : Holder) (pool : new.pool ≡ old.pool) (o found : ℕ) (is :
             dealt p new (o ∷ []) [] q end deals besides going claimed;
       }
 
-pub none_claimed : (p : Places) (w : Holder) → AreClaimed [] p w p w
+pub none_claimed : (p : PairState) (w : Holder) → AreClaimed [] p w p w
 none_claimed p w = record {
   goes_on = goes_on_at_all w;
   saw = λ o h. absurd (omega (arith, h.1));
@@ -220,7 +242,8 @@ none_claimed p w = record {
 }
 
 -- some objects, and then others
-pub more_claimed : (xs ys : List ℕ) (p q r : Places) (a b c : Holder) → AreClaimed xs p a q b → AreClaimed ys q b r c → AreClaimed (xs ++ ys) p a r c
+pub more_claimed : (xs ys : List ℕ) (p q r : PairState) (a b c : Holder) → AreClaimed xs p a q b → AreClaimed ys q b r c
+    → AreClaimed (xs ++ ys) p a r c
 more_claimed xs ys p q r a b c first next = record {
   goes_on = goes_on_again a b c first.goes_on next.goes_on;
   saw = λ o h.
@@ -229,11 +252,12 @@ more_claimed xs ys p q r a b c first next = record {
 }
 
 -- the scanned object may be finished once all that it refers to was claimed, and then it is no longer at hand
-module _ (o : ℕ) (p : Places) (mid : Holder) (at_work : IsAtWork p (o ∷ []) mid) where
+module _ (o : ℕ) (p : PairState) (mid : Holder) (at_work : IsAtWork p (o ∷ []) mid) where
   charged : 0 < times o mid.book.account.charge
   charged = omega (arith, at_work.hand.charge o, only-same o o refl)
 
-  pub may_finish : ((s : ℕ) → Contains mid.book.setup.pairs (o, s) → Contains mid.book.account.seen s) → CanFinish mid.book.setup o mid.book.account
+  pub may_finish : ((s : ℕ) → Contains mid.book.setup.pairs (o, s) → Contains mid.book.account.seen s)
+      → CanFinish mid.book.setup o mid.book.account
   may_finish saw = (times_stands mid.book.account.charge o charged, saw)
 
   pub scanned : (new : Holder) → new.pool ≡ mid.pool → new.book ≡ finished o mid.book
@@ -265,10 +289,13 @@ module _ (o : ℕ) (p : Places) (mid : Holder) (at_work : IsAtWork p (o ∷ []) 
       )
 
 -- all that the scanned object refers to may be claimed
-pub all_claimable : (o : ℕ) (nexts : List ℕ) (e : Setup) → ((s : ℕ) → Contains nexts s → Contains e.pairs (o, s)) → All (MayClaim e (o ∷ [])) nexts
-all_claimable o nexts e pairs = All-from_get_or (MayClaim e (o ∷ [])) nexts 0 (λ k inside. inr (o, Contains-push [] o, pairs (get_or nexts k 0) (Contains-get_or nexts k 0 inside)))
+pub all_claimable : (o : ℕ) (nexts : List ℕ) (e : Setup) → ((s : ℕ) → Contains nexts s → Contains e.pairs (o, s))
+    → All (MayClaim e (o ∷ [])) nexts
+all_claimable o nexts e pairs =
+    All-from_get_or (MayClaim e (o ∷ [])) nexts 0
+    (λ k inside. inr (o, Contains-push [] o, pairs (get_or nexts k 0) (Contains-get_or nexts k 0 inside)))
 
 -- an object that was got
-pub got_is_object : (o : ℕ) (p : Places) (w : Holder) → IsAtWork p (o ∷ []) w
+pub got_is_object : (o : ℕ) (p : PairState) (w : Holder) → IsAtWork p (o ∷ []) w
     → ((x : ℕ) → Contains w.book.account.charge x → x < w.book.setup.objects) → o < w.book.setup.objects
 got_is_object o p w at_work within = within o (times_stands w.book.account.charge o (charged o p w at_work))

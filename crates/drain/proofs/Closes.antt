@@ -1,5 +1,6 @@
 -- The marks at the close are exactly at the reachable objects.
-use Rattle.std.proofs.Common.{◌≡◌, ◌↔◌, false, ℕ, zero, suc, ◌≤◌, List, [], ◌∷◌, map, slice_index, Contains, ap, sym, subst, ◌∙◌, leb-true, le-leb, arith}
+use Rattle.std.proofs.Common.{◌≡◌, ◌↔◌, false, ℕ, zero, suc, ◌≤◌, List, [], ◌∷◌, map, slice_index, Contains, ap, sym}
+use Rattle.std.proofs.Common.{subst, ◌∙◌, leb-true, le-leb, arith}
 use Rattle.std.proofs.lemmas.Bool.{false≢true}
 use Rattle.std.proofs.lemmas.List.{length-map}
 use Rattle.mark_core.specs.World.{Setup, Marking}
@@ -23,7 +24,15 @@ marked_where_set (m ∷ marks) (suc o) = marked_where_set marks o
 
 -- the setup of a book that a pool for this graph opened with
 pub opened_setup : (g : ObjectGraph) (buffers size first_tag units : ℕ) (b : Book)
-    → b ≡ new_book (record { objects = object_count g; buffers = buffers; size = size; first_tag = first_tag; roots = g.roots; pairs = pairs_of g }) units
+    → let e : Setup = record {
+      objects = object_count g;
+      buffers = buffers;
+      size = size;
+      first_tag = first_tag;
+      roots = g.roots;
+      pairs = pairs_of g;
+    } in
+    b ≡ new_book e units
     → IsSetupOf (object_count g) g.roots (pairs_of g) b.setup
 opened_setup g buffers size first_tag units b is = record {
   objects = ap (λ (c : Book). c.setup.objects) is;
@@ -33,10 +42,12 @@ opened_setup g buffers size first_tag units b is = record {
 
 module _ (g : ObjectGraph) (e : Setup) (setup : IsSetupOf (object_count g) g.roots (pairs_of g) e) where
   -- a path of the setup is one of the graph
-  pub path_there : (back : List ℕ) (o : ℕ) → colours.Leads e back o → IsReachable (IsRootOf g) (IsReferenceOf g) o
-  path_there [] o root = root_reachable (IsRootOf g) (IsReferenceOf g) o (subst (λ (rs : List ℕ). Contains rs o) setup.roots root)
+  pub path_there : (back : List ℕ) (o : ℕ) → colours.IsPathTo e back o → IsReachable (IsRootOf g) (IsReferenceOf g) o
+  path_there [] o root = root_reachable (IsRootOf g) (IsReferenceOf g) o
+      (subst (λ (rs : List ℕ). Contains rs o) setup.roots root)
   path_there (p ∷ back) o leads =
-      next_reachable (IsRootOf g) (IsReferenceOf g) p o (path_there back p leads.1) ((pair_is_reference g p o).1 (subst (λ (ps : List (ℕ × ℕ)). Contains ps (p, o)) setup.pairs leads.0))
+      next_reachable (IsRootOf g) (IsReferenceOf g) p o (path_there back p leads.1)
+      ((pair_is_reference g p o).1 (subst (λ (ps : List (ℕ × ℕ)). Contains ps (p, o)) setup.pairs leads.0))
 
   pub exactly_marked :
       (w : Holder) (last : Marking) (marks : List ℕ) → w.book.setup ≡ e → w.book.account.open_push ≡ false → SawRoots w
@@ -54,15 +65,18 @@ module _ (g : ObjectGraph) (e : Setup) (setup : IsSetupOf (object_count g) g.roo
       closed : (a b : ℕ) → holds a → IsReferenceOf g a b → holds b
       closed a b here refers =
           let pair : Contains (pairs_of g) (a, b) = (pair_is_reference g a b).0 refers in
-          let there : Contains w.book.setup.pairs (a, b) = subst (λ (ps : List (ℕ × ℕ)). Contains ps (a, b)) (sym (ap (λ (s : Setup). s.pairs) made ∙ setup.pairs)) pair in
+          let there : Contains w.book.setup.pairs (a, b) =
+          subst (λ (ps : List (ℕ × ℕ)). Contains ps (a, b)) (sym (ap (λ (s : Setup). s.pairs) made ∙ setup.pairs))
+          pair in
           tells.successors a b (tells.emptied closed_push a here) there
 
       roots : (o : ℕ) → IsRootOf g o → holds o
       roots o root =
-          let there : Contains w.book.setup.roots o = subst (λ (rs : List ℕ). Contains rs o) (sym (ap (λ (s : Setup). s.roots) made ∙ setup.roots)) root in
+          let there : Contains w.book.setup.roots o =
+          subst (λ (rs : List ℕ). Contains rs o) (sym (ap (λ (s : Setup). s.roots) made ∙ setup.roots)) root in
           tells.seen o (saw o there)
 
       sound : (o : ℕ) → holds o → IsReachable (IsRootOf g) (IsReferenceOf g) o
       sound o here =
-          let path = subst (λ (s : Setup). colours.IsReachable s o) made (tells.reachable o here) in
+          let path = subst (λ (s : Setup). colours.IsReachableIn s o) made (tells.reachable o here) in
           path_there path.0 o path.1

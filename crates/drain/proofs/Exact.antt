@@ -4,7 +4,8 @@ use Rattle.heap_graph.specs.Reachable.{IsReachable, LeadsTo}
 
 module _ (is_root : ℕ → Type 0) (refers : ℕ → ℕ → Type 0) where
   -- a path goes on by one more reference
-  leads_on : (a : ℕ) (path : List ℕ) (b c : ℕ) → LeadsTo refers a path b → refers b c → LeadsTo refers a (path ++ c ∷ []) c
+  leads_on : (a : ℕ) (path : List ℕ) (b c : ℕ) → LeadsTo refers a path b → refers b c
+      → LeadsTo refers a (path ++ c ∷ []) c
   leads_on a [] b c same next = (subst (λ x. refers x c) (sym same) next, refl)
   leads_on a (d ∷ path) b c leads next = (leads.0, leads_on d path b c leads.1 next)
 
@@ -25,5 +26,7 @@ module _ (is_root : ℕ → Type 0) (refers : ℕ → ℕ → Type 0) where
     ends_within a [] b here same = subst holds same here
     ends_within a (c ∷ path) b here leads = ends_within c path b (closed a c here leads.0) leads.1
 
-    pub exactly_reachable : ((o : ℕ) → is_root o → holds o) → ((o : ℕ) → holds o → IsReachable is_root refers o) → (o : ℕ) → holds o ↔ IsReachable is_root refers o
-    exactly_reachable roots sound o = (sound o, λ path. ends_within path.first path.path o (roots path.first path.root) path.leads)
+    pub exactly_reachable : ((o : ℕ) → is_root o → holds o) → ((o : ℕ) → holds o → IsReachable is_root refers o)
+        → (o : ℕ) → holds o ↔ IsReachable is_root refers o
+    exactly_reachable roots sound o =
+        (sound o, λ path. ends_within path.first path.path o (roots path.first path.root) path.leads)

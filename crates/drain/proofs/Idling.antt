@@ -1,31 +1,32 @@
 -- A worker that goes idle, looks at the idle word and at the full stack, and comes back.
-use Rattle.std.proofs.Common.{◌≡◌, ℕ, ◌*◌, ◌+◌, Bool, true, false, List, [], ◌&&◌, ◌||◌, Contains, is_none, is_some, ap, inr, sym, refl, subst, ◌∙◌, arith}
+use Rattle.std.proofs.Common.{◌≡◌, ℕ, ◌*◌, ◌+◌, Bool, true, false, List, [], ◌&&◌, ◌||◌, Contains, is_none, is_some, ap}
+use Rattle.std.proofs.Common.{inr, sym, refl, subst, ◌∙◌, arith}
 use Rattle.mark_core.specs.Event.{CanIdle}
 use Rattle.mark_core.specs.Lists.{times}
 use Rattle.mark_core.specs.World.{Setup}
 use Rattle.mark_core.specs.declared.which.Which.TheVariants.{Full}
 use Rattle.buffer_pool.specs.Book.{Book, idle_loaded, idled, loaded, woken}
 use Rattle.buffer_pool.specs.Calls.{Holder, Sees}
-use Rattle.work_pair.specs.Places.{AreOfSize, Places, items_of}
+use Rattle.work_pair.specs.PairState.{AreOfSize, PairState, pair_items}
 use Rattle.drain.specs.working.AtWork.{CameFrom, HasAtHand, HasNoneLeft, IsAtWork}
 use Rattle.drain.specs.working.Idle.{IsAwake, IsIdling, IsStill}
 use Rattle.drain.proofs.AtHand.{came_again, came_at_all, nothing}
 
 -- a worker without items may go idle
-pub may_idle : (p : Places) (w : Holder) → IsAwake w → HasAtHand p [] w → HasNoneLeft p w → CanIdle w.book.account
+pub may_idle : (p : PairState) (w : Holder) → IsAwake w → HasAtHand p [] w → HasNoneLeft p w → CanIdle w.book.account
 may_idle p w awake hand none =
     let uncharged = nothing w.book.account.charge (λ o. omega (arith, hand.charge o, ap (times o) none.0)) in
     (awake.share, awake.idle, uncharged, none.2)
 
 -- and one that is not idle is at work
-pub awake_at_work : (p : Places) (w : Holder) → IsAwake w → HasAtHand p [] w → IsAtWork p [] w
+pub awake_at_work : (p : PairState) (w : Holder) → IsAwake w → HasAtHand p [] w → IsAtWork p [] w
 awake_at_work p w awake hand = record { hand = hand; busy = inr awake.idle }
 
 -- it has its pair still, and nothing in it
-module _ (p q : Places) (begun w : Holder) (same : q ≡ p) (still : IsStill begun w) where
+module _ (p q : PairState) (begun w : Holder) (same : q ≡ p) (still : IsStill begun w) where
   pub hand_still : HasAtHand p [] begun → HasAtHand q [] w
   hand_still was =
-      subst (λ (r : Places). HasAtHand r [] w) (sym same) (record {
+      subst (λ (r : PairState). HasAtHand r [] w) (sym same) (record {
         going = was.going;
         sized = subst (λ (e : Setup). AreOfSize e.size p) (sym still.came.setup) was.sized;
         held = λ i. ap (times i) still.held ∙ was.held i;
@@ -33,7 +34,7 @@ module _ (p q : Places) (begun w : Holder) (same : q ≡ p) (still : IsStill beg
       })
 
   pub none_still : HasNoneLeft p begun → HasNoneLeft q w
-  none_still was = (ap items_of same ∙ was.0, still.open_push, still.found)
+  none_still was = (ap pair_items same ∙ was.0, still.open_push, still.found)
 
 module _ (begun old new : Holder) (pool : new.pool ≡ old.pool) where
   -- a book that differs in none of these
@@ -97,7 +98,7 @@ module _ (begun old new : Holder) (pool : new.pool ≡ old.pool) where
     }
 
 -- it goes idle
-pub goes_idle : (p : Places) (old new : Holder) → new.pool ≡ old.pool → new.book ≡ idled old.book → IsAwake old
+pub goes_idle : (p : PairState) (old new : Holder) → new.pool ≡ old.pool → new.book ≡ idled old.book → IsAwake old
     → HasNoneLeft p old → IsIdling old 0 new
 goes_idle p old new pool is awake none =
     let still : IsStill old old =

@@ -4,15 +4,22 @@ use Rattle.std.proofs.lemmas.List.Elements.{Contains-append_left}
 use Rattle.mark_core.specs.Event.{IsBusy}
 use Rattle.mark_core.specs.Lists.{times, only}
 use Rattle.mark_core.specs.World.{Setup}
-use Rattle.mark_core.proofs.Sums.{total-append}
+use Rattle.mark_core.proofs.Sums.{sum_of-append}
 use Rattle.buffer_pool.specs.Book.{Book, joined, new_book, parted}
 use Rattle.buffer_pool.specs.Calls.{Holder}
-use Rattle.work_pair.specs.Places.{AreOfSize, Places}
+use Rattle.work_pair.specs.PairState.{AreOfSize, PairState}
 use Rattle.drain.specs.working.AtWork.{HasAtHand, IsAtWork, IsFree, Leads}
 use Rattle.drain.specs.working.Idle.{IsAwake}
 
 pub leads_at_all : (w : Holder) → Leads w w
-leads_at_all w = record { pool = refl; setup = refl; seen = λ o h. h; held = λ i. refl; charge = λ o. refl; pushed = refl }
+leads_at_all w = record {
+  pool = refl;
+  setup = refl;
+  seen = λ o h. h;
+  held = λ i. refl;
+  charge = λ o. refl;
+  pushed = refl;
+}
 
 pub leads_again : (a b c : Holder) → Leads a b → Leads b c → Leads a c
 leads_again a b c s t = record {
@@ -36,18 +43,30 @@ gave_away old new units pool is = record {
 }
 
 -- it took in a worker that is free
-pub took_in : (old other new : Holder) → new.pool ≡ old.pool → new.book ≡ joined old.book other.book → IsFree other → Leads old new
+pub took_in : (old other new : Holder) → new.pool ≡ old.pool → new.book ≡ joined old.book other.book → IsFree other
+    → Leads old new
 took_in old other new pool is free = record {
   pool = pool;
   setup = ap (λ (b : Book). b.setup) is;
-  seen = λ o h. subst (λ (xs : List ℕ). Contains xs o) (sym (ap (λ (b : Book). b.account.seen) is)) (Contains-append_left old.book.account.seen other.book.account.seen o h);
-  held = λ i. omega (arith, ap (λ (b : Book). times i b.account.held) is, total-append (only i) old.book.account.held other.book.account.held, ap (times i) free.held);
-  charge = λ o. omega (arith, ap (λ (b : Book). times o b.account.charge) is, total-append (only o) old.book.account.charge other.book.account.charge, ap (times o) free.charge);
+  seen = λ o h. subst (λ (xs : List ℕ). Contains xs o) (sym (ap (λ (b : Book). b.account.seen) is))
+      (Contains-append_left old.book.account.seen other.book.account.seen o h);
+  held = λ i. omega (
+    arith,
+    ap (λ (b : Book). times i b.account.held) is,
+    sum_of-append (only i) old.book.account.held other.book.account.held,
+    ap (times i) free.held,
+  );
+  charge = λ o. omega (
+    arith,
+    ap (λ (b : Book). times o b.account.charge) is,
+    sum_of-append (only o) old.book.account.charge other.book.account.charge,
+    ap (times o) free.charge,
+  );
   pushed = ap (λ (b : Book). b.account.pushed) is;
 }
 
 -- its pair is its pair still
-leads_hand : (p : Places) (old new : Holder) → Leads old new → HasAtHand p [] old → HasAtHand p [] new
+leads_hand : (p : PairState) (old new : Holder) → Leads old new → HasAtHand p [] old → HasAtHand p [] new
 leads_hand p old new leads was = record {
   going = was.going;
   sized = subst (λ (e : Setup). AreOfSize e.size p) (sym leads.setup) was.sized;
@@ -60,7 +79,7 @@ pub several_busy : (w : Holder) → 1 < w.book.account.share → IsBusy w.book.a
 several_busy w several = inl (λ one. omega (arith, several, one))
 
 -- and it goes on with its work once it has several units again
-pub leads_on : (p : Places) (old new : Holder) → Leads old new → 1 < new.book.account.share → HasAtHand p [] old
+pub leads_on : (p : PairState) (old new : Holder) → Leads old new → 1 < new.book.account.share → HasAtHand p [] old
     → IsAtWork p [] new
 leads_on p old new leads several was =
     record { hand = leads_hand p old new leads was; busy = several_busy new several }

@@ -1,6 +1,7 @@
 pub mod AtHand
 pub mod Closes
 pub mod Counts
+pub mod Duties
 pub mod Each
 pub mod Exact
 pub mod Idling

@@ -7,7 +7,7 @@ use Rattle.std.proofs.lemmas.Bool.{cases_lt}
 use Rattle.std.proofs.lemmas.List.{get_or_past, length-map}
 use Rattle.mark_core.proofs.Chosen.{AreThose, IsOnce, chosen_sums}
 use Rattle.heap_graph.specs.ObjectGraph.{ObjectGraph, bytes_at, class_count, object_count, row_at}
-use Rattle.heap_graph.specs.Whole.{IsRowIn, IsWhole, missing_at}
+use Rattle.heap_graph.specs.Whole.{IsRowIn, IsWhole, unresolved_at}
 use Rattle.heap_graph.specs.declared.row.RowKey.{RowKey}
 use Rattle.heap_graph.specs.declared.row.RowKey.TheVariants as keys
 use Rattle.buffer_pool.specs.Book.{Book}
@@ -16,15 +16,15 @@ use Rattle.mark_core.specs.World.{Marking}
 use Rattle.drain.specs.Marks.{IsMarkingOf, is_set}
 use Rattle.drain.specs.Totals.{marked_objects, of_row, total}
 use Rattle.drain.specs.declared.sum.Sum.{Sum}
-use Rattle.drain.specs.working.Measures.{measure_of, row_place, told_at, told_of}
+use Rattle.drain.specs.working.Measures.{measure_of, row_place, sum_at, sum_of_row}
 use Rattle.drain.specs.working.Tallies.{IsTallyOf, no_object, sum_in}
 use Rattle.drain.proofs.Closes.{marked_where_set}
 use Rattle.drain.proofs.Passing.{passing_count, passing_sum}
 use Rattle.drain.proofs.Places.{in_or_not, none_of_row, place_within, row_there, same_place}
 
-module _ (g : ObjectGraph) (whole : IsWhole g) (objects : List ℕ) (marks : List Bool) (rows : List Sum) (missing : ℕ)
+module _ (g : ObjectGraph) (whole : IsWhole g) (objects : List ℕ) (marks : List Bool) (rows : List Sum) (unresolved : ℕ)
     (once : IsOnce objects) (those : AreThose (λ o. slice_index_or marks o false) (object_count g) objects)
-    (tally : IsTallyOf (measure_of g) objects rows missing) where
+    (tally : IsTallyOf (measure_of g) objects rows unresolved) where
   abbrev marked : List ℕ
   marked = marked_objects g marks
 
@@ -37,7 +37,7 @@ module _ (g : ObjectGraph) (whole : IsWhole g) (objects : List ℕ) (marks : Lis
       → filter (λ o. row_place (row_at g o) == row_place row) marked ≡ of_row g row marked
   of_place row here = λ k. filter (λ o. sym (same_place g row (row_at g o) here (row_there g whole o)) k) marked
 
-  told_in : (row : RowKey) → IsRowIn g row → told_at rows (row_place row) ≡ total g (of_row g row marked)
+  told_in : (row : RowKey) → IsRowIn g row → sum_at rows (row_place row) ≡ total g (of_row g row marked)
   told_in row here = λ k. (count k, bytes k)
     where
       place : ℕ
@@ -61,16 +61,16 @@ module _ (g : ObjectGraph) (whole : IsWhole g) (objects : List ℕ) (marks : Lis
           ∙ ap (sum_by (bytes_at g)) (of_place row here)
 
   -- of a row of the graph that is what stands at its place
-  told_row : (row : RowKey) → IsRowIn g row → told_of rows row ≡ told_at rows (row_place row)
+  told_row : (row : RowKey) → IsRowIn g row → sum_of_row rows row ≡ sum_at rows (row_place row)
   told_row (keys.Class n) here = refl
   told_row (keys.Primitive t) here =
       let from = le-leb 4 t here.0 in
       let up = le-leb t 11 here.1 in
-      (λ k. cond (from k && nat_le t 11) (told_at rows (row_place (keys.Primitive t))) (0, 0))
-      ∙ (λ k. cond (up k) (told_at rows (row_place (keys.Primitive t))) (0, 0))
+      (λ k. cond (from k && nat_le t 11) (sum_at rows (row_place (keys.Primitive t))) (0, 0))
+      ∙ (λ k. cond (up k) (sum_at rows (row_place (keys.Primitive t))) (0, 0))
   told_row keys.ClassObject here = refl
 
-  none_told : (row : RowKey) → (IsRowIn g row → ⊥) → told_of rows row ≡ (0, 0)
+  none_told : (row : RowKey) → (IsRowIn g row → ⊥) → sum_of_row rows row ≡ (0, 0)
   none_told (keys.Class n) not_in =
       let past : length rows ≤ 9 + n =
       ⊎_elim (λ low. absurd (not_in low)) (λ h. omega (arith, h, tally.each)) (cases_lt n (class_count g))
@@ -79,7 +79,7 @@ module _ (g : ObjectGraph) (whole : IsWhole g) (objects : List ℕ) (marks : Lis
   none_told (keys.Primitive t) not_in = go (nat_le 4 t) (nat_le t 11) refl refl
     where
       there : ℕ × ℕ
-      there = told_at rows (t - 4)
+      there = sum_at rows (t - 4)
 
       go : (a b : Bool) → nat_le 4 t ≡ a → nat_le t 11 ≡ b → cond (a && b) there (0, 0) ≡ (0, 0)
       go true true from up = absurd (not_in (leb-true 4 t from, leb-true t 11 up))
@@ -89,17 +89,17 @@ module _ (g : ObjectGraph) (whole : IsWhole g) (objects : List ℕ) (marks : Lis
 
   pub tallied_marking :
       length marks ≡ object_count g
-      → IsMarkingOf g (record { marks = marks; sums = rows; unresolved = missing })
+      → IsMarkingOf g (record { marks = marks; sums = rows; unresolved = unresolved })
   tallied_marking one_each = record {
     one_each = one_each;
     tallies = λ row. ⊎_elim (in_graph row) (outside row) (in_or_not g row);
-    unresolved_is = tally.missing_is ∙ same_sum (missing_at g);
+    unresolved_is = tally.unresolved_is ∙ same_sum (unresolved_at g);
   }
     where
-      in_graph : (row : RowKey) → IsRowIn g row → told_of rows row ≡ total g (of_row g row marked)
+      in_graph : (row : RowKey) → IsRowIn g row → sum_of_row rows row ≡ total g (of_row g row marked)
       in_graph row here = told_row row here ∙ told_in row here
 
-      outside : (row : RowKey) → (IsRowIn g row → ⊥) → told_of rows row ≡ total g (of_row g row marked)
+      outside : (row : RowKey) → (IsRowIn g row → ⊥) → sum_of_row rows row ≡ total g (of_row g row marked)
       outside row not_in = none_told row not_in ∙ ap (total g) (sym (none_of_row g whole row not_in marked))
 
 -- the finished list at the close has the marked objects
@@ -125,8 +125,8 @@ module _ (g : ObjectGraph) (b : Book) (last : Marking) (marks : List ℕ) (ends 
           (set, below)
 
   pub marking_of :
-      IsWhole g → (rows : List Sum) (missing : ℕ) → IsTallyOf (measure_of g) b.account.finished rows missing
-      → IsMarkingOf g (record { marks = map is_set marks; sums = rows; unresolved = missing })
-  marking_of whole rows missing tally =
-      tallied_marking g whole b.account.finished (map is_set marks) rows missing ends.once finished_are_marked tally
+      IsWhole g → (rows : List Sum) (unresolved : ℕ) → IsTallyOf (measure_of g) b.account.finished rows unresolved
+      → IsMarkingOf g (record { marks = map is_set marks; sums = rows; unresolved = unresolved })
+  marking_of whole rows unresolved tally =
+      tallied_marking g whole b.account.finished (map is_set marks) rows unresolved ends.once finished_are_marked tally
       (length-map marks is_set ∙ ends.count ∙ objects)

@@ -1,16 +1,20 @@
 -- What a loop over an iterator of objects has met, where each run gives a known list.
-use Rattle.std.proofs.Common.{[], ◌∷◌, ◌++◌, All, List, None, Option, Some, length, map-id, refl, subst, sym, ℕ, ◌≡◌, ◌∙◌}
+use Rattle.std.proofs.Common.{[], ◌∷◌, ◌++◌, All, List, None, Option, Some, length, map-id, refl, subst, sym, ℕ, ◌≡◌}
+use Rattle.std.proofs.Common.{◌∙◌}
 use Rattle.std.specs.Iterator.{AlwaysYields, Yields}
 use Rattle.std.proofs.lemmas.Iterator.{YieldsList}
 use Rattle.std.proofs.lemmas.Iterator.Consumers.{YieldsList-end, YieldsList-turn}
 
-module _ {S : Type 0} (steps : S → Option ℕ → S → Type 0) (s start t : S) (from : start ≡ s) (given : List ℕ) (always : AlwaysYields steps (λ (o : ℕ). o) s given) (met : List ℕ) (run : Yields steps start met t) where
+module _ {S : Type 0} (steps : S → Option ℕ → S → Type 0) (s start t : S) (from : start ≡ s) (given : List ℕ)
+    (always : AlwaysYields steps (λ (o : ℕ). o) s given) (met : List ℕ) (run : Yields steps start met t) where
   list : YieldsList steps (λ (o : ℕ). o) start given
   list = record { runs = subst (λ x. AlwaysYields steps (λ (o : ℕ). o) x given) (sym from) always }
 
   -- what holds of the whole list holds of the object met now
   pub holds_of_next : (P : ℕ → Type 0) → All P given → (r : Option ℕ) (u : S) (o : ℕ) → r ≡ Some o → steps t r u → P o
-  holds_of_next P all r u o is step = let turn = YieldsList-turn list met t run r u o is step in subst P (sym turn.1) (all (length met) o turn.0)
+  holds_of_next P all r u o is step =
+      let turn = YieldsList-turn list met t run r u o is step in
+      subst P (sym turn.1) (all (length met) o turn.0)
 
   -- at the end the whole list was met
   pub met_all : (r : Option ℕ) (u : S) → r ≡ None → steps t r u → met ≡ given

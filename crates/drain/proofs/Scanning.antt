@@ -16,19 +16,20 @@ pub scan_fits :
 scan_fits m count o s rows bounded below scan each = omega (arith, scan.row, bounded.within o below, each)
 
 module _ (m : Measure) (count : ℕ) (bounded : IsMeasureOf count m) (o : ℕ) (old mid end : Holder) (rows : List Sum)
-    (missing : ℕ) (kept : mid.book.account.finished ≡ old.book.account.finished)
+    (unresolved : ℕ) (kept : mid.book.account.finished ≡ old.book.account.finished)
     (objects : mid.book.setup.objects ≡ count) (is : end.book ≡ finished o mid.book)
     (few : length end.book.account.finished ≤ end.book.setup.objects)
-    (was : IsTallyOf m old.book.account.finished rows missing) where
-  pub tally_before : IsTallyOf m mid.book.account.finished rows missing
-  tally_before = subst (λ (xs : List ℕ). IsTallyOf m xs rows missing) (sym kept) was
+    (was : IsTallyOf m old.book.account.finished rows unresolved) where
+  pub tally_before : IsTallyOf m mid.book.account.finished rows unresolved
+  tally_before = subst (λ (xs : List ℕ). IsTallyOf m xs rows unresolved) (sym kept) was
 
   pub finished_is : end.book.account.finished ≡ mid.book.account.finished ++ o ∷ []
   finished_is = ap (λ (b : Book). b.account.finished) is
 
-  pub small_before : IsSmall rows missing
+  pub small_before : IsSmall rows unresolved
   small_before =
       let setup = ap (λ (b : Book). b.setup.objects) is in
       let longer = length_push mid.book.account.finished o in
-      let short : length mid.book.account.finished ≤ count = omega (arith, ap (λ (xs : List ℕ). length xs) finished_is, longer, few, setup, objects) in
-      tally_is_small count m bounded mid.book.account.finished short rows missing tally_before
+      let short : length mid.book.account.finished ≤ count =
+      omega (arith, ap (λ (xs : List ℕ). length xs) finished_is, longer, few, setup, objects) in
+      tally_is_small count m bounded mid.book.account.finished short rows unresolved tally_before

@@ -3,7 +3,7 @@ use Rattle.std.proofs.Common.{◌≡◌, ◌≢◌, ◌<◌, ◌≤◌, ℕ, Lis
 use Rattle.std.proofs.Common.{ap, arith, length, refl, subst}
 use Rattle.buffer_pool.specs.Book.{Book}
 use Rattle.work_pair.specs.Deals.{Puts}
-use Rattle.work_pair.specs.Places.{Places, buffered_items, items_of}
+use Rattle.work_pair.specs.PairState.{PairState, buffered_items, pair_items}
 use Rattle.work_pair.specs.declared.stop.Stop.{Stop}
 use Rattle.work_pair.proofs.Calls.{none_first}
 use Rattle.drain.specs.working.Sharing.{PutsAgain}
@@ -22,7 +22,7 @@ none_of [] few = refl
 none_of (x ∷ xs) few = absurd (omega (arith, few))
 
 -- a pair with a spill list has items
-pub spilled_items : (p : Places) → 0 < length p.spill → items_of p ≢ []
+pub spilled_items : (p : PairState) → 0 < length p.spill → pair_items p ≢ []
 spilled_items p some none = omega (arith, some, ap length (none_first p.spill (buffered_items p) none))
 
 abbrev answer_of : Result (Option ℕ) Stop → Option ℕ
@@ -34,7 +34,7 @@ pub same_answer : (got other : Option ℕ) → ◌≡◌ {A = Result (Option ℕ
 same_answer got other told = ap answer_of told
 
 -- where it was got, and put again, that is what is said of it
-pub puts_again : (old middle new : Places) (before between after : Book) (object : ℕ) → 0 < length old.spill
+pub puts_again : (old middle new : PairState) (before between after : Book) (object : ℕ) → 0 < length old.spill
     → ((o : ℕ) (rest : List ℕ) → old.spill ≡ rest ++ o ∷ [] → (object ≡ o) × (middle ≡ record old { spill = rest }))
     → between ≡ before → Puts middle between object new after → PutsAgain old before new after
 puts_again old middle new before between after object some got same puts =
@@ -42,4 +42,4 @@ puts_again old middle new before between after object some got same puts =
     let is = got last.1 last.0 last.2 in
     let its = subst (λ o. Puts middle between o new after) is.0 puts in
     let then = subst (λ (b : Book). Puts middle b last.1 new after) same its in
-    (last.0, last.1, last.2, subst (λ (p : Places). Puts p before last.1 new after) is.1 then)
+    (last.0, last.1, last.2, subst (λ (p : PairState). Puts p before last.1 new after) is.1 then)

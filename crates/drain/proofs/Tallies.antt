@@ -25,7 +25,7 @@ pub none_tallied : (m : Measure) → IsTallyOf m [] (replicate m.rows no_object)
 none_tallied m = record {
   each = length-replicate m.rows no_object;
   right = λ n below. get_or-replicate no_object m.rows n;
-  missing_is = refl;
+  unresolved_is = refl;
 }
 
 -- what one object more does to the sum of a row
@@ -35,7 +35,8 @@ sum_push :
     ≡ record { count = (sum_in m n xs).count + counts m n o; bytes = (sum_in m n xs).bytes + weighs m n o }
 sum_push m n xs o = λ k. record { count = sum_by_push (counts m n) xs o k; bytes = sum_by_push (weighs m n) xs o k }
 
-module _ (m : Measure) (objects : List ℕ) (rows : List Sum) (missing o : ℕ) (was : IsTallyOf m objects rows missing)
+module _ (m : Measure) (objects : List ℕ) (rows : List Sum) (unresolved o : ℕ)
+    (was : IsTallyOf m objects rows unresolved)
     (inside : m.row o < m.rows) where
   abbrev more : List Sum
   more = slice_set rows (m.row o) (one_more (slice_index_or rows (m.row o) no_object) (m.bytes o))
@@ -67,11 +68,11 @@ module _ (m : Measure) (objects : List ℕ) (rows : List Sum) (missing o : ℕ) 
       })
       ∙ sym (sum_push m n objects o)
 
-  pub one_tallied : IsTallyOf m (objects ++ o ∷ []) more (missing + m.missing o)
+  pub one_tallied : IsTallyOf m (objects ++ o ∷ []) more (unresolved + m.unresolved o)
   one_tallied = record {
     each = length-set rows (m.row o) _ ∙ was.each;
     right = right;
-    missing_is = omega (arith, was.missing_is, sum_by_push m.missing objects o);
+    unresolved_is = omega (arith, was.unresolved_is, sum_by_push m.unresolved objects o);
   }
     where
       right : (n : ℕ) → n < m.rows → get_or more n no_object ≡ sum_in m n (objects ++ o ∷ [])
@@ -96,7 +97,7 @@ both_tallied m xs ys a b c p q first second long added = record {
         count = sym (sum_by-append (counts m n) xs ys) k;
         bytes = sym (sum_by-append (weighs m n) xs ys) k;
       });
-  missing_is = omega (arith, first.missing_is, second.missing_is, sum_by-append m.missing xs ys);
+  unresolved_is = omega (arith, first.unresolved_is, second.unresolved_is, sum_by-append m.unresolved xs ys);
 }
 
 at_most : (b : Bool) (x most : ℕ) → x ≤ most → cond b x 0 ≤ most
@@ -110,8 +111,9 @@ module _ (count : ℕ) (m : Measure) (bounded : IsMeasureOf count m) (objects : 
       sum_by-le f most objects (All-from_get_or (λ x. f x ≤ most) objects 0 (λ k inside. small (get_or objects k 0)))
 
   -- the sums of so few objects are small
-  pub tally_is_small : (rows : List Sum) (missing : ℕ) → IsTallyOf m objects rows missing → IsSmall rows missing
-  tally_is_small rows missing is = record {
+  pub tally_is_small : (rows : List Sum) (unresolved : ℕ) → IsTallyOf m objects rows unresolved
+      → IsSmall rows unresolved
+  tally_is_small rows unresolved is = record {
     counts = λ n inside.
         let here = is.right n (omega (arith, inside, is.each)) in
         let sums = few_in (counts m n) 1 (λ o. at_most (m.row o == n) 1 1 (omega arith)) in
@@ -122,6 +124,6 @@ module _ (count : ℕ) (m : Measure) (bounded : IsMeasureOf count m) (objects : 
         λ o. at_most (m.row o == n) (m.bytes o) (2 ^ 30) (bounded.few_bytes o) in
         let sums = few_in (weighs m n) (2 ^ 30) light in
         omega (arith, ap (λ (s : Sum). s.bytes) here, sums, few, bounded.few_objects);
-    few_missing =
-        omega (arith, is.missing_is, few_in m.missing (2 ^ 33) bounded.few_missing, few, bounded.few_objects);
+    few_unresolved =
+        omega (arith, is.unresolved_is, few_in m.unresolved (2 ^ 33) bounded.few_unresolved, few, bounded.few_objects);
   }

@@ -2,8 +2,8 @@
 use Rattle.std.proofs.Common.{◌≡◌, ◌+◌, [], ◌∷◌, ap, arith, List, None, Option, refl, Some, subst, ◌∙◌, ℕ}
 use Rattle.std.specs.Iterator.{Yields, YieldsFirst}
 use Rattle.heap_graph.specs.ObjectGraph.{ObjectGraph, bytes_at, object_count, row_at}
-use Rattle.heap_graph.specs.Whole.{IsWhole, missing_at}
-use Rattle.heap_graph.specs.Walks.{GoesOn, Visited, missing_in, references_left}
+use Rattle.heap_graph.specs.Whole.{IsWhole, unresolved_at}
+use Rattle.heap_graph.specs.Walks.{Advances, Visited, unresolved_left, references_left}
 use Rattle.drain.specs.working.Measures.{measure_of, row_place, scanned_in}
 use Rattle.drain.specs.working.Scans.{IsScanOf}
 use Rattle.drain.specs.working.Tallies.{IsMeasureOf}
@@ -12,39 +12,41 @@ use Rattle.drain.proofs.Places.{place_within}
 
 -- a call of the visit
 abbrev pub visits : Visited → Option ℕ → Visited → Type 0
-visits old object new = YieldsFirst references_left old object new × GoesOn old object new
+visits old object new = YieldsFirst references_left old object new × Advances old object new
 
 -- the row, the bytes, and what is missed in all stay the same
 record IsSameVisit (old new : Visited) : Type 0 where
   row : new.row ≡ old.row
   bytes : new.bytes ≡ old.bytes
-  missing : new.missing + missing_in new.left ≡ old.missing + missing_in old.left
+  unresolved : new.unresolved + unresolved_left new.left ≡ old.unresolved + unresolved_left old.left
 
 one_call : (old : Visited) (object : Option ℕ) (new : Visited) → visits old object new → IsSameVisit old new
-one_call old object new step = record { row = step.1.row_is; bytes = step.1.bytes_is; missing = step.1.missing_is }
+one_call old object new step = record
+    { row = step.1.row_is; bytes = step.1.bytes_is; unresolved = step.1.unresolved_is }
 
 two_calls : (a b c : Visited) → IsSameVisit a b → IsSameVisit b c → IsSameVisit a c
-two_calls a b c s t = record { row = t.row ∙ s.row; bytes = t.bytes ∙ s.bytes; missing = t.missing ∙ s.missing }
+two_calls a b c s t = record
+    { row = t.row ∙ s.row; bytes = t.bytes ∙ s.bytes; unresolved = t.unresolved ∙ s.unresolved }
 
 all_calls : (given : List ℕ) (start last : Visited) → Yields visits start given last → IsSameVisit start last
 all_calls [] start last same =
-    subst (IsSameVisit start) same (record { row = refl; bytes = refl; missing = refl })
+    subst (IsSameVisit start) same (record { row = refl; bytes = refl; unresolved = refl })
 all_calls (o ∷ given) start last run =
     two_calls start run.0 last (one_call start (Some o) run.0 run.1) (all_calls given run.0 last run.2)
 
 pub read_at_end :
     (g : ObjectGraph) (o : ℕ) (start end : Visited) → start.row ≡ row_at g o → start.bytes ≡ bytes_at g o
-    → start.missing + missing_in start.left ≡ missing_at g o → HasEnded visits start end
+    → start.unresolved + unresolved_left start.left ≡ unresolved_at g o → HasEnded visits start end
     → IsScanOf (measure_of g) o (scanned_in end)
-read_at_end g o start end row bytes missing ended =
+read_at_end g o start end row bytes unresolved ended =
     let step = ended.3 in
     let before = all_calls ended.0 start ended.1 ended.2 in
     let all = two_calls start ended.1 end before (one_call ended.1 None end step) in
-    let none : missing_in end.left ≡ 0 = ap missing_in step.1.goes.1 in
+    let none : unresolved_left end.left ≡ 0 = ap unresolved_left step.1.goes.1 in
     record {
       row = ap row_place (all.row ∙ row);
       bytes = all.bytes ∙ bytes;
-      unresolved = omega (arith, all.missing, missing, none);
+      unresolved = omega (arith, all.unresolved, unresolved, none);
     }
 
 -- a graph measures its objects
@@ -53,5 +55,5 @@ measured g whole = record {
   few_objects = whole.few_objects;
   within = λ o below. place_within g (row_at g o) (whole.rows_within o below);
   few_bytes = whole.few_bytes;
-  few_missing = whole.few_missing;
+  few_unresolved = whole.few_unresolved;
 }

@@ -1,3 +1,4 @@
+pub mod ExactlyReachable
 pub mod Marks
 pub mod Options
 pub mod Stops

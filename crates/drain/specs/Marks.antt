@@ -1,11 +1,11 @@
 -- Which marks are those of marked objects, and what is told of these.
 use Rattle.std.specs.Prelude.{Bool, List, length, nat_le, slice_index, ℕ, ◌≡◌, ◌≤◌}
 use Rattle.heap_graph.specs.ObjectGraph.{ObjectGraph, object_count}
-use Rattle.heap_graph.specs.Whole.{missing_of}
+use Rattle.heap_graph.specs.Whole.{unresolved_among}
 use Rattle.heap_graph.specs.declared.row.RowKey.{RowKey}
 use Rattle.drain.specs.Totals.{marked_objects, of_row, total}
 use Rattle.drain.specs.declared.sum.Sum.{Sum}
-use Rattle.drain.specs.working.Measures.{told_of}
+use Rattle.drain.specs.working.Measures.{sum_of_row}
 
 -- a white object has 0, a claimed one 1, and a finished one 2
 abbrev pub is_set : ℕ → Bool
@@ -25,5 +25,5 @@ pub record MarkedObjects : Type 0 where
 -- These are marks of the objects of this graph, and it is these objects that are told of.
 pub record IsMarkingOf (g : ObjectGraph) (m : MarkedObjects) : Type 0 where
   pub one_each : length m.marks ≡ object_count g
-  pub tallies : (row : RowKey) → told_of m.sums row ≡ total g (of_row g row (marked_objects g m.marks))
-  pub unresolved_is : m.unresolved ≡ missing_of g (marked_objects g m.marks)
+  pub tallies : (row : RowKey) → sum_of_row m.sums row ≡ total g (of_row g row (marked_objects g m.marks))
+  pub unresolved_is : m.unresolved ≡ unresolved_among g (marked_objects g m.marks)

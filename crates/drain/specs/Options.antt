@@ -12,7 +12,7 @@ choice workers buffer buffers first_tag =
     record { workers = workers; buffer = buffer; buffers = buffers; first_tag = first_tag }
 
 -- Each value is in its range, and there are two buffers for each worker and two more.
-pub record IsAllowed (c : Choice) : Type 0 where
+pub record IsInRange (c : Choice) : Type 0 where
   pub some_worker : 1 ≤ c.workers
   pub most_workers : c.workers ≤ 64
   pub least_buffer : 2 ≤ c.buffer

@@ -1,6 +1,7 @@
 pub mod AtWork
 pub mod Duties
 pub mod Idle
+pub mod Jobs
 pub mod Measures
 pub mod Pairs
 pub mod RecentlySeen

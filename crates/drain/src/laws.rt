@@ -2,10 +2,10 @@
 
 ghost use Rattle.std.specs.Prelude.{◌≡◌, Bool, List};
 ghost use Rattle.heap_graph.specs.ObjectGraph.{ObjectGraph};
-ghost use Rattle.heap_graph.specs.Reachable.{MarksReachableOf};
+ghost use Rattle.drain.specs.ExactlyReachable.{ExactlyReachable};
 
 /// A graph has one list of marks that are exactly at its reachable objects, whoever sets them and in whatever order.
 pub fn one_marking()
-    ensures { (graph : ObjectGraph) (marks other : List Bool) → MarksReachableOf graph marks
-        → MarksReachableOf graph other → marks ≡ other }
+    ensures { (graph : ObjectGraph) (marks other : List Bool) → ExactlyReachable graph marks
+        → ExactlyReachable graph other → marks ≡ other }
 {}

@@ -1,13 +1,15 @@
 //! The call that marks a graph, and the thread that leads.
+
 ghost use Rattle.std.specs.Prelude.{◌≡◌, ◌<◌, [], IfOk, vec_len};
 ghost use Rattle.mark_core.specs.Shares.{whole};
-ghost use Rattle.heap_graph.specs.Reachable.{MarksReachableOf};
+ghost use Rattle.drain.specs.ExactlyReachable.{ExactlyReachable};
 ghost use Rattle.drain.specs.Marks.{IsMarkingOf};
 ghost use Rattle.drain.specs.working.AtWork.{HasLed, IsFree, IsSetupOf};
 ghost use Rattle.drain.specs.working.Tallies.{Measure};
 ghost use Rattle.drain.specs.working.Tallying.{AreTalliesOfNone, HasTallied};
 
 use crate::gate::Gate;
+use crate::job::Job;
 use crate::marked::{Marked, RunFault};
 use crate::options::Options;
 use crate::paired_worker::PairedWorker;
@@ -29,13 +31,8 @@ mod tests;
 /// Claims the roots and gives them to the workers, runs these, and then scans what is left.
 fn lead<T, A, V, G, S>(
     rt: &T,
-    alloc: A,
-    graph: &V,
-    pool: &Pool<A>,
-    gate: &G,
-    hook: &S,
+    job: &Job<'_, A, V, G, S>,
     leader: Worker<A>,
-    workers: u32,
 ) -> Result<Tallied<A>, RunFault>
 where
     T: Threads + Wait + Sync,
@@ -43,29 +40,25 @@ where
     V: Walk,
     G: Gate,
     S: StartHook,
-    requires pool { leader.pool ≡ pool.now }
-    requires setup { IsSetupOf (V.count graph.now) (V.roots graph.now) (V.pairs graph.now) leader.book.setup }
+    requires pool { leader.pool ≡ job.now.pool.now }
+    requires setup { IsSetupOf (V.count job.now.graph.now) (V.roots job.now.graph.now) (V.pairs job.now.graph.now)
+        leader.book.setup }
     requires free { IsFree leader }
-    requires share { workers < leader.book.account.share }
+    requires share { job.now.workers < leader.book.account.share }
     requires several { 1 < leader.book.account.share }
     requires none { leader.book.account.finished ≡ [] }
     ensures led { IfOk result (λ t. HasLed leader.book.account.share leader t.worker) }
-    ensures tally { IfOk result (λ t. HasTallied (V.measure graph.now) t.worker t.tally) }
+    ensures tally { IfOk result (λ t. HasTallied (V.measure job.now.graph.now) t.worker t.tally) }
 {
-    let threads = Vec::with_capacity(alloc, workers as usize)?;
-    graph.is_measured();
-    let rows = graph.rows();
-    let tallies = tallies_of_none(alloc, workers, rows)?;
-    let tally = Tally::new(alloc, rows)?;
-    let mut paired = PairedWorker::open_or_bare(rt, alloc, pool, leader)?;
-    paired.claim_roots(rt, pool, graph.roots())?;
-    paired.publish(rt, pool)?;
-    let (mut paired, mut tally) = run_workers(
-        rt, alloc, graph, pool, gate, hook, paired, tally, workers, threads, tallies,
-    )?;
-    paired.drain(rt, graph, pool, gate, workers, &mut tally)?;
-    let worker = paired.close(rt, pool)?;
-    Ok(Tallied { worker, tally })
+    let threads = Vec::with_capacity(job.alloc, job.workers as usize)?;
+    job.graph.is_measured();
+    let rows = job.graph.rows();
+    let tallies = tallies_of_none(job.alloc, job.workers, rows)?;
+    let tally = Tally::new(job.alloc, rows)?;
+    let mut paired = PairedWorker::open_or_bare(rt, job.alloc, job.pool, leader)?;
+    paired.begin(rt, job.pool, job.graph.roots())?;
+    let (paired, tally) = run_workers(rt, job, paired, tally, threads, tallies)?;
+    Ok(paired.end(rt, job, tally)?)
 }
 
 /// A tally for each worker, of no object and with so many rows.
@@ -84,11 +77,12 @@ fn tallies_of_none<A: Allocator + Copy>(
     Ok(tallies)
 }
 
-/// Marks the objects that a path of references joins to a root, with a thread for each worker.
+/// Marks the objects that a path of references joins to a root, with a thread for each worker, and calls the gate
+/// before each object is scanned.
 ///
-/// `OutOfMemory`: a growth was refused, before any thread was started, or of the spill list of a worker or the leader.
-/// `TagSpent`: a stack's last tag was loaded where an exchange was due. Of the workers that were refused by one of
-/// these two the one with the least number is told, and the leader last. `WorkerRefused`: a thread could not be
+/// `OutOfMemory`: a request for memory was refused, before any thread was started, or for the spill list of a worker or
+/// the leader. `TagSpent`: a stack's last tag was loaded where an exchange was due. Of the workers that were refused by
+/// one of these two the one with the least number is told, and the leader last. `WorkerRefused`: a thread could not be
 /// started. No thread that it started is left when it answers.
 pub fn mark<T, A, B, G>(
     rt: &T,
@@ -102,13 +96,13 @@ where
     A: Allocator + Copy + Send + Sync,
     B: Allocator + Sync,
     G: Gate,
-    ensures reachable { IfOk result (λ m. MarksReachableOf graph.now m.marks) }
+    ensures exactly_reachable { IfOk result (λ m. ExactlyReachable graph.now m.marks) }
     ensures made { IfOk result (IsMarkingOf graph.now) }
 {
     mark_where(rt, alloc, graph, options, gate, &StartsAll)
 }
 
-/// The same, where the thread of each worker has to be allowed.
+/// Marks as [`mark`] does, where the thread of each worker has to be allowed by a hook.
 pub(crate) fn mark_where<T, A, B, G, S>(
     rt: &T,
     alloc: A,
@@ -123,7 +117,7 @@ where
     B: Allocator + Sync,
     G: Gate,
     S: StartHook,
-    ensures reachable { IfOk result (λ m. MarksReachableOf graph.now m.marks) }
+    ensures exactly_reachable { IfOk result (λ m. ExactlyReachable graph.now m.marks) }
     ensures made { IfOk result (IsMarkingOf graph.now) }
 {
     let workers = options.workers();
@@ -140,7 +134,15 @@ where
         Err(PoolFault::OutOfMemory) => return Err(RunFault::OutOfMemory),
         Err(PoolFault::BadOptions) => unreachable!(),
     };
-    let tallied = lead(rt, alloc, &walked, &pool, gate, hook, leader, workers)?;
+    let job = Job {
+        alloc,
+        graph: &walked,
+        pool: &pool,
+        gate,
+        hook,
+        workers,
+    };
+    let tallied = lead(rt, &job, leader)?;
     let Tallied { worker, tally } = tallied;
     Ok(Marked::new(pool.close(worker), objects, tally))
 }

@@ -1,7 +1,26 @@
 //! Marking the reachable objects of a heap.
+//!
+//! `mark` claims the roots of a graph, starts a thread for each worker, and answers which objects were marked, how many
+//! of each row and their bytes. Its clause `exactly_reachable` is the theorem: what is marked is exactly what a path of
+//! references joins to a root, whatever the number of workers and the order of their steps.
+//!
+//! From `src/leader/tests/memory.rt`, which is proved and run as a test:
+//!
+//!     let options = with_room()?;
+//!     let Some(requests) = marked_with(&rt, alloc, &graph, &options, false) else {
+//!         return Err("it is marked, or want of memory is told".into());
+//!     };
+//!     let heap = LimitedHeap::new(alloc, requests);
+//!     let marked = mark(&rt, &heap, &graph, &options, &NoGate).map_err(|_| "it was marked before")?;
+//!     assert_eq!(rt; heap.requests_left(), 0);
+//!
+//! README.md beside this folder has a table of the calls, and says where to read on; the words stand in
+//! `docs/MARKING.md`.
+
 #![tactic(auto)]
 
 mod gate;
+mod job;
 mod laws;
 mod leader;
 mod marked;

@@ -12,8 +12,8 @@ use work_pair::Stop;
 /// Why a graph was not marked.
 #[derive(Clone, Copy, Debug, PartialEq, Eq, Error)]
 pub enum RunFault {
-    /// A growth was refused: before any thread was started, or of the list of a worker that had an object and found no
-    /// empty buffer for it.
+    /// A request for memory was refused: before any thread was started, or for the list of a worker that had an object
+    /// and found no empty buffer for it.
     #[error("out of memory")]
     OutOfMemory,
     /// A stack's last tag was loaded where an exchange was due.
@@ -49,7 +49,7 @@ impl From<Stop> for RunFault {
     }
 }
 
-/// The marks of a graph's objects, and a tally of those that are marked.
+/// The marks of a graph's objects, and for each row how many of its objects are marked, and their bytes.
 #[derive(Drop)]
 pub struct Marked<A: Allocator> {
     marks: Marks<A>,
@@ -76,7 +76,7 @@ impl<A: Allocator> Marked<A> {
     ghost use Rattle.std.specs.Prelude.{◌≡◌, ◌↔◌, IsTrue, count_by, length, map};
     ghost use Rattle.heap_graph.specs.Reachable.{IsMarked};
     ghost use Rattle.drain.specs.Marks.{AreFinished, MarkedObjects, is_set};
-    ghost use Rattle.drain.specs.working.Measures.{told_of};
+    ghost use Rattle.drain.specs.working.Measures.{sum_of_row};
 
     /// The marks of so many objects, and the tally of those that are marked.
     pub(crate) fn new(marks: Marks<A>, objects: u32, tally: Tally<A>) -> Self
@@ -95,7 +95,7 @@ impl<A: Allocator> Marked<A> {
         }
     }
 
-    /// Whether the object is marked. A number that no object has is not.
+    /// Whether the object of this number is marked: false for a number that no object has.
     pub fn is_marked(&self, object: u32) -> bool
         ensures { IsTrue result ↔ IsMarked self.now.marks object }
     {
@@ -111,7 +111,7 @@ impl<A: Allocator> Marked<A> {
 
     /// How many objects of a row are marked, and their bytes together. Both are 0 for a row that no object has.
     pub fn tally(&self, row: &RowKey) -> (u64, u64)
-        ensures { result ≡ told_of self.now.sums row.now }
+        ensures { result ≡ sum_of_row self.now.sums row.now }
     {
         match *row {
             RowKey::Primitive(code) if !(4..=11).contains(&code) => (0, 0),

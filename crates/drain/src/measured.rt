@@ -4,7 +4,8 @@ use buffer_pool::Edges;
 
 /// A graph of whose objects each has a row and its bytes.
 ///
-/// A trait beside [`Walk`](crate::walk::Walk): what a thread owes is said by it, and may name no type that a graph picks.
+/// A trait beside [`Walk`](crate::walk::Walk), since what a thread owes is said by it and may name no type that a graph
+/// picks.
 pub trait Measured: Edges {
     ghost use Rattle.std.specs.Prelude.{◌≡◌};
     ghost use Rattle.drain.specs.working.Tallies.{IsMeasureOf, Measure};
@@ -12,7 +13,8 @@ pub trait Measured: Edges {
     /// What a tally reads of the objects.
     ghost measure: { Self → Measure };
 
-    /// What each graph keeps: its objects are few, each has a row, and its numbers are small. Nothing is done.
+    /// What each graph keeps, said of this one: its objects are few, each has a row, and its numbers are small. The
+    /// call does nothing.
     fn is_measured(&self)
         ensures { IsMeasureOf (Self.count self.now) (measure self.now) };
 

@@ -8,7 +8,7 @@ use thiserror::Error;
 #[error("an option is out of its range")]
 pub struct BadOptions;
 
-/// How a graph is marked.
+/// How a graph is marked: by how many workers, with how many buffers of how many objects, and from which tag on.
 #[derive(Clone, Copy, Debug, PartialEq, Eq)]
 pub struct Options {
     workers: u32,
@@ -18,13 +18,13 @@ pub struct Options {
 }
 
 impl Model for Options {
-    ghost use Rattle.drain.specs.Options.{Choice, IsAllowed, choice};
+    ghost use Rattle.drain.specs.Options.{Choice, IsInRange, choice};
 
     ghost Value = { Choice };
 
     ghost view = { λ o. choice o.workers o.buffer o.buffers o.first_tag };
 
-    ghost invariant = { λ o. IsAllowed (choice o.workers o.buffer o.buffers o.first_tag) };
+    ghost invariant = { λ o. IsInRange (choice o.workers o.buffer o.buffers o.first_tag) };
 
     ghost inverse = { λ c.
         record { workers = c.workers; buffer = c.buffer; buffers = c.buffers; first_tag = c.first_tag } };
@@ -32,7 +32,7 @@ impl Model for Options {
 
 impl Options {
     ghost use Rattle.std.specs.Prelude.{◌≡◌, ◌↔◌, IfOk, IsOk};
-    ghost use Rattle.drain.specs.Options.{IsAllowed, choice};
+    ghost use Rattle.drain.specs.Options.{IsInRange, choice};
 
     /// The most workers that can be asked for.
     pub const MOST_WORKERS: u32 = 64;
@@ -43,18 +43,18 @@ impl Options {
     /// The most buffers that can be asked for.
     pub const MOST_BUFFERS: u32 = 65_534;
 
-    /// The last tag of a stack's head.
+    /// The last tag of a stack's head, and so the largest first tag.
     pub const LAST_TAG: u64 = 281_474_976_710_655;
 
-    /// Options for 1 to 64 workers, 4 to 65,534 buffers of 2 to 4,096 objects, two for each worker and two more,
-    /// and a first tag of at most 281,474,976,710,655. Any other value is refused.
+    /// Options for 1 to 64 workers, 4 to 65,534 buffers of 2 to 4,096 objects, at least two for each worker and two
+    /// more, and a first tag of at most 281,474,976,710,655. `BadOptions` at any other value.
     pub fn new(
         workers: u32,
         buffer: u32,
         buffers: u32,
         first_tag: u64,
     ) -> Result<Options, BadOptions>
-        ensures allowed { IsOk result ↔ IsAllowed (choice workers buffer buffers first_tag) }
+        ensures allowed { IsOk result ↔ IsInRange (choice workers buffer buffers first_tag) }
         ensures value { IfOk result (λ o. o ≡ choice workers buffer buffers first_tag) }
     {
         let in_range = (1..=Options::MOST_WORKERS).contains(&workers)
@@ -75,7 +75,7 @@ impl Options {
     /// How many threads mark beside the one that calls.
     pub fn workers(&self) -> u32
         ensures value { result ≡ self.now.workers }
-        ensures allowed { IsAllowed self.now }
+        ensures allowed { IsInRange self.now }
     {
         self.workers
     }

@@ -2,6 +2,7 @@
 //! gave to the full stack.
 
 use crate::gate::Gate;
+use crate::job::Job;
 use crate::recently_seen::RecentlySeen;
 use crate::tally::Tally;
 use crate::walk::Walk;
@@ -11,6 +12,7 @@ use std::sync::Wait;
 use work_pair::{Pair, Stop};
 
 mod idle_turns;
+mod leading;
 
 /// A worker and its two buffers.
 #[derive(Drop)]
@@ -25,10 +27,10 @@ impl<A: Allocator> PairedWorker<A> {
     ghost use Rattle.mark_core.specs.Event.{IsBusy};
     ghost use Rattle.mark_core.specs.declared.which.Which.TheVariants.{Empty};
     ghost use Rattle.work_pair.specs.Moves.{WasSeenEmpty};
-    ghost use Rattle.work_pair.specs.Places.{buffered_items};
+    ghost use Rattle.work_pair.specs.PairState.{buffered_items};
     ghost use Rattle.std.specs.Iterator.{AlwaysYields, IsFinite};
     ghost use Rattle.drain.specs.working.AtWork.{AreClaimed, GoesOn, HasAtHand, HasNoneLeft, IsAtWork};
-    ghost use Rattle.drain.specs.working.AtWork.{IsFree, IsSetupOf, IsThrough, MayClaim, SawRoots, WorksOn};
+    ghost use Rattle.drain.specs.working.AtWork.{IsFree, IsSetupOf, IsThrough, MayClaim, WorksOn};
     ghost use Rattle.drain.specs.working.RecentlySeen.{HasSeenAll, IsNoted};
     ghost use Rattle.drain.specs.working.Sharing.{GivesSome, PutsAgain, SharesWork, Unspills};
     ghost use Rattle.drain.specs.working.Tallying.{HasTallied};
@@ -54,7 +56,7 @@ impl<A: Allocator> PairedWorker<A> {
         }
     }
 
-    /// The same, and a bare pair where there were not two.
+    /// A pair for a worker that has none yet, and a bare one where there were not two empty buffers.
     pub(crate) fn open_or_bare<R: Wait>(
         rt: &R,
         alloc: A,
@@ -155,26 +157,6 @@ impl<A: Allocator> PairedWorker<A> {
         Ok(())
     }
 
-    /// Claims each root, and puts those that were white into the pair.
-    pub(crate) fn claim_roots<R: Wait>(
-        &mut self,
-        rt: &R,
-        pool: &Pool<A>,
-        roots: &[u32],
-    ) -> Result<(), Stop>
-        requires pool { self.old.worker.pool ≡ pool.now }
-        requires roots { roots.now ≡ self.old.worker.book.setup.roots }
-        requires at_work { IsAtWork self.old.pair [] self.old.worker }
-        ensures goes_on { OnOk result (GoesOn self.old.worker self.new.worker) }
-        ensures at_work { OnOk result (IsAtWork self.new.pair [] self.new.worker) }
-        ensures saw { OnOk result (SawRoots self.new.worker) }
-    {
-        for root in roots {
-            self.claim(rt, pool, *root)?;
-        }
-        Ok(())
-    }
-
     /// Gives what is in the pair's buffers to others, as far as there are empty ones.
     pub(crate) fn publish<R: Wait>(&mut self, rt: &R, pool: &Pool<A>) -> Result<(), Stop>
         requires pool { self.old.worker.pool ≡ pool.now }
@@ -254,66 +236,62 @@ impl<A: Allocator> PairedWorker<A> {
 
     /// Scans an object of the pair, or of the full stack: claims what it refers to, finishes it, and adds it to the
     /// tally. False where none is left.
-    fn scan_next<R: Wait, V: Walk, G: Gate>(
+    fn scan_next<R: Wait, V: Walk, G: Gate, S>(
         &mut self,
         rt: &R,
-        graph: &V,
-        pool: &Pool<A>,
-        gate: &G,
+        job: &Job<'_, A, V, G, S>,
         number: u32,
         seen: &mut RecentlySeen,
         tally: &mut Tally<A>,
     ) -> Result<bool, Stop>
-        requires pool { self.old.worker.pool ≡ pool.now }
-        requires setup { IsSetupOf (V.count graph.now) (V.roots graph.now) (V.pairs graph.now)
-            self.old.worker.book.setup }
+        requires pool { self.old.worker.pool ≡ job.now.pool.now }
+        requires setup { IsSetupOf (V.count job.now.graph.now) (V.roots job.now.graph.now)
+            (V.pairs job.now.graph.now) self.old.worker.book.setup }
         requires at_work { IsAtWork self.old.pair [] self.old.worker }
         requires seen { HasSeenAll seen.old self.old.worker }
-        requires tally { HasTallied (V.measure graph.now) self.old.worker tally.old }
+        requires tally { HasTallied (V.measure job.now.graph.now) self.old.worker tally.old }
         ensures goes_on { OnOk result (WorksOn self.old.worker self.new.worker) }
         ensures at_work { OnOk result (IsAtWork self.new.pair [] self.new.worker) }
-        ensures tally { OnOk result (HasTallied (V.measure graph.now) self.new.worker tally.new) }
+        ensures tally { OnOk result (HasTallied (V.measure job.now.graph.now) self.new.worker tally.new) }
         ensures seen { OnOk result (HasSeenAll seen.new self.new.worker) }
         ensures none { IfOk result (λ more. more ≡ false → HasNoneLeft self.new.pair self.new.worker) }
     {
-        let Some(object) = self.pair.get(rt, pool, &mut self.worker)? else {
+        let Some(object) = self.pair.get(rt, job.pool, &mut self.worker)? else {
             return Ok(false);
         };
         self.worker.stays_within();
-        gate.before_scan(number, object);
-        let mut visit = graph.visit(object);
-        self.claim_all(rt, pool, seen, &mut visit)?;
-        pool.finish(&mut self.worker, object);
+        job.gate.before_scan(number, object);
+        let mut visit = job.graph.visit(object);
+        self.claim_all(rt, job.pool, seen, &mut visit)?;
+        job.pool.finish(&mut self.worker, object);
         self.worker.has_finished_few();
-        graph.is_measured();
+        job.graph.is_measured();
         tally.add(V::read(&visit));
         Ok(true)
     }
 
     /// Scans until no object is left, and gives to others what it has too much of.
-    pub(crate) fn work_off<R: Wait, V: Walk, G: Gate>(
+    pub(crate) fn work_off<R: Wait, V: Walk, G: Gate, S>(
         &mut self,
         rt: &R,
-        graph: &V,
-        pool: &Pool<A>,
-        gate: &G,
+        job: &Job<'_, A, V, G, S>,
         number: u32,
         tally: &mut Tally<A>,
     ) -> Result<(), Stop>
-        requires pool { self.old.worker.pool ≡ pool.now }
-        requires setup { IsSetupOf (V.count graph.now) (V.roots graph.now) (V.pairs graph.now)
-            self.old.worker.book.setup }
+        requires pool { self.old.worker.pool ≡ job.now.pool.now }
+        requires setup { IsSetupOf (V.count job.now.graph.now) (V.roots job.now.graph.now)
+            (V.pairs job.now.graph.now) self.old.worker.book.setup }
         requires at_work { IsAtWork self.old.pair [] self.old.worker }
-        requires tally { HasTallied (V.measure graph.now) self.old.worker tally.old }
+        requires tally { HasTallied (V.measure job.now.graph.now) self.old.worker tally.old }
         ensures goes_on { OnOk result (WorksOn self.old.worker self.new.worker) }
         ensures at_work { OnOk result (IsAtWork self.new.pair [] self.new.worker) }
-        ensures tally { OnOk result (HasTallied (V.measure graph.now) self.new.worker tally.new) }
+        ensures tally { OnOk result (HasTallied (V.measure job.now.graph.now) self.new.worker tally.new) }
         ensures none { OnOk result (HasNoneLeft self.new.pair self.new.worker) }
     {
         let mut seen = RecentlySeen::new();
         for _ in rt.forever() {
-            self.share(rt, pool)?;
-            if !self.scan_next(rt, graph, pool, gate, number, &mut seen, tally)? {
+            self.share(rt, job.pool)?;
+            if !self.scan_next(rt, job, number, &mut seen, tally)? {
                 return Ok(());
             }
         }
@@ -321,35 +299,33 @@ impl<A: Allocator> PairedWorker<A> {
     }
 
     /// Scans until no object is left.
-    pub(crate) fn drain<R: Wait, V: Walk, G: Gate>(
+    pub(crate) fn drain<R: Wait, V: Walk, G: Gate, S>(
         &mut self,
         rt: &R,
-        graph: &V,
-        pool: &Pool<A>,
-        gate: &G,
+        job: &Job<'_, A, V, G, S>,
         number: u32,
         tally: &mut Tally<A>,
     ) -> Result<(), Stop>
-        requires pool { self.old.worker.pool ≡ pool.now }
-        requires setup { IsSetupOf (V.count graph.now) (V.roots graph.now) (V.pairs graph.now)
-            self.old.worker.book.setup }
+        requires pool { self.old.worker.pool ≡ job.now.pool.now }
+        requires setup { IsSetupOf (V.count job.now.graph.now) (V.roots job.now.graph.now)
+            (V.pairs job.now.graph.now) self.old.worker.book.setup }
         requires at_work { IsAtWork self.old.pair [] self.old.worker }
-        requires tally { HasTallied (V.measure graph.now) self.old.worker tally.old }
+        requires tally { HasTallied (V.measure job.now.graph.now) self.old.worker tally.old }
         ensures goes_on { OnOk result (WorksOn self.old.worker self.new.worker) }
         ensures at_work { OnOk result (IsAtWork self.new.pair [] self.new.worker) }
-        ensures tally { OnOk result (HasTallied (V.measure graph.now) self.new.worker tally.new) }
+        ensures tally { OnOk result (HasTallied (V.measure job.now.graph.now) self.new.worker tally.new) }
         ensures none { OnOk result (HasNoneLeft self.new.pair self.new.worker) }
     {
         let mut seen = RecentlySeen::new();
         for _ in rt.forever() {
-            if !self.scan_next(rt, graph, pool, gate, number, &mut seen, tally)? {
+            if !self.scan_next(rt, job, number, &mut seen, tally)? {
                 return Ok(());
             }
         }
         unreachable!()
     }
 
-    /// Gives the buffers back. The pair has no items.
+    /// Gives the buffers of a pair without items back, and answers its worker.
     pub(crate) fn close<R: Wait>(self, rt: &R, pool: &Pool<A>) -> Result<Worker<A>, Stop>
         requires pool { self.worker.pool ≡ pool.now }
         requires hand { HasAtHand self.pair [] self.worker }

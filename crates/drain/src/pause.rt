@@ -9,7 +9,8 @@ use std::time::Duration;
 /// from those at work.
 const FIRST_NAP: u64 = 50;
 
-/// After so many turns naps are twice as long, three times in all: the longer nobody had work, the longer it may take.
+/// How many turns naps of one length last. Then they are twice as long, three times in all: the longer nobody had work,
+/// the longer it may take.
 const TURNS_OF_A_LENGTH: u32 = 128;
 
 /// Spins at first and then lets other threads run, so that what comes at once is seen at once. Once that has lasted

@@ -3,7 +3,8 @@
 ghost use Rattle.std.specs.Prelude.{◌≡◌, ◌%◌, ◌↔◌, ℕ, IsTrue, slice_set};
 ghost use Rattle.drain.specs.working.RecentlySeen.{IsNoted};
 
-/// A power of two. At 4 bytes an object the table takes 16 KiB, half of a processor's first cache.
+/// How many entries the table has: a power of two. At 4 bytes an object it takes 16 KiB, half of a processor's first
+/// cache.
 const ENTRIES: usize = 4096;
 
 /// A table of objects that the worker saw marked, each at its number modulo the entries: of several with one place it
@@ -23,12 +24,14 @@ impl RecentlySeen {
         RecentlySeen { objects }
     }
 
+    /// Whether the table has the object.
     pub(crate) fn has(&self, object: u32) -> bool
         ensures { IsTrue result ↔ IsNoted self.now object }
     {
         self.objects[object as usize % ENTRIES] == object
     }
 
+    /// Notes an object, in place of the one that has its entry.
     pub(crate) fn note(&mut self, object: u32)
         ensures at { self.new.objects ≡ slice_set self.old.objects (object % 4096) object }
         ensures noted { IsNoted self.new object }

@@ -5,7 +5,7 @@
 pub struct Scanned {
     /// The place of its row in a tally.
     pub row: usize,
-    /// Its bytes, at most 2^30.
+    /// How many bytes it has, at most 2^30.
     pub bytes: u64,
     /// How many of the identifiers that it holds are other than 0 and name no object, at most 2^33.
     pub unresolved: u64,

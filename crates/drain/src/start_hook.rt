@@ -1,12 +1,12 @@
 //! A place where a test refuses to start a worker's thread: the system cannot be made to.
 
 /// Asked before the thread of each worker is started.
-pub(crate) trait StartHook {
+pub(crate) trait StartHook: Sync {
     /// Whether the thread of the worker of this number may be started.
     fn may_start(&self, worker: u32) -> bool;
 }
 
-/// Refuses no thread.
+/// A hook that refuses no thread.
 pub(crate) struct StartsAll;
 
 impl StartHook for StartsAll {

@@ -1,11 +1,14 @@
 //! How many objects there are, and their bytes together.
+
 ghost use Rattle.std.specs.Prelude.{◌≡◌, ◌+◌, ◌^◌, ◌<◌};
 ghost use Rattle.drain.specs.working.Tallies.{no_object, one_more, together};
 
-/// So many objects, and their bytes together.
+/// How many objects there are, and their bytes together.
 #[derive(Clone, Copy)]
 pub(crate) struct Sum {
+    /// How many objects there are.
     pub(crate) count: u64,
+    /// How many bytes they have together.
     pub(crate) bytes: u64,
 }
 

@@ -1,6 +1,7 @@
 //! What a worker counts of the objects that it finished.
+
 ghost use Rattle.std.specs.Prelude.{◌≡◌, ◌<◌, ◌≤◌, ◌^◌, ◌++◌, ◌∷◌, [], ℕ, IfOk, List, length};
-ghost use Rattle.drain.specs.working.Measures.{told_at};
+ghost use Rattle.drain.specs.working.Measures.{sum_at};
 ghost use Rattle.drain.specs.working.Tallying.{HasSmallSums, Tallies};
 ghost use Rattle.drain.specs.working.Tallies.{Measure};
 ghost use Rattle.drain.specs.working.Scans.{IsScanOf};
@@ -12,11 +13,13 @@ use std::alloc::{AllocError, Allocator};
 #[cfg(test)]
 mod tests;
 
-/// Of each row, by its place, how many objects and how many bytes it has, and how many identifiers of all these objects
-/// are other than 0 and name no object.
+/// What is counted of some objects: of each row how many of them it has, and their bytes; and how many of their
+/// identifiers name no object.
 #[derive(Drop)]
 pub(crate) struct Tally<A: Allocator> {
+    /// The sums of the rows, by their places.
     pub(crate) rows: Vec<Sum, A>,
+    /// How many identifiers are other than 0 and name no object.
     pub(crate) unresolved: u64,
 }
 
@@ -63,7 +66,7 @@ impl<A: Allocator> Tally<A> {
 
     /// How many objects the row at that place has, and their bytes together: 0 and 0 where there is no such place.
     pub(crate) fn told_at(&self, place: usize) -> (u64, u64)
-        ensures { result ≡ told_at self.now.rows.items place }
+        ensures { result ≡ sum_at self.now.rows.items place }
     {
         match self.rows.get(place) {
             Some(sum) => (sum.count, sum.bytes),

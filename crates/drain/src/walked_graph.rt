@@ -1,4 +1,5 @@
 //! The graph of a heap dump, as marking walks it.
+
 ghost use Rattle.std.specs.Prelude.{◌≡◌};
 ghost use Rattle.drain.specs.working.Measures as places;
 
@@ -12,13 +13,14 @@ use std::alloc::Allocator;
 /// The rows that every graph has: the eight primitive types, and the class objects.
 const FIXED_ROWS: usize = 9;
 
-/// A graph whose roots and references are walked.
+/// A graph of bytes that live for `'b`, whose roots and references are walked.
 #[derive(Drop)]
-pub(crate) struct WalkedGraph<'a, A: Allocator> {
-    pub(crate) graph: &'a Graph<'a, A>,
+pub(crate) struct WalkedGraph<'a, 'b, A: Allocator> {
+    /// The graph of the dump.
+    pub(crate) graph: &'a Graph<'b, A>,
 }
 
-impl<'a, A: Allocator> Edges for WalkedGraph<'a, A> {
+impl<'a, 'b, A: Allocator> Edges for WalkedGraph<'a, 'b, A> {
     ghost use Rattle.heap_graph.specs.ObjectGraph.{object_count};
     ghost use Rattle.drain.specs.working.Pairs.{pairs_of};
 
@@ -44,7 +46,7 @@ pub(crate) fn row_place(row: RowKey) -> usize
     }
 }
 
-impl<'a, A: Allocator> Measured for WalkedGraph<'a, A> {
+impl<'a, 'b, A: Allocator> Measured for WalkedGraph<'a, 'b, A> {
     ghost use Rattle.drain.specs.working.Measures.{measure_of};
 
     ghost measure = { λ l. measure_of l.graph.now };
@@ -58,7 +60,7 @@ impl<'a, A: Allocator> Measured for WalkedGraph<'a, A> {
     }
 }
 
-impl<'a, A: Allocator + Sync> Walk for WalkedGraph<'a, A> {
+impl<'a, 'b, A: Allocator + Sync> Walk for WalkedGraph<'a, 'b, A> {
     ghost use Rattle.drain.specs.working.Measures.{scanned_in};
 
     type Visit = Visit<'a, A>;
@@ -77,7 +79,7 @@ impl<'a, A: Allocator + Sync> Walk for WalkedGraph<'a, A> {
         Scanned {
             row: row_place(visit.row()),
             bytes: visit.bytes(),
-            unresolved: visit.missing(),
+            unresolved: visit.unresolved(),
         }
     }
 }

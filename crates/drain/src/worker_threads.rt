@@ -1,13 +1,15 @@
 //! A thread for each worker: what it does, how it is started, and how it is joined.
+
 ghost use Rattle.std.specs.Prelude.{◌≡◌, ◌<◌, ◌≤◌, ◌+◌, ◌⊎◌, ℕ, IfErr, IfOk, get_or, vec_capacity, vec_len};
 ghost use Rattle.drain.specs.declared.marked.RunFault.TheVariants as fault;
-ghost use Rattle.drain.specs.working.AtWork.{HasGiven, IsFree, IsSetupOf, IsThrough, Leads};
-ghost use Rattle.drain.specs.working.Duties.{IsDutyUnder};
-ghost use Rattle.drain.specs.working.Idle.{IsAwake};
+ghost use Rattle.drain.specs.working.AtWork.{HasGiven, IsSetupOf, IsThrough, Leads};
+ghost use Rattle.drain.specs.working.Duties.{IsBackUnder, IsDutyUnder};
+ghost use Rattle.drain.specs.working.Jobs.{MayRun, MayWork};
 ghost use Rattle.drain.specs.working.Tallies.{IsMeasureOf};
 ghost use Rattle.drain.specs.working.Tallying.{AreTalliesOfNone, HasTallied, Tallies};
 
 use crate::gate::Gate;
+use crate::job::Job;
 use crate::marked::RunFault;
 use crate::measured::Measured;
 use crate::paired_worker::PairedWorker;
@@ -48,33 +50,25 @@ pub(crate) type Started<A, V> = PromisedHandle<Result<Tallied<A>, Stop>, Duty<A,
 
 /// The work of one worker: it scans until it has nothing left, and stays until all are idle or it waited long enough.
 /// It has none to do where there are not two empty buffers for it.
-fn work<T: Wait, A: Allocator, V: Walk, G: Gate>(
+fn work<T: Wait, A: Allocator + Copy, V: Walk, G: Gate, S>(
     rt: &T,
-    alloc: A,
-    graph: &V,
-    pool: &Pool<A>,
-    gate: &G,
+    job: &Job<'_, A, V, G, S>,
     begun: Tallied<A>,
     number: u32,
-    workers: u32,
 ) -> Result<Tallied<A>, Stop>
-    requires pool { begun.worker.pool ≡ pool.now }
-    requires setup { IsSetupOf (V.count graph.now) (V.roots graph.now) (V.pairs graph.now) begun.worker.book.setup }
-    requires free { IsFree begun.worker }
-    requires awake { IsAwake begun.worker }
-    requires tally { HasTallied (V.measure graph.now) begun.worker begun.tally }
+    requires may { MayWork V.count V.roots V.pairs V.measure job.now begun.worker begun.tally }
     ensures through { IfOk result (λ t. IsThrough begun.worker t.worker) }
-    ensures tally { IfOk result (λ t. HasTallied (V.measure graph.now) t.worker t.tally) }
+    ensures tally { IfOk result (λ t. HasTallied (V.measure job.now.graph.now) t.worker t.tally) }
 {
     let Tallied { worker, mut tally } = begun;
-    let mut paired = match PairedWorker::open(rt, alloc, pool, worker)? {
+    let mut paired = match PairedWorker::open(rt, job.alloc, job.pool, worker)? {
         Ok(paired) => paired,
         Err(worker) => return Ok(Tallied { worker, tally }),
     };
     for _ in rt.forever() {
-        paired.work_off(rt, graph, pool, gate, number, &mut tally)?;
-        if !paired.finds_more(rt, pool, workers) {
-            let worker = paired.close(rt, pool)?;
+        paired.work_off(rt, job, number, &mut tally)?;
+        if !paired.finds_more(rt, job.pool, job.workers) {
+            let worker = paired.close(rt, job.pool)?;
             return Ok(Tallied { worker, tally });
         }
     }
@@ -85,14 +79,9 @@ fn work<T: Wait, A: Allocator, V: Walk, G: Gate>(
 fn start<'s, E, T, A, V, G, S>(
     rt: &'s T,
     scope: &'s Scope<'s, E>,
-    alloc: A,
-    graph: &'s V,
-    pool: &'s Pool<A>,
-    gate: &'s G,
-    hook: &S,
+    job: &'s Job<'s, A, V, G, S>,
     begun: Tallied<A>,
     number: u32,
-    workers: u32,
 ) -> Result<Started<A, V>, RunFault>
 where
     T: Wait + Sync,
@@ -100,32 +89,23 @@ where
     V: Walk,
     G: Gate,
     S: StartHook,
-    requires pool { begun.worker.pool ≡ pool.now }
-    requires setup { IsSetupOf (V.count graph.now) (V.roots graph.now) (V.pairs graph.now) begun.worker.book.setup }
-    requires free { IsFree begun.worker }
-    requires awake { IsAwake begun.worker }
-    requires tally { HasTallied (V.measure graph.now) begun.worker begun.tally }
+    requires may { MayWork V.count V.roots V.pairs V.measure job.now begun.worker begun.tally }
     ensures owes { IfOk result (λ t. t.promise.begun.value ≡ begun.worker) }
-    ensures graph { IfOk result (λ t. t.promise.graph.value ≡ graph.now) }
+    ensures graph { IfOk result (λ t. t.promise.graph.value ≡ job.now.graph.now) }
     ensures refused { IfErr result (λ e. e ≡ fault.WorkerRefused) }
 {
-    if !hook.may_start(number) {
+    if !job.hook.may_start(number) {
         return Err(RunFault::WorkerRefused);
     }
     let duty = Duty {
         begun: Snapshot::of(&begun.worker),
-        graph: Snapshot::of(graph),
+        graph: Snapshot::of(job.graph),
     };
     let run = move || -> Result<Tallied<A>, Stop>
-        requires pool { begun.worker.pool ≡ pool.now }
-        requires setup { IsSetupOf (V.count graph.now) (V.roots graph.now) (V.pairs graph.now)
-            begun.worker.book.setup }
-        requires free { IsFree begun.worker }
-        requires awake { IsAwake begun.worker }
-        requires tally { HasTallied (V.measure graph.now) begun.worker begun.tally }
+        requires may { MayWork V.count V.roots V.pairs V.measure job.now begun.worker begun.tally }
         ensures { IfOk result (λ t. IsThrough begun.worker t.worker
-            × HasTallied (V.measure graph.entry.now) t.worker t.tally) }
-    { work(rt, alloc, graph, pool, gate, begun, number, workers) };
+            × HasTallied (V.measure job.entry.now.graph.now) t.worker t.tally) }
+    { work(rt, job, begun, number) };
     match scope.spawn_with(duty, run) {
         Ok(thread) => Ok(thread),
         Err(_) => Err(RunFault::WorkerRefused),
@@ -137,13 +117,8 @@ where
 fn start_all<'s, E, T, A, V, G, S>(
     rt: &'s T,
     scope: &'s Scope<'s, E>,
-    alloc: A,
-    graph: &'s V,
-    pool: &'s Pool<A>,
-    gate: &'s G,
-    hook: &S,
+    job: &'s Job<'s, A, V, G, S>,
     leader: Worker<A>,
-    workers: u32,
     threads: Vec<Started<A, V>, A>,
     tallies: Vec<Tally<A>, A>,
 ) -> Result<(Worker<A>, Vec<Started<A, V>, A>), RunFault>
@@ -153,39 +128,86 @@ where
     V: Walk,
     G: Gate,
     S: StartHook,
-    requires pool { leader.pool ≡ pool.now }
-    requires setup { IsSetupOf (V.count graph.now) (V.roots graph.now) (V.pairs graph.now) leader.book.setup }
-    requires share { workers < leader.book.account.share }
-    requires room { (vec_len threads ≡ 0) × (workers ≤ vec_capacity threads) }
-    requires tallies { (workers ≤ vec_len tallies) × AreTalliesOfNone (V.measure graph.now) tallies.items }
+    requires pool { leader.pool ≡ job.now.pool.now }
+    requires setup { IsSetupOf (V.count job.now.graph.now) (V.roots job.now.graph.now) (V.pairs job.now.graph.now)
+        leader.book.setup }
+    requires share { job.now.workers < leader.book.account.share }
+    requires room { (vec_len threads ≡ 0) × (job.now.workers ≤ vec_capacity threads) }
+    requires tallies { (job.now.workers ≤ vec_len tallies)
+        × AreTalliesOfNone (V.measure job.now.graph.now) tallies.items }
     ensures leads { IfOk result (λ s. Leads leader s.0) }
     ensures finished { IfOk result (λ s. s.0.book.account.finished ≡ leader.book.account.finished) }
-    ensures share { IfOk result (λ s. s.0.book.account.share + workers ≡ leader.book.account.share) }
-    ensures count { IfOk result (λ s. vec_len s.1 ≡ workers) }
-    ensures threads { IfOk result (λ s. (number : ℕ) (t : _) → number < workers
-        → IsDutyUnder graph.now leader (get_or s.1.items number t).promise) }
+    ensures share { IfOk result (λ s. s.0.book.account.share + job.now.workers ≡ leader.book.account.share) }
+    ensures count { IfOk result (λ s. vec_len s.1 ≡ job.now.workers) }
+    ensures threads { IfOk result (λ s. (number : ℕ) (t : _) → number < job.now.workers
+        → IsDutyUnder job.now.graph.now leader (get_or s.1.items number t).promise) }
     ensures refused { IfErr result (λ e. e ≡ fault.WorkerRefused) }
 {
     let mut leader = leader;
     let mut threads = threads;
     let mut tallies = tallies;
-    for number in 0..workers {
-        let (rest, worker) = pool.split(leader, 1);
+    for number in 0..job.workers {
+        let (rest, worker) = job.pool.split(leader, 1);
         leader = rest;
         let Some(tally) = tallies.pop() else {
             unreachable!();
         };
-        let begun = Tallied { worker, tally };
-        let thread = start(
-            rt, scope, alloc, graph, pool, gate, hook, begun, number, workers,
-        )?;
+        let thread = start(rt, scope, job, Tallied { worker, tally }, number)?;
         threads.push_reserved(thread);
     }
     Ok((leader, threads))
 }
 
-/// Waits for each thread in turn, and puts its worker into the leader, and what it counted into the leader's tally.
-/// Answers at the first worker that was refused.
+/// Puts a worker that is through into the leader, and what it counted into the leader's tally.
+fn put_in<A: Allocator, V: Measured>(
+    graph: &V,
+    pool: &Pool<A>,
+    leader: Tallied<A>,
+    back: Tallied<A>,
+) -> Tallied<A>
+    requires pool { leader.worker.pool ≡ pool.now }
+    requires back { IsBackUnder (V.measure graph.now) leader.worker back.worker back.tally }
+    requires measure { IsMeasureOf leader.worker.book.setup.objects (V.measure graph.now) }
+    requires tally { HasTallied (V.measure graph.now) leader.worker leader.tally }
+    ensures leads { Leads leader.worker result.worker }
+    ensures share { result.worker.book.account.share ≡ leader.worker.book.account.share + 1 }
+    ensures tally { HasTallied (V.measure graph.now) result.worker result.tally }
+{
+    let Tallied { worker, mut tally } = leader;
+    let Tallied {
+        worker: other,
+        tally: more,
+    } = back;
+    worker.has_finished_few();
+    other.has_finished_few();
+    tally.join(&more);
+    let worker = pool.join(worker, other);
+    Tallied { worker, tally }
+}
+
+/// Waits for a thread, and takes in its worker and what that counted.
+fn take_in<T: Threads, A: Allocator, V: Measured>(
+    rt: &T,
+    graph: &V,
+    pool: &Pool<A>,
+    leader: Tallied<A>,
+    thread: Started<A, V>,
+) -> Result<Tallied<A>, RunFault>
+    requires pool { leader.worker.pool ≡ pool.now }
+    requires owes { IsDutyUnder graph.now leader.worker thread.promise }
+    requires measure { IsMeasureOf leader.worker.book.setup.objects (V.measure graph.now) }
+    requires tally { HasTallied (V.measure graph.now) leader.worker leader.tally }
+    ensures leads { IfOk result (λ t. Leads leader.worker t.worker) }
+    ensures share { IfOk result (λ t. t.worker.book.account.share ≡ leader.worker.book.account.share + 1) }
+    ensures tally { IfOk result (λ t. HasTallied (V.measure graph.now) t.worker t.tally) }
+    ensures refused { IfErr result (λ e. (e ≡ fault.TagSpent) ⊎ (e ≡ fault.OutOfMemory)) }
+{
+    let joined = thread.join(rt)?;
+    Ok(put_in(graph, pool, leader, joined))
+}
+
+/// Waits for each thread in turn, and takes in its worker and what that counted. Answers at the first worker that was
+/// refused.
 fn join_all<T: Threads, A: Allocator, V: Measured>(
     rt: &T,
     graph: &V,
@@ -204,35 +226,19 @@ fn join_all<T: Threads, A: Allocator, V: Measured>(
     ensures tally { IfOk result (λ t. HasTallied (V.measure graph.now) t.worker t.tally) }
     ensures refused { IfErr result (λ e. (e ≡ fault.TagSpent) ⊎ (e ≡ fault.OutOfMemory)) }
 {
-    let Tallied {
-        mut worker,
-        mut tally,
-    } = leader;
+    let mut leader = leader;
     for thread in threads {
-        let joined = thread.join(rt)?;
-        worker.has_finished_few();
-        joined.worker.has_finished_few();
-        let Tallied {
-            worker: other,
-            tally: more,
-        } = joined;
-        worker = pool.join(worker, other);
-        tally.join(&more);
+        leader = take_in(rt, graph, pool, leader, thread)?;
     }
-    Ok(Tallied { worker, tally })
+    Ok(leader)
 }
 
-/// Runs so many workers for a leader that has given them what it has to do, and takes all of them in.
+/// Runs the workers for a leader that has given them what it has to do, and takes all of them in.
 pub(crate) fn run_workers<T, A, V, G, S>(
     rt: &T,
-    alloc: A,
-    graph: &V,
-    pool: &Pool<A>,
-    gate: &G,
-    hook: &S,
+    job: &Job<'_, A, V, G, S>,
     paired: PairedWorker<A>,
     tally: Tally<A>,
-    workers: u32,
     threads: Vec<Started<A, V>, A>,
     tallies: Vec<Tally<A>, A>,
 ) -> Result<(PairedWorker<A>, Tally<A>), RunFault>
@@ -242,18 +248,20 @@ where
     V: Walk,
     G: Gate,
     S: StartHook,
-    requires pool { paired.worker.pool ≡ pool.now }
-    requires setup { IsSetupOf (V.count graph.now) (V.roots graph.now) (V.pairs graph.now) paired.worker.book.setup }
+    requires pool { paired.worker.pool ≡ job.now.pool.now }
+    requires setup { IsSetupOf (V.count job.now.graph.now) (V.roots job.now.graph.now) (V.pairs job.now.graph.now)
+        paired.worker.book.setup }
     requires given { HasGiven paired.pair paired.worker }
-    requires share { workers < paired.worker.book.account.share }
-    requires room { (vec_len threads ≡ 0) × (workers ≤ vec_capacity threads) }
-    requires tallies { (workers ≤ vec_len tallies) × AreTalliesOfNone (V.measure graph.now) tallies.items }
-    requires measure { IsMeasureOf paired.worker.book.setup.objects (V.measure graph.now) }
-    requires tally { HasTallied (V.measure graph.now) paired.worker tally }
+    requires share { job.now.workers < paired.worker.book.account.share }
+    requires room { (vec_len threads ≡ 0) × (job.now.workers ≤ vec_capacity threads) }
+    requires tallies { (job.now.workers ≤ vec_len tallies)
+        × AreTalliesOfNone (V.measure job.now.graph.now) tallies.items }
+    requires measure { IsMeasureOf paired.worker.book.setup.objects (V.measure job.now.graph.now) }
+    requires tally { HasTallied (V.measure job.now.graph.now) paired.worker tally }
     ensures leads { IfOk result (λ s. Leads paired.worker s.0.worker) }
     ensures pair { IfOk result (λ s. s.0.pair ≡ paired.pair) }
     ensures share { IfOk result (λ s. s.0.worker.book.account.share ≡ paired.worker.book.account.share) }
-    ensures tally { IfOk result (λ s. HasTallied (V.measure graph.now) s.0.worker s.1) }
+    ensures tally { IfOk result (λ s. HasTallied (V.measure job.now.graph.now) s.0.worker s.1) }
 {
     let PairedWorker {
         worker: leader,
@@ -263,21 +271,14 @@ where
         thread::scope_env(),
         rt,
         move |scope| -> Result<Tallied<A>, RunFault>
-            requires pool { leader.pool ≡ pool.now }
-            requires setup { IsSetupOf (V.count graph.now) (V.roots graph.now) (V.pairs graph.now) leader.book.setup }
-            requires share { workers < leader.book.account.share }
-            requires room { (vec_len threads ≡ 0) × (workers ≤ vec_capacity threads) }
-            requires tallies { (workers ≤ vec_len tallies) × AreTalliesOfNone (V.measure graph.now) tallies.items }
-            requires measure { IsMeasureOf leader.book.setup.objects (V.measure graph.now) }
-            requires tally { HasTallied (V.measure graph.now) leader tally }
+            requires may { MayRun V.count V.roots V.pairs V.measure job.now leader (vec_len threads)
+                (vec_capacity threads) tallies.items (vec_len tallies) tally }
             ensures leads { IfOk result (λ t. Leads leader t.worker) }
             ensures share { IfOk result (λ t. t.worker.book.account.share ≡ leader.book.account.share) }
-            ensures tally { IfOk result (λ t. HasTallied (V.measure graph.entry.now) t.worker t.tally) }
+            ensures tally { IfOk result (λ t. HasTallied (V.measure job.entry.now.graph.now) t.worker t.tally) }
         {
-            let (worker, threads) = start_all(
-                rt, scope, alloc, graph, pool, gate, hook, leader, workers, threads, tallies,
-            )?;
-            join_all(rt, graph, pool, Tallied { worker, tally }, threads)
+            let (worker, threads) = start_all(rt, scope, job, leader, threads, tallies)?;
+            join_all(rt, job.graph, job.pool, Tallied { worker, tally }, threads)
         },
     )?;
     Ok((PairedWorker { worker, pair }, tally))

@@ -6,7 +6,7 @@ use Rattle.mark_core.specs.World.{Setup}
 use Rattle.mark_core.specs.declared.which.Which.TheVariants.{Empty}
 use Rattle.buffer_pool.specs.Book.{empties_of}
 use Rattle.buffer_pool.specs.Calls.{Holder}
-use Rattle.work_pair.specs.Places.{AreOfSize, IsOpen, Places, buffered_items, items_of, numbers_of}
+use Rattle.work_pair.specs.PairState.{AreOfSize, IsOpen, PairState, buffered_items, pair_items, numbers_of}
 
 -- These are the objects, the roots and the references of a graph.
 pub record IsSetupOf (count : ℕ) (root_list : List ℕ) (pair_list : List (ℕ × ℕ)) (e : Setup) : Type 0 where
@@ -34,19 +34,19 @@ pub record GoesOn (old new : Holder) : Type 0 where
 
 -- A worker with its pair: it holds the pair's buffers and no others, and answers for the pair's items and for these
 -- objects, which it is about to put or to finish, and for no others.
-pub record HasAtHand (p : Places) (besides : List ℕ) (w : Holder) : Type 0 where
+pub record HasAtHand (p : PairState) (besides : List ℕ) (w : Holder) : Type 0 where
   pub going : IsOpen p
   pub sized : AreOfSize w.book.setup.size p
   pub held : (i : ℕ) → times i w.book.account.held ≡ times i (numbers_of p)
-  pub charge : (o : ℕ) → times o w.book.account.charge ≡ times o (items_of p) + times o besides
+  pub charge : (o : ℕ) → times o w.book.account.charge ≡ times o (pair_items p) + times o besides
 
 -- The same of a worker that is not idle.
-pub record IsAtWork (p : Places) (besides : List ℕ) (w : Holder) : Type 0 where
+pub record IsAtWork (p : PairState) (besides : List ℕ) (w : Holder) : Type 0 where
   pub hand : HasAtHand p besides w
   pub busy : IsBusy w.book.account
 
 -- What it answered for beside the pair's items it answers for still.
-abbrev pub StaysAtWork : Places → Holder → Places → Holder → Type 0
+abbrev pub StaysAtWork : PairState → Holder → PairState → Holder → Type 0
 StaysAtWork old_pair old new_pair new =
     (besides : List ℕ) → IsAtWork old_pair besides old → IsAtWork new_pair besides new
 
@@ -55,7 +55,7 @@ abbrev pub MayClaim : Setup → List ℕ → ℕ → Type 0
 MayClaim e besides o = Contains e.roots o ⊎ ((p : ℕ) × Contains besides p × Contains e.pairs (p, o))
 
 -- These objects were claimed: they were seen, and those that were white are in the pair, or went with a buffer of it.
-pub record AreClaimed (objects : List ℕ) (old_pair : Places) (old : Holder) (new_pair : Places) (new : Holder)
+pub record AreClaimed (objects : List ℕ) (old_pair : PairState) (old : Holder) (new_pair : PairState) (new : Holder)
     : Type 0 where
   pub goes_on : GoesOn old new
   pub saw : (o : ℕ) → Contains objects o → Contains new.book.account.seen o
@@ -68,16 +68,16 @@ pub record IsFree (w : Holder) : Type 0 where
   pub open_push : w.book.account.open_push ≡ false
 
 -- Its pair has no items, it has no open push, and it found the full stack empty since its own last push there.
-abbrev pub HasNoneLeft : Places → Holder → Type 0
+abbrev pub HasNoneLeft : PairState → Holder → Type 0
 HasNoneLeft p w =
-    (items_of p ≡ []) × (w.book.account.open_push ≡ false) × (w.book.account.found ≡ true)
+    (pair_items p ≡ []) × (w.book.account.open_push ≡ false) × (w.book.account.found ≡ true)
 
 -- A worker is through: it is the one that began, and is free. It may be idle.
 abbrev pub IsThrough : Holder → Holder → Type 0
 IsThrough begun w = CameFrom begun w × IsFree w
 
 -- Others have what the buffers of its pair held: they have no items, or it saw that no empty buffer was left.
-abbrev pub HasGiven : Places → Holder → Type 0
+abbrev pub HasGiven : PairState → Holder → Type 0
 HasGiven p w = (buffered_items p ≡ []) ⊎ (0 < empties_of w.book Empty)
 
 -- It saw each root marked.

@@ -1,11 +1,23 @@
--- What the threads of workers owe.
+-- What the threads of workers owe, and what comes back from them.
 use Rattle.std.specs.Prelude.{◌≡◌}
 use Rattle.buffer_pool.specs.Book.{new_book}
 use Rattle.buffer_pool.specs.Calls.{Holder}
+use Rattle.drain.specs.declared.tally.Tally.{Tally}
 use Rattle.drain.specs.declared.worker_threads.Duty.{Duty}
+use Rattle.drain.specs.working.AtWork.{IsFree}
+use Rattle.drain.specs.working.Tallies.{Measure}
+use Rattle.drain.specs.working.Tallying.{HasTallied}
 
 -- a thread that was started for this graph with a worker of the leader's pool, with one unit and nothing else
 pub record IsDutyUnder {A V : Type 0} (graph : V) (leader : Holder) (duty : Duty A V) : Type 0 where
   pub pool : duty.begun.value.pool ≡ leader.pool
   pub book : duty.begun.value.book ≡ new_book leader.book.setup 1
   pub graph_is : duty.graph.value ≡ graph
+
+-- a worker of the leader's pool that is through and has its one unit, and the tally of what it finished
+pub record IsBackUnder {A : Type 0} (m : Measure) (leader w : Holder) (t : Tally A) : Type 0 where
+  pub pool : w.pool ≡ leader.pool
+  pub setup : w.book.setup ≡ leader.book.setup
+  pub share : w.book.account.share ≡ 1
+  pub free : IsFree w
+  pub tally : HasTallied m w t

@@ -1,7 +1,7 @@
--- What a tally reads of the objects of a graph, and what it tells of a row.
+-- What a tally reads of the objects of a graph, and its sum of a row.
 use Rattle.std.specs.Prelude.{List, if◌then◌else◌, nat_le, slice_index_or, ℕ, ◌&&◌, ◌+◌, ◌-◌}
 use Rattle.heap_graph.specs.ObjectGraph.{ObjectGraph, bytes_at, class_count, row_at}
-use Rattle.heap_graph.specs.Whole.{missing_at}
+use Rattle.heap_graph.specs.Whole.{unresolved_at}
 use Rattle.heap_graph.specs.declared.row.RowKey.{RowKey}
 use Rattle.heap_graph.specs.declared.row.RowKey.TheVariants as keys
 use Rattle.heap_graph.specs.Walks.{Visited}
@@ -20,18 +20,18 @@ measure_of g = record {
   rows = 9 + class_count g;
   row = λ o. row_place (row_at g o);
   bytes = bytes_at g;
-  missing = missing_at g;
+  unresolved = unresolved_at g;
 }
 
-abbrev pub told_at : List Sum → ℕ → ℕ × ℕ
-told_at rows place = ((slice_index_or rows place no_object).count, (slice_index_or rows place no_object).bytes)
+abbrev pub sum_at : List Sum → ℕ → ℕ × ℕ
+sum_at rows place = ((slice_index_or rows place no_object).count, (slice_index_or rows place no_object).bytes)
 
--- what these sums tell of a row: nothing of one that they do not have
-abbrev pub told_of : List Sum → RowKey → ℕ × ℕ
-told_of rows (keys.Class n) = told_at rows (9 + n)
-told_of rows (keys.Primitive t) = if nat_le 4 t && nat_le t 11 then told_at rows (t - 4) else (0, 0)
-told_of rows keys.ClassObject = told_at rows 8
+-- which of these sums is that of a row: nothing where they do not have it
+abbrev pub sum_of_row : List Sum → RowKey → ℕ × ℕ
+sum_of_row rows (keys.Class n) = sum_at rows (9 + n)
+sum_of_row rows (keys.Primitive t) = if nat_le 4 t && nat_le t 11 then sum_at rows (t - 4) else (0, 0)
+sum_of_row rows keys.ClassObject = sum_at rows 8
 
 -- what a visit tells so far of its object
 abbrev pub scanned_in : Visited → Scanned
-scanned_in v = record { row = row_place v.row; bytes = v.bytes; unresolved = v.missing }
+scanned_in v = record { row = row_place v.row; bytes = v.bytes; unresolved = v.unresolved }

@@ -7,4 +7,4 @@ use Rattle.drain.specs.working.Tallies.{Measure}
 pub record IsScanOf (m : Measure) (o : ℕ) (s : Scanned) : Type 0 where
   pub row : s.row ≡ m.row o
   pub bytes : s.bytes ≡ m.bytes o
-  pub unresolved : s.unresolved ≡ m.missing o
+  pub unresolved : s.unresolved ≡ m.unresolved o

@@ -4,31 +4,31 @@ use Rattle.mark_core.specs.declared.which.Which.TheVariants.{Full}
 use Rattle.buffer_pool.specs.Book.{Book}
 use Rattle.buffer_pool.specs.Calls.{Sees}
 use Rattle.work_pair.specs.Deals.{Balances, Puts}
-use Rattle.work_pair.specs.Places.{Places}
+use Rattle.work_pair.specs.PairState.{PairState}
 
 -- the object that was spilled last was taken off the list and put into the pair again
-abbrev pub PutsAgain : Places → Book → Places → Book → Type 0
+abbrev pub PutsAgain : PairState → Book → PairState → Book → Type 0
 PutsAgain old before new after =
     (rest : List ℕ) × (object : ℕ) × (old.spill ≡ rest ++ object ∷ [])
     × Puts (record old { spill = rest }) before object new after
 
 -- what is spilled was put again, the last first, until nothing was spilled or an object came back to the list, for want
 -- of an empty buffer
-pub data Unspills : Places → Book → Places → Book → Type 0 where
-  none : (p : Places) (b : Book) → p.spill ≡ [] → Unspills p b p b
-  last : (old : Places) (before : Book) (new : Places) (after : Book) → PutsAgain old before new after
+pub data Unspills : PairState → Book → PairState → Book → Type 0 where
+  none : (p : PairState) (b : Book) → p.spill ≡ [] → Unspills p b p b
+  last : (old : PairState) (before : Book) (new : PairState) (after : Book) → PutsAgain old before new after
       → length old.spill ≤ length new.spill → Unspills old before new after
-  more : (old : Places) (before : Book) (middle : Places) (between : Book) (new : Places) (after : Book)
+  more : (old : PairState) (before : Book) (middle : PairState) (between : Book) (new : PairState) (after : Book)
       → PutsAgain old before middle between → length middle.spill < length old.spill
       → Unspills middle between new after → Unspills old before new after
 
 -- what is spilled was put again, and then the pair was balanced
-abbrev pub GivesSome : Places → Book → Places → Book → Type 0
+abbrev pub GivesSome : PairState → Book → PairState → Book → Type 0
 GivesSome old before new after =
-    (middle : Places) × (between : Book) × Unspills old before middle between × Balances middle between new after
+    (middle : PairState) × (between : Book) × Unspills old before middle between × Balances middle between new after
 
 -- the full stack was looked at once: where it had a buffer that is all that was done, and else some was given
-abbrev pub SharesWork : Places → Book → Places → Book → Type 0
+abbrev pub SharesWork : PairState → Book → PairState → Book → Type 0
 SharesWork old before new after =
     (none : Bool) × (looked : Book) × Sees Full before looked none
     × (none ≡ false → (new ≡ old) × (after ≡ looked)) × (none ≡ true → GivesSome old looked new after)

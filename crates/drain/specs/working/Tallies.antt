@@ -18,14 +18,14 @@ pub record Measure : Type 0 where
   pub rows : ℕ
   pub row : ℕ → ℕ
   pub bytes : ℕ → ℕ
-  pub missing : ℕ → ℕ
+  pub unresolved : ℕ → ℕ
 
 -- of so many objects: each has a row, and numbers that stay small
 pub record IsMeasureOf (count : ℕ) (m : Measure) : Type 0 where
   pub few_objects : count ≤ 2 ^ 24
   pub within : (o : ℕ) → o < count → m.row o < m.rows
   pub few_bytes : (o : ℕ) → m.bytes o ≤ 2 ^ 30
-  pub few_missing : (o : ℕ) → m.missing o ≤ 2 ^ 33
+  pub few_unresolved : (o : ℕ) → m.unresolved o ≤ 2 ^ 33
 
 -- how many of these objects belong to the row at this place, and their bytes together
 abbrev pub sum_in : Measure → ℕ → List ℕ → Sum
@@ -35,13 +35,13 @@ sum_in m n objects = record {
 }
 
 -- The tally of these objects.
-pub record IsTallyOf (m : Measure) (objects : List ℕ) (rows : List Sum) (missing : ℕ) : Type 0 where
+pub record IsTallyOf (m : Measure) (objects : List ℕ) (rows : List Sum) (unresolved : ℕ) : Type 0 where
   pub each : length rows ≡ m.rows
   pub right : (n : ℕ) → n < m.rows → slice_index_or rows n no_object ≡ sum_in m n objects
-  pub missing_is : missing ≡ sum_by m.missing objects
+  pub unresolved_is : unresolved ≡ sum_by m.unresolved objects
 
 -- The sums of a tally of at most 2 ^ 24 objects.
-pub record IsSmall (rows : List Sum) (missing : ℕ) : Type 0 where
+pub record IsSmall (rows : List Sum) (unresolved : ℕ) : Type 0 where
   pub counts : (n : ℕ) → n < length rows → (slice_index_or rows n no_object).count ≤ 2 ^ 24
   pub bytes : (n : ℕ) → n < length rows → (slice_index_or rows n no_object).bytes ≤ 2 ^ 54
-  pub few_missing : missing ≤ 2 ^ 57
+  pub few_unresolved : unresolved ≤ 2 ^ 57

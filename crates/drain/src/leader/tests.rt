@@ -6,7 +6,7 @@ use crate::gate::NoGate;
 use crate::measured::Measured;
 use crate::scanned::Scanned;
 use buffer_pool::Edges;
-use heap_graph::Visit;
+use heap_graph::{Skip, Visit};
 use hprof_grammar::read;
 use std::alloc::{AllocError, Global};
 use std::sync::atomic::{AtomicU64, Ordering};
@@ -14,6 +14,8 @@ use std::test::Fail;
 use work_pair::Pair;
 
 mod gate_calls;
+mod memory;
+mod starts;
 mod tallies;
 
 /// A heap with class 0x100, without a superclass, fields and values.
@@ -44,7 +46,7 @@ fn dump_of(alloc: Global, heap: &[u8]) -> Result<Vec<u8>, AllocError> {
 /// A dump with an array that is the root, and the 60 instances that it refers to.
 fn wide_array(alloc: Global) -> Result<Vec<u8>, AllocError> {
     let mut heap = one_class(alloc)?;
-    // array 0x200 of that class
+    // Array 0x200 of that class.
     heap.extend_from_slice(&[0x22, 0, 0, 2, 0, 0, 0, 0, 0, 0, 0, 0, 60, 0, 0, 1, 0])?;
     for id in 0..60u8 {
         heap.extend_from_slice(&[0, 0, 3, id])?;
@@ -77,7 +79,10 @@ fn marked_without<T: Threads + Wait + Sync>(
 ) -> Result<Result<u64, RunFault>, Fail> {
     let dump = wide_array(alloc)?;
     let places = read(alloc, dump.as_slice()).map_err(|_| "the dump is whole")?;
-    let graph = Graph::build(alloc, dump.as_slice(), places).map_err(|_| "the dump is linked")?;
+    let skip = Skip::none(alloc);
+    let graph = Graph::build(alloc, dump.as_slice(), places, &skip).map_err(
+        |_| "the dump is linked",
+    )?;
     let (workers, buffer, buffers) = options;
     let options = Options::new(workers, buffer, buffers, 0).map_err(|_| "they are in range")?;
     let hook = AllBut { refused };
@@ -92,7 +97,7 @@ fn a_thread_that_cannot_be_started_is_told(rt: HostRuntime) -> Result<(), Fail> 
         assert_eq!(rt; outcome, Err(RunFault::WorkerRefused), "worker {refused}");
     }
     assert_eq!(rt; marked_without(&rt, alloc, (4, 256, 1024), 4)?, Ok(62));
-    // 60 references find no room in six buffers of two, and go to the lists of who found them
+    // 60 references find no room in six buffers of two, and go to the lists of who found them.
     assert_eq!(rt; marked_without(&rt, alloc, (2, 2, 6), 2)?, Ok(62));
     assert_eq!(rt;
         marked_without(&rt, alloc, (2, 2, 6), 1)?,
@@ -103,14 +108,14 @@ fn a_thread_that_cannot_be_started_is_told(rt: HostRuntime) -> Result<(), Fail> 
 
 /// The graph of a dump with at most 64 objects, and of which of them the gate was told.
 #[derive(Drop)]
-struct Watched<'a> {
-    walked: WalkedGraph<'a, Global>,
+struct Watched<'a, 'b> {
+    walked: WalkedGraph<'a, 'b, Global>,
     told: &'a AtomicU64,
     /// How often the references of an object were asked for of which the gate was not told.
     early: &'a AtomicU64,
 }
 
-impl Edges for Watched<'_> {
+impl Edges for Watched<'_, '_> {
     ghost use Rattle.heap_graph.specs.ObjectGraph.{object_count};
     ghost use Rattle.drain.specs.working.Pairs.{pairs_of};
 
@@ -125,7 +130,7 @@ impl Edges for Watched<'_> {
     }
 }
 
-impl Measured for Watched<'_> {
+impl Measured for Watched<'_, '_> {
     ghost use Rattle.drain.specs.working.Measures.{measure_of};
 
     ghost measure = { λ w. measure_of w.walked.graph.now };
@@ -139,7 +144,7 @@ impl Measured for Watched<'_> {
     }
 }
 
-impl<'a> Walk for Watched<'a> {
+impl<'a, 'b> Walk for Watched<'a, 'b> {
     ghost use Rattle.drain.specs.working.Measures.{scanned_in};
 
     type Visit = Visit<'a, Global>;
@@ -158,7 +163,7 @@ impl<'a> Walk for Watched<'a> {
     }
 
     fn read(visit: &Visit<'a, Global>) -> Scanned {
-        <WalkedGraph<'a, Global> as Walk>::read(visit)
+        <WalkedGraph<'a, 'b, Global> as Walk>::read(visit)
     }
 }
 
@@ -191,17 +196,15 @@ fn mark_watched<T: Threads + Wait + Sync>(
     let Ok((pool, leader)) = Pool::new(alloc, &watched, 1024, 2, 0) else {
         return false;
     };
-    lead(
-        rt,
+    let job = Job {
         alloc,
-        &watched,
-        &pool,
-        &Told { told },
-        &StartsAll,
-        leader,
-        2,
-    )
-    .is_ok()
+        graph: &watched,
+        pool: &pool,
+        gate: &Told { told },
+        hook: &StartsAll,
+        workers: 2,
+    };
+    lead(rt, &job, leader).is_ok()
 }
 
 #[test]
@@ -209,7 +212,10 @@ fn the_gate_is_told_before_references_are_asked_for(rt: HostRuntime) -> Result<(
     let alloc = rt.alloc();
     let dump = wide_array(alloc)?;
     let places = read(alloc, dump.as_slice()).map_err(|_| "the dump is whole")?;
-    let graph = Graph::build(alloc, dump.as_slice(), places).map_err(|_| "the dump is linked")?;
+    let skip = Skip::none(alloc);
+    let graph = Graph::build(alloc, dump.as_slice(), places, &skip).map_err(
+        |_| "the dump is linked",
+    )?;
     let told = AtomicU64::new(0);
     let early = AtomicU64::new(0);
     assert!(rt; mark_watched(&rt, alloc, &graph, &told, &early));
@@ -240,17 +246,15 @@ fn lead_without_buffers<T: Threads + Wait + Sync>(
     let (leader, mut two) = pool.split(leader, 1);
     let _first = Pair::open(rt, alloc, &pool, &mut one);
     let _second = Pair::open(rt, alloc, &pool, &mut two);
-    lead(
-        rt,
+    let job = Job {
         alloc,
-        &watched,
-        &pool,
-        &Told { told },
-        &StartsAll,
-        leader,
-        1,
-    )
-    .is_ok()
+        graph: &watched,
+        pool: &pool,
+        gate: &Told { told },
+        hook: &StartsAll,
+        workers: 1,
+    };
+    lead(rt, &job, leader).is_ok()
 }
 
 #[test]
@@ -258,7 +262,10 @@ fn a_leader_without_buffers_drains(rt: HostRuntime) -> Result<(), Fail> {
     let alloc = rt.alloc();
     let dump = wide_array(alloc)?;
     let places = read(alloc, dump.as_slice()).map_err(|_| "the dump is whole")?;
-    let graph = Graph::build(alloc, dump.as_slice(), places).map_err(|_| "the dump is linked")?;
+    let skip = Skip::none(alloc);
+    let graph = Graph::build(alloc, dump.as_slice(), places, &skip).map_err(
+        |_| "the dump is linked",
+    )?;
     let told = AtomicU64::new(0);
     assert!(rt; lead_without_buffers(&rt, alloc, &graph, &told));
     assert_eq!(rt; told.load(Ordering::SeqCst).count_ones(), 62);

@@ -7,7 +7,8 @@ use crossbeam_utils::Backoff;
 use std::alloc::Allocator;
 use std::sync::Wait;
 
-/// After so many turns in a row a worker leaves, all idle or not: a worker that was refused never goes idle.
+/// How many turns in a row a worker waits. Then it leaves, all idle or not, since a worker that was refused never goes
+/// idle.
 const TURNS: u32 = 1024;
 
 impl<A: Allocator> PairedWorker<A> {

@@ -1,5 +1,6 @@
 //! Which refusal is told where several workers are refused.
-ghost use Rattle.std.specs.Prelude.{◌≡◌, ◌<◌, ◌≤◌, ℕ, IfOk, get_or, length, vec_capacity, vec_len};
+
+ghost use Rattle.std.specs.Prelude.{◌≡◌, ◌<◌, ◌≤◌, ℕ, IfOk, get_or, length, vec_len};
 ghost use Rattle.drain.specs.working.AtWork.{IsFree, IsThrough, Leads};
 ghost use Rattle.drain.specs.working.Duties.{IsDutyUnder};
 ghost use Rattle.drain.specs.working.Tallies.{IsMeasureOf};
@@ -32,7 +33,7 @@ impl Measured for Nothing {
     ghost use Rattle.std.specs.Prelude.{ℕ};
     ghost use Rattle.drain.specs.working.Tallies.{Measure};
 
-    ghost measure = { λ _. record { rows = 1; row = λ _. 0; bytes = λ _. 0; missing = λ _. 0 } };
+    ghost measure = { λ _. record { rows = 1; row = λ _. 0; bytes = λ _. 0; unresolved = λ _. 0 } };
 
     fn is_measured(&self) {}
 
@@ -83,11 +84,9 @@ fn answer_all<'s, E, V: Measured + Sync>(
     pool: &Pool<Global>,
     leader: Worker<Global>,
     stops: &[Option<Stop>],
-    threads: Vec<Started<Global, V>>,
 ) -> Result<(Worker<Global>, Vec<Started<Global, V>>), RunFault>
     requires pool { leader.pool ≡ pool.now }
     requires share { length stops.now < leader.book.account.share }
-    requires room { (vec_len threads ≡ 0) × (length stops.now ≤ vec_capacity threads) }
     ensures leads { IfOk result (λ s. Leads leader s.0) }
     ensures finished { IfOk result (λ s. s.0.book.account.finished ≡ leader.book.account.finished) }
     ensures count { IfOk result (λ s. vec_len s.1 ≡ length stops.now) }
@@ -95,7 +94,7 @@ fn answer_all<'s, E, V: Measured + Sync>(
         → IsDutyUnder graph.now leader (get_or s.1.items number t).promise) }
 {
     let mut leader = leader;
-    let mut threads = threads;
+    let mut threads = Vec::with_capacity(alloc, stops.len())?;
     for number in 0..stops.len() {
         let (rest, worker) = pool.split(leader, 1);
         leader = rest;
@@ -116,7 +115,6 @@ fn told<T: Threads + Wait, V: Measured + Sync>(
 ) -> Result<Option<RunFault>, Fail>
     requires { length stops.now ≤ 64 }
 {
-    let threads: Vec<Started<Global, V>> = Vec::with_capacity(alloc, stops.len())?;
     let tally = Tally::new(alloc, graph.rows())?;
     let Ok((pool, leader)) = Pool::new(alloc, graph, 4, 2, 0) else {
         return Err("the pool was refused".into());
@@ -129,11 +127,10 @@ fn told<T: Threads + Wait, V: Measured + Sync>(
         move |scope| -> Result<Tallied<Global>, RunFault>
             requires pool { leader.pool ≡ pool.now }
             requires share { length stops.now < leader.book.account.share }
-            requires room { (vec_len threads ≡ 0) × (length stops.now ≤ vec_capacity threads) }
             requires measure { IsMeasureOf leader.book.setup.objects (V.measure graph.now) }
             requires tally { HasTallied (V.measure graph.now) leader tally }
         {
-            let (worker, threads) = answer_all(scope, alloc, graph, pool, leader, stops, threads)?;
+            let (worker, threads) = answer_all(scope, alloc, graph, pool, leader, stops)?;
             join_all(rt, graph, pool, Tallied { worker, tally }, threads)
         },
     );

@@ -1,3 +1,4 @@
+-- Two lists of marks have one length and agree at each object, as reachable leaves no choice.
 use Rattle.heap_graph.specs.ObjectGraph.{object_count}
 use Rattle.heap_graph.specs.Reachable.{IsReferenceOf, IsRootOf}
 use Rattle.drain.proofs.OneMarking.{marks_determined}

@@ -1,11 +1,12 @@
+-- The leader that closes the pool saw all roots and is free, so what the close tells of marks and tally is the answer.
 use Rattle.std.proofs.Common.{ap, rules, sym, subst, ◌∙◌, arith}
 use Rattle.mark_core.specs.Shares.{whole}
 use Rattle.buffer_pool.specs.Faults.{Refuses}
 use Rattle.buffer_pool.specs.Ranges.{IsInside}
 use Rattle.heap_graph.specs.ObjectGraph.{object_count}
-use Rattle.heap_graph.specs.Reachable.{MarksReachableOf}
 use Rattle.mark_core.specs.World.{Setup}
 use Rattle.buffer_pool.specs.Book.{Book}
+use Rattle.drain.specs.ExactlyReachable.{ExactlyReachable}
 use Rattle.drain.specs.Marks.{IsMarkingOf, MarkedObjects}
 use Rattle.drain.proofs.Closes.{exactly_marked, opened_setup}
 use Rattle.drain.proofs.Markings.{marking_of}
@@ -14,7 +15,8 @@ use Rattle.drain.proofs.leader.mark_where.Goals as goal
 pub unreachable-requires : goal.unreachable-requires
 unreachable-requires g c =
     let allowed = c.workers-workers.ensures.allowed in
-    let refused = subst (λ fault. Refuses (IsInside (object_count c.args.graph.now) c.buffers.result c.buffer.result c.first_tag.result) fault) c.in-Err-BadOptions.field-0-is c.in-Err-BadOptions.ensures in
+    let inside = IsInside (object_count c.args.graph.now) c.buffers.result c.buffer.result c.first_tag.result in
+    let refused = subst (Refuses inside) c.in-Err-BadOptions.field-0-is c.in-Err-BadOptions.ensures in
     refused (record {
       objects = c.len-objects.ensures.whole.few_objects;
       few = omega (arith, c.buffers.ensures, allowed.least_buffers);
@@ -29,17 +31,17 @@ lead-requires-clause-none g c =
     let none = ap (λ (b : Book). b.account.finished) c.in-Ok.ensures.2 in
     search (rules, none)
 
-pub returns-clause-reachable : goal.returns-clause-reachable
-returns-clause-reachable g c =
+pub returns-clause-exactly_reachable : goal.returns-clause-exactly_reachable
+returns-clause-exactly_reachable g c =
     let graph = c.args.graph.now in
     let leader = c.in-Ok.opened.1 in
     let setup =
     opened_setup graph c.buffers.result c.buffer.result c.first_tag.result whole leader.book c.in-Ok.ensures.2 in
     let led = c.in_ok-tallied.ensures.led in
     let exact =
-    exactly_marked graph leader.book.setup setup c.in_ok-tallied.tallied.worker c.close.ensures.0.last c.close.result led.setup
-    led.free.open_push led.saw c.close.ensures.1 in
-    subst (λ (m : MarkedObjects). MarksReachableOf graph m.marks) (sym c.new-2.ensures) exact
+    exactly_marked graph leader.book.setup setup c.in_ok-tallied.tallied.worker c.close.ensures.0.last c.close.result
+    led.setup led.free.open_push led.saw c.close.ensures.1 in
+    subst (λ (m : MarkedObjects). ExactlyReachable graph m.marks) (sym c.new-2.ensures) exact
 
 pub returns-clause-made : goal.returns-clause-made
 returns-clause-made g c =

@@ -1,3 +1,4 @@
+-- There is room for each tally, and each one more is of no object, as those before it.
 use Rattle.std.proofs.Common.{[], All, arith, subst, sym}
 use Rattle.drain.specs.working.Tallying.{Tallies}
 use Rattle.drain.proofs.Each.{more_hold}

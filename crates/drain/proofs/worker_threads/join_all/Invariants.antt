@@ -9,9 +9,10 @@ use Rattle.drain.proofs.worker_threads.join_all.Given as goal
 abbrev pub invariant-loop-thread : goal.invariant-loop-thread
 invariant-loop-thread g l =
     let rest = l.thread-iterator in
-    let begun = l.fn.leader.worker in
-    Leads begun l.worker
-    × (l.worker.book.account.share + into_iter_len rest ≡ begun.book.account.share + vec_len l.fn.threads)
+    let begun = l.initial.leader.worker in
+    let units = begun.book.account.share in
+    Leads begun l.leader.worker
+    × (l.leader.worker.book.account.share + into_iter_len rest ≡ units + vec_len l.fn.threads)
     × ((k : ℕ) (d : _) → k < into_iter_len rest
     → IsDutyUnder l.graph begun (get_or (into_iter_items rest) k d).promise)
-    × HasTallied (g.V.Measured.measure l.graph) l.worker l.tally
+    × HasTallied (g.V.Measured.measure l.graph) l.leader.worker l.leader.tally

@@ -1,23 +1,40 @@
+-- The tally that is popped is of no object, as its worker's list; each thread owes a worker that was just split off.
 use Rattle.std.proofs.Common.{[], List, ap, length, option_to_list, rules, subst, sym, ◌++◌, ◌∙◌, ℕ, arith}
 use Rattle.mark_core.specs.World.{Setup}
 use Rattle.buffer_pool.specs.Book.{Book, new_book}
 use Rattle.buffer_pool.specs.Calls.{Holder}
+use Rattle.drain.specs.working.AtWork.{IsSetupOf}
 use Rattle.drain.specs.working.Duties.{IsDutyUnder}
+use Rattle.drain.specs.working.Jobs.{MayWork}
 use Rattle.drain.specs.working.Tallying.{Tallies}
 use Rattle.drain.proofs.Each.{last_holds, left_hold, pushed_holds}
-use Rattle.drain.proofs.Leading.{gave_away, leads_again}
+use Rattle.drain.proofs.Leading.{gave_away, leads_again, new_awake, new_free}
 use Rattle.drain.proofs.worker_threads.start_all.Goals as goal
 
-pub start-requires-clause-tally : goal.start-requires-clause-tally
-start-requires-clause-tally g c =
-    let m = g.V.Measured.measure c.args.graph.now in
+pub start-requires-clause-may : goal.start-requires-clause-may
+start-requires-clause-may g c =
+    let graph = c.args.job.now.graph.now in
+    let m = g.V.Measured.measure graph in
+    let leads = c.loop-number.invariant.2 in
     let tally = c.in-Some.tally in
     let was = c.loop-number.tallies.items in
     let is = c.pop.ensures.items ∙ ap (λ r. c.pop.new.self.items ++ option_to_list r) c.in-Some.is in
     let none = last_holds (Tallies m []) was c.pop.new.self.items tally is c.loop-number.invariant.7 in
-    let new = ap (λ (h : Holder). h.book.account.finished) c.split-rest.ensures.second in
-    let had = subst (λ (xs : List ℕ). Tallies m xs tally) (sym new) none in
-    search (rules, had)
+    let worker = c.split-rest.result.1 in
+    let pool = ap (λ (h : Holder). h.pool) c.split-rest.ensures.second in
+    let book = ap (λ (h : Holder). h.book) c.split-rest.ensures.second in
+    let new = ap (λ (b : Book). b.account.finished) book in
+    let setup = ap (λ (b : Book). b.setup) book ∙ leads.setup in
+    let may : MayWork g.V.Edges.count g.V.Edges.roots g.V.Edges.pairs g.V.Measured.measure c.args.job.now worker tally =
+    record {
+      pool = pool ∙ leads.pool ∙ c.requires.pool;
+      setup = subst (IsSetupOf (g.V.Edges.count graph) (g.V.Edges.roots graph) (g.V.Edges.pairs graph)) (sym setup)
+          c.requires.setup;
+      free = new_free worker c.loop-number.leader.book.setup 1 book;
+      awake = new_awake worker c.loop-number.leader.book.setup book;
+      tally = subst (λ (xs : List ℕ). Tallies m xs tally) (sym new) none;
+    } in
+    search (rules, may)
 
 pub loop-number-preserved : goal.loop-number-preserved
 loop-number-preserved g c =
@@ -29,10 +46,10 @@ loop-number-preserved g c =
     let less = ap (λ (b : Book). b.account.share) book in
     let owes = c.in_ok-thread.ensures.owes in
     let second = c.split-rest.ensures.second in
-    let m = g.V.Measured.measure c.args.graph.now in
+    let m = g.V.Measured.measure c.args.job.now.graph.now in
     let left = c.pop.new.self.items in
     let is = c.pop.ensures.items ∙ ap (λ r. left ++ option_to_list r) c.in-Some.is in
-    let duty : IsDutyUnder c.args.graph.now c.args.leader c.in_ok-thread.thread.promise = record {
+    let duty : IsDutyUnder c.args.job.now.graph.now c.args.leader c.in_ok-thread.thread.promise = record {
       pool = ap (λ (h : Holder). h.pool) (owes ∙ second) ∙ was.2.pool;
       book = ap (λ (h : Holder). h.book) (owes ∙ second) ∙ ap (λ (e : Setup). new_book e 1) was.2.setup;
       graph_is = c.in_ok-thread.ensures.graph;
@@ -42,7 +59,7 @@ loop-number-preserved g c =
       omega (arith, c.push_reserved.ensures.capacity, was.1),
       leads_again c.args.leader old rest was.2 (gave_away old rest 1 pool book),
       omega (arith, less, was.3, c.requires.share, c.loop-number-test.true),
-      pushed_holds (λ t. IsDutyUnder c.args.graph.now c.args.leader t.promise) c.loop-number.threads.items
+      pushed_holds (λ t. IsDutyUnder c.args.job.now.graph.now c.args.leader t.promise) c.loop-number.threads.items
           c.push_reserved.new.self.items c.in_ok-thread.thread c.loop-number.number
           (omega (arith, c.loop-number.threads.ok, was.0)) c.push_reserved.ensures.items was.4 duty,
       ap (λ (b : Book). b.account.finished) book ∙ was.5,

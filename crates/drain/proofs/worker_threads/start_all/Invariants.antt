@@ -7,11 +7,11 @@ use Rattle.drain.proofs.worker_threads.start_all.Given as goal
 
 abbrev pub invariant-loop-number : goal.invariant-loop-number
 invariant-loop-number g l =
-    (vec_len l.threads ≡ l.number) × (l.workers ≤ vec_capacity l.threads)
+    (vec_len l.threads ≡ l.number) × (l.job.workers ≤ vec_capacity l.threads)
     × Leads l.initial.leader l.leader
     × (l.leader.book.account.share + l.number ≡ l.initial.leader.book.account.share)
     × ((number : ℕ) (t : _) → number < l.number
-    → IsDutyUnder l.graph l.initial.leader (get_or l.threads.items number t).promise)
+    → IsDutyUnder l.job.graph.now l.initial.leader (get_or l.threads.items number t).promise)
     × (l.leader.book.account.finished ≡ l.initial.leader.book.account.finished)
-    × (l.workers ≤ vec_len l.tallies + l.number)
-    × AreTalliesOfNone (g.V.Measured.measure l.graph) l.tallies.items
+    × (l.job.workers ≤ vec_len l.tallies + l.number)
+    × AreTalliesOfNone (g.V.Measured.measure l.job.graph.now) l.tallies.items

@@ -17,14 +17,14 @@ same_tally m old new t same was = subst (λ (xs : List ℕ). Tallies m xs t) (sy
 pub loop-init : goal.loop-init
 loop-init g c =
     let opened = at_ok _ c.in_ok-paired.field-0 c.in-Ok.paired c.in_ok-paired.ensures.opened c.in-Ok.is in
-    let m = g.V.Measured.measure c.args.graph.now in (
+    let m = g.V.Measured.measure c.args.job.now.graph.now in (
       came_at_all c.in-Ok.paired.worker,
       opened.1,
       record {
-        share = opened.0.came.share ∙ c.requires.awake.share;
-        idle = opened.0.idle ∙ c.requires.awake.idle;
+        share = opened.0.came.share ∙ c.requires.may.awake.share;
+        idle = opened.0.idle ∙ c.requires.may.awake.idle;
       },
-      same_tally m c.args.begun.worker c.in-Ok.paired.worker c.args.begun.tally opened.0.finished c.requires.tally,
+      same_tally m c.args.begun.worker c.in-Ok.paired.worker c.args.begun.tally opened.0.finished c.requires.may.tally,
     )
 
 pub finds_more-requires-clause-awake : goal.finds_more-requires-clause-awake
@@ -41,7 +41,7 @@ loop-preserved g c =
     let end = c.finds_more.new.self in
     let on = came_again c.loop.paired.worker worked end.worker c.in_ok-work_off.ensures.goes_on.came
     c.finds_more.ensures.came in
-    let m = g.V.Measured.measure c.args.graph.now in
+    let m = g.V.Measured.measure c.args.job.now.graph.now in
     let awake = c.finds_more.ensures.awake c.if-not-finds_more.false in (
       came_again c.in-Ok.paired.worker c.loop.paired.worker end.worker c.loop.invariant.0 on,
       awake_at_work end.pair end.worker awake c.finds_more.ensures.hand,
@@ -66,6 +66,6 @@ pub returns-then-not-finds_more-clause-tally : goal.returns-then-not-finds_more-
 returns-then-not-finds_more-clause-tally g c =
     let worked = c.work_off.new.self.worker in
     let end = c.finds_more.new.self.worker in
-    let m = g.V.Measured.measure c.args.graph.now in
+    let m = g.V.Measured.measure c.args.job.now.graph.now in
     let same = c.in_ok-worker.ensures.finished ∙ c.finds_more.ensures.finished in
     same_tally m worked c.in_ok-worker.worker c.work_off.new.tally same c.in_ok-work_off.ensures.tally

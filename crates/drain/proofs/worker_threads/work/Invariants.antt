@@ -11,4 +11,4 @@ invariant-loop g l =
     CameFrom l.initial.paired.worker l.paired.worker
     × IsAtWork l.paired.pair [] l.paired.worker
     × IsAwake l.paired.worker
-    × HasTallied (g.V.Measured.measure l.graph) l.paired.worker l.tally
+    × HasTallied (g.V.Measured.measure l.job.graph.now) l.paired.worker l.tally

@@ -2,7 +2,7 @@
 
 use super::{dump_of, one_class, put_instance, wide_array};
 use crate::{Gate, Options, mark};
-use heap_graph::Graph;
+use heap_graph::{Graph, Skip};
 use hprof_grammar::read;
 use std::alloc::{AllocError, Global};
 use std::sync::Wait;
@@ -95,7 +95,8 @@ fn marked<T: Threads + Wait + Sync, G: Gate>(
     gate: &G,
 ) -> Result<u64, Fail> {
     let places = read(alloc, dump).map_err(|_| "the dump is whole")?;
-    let graph = Graph::build(alloc, dump, places).map_err(|_| "the dump is linked")?;
+    let skip = Skip::none(alloc);
+    let graph = Graph::build(alloc, dump, places, &skip).map_err(|_| "the dump is linked")?;
     let marked = mark(rt, alloc, &graph, options, gate).map_err(|_| "nothing is refused")?;
     Ok(marked.len())
 }
@@ -103,11 +104,11 @@ fn marked<T: Threads + Wait + Sync, G: Gate>(
 #[test]
 fn workers_and_the_leader_have_their_numbers(rt: HostRuntime) -> Result<(), Fail> {
     let alloc = rt.alloc();
-    // roots, workers, buffers; the workers that came, and the calls of the leader
+    // Roots, workers, buffers; the workers that came, and the calls of the leader.
     let rows: [(u8, u32, u32, u64, u64); 2] = [
-        // there is a buffer of two roots for each of 64 workers, and none scans before all have come
+        // There is a buffer of two roots for each of 64 workers, and none scans before all have come.
         (128, 64, 1024, u64::MAX, 0),
-        // seven roots take all four buffers: the worker has no pair, and the leader scans all that there is
+        // Seven roots take all four buffers: the worker has no pair, and the leader scans all that there is.
         (7, 1, 4, 0, 8),
     ];
     for (roots, workers, buffers, come, by_leader) in rows {
@@ -134,7 +135,7 @@ fn workers_and_the_leader_have_their_numbers(rt: HostRuntime) -> Result<(), Fail
 fn a_worker_with_much_gives_to_one_with_nothing(rt: HostRuntime) -> Result<(), Fail> {
     let alloc = rt.alloc();
     let dump = wide_array(alloc)?;
-    // the first buffer of the worker that scans the array has room for all it refers to, so no put gives any away
+    // The first buffer of the worker that scans the array has room for all it refers to, so no put gives any away.
     let options = Options::new(2, 256, 1024, 0).map_err(|_| "they are in range")?;
     for _ in 0..RUNS {
         let gate = Meeting::new(rt, 2, 1);

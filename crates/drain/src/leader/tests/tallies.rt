@@ -2,7 +2,7 @@
 
 use super::{dump_of, one_class, wide_array};
 use crate::{NoGate, Options, mark};
-use heap_graph::{Graph, RowKey};
+use heap_graph::{Graph, RowKey, Skip};
 use hprof_grammar::read;
 use std::alloc::{AllocError, Global};
 use std::sync::Wait;
@@ -33,7 +33,8 @@ fn tells<T: Threads + Wait + Sync>(
     rows: &[(RowKey, (u64, u64))],
 ) -> Result<bool, Fail> {
     let places = read(alloc, dump).map_err(|_| "the dump is whole")?;
-    let graph = Graph::build(alloc, dump, places).map_err(|_| "the dump is linked")?;
+    let skip = Skip::none(alloc);
+    let graph = Graph::build(alloc, dump, places, &skip).map_err(|_| "the dump is linked")?;
     let options = Options::new(workers, 2, 1024, 0).map_err(|_| "they are in range")?;
     let marked = mark(rt, alloc, &graph, &options, &NoGate).map_err(|_| "nothing is refused")?;
     let mut right = marked.unresolved() == unresolved;
@@ -49,7 +50,7 @@ fn what_is_marked_is_told_by_rows(rt: HostRuntime) -> Result<(), Fail> {
     let wide = wide_array(alloc)?;
     let missing = two_missing(alloc)?;
     for workers in [1, 2, 4] {
-        // the array's 60 identifiers have 4 bytes each, and the instances none
+        // The array's 60 identifiers have 4 bytes each, and the instances none.
         let rows = [
             (RowKey::Class(0), (61, 240)),
             (RowKey::Class(1), (0, 0)),

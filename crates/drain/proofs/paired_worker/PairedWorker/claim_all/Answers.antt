@@ -33,7 +33,8 @@ claim_unless_seen-requires-clause-may g c =
 pub loop-object-preserved : goal.loop-object-preserved
 loop-object-preserved g c =
     let met = c.loop-object.invariant.2 in
-    let step = subst (λ r. g.I.Iterator.next_gives c.loop-object.objects r c.next.new.self) c.in-Some.is c.next.ensures.steps in
+    let step = subst (λ r. g.I.Iterator.next_gives c.loop-object.objects r c.next.new.self) c.in-Some.is
+    c.next.ensures.steps in
     let claimed =
     more_claimed met.0 (c.in-Some.object ∷ []) c.args.self.now.pair c.loop-object.self.pair
     c.claim_unless_seen.new.self.pair c.args.self.now.worker c.loop-object.self.worker

@@ -1,3 +1,4 @@
+-- Each root may be claimed as a root, and behind the last place of the list each was seen.
 use Rattle.std.proofs.Common.{[], ◌∙◌, ◌≡◌, ℕ, List, Contains, slice_index, below_more, inl, subst, sym, arith}
 use Rattle.std.proofs.lemmas.List.{get_or_default}
 use Rattle.std.proofs.lemmas.List.Elements.{Contains-get_or, Contains-push}
@@ -12,7 +13,8 @@ pub claim-requires-clause-may : goal.claim-requires-clause-may
 claim-requires-clause-may g c =
     let was = c.loop-root.invariant in
     let root = slice_index c.args.roots.now c.loop-root.root-index in
-    let here = subst (λ (rs : List ℕ). Contains rs root) c.requires.roots (Contains-get_or c.args.roots.now c.loop-root.root-index 0 c.loop-root-test.true) in
+    let here = subst (λ (rs : List ℕ). Contains rs root) c.requires.roots
+    (Contains-get_or c.args.roots.now c.loop-root.root-index 0 c.loop-root-test.true) in
     ([], was.1, inl (subst (λ (e : Setup). Contains e.roots root) (sym was.0.came.setup) here))
 
 pub loop-root-preserved : goal.loop-root-preserved
@@ -32,6 +34,9 @@ pub returns-clause-saw : goal.returns-clause-saw
 returns-clause-saw g c =
     λ o root.
     let was = c.loop-root.invariant in
-    let there = subst (λ (rs : List ℕ). Contains rs o) (sym c.requires.roots) (subst (λ (e : Setup). Contains e.roots o) was.0.came.setup root) in
-    let named : slice_index c.args.roots.now there.0 ≡ o = get_or_default c.args.roots.now there.0 0 o there.1 ∙ there.2 in
-    subst (Contains c.loop-root.self.worker.book.account.seen) named (was.2 there.0 (omega (arith, there.1, c.loop-root-test.false)))
+    let there = subst (λ (rs : List ℕ). Contains rs o) (sym c.requires.roots)
+    (subst (λ (e : Setup). Contains e.roots o) was.0.came.setup root) in
+    let named : slice_index c.args.roots.now there.0 ≡ o =
+    get_or_default c.args.roots.now there.0 0 o there.1 ∙ there.2 in
+    subst (Contains c.loop-root.self.worker.book.account.seen) named
+    (was.2 there.0 (omega (arith, there.1, c.loop-root-test.false)))

@@ -2,7 +2,8 @@
 use Rattle.std.proofs.Common.{◌*◌, ◌+◌, Some, ap, inl, inr, refl, sym, ◌∙◌, arith}
 use Rattle.std.proofs.lemmas.Bool.{false≢true}
 use Rattle.buffer_pool.specs.Book.{Book}
-use Rattle.drain.proofs.Idling.{awake_back, goes_idle, hand_still, may_idle, next_turn, none_still, sees_full, sees_idle}
+use Rattle.drain.proofs.Idling.{awake_back, goes_idle, hand_still, may_idle, next_turn, none_still, sees_full}
+use Rattle.drain.proofs.Idling.{sees_idle}
 use Rattle.drain.proofs.Idling.{still_back}
 use Rattle.drain.proofs.paired_worker.PairedWorker.finds_more.Goals as goal
 
@@ -60,7 +61,8 @@ returns-then-all_idle g c =
       hand = hand_still begun.pair before.pair begun.worker end same one.still c.requires.hand;
       none = none_still begun.pair before.pair begun.worker end same one.still c.requires.none;
       awake = λ more. absurd (false≢true more);
-      waited = λ left. inl (ap (λ (b : Book). b.account.last_idle) ask.sees.1 ∙ ap Some (ask.sees.2.0 c.if-all_idle.true));
+      waited = λ left. inl (ap (λ (b : Book). b.account.last_idle) ask.sees.1
+          ∙ ap Some (ask.sees.2.0 c.if-all_idle.true));
     }
 
 -- the full stack has a buffer

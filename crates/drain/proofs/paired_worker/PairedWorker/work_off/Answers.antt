@@ -6,7 +6,7 @@ use Rattle.drain.proofs.paired_worker.PairedWorker.work_off.Goals as goal
 
 pub scan_next-requires-clause-tally : goal.scan_next-requires-clause-tally
 scan_next-requires-clause-tally g c =
-    let m = g.V.Measured.measure c.args.graph.now in
+    let m = g.V.Measured.measure c.args.job.now.graph.now in
     let had : HasTallied m c.share.new.self.worker c.loop.tally =
     subst (λ (xs : List ℕ). Tallies m xs c.loop.tally) (sym c.in_ok-share.ensures.goes_on.finished) c.loop.invariant.3
     in

@@ -1,3 +1,4 @@
+-- No entry is at its place: that of place 0 is 1, and all others are 0.
 use native.Mathlib.Decide.{ℕ_discrete}
 use Rattle.std.proofs.Common.{◌≡◌, ℕ, ◌%◌, ◌<◌, ap, sym, ◌∙◌, arith, slice_index}
 use Rattle.std.specs.Prelude.{replicate, slice_set}

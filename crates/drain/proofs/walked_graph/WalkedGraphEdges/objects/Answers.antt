@@ -1,3 +1,4 @@
+-- The references of a graph are between its objects, of which `len` says how many there are.
 use Rattle.drain.proofs.Pairs.{pairs_within}
 use Rattle.drain.proofs.walked_graph.WalkedGraphEdges.objects.Goals as goal
 

@@ -1,3 +1,4 @@
+-- A graph that was built is whole, and that bounds its rows, bytes and unresolved identifiers.
 use Rattle.drain.proofs.Visits.{measured}
 use Rattle.drain.proofs.walked_graph.WalkedGraphMeasured.is_measured.Goals as goal
 

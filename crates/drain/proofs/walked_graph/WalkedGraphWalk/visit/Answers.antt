@@ -22,4 +22,4 @@ returns-clause-exact g c = record {
 pub returns-clause-ends : goal.returns-clause-ends
 returns-clause-ends g c end ended =
     let told = c.visit.ensures in
-    read_at_end c.args.self.now.graph.now c.args.object c.visit.result end told.row told.bytes told.missing ended
+    read_at_end c.args.self.now.graph.now c.args.object c.visit.result end told.row told.bytes told.unresolved ended

@@ -15,6 +15,5 @@ scoped-outcome-requires g c =
     let tally = subst (λ (xs : List ℕ). Tallies m xs c.in_ok-tally.tally) (sym finished) none in
     let sent = c.type_bounds.sync-V.shared in
     record {
-      at = λ _.
-          (search rules, (search (rules, arith), (search (rules, arith), (small, (tally, record { shared = sent })))));
+      at = λ _. (search rules, (search (rules, arith), (small, (tally, record { shared = sent }))));
     }

@@ -1,3 +1,4 @@
+-- The leader leads through the starts and through the joins, and each unit that went comes back.
 use Rattle.std.proofs.Common.{arith}
 use Rattle.drain.proofs.Leading.{leads_again}
 use Rattle.drain.proofs.Outcomes.{if_ok}

@@ -1,0 +1,48 @@
+-- Neither worker finished more than there is, so no sum overflows, and the joined list is tallied by both.
+use Rattle.std.proofs.Common.{List, ap, arith, length, subst, sym, ◌∙◌, ◌≤◌, ℕ}
+use Rattle.mark_core.specs.World.{Setup}
+use Rattle.buffer_pool.specs.Book.{Book}
+use Rattle.buffer_pool.specs.Calls.{Holder}
+use Rattle.drain.specs.working.Tallying.{Tallies}
+use Rattle.drain.proofs.Leading.{took_in}
+use Rattle.drain.proofs.Tallies.{tally_is_small}
+use Rattle.drain.proofs.worker_threads.put_in.Goals as goal
+
+pub join-requires-clause-rows : goal.join-requires-clause-rows
+join-requires-clause-rows g c = c.requires.tally.each ∙ sym c.requires.back.tally.each
+
+pub join-requires-clause-small : goal.join-requires-clause-small
+join-requires-clause-small g c =
+    let leader = c.args.leader in
+    tally_is_small leader.worker.book.setup.objects (g.V.Measured.measure c.args.graph.now) c.requires.measure
+    leader.worker.book.account.finished c.has_finished_few.ensures.few leader.tally.rows.items leader.tally.unresolved
+    c.requires.tally
+
+pub join-requires-clause-others : goal.join-requires-clause-others
+join-requires-clause-others g c =
+    let leader = c.args.leader.worker in
+    let back = c.args.back in
+    let few = subst (λ (e : Setup). length back.worker.book.account.finished ≤ e.objects) c.requires.back.setup
+    c.has_finished_few-2.ensures.few in
+    tally_is_small leader.book.setup.objects (g.V.Measured.measure c.args.graph.now) c.requires.measure
+    back.worker.book.account.finished few back.tally.rows.items back.tally.unresolved c.requires.back.tally
+
+pub returns-clause-leads : goal.returns-clause-leads
+returns-clause-leads g c =
+    let pool = ap (λ (h : Holder). h.pool) c.join-worker.ensures.together in
+    let book = ap (λ (h : Holder). h.book) c.join-worker.ensures.together in
+    took_in c.args.leader.worker c.args.back.worker c.join-worker.result pool book c.requires.back.free
+
+pub returns-clause-share : goal.returns-clause-share
+returns-clause-share g c =
+    let book = ap (λ (h : Holder). h.book) c.join-worker.ensures.together in
+    omega (arith, ap (λ (b : Book). b.account.share) book, c.requires.back.share)
+
+pub returns-clause-tally : goal.returns-clause-tally
+returns-clause-tally g c =
+    let m = g.V.Measured.measure c.args.graph.now in
+    let leader = c.args.leader.worker.book.account.finished in
+    let back = c.args.back.worker.book.account.finished in
+    let both = c.join.ensures m leader back c.requires.tally c.requires.back.tally in
+    let finished = ap (λ (h : Holder). h.book.account.finished) c.join-worker.ensures.together in
+    subst (λ (xs : List ℕ). Tallies m xs c.join.new.self) (sym finished) both

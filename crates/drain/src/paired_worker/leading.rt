@@ -1,0 +1,74 @@
+//! What the leader does before its workers run, and behind them.
+
+use crate::gate::Gate;
+use crate::job::Job;
+use crate::paired_worker::PairedWorker;
+use crate::tallied::Tallied;
+use crate::tally::Tally;
+use crate::walk::Walk;
+use buffer_pool::Pool;
+use std::alloc::Allocator;
+use std::sync::Wait;
+use work_pair::Stop;
+
+impl<A: Allocator> PairedWorker<A> {
+    ghost use Rattle.std.specs.Prelude.{◌≡◌, [], IfOk, OnOk};
+    ghost use Rattle.drain.specs.working.AtWork.{GoesOn, HasGiven, IsAtWork, IsSetupOf, IsThrough, SawRoots};
+    ghost use Rattle.drain.specs.working.Tallying.{HasTallied};
+
+    /// Claims each root, and puts those that were white into the pair.
+    fn claim_roots<R: Wait>(&mut self, rt: &R, pool: &Pool<A>, roots: &[u32]) -> Result<(), Stop>
+        requires pool { self.old.worker.pool ≡ pool.now }
+        requires roots { roots.now ≡ self.old.worker.book.setup.roots }
+        requires at_work { IsAtWork self.old.pair [] self.old.worker }
+        ensures goes_on { OnOk result (GoesOn self.old.worker self.new.worker) }
+        ensures at_work { OnOk result (IsAtWork self.new.pair [] self.new.worker) }
+        ensures saw { OnOk result (SawRoots self.new.worker) }
+    {
+        for root in roots {
+            self.claim(rt, pool, *root)?;
+        }
+        Ok(())
+    }
+
+    /// Claims each root, and then gives what is in the pair's buffers to others, as far as there are empty ones.
+    pub(crate) fn begin<R: Wait>(
+        &mut self,
+        rt: &R,
+        pool: &Pool<A>,
+        roots: &[u32],
+    ) -> Result<(), Stop>
+        requires pool { self.old.worker.pool ≡ pool.now }
+        requires roots { roots.now ≡ self.old.worker.book.setup.roots }
+        requires at_work { IsAtWork self.old.pair [] self.old.worker }
+        ensures goes_on { OnOk result (GoesOn self.old.worker self.new.worker) }
+        ensures at_work { OnOk result (IsAtWork self.new.pair [] self.new.worker) }
+        ensures saw { OnOk result (SawRoots self.new.worker) }
+        ensures given { OnOk result (HasGiven self.new.pair self.new.worker) }
+    {
+        self.claim_roots(rt, pool, roots)?;
+        self.publish(rt, pool)
+    }
+
+    /// Scans until no object is left, and gives the buffers back.
+    pub(crate) fn end<R: Wait, V: Walk, G: Gate, S>(
+        self,
+        rt: &R,
+        job: &Job<'_, A, V, G, S>,
+        tally: Tally<A>,
+    ) -> Result<Tallied<A>, Stop>
+        requires pool { self.worker.pool ≡ job.now.pool.now }
+        requires setup { IsSetupOf (V.count job.now.graph.now) (V.roots job.now.graph.now)
+            (V.pairs job.now.graph.now) self.worker.book.setup }
+        requires at_work { IsAtWork self.pair [] self.worker }
+        requires tally { HasTallied (V.measure job.now.graph.now) self.worker tally }
+        ensures through { IfOk result (λ t. IsThrough self.worker t.worker) }
+        ensures tally { IfOk result (λ t. HasTallied (V.measure job.now.graph.now) t.worker t.tally) }
+    {
+        let mut paired = self;
+        let mut tally = tally;
+        paired.drain(rt, job, job.workers, &mut tally)?;
+        let worker = paired.close(rt, job.pool)?;
+        Ok(Tallied { worker, tally })
+    }
+}
