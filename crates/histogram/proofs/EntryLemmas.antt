@@ -1,9 +1,11 @@
 -- The entries of a histogram by the numbers of the rows.
-use Rattle.std.proofs.Common.{◌≡◌, ℕ, ◌+◌, ◌-◌, ◌<◌, ◌≤◌, List, [], ◌∷◌, ◌++◌, inl, inr, length, map, get_or, filter, nat_lt, refl, sym, ap, ◌∙◌, arith, append-nil, length-append, zero-add}
+use Rattle.std.proofs.Common.{◌≡◌, ℕ, ◌+◌, ◌-◌, ◌<◌, ◌≤◌, List, [], ◌∷◌, ◌++◌, inl, inr, length, map, get_or, filter}
+use Rattle.std.proofs.Common.{nat_lt, refl, sym, ap, ◌∙◌, arith, append-nil, length-append, zero-add}
 use Rattle.std.specs.List.{range_with_len}
 use Rattle.std.proofs.lemmas.Bool.{le-ltb, lt-ltb}
 use Rattle.std.proofs.lemmas.List.{get_or-append-add, get_or_append_left, map-append}
-use Rattle.std.proofs.lemmas.List.FromFn.{fill_by_all, filter_of_map_range_with_len_more, get_or-map-range_with_len, length-map-range_with_len}
+use Rattle.std.proofs.lemmas.List.FromFn.{fill_by_all, filter_of_map_range_with_len_more, get_or-map-range_with_len}
+use Rattle.std.proofs.lemmas.List.FromFn.{length-map-range_with_len}
 use Rattle.std.proofs.lemmas.Simd.{map-map}
 use Rattle.histogram.specs.Histogram.{Entry, all_rows, entries, entry, of_row, total}
 use Rattle.heap_graph.specs.ObjectGraph.{ObjectGraph, class_count}
@@ -27,20 +29,24 @@ module _ (g : ObjectGraph) (n : ℕ) where
       get_or_append_left classes (primitives ++ keys.ClassObject ∷ []) keys.ClassObject n within
       ∙ get_or-map-range_with_len keys.Class 0 (class_count g) n n keys.ClassObject below (zero-add n)
 
-  behind : (k : ℕ) → n ≡ class_count g + k → get_or (all_rows g) n keys.ClassObject ≡ get_or (primitives ++ keys.ClassObject ∷ []) k keys.ClassObject
+  behind : (k : ℕ) → n ≡ class_count g + k
+      → get_or (all_rows g) n keys.ClassObject ≡ get_or (primitives ++ keys.ClassObject ∷ []) k keys.ClassObject
   unfolding classes primitives
   behind k is =
       let place : n ≡ length classes + k = omega (arith, is, length-map-range_with_len keys.Class 0 (class_count g)) in
-      ap (λ m. get_or (all_rows g) m keys.ClassObject) place ∙ get_or-append-add classes (primitives ++ keys.ClassObject ∷ []) k keys.ClassObject
+      ap (λ m. get_or (all_rows g) m keys.ClassObject) place
+      ∙ get_or-append-add classes (primitives ++ keys.ClassObject ∷ []) k keys.ClassObject
 
-  at_second : class_count g ≤ n → n < class_count g + 8 → get_or (all_rows g) n keys.ClassObject ≡ keys.Primitive (n - class_count g + 4)
+  at_second : class_count g ≤ n → n < class_count g + 8
+      → get_or (all_rows g) n keys.ClassObject ≡ keys.Primitive (n - class_count g + 4)
   unfolding primitives
   at_second past below =
       let k : ℕ = n - class_count g in
       let is : n ≡ class_count g + k = omega arith in
       let few : k < 8 = omega arith in
       let code : 4 + k ≡ k + 4 = omega arith in
-      behind k is ∙ get_or_append_left primitives (keys.ClassObject ∷ []) keys.ClassObject k few ∙ get_or-map-range_with_len keys.Primitive 4 8 k (k + 4) keys.ClassObject few code
+      behind k is ∙ get_or_append_left primitives (keys.ClassObject ∷ []) keys.ClassObject k few
+      ∙ get_or-map-range_with_len keys.Primitive 4 8 k (k + 4) keys.ClassObject few code
 
   at_last : n ≡ class_count g + 8 → get_or (all_rows g) n keys.ClassObject ≡ keys.ClassObject
   unfolding primitives
@@ -58,20 +64,25 @@ module _ (g : ObjectGraph) (n : ℕ) where
 pub length-all_rows : (g : ObjectGraph) → length (all_rows g) ≡ row_count g
 length-all_rows g = omega (
   arith,
-  length-append (map keys.Class (range_with_len 0 (class_count g))) (map keys.Primitive (range_with_len 4 8) ++ keys.ClassObject ∷ []),
+  length-append (map keys.Class (range_with_len 0 (class_count g)))
+      (map keys.Primitive (range_with_len 4 8) ++ keys.ClassObject ∷ []),
   length-map-range_with_len keys.Class 0 (class_count g),
 )
 
-pub all_rows_numbered : (g : ObjectGraph) → all_rows g ≡ map (numbered_row (class_count g)) (range_with_len 0 (row_count g))
-all_rows_numbered g = fill_by_all (numbered_row (class_count g)) (all_rows g) (row_count g) keys.ClassObject (length-all_rows g) (row_at_number g)
+pub all_rows_numbered : (g : ObjectGraph)
+    → all_rows g ≡ map (numbered_row (class_count g)) (range_with_len 0 (row_count g))
+all_rows_numbered g = fill_by_all (numbered_row (class_count g)) (all_rows g) (row_count g) keys.ClassObject
+    (length-all_rows g) (row_at_number g)
 
 pub entries_numbered : (g : ObjectGraph) (xs : List ℕ)
     → entries g xs ≡ entries_below g xs (row_count g)
 unfolding entries
 entries_numbered g xs = ap (λ rows. filter (λ e. nat_lt 0 e.count) (map (entry g xs) rows)) (all_rows_numbered g)
-    ∙ ap (filter (λ e. nat_lt 0 e.count)) (map-map (entry g xs) (numbered_row (class_count g)) (range_with_len 0 (row_count g)))
+    ∙ ap (filter (λ e. nat_lt 0 e.count))
+    (map-map (entry g xs) (numbered_row (class_count g)) (range_with_len 0 (row_count g)))
 
-pub all_entries : (g : ObjectGraph) (xs : List ℕ) (shown : List Entry) (n : ℕ) → n ≡ row_count g → shown ≡ entries_below g xs n → shown ≡ entries g xs
+pub all_entries : (g : ObjectGraph) (xs : List ℕ) (shown : List Entry) (n : ℕ) → n ≡ row_count g
+    → shown ≡ entries_below g xs n → shown ≡ entries g xs
 all_entries g xs shown n all are = are ∙ ap (entries_below g xs) all ∙ sym (entries_numbered g xs)
 
 -- what is told of a row, and a list of lines that grows by its line

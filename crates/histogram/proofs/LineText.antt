@@ -1,5 +1,7 @@
 -- The text of one line, and a text that grows piece by piece.
-use Rattle.std.proofs.Common.{◌≡◌, ℕ, ◌+◌, ◌-◌, ◌^◌, ◌<◌, List, [], ◌∷◌, ◌++◌, Result, Ok, Err, OnOk, is_ok, true, false, length, map, take, get_or, ◌≤◌, refl, ap, ◌∙◌, append_assoc, replicate, append-nil, suc, zero, arith}
+use Rattle.std.proofs.Common.{◌≡◌, ℕ, ◌+◌, ◌-◌, ◌^◌, ◌<◌, List, [], ◌∷◌, ◌++◌, Result, Ok, Err, OnOk, is_ok, true}
+use Rattle.std.proofs.Common.{false, length, map, take, get_or, ◌≤◌, refl, ap, ◌∙◌, append_assoc, replicate, append-nil}
+use Rattle.std.proofs.Common.{suc, zero, arith}
 use Rattle.std.specs.Fmt.{char_count, decimal, digits, format_spec, padded_integral, styled_decimal}
 use Rattle.std.specs.List.{flat_map, repeat}
 use lib.Utf8.{encode}
@@ -21,16 +23,21 @@ spaces (suc n) = ap (λ xs. 32 ∷ xs) (spaces n)
 
 -- padding before a text and none behind it, as std writes it
 in_parts : (before after padding : ℕ) (text : List ℕ) → before ≡ padding → after ≡ 0
-    → (((repeat {A = ℕ} before (32 ∷ []) ++ []) ++ []) ++ []) ++ (text ++ repeat {A = ℕ} after (32 ∷ [])) ≡ replicate padding 32 ++ text
+    → (((repeat {A = ℕ} before (32 ∷ []) ++ []) ++ []) ++ []) ++ (text ++ repeat {A = ℕ} after (32 ∷ []))
+    ≡ replicate padding 32 ++ text
 in_parts before after padding text same none = rw (same, none, spaces padding) (simp append-nil)
 
-pub right_aligned : (width : ℕ) (text : List ℕ) → padded_integral (format_spec 32 3 0 width (2 ^ 64 - 1)) false [] text ≡ right_in width text
+pub right_aligned : (width : ℕ) (text : List ℕ)
+    → padded_integral (format_spec 32 3 0 width (2 ^ 64 - 1)) false [] text ≡ right_in width text
 unfolding padded_integral char_count encode
-right_aligned width text = in_parts (width - length text - 0 - 0) (width - length text - 0 - 0 - (width - length text - 0 - 0)) (width - length text) text (omega arith) (omega arith)
+right_aligned width text =
+    let room = width - length text in
+    in_parts (room - 0 - 0) (room - 0 - 0 - (room - 0 - 0)) room text (omega arith) (omega arith)
 
 -- what the parts of a line were put together by
 pub line_appended : (old in_10 in_14 numbers named all : List ℕ) (count bytes : ℕ) (name : List ℕ)
-    → in_10 ≡ styled_decimal (format_spec 32 3 0 10 (2 ^ 64 - 1)) count → in_14 ≡ styled_decimal (format_spec 32 3 0 14 (2 ^ 64 - 1)) bytes
+    → in_10 ≡ styled_decimal (format_spec 32 3 0 10 (2 ^ 64 - 1)) count
+    → in_14 ≡ styled_decimal (format_spec 32 3 0 14 (2 ^ 64 - 1)) bytes
     → numbers ≡ old ++ (in_10 ++ 32 ∷ 32 ∷ (in_14 ++ 32 ∷ 32 ∷ []))
     → named ≡ numbers ++ name → all ≡ named ++ 10 ∷ [] → all ≡ old ++ line count bytes name
 unfolding line
@@ -39,17 +46,21 @@ line_appended old in_10 in_14 numbers named all count bytes name ten fourteen a 
 
 -- a byte that is not plain
 pub escaped : (old new : List ℕ) (byte : ℕ) → byte < 256 → is_plain byte ≡ false
-    → new ≡ old ++ 0x5C ∷ 0x78 ∷ padded_integral (format_spec 32 0 4 2 (2 ^ 64 - 1)) false [] (digits 16 false byte) → new ≡ old ++ shown_byte byte
+    → new ≡ old ++ 0x5C ∷ 0x78 ∷ padded_integral (format_spec 32 0 4 2 (2 ^ 64 - 1)) false [] (digits 16 false byte)
+    → new ≡ old ++ shown_byte byte
 escaped old new byte small not_plain is = rw not_plain (rw (hex_byte false byte small) at is)
 
 -- one more piece
-pub flat_map_step : {X : Type 0} (f : X → List ℕ) (start now next : List ℕ) (xs : List X) (i : ℕ) (d : X) → i < length xs
-    → now ≡ start ++ flat_map f (take i xs) → next ≡ now ++ f (get_or xs i d) → next ≡ start ++ flat_map f (take (i + 1) xs)
+pub flat_map_step : {X : Type 0} (f : X → List ℕ) (start now next : List ℕ) (xs : List X) (i : ℕ) (d : X)
+    → i < length xs → now ≡ start ++ flat_map f (take i xs) → next ≡ now ++ f (get_or xs i d)
+    → next ≡ start ++ flat_map f (take (i + 1) xs)
 flat_map_step f start now next xs i d below was step =
-    rw (take_more xs i d below) (step ∙ ap (λ t. t ++ f (get_or xs i d)) was ∙ flat_map_more f start (take i xs) (get_or xs i d))
+    rw (take_more xs i d below) (step ∙ ap (λ t. t ++ f (get_or xs i d)) was
+    ∙ flat_map_more f start (take i xs) (get_or xs i d))
 
 -- all rows, and three lines behind them
-pub report_made : {X : Type 0} (entry : X → Entry) (rows items : List X) (index : ℕ) (lines one two all first second third : List ℕ)
+pub report_made : {X : Type 0} (entry : X → Entry) (rows items : List X) (index : ℕ)
+    (lines one two all first second third : List ℕ)
     → items ≡ rows → length items ≤ index → lines ≡ flat_map (λ r. line_of (entry r)) (take index items)
     → one ≡ lines ++ first → two ≡ one ++ second → all ≡ two ++ third
     → all ≡ flat_map line_of (map entry rows) ++ (first ++ (second ++ third))

@@ -1,5 +1,6 @@
 -- The order of a histogram's rows: it is total, it tells any two entries apart, and a list has one arrangement in it.
-use Rattle.std.proofs.Common.{◌≡◌, ℕ, ◌+◌, ◌<◌, Bool, IsPermutation, IsSorted, List, [], ◌∷◌, true, false, cond, suc, length, map, get_or, count_by, refl, sym, ap, subst, ◌∙◌, arith}
+use Rattle.std.proofs.Common.{◌≡◌, ℕ, ◌+◌, ◌<◌, Bool, IsPermutation, IsSorted, List, [], ◌∷◌, true, false, cond, suc}
+use Rattle.std.proofs.Common.{length, map, get_or, count_by, refl, sym, ap, subst, ◌∙◌, arith}
 use Rattle.std.specs.Cmp.{IsTotalOrder}
 use Rattle.std.specs.List.Sorted.{IsSortedBy}
 use Rattle.std.specs.Ordering.{MatchOrdering, is_lt, nat_cmp, ordering_reverse, ordering_then}
@@ -15,10 +16,12 @@ use Rattle.histogram.specs.Histogram.{Entry, compare}
 pub compare_total : IsTotalOrder compare
 compare_total = then_total (back_total (on_total (λ (e : Entry). e.bytes) nat_cmp_total))
     (then_total (back_total (on_total (λ (e : Entry). e.count) nat_cmp_total))
-    (then_total (on_total (λ (e : Entry). e.name) nat_list_cmp_total) (on_total (λ (e : Entry). e.class) nat_cmp_total)))
+    (then_total (on_total (λ (e : Entry). e.name) nat_list_cmp_total)
+    (on_total (λ (e : Entry). e.class) nat_cmp_total)))
 
 -- what is sorted by what it is shown as is shown sorted
-pub sorted_map : {X Y : Type 0} (show : X → Y) (lt : Y → Y → Bool) (xs : List X) → IsSortedBy (λ a b. lt (show a) (show b)) xs → IsSortedBy lt (map show xs)
+pub sorted_map : {X Y : Type 0} (show : X → Y) (lt : Y → Y → Bool) (xs : List X)
+    → IsSortedBy (λ a b. lt (show a) (show b)) xs → IsSortedBy lt (map show xs)
 sorted_map show lt [] sorted = λ k d low below. absurd (omega (arith, below))
 sorted_map show lt (x ∷ xs) sorted = λ k d low below.
     let after : k + 1 < length (x ∷ xs) = omega (arith, below, length-map (x ∷ xs) show) in
@@ -64,7 +67,8 @@ module _ {X : Type 0} (R : X → X → Ordering) (total : IsTotalOrder R) (exact
       let e : suc k + 1 ≡ suc (k + 1) = omega arith in
       subst (λ m. is_lt (R (get_or (x ∷ xs) m d) (get_or xs k d)) ≡ false) e (sorted (suc k) d (omega arith) more)
 
-  count_none : (p : X → Bool) (xs : List X) → ((j : ℕ) (d : X) → j < length xs → p (get_or xs j d) ≡ false) → count_by p xs ≡ 0
+  count_none : (p : X → Bool) (xs : List X) → ((j : ℕ) (d : X) → j < length xs → p (get_or xs j d) ≡ false)
+      → count_by p xs ≡ 0
   count_none p [] none = refl
   count_none p (x ∷ xs) none = sum_by-cons (λ z. cond (p z) 1 0) x xs
       ∙ (rw (none 0 x (omega arith), count_none p xs (λ j d below. none (suc j) d (omega (arith, below)))) refl)
@@ -73,22 +77,30 @@ module _ {X : Type 0} (R : X → X → Ordering) (total : IsTotalOrder R) (exact
   count_first p x xs none = not_counted (p x) (count_by p xs) (sym (sum_by-cons (λ z. cond (p z) 1 0) x xs) ∙ none)
 
   -- of two lists that each test counts alike, where one is sorted, the other begins with nothing below its first
-  not_below : (x y : X) (xs ys : List X) → IsSorted R (y ∷ ys) → ((p : X → Bool) → count_by p (x ∷ xs) ≡ count_by p (y ∷ ys)) → is_lt (R x y) ≡ false
-  not_below x y xs ys sorted alike = count_first (λ z. is_lt (R z y)) x xs (alike (λ z. is_lt (R z y)) ∙ count_none (λ z. is_lt (R z y)) (y ∷ ys)
-      (λ j d below. sorted_far (λ a b. is_lt (R a b)) (ranks_by total (λ a. a)) (y ∷ ys) sorted 0 j d (omega arith) below))
+  not_below : (x y : X) (xs ys : List X) → IsSorted R (y ∷ ys)
+      → ((p : X → Bool) → count_by p (x ∷ xs) ≡ count_by p (y ∷ ys)) → is_lt (R x y) ≡ false
+  not_below x y xs ys sorted alike =
+      let p : X → Bool = λ z. is_lt (R z y) in
+      let far = sorted_far (λ a b. is_lt (R a b)) (ranks_by total (λ a. a)) (y ∷ ys) sorted 0 in
+      count_first p x xs (alike p ∙ count_none p (y ∷ ys) (λ j d below. far j d (omega arith) below))
 
-  pub one_order : (xs ys : List X) → IsSorted R xs → IsSorted R ys → ((p : X → Bool) → count_by p xs ≡ count_by p ys) → xs ≡ ys
+  pub one_order : (xs ys : List X) → IsSorted R xs → IsSorted R ys → ((p : X → Bool) → count_by p xs ≡ count_by p ys)
+      → xs ≡ ys
   one_order [] [] s t alike = refl
   one_order [] (y ∷ ys) s t alike = absurd (omega (arith, alike (λ z. true), sum_by-cons (λ (z : X). 1) y ys))
   one_order (x ∷ xs) [] s t alike = absurd (omega (arith, alike (λ z. true), sum_by-cons (λ (z : X). 1) x xs))
   one_order (x ∷ xs) (y ∷ ys) s t alike =
-      let first : x ≡ y = exact x y (neither_below (R x y) (R y x) (total.antisymm x y) (not_below x y xs ys t alike) (not_below y x ys xs s (λ p. sym (alike p)))) in
+      let above = not_below x y xs ys t alike in
+      let below = not_below y x ys xs s (λ p. sym (alike p)) in
+      let first : x ≡ y = exact x y (neither_below (R x y) (R y x) (total.antisymm x y) above below) in
       let alike_behind : (p : X → Bool) → count_by p xs ≡ count_by p ys = λ p.
-      omega (arith, alike p, sum_by-cons (λ z. cond (p z) 1 0) x xs, sum_by-cons (λ z. cond (p z) 1 0) y ys, ap (λ z. cond {A = ℕ} (p z) 1 0) first) in
+      let one : X → ℕ = λ z. cond (p z) 1 0 in
+      omega (arith, alike p, sum_by-cons one x xs, sum_by-cons one y ys, ap one first) in
       let rest = one_order xs ys (sorted_tail x xs s) (sorted_tail y ys t) alike_behind in
       λ i. first i ∷ rest i
 
 -- two arrangements of one list
-pub one_arrangement : (es xs ys : List Entry) → IsPermutation es xs → IsPermutation es ys → IsSorted compare xs → IsSorted compare ys → xs ≡ ys
+pub one_arrangement : (es xs ys : List Entry) → IsPermutation es xs → IsPermutation es ys → IsSorted compare xs
+    → IsSorted compare ys → xs ≡ ys
 one_arrangement es xs ys p q s t = one_order compare compare_total compare_exact xs ys s t
     (λ f. sum_by-IsPermutation (λ z. cond (f z) 1 0) es xs p ∙ sym (sum_by-IsPermutation (λ z. cond (f z) 1 0) es ys q))

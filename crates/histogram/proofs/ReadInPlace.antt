@@ -1,15 +1,18 @@
 -- A read in place: the filled front of a list grows by what was read behind it.
-use Rattle.std.proofs.Common.{Err, IfOk, List, Ok, Option, Result, ap, arith, drop, drop_at, length, subst, sym, take, ℕ, ◌+◌, ◌++◌, ◌≡◌, ◌≤◌, ◌∙◌}
+use Rattle.std.proofs.Common.{Err, IfOk, List, Ok, Option, Result, ap, arith, drop, drop_at, length, subst, sym, take}
+use Rattle.std.proofs.Common.{ℕ, ◌+◌, ◌++◌, ◌≡◌, ◌≤◌, ◌∙◌}
 use Rattle.std.specs.Io.{ReadsAtMost}
 use Rattle.std.specs.Io.KnownBytes.{Consumes, ReadConsumes}
 use Rattle.std.proofs.KnownBytes.{Consumes-trans}
 use Rattle.std.proofs.lemmas.List.{drop-take, take-append-drop, take-append-le, take-take}
 
 -- what was read into the part stands behind the front
-pub read_in_place : {E : Type 0} (a b : Option (List ℕ)) (r : Result ℕ E) (front part rest : List ℕ) (at : ℕ) → length front ≡ at → ReadsAtMost r part
+pub read_in_place : {E : Type 0} (a b : Option (List ℕ)) (r : Result ℕ E) (front part rest : List ℕ) (at : ℕ)
+    → length front ≡ at → ReadsAtMost r part
     → ReadConsumes a b r part → IfOk r (λ n. Consumes a b (take n (drop at (front ++ (part ++ rest)))))
 read_in_place a b (Ok n) front part rest at long fits read =
-    subst (Consumes a b) (sym (ap (take n) (drop_at front (part ++ rest) at long) ∙ take-append-le n part rest fits.0)) read.0
+    subst (Consumes a b) (sym (ap (take n) (drop_at front (part ++ rest) at long)
+    ∙ take-append-le n part rest fits.0)) read.0
 read_in_place a b (Err e) front part rest at long fits read = tt
 
 -- a list's beginning of n bytes more
@@ -21,4 +24,5 @@ grown xs ys at n front =
 -- what was consumed before, and then by a read behind it
 pub read_on : (a b c : Option (List ℕ)) (xs ys : List ℕ) (at n : ℕ) → take at ys ≡ take at xs
     → Consumes a b (take at xs) → Consumes b c (take n (drop at ys)) → Consumes a c (take (at + n) ys)
-read_on a b c xs ys at n front before behind = subst (Consumes a c) (grown xs ys at n front) (Consumes-trans a b c _ _ before behind)
+read_on a b c xs ys at n front before behind =
+    subst (Consumes a c) (grown xs ys at n front) (Consumes-trans a b c _ _ before behind)

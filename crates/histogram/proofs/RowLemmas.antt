@@ -1,6 +1,7 @@
 -- Rows by their numbers, and the objects of the rows below a number.
-use Rattle.std.proofs.Common.{Bool, ◌≡◌, ◌≢◌, ℕ, ◌+◌, ◌-◌, ◌<◌, ◌≤◌, ◌^◌, ◌⊎◌, List, [], ◌∷◌, true, false, cond, inl, inr}
-use Rattle.std.proofs.Common.{filter, length, nat_lt, slice_index_or, sum_by, refl, sym, ap, ◌∙◌, ⊎_elim, arith, eq-eqb, ne_eqb}
+use Rattle.std.proofs.Common.{Bool, ◌≡◌, ◌≢◌, ℕ, ◌+◌, ◌-◌, ◌<◌, ◌≤◌, ◌^◌, ◌⊎◌, List, [], ◌∷◌, true, false, cond, inl}
+use Rattle.std.proofs.Common.{filter, length, nat_lt, slice_index_or, sum_by, refl, sym, ap, ◌∙◌, ⊎_elim, arith, eq-eqb}
+use Rattle.std.proofs.Common.{inr, ne_eqb}
 use Rattle.std.proofs.lemmas.Bool.{cases_lt, cases_order, le-ltb, lt-ltb}
 use Rattle.std.proofs.lemmas.List.FromFn.{length-range_with_len}
 use Rattle.std.proofs.lemmas.List.Sums.{count_by-le-length, length-filter, sum_by-cons, sum_by-le}
@@ -19,18 +20,23 @@ use Rattle.drain.proofs.Places.{row_there}
 pub at_class : (classes n : ℕ) → n < classes → numbered_row classes n ≡ keys.Class n
 at_class classes n h = rw (lt-ltb n classes h) refl
 
-pub at_primitive : (classes n : ℕ) → classes ≤ n → n < classes + 8 → numbered_row classes n ≡ keys.Primitive (n - classes + 4)
+pub at_primitive : (classes n : ℕ) → classes ≤ n → n < classes + 8
+    → numbered_row classes n ≡ keys.Primitive (n - classes + 4)
 at_primitive classes n h k = rw (le-ltb n classes h, lt-ltb n (classes + 8) k) refl
 
 pub at_objects : (classes n : ℕ) → classes + 8 ≤ n → numbered_row classes n ≡ keys.ClassObject
-at_objects classes n h = let past : classes ≤ n = omega arith in rw (le-ltb n classes past, le-ltb n (classes + 8) h) refl
+at_objects classes n h =
+    let past : classes ≤ n = omega arith in
+    rw (le-ltb n classes past, le-ltb n (classes + 8) h) refl
 
 -- the three kinds of numbers
 pub number_kinds : (classes n : ℕ) → (n < classes) ⊎ (((classes ≤ n) × (n < classes + 8)) ⊎ (classes + 8 ≤ n))
-number_kinds classes n = elim (cases_lt n classes) [ inl h ↦ inl h | inr h ↦ elim (cases_lt n (classes + 8)) [ inl k ↦ inr (inl (h, k)) | inr k ↦ inr (inr k) ] ]
+number_kinds classes n = elim (cases_lt n classes)
+    [ inl h ↦ inl h | inr h ↦ elim (cases_lt n (classes + 8)) [ inl k ↦ inr (inl (h, k)) | inr k ↦ inr (inr k) ] ]
 
 -- a row is the one of its number, and of no other
-pub row_here : (g : ObjectGraph) (row : RowKey) → IsRowIn g row → same_row (numbered_row (class_count g) (row_number (class_count g) row)) row ≡ true
+pub row_here : (g : ObjectGraph) (row : RowKey) → IsRowIn g row
+    → same_row (numbered_row (class_count g) (row_number (class_count g) row)) row ≡ true
 row_here g (keys.Class n) h = rw (at_class (class_count g) n h) (eq-eqb n n refl)
 row_here g (keys.Primitive t) h =
     let behind : class_count g ≤ class_count g + (t - 4) = omega arith in
@@ -39,22 +45,30 @@ row_here g (keys.Primitive t) h =
     rw (at_primitive (class_count g) (class_count g + (t - 4)) behind before) (eq-eqb _ _ same)
 row_here g keys.ClassObject h = rw (at_objects (class_count g) (class_count g + 8) (omega arith)) refl
 
-pub row_elsewhere : (g : ObjectGraph) (row : RowKey) (n : ℕ) → IsRowIn g row → n < row_count g → n ≢ row_number (class_count g) row
+pub row_elsewhere : (g : ObjectGraph) (row : RowKey) (n : ℕ) → IsRowIn g row → n < row_count g
+    → n ≢ row_number (class_count g) row
     → same_row (numbered_row (class_count g) n) row ≡ false
 row_elsewhere g (keys.Class c) n h below other = elim (number_kinds (class_count g) n) [
   | inl k ↦ rw (at_class (class_count g) n k) (ne_eqb n c other)
-  | inr k ↦ elim k [ inl m ↦ rw (at_primitive (class_count g) n m.0 m.1) refl | inr m ↦ rw (at_objects (class_count g) n m) refl ]
+  | inr k ↦ elim k [
+    | inl m ↦ rw (at_primitive (class_count g) n m.0 m.1) refl
+    | inr m ↦ rw (at_objects (class_count g) n m) refl
+  ]
 ]
 row_elsewhere g (keys.Primitive t) n h below other = elim (number_kinds (class_count g) n) [
   | inl k ↦ rw (at_class (class_count g) n k) refl
   | inr k ↦ elim k [
-    | inl m ↦ rw (at_primitive (class_count g) n m.0 m.1) (ne_eqb (n - class_count g + 4) t (λ e. other (omega (arith, e, h.0, m.0))))
+    | inl m ↦ rw (at_primitive (class_count g) n m.0 m.1)
+        (ne_eqb (n - class_count g + 4) t (λ e. other (omega (arith, e, h.0, m.0))))
     | inr m ↦ rw (at_objects (class_count g) n m) refl
   ]
 ]
 row_elsewhere g keys.ClassObject n h below other = elim (number_kinds (class_count g) n) [
   | inl k ↦ rw (at_class (class_count g) n k) refl
-  | inr k ↦ elim k [ inl m ↦ rw (at_primitive (class_count g) n m.0 m.1) refl | inr m ↦ absurd (other (omega (arith, m, below))) ]
+  | inr k ↦ elim k [
+    | inl m ↦ rw (at_primitive (class_count g) n m.0 m.1) refl
+    | inr m ↦ absurd (other (omega (arith, m, below)))
+  ]
 ]
 
 pub number_within : (g : ObjectGraph) (row : RowKey) → IsRowIn g row → row_number (class_count g) row < row_count g
@@ -150,7 +164,8 @@ module _ (g : ObjectGraph) (whole : IsWhole g) where
   below_all n [] all = refl
   below_all n (x ∷ xs) all =
       let within = number_within g (row_at g x) (row_there g whole x) in
-      (λ k. cond (lt-ltb (number_at x) n (omega (arith, within, all)) k) (x ∷ objects_below g n xs) (objects_below g n xs))
+      (λ k. cond (lt-ltb (number_at x) n (omega (arith, within, all)) k) (x ∷ objects_below g n xs)
+      (objects_below g n xs))
       ∙ ap (λ ys. x ∷ ys) (below_all n xs all)
 
   pub count_next :

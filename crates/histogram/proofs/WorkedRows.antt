@@ -1,8 +1,9 @@
 -- The definitions on small dumps, by computation.
-use Rattle.std.proofs.Common.{Bool, List, Some, [], codes, refl, true, false, ℕ, ◌++◌, ◌∷◌, ◌≡◌, slice_get, subst, sym, zero, suc}
+use Rattle.std.proofs.Common.{Bool, List, Some, [], codes, refl, true, false, ℕ, ◌++◌, ◌∷◌, ◌≡◌, slice_get, subst, sym}
+use Rattle.std.proofs.Common.{zero, suc}
 use Rattle.std.specs.Fmt.{digits}
 use Rattle.hprof_grammar.specs.Tables.{size_of}
-use Rattle.hprof_grammar.specs.SubRecord.{Class, Member, SubRecord}
+use Rattle.hprof_grammar.specs.SubRecord.{Class, Instance, Member, SubRecord}
 use Rattle.hprof_grammar.specs.SubRecord.RootOrigin.{unknown}
 use Rattle.hprof_grammar.specs.SubRecord.SubRecord.{class_dump, instance_dump, root}
 use Rattle.hprof_grammar.specs.Record.{Record}
@@ -12,6 +13,7 @@ use Rattle.heap_graph.specs.Heap.{heap_of, objects}
 use Rattle.heap_graph.specs.Layout.{IsChain, layout_size}
 use Rattle.heap_graph.specs.ObjectGraph.{IsGraphOf, ObjectGraph}
 use Rattle.heap_graph.specs.References.{AreIdsIn, instance_ids, targets}
+use Rattle.heap_graph.specs.Skips.{SkipEntry, is_skipped}
 use Rattle.histogram.specs.Report.{line, report_of}
 use Rattle.histogram.specs.Histogram.{Histogram, entries, marked_objects, total, unmarked_objects}
 
@@ -19,10 +21,26 @@ abbrev member : ℕ → Member
 member type = record { name = 2; type = type }
 
 abbrev class_with : ℕ → ℕ → List Member → Class
-class_with id super members = record { object = id; stack = 0; super = super; loader = 0; signers = 0; domain = 0; reserved = 0; reserved_too = 0; instance_size = 0; constants = []; statics = []; members = members }
+class_with id super members = record {
+  object = id;
+  stack = 0;
+  super = super;
+  loader = 0;
+  signers = 0;
+  domain = 0;
+  reserved = 0;
+  reserved_too = 0;
+  instance_size = 0;
+  constants = [];
+  statics = [];
+  members = members;
+}
+
+abbrev instance_of : ℕ → ℕ → List ℕ → Instance
+instance_of id class values = record { object = id; stack = 0; class = class; values = values }
 
 abbrev instance_with : ℕ → ℕ → List ℕ → SubRecord
-instance_with id class values = instance_dump (record { object = id; stack = 0; class = class; values = values })
+instance_with id class values = instance_dump (instance_of id class values)
 
 abbrev root_at : ℕ → SubRecord
 root_at id = root (record { object = id; origin = unknown })
@@ -36,7 +54,11 @@ abbrev class_a : Class
 class_a = class_with 0x100 0 (member 2 ∷ [])
 
 abbrev two : List Record
-two = string 0 1 (codes "A") ∷ load_class 0 1 0x100 0 1 ∷ heap 0x0C 0 (class_dump class_a ∷ instance_with 0x201 0x100 (0 ∷ 0 ∷ 2 ∷ 2 ∷ []) ∷ instance_with 0x202 0x100 (0 ∷ 0 ∷ 2 ∷ 1 ∷ []) ∷ root_at 0x201 ∷ []) ∷ []
+two =
+    let first = instance_with 0x201 0x100 (0 ∷ 0 ∷ 2 ∷ 2 ∷ []) in
+    let second = instance_with 0x202 0x100 (0 ∷ 0 ∷ 2 ∷ 1 ∷ []) in
+    let subs = class_dump class_a ∷ first ∷ second ∷ root_at 0x201 ∷ [] in
+    string 0 1 (codes "A") ∷ load_class 0 1 0x100 0 1 ∷ heap 0x0C 0 subs ∷ []
 
 abbrev graph_of_two : ObjectGraph
 graph_of_two = record {
@@ -51,7 +73,9 @@ graph_of_two = record {
   unresolved = 0;
 }
 
-two_references : targets (heap_of two) (instance_ids 4 (record { object = 0x201; stack = 0; class = 0x100; values = 0 ∷ 0 ∷ 2 ∷ 2 ∷ [] }) (class_a ∷ [])) ≡ 0 ∷ 2 ∷ []
+two_references :
+    let first = instance_of 0x201 0x100 (0 ∷ 0 ∷ 2 ∷ 2 ∷ []) in
+    targets (heap_of two) (instance_ids (is_skipped two []) 4 first (class_a ∷ [])) ≡ 0 ∷ 2 ∷ []
 unfolding size_of
 two_references = refl
 
@@ -66,18 +90,28 @@ histogram_of g marks = record {
 
 -- its report, all objects reachable
 two_report : report_of (histogram_of graph_of_two (true ∷ true ∷ true ∷ [])) ≡
-    codes "         2               8  A" ++ 10 ∷ codes "         1               0  <class>" ++ 10 ∷ codes "         3               8  (reachable)" ++ 10 ∷ codes "         0               0  (unreachable)" ++ 10 ∷ codes "         0               0  (unresolved)" ++ 10 ∷ []
+    codes "         2               8  A" ++ 10 ∷
+    codes "         1               0  <class>" ++ 10 ∷
+    codes "         3               8  (reachable)" ++ 10 ∷
+    codes "         0               0  (unreachable)" ++ 10 ∷
+    codes "         0               0  (unresolved)" ++ 10 ∷ []
 unfolding digits line entries
 two_report = refl
 
-two_id_lists : (n : ℕ) (o : SubRecord) (ids : List ℕ) → slice_get (objects (heap_of two)) n ≡ Some o → slice_get ((0 ∷ 0 ∷ 0 ∷ 0 ∷ []) ∷ (0x100 ∷ 0x202 ∷ []) ∷ (0x100 ∷ 0x201 ∷ []) ∷ []) n ≡ Some ids → AreIdsIn 4 (heap_of two) o ids
+abbrev AreIdsOfTwo : List ℕ → SubRecord → Type 0
+AreIdsOfTwo ids o = AreIdsIn (is_skipped two []) 4 (heap_of two) o ids
+
+two_id_lists : (n : ℕ) (o : SubRecord) (ids : List ℕ) → slice_get (objects (heap_of two)) n ≡ Some o
+    → slice_get graph_of_two.held n ≡ Some ids → AreIdsOfTwo ids o
 unfolding size_of
-two_id_lists zero o ids e f = subst (λ (x : SubRecord). AreIdsIn 4 (heap_of two) x ids) (some_inj e) (sym (some_inj f))
-two_id_lists (suc zero) o ids e f = subst (λ (x : SubRecord). AreIdsIn 4 (heap_of two) x ids) (some_inj e) (class_a ∷ [], (refl, refl), sym (some_inj f))
-two_id_lists (suc (suc zero)) o ids e f = subst (λ (x : SubRecord). AreIdsIn 4 (heap_of two) x ids) (some_inj e) (class_a ∷ [], (refl, refl), sym (some_inj f))
+two_id_lists zero o ids e f = subst (AreIdsOfTwo ids) (some_inj e) (sym (some_inj f))
+two_id_lists (suc zero) o ids e f =
+    subst (AreIdsOfTwo ids) (some_inj e) (class_a ∷ [], (refl, refl), sym (some_inj f))
+two_id_lists (suc (suc zero)) o ids e f =
+    subst (AreIdsOfTwo ids) (some_inj e) (class_a ∷ [], (refl, refl), sym (some_inj f))
 two_id_lists (suc (suc (suc n))) o ids e f = cc
 
-two_is_its_graph : IsGraphOf 4 two graph_of_two
+two_is_its_graph : IsGraphOf 4 two [] graph_of_two
 unfolding size_of
 two_is_its_graph = record {
   ids_are = refl;
@@ -96,7 +130,7 @@ two_is_its_graph = record {
 abbrev graph_of_four : ObjectGraph
 graph_of_four = record {
   ids = 0x100 ∷ 0x201 ∷ 0x202 ∷ 0x203 ∷ 0x204 ∷ [];
-  held = (0 ∷ 0 ∷ 0 ∷ 0 ∷ []) ∷ (0x100 ∷ 0x202 ∷ []) ∷ (0x100 ∷ 0x201 ∷ []) ∷ (0x100 ∷ 0x204 ∷ []) ∷ (0x100 ∷ 0x203 ∷ []) ∷ [];
+  held = graph_of_two.held ++ (0x100 ∷ 0x204 ∷ []) ∷ (0x100 ∷ 0x203 ∷ []) ∷ [];
   references = [] ∷ (0 ∷ 2 ∷ []) ∷ (0 ∷ 1 ∷ []) ∷ (0 ∷ 4 ∷ []) ∷ (0 ∷ 3 ∷ []) ∷ [];
   root_names = 0x201 ∷ [];
   roots = 1 ∷ [];
@@ -107,7 +141,11 @@ graph_of_four = record {
 }
 
 four_report : report_of (histogram_of graph_of_four (true ∷ true ∷ true ∷ false ∷ false ∷ [])) ≡
-    codes "         2               8  A" ++ 10 ∷ codes "         1               0  <class>" ++ 10 ∷ codes "         3               8  (reachable)" ++ 10 ∷ codes "         2               8  (unreachable)" ++ 10 ∷ codes "         0               0  (unresolved)" ++ 10 ∷ []
+    codes "         2               8  A" ++ 10 ∷
+    codes "         1               0  <class>" ++ 10 ∷
+    codes "         3               8  (reachable)" ++ 10 ∷
+    codes "         2               8  (unreachable)" ++ 10 ∷
+    codes "         0               0  (unresolved)" ++ 10 ∷ []
 unfolding digits line entries
 four_report = refl
 
@@ -117,7 +155,10 @@ abbrev class_b : Class
 class_b = class_with 0x110 0x100 (member 10 ∷ [])
 
 abbrev below : List Record
-below = heap 0x0C 0 (class_dump class_b ∷ class_dump class_a ∷ instance_with 0x301 0x110 (0 ∷ 0 ∷ 0 ∷ 5 ∷ 0 ∷ 0 ∷ 2 ∷ 2 ∷ []) ∷ instance_with 0x202 0x100 (0 ∷ 0 ∷ 0 ∷ 0 ∷ []) ∷ root_at 0x301 ∷ []) ∷ []
+below =
+    let first = instance_with 0x301 0x110 (0 ∷ 0 ∷ 0 ∷ 5 ∷ 0 ∷ 0 ∷ 2 ∷ 2 ∷ []) in
+    let second = instance_with 0x202 0x100 (0 ∷ 0 ∷ 0 ∷ 0 ∷ []) in
+    heap 0x0C 0 (class_dump class_b ∷ class_dump class_a ∷ first ∷ second ∷ root_at 0x301 ∷ []) ∷ []
 
 below_chain : IsChain (heap_of below) 0x110 (class_b ∷ class_a ∷ [])
 below_chain = (refl, (refl, refl))
@@ -126,6 +167,42 @@ below_size : layout_size 4 (class_b ∷ class_a ∷ []) ≡ 8
 unfolding size_of
 below_size = refl
 
-below_references : targets (heap_of below) (instance_ids 4 (record { object = 0x301; stack = 0; class = 0x110; values = 0 ∷ 0 ∷ 0 ∷ 5 ∷ 0 ∷ 0 ∷ 2 ∷ 2 ∷ [] }) (class_b ∷ class_a ∷ [])) ≡ 0 ∷ 3 ∷ []
+below_references :
+    let first = instance_of 0x301 0x110 (0 ∷ 0 ∷ 0 ∷ 5 ∷ 0 ∷ 0 ∷ 2 ∷ 2 ∷ []) in
+    targets (heap_of below) (instance_ids (is_skipped below []) 4 first (class_b ∷ class_a ∷ [])) ≡ 0 ∷ 3 ∷ []
 unfolding size_of
 below_references = refl
+
+-- ---- a field of a class, or of the class above it that has the same name, is not followed
+
+abbrev class_t : Class
+class_t = class_with 0x110 0x100 (member 2 ∷ [])
+
+abbrev named : List Record
+named =
+    let strings = string 0 1 (codes "S") ∷ string 0 2 (codes "referent") ∷ string 0 3 (codes "T") ∷ [] in
+    strings ++ load_class 0 1 0x100 0 1 ∷ load_class 0 1 0x110 0 3 ∷ []
+
+abbrev entry : List ℕ → SkipEntry
+entry class = record { class = class; field = codes "referent" }
+
+abbrev followed : List SkipEntry → List ℕ
+followed skip =
+    let object = instance_of 0x201 0x110 (0 ∷ 0 ∷ 2 ∷ 2 ∷ 0 ∷ 0 ∷ 2 ∷ 3 ∷ []) in
+    instance_ids (is_skipped named skip) 4 object (class_t ∷ class_a ∷ [])
+
+all_followed : followed [] ≡ 0x110 ∷ 0x202 ∷ 0x203 ∷ []
+unfolding size_of
+all_followed = refl
+
+first_skipped : followed (entry (codes "T") ∷ []) ≡ 0x110 ∷ 0x203 ∷ []
+unfolding size_of
+first_skipped = refl
+
+second_skipped : followed (entry (codes "S") ∷ []) ≡ 0x110 ∷ 0x202 ∷ []
+unfolding size_of
+second_skipped = refl
+
+none_left : followed (entry (codes "S") ∷ entry (codes "T") ∷ []) ≡ 0x110 ∷ []
+unfolding size_of
+none_left = refl

@@ -3,6 +3,7 @@ use Rattle.std.specs.Prelude.{Bool, List, [], codes, decimal, flat_map, length, 
 use Rattle.histogram.specs.Histogram.{Entry, Histogram, IsHistogram}
 use Rattle.heap_graph.specs.Reachable.{MarksReachableOf}
 use Rattle.heap_graph.specs.ObjectGraph.{IsGraphOfText, ObjectGraph}
+use Rattle.heap_graph.specs.Skips.{SkipEntry}
 
 -- right in so many places; a wider number is not cut
 abbrev pub right_in : ℕ → List ℕ → List ℕ
@@ -23,11 +24,11 @@ report_of h =
     ++ (line h.reachable.0 h.reachable.1 (codes "(reachable)")
     ++ (line h.unreachable.0 h.unreachable.1 (codes "(unreachable)") ++ line h.unresolved 0 (codes "(unresolved)")))
 
--- The report of a text: the text is accepted, and this is what is written of the histogram of its graph with exactly
--- the reachable objects marked.
-pub record IsReport (text report : List ℕ) : Type 0 where
+-- The report of a text and a list of fields that are not followed: the text is accepted, and this is what is written of
+-- the histogram of its graph without those fields, with exactly the reachable objects marked.
+pub record IsReport (text : List ℕ) (skip : List SkipEntry) (report : List ℕ) : Type 0 where
   pub graph : ObjectGraph
-  pub graph_is : IsGraphOfText text graph
+  pub graph_is : IsGraphOfText text skip graph
   pub marks : List Bool
   pub marks_are : MarksReachableOf graph marks
   pub histogram : Histogram

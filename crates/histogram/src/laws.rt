@@ -1,7 +1,9 @@
 //! A report is determined, as laws: functions that do nothing.
+
 ghost use Rattle.std.specs.Prelude.{◌≡◌, Bool, List, ℕ};
 ghost use Rattle.histogram.specs.Histogram.{Histogram, IsHistogram};
 ghost use Rattle.heap_graph.specs.ObjectGraph.{ObjectGraph};
+ghost use Rattle.heap_graph.specs.Skips.{SkipEntry};
 ghost use Rattle.histogram.specs.Report.{IsReport};
 
 use drain::one_marking;
@@ -16,11 +18,13 @@ pub fn one_histogram()
         → h ≡ k }
 {}
 
-/// A text has at most one report.
+/// A text and a list of fields that are not followed have at most one report.
 ///
-/// It has one graph, that graph one list of marks that are exactly at the reachable objects, and those one histogram.
+/// They have one graph, that graph one list of marks that are exactly at the reachable objects, and those one
+/// histogram.
 pub fn one_report()
-    ensures { (text report other : List ℕ) → IsReport text report → IsReport text other → report ≡ other }
+    ensures { (text : List ℕ) (skip : List SkipEntry) (report other : List ℕ) → IsReport text skip report
+        → IsReport text skip other → report ≡ other }
 {
     one_graph();
     one_marking();

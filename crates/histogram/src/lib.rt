@@ -1,4 +1,20 @@
 //! The histogram of a marked heap, and its report.
+//!
+//! `rows` makes the histogram of a graph and of a marking of it: a line for each row with a marked object, and the
+//! three totals. `write_report` writes its text and nothing else. `Counted` stands around a reader or a writer and
+//! counts its failures, so that contracts can say which calls failed.
+//!
+//! From `src/tests.rt`, which is proved and run:
+//!
+//!     let mut reader = Counted::new(Endless { given: 0 });
+//!     let bytes = reader.read_to_limit(rt.alloc(), limit)?;
+//!     assert_eq!(rt; bytes.len(), limit);
+//!     let Endless { given } = reader.into_inner();
+//!     assert_eq!(rt; given, limit, "no read behind the limit");
+//!
+//! The definition of the histogram stands in `specs/Histogram.antt`, that of its text in `specs/Report.antt`; both in
+//! words in `docs/HISTOGRAM.md` and `docs/FORMAT.md`.
+
 #![tactic(auto)]
 
 mod counted;

@@ -1,8 +1,9 @@
 //! The rows of a histogram in order, and its totals.
+
 ghost use Rattle.std.specs.Prelude.{◌≡◌, IfOk, IsPermutation, IsSorted, map};
 ghost use Rattle.drain.specs.Marks.{IsMarkingOf};
 ghost use Rattle.histogram.specs.Histogram.{IsHistogram, compare, entries, marked_objects, unmarked_objects};
-ghost use Rattle.heap_graph.specs.Whole.{IsRowIn, missing_of};
+ghost use Rattle.heap_graph.specs.Whole.{IsRowIn, unresolved_among};
 ghost use Rattle.histogram.specs.Lines.{entry_of, histogram_of};
 ghost use Rattle.histogram.specs.working.RowNumbers.{row_entry};
 
@@ -15,9 +16,10 @@ use heap_graph::{Graph, RowKey};
 use std::alloc::{AllocError, Allocator};
 use std::cmp::Ordering;
 
-/// The histogram of the marked objects of a graph, whose marking these marks are.
+/// Makes the histogram of a graph and of a marking of it: a line for each row that has a marked object, in the order of
+/// the report, and the three totals.
 ///
-/// The only error is that memory was refused.
+/// The only error is that a request for memory was refused.
 pub fn rows<A: Allocator + Clone, B: Allocator, C: Allocator>(
     alloc: A,
     graph: &Graph<'_, B>,
@@ -44,10 +46,10 @@ fn all_unresolved<A: Allocator, B: Allocator>(
     unmarked: u64,
 ) -> u64
     requires marking { IsMarkingOf graph.now marks.now }
-    requires unmarked { unmarked ≡ missing_of graph.now (unmarked_objects graph.now marks.now.marks) }
+    requires unmarked { unmarked ≡ unresolved_among graph.now (unmarked_objects graph.now marks.now.marks) }
     ensures { result ≡ graph.now.unresolved }
 {
-    // a graph has few objects, so neither sum overflows
+    // A graph has few objects, so neither sum overflows.
     let _objects = graph.len();
     marks.unresolved() + unmarked + graph.unresolved()
 }

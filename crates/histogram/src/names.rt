@@ -1,4 +1,5 @@
 //! The names that a report shows.
+
 ghost use Rattle.std.specs.Prelude.{◌≡◌, ◌<◌, ◌++◌, IfOk, OnOk};
 ghost use Rattle.heap_graph.specs.ObjectGraph.{class_at, class_count};
 ghost use Rattle.heap_graph.specs.Whole.{IsRowIn};

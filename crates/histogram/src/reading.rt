@@ -1,4 +1,5 @@
 //! Reading up to a limit.
+
 ghost use Rattle.std.specs.Prelude.{◌≡◌, ◌≢◌, ◌+◌, ◌-◌, ◌^◌, ◌<◌, ◌≤◌, ◌↔◌, if◌then◌else◌, take, drop, is_err, length};
 ghost use Rattle.std.specs.Prelude.{IfOk, IfSome, IsErrOf, OnErr, OnOk, vec_len};
 ghost use Rattle.std.specs.Io.KnownBytes.{Consumes, IsAtEnd, Keeps};
@@ -21,14 +22,14 @@ pub enum ReaderRefusal {
     OutOfMemory,
 }
 
-/// How many bytes one read asks for at most, and room for how many is taken where none is left.
+/// How many bytes one read asks for at most, and how much room is made where none is left.
 const CHUNK: usize = 262_144;
 
 impl<R: Read> Counted<R> {
     /// Reads until a read answers 0 or `limit` bytes are there, straight into the answer.
     ///
-    /// A read that fails ends the call, and is not tried again. Of the bytes read before a refusal it is said only how
-    /// many there are at most.
+    /// `ReadFault`: a read failed; it is not tried again. `OutOfMemory`: the memory for the bytes was refused. Of the
+    /// bytes read before a refusal it is said only how many there are at most.
     pub fn read_to_limit<A: Allocator>(
         &mut self,
         alloc: A,

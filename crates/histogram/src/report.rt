@@ -1,4 +1,5 @@
 //! The histogram as a value.
+
 use std::alloc::Allocator;
 
 /// The rows of a histogram in the order of the report, and its totals.

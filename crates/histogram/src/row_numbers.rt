@@ -1,4 +1,5 @@
 //! The rows of a graph by their numbers, and what a marking tells of them.
+
 ghost use Rattle.std.specs.Prelude.{◌≡◌, ◌<◌};
 ghost use Rattle.drain.specs.Marks.{IsMarkingOf};
 ghost use Rattle.histogram.specs.Histogram.{marked_objects, total};
@@ -17,7 +18,7 @@ pub(crate) fn row_count<A: Allocator>(graph: &Graph<'_, A>) -> usize
     graph.classes() as usize + 9
 }
 
-/// The row of a number: the classes, then the types 4 to 11, then the class objects.
+/// The row of this number: first come the classes, then the types 4 to 11, and last the class objects.
 pub(crate) fn row_of_number<A: Allocator>(graph: &Graph<'_, A>, number: usize) -> RowKey
     requires { number < row_count graph.now }
     ensures value { result ≡ numbered_row (class_count graph.now) number }
@@ -41,7 +42,7 @@ pub(crate) fn reachable<A: Allocator, B: Allocator>(
     requires { IsMarkingOf graph.now marks.now }
     ensures { result ≡ total graph.now (marked_objects graph.now marks.now.marks) }
 {
-    // a graph has few objects, so neither sum overflows
+    // A graph has few objects, so neither sum overflows.
     let _objects = graph.len();
     let mut count = 0;
     let mut bytes = 0;

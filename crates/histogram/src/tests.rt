@@ -1,11 +1,12 @@
 //! What no clause says: that calls succeed, and the worked reports.
 
 use super::*;
-use limited_heap::LimitedHeap;
 use std::alloc::{AllocError, Global};
 use std::io;
 use std::io::{Read, Write};
 use std::test::Fail;
+
+mod memory;
 
 /// A reader that gives one byte a call, and fails at one call.
 #[derive(Drop)]
@@ -224,55 +225,6 @@ fn a_write_fault_leaves_a_beginning(rt: HostRuntime) -> Result<(), Fail> {
                 (10 * before as usize).min(123),
                 "behind {before} calls"
             );
-        }
-    }
-    Ok(())
-}
-
-#[test]
-fn want_of_memory_writes_nothing(rt: HostRuntime) -> Result<(), Fail> {
-    let report = two_objects(&rt)?;
-    for requests in 0..32 {
-        let heap = LimitedHeap::new(rt.alloc(), requests);
-        let mut writer = Counted::new(Vec::new(rt.alloc()));
-        let outcome = write_report(&heap, &report, &mut writer);
-        if heap.refusals() == 0 {
-            assert_eq!(rt; outcome, Ok(()));
-            assert_eq!(rt; writer.into_inner().as_slice(), TWO_OBJECTS.as_bytes());
-            assert!(rt; requests > 0, "a request was refused");
-            return Ok(());
-        }
-        assert_eq!(rt;
-            outcome,
-            Err(WriteRefusal::OutOfMemory),
-            "{requests} requests"
-        );
-        assert!(rt; writer.into_inner().is_empty());
-    }
-    assert!(rt; false, "32 requests are too few");
-    Ok(())
-}
-
-#[test]
-fn want_of_memory_is_no_read_fault(rt: HostRuntime) -> Result<(), Fail> {
-    // room for what is expected is one request, and so is each growth
-    for expected in [0, 4, 5] {
-        let heap = LimitedHeap::new(rt.alloc(), 0);
-        let mut reader = Counted::of_size(b"heap".as_slice(), expected);
-        let outcome = reader.read_to_limit(&heap, 9).map(|bytes| bytes.len());
-        assert_eq!(rt; outcome, Err(ReaderRefusal::OutOfMemory));
-        assert_eq!(rt; reader.failures(), 0);
-        let heap = LimitedHeap::new(rt.alloc(), 1);
-        let mut reader = Counted::of_size(b"heap".as_slice(), expected);
-        let outcome = reader.read_to_limit(&heap, 9).map(|bytes| bytes.len());
-        if expected == 4 {
-            assert_eq!(rt;
-                outcome,
-                Err(ReaderRefusal::OutOfMemory),
-                "no room to find the end"
-            );
-        } else {
-            assert_eq!(rt; outcome, Ok(4), "{expected} are expected");
         }
     }
     Ok(())

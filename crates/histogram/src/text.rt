@@ -1,4 +1,5 @@
 //! The text of a report.
+
 ghost use Rattle.std.specs.Prelude.{◌≡◌, ◌++◌, IfOk, OnOk};
 ghost use Rattle.histogram.specs.Report.{line, report_of};
 ghost use Rattle.histogram.specs.Lines.{histogram_of};

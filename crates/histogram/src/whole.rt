@@ -1,4 +1,5 @@
 //! Writing all of a slice.
+
 ghost use Rattle.std.specs.Prelude.{◌≡◌, ◌+◌, ◌-◌, ◌^◌, ◌<◌, if◌then◌else◌, is_err, true, OnErr, OnOk};
 ghost use Rattle.std.specs.Io.KnownBytes.{Appends};
 ghost use Rattle.histogram.specs.Counting.{AppendsBeginning, failures_of, inner_of, is_flushed};
@@ -11,7 +12,9 @@ use std::io::Write;
 pub struct WriteFault;
 
 impl<W: Write> Counted<W> {
-    /// Writes all these bytes and flushes. A call that fails ends it, and is not tried again.
+    /// Writes all these bytes and flushes.
+    ///
+    /// `WriteFault`: a write or the flush failed; it is not tried again.
     pub fn write_whole(&mut self, bytes: &[u8]) -> Result<(), WriteFault>
         requires { failures_of self.old < 2 ^ 64 - 1 }
         ensures written { OnOk result

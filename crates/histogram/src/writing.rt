@@ -1,4 +1,5 @@
 //! Writing a report.
+
 ghost use Rattle.std.specs.Prelude.{◌≡◌, ◌≢◌, ◌+◌, ◌-◌, ◌^◌, ◌<◌, ◌↔◌, IsErrOf, OnOk, true};
 ghost use Rattle.std.specs.Io.KnownBytes.{Appends, Keeps};
 ghost use Rattle.histogram.specs.Counting.{AppendsBeginning, failures_of, inner_of, is_flushed};
@@ -23,9 +24,10 @@ pub enum WriteRefusal {
     WriteFault,
 }
 
-/// Writes the text of a report, and flushes the writer.
+/// Writes the text of a report, and flushes the writer. The whole text is made before the first write.
 ///
-/// The whole text is made first.
+/// `OutOfMemory`: the memory for the text was refused, and nothing was written. `WriteFault`: a write or the flush
+/// failed; it is not tried again, and a beginning of the text was written.
 pub fn write_report<A: Allocator, B: Allocator, W: Write>(
     alloc: B,
     report: &Report<A>,

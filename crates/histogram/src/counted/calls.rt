@@ -1,4 +1,5 @@
 //! The calls that count: no other body can set the count, or note a flush.
+
 ghost use Rattle.std.specs.Prelude.{◌≡◌, ◌+◌, ◌-◌, ◌^◌, ◌<◌, ◌&&◌, if◌then◌else◌, is_err, true};
 ghost use Rattle.std.specs.Io.{ReadsAtMost, WritesAtMost};
 ghost use Rattle.std.specs.Io.KnownBytes.{Keeps, ReadConsumes, WriteAppends};
@@ -33,7 +34,7 @@ impl<T> Counted<T> {
         }
     }
 
-    /// How many calls have failed so far.
+    /// How many calls of the reader or the writer have failed so far.
     pub fn failures(&self) -> u64
         ensures { result ≡ failures_of self.now }
     {
@@ -58,7 +59,7 @@ impl<T> Counted<T> {
         inner
     }
 
-    /// Counts a call that failed.
+    /// Counts a call, if it failed.
     fn count_if(&mut self, failed: bool)
         requires { failures_of self.old < 2 ^ 64 - 1 }
         ensures counts { failures_of self.new ≡ (if failed then failures_of self.old + 1 else failures_of self.old) }
@@ -72,7 +73,7 @@ impl<T> Counted<T> {
 }
 
 impl<R: Read> Counted<R> {
-    /// One read, as the wrapped reader makes it.
+    /// One read, as the wrapped reader makes it. It is counted where it fails.
     pub fn read(&mut self, buf: &mut [u8]) -> io::Result<usize>
         requires { failures_of self.old < 2 ^ 64 - 1 }
         ensures bound { ReadsAtMost result buf.new }
@@ -88,7 +89,8 @@ impl<R: Read> Counted<R> {
 }
 
 impl<W: Write> Counted<W> {
-    /// One write, as the wrapped writer makes it.
+    /// One write, as the wrapped writer makes it. It is counted where it fails, and where it takes nothing of a slice
+    /// that is not empty.
     pub fn write(&mut self, buf: &[u8]) -> io::Result<usize>
         requires { failures_of self.old < 2 ^ 64 - 1 }
         ensures bound { WritesAtMost result buf.now }
@@ -104,7 +106,7 @@ impl<W: Write> Counted<W> {
         outcome
     }
 
-    /// One flush, as the wrapped writer makes it.
+    /// One flush, as the wrapped writer makes it. It is counted where it fails.
     pub fn flush(&mut self) -> io::Result<()>
         requires { failures_of self.old < 2 ^ 64 - 1 }
         ensures bytes { Keeps (W.contents (inner_of self.old)) (W.contents (inner_of self.new)) }

@@ -4,7 +4,7 @@ use Rattle.std.proofs.lemmas.List.FromFn.{length-range_with_len}
 use Rattle.std.proofs.lemmas.List.Sums.{sum_by-le}
 use Rattle.std.specs.List.{range_with_len}
 use Rattle.heap_graph.specs.ObjectGraph.{ObjectGraph, object_count}
-use Rattle.heap_graph.specs.Whole.{IsWhole, missing_at, missing_of}
+use Rattle.heap_graph.specs.Whole.{IsWhole, unresolved_at, unresolved_among}
 use Rattle.histogram.specs.Histogram.{marked_objects, unmarked_objects}
 use Rattle.drain.proofs.Passing.{both_parts}
 use Rattle.histogram.proofs.lines.all_unresolved.Goals as goal
@@ -13,14 +13,15 @@ module _ (graph : ObjectGraph) (marks : List Bool) where
   abbrev all : List ℕ
   all = range_with_len 0 (object_count graph)
 
-  parts : missing_of graph (marked_objects graph marks) + missing_of graph (unmarked_objects graph marks) ≡ missing_of graph all
-  parts = both_parts (missing_at graph) (λ o. slice_index_or marks o false) all
+  parts : unresolved_among graph (marked_objects graph marks) + unresolved_among graph (unmarked_objects graph marks)
+      ≡ unresolved_among graph all
+  parts = both_parts (unresolved_at graph) (λ o. slice_index_or marks o false) all
 
-  few : IsWhole graph → missing_of graph all ≤ 2 ^ 57
+  few : IsWhole graph → unresolved_among graph all ≤ 2 ^ 57
   few whole =
       omega (
         arith,
-        sum_by-le (missing_at graph) (2 ^ 33) all (λ k d h. whole.few_missing _),
+        sum_by-le (unresolved_at graph) (2 ^ 33) all (λ k d h. whole.few_unresolved _),
         length-range_with_len 0 (object_count graph),
         whole.few_objects,
       )

@@ -1,10 +1,12 @@
+-- One row more adds its line exactly where it has a marked object, and behind the last number all rows are there.
 use Rattle.std.proofs.Common.{ap, arith, map, ◌∙◌, ◌≡◌}
 use Rattle.histogram.specs.Histogram.{marked_objects, of_row, total}
 use Rattle.histogram.specs.Lines.{entry_of}
 use Rattle.histogram.specs.working.RowNumbers.{row_count}
 use Rattle.histogram.proofs.EntryLemmas.{all_entries, line_less, line_more}
 use Rattle.histogram.proofs.lines.lines_by_number.Goals as goal
-use Rattle.histogram.proofs.lines.lines_by_number.Goals.{else-count-gt0, then-count-gt0+in_ok-clone-2+in_ok-line+in_ok-push}
+use Rattle.histogram.proofs.lines.lines_by_number.Goals.{else-count-gt0}
+use Rattle.histogram.proofs.lines.lines_by_number.Goals.{then-count-gt0+in_ok-clone-2+in_ok-line+in_ok-push}
 
 pub loop-number-preserved : goal.loop-number-preserved
 loop-number-preserved g c =

@@ -1,7 +1,7 @@
+-- The beginning of the text is shown.
 use Rattle.std.proofs.Common.{◌≡◌, ◌++◌, take}
 use Rattle.histogram.specs.ShownRows.{shown_text}
 use Rattle.histogram.proofs.names.append_shown.Given as goal
 
--- the beginning of the text is shown
 abbrev pub invariant-loop-byte : goal.invariant-loop-byte
 invariant-loop-byte g l = l.out.items ≡ l.initial.out.items ++ shown_text (take l.byte-index l.text)

@@ -1,3 +1,4 @@
+-- The marked objects of the rows below one more number are those so far and those of that row; no sum overflows.
 use Rattle.std.proofs.Common.{ap, arith, length, sum_by, sym, ℕ, ◌+◌, ◌∙◌, ◌<◌, ◌≡◌}
 use Rattle.heap_graph.specs.ObjectGraph.{bytes_at}
 use Rattle.histogram.specs.Histogram.{marked_objects, of_row, total}
@@ -22,8 +23,15 @@ overflow_add-count g c =
     let below : n < row_count graph = omega (arith, c.loop-number-test.true, c.row_count-number-end.ensures) in
     let small = small_part graph c.len-objects.ensures.whole (n + 1) c.args.marks.now.marks in
     let row = c.requires.tallies c.row_of_number.result in
-    let is = c.tally-row_count.ensures ∙ row ∙ ap (λ r. total graph (of_row graph r marked)) c.row_of_number.ensures.value in
-    omega (arith, c.loop-number.invariant.count, count_next graph c.len-objects.ensures.whole n marked below, ap (λ (p : ℕ × ℕ). p.0) is, small.0)
+    let number = ap (λ r. total graph (of_row graph r marked)) c.row_of_number.ensures.value in
+    let is = c.tally-row_count.ensures ∙ row ∙ number in
+    omega (
+      arith,
+      c.loop-number.invariant.count,
+      count_next graph c.len-objects.ensures.whole n marked below,
+      ap (λ (p : ℕ × ℕ). p.0) is,
+      small.0,
+    )
 
 pub overflow_add-bytes : goal.overflow_add-bytes
 overflow_add-bytes g c =
@@ -33,7 +41,8 @@ overflow_add-bytes g c =
     let below : n < row_count graph = omega (arith, c.loop-number-test.true, c.row_count-number-end.ensures) in
     let small = small_part graph c.len-objects.ensures.whole (n + 1) c.args.marks.now.marks in
     let row = c.requires.tallies c.row_of_number.result in
-    let is = c.tally-row_count.ensures ∙ row ∙ ap (λ r. total graph (of_row graph r marked)) c.row_of_number.ensures.value in
+    let number = ap (λ r. total graph (of_row graph r marked)) c.row_of_number.ensures.value in
+    let is = c.tally-row_count.ensures ∙ row ∙ number in
     omega (
       arith,
       c.loop-number.invariant.bytes,
@@ -49,7 +58,8 @@ loop-number-preserved g c =
     let n = c.loop-number.number in
     let below : n < row_count graph = omega (arith, c.loop-number-test.true, c.row_count-number-end.ensures) in
     let row = c.requires.tallies c.row_of_number.result in
-    let is = c.tally-row_count.ensures ∙ row ∙ ap (λ r. total graph (of_row graph r marked)) c.row_of_number.ensures.value in
+    let number = ap (λ r. total graph (of_row graph r marked)) c.row_of_number.ensures.value in
+    let is = c.tally-row_count.ensures ∙ row ∙ number in
     record {
       count = omega (
         arith,
@@ -69,7 +79,8 @@ pub returns : goal.returns
 returns g c =
     let graph = c.args.graph.now in
     let marked = marked_objects graph c.args.marks.now.marks in
-    let end : c.loop-number.number ≡ row_count graph = omega (arith, c.loop-number-test.false, c.loop-number.auto.number-end, c.row_count-number-end.ensures) in
+    let end : c.loop-number.number ≡ row_count graph =
+    omega (arith, c.loop-number-test.false, c.loop-number.auto.number-end, c.row_count-number-end.ensures) in
     let all = below_all graph c.len-objects.ensures.whole c.loop-number.number marked end in
     let count = c.loop-number.invariant.count ∙ ap length all in
     let bytes = c.loop-number.invariant.bytes ∙ ap (sum_by (bytes_at graph)) all in

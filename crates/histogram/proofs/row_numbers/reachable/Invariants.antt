@@ -1,10 +1,10 @@
+-- The marked objects of the rows so far are counted.
 use Rattle.std.proofs.Common.{◌≡◌, length, sum_by}
 use Rattle.heap_graph.specs.ObjectGraph.{bytes_at}
 use Rattle.histogram.specs.Histogram.{marked_objects}
 use Rattle.histogram.specs.working.RowNumbers.{objects_below}
 use Rattle.histogram.proofs.row_numbers.reachable.Given as goal
 
--- the marked objects of the rows so far are counted
 abbrev pub invariant-loop-number : goal.invariant-loop-number
 invariant-loop-number g l = record {
   count : l.count ≡ length (objects_below l.graph l.number (marked_objects l.graph l.marks.marks));

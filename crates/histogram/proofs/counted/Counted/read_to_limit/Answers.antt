@@ -1,3 +1,4 @@
+-- Making room and reading leave what is filled, and each read adds to it what the reader lost.
 use Rattle.std.proofs.Common.{ap, arith, length-take, rules, take, ◌∙◌}
 use Rattle.std.proofs.KnownBytes.{Consumes-kept}
 use Rattle.std.proofs.lemmas.List.{places, with_items_is}
@@ -13,7 +14,8 @@ loop-filled-preserved g c =
       filled = search (rules, places);
       within = search rules;
       read = rw (with_items_is c.make_room.new.bytes c.read_behind.new.bytes (search (rules, places)))
-          (read_on _ _ _ c.loop-filled.bytes.items c.read_behind.new.bytes at c.in-Ok-read_behind.count front c.loop-filled.invariant.read c.in-Ok-read_behind.ensures.grown);
+          (read_on _ _ _ c.loop-filled.bytes.items c.read_behind.new.bytes at c.in-Ok-read_behind.count front
+          c.loop-filled.invariant.read c.in-Ok-read_behind.ensures.grown);
     }
 
 pub returns-in-Err-clause-below : goal.returns-in-Err-clause-below

@@ -1,3 +1,4 @@
+-- What one write took follows what was taken before it.
 use Rattle.std.proofs.Common.{arith, length, drop, ◌-◌, ◌≤◌, length-take, length-drop}
 use Rattle.histogram.proofs.BytesMoved.{takes_on}
 use Rattle.histogram.proofs.counted.Counted.write_whole.Goals as goal
@@ -7,10 +8,12 @@ loop-at-preserved g c =
     let bytes = c.args.bytes.now in
     let at = c.loop-at.at in
     let count = c.in-Ok.count in
-    let fits : count ≤ length bytes - at = omega (arith, c.in-Ok.ensures.bound, length-take (length bytes - at) (drop at bytes), length-drop at bytes) in
+    let fits : count ≤ length bytes - at =
+    omega (arith, c.in-Ok.ensures.bound, length-take (length bytes - at) (drop at bytes), length-drop at bytes) in
     record {
       no_fault = grind (arith, c.in-Ok.ensures.counts, c.loop-at.invariant.no_fault);
       within = omega (arith, fits, c.loop-at.invariant.within);
-      taken = takes_on (g.W.Write.contents c.args.self.now.inner) (g.W.Write.contents c.loop-at.self.inner) (g.W.Write.contents c.write.new.self.inner)
+      taken = takes_on (g.W.Write.contents c.args.self.now.inner) (g.W.Write.contents c.loop-at.self.inner)
+          (g.W.Write.contents c.write.new.self.inner)
           bytes at count fits c.loop-at.invariant.taken c.in-Ok.ensures.bytes;
     }

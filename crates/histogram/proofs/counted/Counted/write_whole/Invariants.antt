@@ -1,9 +1,9 @@
+-- No write has failed, and the bytes before `at` were taken.
 use Rattle.std.proofs.Common.{◌≡◌, ◌-◌, ◌≤◌, length, take}
 use Rattle.std.specs.Io.KnownBytes.{Appends}
 use Rattle.histogram.specs.Counting.{failures_of}
 use Rattle.histogram.proofs.counted.Counted.write_whole.Given as goal
 
--- no write has failed, and the bytes before `at` were taken
 abbrev pub invariant-loop-at : goal.invariant-loop-at
 invariant-loop-at g l = record {
   no_fault : failures_of l.self ≡ failures_of l.initial.self;
