@@ -1,5 +1,7 @@
 -- From the definition of the command line to what the matches of a parse hold.
-use Rattle.std.proofs.Common.{List, Some, [], ap, arith, false, inl, inr, length, map, is_some, refl, slice_index, subst, suc, sym, true, zero, true≢false, not, ℕ, Bool, Option, ◌&&◌, ◌∙◌, ◌∷◌, ◌≡◌, ◌≢◌, ◌<◌, ◌≤◌}
+use Rattle.std.proofs.Common.{List, Some, [], ap, arith, false, inl, inr, length, map, is_some, refl, slice_index}
+use Rattle.std.proofs.Common.{subst, suc, sym, true, zero, true≢false, not, ℕ, Bool, Option, ◌&&◌, ◌∙◌, ◌∷◌, ◌≡◌, ◌≢◌}
+use Rattle.std.proofs.Common.{◌<◌, ◌≤◌}
 use Rattle.std.specs.Borrow.{Bor}
 use Rattle.std.specs.List.{All, list_all, slice_index_or}
 use Rattle.std.specs.Prelude.{None, codes}
@@ -21,14 +23,18 @@ use Rattle.clap.proofs.CallerLemmas.{default_present, required_has_value}
 use Rattle.clap.proofs.OnLiterals.{clap_on_literals}
 use Rattle.clap.proofs.SimpleLemmas.{all_simple, is_false, is_nil, plain_fields, simple_groups}
 use Rattle.clap.proofs.WalkLemmas.{both, first_value-rows}
-use Rattle.command_line.specs.Line.{file_rule, heapmark_line, number_rule, text_given}
+use Rattle.command_line.specs.Line.{file_rule, heapmark_line, number_rule, skip_rule, text_given}
 use Rattle.command_line.specs.working.Held.{HoldsAll, HoldsNumber}
 use Rattle.command_line.proofs.Held.{TakesOne, found_by_id, held}
 
 -- the rules of the line, in their order
 abbrev rules : List Rule
-rules = file_rule ∷ number_rule (codes "workers") 1 64 (codes "4") ∷ number_rule (codes "buffer") 2 4096 (codes "256")
-    ∷ number_rule (codes "buffers") 4 65534 (codes "1024") ∷ number_rule (codes "first-tag") 0 281474976710655 (codes "0") ∷ []
+rules = file_rule
+    ∷ number_rule (codes "workers") 1 64 (codes "4")
+    ∷ number_rule (codes "buffer") 2 4096 (codes "256")
+    ∷ number_rule (codes "buffers") 4 65534 (codes "1024")
+    ∷ number_rule (codes "first-tag") 0 281474976710655 (codes "0")
+    ∷ skip_rule ∷ []
 
 pub is_simple_line : is_simple heapmark_line ≡ true
 unfolding heapmark_line clap_on_literals
@@ -52,7 +58,7 @@ negates_of_line = refl
 
 -- the name of each rule is its own
 abbrev IsOnly : Text → ℕ → Type 0
-IsOnly name k = (j : ℕ) (r : Rule) → j < 5 → bytes_eq (slice_index_or rules j r).id name ≡ true → j ≡ k
+IsOnly name k = (j : ℕ) (r : Rule) → j < 6 → bytes_eq (slice_index_or rules j r).id name ≡ true → j ≡ k
 
 none : (P : Type 0) → false ≡ true → P
 none P e = cc
@@ -63,7 +69,8 @@ only_file (suc zero) r lt e = none _ e
 only_file (suc (suc zero)) r lt e = none _ e
 only_file (suc (suc (suc zero))) r lt e = none _ e
 only_file (suc (suc (suc (suc zero)))) r lt e = none _ e
-only_file (suc (suc (suc (suc (suc j))))) r lt e = absurd (omega arith)
+only_file (suc (suc (suc (suc (suc zero))))) r lt e = none _ e
+only_file (suc (suc (suc (suc (suc (suc j)))))) r lt e = absurd (omega arith)
 
 pub only_workers : IsOnly (codes "workers") 1
 only_workers zero r lt e = none _ e
@@ -71,7 +78,8 @@ only_workers (suc zero) r lt e = refl
 only_workers (suc (suc zero)) r lt e = none _ e
 only_workers (suc (suc (suc zero))) r lt e = none _ e
 only_workers (suc (suc (suc (suc zero)))) r lt e = none _ e
-only_workers (suc (suc (suc (suc (suc j))))) r lt e = absurd (omega arith)
+only_workers (suc (suc (suc (suc (suc zero))))) r lt e = none _ e
+only_workers (suc (suc (suc (suc (suc (suc j)))))) r lt e = absurd (omega arith)
 
 pub only_buffer : IsOnly (codes "buffer") 2
 only_buffer zero r lt e = none _ e
@@ -79,7 +87,8 @@ only_buffer (suc zero) r lt e = none _ e
 only_buffer (suc (suc zero)) r lt e = refl
 only_buffer (suc (suc (suc zero))) r lt e = none _ e
 only_buffer (suc (suc (suc (suc zero)))) r lt e = none _ e
-only_buffer (suc (suc (suc (suc (suc j))))) r lt e = absurd (omega arith)
+only_buffer (suc (suc (suc (suc (suc zero))))) r lt e = none _ e
+only_buffer (suc (suc (suc (suc (suc (suc j)))))) r lt e = absurd (omega arith)
 
 pub only_buffers : IsOnly (codes "buffers") 3
 only_buffers zero r lt e = none _ e
@@ -87,7 +96,8 @@ only_buffers (suc zero) r lt e = none _ e
 only_buffers (suc (suc zero)) r lt e = none _ e
 only_buffers (suc (suc (suc zero))) r lt e = refl
 only_buffers (suc (suc (suc (suc zero)))) r lt e = none _ e
-only_buffers (suc (suc (suc (suc (suc j))))) r lt e = absurd (omega arith)
+only_buffers (suc (suc (suc (suc (suc zero))))) r lt e = none _ e
+only_buffers (suc (suc (suc (suc (suc (suc j)))))) r lt e = absurd (omega arith)
 
 pub only_first_tag : IsOnly (codes "first-tag") 4
 only_first_tag zero r lt e = none _ e
@@ -95,14 +105,16 @@ only_first_tag (suc zero) r lt e = none _ e
 only_first_tag (suc (suc zero)) r lt e = none _ e
 only_first_tag (suc (suc (suc zero))) r lt e = none _ e
 only_first_tag (suc (suc (suc (suc zero)))) r lt e = refl
-only_first_tag (suc (suc (suc (suc (suc j))))) r lt e = absurd (omega arith)
+only_first_tag (suc (suc (suc (suc (suc zero))))) r lt e = none _ e
+only_first_tag (suc (suc (suc (suc (suc (suc j)))))) r lt e = absurd (omega arith)
 
 is_none : {X : Type 0} (o : Option X) → not (is_some o) ≡ true → o ≡ None
 is_none None e = refl
 is_none (Some x) e = absurd (true≢false (sym e))
 
 -- what a simple argument has none of
-simple_parts : (a : Arg) → is_simple_arg a ≡ true → (a.overrides.items ≡ []) × (a.default_vals_ifs.items ≡ []) × (a.groups.items ≡ []) × (a.val_delim ≡ None)
+simple_parts : (a : Arg) → is_simple_arg a ≡ true → (a.overrides.items ≡ []) × (a.default_vals_ifs.items ≡ [])
+    × (a.groups.items ≡ []) × (a.val_delim ≡ None)
 simple_parts a simple =
     let overrides = both _ _ simple in
     let conditions = both _ _ overrides.1 in
@@ -118,7 +130,8 @@ plain_arg a simple free =
     let conflicts = both _ _ exclusive.1 in
     (is_false _ exclusive.0, is_nil _ conflicts.0, parts.0, parts.2)
 
-plain_args : (xs : List Arg) → list_all (λ (r : Rule). r.is_simple && r.is_free) (map rule_of xs) ≡ true → All IsPlainArg xs
+plain_args : (xs : List Arg) → list_all (λ (r : Rule). r.is_simple && r.is_free) (map rule_of xs) ≡ true
+    → All IsPlainArg xs
 plain_args [] e k d lt = absurd (omega arith)
 plain_args (x ∷ xs) e zero d lt =
     let all = both _ _ e in
@@ -133,10 +146,12 @@ length_texts : (xs : List (Bor Text)) → length (texts xs) ≡ length xs
 length_texts [] = refl
 length_texts (x ∷ xs) = ap suc (length_texts xs)
 
-one_default : (a : Arg) (default : Text) → texts (items_of a.default_vals) ≡ default ∷ [] → 0 < length (items_of a.default_vals)
+one_default : (a : Arg) (default : Text) → texts (items_of a.default_vals) ≡ default ∷ []
+    → 0 < length (items_of a.default_vals)
 one_default a default is = omega (arith, length_texts (items_of a.default_vals), ap length is)
 
-rule_at : (xs : List Arg) (k : ℕ) (d : Arg) → rule_of (slice_index_or xs k d) ≡ slice_index_or (map rule_of xs) k (rule_of d)
+rule_at : (xs : List Arg) (k : ℕ) (d : Arg)
+    → rule_of (slice_index_or xs k d) ≡ slice_index_or (map rule_of xs) k (rule_of d)
 rule_at [] k d = refl
 rule_at (x ∷ xs) zero d = refl
 rule_at (x ∷ xs) (suc k) d = rule_at xs k d
@@ -153,7 +168,7 @@ module _ (old : Command) (is : app_of old ≡ heapmark_line) where
   rules_are : map rule_of (args_of old) ≡ rules
   rules_are = ap (λ (a : App). a.top.rules) is ∙ rules_of_line
 
-  count : length (args_of old) ≡ 5
+  count : length (args_of old) ≡ 6
   count = sym (map_length (args_of old)) ∙ ap length rules_are
 
   there : (k : ℕ) (d : Arg) → rule_of (slice_index_or (args_of old) k d) ≡ slice_index_or rules k (rule_of d)
@@ -163,7 +178,10 @@ module _ (old : Command) (is : app_of old ≡ heapmark_line) where
   is_plain = ap (λ (a : App). a.top.is_plain) is ∙ is_plain_line
 
   excludes_nothing : IsPlain old
-  excludes_nothing = (plain_args (args_of old) (ap (list_all (λ (r : Rule). r.is_simple && r.is_free)) rules_are), (plain_fields old is_plain).groups)
+  excludes_nothing = (
+    plain_args (args_of old) (ap (list_all (λ (r : Rule). r.is_simple && r.is_free)) rules_are),
+    (plain_fields old is_plain).groups,
+  )
 
   no_groups : (m : ArgMatches) (p : IsParsedFrom old m) → groups_of p.built ≡ []
   no_groups m p = (p.from.plain excludes_nothing).1
@@ -172,40 +190,48 @@ module _ (old : Command) (is : app_of old ≡ heapmark_line) where
   negates = ap (λ (a : App). a.top.subcommand_negates_reqs) is ∙ negates_of_line
 
   -- the rule of the argument at a place, where no other has its name
-  unique : (name : Text) (k : ℕ) (d : Arg) → IsOnly name k → (slice_index_or (args_of old) k d).id.now ≡ name → (j : ℕ) (e : Arg) → j < length (args_of old)
+  unique : (name : Text) (k : ℕ) (d : Arg) → IsOnly name k → (slice_index_or (args_of old) k d).id.now ≡ name
+      → (j : ℕ) (e : Arg) → j < length (args_of old)
       → bytes_eq (slice_index_or (args_of old) j e).id.now (slice_index_or (args_of old) k d).id.now ≡ true → j ≡ k
   unique name k d only named j e lt same =
-      let id : (slice_index_or (args_of old) j e).id.now ≡ (slice_index_or rules j (rule_of e)).id = ap (λ (r : Rule). r.id) (there j e) in
+      let id : (slice_index_or (args_of old) j e).id.now ≡ (slice_index_or rules j (rule_of e)).id =
+      ap (λ (r : Rule). r.id) (there j e) in
       only j (rule_of e) (omega (arith, count)) (rw (← id, ← named) same)
 
   -- a parse holds the number of an option
-  pub number_held : (m : ArgMatches) → IsParsedFrom old m → (k : ℕ) (name : Text) (least most : ℕ) (default : Text) (letter : ℕ)
-      → ((r : Rule) → slice_index_or rules k r ≡ number_rule name least most default) → k < 5 → IsOnly name k
+  pub number_held : (m : ArgMatches) → IsParsedFrom old m → (k : ℕ) (name : Text) (least most : ℕ) (default : Text)
+      (letter : ℕ)
+      → ((r : Rule) → slice_index_or rules k r ≡ number_rule name least most default) → k < 6 → IsOnly name k
       → slice_index name 0 ≡ letter → letter ≢ 0 → letter ≢ 104 → letter ≢ 118
       → HoldsNumber (found_of m) name least most
   number_held m p k name least most default letter here lt only begins none_zero none_help none_version =
       let d = some_arg (args_of old) rules_are in
-      let rule : rule_of (slice_index_or (args_of old) k d) ≡ number_rule name least most default = there k d ∙ here (rule_of d) in
+      let rule : rule_of (slice_index_or (args_of old) k d) ≡ number_rule name least most default =
+      there k d ∙ here (rule_of d) in
       let id : (slice_index_or (args_of old) k d).id.now ≡ name = ap (λ (r : Rule). r.id) rule in
       let below : k < length (args_of old) = omega (arith, count) in
       let a = slice_index_or (args_of old) k d in
       let simple : is_simple_arg (slice_index_or (args_of old) k d) ≡ true = ap (λ (r : Rule). r.is_simple) rule in
+      let begins_with : (t : Text) → a.id.now ≡ t → slice_index name 0 ≡ slice_index t 0 =
+      λ t e. ap (λ (u : Text). slice_index u 0) (sym id ∙ e) in
       let takes : TakesOne old k d (parser.Unsigned least most) = record {
         below = below;
         unique = unique name k d only id;
-        named = λ e. let bad : 0 ≡ letter = ap (λ (t : Text). slice_index t 0) (sym e ∙ id) ∙ begins in none_zero (sym bad);
+        named = λ e. none_zero (sym begins ∙ begins_with [] e);
         own = λ e. elim e [
-          | inl h ↦ none_help (let at : letter ≡ 104 = sym begins ∙ ap (λ (t : Text). slice_index t 0) (sym id ∙ h) in at)
-          | inr h ↦ none_version (let at : letter ≡ 118 = sym begins ∙ ap (λ (t : Text). slice_index t 0) (sym id ∙ h) in at)
+          | inl h ↦ none_help (sym begins ∙ begins_with (codes "help") h)
+          | inr h ↦ none_version (sym begins ∙ begins_with (codes "version") h)
         ];
         set = ap (λ (r : Rule). r.action) rule;
         whole = (simple_parts a simple).3;
         least = takes_one a (ap (λ (r : Rule). r.range) rule);
         parser = ap (λ (r : Rule). r.parser) rule;
       } in
-      let wants : WantsDefault (slice_index_or (args_of old) k d) = ((simple_parts a simple).1, one_default a default (ap (λ (r : Rule). r.defaults) rule)) in
+      let wants : WantsDefault (slice_index_or (args_of old) k d) =
+      ((simple_parts a simple).1, one_default a default (ap (λ (r : Rule). r.defaults) rule)) in
       let fields = plain_fields old is_plain in
-      let entry = found_by_id (found_of m).entries.items (slice_index_or (args_of old) k d).id.now (default_present old m p fields.globals k d below wants) in
+      let entry = found_by_id (found_of m).entries.items (slice_index_or (args_of old) k d).id.now
+      (default_present old m p fields.globals k d below wants) in
       let got = held old m p (no_groups m p) k d (parser.Unsigned least most) takes entry fields.globals in
       record {
         text = got.0;
@@ -224,9 +250,11 @@ module _ (old : Command) (is : app_of old ≡ heapmark_line) where
       let a = slice_index_or (args_of old) 0 d in
       let simple : is_simple_arg (slice_index_or (args_of old) 0 d) ≡ true = ap (λ (r : Rule). r.is_simple) rule in
       let some : 1 ≤ least_values (slice_index_or (args_of old) 0 d) = takes_one a (ap (λ (r : Rule). r.range) rule) in
-      let first : (t : Text) → (slice_index_or (args_of old) 0 d).id.now ≡ t → slice_index t 0 ≡ 102 = λ t e. ap (λ (u : Text). slice_index u 0) (sym e ∙ id) in
+      let first : (t : Text) → (slice_index_or (args_of old) 0 d).id.now ≡ t → slice_index t 0 ≡ 102 =
+      λ t e. ap (λ (u : Text). slice_index u 0) (sym e ∙ id) in
       rw (← id) (required_has_value old m p excludes_nothing (plain_fields old is_plain).globals negates 0 d below
-      (ap (λ (r : Rule). r.required) rule) (ap (λ (r : Rule). r.action) rule) ((simple_parts a simple).3) some (unique (codes "file") 0 d only_file id)
+      (ap (λ (r : Rule). r.required) rule) (ap (λ (r : Rule). r.action) rule) ((simple_parts a simple).3) some
+      (unique (codes "file") 0 d only_file id)
       (λ e. let bad : 0 ≡ 102 = first [] e in absurd (omega arith))
       (λ auto. elim auto [
         | inl h ↦ let bad : 104 ≡ 102 = first _ h in absurd (omega arith)
@@ -234,6 +262,11 @@ module _ (old : Command) (is : app_of old ≡ heapmark_line) where
       ]))
 
 -- what is first among the matches is what the words give
-pub given_of : (m : ArgMatches) (words : List Text) → rows_of (found_of m) ≡ matches_of heapmark_line words → (name text : Text)
+pub given : (m : ArgMatches) (words : List Text) → rows_of (found_of m) ≡ matches_of heapmark_line words → (name : Text)
+    → first_value (found_of m) name ≡ text_given name words
+given m words rows name = first_value-rows (found_of m) name ∙ ap (first_of name) rows
+
+pub given_of : (m : ArgMatches) (words : List Text) → rows_of (found_of m) ≡ matches_of heapmark_line words
+    → (name text : Text)
     → first_value (found_of m) name ≡ Some text → text_given name words ≡ Some text
-given_of m words rows name text is = ap (first_of name) (sym rows) ∙ sym (first_value-rows (found_of m) name) ∙ is
+given_of m words rows name text is = sym (given m words rows name) ∙ is

@@ -1,5 +1,7 @@
 -- What the matches of a parse that succeeded hold of one argument that takes one value.
-use Rattle.std.proofs.Common.{List, None, Option, Some, [], ap, arith, false, inl, inr, is_some, length, option_map, refl, subst, suc, sym, true, true≢false, zero, ℕ, Bool, ◌++◌, ◌∙◌, ◌∷◌, ◌≡◌, ◌<◌, ◌≤◌, ◌⊎◌}
+use Rattle.std.proofs.Common.{List, None, Option, Some, [], ap, arith, false, inl, inr, is_some, length, option_map}
+use Rattle.std.proofs.Common.{refl, subst, suc, sym, true, true≢false, zero, ℕ, Bool, ◌++◌, ◌∙◌, ◌∷◌, ◌≡◌, ◌<◌, ◌≤◌}
+use Rattle.std.proofs.Common.{◌⊎◌}
 use Rattle.std.specs.Borrow.{Bor}
 use Rattle.std.specs.List.{All, Any, slice_index_or}
 use Rattle.std.specs.Prelude.{find, slice_get}
@@ -7,7 +9,8 @@ use Rattle.std.specs.Str.{bytes_eq}
 use Rattle.std.proofs.lemmas.List.Elements.{All-get_or}
 use Rattle.std.proofs.lemmas.Slice.Eq.{bytes_eq-Decides}
 use Rattle.clap.specs.Built.{IsAuto, IsParsedFrom}
-use Rattle.clap.specs.Facts.{Entry, EntryPasses, HasIn, PassesArg, args_of, groups_of, least_values, parser_of, parser_of_value}
+use Rattle.clap.specs.Facts.{Entry, EntryPasses, HasIn, PassesArg, args_of, groups_of, least_values, parser_of}
+use Rattle.clap.specs.Facts.{parser_of_value}
 use Rattle.clap.specs.Matches.{first_value, found_of, matched_of, one_text}
 use Rattle.clap.specs.Values.{Accepts, read_as, reading_of}
 use Rattle.clap.specs.declared.builder.action.ArgAction.{ArgAction}
@@ -23,11 +26,13 @@ use Rattle.clap.specs.declared.parser.matches.MatchedArg.{MatchedArg}
 use Rattle.clap.proofs.CallerLemmas.{entry_by_id, same_rules_by_id}
 
 -- an id that some entry has is found
-pub found_by_id : (xs : List Entry) (id : List ℕ) → HasIn xs id → is_some (option_map (λ e. e.1) (find (λ e. bytes_eq e.0.now id) xs)) ≡ true
+pub found_by_id : (xs : List Entry) (id : List ℕ) → HasIn xs id
+    → is_some (option_map (λ e. e.1) (find (λ e. bytes_eq e.0.now id) xs)) ≡ true
 found_by_id [] id h = absurd (omega (arith, h.1))
 found_by_id (x ∷ xs) id h = go (bytes_eq x.0.now id) refl h.0 h.1 h.2 (found_by_id xs id)
   where
-    go : (t : Bool) → bytes_eq x.0.now id ≡ t → (i : ℕ) → i < length (x ∷ xs) → ((d : Entry) → bytes_eq (slice_index_or (x ∷ xs) i d).0.now id ≡ true)
+    go : (t : Bool) → bytes_eq x.0.now id ≡ t → (i : ℕ) → i < length (x ∷ xs)
+        → ((d : Entry) → bytes_eq (slice_index_or (x ∷ xs) i d).0.now id ≡ true)
         → (HasIn xs id → is_some (option_map (λ e. e.1) (find (λ e. bytes_eq e.0.now id) xs)) ≡ true)
         → is_some (option_map (λ e. e.1) (find (λ e. bytes_eq e.0.now id) (x ∷ xs))) ≡ true
     go true e i lt there rest = rw e refl
@@ -36,15 +41,18 @@ found_by_id (x ∷ xs) id h = go (bytes_eq x.0.now id) refl h.0 h.1 h.2 (found_b
 
 -- the first of some values
 first : (P : Bor (List ℕ) → Type 0) (how : Reading) (vs : List (Bor (List ℕ))) → 0 < length vs → All P vs
-    → (v : Bor (List ℕ)) × (option_map (λ s. s.now) (slice_get vs 0) ≡ Some v.now) × (option_map (λ s. read_as how s.now) (slice_get vs 0) ≡ Some (read_as how v.now)) × P v
+    → (v : Bor (List ℕ)) × (option_map (λ s. s.now) (slice_get vs 0) ≡ Some v.now)
+    × (option_map (λ s. read_as how s.now) (slice_get vs 0) ≡ Some (read_as how v.now)) × P v
 first P how [] some all = absurd (omega arith)
 first P how (v ∷ vs) some all = (v, refl, refl, All-get_or P (v ∷ vs) 0 v (omega arith) all)
 
-first_at : (f : Found) (id : List ℕ) (x : MatchedArg) (t : List ℕ) → matched_of f id ≡ Some x → option_map (λ s. s.now) (slice_get x.vals.items 0) ≡ Some t
+first_at : (f : Found) (id : List ℕ) (x : MatchedArg) (t : List ℕ) → matched_of f id ≡ Some x
+    → option_map (λ s. s.now) (slice_get x.vals.items 0) ≡ Some t
     → first_value f id ≡ Some t
 first_at f id x t found is = rw found is
 
-read_at : (f : Found) (id : List ℕ) (x : MatchedArg) (how : Reading) (t : List ℕ) → matched_of f id ≡ Some x → x.reading ≡ how
+read_at : (f : Found) (id : List ℕ) (x : MatchedArg) (how : Reading) (t : List ℕ) → matched_of f id ≡ Some x
+    → x.reading ≡ how
     → option_map (λ s. read_as how s.now) (slice_get x.vals.items 0) ≡ Some t → one_text f id ≡ Some t
 read_at f id x how t found reading is = rw (found, reading) is
 
@@ -60,22 +68,31 @@ pub record TakesOne (old : Command) (k : ℕ) (d : Arg) (q : ValueParser) : Type
   pub least : 1 ≤ least_values (slice_index_or (args_of old) k d)
   pub parser : (slice_index_or (args_of old) k d).value_parser ≡ Some q
 
-module _ (old : Command) (m : ArgMatches) (p : IsParsedFrom old m) (no_groups : groups_of p.built ≡ []) (k : ℕ) (d : Arg) (q : ValueParser) (takes : TakesOne old k d q) where
+module _ (old : Command) (m : ArgMatches) (p : IsParsedFrom old m) (no_groups : groups_of p.built ≡ []) (k : ℕ)
+    (d : Arg) (q : ValueParser) (takes : TakesOne old k d q) where
   -- an argument of the built command with this id takes one value, and has the parser
   rules_at : (j : ℕ) (x : Arg) → j < length (args_of p.built) → slice_index_or (args_of p.built) j x ≡ x
       → bytes_eq x.id.now (slice_index_or (args_of old) k d).id.now ≡ true
-      → (parser_of x ≡ q) × (x.ignore_case ≡ (slice_index_or (args_of old) k d).ignore_case) × (x.action ≡ Some Set) × (x.val_delim ≡ None) × (1 ≤ least_values x)
+      → (parser_of x ≡ q) × (x.ignore_case ≡ (slice_index_or (args_of old) k d).ignore_case) × (x.action ≡ Some Set)
+      × (x.val_delim ≡ None) × (1 ≤ least_values x)
   rules_at j x high at same =
-      let s = same_rules_by_id old m p k d takes.below takes.unique takes.own j x high at same in
-      (ap parser_of_value (s.parser q takes.parser), s.ignore_case, s.action Set takes.set, s.val_delim ∙ takes.whole, s.least takes.set takes.least)
+      let s = same_rules_by_id old m p k d takes.below takes.unique takes.own j x high at same in (
+        ap parser_of_value (s.parser q takes.parser),
+        s.ignore_case,
+        s.action Set takes.set,
+        s.val_delim ∙ takes.whole,
+        s.least takes.set takes.least,
+      )
 
   -- a value that passed, passed this parser
-  passed : (v : List ℕ) → PassesArg p.built (slice_index_or (args_of old) k d).id.now v → Accepts (slice_index_or (args_of old) k d).ignore_case q v
+  passed : (v : List ℕ) → PassesArg p.built (slice_index_or (args_of old) k d).id.now v
+      → Accepts (slice_index_or (args_of old) k d).ignore_case q v
   passed v any =
       let r = rules_at any.0 any.1 any.2 any.3 any.4.0 in
       subst (λ (b : Bool). Accepts b q v) r.1 (subst (λ (w : ValueParser). Accepts any.1.ignore_case w v) r.0 any.4.1)
 
-  no_group : (e : Entry) → (e.0.now ≡ (slice_index_or (args_of old) k d).id.now) → EntryPasses p.built e → e.1.is_group ≡ true → ⊥
+  no_group : (e : Entry) → (e.0.now ≡ (slice_index_or (args_of old) k d).id.now) → EntryPasses p.built e
+      → e.1.is_group ≡ true → ⊥
   no_group e key pass g = elim (pass.3 g) [
     | inl empty ↦ takes.named (sym key ∙ empty)
     | inr has ↦
@@ -84,7 +101,8 @@ module _ (old : Command) (m : ArgMatches) (p : IsParsedFrom old m) (no_groups : 
   ]
 
   -- its entry has a value
-  filled : (e : Entry) → (e.0.now ≡ (slice_index_or (args_of old) k d).id.now) → EntryPasses p.built e → 0 < length e.1.vals.items
+  filled : (e : Entry) → (e.0.now ≡ (slice_index_or (args_of old) k d).id.now) → EntryPasses p.built e
+      → 0 < length e.1.vals.items
   filled e key pass = elim pass.1 [
     | inl h ↦ absurd (no_group e key pass h.0)
     | inr (inl some) ↦ some
@@ -104,14 +122,16 @@ module _ (old : Command) (m : ArgMatches) (p : IsParsedFrom old m) (no_groups : 
   ]
 
   -- what the entry of the argument holds
-  pub held : is_some (matched_of (found_of m) (slice_index_or (args_of old) k d).id.now) ≡ true → (out-Command old).has_globals ≡ false
+  pub held : is_some (matched_of (found_of m) (slice_index_or (args_of old) k d).id.now) ≡ true
+      → (out-Command old).has_globals ≡ false
       → (v : List ℕ) × (first_value (found_of m) (slice_index_or (args_of old) k d).id.now ≡ Some v)
       × (one_text (found_of m) (slice_index_or (args_of old) k d).id.now ≡ Some (read_as (reading_of q) v))
       × Accepts (slice_index_or (args_of old) k d).ignore_case q v
   held some globals = go (matched_of (found_of m) (slice_index_or (args_of old) k d).id.now) refl some
     where
       step : (x : MatchedArg) → matched_of (found_of m) (slice_index_or (args_of old) k d).id.now ≡ Some x
-          → ((e : Entry) × (e.1 ≡ x) × (bytes_eq e.0.now (slice_index_or (args_of old) k d).id.now ≡ true) × EntryPasses p.built e)
+          → ((e : Entry) × (e.1 ≡ x) × (bytes_eq e.0.now (slice_index_or (args_of old) k d).id.now ≡ true)
+          × EntryPasses p.built e)
           → (v : List ℕ) × (first_value (found_of m) (slice_index_or (args_of old) k d).id.now ≡ Some v)
           × (one_text (found_of m) (slice_index_or (args_of old) k d).id.now ≡ Some (read_as (reading_of q) v))
           × Accepts (slice_index_or (args_of old) k d).ignore_case q v
@@ -128,7 +148,8 @@ module _ (old : Command) (m : ArgMatches) (p : IsParsedFrom old m) (no_groups : 
             | inr any ↦ sym any.4.1 ∙ ap reading_of (rules_at any.0 any.1 any.2 any.3 (rw key at any.4.0)).0
           ] in
           let reading : x.reading ≡ reading_of q = ap (λ (y : MatchedArg). y.reading) (sym got.1) ∙ how in
-          let some : 0 < length x.vals.items = subst (λ (y : MatchedArg). 0 < length y.vals.items) got.1 (filled got.0 key pass) in
+          let some : 0 < length x.vals.items =
+          subst (λ (y : MatchedArg). 0 < length y.vals.items) got.1 (filled got.0 key pass) in
           let head = first (λ v. PassesArg p.built id v.now) (reading_of q) x.vals.items some values in (
             head.0.now,
             first_at (found_of m) id x head.0.now found head.1,
@@ -136,9 +157,11 @@ module _ (old : Command) (m : ArgMatches) (p : IsParsedFrom old m) (no_groups : 
             passed head.0.now head.3,
           )
 
-      go : (o : Option MatchedArg) → matched_of (found_of m) (slice_index_or (args_of old) k d).id.now ≡ o → is_some o ≡ true
+      go : (o : Option MatchedArg) → matched_of (found_of m) (slice_index_or (args_of old) k d).id.now ≡ o
+          → is_some o ≡ true
           → (v : List ℕ) × (first_value (found_of m) (slice_index_or (args_of old) k d).id.now ≡ Some v)
           × (one_text (found_of m) (slice_index_or (args_of old) k d).id.now ≡ Some (read_as (reading_of q) v))
           × Accepts (slice_index_or (args_of old) k d).ignore_case q v
       go None e h = absurd (true≢false (sym h))
-      go (Some x) e h = step x e (entry_by_id (EntryPasses p.built) (found_of m).entries.items (slice_index_or (args_of old) k d).id.now x (p.parsed (p.from.globals ∙ globals)).values e)
+      go (Some x) e h = step x e (entry_by_id (EntryPasses p.built) (found_of m).entries.items
+          (slice_index_or (args_of old) k d).id.now x (p.parsed (p.from.globals ∙ globals)).values e)

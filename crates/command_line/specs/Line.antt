@@ -1,5 +1,5 @@
 -- The command line of heapmark in clap's words, and what its words give.
-use Rattle.std.specs.Prelude.{List, Option, Some, [], codes, map, true, ℕ, ◌∷◌, ◌≡◌, ◌≢◌, ◌≤◌}
+use Rattle.std.specs.Prelude.{List, Option, Some, [], codes, map, option_map, true, ℕ, ◌∷◌, ◌≡◌, ◌≢◌, ◌≤◌, ◌⊎◌}
 use Rattle.std.specs.Borrow.{Bor}
 use Rattle.std.specs.Str.Parse.{IsNumeral, digits_value, without_leading_plus}
 use Rattle.clap.specs.Words.{App, IsAmong, Kinds, Rule, Text}
@@ -33,14 +33,28 @@ option_rule name values default = record (new_rule name) {
 abbrev pub number_rule : Text → ℕ → ℕ → Text → Rule
 number_rule name least most default = option_rule name (parser.Unsigned least most) default
 
--- heapmark FILE --workers N --buffer N --buffers N --first-tag N
+-- an option `--skip LIST` with no default, which takes any text
+abbrev pub skip_rule : Rule
+skip_rule = record (new_rule (codes "skip")) {
+  long = Some (codes "skip");
+  action = Some Set;
+  value_names = 1;
+}
+
+-- a command that tells its version at --version
+abbrev pub with_version : App → App
+with_version a = record a { top = record a.top { has_version = true } }
+
+-- heapmark FILE --workers N --buffer N --buffers N --first-tag N --skip LIST
 unfoldable pub heapmark_line : App
 heapmark_line =
-    with_rule (with_rule (with_rule (with_rule (with_rule (new_app (codes "heapmark")) file_rule)
+    with_rule (with_rule (with_rule (with_rule (with_rule (with_rule (with_version (new_app (codes "heapmark")))
+    file_rule)
     (number_rule (codes "workers") 1 64 (codes "4")))
     (number_rule (codes "buffer") 2 4096 (codes "256")))
     (number_rule (codes "buffers") 4 65534 (codes "1024")))
-    (number_rule (codes "first-tag") 0 281474976710655 (codes "0"))
+    (number_rule (codes "first-tag") 0 281474976710655 (codes "0")))
+    skip_rule
 
 -- the texts of words
 abbrev pub texts_of : List (Bor Text) → List Text
@@ -50,7 +64,7 @@ texts_of = map (λ word. word.now)
 abbrev pub text_given : Text → List Text → Option Text
 text_given name words = first_of name (matches_of heapmark_line words)
 
--- What is wrong with the words, or that they ask for help: the kinds of error that a parse may have.
+-- What is wrong with the words, or what they ask for instead: the kinds of error that a parse may have.
 abbrev pub faults_of : List Text → Kinds
 faults_of words = fault_of heapmark_line words
 
@@ -58,13 +72,15 @@ faults_of words = fault_of heapmark_line words
 abbrev pub IsTaken : List Text → Type 0
 IsTaken words = faults_of words ≡ []
 
--- the words ask for help
-abbrev pub AsksForHelp : List Text → Type 0
-AsksForHelp words = IsAmong variant.DisplayHelp (faults_of words)
+-- the words ask for the help or for the version
+abbrev pub AsksAboutProgram : List Text → Type 0
+AsksAboutProgram words =
+    IsAmong variant.DisplayHelp (faults_of words) ⊎ IsAmong variant.DisplayVersion (faults_of words)
 
 -- something else is wrong with the words
 abbrev pub IsWrong : List Text → Type 0
-IsWrong words = (kind : ErrorKind) × IsAmong kind (faults_of words) × (kind ≢ variant.DisplayHelp)
+IsWrong words = (kind : ErrorKind) × IsAmong kind (faults_of words)
+    × (kind ≢ variant.DisplayHelp) × (kind ≢ variant.DisplayVersion)
 
 -- the words give an option this number: its text is a decimal numeral that spells it
 pub record GivesNumber (name : Text) (words : List Text) (number : ℕ) : Type 0 where
@@ -80,6 +96,7 @@ pub record AreGiven (words : List Text) (a : Arguments) : Type 0 where
   pub buffer : GivesNumber (codes "buffer") words a.buffer
   pub buffers : GivesNumber (codes "buffers") words a.buffers
   pub first_tag : GivesNumber (codes "first-tag") words a.first_tag
+  pub skip : option_map (λ text. text.now) a.skip ≡ text_given (codes "skip") words
 
 -- each number is in the range of its option
 pub record AreInRange (a : Arguments) : Type 0 where

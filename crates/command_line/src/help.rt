@@ -1,4 +1,10 @@
-//! The texts that `--help` shows, beside the usage line that clap makes.
+//! The texts that `--help` and `--version` show, beside what clap makes of the options.
+
+/// The version, and behind it the toolchain that proved and built it, in the words of `rt --version`: `tools/statuses`
+/// sees that these are its words.
+pub(crate) const VERSION: &str = "\
+0.1.0
+rattle-kit-13f logic dac8208d650f15bf";
 
 pub(crate) const ABOUT: &str = "\
 Marks the objects of a Java heap dump that a path of references joins to a root, with several
@@ -21,13 +27,17 @@ pub(crate) const FIRST_TAG: &str = "\
 First tag of the two stacks of buffers, 0 to 281474976710655; only
 tests of the last tags need it";
 
+pub(crate) const SKIP: &str = "\
+Fields of instances that are not followed, 1 to 64 of the form
+Class.field with commas between, as java/lang/ref/Reference.referent";
+
 pub(crate) const AFTER: &str = "\
 The report, on standard output, has the number of objects, their bytes and the class in each line,
 the most bytes first. Its last three lines count the reachable objects, the unreachable ones, and
-the references to objects that are not in the dump. No option changes it.
+the references to objects that are not in the dump. --skip changes it, and no other option.
 
 Exit status:
-  0  the report was written, or this help
+  0  the report was written, or this help, or the version
   1  refused, as `heapmark: refused 5 BadSubTag at 49` on standard error tells: the code, its name,
      and for a fault of the dump its place in the file; nothing was written on standard output, but
      for a beginning of the report at 20 WriteFault

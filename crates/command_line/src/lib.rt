@@ -1,4 +1,22 @@
 //! The command line of `heapmark`: its definition, its help, and what its words give.
+//!
+//! `arguments` hands the words to clap, and answers the file and the options, each in its range, with the defaults
+//! where none is given; or clap's error, whose text is for the user. What the list of `--skip` means is not known here.
+//!
+//! From `src/tests.rt`, which is proved and run:
+//!
+//!     let given = arguments(rt.alloc(), &["heapmark", "app.hprof"])?;
+//!     let want = Arguments {
+//!         file: "app.hprof",
+//!         workers: 4,
+//!         buffer: 256,
+//!         buffers: 1024,
+//!         first_tag: 0,
+//!         skip: None,
+//!     };
+//!     assert_eq!(rt; given, want);
+//!
+//! The command is defined in clap's words in `specs/Line.antt`; the texts of the help stand in `help.rt`.
 #![tactic(auto)]
 
 mod help;

@@ -1,25 +1,27 @@
 //! The file and the options with their ranges and defaults, in clap's words.
 ghost use Rattle.std.specs.Prelude.{◌≡◌, IfOk, codes, false};
 ghost use Rattle.clap.specs.Words.{app_of, rule_of};
-ghost use Rattle.command_line.specs.Line.{file_rule, heapmark_line, number_rule, option_rule};
+ghost use Rattle.command_line.specs.Line.{file_rule, heapmark_line, number_rule, option_rule, skip_rule};
 
 use crate::help;
 use clap::builder::ValueParser;
 use clap::{Arg, ArgAction, Command, value_parser};
 use std::alloc::{AllocError, Global};
 
-/// `heapmark FILE --workers N --buffer N --buffers N --first-tag N`.
+/// `heapmark FILE --workers N --buffer N --buffers N --first-tag N --skip LIST`, with `--help` and `--version`.
 pub(crate) fn command<'a>(alloc: Global) -> Result<Command<'a>, AllocError>
     ensures { IfOk result (λ c. app_of c ≡ heapmark_line) }
 {
     let command = Command::new(alloc, "heapmark")
         .about(help::ABOUT)
+        .version(help::VERSION)
         .after_help(help::AFTER);
     let command = command.arg(file(alloc))?;
     let command = command.arg(workers(alloc))?;
     let command = command.arg(buffer(alloc))?;
     let command = command.arg(buffers(alloc))?;
     let command = command.arg(first_tag(alloc))?;
+    let command = command.arg(skip(alloc))?;
     Ok(command)
 }
 
@@ -69,6 +71,18 @@ fn first_tag<'a>(alloc: Global) -> Arg<'a>
 {
     let values = value_parser!(u64).range(0..=281_474_976_710_655);
     option(alloc, "first-tag", values, "0").help(help::FIRST_TAG)
+}
+
+/// The fields that are not followed.
+fn skip<'a>(alloc: Global) -> Arg<'a>
+    ensures rule { rule_of result ≡ skip_rule }
+    ensures local { result.global ≡ false }
+{
+    Arg::new(alloc, "skip")
+        .long("skip")
+        .action(ArgAction::Set)
+        .value_name("LIST")
+        .help(help::SKIP)
 }
 
 /// An option with one of these values, and a default.

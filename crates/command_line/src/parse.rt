@@ -1,5 +1,5 @@
 //! From words to the file and the options.
-ghost use Rattle.std.specs.Prelude.{◌≡◌, ◌≤◌, IfErr, IfOk, codes, true, ℕ};
+ghost use Rattle.std.specs.Prelude.{◌≡◌, ◌≤◌, IfErr, IfOk, codes, option_map, true, ℕ};
 ghost use Rattle.clap.specs.Words.{FailsBy, first_value, found_of, kind_of, takes};
 ghost use Rattle.command_line.specs.Line.{AreGiven, AreInRange, faults_of, heapmark_line, texts_of};
 ghost use Rattle.command_line.specs.working.Held.{HoldsAll, HoldsNumber, ReadsNumber};
@@ -40,6 +40,7 @@ fn values<'a>(matches: &ArgMatches<'a>) -> Arguments<'a>
     ensures buffer { ReadsNumber (found_of matches.now) (codes "buffer") result.buffer }
     ensures buffers { ReadsNumber (found_of matches.now) (codes "buffers") result.buffers }
     ensures first_tag { ReadsNumber (found_of matches.now) (codes "first-tag") result.first_tag }
+    ensures skip { option_map (λ text. text.now) result.skip ≡ first_value (found_of matches.now) (codes "skip") }
     ensures ranges { AreInRange result }
 {
     let Some(file) = matches.get_str("file") else {
@@ -51,6 +52,7 @@ fn values<'a>(matches: &ArgMatches<'a>) -> Arguments<'a>
         buffer: number(matches, "buffer") as u32,
         buffers: number(matches, "buffers") as u32,
         first_tag: number(matches, "first-tag"),
+        skip: matches.get_str("skip"),
     }
 }
 
