@@ -2,13 +2,14 @@
 use Rattle.std.proofs.Common.{IsSome, List, inl, inr, arith, refl, subst, sym, ℕ, ⊎_elim, ◌≡◌, ◌≤◌, ◌⊎◌}
 use Rattle.heap_graph.specs.LinkFault.{HasLinkFault, code_of}
 use Rattle.heap_graph.specs.declared.rule.LinkRule.{LinkRule}
-use Rattle.heap_graph.specs.declared.rule.LinkRule.TheVariants.{DuplicateObject, InstanceSize, SuperChain, TooLarge, UnknownClass, ZeroObject}
+use Rattle.heap_graph.specs.declared.rule.LinkRule.TheVariants.{DuplicateObject, InstanceSize, SuperChain, TooLarge}
+use Rattle.heap_graph.specs.declared.rule.LinkRule.TheVariants.{UnknownClass, ZeroObject}
 use Rattle.hprof_grammar.specs.Fault.{FirstFault, RecordFault, SubFault}
 use Rattle.hprof_grammar.specs.Fault.SubFault.{short, unknown_tag, wrong_type}
 use Rattle.hprof_grammar.specs.Fault.RecordFault.{bad_length, in_heap, no_snapshot, out_of_order, truncated}
 use Rattle.hprof_grammar.specs.Fault.FirstFault.{bad_header, bad_id_size, in_records, short_header, too_large}
 use Rattle.hprof_grammar.specs.Record.{Record}
-use Rattle.heapmark.specs.Answer.{FirstFaultOf, IsKnown, TellsFirstFault}
+use Rattle.heapmark.specs.Answer.{FirstFaultOf, IsRunRefusal, RefusesFirstFault}
 use Rattle.heapmark.specs.Refusals.{out_of_memory}
 use Rattle.heapmark.specs.declared.refusal.Refusal.{Refusal}
 
@@ -20,7 +21,8 @@ sub_code (unknown_tag tag rest none) = (omega arith, omega arith)
 sub_code (short x rest formed ends) = (omega arith, omega arith)
 sub_code (wrong_type x rest formed wrong) = (omega arith, omega arith)
 
-record_code : {s : ℕ} {records : List Record} {at : ℕ} {rest : List ℕ} {code place : ℕ} → RecordFault s records at rest code place → IsFaultCode code
+record_code : {s : ℕ} {records : List Record} {at : ℕ} {rest : List ℕ} {code place : ℕ}
+    → RecordFault s records at rest code place → IsFaultCode code
 record_code (no_snapshot unordered) = (omega arith, omega arith)
 record_code (truncated rest some runs) = (omega arith, omega arith)
 record_code (bad_length tag time body after fits wrong) = (omega arith, omega arith)
@@ -49,7 +51,8 @@ fault_code : (text : List ℕ) (code place : ℕ) → FirstFaultOf text code pla
 fault_code text code place fault = ⊎_elim form_code link_code fault
 
 -- a first fault, or want of memory
-pub known_of : (text : List ℕ) (refusal : Refusal) → TellsFirstFault text refusal ⊎ (refusal ≡ out_of_memory) → IsKnown refusal × (refusal.code ≤ 18)
+pub known_of : (text : List ℕ) (refusal : Refusal) → RefusesFirstFault text refusal ⊎ (refusal ≡ out_of_memory)
+    → IsRunRefusal refusal × (refusal.code ≤ 18)
 known_of text refusal (inl tells) =
     let code = fault_code text refusal.code tells.place tells.fault in (
       record {
@@ -60,12 +63,13 @@ known_of text refusal (inl tells) =
       },
       omega (arith, code.1),
     )
-known_of text refusal (inr same) = let Q : Refusal → Type 0 = λ r. IsKnown r × (r.code ≤ 18) in subst Q (sym same) (
-  record {
-    least = omega arith;
-    most = omega arith;
-    in_use = λ h. omega (arith, h);
-    placed = (λ h. absurd (omega (arith, h)), λ h. cc);
-  },
-  omega arith,
-)
+known_of text refusal (inr same) = let Q : Refusal → Type 0 = λ r. IsRunRefusal r × (r.code ≤ 18) in
+    subst Q (sym same) (
+      record {
+        least = omega arith;
+        most = omega arith;
+        in_use = λ h. omega (arith, h);
+        placed = (λ h. absurd (omega (arith, h)), λ h. cc);
+      },
+      omega arith,
+    )

@@ -2,19 +2,21 @@
 use Rattle.std.proofs.Common.{List, inl, inr, refl, subst, sym, ℕ, ◌≡◌, ◌⊎◌}
 use Rattle.drain.specs.declared.marked.RunFault.{RunFault}
 use Rattle.drain.specs.declared.marked.RunFault.TheVariants.{OutOfMemory, TagSpent, WorkerRefused}
-use Rattle.heapmark.specs.Answer.{IsAcceptedText, TellsFirstFault}
+use Rattle.heapmark.specs.Answer.{IsAcceptedText, RefusesFirstFault}
 use Rattle.heapmark.specs.RefusalOf.{run_refusal}
 use Rattle.heapmark.specs.Refusals.{out_of_memory}
 use Rattle.heapmark.specs.working.Marking.{IsOfMarking}
 use Rattle.heapmark.specs.declared.refusal.Refusal.{Refusal}
 
 abbrev pub IsToldOf : List ℕ → Refusal → Type 0
-IsToldOf text refusal = TellsFirstFault text refusal ⊎ (refusal ≡ out_of_memory) ⊎ (IsAcceptedText text × IsOfMarking refusal)
+IsToldOf text refusal = RefusesFirstFault text refusal ⊎ (refusal ≡ out_of_memory)
+    ⊎ (IsAcceptedText text × IsOfMarking refusal)
 
 each_fault : (text : List ℕ) (fault : RunFault) → IsAcceptedText text → IsToldOf text (run_refusal fault)
 each_fault text OutOfMemory accepted = inr (inl refl)
 each_fault text TagSpent accepted = inr (inr (accepted, inl refl))
 each_fault text WorkerRefused accepted = inr (inr (accepted, inr refl))
 
-pub of_marking : (text : List ℕ) (refusal : Refusal) (fault : RunFault) → refusal ≡ run_refusal fault → IsAcceptedText text → IsToldOf text refusal
+pub of_marking : (text : List ℕ) (refusal : Refusal) (fault : RunFault) → refusal ≡ run_refusal fault
+    → IsAcceptedText text → IsToldOf text refusal
 of_marking text refusal fault same accepted = subst (IsToldOf text) (sym same) (each_fault text fault accepted)

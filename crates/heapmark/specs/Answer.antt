@@ -3,8 +3,9 @@ use Rattle.std.specs.Prelude.{IfSome, IsSome, List, Option, take, ℕ, ◌≡◌
 use Rattle.std.specs.Io.KnownBytes.{Appends, Consumes}
 use Rattle.heap_graph.specs.Linked.{IsAccepted}
 use Rattle.heap_graph.specs.LinkFault.{HasLinkFault}
+use Rattle.heap_graph.specs.Skips.{SkipEntry}
 use Rattle.histogram.specs.Report.{IsReport}
-use Rattle.heapmark.specs.Refusals.{out_of_memory, read_fault, told}
+use Rattle.heapmark.specs.Refusals.{out_of_memory, read_fault, fault_refusal}
 use Rattle.heapmark.specs.declared.refusal.Refusal.{Refusal}
 use Rattle.histogram.specs.Counting.{AppendsBeginning}
 use Rattle.hprof_grammar.specs.Fault.{FirstFault}
@@ -27,14 +28,14 @@ abbrev pub FirstFaultOf : List ℕ → ℕ → ℕ → Type 0
 FirstFaultOf text code place = FirstFault text code place ⊎ HasLinkFault text code place
 
 -- The refusal is this first fault.
-pub record TellsFirstFault (text : List ℕ) (refusal : Refusal) : Type 0 where
+pub record RefusesFirstFault (text : List ℕ) (refusal : Refusal) : Type 0 where
   pub place : ℕ
-  pub is : refusal ≡ told refusal.code place
+  pub is : refusal ≡ fault_refusal refusal.code place
   pub fault : FirstFaultOf text refusal.code place
 
 -- The codes are 1 to 20, since a run is given options that are in their ranges, and not 17, which is withdrawn. Those
 -- up to 14, and no others, have a place.
-pub record IsKnown (refusal : Refusal) : Type 0 where
+pub record IsRunRefusal (refusal : Refusal) : Type 0 where
   pub least : 1 ≤ refusal.code
   pub most : refusal.code ≤ 20
   pub in_use : refusal.code ≢ 17
@@ -42,24 +43,24 @@ pub record IsKnown (refusal : Refusal) : Type 0 where
 
 -- What a run refuses of a text that is not accepted: its first fault, or the means to find it.
 abbrev pub IsRefusalOf : List ℕ → Refusal → Type 0
-IsRefusalOf text refusal = TellsFirstFault text refusal ⊎ (refusal ≡ out_of_memory) ⊎ (refusal ≡ read_fault)
+IsRefusalOf text refusal = RefusesFirstFault text refusal ⊎ (refusal ≡ out_of_memory) ⊎ (refusal ≡ read_fault)
 
--- the report of the text was written, and nothing else
-pub record WritesReport (text : List ℕ) (old new : Option (List ℕ)) : Type 0 where
+-- the report of the text without those fields was written, and nothing else
+pub record WritesReport (text : List ℕ) (skip : List SkipEntry) (old new : Option (List ℕ)) : Type 0 where
   pub report : List ℕ
-  pub is : IsReport text report
+  pub is : IsReport text skip report
   pub written : Appends old new report
 
--- a beginning of the report of the text was written, and nothing else
-pub record WritesBeginning (text : List ℕ) (old new : Option (List ℕ)) : Type 0 where
+-- a beginning of that report was written, and nothing else
+pub record WritesBeginning (text : List ℕ) (skip : List SkipEntry) (old new : Option (List ℕ)) : Type 0 where
   pub report : List ℕ
-  pub is : IsReport text report
+  pub is : IsReport text skip report
   pub written : AppendsBeginning old new report
 
--- the report of some text was written, and nothing else
-abbrev pub WritesSomeReport : Option (List ℕ) → Option (List ℕ) → Type 0
-WritesSomeReport old new = (text : List ℕ) × WritesReport text old new
+-- the report of some text without those fields was written, and nothing else
+abbrev pub WritesSomeReport : List SkipEntry → Option (List ℕ) → Option (List ℕ) → Type 0
+WritesSomeReport skip old new = (text : List ℕ) × WritesReport text skip old new
 
--- a beginning of the report of some text was written, and nothing else
-abbrev pub WritesSomeBeginning : Option (List ℕ) → Option (List ℕ) → Type 0
-WritesSomeBeginning old new = (text : List ℕ) × WritesBeginning text old new
+-- a beginning of such a report was written, and nothing else
+abbrev pub WritesSomeBeginning : List SkipEntry → Option (List ℕ) → Option (List ℕ) → Type 0
+WritesSomeBeginning skip old new = (text : List ℕ) × WritesBeginning text skip old new

@@ -3,8 +3,8 @@ use Rattle.std.specs.Prelude.{List, None, Option, Some, codes, decimal, if◌the
 use Rattle.heapmark.specs.declared.refusal.Refusal.{Refusal}
 
 -- the name by which a code is shown; 17 is withdrawn, and no run tells it
-abbrev pub name_of : ℕ → List ℕ
-name_of code =
+abbrev pub code_name : ℕ → List ℕ
+code_name code =
     if code == 1 then codes "BadHeader" else (
     if code == 2 then codes "BadIdSize" else (
     if code == 3 then codes "Truncated" else (
@@ -29,9 +29,9 @@ name_of code =
 
 -- what is shown of a refusal: its code, the name of that, and the place if there is one
 abbrev pub text_of : ℕ → Option ℕ → List ℕ
-text_of code None = codes "refused " ++ decimal code ++ codes " " ++ name_of code
+text_of code None = codes "refused " ++ decimal code ++ codes " " ++ code_name code
 text_of code (Some place) =
-    codes "refused " ++ decimal code ++ codes " " ++ name_of code ++ codes " at " ++ decimal place
+    codes "refused " ++ decimal code ++ codes " " ++ code_name code ++ codes " at " ++ decimal place
 
 abbrev pub refusal_text : Refusal → List ℕ
 refusal_text refusal = text_of refusal.code refusal.offset

@@ -3,8 +3,8 @@ use Rattle.std.specs.Prelude.{IsErrAnd, None, Result, Some, ℕ, ◌≡◌}
 use Rattle.heapmark.specs.declared.refusal.Refusal.{Refusal}
 
 -- a fault of the bytes, with its place
-abbrev pub told : ℕ → ℕ → Refusal
-told code place = record { code = code; offset = Some place }
+abbrev pub fault_refusal : ℕ → ℕ → Refusal
+fault_refusal code place = record { code = code; offset = Some place }
 
 abbrev pub out_of_memory : Refusal
 out_of_memory = record { code = 15; offset = None }

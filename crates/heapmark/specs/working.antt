@@ -1,2 +1,3 @@
+pub mod Hint
 pub mod Marking
 pub mod Trouble

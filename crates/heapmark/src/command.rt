@@ -1,14 +1,17 @@
 //! The program over its words, and its exit status.
 
-ghost use Rattle.std.specs.Prelude.{◌≡◌, ◌≢◌, ◌↔◌, ◌*◌, ◌+◌, ◌-◌, ◌^◌, ◌<◌, ◌≤◌, IfErr, IfOk, IsOk, OnErr, OnOk, true, ℕ, codes};
+ghost use Rattle.std.specs.Prelude.{◌≡◌, ◌≢◌, ◌↔◌, ◌⊎◌, ◌*◌, ◌+◌, ◌-◌, ◌^◌, ◌<◌, ◌≤◌};
+ghost use Rattle.std.specs.Prelude.{IfErr, IfOk, IsOk, OnErr, OnOk, true, ℕ, codes};
 ghost use Rattle.std.specs.Io.KnownBytes.{Keeps};
 ghost use Rattle.clap.specs.Words.{kind_of};
-ghost use Rattle.command_line.specs.Line.{AreInRange, AsksForHelp, GivesNumber, IsTaken, IsWrong, texts_of};
-ghost use Rattle.heapmark.specs.Answer.{WritesSomeBeginning, WritesSomeReport};
-ghost use Rattle.drain.specs.Options.{IsAllowed};
-ghost use Rattle.heapmark.specs.working.Trouble.{HasTooFewBuffers, bad_options, wanted};
+ghost use Rattle.command_line.specs.Line.{AreInRange, AsksAboutProgram, GivesNumber, IsTaken, IsWrong};
+ghost use Rattle.command_line.specs.Line.{text_given, texts_of};
+ghost use Rattle.heapmark.specs.SkippedFields.{HasBadList, IsSkipListOf, WritesBeginningFor, WritesReportFor};
+ghost use Rattle.drain.specs.Options.{IsInRange};
+ghost use Rattle.heapmark.specs.working.Trouble.{HasTooFewBuffers, bad_options, list_of, starved, wanted};
 ghost use Rattle.histogram.specs.Counting.{failures_of, inner_of, is_flushed};
 
+use crate::hint::advise;
 use crate::pipeline::run;
 use crate::refusal::Refusal;
 use crate::status;
@@ -16,6 +19,7 @@ use crate::trouble::Trouble;
 use clap::error::ErrorKind;
 use command_line::{Arguments, Error, arguments};
 use drain::{BadOptions, NoGate, Options};
+use heap_graph::{Skip, SkipRefusal};
 use histogram::Counted;
 use std::alloc::Global;
 use std::fs::OpenFile;
@@ -33,9 +37,9 @@ For more information, try '--help'.
 ";
 
 /// Does all that the program does, for its words with its own name first, and answers its exit status: 0 where the
-/// report of the file, or the help that was asked for, is on `out`; 1 at a refusal; 2 where the words are wrong.
-/// A refusal, in one line, or the faults of the words go to `err`. A fault of `err`, or of `out` at the help, changes
-/// nothing.
+/// report of the file, or the help or the version that was asked for, is on `out`; 1 at a refusal; 2 where the words
+/// are wrong. A refusal, in one line, or the faults of the words go to `err`. A fault of `err`, or of `out` at the help
+/// and the version, changes nothing.
 pub fn program<T: Files + AllocGlobal + Threads + Wait + Sync, W: Write, E: Write>(
     rt: &T,
     words: &[&str],
@@ -47,28 +51,35 @@ pub fn program<T: Files + AllocGlobal + Threads + Wait + Sync, W: Write, E: Writ
 
     // 2 is for words that are wrong, and for no others. Such words are answered by 2, or by 1 for want of memory.
     ensures usage { result ≡ 2 → IsWrong (texts_of words.now) }
-    ensures wrong { (IsTaken (texts_of words.now) → ⊥) → (AsksForHelp (texts_of words.now) → ⊥) → result ≢ 0 }
+    ensures wrong { (IsTaken (texts_of words.now) → ⊥) → (AsksAboutProgram (texts_of words.now) → ⊥) → result ≢ 0 }
     ensures untouched { result ≡ 2 → Keeps (W.contents (inner_of out.old)) (W.contents (inner_of out.new)) }
 
-    // At 0 what was written is a report, flushed, where no help was asked for, and no refusal was told. No contract can
-    // say that it is the report of the file.
-    ensures reported { result ≡ 0 → (AsksForHelp (texts_of words.now) → ⊥)
-        → WritesSomeReport (W.contents (inner_of out.old)) (W.contents (inner_of out.new)) }
-    ensures flushed { result ≡ 0 → (AsksForHelp (texts_of words.now) → ⊥) → is_flushed out.new ≡ true }
+    // At 0 no refusal was told, and what was written, where neither help nor version was asked for, is a report without
+    // the fields that the words list, flushed. No contract can say that it is the report of the file.
+    ensures reported { result ≡ 0 → (AsksAboutProgram (texts_of words.now) → ⊥)
+        → WritesReportFor (text_given (codes "skip") (texts_of words.now))
+        (W.contents (inner_of out.old)) (W.contents (inner_of out.new)) }
+    ensures flushed { result ≡ 0 → (AsksAboutProgram (texts_of words.now) → ⊥) → is_flushed out.new ≡ true }
     ensures silent { result ≡ 0 → Keeps (E.contents err.old) (E.contents err.new) }
 
     // Too few buffers for the workers are refused, with nothing written.
     ensures too_few { (workers buffers : ℕ) → GivesNumber (codes "workers") (texts_of words.now) workers
         → GivesNumber (codes "buffers") (texts_of words.now) buffers → buffers < 2 * workers + 2
-        → (AsksForHelp (texts_of words.now) → ⊥)
+        → (AsksAboutProgram (texts_of words.now) → ⊥)
+        → (result ≢ 0) × Keeps (W.contents (inner_of out.old)) (W.contents (inner_of out.new)) }
+
+    // So is a text that lists no fields.
+    ensures bad_list { HasBadList (text_given (codes "skip") (texts_of words.now))
+        → (AsksAboutProgram (texts_of words.now) → ⊥)
         → (result ≢ 0) × Keeps (W.contents (inner_of out.old)) (W.contents (inner_of out.new)) }
 
     // At 1 nothing was written, but for a beginning of a report where the writer failed.
     ensures unwritten { result ≡ 1 → failures_of out.new ≡ failures_of out.old
         → Keeps (W.contents (inner_of out.old)) (W.contents (inner_of out.new)) }
     ensures beginning { result ≡ 1 → failures_of out.new ≡ failures_of out.old + 1
-        → WritesSomeBeginning (W.contents (inner_of out.old)) (W.contents (inner_of out.new)) }
-    ensures no_failure { result ≢ 1 → (AsksForHelp (texts_of words.now) → ⊥)
+        → WritesBeginningFor (text_given (codes "skip") (texts_of words.now))
+        (W.contents (inner_of out.old)) (W.contents (inner_of out.new)) }
+    ensures no_failure { result ≢ 1 → (AsksAboutProgram (texts_of words.now) → ⊥)
         → failures_of out.new ≡ failures_of out.old }
     ensures failures { failures_of out.new ≤ failures_of out.old + 1 }
 {
@@ -81,7 +92,8 @@ pub fn program<T: Files + AllocGlobal + Threads + Wait + Sync, W: Write, E: Writ
     }
 }
 
-/// The program where people read `err`: behind the refusal a second line tells why the file could not be opened.
+/// The program where people read `err`: behind the refusal a second line tells why the file could not be opened, or
+/// what can be done.
 pub fn program_at_terminal<T: Files + AllocGlobal + Threads + Wait + Sync, W: Write, E: Write>(
     rt: &T,
     words: &[&str],
@@ -95,21 +107,22 @@ pub fn program_at_terminal<T: Files + AllocGlobal + Threads + Wait + Sync, W: Wr
     ensures unwritten { result ≡ 1 → failures_of out.new ≡ failures_of out.old
         → Keeps (W.contents (inner_of out.old)) (W.contents (inner_of out.new)) }
     ensures beginning { result ≡ 1 → failures_of out.new ≡ failures_of out.old + 1
-        → WritesSomeBeginning (W.contents (inner_of out.old)) (W.contents (inner_of out.new)) }
+        → WritesBeginningFor (text_given (codes "skip") (texts_of words.now))
+        (W.contents (inner_of out.old)) (W.contents (inner_of out.new)) }
     ensures failures { failures_of out.new ≤ failures_of out.old + 1 }
 {
     match arguments(rt.alloc(), words) {
         Ok(arguments) => {
             let outcome = report_file(rt, &arguments, out);
             let status = tell(err, &outcome);
-            explain(err, arguments.file, &outcome);
+            explain(rt, err, &arguments, &outcome);
             status
         }
         Err(error) => answer_words(rt.alloc(), &error, out, err),
     }
 }
 
-/// Answers words that give no arguments: the help on `out`, or what is wrong on `err`.
+/// Answers words that give no arguments: the help or the version on `out`, or what is wrong on `err`.
 fn answer_words<W: Write, E: Write>(
     alloc: Global,
     error: &Error,
@@ -118,10 +131,12 @@ fn answer_words<W: Write, E: Write>(
 ) -> u8
     requires { failures_of out.old < 2 ^ 64 - 1 }
     ensures status { result ≤ 2 }
-    ensures helped { result ≡ 0 → kind_of error.now ≡ ErrorKind.DisplayHelp }
-    ensures usage { result ≡ 2
-        → (kind_of error.now ≢ ErrorKind.DisplayHelp) × (kind_of error.now ≢ ErrorKind.OutOfMemory) }
-    ensures told { kind_of error.now ≢ ErrorKind.DisplayHelp → kind_of error.now ≢ ErrorKind.OutOfMemory → result ≡ 2 }
+    ensures asked { result ≡ 0
+        → (kind_of error.now ≡ ErrorKind.DisplayHelp) ⊎ (kind_of error.now ≡ ErrorKind.DisplayVersion) }
+    ensures usage { result ≡ 2 → (kind_of error.now ≢ ErrorKind.DisplayHelp)
+        × (kind_of error.now ≢ ErrorKind.DisplayVersion) × (kind_of error.now ≢ ErrorKind.OutOfMemory) }
+    ensures told { kind_of error.now ≢ ErrorKind.DisplayHelp → kind_of error.now ≢ ErrorKind.DisplayVersion
+        → kind_of error.now ≢ ErrorKind.OutOfMemory → result ≡ 2 }
     ensures silent { result ≡ 0 → Keeps (E.contents err.old) (E.contents err.new) }
     ensures untouched { result ≢ 0 → Keeps (W.contents (inner_of out.old)) (W.contents (inner_of out.new)) }
     ensures no_failure { result ≢ 0 → failures_of out.new ≡ failures_of out.old }
@@ -129,11 +144,11 @@ fn answer_words<W: Write, E: Write>(
 {
     match error.kind() {
         ErrorKind::OutOfMemory => refused(err, &Refusal::OUT_OF_MEMORY),
-        ErrorKind::DisplayHelp => {
-            let Ok(help) = format!(in alloc; "{error}") else {
+        ErrorKind::DisplayHelp | ErrorKind::DisplayVersion => {
+            let Ok(text) = format!(in alloc; "{error}") else {
                 return refused(err, &Refusal::OUT_OF_MEMORY);
             };
-            let _ = out.write_whole(help.as_bytes());
+            let _ = out.write_whole(text.as_bytes());
             status::DONE
         }
         _ => {
@@ -164,12 +179,22 @@ fn tell<E: Write>(err: &mut E, outcome: &Result<(), Trouble>) -> u8
     }
 }
 
-/// Prints why a file could not be opened.
-fn explain<E: Write>(err: &mut E, file: &str, outcome: &Result<(), Trouble>)
+/// Prints why a file could not be opened, or what can be done about a refusal.
+fn explain<T: Files, E: Write>(
+    rt: &T,
+    err: &mut E,
+    arguments: &Arguments<'_>,
+    outcome: &Result<(), Trouble>,
+)
     ensures { OnOk outcome.now (Keeps (E.contents err.old) (E.contents err.new)) }
 {
-    if let Err(Trouble::NotOpened(reason)) = outcome {
-        let _ = writeln!(err, "heapmark: {file}: {reason}");
+    match outcome {
+        Ok(()) => {}
+        Err(Trouble::Refused(refusal)) => advise(rt, err, arguments, refusal),
+        Err(Trouble::NotOpened(reason)) => {
+            let file = arguments.file;
+            let _ = writeln!(err, "heapmark: {file}: {reason}");
+        }
     }
 }
 
@@ -183,7 +208,7 @@ pub fn refused<E: Write>(err: &mut E, refusal: &Refusal) -> u8
 
 /// How the words want the heap to be marked.
 fn options_of(arguments: &Arguments<'_>) -> Result<Options, BadOptions>
-    ensures allowed { IsOk result ↔ IsAllowed (wanted arguments.now) }
+    ensures allowed { IsOk result ↔ IsInRange (wanted arguments.now) }
     ensures value { IfOk result (λ options. options ≡ wanted arguments.now) }
 {
     let Arguments {
@@ -192,11 +217,23 @@ fn options_of(arguments: &Arguments<'_>) -> Result<Options, BadOptions>
         buffer,
         buffers,
         first_tag,
+        skip: _,
     } = *arguments;
     Options::new(workers, buffer, buffers, first_tag)
 }
 
-/// Runs on a file with these options. The options are tested before the file is opened.
+/// The fields that the words want to be skipped.
+fn skip_of<'a>(alloc: Global, arguments: &Arguments<'a>) -> Result<Skip<'a, Global>, SkipRefusal>
+    ensures list { IfOk result (IsSkipListOf (list_of arguments.now)) }
+    ensures bad { result ≡ Err SkipRefusal.BadOptions → HasBadList (list_of arguments.now) }
+{
+    match arguments.skip {
+        Some(text) => Skip::new(alloc, text),
+        None => Ok(Skip::none(alloc)),
+    }
+}
+
+/// Runs on a file with these options. The options and the list of fields are tested before the file is opened.
 fn report_file<T: Files + AllocGlobal + Threads + Wait + Sync, W: Write>(
     rt: &T,
     arguments: &Arguments<'_>,
@@ -205,25 +242,33 @@ fn report_file<T: Files + AllocGlobal + Threads + Wait + Sync, W: Write>(
     requires failures { failures_of out.old < 2 ^ 64 - 1 }
     requires ranges { AreInRange arguments.now }
     ensures too_few { HasTooFewBuffers arguments.now → result ≡ Err bad_options }
-    ensures enough { result ≡ Err bad_options → HasTooFewBuffers arguments.now }
-    ensures reported { OnOk result (WritesSomeReport (W.contents (inner_of out.old)) (W.contents (inner_of out.new))) }
+    ensures bad_list { HasBadList (list_of arguments.now) → (result ≡ Err bad_options) ⊎ (result ≡ Err starved) }
+    ensures enough { result ≡ Err bad_options → HasTooFewBuffers arguments.now ⊎ HasBadList (list_of arguments.now) }
+    ensures not_run { HasTooFewBuffers arguments.now ⊎ HasBadList (list_of arguments.now)
+        → failures_of out.new ≡ failures_of out.old }
+    ensures reported { OnOk result (WritesReportFor (list_of arguments.now)
+        (W.contents (inner_of out.old)) (W.contents (inner_of out.new))) }
     ensures flushed { OnOk result (is_flushed out.new ≡ true) }
     ensures unwritten { OnErr result (failures_of out.new ≡ failures_of out.old
         → Keeps (W.contents (inner_of out.old)) (W.contents (inner_of out.new))) }
     ensures beginning { OnErr result (failures_of out.new ≡ failures_of out.old + 1
-        → WritesSomeBeginning (W.contents (inner_of out.old)) (W.contents (inner_of out.new))) }
+        → WritesBeginningFor (list_of arguments.now)
+        (W.contents (inner_of out.old)) (W.contents (inner_of out.new))) }
     ensures no_failure { OnOk result (failures_of out.new ≡ failures_of out.old) }
-    ensures bad_options { result ≡ Err bad_options → failures_of out.new ≡ failures_of out.old }
     ensures failures { failures_of out.new ≤ failures_of out.old + 1 }
 {
     let Ok(options) = options_of(arguments) else {
         return Err(Trouble::Refused(Refusal::BAD_OPTIONS));
     };
+    let skip = match skip_of(rt.alloc(), arguments) {
+        Ok(skip) => skip,
+        Err(refusal) => return Err(Trouble::Refused(Refusal::from(refusal))),
+    };
     let mut reader = match open(rt, arguments.file) {
         Ok(reader) => reader,
         Err(reason) => return Err(Trouble::NotOpened(reason)),
     };
-    match run(rt, rt.alloc(), &mut reader, out, &options, &NoGate) {
+    match run(rt, rt.alloc(), &mut reader, out, &options, &skip, &NoGate) {
         Ok(()) => Ok(()),
         Err(refusal) => Err(Trouble::Refused(refusal)),
     }

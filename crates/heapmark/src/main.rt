@@ -1,12 +1,20 @@
 //! Marks the reachable objects of a Java heap dump and prints a histogram by class.
+//!
+//! `run`, in `pipeline.rt`, is all that is promised: it reads the bytes, builds the graph, marks it, and writes the
+//! report, or answers why it does not. `program`, in `command.rt`, gives it the file and the options of the words, and
+//! makes the exit status of its answer; `main` is one line over `start`, below.
+//!
+//! The headline stands in `specs/Headline.antt`, the refusals in `specs/Refusals.antt`; README.md at the top says both
+//! in words, and `docs/ARCHITECTURE.md` where everything else is.
 #![tactic(auto)]
 
 ghost use Rattle.std.specs.Prelude.{◌≡◌, ◌+◌, ◌-◌, ◌^◌, ◌<◌, ◌≤◌};
 ghost use Rattle.std.specs.Io.KnownBytes.{Keeps};
-ghost use Rattle.heapmark.specs.Answer.{WritesSomeBeginning};
+ghost use Rattle.heapmark.specs.SkippedFields.{WritesBeginningForSome};
 ghost use Rattle.histogram.specs.Counting.{failures_of, inner_of};
 
 mod command;
+mod hint;
 mod laws;
 mod pipeline;
 mod refusal;
@@ -16,6 +24,7 @@ mod trouble;
 pub use command::program;
 pub use command_line::{Arguments, arguments};
 pub use drain::{Gate, NoGate, Options};
+pub use heap_graph::{Skip, SkipRefusal};
 pub use histogram::{Counted, one_report};
 pub use laws::{accepted_or_fault, always_accepted_or_fault, one_first_fault};
 pub use pipeline::run;
@@ -57,7 +66,7 @@ where
     ensures unwritten { result ≡ 1 → failures_of out.new ≡ failures_of out.old
         → Keeps (W.contents (inner_of out.old)) (W.contents (inner_of out.new)) }
     ensures beginning { result ≡ 1 → failures_of out.new ≡ failures_of out.old + 1
-        → WritesSomeBeginning (W.contents (inner_of out.old)) (W.contents (inner_of out.new)) }
+        → WritesBeginningForSome (W.contents (inner_of out.old)) (W.contents (inner_of out.new)) }
     ensures failures { failures_of out.new ≤ failures_of out.old + 1 }
 {
     let args = match args_of(line, rt.alloc()) {

@@ -6,7 +6,8 @@ ghost use Rattle.std.specs.Io.KnownBytes.{Keeps};
 ghost use Rattle.histogram.specs.Report.{IsReport, report_of};
 ghost use Rattle.histogram.specs.Counting.{ConsumesFewer, failures_of, inner_of, is_flushed};
 ghost use Rattle.histogram.specs.Lines.{histogram_of};
-ghost use Rattle.heapmark.specs.Answer.{ConsumesBytesRead, IsAcceptedText, IsKnown, IsRefusalOf, TellsFirstFault};
+ghost use Rattle.heapmark.specs.Answer.{ConsumesBytesRead, IsAcceptedText, IsRunRefusal, IsRefusalOf};
+ghost use Rattle.heapmark.specs.Answer.{RefusesFirstFault};
 ghost use Rattle.heapmark.specs.Answer.{WritesBeginning, WritesSomeBeginning, WritesSomeReport, bytes_read};
 ghost use Rattle.heapmark.specs.Headline.{Headline};
 ghost use Rattle.heapmark.specs.Refusals.{HasCode, out_of_memory};
@@ -14,7 +15,7 @@ ghost use Rattle.heapmark.specs.working.Marking.{IsOfMarking};
 
 use crate::refusal::Refusal;
 use drain::{Gate, Options, mark};
-use heap_graph::Graph;
+use heap_graph::{Graph, Skip};
 use histogram::{Counted, Report, rows, write_report};
 use hprof_grammar::read;
 use std::alloc::Allocator;
@@ -25,21 +26,23 @@ use std::thread::Threads;
 /// One byte more than a dump may have, so that a longer one is seen as such.
 const MOST_BYTES: usize = 1_073_741_825;
 
-/// Reads a heap dump, marks its reachable objects with a thread for each worker, and writes the histogram of them.
+/// Reads a heap dump, marks its reachable objects with a thread for each worker, and writes the histogram of them. What
+/// stands in the fields to be skipped is not followed, and does not count as unresolved.
 ///
 /// Reads until a read answers 0, or one byte more than a dump may have is there. No read or write that fails is tried
 /// again, and nothing is written but the report.
 ///
-/// At `Ok` the clause `headline` holds of a reader whose bytes a contract can name, as a slice. Of any other, as a file,
-/// no more is said than that the report of some text was written and flushed. At an error of 1 to 14 these bytes have
-/// that first fault. Bytes that are no accepted dump are refused so, or by 15 or 19 where memory or the reader failed
-/// first; and 15 to 20 may also refuse an accepted dump. A run knows no exit status: that is the program's.
-pub fn run<T, A, R, W, G>(
+/// At `Ok` the clause `headline` holds of a reader whose bytes a contract can name, as a slice. Of any other, as a
+/// file, no more is said than that the report of some text was written and flushed. At an error of 1 to 14 these bytes
+/// have that first fault. Bytes that are no accepted dump are refused so, or by 15 or 19 where memory or the reader
+/// failed first; and 15 to 20 may also refuse an accepted dump. A run knows no exit status: that is the program's.
+pub fn run<T, A, R, W, B, G>(
     rt: &T,
     alloc: A,
     reader: &mut Counted<R>,
     writer: &mut Counted<W>,
     options: &Options,
+    skip: &Skip<'_, B>,
     gate: &G,
 ) -> Result<(), Refusal>
 where
@@ -47,27 +50,28 @@ where
     A: Allocator + Sync,
     R: Read,
     W: Write,
+    B: Allocator,
     G: Gate,
     requires reads { failures_of reader.old < 2 ^ 64 - 1 }
     requires writes { failures_of writer.old < 2 ^ 64 - 1 }
 
     // The bytes read are an accepted dump, and their report was written behind what the writer had.
-    ensures headline { Headline result (R.remaining (inner_of reader.old))
+    ensures headline { Headline result (R.remaining (inner_of reader.old)) skip.now
         (W.contents (inner_of writer.old)) (W.contents (inner_of writer.new)) }
 
     // Of any reader, also one whose bytes no contract can name, as a file: what was written is the report of a text.
     ensures report_of_a_text { OnOk result
-        (WritesSomeReport (W.contents (inner_of writer.old)) (W.contents (inner_of writer.new))) }
+        (WritesSomeReport skip.now (W.contents (inner_of writer.old)) (W.contents (inner_of writer.new))) }
 
     ensures flushed { OnOk result (is_flushed writer.new ≡ true) }
 
     // The other side: a fault is told only where it is the first one, and where there is one nothing else is told but
     // want of memory or of the reader.
     ensures first_fault { IfErr result (λ refusal. refusal.code ≤ 14
-        → IfSome (R.remaining (inner_of reader.old)) (λ given. TellsFirstFault (bytes_read given) refusal)) }
+        → IfSome (R.remaining (inner_of reader.old)) (λ given. RefusesFirstFault (bytes_read given) refusal)) }
     ensures not_accepted { IfSome (R.remaining (inner_of reader.old)) (λ given.
         (IsAcceptedText (bytes_read given) → ⊥) → IsErrAnd result (IsRefusalOf (bytes_read given))) }
-    ensures known { IfErr result IsKnown }
+    ensures known { IfErr result IsRunRefusal }
 
     // Of the reader's bytes those were taken that were read, and no others: no read is made once the limit is reached.
     ensures consumed { OnOk result
@@ -87,9 +91,10 @@ where
 
     // What was written at a refusal.
     ensures beginning { HasCode result 20 → IfSome (R.remaining (inner_of reader.old)) (λ given.
-        WritesBeginning (bytes_read given) (W.contents (inner_of writer.old)) (W.contents (inner_of writer.new))) }
+        WritesBeginning (bytes_read given) skip.now
+        (W.contents (inner_of writer.old)) (W.contents (inner_of writer.new))) }
     ensures beginning_of_a_report { HasCode result 20
-        → WritesSomeBeginning (W.contents (inner_of writer.old)) (W.contents (inner_of writer.new)) }
+        → WritesSomeBeginning skip.now (W.contents (inner_of writer.old)) (W.contents (inner_of writer.new)) }
     ensures untouched { IfErr result (λ refusal. refusal.code ≢ 20
         → Keeps (W.contents (inner_of writer.old)) (W.contents (inner_of writer.new))) }
 {
@@ -97,7 +102,7 @@ where
         Ok(bytes) => bytes,
         Err(refusal) => return Err(Refusal::from(refusal)),
     };
-    let report = match answer(rt, &alloc, bytes.as_slice(), options, gate) {
+    let report = match answer(rt, &alloc, bytes.as_slice(), options, skip, gate) {
         Ok(report) => report,
         Err(refusal) => return Err(refusal),
     };
@@ -108,27 +113,29 @@ where
 }
 
 /// The report of the bytes of a dump. It knows nothing of readers and writers.
-fn answer<T, A, G>(
+fn answer<T, A, B, G>(
     rt: &T,
     alloc: A,
     bytes: &[u8],
     options: &Options,
+    skip: &Skip<'_, B>,
     gate: &G,
 ) -> Result<Report<A>, Refusal>
 where
     T: Threads + Wait + Sync,
     A: Allocator + Copy + Send + Sync,
+    B: Allocator,
     G: Gate,
-    ensures report { IfOk result (λ report. IsReport bytes.now (report_of (histogram_of report))) }
-    ensures refusal { IfErr result (λ refusal. TellsFirstFault bytes.now refusal ⊎ (refusal ≡ out_of_memory)
+    ensures report { IfOk result (λ report. IsReport bytes.now skip.now (report_of (histogram_of report))) }
+    ensures refusal { IfErr result (λ refusal. RefusesFirstFault bytes.now refusal ⊎ (refusal ≡ out_of_memory)
         ⊎ (IsAcceptedText bytes.now × IsOfMarking refusal)) }
-    ensures known { IfErr result (λ refusal. IsKnown refusal × (refusal.code ≤ 18)) }
+    ensures known { IfErr result (λ refusal. IsRunRefusal refusal × (refusal.code ≤ 18)) }
 {
     let dump = match read(alloc, bytes) {
         Ok(dump) => dump,
         Err(refusal) => return Err(Refusal::from(refusal)),
     };
-    let graph = match Graph::build(alloc, bytes, dump) {
+    let graph = match Graph::build(alloc, bytes, dump, skip) {
         Ok(graph) => graph,
         Err(refusal) => return Err(Refusal::from(refusal)),
     };

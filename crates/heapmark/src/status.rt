@@ -1,6 +1,6 @@
 //! The exit statuses of the program.
 
-/// The report of the file, or the help that was asked for, was written.
+/// The report of the file, or the help or the version that was asked for, was written.
 pub(crate) const DONE: u8 = 0;
 
 /// The file or its run was refused.

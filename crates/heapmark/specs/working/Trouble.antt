@@ -1,8 +1,9 @@
 -- Why the program has no report of a file.
-use Rattle.std.specs.Prelude.{◌*◌, ◌+◌, ◌<◌}
+use Rattle.std.specs.Prelude.{List, Option, option_map, ℕ, ◌*◌, ◌+◌, ◌<◌}
 use Rattle.command_line.specs.declared.parsed_arguments.Arguments.{Arguments}
 use Rattle.drain.specs.Options.{Choice, choice}
 use Rattle.heapmark.specs.RefusalOf.{bad_options_refusal}
+use Rattle.heapmark.specs.Refusals.{out_of_memory}
 use Rattle.heapmark.specs.declared.trouble.Trouble.{Trouble}
 use Rattle.heapmark.specs.declared.trouble.Trouble.TheVariants as trouble
 
@@ -14,6 +15,14 @@ wanted a = choice a.workers a.buffer a.buffers a.first_tag
 abbrev pub HasTooFewBuffers : Arguments → Type 0
 HasTooFewBuffers a = a.buffers < 2 * a.workers + 2
 
--- the options are refused
+-- the text that lists the fields that are not to be followed
+abbrev pub list_of : Arguments → Option (List ℕ)
+list_of a = option_map (λ text. text.now) a.skip
+
+-- the options or the list are refused
 abbrev pub bad_options : Trouble
 bad_options = trouble.Refused bad_options_refusal
+
+-- memory is refused
+abbrev pub starved : Trouble
+starved = trouble.Refused out_of_memory

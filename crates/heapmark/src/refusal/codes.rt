@@ -4,9 +4,9 @@ use super::Refusal;
 
 impl Refusal {
     ghost use Rattle.std.specs.Prelude.{◌≡◌};
-    ghost use Rattle.heapmark.specs.RefusalText.{name_of};
+    ghost use Rattle.heapmark.specs.RefusalText.{code_name};
 
-    /// A growth was refused.
+    /// A request for memory was refused.
     pub const OUT_OF_MEMORY: Refusal = Refusal {
         code: 15,
         offset: None,
@@ -36,7 +36,7 @@ impl Refusal {
         offset: None,
     };
 
-    /// There are too few buffers for the workers.
+    /// There are too few buffers for the workers, or the text lists no fields.
     pub const BAD_OPTIONS: Refusal = Refusal {
         code: 21,
         offset: None,
@@ -44,7 +44,7 @@ impl Refusal {
 
     /// The name of the code.
     pub fn name(&self) -> &'static str
-        ensures { result.now ≡ name_of self.now.code }
+        ensures { result.now ≡ code_name self.now.code }
     {
         match self.code {
             1 => "BadHeader",

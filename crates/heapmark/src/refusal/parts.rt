@@ -2,7 +2,7 @@
 
 use super::Refusal;
 use drain::RunFault;
-use heap_graph::LinkRefusal;
+use heap_graph::{LinkRefusal, SkipRefusal};
 use histogram::{ReaderRefusal, WriteRefusal};
 use hprof_grammar::ReadRefusal;
 use std::alloc::AllocError;
@@ -51,6 +51,20 @@ impl From<LinkRefusal> for Refusal {
                 offset: Some(fault.offset),
             },
             LinkRefusal::OutOfMemory => Refusal::OUT_OF_MEMORY,
+        }
+    }
+}
+
+impl From<SkipRefusal> for Refusal {
+    ghost use Rattle.std.specs.Prelude.{◌≡◌};
+    ghost use Rattle.heapmark.specs.RefusalOf.{skip_refusal};
+
+    ghost from_gives = { λ refusal r. r ≡ skip_refusal refusal };
+
+    fn from(refusal: SkipRefusal) -> Refusal {
+        match refusal {
+            SkipRefusal::BadOptions => Refusal::BAD_OPTIONS,
+            SkipRefusal::OutOfMemory => Refusal::OUT_OF_MEMORY,
         }
     }
 }

@@ -1,9 +1,9 @@
 //! Workers that stay until all are idle: one that finds nothing at first comes to work when there is some, and the
-//! report is the same each time that 64 of them run.
+//! report is the same in each run.
 
 use super::dumps::{Bytes, WIDE_ARRAY_REPORT, roots_alone, wide_array};
 use super::run_with;
-use crate::{Counted, Gate, Options, run};
+use crate::{Counted, Gate, Options, Skip, run};
 use std::alloc::{AllocError, Global};
 use std::sync::atomic::{AtomicU64, Ordering};
 use std::test::Fail;
@@ -16,8 +16,8 @@ const RUNS: u32 = 10;
 /// How often the worker that has made work looks whether the other has come, 1 ms apart.
 const TURNS: u32 = 500;
 
-/// How often 64 workers run on each dump.
-const RUNS_OF_MANY: u32 = 50;
+/// How often each dump is run on.
+const RUNS_OF_MANY: u32 = 200;
 
 /// Holds the worker that takes the root until the other has found nothing to do, and then, with all that the root
 /// refers to given away, until the other has come.
@@ -69,7 +69,8 @@ fn a_worker_stays_until_another_has_made_work(rt: HostRuntime) -> Result<(), Fai
         };
         let mut reader = Counted::new(dump.bytes.as_slice());
         let mut writer = Counted::new(Vec::new(alloc));
-        let outcome = run(&rt, alloc, &mut reader, &mut writer, &options, &gate);
+        let skip = Skip::none(alloc);
+        let outcome = run(&rt, alloc, &mut reader, &mut writer, &options, &skip, &gate);
         assert_eq!(rt; outcome, Ok(()));
         assert_eq!(rt;
             writer.into_inner().as_slice(),
@@ -103,25 +104,33 @@ fn roots_report(alloc: Global, count: u64) -> Result<String, AllocError> {
 }
 
 #[test]
-fn many_workers_report_the_same_each_time(rt: HostRuntime) -> Result<(), Fail> {
+fn each_run_reports_the_same(rt: HostRuntime) -> Result<(), Fail> {
     let alloc = rt.alloc();
     let wide = wide_array(alloc)?;
     let eight = roots_alone(alloc, 8)?;
     let seven = roots_alone(alloc, 7)?;
     let eight_report = roots_report(alloc, 8)?;
     let seven_report = roots_report(alloc, 7)?;
-    // the dump, objects in a buffer, buffers, and the report: with buffers of two objects some workers get no pair
-    let rows: [(&Bytes, u32, u32, &str); 3] = [
-        (&eight, 2, 1024, eight_report.as_str()),
-        (&wide, 256, 1024, WIDE_ARRAY_REPORT),
-        (&seven, 2, 130, seven_report.as_str()),
+    // the dump, workers, objects in a buffer, buffers, and the report: with the least buffers some workers get no pair
+    let rows: [(&Bytes, u32, u32, u32, &str); 5] = [
+        (&wide, 64, 2, 1024, WIDE_ARRAY_REPORT),
+        (&wide, 64, 256, 1024, WIDE_ARRAY_REPORT),
+        (&eight, 64, 2, 1024, eight_report.as_str()),
+        (&seven, 64, 2, 130, seven_report.as_str()),
+        (&seven, 1, 2, 4, seven_report.as_str()),
     ];
-    for (dump, buffer, buffers, report) in rows {
-        let options = Options::new(64, buffer, buffers, 0).map_err(|_| "the options are in range")?;
+    for (dump, workers, buffer, buffers, report) in rows {
+        let options = Options::new(workers, buffer, buffers, 0).map_err(
+            |_| "the options are in range",
+        )?;
         for run in 0..RUNS_OF_MANY {
             let bytes = dump.bytes.as_slice();
             let (outcome, written) = run_with(&rt, alloc, &options, bytes, Vec::new(alloc));
-            assert_eq!(rt; outcome, Ok(()), "run {run} of {buffer}, {buffers}");
+            assert_eq!(rt;
+                outcome,
+                Ok(()),
+                "run {run} of {workers}, {buffer}, {buffers}"
+            );
             assert_eq!(rt; written.as_slice(), report.as_bytes(), "run {run}");
         }
     }

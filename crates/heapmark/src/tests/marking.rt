@@ -66,13 +66,17 @@ fn last_tags_and_least_buffers(rt: HostRuntime) -> Result<(), Fail> {
     let mut rows = Vec::new(alloc);
     // the first exchange is one too many
     rows.push(refusal(two_objects(alloc)?, (4, 256, 1024, LAST_TAG), 16))?;
-    // without objects the leader and the worker pop two buffers each, and push them again: eight exchanges
-    rows.push(reported(
-        no_objects(alloc)?,
-        (1, 256, 1024, LAST_TAG - 8),
-        NOTHING_REPORT,
-    ))?;
-    rows.push(refusal(no_objects(alloc)?, (1, 256, 1024, LAST_TAG - 7), 16))?;
+    // without objects the leader and each worker pop two buffers and push them again: four exchanges each
+    for (workers, buffers, exchanges) in [(1, 1024, 8u32), (2, 1024, 12), (64, 130, 260)] {
+        let first_tag = LAST_TAG - u64::from(exchanges);
+        rows.push(reported(
+            no_objects(alloc)?,
+            (workers, 256, buffers, first_tag),
+            NOTHING_REPORT,
+        ))?;
+        let last = (workers, 256, buffers, first_tag + 1);
+        rows.push(refusal(no_objects(alloc)?, last, 16))?;
+    }
     // 64 successors do not find room in four buffers of two
     rows.push(reported(wide_array(alloc)?, (1, 2, 4, 0), WIDE_ARRAY_REPORT))?;
     for workers in [1, 2, 64] {

@@ -35,14 +35,14 @@ impl Write for Broken {
 static BAD_TAG: [Record; 1] = [Heap(&[Raw(&[0xff, 0, 0, 0, 0, 0x7a])])];
 
 /// A file of these bytes.
-fn file_of(rt: &HostRuntime, name: &str, dump: &Bytes) -> io::Result<PathBuf> {
+pub fn file_of(rt: &HostRuntime, name: &str, dump: &Bytes) -> io::Result<PathBuf> {
     let path = env::temp_dir(rt)?.join(rt.alloc(), name)?;
     fs::write(rt, path.as_path(), dump.bytes.as_slice())?;
     Ok(path)
 }
 
 /// What the program prints on both streams for these words, and its status.
-fn printed<T: Files + AllocGlobal + Threads + Wait + Sync>(
+pub fn printed<T: Files + AllocGlobal + Threads + Wait + Sync>(
     rt: &T,
     words: &[&str],
 ) -> (u8, Vec<u8>, Vec<u8>) {
@@ -306,7 +306,7 @@ fn the_heap_is_marked_as_the_words_say(rt: HostRuntime) -> Result<(), Fail> {
 
 #[test]
 fn wrong_words_are_told(rt: HostRuntime) {
-    let cases: [(&[&str], &str); 5] = [
+    let cases: [(&[&str], &str); 6] = [
         (
             &[],
             "error: the following required arguments were not provided:",
@@ -326,6 +326,10 @@ fn wrong_words_are_told(rt: HostRuntime) {
         (
             &["heapmark", "a", "--workers", "1", "--workers", "2"],
             "error: the argument '--workers <N>' cannot be used",
+        ),
+        (
+            &["heapmark", "a", "--skip", "a.b", "--skip", "c.d"],
+            "error: the argument '--skip <LIST>' cannot be used",
         ),
     ];
     for (words, begins) in cases {
@@ -347,6 +351,19 @@ fn help_is_printed_on_the_output(rt: HostRuntime) {
             out.as_slice()
                 .starts_with(b"Marks the objects of a Java heap dump")
         );
+        assert!(rt; err.is_empty());
+        let mut out = Counted::new(Broken);
+        assert_eq!(rt; program(&rt, &["heapmark", word], &mut out, &mut Broken), 0);
+        assert_eq!(rt; out.failures(), 1);
+    }
+}
+
+#[test]
+fn version_is_printed_on_the_output(rt: HostRuntime) {
+    for word in ["--version", "-V"] {
+        let (status, out, err) = printed(&rt, &["heapmark", word]);
+        assert_eq!(rt; status, 0);
+        assert!(rt; out.as_slice().starts_with(b"heapmark 0.1.0\nrattle-kit-"));
         assert!(rt; err.is_empty());
         let mut out = Counted::new(Broken);
         assert_eq!(rt; program(&rt, &["heapmark", word], &mut out, &mut Broken), 0);

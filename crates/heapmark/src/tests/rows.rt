@@ -1,8 +1,8 @@
 //! Dumps and their reports or refusals, with 1, 2 and 64 workers.
 
-mod classes;
-mod refused;
-mod reported;
+pub mod classes;
+pub mod refused;
+pub mod reported;
 
 use super::dumps::{
     Bytes, NOTHING, NOTHING_REPORT, Record, TWO_OBJECTS, TWO_OBJECTS_REPORT, WIDE_ARRAY_REPORT,
@@ -29,7 +29,7 @@ pub type Reported = (&'static str, u32, &'static [Record], &'static [Line]);
 pub type Refused = (&'static str, u32, &'static [Record], u8, u64);
 
 /// What a report of these lines is.
-fn report_of(alloc: Global, lines: &[Line]) -> Result<String, AllocError> {
+pub fn report_of(alloc: Global, lines: &[Line]) -> Result<String, AllocError> {
     let mut report = String::new(alloc);
     for (count, bytes, name) in lines {
         write!(report, "{count:>10}  {bytes:>14}  {name}\n")?;

@@ -9,10 +9,21 @@ use std::test::Fail;
 
 /// Gives its bytes one at a call, and fails at one call alone.
 #[derive(Drop)]
-struct Drip<'a> {
+pub struct Drip<'a> {
     bytes: &'a [u8],
     calls_left: usize,
     kind: ErrorKind,
+}
+
+impl<'a> Drip<'a> {
+    /// No call fails that a test makes.
+    pub fn new(bytes: &'a [u8]) -> Self {
+        Drip {
+            bytes,
+            calls_left: usize::MAX,
+            kind: ErrorKind::Other,
+        }
+    }
 }
 
 impl Read for Drip<'_> {

@@ -1,7 +1,7 @@
 //! Runs with several workers: their calls of the gate, and that their number changes no report.
 
 use super::dumps::roots_alone;
-use crate::{Counted, Gate, Options, run};
+use crate::{Counted, Gate, Options, Skip, run};
 use std::sync::atomic::{AtomicU64, Ordering};
 use std::test::Fail;
 use std::thread;
@@ -94,7 +94,8 @@ fn workers_meet_at_the_gate(rt: HostRuntime) -> Result<(), Fail> {
         let gate = Meeting::new(rt, workers);
         let mut reader = Counted::new(dump.bytes.as_slice());
         let mut writer = Counted::new(Vec::new(alloc));
-        let outcome = run(&rt, alloc, &mut reader, &mut writer, &options, &gate);
+        let skip = Skip::none(alloc);
+        let outcome = run(&rt, alloc, &mut reader, &mut writer, &options, &skip, &gate);
         assert_eq!(rt; outcome, Ok(()), "{workers} workers");
         assert_eq!(rt; writer.into_inner().as_slice(), report.as_bytes());
         assert_eq!(rt; gate.late.load(Ordering::SeqCst), 0, "{workers} workers");

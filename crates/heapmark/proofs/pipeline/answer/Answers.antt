@@ -1,3 +1,4 @@
+-- The codes of refusals, by the part that refused: reading and linking tell first faults, the marking its own.
 use Rattle.std.proofs.Common.{rules}
 use Rattle.heapmark.proofs.Codes.{known_of}
 use Rattle.heapmark.proofs.OfMarking.{of_marking}
@@ -7,4 +8,5 @@ pub returns-in-Err-clause-known : goal.returns-in-Err-clause-known
 returns-in-Err-clause-known g c = known_of c.args.bytes.now c.from.result (search rules)
 
 pub returns-in-Err-mark-clause-refusal : goal.returns-in-Err-mark-clause-refusal
-returns-in-Err-mark-clause-refusal g c = of_marking c.args.bytes.now c.from-in-Err-mark.result c.in-Err-mark.fault (search rules) (search rules)
+returns-in-Err-mark-clause-refusal g c = of_marking c.args.bytes.now c.from-in-Err-mark.result c.in-Err-mark.fault
+    (search rules) (search rules)

@@ -1,0 +1,189 @@
+//! The dump of two objects with each byte changed to each other value.
+//!
+//! 44,370 files: `rt test` builds the runs fast enough, `rt try --test` does not.
+
+mod answers;
+
+use super::dumps::two_objects;
+use super::{least, run_with};
+use crate::Options;
+use answers::ANSWERS;
+use std::alloc::{AllocError, Global};
+use std::process::Abort;
+use std::sync::Wait;
+use std::test::Fail;
+use std::thread;
+use std::thread::Threads;
+
+/// A place, the first and the last of some values there, and the answer for each of them but the one that the dump has:
+/// the code and the place of a refusal, and 0; or 0, the length of a report, and these reports mixed, one behind the
+/// other.
+pub type Answer = (usize, u8, u8, u8, u64, u32);
+
+/// For each code, or 0 for reports, how many files have it, and the sum of the places, or of the lengths.
+static SUMS: [(u32, u64); 15] = [
+    (26_261, 4_847_130),
+    (4_845, 0),
+    (1_019, 19_361),
+    (2_837, 147_838),
+    (136, 6_351),
+    (1_030, 134_856),
+    (2_117, 289_402),
+    (1_780, 140_785),
+    (254, 44_196),
+    (1, 79),
+    (2, 296),
+    (3_059, 409_913),
+    (1_020, 80_580),
+    (9, 1_164),
+    (0, 0),
+];
+
+/// How many rows of the table one thread checks.
+///
+/// A run takes as long as the system takes to give each worker a turn, and next to no processor time. Where other work
+/// fills the processors, all runs one behind the other would take minutes, and a test has to end within one: so threads
+/// side by side check a few rows each.
+const ROWS_OF_A_THREAD: usize = 4;
+
+/// The report mixed in behind those that were mixed before.
+fn mixed(before: u32, report: &[u8]) -> u32 {
+    let mut mix = before;
+    for byte in report {
+        mix = mix.wrapping_mul(31).wrapping_add(u32::from(*byte));
+    }
+    mix
+}
+
+/// A code and a place, or 0 and the length of the report, and what is mixed then.
+fn answer<T: Threads + Wait + Sync>(
+    rt: &T,
+    alloc: Global,
+    options: &Options,
+    dump: &[u8],
+    mix: u32,
+) -> (u8, u64, u32) {
+    let (outcome, written) = run_with(rt, alloc, options, dump, Vec::new(alloc));
+    let report = written.as_slice();
+    match outcome {
+        Ok(()) => (0, report.len() as u64, mixed(mix, report)),
+        Err(refusal) if report.is_empty() => (
+            refusal.code,
+            refusal.offset.unwrap_or(u64::MAX),
+            mix,
+        ),
+        Err(_) => (u8::MAX, 0, mix),
+    }
+}
+
+/// Checks each value of a row.
+fn check<T: Abort + Threads + Wait + Sync>(
+    rt: &T,
+    alloc: Global,
+    options: &Options,
+    dump: &mut Vec<u8>,
+    row: &Answer,
+) {
+    let (place, first, last, code, at, mix) = *row;
+    let was = dump.get(place).copied();
+    let mut reports = 0;
+    for value in first..=last {
+        if was == Some(value) {
+            continue;
+        }
+        put(dump, place, value);
+        let told = answer(rt, alloc, options, dump.as_slice(), reports);
+        assert_eq!(rt; (told.0, told.1), (code, at), "byte {place} is {value}");
+        reports = told.2;
+    }
+    assert_eq!(rt;
+        reports,
+        mix,
+        "the reports where byte {place} is {first} to {last}"
+    );
+    put(dump, place, was.unwrap_or(0));
+}
+
+fn put(bytes: &mut Vec<u8>, place: usize, value: u8) {
+    if let Some(byte) = bytes.get_mut(place) {
+        *byte = value;
+    }
+}
+
+/// Checks these rows on a dump of their own.
+fn check_rows<T: Abort + Threads + Wait + Sync>(
+    rt: &T,
+    alloc: Global,
+    options: &Options,
+    rows: &[Answer],
+) -> Result<(), AllocError> {
+    let mut dump = two_objects(alloc)?.bytes;
+    for row in rows {
+        check(rt, alloc, options, &mut dump, row);
+    }
+    Ok(())
+}
+
+/// Checks each row.
+fn check_all<T: Abort + Threads + Wait + Sync>(
+    rt: &T,
+    alloc: Global,
+    options: &Options,
+) -> Result<(), AllocError> {
+    let check_part = |_, rows: &[Answer]| check_rows(rt, alloc, options, rows);
+    let parts = thread::map_chunks(rt, alloc, &ANSWERS, ROWS_OF_A_THREAD, &check_part)?;
+    for part in parts {
+        part?;
+    }
+    Ok(())
+}
+
+#[test]
+fn each_byte_changed(rt: HostRuntime) -> Result<(), Fail> {
+    check_all(&rt, rt.alloc(), &least(1))?;
+    Ok(())
+}
+
+#[test]
+fn each_byte_changed_with_two_workers(rt: HostRuntime) -> Result<(), Fail> {
+    check_all(&rt, rt.alloc(), &least(2))?;
+    Ok(())
+}
+
+/// How many values a row has but the one that the dump has.
+fn files_of(dump: &[u8], row: &Answer) -> u32 {
+    let (place, first, last, ..) = *row;
+    let was = dump.get(place).copied();
+    let mut files: u32 = 0;
+    for value in first..=last {
+        if was != Some(value) {
+            files = files.wrapping_add(1);
+        }
+    }
+    files
+}
+
+/// All rows together are of all files, and each file is in one of them.
+#[test]
+fn the_rows_are_of_all_files(rt: HostRuntime) -> Result<(), Fail> {
+    let dump = two_objects(rt.alloc())?.bytes;
+    let mut sums = [(0u32, 0u64); 15];
+    let mut end = 0;
+    for row in &ANSWERS {
+        let files = files_of(dump.as_slice(), row);
+        let (place, first, last, code, at, _) = *row;
+        if let Some(sum) = sums.get_mut(usize::from(code)) {
+            sum.0 = sum.0.wrapping_add(files);
+            sum.1 = sum.1.wrapping_add(u64::from(files).wrapping_mul(at));
+        }
+        // the rows follow one another, so that no value of a place is in two of them
+        let place = place.wrapping_mul(256);
+        assert!(rt;
+            end <= place.wrapping_add(usize::from(first)),
+            "a row comes too late"
+        );
+        end = place.wrapping_add(usize::from(last)).wrapping_add(1);
+    }
+    assert_eq!(rt; sums, SUMS);
+    Ok(())
+}
