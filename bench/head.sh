@@ -1,4 +1,4 @@
-# The head of run.sh and phases.sh, which are called with the same words: [RUNS [DUMP..]]. To be sourced.
+# The head of run.sh, phases.sh and visualvm.sh, which are called with the same words: [RUNS [DUMP..]]. To be sourced.
 #
 # Sets `runs`, or leaves it as it is if it is not told; `dumps`, those of /tmp/heapmark-bench if none is given; `top`, the
 # repository; `heapmark`, the binary that `rt run` in crates/heapmark made, or what the variable HEAPMARK names; and

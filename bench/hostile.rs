@@ -1,5 +1,5 @@
 //! Dumps that are made to be slow to read: `hostile KIND COUNT > FILE`. Built by `rustc -O`; `hostile` alone tells the
-//! kinds.
+//! kinds, and `hostile skip` the list of fields that `named_fields` is to be read with.
 
 #[path = "plain/rows/file.rs"]
 #[allow(dead_code)]
@@ -18,20 +18,25 @@ const INVERSE: u64 = 0xf1de_83e1_9937_733d;
 
 type Build = fn(File, u64) -> File;
 
-const KINDS: [(&str, Build); 14] = [
+const KINDS: [(&str, Build); 19] = [
     ("chain", chain),
     ("chain_upwards", chain_upwards),
     ("cycle", cycle),
+    ("instances_below", instances_below),
     ("inherited_fields", inherited_fields),
+    ("named_fields", named_fields),
     ("colliding_classes", colliding_classes),
     ("crowded_classes", crowded_classes),
     ("one_id", one_id),
     ("crowded_ids", crowded_ids),
+    ("one_bucket", one_bucket),
     ("falling_ids", falling_ids),
     ("names", names),
     ("one_name", one_name),
+    ("crowded_names", crowded_names),
     ("list", list),
     ("elements", elements),
+    ("array_of_all", array_of_all),
     ("roots", roots),
 ];
 
@@ -64,6 +69,19 @@ fn cycle(file: File, count: u64) -> File {
     })
 }
 
+/// So many classes, each below the one before, of which the highest alone has a field, and as many instances of the
+/// lowest, each with a reference to the next.
+fn instances_below(file: File, count: u64) -> File {
+    let lowest = CLASS + count - 1;
+    let next = |number: u64| ((OBJECT + number + 1) as u32).to_be_bytes();
+    file.heap(|heap| {
+        let highest = heap.class(CLASS, 0, &[2]);
+        let classes = (1..count).fold(highest, |heap, above| heap.class(CLASS + above, CLASS + above - 1, &[]));
+        let instances = (0..count).fold(classes, |heap, number| heap.instance(OBJECT + number, lowest, &next(number)));
+        instances.root(OBJECT)
+    })
+}
+
 /// A class with the most fields that there can be, so many classes below it, and an instance of one of them.
 fn inherited_fields(file: File, count: u64) -> File {
     let fields = [2; 65_535];
@@ -72,6 +90,36 @@ fn inherited_fields(file: File, count: u64) -> File {
         let base = heap.class(CLASS, 0, &fields);
         let all = (1..=count).fold(base, |heap, number| heap.class(CLASS + number, CLASS, &[]));
         all.instance(OBJECT, CLASS + count, &values).root(OBJECT)
+    })
+}
+
+/// The name of a field of `named_fields`. All are of one length and differ late.
+fn field_name(number: u64) -> String {
+    format!("a_field_with_a_name_that_is_told_late_{number:08}")
+}
+
+/// 64 fields of the classes of `named_fields` that they do not have.
+fn skip_list() -> String {
+    let entries: Vec<_> = (0..64).map(|number| format!("C.{}", field_name(99_999_936 + number))).collect();
+    entries.join(",")
+}
+
+/// So many fields in all, each with a name of its own within its class, in classes of one name with as many fields as
+/// there can be, and an instance of the first.
+fn named_fields(file: File, count: u64) -> File {
+    const MOST: u64 = 65_535;
+    let fields: Vec<u64> = (0..count).step_by(MOST as usize).map(|before| MOST.min(count - before)).collect();
+    let named = file.string(1, b"C");
+    let strings = (0..fields[0]).fold(named, |file, field| file.string(2 + field, field_name(field).as_bytes()));
+    let classes = CLASS..CLASS + fields.len() as u64;
+    let loaded = classes.clone().fold(strings, |file, class| file.load(class, 1));
+    loaded.heap(|heap| {
+        let all = classes.zip(&fields).fold(heap, |heap, (class, fields)| {
+            // as `File::class` puts it, but each field has its name
+            let head = heap.raw(&[0x20]).ids(&[class]).number(4, 0).ids(&[0; 6]).number(4, 0).number(4, 0);
+            (0..*fields).fold(head.number(2, *fields), |heap, field| heap.ids(&[2 + field]).raw(&[2]))
+        });
+        all.instance(OBJECT, CLASS, &vec![0; 4 * fields[0] as usize]).root(OBJECT)
     })
 }
 
@@ -120,6 +168,16 @@ fn crowded_ids(file: File, count: u64) -> File {
     })
 }
 
+/// The same with wide IDs: all of them but one are in one bucket of an index by their leading bits, however small the
+/// buckets are.
+fn one_bucket(_: File, count: u64) -> File {
+    File::header(8).heap(|heap| {
+        let far = heap.class(CLASS, 0, &[]).primitives(u64::MAX, 8, 0, &[]);
+        let all = (0..count).fold(far, |heap, number| heap.objects(OBJECT + number, CLASS, &[OBJECT + number + 1]));
+        all.root(OBJECT)
+    })
+}
+
 /// So many arrays whose IDs fall.
 fn falling_ids(file: File, count: u64) -> File {
     file.heap(|heap| {
@@ -147,6 +205,19 @@ fn one_name(file: File, count: u64) -> File {
     loaded.heap(|heap| heap.class(CLASS, 0, &[]).instance(OBJECT, CLASS, &[]).root(OBJECT))
 }
 
+/// So many strings and loaded classes with wide IDs that follow one another, and one of each that is far away: each
+/// class has a name, and an instance.
+fn crowded_names(_: File, count: u64) -> File {
+    let far = File::header(8).string(u64::MAX, b"far").load(u64::MAX, u64::MAX);
+    let strings = (0..count).fold(far, |file, number| file.string(number + 1, format!("C{number}").as_bytes()));
+    let loaded = (0..count).fold(strings, |file, number| file.load(CLASS + number, number + 1));
+    loaded.heap(|heap| {
+        let classes = (0..count).fold(heap, |heap, number| heap.class(CLASS + number, 0, &[]));
+        let instance = |heap: File, number| heap.instance(OBJECT + number, CLASS + number, &[]).root(OBJECT + number);
+        (0..count).fold(classes, instance)
+    })
+}
+
 /// A list of so many instances.
 fn list(file: File, count: u64) -> File {
     file.heap(|heap| {
@@ -161,6 +232,15 @@ fn list(file: File, count: u64) -> File {
 fn elements(file: File, count: u64) -> File {
     let elements: Vec<u64> = (0..count).map(|number| [OBJECT, 0, OBJECT + 1][(number % 3) as usize]).collect();
     file.heap(|heap| heap.class(CLASS, 0, &[]).objects(OBJECT, CLASS, &elements).root(OBJECT))
+}
+
+/// So many instances, and an array that has each of them as an element.
+fn array_of_all(file: File, count: u64) -> File {
+    let elements: Vec<u64> = (1..=count).map(|number| OBJECT + number).collect();
+    file.heap(|heap| {
+        let array = heap.class(CLASS, 0, &[]).objects(OBJECT, CLASS, &elements);
+        elements.iter().fold(array, |heap, object| heap.instance(*object, CLASS, &[])).root(OBJECT)
+    })
 }
 
 /// So many roots, of one object and of one that is not there.
@@ -179,6 +259,10 @@ fn main() -> ExitCode {
     {
         let file = build(File::header(4), count);
         return io::stdout().write_all(&file.bytes).map_or(ExitCode::FAILURE, |()| ExitCode::SUCCESS);
+    }
+    if words == ["skip"] {
+        println!("{}", skip_list());
+        return ExitCode::SUCCESS;
     }
     KINDS.iter().for_each(|(name, _)| println!("{name}"));
     ExitCode::from(2)

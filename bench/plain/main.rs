@@ -5,8 +5,8 @@
 //! Written to be measured beside `heapmark`, and to agree with it to the byte. Without `--threads` one thread marks and
 //! no step is atomic. Each object is visited once, for its references and to be counted: with `--references bytes` in
 //! the dump's bytes; else in a table that is made of them beforehand, in the phase `references`. `--count all` reports
-//! each object of the dump as if it were reachable. `--skip Class.field,..` passes over these fields. How long each phase took, what was read and the peak of memory go
-//! to standard error.
+//! each object of the dump as if it were reachable. `--skip Class.field,..` passes over these fields. How long each
+//! phase took, what was read and the peak of memory go to standard error.
 
 mod dump;
 mod graph;
