@@ -12,7 +12,6 @@ use std::alloc::{AllocError, Global};
 use std::process::Abort;
 use std::sync::Wait;
 use std::test::Fail;
-use std::thread;
 use std::thread::Threads;
 
 /// A place, the first and the last of some values there, and the answer for each of them but the one that the dump has:
@@ -38,13 +37,6 @@ static SUMS: [(u32, u64); 15] = [
     (9, 1_164),
     (0, 0),
 ];
-
-/// How many rows of the table one thread checks.
-///
-/// A run takes as long as the system takes to give each worker a turn, and next to no processor time. Where other work
-/// fills the processors, all runs one behind the other would take minutes, and a test has to end within one: so threads
-/// side by side check a few rows each.
-const ROWS_OF_A_THREAD: usize = 4;
 
 /// The report mixed in behind those that were mixed before.
 fn mixed(before: u32, report: &[u8]) -> u32 {
@@ -76,16 +68,17 @@ fn answer<T: Threads + Wait + Sync>(
     }
 }
 
-/// Checks each value of a row.
+/// Checks each value of a row, and tells how many there are but the one that the dump has.
 fn check<T: Abort + Threads + Wait + Sync>(
     rt: &T,
     alloc: Global,
     options: &Options,
     dump: &mut Vec<u8>,
     row: &Answer,
-) {
+) -> u32 {
     let (place, first, last, code, at, mix) = *row;
     let was = dump.get(place).copied();
+    let mut files: u32 = 0;
     let mut reports = 0;
     for value in first..=last {
         if was == Some(value) {
@@ -94,6 +87,7 @@ fn check<T: Abort + Threads + Wait + Sync>(
         put(dump, place, value);
         let told = answer(rt, alloc, options, dump.as_slice(), reports);
         assert_eq!(rt; (told.0, told.1), (code, at), "byte {place} is {value}");
+        files = files.wrapping_add(1);
         reports = told.2;
     }
     assert_eq!(rt;
@@ -102,6 +96,7 @@ fn check<T: Abort + Threads + Wait + Sync>(
         "the reports where byte {place} is {first} to {last}"
     );
     put(dump, place, was.unwrap_or(0));
+    files
 }
 
 fn put(bytes: &mut Vec<u8>, place: usize, value: u8) {
@@ -110,67 +105,17 @@ fn put(bytes: &mut Vec<u8>, place: usize, value: u8) {
     }
 }
 
-/// Checks these rows on a dump of their own.
-fn check_rows<T: Abort + Threads + Wait + Sync>(
-    rt: &T,
-    alloc: Global,
-    options: &Options,
-    rows: &[Answer],
-) -> Result<(), AllocError> {
-    let mut dump = two_objects(alloc)?.bytes;
-    for row in rows {
-        check(rt, alloc, options, &mut dump, row);
-    }
-    Ok(())
-}
-
-/// Checks each row.
+/// Checks each row, and that all rows together are of all files.
 fn check_all<T: Abort + Threads + Wait + Sync>(
     rt: &T,
     alloc: Global,
     options: &Options,
 ) -> Result<(), AllocError> {
-    let check_part = |_, rows: &[Answer]| check_rows(rt, alloc, options, rows);
-    let parts = thread::map_chunks(rt, alloc, &ANSWERS, ROWS_OF_A_THREAD, &check_part)?;
-    for part in parts {
-        part?;
-    }
-    Ok(())
-}
-
-#[test]
-fn each_byte_changed(rt: HostRuntime) -> Result<(), Fail> {
-    check_all(&rt, rt.alloc(), &least(1))?;
-    Ok(())
-}
-
-#[test]
-fn each_byte_changed_with_two_workers(rt: HostRuntime) -> Result<(), Fail> {
-    check_all(&rt, rt.alloc(), &least(2))?;
-    Ok(())
-}
-
-/// How many values a row has but the one that the dump has.
-fn files_of(dump: &[u8], row: &Answer) -> u32 {
-    let (place, first, last, ..) = *row;
-    let was = dump.get(place).copied();
-    let mut files: u32 = 0;
-    for value in first..=last {
-        if was != Some(value) {
-            files = files.wrapping_add(1);
-        }
-    }
-    files
-}
-
-/// All rows together are of all files, and each file is in one of them.
-#[test]
-fn the_rows_are_of_all_files(rt: HostRuntime) -> Result<(), Fail> {
-    let dump = two_objects(rt.alloc())?.bytes;
+    let mut dump = two_objects(alloc)?.bytes;
     let mut sums = [(0u32, 0u64); 15];
     let mut end = 0;
     for row in &ANSWERS {
-        let files = files_of(dump.as_slice(), row);
+        let files = check(rt, alloc, options, &mut dump, row);
         let (place, first, last, code, at, _) = *row;
         if let Some(sum) = sums.get_mut(usize::from(code)) {
             sum.0 = sum.0.wrapping_add(files);
@@ -185,5 +130,163 @@ fn the_rows_are_of_all_files(rt: HostRuntime) -> Result<(), Fail> {
         end = place.wrapping_add(usize::from(last)).wrapping_add(1);
     }
     assert_eq!(rt; sums, SUMS);
+    Ok(())
+}
+
+#[test]
+fn each_byte_changed(rt: HostRuntime) -> Result<(), Fail> {
+    check_all(&rt, rt.alloc(), &least(1))?;
+    Ok(())
+}
+
+/// Checks the rows of the places from `from` on and before `end`.
+///
+/// With two workers the dumps are shared out among tests, eight places each: on a busy machine a run waits 12 ms for its
+/// workers' turns, and a test has to end within a minute.
+fn check_places<T: Abort + Threads + Wait + Sync>(
+    rt: &T,
+    alloc: Global,
+    options: &Options,
+    from: usize,
+    end: usize,
+) -> Result<(), AllocError> {
+    let mut dump = two_objects(alloc)?.bytes;
+    for row in &ANSWERS {
+        if from <= row.0 && row.0 < end {
+            let _ = check(rt, alloc, options, &mut dump, row);
+        }
+    }
+    Ok(())
+}
+
+#[test]
+fn each_byte_from_0_with_two_workers(rt: HostRuntime) -> Result<(), Fail> {
+    check_places(&rt, rt.alloc(), &least(2), 0, 8)?;
+    Ok(())
+}
+
+#[test]
+fn each_byte_from_8_with_two_workers(rt: HostRuntime) -> Result<(), Fail> {
+    check_places(&rt, rt.alloc(), &least(2), 8, 16)?;
+    Ok(())
+}
+
+#[test]
+fn each_byte_from_16_with_two_workers(rt: HostRuntime) -> Result<(), Fail> {
+    check_places(&rt, rt.alloc(), &least(2), 16, 24)?;
+    Ok(())
+}
+
+#[test]
+fn each_byte_from_24_with_two_workers(rt: HostRuntime) -> Result<(), Fail> {
+    check_places(&rt, rt.alloc(), &least(2), 24, 32)?;
+    Ok(())
+}
+
+#[test]
+fn each_byte_from_32_with_two_workers(rt: HostRuntime) -> Result<(), Fail> {
+    check_places(&rt, rt.alloc(), &least(2), 32, 40)?;
+    Ok(())
+}
+
+#[test]
+fn each_byte_from_40_with_two_workers(rt: HostRuntime) -> Result<(), Fail> {
+    check_places(&rt, rt.alloc(), &least(2), 40, 48)?;
+    Ok(())
+}
+
+#[test]
+fn each_byte_from_48_with_two_workers(rt: HostRuntime) -> Result<(), Fail> {
+    check_places(&rt, rt.alloc(), &least(2), 48, 56)?;
+    Ok(())
+}
+
+#[test]
+fn each_byte_from_56_with_two_workers(rt: HostRuntime) -> Result<(), Fail> {
+    check_places(&rt, rt.alloc(), &least(2), 56, 64)?;
+    Ok(())
+}
+
+#[test]
+fn each_byte_from_64_with_two_workers(rt: HostRuntime) -> Result<(), Fail> {
+    check_places(&rt, rt.alloc(), &least(2), 64, 72)?;
+    Ok(())
+}
+
+#[test]
+fn each_byte_from_72_with_two_workers(rt: HostRuntime) -> Result<(), Fail> {
+    check_places(&rt, rt.alloc(), &least(2), 72, 80)?;
+    Ok(())
+}
+
+#[test]
+fn each_byte_from_80_with_two_workers(rt: HostRuntime) -> Result<(), Fail> {
+    check_places(&rt, rt.alloc(), &least(2), 80, 88)?;
+    Ok(())
+}
+
+#[test]
+fn each_byte_from_88_with_two_workers(rt: HostRuntime) -> Result<(), Fail> {
+    check_places(&rt, rt.alloc(), &least(2), 88, 96)?;
+    Ok(())
+}
+
+#[test]
+fn each_byte_from_96_with_two_workers(rt: HostRuntime) -> Result<(), Fail> {
+    check_places(&rt, rt.alloc(), &least(2), 96, 104)?;
+    Ok(())
+}
+
+#[test]
+fn each_byte_from_104_with_two_workers(rt: HostRuntime) -> Result<(), Fail> {
+    check_places(&rt, rt.alloc(), &least(2), 104, 112)?;
+    Ok(())
+}
+
+#[test]
+fn each_byte_from_112_with_two_workers(rt: HostRuntime) -> Result<(), Fail> {
+    check_places(&rt, rt.alloc(), &least(2), 112, 120)?;
+    Ok(())
+}
+
+#[test]
+fn each_byte_from_120_with_two_workers(rt: HostRuntime) -> Result<(), Fail> {
+    check_places(&rt, rt.alloc(), &least(2), 120, 128)?;
+    Ok(())
+}
+
+#[test]
+fn each_byte_from_128_with_two_workers(rt: HostRuntime) -> Result<(), Fail> {
+    check_places(&rt, rt.alloc(), &least(2), 128, 136)?;
+    Ok(())
+}
+
+#[test]
+fn each_byte_from_136_with_two_workers(rt: HostRuntime) -> Result<(), Fail> {
+    check_places(&rt, rt.alloc(), &least(2), 136, 144)?;
+    Ok(())
+}
+
+#[test]
+fn each_byte_from_144_with_two_workers(rt: HostRuntime) -> Result<(), Fail> {
+    check_places(&rt, rt.alloc(), &least(2), 144, 152)?;
+    Ok(())
+}
+
+#[test]
+fn each_byte_from_152_with_two_workers(rt: HostRuntime) -> Result<(), Fail> {
+    check_places(&rt, rt.alloc(), &least(2), 152, 160)?;
+    Ok(())
+}
+
+#[test]
+fn each_byte_from_160_with_two_workers(rt: HostRuntime) -> Result<(), Fail> {
+    check_places(&rt, rt.alloc(), &least(2), 160, 168)?;
+    Ok(())
+}
+
+#[test]
+fn each_byte_from_168_with_two_workers(rt: HostRuntime) -> Result<(), Fail> {
+    check_places(&rt, rt.alloc(), &least(2), 168, usize::MAX)?;
     Ok(())
 }
