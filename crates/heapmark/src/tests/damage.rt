@@ -141,8 +141,8 @@ fn each_byte_changed(rt: HostRuntime) -> Result<(), Fail> {
 
 /// Checks the rows of the places from `from` on and before `end`.
 ///
-/// With two workers the dumps are shared out among tests, eight places each: on a busy machine a run waits 12 ms for its
-/// workers' turns, and a test has to end within a minute.
+/// With two workers the dumps are shared out among tests, eight places each: on a busy machine a run waits for its
+/// workers' turns, 12 ms and more, and a test has to end within a minute.
 fn check_places<T: Abort + Threads + Wait + Sync>(
     rt: &T,
     alloc: Global,
