@@ -79,6 +79,7 @@ impl<'a, A: Allocator> Graph<'a, A> {
 
     /// The row and the bytes of an object, and the objects that it refers to, in order, repeats kept. They are found as
     /// they are asked for, and the identifiers that name none are counted on the way.
+    #[inline(always)]
     pub fn visit(&self, object: u32) -> Visit<'_, A>
         requires { object < object_count self.now }
         ensures row { result.row ≡ row_at self.now object }

@@ -75,6 +75,7 @@ impl<'g, A: Allocator> Iterator for HeldIds<'g, A> {
 
     ghost remaining = { item_count (λ h. h) };
 
+    #[inline(always)]
     fn next(&mut self) -> Option<u64> {
         match &mut self.rest {
             Rest::Nothing => return None,
@@ -123,6 +124,7 @@ impl<'d, A: Allocator> Objects<'d, A> {
     }
 
     /// The class of an instance, and the first class that declares fields, of that one and those above it.
+    #[inline(always)]
     pub(crate) fn class_of(&self, at: u32) -> (u32, Option<u32>)
         requires { (heap : List SubRecord) × (n : ℕ) × (i : Instance) × AreLinkedOf self.now heap
             × HaveFatesOf self.now heap × IsObjectAt self.now.view heap n at (instance_dump i) }
@@ -144,6 +146,7 @@ impl<'d, A: Allocator> Objects<'d, A> {
     }
 
     /// The identifiers that an instance holds: its class, and then its fields, of a layout that begins at that class.
+    #[inline(always)]
     pub(crate) fn ids_of_instance<'g>(
         &'g self,
         plan: &'g Plan<A>,

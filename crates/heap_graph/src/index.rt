@@ -5,7 +5,7 @@ mod builder;
 #[cfg(test)]
 mod tests;
 
-ghost use Rattle.std.specs.Prelude.{Contains, IfOk, IsSorted, IsTrue, ◌==◌, ◌≡◌, ◌↔◌, length, position, take};
+ghost use Rattle.std.specs.Prelude.{Contains, IfOk, IsSorted, IsTrue, ◌==◌, ◌≡◌, ◌↔◌, ◌+◌, ◌<◌, ◌≤◌, length, position, take};
 ghost use Rattle.heap_graph.specs.working.IndexBeginnings.{AreBeginnings, IsAround};
 ghost use Rattle.heap_graph.specs.working.IndexPairs.{IsFirstBearer, IsFirstFrom, IsFirstRepeat, IsLeastRepeat};
 ghost use Rattle.heap_graph.specs.working.IndexPairs.{pair_cmp};
@@ -39,31 +39,67 @@ impl<A: Allocator> Model for Index<A> {
     } };
 }
 
-/// So many pairs are looked at in turn: for a few that is quicker than halving.
-const FEW_PAIRS: usize = 8;
+/// Of at most so many pairs the place is looked for from a guess on, one pair after the other.
+const MANY_PAIRS: usize = 64;
+
+/// So far on either side of a guess a pair is looked at where there are more pairs.
+const REACH: usize = 32;
+
+/// One look at a pair: where it is between two places, the first pair whose identifier is not below that one is behind
+/// it, or it is not.
+fn after_look(pairs: &[(u64, u32)], low: usize, high: usize, at: usize, id: u64) -> (usize, usize)
+    requires sorted { IsSorted pair_cmp pairs.now }
+    requires around { IsAround pairs.now id low high }
+    ensures around { IsAround pairs.now id result.0 result.1 }
+    ensures less { low ≤ at → at < high → result.1 + low < high + result.0 }
+{
+    if at < low || at >= high {
+        return (low, high);
+    }
+    if pairs[at].0 < id {
+        (at + 1, high)
+    } else {
+        (low, at)
+    }
+}
+
+/// Two places that have at most `MANY_PAIRS` pairs between them, where there may be more between these: those around a
+/// guess if it is a good one, else what is left after halving.
+#[inline(never)]
+fn narrowed(pairs: &[(u64, u32)], begin: usize, end: usize, near: usize, id: u64) -> (usize, usize)
+    requires sorted { IsSorted pair_cmp pairs.now }
+    requires around { IsAround pairs.now id begin end }
+    ensures around { IsAround pairs.now id result.0 result.1 }
+    ensures few { result.1 ≤ result.0 + 64 }
+{
+    let (mut low, mut high) = (begin, end);
+    (low, high) = after_look(pairs, low, high, near.saturating_sub(REACH), id);
+    (low, high) = after_look(pairs, low, high, near.saturating_add(REACH), id);
+    while high - low > MANY_PAIRS {
+        (low, high) = after_look(pairs, low, high, low + (high - low) / 2, id);
+    }
+    (low, high)
+}
 
 /// The place of the first of ascending pairs whose identifier is not below that one, which stands between two places.
-fn first_from(pairs: &[(u64, u32)], begin: usize, end: usize, id: u64) -> usize
+/// It is looked for from a guess on: any guess gives the same place, a good one gives it sooner.
+fn first_from(pairs: &[(u64, u32)], begin: usize, end: usize, near: usize, id: u64) -> usize
     requires sorted { IsSorted pair_cmp pairs.now }
     requires around { IsAround pairs.now id begin end }
     ensures { IsFirstFrom pairs.now id result }
 {
-    let mut low = begin;
-    let mut high = end;
-    while high - low > FEW_PAIRS {
-        let middle = low + (high - low) / 2;
-        if pairs[middle].0 < id {
-            low = middle + 1;
-        } else {
-            high = middle;
-        }
+    let (mut low, mut high) = (begin, end);
+    if end - begin > MANY_PAIRS {
+        (low, high) = narrowed(pairs, begin, end, near, id);
     }
-    for at in low..high {
-        if pairs[at].0 >= id {
-            return at;
-        }
+    let mut at = near.max(low).min(high);
+    while at > low && pairs[at - 1].0 >= id {
+        at -= 1;
     }
-    high
+    while at < high && pairs[at].0 < id {
+        at += 1;
+    }
+    at
 }
 
 /// The number of the first of ascending pairs with that identifier.
@@ -80,7 +116,8 @@ fn first_bearer<A: Allocator>(
         Some(range) => range,
         None => return None,
     };
-    let at = first_from(pairs, begin, end, id);
+    let near = beginnings.guess(id, begin, end);
+    let at = first_from(pairs, begin, end, near, id);
     if at == pairs.len() || pairs[at].0 != id {
         return None;
     }

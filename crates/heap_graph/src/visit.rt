@@ -47,6 +47,7 @@ impl<'g, A: Allocator> Visit<'g, A> {
 
     /// The objects that these identifiers name, of an object with that row and so many bytes. `first` is what the first
     /// of them names, where it is known.
+    #[inline(always)]
     pub(crate) fn new(
         index: &'g Index<A>,
         ids: HeldIds<'g, A>,
@@ -102,6 +103,7 @@ impl<'g, A: Allocator> Iterator for Visit<'g, A> {
 
     ghost remaining = { item_count references_left };
 
+    #[inline(always)]
     fn next(&mut self) -> Option<u32> {
         while let Some(id) = self.ids.next() {
             if let Some(object) = self.first.take() {

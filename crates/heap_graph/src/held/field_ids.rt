@@ -69,6 +69,7 @@ impl<'g, A: Allocator> FieldIds<'g, A> {
     ghost use Rattle.heap_graph.specs.working.ClassFates.{HaveFatesOf};
 
     /// Those of a layout, of an instance with these values. `first` is the first class with fields of that layout.
+    #[inline(always)]
     pub(crate) fn new(
         objects: &'g Objects<'g, A>,
         plan: &'g Plan<A>,
@@ -117,6 +118,7 @@ impl<'g, A: Allocator> Iterator for FieldIds<'g, A> {
 
     ghost remaining = { item_count (λ f. f) };
 
+    #[inline(always)]
     fn next(&mut self) -> Option<u64> {
         loop {
             if let Some((place, left)) = self.places.split_first() {

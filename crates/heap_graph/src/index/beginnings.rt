@@ -17,6 +17,9 @@ pub(crate) struct Beginnings<A: Allocator> {
     pub(crate) starts: Vec<u32, A>,
 }
 
+/// Among so many pairs the first one is as good a guess as any.
+const FEW_PAIRS: usize = 8;
+
 /// How many of the lowest bits of numbers up to `span` to leave out, so that fewer than `buckets` numbers are left.
 fn shift_for(span: u64, buckets: u64) -> u32
     requires { 2 ≤ buckets }
@@ -100,5 +103,19 @@ impl<A: Allocator> Beginnings<A> {
             self.starts[bucket] as usize,
             self.starts[bucket + 1] as usize,
         ))
+    }
+
+    /// About where the pair of an identifier stands among those of its bucket, from `begin` up to `end`: there it would
+    /// be if their identifiers were as far from one another as they can be. Of a few pairs it is the first. Nothing
+    /// rests on it but time.
+    pub(crate) fn guess(&self, id: u64, begin: usize, end: usize) -> usize
+        requires { self.now.shift < 64 }
+    {
+        let count = end.saturating_sub(begin);
+        if count <= FEW_PAIRS {
+            return begin;
+        }
+        let within = id.wrapping_sub(self.least) & !(u64::MAX << self.shift);
+        begin.saturating_add((within.wrapping_mul(count as u64) >> self.shift) as usize)
     }
 }

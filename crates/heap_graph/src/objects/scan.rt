@@ -19,6 +19,7 @@ impl<'d, A: Allocator> Objects<'d, A> {
     ghost use Rattle.heap_graph.specs.working.ClassFates.{HaveFatesOf};
 
     /// The row and the bytes of an object, and the identifiers that it holds. Its class is looked up once.
+    #[inline(always)]
     pub(crate) fn scan<'g>(
         &'g self,
         plan: &'g Plan<A>,

@@ -2,7 +2,7 @@
 use Rattle.std.proofs.Common.{None, arith, subst, sym, ◌∙◌, ◌≡◌, ℕ}
 use Rattle.heap_graph.specs.Heap.{class_named}
 use Rattle.heap_graph.specs.working.ClassTable.{ids_of}
-use Rattle.heap_graph.proofs.ClassTableLaws.{IsFound, found, not_found, read_super, stands_at}
+use Rattle.heap_graph.proofs.ClassTableLaws.{found, not_found, read_super, stands_at}
 use Rattle.heap_graph.proofs.classes.Classes.above.Goals as goal
 
 pub superclass-superclass-requires : goal.superclass-superclass-requires

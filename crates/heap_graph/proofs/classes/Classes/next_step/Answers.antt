@@ -1,7 +1,6 @@
 -- Nothing above ends the chain, a missing class cuts it, one on the path leads round, and a known fate is the fate.
-use Rattle.std.proofs.Common.{[], arith, get_or, length, refl, ◌<◌}
+use Rattle.std.proofs.Common.{[], arith, length, refl, ◌<◌}
 use Rattle.heap_graph.specs.declared.classes.fate.Fate.TheVariants as fates
-use Rattle.heap_graph.specs.working.ClassTable.{ids_of}
 use Rattle.heap_graph.proofs.ClassTableLaws.{numbered, same_count, under}
 use Rattle.heap_graph.proofs.FateLaws.{comes_back, fate_above, read_fate, settled_fate}
 use Rattle.heap_graph.proofs.classes.Classes.next_step.Goals as goal

@@ -1,6 +1,5 @@
 -- An unknown class starts a climb with an empty path; any other is known, since none can be on an empty path.
-use Rattle.std.proofs.Common.{arith, get_or, length, refl, ◌<◌}
-use Rattle.heap_graph.specs.declared.classes.fate.Fate.TheVariants as fates
+use Rattle.std.proofs.Common.{arith, length, refl, ◌<◌}
 use Rattle.heap_graph.specs.working.ClassTable.{ids_of}
 use Rattle.heap_graph.proofs.ClassTableLaws.{same_count}
 use Rattle.heap_graph.proofs.FateLaws.{first_climb, known_here, read_fate}

@@ -3,7 +3,7 @@ use Rattle.std.proofs.Common.{arith, subst, sym, ◌∙◌, ◌≡◌}
 use Rattle.heap_graph.specs.Heap.{heap_of}
 use Rattle.heap_graph.specs.ObjectGraph.{IsGraphOf, ObjectGraph, bytes_at}
 use Rattle.heap_graph.specs.Whole.{IsWhole}
-use Rattle.heap_graph.proofs.Answering.{IsOneOf, bytes_here, one_of}
+use Rattle.heap_graph.proofs.Answering.{bytes_here, one_of}
 use Rattle.heap_graph.proofs.graph.Graph.bytes_of.Goals as goal
 
 pub returns-clause-value : goal.returns-clause-value

@@ -4,7 +4,7 @@ use Rattle.heap_graph.specs.Heap.{heap_of}
 use Rattle.heap_graph.specs.ObjectGraph.{IsGraphOf, ObjectGraph, row_at}
 use Rattle.heap_graph.specs.Whole.{IsRowIn, IsWhole}
 use Rattle.heap_graph.specs.declared.row.RowKey.{RowKey}
-use Rattle.heap_graph.proofs.Answering.{IsOneOf, one_of, row_here}
+use Rattle.heap_graph.proofs.Answering.{one_of, row_here}
 use Rattle.heap_graph.proofs.graph.Graph.row_of.Goals as goal
 
 pub returns-clause-value : goal.returns-clause-value

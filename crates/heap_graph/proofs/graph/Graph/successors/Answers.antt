@@ -2,10 +2,8 @@
 use Rattle.std.proofs.Common.{List, ap, map, subst, sym, ℕ, ◌∙◌}
 use Rattle.heap_graph.specs.Heap.{heap_of}
 use Rattle.heap_graph.specs.ObjectGraph.{IsGraphOf, ObjectGraph}
-use Rattle.heap_graph.specs.Skips.{is_skipped}
 use Rattle.heap_graph.specs.Whole.{held_by}
 use Rattle.heap_graph.specs.Walks.{Step, ids_in, references_in}
-use Rattle.heap_graph.specs.working.HeldIds.{AreIdsOfNumber}
 use Rattle.heap_graph.specs.working.Resolving.{step_in}
 use Rattle.heap_graph.proofs.Answering.{held_here, references_here}
 use Rattle.heap_graph.proofs.Targets.{same_targets}

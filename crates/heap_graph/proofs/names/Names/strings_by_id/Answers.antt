@@ -1,8 +1,7 @@
 -- At the next place stands the next string, so its identifier follows those so far.
-use Rattle.std.proofs.Common.{arith, filter, get_or, length, ℕ}
-use Rattle.hprof_grammar.specs.Places.{is_string}
+use Rattle.std.proofs.Common.{arith, length, ℕ}
 use Rattle.heap_graph.proofs.Adding.{filled_more}
-use Rattle.heap_graph.proofs.Lookups.{TextAt, text_at}
+use Rattle.heap_graph.proofs.Lookups.{text_at}
 use Rattle.heap_graph.proofs.NameLookups.{text_ids_more}
 use Rattle.heap_graph.proofs.names.Names.strings_by_id.Goals as goal
 

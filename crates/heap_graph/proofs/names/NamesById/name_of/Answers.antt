@@ -1,8 +1,7 @@
 -- The index finds the first loaded class that bears the identifier, and that one's name counts.
-use Rattle.std.proofs.Common.{List, Some, ap, filter, get_or, position, ℕ, ◌∙◌}
+use Rattle.std.proofs.Common.{List, Some, ap, position, ℕ, ◌∙◌}
 use Rattle.std.specs.Prelude.{◌==◌}
-use Rattle.hprof_grammar.specs.Places.{is_load}
-use Rattle.heap_graph.proofs.Lookups.{LoadedAt, loaded_at}
+use Rattle.heap_graph.proofs.Lookups.{loaded_at}
 use Rattle.heap_graph.proofs.NameLookups.{name_below, name_found, name_missing}
 use Rattle.heap_graph.proofs.names.NamesById.name_of.Goals as goal
 

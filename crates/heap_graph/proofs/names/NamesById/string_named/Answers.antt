@@ -1,8 +1,7 @@
 -- The index finds the first string that bears the identifier, and that one's text counts.
-use Rattle.std.proofs.Common.{List, Some, ap, filter, get_or, position, ℕ, ◌∙◌}
+use Rattle.std.proofs.Common.{List, Some, ap, position, ℕ, ◌∙◌}
 use Rattle.std.specs.Prelude.{◌==◌}
-use Rattle.hprof_grammar.specs.Places.{is_string}
-use Rattle.heap_graph.proofs.Lookups.{TextAt, text_at}
+use Rattle.heap_graph.proofs.Lookups.{text_at}
 use Rattle.heap_graph.proofs.NameLookups.{text_below, text_found, text_missing}
 use Rattle.heap_graph.proofs.names.NamesById.string_named.Goals as goal
 

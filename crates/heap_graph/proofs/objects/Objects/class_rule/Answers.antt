@@ -8,7 +8,7 @@ use Rattle.heap_graph.specs.Layout.{NeverEnds}
 use Rattle.heap_graph.specs.working.Chains.{IsFate}
 use Rattle.heap_graph.specs.working.ClassTable.{ids_of}
 use Rattle.heap_graph.proofs.ClassTableLaws.{not_found}
-use Rattle.heap_graph.proofs.RuleLaws.{IsFateFound, class_bad, class_fine, endless_super, ends, fate_found, fine_super}
+use Rattle.heap_graph.proofs.RuleLaws.{class_bad, class_fine, endless_super, ends, fate_found, fine_super}
 use Rattle.heap_graph.proofs.RuleLaws.{missing_super, no_super, same_fate}
 use Rattle.heap_graph.proofs.objects.Objects.class_rule.Goals as goal
 

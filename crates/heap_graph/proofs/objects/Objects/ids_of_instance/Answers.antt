@@ -2,8 +2,6 @@
 use Rattle.std.proofs.Common.{arith}
 use Rattle.hprof_grammar.proofs.BoundsLaws.{bounds}
 use Rattle.heap_graph.specs.Fields.{declared_fields}
-use Rattle.heap_graph.specs.working.ClassTable.{ids_of}
-use Rattle.heap_graph.specs.working.HeldIds.{IsFirstOfInstance}
 use Rattle.heap_graph.proofs.HeldLaws.{few_in_instance, instance_holds, layout_from}
 use Rattle.heap_graph.proofs.objects.Objects.ids_of_instance.Goals as goal
 

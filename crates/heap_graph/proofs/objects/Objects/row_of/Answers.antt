@@ -1,7 +1,6 @@
 -- The object at the place is of the kind that was read there, and in a linked heap the class that it names is there.
 use Rattle.std.proofs.Common.{None, ap, subst, ◌∙◌, ◌≡◌, ℕ}
 use Rattle.hprof_grammar.specs.SubRecord.{SubRecord}
-use Rattle.hprof_grammar.specs.SubRecord.SubRecord.{class_dump, instance_dump, object_array_dump, primitive_array_dump}
 use Rattle.heap_graph.specs.declared.row.RowKey.TheVariants as keys
 use Rattle.heap_graph.specs.Heap.{class_named, class_number}
 use Rattle.heap_graph.specs.Rows.{row_of}

@@ -8,7 +8,7 @@ use Rattle.hprof_grammar.specs.Dump.{id_of}
 use Rattle.hprof_grammar.specs.SubRecord.{SubRecord}
 use Rattle.hprof_grammar.specs.SubRecord.SubRecord.{class_dump}
 use Rattle.heap_graph.specs.Heap.{as_class, class_named, number_named}
-use Rattle.heap_graph.proofs.Standings.{IsDumpOfClass, IsThere, class_is, is_class_dump, no_class_dump, there}
+use Rattle.heap_graph.proofs.Standings.{IsDumpOfClass, class_is, is_class_dump, no_class_dump, there}
 use Rattle.heap_graph.proofs.TableGrowth.{among_more, among_skip, first_number, no_class_skip, repeated_linked}
 use Rattle.heap_graph.proofs.TableGrowth.{repeated_skip, zero_linked, zero_skip}
 use Rattle.heap_graph.proofs.objects.table.add_object.Goals as goal
