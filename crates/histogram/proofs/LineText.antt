@@ -10,7 +10,7 @@ use Rattle.std.proofs.lemmas.List.Folds.{flat_map-map}
 use Rattle.std.proofs.lemmas.List.{flat_map_more, take_all, take_more}
 use Rattle.histogram.specs.Histogram.{Entry}
 use Rattle.histogram.specs.Report.{line, line_of, right_in}
-use Rattle.histogram.specs.ShownRows.{is_plain, shown_byte}
+use Rattle.histogram.specs.ShownNames.{is_plain, shown_byte}
 
 -- a fact of Ok, where the call answered Ok
 pub from_ok : {T E : Type 0} {P : Type 0} (r : Result T E) → is_ok r ≡ true → OnOk r P → P

@@ -4,7 +4,7 @@ use Rattle.std.specs.Prelude.{◌++◌, ◌∷◌, ◌≡◌}
 use Rattle.std.specs.List.{range_with_len}
 use Rattle.heap_graph.specs.ObjectGraph.{ObjectGraph, bytes_at, class_count}
 pub use Rattle.drain.specs.Totals.{marked_objects, of_row, same_row, total, unmarked_objects}
-use Rattle.histogram.specs.ShownRows.{row_id, shown_row}
+use Rattle.histogram.specs.ShownNames.{row_id, shown_row}
 use Rattle.std.specs.Ordering.{nat_cmp, ordering_then}
 use Rattle.std.specs.Cmp.Lexicographic.{slice_cmp}
 use Rattle.std.specs.declared.cmp.Ordering.{Ordering}

@@ -3,8 +3,8 @@
 ghost use Rattle.std.specs.Prelude.{◌≡◌, ◌<◌, ◌++◌, IfOk, OnOk};
 ghost use Rattle.heap_graph.specs.ObjectGraph.{class_at, class_count};
 ghost use Rattle.heap_graph.specs.Whole.{IsRowIn};
-ghost use Rattle.histogram.specs.ShownRows.{is_plain, row_id, shown_byte, shown_class};
-ghost use Rattle.histogram.specs.ShownRows.{shown_primitive, shown_row, shown_text, unnamed};
+ghost use Rattle.histogram.specs.ShownNames.{is_plain, row_id, shown_byte, shown_class};
+ghost use Rattle.histogram.specs.ShownNames.{shown_primitive, shown_row, shown_text, unnamed};
 
 use heap_graph::{Graph, RowKey};
 use std::alloc::{AllocError, Allocator};

@@ -2,7 +2,7 @@
 use Rattle.std.specs.Prelude.{List, filter, if◌then◌else◌, map, nat_lt, ℕ, ◌+◌, ◌-◌}
 use Rattle.std.specs.List.{range_with_len}
 use Rattle.histogram.specs.Histogram.{Entry, entry}
-use Rattle.histogram.specs.ShownRows.{row_id, shown_row}
+use Rattle.histogram.specs.ShownNames.{row_id, shown_row}
 use Rattle.heap_graph.specs.ObjectGraph.{ObjectGraph, class_count, row_at}
 use Rattle.heap_graph.specs.declared.row.RowKey.{RowKey}
 use Rattle.heap_graph.specs.declared.row.RowKey.TheVariants as keys

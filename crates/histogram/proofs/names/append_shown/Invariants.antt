@@ -1,6 +1,6 @@
 -- The beginning of the text is shown.
 use Rattle.std.proofs.Common.{◌≡◌, ◌++◌, take}
-use Rattle.histogram.specs.ShownRows.{shown_text}
+use Rattle.histogram.specs.ShownNames.{shown_text}
 use Rattle.histogram.proofs.names.append_shown.Given as goal
 
 abbrev pub invariant-loop-byte : goal.invariant-loop-byte
