@@ -5,7 +5,8 @@ mod builder;
 #[cfg(test)]
 mod tests;
 
-ghost use Rattle.std.specs.Prelude.{Contains, IfOk, IsSorted, IsTrue, ◌==◌, ◌≡◌, ◌↔◌, ◌+◌, ◌<◌, ◌≤◌, length, position, take};
+ghost use Rattle.std.specs.Prelude.{Contains, IfOk, IsSorted, IsTrue, length, position, take};
+ghost use Rattle.std.specs.Prelude.{◌==◌, ◌≡◌, ◌↔◌, ◌+◌, ◌<◌, ◌≤◌};
 ghost use Rattle.heap_graph.specs.working.IndexBeginnings.{AreBeginnings, IsAround};
 ghost use Rattle.heap_graph.specs.working.IndexPairs.{IsFirstBearer, IsFirstFrom, IsFirstRepeat, IsLeastRepeat};
 ghost use Rattle.heap_graph.specs.working.IndexPairs.{pair_cmp};

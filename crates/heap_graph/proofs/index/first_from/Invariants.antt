@@ -11,7 +11,8 @@ abbrev pub decreases-loop-at : goal.decreases-loop-at
 decreases-loop-at l = l.at - l.low
 
 abbrev pub invariant-loop-at-2 : goal.invariant-loop-at-2
-invariant-loop-at-2 l = IsAround l.pairs l.id l.low l.high × (l.at ≤ l.high) × ((k : ℕ) → k < l.at → id_at l.pairs k < l.id)
+invariant-loop-at-2 l =
+    IsAround l.pairs l.id l.low l.high × (l.at ≤ l.high) × ((k : ℕ) → k < l.at → id_at l.pairs k < l.id)
 
 abbrev pub decreases-loop-at-2 : goal.decreases-loop-at-2
 decreases-loop-at-2 l = l.high - l.at
