@@ -3,6 +3,7 @@
 //! A damaged dump is a row of `rows/refused.rt`, with its code and place; `cuts.rt` has the cuts at each length alone,
 //! and `damage.rt` each byte changed to each other value.
 
+mod command_lines;
 mod cuts;
 mod damage;
 mod drip;
@@ -14,6 +15,7 @@ mod marking;
 mod memory;
 mod process;
 mod program;
+mod refusals;
 mod rows;
 mod skips;
 mod streams;
@@ -22,8 +24,10 @@ mod workers;
 ghost use Rattle.std.specs.Prelude.{◌≤◌};
 
 use crate::{Counted, NoGate, Options, Refusal, Skip, run};
-use std::alloc::Allocator;
+use std::alloc::{Allocator, Global};
+use std::fmt::Display;
 use std::io::{Read, Write};
+use std::process::Abort;
 use std::sync::Wait;
 use std::thread::Threads;
 
@@ -87,6 +91,30 @@ where
     let mut writer = Counted::new(writer);
     let outcome = run(rt, alloc, &mut reader, &mut writer, options, skip, &NoGate);
     (outcome, writer.into_inner())
+}
+
+/// Checks that a run with these options answers so and writes this report, in the case of this name or number.
+fn check<T, R, N>(
+    rt: &T,
+    alloc: Global,
+    options: &Options,
+    reader: R,
+    want: Result<(), Refusal>,
+    report: &str,
+    case: N,
+)
+where
+    T: Abort + Threads + Wait + Sync,
+    R: Read + Drop,
+    N: Display + Drop,
+{
+    let (outcome, written) = run_with(rt, alloc, options, reader, Vec::new(alloc));
+    assert_eq!(rt; outcome, want, "{case}, {options:?}");
+    assert_eq!(rt;
+        written.as_slice(),
+        report.as_bytes(),
+        "{case}, {options:?}"
+    );
 }
 
 /// The outcome of a refusal.

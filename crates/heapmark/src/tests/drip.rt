@@ -6,67 +6,53 @@ use super::rows::refused::REFUSED;
 use super::rows::reported::REPORTED;
 use super::rows::{Reported, report_of};
 use super::streams::Drip;
-use super::{least, refused, run_with};
-use crate::Refusal;
-use std::alloc::{AllocError, Global};
+use super::{check, least, refused};
+use std::alloc::Global;
 use std::process::Abort;
 use std::sync::Wait;
 use std::test::Fail;
 use std::thread::Threads;
-
-/// Runs on these bytes, of which each call of the reader gives one.
-fn check<T: Abort + Threads + Wait + Sync>(
-    rt: &T,
-    alloc: Global,
-    name: &str,
-    dump: &[u8],
-    want: Result<(), Refusal>,
-    report: &str,
-) {
-    let (outcome, written) = run_with(rt, alloc, &least(2), Drip::new(dump), Vec::new(alloc));
-    assert_eq!(rt; outcome, want, "{name}");
-    assert_eq!(rt; written.as_slice(), report.as_bytes(), "{name}");
-}
 
 /// Checks each of these dumps.
 fn all_are_reported<T: Abort + Threads + Wait + Sync>(
     rt: &T,
     alloc: Global,
     rows: &[Reported],
-) -> Result<(), AllocError> {
+) -> Result<(), Fail> {
     for (name, id_size, records, lines) in rows {
         let dump = Bytes::dump(alloc, *id_size, records)?;
         let report = report_of(alloc, lines)?;
-        check(
-            rt,
-            alloc,
-            name,
-            dump.bytes.as_slice(),
-            Ok(()),
-            report.as_str(),
-        );
+        let drip = Drip::new(dump.bytes.as_slice());
+        check(rt, alloc, &least(2), drip, Ok(()), report.as_str(), *name);
     }
     Ok(())
 }
 
 #[test]
-fn one_byte_a_call_changes_no_answer(rt: HostRuntime) -> Result<(), Fail> {
-    let alloc = rt.alloc();
-    all_are_reported(&rt, alloc, &REPORTED)?;
-    all_are_reported(&rt, alloc, &CLASSES)?;
-    let wide = wide_array(alloc)?;
+fn one_byte_a_call_changes_no_report(rt: HostRuntime) -> Result<(), Fail> {
+    all_are_reported(&rt, rt.alloc(), &REPORTED)?;
+    all_are_reported(&rt, rt.alloc(), &CLASSES)?;
+    let wide = wide_array(rt.alloc())?;
+    let drip = Drip::new(wide.bytes.as_slice());
     check(
         &rt,
-        alloc,
-        "wide array",
-        wide.bytes.as_slice(),
+        rt.alloc(),
+        &least(2),
+        drip,
         Ok(()),
         WIDE_ARRAY_REPORT,
+        "an array",
     );
-    for (name, id_size, records, code, place) in &REFUSED {
-        let dump = Bytes::dump(alloc, *id_size, records)?;
-        let want = refused(*code, Some(*place));
-        check(&rt, alloc, name, dump.bytes.as_slice(), want, "");
+    Ok(())
+}
+
+#[test]
+fn one_byte_a_call_changes_no_refusal(rt: HostRuntime) -> Result<(), Fail> {
+    for (name, id_size, records, code, place) in REFUSED {
+        let dump = Bytes::dump(rt.alloc(), id_size, records)?;
+        let drip = Drip::new(dump.bytes.as_slice());
+        let want = refused(code, Some(place));
+        check(&rt, rt.alloc(), &least(2), drip, want, "", name);
     }
     Ok(())
 }

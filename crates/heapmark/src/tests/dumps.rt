@@ -35,6 +35,30 @@ pub fn roots_alone(alloc: Global, count: u64) -> Result<Bytes, AllocError> {
     Ok(dump)
 }
 
+/// The report of seven instances that are roots.
+pub const SEVEN_ROOTS_REPORT: &str = "         7               0  A
+         1               0  <class>
+         8               0  (reachable)
+         0               0  (unreachable)
+         0               0  (unresolved)
+";
+
+/// The report of eight instances that are roots.
+pub const EIGHT_ROOTS_REPORT: &str = "         8               0  A
+         1               0  <class>
+         9               0  (reachable)
+         0               0  (unreachable)
+         0               0  (unresolved)
+";
+
+/// The report of nine instances that are roots.
+pub const NINE_ROOTS_REPORT: &str = "         9               0  A
+         1               0  <class>
+        10               0  (reachable)
+         0               0  (unreachable)
+         0               0  (unresolved)
+";
+
 /// An array of 64 instances, which is the root.
 pub fn wide_array(alloc: Global) -> Result<Bytes, AllocError> {
     let mut elements = Vec::new(alloc);
@@ -94,3 +118,26 @@ pub const LONG_ARRAY_REPORT: &str = "         3          400008  A
          0               0  (unreachable)
          0               0  (unresolved)
 ";
+
+/// A dump of these, as a row of a table names it.
+#[derive(Clone, Copy)]
+pub enum Sample {
+    Nothing,
+    TwoObjects,
+    /// So many roots, 64 at most.
+    Roots(u64),
+    WideArray,
+    LongArray,
+}
+
+impl Sample {
+    pub fn dump(self, alloc: Global) -> Result<Bytes, AllocError> {
+        match self {
+            Sample::Nothing => Bytes::dump(alloc, 4, NOTHING),
+            Sample::TwoObjects => two_objects(alloc),
+            Sample::Roots(count) => roots_alone(alloc, count),
+            Sample::WideArray => wide_array(alloc),
+            Sample::LongArray => long_array(alloc),
+        }
+    }
+}

@@ -1,10 +1,10 @@
 //! Workers that stay until all are idle: one that finds nothing at first comes to work when there is some, and the
 //! report is the same in each run.
 
-use super::dumps::{Bytes, WIDE_ARRAY_REPORT, roots_alone, wide_array};
-use super::run_with;
+use super::check;
+use super::dumps::Sample::{Roots, WideArray};
+use super::dumps::{EIGHT_ROOTS_REPORT, SEVEN_ROOTS_REPORT, Sample, WIDE_ARRAY_REPORT, wide_array};
 use crate::{Counted, Gate, Options, Skip, run};
-use std::alloc::{AllocError, Global};
 use std::sync::atomic::{AtomicU64, Ordering};
 use std::test::Fail;
 use std::thread;
@@ -87,51 +87,25 @@ fn a_worker_stays_until_another_has_made_work(rt: HostRuntime) -> Result<(), Fai
     Ok(())
 }
 
-/// The report of so many instances that are roots.
-fn roots_report(alloc: Global, count: u64) -> Result<String, AllocError> {
-    let mut report = String::new(alloc);
-    let lines = [
-        (count, "A"),
-        (1, "<class>"),
-        (count.min(64) + 1, "(reachable)"),
-        (0, "(unreachable)"),
-        (0, "(unresolved)"),
-    ];
-    for (number, name) in lines {
-        write!(report, "{number:>10}  {:>14}  {name}\n", 0)?;
-    }
-    Ok(report)
-}
+/// A dump, workers, objects in a buffer, buffers, and the report: with the least buffers some workers get no pair.
+static ROWS: [(Sample, u32, u32, u32, &str); 5] = [
+    (WideArray, 64, 2, 1024, WIDE_ARRAY_REPORT),
+    (WideArray, 64, 256, 1024, WIDE_ARRAY_REPORT),
+    (Roots(8), 64, 2, 1024, EIGHT_ROOTS_REPORT),
+    (Roots(7), 64, 2, 130, SEVEN_ROOTS_REPORT),
+    (Roots(7), 1, 2, 4, SEVEN_ROOTS_REPORT),
+];
 
 #[test]
 fn each_run_reports_the_same(rt: HostRuntime) -> Result<(), Fail> {
-    let alloc = rt.alloc();
-    let wide = wide_array(alloc)?;
-    let eight = roots_alone(alloc, 8)?;
-    let seven = roots_alone(alloc, 7)?;
-    let eight_report = roots_report(alloc, 8)?;
-    let seven_report = roots_report(alloc, 7)?;
-    // the dump, workers, objects in a buffer, buffers, and the report: with the least buffers some workers get no pair
-    let rows: [(&Bytes, u32, u32, u32, &str); 5] = [
-        (&wide, 64, 2, 1024, WIDE_ARRAY_REPORT),
-        (&wide, 64, 256, 1024, WIDE_ARRAY_REPORT),
-        (&eight, 64, 2, 1024, eight_report.as_str()),
-        (&seven, 64, 2, 130, seven_report.as_str()),
-        (&seven, 1, 2, 4, seven_report.as_str()),
-    ];
-    for (dump, workers, buffer, buffers, report) in rows {
+    for (sample, workers, buffer, buffers, report) in ROWS {
         let options = Options::new(workers, buffer, buffers, 0).map_err(
             |_| "the options are in range",
         )?;
+        let dump = sample.dump(rt.alloc())?;
         for run in 0..RUNS_OF_MANY {
             let bytes = dump.bytes.as_slice();
-            let (outcome, written) = run_with(&rt, alloc, &options, bytes, Vec::new(alloc));
-            assert_eq!(rt;
-                outcome,
-                Ok(()),
-                "run {run} of {workers}, {buffer}, {buffers}"
-            );
-            assert_eq!(rt; written.as_slice(), report.as_bytes(), "run {run}");
+            check(&rt, rt.alloc(), &options, bytes, Ok(()), report, run);
         }
     }
     Ok(())

@@ -4,11 +4,8 @@ pub mod classes;
 pub mod refused;
 pub mod reported;
 
-use super::dumps::{
-    Bytes, NOTHING, NOTHING_REPORT, Record, TWO_OBJECTS, TWO_OBJECTS_REPORT, WIDE_ARRAY_REPORT,
-    wide_array,
-};
-use super::{run_with, usual};
+use super::dumps::{Bytes, NOTHING_REPORT, Record, Sample, TWO_OBJECTS_REPORT, WIDE_ARRAY_REPORT};
+use super::{check, refused, usual};
 use crate::Refusal;
 use classes::CLASSES;
 use refused::REFUSED;
@@ -37,30 +34,17 @@ pub fn report_of(alloc: Global, lines: &[Line]) -> Result<String, AllocError> {
     Ok(report)
 }
 
-/// Runs with 1, 2 and 64 workers on these bytes.
-fn check<T: Abort + Threads + Wait + Sync>(
+/// Checks runs with 1, 2 and 64 workers on these bytes.
+fn check_workers<T: Abort + Threads + Wait + Sync>(
     rt: &T,
     alloc: Global,
     name: &str,
     dump: &[u8],
-    refusal: Option<(u8, u64)>,
+    want: Result<(), Refusal>,
     report: &str,
 ) {
-    let want = match refusal {
-        Some((code, place)) => Err(Refusal {
-            code,
-            offset: Some(place),
-        }),
-        None => Ok(()),
-    };
     for workers in [1, 2, 64] {
-        let (outcome, written) = run_with(rt, alloc, &usual(workers), dump, Vec::new(alloc));
-        assert_eq!(rt; outcome, want, "{name}, {workers} workers");
-        assert_eq!(rt;
-            written.as_slice(),
-            report.as_bytes(),
-            "{name}, {workers} workers"
-        );
+        check(rt, alloc, &usual(workers), dump, want, report, name);
     }
 }
 
@@ -73,69 +57,56 @@ fn all_are_reported<T: Abort + Threads + Wait + Sync>(
     for (name, id_size, records, lines) in rows {
         let dump = Bytes::dump(alloc, *id_size, records)?;
         let report = report_of(alloc, lines)?;
-        check(
-            rt,
-            alloc,
-            name,
-            dump.bytes.as_slice(),
-            None,
-            report.as_str(),
-        );
+        let bytes = dump.bytes.as_slice();
+        check_workers(rt, alloc, name, bytes, Ok(()), report.as_str());
     }
     Ok(())
 }
 
 #[test]
-fn run_answers(rt: HostRuntime) -> Result<(), Fail> {
-    let alloc = rt.alloc();
-    all_are_reported(&rt, alloc, &REPORTED)?;
-    all_are_reported(&rt, alloc, &CLASSES)?;
-    let dump = Bytes::dump(alloc, 4, NOTHING)?;
-    check(
-        &rt,
-        alloc,
-        "nothing",
-        dump.bytes.as_slice(),
-        None,
-        NOTHING_REPORT,
-    );
-    let dump = Bytes::dump(alloc, 4, TWO_OBJECTS)?;
-    check(
-        &rt,
-        alloc,
-        "two objects",
-        dump.bytes.as_slice(),
-        None,
-        TWO_OBJECTS_REPORT,
-    );
-    let dump = wide_array(alloc)?;
-    check(
-        &rt,
-        alloc,
-        "wide array",
-        dump.bytes.as_slice(),
-        None,
-        WIDE_ARRAY_REPORT,
-    );
+fn rows_are_reported(rt: HostRuntime) -> Result<(), Fail> {
+    all_are_reported(&rt, rt.alloc(), &REPORTED)?;
+    all_are_reported(&rt, rt.alloc(), &CLASSES)
+}
+
+/// Dumps that other tests run on too.
+static SAMPLES: [(Sample, &str); 3] = [
+    (Sample::Nothing, NOTHING_REPORT),
+    (Sample::TwoObjects, TWO_OBJECTS_REPORT),
+    (Sample::WideArray, WIDE_ARRAY_REPORT),
+];
+
+#[test]
+fn samples_are_reported(rt: HostRuntime) -> Result<(), Fail> {
+    for (sample, report) in SAMPLES {
+        let dump = sample.dump(rt.alloc())?;
+        let bytes = dump.bytes.as_slice();
+        check_workers(&rt, rt.alloc(), "a sample", bytes, Ok(()), report);
+    }
     Ok(())
 }
 
 #[test]
 fn faults_are_refused(rt: HostRuntime) -> Result<(), Fail> {
-    let alloc = rt.alloc();
-    for (name, id_size, records, code, place) in &REFUSED {
-        let dump = Bytes::dump(alloc, *id_size, records)?;
-        let refusal = Some((*code, *place));
-        check(&rt, alloc, name, dump.bytes.as_slice(), refusal, "");
+    for (name, id_size, records, code, place) in REFUSED {
+        let dump = Bytes::dump(rt.alloc(), id_size, records)?;
+        let want = refused(code, Some(place));
+        check_workers(&rt, rt.alloc(), name, dump.bytes.as_slice(), want, "");
     }
-    let mut long = Bytes::header(alloc, 4)?;
-    long.raw(&[0x01, 0, 0, 0, 0, 0xff, 0xff, 0xff, 0xff])?;
-    check(
+    Ok(())
+}
+
+#[test]
+fn a_long_string_is_refused(rt: HostRuntime) -> Result<(), Fail> {
+    let mut dump = Bytes::header(rt.alloc(), 4)?;
+    dump.raw(&[0x01, 0, 0, 0, 0, 0xff, 0xff, 0xff, 0xff])?;
+    let want = refused(3, Some(31));
+    check_workers(
         &rt,
-        alloc,
+        rt.alloc(),
         "a long string",
-        long.bytes.as_slice(),
-        Some((3, 31)),
+        dump.bytes.as_slice(),
+        want,
         "",
     );
     Ok(())

@@ -1,19 +1,11 @@
 //! Runs with several workers: their calls of the gate, and that their number changes no report.
 
-use super::dumps::roots_alone;
+use super::dumps::{EIGHT_ROOTS_REPORT, roots_alone};
 use crate::{Counted, Gate, Options, Skip, run};
 use std::sync::atomic::{AtomicU64, Ordering};
 use std::test::Fail;
 use std::thread;
 use std::time::{Clock, Duration};
-
-/// Eight instances, each a root.
-const EIGHT_ROOTS: &str = "         8               0  A
-         1               0  <class>
-         9               0  (reachable)
-         0               0  (unreachable)
-         0               0  (unresolved)
-";
 
 /// As many as eight workers with buffers of two objects share.
 const MANY_ROOTS: &str = "        60               0  A
@@ -84,8 +76,8 @@ impl<C: Clock + Sync> Gate for Meeting<C> {
 fn workers_meet_at_the_gate(rt: HostRuntime) -> Result<(), Fail> {
     let alloc = rt.alloc();
     let cases: [(u32, u32, &str); 3] = [
-        (2, 8, EIGHT_ROOTS),
-        (4, 8, EIGHT_ROOTS),
+        (2, 8, EIGHT_ROOTS_REPORT),
+        (4, 8, EIGHT_ROOTS_REPORT),
         (8, 60, MANY_ROOTS),
     ];
     for (workers, roots, report) in cases {

@@ -1,0 +1,188 @@
+//! Lines of words that the program takes or refuses, and what it answers to each.
+
+use super::dumps::{Bytes, NOTHING_REPORT, Sample, WIDE_ARRAY_REPORT};
+use super::program::{Broken, file_of, printed};
+use crate::{Counted, program};
+use std::alloc::{AllocError, Global};
+use std::env::Env;
+use std::fs;
+use std::process::Abort;
+use std::rt::Files;
+use std::sync::Wait;
+use std::test::Fail;
+use std::thread::Threads;
+
+/// Words behind the program's name, with FILE for a dump, the status that they have, and how standard error begins.
+type Line = (&'static str, u8, &'static str);
+
+const BAD_OPTIONS: &str = "heapmark: refused 21 BadOptions\n";
+
+const INVALID: &str = "error: invalid value";
+
+const NO_FILE: &str = "error: the following required arguments were not provided:";
+
+const TAG_SPENT: &str = "heapmark: refused 16 TagSpent\n";
+
+const WORKERS_TWICE: &str = "error: the argument '--workers <N>' cannot be used";
+
+const SKIP_TWICE: &str = "error: the argument '--skip <LIST>' cannot be used";
+
+/// Options, of a dump without objects.
+static OPTIONS: [Line; 19] = [
+    ("--workers 64 --buffers 130 FILE", 0, ""),
+    ("--workers 64 --buffers 129 FILE", 1, BAD_OPTIONS),
+    ("--workers 4 --buffers 9 FILE", 1, BAD_OPTIONS),
+    ("--workers 4 --buffers 9 /nowhere/a.hprof", 1, BAD_OPTIONS),
+    (
+        "FILE --workers=1 --buffer=2 --buffers=4 --first-tag=0",
+        0,
+        "",
+    ),
+    ("FILE --buffer 4096 --buffers 65534", 0, ""),
+    ("FILE --workers 0", 2, INVALID),
+    ("FILE --workers 65", 2, INVALID),
+    ("FILE --buffer 1", 2, INVALID),
+    ("FILE --buffer 4097", 2, INVALID),
+    ("FILE --buffers 3", 2, INVALID),
+    ("FILE --buffers 65535", 2, INVALID),
+    ("FILE --first-tag 281474976710656", 2, INVALID),
+    ("FILE --first-tag 0x10", 2, INVALID),
+    ("", 2, NO_FILE),
+    ("a b", 2, "error: unexpected argument 'b' found"),
+    (
+        "--treads 2 a",
+        2,
+        "error: unexpected argument '--treads' found",
+    ),
+    ("a --workers 1 --workers 2", 2, WORKERS_TWICE),
+    ("a --skip a.b --skip c.d", 2, SKIP_TWICE),
+];
+
+/// The last tags that serve a dump without objects: the leader and each worker make four exchanges of one head.
+static TAGS_OF_NOTHING: [Line; 2] = [
+    ("--workers 1 --first-tag 281474976710647 FILE", 0, ""),
+    ("--workers 2 --first-tag 281474976710647 FILE", 1, TAG_SPENT),
+];
+
+/// The last tags that serve one worker on an array of 64 objects. The head of the empty stack changes 72 times in 128
+/// buffers of 2, 20 times in 8 of 64, and 12 times in 4 of 2: so the numbers are those of the words.
+static TAGS_OF_AN_ARRAY: [Line; 6] = [
+    (
+        "FILE --workers 1 --buffer 2 --buffers 128 --first-tag 281474976710583",
+        0,
+        "",
+    ),
+    (
+        "FILE --workers 1 --buffer 2 --buffers 128 --first-tag 281474976710584",
+        1,
+        TAG_SPENT,
+    ),
+    (
+        "FILE --workers 1 --buffer 64 --buffers 8 --first-tag 281474976710635",
+        0,
+        "",
+    ),
+    (
+        "FILE --workers 1 --buffer 64 --buffers 8 --first-tag 281474976710636",
+        1,
+        TAG_SPENT,
+    ),
+    (
+        "FILE --workers 1 --buffer 2 --buffers 4 --first-tag 281474976710643",
+        0,
+        "",
+    ),
+    (
+        "FILE --workers 1 --buffer 2 --buffers 4 --first-tag 281474976710644",
+        1,
+        TAG_SPENT,
+    ),
+];
+
+/// The words of a line behind the program's name, with this file for the word FILE.
+fn words_of<'a>(alloc: Global, line: &'a str, file: &'a str) -> Result<Vec<&'a str>, AllocError> {
+    let mut words = Vec::new(alloc);
+    words.push("heapmark")?;
+    for word in line.split_whitespace() {
+        words.push(if word == "FILE" { file } else { word })?;
+    }
+    Ok(words)
+}
+
+/// For these words the program has this status, also where standard error fails: with this report at 0, and else with
+/// nothing on the output and a text that begins so on standard error.
+fn answers<T: Abort + Files + AllocGlobal + Threads + Wait + Sync>(
+    rt: &T,
+    words: &[&str],
+    report: &str,
+    want: u8,
+    begins: &str,
+) {
+    let (status, out, err) = printed(rt, words);
+    assert_eq!(rt; (status, err.is_empty()), (want, want == 0), "{begins}");
+    let report = if want == 0 { report } else { "" };
+    assert_eq!(rt; out.as_slice(), report.as_bytes(), "{begins}");
+    assert!(rt; err.as_slice().starts_with(begins.as_bytes()), "{begins}");
+    let mut out = Counted::new(Vec::new(rt.alloc()));
+    assert_eq!(rt; program(rt, words, &mut out, &mut Broken), want, "{begins}");
+}
+
+/// Checks each of these lines on a file of these bytes, whose report is this one.
+fn all_answer<T: Abort + AllocGlobal + Env + Files + Threads + Wait + Sync>(
+    rt: &T,
+    name: &str,
+    dump: &Bytes,
+    report: &str,
+    lines: &[Line],
+) -> Result<(), Fail> {
+    let path = file_of(rt, name, dump)?;
+    let file = path.to_str().ok_or("the name of the file is not text")?;
+    for (line, want, begins) in lines {
+        let words = words_of(rt.alloc(), line, file)?;
+        answers(rt, words.as_slice(), report, *want, begins);
+    }
+    fs::remove_file(rt, path.as_path())?;
+    Ok(())
+}
+
+#[test]
+fn options_are_taken_or_refused(rt: HostRuntime) -> Result<(), Fail> {
+    let nothing = Sample::Nothing.dump(rt.alloc())?;
+    let name = "heapmark_nothing.hprof";
+    all_answer(&rt, name, &nothing, NOTHING_REPORT, &OPTIONS)?;
+    all_answer(&rt, name, &nothing, NOTHING_REPORT, &TAGS_OF_NOTHING)
+}
+
+#[test]
+fn the_heap_is_marked_as_the_words_say(rt: HostRuntime) -> Result<(), Fail> {
+    let array = Sample::WideArray.dump(rt.alloc())?;
+    let name = "heapmark_wide_array.hprof";
+    all_answer(&rt, name, &array, WIDE_ARRAY_REPORT, &TAGS_OF_AN_ARRAY)
+}
+
+/// Not even the program's own name is there.
+#[test]
+fn no_words_are_told(rt: HostRuntime) {
+    answers(&rt, &[], "", 2, NO_FILE);
+}
+
+/// Words that ask for a text, and how it begins.
+static TEXTS: [(&str, &str); 4] = [
+    ("--help", "Marks the objects of a Java heap dump"),
+    ("-h", "Marks the objects of a Java heap dump"),
+    ("--version", "heapmark 0.1.0\nrattle-kit-"),
+    ("-V", "heapmark 0.1.0\nrattle-kit-"),
+];
+
+#[test]
+fn help_and_version_are_printed_on_the_output(rt: HostRuntime) {
+    for (word, begins) in TEXTS {
+        let words = ["heapmark", word];
+        let (status, out, err) = printed(&rt, &words);
+        assert_eq!(rt; (status, err.is_empty()), (0, true), "{word}");
+        assert!(rt; out.as_slice().starts_with(begins.as_bytes()), "{word}");
+        let mut out = Counted::new(Broken);
+        assert_eq!(rt; program(&rt, &words, &mut out, &mut Broken), 0, "{word}");
+        assert_eq!(rt; out.failures(), 1, "{word}");
+    }
+}
