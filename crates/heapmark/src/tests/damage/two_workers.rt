@@ -1,7 +1,7 @@
 //! The same with two workers.
 //!
-//! The dumps are shared out among tests, four places each: on an idle machine of several processors a run may wait 20 ms
-//! for its workers' turns, and a test has to end within a minute.
+//! The dumps are shared out among tests, four places each: on an idle machine of several processors a run may wait
+//! 20 ms for its workers' turns, and a test has to end within a minute.
 
 use super::answers::ANSWERS;
 use super::check;
