@@ -2,6 +2,7 @@
 
 mod hand;
 mod memory;
+mod runs;
 mod stopped;
 mod threads;
 mod vectors;

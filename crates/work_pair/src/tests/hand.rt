@@ -1,6 +1,7 @@
 //! A worker with its pair, over objects that are all roots.
-ghost use Rattle.std.specs.Prelude.{◌≡◌, ◌<◌, [], IfNone, IfOk, IfSome, true};
+ghost use Rattle.std.specs.Prelude.{◌≡◌, ◌⊎◌, ◌<◌, [], IfNone, IfOk, true};
 ghost use Rattle.mark_core.specs.Shares.{whole};
+ghost use Rattle.work_pair.specs.PairState.{HasStopped, IsBacked};
 ghost use Rattle.work_pair.specs.tests.Ready.{IsReady, IsWorker, numbers};
 
 use crate::{Pair, Stop};
@@ -11,6 +12,9 @@ use std::sync::Wait;
 
 /// The objects of each test.
 pub(super) const OBJECTS: u32 = 400;
+
+/// How many objects the places of a pair have, and `None` for a place without a buffer.
+pub(super) type Lens = [Option<u32>; 3];
 
 /// Objects that are all roots, without successors.
 #[derive(Drop)]
@@ -49,15 +53,15 @@ pub(super) fn open<R: Wait + Abort, A: Allocator>(
     alloc: A,
     pool: &Pool<A>,
     worker: &mut Worker<A>,
-) -> Option<Pair<A>>
+) -> Pair<A>
     requires { IsWorker OBJECTS pool.now worker.old }
     ensures worker { IsWorker OBJECTS pool.now worker.new }
-    ensures ready { IfSome result (λ p. IsReady OBJECTS pool.now worker.new p) }
-    ensures none_spilled { IfSome result (λ p. p.spill ≡ []) }
+    ensures ready { IsReady OBJECTS pool.now worker.new result }
+    ensures none_spilled { result.spill ≡ [] }
 {
     match Pair::open(rt, alloc, pool, worker) {
-        Ok(Some(pair)) => Some(pair),
-        Ok(None) => None,
+        Ok(Some(pair)) => pair,
+        Ok(None) => panic!(rt; "there are two buffers"),
         Err(_) => panic!(rt; "no tag is near the last one"),
     }
 }
@@ -171,4 +175,23 @@ pub(super) fn full_is_empty<A: Allocator>(
     ensures { IsReady OBJECTS pool.now worker.new pair.now }
 {
     pool.sees_empty(worker, buffer_pool::Which::Full)
+}
+
+/// Disposes of the pair. Where a last tag stops that, answers what the places of the pair have.
+pub(super) fn dispose<R: Wait + Abort, A: Allocator>(
+    rt: &R,
+    pool: &Pool<A>,
+    worker: &mut Worker<A>,
+    pair: Pair<A>,
+) -> Option<Lens>
+    requires pool { worker.old.pool ≡ pool.now }
+    requires backed { IsBacked pair [] worker.old.book }
+    requires awake { worker.old.book.account.idle ≡ 0 }
+    requires spill { (pair.spill ≡ []) ⊎ HasStopped pair }
+{
+    match pair.dispose(rt, pool, worker) {
+        Ok(()) => None,
+        Err((left, Stop::TagSpent)) => Some(left.lens()),
+        Err((_, Stop::OutOfMemory)) => panic!(rt; "it takes no memory"),
+    }
 }

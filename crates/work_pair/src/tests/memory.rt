@@ -1,17 +1,34 @@
 //! Want of memory for the spill list, and all that takes none.
-ghost use Rattle.std.specs.Prelude.{◌≤◌, IfOk};
+ghost use Rattle.std.specs.Prelude.{◌≡◌, ◌≤◌, [], IfOk, true};
+ghost use Rattle.work_pair.specs.tests.Ready.{IsReady};
 
-use super::hand::{bare, full_is_empty, get, open, pool_of_roots, publish, put, put_in_vain};
-use super::vectors::{fill, five_objects, get_all};
+use super::hand::{Lens, OBJECTS, bare, full_is_empty, pool_of_roots, publish, put, put_in_vain};
+use super::runs::{Run, left_after};
+use super::vectors::{fill, five_objects, get_just};
+use crate::Pair;
+use buffer_pool::{Pool, PoolFault, Worker};
 use limited_heap::LimitedHeap;
-use std::alloc::Global;
+use std::alloc::{Allocator, Global};
+use std::process::Abort;
+use std::sync::Wait;
 use std::test::Fail;
 
 /// A limit that no pool of these tests meets.
 const MANY: u64 = 1 << 32;
 
+/// Which requests for memory behind the opening of a pool are refused.
+#[derive(Clone, Copy, Debug)]
+enum Refused {
+    /// All.
+    Each,
+    /// All but the first.
+    EachButOne,
+    /// The first, and no other.
+    First,
+}
+
 /// How many requests for memory a pool of four buffers for two objects makes.
-fn requests_of_a_pool(alloc: Global) -> Result<u64, Fail>
+fn requests_of_a_pool(alloc: Global) -> Result<u64, PoolFault>
     ensures { IfOk result (λ n. n ≤ MANY) }
 {
     let heap = LimitedHeap::new(alloc, MANY);
@@ -19,94 +36,132 @@ fn requests_of_a_pool(alloc: Global) -> Result<u64, Fail>
     Ok(MANY - heap.requests_left())
 }
 
+/// A heap that grants what such a pool takes, and refuses these requests behind it.
+fn heap_of_a_pool(alloc: Global, refused: Refused) -> Result<LimitedHeap<Global>, PoolFault> {
+    let requests = requests_of_a_pool(alloc)?;
+    Ok(match refused {
+        Refused::Each => LimitedHeap::new(alloc, requests),
+        Refused::EachButOne => LimitedHeap::new(alloc, requests + 1),
+        Refused::First => LimitedHeap::refusing(alloc, requests),
+    })
+}
+
 /// Where the list cannot have its first block the ninth object comes back, and the pair has its eight, each to be got.
-#[test]
-fn want_of_memory_leaves_the_pair_whole(rt: HostRuntime) -> Result<(), Fail> {
-    let requests = requests_of_a_pool(rt.alloc())?;
-    let heap = LimitedHeap::new(rt.alloc(), requests);
-    let (pool, mut worker) = pool_of_roots(&heap, 4, 2, 0)?;
-    let Some(mut pair) = open(&rt, &heap, &pool, &mut worker) else {
-        panic!(rt; "there are four buffers");
-    };
-    fill(&rt, &pool, &mut worker, &mut pair, 8);
-    put_in_vain(&rt, &pool, &mut worker, &mut pair, 8);
+pub(super) fn ninth_in_vain<R: Wait + Abort, A: Allocator>(
+    rt: &R,
+    pool: &Pool<A>,
+    worker: &mut Worker<A>,
+    pair: &mut Pair<A>,
+)
+    requires { IsReady OBJECTS pool.now worker.old pair.old }
+    ensures ready { IsReady OBJECTS pool.now worker.new pair.new }
+    ensures none_spilled { pair.new.spill ≡ [] }
+{
+    fill(rt, pool, worker, pair, 8);
+    put_in_vain(rt, pool, worker, pair, 8);
     assert_eq!(rt; pair.lens(), [Some(2), Some(2), None]);
-    get_all(
-        &rt,
-        &pool,
-        &mut worker,
-        &mut pair,
-        &[5, 4, 7, 6, 3, 2, 1, 0],
-    );
-    let None = get(&rt, &pool, &mut worker, &mut pair) else {
-        panic!(rt; "eight objects were put");
-    };
-    assert!(rt; pair.dispose(&rt, &pool, &mut worker).is_ok());
-    Ok(())
+    get_just(rt, pool, worker, pair, &[5, 4, 7, 6, 3, 2, 1, 0]);
 }
 
 /// Where it has a block, and no larger one, what it has is given up with the pair.
-#[test]
-fn a_list_that_cannot_grow_is_given_up(rt: HostRuntime) -> Result<(), Fail> {
-    let requests = requests_of_a_pool(rt.alloc())? + 1;
-    let heap = LimitedHeap::new(rt.alloc(), requests);
-    let (pool, mut worker) = pool_of_roots(&heap, 4, 2, 0)?;
-    let Some(mut pair) = open(&rt, &heap, &pool, &mut worker) else {
-        panic!(rt; "there are four buffers");
-    };
-    fill(&rt, &pool, &mut worker, &mut pair, 12);
-    assert_eq!(rt; pair.spilled(), 4);
-    put_in_vain(&rt, &pool, &mut worker, &mut pair, 12);
-    assert_eq!(rt; pair.spilled(), 4);
-    assert!(rt; pair.dispose(&rt, &pool, &mut worker).is_ok());
-    Ok(())
+pub(super) fn thirteenth_in_vain<R: Wait + Abort, A: Allocator>(
+    rt: &R,
+    pool: &Pool<A>,
+    worker: &mut Worker<A>,
+    pair: &mut Pair<A>,
+)
+    requires { IsReady OBJECTS pool.now worker.old pair.old }
+    ensures ready { IsReady OBJECTS pool.now worker.new pair.new }
+    ensures starved { pair.new.starved ≡ true }
+{
+    fill(rt, pool, worker, pair, 12);
+    let before = pair.spilled();
+    put_in_vain(rt, pool, worker, pair, 12);
+    assert_eq!(rt; (before, pair.spilled()), (4, 4));
 }
 
 /// Where the list's first block alone is refused, that object comes back, and the next one is put and got as ever. Each
 /// of the two puts has changed the places of the buffers, so they are where they were.
-#[test]
-fn a_put_behind_a_refused_one(rt: HostRuntime) -> Result<(), Fail> {
-    let heap = LimitedHeap::refusing(rt.alloc(), requests_of_a_pool(rt.alloc())?);
-    let (pool, mut worker) = pool_of_roots(&heap, 4, 2, 0)?;
-    let Some(mut pair) = open(&rt, &heap, &pool, &mut worker) else {
-        panic!(rt; "there are four buffers");
-    };
-    fill(&rt, &pool, &mut worker, &mut pair, 8);
-    put_in_vain(&rt, &pool, &mut worker, &mut pair, 8);
-    assert_eq!(rt; heap.refusals(), 1);
-    put(&rt, &pool, &mut worker, &mut pair, 9);
+pub(super) fn tenth_behind_a_ninth_in_vain<R: Wait + Abort, A: Allocator>(
+    rt: &R,
+    pool: &Pool<A>,
+    worker: &mut Worker<A>,
+    pair: &mut Pair<A>,
+)
+    requires { IsReady OBJECTS pool.now worker.old pair.old }
+    ensures ready { IsReady OBJECTS pool.now worker.new pair.new }
+    ensures none_spilled { pair.new.spill ≡ [] }
+{
+    fill(rt, pool, worker, pair, 8);
+    put_in_vain(rt, pool, worker, pair, 8);
+    put(rt, pool, worker, pair, 9);
     assert_eq!(rt; pair.spilled(), 1);
-    get_all(
-        &rt,
-        &pool,
-        &mut worker,
-        &mut pair,
-        &[9, 7, 6, 5, 4, 3, 2, 1, 0],
-    );
+    get_just(rt, pool, worker, pair, &[9, 7, 6, 5, 4, 3, 2, 1, 0]);
+}
+
+/// What a pair does while there is room takes no memory.
+pub(super) fn six_objects<R: Wait + Abort, A: Allocator>(
+    rt: &R,
+    pool: &Pool<A>,
+    worker: &mut Worker<A>,
+    pair: &mut Pair<A>,
+)
+    requires { IsReady OBJECTS pool.now worker.old pair.old }
+    ensures ready { IsReady OBJECTS pool.now worker.new pair.new }
+    ensures none_spilled { pair.new.spill ≡ [] }
+{
+    five_objects(rt, pool, worker, pair);
+    put(rt, pool, worker, pair, 5);
+    publish(rt, pool, worker, pair);
+    assert!(rt; !full_is_empty(pool, worker, pair));
+    get_just(rt, pool, worker, pair, &[5]);
+    assert_eq!(rt; pair.spilled(), 0);
+}
+
+/// A run, the objects of a buffer, what is refused behind the opening of the pool, and how many requests that are.
+type Row = (Run, u32, Refused, u64);
+
+/// The run of six objects makes no request while each would be refused.
+const ROWS: [Row; 4] = [
+    (Run::NinthInVain, 2, Refused::Each, 1),
+    (Run::ThirteenthInVain, 2, Refused::EachButOne, 1),
+    (Run::TenthBehindANinthInVain, 2, Refused::First, 1),
+    (Run::Six, 8, Refused::Each, 0),
+];
+
+/// Goes through that run over such a heap: what is left of the pair, and how many requests were refused.
+fn refused_in<R: Wait + Abort>(
+    rt: &R,
+    alloc: Global,
+    run: Run,
+    size: u32,
+    refused: Refused,
+) -> Result<(Option<Lens>, u64), PoolFault> {
+    let heap = heap_of_a_pool(alloc, refused)?;
+    let left = left_after(rt, &heap, run, size, 0)?;
+    Ok((left, heap.refusals()))
+}
+
+#[test]
+fn runs_without_memory(rt: HostRuntime) -> Result<(), Fail> {
+    for (run, size, refused, refusals) in ROWS {
+        let ended = refused_in(&rt, rt.alloc(), run, size, refused)?;
+        assert_eq!(rt; ended, (None, refusals), "{run:?}");
+    }
     Ok(())
 }
 
-/// What a pair does while there is room takes no memory: it is done while each request would be refused, and makes
-/// none.
+/// A pair without buffers, beside a pool that left no request: what it has, how many requests are left then, and how
+/// many were refused.
+fn bare_pair_without_memory(alloc: Global) -> Result<(Lens, u64, u64), PoolFault> {
+    let heap = heap_of_a_pool(alloc, Refused::Each)?;
+    let (pool, worker) = pool_of_roots(&heap, 4, 8, 0)?;
+    let lens = bare(&heap, &pool, &worker).lens();
+    Ok((lens, heap.requests_left(), heap.refusals()))
+}
+
 #[test]
-fn the_pair_takes_no_memory(rt: HostRuntime) -> Result<(), Fail> {
-    let heap = LimitedHeap::new(rt.alloc(), requests_of_a_pool(rt.alloc())?);
-    let (pool, mut worker) = pool_of_roots(&heap, 4, 8, 0)?;
-    assert_eq!(rt; heap.requests_left(), 0);
-    assert_eq!(rt; bare(&heap, &pool, &worker).lens(), [None, None, None]);
-    let Some(mut pair) = open(&rt, &heap, &pool, &mut worker) else {
-        panic!(rt; "there are four buffers");
-    };
-    five_objects(&rt, &pool, &mut worker, &mut pair);
-    put(&rt, &pool, &mut worker, &mut pair, 5);
-    publish(&rt, &pool, &mut worker, &mut pair);
-    assert!(rt; !full_is_empty(&pool, &mut worker, &pair));
-    get_all(&rt, &pool, &mut worker, &mut pair, &[5]);
-    let None = get(&rt, &pool, &mut worker, &mut pair) else {
-        panic!(rt; "six objects were put");
-    };
-    assert_eq!(rt; pair.spilled(), 0);
-    assert!(rt; pair.dispose(&rt, &pool, &mut worker).is_ok());
-    assert_eq!(rt; heap.refusals(), 0);
+fn a_bare_pair_takes_no_memory(rt: HostRuntime) -> Result<(), Fail> {
+    assert_eq!(rt; bare_pair_without_memory(rt.alloc())?, ([None; 3], 0, 0));
     Ok(())
 }

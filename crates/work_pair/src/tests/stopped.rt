@@ -3,10 +3,10 @@
 ghost use Rattle.std.specs.Prelude.{◌<◌};
 ghost use Rattle.work_pair.specs.tests.Ready.{IsReady, IsWorker};
 
-use super::hand::{OBJECTS, open, pool_of_roots};
+use super::hand::{Lens, OBJECTS, dispose, open, pool_of_roots};
 use super::vectors::{fill, get_all};
 use crate::{Pair, Stop};
-use buffer_pool::{Pool, Worker};
+use buffer_pool::{Pool, PoolFault, Worker};
 use std::alloc::{Allocator, Global};
 use std::process::Abort;
 use std::sync::Wait;
@@ -15,8 +15,8 @@ use std::test::Fail;
 /// The last tag of a stack's head.
 const LAST_TAG: u64 = 281_474_976_710_655;
 
-/// How many objects the places of a pair have, where a last tag stopped it and where it was disposed of then.
-type Lens = ([Option<u32>; 3], [Option<u32>; 3]);
+/// What the places of a pair have, where a last tag stopped it, and where that stopped its disposal too.
+type Stopped = (Lens, Option<Lens>);
 
 /// Claims a white object, whose put is stopped, and disposes of the pair.
 fn stopped_by_put<R: Wait + Abort, A: Allocator>(
@@ -25,7 +25,7 @@ fn stopped_by_put<R: Wait + Abort, A: Allocator>(
     worker: &mut Worker<A>,
     mut pair: Pair<A>,
     object: u32,
-) -> Lens
+) -> Stopped
     requires ready { IsReady OBJECTS pool.now worker.old pair }
     requires object { object < OBJECTS }
 {
@@ -37,11 +37,7 @@ fn stopped_by_put<R: Wait + Abort, A: Allocator>(
         Err((_, Stop::OutOfMemory)) => panic!(rt; "no list has to grow"),
         Ok(()) => panic!(rt; "a last tag was to be loaded"),
     }
-    let stopped = pair.lens();
-    match pair.dispose(rt, pool, worker) {
-        Ok(()) => (stopped, [None; 3]),
-        Err((left, _)) => (stopped, left.lens()),
-    }
+    (pair.lens(), dispose(rt, pool, worker, pair))
 }
 
 /// Gets an object of the full stack, which is stopped, and disposes of the pair.
@@ -50,17 +46,13 @@ fn stopped_by_get<R: Wait + Abort, A: Allocator>(
     pool: &Pool<A>,
     worker: &mut Worker<A>,
     mut pair: Pair<A>,
-) -> Lens
+) -> Stopped
     requires { IsReady OBJECTS pool.now worker.old pair }
 {
     let Err(_) = pair.get(rt, pool, worker) else {
         panic!(rt; "a last tag was to be loaded");
     };
-    let stopped = pair.lens();
-    match pair.dispose(rt, pool, worker) {
-        Ok(()) => (stopped, [None; 3]),
-        Err((left, _)) => (stopped, left.lens()),
-    }
+    (pair.lens(), dispose(rt, pool, worker, pair))
 }
 
 /// Takes a buffer from the full stack, an object from that, and gives it back: two exchanges of that stack's head, and
@@ -85,12 +77,10 @@ fn exchange_full_twice<R: Wait + Abort, A: Allocator>(
 
 /// A put takes a buffer from the empty stack and cannot push the full one. Each head may be exchanged five times: that
 /// of the empty stack is four times, and that of the full one was five times before.
-fn put_without_a_push<R: Wait + Abort>(rt: &R, alloc: Global) -> Result<Lens, Fail> {
+fn put_without_a_push<R: Wait + Abort>(rt: &R, alloc: Global) -> Result<Stopped, PoolFault> {
     let (pool, worker) = pool_of_roots(alloc, 4, 4, LAST_TAG - 5)?;
     let (mut worker, mut other) = pool.split(worker, 1);
-    let Some(mut pair) = open(rt, alloc, &pool, &mut worker) else {
-        panic!(rt; "there are four buffers");
-    };
+    let mut pair = open(rt, alloc, &pool, &mut worker);
     fill(rt, &pool, &mut worker, &mut pair, 12);
     exchange_full_twice(rt, alloc, &pool, &mut other);
     exchange_full_twice(rt, alloc, &pool, &mut other);
@@ -98,39 +88,39 @@ fn put_without_a_push<R: Wait + Abort>(rt: &R, alloc: Global) -> Result<Lens, Fa
 }
 
 /// A put finds the empty stack at its last tag: its head was exchanged three times, and that of the full stack once.
-fn put_without_a_pop<R: Wait + Abort>(rt: &R, alloc: Global) -> Result<Lens, Fail> {
+fn put_without_a_pop<R: Wait + Abort>(rt: &R, alloc: Global) -> Result<Stopped, PoolFault> {
     let (pool, mut worker) = pool_of_roots(alloc, 4, 4, LAST_TAG - 3)?;
-    let Some(mut pair) = open(rt, alloc, &pool, &mut worker) else {
-        panic!(rt; "there are four buffers");
-    };
+    let mut pair = open(rt, alloc, &pool, &mut worker);
     fill(rt, &pool, &mut worker, &mut pair, 12);
     Ok(stopped_by_put(rt, &pool, &mut worker, pair, 12))
 }
 
 /// A get takes a buffer from the full stack and cannot push the empty one: the empty stack's head was exchanged three
 /// times.
-fn get_without_a_push<R: Wait + Abort>(rt: &R, alloc: Global) -> Result<Lens, Fail> {
+fn get_without_a_push<R: Wait + Abort>(rt: &R, alloc: Global) -> Result<Stopped, PoolFault> {
     let (pool, mut worker) = pool_of_roots(alloc, 4, 4, LAST_TAG - 3)?;
-    let Some(mut pair) = open(rt, alloc, &pool, &mut worker) else {
-        panic!(rt; "there are four buffers");
-    };
+    let mut pair = open(rt, alloc, &pool, &mut worker);
     fill(rt, &pool, &mut worker, &mut pair, 9);
     get_all(rt, &pool, &mut worker, &mut pair, &[8, 7, 6, 5, 4]);
     Ok(stopped_by_get(rt, &pool, &mut worker, pair))
 }
 
+/// In the second of them the full stack has tags left.
 #[test]
 fn stopped_pairs_keep_their_buffers(rt: HostRuntime) -> Result<(), Fail> {
     let alloc = rt.alloc();
-    let three = [Some(4), Some(4), Some(0)];
-    assert_eq!(rt; put_without_a_push(&rt, alloc)?, (three, three));
-    let full = [Some(4), Some(4), None];
-    assert_eq!(rt;
+    let stopped = [
+        put_without_a_push(&rt, alloc)?,
         put_without_a_pop(&rt, alloc)?,
-        (full, [None; 3]),
-        "the full stack has tags left"
-    );
-    let three = [Some(0), Some(0), Some(4)];
-    assert_eq!(rt; get_without_a_push(&rt, alloc)?, (three, three));
+        get_without_a_push(&rt, alloc)?,
+    ];
+    let put = [Some(4), Some(4), Some(0)];
+    let got = [Some(0), Some(0), Some(4)];
+    let wanted = [
+        (put, Some(put)),
+        ([Some(4), Some(4), None], None),
+        (got, Some(got)),
+    ];
+    assert_eq!(rt; stopped, wanted);
     Ok(())
 }

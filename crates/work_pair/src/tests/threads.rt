@@ -1,11 +1,12 @@
 //! Four threads, each with a pair on one pool of few buffers, until all their objects were got.
-ghost use Rattle.std.specs.Prelude.{◌≡◌, ◌+◌, ◌*◌, ◌≤◌, [], IfOk, false};
+ghost use Rattle.std.specs.Prelude.{◌≡◌, ◌+◌, ◌*◌, ◌≤◌, [], false};
+ghost use Rattle.mark_core.specs.Shares.{whole};
 ghost use Rattle.work_pair.specs.tests.Ready.{IsReady, IsWorker};
 
 use super::hand::{OBJECTS, balance, get, open, pool_of_roots, publish, put};
 use crate::Pair;
 use buffer_pool::{Pool, Worker};
-use std::alloc::{AllocError, Allocator, Global};
+use std::alloc::{Allocator, Global};
 use std::process::Abort;
 use std::sync::Wait;
 use std::test::Fail;
@@ -21,6 +22,13 @@ struct Hand {
     pair: Pair<Global>,
 }
 
+/// A worker, and what it got.
+#[derive(Drop)]
+struct Taker {
+    worker: Worker<Global>,
+    got: Vec<u32>,
+}
+
 /// Gets an object, if there is one.
 fn get_one<R: Wait + Abort, A: Allocator>(
     rt: &R,
@@ -28,18 +36,18 @@ fn get_one<R: Wait + Abort, A: Allocator>(
     worker: &mut Worker<A>,
     pair: &mut Pair<A>,
     got: &mut Vec<u32>,
-) -> Result<bool, AllocError>
+) -> bool
     requires { IsReady OBJECTS pool.now worker.old pair.old }
     ensures ready { IsReady OBJECTS pool.now worker.new pair.new }
-    ensures none { IfOk result (λ more. more ≡ false → pair.new.spill ≡ []) }
+    ensures none { result ≡ false → pair.new.spill ≡ [] }
 {
-    match get(rt, pool, worker, pair) {
-        Some(object) => {
-            got.push(object)?;
-            Ok(true)
-        }
-        None => Ok(false),
-    }
+    let Some(object) = get(rt, pool, worker, pair) else {
+        return false;
+    };
+    let Ok(()) = got.push(object) else {
+        panic!(rt; "there is memory for {object}");
+    };
+    true
 }
 
 /// Puts an object and, by its number, gives work away or gets an object.
@@ -50,21 +58,20 @@ fn put_one<R: Wait + Abort, A: Allocator>(
     pair: &mut Pair<A>,
     got: &mut Vec<u32>,
     object: u32,
-) -> Result<(), AllocError>
+)
     requires ready { IsReady OBJECTS pool.now worker.old pair.old }
     requires object { object + 1 ≤ OBJECTS }
-    ensures { IfOk result (λ _. IsReady OBJECTS pool.now worker.new pair.new) }
+    ensures { IsReady OBJECTS pool.now worker.new pair.new }
 {
     put(rt, pool, worker, pair, object);
     match object % 5 {
         0 => balance(rt, pool, worker, pair),
         1 => publish(rt, pool, worker, pair),
         2 => {
-            get_one(rt, pool, worker, pair, got)?;
+            get_one(rt, pool, worker, pair, got);
         }
         _ => {}
     }
-    Ok(())
 }
 
 /// Puts the objects of one thread.
@@ -75,15 +82,14 @@ fn put_part<R: Wait + Abort, A: Allocator>(
     pair: &mut Pair<A>,
     got: &mut Vec<u32>,
     begin: u32,
-) -> Result<(), AllocError>
+)
     requires ready { IsReady OBJECTS pool.now worker.old pair.old }
     requires begin { begin + PART ≤ OBJECTS }
-    ensures { IfOk result (λ _. IsReady OBJECTS pool.now worker.new pair.new) }
+    ensures { IsReady OBJECTS pool.now worker.new pair.new }
 {
     for object in begin..begin + PART {
-        put_one(rt, pool, worker, pair, got, object)?;
+        put_one(rt, pool, worker, pair, got, object);
     }
-    Ok(())
 }
 
 /// Gets objects until there is none.
@@ -93,14 +99,14 @@ fn get_rest<R: Wait + Abort, A: Allocator>(
     worker: &mut Worker<A>,
     pair: &mut Pair<A>,
     got: &mut Vec<u32>,
-) -> Result<(), AllocError>
+)
     requires { IsReady OBJECTS pool.now worker.old pair.old }
-    ensures ready { IfOk result (λ _. IsReady OBJECTS pool.now worker.new pair.new) }
-    ensures none_spilled { IfOk result (λ _. pair.new.spill ≡ []) }
+    ensures ready { IsReady OBJECTS pool.now worker.new pair.new }
+    ensures none_spilled { pair.new.spill ≡ [] }
 {
     for _ in rt.forever() {
-        if !get_one(rt, pool, worker, pair, got)? {
-            return Ok(());
+        if !get_one(rt, pool, worker, pair, got) {
+            return;
         }
     }
     unreachable!()
@@ -113,22 +119,22 @@ fn go_through<R: Wait + Abort>(
     pool: &Pool<Global>,
     hand: Hand,
     begin: u32,
-) -> Result<(Worker<Global>, Vec<u32>), AllocError>
+) -> Taker
     requires ready { IsReady OBJECTS pool.now hand.worker hand.pair }
     requires begin { begin + PART ≤ OBJECTS }
-    ensures { IfOk result (λ r. IsWorker OBJECTS pool.now r.0) }
+    ensures { IsWorker OBJECTS pool.now result.worker }
 {
     let Hand {
         mut worker,
         mut pair,
     } = hand;
     let mut got = Vec::new(alloc);
-    put_part(rt, pool, &mut worker, &mut pair, &mut got, begin)?;
-    get_rest(rt, pool, &mut worker, &mut pair, &mut got)?;
+    put_part(rt, pool, &mut worker, &mut pair, &mut got, begin);
+    get_rest(rt, pool, &mut worker, &mut pair, &mut got);
     let Ok(()) = pair.dispose(rt, pool, &mut worker) else {
         panic!(rt; "no tag is near the last one");
     };
-    Ok((worker, got))
+    Taker { worker, got }
 }
 
 /// Two threads, each with a part of its own.
@@ -139,34 +145,32 @@ fn go_side_by_side<R: Threads + Wait + Abort + Sync>(
     first: Hand,
     second: Hand,
     begin: u32,
-) -> Result<(Worker<Global>, Vec<u32>), AllocError>
+) -> Taker
     requires first { IsReady OBJECTS pool.now first.worker first.pair }
     requires second { IsReady OBJECTS pool.now second.worker second.pair }
     requires begin { begin + 2 * PART ≤ OBJECTS }
-    ensures { IfOk result (λ r. IsWorker OBJECTS pool.now r.0) }
+    ensures { IsWorker OBJECTS pool.now result.worker }
 {
     let (front, back) = join(
         rt,
         move || go_through(rt, alloc, pool, first, begin),
         move || go_through(rt, alloc, pool, second, begin + PART),
     );
-    both(pool, front?, back?)
+    both(rt, pool, front, back)
 }
 
 /// What two threads did.
-fn both(
-    pool: &Pool<Global>,
-    front: (Worker<Global>, Vec<u32>),
-    back: (Worker<Global>, Vec<u32>),
-) -> Result<(Worker<Global>, Vec<u32>), AllocError>
-    requires front { IsWorker OBJECTS pool.now front.0 }
-    requires back { IsWorker OBJECTS pool.now back.0 }
-    ensures { IfOk result (λ r. IsWorker OBJECTS pool.now r.0) }
+fn both<R: Abort>(rt: &R, pool: &Pool<Global>, front: Taker, back: Taker) -> Taker
+    requires front { IsWorker OBJECTS pool.now front.worker }
+    requires back { IsWorker OBJECTS pool.now back.worker }
+    ensures { IsWorker OBJECTS pool.now result.worker }
 {
-    let (first, mut got) = front;
-    let (second, more) = back;
-    got.extend_from_slice(more.as_slice())?;
-    Ok((pool.join(first, second), got))
+    let mut got = front.got;
+    let Ok(()) = got.extend_from_slice(back.got.as_slice()) else {
+        panic!(rt; "there is memory for all objects");
+    };
+    let worker = pool.join(front.worker, back.worker);
+    Taker { worker, got }
 }
 
 /// A worker with a new pair.
@@ -180,10 +184,73 @@ fn hand_of<R: Wait + Abort>(
     ensures { IsReady OBJECTS pool.now result.worker result.pair }
 {
     let mut worker = worker;
-    let Some(pair) = open(rt, alloc, pool, &mut worker) else {
-        panic!(rt; "there are two buffers for each thread");
-    };
+    let pair = open(rt, alloc, pool, &mut worker);
     Hand { worker, pair }
+}
+
+/// Four threads, each with a part of its own.
+fn go_in_four<R: Threads + Wait + Abort + Sync>(
+    rt: &R,
+    alloc: Global,
+    pool: &Pool<Global>,
+    front: (Hand, Hand),
+    back: (Hand, Hand),
+) -> Taker
+    requires first { IsReady OBJECTS pool.now front.0.worker front.0.pair }
+    requires second { IsReady OBJECTS pool.now front.1.worker front.1.pair }
+    requires third { IsReady OBJECTS pool.now back.0.worker back.0.pair }
+    requires fourth { IsReady OBJECTS pool.now back.1.worker back.1.pair }
+    ensures { IsWorker OBJECTS pool.now result.worker }
+{
+    let (first, second) = front;
+    let (third, fourth) = back;
+    let (front, back) = join(
+        rt,
+        move || -> Taker
+            requires first { IsReady OBJECTS pool.now first.worker first.pair }
+            requires second { IsReady OBJECTS pool.now second.worker second.pair }
+        { go_side_by_side(rt, alloc, pool, first, second, 0) },
+        move || -> Taker
+            requires third { IsReady OBJECTS pool.now third.worker third.pair }
+            requires fourth { IsReady OBJECTS pool.now fourth.worker fourth.pair }
+        { go_side_by_side(rt, alloc, pool, third, fourth, 2 * PART) },
+    );
+    both(rt, pool, front, back)
+}
+
+/// Four workers with a pair each, and what they got.
+fn got_by_four<R: Threads + Wait + Abort + Sync>(
+    rt: &R,
+    alloc: Global,
+    pool: &Pool<Global>,
+    worker: Worker<Global>,
+) -> Taker
+    requires worker { IsWorker OBJECTS pool.now worker }
+    requires share { worker.book.account.share ≡ whole }
+    ensures { IsWorker OBJECTS pool.now result.worker }
+{
+    let (first, worker) = pool.split(worker, 30_000);
+    let (second, worker) = pool.split(worker, 20_000);
+    let (third, fourth) = pool.split(worker, 10_000);
+    let first = hand_of(rt, alloc, pool, first);
+    let second = hand_of(rt, alloc, pool, second);
+    let third = hand_of(rt, alloc, pool, third);
+    let fourth = hand_of(rt, alloc, pool, fourth);
+    go_in_four(rt, alloc, pool, (first, second), (third, fourth))
+}
+
+/// What one worker more gets then is added, and all is in order.
+fn all_got<R: Wait + Abort>(rt: &R, alloc: Global, pool: &Pool<Global>, taker: Taker) -> Vec<u32>
+    requires { IsWorker OBJECTS pool.now taker.worker }
+{
+    let Taker { worker, mut got } = taker;
+    let Hand {
+        mut worker,
+        mut pair,
+    } = hand_of(rt, alloc, pool, worker);
+    get_rest(rt, pool, &mut worker, &mut pair, &mut got);
+    got.sort_unstable();
+    got
 }
 
 /// None is lost, and none is got twice.
@@ -191,27 +258,8 @@ fn hand_of<R: Wait + Abort>(
 fn four_threads(rt: HostRuntime) -> Result<(), Fail> {
     let alloc = rt.alloc();
     let (pool, worker) = pool_of_roots(alloc, 12, 4, 0)?;
-    let (first, worker) = pool.split(worker, 30_000);
-    let (second, worker) = pool.split(worker, 20_000);
-    let (third, fourth) = pool.split(worker, 10_000);
-    let shared = &pool;
-    let handle = &rt;
-    let first = hand_of(handle, alloc, shared, first);
-    let second = hand_of(handle, alloc, shared, second);
-    let third = hand_of(handle, alloc, shared, third);
-    let fourth = hand_of(handle, alloc, shared, fourth);
-    let (front, back) = join(
-        handle,
-        move || go_side_by_side(handle, alloc, shared, first, second, 0),
-        move || go_side_by_side(handle, alloc, shared, third, fourth, 2 * PART),
-    );
-    let (worker, mut got) = both(shared, front?, back?)?;
-    let Hand {
-        mut worker,
-        mut pair,
-    } = hand_of(handle, alloc, shared, worker);
-    get_rest(handle, shared, &mut worker, &mut pair, &mut got)?;
-    got.sort_unstable();
+    let taker = got_by_four(&rt, alloc, &pool, worker);
+    let got = all_got(&rt, alloc, &pool, taker);
     assert_eq!(rt; got.len(), OBJECTS as usize);
     for (place, object) in got.iter().enumerate() {
         assert_eq!(rt; *object as usize, place);

@@ -2,8 +2,11 @@
 ghost use Rattle.std.specs.Prelude.{◌≡◌, ◌≤◌, []};
 ghost use Rattle.work_pair.specs.tests.Ready.{IsReady};
 
-use super::hand::{OBJECTS, balance, bare, full_is_empty, get, open, pool_of_roots, put};
-use crate::{Pair, Stop};
+use super::hand::{
+    Lens, OBJECTS, balance, bare, dispose, full_is_empty, get, open, pool_of_roots, put,
+};
+use super::runs::{Run, left_after};
+use crate::Pair;
 use buffer_pool::{Pool, Worker};
 use std::alloc::Allocator;
 use std::process::Abort;
@@ -44,7 +47,26 @@ pub(super) fn get_all<R: Wait + Abort, A: Allocator>(
     }
 }
 
-/// A pair over four buffers for eight objects: five objects, a balance, and all of them back.
+/// Gets these objects, in this order, and then none.
+pub(super) fn get_just<R: Wait + Abort, A: Allocator>(
+    rt: &R,
+    pool: &Pool<A>,
+    worker: &mut Worker<A>,
+    pair: &mut Pair<A>,
+    wanted: &[u32],
+)
+    requires { IsReady OBJECTS pool.now worker.old pair.old }
+    ensures ready { IsReady OBJECTS pool.now worker.new pair.new }
+    ensures none_spilled { pair.new.spill ≡ [] }
+{
+    get_all(rt, pool, worker, pair, wanted);
+    let None = get(rt, pool, worker, pair) else {
+        panic!(rt; "these are all that were put");
+    };
+}
+
+/// A pair over four buffers for eight objects: five objects, a balance, and all of them back. The upper half of them
+/// stays, and the lower part comes back from the full stack.
 pub(super) fn five_objects<R: Wait + Abort, A: Allocator>(
     rt: &R,
     pool: &Pool<A>,
@@ -65,82 +87,95 @@ pub(super) fn five_objects<R: Wait + Abort, A: Allocator>(
     assert!(rt; full_is_empty(pool, worker, pair));
 }
 
-/// The upper half of five objects stays, and the lower part comes back from the full stack.
-#[test]
-fn balance_halves_five(rt: HostRuntime) -> Result<(), Fail> {
-    let (pool, mut worker) = pool_of_roots(rt.alloc(), 4, 8, 0)?;
-    let Some(mut pair) = open(&rt, rt.alloc(), &pool, &mut worker) else {
-        panic!(rt; "there are four buffers");
-    };
-    five_objects(&rt, &pool, &mut worker, &mut pair);
-    Ok(())
-}
-
 /// Four objects are few: a balance leaves them.
-#[test]
-fn balance_leaves_four(rt: HostRuntime) -> Result<(), Fail> {
-    let (pool, mut worker) = pool_of_roots(rt.alloc(), 4, 8, 0)?;
-    let Some(mut pair) = open(&rt, rt.alloc(), &pool, &mut worker) else {
-        panic!(rt; "there are four buffers");
-    };
-    fill(&rt, &pool, &mut worker, &mut pair, 4);
-    balance(&rt, &pool, &mut worker, &mut pair);
-    assert!(rt; full_is_empty(&pool, &mut worker, &pair));
-    get_all(&rt, &pool, &mut worker, &mut pair, &[3, 2, 1, 0]);
-    let last = get(&rt, &pool, &mut worker, &mut pair);
-    assert!(rt; last.is_none());
-    Ok(())
-}
-
-/// From the opening to the end the head of the empty stack changes six times, so it does from six tags before the last.
-#[test]
-fn six_changes(rt: HostRuntime) -> Result<(), Fail> {
-    let (pool, mut worker) = pool_of_roots(rt.alloc(), 4, 8, 281_474_976_710_649)?;
-    let Some(mut pair) = open(&rt, rt.alloc(), &pool, &mut worker) else {
-        panic!(rt; "there are four buffers");
-    };
-    five_objects(&rt, &pool, &mut worker, &mut pair);
-    assert!(rt; pair.dispose(&rt, &pool, &mut worker).is_ok());
-    Ok(())
-}
-
-/// One tag later the last buffer cannot be given back, and stays with the pair.
-#[test]
-fn one_change_too_many(rt: HostRuntime) -> Result<(), Fail> {
-    let (pool, mut worker) = pool_of_roots(rt.alloc(), 4, 8, 281_474_976_710_650)?;
-    let Some(mut pair) = open(&rt, rt.alloc(), &pool, &mut worker) else {
-        panic!(rt; "there are four buffers");
-    };
-    five_objects(&rt, &pool, &mut worker, &mut pair);
-    match pair.dispose(&rt, &pool, &mut worker) {
-        Ok(()) => panic!(rt; "five changes are all that are left"),
-        Err((left, stop)) => {
-            assert!(rt; stop == Stop::TagSpent);
-            assert_eq!(rt; left.lens(), [None, Some(0), None]);
-        }
-    }
-    Ok(())
+pub(super) fn four_objects<R: Wait + Abort, A: Allocator>(
+    rt: &R,
+    pool: &Pool<A>,
+    worker: &mut Worker<A>,
+    pair: &mut Pair<A>,
+)
+    requires { IsReady OBJECTS pool.now worker.old pair.old }
+    ensures ready { IsReady OBJECTS pool.now worker.new pair.new }
+    ensures none_spilled { pair.new.spill ≡ [] }
+{
+    fill(rt, pool, worker, pair, 4);
+    balance(rt, pool, worker, pair);
+    assert!(rt; full_is_empty(pool, worker, pair));
+    get_just(rt, pool, worker, pair, &[3, 2, 1, 0]);
 }
 
 /// Four buffers for two objects take eight. A ninth goes to the spill list, and changes nothing else but the places of
 /// the buffers; it comes back first.
+pub(super) fn nine_objects<R: Wait + Abort, A: Allocator>(
+    rt: &R,
+    pool: &Pool<A>,
+    worker: &mut Worker<A>,
+    pair: &mut Pair<A>,
+)
+    requires { IsReady OBJECTS pool.now worker.old pair.old }
+    ensures ready { IsReady OBJECTS pool.now worker.new pair.new }
+    ensures none_spilled { pair.new.spill ≡ [] }
+{
+    fill(rt, pool, worker, pair, 9);
+    let lens_and_spilled = (pair.lens(), pair.spilled());
+    assert_eq!(rt; lens_and_spilled, ([Some(2), Some(2), None], 1));
+    get_just(rt, pool, worker, pair, &[8, 5, 4, 7, 6, 3, 2, 1, 0]);
+}
+
+/// A run, the objects of a buffer, the first tag, and what the pair has left where it could not be disposed of.
+type Row = (Run, u32, u64, Option<Lens>);
+
+/// From the opening to the end of five objects the head of the empty stack changes six times, so it does from six tags
+/// before the last. One tag later the last buffer cannot be given back, and stays with the pair.
+const ROWS: [Row; 5] = [
+    (Run::Five, 8, 0, None),
+    (Run::Four, 8, 0, None),
+    (Run::Five, 8, 281_474_976_710_649, None),
+    (
+        Run::Five,
+        8,
+        281_474_976_710_650,
+        Some([None, Some(0), None]),
+    ),
+    (Run::Nine, 2, 0, None),
+];
+
 #[test]
-fn nine_objects_in_four_buffers(rt: HostRuntime) -> Result<(), Fail> {
-    let (pool, mut worker) = pool_of_roots(rt.alloc(), 4, 2, 0)?;
-    let Some(mut pair) = open(&rt, rt.alloc(), &pool, &mut worker) else {
-        panic!(rt; "there are four buffers");
-    };
-    fill(&rt, &pool, &mut worker, &mut pair, 9);
-    assert_eq!(rt; pair.lens(), [Some(2), Some(2), None]);
-    assert_eq!(rt; pair.spilled(), 1);
-    get_all(
-        &rt,
-        &pool,
-        &mut worker,
-        &mut pair,
-        &[8, 5, 4, 7, 6, 3, 2, 1, 0],
-    );
+fn runs_of_one_pair(rt: HostRuntime) -> Result<(), Fail> {
+    for (run, size, first_tag, wanted) in ROWS {
+        let left = left_after(&rt, rt.alloc(), run, size, first_tag)?;
+        assert_eq!(rt; left, wanted, "{run:?} from tag {first_tag} on");
+    }
     Ok(())
+}
+
+/// A pair without buffers takes two objects and gives them back, and has none still.
+fn bare_take_and_give<R: Wait + Abort, A: Allocator>(
+    rt: &R,
+    pool: &Pool<A>,
+    worker: &mut Worker<A>,
+    pair: &mut Pair<A>,
+)
+    requires { IsReady OBJECTS pool.now worker.old pair.old }
+    ensures { IsReady OBJECTS pool.now worker.new pair.new }
+{
+    fill(rt, pool, worker, pair, 2);
+    get_just(rt, pool, worker, pair, &[1, 0]);
+    assert_eq!(rt; pair.lens(), [None, None, None]);
+}
+
+/// It has a buffer once one is to be found.
+fn finds_a_buffer<R: Wait + Abort, A: Allocator>(
+    rt: &R,
+    pool: &Pool<A>,
+    worker: &mut Worker<A>,
+    pair: &mut Pair<A>,
+)
+    requires { IsReady OBJECTS pool.now worker.old pair.old }
+{
+    put(rt, pool, worker, pair, 2);
+    assert_eq!(rt; pair.lens(), [Some(1), None, None]);
+    assert!(rt; full_is_empty(pool, worker, pair));
 }
 
 /// A pair without buffers keeps what is put into it, and has a buffer once one is to be found.
@@ -150,23 +185,11 @@ fn a_bare_pair_takes_and_gives(rt: HostRuntime) -> Result<(), Fail> {
     let (pool, worker) = pool_of_roots(alloc, 4, 2, 0)?;
     let (mut other, worker) = pool.split(worker, 2);
     let (mut third, mut worker) = pool.split(worker, 1);
-    let (Some(one), Some(_two)) = (
-        open(&rt, alloc, &pool, &mut other),
-        open(&rt, alloc, &pool, &mut third),
-    ) else {
-        panic!(rt; "there are four buffers");
-    };
+    let one = open(&rt, alloc, &pool, &mut other);
+    let _two = open(&rt, alloc, &pool, &mut third);
     let mut pair = bare(alloc, &pool, &worker);
-    fill(&rt, &pool, &mut worker, &mut pair, 2);
-    get_all(&rt, &pool, &mut worker, &mut pair, &[1, 0]);
-    let last = get(&rt, &pool, &mut worker, &mut pair);
-    assert!(rt; last.is_none());
-    assert_eq!(rt; pair.lens(), [None, None, None]);
-    let Ok(()) = one.dispose(&rt, &pool, &mut other) else {
-        panic!(rt; "no tag is near the last one");
-    };
-    put(&rt, &pool, &mut worker, &mut pair, 2);
-    assert_eq!(rt; pair.lens(), [Some(1), None, None]);
-    assert!(rt; full_is_empty(&pool, &mut worker, &pair));
+    bare_take_and_give(&rt, &pool, &mut worker, &mut pair);
+    assert!(rt; dispose(&rt, &pool, &mut other, one).is_none());
+    finds_a_buffer(&rt, &pool, &mut worker, &mut pair);
     Ok(())
 }
