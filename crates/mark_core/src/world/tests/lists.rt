@@ -1,0 +1,213 @@
+//! Lists of events.
+
+use crate::event::Kind;
+use crate::out_of_memory::OutOfMemory;
+use crate::which::Which;
+use crate::world::World;
+use Does::{
+    Claim, Fail, Finish, IdleDown, IdleUp, Join, Load, LoadIdle, LoadLink, Pop, Push, Split,
+    StoreLink,
+};
+use Opening::{NoObjects, ThreeObjects};
+use Which::{Empty, Full};
+use std::alloc::Allocator;
+
+/// What an account does, as a table has it: a buffer that is pushed has no items.
+#[derive(Clone, Copy, Drop)]
+pub enum Does {
+    Claim(u32),
+    Finish(u32),
+    Split(u32),
+    Join(u32),
+    Load(Which),
+    LoadLink(Which),
+    StoreLink(u32, Option<u32>),
+    Pop(Which),
+    Push(Which, u32),
+    Fail(Which),
+    IdleUp,
+    IdleDown,
+    LoadIdle,
+}
+
+impl Does {
+    pub fn kind<A: Allocator>(self, alloc: A) -> Kind<A> {
+        match self {
+            Claim(object) => Kind::Claim(object),
+            Finish(object) => Kind::Finish(object),
+            Split(units) => Kind::Split(units),
+            Join(account) => Kind::Join(account),
+            Load(which) => Kind::Load(which),
+            LoadLink(which) => Kind::LoadLink(which),
+            StoreLink(buffer, next) => Kind::StoreLink(buffer, next),
+            Pop(which) => Kind::Pop(which),
+            Push(which, buffer) => Kind::Push(which, buffer, Vec::new(alloc)),
+            Fail(which) => Kind::Fail(which),
+            IdleUp => Kind::IdleUp,
+            IdleDown => Kind::IdleDown,
+            LoadIdle => Kind::LoadIdle,
+        }
+    }
+}
+
+/// The worlds that lists begin with.
+#[derive(Clone, Copy, Drop)]
+pub enum Opening {
+    /// Object 1 is a root. It leads to 0 and 2, and 2 leads to 0 and 1.
+    ThreeObjects,
+    /// Four empty buffers, and 5 as the first tag.
+    NoObjects,
+}
+
+impl Opening {
+    pub fn world<A: Allocator + Copy>(self, alloc: A) -> Result<World<A>, OutOfMemory> {
+        match self {
+            ThreeObjects => three_objects(alloc),
+            NoObjects => World::new(alloc, 0, Vec::new(alloc), Vec::new(alloc), 4, 2, 5),
+        }
+    }
+}
+
+fn three_objects<A: Allocator + Copy>(alloc: A) -> Result<World<A>, OutOfMemory> {
+    let roots = vec![in alloc; 1]?;
+    let pairs = vec![in alloc; (1, 0), (1, 2), (2, 0), (2, 1)]?;
+    World::new(alloc, 3, roots, pairs, 4, 2, 0)
+}
+
+/// An account, and what it does.
+pub type Turn = (u32, &'static [Does]);
+
+/// A list of events: where it begins, and what accounts do in turn.
+pub type List = (Opening, &'static [Turn]);
+
+/// Pops the first buffer of the empty stack, undisturbed.
+const POP_EMPTY: &[Does] = &[Load(Empty), LoadLink(Empty), Pop(Empty)];
+
+/// Pops the first buffer of the full stack, undisturbed.
+const POP_FULL: &[Does] = &[Load(Full), LoadLink(Full), Pop(Full)];
+
+pub const START: List = (ThreeObjects, &[]);
+
+/// Account 0 has claimed the root, and account 1 has one unit and has seen it.
+pub const ROOT_CLAIMED: List = (
+    ThreeObjects,
+    &[(0, &[Claim(1), Split(1)]), (1, &[Claim(1)])],
+);
+
+pub const ROOT_FINISHED: List = (
+    ThreeObjects,
+    &[
+        (0, &[Claim(1), Split(1)]),
+        (1, &[Claim(1)]),
+        (0, &[Claim(0), Claim(2), Finish(1)]),
+    ],
+);
+
+pub const ALL_FINISHED: List = (
+    ThreeObjects,
+    &[
+        (0, &[Claim(1), Split(1)]),
+        (1, &[Claim(1)]),
+        (0, &[Claim(0), Claim(2), Finish(1)]),
+        (0, &[Finish(0), Finish(2), Join(1)]),
+    ],
+);
+
+/// Pops the buffers 0, 1 and 2, pushes 2 and then 1, and splits off account 1.
+const STACK_TWO: &[Does] = &[
+    Load(Empty),
+    LoadLink(Empty),
+    Pop(Empty),
+    Load(Empty),
+    LoadLink(Empty),
+    Pop(Empty),
+    Load(Empty),
+    LoadLink(Empty),
+    Pop(Empty),
+    Load(Full),
+    StoreLink(2, None),
+    Push(Full, 2),
+    Load(Full),
+    StoreLink(1, Some(2)),
+    Push(Full, 1),
+    Split(1),
+];
+
+pub const TWO_STACKED: List = (NoObjects, &[(0, STACK_TWO)]);
+
+/// Account 0 loads the full head and its link, and before its exchange account 1 pops both buffers and pushes the first
+/// one again.
+pub const OVERTAKEN: List = (
+    NoObjects,
+    &[
+        (0, STACK_TWO),
+        (0, &[Load(Full), LoadLink(Full)]),
+        (1, POP_FULL),
+        (1, POP_FULL),
+        (1, &[Load(Full), StoreLink(1, None), Push(Full, 1)]),
+    ],
+);
+
+/// And account 0 finds another head.
+pub const FAILED: List = (
+    NoObjects,
+    &[
+        (0, STACK_TWO),
+        (0, &[Load(Full), LoadLink(Full)]),
+        (1, POP_FULL),
+        (1, POP_FULL),
+        (1, &[Load(Full), StoreLink(1, None), Push(Full, 1)]),
+        (0, &[Fail(Full)]),
+    ],
+);
+
+/// Account 1 has one unit, and has not loaded the full head.
+pub const ONE_APART: List = (ThreeObjects, &[(0, &[Split(1)])]);
+
+/// Account 0 has the whole share, and has found the full stack empty.
+pub const LEADER_WAITS: List = (ThreeObjects, &[(0, &[Load(Full)])]);
+
+/// Account 1 has one unit, and has found the full stack empty.
+pub const ONE_WAITS: List = (ThreeObjects, &[(0, &[Split(1)]), (1, &[Load(Full)])]);
+
+/// It went idle.
+pub const ONE_IDLE: List = (
+    ThreeObjects,
+    &[(0, &[Split(1)]), (1, &[Load(Full), IdleUp])],
+);
+
+/// It came back.
+pub const ONE_WOKEN: List = (
+    ThreeObjects,
+    &[(0, &[Split(1)]), (1, &[Load(Full), IdleUp, IdleDown])],
+);
+
+/// It has found the full stack empty, and then claimed the root.
+pub const ONE_CHARGED: List = (
+    ThreeObjects,
+    &[(0, &[Split(1)]), (1, &[Load(Full), Claim(1)])],
+);
+
+/// It has found the full stack empty, and then pushed there.
+pub const ONE_PUSHED: List = (
+    ThreeObjects,
+    &[
+        (0, &[Split(1)]),
+        (1, &[Load(Full)]),
+        (1, POP_EMPTY),
+        (1, &[Load(Full), StoreLink(0, None), Push(Full, 0)]),
+    ],
+);
+
+/// It has taken that buffer back, and found the stack empty again.
+pub const ONE_LOOKED_AGAIN: List = (
+    ThreeObjects,
+    &[
+        (0, &[Split(1)]),
+        (1, &[Load(Full)]),
+        (1, POP_EMPTY),
+        (1, &[Load(Full), StoreLink(0, None), Push(Full, 0)]),
+        (1, POP_FULL),
+        (1, &[Load(Full)]),
+    ],
+);

@@ -1,0 +1,81 @@
+//! Want of memory: each request of a replay is refused in turn, and what a world tells makes none.
+
+use super::lists::{ALL_FINISHED, List, OVERTAKEN};
+use super::{End, ends, replayed};
+use crate::out_of_memory::OutOfMemory;
+use limited_heap::LimitedHeap;
+use std::alloc::Global;
+
+/// Lists that take memory, and how they end.
+static TAKING: [(List, End); 2] = [(OVERTAKEN, End::Overtaken), (ALL_FINISHED, End::Finished)];
+
+/// Whether a list ends so over this heap, or want of memory is told where the heap refused a request; and whether it
+/// refused none.
+fn is_right_or_told(heap: &LimitedHeap<Global>, list: &List, end: End) -> (bool, bool) {
+    let right = match ends(heap, list, end) {
+        Ok(right) => right,
+        Err(OutOfMemory) => heap.refusals() > 0,
+    };
+    (right, heap.refusals() == 0)
+}
+
+/// How many requests the list takes where none is refused.
+fn requests_of(alloc: Global, list: &List, end: End) -> u64 {
+    let heap = LimitedHeap::new(alloc, u64::MAX);
+    let _right = is_right_or_told(&heap, list, end);
+    u64::MAX.saturating_sub(heap.requests_left())
+}
+
+/// One heap serves a whole replay, so what a step takes is refused as well as what the world does: with all requests
+/// behind it, and alone.
+#[test]
+fn each_request_may_be_refused(rt: HostRuntime) {
+    let alloc = rt.alloc();
+    for (list, end) in &TAKING {
+        let requests = requests_of(alloc, list, *end);
+        assert!(rt; requests > 4);
+        for request in 0..=requests {
+            let wanted = (true, request == requests);
+            let from_one_on = LimitedHeap::new(alloc, request);
+            assert_eq!(rt;
+                is_right_or_told(&from_one_on, list, *end),
+                wanted,
+                "{request} and all behind it"
+            );
+            let one_alone = LimitedHeap::refusing(alloc, request);
+            assert_eq!(rt;
+                is_right_or_told(&one_alone, list, *end),
+                wanted,
+                "{request} alone"
+            );
+        }
+    }
+}
+
+/// How many requests this heap has left behind a list, and whether the world is right.
+fn left_behind(
+    heap: &LimitedHeap<Global>,
+    list: &List,
+    end: End,
+) -> Result<(u64, bool), OutOfMemory> {
+    match replayed(heap, list)? {
+        Some(world) => Ok((heap.requests_left(), end.is_of(&world))),
+        None => Ok((0, false)),
+    }
+}
+
+/// The same of a heap that grants what the list takes, and how many requests it refused.
+fn looked_at(alloc: Global, list: &List, end: End) -> Result<(u64, bool, u64), OutOfMemory> {
+    let heap = LimitedHeap::new(alloc, requests_of(alloc, list, end));
+    let (left, right) = left_behind(&heap, list, end)?;
+    Ok((left, right, heap.refusals()))
+}
+
+/// What a world tells takes no memory: it is asked while each request would be refused.
+#[test]
+fn looking_takes_no_memory(rt: HostRuntime) -> Result<(), OutOfMemory> {
+    for (list, end) in &TAKING {
+        assert_eq!(rt; looked_at(rt.alloc(), list, *end)?, (0, true, 0));
+    }
+    Ok(())
+}
