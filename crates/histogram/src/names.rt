@@ -111,7 +111,22 @@ fn primitive_name(code: u8) -> &'static [u8]
 #[cfg(test)]
 mod tests {
     use super::*;
+    use std::alloc::Global;
     use std::test::Fail;
+
+    /// Whether a text is shown so.
+    fn is_shown(alloc: Global, text: &[u8], want: &str) -> Result<bool, AllocError> {
+        let mut shown = Vec::new(alloc);
+        append_shown(&mut shown, text)?;
+        Ok(shown.as_slice() == want.as_bytes())
+    }
+
+    /// Whether a class without a text is shown so.
+    fn is_unnamed(alloc: Global, class: u64, want: &str) -> Result<bool, AllocError> {
+        let mut shown = Vec::new(alloc);
+        append_unnamed(&mut shown, class)?;
+        Ok(shown.as_slice() == want.as_bytes())
+    }
 
     #[test]
     fn shows_the_worked_names(rt: HostRuntime) -> Result<(), Fail> {
@@ -123,18 +138,14 @@ mod tests {
             (b"", ""),
         ];
         for (text, want) in names {
-            let mut shown = Vec::new(rt.alloc());
-            append_shown(&mut shown, text)?;
-            assert_eq!(rt; shown.as_slice(), want.as_bytes());
+            assert!(rt; is_shown(rt.alloc(), text, want)?, "{want}");
         }
         for (class, want) in [
             (0xab0, "?0xab0"),
             (0, "?0x0"),
             (u64::MAX, "?0xffffffffffffffff"),
         ] {
-            let mut shown = Vec::new(rt.alloc());
-            append_unnamed(&mut shown, class)?;
-            assert_eq!(rt; shown.as_slice(), want.as_bytes());
+            assert!(rt; is_unnamed(rt.alloc(), class, want)?, "{want}");
         }
         Ok(())
     }

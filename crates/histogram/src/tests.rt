@@ -1,7 +1,7 @@
 //! What no clause says: that calls succeed, and the worked reports.
 
 use super::*;
-use std::alloc::{AllocError, Global};
+use std::alloc::{AllocError, Allocator, Global};
 use std::io;
 use std::io::{Read, Write};
 use std::test::Fail;
@@ -43,59 +43,65 @@ impl Read for Endless {
     }
 }
 
+/// How many bytes are read up to the limit, and how many were given.
+fn read_endless(alloc: Global, limit: usize) -> Result<(usize, usize), ReaderRefusal> {
+    let mut reader = Counted::new(Endless { given: 0 });
+    let bytes = reader.read_to_limit(alloc, limit)?;
+    let Endless { given } = reader.into_inner();
+    Ok((bytes.len(), given))
+}
+
 #[test]
 fn a_reader_without_an_end_is_read_up_to_the_limit(rt: HostRuntime) -> Result<(), Fail> {
     for limit in [0, 1, 9, 20_000] {
-        let mut reader = Counted::new(Endless { given: 0 });
-        let bytes = reader.read_to_limit(rt.alloc(), limit)?;
-        assert_eq!(rt; bytes.len(), limit);
-        let Endless { given } = reader.into_inner();
-        assert_eq!(rt; given, limit, "no read behind the limit");
+        let counts = read_endless(rt.alloc(), limit)?;
+        assert_eq!(rt; counts, (limit, limit), "no read behind the limit");
     }
     Ok(())
 }
 
-#[test]
-fn reads_to_the_end_or_the_limit(rt: HostRuntime) -> Result<(), Fail> {
-    for (limit, want) in [
-        (9, "heap".as_bytes()),
-        (4, "heap".as_bytes()),
-        (3, "hea".as_bytes()),
-        (0, "".as_bytes()),
-    ] {
-        let mut reader = Counted::new(Drip {
-            bytes: b"heap",
-            calls: 0,
-            fails_at: 0,
-        });
-        let bytes = reader.read_to_limit(rt.alloc(), limit)?;
-        assert_eq!(rt; bytes.as_slice(), want, "limit {limit}");
-        assert_eq!(rt; reader.failures(), 0);
+/// A reader of four bytes that fails at one call.
+fn dripping(fails_at: u32) -> Drip<'static> {
+    Drip {
+        bytes: b"heap",
+        calls: 0,
+        fails_at,
     }
-    Ok(())
+}
+
+/// Whether these bytes are read up to the limit, and no call failed.
+fn reads(alloc: Global, limit: usize, want: &str) -> bool {
+    let mut reader = Counted::new(dripping(0));
+    match reader.read_to_limit(alloc, limit) {
+        Ok(bytes) => bytes.as_slice() == want.as_bytes() && reader.failures() == 0,
+        Err(_) => false,
+    }
+}
+
+#[test]
+fn reads_to_the_end_or_the_limit(rt: HostRuntime) {
+    for (limit, want) in [(9, "heap"), (4, "heap"), (3, "hea"), (0, "")] {
+        assert!(rt; reads(rt.alloc(), limit, want), "limit {limit}");
+    }
+}
+
+/// What becomes of a read that fails at one call: how many bytes are read or why none are, how many calls failed, and
+/// how many there were.
+fn read_failing(alloc: Global, fails_at: u32) -> (Result<usize, ReaderRefusal>, u64, u32) {
+    let mut reader = Counted::new(dripping(fails_at));
+    let outcome = reader.read_to_limit(alloc, 9).map(|bytes| bytes.len());
+    let failures = reader.failures();
+    (outcome, failures, reader.into_inner().calls)
 }
 
 #[test]
 fn a_read_fault_is_no_end(rt: HostRuntime) {
     for fails_at in 1..=5 {
-        let mut reader = Counted::new(Drip {
-            bytes: b"heap",
-            calls: 0,
-            fails_at,
-        });
-        let outcome = reader.read_to_limit(rt.alloc(), 9).map(|bytes| bytes.len());
         assert_eq!(rt;
-            outcome,
-            Err(ReaderRefusal::ReadFault),
-            "at call {fails_at}"
+            read_failing(rt.alloc(), fails_at),
+            (Err(ReaderRefusal::ReadFault), 1, fails_at),
+            "no call after the fault at call {fails_at}"
         );
-        assert_eq!(rt; reader.failures(), 1);
-        let Drip {
-            bytes: _,
-            calls,
-            fails_at: _,
-        } = reader.into_inner();
-        assert_eq!(rt; calls, fails_at, "no call after the fault");
     }
 }
 
@@ -109,9 +115,9 @@ struct Trickle {
 }
 
 impl Trickle {
-    fn new(rt: &HostRuntime, trouble_at: u32, fails: bool) -> Trickle {
+    fn new(alloc: Global, trouble_at: u32, fails: bool) -> Trickle {
         Trickle {
-            taken: Vec::new(rt.alloc()),
+            taken: Vec::new(alloc),
             calls: 0,
             trouble_at,
             fails,
@@ -154,29 +160,29 @@ const TWO_OBJECTS: &str = "         2               8  A
          0               0  (unresolved)
 ";
 
-fn no_object(rt: &HostRuntime) -> Report<Global> {
+fn no_object(alloc: Global) -> Report<Global> {
     Report {
-        rows: Vec::new(rt.alloc()),
+        rows: Vec::new(alloc),
         reachable: (0, 0),
         unreachable: (0, 0),
         unresolved: 0,
     }
 }
 
-fn two_objects(rt: &HostRuntime) -> Result<Report<Global>, AllocError> {
+fn two_objects(alloc: Global) -> Result<Report<Global>, AllocError> {
     let instances = Line {
-        name: Vec::from_slice(rt.alloc(), b"A")?,
+        name: Vec::from_slice(alloc, b"A")?,
         class: 0x100,
         count: 2,
         bytes: 8,
     };
     let classes = Line {
-        name: Vec::from_slice(rt.alloc(), b"<class>")?,
+        name: Vec::from_slice(alloc, b"<class>")?,
         class: 0,
         count: 1,
         bytes: 0,
     };
-    let rows = vec![in rt.alloc(); instances, classes]?;
+    let rows = vec![in alloc; instances, classes]?;
     Ok(Report {
         rows,
         reachable: (3, 8),
@@ -185,47 +191,43 @@ fn two_objects(rt: &HostRuntime) -> Result<Report<Global>, AllocError> {
     })
 }
 
-#[test]
-fn writes_the_worked_reports(rt: HostRuntime) -> Result<(), Fail> {
-    for (report, want) in [
-        (no_object(&rt), NO_OBJECT),
-        (two_objects(&rt)?, TWO_OBJECTS),
-    ] {
-        let mut writer = Counted::new(Vec::new(rt.alloc()));
-        write_report(rt.alloc(), &report, &mut writer)?;
-        assert_eq!(rt; writer.failures(), 0);
-        assert_eq!(rt; writer.into_inner().as_slice(), want.as_bytes());
-    }
-    Ok(())
+/// Whether a report is written as this text, with all the memory that it takes, and no call failed.
+fn writes<A: Allocator>(alloc: Global, report: &Report<A>, text: &str) -> bool {
+    let mut writer = Counted::new(Vec::new(alloc));
+    let is_whole = write_report(alloc, report, &mut writer).is_ok() && writer.failures() == 0;
+    is_whole && writer.into_inner().as_slice() == text.as_bytes()
 }
 
 #[test]
-fn a_write_fault_leaves_a_beginning(rt: HostRuntime) -> Result<(), Fail> {
+fn writes_the_worked_reports(rt: HostRuntime) -> Result<(), Fail> {
+    assert!(rt; writes(rt.alloc(), &no_object(rt.alloc()), NO_OBJECT));
+    assert!(rt; writes(rt.alloc(), &two_objects(rt.alloc())?, TWO_OBJECTS));
+    Ok(())
+}
+
+/// Whether the report of no object is refused where the writer has trouble at one call: it counts one failure, is
+/// called no more, and has taken the beginning of so many bytes.
+fn leaves_beginning(alloc: Global, trouble_at: u32, fails: bool, length: usize) -> bool {
+    let mut writer = Counted::new(Trickle::new(alloc, trouble_at, fails));
+    let outcome = write_report(alloc, &no_object(alloc), &mut writer);
+    let is_told = outcome == Err(WriteRefusal::WriteFault) && writer.failures() == 1;
+    let trickle = writer.into_inner();
+    is_told
+        && trickle.calls == trouble_at
+        && trickle.taken.len() == length
+        && NO_OBJECT.as_bytes().starts_with(trickle.taken.as_slice())
+}
+
+#[test]
+fn a_write_fault_leaves_a_beginning(rt: HostRuntime) {
     // 123 bytes are thirteen writes, and behind them is the flush, which takes nothing.
     for (fails, calls) in [(false, 13u32), (true, 14)] {
         for before in 0..calls {
-            let mut writer = Counted::new(Trickle::new(&rt, before + 1, fails));
-            let outcome = write_report(rt.alloc(), &no_object(&rt), &mut writer);
-            assert_eq!(rt;
-                outcome,
-                Err(WriteRefusal::WriteFault),
-                "behind {before} calls"
-            );
-            assert_eq!(rt; writer.failures(), 1);
-            let Trickle {
-                taken,
-                calls: made,
-                trouble_at: _,
-                fails: _,
-            } = writer.into_inner();
-            assert_eq!(rt; made, before + 1, "no call after the fault");
-            assert!(rt; NO_OBJECT.as_bytes().starts_with(taken.as_slice()));
-            assert_eq!(rt;
-                taken.len(),
-                (10 * before as usize).min(123),
+            let length = (10 * before as usize).min(123);
+            assert!(rt;
+                leaves_beginning(rt.alloc(), before + 1, fails, length),
                 "behind {before} calls"
             );
         }
     }
-    Ok(())
 }

@@ -3,7 +3,7 @@
 use super::chains::{CHAINS, SIZES};
 use crate::{Graph, LinkFault, LinkRefusal, Skip};
 use hprof_grammar::read;
-use std::alloc::Global;
+use std::alloc::{AllocError, Global};
 use std::test::Fail;
 use test_dumps::Sub::{Class, Instance, Objects, Values};
 use test_dumps::{Bytes, Record, Sub, TWO_OBJECTS};
@@ -156,30 +156,37 @@ fn fault_in(alloc: Global, bytes: &[u8]) -> Option<(u8, u64)> {
     }
 }
 
+/// The same of a heap dump of these sub-records.
+fn first_fault(alloc: Global, subs: &'static [Sub]) -> Result<Option<(u8, u64)>, AllocError> {
+    let file = Bytes::dump(alloc, 4, &[Record::Heap(subs)])?;
+    Ok(fault_in(alloc, &file.bytes))
+}
+
 #[test]
 fn first_faults(rt: HostRuntime) -> Result<(), Fail> {
-    let alloc = rt.alloc();
     for table in [&IDENTIFIERS[..], &CHAINS[..], &SIZES[..]] {
         for (name, subs, code, place) in table {
-            let file = Bytes::dump(alloc, 4, &[Record::Heap(subs)])?;
-            assert_eq!(rt;
-                fault_in(alloc, &file.bytes),
-                Some((*code, *place)),
-                "{name}"
-            );
+            let fault = first_fault(rt.alloc(), subs)?;
+            assert_eq!(rt; fault, Some((*code, *place)), "{name}");
         }
     }
     Ok(())
 }
 
+/// The same of the two instances with the byte at this place changed. None also where there is no such place.
+fn fault_of_change(alloc: Global, at: usize, byte: u8) -> Result<Option<(u8, u64)>, AllocError> {
+    let mut file = Bytes::dump(alloc, 4, TWO_OBJECTS)?;
+    let Some(changed) = file.bytes.get_mut(at) else {
+        return Ok(None);
+    };
+    *changed = byte;
+    Ok(fault_in(alloc, &file.bytes))
+}
+
 #[test]
 fn first_faults_of_changed_bytes(rt: HostRuntime) -> Result<(), Fail> {
-    let alloc = rt.alloc();
     for (at, byte, code, place) in &CHANGES {
-        let mut file = Bytes::dump(alloc, 4, TWO_OBJECTS)?;
-        assert!(rt; *at < file.bytes.len());
-        file.bytes[*at] = *byte;
-        let fault = fault_in(alloc, &file.bytes);
+        let fault = fault_of_change(rt.alloc(), *at, *byte)?;
         assert_eq!(rt; fault, Some((*code, *place)), "{byte} at {at}");
     }
     Ok(())

@@ -30,8 +30,21 @@ fn build<'a, A: Allocator + Copy>(
 /// How many requests it makes.
 fn requests_to_build(alloc: Global, bytes: &[u8], skip: &Skip<'_, Global>) -> u64 {
     let heap = LimitedHeap::new(alloc, u64::MAX);
-    let _graph = build(alloc, &heap, bytes, skip);
+    let _built = is_built(alloc, &heap, bytes, skip);
     u64::MAX - heap.requests_left()
+}
+
+/// Whether it is built over this heap.
+fn is_built(
+    alloc: Global,
+    heap: &LimitedHeap<Global>,
+    bytes: &[u8],
+    skip: &Skip<'_, Global>,
+) -> bool {
+    match build(alloc, heap, bytes, skip) {
+        Some(Ok(_)) => true,
+        _ => false,
+    }
 }
 
 /// Builds the graph of a worked dump, and asks it.
@@ -101,56 +114,74 @@ static TOO_SHORT: [Record; 1] = [Record::Heap(&[
     Instance(0x201, 0x110, &[0; 4]),
 ])];
 
+/// Whether that is its fault, or want of memory where so many requests were refused.
+fn is_too_short_or_told(refusal: LinkRefusal, refusals: u64) -> bool {
+    match refusal {
+        LinkRefusal::Fault(LinkFault { code, offset }) => (code, offset) == (13, 136),
+        LinkRefusal::OutOfMemory => refusals > 0,
+    }
+}
+
 /// Builds the graph of that dump.
 #[derive(Drop)]
 struct TooShort<'a> {
     alloc: Global,
     bytes: &'a [u8],
+    skip: &'a Skip<'a, Global>,
 }
 
 impl Call for TooShort<'_> {
     fn is_right(&self, heap: &LimitedHeap<Global>) -> bool {
-        let skip = Skip::none(self.alloc);
-        match build(self.alloc, heap, self.bytes, &skip) {
-            Some(Err(LinkRefusal::Fault(LinkFault { code, offset }))) => (code, offset)
-                == (13, 136),
-            Some(Err(LinkRefusal::OutOfMemory)) => heap.refusals() > 0,
+        match build(self.alloc, heap, self.bytes, self.skip) {
+            Some(Err(refusal)) => is_too_short_or_told(refusal, heap.refusals()),
             _ => false,
         }
     }
 }
 
+/// How many requests it takes to find the fault, where each of them was refused before.
+fn requests_to_refuse(alloc: Global, bytes: &[u8], skip: &Skip<'_, Global>) -> Option<u64> {
+    requests_of(alloc, &TooShort { alloc, bytes, skip })
+}
+
 #[test]
 fn a_fault_or_want_of_memory(rt: HostRuntime) -> Result<(), Fail> {
-    let alloc = rt.alloc();
-    let file = Bytes::dump(alloc, 4, &TOO_SHORT)?;
-    let bytes = file.bytes.as_slice();
-    let requests = requests_of(alloc, &TooShort { alloc, bytes });
+    let file = Bytes::dump(rt.alloc(), 4, &TOO_SHORT)?;
+    let skip = Skip::none(rt.alloc());
+    let requests = requests_to_refuse(rt.alloc(), &file.bytes, &skip);
     assert!(rt; requests.is_some_and(|requests| requests > 4));
     Ok(())
 }
 
 /// Whether the array is walked right, and its row and its bytes are told, over this heap.
-fn walks_over(alloc: Global, heap: &LimitedHeap<Global>, bytes: &[u8], elements: &[u32]) -> bool {
-    let skip = Skip::none(alloc);
-    match build(alloc, heap, bytes, &skip) {
+fn walks_over(
+    alloc: Global,
+    heap: &LimitedHeap<Global>,
+    bytes: &[u8],
+    skip: &Skip<'_, Global>,
+    elements: &[u32],
+) -> bool {
+    match build(alloc, heap, bytes, skip) {
         Some(Ok(graph)) => tells(&graph, 3, &(elements, RowKey::Class(0), 400_000, 0)),
         _ => false,
     }
 }
 
-/// The graph is built with all the requests that are granted.
+/// The same over a heap that grants all the requests that it takes to build the graph, and how many it then has left
+/// and has refused.
+fn walked(alloc: Global, bytes: &[u8], elements: &[u32]) -> (bool, u64, u64) {
+    let skip = Skip::none(alloc);
+    let heap = LimitedHeap::new(alloc, requests_to_build(alloc, bytes, &skip));
+    let right = walks_over(alloc, &heap, bytes, &skip, elements);
+    (right, heap.requests_left(), heap.refusals())
+}
+
 #[test]
 fn walking_a_long_array_takes_no_memory(rt: HostRuntime) -> Result<(), Fail> {
     let alloc = rt.alloc();
     let file = long_array(alloc)?;
     let mut elements = vec![in alloc; 2u32; MANY + 1]?;
     elements[0] = 0;
-    let heap = LimitedHeap::new(
-        alloc,
-        requests_to_build(alloc, &file.bytes, &Skip::none(alloc)),
-    );
-    assert!(rt; walks_over(alloc, &heap, &file.bytes, &elements));
-    assert_eq!(rt; (heap.requests_left(), heap.refusals()), (0, 0));
+    assert_eq!(rt; walked(alloc, &file.bytes, &elements), (true, 0, 0));
     Ok(())
 }

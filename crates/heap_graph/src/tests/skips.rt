@@ -4,14 +4,13 @@ use super::refused::{Call, requests_of};
 use crate::{Skip, SkipRefusal};
 use limited_heap::LimitedHeap;
 use std::alloc::{AllocError, Allocator, Global};
-use std::process::Abort;
 use std::test::Fail;
 
 /// The texts of a class and of a field.
 type Names = (&'static str, &'static str);
 
 /// Texts, and the entries of each.
-const LISTS: [(&str, &[Names]); 8] = [
+static LISTS: [(&str, &[Names]); 8] = [
     ("T.other", &[("T", "other")]),
     (
         "java/lang/ref/Reference.referent,T.referent",
@@ -29,7 +28,7 @@ const LISTS: [(&str, &[Names]); 8] = [
 ];
 
 /// Texts that are no list.
-const OTHERS: [&str; 13] = [
+static OTHERS: [&str; 13] = [
     "referent",
     "T.",
     ".f",
@@ -45,24 +44,30 @@ const OTHERS: [&str; 13] = [
     "a.b,c.d,.f",
 ];
 
-/// The list has these entries.
-fn check<R: Abort, A: Allocator>(rt: &R, skip: &Skip<'_, A>, text: &str, names: &[Names]) {
-    assert_eq!(rt; skip.pairs().len(), names.len(), "{text}");
+/// Whether the list has these entries.
+fn has_entries<A: Allocator>(skip: &Skip<'_, A>, names: &[Names]) -> bool {
     for (pair, (class, field)) in skip.pairs().iter().zip(names) {
-        assert_eq!(rt; pair.class(), class.as_bytes(), "{text}");
-        assert_eq!(rt; pair.field(), field.as_bytes(), "{text}");
+        if pair.class() != class.as_bytes() || pair.field() != field.as_bytes() {
+            return false;
+        }
     }
+    skip.pairs().len() == names.len()
+}
+
+/// Whether the text is read as a list of these entries, or how it is refused.
+fn read_as(alloc: Global, text: &str, names: &[Names]) -> Result<bool, SkipRefusal> {
+    let skip = Skip::new(alloc, text)?;
+    Ok(has_entries(&skip, names))
 }
 
 #[test]
 fn lists_of_fields(rt: HostRuntime) -> Result<(), Fail> {
-    for (text, names) in LISTS {
-        let skip = Skip::new(rt.alloc(), text)?;
-        check(&rt, &skip, text, names);
+    for (text, names) in &LISTS {
+        assert_eq!(rt; read_as(rt.alloc(), text, names), Ok(true), "{text}");
     }
-    for text in OTHERS {
-        let refusal = Skip::new(rt.alloc(), text).err();
-        assert_eq!(rt; refusal, Some(SkipRefusal::BadOptions), "{text}");
+    for text in &OTHERS {
+        let refusal = read_as(rt.alloc(), text, &[]);
+        assert_eq!(rt; refusal, Err(SkipRefusal::BadOptions), "{text}");
     }
     Ok(())
 }
@@ -71,24 +76,32 @@ fn lists_of_fields(rt: HostRuntime) -> Result<(), Fail> {
 fn list_of(alloc: Global, entries: u32) -> Result<String, AllocError> {
     let mut text = format!(in alloc; "Class.field")?;
     for number in 1..entries {
-        let entry = format!(in alloc; ",Class{number}.field{number}")?;
-        text.push_str(&entry)?;
+        write!(text, ",Class{number}.field{number}")?;
     }
     Ok(text)
 }
 
+/// Whether this is the last entry of a list.
+fn ends_with<A: Allocator>(skip: &Skip<'_, A>, class: &[u8], field: &[u8]) -> bool {
+    match skip.pairs().last() {
+        Some(last) => last.class() == class && last.field() == field,
+        None => false,
+    }
+}
+
+/// How many entries are read of a list of so many, and whether the last one is the last of 64.
+fn read_of(alloc: Global, entries: u32) -> Result<(usize, bool), SkipRefusal> {
+    let Ok(text) = list_of(alloc, entries) else {
+        return Err(SkipRefusal::OutOfMemory);
+    };
+    let skip = Skip::new(alloc, &text)?;
+    Ok((skip.pairs().len(), ends_with(&skip, b"Class63", b"field63")))
+}
+
 #[test]
-fn at_most_64_entries(rt: HostRuntime) -> Result<(), Fail> {
-    let most = list_of(rt.alloc(), 64)?;
-    let skip = Skip::new(rt.alloc(), &most)?;
-    assert_eq!(rt; skip.pairs().len(), 64);
-    let last = skip.pairs().last().expect(&rt, "the last of 64 entries");
-    assert_eq!(rt; last.class(), b"Class63".as_slice());
-    assert_eq!(rt; last.field(), b"field63".as_slice());
-    let more = list_of(rt.alloc(), 65)?;
-    let refusal = Skip::new(rt.alloc(), &more).err();
-    assert_eq!(rt; refusal, Some(SkipRefusal::BadOptions));
-    Ok(())
+fn at_most_64_entries(rt: HostRuntime) {
+    assert_eq!(rt; read_of(rt.alloc(), 64), Ok((64, true)));
+    assert_eq!(rt; read_of(rt.alloc(), 65), Err(SkipRefusal::BadOptions));
 }
 
 /// Reads a list of so many entries.
@@ -112,19 +125,31 @@ fn requests_to_read(alloc: Global, text: &str, entries: usize) -> Option<u64> {
     requests_of(alloc, &Reading { text, entries })
 }
 
+/// The same of a list of 64 entries.
+fn requests_to_read_most(alloc: Global) -> Result<Option<u64>, AllocError> {
+    let text = list_of(alloc, 64)?;
+    Ok(requests_to_read(alloc, &text, 64))
+}
+
 #[test]
 fn memory_refused_in_turn(rt: HostRuntime) -> Result<(), Fail> {
     let alloc = rt.alloc();
     // room for 4 entries, and for twice as many each time
-    assert_eq!(rt; requests_to_read(alloc, "T.f,U.g", 2), Some(1));
-    assert_eq!(rt; requests_to_read(alloc, &list_of(alloc, 64)?, 64), Some(5));
+    let requests = (
+        requests_to_read(alloc, "T.f,U.g", 2),
+        requests_to_read_most(alloc)?,
+    );
+    assert_eq!(rt; requests, (Some(1), Some(5)));
     Ok(())
+}
+
+/// Whether the list of no field is empty.
+fn none_is_empty<A: Allocator>(alloc: A) -> bool {
+    Skip::none(alloc).pairs().is_empty()
 }
 
 #[test]
 fn no_field_takes_no_memory(rt: HostRuntime) {
     let heap = LimitedHeap::new(rt.alloc(), 0);
-    let skip = Skip::none(&heap);
-    assert!(rt; skip.pairs().is_empty());
-    assert_eq!(rt; heap.refusals(), 0);
+    assert_eq!(rt; (none_is_empty(&heap), heap.refusals()), (true, 0));
 }

@@ -50,11 +50,17 @@ static WALKS: [Walk; 7] = [
     ),
 ];
 
-/// Whether so many identifiers are left, call by call.
+/// How many identifiers are left before a call of `next`, and whether it gives an object.
+fn next_of<A: Allocator>(walk: &mut Successors<'_, A>) -> (u64, bool) {
+    (walk.left(), walk.next().is_some())
+}
+
+/// Whether so many identifiers are left, call by call: the last two calls give none.
 fn leaves<A: Allocator>(walk: Successors<'_, A>, left: &[u64]) -> bool {
     let mut walk = walk;
+    let objects = left.len().saturating_sub(2);
     for (number, wanted) in left.iter().enumerate() {
-        if walk.left() != *wanted || walk.next().is_some() != (number + 2 < left.len()) {
+        if next_of(&mut walk) != (*wanted, number < objects) {
             return false;
         }
     }

@@ -3,14 +3,17 @@
 
 ghost use Rattle.drain.specs.Marks.{IsMarkingOf};
 
-use super::{TWO_OBJECTS, two_objects};
+use super::{TWO_OBJECTS, two_objects, writes};
 use crate::{Counted, ReaderRefusal, Report, WriteRefusal, rows, write_report};
 use drain::{Marked, NoGate, Options, mark};
 use heap_graph::{Graph, Skip};
 use hprof_grammar::read;
 use limited_heap::LimitedHeap;
 use std::alloc::{AllocError, Allocator, Global};
+use std::process::Abort;
+use std::sync::Wait;
 use std::test::Fail;
+use std::thread::Threads;
 use test_dumps::Bytes;
 
 /// More requests than any call here makes.
@@ -23,13 +26,6 @@ fn heap_of(alloc: Global, request: u64, alone: bool) -> LimitedHeap<Global> {
     }
 }
 
-/// What a report says, written with all the memory that it takes.
-fn says<A: Allocator>(alloc: Global, report: &Report<A>, text: &str) -> bool {
-    let mut writer = Counted::new(Vec::new(alloc));
-    write_report(alloc, report, &mut writer).is_ok()
-        && writer.into_inner().as_slice() == text.as_bytes()
-}
-
 /// Whether the rows are right over this heap.
 fn rows_over(
     alloc: Global,
@@ -40,7 +36,7 @@ fn rows_over(
     requires { IsMarkingOf graph.now marks.now }
 {
     match rows(heap, graph, marks) {
-        Ok(report) => says(alloc, &report, TWO_OBJECTS),
+        Ok(report) => writes(alloc, &report, TWO_OBJECTS),
         Err(AllocError) => heap.refusals() > 0,
     }
 }
@@ -66,25 +62,46 @@ fn rows_with(
     None
 }
 
+/// The requests of the rows of a graph: with all behind one of them refused, and one alone.
+fn rows_in_turn<T: Threads + Wait + Sync>(
+    rt: &T,
+    alloc: Global,
+    graph: &Graph<'_, Global>,
+) -> Option<(Option<u64>, Option<u64>)> {
+    let Ok(options) = Options::new(1, 2, 4, 0) else {
+        return None;
+    };
+    match mark(rt, alloc, graph, &options, &NoGate) {
+        Ok(marks) => Some((
+            rows_with(alloc, graph, &marks, false),
+            rows_with(alloc, graph, &marks, true),
+        )),
+        Err(_) => None,
+    }
+}
+
+/// The same of the graph of a dump that is whole and linked.
+fn rows_of_dump<T: Threads + Wait + Sync>(
+    rt: &T,
+    alloc: Global,
+    bytes: &[u8],
+) -> Option<(Option<u64>, Option<u64>)> {
+    let skip = Skip::none(alloc);
+    let Ok(places) = read(alloc, bytes) else {
+        return None;
+    };
+    match Graph::build(alloc, bytes, places, &skip) {
+        Ok(graph) => rows_in_turn(rt, alloc, &graph),
+        Err(_) => None,
+    }
+}
+
 #[test]
 fn rows_or_want_of_memory(rt: HostRuntime) -> Result<(), Fail> {
-    let alloc = rt.alloc();
-    let dump = Bytes::dump(alloc, 4, test_dumps::TWO_OBJECTS)?;
-    let bytes = dump.bytes.as_slice();
-    let places = read(alloc, bytes).map_err(|_| "the dump is whole")?;
-    let skip = Skip::none(alloc);
-    let graph = Graph::build(alloc, bytes, places, &skip).map_err(|_| "the dump is linked")?;
-    let options = Options::new(1, 2, 4, 0).map_err(|_| "they are in range")?;
-    let Ok(marks) = mark(&rt, alloc, &graph, &options, &NoGate) else {
-        return Err(Fail::from("nothing is refused"));
-    };
+    let dump = Bytes::dump(rt.alloc(), 4, test_dumps::TWO_OBJECTS)?;
+    let requests = rows_of_dump(&rt, rt.alloc(), &dump.bytes);
     // The list of lines, and a name for each of two lines.
-    assert_eq!(rt; rows_with(alloc, &graph, &marks, false), Some(3));
-    assert_eq!(rt;
-        rows_with(alloc, &graph, &marks, true),
-        Some(3),
-        "one alone"
-    );
+    assert_eq!(rt; requests, Some((Some(3), Some(3))));
     Ok(())
 }
 
@@ -117,13 +134,20 @@ fn written_with(alloc: Global, report: &Report<Global>, alone: bool) -> Option<u
     None
 }
 
+/// With how many requests the report of two objects is written: with all behind one of them refused, and one alone.
+fn written_in_turn(alloc: Global) -> Result<(Option<u64>, Option<u64>), AllocError> {
+    let report = two_objects(alloc)?;
+    Ok((
+        written_with(alloc, &report, false),
+        written_with(alloc, &report, true),
+    ))
+}
+
 #[test]
 fn want_of_memory_writes_nothing(rt: HostRuntime) -> Result<(), Fail> {
-    let alloc = rt.alloc();
-    let report = two_objects(&rt)?;
-    let requests = written_with(alloc, &report, false);
+    let (requests, alone) = written_in_turn(rt.alloc())?;
     assert!(rt; requests.is_some_and(|requests| requests > 0));
-    assert_eq!(rt; written_with(alloc, &report, true), requests, "one alone");
+    assert_eq!(rt; alone, requests, "one alone");
     Ok(())
 }
 
@@ -158,39 +182,56 @@ fn read_with(
     None
 }
 
+/// Bytes, how many are expected, the limit, and the requests.
+type Case<'a> = (&'a [u8], usize, usize, u64);
+
+/// Whether that many requests are made, with all behind one of them refused, and one alone.
+fn reads_in_turn(alloc: Global, case: &Case<'_>) -> bool {
+    let (bytes, expected, limit, requests) = *case;
+    read_with(alloc, bytes, expected, limit, false) == Some(requests)
+        && read_with(alloc, bytes, expected, limit, true) == Some(requests)
+}
+
+/// Checks these cases.
+fn check_reads<R: Abort>(rt: &R, alloc: Global, cases: &[Case<'_>]) {
+    for case in cases {
+        assert!(rt;
+            reads_in_turn(alloc, case),
+            "{} are expected, limit {}",
+            case.1,
+            case.2
+        );
+    }
+}
+
 #[test]
 fn want_of_memory_is_no_read_fault(rt: HostRuntime) -> Result<(), Fail> {
-    let alloc = rt.alloc();
-    let many = vec![in alloc; 7u8; 600_000]?;
-    // Bytes, how many are expected, the limit, and the requests.
-    let cases: [(&[u8], usize, usize, u64); 6] = [
+    let block = vec![in rt.alloc(); 7u8; 600_000]?;
+    let many = block.as_slice();
+    let cases: [Case<'_>; 6] = [
         (b"heap", 0, 9, 1),
         // No room to find the end.
         (b"heap", 4, 9, 2),
         (b"heap", 5, 9, 1),
-        (many.as_slice(), 0, 1_000_000, 3),
-        (many.as_slice(), 600_000, 1_000_000, 2),
-        (many.as_slice(), 0, 300_000, 2),
+        (many, 0, 1_000_000, 3),
+        (many, 600_000, 1_000_000, 2),
+        (many, 0, 300_000, 2),
     ];
-    for (bytes, expected, limit, requests) in cases {
-        for alone in [false, true] {
-            assert_eq!(rt;
-                read_with(alloc, bytes, expected, limit, alone),
-                Some(requests),
-                "{expected} are expected, limit {limit}, alone: {alone}"
-            );
-        }
-    }
+    check_reads(&rt, rt.alloc(), &cases);
     Ok(())
 }
 
+/// Whether a write over this heap, which grants nothing, fails and is counted once, and nothing else takes memory.
+fn counts_over(heap: &LimitedHeap<Global>) -> bool {
+    let mut writer = Counted::new(Vec::<u8, _>::new(heap));
+    let before = (writer.failures(), heap.refusals());
+    let is_refused = writer.write(b"heap").is_err();
+    let after = (writer.failures(), heap.refusals());
+    before == (0, 0) && is_refused && after == (1, 1) && writer.into_inner().is_empty()
+}
+
 #[test]
-fn counting_takes_no_memory(rt: HostRuntime) -> Result<(), Fail> {
+fn counting_takes_no_memory(rt: HostRuntime) {
     let heap = LimitedHeap::new(rt.alloc(), 0);
-    let mut writer = Counted::new(Vec::<u8, _>::new(&heap));
-    assert_eq!(rt; (writer.failures(), heap.refusals()), (0, 0));
-    assert!(rt; writer.write(b"heap").is_err());
-    assert_eq!(rt; (writer.failures(), heap.refusals()), (1, 1));
-    assert!(rt; writer.into_inner().is_empty());
-    Ok(())
+    assert!(rt; counts_over(&heap));
 }
