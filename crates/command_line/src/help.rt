@@ -1,10 +1,11 @@
 //! The texts that `--help` and `--version` show, beside what clap makes of the options.
 
-/// The version, and behind it the toolchain that proved and built it, in the words of `rt --version`: `tools/statuses`
-/// sees that these are its words.
+/// The version, and behind it the logic that it is proved with, in the words in which `rt --version` ends:
+/// `tools/statuses` sees that these are its words. The kit, with which they begin there, is not named, since machines
+/// differ in their kits and not in the logic.
 pub(crate) const VERSION: &str = "\
 0.1.0
-rattle-kit-13f logic dac8208d650f15bf";
+rattle logic dac8208d650f15bf";
 
 pub(crate) const ABOUT: &str = "\
 Marks the objects of a Java heap dump that a path of references joins to a root, with several
