@@ -1,6 +1,9 @@
 //! What no clause of a marking says: which refusal is told where a thread is not started, and when the gate is told of
 //! an object.
 
+ghost use Rattle.std.specs.Prelude.{◌≡◌};
+ghost use Rattle.mark_core.specs.Event.{IsBusy};
+
 use super::*;
 use crate::gate::NoGate;
 use crate::measured::Measured;
@@ -18,12 +21,10 @@ mod memory;
 mod starts;
 mod tallies;
 
-/// A heap with class 0x100, without a superclass, fields and values.
-fn one_class(alloc: Global) -> Result<Vec<u8>, AllocError> {
-    let mut heap = Vec::new(alloc);
+/// Puts class 0x100, without a superclass, fields and values.
+fn put_class(heap: &mut Vec<u8>) -> Result<(), AllocError> {
     heap.extend_from_slice(&[0x20, 0, 0, 1, 0])?;
-    heap.extend_from_slice(&[0; 38])?;
-    Ok(heap)
+    heap.extend_from_slice(&[0; 38])
 }
 
 /// Puts an instance of that class, 0x300 and the number.
@@ -31,31 +32,52 @@ fn put_instance(heap: &mut Vec<u8>, id: u8) -> Result<(), AllocError> {
     heap.extend_from_slice(&[0x21, 0, 0, 3, id, 0, 0, 0, 0, 0, 0, 1, 0, 0, 0, 0, 0])
 }
 
-/// A dump with this heap.
-fn dump_of(alloc: Global, heap: &[u8]) -> Result<Vec<u8>, AllocError> {
-    let mut dump = Vec::new(alloc);
+/// Puts the header of a dump and the record of this heap.
+fn put_dump(dump: &mut Vec<u8>, heap: &[u8]) -> Result<(), AllocError> {
     dump.extend_from_slice(b"JAVA PROFILE 1.0.2\0\0\0\0\x04")?;
     dump.extend_from_slice(&[0; 8])?;
     dump.extend_from_slice(&[0x0c, 0, 0, 0, 0])?;
     let length = u32::try_from(heap.len()).unwrap_or(u32::MAX);
     dump.extend_from_slice(&length.to_be_bytes())?;
-    dump.extend_from_slice(heap)?;
+    dump.extend_from_slice(heap)
+}
+
+/// A dump with this heap.
+fn dump_of(alloc: Global, heap: &[u8]) -> Result<Vec<u8>, AllocError> {
+    let mut dump = Vec::new(alloc);
+    put_dump(&mut dump, heap)?;
     Ok(dump)
 }
 
-/// A dump with an array that is the root, and the 60 instances that it refers to.
-fn wide_array(alloc: Global) -> Result<Vec<u8>, AllocError> {
-    let mut heap = one_class(alloc)?;
+/// Puts an array that is the root, and the 60 instances that it refers to.
+fn put_wide_array(heap: &mut Vec<u8>) -> Result<(), AllocError> {
+    put_class(heap)?;
     // Array 0x200 of that class.
     heap.extend_from_slice(&[0x22, 0, 0, 2, 0, 0, 0, 0, 0, 0, 0, 0, 60, 0, 0, 1, 0])?;
     for id in 0..60u8 {
         heap.extend_from_slice(&[0, 0, 3, id])?;
     }
     for id in 0..60u8 {
-        put_instance(&mut heap, id)?;
+        put_instance(heap, id)?;
     }
-    heap.extend_from_slice(&[0xff, 0, 0, 2, 0])?;
+    heap.extend_from_slice(&[0xff, 0, 0, 2, 0])
+}
+
+/// A dump with an array that is the root, and the 60 instances that it refers to.
+fn wide_array(alloc: Global) -> Result<Vec<u8>, AllocError> {
+    let mut heap = Vec::new(alloc);
+    put_wide_array(&mut heap)?;
     dump_of(alloc, heap.as_slice())
+}
+
+/// The graph of a dump that is whole.
+fn graph_of<'a>(
+    alloc: Global,
+    dump: &'a [u8],
+    skip: &'a Skip<'_, Global>,
+) -> Result<Graph<'a, Global>, Fail> {
+    let places = read(alloc, dump)?;
+    Ok(Graph::build(alloc, dump, places, skip)?)
 }
 
 /// Refuses the thread of the worker of one number.
@@ -70,39 +92,44 @@ impl StartHook for AllBut {
     }
 }
 
-/// Marks the dump, without the thread of one worker, and answers how many objects are marked, or why none is.
-fn marked_without<T: Threads + Wait + Sync>(
+/// Marks the dump by so many workers with so many buffers of so many objects, and answers how many objects are marked,
+/// or why none is.
+fn marked_where<T: Threads + Wait + Sync, G: Gate, S: StartHook>(
     rt: &T,
     alloc: Global,
-    options: (u32, u32, u32),
-    refused: u32,
+    dump: &[u8],
+    (workers, buffer, buffers): (u32, u32, u32),
+    gate: &G,
+    hook: &S,
 ) -> Result<Result<u64, RunFault>, Fail> {
-    let dump = wide_array(alloc)?;
-    let places = read(alloc, dump.as_slice()).map_err(|_| "the dump is whole")?;
+    let options = Options::new(workers, buffer, buffers, 0)?;
     let skip = Skip::none(alloc);
-    let graph = Graph::build(alloc, dump.as_slice(), places, &skip).map_err(
-        |_| "the dump is linked",
-    )?;
-    let (workers, buffer, buffers) = options;
-    let options = Options::new(workers, buffer, buffers, 0).map_err(|_| "they are in range")?;
-    let hook = AllBut { refused };
-    Ok(mark_where(rt, alloc, &graph, &options, &NoGate, &hook).map(|marked| marked.len()))
+    let graph = graph_of(alloc, dump, &skip)?;
+    Ok(mark_where(rt, alloc, &graph, &options, gate, hook).map(|marked| marked.len()))
 }
+
+/// Workers, objects of a buffer, and buffers; the worker without a thread; and what is answered.
+type Start = ((u32, u32, u32), u32, Result<u64, RunFault>);
+
+static STARTS: [Start; 7] = [
+    ((4, 256, 1024), 0, Err(RunFault::WorkerRefused)),
+    ((4, 256, 1024), 1, Err(RunFault::WorkerRefused)),
+    ((4, 256, 1024), 2, Err(RunFault::WorkerRefused)),
+    ((4, 256, 1024), 3, Err(RunFault::WorkerRefused)),
+    ((4, 256, 1024), 4, Ok(62)),
+    // 60 references find no room in six buffers of two, and go to the lists of who found them.
+    ((2, 2, 6), 2, Ok(62)),
+    ((2, 2, 6), 1, Err(RunFault::WorkerRefused)),
+];
 
 #[test]
 fn a_thread_that_cannot_be_started_is_told(rt: HostRuntime) -> Result<(), Fail> {
-    let alloc = rt.alloc();
-    for refused in 0..4 {
-        let outcome = marked_without(&rt, alloc, (4, 256, 1024), refused)?;
-        assert_eq!(rt; outcome, Err(RunFault::WorkerRefused), "worker {refused}");
+    let dump = wide_array(rt.alloc())?;
+    for (options, refused, want) in STARTS {
+        let hook = AllBut { refused };
+        let outcome = marked_where(&rt, rt.alloc(), dump.as_slice(), options, &NoGate, &hook)?;
+        assert_eq!(rt; outcome, want, "worker {refused}");
     }
-    assert_eq!(rt; marked_without(&rt, alloc, (4, 256, 1024), 4)?, Ok(62));
-    // 60 references find no room in six buffers of two, and go to the lists of who found them.
-    assert_eq!(rt; marked_without(&rt, alloc, (2, 2, 6), 2)?, Ok(62));
-    assert_eq!(rt;
-        marked_without(&rt, alloc, (2, 2, 6), 1)?,
-        Err(RunFault::WorkerRefused)
-    );
     Ok(())
 }
 
@@ -207,21 +234,40 @@ fn mark_watched<T: Threads + Wait + Sync>(
     lead(rt, &job, leader).is_ok()
 }
 
-#[test]
-fn the_gate_is_told_before_references_are_asked_for(rt: HostRuntime) -> Result<(), Fail> {
-    let alloc = rt.alloc();
-    let dump = wide_array(alloc)?;
-    let places = read(alloc, dump.as_slice()).map_err(|_| "the dump is whole")?;
+/// Marks the dump with two workers: whether that was done, of how many objects the gate was told, and how often an
+/// object's references were asked for before.
+fn told_with_two<T: Threads + Wait + Sync>(
+    rt: &T,
+    alloc: Global,
+    dump: &[u8],
+) -> Result<(bool, u32, u64), Fail> {
     let skip = Skip::none(alloc);
-    let graph = Graph::build(alloc, dump.as_slice(), places, &skip).map_err(
-        |_| "the dump is linked",
-    )?;
+    let graph = graph_of(alloc, dump, &skip)?;
     let told = AtomicU64::new(0);
     let early = AtomicU64::new(0);
-    assert!(rt; mark_watched(&rt, alloc, &graph, &told, &early));
-    assert_eq!(rt; told.load(Ordering::SeqCst).count_ones(), 62);
-    assert_eq!(rt; early.load(Ordering::SeqCst), 0);
+    let done = mark_watched(rt, alloc, &graph, &told, &early);
+    Ok((
+        done,
+        told.load(Ordering::SeqCst).count_ones(),
+        early.load(Ordering::SeqCst),
+    ))
+}
+
+#[test]
+fn the_gate_is_told_before_references_are_asked_for(rt: HostRuntime) -> Result<(), Fail> {
+    let dump = wide_array(rt.alloc())?;
+    let seen = told_with_two(&rt, rt.alloc(), dump.as_slice())?;
+    assert_eq!(rt; seen, (true, 62, 0));
     Ok(())
+}
+
+/// Takes two buffers, which no other worker finds any more.
+fn take_pair<T: Wait>(rt: &T, alloc: Global, pool: &Pool<Global>, worker: Worker<Global>)
+    requires pool { worker.pool ≡ pool.now }
+    requires busy { IsBusy worker.book.account }
+{
+    let mut worker = worker;
+    let _pair = Pair::open(rt, alloc, pool, &mut worker);
 }
 
 /// Leads one worker over the graph while two others hold all four buffers, so that neither it nor the leader finds a
@@ -242,10 +288,10 @@ fn lead_without_buffers<T: Threads + Wait + Sync>(
     let Ok((pool, leader)) = Pool::new(alloc, &watched, 4, 2, 0) else {
         return false;
     };
-    let (leader, mut one) = pool.split(leader, 1);
-    let (leader, mut two) = pool.split(leader, 1);
-    let _first = Pair::open(rt, alloc, &pool, &mut one);
-    let _second = Pair::open(rt, alloc, &pool, &mut two);
+    let (leader, one) = pool.split(leader, 1);
+    take_pair(rt, alloc, &pool, one);
+    let (leader, two) = pool.split(leader, 1);
+    take_pair(rt, alloc, &pool, two);
     let job = Job {
         alloc,
         graph: &watched,
@@ -257,17 +303,23 @@ fn lead_without_buffers<T: Threads + Wait + Sync>(
     lead(rt, &job, leader).is_ok()
 }
 
+/// Whether that was done with this dump, and of how many objects the gate was told.
+fn told_without_buffers<T: Threads + Wait + Sync>(
+    rt: &T,
+    alloc: Global,
+    dump: &[u8],
+) -> Result<(bool, u32), Fail> {
+    let skip = Skip::none(alloc);
+    let graph = graph_of(alloc, dump, &skip)?;
+    let told = AtomicU64::new(0);
+    let done = lead_without_buffers(rt, alloc, &graph, &told);
+    Ok((done, told.load(Ordering::SeqCst).count_ones()))
+}
+
 #[test]
 fn a_leader_without_buffers_drains(rt: HostRuntime) -> Result<(), Fail> {
-    let alloc = rt.alloc();
-    let dump = wide_array(alloc)?;
-    let places = read(alloc, dump.as_slice()).map_err(|_| "the dump is whole")?;
-    let skip = Skip::none(alloc);
-    let graph = Graph::build(alloc, dump.as_slice(), places, &skip).map_err(
-        |_| "the dump is linked",
-    )?;
-    let told = AtomicU64::new(0);
-    assert!(rt; lead_without_buffers(&rt, alloc, &graph, &told));
-    assert_eq!(rt; told.load(Ordering::SeqCst).count_ones(), 62);
+    let dump = wide_array(rt.alloc())?;
+    let seen = told_without_buffers(&rt, rt.alloc(), dump.as_slice())?;
+    assert_eq!(rt; seen, (true, 62));
     Ok(())
 }

@@ -28,23 +28,38 @@ fn of_largest(alloc: Global, objects: u64) -> Result<Tally<Global>, AllocError>
     })
 }
 
-#[test]
-fn sums_reach_their_bounds(rt: HostRuntime) -> Result<(), Fail> {
-    let alloc = rt.alloc();
+/// What is told of the first row, of the one behind it, and of identifiers.
+type Told = ((u64, u64), (u64, u64), u64);
+
+/// All of the largest objects.
+const BOUNDS: Told = ((OBJECTS, OBJECTS * BYTES), (0, 0), OBJECTS * UNRESOLVED);
+
+fn told(tally: &Tally<Global>) -> Told {
+    (tally.told_at(0), tally.told_at(1), tally.unresolved)
+}
+
+/// What is told of all the largest objects but one, and that one.
+fn told_of_one_more(alloc: Global) -> Result<Told, AllocError> {
     let mut tally = of_largest(alloc, OBJECTS - 1)?;
     tally.add(Scanned {
         row: 0,
         bytes: BYTES,
         unresolved: UNRESOLVED,
     });
-    assert_eq!(rt; tally.told_at(0), (OBJECTS, OBJECTS * BYTES));
-    assert_eq!(rt; tally.unresolved, OBJECTS * UNRESOLVED);
-    assert_eq!(rt; tally.told_at(1), (0, 0));
+    Ok(told(&tally))
+}
 
+/// What is told of the largest objects, each half of them counted for itself.
+fn told_of_halves(alloc: Global) -> Result<Told, AllocError> {
     let mut halves = of_largest(alloc, OBJECTS / 2)?;
     let other = of_largest(alloc, OBJECTS / 2)?;
     halves.join(&other);
-    assert_eq!(rt; halves.told_at(0), (OBJECTS, OBJECTS * BYTES));
-    assert_eq!(rt; halves.unresolved, OBJECTS * UNRESOLVED);
+    Ok(told(&halves))
+}
+
+#[test]
+fn sums_reach_their_bounds(rt: HostRuntime) -> Result<(), Fail> {
+    let told = [told_of_one_more(rt.alloc())?, told_of_halves(rt.alloc())?];
+    assert_eq!(rt; told, [BOUNDS, BOUNDS]);
     Ok(())
 }

@@ -137,23 +137,28 @@ fn told<T: Threads + Wait, V: Measured + Sync>(
     Ok(outcome.err())
 }
 
+const TAG: Option<Stop> = Some(Stop::TagSpent);
+
+const MEMORY: Option<Stop> = Some(Stop::OutOfMemory);
+
+/// What the workers answer, and what the leader does.
+static ANSWERS: [(&[Option<Stop>], Option<RunFault>); 7] = [
+    (&[], None),
+    (&[None, None, None], None),
+    (&[None, None, TAG], Some(RunFault::TagSpent)),
+    (&[TAG, MEMORY, None], Some(RunFault::TagSpent)),
+    (&[MEMORY, TAG, None], Some(RunFault::OutOfMemory)),
+    (&[None, TAG, MEMORY], Some(RunFault::TagSpent)),
+    (&[None, MEMORY, TAG, TAG], Some(RunFault::OutOfMemory)),
+];
+
 #[test]
 fn of_the_refused_workers_the_one_with_the_least_number_is_told(
     rt: HostRuntime,
 ) -> Result<(), Fail> {
-    let tag = Some(Stop::TagSpent);
-    let memory = Some(Stop::OutOfMemory);
-    let cases: [(&[Option<Stop>], Option<RunFault>); 7] = [
-        (&[], None),
-        (&[None, None, None], None),
-        (&[None, None, tag], Some(RunFault::TagSpent)),
-        (&[tag, memory, None], Some(RunFault::TagSpent)),
-        (&[memory, tag, None], Some(RunFault::OutOfMemory)),
-        (&[None, tag, memory], Some(RunFault::TagSpent)),
-        (&[None, memory, tag, tag], Some(RunFault::OutOfMemory)),
-    ];
-    for (stops, want) in cases {
-        assert_eq!(rt; told(&rt, rt.alloc(), &Nothing, stops)?, want);
+    for (stops, want) in ANSWERS {
+        let outcome = told(&rt, rt.alloc(), &Nothing, stops)?;
+        assert_eq!(rt; outcome, want);
     }
     Ok(())
 }

@@ -1,9 +1,8 @@
 //! Who calls the gate: each of many workers, the leader under a number of its own, and a worker to which another gave.
 
-use super::{dump_of, one_class, put_instance, wide_array};
-use crate::{Gate, Options, mark};
+use super::{dump_of, graph_of, put_class, put_instance, wide_array};
+use crate::{Gate, Options, RunFault, mark};
 use heap_graph::{Graph, Skip};
-use hprof_grammar::read;
 use std::alloc::{AllocError, Global};
 use std::sync::Wait;
 use std::sync::atomic::{AtomicU64, Ordering};
@@ -60,6 +59,15 @@ impl<C: Clock> Meeting<C> {
         }
         self.late.fetch_add(1, Ordering::SeqCst);
     }
+
+    /// The calls, the workers that came, and the calls of the leader.
+    fn told(&self) -> (u64, u64, u64) {
+        (
+            self.calls.load(Ordering::SeqCst),
+            self.come.load(Ordering::SeqCst),
+            self.by_leader.load(Ordering::SeqCst),
+        )
+    }
 }
 
 impl<C: Clock + Sync> Gate for Meeting<C> {
@@ -76,14 +84,33 @@ impl<C: Clock + Sync> Gate for Meeting<C> {
     }
 }
 
-/// A dump with so many instances of one class, each a root.
-fn roots_alone(alloc: Global, count: u8) -> Result<Vec<u8>, AllocError> {
-    let mut heap = one_class(alloc)?;
+/// Puts so many instances of one class, each a root.
+fn put_roots(heap: &mut Vec<u8>, count: u8) -> Result<(), AllocError> {
+    put_class(heap)?;
     for id in 0..count {
-        put_instance(&mut heap, id)?;
+        put_instance(heap, id)?;
         heap.extend_from_slice(&[0xff, 0, 0, 3, id])?;
     }
+    Ok(())
+}
+
+/// A dump with so many instances of one class, each a root.
+fn roots_alone(alloc: Global, count: u8) -> Result<Vec<u8>, AllocError> {
+    let mut heap = Vec::new(alloc);
+    put_roots(&mut heap, count)?;
     dump_of(alloc, heap.as_slice())
+}
+
+/// Marks the graph, and answers how many objects are marked.
+fn marked_in<T: Threads + Wait + Sync, G: Gate>(
+    rt: &T,
+    alloc: Global,
+    graph: &Graph<'_, Global>,
+    options: &Options,
+    gate: &G,
+) -> Result<u64, RunFault> {
+    let marked = mark(rt, alloc, graph, options, gate)?;
+    Ok(marked.len())
 }
 
 /// Marks the dump, and answers how many objects are marked.
@@ -94,53 +121,70 @@ fn marked<T: Threads + Wait + Sync, G: Gate>(
     options: &Options,
     gate: &G,
 ) -> Result<u64, Fail> {
-    let places = read(alloc, dump).map_err(|_| "the dump is whole")?;
     let skip = Skip::none(alloc);
-    let graph = Graph::build(alloc, dump, places, &skip).map_err(|_| "the dump is linked")?;
-    let marked = mark(rt, alloc, &graph, options, gate).map_err(|_| "nothing is refused")?;
-    Ok(marked.len())
+    let graph = graph_of(alloc, dump, &skip)?;
+    Ok(marked_in(rt, alloc, &graph, options, gate)?)
 }
+
+/// What the gate is told where so many roots are marked by so many workers with so many buffers of two: the objects
+/// that are marked, the calls, the workers that came, and the calls of the leader.
+fn calls_of<T: Clock + Copy + Threads + Wait + Sync>(
+    rt: T,
+    alloc: Global,
+    roots: u8,
+    workers: u32,
+    buffers: u32,
+) -> Result<(u64, (u64, u64, u64)), Fail> {
+    let options = Options::new(workers, 2, buffers, 0)?;
+    let gate = Meeting::new(rt, workers, 0);
+    let dump = roots_alone(alloc, roots)?;
+    let objects = marked(&rt, alloc, dump.as_slice(), &options, &gate)?;
+    Ok((objects, gate.told()))
+}
+
+/// Roots, workers, buffers; the workers that came, and the calls of the leader.
+static ROWS: [(u8, u32, u32, u64, u64); 2] = [
+    // There is a buffer of two roots for each of 64 workers, and none scans before all have come.
+    (128, 64, 1024, u64::MAX, 0),
+    // Seven roots take all four buffers: the worker has no pair, and the leader scans all that there is.
+    (7, 1, 4, 0, 8),
+];
 
 #[test]
 fn workers_and_the_leader_have_their_numbers(rt: HostRuntime) -> Result<(), Fail> {
-    let alloc = rt.alloc();
-    // Roots, workers, buffers; the workers that came, and the calls of the leader.
-    let rows: [(u8, u32, u32, u64, u64); 2] = [
-        // There is a buffer of two roots for each of 64 workers, and none scans before all have come.
-        (128, 64, 1024, u64::MAX, 0),
-        // Seven roots take all four buffers: the worker has no pair, and the leader scans all that there is.
-        (7, 1, 4, 0, 8),
-    ];
-    for (roots, workers, buffers, come, by_leader) in rows {
-        let dump = roots_alone(alloc, roots)?;
-        let options = Options::new(workers, 2, buffers, 0).map_err(|_| "they are in range")?;
-        let gate = Meeting::new(rt, workers, 0);
+    for (roots, workers, buffers, come, by_leader) in ROWS {
         let objects = u64::from(roots) + 1;
+        let told = calls_of(rt, rt.alloc(), roots, workers, buffers)?;
         assert_eq!(rt;
-            marked(&rt, alloc, dump.as_slice(), &options, &gate)?,
-            objects
-        );
-        assert_eq!(rt; gate.calls.load(Ordering::SeqCst), objects);
-        assert_eq!(rt; gate.come.load(Ordering::SeqCst), come, "{workers} workers");
-        assert_eq!(rt;
-            gate.by_leader.load(Ordering::SeqCst),
-            by_leader,
+            told,
+            (objects, (objects, come, by_leader)),
             "{workers} workers"
         );
     }
     Ok(())
 }
 
+/// How many objects of the dump two workers mark, and which of the two came. Each call but the first waits until both
+/// have come.
+fn come_to<T: Clock + Copy + Threads + Wait + Sync>(
+    rt: T,
+    alloc: Global,
+    dump: &[u8],
+) -> Result<(u64, u64), Fail> {
+    // The first buffer of the worker that scans the array has room for all it refers to, so no put gives any away.
+    let options = Options::new(2, 256, 1024, 0)?;
+    let gate = Meeting::new(rt, 2, 1);
+    let objects = marked(&rt, alloc, dump, &options, &gate)?;
+    Ok((objects, gate.come.load(Ordering::SeqCst)))
+}
+
 #[test]
 fn a_worker_with_much_gives_to_one_with_nothing(rt: HostRuntime) -> Result<(), Fail> {
-    let alloc = rt.alloc();
-    let dump = wide_array(alloc)?;
-    // The first buffer of the worker that scans the array has room for all it refers to, so no put gives any away.
-    let options = Options::new(2, 256, 1024, 0).map_err(|_| "they are in range")?;
+    let dump = wide_array(rt.alloc())?;
     for _ in 0..RUNS {
-        let gate = Meeting::new(rt, 2, 1);
-        assert_eq!(rt; marked(&rt, alloc, dump.as_slice(), &options, &gate)?, 62);
-        if gate.come.load(Ordering::SeqCst) == 3 {
+        let (objects, come) = come_to(rt, rt.alloc(), dump.as_slice())?;
+        assert_eq!(rt; objects, 62);
+        if come == 3 {
             return Ok(());
         }
     }

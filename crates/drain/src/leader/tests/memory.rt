@@ -1,12 +1,11 @@
 //! Want of memory: where a request is refused no thread is started, and what is asked of a marking takes none.
 
-use super::wide_array;
+use super::{graph_of, wide_array};
 use crate::leader::mark_where;
 use crate::marked::{Marked, RunFault};
 use crate::start_hook::StartHook;
 use crate::{Gate, NoGate, Options, mark};
 use heap_graph::{Graph, RowKey, Skip};
-use hprof_grammar::read;
 use limited_heap::LimitedHeap;
 use std::alloc::{Allocator, Global};
 use std::sync::Wait;
@@ -19,16 +18,7 @@ const MANY: u64 = 64;
 
 /// Two workers, and buffers that have room for all that one of them finds: no worker's list has to grow.
 fn with_room() -> Result<Options, Fail> {
-    Options::new(2, 64, 6, 0).map_err(|_| "they are in range".into())
-}
-
-fn graph_of<'a>(
-    alloc: Global,
-    dump: &'a [u8],
-    skip: &'a Skip<'_, Global>,
-) -> Result<Graph<'a, Global>, Fail> {
-    let places = read(alloc, dump).map_err(|_| "the dump is whole")?;
-    Graph::build(alloc, dump, places, skip).map_err(|_| "the dump is linked".into())
+    Ok(Options::new(2, 64, 6, 0)?)
 }
 
 /// Counts the calls of the gate, and the threads that were about to be started.
@@ -67,6 +57,14 @@ impl StartHook for Calls {
     }
 }
 
+/// A heap that refuses a request alone, or with all behind it.
+fn heap_without(alloc: Global, request: u64, alone: bool) -> LimitedHeap<Global> {
+    match alone {
+        true => LimitedHeap::refusing(alloc, request),
+        false => LimitedHeap::new(alloc, request),
+    }
+}
+
 /// Marks the graph over the heap. Whether a request was refused, and whether the answer is the right one then: all 62
 /// objects and both workers, or want of memory and no call at all.
 fn marks_over<T: Threads + Wait + Sync>(
@@ -95,41 +93,44 @@ fn marked_with<T: Threads + Wait + Sync>(
     alone: bool,
 ) -> Option<u64> {
     for request in 0..MANY {
-        let heap = match alone {
-            true => LimitedHeap::refusing(alloc, request),
-            false => LimitedHeap::new(alloc, request),
-        };
-        let (refused, right) = marks_over(rt, &heap, graph, options);
-        if !right {
-            return None;
-        }
-        if !refused {
-            return Some(request);
+        let heap = heap_without(alloc, request, alone);
+        match marks_over(rt, &heap, graph, options) {
+            (_, false) => return None,
+            (false, true) => return Some(request),
+            (true, true) => {}
         }
     }
     None
 }
 
+/// The same for this dump, with all behind each request refused, and with each alone.
+fn dump_marked_with<T: Threads + Wait + Sync>(
+    rt: &T,
+    alloc: Global,
+    dump: &[u8],
+) -> Result<(Option<u64>, Option<u64>), Fail> {
+    let options = with_room()?;
+    let skip = Skip::none(alloc);
+    let graph = graph_of(alloc, dump, &skip)?;
+    let all_behind = marked_with(rt, alloc, &graph, &options, false);
+    let alone = marked_with(rt, alloc, &graph, &options, true);
+    Ok((all_behind, alone))
+}
+
 #[test]
 fn want_of_memory_starts_no_thread(rt: HostRuntime) -> Result<(), Fail> {
-    let alloc = rt.alloc();
-    let dump = wide_array(alloc)?;
-    let skip = Skip::none(alloc);
-    let graph = graph_of(alloc, dump.as_slice(), &skip)?;
-    let options = with_room()?;
+    let dump = wide_array(rt.alloc())?;
+    let requests = dump_marked_with(&rt, rt.alloc(), dump.as_slice())?;
     // The words, the slots, six buffers, two blocks of the table, the threads, the tallies and three of them.
-    assert_eq!(rt; marked_with(&rt, alloc, &graph, &options, false), Some(15));
-    assert_eq!(rt;
-        marked_with(&rt, alloc, &graph, &options, true),
-        Some(15),
-        "one alone"
-    );
+    assert_eq!(rt; requests, (Some(15), Some(15)));
     Ok(())
 }
 
 /// What is told of a marking of the wide array: of its first object and of one past the last, how many are marked, the
 /// instances with their bytes, and how many identifiers name no object.
-fn told<A: Allocator>(marked: &Marked<A>) -> (bool, bool, u64, (u64, u64), u64) {
+type Told = (bool, bool, u64, (u64, u64), u64);
+
+fn told<A: Allocator>(marked: &Marked<A>) -> Told {
     (
         marked.is_marked(0),
         marked.is_marked(62),
@@ -139,21 +140,40 @@ fn told<A: Allocator>(marked: &Marked<A>) -> (bool, bool, u64, (u64, u64), u64) 
     )
 }
 
+/// Marks the graph over a heap that grants so many requests: how many are left then, what is told of the marking, and
+/// how many were refused after all.
+fn told_with<T: Threads + Wait + Sync>(
+    rt: &T,
+    alloc: Global,
+    graph: &Graph<'_, Global>,
+    options: &Options,
+    requests: u64,
+) -> Result<(u64, Told, u64), RunFault> {
+    let heap = LimitedHeap::new(alloc, requests);
+    let marked = mark(rt, &heap, graph, options, &NoGate)?;
+    let left = heap.requests_left();
+    let told = told(&marked);
+    Ok((left, told, heap.refusals()))
+}
+
+/// The same for this dump, and with as many requests as its marking makes.
+fn dump_told<T: Threads + Wait + Sync>(
+    rt: &T,
+    alloc: Global,
+    dump: &[u8],
+) -> Result<Result<(u64, Told, u64), RunFault>, Fail> {
+    let options = with_room()?;
+    let skip = Skip::none(alloc);
+    let graph = graph_of(alloc, dump, &skip)?;
+    let requests = marked_with(rt, alloc, &graph, &options, false).unwrap_or(0);
+    Ok(told_with(rt, alloc, &graph, &options, requests))
+}
+
 #[test]
 fn a_marking_answers_without_memory(rt: HostRuntime) -> Result<(), Fail> {
-    let alloc = rt.alloc();
-    let dump = wide_array(alloc)?;
-    let skip = Skip::none(alloc);
-    let graph = graph_of(alloc, dump.as_slice(), &skip)?;
-    let options = with_room()?;
-    let Some(requests) = marked_with(&rt, alloc, &graph, &options, false) else {
-        return Err("it is marked, or want of memory is told".into());
-    };
-    let heap = LimitedHeap::new(alloc, requests);
-    let marked = mark(&rt, &heap, &graph, &options, &NoGate).map_err(|_| "it was marked before")?;
-    assert_eq!(rt; heap.requests_left(), 0);
-    assert_eq!(rt; with_room()?, options);
-    assert_eq!(rt; told(&marked), (true, false, 62, (61, 240), 0));
-    assert_eq!(rt; heap.refusals(), 0);
+    assert_eq!(rt; with_room()?, with_room()?);
+    let dump = wide_array(rt.alloc())?;
+    let told = dump_told(&rt, rt.alloc(), dump.as_slice())?;
+    assert_eq!(rt; told, Ok((0, (true, false, 62, (61, 240), 0), 0)));
     Ok(())
 }

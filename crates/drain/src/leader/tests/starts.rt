@@ -1,12 +1,9 @@
 //! A thread that is not started: no later one is either, and no started one is left.
 
-use super::wide_array;
-use crate::leader::mark_where;
+use super::{marked_where, wide_array};
+use crate::Gate;
 use crate::marked::RunFault;
 use crate::start_hook::StartHook;
-use crate::{Gate, Options};
-use heap_graph::{Graph, Skip};
-use hprof_grammar::read;
 use std::sync::atomic::{AtomicU64, Ordering};
 use std::test::Fail;
 use std::thread;
@@ -38,33 +35,37 @@ impl<C: Clock + Sync> Gate for RefusesOne<C> {
     }
 }
 
+impl<C: Clock> RefusesOne<C> {
+    fn new(clock: C) -> Self {
+        RefusesOne {
+            clock,
+            asked: AtomicU64::new(0),
+            came: AtomicU64::new(0),
+            scans: AtomicU64::new(0),
+        }
+    }
+
+    /// The workers that were to be started, those that scanned, and how often.
+    fn told(&self) -> (u64, u64, u64) {
+        (
+            self.asked.load(Ordering::SeqCst),
+            self.came.load(Ordering::SeqCst),
+            self.scans.load(Ordering::SeqCst),
+        )
+    }
+}
+
 #[test]
 fn no_worker_is_started_behind_a_refused_one(rt: HostRuntime) -> Result<(), Fail> {
-    let alloc = rt.alloc();
-    let dump = wide_array(alloc)?;
-    let places = read(alloc, dump.as_slice()).map_err(|_| "the dump is whole")?;
-    let skip = Skip::none(alloc);
-    let graph = Graph::build(alloc, dump.as_slice(), places, &skip).map_err(
-        |_| "the dump is linked",
-    )?;
-    let options = Options::new(4, 256, 1024, 0).map_err(|_| "they are in range")?;
-    let one = RefusesOne {
-        clock: rt,
-        asked: AtomicU64::new(0),
-        came: AtomicU64::new(0),
-        scans: AtomicU64::new(0),
-    };
-    let outcome = mark_where(&rt, alloc, &graph, &options, &one, &one).map(|marked| marked.len());
-    let scans = one.scans.load(Ordering::SeqCst);
+    let dump = wide_array(rt.alloc())?;
+    let one = RefusesOne::new(rt);
+    let options = (4, 256, 1024);
+    let outcome = marked_where(&rt, rt.alloc(), dump.as_slice(), options, &one, &one)?;
+    let told = one.told();
     assert_eq!(rt; outcome, Err(RunFault::WorkerRefused));
-    assert_eq!(rt; one.asked.load(Ordering::SeqCst), 3, "workers 0 and 1");
-    assert_eq!(rt; one.came.load(Ordering::SeqCst), 1, "worker 0");
-    assert_eq!(rt; scans, 62, "what worker 0 found was done");
+    // A thread was to be started for workers 0 and 1; worker 0 alone came, and all that it found was done.
+    assert_eq!(rt; told, (3, 1, 62));
     thread::sleep(&rt, Duration::from_millis(2));
-    assert_eq!(rt;
-        one.scans.load(Ordering::SeqCst),
-        scans,
-        "no thread is left"
-    );
+    assert_eq!(rt; one.told(), told, "no thread is left");
     Ok(())
 }
