@@ -6,13 +6,11 @@
 //!
 //! From `src/leader/tests/memory.rt`, which is proved and run as a test:
 //!
-//!     let options = with_room()?;
-//!     let Some(requests) = marked_with(&rt, alloc, &graph, &options, false) else {
-//!         return Err("it is marked, or want of memory is told".into());
-//!     };
 //!     let heap = LimitedHeap::new(alloc, requests);
-//!     let marked = mark(&rt, &heap, &graph, &options, &NoGate).map_err(|_| "it was marked before")?;
-//!     assert_eq!(rt; heap.requests_left(), 0);
+//!     let marked = mark(rt, &heap, graph, options, &NoGate)?;
+//!     let left = heap.requests_left();
+//!     let told = told(&marked);
+//!     Ok((left, told, heap.refusals()))
 //!
 //! README.md beside this folder has a table of the calls, and says where to read on; the words stand in
 //! `docs/MARKING.md`.

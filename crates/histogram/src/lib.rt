@@ -6,11 +6,9 @@
 //!
 //! From `src/tests.rt`, which is proved and run:
 //!
-//!     let mut reader = Counted::new(Endless { given: 0 });
-//!     let bytes = reader.read_to_limit(rt.alloc(), limit)?;
-//!     assert_eq!(rt; bytes.len(), limit);
-//!     let Endless { given } = reader.into_inner();
-//!     assert_eq!(rt; given, limit, "no read behind the limit");
+//!     let mut writer = Counted::new(Vec::new(alloc));
+//!     let is_whole = write_report(alloc, report, &mut writer).is_ok() && writer.failures() == 0;
+//!     is_whole && writer.into_inner().as_slice() == text.as_bytes()
 //!
 //! The definition of the histogram stands in `specs/Histogram.antt`, that of its text in `specs/Report.antt`; both in
 //! words in `docs/HISTOGRAM.md` and `docs/FORMAT.md`.
