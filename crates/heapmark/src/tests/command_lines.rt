@@ -170,8 +170,8 @@ fn no_words_are_told(rt: HostRuntime) {
 static TEXTS: [(&str, &str); 4] = [
     ("--help", "Marks the objects of a Java heap dump"),
     ("-h", "Marks the objects of a Java heap dump"),
-    ("--version", "heapmark 0.1.0\nrattle-kit-"),
-    ("-V", "heapmark 0.1.0\nrattle-kit-"),
+    ("--version", "heapmark 0.1.0\nrattle logic "),
+    ("-V", "heapmark 0.1.0\nrattle logic "),
 ];
 
 #[test]
