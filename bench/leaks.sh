@@ -16,9 +16,9 @@ room=$(mktemp -d)
 trap 'rm -rf "$room"' EXIT
 failed=0
 
-# recipe: the first indented lines behind the words "Find a leak" of the README.
+# recipe: the first indented lines of the README's section "Find a leak".
 recipe() {
-    awk '/^\*\*Find a leak/ { found = 1 }
+    awk '/^## Find a leak/ { found = 1 }
         found && /^    / { begun = 1; print substr($0, 5); next }
         begun { exit }' "$top/README.md"
 }
