@@ -7,11 +7,11 @@
 //!
 //! From `src/tests/worked.rt`, which is proved and run:
 //!
-//!     let (pool, worker) = pool_of_roots(rt.alloc(), OBJECTS, 4, 2)?;
+//!     let (pool, worker) = pool_of_roots(alloc, OBJECTS, 4, 2)?;
 //!     let (mut worker, mut other) = pool.split(worker, 1);
-//!     fill_buffer(&rt, &pool, &mut worker, 0, 2);
-//!     finish_buffer(&rt, &pool, &mut other);
-//!     fill_buffer(&rt, &pool, &mut worker, 2, 4);
+//!     fill_buffer(rt, &pool, &mut worker, 0, 2);
+//!     finish_buffer(rt, &pool, &mut other);
+//!     fill_buffer(rt, &pool, &mut worker, 2, 4);
 //!     let worker = pool.join(worker, other);
 //!     let marks = pool.close(worker);
 //!

@@ -12,6 +12,12 @@ pub record Holds (size : ℕ) (list : List ℕ) (w : Holder) : Type 0 where
   pub room : w.book.setup.size ≡ size
   pub awake : w.book.account.idle ≡ 0
 
+-- it has one unit, answers for no object, and is not idle
+pub record IsOfOneUnit (w : Holder) : Type 0 where
+  pub share : w.book.account.share ≡ 1
+  pub charge : w.book.account.charge ≡ []
+  pub awake : w.book.account.idle ≡ 0
+
 -- a buffer of this number without items
 abbrev pub bare : ℕ → ℕ → HeldBuffer
 bare room i = record { index = i; items = []; size = room }

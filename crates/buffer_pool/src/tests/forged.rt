@@ -7,7 +7,7 @@ ghost use Rattle.std.specs.Prelude.{◌≡◌};
 ghost use Rattle.buffer_pool.specs.working.Buffers.{buffer_reading};
 
 use super::waiting::bare_pool;
-use crate::{Held, Pool, TryPopped, TryPushed, Which, Worker};
+use crate::{Held, Pool, PoolFault, TryPopped, TryPushed, Which, Worker};
 use std::alloc::{Allocator, Global};
 use std::test::Fail;
 
@@ -54,14 +54,18 @@ fn push_alone<A: Allocator>(
     tried
 }
 
-/// A worker that is alone pops a buffer and pushes it.
-#[test]
-fn pushes_alone(rt: HostRuntime) -> Result<(), Fail> {
-    let (pool, mut worker) = bare_pool(rt.alloc(), 0)?;
+/// A worker that is alone pops a buffer and pushes it. Whether the push was done, where the pop was.
+fn is_pushed_alone(alloc: Global) -> Result<Option<bool>, PoolFault> {
+    let (pool, mut worker) = bare_pool(alloc, 0)?;
     let TryPopped::Took(held) = pool.try_pop(&mut worker, Which::Empty) else {
-        panic!(rt; "there is a buffer, and a tag");
+        return Ok(None);
     };
     let pushed = push_alone(&pool, &mut worker, Which::Full, held);
-    assert!(rt; matches!(pushed, TryPushed::Done));
+    Ok(Some(matches!(pushed, TryPushed::Done)))
+}
+
+#[test]
+fn pushes_alone(rt: HostRuntime) -> Result<(), Fail> {
+    assert_eq!(rt; is_pushed_alone(rt.alloc())?, Some(true));
     Ok(())
 }

@@ -4,6 +4,7 @@ ghost use Rattle.mark_core.specs.Event.{CanClaim};
 ghost use Rattle.buffer_pool.specs.Book.{claimed};
 ghost use Rattle.buffer_pool.specs.tests.Worked.{all_finished, begun, claimed_again, references, root_finished};
 
+use super::worked::mark;
 use crate::{Edges, Pool, PoolFault, Worker};
 use std::alloc::{Allocator, Global};
 use std::process::Abort;
@@ -88,16 +89,22 @@ fn scan_rest<R: Abort, A: Allocator>(rt: &R, pool: &Pool<A>, worker: &mut Worker
     pool.finish(worker, 2);
 }
 
+/// Whether each object was claimed and whether it was finished, and how many were finished.
+type Marked = ([(bool, bool); 3], u64);
+
+fn marked_by_one<R: Abort>(rt: &R, alloc: Global) -> Result<Marked, PoolFault> {
+    let (pool, mut worker) = pool_of_two_objects(alloc)?;
+    scan_root(rt, &pool, &mut worker);
+    scan_rest(rt, &pool, &mut worker);
+    let marks = pool.close(worker);
+    let each = [mark(&marks, 0), mark(&marks, 1), mark(&marks, 2)];
+    Ok((each, marks.finished_len()))
+}
+
 #[test]
 fn successors_of_a_root(rt: HostRuntime) -> Result<(), Fail> {
-    let (pool, mut worker) = pool_of_two_objects(rt.alloc())?;
-    scan_root(&rt, &pool, &mut worker);
-    scan_rest(&rt, &pool, &mut worker);
-    let marks = pool.close(worker);
-    for object in 0..OBJECTS {
-        assert!(rt; marks.is_claimed(object), "object {object}");
-        assert!(rt; marks.is_finished(object), "object {object}");
-    }
-    assert_eq!(rt; marks.finished_len(), u64::from(OBJECTS));
+    let (each, finished) = marked_by_one(&rt, rt.alloc())?;
+    assert_eq!(rt; each, [(true, true), (true, true), (true, true)]);
+    assert_eq!(rt; finished, u64::from(OBJECTS));
     Ok(())
 }

@@ -8,7 +8,7 @@ ghost use Rattle.buffer_pool.specs.working.Buffers.{buffer_reading};
 use super::edges::pool_of_roots;
 use super::graph::claim_white;
 use crate::layout::mark_word;
-use crate::{Pool, Worker};
+use crate::{Pool, PoolFault, Worker};
 use std::alloc::{Allocator, Global};
 use std::process::Abort;
 use std::test::Fail;
@@ -62,26 +62,39 @@ fn claim_and_finish<R: Abort, A: Allocator>(
     (claimed, word_now(pool, 0))
 }
 
-#[test]
-fn bits_of_33_objects(rt: HostRuntime) -> Result<(), Fail> {
-    let (pool, mut worker) = pool_of_roots(rt.alloc(), OBJECTS, 4, 2)?;
-    let first = claim_and_finish(&rt, &pool, &mut worker, 0);
-    assert_eq!(rt; first, (Some(1), Some(3)));
-    let last = claim_and_finish(&rt, &pool, &mut worker, 31);
-    assert_eq!(rt;
-        last,
-        (
-            Some(4_611_686_018_427_387_907),
-            Some(13_835_058_055_282_163_715)
-        )
-    );
-    claim_root(&rt, &pool, &mut worker, 32);
-    assert_eq!(rt; word_now(&pool, 0), Some(13_835_058_055_282_163_715));
-    assert_eq!(rt; word_now(&pool, 1), Some(1));
-    assert_eq!(rt; word_now(&pool, 2), None);
+/// The words of marks as objects 0, 31 and 32 are claimed, the first two of them finished at once: word 0 after each of
+/// these four, and words 0, 1 and 2 at the end. And how many are finished then.
+type Words = ([Option<u64>; 4], [Option<u64>; 3], u64);
+
+fn words_of_33<R: Abort>(rt: &R, alloc: Global) -> Result<Words, PoolFault> {
+    let (pool, mut worker) = pool_of_roots(alloc, OBJECTS, 4, 2)?;
+    let first = claim_and_finish(rt, &pool, &mut worker, 0);
+    let last = claim_and_finish(rt, &pool, &mut worker, 31);
+    claim_root(rt, &pool, &mut worker, 32);
+    let words = [word_now(&pool, 0), word_now(&pool, 1), word_now(&pool, 2)];
     pool.finish(&mut worker, 32);
     let marks = pool.close(worker);
-    assert_eq!(rt; marks.finished_len(), 3);
+    Ok((
+        [first.0, first.1, last.0, last.1],
+        words,
+        marks.finished_len(),
+    ))
+}
+
+#[test]
+fn bits_of_33_objects(rt: HostRuntime) -> Result<(), Fail> {
+    let (word_0, words, finished) = words_of_33(&rt, rt.alloc())?;
+    assert_eq!(rt;
+        word_0,
+        [
+            Some(1),
+            Some(3),
+            Some(4_611_686_018_427_387_907),
+            Some(13_835_058_055_282_163_715),
+        ]
+    );
+    assert_eq!(rt; words, [Some(13_835_058_055_282_163_715), Some(1), None]);
+    assert_eq!(rt; finished, 3);
     Ok(())
 }
 

@@ -8,7 +8,7 @@ use super::edges::Roots;
 use super::memory::heap_of_a_pool;
 use crate::layout::{FIRST_LINK, head_word};
 use crate::{Held, Pool, PoolFault, Popped, Which, Worker};
-use std::alloc::Allocator;
+use std::alloc::{Allocator, Global};
 use std::process::Abort;
 use std::sync::Wait;
 use std::test::Fail;
@@ -144,34 +144,56 @@ fn pop_two_push_one<R: Wait + Abort, A: Allocator>(rt: &R, pool: &Pool<A>, worke
     assert!(rt; !sees_empty(pool, worker, Which::Full));
 }
 
+/// The heads of the full stack and of the empty one, and the link words.
+type Stacks = ((Option<u32>, u64), (Option<u32>, u64), [u64; 4]);
+
+fn stacks<A: Allocator>(pool: &Pool<A>) -> Stacks {
+    (
+        head(pool, Which::Full),
+        head(pool, Which::Empty),
+        links(pool),
+    )
+}
+
+/// The stacks of a new pool, and whether the full one and the empty one are seen empty.
+fn opened(alloc: Global, first_tag: u64) -> Result<(Stacks, bool, bool), PoolFault> {
+    let (pool, mut worker) = bare_pool(alloc, first_tag)?;
+    let full = pool.sees_empty(&mut worker, Which::Full);
+    let empty = pool.sees_empty(&mut worker, Which::Empty);
+    Ok((stacks(&pool), full, empty))
+}
+
 /// Both heads bear the first tag, and the empty stack has buffers 0 to 3 in this order.
 #[test]
 fn stacks_at_the_opening(rt: HostRuntime) -> Result<(), Fail> {
     for first_tag in [0, 5, tagged_index::LAST_TAG] {
-        let (pool, mut worker) = bare_pool(rt.alloc(), first_tag)?;
-        assert_eq!(rt; head(&pool, Which::Full), (None, first_tag));
-        assert_eq!(rt; head(&pool, Which::Empty), (Some(0), first_tag));
-        assert_eq!(rt; links(&pool), [2, 3, 4, 0]);
-        assert!(rt; pool.sees_empty(&mut worker, Which::Full));
-        assert!(rt; !pool.sees_empty(&mut worker, Which::Empty));
+        let stacks = ((None, first_tag), (Some(0), first_tag), [2, 3, 4, 0]);
+        assert_eq!(rt; opened(rt.alloc(), first_tag)?, (stacks, true, false));
     }
     Ok(())
 }
 
-/// The pops and pushes of the worked table of events: each exchange of a head raises its tag by one.
+/// The pops and pushes of the worked table of events. Answers the stacks once two buffers were pushed, and at the end.
+fn go_in_turn<R: Wait + Abort, A: Allocator + Clone>(
+    rt: &R,
+    alloc: A,
+) -> Result<(Stacks, Stacks), PoolFault> {
+    let (pool, worker) = bare_pool(alloc, 5)?;
+    let (mut worker, mut other) = pool.split(worker, 1);
+    let (second, third) = pop_three(rt, &pool, &mut worker);
+    push_two(rt, &pool, &mut worker, second, third);
+    let pushed = stacks(&pool);
+    pop_two_push_one(rt, &pool, &mut other);
+    Ok((pushed, stacks(&pool)))
+}
+
+/// Each exchange of a head raises its tag by one.
 #[test]
 fn two_workers_in_turn(rt: HostRuntime) -> Result<(), Fail> {
     let heap = heap_of_a_pool(rt.alloc());
-    let (pool, worker) = bare_pool(&heap, 5)?;
-    let (mut worker, mut other) = pool.split(worker, 1);
-    let (second, third) = pop_three(&rt, &pool, &mut worker);
-    push_two(&rt, &pool, &mut worker, second, third);
-    assert_eq!(rt; head(&pool, Which::Full), (Some(1), 7));
-    assert_eq!(rt; head(&pool, Which::Empty), (Some(3), 8));
-    assert_eq!(rt; links(&pool), [2, 3, 0, 0]);
-    pop_two_push_one(&rt, &pool, &mut other);
-    assert_eq!(rt; head(&pool, Which::Full), (Some(1), 10));
-    assert_eq!(rt; links(&pool), [2, 0, 0, 0]);
+    let (pushed, last) = go_in_turn(&rt, &heap)?;
+    assert_eq!(rt; pushed, ((Some(1), 7), (Some(3), 8), [2, 3, 0, 0]));
+    assert_eq!(rt; last, ((Some(1), 10), (Some(3), 8), [2, 0, 0, 0]));
     assert_eq!(rt; heap.refusals(), 0);
     Ok(())
 }
