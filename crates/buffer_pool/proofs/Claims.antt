@@ -19,16 +19,15 @@ use Rattle.mark_core.proofs.Colours.{linear}
 use Rattle.buffer_pool.specs.tests.Packed.{LowWithHigh}
 use Rattle.buffer_pool.specs.declared.seat_view.SeatView.{SeatView}
 use Rattle.buffer_pool.specs.Book.{claimed, finished}
-use Rattle.buffer_pool.specs.working.Plays.{rested, claim_made, finish_made}
+use Rattle.buffer_pool.specs.working.Plays.{RestsWith, claim_made, finish_made}
 use Rattle.buffer_pool.specs.working.Laid.{IsLaid}
 use Rattle.buffer_pool.specs.working.Packed.{mark_in, pair_bits, pair_mark}
 use Rattle.buffer_pool.specs.working.Layout.{first_mark, link_word, mark_word}
 use Rattle.buffer_pool.specs.working.Slots.{Reading, Carries, free}
 use Rattle.buffer_pool.specs.working.Table.{Rule, marking_of, view_counts}
 use Rattle.buffer_pool.proofs.Bits.{cut_object, mark_claimed, mark_finished, one_pair}
-use Rattle.buffer_pool.proofs.States.{agrees, lawful, cut_same, accounts_set, counts_same, happened, leads_now}
-use Rattle.buffer_pool.proofs.States.{log_after, told_after, did_after, freed}
-use Rattle.buffer_pool.specs.Story.{Did, LeadsToBook}
+use Rattle.buffer_pool.proofs.States.{agrees, lawful, cut_same, accounts_set, counts_same, happened, rests_after}
+use Rattle.buffer_pool.proofs.States.{log_after, told_after, freed}
 use Rattle.buffer_pool.specs.working.Views.{HasSaidAll, logged}
 use Rattle.buffer_pool.proofs.Loads.{noticed, each_once}
 use Rattle.buffer_pool.proofs.Words.{head_beside_mark, idle_beside_mark, link_beside_mark, marks_after, raised}
@@ -121,9 +120,7 @@ module _ {B : Type 0} (r : Reading B) (e : Setup) (slots id : ℕ) where
       record { words = raised_words e s.words o 1; homes = s.homes; views = set s.views id w } in
       let after : Rule r e t =
       marked r e s rule id v is refl there o 1 (max found 1) w (Claim o) (omega arith) below
-      (mark_claimed n (o % 32) known) refl refl refl refl refl refl refl refl refl (can', busy) is_effect refl in
-      let story : LeadsToBook w.log w.book =
-      leads_now r e t after id w (set_here s.views id w (at_below s.views id v is)) there refl refl in (
+      (mark_claimed n (o % 32) known) refl refl refl refl refl refl refl refl refl (can', busy) is_effect refl in (
         w,
         keeps,
         tt,
@@ -131,11 +128,9 @@ module _ {B : Type 0} (r : Reading B) (e : Setup) (slots id : ℕ) where
         (λ p h bits.
             let b : me.0.book.setup.buffers ≡ e.buffers = ap (λ (x : Setup). x.buffers) same in
             let k : o ≡ p = one_object (32 + e.buffers) o p 1 (omega arith) refl (omega (arith, h, b)) bits in
-            let told =
-            subst (λ x. ((w, []) ≡ rested me log (claimed x (pair_mark n (x % 32)) me.0.book))
-            × (pair_mark n (x % 32) ≤ 2) × Did me.0.log (Claim x ∷ []) log) k
-            (refl, known, did_after r e s rule id v is there done.named done.unsaid (Claim o)) in
-            (told.0, told.1, told.2, story)),
+            subst (λ x. RestsWith me (claimed x (pair_mark n (x % 32)) me.0.book) (Claim x ∷ []) (w, [])
+            × (pair_mark n (x % 32) ≤ 2)) k
+            (rests_after r e s rule id me is there done (Claim o) w.book t.words there after, known)),
       ))
 
   pub finishes :
@@ -159,20 +154,18 @@ module _ {B : Type 0} (r : Reading B) (e : Setup) (slots id : ℕ) where
       let after : Rule r e t =
       marked r e s rule id v is refl there o 3 2 w (Finish o) (omega arith) below (mark_finished n (o % 32)) refl refl
       refl refl refl refl refl refl refl can' refl refl in
-      let here = set_here s.views id w (at_below s.views id v is) in
-      let once = each_once r e t after id w here in
-      let story : LeadsToBook w.log w.book = leads_now r e t after id w here there refl refl in (
+      let once = each_once r e t after id w (set_here s.views id w (at_below s.views id v is)) in (
         w,
         keeps,
         tt,
         after,
         (λ p h bits.
             let b : me.0.book.setup.buffers ≡ e.buffers = ap (λ (x : Setup). x.buffers) same in
-            let k : o ≡ p = one_object (32 + e.buffers) o p 3 (omega arith) refl (omega (arith, h, b)) bits in
-            let told =
-            subst (λ x. ((w, []) ≡ rested me log (finished x me.0.book)) × Did me.0.log (Finish x ∷ []) log) k
-            (refl, did_after r e s rule id v is there done.named done.unsaid (Finish o)) in
-            (told.0, (λ x. omega (arith, once.objects x)), told.1, story)),
+            let k : o ≡ p = one_object (32 + e.buffers) o p 3 (omega arith) refl (omega (arith, h, b)) bits in (
+              subst (λ x. RestsWith me (finished x me.0.book) (Finish x ∷ []) (w, [])) k
+                  (rests_after r e s rule id me is there done (Finish o) w.book t.words there after),
+              (λ x. omega (arith, once.objects x)),
+            )),
       ))
 
 -- the word of an object, as the table's setup has it, is there, and is that of the worker's setup

@@ -1,27 +1,25 @@
 -- Going idle, coming back and looking at the idle word keep the rule, and are the events of those names.
-use Rattle.std.proofs.Common.{◌≡◌, ℕ, ◌<◌, true, [], map, length-set, List, Option, None, set, slice_index, ap, sym}
-use Rattle.std.proofs.Common.{refl, subst, ◌∙◌, arith}
+use Rattle.std.proofs.Common.{◌≡◌, ℕ, ◌<◌, true, [], ◌∷◌, map, length-set, List, Option, None, set, slice_index, ap}
+use Rattle.std.proofs.Common.{sym, refl, subst, ◌∙◌, arith}
 use mathlib.Core.Option.{none, some}
 use lib.ListN.{get_elem?}
 use Rattle.atomic_table.specs.Table.{State, Me, Allows, step, keeps}
-use Rattle.atomic_table.proofs.Lists.{set_here}
 use Rattle.tagged_index.specs.Head.{head_of, index_of}
 use Rattle.mark_core.specs.World.{Setup, Marking}
-use Rattle.mark_core.specs.Event.{Kind, Event, IdleUp, IdleDown, LoadIdle, CanIdle, CanWake, effect, word_up, word_down}
+use Rattle.mark_core.specs.Event.{Kind, IdleUp, IdleDown, LoadIdle, CanIdle, CanWake, effect, word_up, word_down}
 use Rattle.mark_core.specs.Event as may
-use Rattle.mark_core.specs.Counts.{counted, count_load_idle}
+use Rattle.mark_core.specs.Counts.{Counts, counted, count_load_idle}
 use Rattle.mark_core.specs.Account.{after_load_idle}
-use Rattle.mark_core.proofs.Places.{at_below}
 use Rattle.buffer_pool.specs.declared.seat_view.SeatView.{SeatView}
-use Rattle.buffer_pool.specs.Book.{idled, woken, idle_loaded}
+use Rattle.buffer_pool.specs.Book.{Book, counts_of, idled, woken, idle_loaded}
 use Rattle.buffer_pool.specs.Calls.{Shows}
-use Rattle.buffer_pool.specs.working.Plays.{went_idle, came_back, idle_seen}
+use Rattle.buffer_pool.specs.working.Plays.{RestsWith, went_idle, came_back, idle_seen}
 use Rattle.buffer_pool.specs.working.Layout.{idle_word, link_word}
 use Rattle.buffer_pool.specs.working.Slots.{Reading, Carries, free}
 use Rattle.buffer_pool.specs.working.Table.{Reached, Rule, marking_of, view_counts}
 use Rattle.buffer_pool.specs.working.Views.{HasSaidAll, logged}
 use Rattle.buffer_pool.proofs.States.{agrees, cut_same, accounts_set, counts_same, counts_changed, happened}
-use Rattle.buffer_pool.proofs.States.{happened_led, leads_now, log_after, told_after, did_after, freed}
+use Rattle.buffer_pool.proofs.States.{happened_led, rests_after, log_after, told_after, freed}
 use Rattle.buffer_pool.proofs.Loads.{noticed, written_again}
 use Rattle.buffer_pool.proofs.Words.{head_beside_idle, link_beside_idle, marks_beside_idle, idle_here}
 
@@ -68,45 +66,40 @@ module _
           (accounts_set s.views id w)
 
 module _ {B : Type 0} (r : Reading B) (e : Setup) (slots id : ℕ) where
+  -- a step that changes the idle word is an event that changes that word and the account alone
+  idle_changes :
+      (me : Me (Option B) SeatView) (kind : Kind) (f : ℕ → ℕ) (b : Book) → Carries me → 0 < me.0.book.account.share
+      → HasSaidAll me.0 → 0 < b.account.share → b.account.held ≡ me.0.book.account.held → b.setup ≡ me.0.book.setup
+      → counts_of b ≡ counts_of me.0.book → ((m : Marking) → may.Allows e m id me.0.book.account kind)
+      → ((m : Marking) → effect m id me.0.book.account kind
+      ≡ record m { idle = f m.idle; accounts = set m.accounts id b.account })
+      → ((m : Marking) (counts : List Counts) → counted m counts id kind ≡ counts)
+      → Allows (Rule r e) slots id me idle_word f (λ n after. RestsWith me b (kind ∷ []) after)
+  idle_changes me kind f b carries there done share held setup counts can is_effect is_counted =
+      freed r e slots id idle_word f (λ n after. RestsWith me b (kind ∷ []) after) me carries (λ s rule count is fits.
+      let v : SeatView = free me.0 in
+      let w : SeatView = record (logged (log_after r e s rule id kind) v) { book = b } in
+      let x : ℕ = f (slice_index s.words idle_word) in
+      let after : Rule r e (record { words = set s.words idle_word x; homes = s.homes; views = set s.views id w }) =
+      idle_written r e s rule id v is refl there x w kind refl held setup counts refl refl refl refl refl
+      (can (marking_of r e s)) (is_effect (marking_of r e s)) (is_counted (marking_of r e s) (map view_counts s.views))
+      in (w, keeps, tt, after, rests_after r e s rule id me is there done kind b (set s.words idle_word x) share after))
+
   pub goes_idle :
       (me : Me (Option B) SeatView) → Carries me → 0 < me.0.book.account.share → HasSaidAll me.0
       → CanIdle me.0.book.account
       → Allows (Rule r e) slots id me idle_word (λ n. word_up n) (went_idle (step slots idle_word 1 0 none) me)
   goes_idle me carries there done can =
-      let told = went_idle (step slots idle_word 1 0 none) me in
-      freed r e slots id idle_word (λ n. word_up n) told me carries (λ s rule count is fits.
-      let v : SeatView = free me.0 in
-      let log = log_after r e s rule id IdleUp in
-      let w : SeatView = record (logged log v) { book = idled me.0.book } in
-      let x : ℕ = word_up (slice_index s.words idle_word) in
-      let t : State (Option B) SeatView =
-      record { words = set s.words idle_word x; homes = s.homes; views = set s.views id w } in
-      let after : Rule r e t =
-      idle_written r e s rule id v is refl there x w IdleUp refl refl refl refl refl refl refl refl refl can refl
-      refl in
-      let did = did_after r e s rule id v is there done.named done.unsaid IdleUp in
-      let story = leads_now r e t after id w (set_here s.views id w (at_below s.views id v is)) there refl refl in
-      (w, keeps, tt, after, (refl, did, story)))
+      idle_changes me IdleUp word_up (idled me.0.book) carries there done there refl refl refl (λ m. can) (λ m. refl)
+      (λ m counts. refl)
 
   pub comes_back :
       (me : Me (Option B) SeatView) → Carries me → 0 < me.0.book.account.share → HasSaidAll me.0
       → CanWake me.0.book.account
       → Allows (Rule r e) slots id me idle_word (λ n. word_down n) (came_back (step slots idle_word 1 0 none) me)
   comes_back me carries there done can =
-      let told = came_back (step slots idle_word 1 0 none) me in
-      freed r e slots id idle_word (λ n. word_down n) told me carries (λ s rule count is fits.
-      let v : SeatView = free me.0 in
-      let log = log_after r e s rule id IdleDown in
-      let w : SeatView = record (logged log v) { book = woken me.0.book } in
-      let x : ℕ = word_down (slice_index s.words idle_word) in
-      let t : State (Option B) SeatView =
-      record { words = set s.words idle_word x; homes = s.homes; views = set s.views id w } in
-      let after : Rule r e t =
-      idle_written r e s rule id v is refl there x w IdleDown refl refl refl refl refl refl refl refl refl can refl
-      refl in
-      let did = did_after r e s rule id v is there done.named done.unsaid IdleDown in
-      let story = leads_now r e t after id w (set_here s.views id w (at_below s.views id v is)) there refl refl in
-      (w, keeps, tt, after, (refl, did, story)))
+      idle_changes me IdleDown word_down (woken me.0.book) carries there done there refl refl refl (λ m. can)
+      (λ m. refl) (λ m counts. refl)
 
   pub sees_idle :
       (me : Me (Option B) SeatView) → Carries me → 0 < me.0.book.account.share → HasSaidAll me.0
@@ -129,13 +122,14 @@ module _ {B : Type 0} (r : Reading B) (e : Setup) (slots id : ℕ) where
       let reached : Reached r e t = happened r e s rule id v is LoadIdle there tt t marking counts tells in
       let led = happened_led r e s rule id v is LoadIdle there tt t marking counts in
       let shows : Shows e log.story n = (marking_of r e t, map view_counts t.views, led, refl) in
-      let did = did_after r e s rule id v is there done.named done.unsaid LoadIdle in
       let rule' : Rule r e t =
-      noticed r e s rule id v is refl there s.words w refl (λ i h. refl) refl refl refl reached in
-      let story = leads_now r e t rule' id w (set_here s.views id w (at_below s.views id v is)) there refl refl in (
+      noticed r e s rule id v is refl there s.words w refl (λ i h. refl) refl refl refl reached in (
         w,
         keeps,
         tt,
         written_again r e slots id s idle_word w rule',
-        (refl, did, subst (λ (x : Setup). Shows x log.story n) (sym same) shows, story),
+        (
+          rests_after r e s rule id me is there done LoadIdle (idle_loaded n me.0.book) s.words there rule',
+          subst (λ (x : Setup). Shows x log.story n) (sym same) shows,
+        ),
       ))

@@ -1,10 +1,11 @@
 -- Loads keep the rule, and tell what was loaded. So do the steps that change nothing.
-use Rattle.std.proofs.Common.{◌≡◌, ◌≢◌, ℕ, suc, ◌<◌, ◌≤◌, ◌==◌, true, List, [], ◌∷◌, length, map, Option, Some, None}
-use Rattle.std.proofs.Common.{Contains, set, slice_index, slice_set, ap, sym, refl, subst, ◌∙◌, arith}
+use Rattle.std.proofs.Common.{◌≡◌, ◌≢◌, ℕ, suc, ◌+◌, ◌<◌, ◌≤◌, ◌==◌, true, List, [], ◌∷◌, length, map, Option, Some}
+use Rattle.std.proofs.Common.{None, Contains, set, slice_index, slice_set, ap, sym, refl, subst, ◌∙◌, arith}
 use Rattle.std.proofs.lemmas.List.{set-get_or}
 use mathlib.Core.Option.{none, some}
 use lib.ListN.{get_elem?}
 use prog.Atomic.{either}
+use Rattle.atomic_table.specs.Seated.{TableId}
 use Rattle.atomic_table.specs.Table.{State, Me, Allows, step, keeps}
 use Rattle.atomic_table.proofs.Lists.{exchanged, set_here}
 use Rattle.tagged_index.specs.Head.{Head, head_of, index_of}
@@ -21,8 +22,8 @@ use Rattle.mark_core.proofs.Places.{at_below}
 use Rattle.mark_core.proofs.Closing.{has_each_once}
 use Rattle.buffer_pool.specs.declared.seat_view.SeatView.{SeatView}
 use Rattle.buffer_pool.specs.Book.{Book, counts_of, loaded, link_loaded}
-use Rattle.buffer_pool.specs.working.Plays.{rested, head_seen, link_seen, set_aside, settled}
-use Rattle.buffer_pool.specs.Story.{Did, LeadsToBook}
+use Rattle.buffer_pool.specs.working.Plays.{RestsWith, head_seen, link_seen, set_aside, settled}
+use Rattle.buffer_pool.specs.working.Laid.{IsLaid, IsSound}
 use Rattle.buffer_pool.specs.working.Views.{HasSaidAll, IsViewOf, logged}
 use Rattle.mark_core.proofs.Colours.{charged}
 use Rattle.mark_core.proofs.Sums.{stands_times}
@@ -34,7 +35,7 @@ use Rattle.buffer_pool.specs.working.Slots.{Reading, IsTied, Rests, Carries, fre
 use Rattle.buffer_pool.specs.working.Table.{Reached, Rule, marking_of, view_counts}
 use Rattle.buffer_pool.proofs.States.{agrees, lawful, cut_below, stands, changed, accounts_set, accounts_same}
 use Rattle.buffer_pool.proofs.States.{counts_same, counts_changed, nothing_happened, happened, leads_here, leads_now}
-use Rattle.buffer_pool.proofs.States.{log_after, log_now, told_after, did_after, held_below, freed}
+use Rattle.buffer_pool.proofs.States.{rests_after, log_after, log_now, told_after, held_below, freed}
 use Rattle.buffer_pool.proofs.Deeds.{did_none, told_seen}
 use Rattle.buffer_pool.proofs.Gone.{ends_taken}
 
@@ -192,23 +193,17 @@ module _ {B : Type 0} (r : Reading B) (e : Setup) (slots id : ℕ) where
       (setup_loaded q (head_of n) me.0.book)) in
       let after : Rule r e t =
       noticed r e s rule id v is refl there s.words w refl (λ i h. refl) refl (held_loaded q (head_of n) me.0.book)
-      (setup_loaded q (head_of n) me.0.book) reached in
-      let story : LeadsToBook w.log w.book =
-      leads_now r e t after id w (set_here s.views id w (at_below s.views id v is))
-      (share_loaded q (head_of n) me.0.book there) refl refl in (
+      (setup_loaded q (head_of n) me.0.book) reached in (
         w,
         keeps,
         tt,
         written_again s (head_word q) w after,
-        (λ p same.
-            let told =
-            subst (λ k. ((w, []) ≡ rested me log (loaded k (head_of n) me.0.book))
-            × ((i : ℕ) → (head_of n).index ≡ Some i → i < me.0.book.setup.buffers) × Did me.0.log (Load k ∷ [])
-            log) (same_head q p same) (
-              refl,
-              top_below r e s rule id v is refl there q,
-              did_after r e s rule id v is there done.named done.unsaid (Load q),
-            ) in (told.0, told.1, told.2, story)),
+        (λ p same. (
+          subst (λ k. RestsWith me (loaded k (head_of n) me.0.book) (Load k ∷ []) (w, [])) (same_head q p same)
+              (rests_after r e s rule id me is there done (Load q) w.book s.words
+              (share_loaded q (head_of n) me.0.book there) after),
+          top_below r e s rule id v is refl there q,
+        )),
       ))
 
   pub sees_link :
@@ -245,12 +240,9 @@ module _ {B : Type 0} (r : Reading B) (e : Setup) (slots id : ℕ) where
         tt,
         written_again s (link_word i) w after,
         (
-          refl,
+          rests_after r e s rule id me is there done (LoadLink q) w.book s.words
+              (share_linked q (index_of n) me.0.book there) after,
           subst (λ (x : Setup). n ≤ x.buffers) (sym same) (rule.linked i small),
-          did_after r e s rule id v is there done.named done.unsaid (LoadLink q),
-          leads_now r e t after id w
-              (set_here s.views id w (at_below s.views id v is)) (share_linked q (index_of n) me.0.book there) refl
-              refl,
         ),
       ))
 
@@ -312,3 +304,20 @@ module _ {B : Type 0} (r : Reading B) (e : Setup) (slots id : ℕ) where
               (told.ended known n from);
         },
       ))
+
+-- so the load of a link may be made at its word, by the play of the stack that it is
+pub may_see_link :
+    {B : Type 0} (r : Reading B) (e : Setup) (z : TableId) (id : ℕ) (t : TableId) (me : Me (Option B) SeatView)
+    (q p : Which) (index : ℕ) → t ≡ z → IsLaid z e → IsSound t me
+    → ((h : Head) × ((look_of me.0.book.account q).head ≡ Some h) × (h.index ≡ Some index)
+    × (index < me.0.book.setup.buffers))
+    → q ≡ p
+    → (t ≡ z) × (32 + index < z.words)
+    × Allows (Rule r e) z.slots id me (32 + index) (λ n. n) (link_seen p (step z.slots (32 + index) 0 0 none) me)
+may_see_link r e z id t me q p index table laid sound looked is =
+    let slots : t.slots ≡ z.slots = ap (λ (x : TableId). x.slots) table in (
+      table,
+      omega (arith, looked.3, laid.words, laid.slots, sound.laid.slots, slots),
+      sees_link r e z.slots id me p looked.0 index sound.carries sound.share sound.settled
+          (subst (λ k. (look_of me.0.book.account k).head ≡ Some looked.0) is looked.1) looked.2 looked.3,
+    )

@@ -366,7 +366,7 @@ module _ {B : Type 0} (t u : TableId) (m o freed both now : Me (Option B) SeatVi
   number : freed.0.log.number ≡ o.0.log.number
   number = ap (λ (x : Log). x.number) theirs.1
 
-  pub has_both : IsSound u now × (now.0.book ≡ joined m.0.book o.0.book)
+  has_both : IsSound u now × (now.0.book ≡ joined m.0.book o.0.book)
   has_both = (
     sound_now t u both now table told.same (at (λ x. IsLaid t x.0.book.setup) first.laid)
         (at (λ x. 0 < x.0.book.account.share) (omega (arith, first.share)))
@@ -374,13 +374,13 @@ module _ {B : Type 0} (t u : TableId) (m o freed both now : Me (Option B) SeatVi
     book_now t u both now table told.same ∙ ap (λ (x : Me (Option B) SeatView). x.0.book) is,
   )
 
-  pub did_join : Did m.0.log (Join o.0.log.number ∷ []) now.0.log
+  did_join : Did m.0.log (Join o.0.log.number ∷ []) now.0.log
   did_join =
       let did = subst {A = Me (Option B) SeatView} (λ x. x.0.named ≡ true → Did x.0.log x.0.unsaid now.0.log) is
       told.did first.settled.named in
       (did.0, did.1, did.2 ∙ (λ k. first.settled.unsaid k ++ Join (number k) ∷ []))
 
-  pub ends_other : EndsStory o.0.log now.0.log.story
+  ends_other : EndsStory o.0.log now.0.log.story
   ends_other =
       let named : both.0.named ≡ true = ap (λ (x : Me (Option B) SeatView). x.0.named) is ∙ first.settled.named in
       let from : both.0.from ≡ Some freed.0.log.number = ap (λ (x : Me (Option B) SeatView). x.0.from) is in
@@ -392,6 +392,12 @@ module _ {B : Type 0} (t u : TableId) (m o freed both now : Me (Option B) SeatVi
         deeds_on o.0.log.number theirs.0 after.0 ∙ ap (λ ks. ks ++ deeds o.0.log.number after.0) theirs.2
             ∙ ap (λ n. deeds n after.0) (sym number) ∙ after.2,
       )
+
+  -- the seat is sound and has both books, it did the join alone, and it knows all that the other did
+  pub has_joined :
+      (IsSound u now × (now.0.book ≡ joined m.0.book o.0.book)) × Did m.0.log (Join o.0.log.number ∷ []) now.0.log
+      × EndsStory o.0.log now.0.log.story
+  has_joined = (has_both, did_join, ends_other)
 
 -- its slot is where it was
 pub carries_joined : {B : Type 0} (m o n : Me (Option B) SeatView) → n ≡ (joined_view m.0 o.0, m.1)

@@ -31,7 +31,8 @@ use Rattle.buffer_pool.specs.working.Slots.{Reading, IsTied, Rests, Carries, fre
 use Rattle.buffer_pool.specs.working.Table.{Reached, Rule, account_of, marking_of, view_counts}
 use Rattle.buffer_pool.proofs.Bits.{marked_object}
 use Rattle.buffer_pool.proofs.States.{agrees, lawful, changed, accounts_set, accounts_same, counts_same, counts_changed}
-use Rattle.buffer_pool.proofs.States.{slots_set, happened, leads_now, log_after, told_after, did_after, freed}
+use Rattle.buffer_pool.proofs.States.{slots_set, happened, leads_now, rests_after, log_after, told_after, did_after}
+use Rattle.buffer_pool.proofs.States.{freed}
 use Rattle.buffer_pool.specs.working.Views.{HasSaidAll, logged}
 use Rattle.mark_core.proofs.Places.{at_below, at_one, at_get_or}
 use Rattle.buffer_pool.proofs.Loads.{noticed, same_head}
@@ -341,14 +342,7 @@ module _ {B : Type 0} (r : Reading B) (e : Setup) (slots id : ℕ) where
             })) (sym (exchange_miss n old new miss)) after_it,
             (λ p same_word. subst (λ k. pop_told me old k n (w, [])) (same_head q p same_word) (
               (λ hit j t. absurd (miss hit)),
-              (λ h. (
-                refl,
-                did_after r e s rule id v is there done.named done.unsaid (Fail q),
-                leads_now r e (record {
-                  words = slice_set s.words (head_word q) n;
-                  homes = s.homes;
-                  views = set s.views id w;
-                }) after_it id w (set_here s.views id w (at_below s.views id v is)) there refl refl,
-              )),
+              (λ h. rests_after r e s rule id me is there done (Fail q) w.book (slice_set s.words (head_word q) n) there
+                  after_it),
             )),
           )

@@ -24,8 +24,9 @@ use Rattle.mark_core.proofs.Places.{at_below}
 use Rattle.mark_core.proofs.Sums.{times-remove_one, times_stands, only-same, only-other}
 use Rattle.buffer_pool.specs.declared.seat_view.SeatView.{SeatView}
 use Rattle.buffer_pool.specs.Book.{Book, pushed, failed}
-use Rattle.buffer_pool.specs.working.Plays.{HasPushed, rested, link_stored, top_put}
+use Rattle.buffer_pool.specs.working.Plays.{CanPut, HasPushed, rested, link_stored, top_put}
 use Rattle.buffer_pool.specs.Story.{Did, LeadsToBook}
+use Rattle.buffer_pool.specs.working.Laid.{IsLaid}
 use Rattle.buffer_pool.specs.working.Views.{HasSaidAll, logged}
 use Rattle.buffer_pool.specs.working.Layout.{head_word, link_word}
 use Rattle.buffer_pool.specs.working.Slots.{Reading, IsTied, Rests, Carries, free}
@@ -37,7 +38,8 @@ use Rattle.buffer_pool.proofs.Pops.{lost}
 use Rattle.buffer_pool.proofs.Loads.{each_once}
 use Rattle.buffer_pool.proofs.Words.{one_head, exchange_hit, exchange_miss, link_beside_head, links_beside_head}
 use Rattle.buffer_pool.proofs.Words.{marks_beside_head, heads_after, idle_beside_head, idle_beside_link}
-use Rattle.buffer_pool.proofs.Words.{head_beside_link, link_beside_link, link_here, marks_beside_link, links_after}
+use Rattle.buffer_pool.proofs.Words.{head_below, head_beside_link, link_beside_link, link_here, marks_beside_link}
+use Rattle.buffer_pool.proofs.Words.{links_after}
 
 -- the link word to an index of a buffer is at most the number of buffers
 pub low_small : (index : Option ℕ) (buffers : ℕ) → ((i : ℕ) → index ≡ Some i → i < buffers) → low_of index ≤ buffers
@@ -77,13 +79,14 @@ still_carried {B} m n i b same carried = let now = same ∙ carried in
 pub told_of :
     {B : Type 0} (m n o : Me (Option B) SeatView) (q : Which) (i j : ℕ) (xs ys : List ℕ) → m.0 ≡ n.0 → i ≡ j → xs ≡ ys
     → HasPushed q i xs m o → HasPushed q j ys n o
-told_of {B} m n o q i j xs ys same index items told = (
-  told.0 ∙ (λ k. rested {B = B} (same k, []) o.0.log (pushed q (index k) (items k) (same k).book)),
-  subst (λ (x : SeatView). Did x.log (Push q j ys ∷ []) o.0.log) same
-      (subst (λ x. Did m.0.log (Push q x ys ∷ []) o.0.log) index
-      (subst (λ zs. Did m.0.log (Push q i zs ∷ []) o.0.log) items told.1)),
-  told.2,
-)
+told_of {B} m n o q i j xs ys same index items told =
+    record {
+      same = told.same ∙ (λ k. rested {B = B} (same k, []) o.0.log (pushed q (index k) (items k) (same k).book));
+      did = subst (λ (x : SeatView). Did x.log (Push q j ys ∷ []) o.0.log) same
+          (subst (λ x. Did m.0.log (Push q x ys ∷ []) o.0.log) index
+          (subst (λ zs. Did m.0.log (Push q i zs ∷ []) o.0.log) items told.did));
+      story = told.story;
+    }
 
 -- a slot that a seat carries alone is the one that it took
 pub one_carried : {B : Type 0} (i j : ℕ) (b c : B) → ◌≡◌ {A = List (ℕ × Option B)} ((i, Some b) ∷ [])
@@ -324,15 +327,10 @@ module _ {B : Type 0} (r : Reading B) (e : Setup) (slots id : ℕ) where
       ))
 
   pub pushes :
-      (me : Me (Option B) SeatView) (q : Which) (old new i : ℕ) (b : B) → me.1 ≡ (i, Some b) ∷ [] → me.0.out ≡ suc i
-      → 0 < me.0.book.account.share → HasSaidAll me.0 → 0 < times i me.0.book.account.held
-      → (look_of me.0.book.account q).head ≡ Some (head_of old) → (head_of old).tag < last_tag
-      → head_of new ≡ after (head_of old) (Some i) → index_of me.0.out_link ≡ (head_of old).index
-      → IsPart (r.items b) me.0.book.account.charge → (q ≡ Empty → r.items b ≡ []) → r.size b ≡ me.0.book.setup.size
-      → length (r.items b) ≤ me.0.book.setup.size → (q ≡ Full → IsBusy me.0.book.account)
+      (me : Me (Option B) SeatView) (q : Which) (old new i : ℕ) (b : B) → CanPut r q me old new i b
       → Allows (Rule r e) slots id me (head_word q) (λ n. either (n == old) new n)
       (top_put r q (step slots (head_word q) old new none) me)
-  pushes me q old new i b carried out there done mine last short next leads part none_empty size fits busy =
+  pushes me q old new i b can =
       λ s rule count is fits. go s rule is (ℕ_discrete (slice_index s.words (head_word q)) old)
     where
       v : SeatView
@@ -351,16 +349,17 @@ module _ {B : Type 0} (r : Reading B) (e : Setup) (slots id : ℕ) where
       go s rule is (yes hit) =
           let n = slice_index s.words (head_word q) in
           let same : head_of old ≡ head_of n = ap head_of (sym hit) in
-          let w : SeatView = push_view r e s rule id v is there i mine b out q in
+          let w : SeatView = push_view r e s rule id v is can.share i can.held b can.out q in
           let log = w.log in
           let after_it : Rule r e (record {
             words = set s.words (head_word q) new;
             homes = set s.homes i (some (Some b));
             views = set s.views id w;
           }) =
-          pushed_rule r e s rule id v is there i mine b out q new (last ∙ ap {B = Option Head} Some same)
-          (subst (λ (h : Head). h.tag < last_tag) same short) (next ∙ ap (λ (h : Head). after h (Some i)) same)
-          (leads ∙ ap (λ (h : Head). h.index) same) part none_empty size fits busy in
+          pushed_rule r e s rule id v is can.share i can.held b can.out q new
+          (can.last ∙ ap {B = Option Head} Some same) (subst (λ (h : Head). h.tag < last_tag) same can.short)
+          (can.next ∙ ap (λ (h : Head). after h (Some i)) same)
+          (can.leads ∙ ap (λ (h : Head). h.index) same) can.part can.bare can.size can.fits can.busy in
           let put : Rule r e (stepped s (head_word q) (either (n == old) new n) id ((i, Some b) ∷ []) w gives) =
           subst (λ x. Rule r e (record {
             words = set s.words (head_word q) x;
@@ -371,12 +370,14 @@ module _ {B : Type 0} (r : Reading B) (e : Setup) (slots id : ℕ) where
             w,
             gives,
             tt,
-            subst (λ c. Rule r e (stepped s (head_word q) (either (n == old) new n) id c w gives)) (sym carried) put,
+            subst (λ c. Rule r e (stepped s (head_word q) (either (n == old) new n) id c w gives))
+                (sym can.carried) put,
             (
-              (λ h j c t. let one = one_carried i j b c (sym carried ∙ t) in
+              (λ h j c t. let one = one_carried i j b c (sym can.carried ∙ t) in
                   let a : (w, []) ≡ rested me log (pushed q j (r.items c) me.0.book) =
                   λ k. rested me log (pushed q (one.0 k) (r.items (one.1 k)) me.0.book) in
-                  let did = did_after r e s rule id v is there done.named done.unsaid (Push q i (r.items b)) in
+                  let did =
+                  did_after r e s rule id v is can.share can.settled.named can.settled.unsaid (Push q i (r.items b)) in
                   let story : LeadsToBook w.log w.book =
                   leads_now r e (record {
                     words = set s.words (head_word q) new;
@@ -384,25 +385,26 @@ module _ {B : Type 0} (r : Reading B) (e : Setup) (slots id : ℕ) where
                         (some (Some b));
                     views = set s.views id w;
                   }) after_it id w (set_here s.views id w (at_below s.views id v is))
-                  (omega (arith, there, share_pushed q i (r.items b) me.0.book)) refl refl in (
-                    subst (λ xs. (w, carried_after xs gives) ≡ rested me log (pushed q j (r.items c) me.0.book))
-                        (sym carried) a,
-                    subst (λ (y : B). Did me.0.log (Push q j (r.items y) ∷ []) log) one.1
-                        (subst (λ k. Did me.0.log (Push q k (r.items b) ∷ []) log) one.0 did),
-                    story,
-                  )),
+                  (omega (arith, can.share, share_pushed q i (r.items b) me.0.book)) refl refl in
+                  record {
+                    same = subst (λ xs. (w, carried_after xs gives)
+                        ≡ rested me log (pushed q j (r.items c) me.0.book)) (sym can.carried) a;
+                    did = subst (λ (y : B). Did me.0.log (Push q j (r.items y) ∷ []) log) one.1
+                        (subst (λ k. Did me.0.log (Push q k (r.items b) ∷ []) log) one.0 did);
+                    story = story;
+                  }),
               (λ miss. absurd (miss hit)),
             ),
           )
       go s rule is (no miss) =
           let n = slice_index s.words (head_word q) in
-          let w : SeatView = kept_view r e s rule id v is there i mine b out q in
+          let w : SeatView = kept_view r e s rule id v is can.share i can.held b can.out q in
           let after_it : Rule r e (record {
             words = slice_set s.words (head_word q) n;
             homes = s.homes;
             views = set s.views id w;
           }) =
-          missed_rule r e s rule id v is there i mine b out q (head_of old) (head_word q) last
+          missed_rule r e s rule id v is can.share i can.held b can.out q (head_of old) (head_word q) can.last
           (λ same. miss (one_head n old same)) in (
             w,
             keeps,
@@ -416,12 +418,29 @@ module _ {B : Type 0} (r : Reading B) (e : Setup) (slots id : ℕ) where
               (λ hit j c t. absurd (miss hit)),
               (λ h. (
                 refl,
-                did_after r e s rule id v is there done.named done.unsaid (Fail q),
+                did_after r e s rule id v is can.share can.settled.named can.settled.unsaid (Fail q),
                 leads_now r e (record {
                   words = slice_set s.words (head_word q) n;
                   homes = s.homes;
                   views = set s.views id w;
-                }) after_it id w (set_here s.views id w (at_below s.views id v is)) there refl refl,
+                }) after_it id w (set_here s.views id w (at_below s.views id v is)) can.share refl refl,
               )),
             ),
           )
+
+-- so it may be made at the head's word, by the play of the stack that it is
+pub may_put :
+    {B : Type 0} (r : Reading B) (e : Setup) (z : TableId) (id : ℕ) (t : TableId) (me : Me (Option B) SeatView)
+    (q p : Which) (old new word : ℕ) → t ≡ z → IsLaid z e → word ≡ head_word q
+    → ((i : ℕ) × (b : B) × CanPut r q me old new i b) → q ≡ p
+    → (t ≡ z) × (word < z.words) × Allows (Rule r e) z.slots id me word (λ n. either (n == old) new n)
+    (top_put r p (step z.slots word old new none) me)
+may_put r e z id t me q p old new word table laid is_head put is =
+    let small = head_below q in
+    let f = λ (n : ℕ). either (n == old) new n in (
+      table,
+      omega (arith, is_head, small, laid.words),
+      subst (λ k. Allows (Rule r e) z.slots id me word f (top_put r k (step z.slots word old new none) me)) is
+          (subst (λ x. Allows (Rule r e) z.slots id me x f (top_put r q (step z.slots x old new none) me)) (sym is_head)
+          (pushes r e z.slots id me q old new put.0 put.1 put.2)),
+    )

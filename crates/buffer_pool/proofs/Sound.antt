@@ -8,21 +8,32 @@ use Rattle.mark_core.specs.declared.which.Which.{Which}
 use Rattle.mark_core.specs.declared.which.Which.TheVariants.{Full, Empty}
 use Rattle.mark_core.specs.Lists.{times, remove_one, without, IsPart}
 use Rattle.mark_core.specs.World.{Setup}
+use Rattle.mark_core.specs.Event.{Kind}
 use Rattle.mark_core.proofs.Sums.{stands_times, times_stands, stands_push, stands_append, times-remove_one}
 use Rattle.mark_core.proofs.Sums.{times-without}
 use Rattle.buffer_pool.specs.declared.seat_view.SeatView.{SeatView}
-use Rattle.buffer_pool.specs.Book.{Book, loaded, link_loaded, failed, popped, pushed, claimed, finished, idled, woken}
-use Rattle.buffer_pool.specs.Book.{idle_loaded}
+use Rattle.buffer_pool.specs.Book.{Book, loaded, link_loaded, failed, popped, pushed, claimed, finished}
 use Rattle.buffer_pool.specs.Ranges.{IsWithin}
 use Rattle.buffer_pool.specs.working.Laid.{IsBare, IsLaid, IsSound}
-use Rattle.buffer_pool.specs.working.Plays.{rested}
+use Rattle.buffer_pool.specs.working.Plays.{RestsWith, rested}
 use Rattle.buffer_pool.specs.Story.{Log, LeadsToBook}
 use Rattle.buffer_pool.specs.working.Views.{HasSaidAll, logged}
 use Rattle.buffer_pool.specs.working.Slots.{slots_of}
 
+-- what is in a list is below a bound, and so it is with one more that is below it, and with one removed
+below_push : (xs : List ℕ) (x n : ℕ) → ((y : ℕ) → Contains xs y → y < n) → x < n → (y : ℕ) → Contains (xs ++ x ∷ []) y
+    → y < n
+below_push xs x n all below y here = ⊎_elim (all y) (λ same. subst (λ z. z < n) same below) (stands_push xs x y here)
+
+below_removed : (xs : List ℕ) (x n : ℕ) → ((y : ℕ) → Contains xs y → y < n) → 0 < times x xs → (y : ℕ)
+    → Contains (remove_one x xs) y → y < n
+below_removed xs x n all mine y here =
+    let there = stands_times (remove_one x xs) y here in
+    all y (times_stands xs y (omega (arith, times-remove_one y x xs mine)))
+
 module _ {B : Type 0} (t : TableId) (m : Me (Option B) SeatView) (sound : IsSound t m) where
   -- nothing that is kept changed but the view's book
-  pub sound_rested :
+  sound_rested :
       (log : Log) (b : Book) → b.setup ≡ m.0.book.setup → b.account.share ≡ m.0.book.account.share
       → IsWithin m.0.book.setup b.account → LeadsToBook log b → IsSound t (rested m log b)
   sound_rested log b setup share within story =
@@ -35,77 +46,50 @@ module _ {B : Type 0} (t : TableId) (m : Me (Option B) SeatView) (sound : IsSoun
         story = story;
       }
 
+  -- and of that book what the account holds and answers for
+  pub sound_looked :
+      (b : Book) → b.setup ≡ m.0.book.setup → b.account.share ≡ m.0.book.account.share
+      → b.account.held ≡ m.0.book.account.held → b.account.charge ≡ m.0.book.account.charge → (log : Log)
+      → LeadsToBook log b → IsSound t (rested m log b)
+  sound_looked b setup share held charge log =
+      sound_rested log b setup share (record {
+        held = subst (λ xs. (i : ℕ) → Contains xs i → i < m.0.book.setup.buffers) (sym held) sound.within.held;
+        charge = subst (λ xs. (o : ℕ) → Contains xs o → o < m.0.book.setup.objects) (sym charge) sound.within.charge;
+      })
+
   pub sound_loaded :
-      (log : Log) (q : Which) (h : Head) → LeadsToBook log (loaded q h m.0.book)
+      (q : Which) (h : Head) (log : Log) → LeadsToBook log (loaded q h m.0.book)
       → IsSound t (rested m log (loaded q h m.0.book))
-  sound_loaded log Full h story =
-      sound_rested log (loaded Full h m.0.book) refl refl (record {
-        held = sound.within.held;
-        charge = sound.within.charge;
-      }) story
-  sound_loaded log Empty h story =
-      sound_rested log (loaded Empty h m.0.book) refl refl
-      (record { held = sound.within.held; charge = sound.within.charge }) story
+  sound_loaded Full h = sound_looked (loaded Full h m.0.book) refl refl refl refl
+  sound_loaded Empty h = sound_looked (loaded Empty h m.0.book) refl refl refl refl
 
   pub sound_linked :
-      (log : Log) (q : Which) (l : Option ℕ) → LeadsToBook log (link_loaded q l m.0.book)
+      (q : Which) (l : Option ℕ) (log : Log) → LeadsToBook log (link_loaded q l m.0.book)
       → IsSound t (rested m log (link_loaded q l m.0.book))
-  sound_linked log Full l story =
-      sound_rested log (link_loaded Full l m.0.book) refl refl
-      (record { held = sound.within.held; charge = sound.within.charge }) story
-  sound_linked log Empty l story =
-      sound_rested log (link_loaded Empty l m.0.book) refl refl
-      (record { held = sound.within.held; charge = sound.within.charge }) story
-
-  pub sound_failed : (log : Log) → LeadsToBook log (failed m.0.book) → IsSound t (rested m log (failed m.0.book))
-  sound_failed log story =
-      sound_rested log (failed m.0.book) refl refl (record { held = sound.within.held; charge = sound.within.charge })
-      story
-
-  pub sound_idled : (log : Log) → LeadsToBook log (idled m.0.book) → IsSound t (rested m log (idled m.0.book))
-  sound_idled log story =
-      sound_rested log (idled m.0.book) refl refl
-      (record { held = sound.within.held; charge = sound.within.charge }) story
-
-  pub sound_woken : (log : Log) → LeadsToBook log (woken m.0.book) → IsSound t (rested m log (woken m.0.book))
-  sound_woken log story =
-      sound_rested log (woken m.0.book) refl refl
-      (record { held = sound.within.held; charge = sound.within.charge }) story
-
-  pub sound_idle_loaded :
-      (log : Log) (n : ℕ) → LeadsToBook log (idle_loaded n m.0.book) → IsSound t (rested m log (idle_loaded n m.0.book))
-  sound_idle_loaded log n story =
-      sound_rested log (idle_loaded n m.0.book) refl refl
-      (record { held = sound.within.held; charge = sound.within.charge }) story
+  sound_linked Full l = sound_looked (link_loaded Full l m.0.book) refl refl refl refl
+  sound_linked Empty l = sound_looked (link_loaded Empty l m.0.book) refl refl refl refl
 
   pub sound_claimed :
-      (log : Log) (o found : ℕ) → o < m.0.book.setup.objects → LeadsToBook log (claimed o found m.0.book)
+      (o found : ℕ) → o < m.0.book.setup.objects → (log : Log) → LeadsToBook log (claimed o found m.0.book)
       → IsSound t (rested m log (claimed o found m.0.book))
-  sound_claimed log o found below story =
+  sound_claimed o found below log =
       sound_rested log (claimed o found m.0.book) refl refl
-      (record { held = sound.within.held; charge = either_way (found == 0) }) story
+      (record { held = sound.within.held; charge = either_way (found == 0) })
     where
-      old : (x : ℕ) → Contains (m.0.book.account.charge ++ o ∷ []) x → x < m.0.book.setup.objects
-      old x here = ⊎_elim (λ before. sound.within.charge x before)
-          (λ same. subst (λ y. y < m.0.book.setup.objects) same below) (stands_push m.0.book.account.charge o x here)
-
       either_way : (white : Bool) (x : ℕ)
           → Contains (if white then m.0.book.account.charge ++ o ∷ [] else m.0.book.account.charge) x
           → x < m.0.book.setup.objects
-      either_way true x here = old x here
-      either_way false x here = sound.within.charge x here
+      either_way true = below_push m.0.book.account.charge o m.0.book.setup.objects sound.within.charge below
+      either_way false = sound.within.charge
 
   pub sound_finished :
-      (log : Log) (o : ℕ) → 0 < times o m.0.book.account.charge → LeadsToBook log (finished o m.0.book)
+      (o : ℕ) → 0 < times o m.0.book.account.charge → (log : Log) → LeadsToBook log (finished o m.0.book)
       → IsSound t (rested m log (finished o m.0.book))
-  sound_finished log o mine story =
-      sound_rested log (finished o m.0.book) refl refl (record { held = sound.within.held; charge = charge }) story
-    where
-      charge : (x : ℕ) → Contains (remove_one o m.0.book.account.charge) x → x < m.0.book.setup.objects
-      charge x here =
-          let n = stands_times (remove_one o m.0.book.account.charge) x here in
-          sound.within.charge x (times_stands m.0.book.account.charge x
-          (omega (arith, times-remove_one x o m.0.book.account.charge mine)))
+  sound_finished o mine log =
+      sound_rested log (finished o m.0.book) refl refl (record {
+        held = sound.within.held;
+        charge = below_removed m.0.book.account.charge o m.0.book.setup.objects sound.within.charge mine;
+      })
 
   pub sound_popped :
       (after : Me (Option B) SeatView) (i : ℕ) (items : List ℕ) → i < m.0.book.setup.buffers
@@ -117,31 +101,27 @@ module _ {B : Type 0} (t : TableId) (m : Me (Option B) SeatView) (sound : IsSoun
         laid = subst (λ (b : Book). IsLaid t b.setup) (sym book) sound.laid;
         share = subst (λ (b : Book). 0 < b.account.share) (sym book) sound.share;
         carries = subst (λ n. after.1 ≡ slots_of n) (sym out) carried;
-        within = subst (λ (b : Book). IsWithin b.setup b.account) (sym book) (record { held = held; charge = charge });
+        within = subst (λ (b : Book). IsWithin b.setup b.account) (sym book) (record {
+          held = below_push m.0.book.account.held i m.0.book.setup.buffers sound.within.held below;
+          charge = charge;
+        });
         settled = done;
         story = story;
       }
     where
-      held : (j : ℕ) → Contains (m.0.book.account.held ++ i ∷ []) j → j < m.0.book.setup.buffers
-      held j here = ⊎_elim (λ before. sound.within.held j before)
-          (λ same. subst (λ y. y < m.0.book.setup.buffers) same below) (stands_push m.0.book.account.held i j here)
-
       charge : (o : ℕ) → Contains (m.0.book.account.charge ++ items) o → o < m.0.book.setup.objects
       charge o here = ⊎_elim (λ before. sound.within.charge o before) (λ item. objects o item)
           (stands_append m.0.book.account.charge items o here)
 
   -- a buffer that was pushed is no longer held, and its items are no longer charged
   pub sound_pushed :
-      (log : Log) (q : Which) (i : ℕ) (items : List ℕ) → 0 < times i m.0.book.account.held
-      → IsPart items m.0.book.account.charge → LeadsToBook log (pushed q i items m.0.book)
+      (q : Which) (i : ℕ) (items : List ℕ) → 0 < times i m.0.book.account.held
+      → IsPart items m.0.book.account.charge → (log : Log) → LeadsToBook log (pushed q i items m.0.book)
       → IsSound t (rested m log (pushed q i items m.0.book))
-  sound_pushed log q i items mine part = go q
+  sound_pushed q i items mine part log = go q
     where
       held : (j : ℕ) → Contains (remove_one i m.0.book.account.held) j → j < m.0.book.setup.buffers
-      held j here =
-          let n = stands_times (remove_one i m.0.book.account.held) j here in
-          sound.within.held j (times_stands m.0.book.account.held j
-          (omega (arith, times-remove_one j i m.0.book.account.held mine)))
+      held = below_removed m.0.book.account.held i m.0.book.setup.buffers sound.within.held mine
 
       charge : (o : ℕ) → Contains (without items m.0.book.account.charge) o → o < m.0.book.setup.objects
       charge o here =
@@ -152,22 +132,27 @@ module _ {B : Type 0} (t : TableId) (m : Me (Option B) SeatView) (sound : IsSoun
       go :
           (p : Which) → LeadsToBook log (pushed p i items m.0.book)
           → IsSound t (rested m log (pushed p i items m.0.book))
-      go Full story =
-          sound_rested log (pushed Full i items m.0.book) refl refl (record { held = held; charge = charge }) story
-      go Empty story =
-          sound_rested log (pushed Empty i items m.0.book) refl refl (record { held = held; charge = charge }) story
+      go Full = sound_rested log (pushed Full i items m.0.book) refl refl (record { held = held; charge = charge })
+      go Empty = sound_rested log (pushed Empty i items m.0.book) refl refl (record { held = held; charge = charge })
 
--- a story of a seat that is the same
-pub same_story :
-    {B : Type 0} (m n : Me (Option B) SeatView) → m ≡ n → LeadsToBook m.0.log m.0.book → LeadsToBook n.0.log n.0.book
-same_story {B} m n same story = subst {A = Me (Option B) SeatView} (λ k. LeadsToBook k.0.log k.0.book) same story
+-- a seat is sound that is another one which its story makes sound
+pub sound_as :
+    {B : Type 0} {t u : TableId} {m n : Me (Option B) SeatView} → (LeadsToBook n.0.log n.0.book → IsSound t n) → u ≡ t
+    → m ≡ n → LeadsToBook m.0.log m.0.book → IsSound u m
+sound_as {B} {t} {u} {m} {n} sound table same story =
+    let moved = subst {A = Me (Option B) SeatView} (λ k. LeadsToBook k.0.log k.0.book) same story in
+    subst (λ k. IsSound k m) (sym table) (subst (IsSound t) (sym same) (sound moved))
 
--- a seat that is the same, and one that rests
-pub sound_same : {B : Type 0} (t u : TableId) (m n : Me (Option B) SeatView) → IsSound t n → u ≡ t → m ≡ n → IsSound u m
-sound_same t u m n sound table same = subst (λ k. IsSound k m) (sym table) (subst (IsSound t) (sym same) sound)
+-- so is one that rests with a book with which each rest is
+pub sound_after :
+    {B : Type 0} {t u : TableId} {m new : Me (Option B) SeatView} {b : Book} {kinds : List Kind}
+    → ((log : Log) → LeadsToBook log b → IsSound t (rested m log b)) → u ≡ t → RestsWith m b kinds new → IsSound u new
+sound_after {B} {t} {u} {m} {new} {b} sound table rests =
+    sound_as {n = rested m new.0.log b} (sound new.0.log) table rests.same rests.story
 
-pub bare_rested : {B : Type 0} (m n : Me (Option B) SeatView) (log : Log) (b : Book) → m ≡ rested n log b → IsBare m
-bare_rested m n log b same = subst IsBare (sym same) (record { slots = refl; out = refl })
+pub bare_rested :
+    {B : Type 0} {m new : Me (Option B) SeatView} {b : Book} {kinds : List Kind} → RestsWith m b kinds new → IsBare new
+bare_rested rests = subst IsBare (sym rests.same) (record { slots = refl; out = refl })
 
 -- the slot of a held buffer came out, and an exchange failed while it was out
 module _ {B : Type 0} (t : TableId) (m : Me (Option B) SeatView) (sound : IsSound t m) (log : Log) (i n : ℕ) where

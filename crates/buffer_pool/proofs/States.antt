@@ -24,7 +24,9 @@ use Rattle.mark_core.proofs.Sums.{terms_le}
 use Rattle.mark_core.proofs.Ownership.{held_apart, place_one}
 use Rattle.buffer_pool.specs.declared.seat_view.SeatView.{SeatView}
 use Rattle.buffer_pool.proofs.Deeds.{told_set, told_same, told_step, did_step}
-use Rattle.buffer_pool.specs.working.Views.{AreViewsOf}
+use Rattle.buffer_pool.specs.working.Views.{AreViewsOf, HasSaidAll, logged}
+use Rattle.buffer_pool.specs.working.Plays.{RestsWith}
+use Rattle.buffer_pool.specs.Book.{Book}
 use Rattle.buffer_pool.specs.Story.{Log, Did, LeadsToBook}
 use Rattle.buffer_pool.specs.working.Layout.{link_word}
 use Rattle.buffer_pool.specs.working.Slots.{Reading, IsTied, Rests, Carries, free, slot_of, slots_of}
@@ -372,3 +374,24 @@ pub leads_now :
     → get_elem? t.views id ≡ some w → 0 < w.book.account.share → w.named ≡ true → w.unsaid ≡ []
     → LeadsToBook w.log w.book
 leads_now r e t rule id w at there = (rule.reached.told id w at there).leads
+
+-- a seat that had said all that it did rests with its new book after an event, where the rule holds then
+pub rests_after :
+    {B : Type 0} (r : Reading B) (e : Setup) (s : State (Option B) SeatView) (rule : Rule r e s) (id : ℕ)
+    (me : Me (Option B) SeatView) → get_elem? s.views id ≡ some (free me.0) → 0 < me.0.book.account.share
+    → HasSaidAll me.0 → (kind : Kind) (b : Book) (words : List ℕ) → 0 < b.account.share
+    → Rule r e (record {
+      words = words;
+      homes = s.homes;
+      views = set s.views id (record (logged (log_after r e s rule id kind) (free me.0)) { book = b });
+    })
+    → RestsWith me b (kind ∷ []) (record (logged (log_after r e s rule id kind) (free me.0)) { book = b }, [])
+rests_after r e s rule id me is there done kind b words share after =
+    let w : SeatView = record (logged (log_after r e s rule id kind) (free me.0)) { book = b } in
+    record {
+      same = refl;
+      did = did_after r e s rule id (free me.0) is there done.named done.unsaid kind;
+      story =
+          leads_now r e (record { words = words; homes = s.homes; views = set s.views id w }) after id w
+          (set_here s.views id w (at_below s.views id (free me.0) is)) share refl refl;
+    }

@@ -1,10 +1,14 @@
 -- A try that was lost may be made again.
-use Rattle.std.proofs.Common.{◌≡◌, ◌∙◌, ℕ, Option, sym, subst}
+use Rattle.std.proofs.Common.{◌≡◌, ◌∙◌, ℕ, ◌++◌, Option, sym, subst}
 use Rattle.tagged_index.specs.Head.{Head}
 use Rattle.mark_core.specs.declared.which.Which.{Which}
 use Rattle.mark_core.specs.declared.which.Which.TheVariants.{Full, Empty}
 use Rattle.buffer_pool.specs.Book.{Book, loaded, link_loaded, failed}
 use Rattle.buffer_pool.specs.Calls.{Holder, HeldBuffer, MayPush, TriesPop, TriesPush}
+use Rattle.buffer_pool.specs.Steps.{lost_pops, try_pop_steps}
+use Rattle.buffer_pool.specs.Story.{Did, Log}
+use Rattle.buffer_pool.proofs.Deeds.{did_on}
+use Rattle.buffer_pool.specs.declared.answers.TryPopped.{TryPopped}
 use Rattle.buffer_pool.specs.declared.answers.TryPopped.TheVariants as try_pop
 use Rattle.buffer_pool.specs.declared.answers.TryPushed.TheVariants as try_push
 use Rattle.mark_core.specs.Event.{IsBusy}
@@ -36,3 +40,10 @@ busy_again q old new busy lost =
 -- a worker stays in its pool
 pub same_pool : (a b c : Holder) → b.pool ≡ a.pool → c.pool ≡ b.pool → c.pool ≡ a.pool
 same_pool a b c first second = second ∙ first
+
+-- what a worker did: tries of a pop that were all lost, and one more
+pub pop_did : (q : Which) (old mid new : Log) (tried : TryPopped HeldBuffer)
+    → ((lost : ℕ) × Did old (lost_pops q lost) mid) → Did mid (try_pop_steps q tried) new
+    → (lost : ℕ) × Did old (lost_pops q lost ++ try_pop_steps q tried) new
+pop_did q old mid new tried was did =
+    (was.0, did_on old mid new (lost_pops q was.0) (try_pop_steps q tried) was.1 did)

@@ -58,20 +58,26 @@ SeatDid m kinds after = Did m.0.log kinds after.0.log
 abbrev pub StoryLeads : {B : Type 0} → Me (Option B) SeatView → Type 0
 StoryLeads after = LeadsToBook after.0.log after.0.book
 
+-- the seat rests with this book: its log tells just these events after it, and leads to the book
+pub record RestsWith
+    {B : Type 0} (m : Me (Option B) SeatView) (book : Book) (kinds : List Kind) (after : Me (Option B) SeatView)
+    : Type 0 where
+  pub same : after ≡ rested m after.0.log book
+  pub did : SeatDid m kinds after
+  pub story : StoryLeads after
+
 module _ {B : Type 0} where
   -- a load of a head: the slot that was out goes home
   abbrev pub head_seen : Step (Option B) → Me (Option B) SeatView → ℕ → Me (Option B) SeatView → Type 0
   head_seen st m n after =
       (q : Which) → st.word ≡ head_word q
-      → (after ≡ rested m after.0.log (loaded q (head_of n) m.0.book))
-      × ((i : ℕ) → (head_of n).index ≡ Some i → i < m.0.book.setup.buffers) × SeatDid m (Load q ∷ []) after
-      × StoryLeads after
+      → RestsWith m (loaded q (head_of n) m.0.book) (Load q ∷ []) after
+      × ((i : ℕ) → (head_of n).index ≡ Some i → i < m.0.book.setup.buffers)
 
   -- a load of the link of the last head's buffer
   abbrev pub link_seen : Which → Step (Option B) → Me (Option B) SeatView → ℕ → Me (Option B) SeatView → Type 0
   link_seen q st m n after =
-      (after ≡ rested m after.0.log (link_loaded q (index_of n) m.0.book)) × (n ≤ m.0.book.setup.buffers)
-      × SeatDid m (LoadLink q ∷ []) after × StoryLeads after
+      RestsWith m (link_loaded q (index_of n) m.0.book) (LoadLink q ∷ []) after × (n ≤ m.0.book.setup.buffers)
 
   -- a store of the link of a held buffer: its slot comes out
   abbrev pub link_stored : Step (Option B) → Me (Option B) SeatView → ℕ → Me (Option B) SeatView → Type 0
@@ -94,8 +100,7 @@ module _ {B : Type 0} where
 
   -- an exchange of a head has failed, and the seat has no slot out
   abbrev pub HasMissed : Which → Me (Option B) SeatView → Me (Option B) SeatView → Type 0
-  HasMissed q m after = (after ≡ rested m after.0.log (failed m.0.book)) × SeatDid m (Fail q ∷ []) after
-      × StoryLeads after
+  HasMissed q m after = RestsWith m (failed m.0.book) (Fail q ∷ []) after
 
   -- an exchange of a head for its buffer's link: it pops, or it has failed
   abbrev pub top_taken : Reading B → Step (Option B) → Me (Option B) SeatView → ℕ → Me (Option B) SeatView → Type 0
@@ -106,9 +111,7 @@ module _ {B : Type 0} where
 
   -- an exchange of a head for the buffer i has won: its slot goes home with it
   abbrev pub HasPushed : Which → ℕ → List ℕ → Me (Option B) SeatView → Me (Option B) SeatView → Type 0
-  HasPushed q i items m after =
-      (after ≡ rested m after.0.log (pushed q i items m.0.book)) × SeatDid m (Push q i items ∷ []) after
-      × StoryLeads after
+  HasPushed q i items m after = RestsWith m (pushed q i items m.0.book) (Push q i items ∷ []) after
 
   -- it has failed, and the slots that are out stay out
   abbrev pub HasKept : Which → List (ℕ × Option B) → Me (Option B) SeatView → Me (Option B) SeatView → Type 0
@@ -127,30 +130,26 @@ module _ {B : Type 0} where
   abbrev pub claim_made : Step (Option B) → Me (Option B) SeatView → ℕ → Me (Option B) SeatView → Type 0
   claim_made st m n after =
       (o : ℕ) → st.word ≡ mark_word m.0.book.setup o → st.first ≡ pair_bits 1 o
-      → (after ≡ rested m after.0.log (claimed o (pair_mark n (o % 32)) m.0.book)) × (pair_mark n (o % 32) ≤ 2)
-      × SeatDid m (Claim o ∷ []) after × StoryLeads after
+      → RestsWith m (claimed o (pair_mark n (o % 32)) m.0.book) (Claim o ∷ []) after × (pair_mark n (o % 32) ≤ 2)
 
   -- a finish: both bits of the object's pair are set
   abbrev pub finish_made : Step (Option B) → Me (Option B) SeatView → ℕ → Me (Option B) SeatView → Type 0
   finish_made st m n after =
       (o : ℕ) → st.word ≡ mark_word m.0.book.setup o → st.first ≡ pair_bits 3 o
-      → (after ≡ rested m after.0.log (finished o m.0.book)) × ((p : ℕ) → times p after.0.book.account.finished ≤ 1)
-      × SeatDid m (Finish o ∷ []) after × StoryLeads after
+      → RestsWith m (finished o m.0.book) (Finish o ∷ []) after
+      × ((p : ℕ) → times p after.0.book.account.finished ≤ 1)
 
   -- the worker went idle, or came back
   abbrev pub went_idle : Step (Option B) → Me (Option B) SeatView → ℕ → Me (Option B) SeatView → Type 0
-  went_idle st m n after = (after ≡ rested m after.0.log (idled m.0.book)) × SeatDid m (IdleUp ∷ []) after
-      × StoryLeads after
+  went_idle st m n after = RestsWith m (idled m.0.book) (IdleUp ∷ []) after
 
   abbrev pub came_back : Step (Option B) → Me (Option B) SeatView → ℕ → Me (Option B) SeatView → Type 0
-  came_back st m n after = (after ≡ rested m after.0.log (woken m.0.book)) × SeatDid m (IdleDown ∷ []) after
-      × StoryLeads after
+  came_back st m n after = RestsWith m (woken m.0.book) (IdleDown ∷ []) after
 
   -- the idle word was loaded: the worker's story leads to a marking that has it
   abbrev pub idle_seen : Step (Option B) → Me (Option B) SeatView → ℕ → Me (Option B) SeatView → Type 0
   idle_seen st m n after =
-      (after ≡ rested m after.0.log (idle_loaded n m.0.book)) × SeatDid m (LoadIdle ∷ []) after
-      × Shows m.0.book.setup after.0.log.story n × StoryLeads after
+      RestsWith m (idle_loaded n m.0.book) (LoadIdle ∷ []) after × Shows m.0.book.setup after.0.log.story n
 
   -- the units of a split were noted
   abbrev pub set_aside : Step (Option B) → Me (Option B) SeatView → ℕ → Me (Option B) SeatView → Type 0

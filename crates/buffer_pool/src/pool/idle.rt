@@ -4,7 +4,7 @@ ghost use Rattle.mark_core.specs.Event.{CanIdle, CanWake, IdleDown, IdleUp, Load
 ghost use Rattle.buffer_pool.specs.Book.{idle_loaded, idled, woken};
 ghost use Rattle.buffer_pool.specs.Calls.{Shows};
 ghost use Rattle.buffer_pool.specs.working.Laid.{IsLaid, IsSound};
-ghost use Rattle.buffer_pool.specs.working.Plays.{SeatDid, rested};
+ghost use Rattle.buffer_pool.specs.working.Plays.{RestsWith};
 ghost use Rattle.buffer_pool.specs.working.Setups.{setup_of};
 ghost use Rattle.buffer_pool.specs.Story.{Did};
 
@@ -22,8 +22,7 @@ fn add_idle<A: Allocator>(words: &Words<A>, seat: &mut Token<A>)
     requires may { CanIdle seat.old.me.0.book.account }
     ensures same { seat.new.table_id ≡ seat.old.table_id }
     ensures sound { IsSound seat.new.table_id seat.new.me }
-    ensures told { seat.new.me ≡ rested seat.old.me seat.new.me.0.log (idled seat.old.me.0.book) }
-    ensures did { SeatDid seat.old.me (IdleUp ∷ []) seat.new.me }
+    ensures rests { RestsWith seat.old.me (idled seat.old.me.0.book) (IdleUp ∷ []) seat.new.me }
 {
     words.fetch_add::<GoIdle>(seat, IDLE, 1);
 }
@@ -35,8 +34,7 @@ fn take_idle<A: Allocator>(words: &Words<A>, seat: &mut Token<A>)
     requires may { CanWake seat.old.me.0.book.account }
     ensures same { seat.new.table_id ≡ seat.old.table_id }
     ensures sound { IsSound seat.new.table_id seat.new.me }
-    ensures told { seat.new.me ≡ rested seat.old.me seat.new.me.0.log (woken seat.old.me.0.book) }
-    ensures did { SeatDid seat.old.me (IdleDown ∷ []) seat.new.me }
+    ensures rests { RestsWith seat.old.me (woken seat.old.me.0.book) (IdleDown ∷ []) seat.new.me }
 {
     words.fetch_sub::<ComeBack>(seat, IDLE, 1);
 }
@@ -47,8 +45,7 @@ fn load_idle<A: Allocator>(words: &Words<A>, seat: &mut Token<A>) -> u64
     requires sound { IsSound seat.old.table_id seat.old.me }
     ensures same { seat.new.table_id ≡ seat.old.table_id }
     ensures sound { IsSound seat.new.table_id seat.new.me }
-    ensures told { seat.new.me ≡ rested seat.old.me seat.new.me.0.log (idle_loaded result seat.old.me.0.book) }
-    ensures did { SeatDid seat.old.me (LoadIdle ∷ []) seat.new.me }
+    ensures rests { RestsWith seat.old.me (idle_loaded result seat.old.me.0.book) (LoadIdle ∷ []) seat.new.me }
     ensures shows { Shows seat.old.me.0.book.setup seat.new.me.0.log.story result }
 {
     words.load::<SeeIdle>(seat, IDLE)

@@ -5,7 +5,7 @@ ghost use Rattle.mark_core.specs.Event as events;
 ghost use Rattle.mark_core.specs.Lists.{times};
 ghost use Rattle.buffer_pool.specs.Book.{claimed, finished};
 ghost use Rattle.buffer_pool.specs.working.Laid.{IsLaid, IsSound};
-ghost use Rattle.buffer_pool.specs.working.Plays.{SeatDid, rested};
+ghost use Rattle.buffer_pool.specs.working.Plays.{RestsWith};
 ghost use Rattle.buffer_pool.specs.working.Setups.{setup_of};
 ghost use Rattle.buffer_pool.specs.Story.{Did};
 
@@ -36,10 +36,9 @@ fn raise_to_claimed<A: Allocator>(
     requires busy { IsBusy seat.old.me.0.book.account }
     ensures same { seat.new.table_id ≡ seat.old.table_id }
     ensures sound { IsSound seat.new.table_id seat.new.me }
-    ensures told { (found : ℕ)
-        × (seat.new.me ≡ rested seat.old.me seat.new.me.0.log (claimed object found seat.old.me.0.book))
+    ensures rests { (found : ℕ)
+        × RestsWith seat.old.me (claimed object found seat.old.me.0.book) (events.Claim object ∷ []) seat.new.me
         × (IsTrue result ↔ (found ≡ 0)) }
-    ensures did { SeatDid seat.old.me (events.Claim object ∷ []) seat.new.me }
 {
     let word = words.fetch_or::<Claim>(
         seat,
@@ -57,8 +56,7 @@ fn raise_to_finished<A: Allocator>(words: &Words<A>, seat: &mut Token<A>, buffer
     requires can { CanFinish seat.old.me.0.book.setup object seat.old.me.0.book.account }
     ensures same { seat.new.table_id ≡ seat.old.table_id }
     ensures sound { IsSound seat.new.table_id seat.new.me }
-    ensures told { seat.new.me ≡ rested seat.old.me seat.new.me.0.log (finished object seat.old.me.0.book) }
-    ensures did { SeatDid seat.old.me (events.Finish object ∷ []) seat.new.me }
+    ensures rests { RestsWith seat.old.me (finished object seat.old.me.0.book) (events.Finish object ∷ []) seat.new.me }
     ensures once { (o : ℕ) → times o seat.new.me.0.book.account.finished ≤ 1 }
 {
     words.fetch_or::<Finish>(

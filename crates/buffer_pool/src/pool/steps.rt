@@ -13,7 +13,7 @@ ghost use Rattle.buffer_pool.specs.Book.{link_loaded, loaded};
 ghost use Rattle.buffer_pool.specs.Calls.{MayPush};
 ghost use Rattle.buffer_pool.specs.working.Laid.{IsBare, IsLaid, IsSound};
 ghost use Rattle.buffer_pool.specs.working.Plays.{CanPut, HasKept, HasMissed, HasPushed, HasTaken, StoryLeads, SeatDid};
-ghost use Rattle.buffer_pool.specs.working.Plays.{top_put, rested};
+ghost use Rattle.buffer_pool.specs.working.Plays.{RestsWith, top_put};
 ghost use Rattle.buffer_pool.specs.working.Setups.{setup_of};
 ghost use Rattle.buffer_pool.specs.working.Views.{HasSaidAll, logged};
 
@@ -38,8 +38,7 @@ pub(crate) fn load_head<A: Allocator>(
     requires sound { IsSound seat.old.table_id seat.old.me }
     ensures same { (seat.new.table_id ≡ seat.old.table_id) × (seat.new.id ≡ seat.old.id) }
     ensures sound { IsSound seat.new.table_id seat.new.me }
-    ensures told { seat.new.me ≡ rested seat.old.me seat.new.me.0.log (loaded which result seat.old.me.0.book) }
-    ensures did { SeatDid seat.old.me (Load which ∷ []) seat.new.me }
+    ensures rests { RestsWith seat.old.me (loaded which result seat.old.me.0.book) (Load which ∷ []) seat.new.me }
     ensures within { (i : ℕ) → result.index ≡ Some i → i < seat.old.me.0.book.setup.buffers }
 {
     HeadWord::from_word(words.load::<SeeHead>(seat, head_word(which)))
@@ -57,9 +56,8 @@ pub(crate) fn load_link<A: Allocator>(
     requires looked { (h : Head) × ((look_of seat.old.me.0.book.account which).head ≡ Some h)
         × (h.index ≡ Some index) × (index < seat.old.me.0.book.setup.buffers) }
     ensures same { (seat.new.table_id ≡ seat.old.table_id) × (seat.new.id ≡ seat.old.id) }
-    ensures told { seat.new.me ≡ rested seat.old.me seat.new.me.0.log (link_loaded which result seat.old.me.0.book) }
-    ensures did { SeatDid seat.old.me (LoadLink which ∷ []) seat.new.me }
-    ensures story { StoryLeads seat.new.me }
+    ensures rests { RestsWith seat.old.me (link_loaded which result seat.old.me.0.book) (LoadLink which ∷ [])
+        seat.new.me }
     ensures within { ForSome result (λ i. i < seat.old.me.0.book.setup.buffers) }
 {
     let word = FIRST_LINK + index as usize;
@@ -91,7 +89,7 @@ pub(crate) fn take_top<A: Allocator>(
     requires next { (l : Option ℕ) × ((look_of seat.old.me.0.book.account which).link ≡ Some l)
         × (next ≡ after head l) }
     ensures same { (seat.new.table_id ≡ seat.old.table_id) × (seat.new.id ≡ seat.old.id) }
-    ensures told { MatchOption result (HasMissed which seat.old.me seat.new.me)
+    ensures takes { MatchOption result (HasMissed which seat.old.me seat.new.me)
         (λ b. HasTaken buffer_reading which index None seat.old.me seat.new.me b) }
 {
     let word = head.word();
@@ -126,7 +124,7 @@ pub(crate) fn store_link<A: Allocator>(
     requires held { Contains seat.old.me.0.book.account.held index }
     requires within { (i : ℕ) → head.index ≡ Some i → i < seat.old.me.0.book.setup.buffers }
     ensures same { (seat.new.table_id ≡ seat.old.table_id) × (seat.new.id ≡ seat.old.id) }
-    ensures told { seat.new.me
+    ensures takes_out { seat.new.me
         ≡ (
           record (logged seat.new.me.0.log seat.old.me.0) { out = suc index; out_link = low_of head.index },
           (index, None) ∷ [],
@@ -148,7 +146,7 @@ fn exchange_for_buffer<A: Allocator>(
     requires table { (seat.old.table_id ≡ words.now.table_id) × IsLaid words.now.table_id (setup_of words.now.key) }
     requires put { (i : ℕ) × (b : _) × CanPut buffer_reading which seat.old.me old new i b }
     ensures same { (seat.new.table_id ≡ seat.old.table_id) × (seat.new.id ≡ seat.old.id) }
-    ensures told { top_put buffer_reading which (step words.now.table_id.slots 0 old new none) seat.old.me
+    ensures exchanges { top_put buffer_reading which (step words.now.table_id.slots 0 old new none) seat.old.me
         result seat.new.me }
 {
     let word = head_word(which);
@@ -175,7 +173,7 @@ pub(crate) fn put_top<A: Allocator>(
     requires next { next ≡ after head (Some held.index) }
     requires may { MayPush which held seat.old.me.0.book }
     ensures same { (seat.new.table_id ≡ seat.old.table_id) × (seat.new.id ≡ seat.old.id) }
-    ensures told { MatchResult result (λ _. HasPushed which held.index held.items seat.old.me seat.new.me)
+    ensures puts { MatchResult result (λ _. HasPushed which held.index held.items seat.old.me seat.new.me)
         (λ back. (back ≡ held) × HasKept which ((held.index, None) ∷ []) seat.old.me seat.new.me) }
 {
     let Held { index, buffer } = held;

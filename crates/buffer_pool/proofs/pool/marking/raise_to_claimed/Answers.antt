@@ -1,14 +1,13 @@
 -- The step keeps the rule, and is the event.
 use Rattle.std.proofs.Common.{◌≡◌, ℕ, ◌%◌}
-use Rattle.buffer_pool.specs.Book.{claimed}
 use Rattle.buffer_pool.specs.working.Buffers.{buffer_reading}
 use Rattle.buffer_pool.specs.working.Packed.{pair_mark}
-use Rattle.buffer_pool.specs.working.Plays.{claim_made, rested}
+use Rattle.buffer_pool.specs.working.Plays.{claim_made}
 use Rattle.buffer_pool.specs.working.Setups.{setup_of}
 use Rattle.buffer_pool.specs.working.Layout.{mark_word}
 use Rattle.buffer_pool.proofs.Bits.{low_tells}
 use Rattle.buffer_pool.proofs.Claims.{claims, claimable_within, own_word, sets_pair}
-use Rattle.buffer_pool.proofs.Sound.{same_story, sound_claimed, sound_same}
+use Rattle.buffer_pool.proofs.Sound.{sound_after, sound_claimed}
 use Rattle.buffer_pool.proofs.pool.marking.raise_to_claimed.Given as given
 use Rattle.buffer_pool.proofs.pool.marking.raise_to_claimed.Goals as goal
 
@@ -42,24 +41,17 @@ pub returns-clause-sound : goal.returns-clause-sound
 returns-clause-sound g c =
     let t = c.args.seat.now.table_id in
     let me = c.args.seat.now.me in
-    let object = c.args.object in
-    let told = c.fetch_or-word.ensures.2 object (own g c) c.pair_bits.ensures in
-    let new = c.fetch_or-word.new.seat in
-    let log = new.me.0.log in
-    let found : ℕ = pair_mark c.fetch_or-word.result (object % 32) in
-    let after = rested me log (claimed object found me.0.book) in
     let below =
-    claimable_within t me.0.book.setup me.0.book.account object c.requires.sound.laid c.requires.can in
-    let story = same_story new.me after told.0 told.3 in
-    sound_same t new.table_id new.me after (sound_claimed t me c.requires.sound log object found below story)
-    c.fetch_or-word.ensures.0 told.0
+    claimable_within t me.0.book.setup me.0.book.account c.args.object c.requires.sound.laid c.requires.can in
+    let found : ℕ = pair_mark c.fetch_or-word.result (c.args.object % 32) in
+    sound_after (sound_claimed t me c.requires.sound c.args.object found below) c.fetch_or-word.ensures.0
+    (c.fetch_or-word.ensures.2 c.args.object (own g c) c.pair_bits.ensures).0
 
-pub returns-clause-told : goal.returns-clause-told
-returns-clause-told g c =
-    let word = c.fetch_or-word.result in
+pub returns-clause-rests : goal.returns-clause-rests
+returns-clause-rests g c =
     let pair : ℕ = c.args.object % 32 in
-    let told = c.fetch_or-word.ensures.2 c.args.object (own g c) c.pair_bits.ensures in
-    (pair_mark word pair, told.0, low_tells word pair c.mark_place.result c.mark_place.ensures.value told.1)
-
-pub returns-clause-did : goal.returns-clause-did
-returns-clause-did g c = (c.fetch_or-word.ensures.2 c.args.object (own g c) c.pair_bits.ensures).2
+    let made = c.fetch_or-word.ensures.2 c.args.object (own g c) c.pair_bits.ensures in (
+      pair_mark c.fetch_or-word.result pair,
+      made.0,
+      low_tells c.fetch_or-word.result pair c.mark_place.result c.mark_place.ensures.value made.1,
+    )

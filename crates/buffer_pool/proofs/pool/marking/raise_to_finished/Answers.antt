@@ -1,13 +1,12 @@
 -- The step keeps the rule, and is the event.
 use Rattle.std.proofs.Common.{◌≡◌}
 use Rattle.mark_core.proofs.Sums.{stands_times}
-use Rattle.buffer_pool.specs.Book.{finished}
 use Rattle.buffer_pool.specs.working.Buffers.{buffer_reading}
-use Rattle.buffer_pool.specs.working.Plays.{finish_made, rested}
+use Rattle.buffer_pool.specs.working.Plays.{finish_made}
 use Rattle.buffer_pool.specs.working.Setups.{setup_of}
 use Rattle.buffer_pool.specs.working.Layout.{mark_word}
 use Rattle.buffer_pool.proofs.Claims.{finishes, own_word, sets_pair}
-use Rattle.buffer_pool.proofs.Sound.{same_story, sound_finished, sound_same}
+use Rattle.buffer_pool.proofs.Sound.{sound_after, sound_finished}
 use Rattle.buffer_pool.proofs.pool.marking.raise_to_finished.Given as given
 use Rattle.buffer_pool.proofs.pool.marking.raise_to_finished.Goals as goal
 
@@ -40,21 +39,12 @@ pub returns-clause-sound : goal.returns-clause-sound
 returns-clause-sound g c =
     let t = c.args.seat.now.table_id in
     let me = c.args.seat.now.me in
-    let object = c.args.object in
-    let told = c.fetch_or.ensures.2 object (own g c) c.pair_bits.ensures in
-    let new = c.fetch_or.new.seat in
-    let log = new.me.0.log in
-    let after = rested me log (finished object me.0.book) in
-    let mine = stands_times me.0.book.account.charge object c.requires.can.0 in
-    let story = same_story new.me after told.0 told.3 in
-    sound_same t new.table_id new.me after (sound_finished t me c.requires.sound log object mine story)
-    c.fetch_or.ensures.0 told.0
+    let mine = stands_times me.0.book.account.charge c.args.object c.requires.can.0 in
+    sound_after (sound_finished t me c.requires.sound c.args.object mine) c.fetch_or.ensures.0
+    (c.fetch_or.ensures.2 c.args.object (own g c) c.pair_bits.ensures).0
 
-pub returns-clause-told : goal.returns-clause-told
-returns-clause-told g c = (c.fetch_or.ensures.2 c.args.object (own g c) c.pair_bits.ensures).0
+pub returns-clause-rests : goal.returns-clause-rests
+returns-clause-rests g c = (c.fetch_or.ensures.2 c.args.object (own g c) c.pair_bits.ensures).0
 
 pub returns-clause-once : goal.returns-clause-once
 returns-clause-once g c = (c.fetch_or.ensures.2 c.args.object (own g c) c.pair_bits.ensures).1
-
-pub returns-clause-did : goal.returns-clause-did
-returns-clause-did g c = (c.fetch_or.ensures.2 c.args.object (own g c) c.pair_bits.ensures).2

@@ -11,7 +11,7 @@ use Rattle.buffer_pool.proofs.Loads.{settles}
 use Rattle.mark_core.specs.Lists.{times}
 use Rattle.mark_core.specs.Account.{after_join}
 use Rattle.mark_core.specs.Runs.{AreApart, HasEachOnce}
-use Rattle.buffer_pool.proofs.Parts.{apart_by, carries_joined, did_join, joins, ends_other, has_both}
+use Rattle.buffer_pool.proofs.Parts.{apart_by, carries_joined, has_joined, joins}
 use Rattle.buffer_pool.proofs.pool.shares.take_in.Given as given
 use Rattle.buffer_pool.proofs.pool.shares.take_in.Goals as goal
 
@@ -53,39 +53,25 @@ load-requires-2 g c =
           (omega (arith, sound.share, ap (λ (n : Token g). n.0.book.account.share) both)),
     )
 
--- the joined seat is sound, and tells the join
-pub returns-clause-joined : goal.returns-clause-joined
-returns-clause-joined g c =
+pub returns : goal.returns
+returns g c =
     let same = sym (c.requires.table.1 ∙ sym c.requires.table.0) in
-    has_both c.args.seat.now.table_id c.load-2.new.seat.table_id c.args.seat.now.me c.args.other.me c.load.new.seat.me
-    c.join_seat.new.seat.me c.load-2.new.seat.me (c.load-2.ensures.0 ∙ c.join_seat.ensures.0)
-    c.requires.sound.0 (subst (λ t. IsSound t c.args.other.me) (sym same) c.requires.sound.1) c.load.ensures.2
-    c.join_seat.ensures.2 c.load-2.ensures.2
-
-pub returns-clause-did : goal.returns-clause-did
-returns-clause-did g c =
-    let same = sym (c.requires.table.1 ∙ sym c.requires.table.0) in
-    did_join c.args.seat.now.table_id c.load-2.new.seat.table_id c.args.seat.now.me c.args.other.me c.load.new.seat.me
-    c.join_seat.new.seat.me c.load-2.new.seat.me (c.load-2.ensures.0 ∙ c.join_seat.ensures.0)
-    c.requires.sound.0 (subst (λ t. IsSound t c.args.other.me) (sym same) c.requires.sound.1) c.load.ensures.2
-    c.join_seat.ensures.2 c.load-2.ensures.2
-
-pub returns-clause-knows : goal.returns-clause-knows
-returns-clause-knows g c =
-    let same = sym (c.requires.table.1 ∙ sym c.requires.table.0) in
-    ends_other c.args.seat.now.table_id c.load-2.new.seat.table_id c.args.seat.now.me c.args.other.me c.load.new.seat.me
-    c.join_seat.new.seat.me c.load-2.new.seat.me (c.load-2.ensures.0 ∙ c.join_seat.ensures.0)
-    c.requires.sound.0 (subst (λ t. IsSound t c.args.other.me) (sym same) c.requires.sound.1) c.load.ensures.2
-    c.join_seat.ensures.2 c.load-2.ensures.2
-
-pub returns-clause-apart : goal.returns-clause-apart
-returns-clause-apart g c =
-    let told : HasEachOnce (after_join c.args.seat.now.me.0.book.account c.load.new.seat.me.0.book.account) =
+    let stays = c.load-2.ensures.0 ∙ c.join_seat.ensures.0 in
+    let all =
+    has_joined c.args.seat.now.table_id c.load-2.new.seat.table_id c.args.seat.now.me c.args.other.me c.load.new.seat.me
+    c.join_seat.new.seat.me c.load-2.new.seat.me stays c.requires.sound.0
+    (subst (λ t. IsSound t c.args.other.me) (sym same) c.requires.sound.1) c.load.ensures.2 c.join_seat.ensures.2
+    c.load-2.ensures.2 in
+    let each : HasEachOnce (after_join c.args.seat.now.me.0.book.account c.load.new.seat.me.0.book.account) =
     subst (λ (n : Token g). HasEachOnce n.0.book.account) c.join_seat.ensures.2 c.load-2.ensures.2.each in
-    subst (λ (n : Token g). AreApart c.args.seat.now.me.0.book.account n.0.book.account) c.load.ensures.2.same
-    (apart_by c.args.seat.now.me.0.book.account c.load.new.seat.me.0.book.account told)
-
-pub returns-clause-once : goal.returns-clause-once
-returns-clause-once g c o =
-    let same = ap (λ (n : Token g). times o n.0.book.account.finished) c.load-2.ensures.2.same in
-    omega (arith, same, c.load-2.ensures.2.each.objects o)
+    record {
+      same = stays;
+      joined = all.0;
+      apart = subst (λ (n : Token g). AreApart c.args.seat.now.me.0.book.account n.0.book.account) c.load.ensures.2.same
+          (apart_by c.args.seat.now.me.0.book.account c.load.new.seat.me.0.book.account each);
+      once = λ o.
+          let finished = ap (λ (n : Token g). times o n.0.book.account.finished) c.load-2.ensures.2.same in
+          omega (arith, finished, c.load-2.ensures.2.each.objects o);
+      did = all.1;
+      knows = all.2;
+    }

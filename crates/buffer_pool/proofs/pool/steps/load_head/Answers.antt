@@ -1,15 +1,16 @@
 -- A load of a head keeps the rule, and tells the head.
-use Rattle.std.proofs.Common.{◌≡◌, ℕ, ◌<◌, sym, subst, Some, arith}
+use Rattle.std.proofs.Common.{◌≡◌, ℕ, ◌<◌, [], ◌∷◌, sym, subst, Some, arith}
 use mathlib.Core.Option.{none}
 use Rattle.tagged_index.specs.Head.{Head}
+use Rattle.mark_core.specs.Event.{Load}
 use Rattle.atomic_table.specs.Table.{Allows, step}
 use Rattle.buffer_pool.specs.working.Buffers.{buffer_reading}
-use Rattle.buffer_pool.specs.working.Plays.{head_seen, rested}
+use Rattle.buffer_pool.specs.working.Plays.{RestsWith, head_seen}
 use Rattle.buffer_pool.specs.Book.{loaded}
 use Rattle.buffer_pool.specs.working.Setups.{setup_of}
 use Rattle.buffer_pool.specs.working.Table.{Rule}
 use Rattle.buffer_pool.proofs.Loads.{sees_head}
-use Rattle.buffer_pool.proofs.Sound.{same_story, sound_loaded, sound_same}
+use Rattle.buffer_pool.proofs.Sound.{sound_after, sound_loaded}
 use Rattle.buffer_pool.proofs.Words.{head_below}
 use Rattle.buffer_pool.proofs.pool.steps.load_head.Goals as goal
 
@@ -31,19 +32,15 @@ pub returns : goal.returns
 returns g c =
     let me = c.args.seat.now.me in
     let q = c.args.which in
-    let told = c.load.ensures.2 q c.head_word.ensures in
-    let now = subst (λ (h : Head). c.load.new.seat.me ≡ rested me c.load.new.seat.me.0.log (loaded q h me.0.book))
-    (sym c.from_word.ensures) told.0 in
+    let seen = c.load.ensures.2 q c.head_word.ensures in
+    let rests = subst (λ (h : Head). RestsWith me (loaded q h me.0.book) (Load q ∷ []) c.load.new.seat.me)
+    (sym c.from_word.ensures) seen.0 in
     record {
       same = (c.load.ensures.0, c.load.ensures.1);
       sound =
-          sound_same c.args.seat.now.table_id c.load.new.seat.table_id c.load.new.seat.me
-          (rested me c.load.new.seat.me.0.log (loaded q c.from_word.result me.0.book))
-          (sound_loaded c.args.seat.now.table_id me c.requires.sound c.load.new.seat.me.0.log q c.from_word.result
-          (same_story c.load.new.seat.me (rested me c.load.new.seat.me.0.log (loaded q c.from_word.result me.0.book))
-          now told.3)) c.load.ensures.0 now;
-      told = now;
+          sound_after (sound_loaded c.args.seat.now.table_id me c.requires.sound q c.from_word.result)
+          c.load.ensures.0 rests;
+      rests = rests;
       within = subst (λ (h : Head). (i : ℕ) → h.index ≡ Some i → i < me.0.book.setup.buffers)
-          (sym c.from_word.ensures) told.1;
-      did = told.2;
+          (sym c.from_word.ensures) seen.1;
     }

@@ -44,8 +44,8 @@ exchange_for_buffer-requires-clause-put g c =
       }),
     )
 
-pub returns-then-exchange_for_buffer-word-clause-told : goal.returns-then-exchange_for_buffer-word-clause-told
-returns-then-exchange_for_buffer-word-clause-told g c =
+pub returns-then-exchange_for_buffer-word-clause-puts : goal.returns-then-exchange_for_buffer-word-clause-puts
+returns-then-exchange_for_buffer-word-clause-puts g c =
     let me = c.args.seat.now.me in
     let i = c.held.inside.index in
     let b = c.held.inside.buffer in
@@ -54,7 +54,7 @@ returns-then-exchange_for_buffer-word-clause-told g c =
     let at = carried_with me c.exchange.new.seat.me i c.args.held.index b c.exchange.ensures.3 c.requires.stored.0 in
     told_of c.exchange.new.seat.me me c.exchange_for_buffer.new.seat.me c.args.which i c.args.held.index b.items.items
     c.args.held.items (λ k. (at k).0) index items
-    (c.exchange_for_buffer.ensures.told.0 c.if-exchange_for_buffer-word.true i b (λ k. (at k).1))
+    (c.exchange_for_buffer.ensures.exchanges.0 c.if-exchange_for_buffer-word.true i b (λ k. (at k).1))
 
 pub exchange-requires-2 : goal.exchange-requires-2
 exchange-requires-2 g c =
@@ -62,7 +62,7 @@ exchange-requires-2 g c =
     let i = c.held.inside.index in
     let b = c.held.inside.buffer in
     let at = carried_with me c.exchange.new.seat.me i c.args.held.index b c.exchange.ensures.3 c.requires.stored.0 in
-    let back = c.exchange_for_buffer.ensures.told.1 c.if-exchange_for_buffer-word.false in
+    let back = c.exchange_for_buffer.ensures.exchanges.1 c.if-exchange_for_buffer-word.false in
     let carried = still_carried c.exchange.new.seat.me c.exchange_for_buffer.new.seat.me i b (λ k. (back.0 k).1)
     (λ k. (at k).1) in (
       stays c.args.words.now.table_id c.args.seat.now.table_id c.exchange.new.seat.table_id

@@ -30,8 +30,8 @@ store-requires g c =
           (omega (arith, low, same, c.link_to.ensures)),
     )
 
-pub returns-clause-told : goal.returns-clause-told
-returns-clause-told g c =
+pub returns-clause-takes_out : goal.returns-clause-takes_out
+returns-clause-takes_out g c =
     (c.store.ensures.2 c.args.index refl).0
     ∙ ap (λ n. (
       record (logged c.store.new.seat.me.0.log c.args.seat.now.me.0) {
