@@ -4,33 +4,25 @@ use Rattle.std.proofs.Common.{None, Result, Ok, Err, refl, sym, ap, subst, ◌�
 use Rattle.mark_core.specs.declared.which.Which.{Which}
 use Rattle.mark_core.specs.declared.which.Which.TheVariants.{Full, Empty}
 use Rattle.std.proofs.lemmas.List.{append-nil}
+use Rattle.atomic_table.specs.Seated.{TableId}
 use Rattle.mark_core.specs.Event.{IsBusy}
-use Rattle.mark_core.specs.Lists.{times}
 use Rattle.buffer_pool.specs.Book.{Book}
-use Rattle.buffer_pool.specs.Calls.{HeldBuffer}
+use Rattle.buffer_pool.specs.Calls.{HeldBuffer, Holder}
 use Rattle.work_pair.specs.Deals.{Gives, GivesLowerPart, HasMore, lower_part, push_of}
 use Rattle.work_pair.specs.Moves.{Move, Took, Gave, FoundNone, IsOnFull, HasPushOnFull, HasPopFromFull, WasSeenEmpty}
-use Rattle.work_pair.specs.PairState.{items_at, buffer_number, pair_items, HasRoom, HasRoomAt, IsOfSize, AreOfSize}
-use Rattle.work_pair.specs.PairState.{AreAlike}
-use Rattle.work_pair.specs.PairState.{IsBacked}
+use Rattle.work_pair.specs.PairState.{PairState, items_at, pair_items, IsOfSize, AreOfSize, AreAlike, IsBacked}
 use Rattle.work_pair.specs.declared.stop.Stop.{Stop}
 use Rattle.work_pair.specs.declared.stop.Stop.TheVariants.{TagSpent, OutOfMemory}
+use Rattle.work_pair.specs.working.Asks.{IsBackedAt, MayRenew, MayTrade}
 use Rattle.work_pair.specs.working.Steps.{EndsOut, FindsNone, PublishAnswers, PublishesAt, PutAnswers, Renews}
-use Rattle.work_pair.specs.working.Steps.{RenewAnswers}
-use Rattle.work_pair.specs.working.Steps.{Trades}
+use Rattle.work_pair.specs.working.Steps.{RenewAnswers, Trades}
 use Rattle.work_pair.specs.working.Steps.{next_of, places, pushed_part, shelf_of, shelving_of}
 use Rattle.work_pair.proofs.Effects.{busy_after, moves_effect}
 use Rattle.work_pair.proofs.Locals.{put_first, swapped}
 use Rattle.work_pair.proofs.Renewing.{out_alone}
 use Rattle.work_pair.proofs.Spilling.{none_in}
-use Rattle.work_pair.proofs.Trading.{backed_after, end_on, first_renewed, items_sum, numbers_sum, on_and_on}
-use Rattle.work_pair.proofs.Trading.{out_on, second_renewed, sized_after, still}
-
--- both buffers were full
-pub full_told : (f s t x : Option HeldBuffer) → x ≡ s → (HasRoomAt f → ⊥) → (HasRoomAt x → ⊥) → {P : Type 0}
-    → HasRoom (places f s t) → P
-full_told f s t x is no_first no_second room =
-    absurd (⊎_elim no_first (λ r. no_second (subst HasRoomAt (sym is) r)) room)
+use Rattle.work_pair.proofs.Trading.{backed_after, end_on, first_backed, first_renewed, on_and_on, out_on}
+use Rattle.work_pair.proofs.Trading.{second_backed, second_renewed, sized_after, still, untouched}
 
 -- a look for an empty buffer pushes nothing on full
 quiet_alone : (ms : List Move) → ms ≡ FoundNone Empty ∷ [] → HasPushOnFull ms → ⊥
@@ -79,6 +71,17 @@ gives_lower (Some k) s t n third h ms many none is n_is push =
 some_items : (xs : List ℕ) → 0 < length xs → xs ≢ []
 some_items xs some none = omega (arith, some, ap length none)
 
+-- what may be traded may be renewed
+module _ (p : PairState) (w : Holder) (pool : TableId) (besides : List ℕ) (may : MayTrade w pool p besides) where
+  may_renew : (place : Option HeldBuffer) → IsBackedAt place w.book → MayRenew w pool place p.third
+  may_renew place backed = record { same = may.same; vacant = may.third; backed = backed; busy = may.busy }
+
+  pub may_renew_first : MayRenew w pool p.first p.third
+  may_renew_first = may_renew p.first (first_backed p besides w.book may.backed)
+
+  pub may_renew_second : MayRenew w pool p.second p.third
+  may_renew_second = may_renew p.second (second_backed p besides w.book may.backed)
+
 module _ (f s t : Option HeldBuffer) (b : Book) (vacant : t ≡ None)
     (sized : AreOfSize b.setup.size (places f s t)) where
   -- both buffers were full, and changed places; then the first was renewed
@@ -122,25 +125,14 @@ module _ (f s t : Option HeldBuffer) (b : Book) (vacant : t ≡ None)
     pub put_refused : RenewAnswers false Empty b.setup.size p b n third c (Ok false)
         → FindsNone (places f s t) b (places n y third) c
     put_refused told =
-        let alike : AreAlike (places f s t) (places n y third) =
-        record {
-          items = λ o. omega (
-            arith,
-            items_sum o (places f s t),
-            items_sum o (places n y third),
-            ap (λ (q : Option HeldBuffer). times o (items_at q)) (told.2 ∙ p_is),
-            ap (λ (q : Option HeldBuffer). times o (items_at q)) y_is,
-            ap (λ (q : Option HeldBuffer). times o (items_at q)) (told.1 ∙ sym vacant),
-          );
-          buffers = λ i. omega (
-            arith,
-            numbers_sum i (places f s t),
-            numbers_sum i (places n y third),
-            ap (λ (q : Option HeldBuffer). times i (buffer_number q)) (told.2 ∙ p_is),
-            ap (λ (q : Option HeldBuffer). times i (buffer_number q)) y_is,
-            ap (λ (q : Option HeldBuffer). times i (buffer_number q)) (told.1 ∙ sym vacant),
-          );
-        } in (renewed_then told.0, told.1, told.4, alike)
+        let change = swapped f s t n y (told.2 ∙ p_is) y_is in
+        let alike : AreAlike (places f s t) (places n y t) =
+        record { items = λ o. omega (arith, change.items o); buffers = λ i. omega (arith, change.buffers i) } in (
+          renewed_then told.0,
+          told.1,
+          told.4,
+          subst (λ (w : Option HeldBuffer). AreAlike (places f s t) (places n y w)) (vacant ∙ sym told.1) alike,
+        )
 
     pub put_stopped : (stop : Stop) → RenewAnswers false Empty b.setup.size p b n third c (Err stop)
         → EndsOut (places f s t) b (places n y third) c stop
@@ -212,8 +204,7 @@ module _ (f s t : Option HeldBuffer) (b : Book) (vacant : t ≡ None)
       × (HasMore (places f s t) → (u.moves ≡ FoundNone Empty ∷ []) ⊎ HasPushOnFull u.moves)
       × (HasPopFromFull u.moves → ⊥) × Gives (places f s t) u.moves (places f s t)
   few_left none few = (
-    still (places f s t) b [] [] (places f s t)
-        (record { items = λ o. omega arith; buffers = λ i. refl; sized = λ size of. of }) sized,
+    untouched (places f s t) b sized,
     vacant,
     λ more. absurd (⊎_elim (λ some. some (none_in (items_at s) none)) (λ many. omega (arith, many, few)) more),
     λ pop. pop,
@@ -228,11 +219,15 @@ pub none_last : (xs ys : List ℕ) → xs ++ ys ≡ [] → ys ≡ []
 none_last [] ys none = none
 none_last (x ∷ xs) ys none = absurd (omega (arith, ap length none))
 
--- a pair without items has none at its first place, and none at its second
-pub none_at : (f s t : Option HeldBuffer) → pair_items (places f s t) ≡ [] → (items_at f ≡ []) × (items_at s ≡ [])
+-- a pair without items has none at any of its places
+pub none_at : (f s t : Option HeldBuffer) → pair_items (places f s t) ≡ []
+    → (items_at f ≡ []) × (items_at s ≡ []) × (items_at t ≡ [])
 none_at f s t none =
-    let both = none_first (items_at f ++ items_at s) (items_at t) none in
-    (none_first (items_at f) (items_at s) both, none_last (items_at f) (items_at s) both)
+    let both = none_first (items_at f ++ items_at s) (items_at t) none in (
+      none_first (items_at f) (items_at s) both,
+      none_last (items_at f) (items_at s) both,
+      none_last (items_at f ++ items_at s) (items_at t) none,
+    )
 
 none_of : (xs ys zs : List ℕ) → xs ≡ [] → ys ≡ [] → zs ≡ [] → xs ++ ys ++ zs ≡ []
 none_of xs ys zs x y z = ap (λ (l : List ℕ). l ++ ys ++ zs) x ∙ ap (λ (l : List ℕ). l ++ zs) y ∙ z
@@ -246,11 +241,12 @@ module _ (f s t n third : Option HeldBuffer) (b c : Book) (vacant : t ≡ None)
   publish_stopped OutOfMemory none = absurd none
 
   module _ (done : Unit) (first : PublishesAt b.setup.size f b n third c (Ok done)) where
-    abbrev pub first_published : Trades (places f s t) b [] [] (places n s third) c
+    abbrev first_published : Trades (places f s t) b [] [] (places n s third) c
     first_published = first_renewed f s t n third b c vacant first.0 sized.second
 
-    pub published_backed : IsBacked (places f s t) [] b → IsBacked (places n s third) [] c
-    published_backed backed = backed_after (places f s t) b [] [] (places n s third) c backed first_published
+    pub published_backed : IsBacked (places f s t) [] b → IsBackedAt s c
+    published_backed backed = second_backed (places n s third) [] c
+        (backed_after (places f s t) b [] [] (places n s third) c backed first_published)
 
     pub published_busy : IsBusy b.account → IsBusy c.account
     published_busy = busy_after first.0.moves b c first.0.books
@@ -258,23 +254,25 @@ module _ (f s t n third : Option HeldBuffer) (b c : Book) (vacant : t ≡ None)
     now_sized : AreOfSize c.setup.size (places n s third)
     now_sized = sized_after (places f s t) b [] [] (places n s third) c first_published
 
-    pub both_published : (m last : Option HeldBuffer) (d : Book) (r : Result Unit Stop)
-        → PublishesAt c.setup.size s c m last d r → PublishAnswers (places f s t) b (places n m last) d r
-    both_published m last d (Ok again) second =
-        let t₂ = second_renewed n s third m last c d first.1 second.0 now_sized.first in
-        let all = on_and_on (places f s t) b (places n s third) c [] [] (places n m last) d first_published t₂ in
-        let e₁ = moves_effect first.0.moves b c first.0.books in
-        let e₂ = moves_effect second.0.moves c d second.0.books in
-        let seen : WasSeenEmpty Empty b d ⊎ (pair_items (places n m last) ≡ []) =
-        ⊎_elim (λ saw. inl (omega (arith, saw, e₂.empties)))
-        (λ none. ⊎_elim (λ saw. inl (omega (arith, saw, e₁.empties)))
-        (λ none₂. inr (none_of (items_at n) (items_at m) (items_at last) none none₂ (ap items_at second.1)))
-        second.2) first.2 in
-        (all, second.1, seen, out_on first.0.moves second.0.moves first.3 second.3)
-    both_published m last d (Err TagSpent) second =
-        let t₂ = second_renewed n s third m last c d first.1 second.0 now_sized.first in (
-          on_and_on (places f s t) b (places n s third) c [] [] (places n m last) d first_published t₂,
-          end_on first.0.moves second.0.moves second.1,
-          out_on first.0.moves second.0.moves first.3 second.2,
-        )
-    both_published m last d (Err OutOfMemory) none = absurd none
+    module _ (m last : Option HeldBuffer) (d : Book) where
+      abbrev both : Renews c.setup.size s c m last d → Trades (places f s t) b [] [] (places n m last) d
+      both second = on_and_on (places f s t) b (places n s third) c [] [] (places n m last) d first_published
+          (second_renewed n s third m last c d first.1 second now_sized.first)
+
+      pub both_published : (r : Result Unit Stop) → PublishesAt c.setup.size s c m last d r
+          → PublishAnswers (places f s t) b (places n m last) d r
+      both_published (Ok again) second =
+          let e₁ = moves_effect first.0.moves b c first.0.books in
+          let e₂ = moves_effect second.0.moves c d second.0.books in
+          let seen : WasSeenEmpty Empty b d ⊎ (pair_items (places n m last) ≡ []) =
+          ⊎_elim (λ saw. inl (omega (arith, saw, e₂.empties)))
+          (λ none. ⊎_elim (λ saw. inl (omega (arith, saw, e₁.empties)))
+          (λ none₂. inr (none_of (items_at n) (items_at m) (items_at last) none none₂ (ap items_at second.1)))
+          second.2) first.2 in
+          (both second.0, second.1, seen, out_on first.0.moves second.0.moves first.3 second.3)
+      both_published (Err TagSpent) second = (
+        both second.0,
+        end_on first.0.moves second.0.moves second.1,
+        out_on first.0.moves second.0.moves first.3 second.2,
+      )
+      both_published (Err OutOfMemory) none = absurd none

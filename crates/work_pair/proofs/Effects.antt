@@ -10,6 +10,7 @@ use Rattle.mark_core.specs.Lists.{times, only, IsPart}
 use Rattle.mark_core.proofs.Sums.{sum_of-append, times-remove_one, times-without, stands_times}
 use Rattle.buffer_pool.specs.Book.{Book, loaded, link_loaded, popped, pushed, empties_of}
 use Rattle.buffer_pool.specs.Calls.{HeldBuffer}
+use Rattle.work_pair.specs.Deals.{Keeps}
 use Rattle.work_pair.specs.Moves.{Move, Took, Gave, FoundNone, Ended, Moved, Moves, taken_items, taken_number}
 use Rattle.work_pair.specs.Moves.{given_items, given_number, popped_items, popped_numbers, pushed_items, pushed_numbers}
 use Rattle.work_pair.specs.Moves.{IsOnFull, HasPushOnFull}
@@ -17,11 +18,8 @@ use Rattle.work_pair.proofs.Looks.{IsLook, look_again, look_at_all, look_head, l
 
 -- what a worker has after moves, by the buffers that it popped and pushed
 pub record IsEffect (old new : Book) (given taken given_numbers taken_numbers : List ℕ) : Type 0 where
-  pub setup : new.setup ≡ old.setup
-  pub share : new.account.share ≡ old.account.share
-  pub idle : new.account.idle ≡ old.account.idle
-  pub seen : new.account.seen ≡ old.account.seen
-  pub finished : new.account.finished ≡ old.account.finished
+  pub kept : Keeps old new
+  pub open kept use *
   pub charge : (o : ℕ) → times o new.account.charge + times o given ≡ times o old.account.charge + times o taken
   pub held : (i : ℕ)
       → times i new.account.held + times i given_numbers ≡ times i old.account.held + times i taken_numbers
@@ -31,72 +29,40 @@ pub record IsEffect (old new : Book) (given taken given_numbers taken_numbers : 
 look_effect : (old new : Book) → IsLook old new → IsEffect old new [] [] [] []
 look_effect old new l =
     record {
-      setup = l.setup;
-      share = l.share;
-      idle = l.idle;
-      seen = l.seen;
-      finished = l.finished;
+      kept = grind arith;
       charge = λ o. ap (λ xs. times o xs + 0) l.charge;
       held = λ i. ap (λ xs. times i xs + 0) l.held;
       fulls = l.fulls;
       empties = l.empties;
     }
 
-module _ (q : Which) (h : HeldBuffer) (old new : Book) where
+module _ (q : Which) (h : HeldBuffer) (old new b : Book) (l : IsLook old b) where
   -- a buffer was popped after a look
-  pop_effect : (b : Book) → IsLook old b → new ≡ popped h.index h.items b
-      → IsEffect old new [] h.items [] (h.index ∷ [])
-  pop_effect b l is =
-      record {
-        setup = ap (λ (c : Book). c.setup) is ∙ l.setup;
-        share = ap (λ (c : Book). c.account.share) is ∙ l.share;
-        idle = ap (λ (c : Book). c.account.idle) is ∙ l.idle;
-        seen = ap (λ (c : Book). c.account.seen) is ∙ l.seen;
-        finished = ap (λ (c : Book). c.account.finished) is ∙ l.finished;
-        charge = λ o. omega (
-          arith,
-          ap (λ (c : Book). times o c.account.charge) is,
-          sum_of-append (only o) b.account.charge h.items,
-          ap (times o) l.charge,
-        );
-        held = λ i. omega (
-          arith,
-          ap (λ (c : Book). times i c.account.held) is,
-          sum_of-append (only i) b.account.held (h.index ∷ []),
-          ap (times i) l.held,
-        );
-        fulls = omega (arith, ap (λ (c : Book). c.full_empties) is, l.fulls);
-        empties = omega (arith, ap (λ (c : Book). c.empty_empties) is, l.empties);
-      }
+  pop_effect : new ≡ popped h.index h.items b → IsEffect old new [] h.items [] (h.index ∷ [])
+  pop_effect is =
+      subst (λ (c : Book). IsEffect old c [] h.items [] (h.index ∷ [])) (sym is)
+      (record {
+        kept = grind arith;
+        charge = λ o. omega (arith, sum_of-append (only o) b.account.charge h.items, ap (times o) l.charge);
+        held = λ i. omega (arith, sum_of-append (only i) b.account.held (h.index ∷ []), ap (times i) l.held);
+        fulls = l.fulls;
+        empties = l.empties;
+      })
 
   -- a buffer was pushed after a look
-  push_effect : (b : Book) → IsLook old b → new ≡ pushed q h.index h.items b → 0 < times h.index old.account.held
-      → IsPart h.items old.account.charge
-      → IsEffect old new h.items [] (h.index ∷ []) []
-  push_effect b l is there part =
+  push_effect : new ≡ pushed q h.index h.items b → 0 < times h.index old.account.held
+      → IsPart h.items old.account.charge → IsEffect old new h.items [] (h.index ∷ []) []
+  push_effect is there part =
       let here : 0 < times h.index b.account.held = omega (arith, there, ap (times h.index) l.held) in
       let among : IsPart h.items b.account.charge = λ x. omega (arith, part x, ap (times x) l.charge) in
-      record {
-        setup = ap (λ (c : Book). c.setup) is ∙ l.setup;
-        share = ap (λ (c : Book). c.account.share) is ∙ l.share;
-        idle = ap (λ (c : Book). c.account.idle) is ∙ l.idle;
-        seen = ap (λ (c : Book). c.account.seen) is ∙ l.seen;
-        finished = ap (λ (c : Book). c.account.finished) is ∙ l.finished;
-        charge = λ o. omega (
-          arith,
-          ap (λ (c : Book). times o c.account.charge) is,
-          times-without h.items b.account.charge among o,
-          ap (times o) l.charge,
-        );
-        held = λ i. omega (
-          arith,
-          ap (λ (c : Book). times i c.account.held) is,
-          times-remove_one i h.index b.account.held here,
-          ap (times i) l.held,
-        );
-        fulls = omega (arith, ap (λ (c : Book). c.full_empties) is, l.fulls);
-        empties = omega (arith, ap (λ (c : Book). c.empty_empties) is, l.empties);
-      }
+      subst (λ (c : Book). IsEffect old c h.items [] (h.index ∷ []) []) (sym is)
+      (record {
+        kept = grind arith;
+        charge = λ o. omega (arith, times-without h.items b.account.charge among o, ap (times o) l.charge);
+        held = λ i. omega (arith, times-remove_one i h.index b.account.held here, ap (times i) l.held);
+        fulls = l.fulls;
+        empties = l.empties;
+      })
 
 looked : (q : Which) (head : Head) (old mid new : Book) → IsLook old mid → new ≡ loaded q head mid → IsLook old new
 looked q head old mid new l is =
@@ -130,11 +96,7 @@ effect_again : (a b c : Book) (g₀ t₀ gn₀ tn₀ g₁ t₁ gn₁ tn₁ : Lis
     → IsEffect b c g₁ t₁ gn₁ tn₁ → IsEffect a c (g₀ ++ g₁) (t₀ ++ t₁) (gn₀ ++ gn₁) (tn₀ ++ tn₁)
 effect_again a b c g₀ t₀ gn₀ tn₀ g₁ t₁ gn₁ tn₁ s t =
     record {
-      setup = t.setup ∙ s.setup;
-      share = t.share ∙ s.share;
-      idle = t.idle ∙ s.idle;
-      seen = t.seen ∙ s.seen;
-      finished = t.finished ∙ s.finished;
+      kept = grind arith;
       charge = λ o. omega (arith, s.charge o, t.charge o, sum_of-append (only o) g₀ g₁, sum_of-append (only o) t₀ t₁);
       held = λ i. omega (arith, s.held i, t.held i, sum_of-append (only i) gn₀ gn₁, sum_of-append (only i) tn₀ tn₁);
       fulls = omega (arith, s.fulls, t.fulls);
@@ -151,14 +113,10 @@ moves_effect (move ∷ moves) old new p =
     (move_effect move old p.0 p.1) (moves_effect moves p.0 new p.2)
 
 -- a worker that is not idle stays so
-pub busy_on : (old new : Book) → new.account.share ≡ old.account.share → new.account.idle ≡ old.account.idle
-    → IsBusy old.account → IsBusy new.account
-busy_on old new share idle busy =
-    ⊎_elim (λ more. inl (λ one. more (sym share ∙ one))) (λ at_work. inr (idle ∙ at_work)) busy
-
 pub busy_after : (moves : List Move) (old new : Book) → Moves old moves new → IsBusy old.account → IsBusy new.account
 busy_after moves old new p busy =
-    let e = moves_effect moves old new p in busy_on old new e.share e.idle busy
+    let e = moves_effect moves old new p in
+    ⊎_elim (λ more. inl (λ one. more (sym e.share ∙ one))) (λ at_work. inr (e.idle ∙ at_work)) busy
 
 -- without a push on full no push opens
 move_closed : (move : Move) (old new : Book) → Moved move old new → (IsOnFull move → ⊥)

@@ -2,20 +2,19 @@
 use Rattle.std.proofs.Common.{false, ◌≡◌, ℕ, List, [], ◌∷◌, ◌++◌, Option, Some, None, Ok, Err, refl, ap, ◌∙◌, arith}
 use Rattle.mark_core.specs.declared.which.Which.TheVariants.{Full}
 use Rattle.mark_core.specs.Event.{IsBusy}
-use Rattle.mark_core.specs.Lists.{IsPart}
 use Rattle.buffer_pool.specs.Book.{Book}
 use Rattle.buffer_pool.specs.Calls.{HeldBuffer}
 use Rattle.work_pair.specs.Moves.{Ended}
-use Rattle.work_pair.specs.PairState.{PairState, items_at, pair_items, buffer_number, AreOfSize, IsOfSize, IsBacked}
+use Rattle.work_pair.specs.PairState.{PairState, items_at, pair_items, AreOfSize, IsBacked}
 use Rattle.work_pair.specs.declared.stop.Stop.{Stop}
 use Rattle.work_pair.specs.declared.stop.Stop.TheVariants.{TagSpent, OutOfMemory}
 use Rattle.work_pair.specs.declared.buffers.Buffers.{Buffers}
+use Rattle.work_pair.specs.working.Asks.{IsBackedAt}
 use Rattle.work_pair.specs.working.Buffers.{places_of}
 use Rattle.work_pair.specs.working.Steps.{Ends, GetAnswers, PopsOne, PutsOut, Takes, Trades, places}
 use Rattle.work_pair.proofs.Effects.{busy_after, found_none, found_none_closes, found_none_tells, moves_effect}
-use Rattle.work_pair.proofs.Renewing.{put_out_done, put_out_stopped, still_busy, still_charged, still_held, still_sized}
-use Rattle.work_pair.proofs.Renewing.{took_size}
-use Rattle.work_pair.proofs.Trading.{backed_after, ended_at, end_on, first_charged, first_held, first_renewed}
+use Rattle.work_pair.proofs.Renewing.{put_out_done, put_out_stopped, still_backed, still_busy, took_size}
+use Rattle.work_pair.proofs.Trading.{backed_after, ended_at, end_on, first_backed, first_renewed}
 use Rattle.work_pair.proofs.Trading.{found_none_at, on_and_on, sized_after, still}
 
 -- where no object was taken there was none
@@ -81,25 +80,20 @@ module _ {A : Type 0} (old : PairState) (b₀ : Book) (backed : IsBacked old [] 
 
     -- a buffer was popped, and takes the place of the first
     module _ (h : HeldBuffer) (mid : Book) (popped : PopsOne Full b mid (Ok (Some h))) where
-      pub held_here : IsPart (buffer_number q.first) mid.account.held
-      held_here = still_held q.first Full h b mid popped (first_held (places_of q) [] b backed_here)
-
-      pub charged_here : IsPart (items_at q.first) mid.account.charge
-      charged_here = still_charged q.first Full h b mid popped (first_charged (places_of q) [] b backed_here)
-
-      pub of_size_here : IsOfSize mid.setup.size q.first
-      of_size_here = still_sized q.first Full h b mid popped sized_here.first
+      pub backed_at_first : IsBackedAt q.first mid
+      backed_at_first = still_backed q.first Full h b mid popped q.first h (λ o. refl) refl
+          (first_backed (places_of q) [] b backed_here) sized_here.first
 
       pub busy_here : IsBusy b₀.account → IsBusy mid.account
-      busy_here busy = still_busy q.first Full h b mid popped (now_busy busy)
+      busy_here busy = still_busy Full h b mid popped (now_busy busy)
 
       module _ (n third : Option HeldBuffer) (c : Book) where
         pub turned : (done : Unit) → PutsOut q.first h mid n third c (Ok done)
             → Trades old b₀ [] [] (places n q.second third) c × (third ≡ None)
         turned done out =
             let told =
-            put_out_done b.setup.size q.first b Full h mid popped q.first h (λ o. refl) refl refl sized_here.first
-            (took_size q.first Full h b mid popped) c n third false refl refl done (λ some. some) out in (
+            put_out_done q.first Full h b mid popped q.first h (λ o. refl) refl b.setup.size refl sized_here.first
+            (took_size Full h b mid popped) c n third false refl refl done (λ some. some) out in (
               on_and_on old b₀ (places_of q) b [] [] (places n q.second third) c looked
                   (first_renewed q.first q.second q.third n third b c still_vacant told.0 sized_here.second),
               told.1,
@@ -110,8 +104,8 @@ module _ {A : Type 0} (old : PairState) (b₀ : Book) (backed : IsBacked old [] 
         put_stopped OutOfMemory none = absurd none
         put_stopped TagSpent out =
             let told =
-            put_out_stopped b.setup.size q.first b Full h mid popped q.first h (λ o. refl) refl refl sized_here.first
-            (took_size q.first Full h b mid popped) c n third false TagSpent out in
+            put_out_stopped q.first Full h b mid popped q.first h (λ o. refl) refl b.setup.size refl sized_here.first
+            (took_size Full h b mid popped) c n third false TagSpent out in
             let r = first_renewed q.first q.second q.third n third b c still_vacant told.0 sized_here.second in (
               on_and_on old b₀ (places_of q) b [] [] (places n q.second third) c looked r,
               end_on looked.moves r.moves told.1,

@@ -1,10 +1,10 @@
 -- Changes of a pair that its worker's stacks do not see.
-use Rattle.std.proofs.Common.{◌≡◌, ℕ, List, [], ◌∷◌, ◌++◌, Option, Some, None, MatchOption, refl, sym, ap, subst, ◌∙◌}
+use Rattle.std.proofs.Common.{◌≡◌, ℕ, ◌+◌, List, [], ◌∷◌, ◌++◌, Option, Some, None, MatchOption, refl, sym, ap, subst, ◌∙◌}
 use Rattle.std.proofs.Common.{arith}
 use Rattle.mark_core.specs.Lists.{times, only}
 use Rattle.mark_core.proofs.Sums.{sum_of-append}
 use Rattle.buffer_pool.specs.Calls.{HeldBuffer}
-use Rattle.work_pair.specs.PairState.{items_at, buffer_number, IsOfSize}
+use Rattle.work_pair.specs.PairState.{items_at}
 use Rattle.work_pair.specs.working.Steps.{IsLocal, Takes, places}
 use Rattle.work_pair.proofs.Trading.{items_sum, numbers_sum}
 
@@ -12,85 +12,56 @@ module _ (f s t : Option HeldBuffer) where
   -- the two buffers change places
   pub swapped : (x y : Option HeldBuffer) → x ≡ s → y ≡ f → IsLocal (places f s t) (places x y t) [] []
   swapped x y x_is y_is =
-      record {
-        items = λ o. omega (
-          arith,
-          items_sum o (places f s t),
-          items_sum o (places x y t),
-          ap (λ (p : Option HeldBuffer). times o (items_at p)) x_is,
-          ap (λ (p : Option HeldBuffer). times o (items_at p)) y_is,
-        );
-        buffers = λ i. omega (
-          arith,
-          numbers_sum i (places f s t),
-          numbers_sum i (places x y t),
-          ap (λ (p : Option HeldBuffer). times i (buffer_number p)) x_is,
-          ap (λ (p : Option HeldBuffer). times i (buffer_number p)) y_is,
-        );
-        sized = λ size of. record {
-          first = subst (IsOfSize size) (sym x_is) of.second;
-          second = subst (IsOfSize size) (sym y_is) of.first;
-          third = of.third;
-        };
-      }
+      subst (λ (p : Option HeldBuffer). IsLocal (places f s t) (places p y t) [] []) (sym x_is)
+      (subst (λ (p : Option HeldBuffer). IsLocal (places f s t) (places s p t) [] []) (sym y_is)
+      (record {
+        items = λ o. omega (arith, items_sum o (places f s t), items_sum o (places s f t));
+        buffers = λ i. omega (arith, numbers_sum i (places f s t), numbers_sum i (places s f t));
+        sized = λ size of. record { first = of.second; second = of.first; third = of.third };
+      }))
+
+  -- the first has other items
+  module _ (h k : HeldBuffer) (g : Option HeldBuffer) (f_is : f ≡ Some h) (g_is : g ≡ Some k) where
+    first_changed : k ≡ record h { items = k.items } → (put got : List ℕ)
+        → ((x : ℕ) → times x k.items + times x got ≡ times x h.items + times x put)
+        → IsLocal (places f s t) (places g s t) put got
+    first_changed same put got items =
+        subst (λ (p : Option HeldBuffer). IsLocal (places p s t) (places g s t) put got) (sym f_is)
+        (subst (λ (p : Option HeldBuffer). IsLocal (places (Some h) s t) (places p s t) put got) (sym g_is)
+        (record {
+          items = λ x. omega (
+            arith,
+            items x,
+            items_sum x (places (Some h) s t),
+            items_sum x (places (Some k) s t),
+          );
+          buffers = λ i. omega (
+            arith,
+            numbers_sum i (places (Some h) s t),
+            numbers_sum i (places (Some k) s t),
+            ap (λ (m : HeldBuffer). times i (m.index ∷ [])) same,
+          );
+          sized = λ size of. record {
+            first = ap (λ (m : HeldBuffer). m.size) same ∙ of.first;
+            second = of.second;
+            third = of.third;
+          };
+        }))
 
   -- an object is put into the first
   pub put_first : (h : HeldBuffer) (o : ℕ) (g : Option HeldBuffer) → f ≡ Some h
       → g ≡ Some (record h { items = h.items ++ o ∷ [] }) → IsLocal (places f s t) (places g s t) (o ∷ []) []
   put_first h o g f_is g_is =
-      record {
-        items = λ x. omega (
-          arith,
-          items_sum x (places f s t),
-          items_sum x (places g s t),
-          ap (λ (p : Option HeldBuffer). times x (items_at p)) f_is,
-          ap (λ (p : Option HeldBuffer). times x (items_at p)) g_is,
-          sum_of-append (only x) h.items (o ∷ []),
-        );
-        buffers = λ i. omega (
-          arith,
-          numbers_sum i (places f s t),
-          numbers_sum i (places g s t),
-          ap (λ (p : Option HeldBuffer). times i (buffer_number p)) f_is,
-          ap (λ (p : Option HeldBuffer). times i (buffer_number p)) g_is,
-        );
-        sized = λ size of. record {
-          first = subst (IsOfSize size) (sym g_is) (subst (IsOfSize size) f_is of.first);
-          second = of.second;
-          third = of.third;
-        };
-      }
+      first_changed h (record h { items = h.items ++ o ∷ [] }) g f_is g_is refl (o ∷ []) []
+      (λ x. omega (arith, sum_of-append (only x) h.items (o ∷ [])))
 
   -- an object is taken out of the first
   pub take_first : (h k : HeldBuffer) (o : ℕ) (g : Option HeldBuffer) → f ≡ Some h → g ≡ Some k
       → h.items ≡ k.items ++ o ∷ [] → k ≡ record h { items = k.items }
       → IsLocal (places f s t) (places g s t) [] (o ∷ [])
   take_first h k o g f_is g_is last same =
-      record {
-        items = λ x. omega (
-          arith,
-          items_sum x (places f s t),
-          items_sum x (places g s t),
-          ap (λ (p : Option HeldBuffer). times x (items_at p)) f_is,
-          ap (λ (p : Option HeldBuffer). times x (items_at p)) g_is,
-          ap (times x) last,
-          sum_of-append (only x) k.items (o ∷ []),
-        );
-        buffers = λ i. omega (
-          arith,
-          numbers_sum i (places f s t),
-          numbers_sum i (places g s t),
-          ap (λ (p : Option HeldBuffer). times i (buffer_number p)) f_is,
-          ap (λ (p : Option HeldBuffer). times i (buffer_number p)) g_is,
-          ap (λ (m : HeldBuffer). times i (m.index ∷ [])) same,
-        );
-        sized = λ size of. record {
-          first = subst (IsOfSize size) (sym g_is)
-              (ap (λ (m : HeldBuffer). m.size) same ∙ subst (IsOfSize size) f_is of.first);
-          second = of.second;
-          third = of.third;
-        };
-      }
+      first_changed h k g f_is g_is same [] (o ∷ [])
+      (λ x. omega (arith, ap (times x) last, sum_of-append (only x) k.items (o ∷ [])))
 
 -- one change after another
 pub local_again : (f s t x y z g v : Option HeldBuffer) (put got : List ℕ)

@@ -1,5 +1,5 @@
 -- What loads and failed exchanges leave as it was.
-use Rattle.std.proofs.Common.{◌≡◌, ℕ, ◌≤◌, false, Bool, ◌&&◌, Option, is_some, refl, sym, ap, subst, ◌∙◌, arith}
+use Rattle.std.proofs.Common.{◌≡◌, ℕ, ◌≤◌, false, Option, sym, subst, arith}
 use Rattle.tagged_index.specs.Head.{Head}
 use Rattle.mark_core.specs.declared.which.Which.{Which}
 use Rattle.mark_core.specs.declared.which.Which.TheVariants.{Full, Empty}
@@ -22,105 +22,21 @@ pub record IsLook (old new : Book) : Type 0 where
   pub closed : old.account.open_push ≡ false → new.account.open_push ≡ false
 
 pub look_at_all : (b : Book) → IsLook b b
-look_at_all b =
-    record {
-      setup = refl;
-      share = refl;
-      idle = refl;
-      held = refl;
-      charge = refl;
-      seen = refl;
-      finished = refl;
-      fulls = omega arith;
-      empties = omega arith;
-      closed = λ h. h;
-    }
+look_at_all b = grind arith
 
 pub look_again : (a b c : Book) → IsLook a b → IsLook b c → IsLook a c
-look_again a b c s t =
-    record {
-      setup = t.setup ∙ s.setup;
-      share = t.share ∙ s.share;
-      idle = t.idle ∙ s.idle;
-      held = t.held ∙ s.held;
-      charge = t.charge ∙ s.charge;
-      seen = t.seen ∙ s.seen;
-      finished = t.finished ∙ s.finished;
-      fulls = omega (arith, s.fulls, t.fulls);
-      empties = omega (arith, s.empties, t.empties);
-      closed = λ h. t.closed (s.closed h);
-    }
+look_again a b c s t = grind arith
 
 pub look_head : (q : Which) (head : Head) (b : Book) → IsLook b (loaded q head b)
-look_head Full head b =
-    record {
-      setup = refl;
-      share = refl;
-      idle = refl;
-      held = refl;
-      charge = refl;
-      seen = refl;
-      finished = refl;
-      fulls = omega arith;
-      empties = omega arith;
-      closed = λ h. ap (λ (was : Bool). was && is_some head.index) h;
-    }
-look_head Empty head b =
-    record {
-      setup = refl;
-      share = refl;
-      idle = refl;
-      held = refl;
-      charge = refl;
-      seen = refl;
-      finished = refl;
-      fulls = omega arith;
-      empties = omega arith;
-      closed = λ h. h;
-    }
+look_head Full head b = grind arith
+look_head Empty head b = grind arith
 
 pub look_link : (q : Which) (link : Option ℕ) (b : Book) → IsLook b (link_loaded q link b)
-look_link Full link b =
-    record {
-      setup = refl;
-      share = refl;
-      idle = refl;
-      held = refl;
-      charge = refl;
-      seen = refl;
-      finished = refl;
-      fulls = omega arith;
-      empties = omega arith;
-      closed = λ h. h;
-    }
-look_link Empty link b =
-    record {
-      setup = refl;
-      share = refl;
-      idle = refl;
-      held = refl;
-      charge = refl;
-      seen = refl;
-      finished = refl;
-      fulls = omega arith;
-      empties = omega arith;
-      closed = λ h. h;
-    }
+look_link Full link b = grind arith
+look_link Empty link b = grind arith
 
 pub look_failed : (b : Book) → IsLook b (failed b)
-look_failed b =
-    record {
-      setup = refl;
-      share = refl;
-      idle = refl;
-      held = refl;
-      charge = refl;
-      seen = refl;
-      finished = refl;
-      fulls = omega arith;
-      empties = omega arith;
-      closed = λ h. h;
-    }
+look_failed b = grind arith
 
 -- the loads of a head and its link
 pub look_top : (q : Which) (head : Head) (link : Option ℕ) (b : Book) → IsLook b (link_loaded q link (loaded q head b))

@@ -1,5 +1,5 @@
 -- Trades put together: local changes of a pair, and what was done with one of its places.
-use Rattle.std.proofs.Common.{◌≡◌, ◌⊎◌, ℕ, ◌+◌, Bool, true, List, [], ◌∷◌, ◌++◌, append_assoc, Option, None, refl, sym}
+use Rattle.std.proofs.Common.{◌≡◌, ◌⊎◌, ℕ, ◌+◌, ◌≤◌, List, [], ◌∷◌, ◌++◌, append_assoc, Option, None, refl, sym}
 use Rattle.std.proofs.Common.{ap, subst, ◌∙◌, inl, inr, ⊎_elim, arith}
 use Rattle.mark_core.specs.declared.which.Which.{Which}
 use Rattle.mark_core.specs.Lists.{times, only, IsPart}
@@ -9,32 +9,30 @@ use Rattle.buffer_pool.specs.Book.{Book}
 use Rattle.buffer_pool.specs.Calls.{HeldBuffer}
 use Rattle.work_pair.specs.Moves.{Move, FoundNone, Ended, Moved, Moves, popped_items, popped_numbers, pushed_items}
 use Rattle.work_pair.specs.Moves.{pushed_numbers, taken_items, taken_number, given_items, given_number, AreFilled}
-use Rattle.work_pair.specs.Moves.{HasPushOnFull, HasPopFromFull, EndAtLastTag}
+use Rattle.work_pair.specs.Moves.{IsFilled, HasPushOnFull, HasPopFromFull, EndAtLastTag}
 use Rattle.work_pair.specs.PairState.{PairState, buffered_items, items_at, buffer_number, pair_items, numbers_of}
-use Rattle.work_pair.specs.PairState.{IsOfSize}
-use Rattle.work_pair.specs.PairState.{AreOfSize}
-use Rattle.work_pair.specs.PairState.{IsBacked}
-use Rattle.work_pair.specs.Deals.{Deals}
+use Rattle.work_pair.specs.PairState.{IsOfSize, AreOfSize, IsBacked}
+use Rattle.work_pair.specs.working.Asks.{IsBackedAt}
 use Rattle.work_pair.specs.working.Steps.{IsLocal, Renews, Trades, places}
-use Rattle.work_pair.proofs.Effects.{moves_effect, moves_closed}
+use Rattle.work_pair.proofs.Effects.{moves_effect}
 
--- sums over the three places
-pub items_sum : (o : ℕ) (p : PairState) → times o (pair_items p)
-    ≡ times o p.spill + times o (items_at p.first) + times o (items_at p.second) + times o (items_at p.third)
-items_sum o p = omega (
+-- how often a number is among what is told of each of the three places: of its items, say
+abbrev pub in_places : (Option HeldBuffer → List ℕ) → ℕ → PairState → ℕ
+in_places told x p = times x (told p.first) + times x (told p.second) + times x (told p.third)
+
+places_sum : (told : Option HeldBuffer → List ℕ) (x : ℕ) (p : PairState)
+    → times x (told p.first ++ told p.second ++ told p.third) ≡ in_places told x p
+places_sum told x p = omega (
   arith,
-  sum_of-append (only o) p.spill (buffered_items p),
-  sum_of-append (only o) (items_at p.first ++ items_at p.second) (items_at p.third),
-  sum_of-append (only o) (items_at p.first) (items_at p.second),
+  sum_of-append (only x) (told p.first ++ told p.second) (told p.third),
+  sum_of-append (only x) (told p.first) (told p.second),
 )
 
-pub numbers_sum : (i : ℕ) (p : PairState) → times i (numbers_of p)
-    ≡ times i (buffer_number p.first) + times i (buffer_number p.second) + times i (buffer_number p.third)
-numbers_sum i p = omega (
-  arith,
-  sum_of-append (only i) (buffer_number p.first ++ buffer_number p.second) (buffer_number p.third),
-  sum_of-append (only i) (buffer_number p.first) (buffer_number p.second),
-)
+pub items_sum : (o : ℕ) (p : PairState) → times o (pair_items p) ≡ times o p.spill + in_places items_at o p
+items_sum o p = omega (arith, sum_of-append (only o) p.spill (buffered_items p), places_sum items_at o p)
+
+pub numbers_sum : (i : ℕ) (p : PairState) → times i (numbers_of p) ≡ in_places buffer_number i p
+numbers_sum i p = places_sum buffer_number i p
 
 -- moves and further moves
 pub moves_on : (ms ns : List Move) (a b c : Book) → Moves a ms b → Moves b ns c → Moves a (ms ++ ns) c
@@ -44,14 +42,6 @@ moves_on (m ∷ ms) ns a b c p then_ns = (p.0, p.1, moves_on ms ns p.0 b c p.2 t
 pub filled_on : (ms ns : List Move) → AreFilled ms → AreFilled ns → AreFilled (ms ++ ns)
 filled_on [] ns f g = g
 filled_on (m ∷ ms) ns f g = (f.0, filled_on ms ns f.1 g)
-
-pub on_full_first : (ms ns : List Move) → HasPushOnFull ms → HasPushOnFull (ms ++ ns)
-on_full_first [] ns h = absurd h
-on_full_first (m ∷ ms) ns h = ⊎_elim inl (λ k. inr (on_full_first ms ns k)) h
-
-pub on_full_last : (ms ns : List Move) → HasPushOnFull ns → HasPushOnFull (ms ++ ns)
-on_full_last [] ns h = h
-on_full_last (m ∷ ms) ns h = inr (on_full_last ms ns h)
 
 pub on_full_of : (ms ns : List Move) → HasPushOnFull (ms ++ ns) → HasPushOnFull ms ⊎ HasPushOnFull ns
 on_full_of [] ns h = inr h
@@ -67,49 +57,35 @@ out_on ms ns no_m no_n pop = ⊎_elim no_m no_n (from_full_of ms ns pop)
 pub end_on : (ms ns : List Move) → EndAtLastTag ns → EndAtLastTag (ms ++ ns)
 end_on ms ns e = (ms ++ e.0, e.1, ap (λ (xs : List Move). ms ++ xs) e.2 ∙ sym (append_assoc ms e.0 (Ended e.1 ∷ [])))
 
+-- what is told of moves, one list after the other: their items and their numbers
+module _ (told : Move → List ℕ) (all : List Move → List ℕ) (none : all [] ≡ [])
+    (more : (m : Move) (ms : List Move) → all (m ∷ ms) ≡ told m ++ all ms) (x : ℕ) where
+  counted_on : (ms ns : List Move) → times x (all (ms ++ ns)) ≡ times x (all ms) + times x (all ns)
+  counted_on [] ns = omega (arith, ap (times x) none)
+  counted_on (m ∷ ms) ns = omega (
+    arith,
+    counted_on ms ns,
+    ap (times x) (more m ms),
+    ap (times x) (more m (ms ++ ns)),
+    sum_of-append (only x) (told m) (all ms),
+    sum_of-append (only x) (told m) (all (ms ++ ns)),
+  )
+
 pub popped_items_on : (o : ℕ) (ms ns : List Move)
     → times o (popped_items (ms ++ ns)) ≡ times o (popped_items ms) + times o (popped_items ns)
-popped_items_on o [] ns = omega arith
-popped_items_on o (m ∷ ms) ns =
-    omega (
-      arith,
-      popped_items_on o ms ns,
-      sum_of-append (only o) (taken_items m) (popped_items (ms ++ ns)),
-      sum_of-append (only o) (taken_items m) (popped_items ms),
-    )
+popped_items_on = counted_on taken_items popped_items refl (λ m ms. refl)
 
 pub pushed_items_on : (o : ℕ) (ms ns : List Move)
     → times o (pushed_items (ms ++ ns)) ≡ times o (pushed_items ms) + times o (pushed_items ns)
-pushed_items_on o [] ns = omega arith
-pushed_items_on o (m ∷ ms) ns =
-    omega (
-      arith,
-      pushed_items_on o ms ns,
-      sum_of-append (only o) (given_items m) (pushed_items (ms ++ ns)),
-      sum_of-append (only o) (given_items m) (pushed_items ms),
-    )
+pushed_items_on = counted_on given_items pushed_items refl (λ m ms. refl)
 
-pub popped_numbers_on : (o : ℕ) (ms ns : List Move)
-    → times o (popped_numbers (ms ++ ns)) ≡ times o (popped_numbers ms) + times o (popped_numbers ns)
-popped_numbers_on o [] ns = omega arith
-popped_numbers_on o (m ∷ ms) ns =
-    omega (
-      arith,
-      popped_numbers_on o ms ns,
-      sum_of-append (only o) (taken_number m) (popped_numbers (ms ++ ns)),
-      sum_of-append (only o) (taken_number m) (popped_numbers ms),
-    )
+pub popped_numbers_on : (i : ℕ) (ms ns : List Move)
+    → times i (popped_numbers (ms ++ ns)) ≡ times i (popped_numbers ms) + times i (popped_numbers ns)
+popped_numbers_on = counted_on taken_number popped_numbers refl (λ m ms. refl)
 
-pub pushed_numbers_on : (o : ℕ) (ms ns : List Move)
-    → times o (pushed_numbers (ms ++ ns)) ≡ times o (pushed_numbers ms) + times o (pushed_numbers ns)
-pushed_numbers_on o [] ns = omega arith
-pushed_numbers_on o (m ∷ ms) ns =
-    omega (
-      arith,
-      pushed_numbers_on o ms ns,
-      sum_of-append (only o) (given_number m) (pushed_numbers (ms ++ ns)),
-      sum_of-append (only o) (given_number m) (pushed_numbers ms),
-    )
+pub pushed_numbers_on : (i : ℕ) (ms ns : List Move)
+    → times i (pushed_numbers (ms ++ ns)) ≡ times i (pushed_numbers ms) + times i (pushed_numbers ns)
+pushed_numbers_on = counted_on given_number pushed_numbers refl (λ m ms. refl)
 
 -- a pair that its worker did not use
 abbrev pub still : (old : PairState) (b : Book) (put got : List ℕ) (new : PairState) → IsLocal old new put got
@@ -124,19 +100,19 @@ still old b put got new l sized =
       sized = l.sized b.setup.size sized;
     }
 
+-- nothing was done
+abbrev pub untouched : (p : PairState) (b : Book) → AreOfSize b.setup.size p → Trades p b [] [] p b
+untouched p b sized =
+    still p b [] [] p (record { items = λ o. omega arith; buffers = λ i. refl; sized = λ size of. of }) sized
+
 pub same_setup : (ms : List Move) (b c : Book) → Moves b ms c → c.setup ≡ b.setup
 same_setup ms b c m = (moves_effect ms b c m).setup
-
-pub setup_after : (old : PairState) (b : Book) (put got : List ℕ) (new : PairState) (c : Book)
-    → Trades old b put got new c
-    → c.setup ≡ b.setup
-setup_after old b put got new c t = same_setup t.moves b c t.books
 
 pub sized_after : (old : PairState) (b : Book) (put got : List ℕ) (new : PairState) (c : Book)
     → Trades old b put got new c
     → AreOfSize c.setup.size new
 sized_after old b put got new c t =
-    subst (λ (e : Setup). AreOfSize e.size new) (sym (setup_after old b put got new c t)) t.sized
+    subst (λ (e : Setup). AreOfSize e.size new) (sym (same_setup t.moves b c t.books)) t.sized
 
 -- trades one after the other
 abbrev pub on_and_on : (old : PairState) (b : Book) (mid : PairState) (c : Book) (put got : List ℕ) (new : PairState)
@@ -163,74 +139,75 @@ on_and_on old b mid c put got new d s t =
       sized = subst (λ (e : Setup). AreOfSize e.size new) (same_setup s.moves b c s.books) t.sized;
     }
 
--- what was done with the first place, and with the second
-abbrev pub first_renewed : (f s t g third : Option HeldBuffer) (b c : Book) → t ≡ None
-    → Renews b.setup.size f b g third c → IsOfSize b.setup.size s → Trades (places f s t) b [] [] (places g s third) c
-first_renewed f s t g third b c vacant r sized =
+-- what was done with one place is what was done with the pair, if all else that is told of the places is the same
+abbrev renewed : (p q : PairState) (f g third : Option HeldBuffer) (b c : Book) → q.spill ≡ p.spill
+    → ((told : Option HeldBuffer → List ℕ) (x : ℕ) → told None ≡ []
+    → in_places told x q + times x (told f) ≡ in_places told x p + times x (told g) + times x (told third))
+    → Renews b.setup.size f b g third c → AreOfSize b.setup.size q → Trades p b [] [] q c
+renewed p q f g third b c spill even r sized =
     record {
       moves = r.moves;
       books = r.books;
       items = λ o. omega (
         arith,
         r.items o,
-        items_sum o (places f s t),
-        items_sum o (places g s third),
-        ap (λ (p : Option HeldBuffer). times o (items_at p)) vacant,
+        even items_at o refl,
+        items_sum o p,
+        items_sum o q,
+        ap (times o) spill,
       );
-      buffers = λ i. omega (
-        arith,
-        r.buffers i,
-        numbers_sum i (places f s t),
-        numbers_sum i (places g s third),
-        ap (λ (p : Option HeldBuffer). times i (buffer_number p)) vacant,
-      );
+      buffers = λ i. omega (arith, r.buffers i, even buffer_number i refl, numbers_sum i p, numbers_sum i q);
       filled = r.filled;
-      sized = record { first = r.sized; second = sized; third = r.left_sized };
+      sized = sized;
     }
 
-abbrev pub second_renewed : (f s t g third : Option HeldBuffer) (b c : Book) → t ≡ None
-    → Renews b.setup.size s b g third c → IsOfSize b.setup.size f → Trades (places f s t) b [] [] (places f g third) c
-second_renewed f s t g third b c vacant r sized =
-    record {
-      moves = r.moves;
-      books = r.books;
-      items = λ o. omega (
-        arith,
-        r.items o,
-        items_sum o (places f s t),
-        items_sum o (places f g third),
-        ap (λ (p : Option HeldBuffer). times o (items_at p)) vacant,
-      );
-      buffers = λ i. omega (
-        arith,
-        r.buffers i,
-        numbers_sum i (places f s t),
-        numbers_sum i (places f g third),
-        ap (λ (p : Option HeldBuffer). times i (buffer_number p)) vacant,
-      );
-      filled = r.filled;
-      sized = record { first = sized; second = r.sized; third = r.left_sized };
-    }
+-- nothing is told of a place that is vacant
+pub vacant_told : (told : Option HeldBuffer → List ℕ) (x : ℕ) (t : Option HeldBuffer) → t ≡ None → told None ≡ []
+    → times x (told t) ≡ 0
+vacant_told told x t vacant none = ap (λ (p : Option HeldBuffer). times x (told p)) vacant ∙ ap (times x) none
+
+-- a buffer was left over from the first place, or from the second, and the third was vacant
+module _ (f s t g third : Option HeldBuffer) (b c : Book) (vacant : t ≡ None) where
+  abbrev pub first_renewed : Renews b.setup.size f b g third c → IsOfSize b.setup.size s
+      → Trades (places f s t) b [] [] (places g s third) c
+  first_renewed r sized =
+      renewed (places f s t) (places g s third) f g third b c refl
+      (λ told x none. omega (arith, vacant_told told x t vacant none)) r
+      (record { first = r.sized; second = sized; third = r.left_sized })
+
+  abbrev pub second_renewed : Renews b.setup.size s b g third c → IsOfSize b.setup.size f
+      → Trades (places f s t) b [] [] (places f g third) c
+  second_renewed r sized =
+      renewed (places f s t) (places f g third) s g third b c refl
+      (λ told x none. omega (arith, vacant_told told x t vacant none)) r
+      (record { first = sized; second = r.sized; third = r.left_sized })
 
 -- a worker that backs a pair backs each of its buffers
 module _ (p : PairState) (besides : List ℕ) (b : Book) (backed : IsBacked p besides b) where
-  pub first_held : IsPart (buffer_number p.first) b.account.held
-  first_held x = omega (arith, backed.held x, numbers_sum x p)
+  at_place : (h : Option HeldBuffer)
+      → ((told : Option HeldBuffer → List ℕ) (x : ℕ) → times x (told h) ≤ in_places told x p)
+      → IsOfSize b.setup.size h → IsBackedAt h b
+  at_place h among sized =
+      record {
+        held = λ i. omega (arith, backed.held i, among buffer_number i, numbers_sum i p);
+        charged = λ o. omega (
+          arith,
+          backed.charged o,
+          among items_at o,
+          items_sum o p,
+          sum_of-append (only o) (pair_items p) besides,
+        );
+        sized = sized;
+      }
 
-  pub first_charged : IsPart (items_at p.first) b.account.charge
-  first_charged x = omega (arith, backed.charged x, items_sum x p, sum_of-append (only x) (pair_items p) besides)
+  pub first_backed : IsBackedAt p.first b
+  first_backed = at_place p.first (λ told x. omega arith) backed.sized.first
 
-  pub second_held : IsPart (buffer_number p.second) b.account.held
-  second_held x = omega (arith, backed.held x, numbers_sum x p)
+  pub second_backed : IsBackedAt p.second b
+  second_backed = at_place p.second (λ told x. omega arith) backed.sized.second
 
-  pub second_charged : IsPart (items_at p.second) b.account.charge
-  second_charged x = omega (arith, backed.charged x, items_sum x p, sum_of-append (only x) (pair_items p) besides)
-
-  pub third_held : IsPart (buffer_number p.third) b.account.held
-  third_held x = omega (arith, backed.held x, numbers_sum x p)
-
-  pub third_charged : IsPart (items_at p.third) b.account.charge
-  third_charged x = omega (arith, backed.charged x, items_sum x p, sum_of-append (only x) (pair_items p) besides)
+  pub third_backed : IsBackedAt p.third b
+  third_backed = at_place p.third (λ told x. omega arith) backed.sized.third
 
 -- it still does after a trade, and has what was got besides
 pub backed_after : (old : PairState) (b : Book) (put got : List ℕ) (new : PairState) (c : Book) → IsBacked old put b
@@ -250,138 +227,69 @@ backed_after old b put got new c backed t =
       sized = sized_after old b put got new c t;
     }
 
--- and where it has more than the pair's items
-pub backed_less : (p : PairState) (besides : List ℕ) (b : Book) → IsBacked p besides b → IsBacked p [] b
-backed_less p besides b backed =
+-- and where it has more than it is asked for
+pub backed_part : (p : PairState) (more less : List ℕ) (b : Book) → IsPart less more → IsBacked p more b
+    → IsBacked p less b
+backed_part p more less b part backed =
     record {
       held = backed.held;
       charged = λ x. omega (
         arith,
         backed.charged x,
-        sum_of-append (only x) (pair_items p) besides,
-        sum_of-append (only x) (pair_items p) [],
+        part x,
+        sum_of-append (only x) (pair_items p) more,
+        sum_of-append (only x) (pair_items p) less,
       );
       sized = backed.sized;
     }
 
--- the same buffers, with another word on whether a call was stopped
-pub stopped_backed : (p q : PairState) (besides : List ℕ) (b : Book) → q.first ≡ p.first → q.second ≡ p.second
-    → q.third ≡ p.third → q.spill ≡ p.spill → IsBacked p besides b → IsBacked q besides b
-stopped_backed p q besides b first second third spill backed =
-    record {
-      held = λ x. omega (
-        arith,
-        backed.held x,
-        numbers_sum x p,
-        numbers_sum x q,
-        ap (λ (h : Option HeldBuffer). times x (buffer_number h)) first,
-        ap (λ (h : Option HeldBuffer). times x (buffer_number h)) second,
-        ap (λ (h : Option HeldBuffer). times x (buffer_number h)) third,
-      );
-      charged = λ x. omega (
-        arith,
-        backed.charged x,
-        ap (times x) spill,
-        items_sum x p,
-        items_sum x q,
-        sum_of-append (only x) (pair_items p) besides,
-        sum_of-append (only x) (pair_items q) besides,
-        ap (λ (h : Option HeldBuffer). times x (items_at h)) first,
-        ap (λ (h : Option HeldBuffer). times x (items_at h)) second,
-        ap (λ (h : Option HeldBuffer). times x (items_at h)) third,
-      );
-      sized =
-          record {
-            first = subst (IsOfSize b.setup.size) (sym first) backed.sized.first;
-            second = subst (IsOfSize b.setup.size) (sym second) backed.sized.second;
-            third = subst (IsOfSize b.setup.size) (sym third) backed.sized.third;
-          };
-    }
+pub backed_less : (p : PairState) (besides : List ℕ) (b : Book) → IsBacked p besides b → IsBacked p [] b
+backed_less p besides b = backed_part p besides [] b (λ x. omega arith)
 
--- a trade, told of the pairs with the word on whether a call was stopped
-abbrev pub dealt : (old : PairState) (b : Book) (put got : List ℕ) (new : PairState) (c : Book) (was now : Bool)
-    → IsBacked old put b → (t : Trades old b put got new c) → (now ≡ true → EndAtLastTag t.moves)
-    → Deals (record old { stopped = was }) b put got (record new { stopped = now }) c
-dealt old b put got new c was now backed t ends =
-    let e = moves_effect t.moves b c t.books in
-    let after = backed_after old b put got new c backed t in
-    record {
-      moves = t.moves;
-      books = t.books;
-      items = λ o. omega (arith, t.items o);
-      buffers = t.buffers;
-      filled = t.filled;
-      charge = e.charge;
-      held = e.held;
-      kept = record { setup = e.setup; share = e.share; idle = e.idle; seen = e.seen; finished = e.finished };
-      backed = record {
-        held = after.held;
-        charged = after.charged;
-        sized = record { first = after.sized.first; second = after.sized.second; third = after.sized.third };
-      };
-      closed = moves_closed t.moves b c t.books;
-      last_tag = ends;
-    }
-
--- what was done with one place while the third stayed
+-- what was done with one place while the others stayed
 module _ (f s t g : Option HeldBuffer) (b c : Book) where
   abbrev pub at_first : Renews b.setup.size f b g None c → AreOfSize b.setup.size (places f s t)
       → Trades (places f s t) b [] [] (places g s t) c
   at_first r sized =
-      record {
-        moves = r.moves;
-        books = r.books;
-        items = λ o. omega (arith, r.items o, items_sum o (places f s t), items_sum o (places g s t));
-        buffers = λ i. omega (arith, r.buffers i, numbers_sum i (places f s t), numbers_sum i (places g s t));
-        filled = r.filled;
-        sized = record { first = r.sized; second = sized.second; third = sized.third };
-      }
+      renewed (places f s t) (places g s t) f g None b c refl
+      (λ told x none. omega (arith, ap (times x) none)) r
+      (record { first = r.sized; second = sized.second; third = sized.third })
 
   abbrev pub at_second : Renews b.setup.size s b g None c → AreOfSize b.setup.size (places f s t)
       → Trades (places f s t) b [] [] (places f g t) c
   at_second r sized =
-      record {
-        moves = r.moves;
-        books = r.books;
-        items = λ o. omega (arith, r.items o, items_sum o (places f s t), items_sum o (places f g t));
-        buffers = λ i. omega (arith, r.buffers i, numbers_sum i (places f s t), numbers_sum i (places f g t));
-        filled = r.filled;
-        sized = record { first = sized.first; second = r.sized; third = sized.third };
-      }
+      renewed (places f s t) (places f g t) s g None b c refl
+      (λ told x none. omega (arith, ap (times x) none)) r
+      (record { first = sized.first; second = r.sized; third = sized.third })
 
   abbrev pub at_third : Renews b.setup.size t b g None c → AreOfSize b.setup.size (places f s t)
       → Trades (places f s t) b [] [] (places f s g) c
   at_third r sized =
-      record {
-        moves = r.moves;
-        books = r.books;
-        items = λ o. omega (arith, r.items o, items_sum o (places f s t), items_sum o (places f s g));
-        buffers = λ i. omega (arith, r.buffers i, numbers_sum i (places f s t), numbers_sum i (places f s g));
-        filled = r.filled;
-        sized = record { first = sized.first; second = sized.second; third = r.sized };
-      }
+      renewed (places f s t) (places f s g) t g None b c refl
+      (λ told x none. omega (arith, ap (times x) none)) r
+      (record { first = sized.first; second = sized.second; third = r.sized })
+
+-- a move that neither takes nor gives a buffer
+abbrev pub IsIdle : Move → Type 0
+IsIdle move = (given_items move ≡ taken_items move) × (given_number move ≡ taken_number move) × IsFilled move
+
+abbrev looks : (p : PairState) (move : Move) (b c : Book) → Moved move b c → IsIdle move → AreOfSize b.setup.size p
+    → Trades p b [] [] p c
+looks p move b c moved idle sized =
+    record {
+      moves = move ∷ [];
+      books = (c, moved, refl);
+      items = λ o. omega (arith, ap (λ (xs : List ℕ). times o (xs ++ [])) idle.0);
+      buffers = λ i. omega (arith, ap (λ (xs : List ℕ). times i (xs ++ [])) idle.1);
+      filled = (idle.2, tt);
+      sized = sized;
+    }
 
 -- a stack was seen empty, or at its last tag
 abbrev pub found_none_at : (p : PairState) (q : Which) (b c : Book) → Moved (FoundNone q) b c → AreOfSize b.setup.size p
     → Trades p b [] [] p c
-found_none_at p q b c moved sized =
-    record {
-      moves = FoundNone q ∷ [];
-      books = (c, moved, refl);
-      items = λ o. omega arith;
-      buffers = λ i. omega arith;
-      filled = (tt, tt);
-      sized = sized;
-    }
+found_none_at p q b c moved = looks p (FoundNone q) b c moved (refl, refl, tt)
 
 abbrev pub ended_at : (p : PairState) (q : Which) (b c : Book) → Moved (Ended q) b c → AreOfSize b.setup.size p
     → Trades p b [] [] p c
-ended_at p q b c moved sized =
-    record {
-      moves = Ended q ∷ [];
-      books = (c, moved, refl);
-      items = λ o. omega arith;
-      buffers = λ i. omega arith;
-      filled = (tt, tt);
-      sized = sized;
-    }
+ended_at p q b c moved = looks p (Ended q) b c moved (refl, refl, tt)

@@ -26,8 +26,9 @@ impl<A: Allocator> Buffers<A> {
     ghost use Rattle.mark_core.specs.Event.{IsBusy};
     ghost use Rattle.work_pair.specs.Deals.{HasMore};
     ghost use Rattle.work_pair.specs.PairState.{HasRoom, IsBacked, pair_items};
+    ghost use Rattle.work_pair.specs.working.Asks.{MayTrade};
     ghost use Rattle.work_pair.specs.working.Buffers.{places_of};
-    ghost use Rattle.work_pair.specs.working.Steps.{BalanceAnswers, ClearTells, GetAnswers, PublishAnswers, PutAnswers};
+    ghost use Rattle.work_pair.specs.working.Steps.{BalanceAnswers, ClearAnswers, GetAnswers, PublishAnswers, PutAnswers};
     ghost use Rattle.work_pair.specs.working.Steps.{Takes};
 
     /// Puts an object into the first buffer, or into the second, which is the first then, or into an empty one. False
@@ -39,12 +40,9 @@ impl<A: Allocator> Buffers<A> {
         worker: &mut Worker<A>,
         object: u32,
     ) -> Result<bool, Stop>
-        requires pool { worker.old.pool ≡ pool.now }
-        requires third { self.old.third ≡ None }
-        requires backed { IsBacked (places_of self.old) (object ∷ []) worker.old.book }
-        requires busy { IsBusy worker.old.book.account }
+        requires { MayTrade worker.old pool.now (places_of self.old) (object ∷ []) }
         ensures pool { worker.new.pool ≡ worker.old.pool }
-        ensures tells { PutAnswers object (places_of self.old) worker.old.book (places_of self.new)
+        ensures puts { PutAnswers object (places_of self.old) worker.old.book (places_of self.new)
             worker.new.book result }
         ensures room { HasRoom (places_of self.old) → (worker.new ≡ worker.old) × (result ≡ Ok true) }
     {
@@ -80,12 +78,9 @@ impl<A: Allocator> Buffers<A> {
         pool: &Pool<A>,
         worker: &mut Worker<A>,
     ) -> Result<Option<u32>, Stop>
-        requires pool { worker.old.pool ≡ pool.now }
-        requires third { self.old.third ≡ None }
-        requires backed { IsBacked (places_of self.old) [] worker.old.book }
-        requires busy { IsBusy worker.old.book.account }
+        requires { MayTrade worker.old pool.now (places_of self.old) [] }
         ensures pool { worker.new.pool ≡ worker.old.pool }
-        ensures tells { GetAnswers (places_of self.old) worker.old.book (places_of self.new) worker.new.book result }
+        ensures gets { GetAnswers (places_of self.old) worker.old.book (places_of self.new) worker.new.book result }
         ensures own { pair_items (places_of self.old) ≢ [] → (worker.new ≡ worker.old) × IsOk result }
     {
         for _ in rt.forever() {
@@ -107,12 +102,9 @@ impl<A: Allocator> Buffers<A> {
         pool: &Pool<A>,
         worker: &mut Worker<A>,
     ) -> Result<(), Stop>
-        requires pool { worker.old.pool ≡ pool.now }
-        requires third { self.old.third ≡ None }
-        requires backed { IsBacked (places_of self.old) [] worker.old.book }
-        requires busy { IsBusy worker.old.book.account }
+        requires { MayTrade worker.old pool.now (places_of self.old) [] }
         ensures pool { worker.new.pool ≡ worker.old.pool }
-        ensures tells { BalanceAnswers (places_of self.old) worker.old.book (places_of self.new) worker.new.book
+        ensures balances { BalanceAnswers (places_of self.old) worker.old.book (places_of self.new) worker.new.book
             result }
         ensures few { (HasMore (places_of self.old) → ⊥) → (places_of self.new ≡ places_of self.old)
             × (worker.new ≡ worker.old) × IsOk result }
@@ -132,12 +124,9 @@ impl<A: Allocator> Buffers<A> {
         pool: &Pool<A>,
         worker: &mut Worker<A>,
     ) -> Result<(), Stop>
-        requires pool { worker.old.pool ≡ pool.now }
-        requires third { self.old.third ≡ None }
-        requires backed { IsBacked (places_of self.old) [] worker.old.book }
-        requires busy { IsBusy worker.old.book.account }
+        requires { MayTrade worker.old pool.now (places_of self.old) [] }
         ensures pool { worker.new.pool ≡ worker.old.pool }
-        ensures tells { PublishAnswers (places_of self.old) worker.old.book (places_of self.new) worker.new.book
+        ensures publishes { PublishAnswers (places_of self.old) worker.old.book (places_of self.new) worker.new.book
             result }
         ensures nothing { pair_items (places_of self.old) ≡ [] → (places_of self.new ≡ places_of self.old)
             × (worker.new ≡ worker.old) × IsOk result }
@@ -158,7 +147,7 @@ impl<A: Allocator> Buffers<A> {
         requires backed { IsBacked (places_of self.old) [] worker.old.book }
         requires busy { pair_items (places_of self.old) ≢ [] → IsBusy worker.old.book.account }
         ensures pool { worker.new.pool ≡ worker.old.pool }
-        ensures tells { ClearTells (places_of self.old) worker.old.book (places_of self.new) worker.new.book result }
+        ensures clears { ClearAnswers (places_of self.old) worker.old.book (places_of self.new) worker.new.book result }
     {
         clear_at(rt, pool, worker, &mut self.first)?;
         clear_at(rt, pool, worker, &mut self.second)?;

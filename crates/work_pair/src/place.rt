@@ -3,10 +3,11 @@ ghost use Rattle.std.specs.Prelude.{◌≡◌, ◌≢◌, ◌+◌, ◌↔◌, �
 ghost use Rattle.std.specs.Prelude.{true, false, IsOk, MatchOption};
 ghost use Rattle.std.specs.Bool.{OnTrue, OnFalse};
 ghost use Rattle.mark_core.specs.Event.{IsBusy};
-ghost use Rattle.mark_core.specs.Lists.{times, IsPart};
+ghost use Rattle.mark_core.specs.Lists.{times};
 ghost use Rattle.mark_core.specs.declared.which.Which.TheVariants.{Empty};
 ghost use Rattle.buffer_pool.specs.Calls.{HeldBuffer};
 ghost use Rattle.work_pair.specs.PairState.{items_at, buffer_number, HasRoomAt, IsOfSize};
+ghost use Rattle.work_pair.specs.working.Asks.{IsBackedAt, MayRenew};
 ghost use Rattle.work_pair.specs.working.Steps.{ClearsAt, PublishesAt, PutsOut, RenewAnswers, next_of};
 ghost use Rattle.work_pair.specs.working.Steps.{pushed_part};
 
@@ -80,12 +81,7 @@ pub(crate) fn put_out<R: Wait, A: Allocator>(
     third: &mut Option<Held<A>>,
     next: Held<A>,
 ) -> Result<(), Stop>
-    requires pool { worker.old.pool ≡ pool.now }
-    requires third { third.old ≡ None }
-    requires held { IsPart (buffer_number place.old) worker.old.book.account.held }
-    requires charged { IsPart (items_at place.old) worker.old.book.account.charge }
-    requires sized { IsOfSize worker.old.book.setup.size place.old }
-    requires busy { IsBusy worker.old.book.account }
+    requires { MayRenew worker.old pool.now place.old third.old }
     ensures pool { worker.new.pool ≡ worker.old.pool }
     ensures out { PutsOut place.old next worker.old.book place.new third.new worker.new.book result }
 {
@@ -109,9 +105,7 @@ pub(crate) fn clear_at<R: Wait, A: Allocator>(
     place: &mut Option<Held<A>>,
 ) -> Result<(), Stop>
     requires pool { worker.old.pool ≡ pool.now }
-    requires held { IsPart (buffer_number place.old) worker.old.book.account.held }
-    requires charged { IsPart (items_at place.old) worker.old.book.account.charge }
-    requires sized { IsOfSize worker.old.book.setup.size place.old }
+    requires backed { IsBackedAt place.old worker.old.book }
     requires busy { items_at place.old ≢ [] → IsBusy worker.old.book.account }
     ensures pool { worker.new.pool ≡ worker.old.pool }
     ensures clears { ClearsAt place.old worker.old.book place.new worker.new.book result }
@@ -137,12 +131,7 @@ pub(crate) fn renew<R: Wait, A: Allocator>(
     place: &mut Option<Held<A>>,
     third: &mut Option<Held<A>>,
 ) -> Result<bool, Stop>
-    requires pool { worker.old.pool ≡ pool.now }
-    requires third { third.old ≡ None }
-    requires held { IsPart (buffer_number place.old) worker.old.book.account.held }
-    requires charged { IsPart (items_at place.old) worker.old.book.account.charge }
-    requires sized { IsOfSize worker.old.book.setup.size place.old }
-    requires busy { IsBusy worker.old.book.account }
+    requires { MayRenew worker.old pool.now place.old third.old }
     ensures pool { worker.new.pool ≡ worker.old.pool }
     ensures renews { RenewAnswers false Empty worker.old.book.setup.size place.old worker.old.book place.new third.new
         worker.new.book result }
@@ -164,12 +153,7 @@ pub(crate) fn halve<R: Wait, A: Allocator>(
     place: &mut Option<Held<A>>,
     third: &mut Option<Held<A>>,
 ) -> Result<bool, Stop>
-    requires pool { worker.old.pool ≡ pool.now }
-    requires third { third.old ≡ None }
-    requires held { IsPart (buffer_number place.old) worker.old.book.account.held }
-    requires charged { IsPart (items_at place.old) worker.old.book.account.charge }
-    requires sized { IsOfSize worker.old.book.setup.size place.old }
-    requires busy { IsBusy worker.old.book.account }
+    requires { MayRenew worker.old pool.now place.old third.old }
     ensures pool { worker.new.pool ≡ worker.old.pool }
     ensures renews { RenewAnswers true Empty worker.old.book.setup.size place.old worker.old.book place.new third.new
         worker.new.book result }
@@ -190,12 +174,7 @@ pub(crate) fn publish_at<R: Wait, A: Allocator>(
     place: &mut Option<Held<A>>,
     third: &mut Option<Held<A>>,
 ) -> Result<(), Stop>
-    requires pool { worker.old.pool ≡ pool.now }
-    requires third { third.old ≡ None }
-    requires held { IsPart (buffer_number place.old) worker.old.book.account.held }
-    requires charged { IsPart (items_at place.old) worker.old.book.account.charge }
-    requires sized { IsOfSize worker.old.book.setup.size place.old }
-    requires busy { IsBusy worker.old.book.account }
+    requires { MayRenew worker.old pool.now place.old third.old }
     ensures pool { worker.new.pool ≡ worker.old.pool }
     ensures publishes { PublishesAt worker.old.book.setup.size place.old worker.old.book place.new third.new
         worker.new.book result }

@@ -186,7 +186,7 @@ pub record Clears (old : PairState) (before : Book) (new : PairState) (after : B
   pub quiet : pair_items old ≡ [] → HasPushOnFull trades.moves → ⊥
   pub out : HasPopFromFull trades.moves → ⊥
 
-abbrev pub ClearTells : PairState → Book → PairState → Book → Result Unit Stop → Type 0
-ClearTells old before new after (Ok done) = Clears old before empty_pair after
-ClearTells old before new after (Err TagSpent) = (c : Clears old before new after) × EndAtLastTag c.trades.moves
-ClearTells old before new after (Err OutOfMemory) = ⊥
+abbrev pub ClearAnswers : PairState → Book → PairState → Book → Result Unit Stop → Type 0
+ClearAnswers old before new after (Ok done) = Clears old before empty_pair after
+ClearAnswers old before new after (Err TagSpent) = (c : Clears old before new after) × EndAtLastTag c.trades.moves
+ClearAnswers old before new after (Err OutOfMemory) = ⊥

@@ -3,18 +3,21 @@ use Rattle.std.proofs.Common.{◌≤◌, ◌<◌, length, [], arith}
 use Rattle.std.proofs.lemmas.Result.{err_from_is_err_and}
 use Rattle.work_pair.specs.PairState.{items_at}
 use Rattle.work_pair.specs.working.Buffers.{places_of}
-use Rattle.work_pair.proofs.Calls.{few_left, first_balanced, first_stopped, second_balanced, second_stopped}
+use Rattle.work_pair.proofs.Calls.{few_left, first_balanced, first_stopped, may_renew_first, may_renew_second}
+use Rattle.work_pair.proofs.Calls.{second_balanced, second_stopped}
 use Rattle.work_pair.proofs.Spilling.{none_in}
-use Rattle.work_pair.proofs.Trading.{second_charged}
 use Rattle.work_pair.proofs.buffers.Buffers.balance.Goals as goal
 
-pub renew-requires-clause-charged : goal.renew-requires-clause-charged
-renew-requires-clause-charged g c =
-    let m = c.args.self.now in
-    second_charged (places_of m) [] c.args.worker.now.book c.requires.backed
+pub renew-requires : goal.renew-requires
+renew-requires g c =
+    may_renew_second (places_of c.args.self.now) c.args.worker.now c.args.pool.now [] c.requires
 
-pub returns-in_err-renew-clause-tells : goal.returns-in_err-renew-clause-tells
-returns-in_err-renew-clause-tells g c =
+pub halve-requires : goal.halve-requires
+halve-requires g c =
+    may_renew_first (places_of c.args.self.now) c.args.worker.now c.args.pool.now [] c.requires
+
+pub returns-in_err-renew-clause-balances : goal.returns-in_err-renew-clause-balances
+returns-in_err-renew-clause-balances g c =
     let m = c.args.self.now in
     let p = err_from_is_err_and c.from_residual.result c.from_residual.ensures.1 in
     rw (p.1, p.2)
@@ -22,8 +25,8 @@ returns-in_err-renew-clause-tells g c =
     c.renew.new.place c.renew.new.third c.renew.new.worker.book c.in_err-renew.field-0.0
     c.in_err-renew.ensures.renews)
 
-pub returns-in_err-halve-clause-tells : goal.returns-in_err-halve-clause-tells
-returns-in_err-halve-clause-tells g c =
+pub returns-in_err-halve-clause-balances : goal.returns-in_err-halve-clause-balances
+returns-in_err-halve-clause-balances g c =
     let m = c.args.self.now in
     let p = err_from_is_err_and c.from_residual-in_err-halve.result c.from_residual-in_err-halve.ensures.1 in
     rw (p.1, p.2)
@@ -31,16 +34,16 @@ returns-in_err-halve-clause-tells g c =
     c.halve.new.place c.halve.new.third c.halve.new.worker.book c.in_err-halve.field-0.0
     c.in_err-halve.ensures.renews)
 
-pub returns-in_ok-renew-clause-tells : goal.returns-in_ok-renew-clause-tells
-returns-in_ok-renew-clause-tells g c =
+pub returns-in_ok-renew-clause-balances : goal.returns-in_ok-renew-clause-balances
+returns-in_ok-renew-clause-balances g c =
     let m = c.args.self.now in
     let some : 0 < length (items_at m.second) = omega (arith, c.if-len_at-gt0.true, c.len_at.ensures) in
     second_balanced m.first m.second m.third c.args.worker.now.book c.requires.third c.requires.backed.sized
     c.renew.new.place c.renew.new.third c.renew.new.worker.book c.in_ok-renew.field-0 c.in_ok-renew.ensures.renews
     some
 
-pub returns-in_ok-halve-clause-tells : goal.returns-in_ok-halve-clause-tells
-returns-in_ok-halve-clause-tells g c =
+pub returns-in_ok-halve-clause-balances : goal.returns-in_ok-halve-clause-balances
+returns-in_ok-halve-clause-balances g c =
     let m = c.args.self.now in
     let many : 4 < length (items_at m.first) =
     omega (arith, c.if-len_at-gt-FEW.true, c.len_at-else-len_at-gt0.ensures) in
@@ -49,8 +52,8 @@ returns-in_ok-halve-clause-tells g c =
     many
     (none_in (items_at m.second) (omega (arith, c.if-len_at-gt0.false, c.len_at.ensures)))
 
-pub returns-else-len_at-gt-FEW-clause-tells : goal.returns-else-len_at-gt-FEW-clause-tells
-returns-else-len_at-gt-FEW-clause-tells g c =
+pub returns-else-len_at-gt-FEW-clause-balances : goal.returns-else-len_at-gt-FEW-clause-balances
+returns-else-len_at-gt-FEW-clause-balances g c =
     let m = c.args.self.now in
     let none : length (items_at m.second) ≤ 0 = omega (arith, c.if-len_at-gt0.false, c.len_at.ensures) in
     let few : length (items_at m.first) ≤ 4 =

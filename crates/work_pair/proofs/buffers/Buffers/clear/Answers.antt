@@ -5,16 +5,21 @@ use Rattle.work_pair.specs.working.Buffers.{places_of}
 use Rattle.work_pair.specs.working.Steps.{places}
 use Rattle.work_pair.proofs.Clearing.{backed_then, first_busy, first_cleared, first_stuck, second_busy, second_cleared}
 use Rattle.work_pair.proofs.Clearing.{second_stuck, third_busy, third_told}
-use Rattle.work_pair.proofs.Trading.{first_charged, second_charged, second_held, third_charged, third_held}
+use Rattle.work_pair.proofs.Trading.{first_backed, second_backed, third_backed}
 use Rattle.work_pair.proofs.buffers.Buffers.clear.Goals as goal
 
-pub clear_at-requires-clause-charged : goal.clear_at-requires-clause-charged
-clear_at-requires-clause-charged g c =
+pub clear_at-requires : goal.clear_at-requires
+clear_at-requires g c =
     let m = c.args.self.now in
-    first_charged (places_of m) [] c.args.worker.now.book c.requires.backed
+    let b = c.args.worker.now.book in
+    record {
+      pool = c.requires.pool;
+      backed = first_backed (places_of m) [] b c.requires.backed;
+      busy = first_busy m.first m.second m.third b c.requires.busy;
+    }
 
-pub returns-in_err-clear_at-clause-tells : goal.returns-in_err-clear_at-clause-tells
-returns-in_err-clear_at-clause-tells g c =
+pub returns-in_err-clear_at-clause-clears : goal.returns-in_err-clear_at-clause-clears
+returns-in_err-clear_at-clause-clears g c =
     let m = c.args.self.now in
     let p = err_from_is_err_and c.from_residual.result c.from_residual.ensures.1 in
     rw (p.1, p.2)
@@ -33,14 +38,12 @@ clear_at-requires-2 g c =
     let backed = backed_then m.first m.second m.third b sized mid left c.requires.backed once in
     record {
       pool = c.clear_at.ensures.pool ∙ c.requires.pool;
-      held = second_held left [] mid backed;
-      charged = second_charged left [] mid backed;
-      sized = backed.sized.second;
+      backed = second_backed left [] mid backed;
       busy = second_busy m.first m.second m.third b c.requires.busy left mid once;
     }
 
-pub returns-in_err-clear_at-2-clause-tells : goal.returns-in_err-clear_at-2-clause-tells
-returns-in_err-clear_at-2-clause-tells g c =
+pub returns-in_err-clear_at-2-clause-clears : goal.returns-in_err-clear_at-2-clause-clears
+returns-in_err-clear_at-2-clause-clears g c =
     let m = c.args.self.now in
     let p = err_from_is_err_and c.from_residual-in_err-clear_at-2.result c.from_residual-in_err-clear_at-2.ensures.1 in
     rw (p.1, p.2)
@@ -66,19 +69,12 @@ clear_at-requires-3 g c =
     let backed = backed_then m.first m.second m.third b sized last left c.requires.backed twice in
     record {
       pool = c.clear_at-2.ensures.pool ∙ c.clear_at.ensures.pool ∙ c.requires.pool;
-      held = third_held left [] last backed;
-      charged = third_charged left [] last backed;
-      sized = backed.sized.third;
+      backed = third_backed left [] last backed;
       busy = third_busy m.first m.second m.third b c.requires.busy left last twice;
     }
 
-pub clear_at-requires-clause-busy : goal.clear_at-requires-clause-busy
-clear_at-requires-clause-busy g c =
-    let m = c.args.self.now in
-    first_busy m.first m.second m.third c.args.worker.now.book c.requires.busy
-
-pub returns-clause-tells : goal.returns-clause-tells
-returns-clause-tells g c =
+pub returns-clause-clears : goal.returns-clause-clears
+returns-clause-clears g c =
     let m = c.args.self.now in
     let first =
     first_cleared m.first m.second m.third c.args.worker.now.book c.requires.backed.sized c.clear_at.new.worker.book

@@ -1,22 +1,21 @@
 -- The object goes where there is room: in the first buffer, in the second, or in the empty one that was popped.
-use Rattle.std.proofs.Common.{refl, inl, inr, false, ap, sym, subst, Bool, Ok, Option, Some, ◌++◌, [], ◌∷◌, ◌∙◌, ◌≡◌}
-use Rattle.std.proofs.Common.{arith}
+use Rattle.std.proofs.Common.{refl, inl, inr, false, sym, subst, Bool, Ok, Option, Some, ◌++◌, [], ◌∷◌, ◌∙◌, ◌≡◌}
 use Rattle.std.proofs.lemmas.Bool.{false≢true}
 use Rattle.std.proofs.lemmas.Result.{err_from_is_err_and}
 use Rattle.std.specs.Bool.{OnTrue}
 use Rattle.mark_core.specs.declared.which.Which.TheVariants.{Empty}
-use Rattle.mark_core.specs.Lists.{times}
 use Rattle.buffer_pool.specs.Calls.{HeldBuffer}
-use Rattle.work_pair.specs.PairState.{HasRoomAt, items_at}
+use Rattle.work_pair.specs.PairState.{HasRoomAt}
+use Rattle.work_pair.specs.working.Asks.{MayRenew}
 use Rattle.work_pair.specs.working.Buffers.{places_of}
 use Rattle.work_pair.specs.working.Steps.{PutAnswers, RenewAnswers, places}
-use Rattle.work_pair.proofs.Calls.{put_told, put_refused, put_stopped}
+use Rattle.work_pair.proofs.Calls.{may_renew_second, put_told, put_refused, put_stopped}
 use Rattle.work_pair.proofs.Locals.{local_again, put_first, swapped}
-use Rattle.work_pair.proofs.Trading.{second_charged, still}
+use Rattle.work_pair.proofs.Trading.{still}
 use Rattle.work_pair.proofs.buffers.Buffers.put.Goals as goal
 
-pub returns-then-put_at-clause-tells : goal.returns-then-put_at-clause-tells
-returns-then-put_at-clause-tells g c =
+pub returns-then-put_at-clause-puts : goal.returns-then-put_at-clause-puts
+returns-then-put_at-clause-puts g c =
     let m = c.args.self.now in
     let put = c.if-put_at.ensures.put in (
       still (places_of m) c.args.worker.now.book (c.args.object ∷ []) []
@@ -28,8 +27,8 @@ returns-then-put_at-clause-tells g c =
       inl (inl c.if-put_at.ensures.had_room, refl),
     )
 
-pub returns-then-put_at-2-clause-tells : goal.returns-then-put_at-2-clause-tells
-returns-then-put_at-2-clause-tells g c =
+pub returns-then-put_at-2-clause-puts : goal.returns-then-put_at-2-clause-puts
+returns-then-put_at-2-clause-puts g c =
     let m = c.args.self.now in
     let put = c.if-put_at-2.ensures.put in
     let x = c.swap.new.x in
@@ -46,16 +45,17 @@ returns-then-put_at-2-clause-tells g c =
       inl (inr (subst HasRoomAt c.swap.ensures.x_after c.if-put_at-2.ensures.had_room), refl),
     )
 
-pub renew-requires-clause-charged : goal.renew-requires-clause-charged
-renew-requires-clause-charged g c =
+pub renew-requires : goal.renew-requires
+renew-requires g c =
     let m = c.args.self.now in
-    let part = second_charged (places_of m)
-    (c.args.object ∷ []) c.args.worker.now.book c.requires.backed in
-    let is = c.if-put_at-2.ensures.full ∙ c.swap.ensures.x_after in
-    λ x. omega (arith, part x, ap (λ (p : Option HeldBuffer). times x (items_at p)) is)
+    let w = c.args.worker.now in
+    let pool = c.args.pool.now in
+    subst (λ (p : Option HeldBuffer). MayRenew w pool p m.third)
+    (sym (c.if-put_at-2.ensures.full ∙ c.swap.ensures.x_after))
+    (may_renew_second (places_of m) w pool (c.args.object ∷ []) c.requires)
 
-pub returns-in_err-renew-clause-tells : goal.returns-in_err-renew-clause-tells
-returns-in_err-renew-clause-tells g c =
+pub returns-in_err-renew-clause-puts : goal.returns-in_err-renew-clause-puts
+returns-in_err-renew-clause-puts g c =
     let m = c.args.self.now in
     let p = err_from_is_err_and c.from_residual.result c.from_residual.ensures.1 in
     rw (p.1, p.2)
@@ -64,8 +64,8 @@ returns-in_err-renew-clause-tells g c =
     (c.swap.ensures.y_after ∙ c.if-put_at.ensures.full) c.renew.new.place c.renew.new.third
     c.renew.new.worker.book c.in_err-renew.field-0.0 c.in_err-renew.ensures.renews)
 
-pub returns-then-not-branch-clause-tells : goal.returns-then-not-branch-clause-tells
-returns-then-not-branch-clause-tells g c =
+pub returns-then-not-branch-clause-puts : goal.returns-then-not-branch-clause-puts
+returns-then-not-branch-clause-puts g c =
     let m = c.args.self.now in
     let b = c.args.worker.now.book in
     let p = c.put_at-2.new.place in
@@ -78,8 +78,8 @@ returns-then-not-branch-clause-tells g c =
     (c.if-put_at-2.ensures.full ∙ c.swap.ensures.x_after) (c.swap.ensures.y_after ∙ c.if-put_at.ensures.full) n
     third after told
 
-pub returns-clause-tells : goal.returns-clause-tells
-returns-clause-tells g c =
+pub returns-clause-puts : goal.returns-clause-puts
+returns-clause-puts g c =
     let m = c.args.self.now in
     let b = c.args.worker.now.book in
     let p = c.put_at-2.new.place in
