@@ -5,12 +5,9 @@
 //! `balance` and `publish` give objects to other workers. Each call says which moves it made (`specs/Moves.antt`), and
 //! that no object was lost or doubled.
 //!
-//! From `src/tests/vectors.rt`, which is proved and run:
+//! Five objects, some given to others, and all of them back; from `src/tests/vectors.rt`, which is proved and run:
 //!
-//!     fill(rt, pool, worker, pair, 5);
-//!     balance(rt, pool, worker, pair);
-//!     assert!(rt; !full_is_empty(pool, worker, pair));
-//!     get_all(rt, pool, worker, pair, &[4, 3, 2, 1, 0]);
+//!     &[Fill(5), Balance, FullIsEmpty(false), Get(&[4, 3, 2, 1, 0])]
 //!
 //! The layer below is `buffer_pool`, the one above `drain`; the words of both stand in `docs/MARKING.md`.
 #![tactic(auto)]

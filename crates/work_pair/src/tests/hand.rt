@@ -1,5 +1,6 @@
 //! A worker with its pair, over objects that are all roots.
-ghost use Rattle.std.specs.Prelude.{◌≡◌, ◌⊎◌, ◌<◌, [], IfNone, IfOk, true};
+ghost use Rattle.std.specs.Prelude.{◌≡◌, ◌⊎◌, [], ◌∷◌, IfNone, IfOk, true};
+ghost use Rattle.mark_core.specs.Event.{IsBusy};
 ghost use Rattle.mark_core.specs.Shares.{whole};
 ghost use Rattle.work_pair.specs.PairState.{HasStopped, IsBacked};
 ghost use Rattle.work_pair.specs.tests.Ready.{IsReady, IsWorker, numbers};
@@ -74,6 +75,27 @@ pub(super) fn bare<A: Allocator>(alloc: A, pool: &Pool<A>, worker: &Worker<A>) -
     Pair::bare(alloc)
 }
 
+/// Claims an object, which is white, for the pair.
+pub(super) fn claim<R: Abort, A: Allocator>(
+    rt: &R,
+    pool: &Pool<A>,
+    worker: &mut Worker<A>,
+    pair: &Pair<A>,
+    object: u32,
+)
+    requires { IsReady OBJECTS pool.now worker.old pair.now }
+    ensures worker { IsWorker OBJECTS pool.now worker.new }
+    ensures backed { IsBacked pair.now (object ∷ []) worker.new.book }
+    ensures busy { IsBusy worker.new.book.account }
+{
+    if object >= OBJECTS {
+        panic!(rt; "{object} is no object");
+    }
+    if !pool.claim(worker, object) {
+        panic!(rt; "the object was claimed before");
+    }
+}
+
 /// Claims a white object and puts it into the pair.
 pub(super) fn put<R: Wait + Abort, A: Allocator>(
     rt: &R,
@@ -82,13 +104,10 @@ pub(super) fn put<R: Wait + Abort, A: Allocator>(
     pair: &mut Pair<A>,
     object: u32,
 )
-    requires ready { IsReady OBJECTS pool.now worker.old pair.old }
-    requires object { object < OBJECTS }
+    requires { IsReady OBJECTS pool.now worker.old pair.old }
     ensures { IsReady OBJECTS pool.now worker.new pair.new }
 {
-    if !pool.claim(worker, object) {
-        panic!(rt; "the object was claimed before");
-    }
+    claim(rt, pool, worker, pair, object);
     let Ok(()) = pair.put(rt, pool, worker, object) else {
         panic!(rt; "no tag is near the last one, and there is memory for {object}");
     };
@@ -102,14 +121,11 @@ pub(super) fn put_in_vain<R: Wait + Abort, A: Allocator>(
     pair: &mut Pair<A>,
     object: u32,
 )
-    requires ready { IsReady OBJECTS pool.now worker.old pair.old }
-    requires object { object < OBJECTS }
+    requires { IsReady OBJECTS pool.now worker.old pair.old }
     ensures ready { IsReady OBJECTS pool.now worker.new pair.new }
     ensures starved { pair.new.starved ≡ true }
 {
-    if !pool.claim(worker, object) {
-        panic!(rt; "the object was claimed before");
-    }
+    claim(rt, pool, worker, pair, object);
     match pair.put(rt, pool, worker, object) {
         Err((back, Stop::OutOfMemory)) => assert_eq!(rt; back, object),
         Err((_, Stop::TagSpent)) => panic!(rt; "no tag is near the last one"),

@@ -1,14 +1,13 @@
 //! Want of memory for the spill list, and all that takes none.
-ghost use Rattle.std.specs.Prelude.{◌≡◌, ◌≤◌, [], IfOk, true};
-ghost use Rattle.work_pair.specs.tests.Ready.{IsReady};
+ghost use Rattle.std.specs.Prelude.{◌≤◌, IfOk};
 
-use super::hand::{Lens, OBJECTS, bare, full_is_empty, pool_of_roots, publish, put, put_in_vain};
-use super::runs::{Run, left_after};
-use super::vectors::{fill, five_objects, get_just};
-use crate::Pair;
-use buffer_pool::{Pool, PoolFault, Worker};
+use super::hand::{Lens, bare, pool_of_roots};
+use super::runs::{End, Run, Step, left_after};
+use End::AllGot;
+use Step::{Balance, Fill, FullIsEmpty, Get, Has, InVain, NoneLeft, Publish, Put, Spilled};
+use buffer_pool::PoolFault;
 use limited_heap::LimitedHeap;
-use std::alloc::{Allocator, Global};
+use std::alloc::Global;
 use std::process::Abort;
 use std::sync::Wait;
 use std::test::Fail;
@@ -47,86 +46,67 @@ fn heap_of_a_pool(alloc: Global, refused: Refused) -> Result<LimitedHeap<Global>
 }
 
 /// Where the list cannot have its first block the ninth object comes back, and the pair has its eight, each to be got.
-pub(super) fn ninth_in_vain<R: Wait + Abort, A: Allocator>(
-    rt: &R,
-    pool: &Pool<A>,
-    worker: &mut Worker<A>,
-    pair: &mut Pair<A>,
-)
-    requires { IsReady OBJECTS pool.now worker.old pair.old }
-    ensures ready { IsReady OBJECTS pool.now worker.new pair.new }
-    ensures none_spilled { pair.new.spill ≡ [] }
-{
-    fill(rt, pool, worker, pair, 8);
-    put_in_vain(rt, pool, worker, pair, 8);
-    assert_eq!(rt; pair.lens(), [Some(2), Some(2), None]);
-    get_just(rt, pool, worker, pair, &[5, 4, 7, 6, 3, 2, 1, 0]);
-}
+const NINTH: Run = (
+    "the ninth in vain",
+    &[
+        Fill(8),
+        InVain(8),
+        Has([Some(2), Some(2), None]),
+        Get(&[5, 4, 7, 6, 3, 2, 1, 0]),
+    ],
+    AllGot,
+);
 
 /// Where it has a block, and no larger one, what it has is given up with the pair.
-pub(super) fn thirteenth_in_vain<R: Wait + Abort, A: Allocator>(
-    rt: &R,
-    pool: &Pool<A>,
-    worker: &mut Worker<A>,
-    pair: &mut Pair<A>,
-)
-    requires { IsReady OBJECTS pool.now worker.old pair.old }
-    ensures ready { IsReady OBJECTS pool.now worker.new pair.new }
-    ensures starved { pair.new.starved ≡ true }
-{
-    fill(rt, pool, worker, pair, 12);
-    let before = pair.spilled();
-    put_in_vain(rt, pool, worker, pair, 12);
-    assert_eq!(rt; (before, pair.spilled()), (4, 4));
-}
+const THIRTEENTH: Run = (
+    "the thirteenth in vain",
+    &[Fill(12), Spilled(4)],
+    End::InVain(12, 4),
+);
 
 /// Where the list's first block alone is refused, that object comes back, and the next one is put and got as ever. Each
 /// of the two puts has changed the places of the buffers, so they are where they were.
-pub(super) fn tenth_behind_a_ninth_in_vain<R: Wait + Abort, A: Allocator>(
-    rt: &R,
-    pool: &Pool<A>,
-    worker: &mut Worker<A>,
-    pair: &mut Pair<A>,
-)
-    requires { IsReady OBJECTS pool.now worker.old pair.old }
-    ensures ready { IsReady OBJECTS pool.now worker.new pair.new }
-    ensures none_spilled { pair.new.spill ≡ [] }
-{
-    fill(rt, pool, worker, pair, 8);
-    put_in_vain(rt, pool, worker, pair, 8);
-    put(rt, pool, worker, pair, 9);
-    assert_eq!(rt; pair.spilled(), 1);
-    get_just(rt, pool, worker, pair, &[9, 7, 6, 5, 4, 3, 2, 1, 0]);
-}
+const TENTH: Run = (
+    "the tenth behind a ninth in vain",
+    &[
+        Fill(8),
+        InVain(8),
+        Put(9),
+        Spilled(1),
+        Get(&[9, 7, 6, 5, 4, 3, 2, 1, 0]),
+    ],
+    AllGot,
+);
 
 /// What a pair does while there is room takes no memory.
-pub(super) fn six_objects<R: Wait + Abort, A: Allocator>(
-    rt: &R,
-    pool: &Pool<A>,
-    worker: &mut Worker<A>,
-    pair: &mut Pair<A>,
-)
-    requires { IsReady OBJECTS pool.now worker.old pair.old }
-    ensures ready { IsReady OBJECTS pool.now worker.new pair.new }
-    ensures none_spilled { pair.new.spill ≡ [] }
-{
-    five_objects(rt, pool, worker, pair);
-    put(rt, pool, worker, pair, 5);
-    publish(rt, pool, worker, pair);
-    assert!(rt; !full_is_empty(pool, worker, pair));
-    get_just(rt, pool, worker, pair, &[5]);
-    assert_eq!(rt; pair.spilled(), 0);
-}
+const SIX: Run = (
+    "six objects",
+    &[
+        Fill(5),
+        Balance,
+        FullIsEmpty(false),
+        Get(&[4, 3, 2, 1, 0]),
+        NoneLeft,
+        FullIsEmpty(true),
+        Put(5),
+        Publish,
+        FullIsEmpty(false),
+        Get(&[5]),
+        NoneLeft,
+        Spilled(0),
+    ],
+    AllGot,
+);
 
 /// A run, the objects of a buffer, what is refused behind the opening of the pool, and how many requests that are.
 type Row = (Run, u32, Refused, u64);
 
 /// The run of six objects makes no request while each would be refused.
 const ROWS: [Row; 4] = [
-    (Run::NinthInVain, 2, Refused::Each, 1),
-    (Run::ThirteenthInVain, 2, Refused::EachButOne, 1),
-    (Run::TenthBehindANinthInVain, 2, Refused::First, 1),
-    (Run::Six, 8, Refused::Each, 0),
+    (NINTH, 2, Refused::Each, 1),
+    (THIRTEENTH, 2, Refused::EachButOne, 1),
+    (TENTH, 2, Refused::First, 1),
+    (SIX, 8, Refused::Each, 0),
 ];
 
 /// Goes through that run over such a heap: what is left of the pair, and how many requests were refused.
@@ -146,7 +126,7 @@ fn refused_in<R: Wait + Abort>(
 fn runs_without_memory(rt: HostRuntime) -> Result<(), Fail> {
     for (run, size, refused, refusals) in ROWS {
         let ended = refused_in(&rt, rt.alloc(), run, size, refused)?;
-        assert_eq!(rt; ended, (None, refusals), "{run:?}");
+        assert_eq!(rt; ended, (None, refusals), "{}", run.0);
     }
     Ok(())
 }

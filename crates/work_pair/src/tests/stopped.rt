@@ -1,10 +1,9 @@
 //! A pair that a last tag stopped, in the middle of a call or before it changed anything, keeps each buffer that it
 //! could not push, when it is disposed of too.
-ghost use Rattle.std.specs.Prelude.{◌<◌};
 ghost use Rattle.work_pair.specs.tests.Ready.{IsReady, IsWorker};
 
-use super::hand::{Lens, OBJECTS, dispose, open, pool_of_roots};
-use super::vectors::{fill, get_all};
+use super::hand::{Lens, OBJECTS, claim, dispose, open, pool_of_roots};
+use super::runs::{Step, go_through};
 use crate::{Pair, Stop};
 use buffer_pool::{Pool, PoolFault, Worker};
 use std::alloc::{Allocator, Global};
@@ -26,12 +25,9 @@ fn stopped_by_put<R: Wait + Abort, A: Allocator>(
     mut pair: Pair<A>,
     object: u32,
 ) -> Stopped
-    requires ready { IsReady OBJECTS pool.now worker.old pair }
-    requires object { object < OBJECTS }
+    requires { IsReady OBJECTS pool.now worker.old pair }
 {
-    if !pool.claim(worker, object) {
-        panic!(rt; "the object was claimed before");
-    }
+    claim(rt, pool, worker, &pair, object);
     match pair.put(rt, pool, worker, object) {
         Err((back, Stop::TagSpent)) => assert_eq!(rt; back, object),
         Err((_, Stop::OutOfMemory)) => panic!(rt; "no list has to grow"),
@@ -81,7 +77,7 @@ fn put_without_a_push<R: Wait + Abort>(rt: &R, alloc: Global) -> Result<Stopped,
     let (pool, worker) = pool_of_roots(alloc, 4, 4, LAST_TAG - 5)?;
     let (mut worker, mut other) = pool.split(worker, 1);
     let mut pair = open(rt, alloc, &pool, &mut worker);
-    fill(rt, &pool, &mut worker, &mut pair, 12);
+    go_through(rt, &pool, &mut worker, &mut pair, &[Step::Fill(12)]);
     exchange_full_twice(rt, alloc, &pool, &mut other);
     exchange_full_twice(rt, alloc, &pool, &mut other);
     Ok(stopped_by_put(rt, &pool, &mut worker, pair, 12))
@@ -91,7 +87,7 @@ fn put_without_a_push<R: Wait + Abort>(rt: &R, alloc: Global) -> Result<Stopped,
 fn put_without_a_pop<R: Wait + Abort>(rt: &R, alloc: Global) -> Result<Stopped, PoolFault> {
     let (pool, mut worker) = pool_of_roots(alloc, 4, 4, LAST_TAG - 3)?;
     let mut pair = open(rt, alloc, &pool, &mut worker);
-    fill(rt, &pool, &mut worker, &mut pair, 12);
+    go_through(rt, &pool, &mut worker, &mut pair, &[Step::Fill(12)]);
     Ok(stopped_by_put(rt, &pool, &mut worker, pair, 12))
 }
 
@@ -100,8 +96,8 @@ fn put_without_a_pop<R: Wait + Abort>(rt: &R, alloc: Global) -> Result<Stopped, 
 fn get_without_a_push<R: Wait + Abort>(rt: &R, alloc: Global) -> Result<Stopped, PoolFault> {
     let (pool, mut worker) = pool_of_roots(alloc, 4, 4, LAST_TAG - 3)?;
     let mut pair = open(rt, alloc, &pool, &mut worker);
-    fill(rt, &pool, &mut worker, &mut pair, 9);
-    get_all(rt, &pool, &mut worker, &mut pair, &[8, 7, 6, 5, 4]);
+    let steps = [Step::Fill(9), Step::Get(&[8, 7, 6, 5, 4])];
+    go_through(rt, &pool, &mut worker, &mut pair, &steps);
     Ok(stopped_by_get(rt, &pool, &mut worker, pair))
 }
 

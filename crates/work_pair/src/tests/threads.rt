@@ -59,8 +59,7 @@ fn put_one<R: Wait + Abort, A: Allocator>(
     got: &mut Vec<u32>,
     object: u32,
 )
-    requires ready { IsReady OBJECTS pool.now worker.old pair.old }
-    requires object { object + 1 ≤ OBJECTS }
+    requires { IsReady OBJECTS pool.now worker.old pair.old }
     ensures { IsReady OBJECTS pool.now worker.new pair.new }
 {
     put(rt, pool, worker, pair, object);
