@@ -1,11 +1,11 @@
 -- What the tests' workers have after a call.
 use Rattle.std.proofs.Common.{◌≡◌, ℕ, ◌<◌, List, [], ◌∷◌, ◌++◌, All, Contains, cond}
-use Rattle.std.proofs.Common.{eq-eqb, ap, sym, subst, ◌∙◌, inl, inr, arith}
+use Rattle.std.proofs.Common.{eq-eqb, ap, sym, subst, ◌∙◌, inl, arith}
 use Rattle.std.proofs.lemmas.List.FromFn.{length-range_with_len, get_or-range_with_len}
 use Rattle.atomic_table.specs.Seated.{TableId}
 use Rattle.mark_core.specs.Lists.{times, only}
 use Rattle.mark_core.specs.World.{Setup}
-use Rattle.mark_core.specs.Event.{CanClaim, IsBusy}
+use Rattle.mark_core.specs.Event.{CanClaim}
 use Rattle.mark_core.proofs.Sums.{sum_of-append}
 use Rattle.buffer_pool.specs.Book.{Book, claimed}
 use Rattle.buffer_pool.specs.Calls.{Holder}
@@ -30,10 +30,6 @@ is_root n o below = (
 pub may_claim : (n o : ℕ) (pool : TableId) (w : Holder) → IsWorker n pool w → o < n
     → CanClaim w.book.setup o w.book.account
 may_claim n o pool w worker below = inl (subst (λ (rs : List ℕ). Contains rs o) (sym worker.roots) (is_root n o below))
-
--- a worker that is not idle may use its stacks
-pub at_work : (n : ℕ) (pool : TableId) (w : Holder) → IsWorker n pool w → IsBusy w.book.account
-at_work n pool w worker = inr worker.idle
 
 -- a worker whose setup and idle number stay
 pub still_worker : (n : ℕ) (pool : TableId) (old new : Holder) → IsWorker n pool old → new.pool ≡ old.pool

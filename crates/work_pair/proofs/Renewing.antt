@@ -3,6 +3,7 @@ use Rattle.std.specs.Bool.{OnTrue}
 use Rattle.std.proofs.Common.{◌≡◌, ◌≢◌, ℕ, ◌+◌, Bool, true, false, Contains, List, [], ◌∷◌, ◌++◌, Option, Some, None}
 use Rattle.std.proofs.Common.{Ok, Err, refl, sym, ap, subst, ◌∙◌, inl, inr, ⊎_elim, arith}
 use Rattle.std.proofs.lemmas.List.{append-nil}
+use Rattle.atomic_table.specs.Seated.{TableId}
 use Rattle.mark_core.specs.declared.which.Which.{Which}
 use Rattle.mark_core.specs.declared.which.Which.TheVariants.{Full, Empty}
 use Rattle.mark_core.specs.Event.{IsBusy}
@@ -10,14 +11,14 @@ use Rattle.mark_core.specs.Lists.{times, only, IsPart}
 use Rattle.mark_core.specs.World.{Setup}
 use Rattle.mark_core.proofs.Sums.{only-same, times_stands, sum_of-append}
 use Rattle.buffer_pool.specs.Book.{Book}
-use Rattle.buffer_pool.specs.Calls.{HeldBuffer}
+use Rattle.buffer_pool.specs.Calls.{HeldBuffer, Holder}
 use Rattle.work_pair.specs.Moves.{Move, Took, Gave, FoundNone, Ended, Moved, Moves, IsFilled, AreFilled}
 use Rattle.work_pair.specs.Moves.{HasPushOnFull, IsFromFull, IsOnFull, HasPopFromFull}
 use Rattle.work_pair.specs.Moves.{popped_items, popped_numbers, pushed_items, pushed_numbers}
 use Rattle.work_pair.specs.PairState.{items_at, buffer_number, IsOfSize}
 use Rattle.work_pair.specs.declared.stop.Stop.{Stop}
 use Rattle.work_pair.specs.declared.stop.Stop.TheVariants.{TagSpent, OutOfMemory}
-use Rattle.work_pair.specs.working.Asks.{IsBackedAt}
+use Rattle.work_pair.specs.working.Asks.{IsBackedAt, MayRenew}
 use Rattle.work_pair.specs.working.Steps.{IsFull, Leaves, PopsOne, PublishesAt, PutsOut, Renews, RenewAnswers}
 use Rattle.work_pair.specs.working.Steps.{next_of, pushed_part, shelf_of, shelving_of}
 use Rattle.work_pair.proofs.Looks.{lost_pops}
@@ -86,41 +87,61 @@ from_full : (q : Which) (h : HeldBuffer) → IsFromFull (Took q h) → IsFull q
 from_full Full h took = tt
 from_full Empty h none = absurd none
 
--- nothing was done
-module _ (size : ℕ) (old : Option HeldBuffer) (b c : Book) (sized : IsOfSize size old) (new third : Option HeldBuffer)
-    (same : new ≡ old) (vacant : third ≡ None) where
-  abbrev unchanged : (move : Move) → Moved move b c → IsIdle move → Renews size old b new third c
-  unchanged move moved idle =
+-- nothing was done with a place that may be renewed
+module _ (w : Holder) (pool : TableId) (place third : Option HeldBuffer) (may : MayRenew w pool place third) where
+  left_sized : IsOfSize w.book.setup.size third
+  left_sized = subst (IsOfSize w.book.setup.size) (sym may.vacant) tt
+
+  pub publish_nothing : items_at place ≡ [] → PublishesAt w.book.setup.size place w.book place third w.book (Ok tt)
+  publish_nothing none =
+      let r : Renews w.book.setup.size place w.book place third w.book =
       record {
-        moves = move ∷ [];
-        books = (c, moved, refl);
-        items = λ o. omega (
-          arith,
-          ap (λ (xs : List ℕ). times o (xs ++ [])) idle.0,
-          ap (λ (p : Option HeldBuffer). times o (items_at p)) same,
-          ap (λ (p : Option HeldBuffer). times o (items_at p)) vacant,
-        );
-        buffers = λ i. omega (
-          arith,
-          ap (λ (xs : List ℕ). times i (xs ++ [])) idle.1,
-          ap (λ (p : Option HeldBuffer). times i (buffer_number p)) same,
-          ap (λ (p : Option HeldBuffer). times i (buffer_number p)) vacant,
-        );
-        filled = (idle.2, tt);
-        sized = subst (IsOfSize size) (sym same) sized;
-        left_sized = subst (IsOfSize size) (sym vacant) tt;
-      }
+        moves = [];
+        books = refl;
+        items = λ o. omega (arith, ap (λ (p : Option HeldBuffer). times o (items_at p)) may.vacant);
+        buffers = λ i. omega (arith, ap (λ (p : Option HeldBuffer). times i (buffer_number p)) may.vacant);
+        filled = tt;
+        sized = may.backed.sized;
+        left_sized = left_sized;
+      } in (r, may.vacant, inr none, λ pop. pop)
 
-  pub found_nothing : (half : Bool) → Moved (FoundNone Empty) b c
-      → RenewAnswers half Empty size old b new third c (Ok false)
-  found_nothing half moved =
-      (unchanged (FoundNone Empty) moved (refl, refl, tt), vacant, same, found_none Empty b c moved, refl)
+  module _ (c : Book) (half : Bool) where
+    abbrev unchanged : (move : Move) → Moved move w.book c → IsIdle move
+        → Renews w.book.setup.size place w.book place third c
+    unchanged move moved idle =
+        record {
+          moves = move ∷ [];
+          books = (c, moved, refl);
+          items = λ o. omega (
+            arith,
+            ap (λ (xs : List ℕ). times o (xs ++ [])) idle.0,
+            ap (λ (p : Option HeldBuffer). times o (items_at p)) may.vacant,
+          );
+          buffers = λ i. omega (
+            arith,
+            ap (λ (xs : List ℕ). times i (xs ++ [])) idle.1,
+            ap (λ (p : Option HeldBuffer). times i (buffer_number p)) may.vacant,
+          );
+          filled = (idle.2, tt);
+          sized = may.backed.sized;
+          left_sized = left_sized;
+        }
 
-  pub stopped_at_once : (half : Bool) (stop : Stop) → PopsOne Empty b c (Err stop)
-      → RenewAnswers half Empty size old b new third c (Err stop)
-  stopped_at_once half TagSpent moved =
-      (unchanged (Ended Empty) moved (refl, refl, tt), ([], Empty, refl), λ pop. ⊎_elim (λ x. x) (λ x. x) pop)
-  stopped_at_once half OutOfMemory none = absurd none
+    pub found_nothing : Moved (FoundNone Empty) w.book c
+        → RenewAnswers half Empty w.book.setup.size place w.book place third c (Ok false)
+    found_nothing moved = (
+      unchanged (FoundNone Empty) moved (refl, refl, tt),
+      may.vacant,
+      refl,
+      found_none Empty w.book c moved,
+      refl,
+    )
+
+    pub stopped_at_once : (stop : Stop) → PopsOne Empty w.book c (Err stop)
+        → RenewAnswers half Empty w.book.setup.size place w.book place third c (Err stop)
+    stopped_at_once TagSpent moved =
+        (unchanged (Ended Empty) moved (refl, refl, tt), ([], Empty, refl), λ pop. ⊎_elim (λ x. x) (λ x. x) pop)
+    stopped_at_once OutOfMemory none = absurd none
 
 -- the buffer h was popped, and its items and those at the place before are those of the place now and of the next one
 module _ (old : Option HeldBuffer) (q : Which) (h : HeldBuffer) (b mid : Book) (took : Moved (Took q h) b mid)
@@ -217,27 +238,14 @@ module _ (old : Option HeldBuffer) (q : Which) (h : HeldBuffer) (b mid : Book) (
 pub out_alone : (ms : List Move) → ms ≡ FoundNone Empty ∷ [] → HasPopFromFull ms → ⊥
 out_alone ms is pop = ⊎_elim (λ x. x) (λ x. x) (subst HasPopFromFull is pop)
 
--- a place without items was left as it is, and one with items was renewed
-module _ (size : ℕ) (old : Option HeldBuffer) (b : Book) where
-  pub publish_nothing : (third : Option HeldBuffer) → IsOfSize size old → third ≡ None → items_at old ≡ []
-      → PublishesAt size old b old third b (Ok tt)
-  publish_nothing third sized vacant none =
-      let r : Renews size old b old third b =
-      record {
-        moves = [];
-        books = refl;
-        items = λ o. omega (arith, ap (λ (p : Option HeldBuffer). times o (items_at p)) vacant);
-        buffers = λ i. omega (arith, ap (λ (p : Option HeldBuffer). times i (buffer_number p)) vacant);
-        filled = tt;
-        sized = sized;
-        left_sized = subst (IsOfSize size) (sym vacant) tt;
-      } in (r, vacant, inr none, λ pop. pop)
-
-  module _ (new third : Option HeldBuffer) (c : Book) where
-    pub publish_renewed : (done : Bool) → RenewAnswers false Empty size old b new third c (Ok done)
-        → OnTrue done ((h : HeldBuffer) × (new ≡ Some h) × (h.items ≡ [])) → PublishesAt size old b new third c (Ok tt)
-    publish_renewed true told bare = (told.0, told.1, inr (ap items_at bare.1 ∙ bare.2), told.3)
-    publish_renewed false told bare = (told.0, told.1, inl told.3, out_alone told.0.moves told.4)
+-- a place with items was renewed
+pub publish_renewed : (size : ℕ) (old : Option HeldBuffer) (b : Book) (new third : Option HeldBuffer) (c : Book)
+    (done : Bool) → RenewAnswers false Empty size old b new third c (Ok done)
+    → OnTrue done ((h : HeldBuffer) × (new ≡ Some h) × (h.items ≡ [])) → PublishesAt size old b new third c (Ok tt)
+publish_renewed size old b new third c true told bare =
+    (told.0, told.1, inr (ap items_at bare.1 ∙ bare.2), told.3)
+publish_renewed size old b new third c false told bare =
+    (told.0, told.1, inl told.3, out_alone told.0.moves told.4)
 
 -- after a pop its worker is not idle still, and the buffer is of the pool's size
 module _ (q : Which) (h : HeldBuffer) (b mid : Book) (took : Moved (Took q h) b mid) where

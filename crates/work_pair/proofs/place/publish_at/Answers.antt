@@ -8,10 +8,8 @@ use Rattle.work_pair.proofs.place.publish_at.Goals as goal
 pub returns-then-len_at-eq0-clause-publishes : goal.returns-then-len_at-eq0-clause-publishes
 returns-then-len_at-eq0-clause-publishes g c =
     let place = c.args.place.now in
-    let b = c.args.worker.now.book in
     let none : length (items_at place) ≤ 0 = omega (arith, c.if-len_at-eq0.true, c.len_at.ensures) in
-    publish_nothing b.setup.size place b c.args.third.now c.requires.backed.sized c.requires.vacant
-    (none_in (items_at place) none)
+    publish_nothing c.args.worker.now c.args.pool.now place c.args.third.now c.requires (none_in (items_at place) none)
 
 pub returns-in-Ok-clause-publishes : goal.returns-in-Ok-clause-publishes
 returns-in-Ok-clause-publishes g c =

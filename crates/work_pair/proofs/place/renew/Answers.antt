@@ -18,20 +18,17 @@ popped g c = subst (λ (r : Option HeldBuffer). PopsOne Empty c.args.worker.now.
 
 pub returns-in_err-next-clause-renews : goal.returns-in_err-next-clause-renews
 returns-in_err-next-clause-renews g c =
-    let b = c.args.worker.now.book in
     let p = err_from_is_err_and c.from_residual.result c.from_residual.ensures.1 in
     rw (p.1, p.2)
-    (stopped_at_once b.setup.size c.args.place.now b c.pop_one.new.worker.book c.requires.backed.sized c.args.place.now
-    c.args.third.now refl c.requires.vacant false c.in_err-next.field-0.0 c.in_err-next.ensures.pops)
+    (stopped_at_once c.args.worker.now c.args.pool.now c.args.place.now c.args.third.now c.requires
+    c.pop_one.new.worker.book false c.in_err-next.field-0.0 c.in_err-next.ensures.pops)
 
 pub returns-in_default-clause-renews : goal.returns-in_default-clause-renews
 returns-in_default-clause-renews g c =
-    let b = c.args.worker.now.book in
     let mid = c.pop_one.new.worker.book in
-    let pops = subst (λ (r : Option HeldBuffer). PopsOne Empty b mid (Ok r)) c.in_default.is c.in_ok-next.ensures.pops
-    in
-    found_nothing b.setup.size c.args.place.now b mid c.requires.backed.sized c.args.place.now c.args.third.now refl
-    c.requires.vacant false pops
+    found_nothing c.args.worker.now c.args.pool.now c.args.place.now c.args.third.now c.requires mid false
+    (subst (λ (r : Option HeldBuffer). PopsOne Empty c.args.worker.now.book mid (Ok r)) c.in_default.is
+    c.in_ok-next.ensures.pops)
 
 pub put_out-requires : goal.put_out-requires
 put_out-requires g c =
