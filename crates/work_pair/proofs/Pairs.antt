@@ -12,6 +12,7 @@ use Rattle.work_pair.specs.Deals.{Balances, Deals, DealsOut, Disposes, Puts}
 use Rattle.work_pair.specs.Moves.{Move, FoundNone, EndAtLastTag, WasSeenEmpty}
 use Rattle.work_pair.specs.PairState.{PairState, buffered_items, pair_items, AreAlike, IsBacked, IsOpen}
 use Rattle.work_pair.specs.declared.buffers.Buffers.{Buffers}
+use Rattle.work_pair.specs.declared.pair.Pair.TheInside.{Inside}
 use Rattle.work_pair.specs.declared.stop.Stop.{Stop}
 use Rattle.work_pair.specs.declared.stop.Stop.TheVariants.{TagSpent, OutOfMemory}
 use Rattle.work_pair.specs.working.Asks.{MayTrade}
@@ -22,18 +23,21 @@ use Rattle.work_pair.proofs.Renewing.{out_alone}
 use Rattle.work_pair.proofs.Spilling.{beside, dealt_listed, given_up, listed, listed_sum, spilled, unspilled}
 use Rattle.work_pair.proofs.Trading.{backed_less, untouched}
 
--- a pair that a contract sees as v, with these buffers and this list
-module _ {A : Type 0} (v : PairState) (p : Buffers A) (l : List ℕ) (was hungry : Bool)
-    (is : listed (places_of p) l was hungry ≡ v) where
-  seen : (put : List ℕ) (b : Book) → IsBacked v put b → IsBacked (listed (places_of p) l was hungry) put b
+-- a pair as a contract sees it
+abbrev pub seen_as : {A : Type 0} → Inside A → PairState
+seen_as i = listed (places_of i.buffers) i.spill.items i.stopped i.starved
+
+-- a pair that a contract sees as v
+module _ {A : Type 0} {v : PairState} (i : Inside A) (is : seen_as i ≡ v) where
+  seen : (put : List ℕ) (b : Book) → IsBacked v put b → IsBacked (seen_as i) put b
   seen put b backed = subst (λ (w : PairState). IsBacked w put b) (sym is) backed
 
   -- what the buffers are asked
-  pub inner : (put : List ℕ) (b : Book) → IsBacked v put b → IsBacked (places_of p) put b
-  inner put b backed = beside (places_of p) l put was hungry b refl (seen put b backed)
+  pub inner : (put : List ℕ) (b : Book) → IsBacked v put b → IsBacked (places_of i.buffers) put b
+  inner put b backed = beside (places_of i.buffers) i.spill.items put i.stopped i.starved b refl (seen put b backed)
 
   pub may_trade : (w : Holder) (pool : TableId) (put : List ℕ) → w.pool ≡ pool → IsOpen v → IsBacked v put w.book
-      → IsBusy w.book.account → MayTrade w pool (places_of p) put
+      → IsBusy w.book.account → MayTrade w pool (places_of i.buffers) put
   may_trade w pool put same going backed busy =
       record {
         same = same;
@@ -43,42 +47,43 @@ module _ {A : Type 0} (v : PairState) (p : Buffers A) (l : List ℕ) (was hungry
       }
 
   -- no call was stopped
-  pub still_going : IsOpen v → was ≡ false
+  pub still_going : IsOpen v → i.stopped ≡ false
   still_going going = ap (λ (w : PairState). w.stopped) is ∙ going.going
 
-  not_ended : IsOpen v → (ms : List Move) → was ≡ true → EndAtLastTag ms
+  not_ended : IsOpen v → (ms : List Move) → i.stopped ≡ true → EndAtLastTag ms
   not_ended going ms stopped = absurd (false≢true (sym (still_going going) ∙ stopped))
 
   -- the last object of the list was got
-  pub takes_last : (m : List ℕ) (o : ℕ) → l ≡ m ++ o ∷ [] → IsOpen v → (b : Book) → IsBacked v [] b
-      → Deals v b [] (o ∷ []) (listed (places_of p) m was hungry) b
+  pub takes_last : (m : List ℕ) (o : ℕ) → i.spill.items ≡ m ++ o ∷ [] → IsOpen v → (b : Book) → IsBacked v [] b
+      → Deals v b [] (o ∷ []) (listed (places_of i.buffers) m i.stopped i.starved) b
   takes_last m o l_is going b backed =
-      let u = untouched (places_of p) b (inner [] b backed).sized in
-      subst (λ (w : PairState). Deals w b [] (o ∷ []) (listed (places_of p) m was hungry) b) is
-      (dealt_listed (places_of p) (places_of p) l m [] [] [] (o ∷ []) was hungry was hungry b b refl refl
-      (λ x. omega (arith, unspilled m o x, ap (times x) l_is)) (seen [] b backed) u (not_ended going u.moves))
+      let u = untouched (places_of i.buffers) b (inner [] b backed).sized in
+      subst (λ (w : PairState). Deals w b [] (o ∷ []) (listed (places_of i.buffers) m i.stopped i.starved) b) is
+      (dealt_listed (places_of i.buffers) (places_of i.buffers) i.spill.items m [] [] [] (o ∷ []) i.stopped i.starved
+      i.stopped i.starved b b refl refl (λ x. omega (arith, unspilled m o x, ap (times x) l_is)) (seen [] b backed) u
+      (not_ended going u.moves))
 
   module _ (b : Book) (q : Buffers A) (c : Book) where
     -- the buffers were traded, and the list stayed
-    abbrev trades : (m : List ℕ) → m ≡ l → (now starving : Bool) (put got : List ℕ) → IsBacked v put b
-        → (u : Trades (places_of p) b put got (places_of q) c) → (now ≡ true → EndAtLastTag u.moves)
-        → Deals (listed (places_of p) l was hungry) b put got (listed (places_of q) m now starving) c
+    abbrev trades : (m : List ℕ) → m ≡ i.spill.items → (now starving : Bool) (put got : List ℕ) → IsBacked v put b
+        → (u : Trades (places_of i.buffers) b put got (places_of q) c) → (now ≡ true → EndAtLastTag u.moves)
+        → Deals (seen_as i) b put got (listed (places_of q) m now starving) c
     trades m m_is now starving put got backed =
-        dealt_listed (places_of p) (places_of q) l m put got put got was hungry now starving b c refl refl
-        (λ o. omega (arith, ap (times o) m_is)) (seen put b backed)
+        dealt_listed (places_of i.buffers) (places_of q) i.spill.items m put got put got i.stopped i.starved now
+        starving b c refl refl (λ o. omega (arith, ap (times o) m_is)) (seen put b backed)
 
     -- an object was put
     module _ (going : IsOpen v) (object : ℕ) (backed : IsBacked v (object ∷ []) b) {done : Bool}
-        (answer : PutAnswers object (places_of p) b (places_of q) c (Ok done)) where
-      answered : (which : Bool) → done ≡ which → PutAnswers object (places_of p) b (places_of q) c (Ok which)
+        (answer : PutAnswers object (places_of i.buffers) b (places_of q) c (Ok done)) where
+      answered : (which : Bool) → done ≡ which → PutAnswers object (places_of i.buffers) b (places_of q) c (Ok which)
       answered which done_is =
-          subst (λ (d : Bool). PutAnswers object (places_of p) b (places_of q) c (Ok d)) done_is answer
+          subst (λ (d : Bool). PutAnswers object (places_of i.buffers) b (places_of q) c (Ok d)) done_is answer
 
-      pub puts : done ≡ true → Puts v b object (listed (places_of q) l was hungry) c
+      pub puts : done ≡ true → Puts v b object (listed (places_of q) i.spill.items i.stopped i.starved) c
       puts done_is =
           let a = answered true done_is in
-          subst (λ (w : PairState). Puts w b object (listed (places_of q) l was hungry) c) is (
-            trades l refl was hungry (object ∷ []) [] backed a.0 (not_ended going a.0.moves),
+          subst (λ (w : PairState). Puts w b object (listed (places_of q) i.spill.items i.stopped i.starved) c) is (
+            trades i.spill.items refl i.stopped i.starved (object ∷ []) [] backed a.0 (not_ended going a.0.moves),
             inl refl,
             a.2,
             ⊎_elim (λ room. inl room) (λ fills. inr (inr fills)) a.3,
@@ -86,43 +91,44 @@ module _ {A : Type 0} (v : PairState) (p : Buffers A) (l : List ℕ) (was hungry
 
       -- no empty buffer was found for it: it went to the list, or stayed with the worker
       module _ (done_is : done ≡ false) (m : List ℕ) where
-        abbrev none : FindsNone (places_of p) b (places_of q) c
+        abbrev none : FindsNone (places_of i.buffers) b (places_of q) c
         none = answered false done_is
 
-        pub spills : m ≡ l ++ object ∷ [] → Puts v b object (listed (places_of q) m was hungry) c
+        pub spills : m ≡ i.spill.items ++ object ∷ [] → Puts v b object (listed (places_of q) m i.stopped i.starved) c
         spills m_is =
-            subst (λ (w : PairState). Puts w b object (listed (places_of q) m was hungry) c) is (
-              dealt_listed (places_of p) (places_of q) l m [] [] (object ∷ []) [] was hungry was hungry b c refl refl
-                  (λ o. omega (arith, spilled l object o, ap (times o) m_is)) (seen (object ∷ []) b backed) none.0
-                  (not_ended going none.0.moves),
+            subst (λ (w : PairState). Puts w b object (listed (places_of q) m i.stopped i.starved) c) is (
+              dealt_listed (places_of i.buffers) (places_of q) i.spill.items m [] [] (object ∷ []) [] i.stopped
+                  i.starved i.stopped i.starved b c refl refl
+                  (λ o. omega (arith, spilled i.spill.items object o, ap (times o) m_is))
+                  (seen (object ∷ []) b backed) none.0 (not_ended going none.0.moves),
               inr (m_is, none.2),
               out_alone none.0.moves none.2,
               inr (inl none.2),
             )
 
-        pub starves : m ≡ l → (deals : Deals v b [] [] (listed (places_of q) m was true) c)
+        pub starves : m ≡ i.spill.items → (deals : Deals v b [] [] (listed (places_of q) m i.stopped true) c)
             × (deals.moves ≡ FoundNone Empty ∷ [])
         starves m_is =
-            subst (λ (w : PairState). (deals : Deals w b [] [] (listed (places_of q) m was true) c)
+            subst (λ (w : PairState). (deals : Deals w b [] [] (listed (places_of q) m i.stopped true) c)
             × (deals.moves ≡ FoundNone Empty ∷ [])) is (
-              trades m m_is was true [] [] (backed_less v (object ∷ []) b backed) none.0
+              trades m m_is i.stopped true [] [] (backed_less v (object ∷ []) b backed) none.0
                   (not_ended going none.0.moves),
               none.2,
             )
 
-        pub still_open : IsOpen (listed (places_of q) m was true)
+        pub still_open : IsOpen (listed (places_of q) m i.stopped true)
         still_open = record { going = still_going going; third = none.1 }
 
-        pub as_before : m ≡ l → AreAlike v (listed (places_of q) m was true)
+        pub as_before : m ≡ i.spill.items → AreAlike v (listed (places_of q) m i.stopped true)
         as_before m_is =
-            subst (λ (w : PairState). AreAlike w (listed (places_of q) m was true)) is
+            subst (λ (w : PairState). AreAlike w (listed (places_of q) m i.stopped true)) is
             (record {
               items = λ o. omega (
                 arith,
                 none.3.items o,
                 ap (times o) m_is,
-                listed_sum o (places_of p) l was hungry refl,
-                listed_sum o (places_of q) m was true refl,
+                listed_sum o (places_of i.buffers) i.spill.items i.stopped i.starved refl,
+                listed_sum o (places_of q) m i.stopped true refl,
               );
               buffers = none.3.buffers;
             })
@@ -130,71 +136,71 @@ module _ {A : Type 0} (v : PairState) (p : Buffers A) (l : List ℕ) (was hungry
     module _ (backed : IsBacked v [] b) where
       -- the buffers were balanced, or published
       module _ (going : IsOpen v) (done : Unit) where
-        pub balances : BalanceAnswers (places_of p) b (places_of q) c (Ok done)
-            → Balances v b (listed (places_of q) l was hungry) c
+        pub balances : BalanceAnswers (places_of i.buffers) b (places_of q) c (Ok done)
+            → Balances v b (listed (places_of q) i.spill.items i.stopped i.starved) c
         balances told =
-            subst (λ (w : PairState). Balances w b (listed (places_of q) l was hungry) c) is (
-              trades l refl was hungry [] [] backed told.0 (not_ended going told.0.moves),
+            subst (λ (w : PairState). Balances w b (listed (places_of q) i.spill.items i.stopped i.starved) c) is (
+              trades i.spill.items refl i.stopped i.starved [] [] backed told.0 (not_ended going told.0.moves),
               told.2,
               told.3,
               told.4,
             )
 
-        pub publishes : PublishAnswers (places_of p) b (places_of q) c (Ok done)
-            → DealsOut v b (listed (places_of q) l was hungry) c
+        pub publishes : PublishAnswers (places_of i.buffers) b (places_of q) c (Ok done)
+            → DealsOut v b (listed (places_of q) i.spill.items i.stopped i.starved) c
         publishes told =
-            subst (λ (w : PairState). DealsOut w b (listed (places_of q) l was hungry) c) is
-            (trades l refl was hungry [] [] backed told.0 (not_ended going told.0.moves), told.3)
+            subst (λ (w : PairState). DealsOut w b (listed (places_of q) i.spill.items i.stopped i.starved) c) is
+            (trades i.spill.items refl i.stopped i.starved [] [] backed told.0 (not_ended going told.0.moves), told.3)
 
       -- a call was stopped that popped nothing from full
-      pub stops : (stop : Stop) → EndsOut (places_of p) b (places_of q) c stop
-          → (stop ≡ TagSpent) × (true ≡ true) × DealsOut v b (listed (places_of q) l true hungry) c
+      pub stops : (stop : Stop) → EndsOut (places_of i.buffers) b (places_of q) c stop
+          → (stop ≡ TagSpent) × (true ≡ true) × DealsOut v b (listed (places_of q) i.spill.items true i.starved) c
       stops TagSpent told = (
         refl,
         refl,
-        subst (λ (w : PairState). DealsOut w b (listed (places_of q) l true hungry) c) is
-            (trades l refl true hungry [] [] backed told.0 (λ stopped. told.1), told.2),
+        subst (λ (w : PairState). DealsOut w b (listed (places_of q) i.spill.items true i.starved) c) is
+            (trades i.spill.items refl true i.starved [] [] backed told.0 (λ stopped. told.1), told.2),
       )
       stops OutOfMemory none = absurd none
 
       -- an object was to be got from the buffers, and the list stayed
-      module _ (m : List ℕ) (m_is : m ≡ l) where
-        gets : (now : Bool) (got : List ℕ) (u : Trades (places_of p) b [] got (places_of q) c)
-            → (now ≡ true → EndAtLastTag u.moves) → Deals v b [] got (listed (places_of q) m now hungry) c
+      module _ (m : List ℕ) (m_is : m ≡ i.spill.items) where
+        gets : (now : Bool) (got : List ℕ) (u : Trades (places_of i.buffers) b [] got (places_of q) c)
+            → (now ≡ true → EndAtLastTag u.moves) → Deals v b [] got (listed (places_of q) m now i.starved) c
         gets now got u ends =
-            subst (λ (w : PairState). Deals w b [] got (listed (places_of q) m now hungry) c) is
-            (trades m m_is now hungry [] got backed u ends)
+            subst (λ (w : PairState). Deals w b [] got (listed (places_of q) m now i.starved) c) is
+            (trades m m_is now i.starved [] got backed u ends)
 
-        pub get_stops : (stop : Stop) → Ends (places_of p) b (places_of q) c stop
-            → (stop ≡ TagSpent) × (true ≡ true) × Deals v b [] [] (listed (places_of q) m true hungry) c
+        pub get_stops : (stop : Stop) → Ends (places_of i.buffers) b (places_of q) c stop
+            → (stop ≡ TagSpent) × (true ≡ true) × Deals v b [] [] (listed (places_of q) m true i.starved) c
         get_stops TagSpent told = (refl, refl, gets true [] told.0 (λ stopped. told.1))
         get_stops OutOfMemory none = absurd none
 
         module _ (going : IsOpen v) where
-          pub got_told : (r : Option ℕ) → GetAnswers (places_of p) b (places_of q) c (Ok r)
-              → IfSome r (λ o. Deals v b [] (o ∷ []) (listed (places_of q) m was hungry) c)
-          got_told (Some o) told = gets was (o ∷ []) told.0 (not_ended going told.0.moves)
+          pub got_told : (r : Option ℕ) → GetAnswers (places_of i.buffers) b (places_of q) c (Ok r)
+              → IfSome r (λ o. Deals v b [] (o ∷ []) (listed (places_of q) m i.stopped i.starved) c)
+          got_told (Some o) told = gets i.stopped (o ∷ []) told.0 (not_ended going told.0.moves)
           got_told None told = tt
 
-          pub none_told : m ≡ [] → (r : Option ℕ) → GetAnswers (places_of p) b (places_of q) c (Ok r)
-              → IfNone r (Deals v b [] [] (listed (places_of q) m was hungry) c
-              × (pair_items (listed (places_of q) m was hungry) ≡ []) × WasSeenEmpty Full b c)
+          pub none_told : m ≡ [] → (r : Option ℕ) → GetAnswers (places_of i.buffers) b (places_of q) c (Ok r)
+              → IfNone r (Deals v b [] [] (listed (places_of q) m i.stopped i.starved) c
+              × (pair_items (listed (places_of q) m i.stopped i.starved) ≡ []) × WasSeenEmpty Full b c)
           none_told empty (Some o) told = tt
           none_told empty None told = (
-            gets was [] told.0 (not_ended going told.0.moves),
+            gets i.stopped [] told.0 (not_ended going told.0.moves),
             ap (λ (k : List ℕ). k ++ buffered_items (places_of q)) empty ∙ told.2,
             told.3,
           )
 
   -- the buffers were given back, and the list was given up before
   pub disposes : (b : Book) → IsBacked v [] b → (q : PairState) (c : Book) → q.spill ≡ [] → (now starving : Bool)
-      (m : List ℕ) → m ≡ [] → (cleared : Clears (places_of p) b q c)
+      (m : List ℕ) → m ≡ [] → (cleared : Clears (places_of i.buffers) b q c)
       → (now ≡ true → EndAtLastTag cleared.trades.moves) → Disposes v b (listed q m now starving) c
   disposes b backed q c bare now starving m m_is cleared ends =
       subst (λ (w : PairState). Disposes w b (listed q m now starving) c) is (
-        dealt_listed (places_of p) q [] m [] [] [] [] was hungry now starving b c refl bare
-            (λ o. omega (arith, ap (times o) m_is)) (given_up (places_of p) l was hungry b (seen [] b backed))
-            cleared.trades ends,
+        dealt_listed (places_of i.buffers) q [] m [] [] [] [] i.stopped i.starved now starving b c refl bare
+            (λ o. omega (arith, ap (times o) m_is))
+            (given_up (places_of i.buffers) i.spill.items i.stopped i.starved b (seen [] b backed)) cleared.trades ends,
         cleared.quiet,
         cleared.out,
       )

@@ -165,15 +165,13 @@ module _ (old : Option HeldBuffer) (q : Which) (h : HeldBuffer) (b mid : Book) (
         → RenewAnswers half q size old b new third c (Ok true)
     put_out_done half place_is next_is done more out =
         let push = shelving place in
-        let r : Renews size old b new third c =
+        let r : Renews size old b (Some next) None c =
         record {
           moves = Took q h ∷ shelving_of place;
           books = (mid, took, shelved place mid c out.2);
           items = λ o. omega (
             arith,
             shared o,
-            ap (λ (p : Option HeldBuffer). times o (items_at p)) out.0,
-            ap (λ (p : Option HeldBuffer). times o (items_at p)) out.1,
             ap (times o) push.given,
             ap (λ (xs : List ℕ). times o (h.items ++ xs)) push.none,
             sum_of-append (only o) h.items [],
@@ -181,58 +179,48 @@ module _ (old : Option HeldBuffer) (q : Which) (h : HeldBuffer) (b mid : Book) (
           buffers = λ i. omega (
             arith,
             ap (times i) number,
-            ap (λ (p : Option HeldBuffer). times i (buffer_number p)) out.0,
-            ap (λ (p : Option HeldBuffer). times i (buffer_number p)) out.1,
             ap (λ (n : ℕ). times i (n ∷ [])) index,
             ap (times i) push.number,
             ap (λ (xs : List ℕ). times i (h.index ∷ xs)) push.no_number,
           );
           filled = (tt, push.filled);
-          sized = subst (IsOfSize size) (sym out.0) next_sized;
-          left_sized = subst (IsOfSize size) (sym out.1) tt;
-        } in (
+          sized = next_sized;
+          left_sized = tt;
+        } in
+        subst (λ (n : Option HeldBuffer). RenewAnswers half q size old b n third c (Ok true)) (sym out.0)
+        (subst (λ (t : Option HeldBuffer). RenewAnswers half q size old b (Some next) t c (Ok true)) (sym out.1) (
           r,
-          out.1,
+          refl,
           λ some. inr (push.full (more some)),
           λ pop. ⊎_elim (from_full q h) (λ rest. absurd (push.out rest)) pop,
           (
             h,
             ap (λ (x : Option HeldBuffer). Took q h ∷ shelving_of x) place_is,
-            out.0 ∙ ap Some next_is,
+            ap Some next_is,
             took.2.6,
           ),
-        )
+        ))
 
     pub put_out_stopped : (half : Bool) (stop : Stop) → PutsOut place next mid new third c (Err stop)
         → RenewAnswers half q size old b new third c (Err stop)
     put_out_stopped half OutOfMemory none = absurd none
     put_out_stopped half TagSpent out =
-        let r : Renews size old b new third c =
+        let r : Renews size old b place (Some next) c =
         record {
           moves = Took q h ∷ Ended out.2.0 ∷ [];
           books = (mid, took, (c, out.2.1, refl));
-          items = λ o. omega (
-            arith,
-            shared o,
-            ap (λ (p : Option HeldBuffer). times o (items_at p)) out.0,
-            ap (λ (p : Option HeldBuffer). times o (items_at p)) out.1,
-            sum_of-append (only o) h.items [],
-          );
-          buffers = λ i. omega (
-            arith,
-            ap (times i) number,
-            ap (λ (p : Option HeldBuffer). times i (buffer_number p)) out.0,
-            ap (λ (p : Option HeldBuffer). times i (buffer_number p)) out.1,
-            ap (λ (n : ℕ). times i (n ∷ [])) index,
-          );
+          items = λ o. omega (arith, shared o, sum_of-append (only o) h.items []);
+          buffers = λ i. omega (arith, ap (times i) number, ap (λ (n : ℕ). times i (n ∷ [])) index);
           filled = (tt, (tt, tt));
-          sized = subst (IsOfSize size) (sym out.0) place_sized;
-          left_sized = subst (IsOfSize size) (sym out.1) next_sized;
-        } in (
+          sized = place_sized;
+          left_sized = next_sized;
+        } in
+        subst (λ (n : Option HeldBuffer). RenewAnswers half q size old b n third c (Err TagSpent)) (sym out.0)
+        (subst (λ (t : Option HeldBuffer). RenewAnswers half q size old b place t c (Err TagSpent)) (sym out.1) (
           r,
           (Took q h ∷ [], out.2.0, refl),
           λ pop. ⊎_elim (from_full q h) (λ rest. ⊎_elim (λ x. absurd x) (λ x. absurd x) rest) pop,
-        )
+        ))
 
 -- a look for an empty buffer pops nothing from full
 pub out_alone : (ms : List Move) → ms ≡ FoundNone Empty ∷ [] → HasPopFromFull ms → ⊥

@@ -28,8 +28,8 @@ impl<A: Allocator> Buffers<A> {
     ghost use Rattle.work_pair.specs.PairState.{HasRoom, IsBacked, pair_items};
     ghost use Rattle.work_pair.specs.working.Asks.{MayTrade};
     ghost use Rattle.work_pair.specs.working.Buffers.{places_of};
-    ghost use Rattle.work_pair.specs.working.Steps.{BalanceAnswers, ClearAnswers, GetAnswers, PublishAnswers, PutAnswers};
-    ghost use Rattle.work_pair.specs.working.Steps.{Takes};
+    ghost use Rattle.work_pair.specs.working.Steps.{BalanceAnswers, ClearAnswers, GetAnswers, PublishAnswers};
+    ghost use Rattle.work_pair.specs.working.Steps.{PutAnswers, Takes};
 
     /// Puts an object into the first buffer, or into the second, which is the first then, or into an empty one. False
     /// where there is none: then nothing changes but the places of the two.

@@ -1,5 +1,5 @@
 -- The popped buffer has no items and takes the upper half. The lower half stays at the place, and is pushed.
-use Rattle.std.proofs.Common.{true, ap, refl, sym, subst, Option, Some, Ok, ◌∙◌, ℕ, arith}
+use Rattle.std.proofs.Common.{true, ap, sym, subst, Option, Some, Ok, ◌∙◌, ℕ, arith}
 use Rattle.std.proofs.lemmas.Result.{err_from_is_err_and}
 use Rattle.mark_core.specs.declared.which.Which.TheVariants.{Empty}
 use Rattle.mark_core.specs.Lists.{times}

@@ -38,10 +38,11 @@ publish_at-requires-2 g c =
 pub returns-clause-publishes : goal.returns-clause-publishes
 returns-clause-publishes g c =
     let m = c.args.self.now in
-    both_published m.first m.second m.third c.publish_at.new.place c.publish_at.new.third c.args.worker.now.book
-    c.publish_at.new.worker.book c.requires.third c.requires.backed.sized c.in_ok-publish_at.field-0
-    c.in_ok-publish_at.ensures.publishes c.publish_at-2.new.place c.publish_at-2.new.third c.publish_at-2.new.worker.book c.publish_at-2.result
-    c.publish_at-2.ensures.publishes
+    let one = c.publish_at.new in
+    let two = c.publish_at-2.new in
+    both_published m.first m.second m.third one.place one.third c.args.worker.now.book one.worker.book c.requires.third
+    c.requires.backed.sized c.in_ok-publish_at.field-0 c.in_ok-publish_at.ensures.publishes two.place two.third
+    two.worker.book c.publish_at-2.result c.publish_at-2.ensures.publishes
 
 pub returns-clause-nothing : goal.returns-clause-nothing
 returns-clause-nothing g c none =

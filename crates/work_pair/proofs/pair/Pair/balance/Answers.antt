@@ -8,21 +8,18 @@ use Rattle.work_pair.proofs.pair.Pair.balance.Goals as goal
 
 pub balance-requires : goal.balance-requires
 balance-requires g c =
-    let i = c.self.inside in
-    may_trade c.args.self.now i.buffers i.spill.items i.stopped i.starved c.self.view_is c.args.worker.now
-    c.args.pool.now [] c.requires.pool c.requires.going c.requires.backed c.requires.busy
+    may_trade c.self.inside c.self.view_is c.args.worker.now c.args.pool.now [] c.requires.pool c.requires.going
+    c.requires.backed c.requires.busy
 
 pub returns-in-Ok-clause-balances : goal.returns-in-Ok-clause-balances
 returns-in-Ok-clause-balances g c =
-    let i = c.self.inside in
-    balances c.args.self.now i.buffers i.spill.items i.stopped i.starved c.self.view_is c.args.worker.now.book
-    c.balance.new.self c.balance.new.worker.book c.requires.backed c.requires.going tt c.in-Ok.ensures.balances
+    balances c.self.inside c.self.view_is c.args.worker.now.book c.balance.new.self c.balance.new.worker.book
+    c.requires.backed c.requires.going tt c.in-Ok.ensures.balances
 
 pub returns-in-Err-clause-spent : goal.returns-in-Err-clause-spent
 returns-in-Err-clause-spent g c =
-    let i = c.self.inside in
-    stops c.args.self.now i.buffers i.spill.items i.stopped i.starved c.self.view_is c.args.worker.now.book
-    c.balance.new.self c.balance.new.worker.book c.requires.backed c.in-Err.stop c.in-Err.ensures.balances
+    stops c.self.inside c.self.view_is c.args.worker.now.book c.balance.new.self c.balance.new.worker.book
+    c.requires.backed c.in-Err.stop c.in-Err.ensures.balances
 
 pub returns-in-Ok-clause-few : goal.returns-in-Ok-clause-few
 returns-in-Ok-clause-few g c few =

@@ -9,9 +9,7 @@ use Rattle.work_pair.proofs.pair.Pair.dispose.Goals as goal
 
 pub clear-requires-clause-backed : goal.clear-requires-clause-backed
 clear-requires-clause-backed g c =
-    let i = c.self.inside in
-    inner c.args.self i.buffers i.spill.items i.stopped i.starved c.self.view_is [] c.args.worker.now.book
-    c.requires.backed
+    inner c.self.inside c.self.view_is [] c.args.worker.now.book c.requires.backed
 
 pub clear-requires-clause-busy : goal.clear-requires-clause-busy
 clear-requires-clause-busy g c some =
@@ -21,10 +19,8 @@ clear-requires-clause-busy g c some =
 
 pub returns-in-Ok-clause-gone : goal.returns-in-Ok-clause-gone
 returns-in-Ok-clause-gone g c =
-    let i = c.self.inside in
-    disposes c.args.self i.buffers i.spill.items i.stopped i.starved c.self.view_is c.args.worker.now.book
-    c.requires.backed empty_pair c.clear.new.worker.book refl false false [] refl c.in-Ok.ensures.clears
-    (λ stopped. absurd (false≢true stopped))
+    disposes c.self.inside c.self.view_is c.args.worker.now.book c.requires.backed empty_pair c.clear.new.worker.book
+    refl false false [] refl c.in-Ok.ensures.clears (λ stopped. absurd (false≢true stopped))
 
 pub returns-in-Err-clause-spent : goal.returns-in-Err-clause-spent
 returns-in-Err-clause-spent g c =
@@ -37,6 +33,6 @@ returns-in-Err-clause-spent g c =
       told.0,
       refl,
       empty,
-      disposes c.args.self i.buffers i.spill.items i.stopped i.starved c.self.view_is b c.requires.backed q after refl
-          true i.starved c.clear-in-Err.new.self.items empty told.1.0 (λ stopped. told.1.1),
+      disposes c.self.inside c.self.view_is b c.requires.backed q after refl true i.starved
+          c.clear-in-Err.new.self.items empty told.1.0 (λ stopped. told.1.1),
     )

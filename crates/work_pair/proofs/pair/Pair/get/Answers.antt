@@ -7,36 +7,29 @@ use Rattle.work_pair.proofs.pair.Pair.get.Goals as goal
 
 pub get-requires : goal.get-requires
 get-requires g c =
-    let i = c.self.inside in
-    may_trade c.args.self.now i.buffers i.spill.items i.stopped i.starved c.self.view_is c.args.worker.now
-    c.args.pool.now [] c.requires.pool c.requires.going c.requires.backed c.requires.busy
+    may_trade c.self.inside c.self.view_is c.args.worker.now c.args.pool.now [] c.requires.pool c.requires.going
+    c.requires.backed c.requires.busy
 
 pub returns-in-Some-clause-got : goal.returns-in-Some-clause-got
 returns-in-Some-clause-got g c =
-    let i = c.self.inside in
-    takes_last c.args.self.now i.buffers i.spill.items i.stopped i.starved c.self.view_is c.pop.new.self.items
-    c.in-Some.object c.in-Some.ensures.items c.requires.going c.args.worker.now.book c.requires.backed
+    takes_last c.self.inside c.self.view_is c.pop.new.self.items c.in-Some.object c.in-Some.ensures.items
+    c.requires.going c.args.worker.now.book c.requires.backed
 
 pub returns-in-Ok-clause-got : goal.returns-in-Ok-clause-got
 returns-in-Ok-clause-got g c =
-    let i = c.self.inside in
     let m = c.pop.new.self.items in
-    got_told c.args.self.now i.buffers i.spill.items i.stopped i.starved c.self.view_is c.args.worker.now.book
-    c.get.new.self c.get.new.worker.book c.requires.backed m (sym (c.in_default.ensures.items ∙ append-nil m))
-    c.requires.going c.in-Ok.got c.in-Ok.ensures.gets
+    got_told c.self.inside c.self.view_is c.args.worker.now.book c.get.new.self c.get.new.worker.book c.requires.backed
+    m (sym (c.in_default.ensures.items ∙ append-nil m)) c.requires.going c.in-Ok.got c.in-Ok.ensures.gets
 
 pub returns-in-Ok-clause-none : goal.returns-in-Ok-clause-none
 returns-in-Ok-clause-none g c =
-    let i = c.self.inside in
     let m = c.pop.new.self.items in
-    none_told c.args.self.now i.buffers i.spill.items i.stopped i.starved c.self.view_is c.args.worker.now.book
-    c.get.new.self c.get.new.worker.book c.requires.backed m (sym (c.in_default.ensures.items ∙ append-nil m))
-    c.requires.going (none_in m (omega (arith, c.in_default.ensures.cases.1))) c.in-Ok.got c.in-Ok.ensures.gets
+    none_told c.self.inside c.self.view_is c.args.worker.now.book c.get.new.self c.get.new.worker.book c.requires.backed
+    m (sym (c.in_default.ensures.items ∙ append-nil m)) c.requires.going
+    (none_in m (omega (arith, c.in_default.ensures.cases.1))) c.in-Ok.got c.in-Ok.ensures.gets
 
 pub returns-in-Err-clause-spent : goal.returns-in-Err-clause-spent
 returns-in-Err-clause-spent g c =
-    let i = c.self.inside in
     let m = c.pop.new.self.items in
-    get_stops c.args.self.now i.buffers i.spill.items i.stopped i.starved c.self.view_is c.args.worker.now.book
-    c.get.new.self c.get.new.worker.book c.requires.backed m (sym (c.in_default.ensures.items ∙ append-nil m))
-    c.in-Err.stop c.in-Err.ensures.gets
+    get_stops c.self.inside c.self.view_is c.args.worker.now.book c.get.new.self c.get.new.worker.book c.requires.backed
+    m (sym (c.in_default.ensures.items ∙ append-nil m)) c.in-Err.stop c.in-Err.ensures.gets

@@ -5,24 +5,20 @@ use Rattle.work_pair.proofs.pair.Pair.publish.Goals as goal
 
 pub publish-requires : goal.publish-requires
 publish-requires g c =
-    let i = c.self.inside in
-    may_trade c.args.self.now i.buffers i.spill.items i.stopped i.starved c.self.view_is c.args.worker.now
-    c.args.pool.now [] c.requires.pool c.requires.going c.requires.backed c.requires.busy
+    may_trade c.self.inside c.self.view_is c.args.worker.now c.args.pool.now [] c.requires.pool c.requires.going
+    c.requires.backed c.requires.busy
 
 pub returns-in-Ok-clause-only_gives : goal.returns-in-Ok-clause-only_gives
 returns-in-Ok-clause-only_gives g c =
-    let i = c.self.inside in
-    publishes c.args.self.now i.buffers i.spill.items i.stopped i.starved c.self.view_is c.args.worker.now.book
-    c.publish.new.self c.publish.new.worker.book c.requires.backed c.requires.going tt c.in-Ok.ensures.publishes
+    publishes c.self.inside c.self.view_is c.args.worker.now.book c.publish.new.self c.publish.new.worker.book
+    c.requires.backed c.requires.going tt c.in-Ok.ensures.publishes
 
 pub returns-in-Ok-clause-published : goal.returns-in-Ok-clause-published
 returns-in-Ok-clause-published g c =
-    let i = c.self.inside in
-    (publishes c.args.self.now i.buffers i.spill.items i.stopped i.starved c.self.view_is c.args.worker.now.book
-    c.publish.new.self c.publish.new.worker.book c.requires.backed c.requires.going tt c.in-Ok.ensures.publishes).0
+    (publishes c.self.inside c.self.view_is c.args.worker.now.book c.publish.new.self c.publish.new.worker.book
+    c.requires.backed c.requires.going tt c.in-Ok.ensures.publishes).0
 
 pub returns-in-Err-clause-spent : goal.returns-in-Err-clause-spent
 returns-in-Err-clause-spent g c =
-    let i = c.self.inside in
-    stops c.args.self.now i.buffers i.spill.items i.stopped i.starved c.self.view_is c.args.worker.now.book
-    c.publish.new.self c.publish.new.worker.book c.requires.backed c.in-Err.stop c.in-Err.ensures.publishes
+    stops c.self.inside c.self.view_is c.args.worker.now.book c.publish.new.self c.publish.new.worker.book
+    c.requires.backed c.in-Err.stop c.in-Err.ensures.publishes
