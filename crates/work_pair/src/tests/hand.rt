@@ -70,7 +70,8 @@ pub(super) fn open<R: Wait + Abort, A: Allocator>(
 /// A pair without buffers.
 pub(super) fn bare<A: Allocator>(alloc: A, pool: &Pool<A>, worker: &Worker<A>) -> Pair<A>
     requires { IsWorker OBJECTS pool.now worker.now }
-    ensures { IsReady OBJECTS pool.now worker.now result }
+    ensures ready { IsReady OBJECTS pool.now worker.now result }
+    ensures none_spilled { result.spill ≡ [] }
 {
     Pair::bare(alloc)
 }
@@ -89,7 +90,7 @@ pub(super) fn claim<R: Abort, A: Allocator>(
     ensures busy { IsBusy worker.new.book.account }
 {
     if object >= OBJECTS {
-        panic!(rt; "{object} is no object");
+        panic!(rt; "it is an object");
     }
     if !pool.claim(worker, object) {
         panic!(rt; "the object was claimed before");
@@ -109,7 +110,7 @@ pub(super) fn put<R: Wait + Abort, A: Allocator>(
 {
     claim(rt, pool, worker, pair, object);
     let Ok(()) = pair.put(rt, pool, worker, object) else {
-        panic!(rt; "no tag is near the last one, and there is memory for {object}");
+        panic!(rt; "no tag is near the last one, and there is memory");
     };
 }
 
@@ -126,11 +127,10 @@ pub(super) fn put_in_vain<R: Wait + Abort, A: Allocator>(
     ensures starved { pair.new.starved ≡ true }
 {
     claim(rt, pool, worker, pair, object);
-    match pair.put(rt, pool, worker, object) {
-        Err((back, Stop::OutOfMemory)) => assert_eq!(rt; back, object),
-        Err((_, Stop::TagSpent)) => panic!(rt; "no tag is near the last one"),
-        Ok(()) => panic!(rt; "there is no memory for {object}"),
-    }
+    let Err((back, Stop::OutOfMemory)) = pair.put(rt, pool, worker, object) else {
+        panic!(rt; "no tag is near the last one, and there is no memory");
+    };
+    assert!(rt; back == object);
 }
 
 /// Gets an object. Where there is none left none is spilled.
@@ -143,6 +143,7 @@ pub(super) fn get<R: Wait + Abort, A: Allocator>(
     requires { IsReady OBJECTS pool.now worker.old pair.old }
     ensures ready { IsReady OBJECTS pool.now worker.new pair.new }
     ensures none { IfNone result (pair.new.spill ≡ []) }
+    ensures none_spilled { pair.old.spill ≡ [] → pair.new.spill ≡ [] }
 {
     match pair.get(rt, pool, worker) {
         Ok(Some(object)) => Some(object),
@@ -200,10 +201,10 @@ pub(super) fn dispose<R: Wait + Abort, A: Allocator>(
     worker: &mut Worker<A>,
     pair: Pair<A>,
 ) -> Option<Lens>
-    requires pool { worker.old.pool ≡ pool.now }
+    requires worker { IsWorker OBJECTS pool.now worker.old }
     requires backed { IsBacked pair [] worker.old.book }
-    requires awake { worker.old.book.account.idle ≡ 0 }
     requires spill { (pair.spill ≡ []) ⊎ HasStopped pair }
+    ensures { IsWorker OBJECTS pool.now worker.new }
 {
     match pair.dispose(rt, pool, worker) {
         Ok(()) => None,

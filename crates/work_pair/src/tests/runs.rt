@@ -73,8 +73,7 @@ fn get_all<R: Wait + Abort, A: Allocator>(
     ensures { IsReady OBJECTS pool.now worker.new pair.new }
 {
     for object in wanted {
-        let got = get(rt, pool, worker, pair);
-        assert_eq!(rt; got, Some(*object));
+        assert!(rt; get(rt, pool, worker, pair) == Some(*object));
     }
 }
 
@@ -94,14 +93,14 @@ fn get_none<R: Wait + Abort, A: Allocator>(
     };
 }
 
-/// Does one step.
-fn go_on<R: Wait + Abort, A: Allocator>(
+/// Does one step. False where what it asks is not so.
+fn does<R: Wait + Abort, A: Allocator>(
     rt: &R,
     pool: &Pool<A>,
     worker: &mut Worker<A>,
     pair: &mut Pair<A>,
     step: Step,
-)
+) -> bool
     requires { IsReady OBJECTS pool.now worker.old pair.old }
     ensures { IsReady OBJECTS pool.now worker.new pair.new }
 {
@@ -113,10 +112,11 @@ fn go_on<R: Wait + Abort, A: Allocator>(
         Step::Publish => publish(rt, pool, worker, pair),
         Step::Get(wanted) => get_all(rt, pool, worker, pair, wanted),
         Step::NoneLeft => get_none(rt, pool, worker, pair),
-        Step::FullIsEmpty(wanted) => assert_eq!(rt; full_is_empty(pool, worker, pair), wanted),
-        Step::Has(wanted) => assert_eq!(rt; pair.lens(), wanted),
-        Step::Spilled(wanted) => assert_eq!(rt; pair.spilled(), wanted),
+        Step::FullIsEmpty(wanted) => return full_is_empty(pool, worker, pair) == wanted,
+        Step::Has(wanted) => return pair.lens() == wanted,
+        Step::Spilled(wanted) => return pair.spilled() == wanted,
     }
+    true
 }
 
 /// Does these steps.
@@ -131,7 +131,7 @@ pub(super) fn go_through<R: Wait + Abort, A: Allocator>(
     ensures { IsReady OBJECTS pool.now worker.new pair.new }
 {
     for step in steps {
-        go_on(rt, pool, worker, pair, *step);
+        assert!(rt; does(rt, pool, worker, pair, *step));
     }
 }
 
@@ -154,7 +154,7 @@ fn finish<R: Wait + Abort, A: Allocator>(
         }
         End::InVain(object, spilled) => {
             put_in_vain(rt, pool, worker, pair, object);
-            assert_eq!(rt; pair.spilled(), spilled);
+            assert!(rt; pair.spilled() == spilled);
         }
     }
 }

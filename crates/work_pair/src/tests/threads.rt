@@ -3,9 +3,9 @@ ghost use Rattle.std.specs.Prelude.{◌≡◌, ◌+◌, ◌*◌, ◌≤◌, [], 
 ghost use Rattle.mark_core.specs.Shares.{whole};
 ghost use Rattle.work_pair.specs.tests.Ready.{IsReady, IsWorker};
 
-use super::hand::{OBJECTS, balance, get, open, pool_of_roots, publish, put};
+use super::hand::{OBJECTS, balance, dispose, get, open, pool_of_roots, publish, put};
 use crate::Pair;
-use buffer_pool::{Pool, Worker};
+use buffer_pool::{Pool, PoolFault, Worker};
 use std::alloc::{Allocator, Global};
 use std::process::Abort;
 use std::sync::Wait;
@@ -45,7 +45,7 @@ fn get_one<R: Wait + Abort, A: Allocator>(
         return false;
     };
     let Ok(()) = got.push(object) else {
-        panic!(rt; "there is memory for {object}");
+        panic!(rt; "there is memory");
     };
     true
 }
@@ -111,6 +111,25 @@ fn get_rest<R: Wait + Abort, A: Allocator>(
     unreachable!()
 }
 
+/// Puts the objects of one thread, gets until there is none, and disposes of the pair.
+fn put_and_get<R: Wait + Abort, A: Allocator>(
+    rt: &R,
+    pool: &Pool<A>,
+    worker: &mut Worker<A>,
+    mut pair: Pair<A>,
+    got: &mut Vec<u32>,
+    begin: u32,
+)
+    requires ready { IsReady OBJECTS pool.now worker.old pair }
+    requires begin { begin + PART ≤ OBJECTS }
+    ensures { IsWorker OBJECTS pool.now worker.new }
+{
+    put_part(rt, pool, worker, &mut pair, got, begin);
+    get_rest(rt, pool, worker, &mut pair, got);
+    let left = dispose(rt, pool, worker, pair);
+    assert!(rt; left.is_none());
+}
+
 /// The work of one thread: what it got comes back with its worker.
 fn go_through<R: Wait + Abort>(
     rt: &R,
@@ -123,16 +142,9 @@ fn go_through<R: Wait + Abort>(
     requires begin { begin + PART ≤ OBJECTS }
     ensures { IsWorker OBJECTS pool.now result.worker }
 {
-    let Hand {
-        mut worker,
-        mut pair,
-    } = hand;
+    let Hand { mut worker, pair } = hand;
     let mut got = Vec::new(alloc);
-    put_part(rt, pool, &mut worker, &mut pair, &mut got, begin);
-    get_rest(rt, pool, &mut worker, &mut pair, &mut got);
-    let Ok(()) = pair.dispose(rt, pool, &mut worker) else {
-        panic!(rt; "no tag is near the last one");
-    };
+    put_and_get(rt, pool, &mut worker, pair, &mut got, begin);
     Taker { worker, got }
 }
 
@@ -238,8 +250,18 @@ fn got_by_four<R: Threads + Wait + Abort + Sync>(
     go_in_four(rt, alloc, pool, (first, second), (third, fourth))
 }
 
-/// What one worker more gets then is added, and all is in order.
-fn all_got<R: Wait + Abort>(rt: &R, alloc: Global, pool: &Pool<Global>, taker: Taker) -> Vec<u32>
+/// Whether each object is there, in order.
+fn are_all(got: &[u32]) -> bool {
+    for (place, object) in got.iter().enumerate() {
+        if *object as usize != place {
+            return false;
+        }
+    }
+    got.len() == OBJECTS as usize
+}
+
+/// What one worker more gets then is added. Whether each object is there once.
+fn all_got<R: Wait + Abort>(rt: &R, alloc: Global, pool: &Pool<Global>, taker: Taker) -> bool
     requires { IsWorker OBJECTS pool.now taker.worker }
 {
     let Taker { worker, mut got } = taker;
@@ -249,19 +271,23 @@ fn all_got<R: Wait + Abort>(rt: &R, alloc: Global, pool: &Pool<Global>, taker: T
     } = hand_of(rt, alloc, pool, worker);
     get_rest(rt, pool, &mut worker, &mut pair, &mut got);
     got.sort_unstable();
-    got
+    are_all(got.as_slice())
+}
+
+/// Whether four threads got each object once.
+fn got_by_threads<R: Threads + Wait + Abort + Sync>(
+    rt: &R,
+    alloc: Global,
+) -> Result<bool, PoolFault> {
+    let (pool, worker) = pool_of_roots(alloc, 12, 4, 0)?;
+    let taker = got_by_four(rt, alloc, &pool, worker);
+    Ok(all_got(rt, alloc, &pool, taker))
 }
 
 /// None is lost, and none is got twice.
 #[test]
 fn four_threads(rt: HostRuntime) -> Result<(), Fail> {
-    let alloc = rt.alloc();
-    let (pool, worker) = pool_of_roots(alloc, 12, 4, 0)?;
-    let taker = got_by_four(&rt, alloc, &pool, worker);
-    let got = all_got(&rt, alloc, &pool, taker);
-    assert_eq!(rt; got.len(), OBJECTS as usize);
-    for (place, object) in got.iter().enumerate() {
-        assert_eq!(rt; *object as usize, place);
-    }
+    let all = got_by_threads(&rt, rt.alloc())?;
+    assert!(rt; all);
     Ok(())
 }

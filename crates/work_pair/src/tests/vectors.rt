@@ -55,7 +55,7 @@ const ROWS: [Row; 5] = [
 fn runs_of_one_pair(rt: HostRuntime) -> Result<(), Fail> {
     for (run, size, first_tag, wanted) in ROWS {
         let left = left_after(&rt, rt.alloc(), run, size, first_tag)?;
-        assert_eq!(rt; left, wanted, "{} from tag {first_tag} on", run.0);
+        assert!(rt; left == wanted, "{} from tag {first_tag} on", run.0);
     }
     Ok(())
 }
