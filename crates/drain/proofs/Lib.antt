@@ -15,5 +15,6 @@ pub mod Places
 pub mod Runs
 pub mod Scanning
 pub mod Sharing
+pub mod Starting
 pub mod Tallies
 pub mod Visits

@@ -1,35 +1,25 @@
 -- A worker that got an object, claimed what it refers to and finished it: its tally had room, and takes the object in.
-use Rattle.std.proofs.Common.{◌≡◌, ◌<◌, ◌≤◌, ◌++◌, ◌∷◌, [], ap, arith, length, List, subst, sym, ℕ}
+use Rattle.std.proofs.Common.{◌≡◌, ◌≤◌, ap, arith, length, List, sym, subst, ℕ}
 use Rattle.std.proofs.lemmas.List.{length_push}
 use Rattle.buffer_pool.specs.Book.{Book, finished}
 use Rattle.buffer_pool.specs.Calls.{Holder}
-use Rattle.drain.specs.declared.scanned.Scanned.{Scanned}
-use Rattle.drain.specs.declared.sum.Sum.{Sum}
-use Rattle.drain.specs.working.Scans.{IsScanOf}
-use Rattle.drain.specs.working.Tallies.{IsMeasureOf, IsSmall, IsTallyOf, Measure}
+use Rattle.drain.specs.declared.tally.Tally.{Tally}
+use Rattle.drain.specs.working.Tallies.{IsMeasureOf, Measure}
+use Rattle.drain.specs.working.Tallying.{HasSmallSums, HasTallied, Tallies}
 use Rattle.drain.proofs.Tallies.{tally_is_small}
 
--- what is read of an object has a place in the tally
-pub scan_fits :
-    (m : Measure) (count o : ℕ) (s : Scanned) (rows : List Sum) → IsMeasureOf count m → o < count → IsScanOf m o s
-    → length rows ≡ m.rows → s.row < length rows
-scan_fits m count o s rows bounded below scan each = omega (arith, scan.row, bounded.within o below, each)
+-- the tally of a worker is that of one that finished the same
+pub same_tally : {A : Type 0} (m : Measure) (old new : Holder) (t : Tally A)
+    → new.book.account.finished ≡ old.book.account.finished → HasTallied m old t → HasTallied m new t
+same_tally m old new t same was = subst (λ (xs : List ℕ). Tallies m xs t) (sym same) was
 
-module _ (m : Measure) (count : ℕ) (bounded : IsMeasureOf count m) (o : ℕ) (old mid end : Holder) (rows : List Sum)
-    (unresolved : ℕ) (kept : mid.book.account.finished ≡ old.book.account.finished)
-    (objects : mid.book.setup.objects ≡ count) (is : end.book ≡ finished o mid.book)
-    (few : length end.book.account.finished ≤ end.book.setup.objects)
-    (was : IsTallyOf m old.book.account.finished rows unresolved) where
-  pub tally_before : IsTallyOf m mid.book.account.finished rows unresolved
-  tally_before = subst (λ (xs : List ℕ). IsTallyOf m xs rows unresolved) (sym kept) was
-
-  pub finished_is : end.book.account.finished ≡ mid.book.account.finished ++ o ∷ []
-  finished_is = ap (λ (b : Book). b.account.finished) is
-
-  pub small_before : IsSmall rows unresolved
-  small_before =
-      let setup = ap (λ (b : Book). b.setup.objects) is in
-      let longer = length_push mid.book.account.finished o in
-      let short : length mid.book.account.finished ≤ count =
-      omega (arith, ap (λ (xs : List ℕ). length xs) finished_is, longer, few, setup, objects) in
-      tally_is_small count m bounded mid.book.account.finished short rows unresolved tally_before
+-- a tally to which the object that was finished last is still to be added
+pub small_before : {A : Type 0} (m : Measure) (count o : ℕ) (mid end : Holder) (t : Tally A) → IsMeasureOf count m
+    → mid.book.setup.objects ≡ count → end.book ≡ finished o mid.book
+    → length end.book.account.finished ≤ end.book.setup.objects → HasTallied m mid t → HasSmallSums t
+small_before m count o mid end t bounded objects is few was =
+    let before = mid.book.account.finished in
+    let setup = ap (λ (b : Book). b.setup.objects) is in
+    let one_more = ap (λ (b : Book). length b.account.finished) is in
+    let short : length before ≤ count = omega (arith, one_more, length_push before o, few, setup, objects) in
+    tally_is_small count m bounded before short t.rows.items t.unresolved was

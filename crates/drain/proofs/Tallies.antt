@@ -1,8 +1,8 @@
 -- A finish is a push on the finished list and a join an append: so a tally takes in an object, or another tally.
-use Rattle.std.proofs.Common.{◌≡◌, ℕ, zero, suc, ◌+◌, ◌*◌, ◌^◌, ◌<◌, ◌≤◌, ◌==◌, Bool, true, false, cond, List, [], ◌∷◌}
+use Rattle.std.proofs.Common.{◌≡◌, ℕ, ◌+◌, ◌*◌, ◌^◌, ◌<◌, ◌≤◌, ◌==◌, Bool, true, false, cond, List, [], ◌∷◌}
 use Rattle.std.proofs.Common.{◌++◌, length, replicate, get_or, slice_index_or, slice_set, sum_by, ap, sym, refl}
 use Rattle.std.proofs.Common.{◌∙◌, eq-eqb, ne_eqb, length-set, get_or-set_same, get_or-set_other, arith}
-use Rattle.std.proofs.lemmas.List.{length-replicate}
+use Rattle.std.proofs.lemmas.List.{get_or-replicate, length-replicate}
 use Rattle.std.proofs.lemmas.List.Elements.{All-from_get_or}
 use Rattle.std.proofs.lemmas.List.Sums.{sum_by-append, sum_by-le, sum_by_push}
 use native.Mathlib.Decide.{ℕ_discrete}
@@ -16,15 +16,10 @@ counts m n o = cond (m.row o == n) 1 0
 abbrev weighs : Measure → ℕ → ℕ → ℕ
 weighs m n o = cond (m.row o == n) (m.bytes o) 0
 
-get_or-replicate : {X : Type 0} (x : X) (n k : ℕ) → get_or (replicate n x) k x ≡ x
-get_or-replicate x zero k = refl
-get_or-replicate x (suc n) zero = refl
-get_or-replicate x (suc n) (suc k) = get_or-replicate x n k
-
 pub none_tallied : (m : Measure) → IsTallyOf m [] (replicate m.rows no_object) 0
 none_tallied m = record {
   each = length-replicate m.rows no_object;
-  right = λ n below. get_or-replicate no_object m.rows n;
+  right = λ n below. get_or-replicate m.rows n no_object no_object below;
   unresolved_is = refl;
 }
 

@@ -1,12 +1,11 @@
 //! The call that marks a graph, and the thread that leads.
 
-ghost use Rattle.std.specs.Prelude.{◌≡◌, ◌<◌, [], IfOk, vec_len};
+ghost use Rattle.std.specs.Prelude.{◌≡◌, ◌<◌, [], IfOk};
 ghost use Rattle.mark_core.specs.Shares.{whole};
 ghost use Rattle.drain.specs.ExactlyReachable.{ExactlyReachable};
 ghost use Rattle.drain.specs.Marks.{IsMarkingOf};
 ghost use Rattle.drain.specs.working.AtWork.{HasLed, IsFree, IsSetupOf};
-ghost use Rattle.drain.specs.working.Tallies.{Measure};
-ghost use Rattle.drain.specs.working.Tallying.{AreTalliesOfNone, HasTallied};
+ghost use Rattle.drain.specs.working.Tallying.{HasTallied};
 
 use crate::gate::Gate;
 use crate::job::Job;
@@ -14,14 +13,14 @@ use crate::marked::{Marked, RunFault};
 use crate::options::Options;
 use crate::paired_worker::PairedWorker;
 use crate::start_hook::{StartHook, StartsAll};
+use crate::supplies::supplies_of;
 use crate::tallied::Tallied;
-use crate::tally::Tally;
 use crate::walk::Walk;
 use crate::walked_graph::WalkedGraph;
 use crate::worker_threads::run_workers;
 use buffer_pool::{Pool, PoolFault, Worker};
 use heap_graph::Graph;
-use std::alloc::{AllocError, Allocator};
+use std::alloc::Allocator;
 use std::sync::Wait;
 use std::thread::Threads;
 
@@ -50,31 +49,12 @@ where
     ensures led { IfOk result (λ t. HasLed leader.book.account.share leader t.worker) }
     ensures tally { IfOk result (λ t. HasTallied (V.measure job.now.graph.now) t.worker t.tally) }
 {
-    let threads = Vec::with_capacity(job.alloc, job.workers as usize)?;
+    let supplies = supplies_of(job)?;
     job.graph.is_measured();
-    let rows = job.graph.rows();
-    let tallies = tallies_of_none(job.alloc, job.workers, rows)?;
-    let tally = Tally::new(job.alloc, rows)?;
     let mut paired = PairedWorker::open_or_bare(rt, job.alloc, job.pool, leader)?;
     paired.begin(rt, job.pool, job.graph.roots())?;
-    let (paired, tally) = run_workers(rt, job, paired, tally, threads, tallies)?;
+    let (paired, tally) = run_workers(rt, job, paired, supplies)?;
     Ok(paired.end(rt, job, tally)?)
-}
-
-/// A tally for each worker, of no object and with so many rows.
-fn tallies_of_none<A: Allocator + Copy>(
-    alloc: A,
-    workers: u32,
-    rows: usize,
-) -> Result<Vec<Tally<A>, A>, AllocError>
-    ensures count { IfOk result (λ v. vec_len v ≡ workers) }
-    ensures none { IfOk result (λ v. (m : Measure) → m.rows ≡ rows → AreTalliesOfNone m v.items) }
-{
-    let mut tallies = Vec::with_capacity(alloc, workers as usize)?;
-    while tallies.len() < workers as usize {
-        tallies.push_reserved(Tally::new(alloc, rows)?);
-    }
-    Ok(tallies)
 }
 
 /// Marks the objects that a path of references joins to a root, with a thread for each worker, and calls the gate

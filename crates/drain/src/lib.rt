@@ -30,6 +30,7 @@ mod recently_seen;
 mod scanned;
 mod start_hook;
 mod sum;
+mod supplies;
 mod tallied;
 mod tally;
 mod walk;

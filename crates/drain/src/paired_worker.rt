@@ -22,8 +22,8 @@ pub(crate) struct PairedWorker<A: Allocator> {
 }
 
 impl<A: Allocator> PairedWorker<A> {
-    ghost use Rattle.std.specs.Prelude.{◌≡◌, ◌<◌, ◌↔◌, ◌⊎◌, ◌∷◌, [], ℕ, All, IfErr, IfOk, IsTrue, List, OnOk, false};
-    ghost use Rattle.std.specs.Prelude.{length};
+    ghost use Rattle.std.specs.Prelude.{◌≡◌, ◌<◌, ◌↔◌, ◌⊎◌, ◌∷◌, [], ℕ, All, IfErr, IfNone, IfOk, IfSome, IsTrue};
+    ghost use Rattle.std.specs.Prelude.{List, OnOk, false, length};
     ghost use Rattle.mark_core.specs.Event.{IsBusy};
     ghost use Rattle.mark_core.specs.declared.which.Which.TheVariants.{Empty};
     ghost use Rattle.work_pair.specs.Moves.{WasSeenEmpty};
@@ -234,6 +234,23 @@ impl<A: Allocator> PairedWorker<A> {
         self.give(rt, pool)
     }
 
+    /// Gets an object of the pair, or of the full stack: the worker has it at hand besides. `None` where none is left.
+    fn next_object<R: Wait>(&mut self, rt: &R, pool: &Pool<A>) -> Result<Option<u32>, Stop>
+        requires pool { self.old.worker.pool ≡ pool.now }
+        requires at_work { IsAtWork self.old.pair [] self.old.worker }
+        ensures goes_on { OnOk result (GoesOn self.old.worker self.new.worker) }
+        ensures some { IfOk result (λ r. IfSome r (λ o. IsAtWork self.new.pair (o ∷ []) self.new.worker
+            × (o < self.new.worker.book.setup.objects))) }
+        ensures none { IfOk result (λ r. IfNone r (IsAtWork self.new.pair [] self.new.worker
+            × HasNoneLeft self.new.pair self.new.worker)) }
+    {
+        let Some(object) = self.pair.get(rt, pool, &mut self.worker)? else {
+            return Ok(None);
+        };
+        self.worker.stays_within();
+        Ok(Some(object))
+    }
+
     /// Scans an object of the pair, or of the full stack: claims what it refers to, finishes it, and adds it to the
     /// tally. False where none is left.
     fn scan_next<R: Wait, V: Walk, G: Gate, S>(
@@ -256,10 +273,9 @@ impl<A: Allocator> PairedWorker<A> {
         ensures seen { OnOk result (HasSeenAll seen.new self.new.worker) }
         ensures none { IfOk result (λ more. more ≡ false → HasNoneLeft self.new.pair self.new.worker) }
     {
-        let Some(object) = self.pair.get(rt, job.pool, &mut self.worker)? else {
+        let Some(object) = self.next_object(rt, job.pool)? else {
             return Ok(false);
         };
-        self.worker.stays_within();
         job.gate.before_scan(number, object);
         let mut visit = job.graph.visit(object);
         self.claim_all(rt, job.pool, seen, &mut visit)?;

@@ -14,6 +14,7 @@ use crate::marked::RunFault;
 use crate::measured::Measured;
 use crate::paired_worker::PairedWorker;
 use crate::start_hook::StartHook;
+use crate::supplies::Supplies;
 use crate::tallied::Tallied;
 use crate::tally::Tally;
 use crate::walk::Walk;
@@ -238,9 +239,7 @@ pub(crate) fn run_workers<T, A, V, G, S>(
     rt: &T,
     job: &Job<'_, A, V, G, S>,
     paired: PairedWorker<A>,
-    tally: Tally<A>,
-    threads: Vec<Started<A, V>, A>,
-    tallies: Vec<Tally<A>, A>,
+    supplies: Supplies<A, V>,
 ) -> Result<(PairedWorker<A>, Tally<A>), RunFault>
 where
     T: Threads + Wait + Sync,
@@ -253,11 +252,11 @@ where
         paired.worker.book.setup }
     requires given { HasGiven paired.pair paired.worker }
     requires share { job.now.workers < paired.worker.book.account.share }
-    requires room { (vec_len threads ≡ 0) × (job.now.workers ≤ vec_capacity threads) }
-    requires tallies { (job.now.workers ≤ vec_len tallies)
-        × AreTalliesOfNone (V.measure job.now.graph.now) tallies.items }
+    requires room { (vec_len supplies.threads ≡ 0) × (job.now.workers ≤ vec_capacity supplies.threads) }
+    requires tallies { (job.now.workers ≤ vec_len supplies.tallies)
+        × AreTalliesOfNone (V.measure job.now.graph.now) supplies.tallies.items }
     requires measure { IsMeasureOf paired.worker.book.setup.objects (V.measure job.now.graph.now) }
-    requires tally { HasTallied (V.measure job.now.graph.now) paired.worker tally }
+    requires tally { HasTallied (V.measure job.now.graph.now) paired.worker supplies.tally }
     ensures leads { IfOk result (λ s. Leads paired.worker s.0.worker) }
     ensures pair { IfOk result (λ s. s.0.pair ≡ paired.pair) }
     ensures share { IfOk result (λ s. s.0.worker.book.account.share ≡ paired.worker.book.account.share) }
@@ -267,6 +266,11 @@ where
         worker: leader,
         pair,
     } = paired;
+    let Supplies {
+        threads,
+        tallies,
+        tally,
+    } = supplies;
     let Tallied { worker, tally } = thread::scope(
         thread::scope_env(),
         rt,

@@ -1,5 +1,5 @@
 -- The leader sees all roots and keeps what it saw, and once it has its units again it drains what is left.
-use Rattle.std.proofs.Common.{[], ◌∙◌, ◌<◌, Contains, List, ap, arith, rules, ℕ, subst, sym}
+use Rattle.std.proofs.Common.{[], ◌∙◌, ◌<◌, Contains, List, ap, rules, ℕ, subst, sym}
 use Rattle.mark_core.specs.World.{Setup}
 use Rattle.work_pair.specs.PairState.{PairState}
 use Rattle.drain.specs.working.AtWork.{IsAtWork}
@@ -25,13 +25,6 @@ end-requires-clause-at_work g c =
     in
     search (rules, again)
 
--- all of the tallies are of no object before the first start
-pub run_workers-requires-clause-tallies : goal.run_workers-requires-clause-tallies
-run_workers-requires-clause-tallies g c =
-    let m = g.V.Measured.measure c.args.job.now.graph.now in
-    let none = c.in_ok-tallies.ensures.none m (sym c.rows-rows.ensures) in
-    search (rules, arith, none, c.in_ok-tallies.ensures.count)
-
 pub run_workers-requires-clause-measure : goal.run_workers-requires-clause-measure
 run_workers-requires-clause-measure g c =
     let m = g.V.Measured.measure c.args.job.now.graph.now in
@@ -45,8 +38,8 @@ run_workers-requires-clause-tally g c =
     let m = g.V.Measured.measure c.args.job.now.graph.now in
     let none =
     c.in_ok-begin.ensures.goes_on.finished ∙ c.in_ok-paired.ensures.0.finished ∙ c.requires.none in
-    let had = subst (λ (xs : List ℕ). Tallies m xs c.in_ok-tally.tally) (sym none)
-    (c.in_ok-tally.ensures m (sym c.rows-rows.ensures)) in
+    let had = subst (λ (xs : List ℕ). Tallies m xs c.in_ok-supplies.supplies.tally) (sym none)
+    c.in_ok-supplies.ensures.tally in
     search (rules, had)
 
 pub returns-clause-led : goal.returns-clause-led

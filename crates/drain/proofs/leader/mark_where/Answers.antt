@@ -31,20 +31,8 @@ lead-requires-clause-none g c =
     let none = ap (λ (b : Book). b.account.finished) c.in-Ok.ensures.2 in
     search (rules, none)
 
-pub returns-clause-exactly_reachable : goal.returns-clause-exactly_reachable
-returns-clause-exactly_reachable g c =
-    let graph = c.args.graph.now in
-    let leader = c.in-Ok.opened.1 in
-    let setup =
-    opened_setup graph c.buffers.result c.buffer.result c.first_tag.result whole leader.book c.in-Ok.ensures.2 in
-    let led = c.in_ok-tallied.ensures.led in
-    let exact =
-    exactly_marked graph leader.book.setup setup c.in_ok-tallied.tallied.worker c.close.ensures.0.last c.close.result
-    led.setup led.free.open_push led.saw c.close.ensures.1 in
-    subst (λ (m : MarkedObjects). ExactlyReachable graph m.marks) (sym c.new-2.ensures) exact
-
-pub returns-clause-made : goal.returns-clause-made
-returns-clause-made g c =
+pub returns : goal.returns
+returns g c =
     let graph = c.args.graph.now in
     let leader = c.in-Ok.opened.1 in
     let setup =
@@ -53,10 +41,17 @@ returns-clause-made g c =
     let tally = c.in_ok-tallied.tallied.tally in
     let led = c.in_ok-tallied.ensures.led in
     let objects = ap (λ (e : Setup). e.objects) led.setup ∙ setup.objects in
+    let last = c.close.ensures.0.last in
+    let exact =
+    exactly_marked graph leader.book.setup setup worker last c.close.result led.setup led.free.open_push led.saw
+    c.close.ensures.1 in
     let made =
-    marking_of graph worker.book c.close.ensures.0.last c.close.result c.close.ensures.1 led.free.open_push objects
+    marking_of graph worker.book last c.close.result c.close.ensures.1 led.free.open_push objects
     c.len-objects.ensures.whole tally.rows.items tally.unresolved c.in_ok-tallied.ensures.tally in
-    subst (IsMarkingOf graph) (sym c.new-2.ensures) made
+    record {
+      exactly_reachable = subst (λ (m : MarkedObjects). ExactlyReachable graph m.marks) (sym c.new-2.ensures) exact;
+      made = subst (IsMarkingOf graph) (sym c.new-2.ensures) made;
+    }
 
 pub new-requires-2-clause-finished : goal.new-requires-2-clause-finished
 new-requires-2-clause-finished g c = c.close.ensures.1.emptied c.in_ok-tallied.ensures.led.free.open_push

@@ -1,5 +1,5 @@
 -- The thread that is joined is owed to the leader still, and the rest goes on as it was.
-use Rattle.std.proofs.Common.{arith, get_or, subst, sym, ◌∙◌, ℕ}
+use Rattle.std.proofs.Common.{arith, get_or, subst, sym, ◌∙◌}
 use Rattle.std.specs.Vec.Iter.{into_iter_items, into_iter_len}
 use Rattle.mark_core.specs.World.{Setup}
 use Rattle.drain.specs.working.Duties.{IsDutyUnder}

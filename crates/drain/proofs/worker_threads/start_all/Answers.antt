@@ -1,25 +1,24 @@
 -- The tally that is popped is of no object, as its worker's list; each thread owes a worker that was just split off.
 use Rattle.std.proofs.Common.{[], List, ap, length, option_to_list, rules, subst, sym, ◌++◌, ◌∙◌, ℕ, arith}
-use Rattle.mark_core.specs.World.{Setup}
-use Rattle.buffer_pool.specs.Book.{Book, new_book}
+use Rattle.buffer_pool.specs.Book.{Book}
 use Rattle.buffer_pool.specs.Calls.{Holder}
 use Rattle.drain.specs.working.AtWork.{IsSetupOf}
-use Rattle.drain.specs.working.Duties.{IsDutyUnder}
 use Rattle.drain.specs.working.Jobs.{MayWork}
 use Rattle.drain.specs.working.Tallying.{Tallies}
-use Rattle.drain.proofs.Each.{last_holds, left_hold, pushed_holds}
-use Rattle.drain.proofs.Leading.{gave_away, leads_again, new_awake, new_free}
+use Rattle.drain.proofs.Each.{last_holds, left_hold}
+use Rattle.drain.proofs.Leading.{new_awake, new_free}
+use Rattle.drain.proofs.Starting.{one_more_started}
 use Rattle.drain.proofs.worker_threads.start_all.Goals as goal
 
 pub start-requires-clause-may : goal.start-requires-clause-may
 start-requires-clause-may g c =
     let graph = c.args.job.now.graph.now in
     let m = g.V.Measured.measure graph in
-    let leads = c.loop-number.invariant.2 in
+    let leads = c.loop-number.invariant.2.leads in
     let tally = c.in-Some.tally in
     let was = c.loop-number.tallies.items in
     let is = c.pop.ensures.items ∙ ap (λ r. c.pop.new.self.items ++ option_to_list r) c.in-Some.is in
-    let none = last_holds (Tallies m []) was c.pop.new.self.items tally is c.loop-number.invariant.7 in
+    let none = last_holds (Tallies m []) was c.pop.new.self.items tally is c.loop-number.invariant.4 in
     let worker = c.split-rest.result.1 in
     let pool = ap (λ (h : Holder). h.pool) c.split-rest.ensures.second in
     let book = ap (λ (h : Holder). h.book) c.split-rest.ensures.second in
@@ -39,30 +38,20 @@ start-requires-clause-may g c =
 pub loop-number-preserved : goal.loop-number-preserved
 loop-number-preserved g c =
     let was = c.loop-number.invariant in
-    let old = c.loop-number.leader in
-    let rest = c.split-rest.result.0 in
-    let worker = c.split-rest.result.1 in
-    let book = ap (λ (h : Holder). h.book) c.split-rest.ensures.first in
-    let less = ap (λ (b : Book). b.account.share) book in
-    let owes = c.in_ok-thread.ensures.owes in
-    let second = c.split-rest.ensures.second in
+    let split = c.split-rest.ensures in
+    let thread = c.in_ok-thread.thread in
+    let owes = c.in_ok-thread.ensures in
+    let pushed = c.push_reserved in
     let m = g.V.Measured.measure c.args.job.now.graph.now in
     let left = c.pop.new.self.items in
-    let is = c.pop.ensures.items ∙ ap (λ r. left ++ option_to_list r) c.in-Some.is in
-    let duty : IsDutyUnder c.args.job.now.graph.now c.args.leader c.in_ok-thread.thread.promise = record {
-      pool = ap (λ (h : Holder). h.pool) (owes ∙ second) ∙ was.2.pool;
-      book = ap (λ (h : Holder). h.book) (owes ∙ second) ∙ ap (λ (e : Setup). new_book e 1) was.2.setup;
-      graph_is = c.in_ok-thread.ensures.graph;
-    } in
-    let pool = ap (λ (h : Holder). h.pool) c.split-rest.ensures.first in (
-      omega (arith, c.push_reserved.ensures.len, was.0),
-      omega (arith, c.push_reserved.ensures.capacity, was.1),
-      leads_again c.args.leader old rest was.2 (gave_away old rest 1 pool book),
-      omega (arith, less, was.3, c.requires.share, c.loop-number-test.true),
-      pushed_holds (λ t. IsDutyUnder c.args.job.now.graph.now c.args.leader t.promise) c.loop-number.threads.items
-          c.push_reserved.new.self.items c.in_ok-thread.thread c.loop-number.number
-          (omega (arith, c.loop-number.threads.ok, was.0)) c.push_reserved.ensures.items was.4 duty,
-      ap (λ (b : Book). b.account.finished) book ∙ was.5,
-      omega (arith, c.pop.ensures.len, was.6, ap (λ r. length (option_to_list r)) c.in-Some.is),
-      left_hold (Tallies m []) c.loop-number.tallies.items left c.in-Some.tally is was.7,
+    let is = c.pop.ensures.items ∙ ap (λ r. left ++ option_to_list r) c.in-Some.is in (
+      omega (arith, pushed.ensures.len, was.0),
+      omega (arith, pushed.ensures.capacity, was.1),
+      one_more_started c.args.job.now.graph.now (λ t. t.promise) c.args.leader c.loop-number.leader
+          c.split-rest.result.0 c.split-rest.result.1 c.loop-number.threads.items pushed.new.self.items thread
+          c.loop-number.number was.2 (omega (arith, c.requires.share, c.loop-number-test.true))
+          (omega (arith, c.loop-number.threads.ok, was.0)) pushed.ensures.items split.first split.second owes.owes
+          owes.graph,
+      omega (arith, c.pop.ensures.len, was.3, ap (λ r. length (option_to_list r)) c.in-Some.is),
+      left_hold (Tallies m []) c.loop-number.tallies.items left c.in-Some.tally is was.4,
     )

@@ -1,18 +1,10 @@
 -- The worker comes from the one that was given, turn after turn, and is not idle where it goes on.
-use Rattle.std.proofs.Common.{◌≡◌, ◌∙◌, List, subst, sym, ℕ}
-use Rattle.buffer_pool.specs.Calls.{Holder}
-use Rattle.drain.specs.declared.tally.Tally.{Tally}
-use Rattle.drain.specs.working.Tallies.{Measure}
-use Rattle.drain.specs.working.Tallying.{HasTallied, Tallies}
+use Rattle.std.proofs.Common.{◌∙◌}
 use Rattle.drain.proofs.AtHand.{came_again, came_at_all}
 use Rattle.drain.proofs.Idling.{awake_at_work}
 use Rattle.drain.proofs.Outcomes.{at_ok}
+use Rattle.drain.proofs.Scanning.{same_tally}
 use Rattle.drain.proofs.worker_threads.work.Goals as goal
-
--- the tally of a worker is that of one that finished the same
-same_tally : {A : Type 0} (m : Measure) (old new : Holder) (t : Tally A)
-    → new.book.account.finished ≡ old.book.account.finished → HasTallied m old t → HasTallied m new t
-same_tally m old new t same was = subst (λ (xs : List ℕ). Tallies m xs t) (sym same) was
 
 pub loop-init : goal.loop-init
 loop-init g c =

@@ -1,5 +1,5 @@
 -- A publish goes on from the claims, so what was seen stays seen.
-use Rattle.std.proofs.Common.{Contains, List, subst}
+use Rattle.std.proofs.Common.{Contains, subst}
 use Rattle.mark_core.specs.World.{Setup}
 use Rattle.drain.proofs.AtHand.{goes_on_again}
 use Rattle.drain.proofs.Outcomes.{on_ok}

@@ -1,7 +1,6 @@
 -- What is drained comes from the worker that was given, and closing the pair finishes nothing more.
-use Rattle.std.proofs.Common.{List, subst, sym, ℕ}
-use Rattle.drain.specs.working.Tallying.{Tallies}
 use Rattle.drain.proofs.AtHand.{came_again}
+use Rattle.drain.proofs.Scanning.{same_tally}
 use Rattle.drain.proofs.paired_worker.PairedWorker.end.Goals as goal
 
 pub returns-clause-through : goal.returns-clause-through
@@ -13,5 +12,5 @@ returns-clause-through g c =
 pub returns-clause-tally : goal.returns-clause-tally
 returns-clause-tally g c =
     let m = g.V.Measured.measure c.args.job.now.graph.now in
-    subst (λ (xs : List ℕ). Tallies m xs c.drain.new.tally) (sym c.in_ok-worker.ensures.finished)
+    same_tally m c.drain.new.self.worker c.in_ok-worker.worker c.drain.new.tally c.in_ok-worker.ensures.finished
     c.in_ok-drain.ensures.tally

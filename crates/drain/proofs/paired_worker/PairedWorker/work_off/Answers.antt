@@ -1,15 +1,14 @@
 -- What it shares changes nothing that it finished, and what it scans its tally takes in.
-use Rattle.std.proofs.Common.{List, rules, subst, sym, ℕ}
-use Rattle.drain.specs.working.Tallying.{HasTallied, Tallies}
+use Rattle.std.proofs.Common.{rules}
 use Rattle.drain.proofs.AtHand.{works, works_on_again}
+use Rattle.drain.proofs.Scanning.{same_tally}
 use Rattle.drain.proofs.paired_worker.PairedWorker.work_off.Goals as goal
 
 pub scan_next-requires-clause-tally : goal.scan_next-requires-clause-tally
 scan_next-requires-clause-tally g c =
     let m = g.V.Measured.measure c.args.job.now.graph.now in
-    let had : HasTallied m c.share.new.self.worker c.loop.tally =
-    subst (λ (xs : List ℕ). Tallies m xs c.loop.tally) (sym c.in_ok-share.ensures.goes_on.finished) c.loop.invariant.3
-    in
+    let had = same_tally m c.loop.self.worker c.share.new.self.worker c.loop.tally
+    c.in_ok-share.ensures.goes_on.finished c.loop.invariant.3 in
     search (rules, had)
 
 pub returns-then-not-branch-clause-goes_on : goal.returns-then-not-branch-clause-goes_on

@@ -2,7 +2,7 @@
 use Rattle.std.proofs.Common.{[], All, arith, subst, sym}
 use Rattle.drain.specs.working.Tallying.{Tallies}
 use Rattle.drain.proofs.Each.{more_hold}
-use Rattle.drain.proofs.leader.tallies_of_none.Goals as goal
+use Rattle.drain.proofs.supplies.tallies_of_none.Goals as goal
 
 pub loop-alloc-preserved : goal.loop-alloc-preserved
 loop-alloc-preserved g c = (

@@ -2,7 +2,7 @@
 use Rattle.std.proofs.Common.{◌≡◌, ◌-◌, ◌≤◌, vec_capacity, vec_len}
 use Rattle.drain.specs.working.Tallies.{Measure}
 use Rattle.drain.specs.working.Tallying.{AreTalliesOfNone}
-use Rattle.drain.proofs.leader.tallies_of_none.Given as goal
+use Rattle.drain.proofs.supplies.tallies_of_none.Given as goal
 
 abbrev pub decreases-loop-alloc : goal.decreases-loop-alloc
 decreases-loop-alloc g l = l.workers - vec_len l.tallies

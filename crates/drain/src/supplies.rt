@@ -1,0 +1,58 @@
+//! What takes memory before the first thread is started.
+
+ghost use Rattle.std.specs.Prelude.{◌≡◌, ◌≤◌, [], IfOk, vec_capacity, vec_len};
+ghost use Rattle.drain.specs.working.Tallies.{Measure};
+ghost use Rattle.drain.specs.working.Tallying.{AreTalliesOfNone, Tallies};
+
+use crate::job::Job;
+use crate::measured::Measured;
+use crate::tally::Tally;
+use crate::worker_threads::Started;
+use std::alloc::{AllocError, Allocator};
+
+/// Room for the threads of a job, and the tallies of all that count in it.
+#[derive(Drop)]
+pub(crate) struct Supplies<A: Allocator, V: Measured> {
+    /// The threads: none yet, and room for each.
+    pub(crate) threads: Vec<Started<A, V>, A>,
+    /// A tally for each worker, of no object.
+    pub(crate) tallies: Vec<Tally<A>, A>,
+    /// The leader's tally, of no object.
+    pub(crate) tally: Tally<A>,
+}
+
+/// Takes the memory for the threads of a job, then for the workers' tallies, then for the leader's.
+pub(crate) fn supplies_of<A: Allocator + Copy, V: Measured, G, S>(
+    job: &Job<'_, A, V, G, S>,
+) -> Result<Supplies<A, V>, AllocError>
+    ensures room { IfOk result (λ s. (vec_len s.threads ≡ 0) × (job.now.workers ≤ vec_capacity s.threads)) }
+    ensures tallies { IfOk result (λ s. (job.now.workers ≤ vec_len s.tallies)
+        × AreTalliesOfNone (V.measure job.now.graph.now) s.tallies.items) }
+    ensures tally { IfOk result (λ s. Tallies (V.measure job.now.graph.now) [] s.tally) }
+{
+    let threads = Vec::with_capacity(job.alloc, job.workers as usize)?;
+    let rows = job.graph.rows();
+    let tallies = tallies_of_none(job.alloc, job.workers, rows)?;
+    let tally = Tally::new(job.alloc, rows)?;
+    Ok(Supplies {
+        threads,
+        tallies,
+        tally,
+    })
+}
+
+/// A tally for each worker, of no object and with so many rows.
+fn tallies_of_none<A: Allocator + Copy>(
+    alloc: A,
+    workers: u32,
+    rows: usize,
+) -> Result<Vec<Tally<A>, A>, AllocError>
+    ensures count { IfOk result (λ v. vec_len v ≡ workers) }
+    ensures none { IfOk result (λ v. (m : Measure) → m.rows ≡ rows → AreTalliesOfNone m v.items) }
+{
+    let mut tallies = Vec::with_capacity(alloc, workers as usize)?;
+    while tallies.len() < workers as usize {
+        tallies.push_reserved(Tally::new(alloc, rows)?);
+    }
+    Ok(tallies)
+}
