@@ -1,8 +1,9 @@
 //! What no clause of a marking says: which refusal is told where a thread is not started, and when the gate is told of
 //! an object.
 
-ghost use Rattle.std.specs.Prelude.{◌≡◌};
+ghost use Rattle.std.specs.Prelude.{◌≡◌, ◌<◌, ◌≤◌, ◌+◌};
 ghost use Rattle.mark_core.specs.Event.{IsBusy};
+ghost use Rattle.drain.specs.working.AtWork.{IsFree};
 
 use super::*;
 use crate::gate::NoGate;
@@ -92,19 +93,19 @@ impl StartHook for AllBut {
     }
 }
 
-/// Marks the dump by so many workers with so many buffers of so many objects, and answers how many objects are marked,
-/// or why none is.
+/// Marks the wide array by so many workers with so many buffers of so many objects, and answers how many objects are
+/// marked, or why none is.
 fn marked_where<T: Threads + Wait + Sync, G: Gate, S: StartHook>(
     rt: &T,
     alloc: Global,
-    dump: &[u8],
     (workers, buffer, buffers): (u32, u32, u32),
     gate: &G,
     hook: &S,
 ) -> Result<Result<u64, RunFault>, Fail> {
     let options = Options::new(workers, buffer, buffers, 0)?;
+    let dump = wide_array(alloc)?;
     let skip = Skip::none(alloc);
-    let graph = graph_of(alloc, dump, &skip)?;
+    let graph = graph_of(alloc, dump.as_slice(), &skip)?;
     Ok(mark_where(rt, alloc, &graph, &options, gate, hook).map(|marked| marked.len()))
 }
 
@@ -124,21 +125,20 @@ static STARTS: [Start; 7] = [
 
 #[test]
 fn a_thread_that_cannot_be_started_is_told(rt: HostRuntime) -> Result<(), Fail> {
-    let dump = wide_array(rt.alloc())?;
     for (options, refused, want) in STARTS {
-        let hook = AllBut { refused };
-        let outcome = marked_where(&rt, rt.alloc(), dump.as_slice(), options, &NoGate, &hook)?;
+        let outcome = marked_where(&rt, rt.alloc(), options, &NoGate, &AllBut { refused })?;
         assert_eq!(rt; outcome, want, "worker {refused}");
     }
     Ok(())
 }
 
-/// The graph of a dump with at most 64 objects, and of which of them the gate was told.
+/// The graph of a dump with at most 64 objects, and for which of them the gate was called.
 #[derive(Drop)]
 struct Watched<'a, 'b> {
     walked: WalkedGraph<'a, 'b, Global>,
-    told: &'a AtomicU64,
-    /// How often the references of an object were asked for of which the gate was not told.
+    /// A bit for each object for which the gate was called.
+    passed: &'a AtomicU64,
+    /// How often the references of an object were asked for before the gate was called for it.
     early: &'a AtomicU64,
 }
 
@@ -183,7 +183,7 @@ impl<'a, 'b> Walk for Watched<'a, 'b> {
     }
 
     fn visit(&self, object: u32) -> Visit<'a, Global> {
-        if self.told.load(Ordering::SeqCst) & (1 << (object % 64)) == 0 {
+        if self.passed.load(Ordering::SeqCst) & (1 << (object % 64)) == 0 {
             self.early.fetch_add(1, Ordering::SeqCst);
         }
         self.walked.visit(object)
@@ -194,71 +194,16 @@ impl<'a, 'b> Walk for Watched<'a, 'b> {
     }
 }
 
-/// Notes each object that it is told of.
+/// Notes each object for which it is called.
 #[derive(Drop)]
-struct Told<'a> {
-    told: &'a AtomicU64,
+struct Passes<'a> {
+    passed: &'a AtomicU64,
 }
 
-impl Gate for Told<'_> {
+impl Gate for Passes<'_> {
     fn before_scan(&self, _worker: u32, object: u32) {
-        self.told.fetch_or(1 << (object % 64), Ordering::SeqCst);
+        self.passed.fetch_or(1 << (object % 64), Ordering::SeqCst);
     }
-}
-
-/// Marks the graph with two workers, noting what the gate was told of, and whether that was done.
-fn mark_watched<T: Threads + Wait + Sync>(
-    rt: &T,
-    alloc: Global,
-    graph: &Graph<'_, Global>,
-    told: &AtomicU64,
-    early: &AtomicU64,
-) -> bool {
-    let walked = WalkedGraph { graph };
-    let watched = Watched {
-        walked,
-        told,
-        early,
-    };
-    let Ok((pool, leader)) = Pool::new(alloc, &watched, 1024, 2, 0) else {
-        return false;
-    };
-    let job = Job {
-        alloc,
-        graph: &watched,
-        pool: &pool,
-        gate: &Told { told },
-        hook: &StartsAll,
-        workers: 2,
-    };
-    lead(rt, &job, leader).is_ok()
-}
-
-/// Marks the dump with two workers: whether that was done, of how many objects the gate was told, and how often an
-/// object's references were asked for before.
-fn told_with_two<T: Threads + Wait + Sync>(
-    rt: &T,
-    alloc: Global,
-    dump: &[u8],
-) -> Result<(bool, u32, u64), Fail> {
-    let skip = Skip::none(alloc);
-    let graph = graph_of(alloc, dump, &skip)?;
-    let told = AtomicU64::new(0);
-    let early = AtomicU64::new(0);
-    let done = mark_watched(rt, alloc, &graph, &told, &early);
-    Ok((
-        done,
-        told.load(Ordering::SeqCst).count_ones(),
-        early.load(Ordering::SeqCst),
-    ))
-}
-
-#[test]
-fn the_gate_is_told_before_references_are_asked_for(rt: HostRuntime) -> Result<(), Fail> {
-    let dump = wide_array(rt.alloc())?;
-    let seen = told_with_two(&rt, rt.alloc(), dump.as_slice())?;
-    assert_eq!(rt; seen, (true, 62, 0));
-    Ok(())
 }
 
 /// Takes two buffers, which no other worker finds any more.
@@ -270,56 +215,101 @@ fn take_pair<T: Wait>(rt: &T, alloc: Global, pool: &Pool<Global>, worker: Worker
     let _pair = Pair::open(rt, alloc, pool, &mut worker);
 }
 
-/// Leads one worker over the graph while two others hold all four buffers, so that neither it nor the leader finds a
-/// pair; whether that was done.
-fn lead_without_buffers<T: Threads + Wait + Sync>(
+/// A leader of whom so many others were split off, each of which took two buffers.
+fn behind_others<T: Wait>(
     rt: &T,
     alloc: Global,
-    graph: &Graph<'_, Global>,
-    told: &AtomicU64,
-) -> bool {
-    let early = AtomicU64::new(0);
-    let walked = WalkedGraph { graph };
-    let watched = Watched {
-        walked,
-        told,
-        early: &early,
-    };
-    let Ok((pool, leader)) = Pool::new(alloc, &watched, 4, 2, 0) else {
+    pool: &Pool<Global>,
+    leader: Worker<Global>,
+    others: u32,
+) -> Worker<Global>
+    requires pool { leader.pool ≡ pool.now }
+    requires free { IsFree leader }
+    requires share { others < leader.book.account.share }
+    ensures pool { result.pool ≡ leader.pool }
+    ensures setup { result.book.setup ≡ leader.book.setup }
+    ensures free { IsFree result }
+    ensures finished { result.book.account.finished ≡ leader.book.account.finished }
+    ensures share { result.book.account.share + others ≡ leader.book.account.share }
+{
+    let mut leader = leader;
+    for _ in 0..others {
+        let (rest, other) = pool.split(leader, 1);
+        leader = rest;
+        take_pair(rt, alloc, pool, other);
+    }
+    leader
+}
+
+/// Leads so many workers over the graph, with so many buffers of two objects, where so many others hold two buffers
+/// each; whether that was done.
+fn lead_watched<T: Threads + Wait + Sync>(
+    rt: &T,
+    alloc: Global,
+    watched: &Watched<'_, '_>,
+    workers: u32,
+    buffers: u32,
+    others: u32,
+) -> bool
+    requires { workers + others ≤ 64 }
+{
+    let Ok((pool, leader)) = Pool::new(alloc, watched, buffers, 2, 0) else {
         return false;
     };
-    let (leader, one) = pool.split(leader, 1);
-    take_pair(rt, alloc, &pool, one);
-    let (leader, two) = pool.split(leader, 1);
-    take_pair(rt, alloc, &pool, two);
+    let leader = behind_others(rt, alloc, &pool, leader, others);
     let job = Job {
         alloc,
-        graph: &watched,
+        graph: watched,
         pool: &pool,
-        gate: &Told { told },
+        gate: &Passes {
+            passed: watched.passed,
+        },
         hook: &StartsAll,
-        workers: 1,
+        workers,
     };
     lead(rt, &job, leader).is_ok()
 }
 
-/// Whether that was done with this dump, and of how many objects the gate was told.
-fn told_without_buffers<T: Threads + Wait + Sync>(
+/// The same over the wide array: whether that was done, for how many objects the gate was called, and how often an
+/// object's references were asked for before.
+fn lead_over_array<T: Threads + Wait + Sync>(
     rt: &T,
     alloc: Global,
-    dump: &[u8],
-) -> Result<(bool, u32), Fail> {
+    workers: u32,
+    buffers: u32,
+    others: u32,
+) -> Result<(bool, u32, u64), Fail>
+    requires { workers + others ≤ 64 }
+{
+    let dump = wide_array(alloc)?;
     let skip = Skip::none(alloc);
-    let graph = graph_of(alloc, dump, &skip)?;
-    let told = AtomicU64::new(0);
-    let done = lead_without_buffers(rt, alloc, &graph, &told);
-    Ok((done, told.load(Ordering::SeqCst).count_ones()))
+    let graph = graph_of(alloc, dump.as_slice(), &skip)?;
+    let passed = AtomicU64::new(0);
+    let early = AtomicU64::new(0);
+    let watched = Watched {
+        walked: WalkedGraph { graph: &graph },
+        passed: &passed,
+        early: &early,
+    };
+    let done = lead_watched(rt, alloc, &watched, workers, buffers, others);
+    Ok((
+        done,
+        passed.load(Ordering::SeqCst).count_ones(),
+        early.load(Ordering::SeqCst),
+    ))
+}
+
+#[test]
+fn the_gate_is_told_before_references_are_asked_for(rt: HostRuntime) -> Result<(), Fail> {
+    let seen = lead_over_array(&rt, rt.alloc(), 2, 1024, 0)?;
+    assert_eq!(rt; seen, (true, 62, 0));
+    Ok(())
 }
 
 #[test]
 fn a_leader_without_buffers_drains(rt: HostRuntime) -> Result<(), Fail> {
-    let dump = wide_array(rt.alloc())?;
-    let seen = told_without_buffers(&rt, rt.alloc(), dump.as_slice())?;
-    assert_eq!(rt; seen, (true, 62));
+    // Two others hold all four buffers, so that neither the worker nor the leader finds a pair.
+    let seen = lead_over_array(&rt, rt.alloc(), 1, 4, 2)?;
+    assert_eq!(rt; seen, (true, 62, 0));
     Ok(())
 }

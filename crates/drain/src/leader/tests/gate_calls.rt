@@ -61,7 +61,7 @@ impl<C: Clock> Meeting<C> {
     }
 
     /// The calls, the workers that came, and the calls of the leader.
-    fn told(&self) -> (u64, u64, u64) {
+    fn noted(&self) -> (u64, u64, u64) {
         (
             self.calls.load(Ordering::SeqCst),
             self.come.load(Ordering::SeqCst),
@@ -126,7 +126,7 @@ fn marked<T: Threads + Wait + Sync, G: Gate>(
     Ok(marked_in(rt, alloc, &graph, options, gate)?)
 }
 
-/// What the gate is told where so many roots are marked by so many workers with so many buffers of two: the objects
+/// What the gate notes where so many roots are marked by so many workers with so many buffers of two: the objects
 /// that are marked, the calls, the workers that came, and the calls of the leader.
 fn calls_of<T: Clock + Copy + Threads + Wait + Sync>(
     rt: T,
@@ -139,7 +139,7 @@ fn calls_of<T: Clock + Copy + Threads + Wait + Sync>(
     let gate = Meeting::new(rt, workers, 0);
     let dump = roots_alone(alloc, roots)?;
     let objects = marked(&rt, alloc, dump.as_slice(), &options, &gate)?;
-    Ok((objects, gate.told()))
+    Ok((objects, gate.noted()))
 }
 
 /// Roots, workers, buffers; the workers that came, and the calls of the leader.
@@ -154,9 +154,9 @@ static ROWS: [(u8, u32, u32, u64, u64); 2] = [
 fn workers_and_the_leader_have_their_numbers(rt: HostRuntime) -> Result<(), Fail> {
     for (roots, workers, buffers, come, by_leader) in ROWS {
         let objects = u64::from(roots) + 1;
-        let told = calls_of(rt, rt.alloc(), roots, workers, buffers)?;
+        let noted = calls_of(rt, rt.alloc(), roots, workers, buffers)?;
         assert_eq!(rt;
-            told,
+            noted,
             (objects, (objects, come, by_leader)),
             "{workers} workers"
         );
@@ -164,25 +164,24 @@ fn workers_and_the_leader_have_their_numbers(rt: HostRuntime) -> Result<(), Fail
     Ok(())
 }
 
-/// How many objects of the dump two workers mark, and which of the two came. Each call but the first waits until both
-/// have come.
+/// How many objects of the wide array two workers mark, and which of the two came. Each call but the first waits until
+/// both have come.
 fn come_to<T: Clock + Copy + Threads + Wait + Sync>(
     rt: T,
     alloc: Global,
-    dump: &[u8],
 ) -> Result<(u64, u64), Fail> {
     // The first buffer of the worker that scans the array has room for all it refers to, so no put gives any away.
     let options = Options::new(2, 256, 1024, 0)?;
     let gate = Meeting::new(rt, 2, 1);
-    let objects = marked(&rt, alloc, dump, &options, &gate)?;
+    let dump = wide_array(alloc)?;
+    let objects = marked(&rt, alloc, dump.as_slice(), &options, &gate)?;
     Ok((objects, gate.come.load(Ordering::SeqCst)))
 }
 
 #[test]
 fn a_worker_with_much_gives_to_one_with_nothing(rt: HostRuntime) -> Result<(), Fail> {
-    let dump = wide_array(rt.alloc())?;
     for _ in 0..RUNS {
-        let (objects, come) = come_to(rt, rt.alloc(), dump.as_slice())?;
+        let (objects, come) = come_to(rt, rt.alloc())?;
         assert_eq!(rt; objects, 62);
         if come == 3 {
             return Ok(());

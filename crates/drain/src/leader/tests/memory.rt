@@ -103,15 +103,15 @@ fn marked_with<T: Threads + Wait + Sync>(
     None
 }
 
-/// The same for this dump, with all behind each request refused, and with each alone.
-fn dump_marked_with<T: Threads + Wait + Sync>(
+/// The same for the wide array, with all behind each request refused, and with each alone.
+fn array_marked_with<T: Threads + Wait + Sync>(
     rt: &T,
     alloc: Global,
-    dump: &[u8],
 ) -> Result<(Option<u64>, Option<u64>), Fail> {
     let options = with_room()?;
+    let dump = wide_array(alloc)?;
     let skip = Skip::none(alloc);
-    let graph = graph_of(alloc, dump, &skip)?;
+    let graph = graph_of(alloc, dump.as_slice(), &skip)?;
     let all_behind = marked_with(rt, alloc, &graph, &options, false);
     let alone = marked_with(rt, alloc, &graph, &options, true);
     Ok((all_behind, alone))
@@ -119,8 +119,7 @@ fn dump_marked_with<T: Threads + Wait + Sync>(
 
 #[test]
 fn want_of_memory_starts_no_thread(rt: HostRuntime) -> Result<(), Fail> {
-    let dump = wide_array(rt.alloc())?;
-    let requests = dump_marked_with(&rt, rt.alloc(), dump.as_slice())?;
+    let requests = array_marked_with(&rt, rt.alloc())?;
     // The words, the slots, six buffers, two blocks of the table, the threads, the tallies and three of them.
     assert_eq!(rt; requests, (Some(15), Some(15)));
     Ok(())
@@ -156,15 +155,15 @@ fn told_with<T: Threads + Wait + Sync>(
     Ok((left, told, heap.refusals()))
 }
 
-/// The same for this dump, and with as many requests as its marking makes.
-fn dump_told<T: Threads + Wait + Sync>(
+/// The same for the wide array, and with as many requests as its marking makes.
+fn array_told<T: Threads + Wait + Sync>(
     rt: &T,
     alloc: Global,
-    dump: &[u8],
 ) -> Result<Result<(u64, Told, u64), RunFault>, Fail> {
     let options = with_room()?;
+    let dump = wide_array(alloc)?;
     let skip = Skip::none(alloc);
-    let graph = graph_of(alloc, dump, &skip)?;
+    let graph = graph_of(alloc, dump.as_slice(), &skip)?;
     let requests = marked_with(rt, alloc, &graph, &options, false).unwrap_or(0);
     Ok(told_with(rt, alloc, &graph, &options, requests))
 }
@@ -172,8 +171,7 @@ fn dump_told<T: Threads + Wait + Sync>(
 #[test]
 fn a_marking_answers_without_memory(rt: HostRuntime) -> Result<(), Fail> {
     assert_eq!(rt; with_room()?, with_room()?);
-    let dump = wide_array(rt.alloc())?;
-    let told = dump_told(&rt, rt.alloc(), dump.as_slice())?;
+    let told = array_told(&rt, rt.alloc())?;
     assert_eq!(rt; told, Ok((0, (true, false, 62, (61, 240), 0), 0)));
     Ok(())
 }
