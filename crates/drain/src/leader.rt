@@ -51,8 +51,7 @@ where
 {
     let supplies = supplies_of(job)?;
     job.graph.is_measured();
-    let mut paired = PairedWorker::open_or_bare(rt, job.alloc, job.pool, leader)?;
-    paired.begin(rt, job.pool, job.graph.roots())?;
+    let paired = PairedWorker::begun(rt, job.alloc, job.pool, job.graph.roots(), leader)?;
     let (paired, tally) = run_workers(rt, job, paired, supplies)?;
     Ok(paired.end(rt, job, tally)?)
 }

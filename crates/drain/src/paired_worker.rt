@@ -57,7 +57,7 @@ impl<A: Allocator> PairedWorker<A> {
     }
 
     /// A pair for a worker that has none yet, and a bare one where there were not two empty buffers.
-    pub(crate) fn open_or_bare<R: Wait>(
+    fn open_or_bare<R: Wait>(
         rt: &R,
         alloc: A,
         pool: &Pool<A>,

@@ -6,14 +6,15 @@ use crate::paired_worker::PairedWorker;
 use crate::tallied::Tallied;
 use crate::tally::Tally;
 use crate::walk::Walk;
-use buffer_pool::Pool;
+use buffer_pool::{Pool, Worker};
 use std::alloc::Allocator;
 use std::sync::Wait;
 use work_pair::Stop;
 
 impl<A: Allocator> PairedWorker<A> {
     ghost use Rattle.std.specs.Prelude.{◌≡◌, [], IfOk, OnOk};
-    ghost use Rattle.drain.specs.working.AtWork.{GoesOn, HasGiven, IsAtWork, IsSetupOf, IsThrough, SawRoots};
+    ghost use Rattle.mark_core.specs.Event.{IsBusy};
+    ghost use Rattle.drain.specs.working.AtWork.{GoesOn, HasGiven, IsAtWork, IsFree, IsSetupOf, IsThrough, SawRoots};
     ghost use Rattle.drain.specs.working.Tallying.{HasTallied};
 
     /// Claims each root, and puts those that were white into the pair.
@@ -32,12 +33,7 @@ impl<A: Allocator> PairedWorker<A> {
     }
 
     /// Claims each root, and then gives what is in the pair's buffers to others, as far as there are empty ones.
-    pub(crate) fn begin<R: Wait>(
-        &mut self,
-        rt: &R,
-        pool: &Pool<A>,
-        roots: &[u32],
-    ) -> Result<(), Stop>
+    fn begin<R: Wait>(&mut self, rt: &R, pool: &Pool<A>, roots: &[u32]) -> Result<(), Stop>
         requires pool { self.old.worker.pool ≡ pool.now }
         requires roots { roots.now ≡ self.old.worker.book.setup.roots }
         requires at_work { IsAtWork self.old.pair [] self.old.worker }
@@ -48,6 +44,31 @@ impl<A: Allocator> PairedWorker<A> {
     {
         self.claim_roots(rt, pool, roots)?;
         self.publish(rt, pool)
+    }
+
+    /// The leader with its pair, a bare one where there were not two empty buffers, once it has claimed the roots and
+    /// given them to others.
+    pub(crate) fn begun<R: Wait>(
+        rt: &R,
+        alloc: A,
+        pool: &Pool<A>,
+        roots: &[u32],
+        leader: Worker<A>,
+    ) -> Result<PairedWorker<A>, Stop>
+    where
+        A: Copy,
+        requires pool { leader.pool ≡ pool.now }
+        requires roots { roots.now ≡ leader.book.setup.roots }
+        requires free { IsFree leader }
+        requires busy { IsBusy leader.book.account }
+        ensures goes_on { IfOk result (λ p. GoesOn leader p.worker) }
+        ensures at_work { IfOk result (λ p. IsAtWork p.pair [] p.worker) }
+        ensures saw { IfOk result (λ p. SawRoots p.worker) }
+        ensures given { IfOk result (λ p. HasGiven p.pair p.worker) }
+    {
+        let mut paired = PairedWorker::open_or_bare(rt, alloc, pool, leader)?;
+        paired.begin(rt, pool, roots)?;
+        Ok(paired)
     }
 
     /// Scans until no object is left, and gives the buffers back.
