@@ -7,7 +7,7 @@ use Rattle.std.specs.Prelude.{filter_map}
 use Rattle.hprof_grammar.specs.Dump.{id_of, limit}
 use Rattle.hprof_grammar.specs.Places.{IsDumpOf, Places, is_load, is_string}
 use Rattle.hprof_grammar.specs.Record.{Record}
-use Rattle.hprof_grammar.specs.Standing.{IsPlaced, RecordStands, RecordStandsAt, Sight, StandInTurn, Stands}
+use Rattle.hprof_grammar.specs.Standing.{IsPlaced, RecordStandsAt, Sight, StandInTurn, Stands}
 use Rattle.hprof_grammar.specs.Standing.{SubRecordStandsAt}
 use Rattle.hprof_grammar.specs.SubRecord.{SubRecord, spelling_of}
 use Rattle.heap_graph.specs.declared.entry.ClassEntry.{ClassEntry}
@@ -41,24 +41,17 @@ use Rattle.heap_graph.proofs.Wholeness.{is_whole}
 
 -- ---- what stands in the bytes, seen by a view of them
 
-pub seen : (v : Sight) (bytes : List ℕ) (s : ℕ) (places known : List ℕ) (subs : List SubRecord) → v.bytes ≡ bytes
-    → v.id_size ≡ s → places ≡ known → StandInTurn (SubRecordStandsAt s bytes) known subs
-    → StandInTurn (Stands v) places subs
-seen v bytes s places known subs bytes_are size_is places_are stand =
-    subst (λ (xs : List ℕ). StandInTurn (Stands v) xs subs) (sym places_are)
-    (subst (λ (n : ℕ). StandInTurn (SubRecordStandsAt n v.bytes) known subs) (sym size_is)
-    (subst (λ (bs : List ℕ). StandInTurn (SubRecordStandsAt s bs) known subs) (sym bytes_are) stand))
+pub seen_by : {X : Type 0} (IsAt : ℕ → List ℕ → ℕ → X → Type 0) (v : Sight) (bytes : List ℕ) (s : ℕ)
+    (places known : List ℕ) (things : List X)
+    → v.bytes ≡ bytes → v.id_size ≡ s → places ≡ known → StandInTurn (IsAt s bytes) known things
+    → StandInTurn (IsAt v.id_size v.bytes) places things
+seen_by IsAt v bytes s places known things bytes_are size_is places_are stand =
+    subst (λ (xs : List ℕ). StandInTurn (IsAt v.id_size v.bytes) xs things) (sym places_are)
+    (subst (λ (n : ℕ). StandInTurn (IsAt n v.bytes) known things) (sym size_is)
+    (subst (λ (bs : List ℕ). StandInTurn (IsAt s bs) known things) (sym bytes_are) stand))
 
 pub same_sight : (v w : Sight) → v.bytes ≡ w.bytes → v.id_size ≡ w.id_size → v ≡ w
 same_sight v w e f = λ i. record { bytes = e i; id_size = f i }
-
-pub seen_records : (v : Sight) (bytes : List ℕ) (s : ℕ) (places known : List ℕ) (rs : List Record) → v.bytes ≡ bytes
-    → v.id_size ≡ s → places ≡ known → StandInTurn (RecordStandsAt s bytes) known rs
-    → StandInTurn (RecordStands v) places rs
-seen_records v bytes s places known rs bytes_are size_is places_are stand =
-    subst (λ (xs : List ℕ). StandInTurn (RecordStands v) xs rs) (sym places_are)
-    (subst (λ (n : ℕ). StandInTurn (RecordStandsAt n v.bytes) known rs) (sym size_is)
-    (subst (λ (bs : List ℕ). StandInTurn (RecordStandsAt s bs) known rs) (sym bytes_are) stand))
 
 pub are_linked : (bytes : List ℕ) (dump : Places) (is : IsDumpOf bytes dump) (v : Sight) (places ids : List ℕ)
     → v.bytes ≡ bytes → v.id_size ≡ dump.id_size → AreObjects v places ids (heap_of is.records)
@@ -79,9 +72,9 @@ pub are_names : (bytes : List ℕ) (dump : Places) (is : IsDumpOf bytes dump) (v
 are_names bytes dump is v strings loaded bytes_are size_is strings_are loaded_are placed = record {
   few_strings = omega (arith, ap length strings_are, placed.strings.count, few_of_records is_string bytes dump is);
   few_loaded = omega (arith, ap length loaded_are, placed.loaded.count, few_of_records is_load bytes dump is);
-  string_each = seen_records v bytes dump.id_size strings dump.strings
+  string_each = seen_by RecordStandsAt v bytes dump.id_size strings dump.strings
       (filter is_string is.records) bytes_are size_is strings_are placed.strings;
-  loaded_each = seen_records v bytes dump.id_size loaded dump.loaded
+  loaded_each = seen_by RecordStandsAt v bytes dump.id_size loaded dump.loaded
       (filter is_load is.records) bytes_are size_is loaded_are placed.loaded;
 }
 
@@ -107,7 +100,7 @@ module _ (bytes : List ℕ) (s : ℕ) (places : List ℕ) (dump : Places) (are :
     pub objects_stand : (v : Sight) → v.bytes ≡ bytes → v.id_size ≡ s
         → StandInTurn (Stands v) places (objects (heap_of are.is.records))
     objects_stand v bytes_are size_is =
-        seen v bytes dump.id_size places dump.objects (objects (heap_of are.is.records)) bytes_are
+        seen_by SubRecordStandsAt v bytes dump.id_size places dump.objects (objects (heap_of are.is.records)) bytes_are
         (size_is ∙ are.size_is) are.places_are placed.objects
 
     -- indexed by one view, they are the same objects to another
@@ -229,7 +222,7 @@ stand_for o plan records roots classes unresolved skip within few_roots linked t
     record {
       records = records;
       linked = linked;
-      told = told;
+      fates = told;
       planned = planned;
       graph = graph;
       whole =
@@ -243,12 +236,12 @@ stand_for o plan records roots classes unresolved skip within few_roots linked t
 
 pub text_graph_made : {A : Type 0} (o : Objects A) (text : List ℕ) (dump : Places) (is : IsDumpOf text dump)
     (skip : List SkipEntry) (read : IsReadOf text dump is o) → IsGraphOfText o.view.bytes skip
-    (graph_with o.view.id_size is.records (lists_of o is.records skip read.linked read.told))
+    (graph_with o.view.id_size is.records (lists_of o is.records skip read.linked read.fates))
 text_graph_made o text dump is skip read =
-    let g : ObjectGraph = graph_with o.view.id_size is.records (lists_of o is.records skip read.linked read.told) in
+    let g : ObjectGraph = graph_with o.view.id_size is.records (lists_of o is.records skip read.linked read.fates) in
     subst (λ (bytes : List ℕ). IsGraphOfText bytes skip g) (sym read.bytes_are)
     (text_graph text dump is o.view.id_size skip g read.size_is read.linked.linked
-    (graph_made o is.records skip read.linked read.told))
+    (graph_made o is.records skip read.linked read.fates))
 
 -- a text and a list have one graph, so what holds of one holds of each
 pub given_graph : (text : List ℕ) (skip : List SkipEntry) (P : ObjectGraph → Type 0) (g : ObjectGraph)

@@ -15,7 +15,9 @@ use Rattle.heap_graph.specs.Layout.{IsChain, NeverEnds}
 use Rattle.heap_graph.specs.declared.classes.fate.Layout.{Layout}
 use Rattle.heap_graph.specs.working.Chains.{AreFates, DoesStay, IsChainAt, IsClimb, IsCut, IsFate, IsKnown, IsPath}
 use Rattle.heap_graph.specs.working.Chains.{IsSettled, IsTop, IsUnder, is_unknown}
+use Rattle.heap_graph.specs.working.ClassTable.{TableEntry, ids_of}
 use Rattle.heap_graph.proofs.ChainLaws.{never_below, some_inj}
+use Rattle.heap_graph.proofs.ClassTableLaws.{same_count}
 use Rattle.heap_graph.proofs.PathLaws.{contains_cases, contains_last, contains_none, never_around, path_end, path_off}
 use Rattle.heap_graph.proofs.PathLaws.{path_on}
 
@@ -169,12 +171,23 @@ fate_above s heap ids path known super next f are is here =
 
 -- ---- the start and the end
 
-pub first_climb : (s : ℕ) (heap : List SubRecord) (ids : List ℕ) (path : List ℕ) (known : List Fate) (first : ℕ)
-    → path ≡ [] → AreFates s heap ids [] known → first < length ids → slice_get known first ≡ Some fates.Unknown
-    → IsClimb s heap ids first path known first
-first_climb s heap ids path known first none are below unknown =
-    subst (λ (p : List ℕ). IsClimb s heap ids first p known first) (sym none)
-    (record { fates_are = are; path_is = tt; below = below; unknown = unknown; from = contains_last [] first })
+pub read_fate : (known : List Fate) (k : ℕ) (f : Fate) → k < length known → get_or known k fates.Unknown ≡ f
+    → slice_get known k ≡ Some f
+read_fate known k f h e = slice_get-get_or known k fates.Unknown h ∙ ap (λ (x : Fate). Some x) e
+
+pub first_climb : (s : ℕ) (heap : List SubRecord) (entries : List TableEntry) (path : List ℕ) (known : List Fate)
+    (first : ℕ) → path ≡ [] → AreFates s heap (ids_of entries) [] known → first < length entries
+    → get_or known first fates.Unknown ≡ fates.Unknown → IsClimb s heap (ids_of entries) first path known first
+first_climb s heap entries path known first none are below unknown =
+    let within : first < length (ids_of entries) = omega (arith, below, same_count entries) in
+    subst (λ (p : List ℕ). IsClimb s heap (ids_of entries) first p known first) (sym none)
+    (record {
+      fates_are = are;
+      path_is = tt;
+      below = within;
+      unknown = read_fate known first fates.Unknown (omega (arith, within, are.one_each)) unknown;
+      from = contains_last [] first;
+    })
 
 pub settled_fate : (f : Fate) → (f ≡ fates.Unknown → ⊥) → (f ≡ fates.OnPath → ⊥) → IsSettled f
 settled_fate fates.Unknown a b = a refl
@@ -182,10 +195,6 @@ settled_fate fates.OnPath a b = b refl
 settled_fate (fates.Whole l) a b = tt
 settled_fate fates.Broken a b = tt
 settled_fate fates.Endless a b = tt
-
-pub read_fate : (known : List Fate) (k : ℕ) (f : Fate) → k < length known → get_or known k fates.Unknown ≡ f
-    → slice_get known k ≡ Some f
-read_fate known k f h e = slice_get-get_or known k fates.Unknown h ∙ ap (λ (x : Fate). Some x) e
 
 -- ---- the fate of a class, from that of its superclass
 

@@ -7,8 +7,7 @@ use Rattle.std.proofs.lemmas.Bool.{eqb-true}
 use Rattle.std.proofs.lemmas.List.{length-map}
 use Rattle.byteorder.specs.Endian.{big_number}
 use Rattle.hprof_grammar.specs.Bounds.{IsClass, IsConstant, IsStatic}
-use Rattle.hprof_grammar.specs.SubRecord.{Class, Constant, Instance, Member, ObjectArray, PrimitiveArray, Static}
-use Rattle.hprof_grammar.specs.SubRecord.{SubRecord}
+use Rattle.hprof_grammar.specs.SubRecord.{Class, Instance, Member, ObjectArray, PrimitiveArray, SubRecord}
 use Rattle.hprof_grammar.specs.SubRecord.SubRecord.{class_dump, instance_dump, object_array_dump, primitive_array_dump}
 use Rattle.hprof_grammar.specs.Series.{LabelledValue, of_constant, of_static}
 use Rattle.hprof_grammar.specs.Tables.{size_of}
@@ -29,18 +28,6 @@ id_value s type value low high size is =
     let e : size_of s type ≡ s = size_of_id_type s type is in
     (omega (arith, low, e, size), omega (arith, high, e, size))
 
-constant_values : (s : ℕ) (ks : List Constant) → 1 ≤ s → s ≤ 8 → AllByRecursion (IsConstant s) ks
-    → AreIdValues (map of_constant ks)
-constant_values s [] low high all = tt
-constant_values s (k ∷ ks) low high all =
-    (id_value s k.type k.value low high all.0.value, constant_values s ks low high all.1)
-
-static_values : (s : ℕ) (fs : List Static) → 1 ≤ s → s ≤ 8 → AllByRecursion (IsStatic s) fs
-    → AreIdValues (map of_static fs)
-static_values s [] low high all = tt
-static_values s (f ∷ fs) low high all =
-    (id_value s f.type f.value low high all.0.value, static_values s fs low high all.1)
-
 one_value : (s type : ℕ) (value : List ℕ) (b : Bool) → (type == 2) ≡ b → length value ≡ size_of s type
     → (if b then big_number (length value) value ∷ [] else []) ≡ (if b then big_number s value ∷ [] else [])
 one_value s type value false e size = refl
@@ -52,55 +39,56 @@ kept_first : {X : Type 0} (g : X → ℕ) (x : X) (xs : List X) (b : Bool)
 kept_first g x xs true = refl
 kept_first g x xs false = refl
 
-constants_are : (s : ℕ) (ks : List Constant) → AllByRecursion (IsConstant s) ks
-    → values_ids (map of_constant ks) ≡ constant_ids s ks
-constants_are s [] all = refl
-constants_are s (k ∷ ks) all =
-    ap (λ (xs : List ℕ). xs ++ values_ids (map of_constant ks))
-    (one_value s k.type k.value (k.type == 2) refl all.0.value)
-    ∙ ap (λ (xs : List ℕ). (if k.type == 2 then big_number s k.value ∷ [] else []) ++ xs) (constants_are s ks all.1)
-    ∙ kept_first (λ (x : Constant). big_number s x.value) k (filter (λ (x : Constant). x.type == 2) ks) (k.type == 2)
-
-statics_are : (s : ℕ) (fs : List Static) → AllByRecursion (IsStatic s) fs
-    → values_ids (map of_static fs) ≡ static_ids s fs
-statics_are s [] all = refl
-statics_are s (f ∷ fs) all =
-    ap (λ (xs : List ℕ). xs ++ values_ids (map of_static fs))
-    (one_value s f.type f.value (f.type == 2) refl all.0.value)
-    ∙ ap (λ (xs : List ℕ). (if f.type == 2 then big_number s f.value ∷ [] else []) ++ xs) (statics_are s fs all.1)
-    ∙ kept_first (λ (x : Static). big_number s x.value) f (filter (λ (x : Static). x.type == 2) fs) (f.type == 2)
-
 few_kept : {X : Type 0} (g : X → ℕ) (x : X) (xs : List X) (n : ℕ) (b : Bool) → length (map g xs) ≤ n
     → length (map g (if b then x ∷ xs else xs)) ≤ 1 + n
 few_kept g x xs n true h = omega (arith, h)
 few_kept g x xs n false h = omega (arith, h)
 
-few_constants : (s : ℕ) (ks : List Constant) → length (constant_ids s ks) ≤ length ks
-few_constants s [] = omega arith
-few_constants s (k ∷ ks) =
-    let h = few_kept (λ (x : Constant). big_number s x.value) k (filter (λ (x : Constant). x.type == 2) ks)
-    (length ks) (k.type == 2) (few_constants s ks) in omega (arith, h)
+-- the identifiers among the values that are taken of these things
+abbrev ids_among : {X : Type 0} → (X → LabelledValue) → ℕ → List X → List ℕ
+ids_among taken s xs = map (λ x. big_number s (taken x).value) (filter (λ x. (taken x).type == 2) xs)
 
-few_statics : (s : ℕ) (fs : List Static) → length (static_ids s fs) ≤ length fs
-few_statics s [] = omega arith
-few_statics s (f ∷ fs) =
-    let h = few_kept (λ (x : Static). big_number s x.value) f (filter (λ (x : Static). x.type == 2) fs) (length fs)
-    (f.type == 2) (few_statics s fs) in omega (arith, h)
+few_ids : {X : Type 0} (taken : X → LabelledValue) (s : ℕ) (xs : List X) → length (ids_among taken s xs) ≤ length xs
+few_ids taken s [] = omega arith
+few_ids taken s (x ∷ xs) =
+    let h = few_kept (λ y. big_number s (taken y).value) x (filter (λ y. (taken y).type == 2) xs) (length xs)
+    ((taken x).type == 2) (few_ids taken s xs) in omega (arith, h)
+
+-- constants and static fields alike: each value has the size of its type
+module _ {X : Type 0} (taken : X → LabelledValue) (IsFormed : X → Type 0) (s : ℕ)
+    (size : (x : X) → IsFormed x → length (taken x).value ≡ size_of s (taken x).type) where
+  values_fit : (xs : List X) → 1 ≤ s → s ≤ 8 → AllByRecursion IsFormed xs → AreIdValues (map taken xs)
+  values_fit [] low high all = tt
+  values_fit (x ∷ xs) low high all =
+      (id_value s (taken x).type (taken x).value low high (size x all.0), values_fit xs low high all.1)
+
+  values_are : (xs : List X) → AllByRecursion IsFormed xs → values_ids (map taken xs) ≡ ids_among taken s xs
+  values_are [] all = refl
+  values_are (x ∷ xs) all =
+      ap (λ (ids : List ℕ). ids ++ values_ids (map taken xs))
+      (one_value s (taken x).type (taken x).value ((taken x).type == 2) refl (size x all.0))
+      ∙ ap (λ (ids : List ℕ). (if (taken x).type == 2 then big_number s (taken x).value ∷ [] else []) ++ ids)
+      (values_are xs all.1)
+      ∙ kept_first (λ y. big_number s (taken y).value) x (filter (λ y. (taken y).type == 2) xs) ((taken x).type == 2)
+
+  class_values : (xs : List X) (values : List LabelledValue) → 1 ≤ s → s ≤ 8 → AllByRecursion IsFormed xs
+      → length xs < 256 ^ 2 → values ≡ map taken xs → AreClassValues values
+  class_values xs values low high all few e = record {
+    few = omega (arith, ap length e, length-map xs taken, few);
+    fit = subst (λ (vs : List LabelledValue). AreIdValues vs) (sym e) (values_fit xs low high all);
+  }
 
 pub class_constants : (s : ℕ) (c : Class) (values : List LabelledValue) → 1 ≤ s → s ≤ 8 → IsClass s c
     → values ≡ map of_constant c.constants → AreClassValues values
-class_constants s c values low high is e = record {
-  few = omega (arith, ap length e, length-map c.constants of_constant, is.constant_count);
-  fit = subst (λ (vs : List LabelledValue). AreIdValues vs) (sym e)
-      (constant_values s c.constants low high is.constants);
-}
+class_constants s c values low high is e =
+    class_values of_constant (IsConstant s) s (λ k formed. formed.value) c.constants values low high is.constants
+    is.constant_count e
 
 pub class_statics : (s : ℕ) (c : Class) (values : List LabelledValue) → 1 ≤ s → s ≤ 8 → IsClass s c
     → values ≡ map of_static c.statics → AreClassValues values
-class_statics s c values low high is e = record {
-  few = omega (arith, ap length e, length-map c.statics of_static, is.static_count);
-  fit = subst (λ (vs : List LabelledValue). AreIdValues vs) (sym e) (static_values s c.statics low high is.statics);
-}
+class_statics s c values low high is e =
+    class_values of_static (IsStatic s) s (λ f formed. formed.value) c.statics values low high is.statics
+    is.static_count e
 
 pub class_parts : (s : ℕ) (c : Class) (leading : List ℕ) (constants statics : List LabelledValue) → IsClass s c
     → leading ≡ c.super ∷ c.loader ∷ c.signers ∷ c.domain ∷ [] → constants ≡ map of_constant c.constants
@@ -109,16 +97,18 @@ pub class_parts : (s : ℕ) (c : Class) (leading : List ℕ) (constants statics 
 class_parts s c leading constants statics is el ek ef =
     ap (λ (xs : List ℕ). xs ++ values_ids constants ++ values_ids statics) el
     ∙ ap (λ (xs : List ℕ). c.super ∷ c.loader ∷ c.signers ∷ c.domain ∷ xs ++ values_ids statics)
-    (ap (λ (vs : List LabelledValue). values_ids vs) ek ∙ constants_are s c.constants is.constants)
+    (ap (λ (vs : List LabelledValue). values_ids vs) ek
+    ∙ values_are of_constant (IsConstant s) s (λ k formed. formed.value) c.constants is.constants)
     ∙ ap (λ (xs : List ℕ). c.super ∷ c.loader ∷ c.signers ∷ c.domain ∷ constant_ids s c.constants ++ xs)
-    (ap (λ (vs : List LabelledValue). values_ids vs) ef ∙ statics_are s c.statics is.statics)
+    (ap (λ (vs : List LabelledValue). values_ids vs) ef
+    ∙ values_are of_static (IsStatic s) s (λ f formed. formed.value) c.statics is.statics)
 
 pub few_in_class : (s : ℕ) (c : Class) → IsClass s c → length (class_ids s c) ≤ 2 ^ 32
 few_in_class s c is = omega (
   arith,
   length-append (constant_ids s c.constants) (static_ids s c.statics),
-  few_constants s c.constants,
-  few_statics s c.statics,
+  few_ids of_constant s c.constants,
+  few_ids of_static s c.statics,
   is.constant_count,
   is.static_count,
 )

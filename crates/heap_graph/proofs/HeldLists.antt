@@ -56,7 +56,7 @@ first_at : (v : Sight) (heap : List SubRecord) (entries : List TableEntry) (know
     → slice_get (objects heap) n ≡ Some (instance_dump i) → position (λ x. x == i.class) (ids_of entries) ≡ o
     → (first : Option ℕ) × IsFirstOfInstance v.id_size heap (ids_of entries) i first
 first_at v heap entries known n i None linked told is e =
-    absurd (no_unknown v.id_size heap n i linked is (not_found v heap entries i.class told.classes e))
+    absurd (no_unknown v.id_size heap n i i.class linked is refl (not_found v heap entries i.class told.classes e))
 first_at v heap entries known n i (Some k) linked told is e =
     let it : IsFateFound v.id_size heap (ids_of entries) known i.class k =
     fate_found v heap entries known i.class k told e in

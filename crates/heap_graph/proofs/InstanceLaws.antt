@@ -85,10 +85,9 @@ never_up heap id c named never n = up (never (n + 1)).0 (never (n + 1)).1 (never
 
 pub linked_whole : (s : ℕ) (heap : List SubRecord) (ids : List ℕ) (id : ℕ) (c : Class) (f : Fate) → IsLinked s heap
     → class_named heap id ≡ Some c → IsSettled f → ((l : Layout) → f ≡ fates.Whole l → ⊥) → IsFate s heap ids id f → ⊥
-linked_whole s heap ids id c fates.Unknown linked named settled other fate = settled
-linked_whole s heap ids id c fates.OnPath linked named settled other fate = settled
 linked_whole s heap ids id c (fates.Whole l) linked named settled other fate = other l refl
 linked_whole s heap ids id c fates.Broken linked named settled other fate =
     cut_not_linked s heap id c fate.0 linked named fate.1
 linked_whole s heap ids id c fates.Endless linked named settled other fate =
     bad_not_linked s heap id c linked named (inr (never_up heap id c named fate))
+linked_whole s heap ids id c f linked named settled other fate = settled

@@ -45,3 +45,4 @@ pub mod Superclasses
 pub mod LinkedOrFault
 pub mod Wholeness
 pub mod Building
+pub mod GraphReading

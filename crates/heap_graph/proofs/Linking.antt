@@ -1,11 +1,11 @@
 -- What holds in a linked heap list.
-use Rattle.std.proofs.Common.{Bool, List, None, Option, Some, ap, cond, false, refl, slice_get, sym, true, ℕ, ◌∙◌, ◌≡◌}
+use Rattle.std.proofs.Common.{Bool, List, None, Option, Some, ap, cond, false, refl, slice_get, subst, sym, true, ℕ}
+use Rattle.std.proofs.Common.{◌∙◌, ◌≡◌}
 use Rattle.std.specs.Prelude.{option_and_then, ◌==◌}
 use Rattle.std.proofs.lemmas.Bool.{eqb-true}
 use Rattle.hprof_grammar.specs.Dump.{id_of}
 use Rattle.hprof_grammar.specs.SubRecord.{Class, Instance, ObjectArray, SubRecord}
-use Rattle.hprof_grammar.specs.SubRecord.SubRecord.{class_dump, instance_dump, object_array_dump, primitive_array_dump}
-use Rattle.hprof_grammar.specs.SubRecord.SubRecord.{root}
+use Rattle.hprof_grammar.specs.SubRecord.SubRecord.{class_dump, instance_dump, object_array_dump}
 use Rattle.heap_graph.specs.declared.rule.LinkRule.TheVariants.{UnknownClass}
 use Rattle.heap_graph.specs.Heap.{as_class, class_named, number_named, objects}
 use Rattle.heap_graph.specs.Linked.{IsLinked}
@@ -18,11 +18,8 @@ pub record IsClassThere (heap : List SubRecord) (id : ℕ) (c : Class) : Type 0 
   pub id_is : c.object ≡ id
 
 dump_of : (o : SubRecord) (c : Class) → as_class o ≡ Some c → o ≡ class_dump c
-dump_of (root r) c e = absurd (let wrong : None ≡ Some c = e in cc)
 dump_of (class_dump d) c e = let same : d ≡ c = cc in ap (λ (x : Class). class_dump x) same
-dump_of (instance_dump i) c e = absurd (let wrong : None ≡ Some c = e in cc)
-dump_of (object_array_dump a) c e = absurd (let wrong : None ≡ Some c = e in cc)
-dump_of (primitive_array_dump a) c e = absurd (let wrong : None ≡ Some c = e in cc)
+dump_of o c e = absurd (let wrong : None ≡ Some c = e in cc)
 
 there_at : (heap : List SubRecord) (id : ℕ) (c : Class) (n : ℕ) (o : Option SubRecord)
     → slice_get (objects heap) n ≡ o → IsHit (λ x. id_of x == id) (objects heap) n
@@ -52,12 +49,14 @@ there_if heap id c false h = there_named heap id c (number_named heap id) refl h
 pub class_there : (heap : List SubRecord) (id : ℕ) (c : Class) → class_named heap id ≡ Some c → IsClassThere heap id c
 class_there heap id c h = there_if heap id c (id == 0) h
 
--- the class of an instance is there
-pub no_unknown : (s : ℕ) (heap : List SubRecord) (n : ℕ) (i : Instance) → IsLinked s heap
-    → slice_get (objects heap) n ≡ Some (instance_dump i) → class_named heap i.class ≡ None → ⊥
-no_unknown s heap n i linked is missing = linked n UnknownClass (instance_dump i, is, missing)
+-- the class that an instance names is there
+pub no_unknown : (s : ℕ) (heap : List SubRecord) (n : ℕ) (i : Instance) (class : ℕ) → IsLinked s heap
+    → slice_get (objects heap) n ≡ Some (instance_dump i) → class ≡ i.class → class_named heap class ≡ None → ⊥
+no_unknown s heap n i class linked is e missing =
+    linked n UnknownClass (instance_dump i, is, subst (λ (id : ℕ). class_named heap id ≡ None) e missing)
 
 -- and that of an array
-pub no_unknown_array : (s : ℕ) (heap : List SubRecord) (n : ℕ) (a : ObjectArray) → IsLinked s heap
-    → slice_get (objects heap) n ≡ Some (object_array_dump a) → class_named heap a.class ≡ None → ⊥
-no_unknown_array s heap n a linked is missing = linked n UnknownClass (object_array_dump a, is, missing)
+pub no_unknown_array : (s : ℕ) (heap : List SubRecord) (n : ℕ) (a : ObjectArray) (class : ℕ) → IsLinked s heap
+    → slice_get (objects heap) n ≡ Some (object_array_dump a) → class ≡ a.class → class_named heap class ≡ None → ⊥
+no_unknown_array s heap n a class linked is e missing =
+    linked n UnknownClass (object_array_dump a, is, subst (λ (id : ℕ). class_named heap id ≡ None) e missing)

@@ -29,7 +29,8 @@ pub resolves_unresolved : (all ids old now new : List ℕ) (i unresolved : ℕ) 
     → Resolves all (take (i + 1) ids) old new (unresolved + 1)
 resolves_unresolved all ids old now new i unresolved h r one = record {
   appended = appended_more all ids old now new i h r.appended one.appended;
-  counted = ap (λ (n : ℕ). n + 1) r.counted ∙ sym (count_by_more_yes (is_unresolved_in all) ids i 0 h (sym one.told));
+  counted = ap (λ (n : ℕ). n + 1) r.counted
+      ∙ sym (count_by_more_yes (is_unresolved_in all) ids i 0 h (sym one.unresolved_is));
 }
 
 pub resolves_found : (all ids old now new : List ℕ) (i unresolved : ℕ) → i < length ids
@@ -37,5 +38,5 @@ pub resolves_found : (all ids old now new : List ℕ) (i unresolved : ℕ) → i
     → Resolves all (take (i + 1) ids) old new unresolved
 resolves_found all ids old now new i unresolved h r one = record {
   appended = appended_more all ids old now new i h r.appended one.appended;
-  counted = r.counted ∙ sym (count_by_more_no (is_unresolved_in all) ids i 0 h (sym one.told));
+  counted = r.counted ∙ sym (count_by_more_no (is_unresolved_in all) ids i 0 h (sym one.unresolved_is));
 }

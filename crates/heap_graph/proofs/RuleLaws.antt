@@ -10,7 +10,7 @@ use Rattle.heap_graph.specs.declared.classes.fate.Fate.{Fate}
 use Rattle.heap_graph.specs.declared.classes.fate.Fate.TheVariants as fates
 use Rattle.heap_graph.specs.declared.classes.fate.Layout.{Layout}
 use Rattle.heap_graph.specs.declared.rule.LinkRule.{LinkRule}
-use Rattle.heap_graph.specs.declared.rule.LinkRule.TheVariants.{DuplicateObject, InstanceSize, SuperChain, TooLarge}
+use Rattle.heap_graph.specs.declared.rule.LinkRule.TheVariants.{DuplicateObject, InstanceSize, SuperChain}
 use Rattle.heap_graph.specs.declared.rule.LinkRule.TheVariants.{UnknownClass, ZeroObject}
 use Rattle.heap_graph.specs.Heap.{class_named}
 use Rattle.heap_graph.specs.Layout.{IsChain, NeverEnds, layout_size}
@@ -28,21 +28,19 @@ use Rattle.heap_graph.proofs.ClassTableLaws.{IsFound, IsNumbered, found, named_a
 
 pub ends : (s : ℕ) (heap : List SubRecord) (ids : List ℕ) (id : ℕ) (f : Fate) → IsSettled f → (f ≡ fates.Endless → ⊥)
     → IsFate s heap ids id f → NeverEnds heap id → ⊥
-ends s heap ids id fates.Unknown settled other fate never = settled
-ends s heap ids id fates.OnPath settled other fate never = settled
 ends s heap ids id (fates.Whole l) settled other fate never = chain_ends heap id fate.0 fate.1 never
 ends s heap ids id fates.Broken settled other fate never = cut_ends heap id fate.0 fate.1 never
 ends s heap ids id fates.Endless settled other fate never = other refl
+ends s heap ids id f settled other fate never = settled
 
 pub no_chain : (s : ℕ) (heap : List SubRecord) (ids : List ℕ) (id : ℕ) (f : Fate) (chain : List Class) → IsSettled f
     → ((l : Layout) → f ≡ fates.Whole l → ⊥) → IsFate s heap ids id f → IsChain heap id chain → ⊥
-no_chain s heap ids id fates.Unknown chain settled other fate is = settled
-no_chain s heap ids id fates.OnPath chain settled other fate is = settled
 no_chain s heap ids id (fates.Whole l) chain settled other fate is = other l refl
 no_chain s heap ids id fates.Broken chain settled other fate is = cut_is_no_chain heap id fate.0 chain fate.1 is
 no_chain s heap ids id fates.Endless chain settled other fate is = chain_ends heap id chain is fate
+no_chain s heap ids id f chain settled other fate is = settled
 
--- the fate of the class that was found
+-- the fate of the class of that number
 pub record IsFateFound (s : ℕ) (heap : List SubRecord) (ids : List ℕ) (fates : List Fate) (id k : ℕ) : Type 0 where
   pub fate : Fate
   pub is : slice_get fates k ≡ Some fate
@@ -74,23 +72,17 @@ fate_found v heap entries fates id k told e =
 -- an object breaks none of the rules on classes, superclasses and sizes
 pub none_late : (s : ℕ) (heap : List SubRecord) (o : SubRecord) → (LacksClass heap o → ⊥) → (HasBadChain heap o → ⊥)
     → (HasWrongSize s heap o → ⊥) → IsLateRule s heap o None
-none_late s heap o class chain size ZeroObject h = h
-none_late s heap o class chain size DuplicateObject h = h
 none_late s heap o class chain size UnknownClass h = class h
 none_late s heap o class chain size SuperChain h = chain h
 none_late s heap o class chain size InstanceSize h = size h
-none_late s heap o class chain size TooLarge h = h
+none_late s heap o class chain size rule h = h
 
 -- ---- superclasses
 
 class_least : (s : ℕ) (heap : List SubRecord) (c : Class) (rule : LinkRule) → BreaksLate s heap (class_dump c) rule
     → code_of SuperChain ≤ code_of rule
-class_least s heap c ZeroObject h = absurd h
-class_least s heap c DuplicateObject h = absurd h
-class_least s heap c UnknownClass h = absurd h
 class_least s heap c SuperChain h = omega arith
-class_least s heap c InstanceSize h = absurd h
-class_least s heap c TooLarge h = absurd h
+class_least s heap c rule h = absurd h
 
 pub class_bad : (s : ℕ) (heap : List SubRecord) (c : Class) → IsBadSuper heap c.super
     → IsLateRule s heap (class_dump c) (Some SuperChain)
@@ -113,10 +105,7 @@ eleven_least : (s : ℕ) (heap : List SubRecord) (o : SubRecord) (rule : LinkRul
     → code_of UnknownClass ≤ code_of rule
 eleven_least s heap o ZeroObject h = absurd h
 eleven_least s heap o DuplicateObject h = absurd h
-eleven_least s heap o UnknownClass h = omega arith
-eleven_least s heap o SuperChain h = omega arith
-eleven_least s heap o InstanceSize h = omega arith
-eleven_least s heap o TooLarge h = absurd h
+eleven_least s heap o rule h = omega arith
 
 pub instance_unknown : (s : ℕ) (heap : List SubRecord) (i : Instance) → class_named heap i.class ≡ None
     → IsLateRule s heap (instance_dump i) (Some UnknownClass)
@@ -124,12 +113,9 @@ instance_unknown s heap i e = (e, eleven_least s heap (instance_dump i))
 
 sized_least : (s : ℕ) (heap : List SubRecord) (i : Instance) (c : Class) → class_named heap i.class ≡ Some c
     → (rule : LinkRule) → BreaksLate s heap (instance_dump i) rule → code_of InstanceSize ≤ code_of rule
-sized_least s heap i c named ZeroObject h = absurd h
-sized_least s heap i c named DuplicateObject h = absurd h
 sized_least s heap i c named UnknownClass h = absurd (some_none (sym named ∙ h))
-sized_least s heap i c named SuperChain h = absurd h
 sized_least s heap i c named InstanceSize h = omega arith
-sized_least s heap i c named TooLarge h = absurd h
+sized_least s heap i c named rule h = absurd h
 
 pub instance_wrong : (s : ℕ) (heap : List SubRecord) (i : Instance) (c : Class) (chain : List Class)
     → class_named heap i.class ≡ Some c → IsChain heap i.class chain → (length i.values ≡ layout_size s chain → ⊥)
@@ -169,6 +155,24 @@ missing_super heap super other none = inl (other, none)
 pub endless_super : (heap : List SubRecord) (super : ℕ) → NeverEnds heap super → IsBadSuper heap super
 endless_super heap super never = inr never
 
--- the fate that was read
-pub same_fate : (known : List Fate) (k : ℕ) (f g : Fate) → slice_get known k ≡ Some f → g ≡ get_or known k g → f ≡ g
-same_fate known k f g is e = sym (get_or_from_slice_get known k f g is) ∙ sym e
+-- the fate that was read of the class that was found
+pub record IsFateRead (s : ℕ) (heap : List SubRecord) (ids : List ℕ) (id : ℕ) (fate : Fate) : Type 0 where
+  pub settled : IsSettled fate
+  pub says : IsFate s heap ids id fate
+  pub class : Class
+  pub named : class_named heap id ≡ Some class
+
+pub fate_read : (v : Sight) (heap : List SubRecord) (entries : List TableEntry) (known : List Fate) (id class k : ℕ)
+    (read fate : Fate) → HaveFates v heap entries known → Some k ≡ position (λ x. x == id) (ids_of entries)
+    → id ≡ class → read ≡ get_or known k read → read ≡ fate → IsFateRead v.id_size heap (ids_of entries) class fate
+fate_read v heap entries known id class k read fate told e same here is =
+    let it : IsFateFound v.id_size heap (ids_of entries) known id k =
+    fate_found v heap entries known id k told (sym e) in
+    let the : it.fate ≡ fate = sym (get_or_from_slice_get known k it.fate read it.is) ∙ sym here ∙ is in
+    record {
+      settled = subst (λ (f : Fate). IsSettled f) the it.settled;
+      says = subst (λ (f : Fate). IsFate v.id_size heap (ids_of entries) class f) the
+          (subst (λ (n : ℕ). IsFate v.id_size heap (ids_of entries) n it.fate) same it.says);
+      class = it.class;
+      named = ap (λ (n : ℕ). class_named heap n) (sym same) ∙ it.named;
+    }

@@ -7,9 +7,8 @@ use Rattle.std.proofs.lemmas.Option.{slice_get-get_or}
 use Rattle.hprof_grammar.specs.Dump.{id_of, is_object}
 use Rattle.hprof_grammar.specs.ObjectKinds.{object_kind}
 use Rattle.hprof_grammar.specs.Standing.{Sight, Stands}
-use Rattle.hprof_grammar.specs.SubRecord.{Class, Instance, ObjectArray, PrimitiveArray, SubRecord}
+use Rattle.hprof_grammar.specs.SubRecord.{SubRecord}
 use Rattle.hprof_grammar.specs.SubRecord.SubRecord.{class_dump, instance_dump, object_array_dump, primitive_array_dump}
-use Rattle.hprof_grammar.specs.SubRecord.SubRecord.{root}
 use Rattle.hprof_grammar.specs.declared.view.ObjectKind.{ObjectKind}
 use Rattle.hprof_grammar.specs.declared.view.ObjectKind.TheVariants as kinds
 use Rattle.heap_graph.specs.Heap.{as_class, class_named, number_named, object_named, objects}
@@ -46,10 +45,14 @@ there_at v places ids heap n at are h read =
     let it = are.stand.each n at (slice_get-get_or places n at h ∙ ap (λ (m : ℕ). Some m) (sym read)) in
     record { object = it.0; is = it.1; stands = it.2; describes = filter_passes is_object heap n it.0 it.1 }
 
--- a number has one object
+-- a number has one object, and what is told of it is told of one
 pub one_object : (heap : List SubRecord) (n : ℕ) (o x : SubRecord) → slice_get (objects heap) n ≡ Some o
     → slice_get (objects heap) n ≡ Some x → o ≡ x
 one_object heap n o x e f = let both : Some o ≡ Some x = sym e ∙ f in cc
+
+pub told_of_one : {Y : Type 0} (f : SubRecord → Y) (heap : List SubRecord) (n : ℕ) (o x : SubRecord)
+    → slice_get (objects heap) n ≡ Some o → slice_get (objects heap) n ≡ Some x → f o ≡ f x
+told_of_one f heap n o x e is = ap f (one_object heap n o x e is)
 
 -- an identifier names what the index finds
 pub number_is : (v : Sight) (places ids : List ℕ) (heap : List SubRecord) (id : ℕ) → AreObjects v places ids heap
@@ -71,96 +74,65 @@ pub class_is : (heap : List SubRecord) (id : ℕ) (o : Option ℕ) → (id == 0)
     → class_named heap id ≡ option_and_then as_class (option_and_then (λ n. slice_get (objects heap) n) o)
 class_is heap id o e named = class_if heap id false o e refl named
 
-pub record IsDumpOfClass (o : SubRecord) : Type 0 where
-  pub class : Class
-  pub same : o ≡ class_dump class
-
-pub is_class_dump : (o : SubRecord) → object_kind o ≡ Some kinds.Class → IsDumpOfClass o
-is_class_dump (root r) h = absurd (cc h)
-is_class_dump (class_dump c) h = record { class = c; same = refl }
-is_class_dump (instance_dump i) h = absurd (cc h)
-is_class_dump (object_array_dump a) h = absurd (cc h)
-is_class_dump (primitive_array_dump a) h = absurd (cc h)
-
-pub no_class_dump : (o : SubRecord) (kind : ObjectKind) → object_kind o ≡ Some kind → (kind ≡ kinds.Class → ⊥)
-    → as_class o ≡ None
-no_class_dump (root r) kind h other = refl
-no_class_dump (class_dump c) kind h other = absurd (other (cc h))
-no_class_dump (instance_dump i) kind h other = refl
-no_class_dump (object_array_dump a) kind h other = refl
-no_class_dump (primitive_array_dump a) kind h other = refl
-
 -- the number of an object is below the number of places
 pub number_below : (v : Sight) (places ids : List ℕ) (heap : List SubRecord) (n : ℕ) (o : SubRecord)
     → AreObjects v places ids heap → slice_get (objects heap) n ≡ Some o → n < length places
 number_below v places ids heap n o are h = omega (arith, are.stand.count, slice_get_below (objects heap) n o h)
 
-pub record IsDumpOfInstance (o : SubRecord) : Type 0 where
-  pub instance : Instance
-  pub same : o ≡ instance_dump instance
-
-pub is_instance_dump : (o : SubRecord) → object_kind o ≡ Some kinds.Instance → IsDumpOfInstance o
-is_instance_dump (root r) h = absurd (cc h)
-is_instance_dump (class_dump c) h = absurd (cc h)
-is_instance_dump (instance_dump i) h = record { instance = i; same = refl }
-is_instance_dump (object_array_dump a) h = absurd (cc h)
-is_instance_dump (primitive_array_dump a) h = absurd (cc h)
-
-pub record IsDumpOfArray (o : SubRecord) : Type 0 where
-  pub array : ObjectArray
-  pub same : o ≡ object_array_dump array
-
-pub is_array_dump : (o : SubRecord) → object_kind o ≡ Some kinds.ObjectArray → IsDumpOfArray o
-is_array_dump (root r) h = absurd (cc h)
-is_array_dump (class_dump c) h = absurd (cc h)
-is_array_dump (instance_dump i) h = absurd (cc h)
-is_array_dump (object_array_dump a) h = record { array = a; same = refl }
-is_array_dump (primitive_array_dump a) h = absurd (cc h)
-
-pub record IsDumpOfPrimitives (o : SubRecord) : Type 0 where
-  pub array : PrimitiveArray
-  pub same : o ≡ primitive_array_dump array
-
-pub is_primitives_dump : (o : SubRecord) → object_kind o ≡ Some kinds.PrimitiveArray → IsDumpOfPrimitives o
-is_primitives_dump (root r) h = absurd (cc h)
-is_primitives_dump (class_dump c) h = absurd (cc h)
-is_primitives_dump (instance_dump i) h = absurd (cc h)
-is_primitives_dump (object_array_dump a) h = absurd (cc h)
-is_primitives_dump (primitive_array_dump a) h = record { array = a; same = refl }
-
-object_at : (v : Sight) (heap : List SubRecord) (n at : ℕ) (it : IsThere v heap n at) (o : SubRecord) → it.object ≡ o
-    → IsObjectAt v heap n at o
-object_at v heap n at it o same =
-    record {
-      is = it.is ∙ ap (λ (x : SubRecord). Some x) same;
-      stands = subst (λ (x : SubRecord). Stands v at x) same it.stands;
-    }
-
 -- ---- the object of that number, by the kind that is read at its place
 
-abbrev pub IsKindRead : Sight → ℕ → ObjectKind → Type 0
-IsKindRead v at kind = (o : SubRecord) → Stands v at o → is_object o ≡ true → object_kind o ≡ Some kind
+pub record IsDumpBy {X : Type 0} (wrap : X → SubRecord) (o : SubRecord) : Type 0 where
+  pub what : X
+  pub same : o ≡ wrap what
 
-pub class_at : (v : Sight) (heap : List SubRecord) (n at : ℕ) → IsThere v heap n at → IsKindRead v at kinds.Class
-    → (c : Class) × IsObjectAt v heap n at (class_dump c)
-class_at v heap n at it read =
-    let dump : IsDumpOfClass it.object = is_class_dump it.object (read it.object it.stands it.describes) in
-    (dump.class, object_at v heap n at it (class_dump dump.class) dump.same)
+pub is_class_dump : (o : SubRecord) → object_kind o ≡ Some kinds.Class → IsDumpBy class_dump o
+is_class_dump (class_dump c) h = record { what = c; same = refl }
+is_class_dump o h = absurd (cc h)
 
-pub instance_at : (v : Sight) (heap : List SubRecord) (n at : ℕ) → IsThere v heap n at
-    → IsKindRead v at kinds.Instance → (i : Instance) × IsObjectAt v heap n at (instance_dump i)
-instance_at v heap n at it read =
-    let dump : IsDumpOfInstance it.object = is_instance_dump it.object (read it.object it.stands it.describes) in
-    (dump.instance, object_at v heap n at it (instance_dump dump.instance) dump.same)
+is_instance_dump : (o : SubRecord) → object_kind o ≡ Some kinds.Instance → IsDumpBy instance_dump o
+is_instance_dump (instance_dump i) h = record { what = i; same = refl }
+is_instance_dump o h = absurd (cc h)
 
-pub array_at : (v : Sight) (heap : List SubRecord) (n at : ℕ) → IsThere v heap n at
-    → IsKindRead v at kinds.ObjectArray → (a : ObjectArray) × IsObjectAt v heap n at (object_array_dump a)
-array_at v heap n at it read =
-    let dump : IsDumpOfArray it.object = is_array_dump it.object (read it.object it.stands it.describes) in
-    (dump.array, object_at v heap n at it (object_array_dump dump.array) dump.same)
+is_array_dump : (o : SubRecord) → object_kind o ≡ Some kinds.ObjectArray → IsDumpBy object_array_dump o
+is_array_dump (object_array_dump a) h = record { what = a; same = refl }
+is_array_dump o h = absurd (cc h)
 
-pub primitives_at : (v : Sight) (heap : List SubRecord) (n at : ℕ) → IsThere v heap n at
-    → IsKindRead v at kinds.PrimitiveArray → (a : PrimitiveArray) × IsObjectAt v heap n at (primitive_array_dump a)
-primitives_at v heap n at it read =
-    let dump : IsDumpOfPrimitives it.object = is_primitives_dump it.object (read it.object it.stands it.describes) in
-    (dump.array, object_at v heap n at it (primitive_array_dump dump.array) dump.same)
+is_primitives_dump : (o : SubRecord) → object_kind o ≡ Some kinds.PrimitiveArray → IsDumpBy primitive_array_dump o
+is_primitives_dump (primitive_array_dump a) h = record { what = a; same = refl }
+is_primitives_dump o h = absurd (cc h)
+
+pub no_class_dump : (o : SubRecord) (kind : ObjectKind) → object_kind o ≡ Some kind → (kind ≡ kinds.Class → ⊥)
+    → as_class o ≡ None
+no_class_dump (class_dump c) kind h other = absurd (other (cc h))
+no_class_dump o kind h other = refl
+
+-- where that kind is read at the place of an object, the object is one of that kind
+abbrev pub IsReadAs : {X : Type 0} → (X → SubRecord) → ObjectKind → Type 0
+IsReadAs {X = X} wrap kind = (v : Sight) (places ids : List ℕ) (heap : List SubRecord) (n at : ℕ)
+    → AreObjects v places ids heap → n < length places → at ≡ get_or places n at
+    → ((o : SubRecord) → Stands v at o → is_object o ≡ true → object_kind o ≡ Some kind)
+    → (x : X) × IsObjectAt v heap n at (wrap x)
+
+read_as : {X : Type 0} (wrap : X → SubRecord) (kind : ObjectKind)
+    → ((o : SubRecord) → object_kind o ≡ Some kind → IsDumpBy wrap o) → IsReadAs wrap kind
+read_as wrap kind is v places ids heap n at are h here read =
+    let it : IsThere v heap n at = there_at v places ids heap n at are h here in
+    let dump : IsDumpBy wrap it.object = is it.object (read it.object it.stands it.describes) in (
+      dump.what,
+      record {
+        is = it.is ∙ ap (λ (x : SubRecord). Some x) dump.same;
+        stands = subst (λ (x : SubRecord). Stands v at x) dump.same it.stands;
+      },
+    )
+
+pub class_at : IsReadAs class_dump kinds.Class
+class_at = read_as class_dump kinds.Class is_class_dump
+
+pub instance_at : IsReadAs instance_dump kinds.Instance
+instance_at = read_as instance_dump kinds.Instance is_instance_dump
+
+pub array_at : IsReadAs object_array_dump kinds.ObjectArray
+array_at = read_as object_array_dump kinds.ObjectArray is_array_dump
+
+pub primitives_at : IsReadAs primitive_array_dump kinds.PrimitiveArray
+primitives_at = read_as primitive_array_dump kinds.PrimitiveArray is_primitives_dump

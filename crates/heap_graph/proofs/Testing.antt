@@ -37,34 +37,22 @@ least_fails : (s : ℕ) (heap : List SubRecord) (n : ℕ) (o : SubRecord) (rule 
 least_fails s heap n o rule e breaks least =
     record { fails = (o, e, breaks); least = λ other f. least other (the_object s heap n o other e f) }
 
-nine_least : (rule : LinkRule) → 9 ≤ code_of rule
-nine_least ZeroObject = omega arith
-nine_least DuplicateObject = omega arith
-nine_least UnknownClass = omega arith
-nine_least SuperChain = omega arith
-nine_least InstanceSize = omega arith
-nine_least TooLarge = omega arith
-
-fourteen_most : (rule : LinkRule) → code_of rule ≤ 14
-fourteen_most ZeroObject = omega arith
-fourteen_most DuplicateObject = omega arith
-fourteen_most UnknownClass = omega arith
-fourteen_most SuperChain = omega arith
-fourteen_most InstanceSize = omega arith
-fourteen_most TooLarge = omega arith
+code_range : (rule : LinkRule) → (9 ≤ code_of rule) × (code_of rule ≤ 14)
+code_range ZeroObject = (omega arith, omega arith)
+code_range DuplicateObject = (omega arith, omega arith)
+code_range UnknownClass = (omega arith, omega arith)
+code_range SuperChain = (omega arith, omega arith)
+code_range InstanceSize = (omega arith, omega arith)
+code_range TooLarge = (omega arith, omega arith)
 
 pub zero_fails : (s : ℕ) (heap : List SubRecord) (n : ℕ) (o : SubRecord) → slice_get (objects heap) n ≡ Some o
     → id_of o ≡ 0 → IsLeastFault s heap n ZeroObject
-zero_fails s heap n o e zero_id = least_fails s heap n o ZeroObject e zero_id (λ other b. nine_least other)
+zero_fails s heap n o e zero_id = least_fails s heap n o ZeroObject e zero_id (λ other b. (code_range other).0)
 
 ten_least : (s : ℕ) (heap : List SubRecord) (n : ℕ) (o : SubRecord) → (id_of o ≡ 0 → ⊥) → (other : LinkRule)
     → Breaks s heap n o other → 10 ≤ code_of other
 ten_least s heap n o own ZeroObject b = absurd (own b)
-ten_least s heap n o own DuplicateObject b = omega arith
-ten_least s heap n o own UnknownClass b = omega arith
-ten_least s heap n o own SuperChain b = omega arith
-ten_least s heap n o own InstanceSize b = omega arith
-ten_least s heap n o own TooLarge b = omega arith
+ten_least s heap n o own other b = omega arith
 
 pub duplicate_fails : (s : ℕ) (heap : List SubRecord) (n : ℕ) (o : SubRecord) → slice_get (objects heap) n ≡ Some o
     → (id_of o ≡ 0 → ⊥) → Contains (take n (map id_of (objects heap))) (id_of o)
@@ -81,20 +69,16 @@ late_breaks : (s : ℕ) (heap : List SubRecord) (n : ℕ) (o : SubRecord) (rule 
     → Breaks s heap n o rule
 late_breaks s heap n o ZeroObject h = absurd h
 late_breaks s heap n o DuplicateObject h = absurd h
-late_breaks s heap n o UnknownClass h = h
-late_breaks s heap n o SuperChain h = h
-late_breaks s heap n o InstanceSize h = h
 late_breaks s heap n o TooLarge h = absurd h
+late_breaks s heap n o rule h = h
 
 late_least : (s : ℕ) (heap : List SubRecord) (n : ℕ) (o : SubRecord) (rule : LinkRule) → IsOwn heap n o
     → ((other : LinkRule) → BreaksLate s heap o other → code_of rule ≤ code_of other) → (other : LinkRule)
     → Breaks s heap n o other → code_of rule ≤ code_of other
 late_least s heap n o rule own least ZeroObject b = absurd (own.not_zero b)
 late_least s heap n o rule own least DuplicateObject b = absurd (own.first b)
-late_least s heap n o rule own least UnknownClass b = least UnknownClass b
-late_least s heap n o rule own least SuperChain b = least SuperChain b
-late_least s heap n o rule own least InstanceSize b = least InstanceSize b
-late_least s heap n o rule own least TooLarge b = fourteen_most rule
+late_least s heap n o rule own least TooLarge b = (code_range rule).1
+late_least s heap n o rule own least other b = least other b
 
 pub late_fails : (s : ℕ) (heap : List SubRecord) (n : ℕ) (o : SubRecord) (rule : LinkRule) → IsOwn heap n o
     → IsLateRule s heap o (Some rule) → IsLeastFault s heap n rule
@@ -105,10 +89,8 @@ large_least : (s : ℕ) (heap : List SubRecord) (n : ℕ) (o : SubRecord) → Is
     → (other : LinkRule) → Breaks s heap n o other → 14 ≤ code_of other
 large_least s heap n o own late ZeroObject b = absurd (own.not_zero b)
 large_least s heap n o own late DuplicateObject b = absurd (own.first b)
-large_least s heap n o own late UnknownClass b = absurd (late UnknownClass b)
-large_least s heap n o own late SuperChain b = absurd (late SuperChain b)
-large_least s heap n o own late InstanceSize b = absurd (late InstanceSize b)
 large_least s heap n o own late TooLarge b = omega arith
+large_least s heap n o own late other b = absurd (late other b)
 
 pub large_fails : (s : ℕ) (heap : List SubRecord) (n : ℕ) (o : SubRecord) → IsOwn heap n o → IsLateRule s heap o None
     → most_objects ≤ n → IsLeastFault s heap n TooLarge
@@ -118,10 +100,8 @@ none_breaks : (s : ℕ) (heap : List SubRecord) (n : ℕ) (o : SubRecord) → Is
     → n < most_objects → (rule : LinkRule) → Breaks s heap n o rule → ⊥
 none_breaks s heap n o own late few ZeroObject b = own.not_zero b
 none_breaks s heap n o own late few DuplicateObject b = own.first b
-none_breaks s heap n o own late few UnknownClass b = late UnknownClass b
-none_breaks s heap n o own late few SuperChain b = late SuperChain b
-none_breaks s heap n o own late few InstanceSize b = late InstanceSize b
 none_breaks s heap n o own late few TooLarge b = absurd (omega (arith, few, b))
+none_breaks s heap n o own late few rule b = late rule b
 
 pub fine_object : (s : ℕ) (heap : List SubRecord) (n : ℕ) (o : SubRecord) → IsOwn heap n o → IsLateRule s heap o None
     → n < most_objects → IsLeastRule s heap n None

@@ -2,12 +2,13 @@
 use Rattle.std.proofs.Common.{Bool, List, None, Option, Some, [], ap, arith, cond, count_by, false, length, map, refl}
 use Rattle.std.proofs.Common.{subst, sym, true, ℕ, ◌+◌, ◌^◌, ◌∙◌, ◌∷◌, ◌≡◌, ◌≤◌}
 use Rattle.std.specs.Prelude.{IfSome, is_none, position, ◌==◌}
+use Rattle.std.specs.Iterator.{YieldsFirst}
 use Rattle.std.proofs.lemmas.List.Sums.{sum_by-cons}
 use Rattle.heap_graph.specs.declared.row.RowKey.{RowKey}
-use Rattle.heap_graph.specs.Walks.{Advances, Step, Visited, is_unresolved_in, is_unresolved_step, unresolved_left}
-use Rattle.heap_graph.specs.Walks.{step_in, target_in}
+use Rattle.heap_graph.specs.Walks.{Advances, Step, Visited, is_unresolved_in, is_unresolved_step, references_left}
+use Rattle.heap_graph.specs.Walks.{step_in, target_in, unresolved_left}
 use Rattle.heap_graph.specs.working.Resolving.{FirstNames}
-use Rattle.heap_graph.proofs.Walking.{HasPassed, goes_to, goes_to_end, passed_none, passed_one}
+use Rattle.heap_graph.proofs.Walking.{HasPassed, goes_to, goes_to_end, passed_none, passed_one, yields}
 
 -- ---- what a step misses
 
@@ -64,60 +65,44 @@ pub start : (row : RowKey) (bytes unresolved : ℕ) (all ids : List ℕ) → unr
 start row bytes unresolved all ids few = record
     { passed = passed_none (map (step_in all) ids); row_is = refl; bytes_is = refl; unresolved_is = refl; few = few }
 
-pub goes_named : (old : Visited) (row : RowKey) (bytes unresolved : ℕ) (all : List ℕ) (id o : ℕ) (before after : List ℕ)
-    → IsOnTheWay old row bytes unresolved all before → before ≡ id ∷ after → Some o ≡ target_in all id
-    → Advances old (Some o) (visited row bytes unresolved all after)
-goes_named old row bytes unresolved all id o before after h e named = record {
-  goes = goes_to all old.left id o before after e named h.passed;
-  row_is = h.row_is;
-  bytes_is = h.bytes_is;
-  unresolved_is =
-      omega (
-        arith,
-        h.unresolved_is,
-        unresolved-one all id before after false e
-            (named_if o (id == 0) (position (λ x. x == id) all) named),
-      );
-}
+-- one identifier is passed, and it is missed or not
+module _ (old : Visited) (row : RowKey) (bytes unresolved : ℕ) (all : List ℕ) (id : ℕ) (before after : List ℕ)
+    (way : IsOnTheWay old row bytes unresolved all before) (next : before ≡ id ∷ after) where
+  pub few_after : unresolved + 1 + length after ≤ 2 ^ 33
+  few_after = omega (arith, way.few, ap length next)
 
-pub few_after : (old : Visited) (row : RowKey) (bytes unresolved : ℕ) (all : List ℕ) (id : ℕ) (before after : List ℕ)
-    → IsOnTheWay old row bytes unresolved all before → before ≡ id ∷ after → unresolved + 1 + length after ≤ 2 ^ 33
-few_after old row bytes unresolved all id before after h e = omega (arith, h.few, ap length e)
+  missed : (b : Bool) → is_unresolved_in all id ≡ b
+      → unresolved + cond b 1 0 + unresolved_left (map (step_in all) after) ≡ old.unresolved + unresolved_left old.left
+  missed b is = omega (arith, way.unresolved_is, unresolved-one all id before after b next is)
 
-pub goes_unresolved : (old : Visited) (row : RowKey) (bytes unresolved : ℕ) (all : List ℕ) (id : ℕ)
-    (before after : List ℕ)
-    → IsOnTheWay old row bytes unresolved all before → before ≡ id ∷ after → None ≡ target_in all id → (id == 0) ≡ false
-    → IsOnTheWay old row bytes (unresolved + 1) all after
-goes_unresolved old row bytes unresolved all id before after h e named other = record {
-  passed = passed_one all old.left id before after e named h.passed;
-  row_is = h.row_is;
-  bytes_is = h.bytes_is;
-  unresolved_is =
-      omega (
-        arith,
-        h.unresolved_is,
-        unresolved-one all id before after true e
-            (none_if (id == 0) (position (λ x. x == id) all) other named),
-      );
-  few = few_after old row bytes unresolved all id before after h e;
-}
+  pub goes_named : (o : ℕ) → Some o ≡ target_in all id → Advances old (Some o) (visited row bytes unresolved all after)
+  goes_named o named = record {
+    goes = goes_to all old.left id o before after next named way.passed;
+    row_is = way.row_is;
+    bytes_is = way.bytes_is;
+    unresolved_is = omega (arith, missed false (named_if o (id == 0) (position (λ x. x == id) all) named));
+  }
 
-pub goes_null : (old : Visited) (row : RowKey) (bytes unresolved : ℕ) (all : List ℕ) (id : ℕ) (before after : List ℕ)
-    → IsOnTheWay old row bytes unresolved all before → before ≡ id ∷ after → None ≡ target_in all id → (id == 0) ≡ true
-    → IsOnTheWay old row bytes unresolved all after
-goes_null old row bytes unresolved all id before after h e named null = record {
-  passed = passed_one all old.left id before after e named h.passed;
-  row_is = h.row_is;
-  bytes_is = h.bytes_is;
-  unresolved_is =
-      omega (
-        arith,
-        h.unresolved_is,
-        unresolved-one all id before after false e
-            (null_if (id == 0) (position (λ x. x == id) all) null),
-      );
-  few = omega (arith, few_after old row bytes unresolved all id before after h e);
-}
+  passes : (b : Bool) → None ≡ target_in all id → is_unresolved_in all id ≡ b → cond b 1 0 ≤ 1
+      → IsOnTheWay old row bytes (unresolved + cond b 1 0) all after
+  passes b named is few = record {
+    passed = passed_one all old.left id before after next named way.passed;
+    row_is = way.row_is;
+    bytes_is = way.bytes_is;
+    unresolved_is = missed b is;
+    few = omega (arith, few_after, few);
+  }
+
+  pub goes_unresolved : None ≡ target_in all id → (id == 0) ≡ false
+      → IsOnTheWay old row bytes (unresolved + 1) all after
+  goes_unresolved named other =
+      passes true named (none_if (id == 0) (position (λ x. x == id) all) other named) (omega arith)
+
+  pub goes_null : None ≡ target_in all id → (id == 0) ≡ true → IsOnTheWay old row bytes unresolved all after
+  goes_null named null =
+      let same : unresolved + 0 ≡ unresolved = omega arith in
+      subst (λ (n : ℕ). IsOnTheWay old row bytes n all after) same
+      (passes false named (null_if (id == 0) (position (λ x. x == id) all) null) (omega arith))
 
 pub goes_end : (old : Visited) (row : RowKey) (bytes unresolved : ℕ) (all before after : List ℕ)
     → IsOnTheWay old row bytes unresolved all before → before ≡ [] → after ≡ []
@@ -129,6 +114,11 @@ goes_end old row bytes unresolved all before after h e f = record {
   unresolved_is = ap (λ (ids : List ℕ). unresolved + unresolved_left (map (step_in all) ids)) (f ∙ sym e)
       ∙ h.unresolved_is;
 }
+
+-- a visit that goes on yields what it goes to
+pub gives : (old : Visited) (object : Option ℕ) (new : Visited) → Advances old object new
+    → YieldsFirst references_left old object new × Advances old object new
+gives old object new goes = (yields old.left object new.left goes.goes, goes)
 
 -- ---- the first step, where it is known what it names
 

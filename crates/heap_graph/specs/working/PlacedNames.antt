@@ -2,7 +2,7 @@
 use Rattle.std.specs.Prelude.{List, filter, length, map, ℕ, ◌<◌, ◌^◌, ◌≡◌}
 use Rattle.hprof_grammar.specs.Places.{is_load, is_string}
 use Rattle.hprof_grammar.specs.Record.{Record}
-use Rattle.hprof_grammar.specs.Record.Record.{heap, load_class, other, string}
+use Rattle.hprof_grammar.specs.Record.Record.{load_class, string}
 use Rattle.hprof_grammar.specs.Standing.{RecordStands, Sight, StandInTurn}
 use Rattle.heap_graph.specs.declared.names.Names.{Names}
 use Rattle.heap_graph.specs.declared.names.NamesById.{NamesById}
@@ -20,16 +20,12 @@ AreNamesOf n records = AreNames n.view n.strings.now n.loaded.now records
 -- the identifier of a string
 abbrev pub string_id : Record → ℕ
 string_id (string time id text) = id
-string_id (load_class time serial class stack name) = 0
-string_id (heap tag time subs) = 0
-string_id (other tag time body) = 0
+string_id r = 0
 
 -- the identifier of a loaded class
 abbrev pub loaded_id : Record → ℕ
-loaded_id (string time id text) = 0
 loaded_id (load_class time serial class stack name) = class
-loaded_id (heap tag time subs) = 0
-loaded_id (other tag time body) = 0
+loaded_id r = 0
 
 -- the strings and the loaded classes stand at these places, and these are their identifiers
 pub record AreNamesById (v : Sight) (strings loaded string_ids loaded_ids : List ℕ)

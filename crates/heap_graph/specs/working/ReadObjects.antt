@@ -6,10 +6,10 @@ use Rattle.heap_graph.specs.working.HeldIds.{AreLinkedOf}
 use Rattle.heap_graph.specs.working.ClassFates.{HaveFatesOf}
 use Rattle.heap_graph.specs.declared.objects.Objects.{Objects}
 
--- they are those of the dump that these bytes spell, linked, and this is told of their classes
+-- they are those of the dump that these bytes spell, linked, and their classes have these fates
 pub record IsReadOf {A : Type 0} (text : List ℕ) (dump : Places) (is : IsDumpOf text dump)
     (o : Objects A) : Type 0 where
   pub bytes_are : o.view.bytes ≡ text
   pub size_is : o.view.id_size ≡ dump.id_size
   pub linked : AreLinkedOf o (heap_of is.records)
-  pub told : HaveFatesOf o (heap_of is.records)
+  pub fates : HaveFatesOf o (heap_of is.records)

@@ -22,7 +22,7 @@ pub record StandFor {A : Type 0} (objects : Objects A) (plan : Plan A) (roots : 
     (unresolved : ℕ) (skip : List SkipEntry) (g : ObjectGraph) : Type 0 where
   pub records : List Record
   pub linked : AreLinkedOf objects (heap_of records)
-  pub told : HaveFatesOf objects (heap_of records)
+  pub fates : HaveFatesOf objects (heap_of records)
   pub planned : IsPlanOf (is_skipped records skip) objects (heap_of records) plan
   pub graph : IsGraphOf objects.view.id_size records skip g
   pub whole : IsWhole g

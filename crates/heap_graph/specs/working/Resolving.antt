@@ -9,7 +9,7 @@ FirstNames all ids o = (id : ℕ) × (rest : List ℕ) × (ids ≡ id ∷ rest) 
 -- the object that the identifier names was appended, or it is missing
 pub record ResolvesOne (all : List ℕ) (id : ℕ) (old new : List ℕ) (unresolved : Bool) : Type 0 where
   pub appended : new ≡ old ++ option_to_list (target_in all id)
-  pub told : unresolved ≡ is_unresolved_in all id
+  pub unresolved_is : unresolved ≡ is_unresolved_in all id
 
 -- the objects that these identifiers name were appended, and so many others name none
 pub record Resolves (all ids old new : List ℕ) (unresolved : ℕ) : Type 0 where

@@ -33,7 +33,7 @@ fn read_objects<'a, A: Allocator + Copy>(
     requires { (dump : Places) × ArePlacesOf bytes.now id_size places.items dump }
     ensures objects { IfOk result (λ o. (dump : Places) → ArePlacesOf bytes.now id_size places.items dump
         → IsReadFrom o bytes.now dump) }
-    ensures told { IfOk result (λ o. (dump : Places) (are : ArePlacesOf bytes.now id_size places.items dump)
+    ensures fates { IfOk result (λ o. (dump : Places) (are : ArePlacesOf bytes.now id_size places.items dump)
         → HaveFatesOf o (heap_of are.is.records)) }
 {
     dump_is_placed();
@@ -58,7 +58,7 @@ fn take_objects<'a, A: Allocator + Copy, B: Allocator>(
 ) -> Result<Objects<'a, A>, AllocError>
     requires { IsDumpOf bytes.now dump.old }
     ensures objects { IfOk result (λ o. IsReadFrom o bytes.now dump.old) }
-    ensures told { IfOk result (λ o. (is : IsDumpOf bytes.now dump.old) → HaveFatesOf o (heap_of is.records)) }
+    ensures fates { IfOk result (λ o. (is : IsDumpOf bytes.now dump.old) → HaveFatesOf o (heap_of is.records)) }
     ensures rest { OnOk result (dump.new ≡ record dump.old { objects = [] }) }
 {
     let places = dump.objects().to_vec(alloc)?;

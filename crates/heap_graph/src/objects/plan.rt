@@ -24,7 +24,7 @@ impl<'d, A: Allocator> Objects<'d, A> {
         names: &NamesById<'_, '_, B>,
         skip: &[SkipPair<'_>],
     ) -> Result<Plan<B>, AllocError>
-        requires told { (heap : List SubRecord) × HaveFatesOf self.now heap }
+        requires fates { (heap : List SubRecord) × HaveFatesOf self.now heap }
         requires names { (records : List Record) × AreNamesByIdOf names.now records }
         ensures { IfOk result (λ plan. (records : List Record) → HaveFatesOf self.now (heap_of records)
             → AreNamesByIdOf names.now records

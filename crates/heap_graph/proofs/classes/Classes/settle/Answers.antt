@@ -1,6 +1,5 @@
 -- An unknown class starts a climb with an empty path; any other is known, since none can be on an empty path.
 use Rattle.std.proofs.Common.{arith, length, refl, ◌<◌}
-use Rattle.heap_graph.specs.working.ClassTable.{ids_of}
 use Rattle.heap_graph.proofs.ClassTableLaws.{same_count}
 use Rattle.heap_graph.proofs.FateLaws.{first_climb, known_here, read_fate}
 use Rattle.heap_graph.proofs.PathLaws.{contains_none}
@@ -8,40 +7,29 @@ use Rattle.heap_graph.proofs.classes.Classes.settle.Goals as goal
 
 pub climb-requires-clause-heap : goal.climb-requires-clause-heap
 climb-requires-clause-heap g c =
-    let below : c.args.first < length (ids_of c.args.self.now.table.entries) =
-    omega (arith, c.requires.below, same_count c.args.self.now.table.entries) in
-    let unknown =
-    read_fate c.args.known.now c.args.first _ (omega (arith, below, c.requires.heap.2.one_each)) c.in-Unknown.is in
-    (c.requires.heap.0, c.requires.heap.1, first_climb _ _ _ _ _ _ c.requires.path c.requires.heap.2 below unknown)
+    let heap = c.requires.heap in
+    let climb = first_climb _ _ c.args.self.now.table.entries _ _ _ c.requires.path heap.2 c.requires.below
+    c.in-Unknown.is in
+    (heap.0, heap.1, climb)
 
 pub unwind-requires : goal.unwind-requires
 unwind-requires g c =
-    let below : c.args.first < length (ids_of c.args.self.now.table.entries) =
-    omega (arith, c.requires.below, same_count c.args.self.now.table.entries) in
-    let unknown =
-    read_fate c.args.known.now c.args.first _ (omega (arith, below, c.requires.heap.2.one_each)) c.in-Unknown.is in
-    let it = c.in_ok-fate-in-Unknown.ensures.top c.requires.heap.0 c.requires.heap.1
-    (first_climb _ _ _ _ _ _ c.requires.path c.requires.heap.2 below unknown) in
-    record { heap = (c.requires.heap.0, c.requires.heap.1, it.0, it.1) }
+    let heap = c.requires.heap in
+    let it = c.in_ok-fate-in-Unknown.ensures.top heap.0 heap.1 (first_climb _ _ c.args.self.now.table.entries _ _ _
+    c.requires.path heap.2 c.requires.below c.in-Unknown.is) in
+    record { heap = (heap.0, heap.1, it.0, it.1) }
 
 pub returns-in-Unknown-clause-known : goal.returns-in-Unknown-clause-known
 returns-in-Unknown-clause-known g c =
-    let below : c.args.first < length (ids_of c.args.self.now.table.entries) =
-    omega (arith, c.requires.below, same_count c.args.self.now.table.entries) in
-    let unknown =
-    read_fate c.args.known.now c.args.first _ (omega (arith, below, c.requires.heap.2.one_each)) c.in-Unknown.is in
-    let it = c.in_ok-fate-in-Unknown.ensures.top c.requires.heap.0 c.requires.heap.1
-    (first_climb _ _ _ _ _ _ c.requires.path c.requires.heap.2 below unknown) in
+    let heap = c.requires.heap in
+    let it = c.in_ok-fate-in-Unknown.ensures.top heap.0 heap.1 (first_climb _ _ c.args.self.now.table.entries _ _ _
+    c.requires.path heap.2 c.requires.below c.in-Unknown.is) in
     c.unwind.ensures.known c.args.first it.2
 
 pub returns-in-Unknown-clause-fates : goal.returns-in-Unknown-clause-fates
 returns-in-Unknown-clause-fates g c = λ heap are known.
-    let below : c.args.first < length (ids_of c.args.self.now.table.entries) =
-    omega (arith, c.requires.below, same_count c.args.self.now.table.entries) in
-    let unknown =
-    read_fate c.args.known.now c.args.first _ (omega (arith, below, c.requires.heap.2.one_each)) c.in-Unknown.is in
-    let it = c.in_ok-fate-in-Unknown.ensures.top heap are
-    (first_climb _ _ _ _ _ _ c.requires.path known below unknown) in
+    let it = c.in_ok-fate-in-Unknown.ensures.top heap are (first_climb _ _ c.args.self.now.table.entries _ _ _
+    c.requires.path known c.requires.below c.in-Unknown.is) in
     c.unwind.ensures.fates heap are it.0 it.1
 
 pub returns-in_default : goal.returns-in_default

@@ -17,7 +17,7 @@ use Rattle.heap_graph.proofs.graph.Graph.assemble.Goals as goal
 abbrev graph_of : (g : given.Over) (c : In_ok-unresolved g) → List SkipEntry → ObjectGraph
 graph_of g c skip =
     graph_with c.args.objects.view.id_size c.requires.2.records
-    (lists_of c.args.objects c.requires.2.records skip c.requires.3.linked c.requires.3.told)
+    (lists_of c.args.objects c.requires.2.records skip c.requires.3.linked c.requires.3.fates)
 
 graph_is_of : (g : given.Over) (c : In_ok-unresolved g) (skip : List SkipEntry)
     → IsGraphOfText c.args.objects.view.bytes skip (graph_of g c skip)
@@ -44,15 +44,15 @@ invariant_of-result-2 g c =
     (c.deref.ensures.value ∙ c.in_ok-root_ids.ensures (filter is_root heap) c.requires.5) c.in_ok-unresolved.ensures in
     let planned : IsPlanOf (is_skipped records skip) c.args.objects heap c.in_ok-plan.plan =
     subst (λ (list : List SkipEntry). IsPlanOf (is_skipped records list) c.args.objects heap c.in_ok-plan.plan)
-    (sym same) (c.in_ok-plan.ensures records c.requires.3.told names) in
+    (sym same) (c.in_ok-plan.ensures records c.requires.3.fates names) in
     given_graph c.args.objects.view.bytes skip
     (StandFor c.args.objects c.in_ok-plan.plan c.resolve.new.targets.items c.in_ok-classes.classes.items
     c.in_ok-unresolved.unresolved skip)
     (graph_of g b skip) (graph_is_of g b skip)
     (stand_for c.args.objects c.in_ok-plan.plan records c.resolve.new.targets.items
     c.in_ok-classes.classes.items c.in_ok-unresolved.unresolved skip (c.stands_within.ensures c.args.objects.view)
-    (few_roots_in_dump c.requires.0 c.requires.1 c.requires.2) c.requires.3.linked c.requires.3.told planned
-    (c.in_ok-classes.ensures records c.requires.3.linked c.requires.3.told names) found) _
+    (few_roots_in_dump c.requires.0 c.requires.1 c.requires.2) c.requires.3.linked c.requires.3.fates planned
+    (c.in_ok-classes.ensures records c.requires.3.linked c.requires.3.fates names) found) _
     (search rules)
 
 pub returns : goal.returns

@@ -5,19 +5,20 @@ use Rattle.hprof_grammar.specs.Dump.{is_root}
 use Rattle.hprof_grammar.specs.Standing.{IsPlaced}
 use Rattle.heap_graph.specs.Heap.{heap_of}
 use Rattle.heap_graph.specs.working.ReadObjects.{IsReadOf}
-use Rattle.heap_graph.proofs.Building.{are_linked, are_names, has_fault, seen}
+use Rattle.hprof_grammar.specs.Standing.{SubRecordStandsAt}
+use Rattle.heap_graph.proofs.Building.{are_linked, are_names, has_fault, seen_by}
 use Rattle.heap_graph.proofs.graph.Graph.build.Goals as goal
 
 pub check-requires : goal.check-requires
 check-requires g c =
-    (heap_of c.requires.records, c.in-Ok.ensures.objects.are c.requires, c.in-Ok.ensures.told c.requires)
+    (heap_of c.requires.records, c.in-Ok.ensures.objects.are c.requires, c.in-Ok.ensures.fates c.requires)
 
 pub returns-in-Err-check-clause-fault : goal.returns-in-Err-check-clause-fault
 returns-in-Err-check-clause-fault g c =
     has_fault c.args.bytes.now c.args.dump c.requires c.in-Ok.objects.view.id_size c.in-Ok.objects.places.items
     c.in-Err-check.fault c.in-Ok.ensures.objects.size_is c.in-Ok.ensures.objects.places_are
     (c.in-Err-check.ensures.fault (heap_of c.requires.records) (c.in-Ok.ensures.objects.are c.requires)
-    (c.in-Ok.ensures.told c.requires))
+    (c.in-Ok.ensures.fates c.requires))
 
 pub assemble-requires : goal.assemble-requires
 assemble-requires g c =
@@ -31,8 +32,8 @@ assemble-requires g c =
           c.in-Ok.objects.index c.in-Ok.ensures.objects.bytes_are c.in-Ok.ensures.objects.size_is
           (c.in-Ok.ensures.objects.are c.requires)
           (c.in_default.ensures.linked (heap_of c.requires.records) (c.in-Ok.ensures.objects.are c.requires)
-          (c.in-Ok.ensures.told c.requires));
-      told = c.in-Ok.ensures.told c.requires;
+          (c.in-Ok.ensures.fates c.requires));
+      fates = c.in-Ok.ensures.fates c.requires;
     } in (
       c.args.bytes.now,
       c.args.dump,
@@ -42,7 +43,8 @@ assemble-requires g c =
           c.new.ensures.bytes (c.new.ensures.size ∙ c.id_size.ensures ∙ ap (λ (d : Places). d.id_size) rest)
           (c.strings.ensures ∙ ap (λ (d : Places). d.strings) rest)
           (c.loaded.ensures ∙ ap (λ (d : Places). d.loaded) rest) placed,
-      seen c.in-Ok.objects.view c.args.bytes.now c.args.dump.id_size c.roots.result.now c.args.dump.roots
+      seen_by SubRecordStandsAt c.in-Ok.objects.view c.args.bytes.now c.args.dump.id_size c.roots.result.now
+          c.args.dump.roots
           (filter is_root (heap_of c.requires.records)) c.in-Ok.ensures.objects.bytes_are
           c.in-Ok.ensures.objects.size_is (c.roots.ensures ∙ ap (λ (d : Places). d.roots) rest) placed.roots,
     )

@@ -1,25 +1,11 @@
 -- The object of that number is one of the heap that the graph is of, so the row read at its place is the graph's.
-use Rattle.std.proofs.Common.{subst, sym, ◌∙◌, ◌≡◌}
-use Rattle.heap_graph.specs.Heap.{heap_of}
-use Rattle.heap_graph.specs.ObjectGraph.{IsGraphOf, ObjectGraph, row_at}
-use Rattle.heap_graph.specs.Whole.{IsRowIn, IsWhole}
-use Rattle.heap_graph.specs.declared.row.RowKey.{RowKey}
-use Rattle.heap_graph.proofs.Answering.{one_of, row_here}
+use Rattle.heap_graph.proofs.GraphReading.{row_read, row_within, seen}
 use Rattle.heap_graph.proofs.graph.Graph.row_of.Goals as goal
 
 pub returns-clause-value : goal.returns-clause-value
 returns-clause-value g c =
-    let inv = c.self.invariant in
-    let size = c.self.inside.objects.view.id_size in
-    let skip = c.self.inside.skip.value.now in
-    let graph = subst (λ (v : ObjectGraph). IsGraphOf size inv.records skip v) c.self.view_is inv.graph in
-    let it = one_of _ _ _ _ _ graph c.requires in
-    c.row_of.ensures (heap_of inv.records) it.object inv.linked inv.told it.is
-    ∙ sym (row_here _ _ _ _ _ _ graph it.is)
+    row_read (seen c.self.view_is c.self.invariant) c.args.object _ c.requires c.row_of.ensures
 
 pub returns-clause-within : goal.returns-clause-within
 returns-clause-within g c =
-    let whole : IsWhole c.args.self.now =
-    subst (λ (v : ObjectGraph). IsWhole v) c.self.view_is c.self.invariant.whole in
-    let value : c.row_of.result ≡ row_at c.args.self.now c.args.object = returns-clause-value g c in
-    subst (λ (r : RowKey). IsRowIn c.args.self.now r) (sym value) (whole.rows_within c.args.object c.requires)
+    row_within (seen c.self.view_is c.self.invariant) c.args.object _ c.requires (returns-clause-value g c)

@@ -96,8 +96,8 @@ returns-clause-objects g c = λ dump are. record {
       c.new-view.ensures.bytes c.new-view.ensures.size c.deref.ensures.value c.in_ok-index.ensures;
 }
 
-pub returns-clause-told : goal.returns-clause-told
-returns-clause-told g c = λ dump from.
+pub returns-clause-fates : goal.returns-clause-fates
+returns-clause-fates g c = λ dump from.
     let are : ArePlacesOf c.args.bytes.now c.args.id_size c.deref-2.result.now dump =
     record { is = from.is; size_is = from.size_is; places_are = c.deref-2.ensures.value ∙ from.places_are } in
     let placed = c.dump_is_placed.ensures c.args.bytes.now dump are.is in

@@ -24,12 +24,12 @@ returns-clause-objects g c = IfOk-weaker c.read_objects.result
     c.in_ok-places.ensures.ok))
     c.read_objects.ensures.objects
 
-pub returns-clause-told : goal.returns-clause-told
-returns-clause-told g c = IfOk-weaker c.read_objects.result
+pub returns-clause-fates : goal.returns-clause-fates
+returns-clause-fates g c = IfOk-weaker c.read_objects.result
     (λ o. (dump : Places) (are : ArePlacesOf c.args.bytes.now c.id_size.result c.in_ok-places.places.items dump)
     → HaveFatesOf o (heap_of are.is.records))
     (λ o. (is : IsDumpOf c.args.bytes.now c.args.dump.now) → HaveFatesOf o (heap_of is.records))
     (λ o told is. told c.args.dump.now
     (copied_places _ _ _ _ _ _ is c.forget_objects.ensures c.id_size.ensures c.objects.ensures
     c.in_ok-places.ensures.ok))
-    c.read_objects.ensures.told
+    c.read_objects.ensures.fates

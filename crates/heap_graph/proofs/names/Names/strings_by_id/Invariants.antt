@@ -1,14 +1,12 @@
 -- The builder has the identifiers of the strings so far, and room for those of the others.
-use Rattle.std.proofs.Common.{List, filter, length, map, take, ◌≡◌}
+use Rattle.std.proofs.Common.{List, filter, length}
 use Rattle.hprof_grammar.specs.Places.{is_string}
 use Rattle.hprof_grammar.specs.Record.{Record}
-use Rattle.heap_graph.specs.working.IndexPairs.{HasAdded}
 use Rattle.heap_graph.specs.working.PlacedNames.{AreNamesOf, string_id}
+use Rattle.heap_graph.proofs.Adding.{AreAdded}
 use Rattle.heap_graph.proofs.names.Names.strings_by_id.Given as goal
 
 abbrev pub invariant-loop-at : goal.invariant-loop-at
-invariant-loop-at g l = record {
-  filled : HasAdded l.builder l.at-index (length l.self.strings.now);
-  ids : (records : List Record) → AreNamesOf l.self records
-      → l.builder.ids ≡ map string_id (take l.at-index (filter is_string records));
-}
+invariant-loop-at g l =
+    AreAdded (λ (records : List Record). AreNamesOf l.self records)
+    (λ (records : List Record). filter is_string records) string_id l.builder l.at-index (length l.self.strings.now)

@@ -1,7 +1,7 @@
 -- The rules are tested in their order, so the first that is found broken is the least one.
 use Rattle.std.proofs.Common.{arith, sym, ◌∙◌}
 use Rattle.heap_graph.proofs.Standings.{there_at}
-use Rattle.heap_graph.proofs.Testing.{IsOwn, fine_object, large_fails, late_fails, own_object, repeated_object}
+use Rattle.heap_graph.proofs.Testing.{fine_object, large_fails, late_fails, own_object, repeated_object}
 use Rattle.heap_graph.proofs.Testing.{zero_fails}
 use Rattle.heap_graph.proofs.objects.Objects.broken_rule.Goals as goal
 
@@ -26,26 +26,23 @@ late_rule-requires-clause-object g c =
 pub returns-in-Some-clause-rule : goal.returns-in-Some-clause-rule
 returns-in-Some-clause-rule g c = λ heap are told.
     let it = there_at _ _ _ _ _ _ are c.requires.below c.index-place.ensures in
-    let own : IsOwn heap c.args.number it.object =
-    own_object heap c.args.self.now.index c.args.number c.object_id-id.result c.args.repeat it.object it.is
-    are.ids_are (c.object_id-id.ensures it.object it.stands) c.if-id-eq0.false c.requires.repeat (omega arith) in
+    let own = own_object _ _ _ _ c.args.repeat _ it.is are.ids_are (c.object_id-id.ensures it.object it.stands)
+    c.if-id-eq0.false c.requires.repeat (omega arith) in
     late_fails c.args.self.now.view.id_size heap c.args.number it.object c.in-Some.rule own
     (c.in-Some.ensures heap it.object told it.stands it.describes)
 
 pub returns-then-number-ge-MOST_OBJECTS-clause-rule : goal.returns-then-number-ge-MOST_OBJECTS-clause-rule
 returns-then-number-ge-MOST_OBJECTS-clause-rule g c = λ heap are told.
     let it = there_at _ _ _ _ _ _ are c.requires.below c.index-place.ensures in
-    let own : IsOwn heap c.args.number it.object =
-    own_object heap c.args.self.now.index c.args.number c.object_id-id.result c.args.repeat it.object it.is
-    are.ids_are (c.object_id-id.ensures it.object it.stands) c.if-id-eq0.false c.requires.repeat (omega arith) in
+    let own = own_object _ _ _ _ c.args.repeat _ it.is are.ids_are (c.object_id-id.ensures it.object it.stands)
+    c.if-id-eq0.false c.requires.repeat (omega arith) in
     large_fails c.args.self.now.view.id_size heap c.args.number it.object own
     (c.in_default.ensures heap it.object told it.stands it.describes) c.if-number-ge-MOST_OBJECTS.true
 
 pub returns-clause-rule : goal.returns-clause-rule
 returns-clause-rule g c = λ heap are told.
     let it = there_at _ _ _ _ _ _ are c.requires.below c.index-place.ensures in
-    let own : IsOwn heap c.args.number it.object =
-    own_object heap c.args.self.now.index c.args.number c.object_id-id.result c.args.repeat it.object it.is
-    are.ids_are (c.object_id-id.ensures it.object it.stands) c.if-id-eq0.false c.requires.repeat (omega arith) in
+    let own = own_object _ _ _ _ c.args.repeat _ it.is are.ids_are (c.object_id-id.ensures it.object it.stands)
+    c.if-id-eq0.false c.requires.repeat (omega arith) in
     fine_object c.args.self.now.view.id_size heap c.args.number it.object own
     (c.in_default.ensures heap it.object told it.stands it.describes) c.if-number-ge-MOST_OBJECTS.false

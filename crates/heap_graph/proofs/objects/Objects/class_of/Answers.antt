@@ -1,17 +1,12 @@
 -- The class of an instance is in the table, and its fate is whole, since the heap list is linked.
-use Rattle.std.proofs.Common.{None, length, subst, sym, ℕ, ◌<◌, ◌∙◌, ◌≡◌}
+use Rattle.std.proofs.Common.{arith, length, refl, sym, ◌<◌}
 use Rattle.std.proofs.lemmas.Grind.{common_steps}
-use Rattle.std.proofs.Common.{arith}
-use Rattle.heap_graph.specs.declared.classes.fate.Fate.{Fate}
 use Rattle.heap_graph.specs.declared.classes.fate.Fate.TheVariants as fates
-use Rattle.heap_graph.specs.Heap.{class_named}
-use Rattle.heap_graph.specs.working.Chains.{IsFate}
-use Rattle.heap_graph.specs.working.ClassTable.{ids_of}
 use Rattle.heap_graph.proofs.ClassTableLaws.{not_found}
 use Rattle.heap_graph.proofs.EntryLaws.{number_told}
 use Rattle.heap_graph.proofs.InstanceLaws.{linked_whole, right_size}
 use Rattle.heap_graph.proofs.Linking.{no_unknown}
-use Rattle.heap_graph.proofs.RuleLaws.{IsFateFound, fate_found, same_fate}
+use Rattle.heap_graph.proofs.RuleLaws.{fate_found, fate_read}
 use Rattle.heap_graph.proofs.objects.Objects.class_of.Goals as goal
 
 pub find-requires : goal.find-requires
@@ -19,9 +14,9 @@ find-requires g c = c.requires.4.few
 
 pub unreachable-requires : goal.unreachable-requires
 unreachable-requires g c =
-    no_unknown c.args.self.now.view.id_size c.requires.0 c.requires.1 c.requires.2 c.requires.3.linked c.requires.5.is
-    (subst (λ (id : ℕ). class_named c.requires.0 id ≡ None) (c.instance_class.ensures c.requires.2 c.requires.5.stands)
-    (not_found _ _ _ _ c.requires.4.classes (sym c.in-None.ensures)))
+    no_unknown _ c.requires.0 _ c.requires.2 _ c.requires.3.linked c.requires.5.is
+    (c.instance_class.ensures c.requires.2 c.requires.5.stands)
+    (not_found _ _ _ _ c.requires.4.classes (sym c.in-None.ensures))
 
 pub index-requires : goal.index-requires
 index-requires g c =
@@ -31,29 +26,20 @@ index-requires g c =
 
 pub returns-in-Whole-clause-first : goal.returns-in-Whole-clause-first
 returns-in-Whole-clause-first g c = λ heap n i linked told at.
-    let s = c.args.self.now.view.id_size in
-    let ids = ids_of c.args.self.now.classes.table.entries in
-    let it = subst (λ (id : ℕ). IsFateFound s heap ids c.args.self.now.fates.items id c.in-Some.number)
-    (c.instance_class.ensures i at.stands) (fate_found _ _ _ _ _ _ told (sym c.in-Some.ensures)) in
-    let fate : IsFate s heap ids i.class (fates.Whole c.in-Whole.layout) =
-    subst (λ (f : Fate). IsFate s heap ids i.class f)
-    (same_fate c.args.self.now.fates.items c.in-Some.number _ _ it.is c.index.ensures ∙ c.in-Whole.is) it.says in
+    let it = fate_read _ heap _ _ _ _ _ _ (fates.Whole c.in-Whole.layout) told c.in-Some.ensures
+    (c.instance_class.ensures i at.stands) c.index.ensures c.in-Whole.is in
     record {
-      chain = fate.0;
-      is = fate.1;
-      begins = fate.2.first_is;
-      size_is = right_size s heap n i fate.0 linked.linked at.is fate.1;
+      chain = it.says.0;
+      is = it.says.1;
+      begins = it.says.2.first_is;
+      size_is = right_size c.args.self.now.view.id_size heap n i it.says.0 linked.linked at.is it.says.1;
     }
 
 pub returns-in_default-clause-first : goal.returns-in_default-clause-first
 returns-in_default-clause-first g c = λ heap n i linked told at.
-    let s = c.args.self.now.view.id_size in
-    let ids = ids_of c.args.self.now.classes.table.entries in
-    let it = subst (λ (id : ℕ). IsFateFound s heap ids c.args.self.now.fates.items id c.in-Some.number)
-    (c.instance_class.ensures i at.stands) (fate_found _ _ _ _ _ _ told (sym c.in-Some.ensures)) in
-    let same = same_fate c.args.self.now.fates.items c.in-Some.number _ _ it.is c.index.ensures in
-    absurd (linked_whole s heap ids i.class it.class it.fate linked.linked it.named it.settled
-    (λ l e. c.in_default.not-Whole l (sym same ∙ e)) it.says)
+    let it = fate_read _ heap _ _ _ _ _ _ _ told c.in-Some.ensures (c.instance_class.ensures i at.stands)
+    c.index.ensures refl in
+    absurd (linked_whole _ heap _ i.class it.class _ linked.linked it.named it.settled c.in_default.not-Whole it.says)
 
 pub returns-in-Whole-clause-class : goal.returns-in-Whole-clause-class
 returns-in-Whole-clause-class g c = λ heap n i linked told at.

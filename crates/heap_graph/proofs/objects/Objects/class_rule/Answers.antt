@@ -1,15 +1,11 @@
 -- 0 is no superclass; another is sound where the table has it and the fate of its chain is not endless.
-use Rattle.std.proofs.Common.{None, Some, arith, length, subst, sym, ◌<◌, ◌∙◌, ◌≡◌, ℕ}
+use Rattle.std.proofs.Common.{None, arith, length, refl, subst, sym, ◌<◌, ◌≡◌, ℕ}
 use Rattle.std.proofs.lemmas.Grind.{common_steps}
-use Rattle.heap_graph.specs.declared.classes.fate.Fate.{Fate}
 use Rattle.heap_graph.specs.declared.classes.fate.Fate.TheVariants as fates
 use Rattle.heap_graph.specs.Heap.{class_named}
-use Rattle.heap_graph.specs.Layout.{NeverEnds}
-use Rattle.heap_graph.specs.working.Chains.{IsFate}
-use Rattle.heap_graph.specs.working.ClassTable.{ids_of}
 use Rattle.heap_graph.proofs.ClassTableLaws.{not_found}
-use Rattle.heap_graph.proofs.RuleLaws.{class_bad, class_fine, endless_super, ends, fate_found, fine_super}
-use Rattle.heap_graph.proofs.RuleLaws.{missing_super, no_super, same_fate}
+use Rattle.heap_graph.proofs.RuleLaws.{class_bad, class_fine, endless_super, ends, fate_found, fate_read}
+use Rattle.heap_graph.proofs.RuleLaws.{fine_super, missing_super, no_super}
 use Rattle.heap_graph.proofs.objects.Objects.class_rule.Goals as goal
 
 pub returns-then-superclass-eq0 : goal.returns-then-superclass-eq0
@@ -35,25 +31,13 @@ index-requires g c =
 
 pub returns-in-Endless : goal.returns-in-Endless
 returns-in-Endless g c = λ heap dump told st.
-    let it = fate_found _ _ _ _ _ _ told (sym c.in-Some.ensures) in
-    let s = c.args.self.now.view.id_size in
-    let ids = ids_of c.args.self.now.classes.table.entries in
-    let never : NeverEnds heap c.superclass-superclass.result =
-    subst (λ (f : Fate). IsFate s heap ids c.superclass-superclass.result f)
-    (same_fate c.args.self.now.fates.items c.in-Some.number _ _ it.is c.index.ensures ∙ c.in-Endless.is) it.says in
-    class_bad s heap dump (endless_super heap dump.super
-    (subst (λ (id : ℕ). NeverEnds heap id) (c.superclass-superclass.ensures dump st) never))
+    let it = fate_read _ heap _ _ _ _ _ _ fates.Endless told c.in-Some.ensures
+    (c.superclass-superclass.ensures dump st) c.index.ensures c.in-Endless.is in
+    class_bad c.args.self.now.view.id_size heap dump (endless_super heap dump.super it.says)
 
 pub returns-in_default : goal.returns-in_default
 returns-in_default g c = λ heap dump told st.
-    let it = fate_found _ _ _ _ _ _ told (sym c.in-Some.ensures) in
-    let same : c.superclass-superclass.result ≡ dump.super = c.superclass-superclass.ensures dump st in
-    let s = c.args.self.now.view.id_size in
-    let ids = ids_of c.args.self.now.classes.table.entries in
-    let other : it.fate ≡ fates.Endless → ⊥ =
-    λ e. c.in_default.not-Endless
-    (sym (same_fate c.args.self.now.fates.items c.in-Some.number _ _ it.is c.index.ensures) ∙ e) in
-    class_fine s heap dump
-    (fine_super heap dump.super it.class (subst (λ (id : ℕ). class_named heap id ≡ Some it.class) same it.named)
-    (λ never. ends s heap ids c.superclass-superclass.result it.fate it.settled other it.says
-    (subst (λ (id : ℕ). NeverEnds heap id) (sym same) never)))
+    let it = fate_read _ heap _ _ _ _ _ _ _ told c.in-Some.ensures (c.superclass-superclass.ensures dump st)
+    c.index.ensures refl in
+    class_fine c.args.self.now.view.id_size heap dump (fine_super heap dump.super it.class it.named
+    (ends _ heap _ dump.super _ it.settled c.in_default.not-Endless it.says))

@@ -11,65 +11,51 @@ kind-requires g c =
 
 pub ids_of_class-requires-clause-dump : goal.ids_of_class-requires-clause-dump
 ids_of_class-requires-clause-dump g c =
-    let it = there_at _ _ _ _ _ _ c.requires.heap.2.are c.requires.below c.index-place.ensures in
-    let o = class_at _ _ _ _ it c.in-Class.ensures in
+    let o = class_at _ _ _ _ _ _ c.requires.heap.2.are c.requires.below c.index-place.ensures c.in-Class.ensures in
     (o.0, o.1.stands)
 
 pub returns-in-Class : goal.returns-in-Class
 returns-in-Class g c = λ skips heap linked told plan.
-    let it = there_at _ _ _ _ _ _ linked.are c.requires.below c.index-place.ensures in
-    let o = class_at _ _ _ _ it c.in-Class.ensures in
+    let o = class_at _ _ _ _ _ _ linked.are c.requires.below c.index-place.ensures c.in-Class.ensures in
     record { object = class_dump o.0; is = o.1.is; are = c.ids_of_class.ensures skips heap o.0 o.1.stands }
 
 pub class_of-requires : goal.class_of-requires
 class_of-requires g c =
-    let it = there_at _ _ _ _ _ _ c.requires.heap.2.are c.requires.below c.index-place.ensures in
-    let o = instance_at _ _ _ _ it c.in-Instance.ensures in
-    (c.requires.heap.1, c.args.number, o.0, c.requires.heap.2, c.requires.heap.3, o.1)
+    let r = c.requires.heap in
+    let o = instance_at _ _ _ _ _ _ r.2.are c.requires.below c.index-place.ensures c.in-Instance.ensures in
+    (r.1, c.args.number, o.0, r.2, r.3, o.1)
 
 pub ids_of_instance-requires : goal.ids_of_instance-requires
 ids_of_instance-requires g c =
-    let it = there_at _ _ _ _ _ _ c.requires.heap.2.are c.requires.below c.index-place.ensures in
-    let o = instance_at _ _ _ _ it c.in-Instance.ensures in (
-      c.requires.heap.0,
-      c.requires.heap.1,
-      c.args.number,
-      o.0,
-      c.requires.heap.2,
-      c.requires.heap.3,
-      c.requires.heap.4,
-      o.1,
-      c.class_of.ensures.first
-          c.requires.heap.1 c.args.number o.0 c.requires.heap.2 c.requires.heap.3 o.1,
-    )
+    let r = c.requires.heap in
+    let o = instance_at _ _ _ _ _ _ r.2.are c.requires.below c.index-place.ensures c.in-Instance.ensures in
+    let first = c.class_of.ensures.first r.1 c.args.number o.0 r.2 r.3 o.1 in
+    (r.0, r.1, c.args.number, o.0, r.2, r.3, r.4, o.1, first)
 
 pub returns-in-Instance : goal.returns-in-Instance
 returns-in-Instance g c = λ skips heap linked told plan.
-    let it = there_at _ _ _ _ _ _ linked.are c.requires.below c.index-place.ensures in
-    let o = instance_at _ _ _ _ it c.in-Instance.ensures in
+    let o = instance_at _ _ _ _ _ _ linked.are c.requires.below c.index-place.ensures c.in-Instance.ensures in
     record {
       object = instance_dump o.0;
       is = o.1.is;
-      are = c.ids_of_instance.ensures skips heap c.args.number o.0 linked told plan
-          o.1 (c.class_of.ensures.first heap c.args.number o.0 linked told o.1);
+      are = c.ids_of_instance.ensures skips heap c.args.number o.0 linked told plan o.1
+          (c.class_of.ensures.first heap c.args.number o.0 linked told o.1);
     }
 
 pub ids_of_array-requires : goal.ids_of_array-requires
 ids_of_array-requires g c =
-    let it = there_at _ _ _ _ _ _ c.requires.heap.2.are c.requires.below c.index-place.ensures in
-    let o = array_at _ _ _ _ it c.in-ObjectArray.ensures in
+    let are = c.requires.heap.2.are in
+    let o = array_at _ _ _ _ _ _ are c.requires.below c.index-place.ensures c.in-ObjectArray.ensures in
     (o.0, o.1.stands)
 
 pub returns-in-ObjectArray : goal.returns-in-ObjectArray
 returns-in-ObjectArray g c = λ skips heap linked told plan.
-    let it = there_at _ _ _ _ _ _ linked.are c.requires.below c.index-place.ensures in
-    let o = array_at _ _ _ _ it c.in-ObjectArray.ensures in
+    let o = array_at _ _ _ _ _ _ linked.are c.requires.below c.index-place.ensures c.in-ObjectArray.ensures in
     record { object = object_array_dump o.0; is = o.1.is; are = c.ids_of_array.ensures skips heap o.0 o.1.stands }
 
 pub returns-in-PrimitiveArray : goal.returns-in-PrimitiveArray
 returns-in-PrimitiveArray g c = λ skips heap linked told plan.
-    let it = there_at _ _ _ _ _ _ linked.are c.requires.below c.index-place.ensures in
-    let o = primitives_at _ _ _ _ it c.in-PrimitiveArray.ensures in
+    let o = primitives_at _ _ _ _ _ _ linked.are c.requires.below c.index-place.ensures c.in-PrimitiveArray.ensures in
     record {
       object = primitive_array_dump o.0;
       is = o.1.is;

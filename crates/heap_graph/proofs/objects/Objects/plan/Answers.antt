@@ -27,15 +27,15 @@ same_test records skip ids k id c is named =
 pub members-requires : goal.members-requires
 members-requires g c =
     let o = c.args.self.now in
-    stands_at o.view c.requires.told.0 o.classes.table.entries c.loop-number.number c.entry-place.result
-    c.requires.told.1.classes (omega (arith, c.loop-number-test.true, c.len-count.ensures)) c.entry-place.ensures
+    stands_at o.view c.requires.fates.0 o.classes.table.entries c.loop-number.number c.entry-place.result
+    c.requires.fates.1.classes (omega (arith, c.loop-number-test.true, c.len-count.ensures)) c.entry-place.ensures
 
 pub push-requires-clause-few : goal.push-requires-clause-few
 push-requires-clause-few g c =
     let o = c.args.self.now in
     let it =
-    stands_at o.view c.requires.told.0 o.classes.table.entries c.loop-number.number c.entry-place.result
-    c.requires.told.1.classes (omega (arith, c.loop-number-test.true, c.len-count.ensures)) c.entry-place.ensures in
+    stands_at o.view c.requires.fates.0 o.classes.table.entries c.loop-number.number c.entry-place.result
+    c.requires.fates.1.classes (omega (arith, c.loop-number-test.true, c.len-count.ensures)) c.entry-place.ensures in
     let few : length it.0.members < 256 ^ 2 = (bounds it.1.is.formed).member_count in
     omega (arith, few, ap length (c.members.ensures it.0 it.1))
 
