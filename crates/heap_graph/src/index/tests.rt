@@ -148,9 +148,8 @@ fn finds_all<A: Allocator>(index: &Index<A>, ids: &[u64], most: u64) -> bool {
 }
 
 /// A thousand identifiers, of which some repeat.
-#[test]
-fn many_identifiers(rt: HostRuntime) -> Result<(), Fail> {
-    let mut ids = Vec::new(rt.alloc());
+fn thousand(alloc: Global) -> Result<Vec<u64>, AllocError> {
+    let mut ids = Vec::new(alloc);
     let mut id = 1u64;
     for _ in 0..1000 {
         id = id
@@ -158,7 +157,19 @@ fn many_identifiers(rt: HostRuntime) -> Result<(), Fail> {
             .wrapping_add(1_442_695_040_888_963_407);
         ids.push((id >> 54) << 3)?;
     }
-    let index = index_of(rt.alloc(), &ids)?;
-    assert!(rt; finds_all(&index, &ids, 8200));
+    Ok(ids)
+}
+
+/// Whether an index of these finds them so.
+fn is_found(alloc: Global, ids: &[u64], most: u64) -> Result<bool, AllocError> {
+    let index = index_of(alloc, ids)?;
+    Ok(finds_all(&index, ids, most))
+}
+
+#[test]
+fn many_identifiers(rt: HostRuntime) -> Result<(), Fail> {
+    let ids = thousand(rt.alloc())?;
+    let found = is_found(rt.alloc(), &ids, 8200);
+    assert_eq!(rt; found, Ok(true));
     Ok(())
 }

@@ -1,17 +1,25 @@
 //! The graphs of dumps of which some fields are not followed.
 
 use super::walks::REFERENCES;
-use super::worked::{A_CLASS, ClassRow, Worked};
+use super::worked::{A_CLASS, Worked};
 use crate::RowKey;
 use test_dumps::Record::{Heap, Load, Text};
 use test_dumps::Sub::{Instance, Named, Root, Whole};
 use test_dumps::{ClassParts, Record};
 
-/// The names of the classes of `REFERENCES`.
-const REFERENCE_CLASSES: &[ClassRow] = &[
-    (0x100, Some(b"java/lang/ref/Reference")),
-    (0x110, Some(b"T")),
-];
+/// What each list makes of `REFERENCES`.
+const REFERENCE: Worked = Worked {
+    name: "",
+    id_size: 4,
+    records: REFERENCES,
+    roots: &[2],
+    objects: &[],
+    classes: &[
+        (0x100, Some(b"java/lang/ref/Reference")),
+        (0x110, Some(b"T")),
+    ],
+    unresolved: 0,
+};
 
 /// Two classes, of which each field could be the other's if the names were one text: class `a` with a field `b.c`, and
 /// class `a.b` with a field `c`.
@@ -51,7 +59,16 @@ const LACKING: &[Record] = &[
     ]),
 ];
 
-const LACKING_CLASSES: &[ClassRow] = &[(0x100, Some(b"T")), (0x110, None), (0x120, None)];
+/// What each list makes of it.
+const NAMES_LACKING: Worked = Worked {
+    name: "",
+    id_size: 4,
+    records: LACKING,
+    roots: &[],
+    objects: &[],
+    classes: &[(0x100, Some(b"T")), (0x110, None), (0x120, None)],
+    unresolved: 0,
+};
 
 /// Lists of fields, and what each makes of a dump.
 pub static SKIPPED: [(&str, Worked); 9] = [
@@ -59,9 +76,6 @@ pub static SKIPPED: [(&str, Worked); 9] = [
         "T.other",
         Worked {
             name: "a field that no class has",
-            id_size: 4,
-            records: REFERENCES,
-            roots: &[2],
             objects: &[
                 (&[], A_CLASS, 0, 0),
                 (&[0], A_CLASS, 0, 0),
@@ -69,17 +83,14 @@ pub static SKIPPED: [(&str, Worked); 9] = [
                 (&[1], RowKey::Class(1), 8, 0),
                 (&[1], RowKey::Class(1), 8, 1),
             ],
-            classes: REFERENCE_CLASSES,
             unresolved: 1,
+            ..REFERENCE
         },
     ),
     (
         "java/lang/ref/Reference.referent",
         Worked {
             name: "a field of the superclass, in instances of the subclass",
-            id_size: 4,
-            records: REFERENCES,
-            roots: &[2],
             objects: &[
                 (&[], A_CLASS, 0, 0),
                 (&[0], A_CLASS, 0, 0),
@@ -87,17 +98,14 @@ pub static SKIPPED: [(&str, Worked); 9] = [
                 (&[1], RowKey::Class(1), 8, 0),
                 (&[1], RowKey::Class(1), 8, 0),
             ],
-            classes: REFERENCE_CLASSES,
             unresolved: 0,
+            ..REFERENCE
         },
     ),
     (
         "T.referent",
         Worked {
             name: "the field of that name that the class declares itself",
-            id_size: 4,
-            records: REFERENCES,
-            roots: &[2],
             objects: &[
                 (&[], A_CLASS, 0, 0),
                 (&[0], A_CLASS, 0, 0),
@@ -105,17 +113,14 @@ pub static SKIPPED: [(&str, Worked); 9] = [
                 (&[1], RowKey::Class(1), 8, 0),
                 (&[1], RowKey::Class(1), 8, 1),
             ],
-            classes: REFERENCE_CLASSES,
             unresolved: 1,
+            ..REFERENCE
         },
     ),
     (
         "java/lang/ref/Reference.referent,T.referent",
         Worked {
             name: "both fields of that name",
-            id_size: 4,
-            records: REFERENCES,
-            roots: &[2],
             objects: &[
                 (&[], A_CLASS, 0, 0),
                 (&[0], A_CLASS, 0, 0),
@@ -123,8 +128,8 @@ pub static SKIPPED: [(&str, Worked); 9] = [
                 (&[1], RowKey::Class(1), 8, 0),
                 (&[1], RowKey::Class(1), 8, 0),
             ],
-            classes: REFERENCE_CLASSES,
             unresolved: 0,
+            ..REFERENCE
         },
     ),
     (
@@ -148,9 +153,6 @@ pub static SKIPPED: [(&str, Worked); 9] = [
         "T.f",
         Worked {
             name: "of two strings and of two loaded classes the first counts",
-            id_size: 4,
-            records: LACKING,
-            roots: &[],
             objects: &[
                 (&[], A_CLASS, 0, 0),
                 (&[], A_CLASS, 0, 0),
@@ -159,17 +161,13 @@ pub static SKIPPED: [(&str, Worked); 9] = [
                 (&[1, 5], RowKey::Class(1), 4, 0),
                 (&[2, 3, 4], RowKey::Class(2), 8, 0),
             ],
-            classes: LACKING_CLASSES,
-            unresolved: 0,
+            ..NAMES_LACKING
         },
     ),
     (
         "T.g,U.f,U.g",
         Worked {
             name: "and none behind it",
-            id_size: 4,
-            records: LACKING,
-            roots: &[],
             objects: &[
                 (&[], A_CLASS, 0, 0),
                 (&[], A_CLASS, 0, 0),
@@ -178,8 +176,7 @@ pub static SKIPPED: [(&str, Worked); 9] = [
                 (&[1, 5], RowKey::Class(1), 4, 0),
                 (&[2, 3, 4], RowKey::Class(2), 8, 0),
             ],
-            classes: LACKING_CLASSES,
-            unresolved: 0,
+            ..NAMES_LACKING
         },
     ),
     (

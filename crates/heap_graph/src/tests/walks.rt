@@ -100,20 +100,22 @@ fn identifiers_left(rt: HostRuntime) -> Result<(), Fail> {
 /// The elements of a long array.
 pub const MANY: usize = 100_000;
 
-/// Two instances, and an array that has the second of them as each of its elements.
-pub fn long_array(alloc: Global) -> Result<Bytes, AllocError> {
-    let mut elements = Vec::new(alloc);
-    for _ in 0..MANY {
-        elements.push(0x202)?;
-    }
-    let mut heap = Bytes::new(alloc, 4);
+/// Adds two instances, and an array that has the second of them as each of its elements.
+fn add_long(alloc: Global, heap: &mut Bytes) -> Result<(), AllocError> {
+    let elements = vec![in alloc; 0x202u64; MANY]?;
     heap.subs(&[
         Class(0x100, 0, &[2]),
         Instance(0x201, 0x100, &[0, 0, 2, 2]),
         Instance(0x202, 0x100, &[0, 0, 2, 1]),
     ])?;
     heap.objects(0x203, 0x100, elements.as_slice())?;
-    heap.subs(&[Root(0x201), Root(0x203)])?;
+    heap.subs(&[Root(0x201), Root(0x203)])
+}
+
+/// A dump of these.
+pub fn long_array(alloc: Global) -> Result<Bytes, AllocError> {
+    let mut heap = Bytes::new(alloc, 4);
+    add_long(alloc, &mut heap)?;
     let mut file = Bytes::dump(alloc, 4, &TWO_OBJECTS[..2])?;
     file.record(0x0C, heap.bytes.as_slice())?;
     Ok(file)
