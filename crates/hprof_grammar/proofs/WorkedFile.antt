@@ -2,13 +2,13 @@
 use Rattle.std.proofs.Common.{List, [], inl, lit<, lit≤, refl, ℕ, ◌++◌, ◌∷◌, ◌≡◌}
 use Rattle.hprof_grammar.specs.Dump.{header, spellings}
 use Rattle.hprof_grammar.specs.Places.{IsDumpOf, Places, places_of}
-use Rattle.hprof_grammar.specs.Record.{IsRecord, Record}
+use Rattle.hprof_grammar.specs.Record.{Record}
 use Rattle.hprof_grammar.specs.Record.Record.{heap, load_class, string}
-use Rattle.hprof_grammar.specs.SubRecord.{Class, Instance, IsSubRecord, Root, SubRecord}
+use Rattle.hprof_grammar.specs.SubRecord.{Class, Instance, Root, SubRecord}
 use Rattle.hprof_grammar.specs.SubRecord.RootOrigin.{unknown}
 use Rattle.hprof_grammar.specs.SubRecord.SubRecord.{class_dump, instance_dump, root}
-use Rattle.hprof_grammar.specs.Tables.{is_id_size, is_length_of, is_sub_tag, is_type_at}
-use Rattle.hprof_grammar.proofs.BoundsLaws.{formed_by}
+use Rattle.hprof_grammar.specs.Tables.{is_id_size, is_length_of, is_type_at, size_of}
+use Rattle.hprof_grammar.proofs.Computed.{record_is}
 
 abbrev file : List ℕ
 file =
@@ -68,75 +68,9 @@ places = record { id_size = 4; strings = 31 ∷ []; loaded = 45 ∷ []; roots = 
 places_are : places ≡ places_of 4 records
 places_are = refl
 
--- ---- each part is as the tables ask
-
-class_is : IsSubRecord 4 (class_dump the_class)
-unfolding is_type_at is_sub_tag
-class_is = record {
-  formed = formed_by refl
-      (record {
-        object = lit< tt;
-        stack = lit< tt;
-        super = lit< tt;
-        loader = lit< tt;
-        signers = lit< tt;
-        domain = lit< tt;
-        reserved = lit< tt;
-        reserved_too = lit< tt;
-        instance_size = lit< tt;
-        constant_count = lit< tt;
-        constants = tt;
-        static_count = lit< tt;
-        statics = tt;
-        member_count = lit< tt;
-        members = (lit< tt, tt);
-      });
-  allowed = (tt, (tt, (tt, (tt, (tt, (tt, (tt, (tt, (tt, (tt, (tt, (tt, (tt, (refl, tt))))))))))))));
-}
-
-first_is : IsSubRecord 4 (instance_dump first)
-unfolding is_sub_tag
-first_is = record {
-  formed = formed_by refl (record { object = lit< tt; stack = lit< tt; class = lit< tt; values = lit< tt });
-  allowed = (tt, (tt, (tt, (tt, (tt, tt)))));
-}
-
-second_is : IsSubRecord 4 (instance_dump second)
-unfolding is_sub_tag
-second_is = record {
-  formed = formed_by refl (record { object = lit< tt; stack = lit< tt; class = lit< tt; values = lit< tt });
-  allowed = (tt, (tt, (tt, (tt, (tt, tt)))));
-}
-
-root_is : IsSubRecord 4 (root the_root)
-unfolding is_sub_tag
-root_is = record { formed = formed_by refl (record { object = lit< tt; origin = tt }); allowed = (tt, tt) }
-
-string_is : IsRecord 4 (string 0 1 (0x41 ∷ []))
-unfolding is_length_of
-string_is = record { parts = lit< tt; time = lit< tt; length_fits = lit< tt; length_allowed = refl }
-
-load_is : IsRecord 4 (load_class 0 1 0x100 0 1)
-unfolding is_length_of
-load_is = record {
-  parts = (lit< tt, lit< tt, lit< tt, lit< tt);
-  time = lit< tt;
-  length_fits = lit< tt;
-  length_allowed = refl;
-}
-
-heap_is : IsRecord 4 (heap 0x0C 0 subs)
-unfolding is_length_of
-heap_is = record {
-  parts = (refl, (class_is, (first_is, (second_is, (root_is, tt)))));
-  time = lit< tt;
-  length_fits = lit< tt;
-  length_allowed = refl;
-}
-
 -- the file spells a dump, with these places
 file_is_dump : IsDumpOf file places
-unfolding is_id_size
+unfolding is_id_size is_length_of is_type_at size_of
 file_is_dump = record {
   records = records;
   spells = record {
@@ -145,7 +79,10 @@ file_is_dump = record {
     time = 0;
     time_fits = lit< tt;
     whole = file_is;
-    each = (string_is, (load_is, (heap_is, tt)));
+    each = (
+      record_is 4 (string 0 1 (0x41 ∷ [])) refl,
+      (record_is 4 (load_class 0 1 0x100 0 1) refl, (record_is 4 (heap 0x0C 0 subs) refl, tt)),
+    );
   };
   orderly = inl refl;
   places = places_are;

@@ -1,7 +1,6 @@
 //! Each field of a dump that has one part of every kind, read at its place.
 
-ghost use Rattle.std.specs.Prelude.{List, ℕ};
-ghost use Rattle.hprof_grammar.specs.RootFields.{RootSays, frame_of, reference_of, thread_of, trace_of};
+ghost use Rattle.std.specs.Prelude.{List, slice_index, ℕ, ◌<◌};
 ghost use Rattle.hprof_grammar.specs.SubRecord.{Class, Instance, ObjectArray, PrimitiveArray, Root};
 ghost use Rattle.hprof_grammar.specs.SubRecord.SubRecord.{class_dump, instance_dump, root};
 ghost use Rattle.hprof_grammar.specs.SubRecord.SubRecord.{object_array_dump, primitive_array_dump};
@@ -141,55 +140,43 @@ fn primitive_array_fields<'a>(view: &View<'a>, at: u32) -> (ObjectKind, u8, u32,
     )
 }
 
-/// What each root says.
-fn plain_root(view: &View<'_>, at: u32) -> (RootKind, u64)
+/// What a root says: its kind, its object, and the reference, the thread, the frame and the stack trace that its kind
+/// has.
+type RootNumbers = (
+    RootKind,
+    u64,
+    Option<u64>,
+    Option<u32>,
+    Option<u32>,
+    Option<u32>,
+);
+
+/// What the root at a place says.
+fn root_numbers(view: &View<'_>, at: u32) -> RootNumbers
     requires { (r : Root) × Stands view.now at (root r) }
 {
-    (view.root_kind(at), view.object_id(at))
-}
-
-/// What a root with a reference says.
-fn reference_root(view: &View<'_>, at: u32) -> (RootKind, u64, u64)
-    requires { (n : ℕ) × RootSays view.now at reference_of n }
-{
-    (
-        view.root_kind(at),
-        view.object_id(at),
-        view.root_reference(at),
-    )
-}
-
-/// What a root with a thread says.
-fn thread_root(view: &View<'_>, at: u32) -> (RootKind, u64, u32)
-    requires { (n : ℕ) × RootSays view.now at thread_of n }
-{
-    (view.root_kind(at), view.object_id(at), view.root_thread(at))
-}
-
-/// What a root with a thread and a frame says.
-fn frame_root(view: &View<'_>, at: u32) -> (RootKind, u64, u32, u32)
-    requires thread { (n : ℕ) × RootSays view.now at thread_of n }
-    requires frame { (n : ℕ) × RootSays view.now at frame_of n }
-{
-    (
-        view.root_kind(at),
-        view.object_id(at),
-        view.root_thread(at),
-        view.root_frame(at),
-    )
-}
-
-/// What a root with a thread and a stack trace says.
-fn trace_root(view: &View<'_>, at: u32) -> (RootKind, u64, u32, u32)
-    requires thread { (n : ℕ) × RootSays view.now at thread_of n }
-    requires trace { (n : ℕ) × RootSays view.now at trace_of n }
-{
-    (
-        view.root_kind(at),
-        view.object_id(at),
-        view.root_thread(at),
-        view.root_stack_trace(at),
-    )
+    let kind = view.root_kind(at);
+    let reference = match kind {
+        RootKind::JniGlobal => Some(view.root_reference(at)),
+        _ => None,
+    };
+    let thread = match kind {
+        RootKind::JniLocal
+        | RootKind::JavaFrame
+        | RootKind::NativeStack
+        | RootKind::ThreadBlock
+        | RootKind::ThreadObject => Some(view.root_thread(at)),
+        _ => None,
+    };
+    let frame = match kind {
+        RootKind::JniLocal | RootKind::JavaFrame => Some(view.root_frame(at)),
+        _ => None,
+    };
+    let trace = match kind {
+        RootKind::ThreadObject => Some(view.root_stack_trace(at)),
+        _ => None,
+    };
+    (kind, view.object_id(at), reference, thread, frame, trace)
 }
 
 /// The places of a dump's parts: strings, loaded classes, objects, roots.
@@ -319,69 +306,44 @@ fn objects(rt: HostRuntime) {
     );
 }
 
-/// What the roots say: those without a number, the one with a reference, those with a thread, and those with a thread
-/// and one number more.
-type Roots = (
-    [(RootKind, u64); 3],
-    (RootKind, u64, u64),
-    [(RootKind, u64, u32); 2],
-    [(RootKind, u64, u32, u32); 3],
-);
+const ROOTS: [RootNumbers; 9] = [
+    (RootKind::Unknown, 0x100, None, None, None, None),
+    (RootKind::JniGlobal, 0x301, Some(0x401), None, None, None),
+    (RootKind::JniLocal, 0x301, None, Some(13), Some(14), None),
+    (RootKind::JavaFrame, 0x301, None, Some(15), Some(16), None),
+    (RootKind::NativeStack, 0x301, None, Some(17), None, None),
+    (RootKind::StickyClass, 0x301, None, None, None, None),
+    (RootKind::ThreadBlock, 0x301, None, Some(18), None, None),
+    (RootKind::MonitorUsed, 0x301, None, None, None, None),
+    (
+        RootKind::ThreadObject,
+        0x301,
+        None,
+        Some(19),
+        None,
+        Some(20),
+    ),
+];
 
-const ROOTS: Roots = (
-    [
-        (RootKind::Unknown, 0x100),
-        (RootKind::StickyClass, 0x301),
-        (RootKind::MonitorUsed, 0x301),
-    ],
-    (RootKind::JniGlobal, 0x301, 0x401),
-    [
-        (RootKind::NativeStack, 0x301, 17),
-        (RootKind::ThreadBlock, 0x301, 18),
-    ],
-    [
-        (RootKind::JniLocal, 0x301, 13, 14),
-        (RootKind::JavaFrame, 0x301, 15, 16),
-        (RootKind::ThreadObject, 0x301, 19, 20),
-    ],
-);
-
-#[test]
-fn roots_with_ids_of_four(rt: HostRuntime) {
-    let view = View::new(&WITH_FOUR, 4);
-    let roots: Roots = (
-        [
-            plain_root(&view, 229),
-            plain_root(&view, 278),
-            plain_root(&view, 292),
-        ],
-        reference_root(&view, 234),
-        [thread_root(&view, 269), thread_root(&view, 283)],
-        [
-            frame_root(&view, 243),
-            frame_root(&view, 256),
-            trace_root(&view, 297),
-        ],
-    );
-    assert_eq!(rt; roots, ROOTS);
+/// The roots are these, in turn.
+fn has_roots<R: Abort>(rt: &R, view: &View<'_>, places: &[u32; 9])
+    requires { (k : ℕ) → k < 9 → (r : Root) × Stands view.now (slice_index places.now k) (root r) }
+{
+    for k in 0..9 {
+        assert_eq!(rt; root_numbers(view, places[k]), ROOTS[k]);
+    }
 }
 
 #[test]
-fn roots_with_ids_of_eight(rt: HostRuntime) {
-    let view = View::new(&WITH_EIGHT, 8);
-    let roots: Roots = (
-        [
-            plain_root(&view, 325),
-            plain_root(&view, 398),
-            plain_root(&view, 420),
-        ],
-        reference_root(&view, 334),
-        [thread_root(&view, 385), thread_root(&view, 407)],
-        [
-            frame_root(&view, 351),
-            frame_root(&view, 368),
-            trace_root(&view, 429),
-        ],
+fn roots(rt: HostRuntime) {
+    has_roots(
+        &rt,
+        &View::new(&WITH_FOUR, 4),
+        &[229, 234, 243, 256, 269, 278, 283, 292, 297],
     );
-    assert_eq!(rt; roots, ROOTS);
+    has_roots(
+        &rt,
+        &View::new(&WITH_EIGHT, 8),
+        &[325, 334, 351, 368, 385, 398, 407, 420, 429],
+    );
 }
