@@ -1,15 +1,19 @@
 -- Sub-records: what is read was spelled, what is spelled is read, and a flaw shows the fault.
 use Rattle.std.proofs.Common.{Err, List, None, Ok, Option, Result, Some, [], ap, false, inl, inr, refl, subst, sym, ℕ}
-use Rattle.std.proofs.Common.{◌++◌, ◌∙◌, ◌∷◌, ◌≡◌}
+use Rattle.std.proofs.Common.{◌++◌, ◌<◌, ◌^◌, ◌∙◌, ◌∷◌, ◌≡◌}
 use Rattle.hprof_grammar.specs.Fault.{SubFault}
 use Rattle.hprof_grammar.specs.Fault.SubFault.{short, unknown_tag, wrong_type}
-use Rattle.hprof_grammar.specs.working.Reading.{as_at, body_at, flaw_code, lone_root, root_at, root_with, root_with_two}
-use Rattle.hprof_grammar.specs.working.Reading.{sub_record_at}
+use Rattle.hprof_grammar.specs.working.Reading.{as_at, body_at, class_dump_at, flaw_code, instance_at, lone_root}
+use Rattle.hprof_grammar.specs.working.Reading.{number_at, numbers_at, object_array_at, primitive_array_at, root_at}
+use Rattle.hprof_grammar.specs.working.Reading.{root_with, root_with_two, sub_record_at, then_at}
 use Rattle.hprof_grammar.specs.Spelling.{AreAllowed, Field, spelled}
-use Rattle.hprof_grammar.specs.Bounds.{HasBounds, IsRoot}
-use Rattle.hprof_grammar.specs.SubRecord.{IsFormed, IsSubRecord, RootOrigin, SubRecord, fields_of, root_fields}
-use Rattle.hprof_grammar.specs.SubRecord.{spelling_of, tag_of}
-use Rattle.hprof_grammar.specs.Kinds.{kind_of, origin_kind, root_tag}
+use Rattle.hprof_grammar.specs.Spelling.Field.{number}
+use Rattle.hprof_grammar.specs.Bounds.{HasBounds, IsClass, IsInstance, IsObjectArray, IsOrigin, IsPrimitiveArray}
+use Rattle.hprof_grammar.specs.Bounds.{IsRoot}
+use Rattle.hprof_grammar.specs.SubRecord.{IsFormed, IsSubRecord, RootOrigin, SubRecord, class_fields, fields_of}
+use Rattle.hprof_grammar.specs.SubRecord.{instance_fields, object_array_fields, origin_fields, origin_tag}
+use Rattle.hprof_grammar.specs.SubRecord.{primitive_array_fields, spelling_of, tag_of}
+use Rattle.hprof_grammar.specs.Kinds.{kind_of, origin_kind, root_tag, sub_kind}
 use Rattle.hprof_grammar.specs.SubRecord.RootOrigin.{java_frame, jni_global, jni_local, monitor_used, native_stack}
 use Rattle.hprof_grammar.specs.SubRecord.RootOrigin.{sticky_class, thread_block, thread_object, unknown}
 use Rattle.hprof_grammar.specs.SubRecord.SubRecord.{class_dump, instance_dump, object_array_dump, primitive_array_dump}
@@ -41,197 +45,178 @@ SubBreaks s tag rest flaw = (x : SubRecord) × IsFormed s x × (tag_of x ≡ tag
 
 -- ---- one kind of sub-record behind its tag
 
-module _ {A : Type 0} {W : A → Type 0} {F : A → List Field} {r : List ℕ → Result (A × List ℕ) Flaw} (s tag : ℕ)
-    (make : A → SubRecord) (under : IsFormat W F r)
-    (fields_are : (a : A) → fields_of s (make a) ≡ F a) (in_bounds : (a : A) → W a → HasBounds s (make a))
-    (tag_is : (a : A) → W a → tag_of (make a) ≡ tag) where
+-- what is read was spelled, and a flaw shows where a sub-record breaks off
+record ReadsKind (s tag : ℕ) (read : List ℕ → Result (SubRecord × List ℕ) Flaw) : Type 0 where
+  takes : (rest : List ℕ) (z : SubRecord × List ℕ) → IsBytes rest → read rest ≡ Ok z → SubTaken s (tag ∷ rest) z.0 z.1
+  fails : (rest : List ℕ) (flaw : Flaw) → IsBytes rest → read rest ≡ Err flaw → SubBreaks s tag rest flaw
+
+-- a sub-record that is spelled is read, and so is the flaw where it breaks off
+record ReadsBack (s : ℕ) (x : SubRecord) (read : List ℕ → Result (SubRecord × List ℕ) Flaw) : Type 0 where
+  again : (rest : List ℕ) → AreAllowed (fields_of s x) → read (spelled (fields_of s x) ++ rest) ≡ Ok (x, rest)
+  fails_again : (rest : List ℕ) (flaw : Flaw) → Breaks flaw (fields_of s x) rest → read rest ≡ Err flaw
+
+-- the kind has the fields of a format
+record KindFormat {A : Type 0} (s tag : ℕ) (make : A → SubRecord) (W : A → Type 0) (F : A → List Field)
+    (read : List ℕ → Result (A × List ℕ) Flaw) : Type 0 where
+  under : IsFormat W F read
+  fields_are : (a : A) → fields_of s (make a) ≡ F a
+  in_bounds : (a : A) → W a → HasBounds s (make a)
+  tag_is : (a : A) → W a → tag_of (make a) ≡ tag
+
+module _ {A : Type 0} {s tag : ℕ} {make : A → SubRecord} {W : A → Type 0} {F : A → List Field}
+    {r : List ℕ → Result (A × List ℕ) Flaw} (k : KindFormat s tag make W F r) where
   kind_takes : (rest : List ℕ) (z : SubRecord × List ℕ) → IsBytes rest → as_at make r rest ≡ Ok z
       → SubTaken s (tag ∷ rest) z.0 z.1
   kind_takes rest z h e =
       let a = bind_ok (r rest) (λ x. Ok (make x.0, x.1)) z e in
-      let t = under.takes rest a.0 h a.1 in
+      let t = k.under.takes rest a.0 h a.1 in
       let same : (make a.0.0, a.0.1) ≡ z =
       (let k : ◌≡◌ {A = Result (SubRecord × List ℕ) Flaw} (Ok (make a.0.0, a.0.1)) (Ok z) = a.2 in cc) in
-      let f = fields_are a.0.0 in
+      let f = k.fields_are a.0.0 in
+      let formed = formed_by (tag_known (make a.0.0)) (k.in_bounds a.0.0 t.well) in
       subst (λ (y : SubRecord × List ℕ). SubTaken s (tag ∷ rest) y.0 y.1) same
       (record {
-        is = record { formed = formed_by (tag_known (make a.0.0)) (in_bounds a.0.0 t.well); allowed = rw f t.allowed };
-        bytes_are = rw (tag_is a.0.0 t.well, f) (ap (λ (x : List ℕ). tag ∷ x) t.bytes_are);
+        is = record { formed = formed; allowed = rw f t.allowed };
+        bytes_are = rw (k.tag_is a.0.0 t.well, f) (ap (λ (x : List ℕ). tag ∷ x) t.bytes_are);
       })
-
-  kind_again : (a : A) (rest : List ℕ) → W a → AreAllowed (fields_of s (make a))
-      → as_at make r (spelled (fields_of s (make a)) ++ rest) ≡ Ok (make a, rest)
-  kind_again a rest h allowed =
-      let ok : AreAllowed (F a) = subst AreAllowed (fields_are a) allowed in
-      rw (fields_are a) (rw (under.again a rest h ok) refl)
 
   kind_fails : (rest : List ℕ) (flaw : Flaw) → IsBytes rest → as_at make r rest ≡ Err flaw → SubBreaks s tag rest flaw
   kind_fails rest flaw h e = elim (bind_err (r rest) (λ x. Ok (make x.0, x.1)) flaw e) [
     | inl f ↦
-        let a = under.fails rest flaw h f in
-        let formed : IsFormed s (make a.0) = formed_by (tag_known (make a.0)) (in_bounds a.0 a.1) in
-        (make a.0, formed, tag_is a.0 a.1, rw (fields_are a.0) a.2)
+        let a = k.under.fails rest flaw h f in
+        let formed : IsFormed s (make a.0) = formed_by (tag_known (make a.0)) (k.in_bounds a.0 a.1) in
+        (make a.0, formed, k.tag_is a.0 a.1, rw (k.fields_are a.0) a.2)
     | inr a ↦ absurd (let k : ◌≡◌ {A = Result (SubRecord × List ℕ) Flaw} (Ok (make a.0.0, a.0.1)) (Err flaw) = a.2 in
         cc)
   ]
 
+  read_kind : ReadsKind s tag (as_at make r)
+  read_kind = record { takes = kind_takes; fails = kind_fails }
+
+  kind_again : (a : A) (rest : List ℕ) → W a → AreAllowed (fields_of s (make a))
+      → as_at make r (spelled (fields_of s (make a)) ++ rest) ≡ Ok (make a, rest)
+  kind_again a rest h allowed =
+      let ok : AreAllowed (F a) = subst AreAllowed (k.fields_are a) allowed in
+      rw (k.fields_are a) (rw (k.under.again a rest h ok) refl)
+
   kind_fails_again : (a : A) (rest : List ℕ) (flaw : Flaw) → W a → Breaks flaw (fields_of s (make a)) rest
       → as_at make r rest ≡ Err flaw
   kind_fails_again a rest flaw h b =
-      rw (under.fails_again a rest flaw h (subst (λ (x : List Field). Breaks flaw x rest) (fields_are a) b)) refl
+      let breaks = subst (λ (x : List Field). Breaks flaw x rest) (k.fields_are a) b in
+      rw (k.under.fails_again a rest flaw h breaks) refl
 
--- ---- roots, by their kinds
+  read_back : (a : A) → W a → ReadsBack s (make a) (as_at make r)
+  read_back a h = record {
+    again = λ rest allowed. kind_again a rest h allowed;
+    fails_again = λ rest flaw b. kind_fails_again a rest flaw h b;
+  }
 
-root_takes : (s tag : ℕ) (kind : RootKind) (rest : List ℕ) (z : SubRecord × List ℕ) → tag ≡ root_tag kind
-    → IsBytes rest → root_at s kind rest ≡ Ok z
-    → SubTaken s (tag ∷ rest) z.0 z.1
-root_takes s tag roots.Unknown rest z t h e =
-    kind_takes s tag (lone_root unknown) (number_format s) (λ r. refl) (λ r w. record { object = w; origin = tt })
-    (λ r w. sym t) rest z h e
-root_takes s tag roots.JniGlobal rest z t h e =
-    kind_takes s tag (root_with jni_global) (two_numbers s s) (λ r. refl)
-    (λ r w. record { object = w.0; origin = w.1 }) (λ r w. sym t) rest z h e
-root_takes s tag roots.JniLocal rest z t h e =
-    kind_takes s tag (root_with_two jni_local) (three_numbers s) (λ r. refl)
-    (λ r w. record { object = w.0; origin = w.1 }) (λ r w. sym t) rest z h e
-root_takes s tag roots.JavaFrame rest z t h e =
-    kind_takes s tag (root_with_two java_frame) (three_numbers s) (λ r. refl)
-    (λ r w. record { object = w.0; origin = w.1 }) (λ r w. sym t) rest z h e
-root_takes s tag roots.NativeStack rest z t h e =
-    kind_takes s tag (root_with native_stack) (two_numbers s 4) (λ r. refl)
-    (λ r w. record { object = w.0; origin = w.1 }) (λ r w. sym t) rest z h e
-root_takes s tag roots.StickyClass rest z t h e =
-    kind_takes s tag (lone_root sticky_class) (number_format s) (λ r. refl) (λ r w. record { object = w; origin = tt })
-    (λ r w. sym t) rest z h e
-root_takes s tag roots.ThreadBlock rest z t h e =
-    kind_takes s tag (root_with thread_block) (two_numbers s 4) (λ r. refl)
-    (λ r w. record { object = w.0; origin = w.1 }) (λ r w. sym t) rest z h e
-root_takes s tag roots.MonitorUsed rest z t h e =
-    kind_takes s tag (lone_root monitor_used) (number_format s) (λ r. refl) (λ r w. record { object = w; origin = tt })
-    (λ r w. sym t) rest z h e
-root_takes s tag roots.ThreadObject rest z t h e =
-    kind_takes s tag (root_with_two thread_object) (three_numbers s) (λ r. refl)
-    (λ r w. record { object = w.0; origin = w.1 }) (λ r w. sym t) rest z h e
+-- ---- roots, by how many numbers stand behind the object
 
-root_fails : (s tag : ℕ) (kind : RootKind) (rest : List ℕ) (flaw : Flaw) → tag ≡ root_tag kind → IsBytes rest
-    → root_at s kind rest ≡ Err flaw → SubBreaks s tag rest flaw
-root_fails s tag roots.Unknown rest flaw t h e =
-    kind_fails s tag (lone_root unknown) (number_format s) (λ r. refl) (λ r w. record { object = w; origin = tt })
-    (λ r w. sym t) rest flaw h e
-root_fails s tag roots.JniGlobal rest flaw t h e =
-    kind_fails s tag (root_with jni_global) (two_numbers s s) (λ r. refl)
-    (λ r w. record { object = w.0; origin = w.1 }) (λ r w. sym t) rest flaw h e
-root_fails s tag roots.JniLocal rest flaw t h e =
-    kind_fails s tag (root_with_two jni_local) (three_numbers s) (λ r. refl)
-    (λ r w. record { object = w.0; origin = w.1 }) (λ r w. sym t) rest flaw h e
-root_fails s tag roots.JavaFrame rest flaw t h e =
-    kind_fails s tag (root_with_two java_frame) (three_numbers s) (λ r. refl)
-    (λ r w. record { object = w.0; origin = w.1 }) (λ r w. sym t) rest flaw h e
-root_fails s tag roots.NativeStack rest flaw t h e =
-    kind_fails s tag (root_with native_stack) (two_numbers s 4) (λ r. refl)
-    (λ r w. record { object = w.0; origin = w.1 }) (λ r w. sym t) rest flaw h e
-root_fails s tag roots.StickyClass rest flaw t h e =
-    kind_fails s tag (lone_root sticky_class) (number_format s) (λ r. refl) (λ r w. record { object = w; origin = tt })
-    (λ r w. sym t) rest flaw h e
-root_fails s tag roots.ThreadBlock rest flaw t h e =
-    kind_fails s tag (root_with thread_block) (two_numbers s 4) (λ r. refl)
-    (λ r w. record { object = w.0; origin = w.1 }) (λ r w. sym t) rest flaw h e
-root_fails s tag roots.MonitorUsed rest flaw t h e =
-    kind_fails s tag (lone_root monitor_used) (number_format s) (λ r. refl) (λ r w. record { object = w; origin = tt })
-    (λ r w. sym t) rest flaw h e
-root_fails s tag roots.ThreadObject rest flaw t h e =
-    kind_fails s tag (root_with_two thread_object) (three_numbers s) (λ r. refl)
-    (λ r w. record { object = w.0; origin = w.1 }) (λ r w. sym t) rest flaw h e
+no_number : (s tag : ℕ) (o : RootOrigin) → origin_fields s o ≡ [] → IsOrigin s o → tag ≡ origin_tag o
+    → KindFormat s tag (lone_root o) (λ n. n < 256 ^ s) (λ n. number s n ∷ []) (number_at s)
+no_number s tag o fields is t = record {
+  under = number_format s;
+  fields_are = λ n. ap (λ (more : List Field). number s n ∷ more) fields;
+  in_bounds = λ n h. record { object = h; origin = is };
+  tag_is = λ n h. sym t;
+}
 
-root_again : (s object : ℕ) (origin : RootOrigin) (rest : List ℕ)
-    → IsRoot s (record { object = object; origin = origin })
-    → AreAllowed (root_fields s (record { object = object; origin = origin }))
-    → root_at s (origin_kind origin) (spelled (root_fields s (record { object = object; origin = origin })) ++ rest)
-    ≡ Ok (root (record { object = object; origin = origin }), rest)
-root_again s object unknown rest is allowed =
-    kind_again s (root_tag roots.Unknown) (lone_root unknown) (number_format s) (λ r. refl)
-    (λ r w. record { object = w; origin = tt }) (λ r w. refl) object rest is.object allowed
-root_again s object (jni_global reference) rest is allowed =
-    kind_again s (root_tag roots.JniGlobal) (root_with jni_global) (two_numbers s s) (λ r. refl)
-    (λ r w. record { object = w.0; origin = w.1 }) (λ r w. refl) (object, reference) rest (is.object, is.origin) allowed
-root_again s object (jni_local thread frame) rest is allowed =
-    kind_again s (root_tag roots.JniLocal) (root_with_two jni_local) (three_numbers s) (λ r. refl)
-    (λ r w. record { object = w.0; origin = w.1 }) (λ r w. refl) (object, (thread, frame)) rest (is.object, is.origin)
-    allowed
-root_again s object (java_frame thread frame) rest is allowed =
-    kind_again s (root_tag roots.JavaFrame) (root_with_two java_frame) (three_numbers s) (λ r. refl)
-    (λ r w. record { object = w.0; origin = w.1 }) (λ r w. refl) (object, (thread, frame)) rest (is.object, is.origin)
-    allowed
-root_again s object (native_stack thread) rest is allowed =
-    kind_again s (root_tag roots.NativeStack) (root_with native_stack) (two_numbers s 4) (λ r. refl)
-    (λ r w. record { object = w.0; origin = w.1 }) (λ r w. refl) (object, thread) rest (is.object, is.origin) allowed
-root_again s object sticky_class rest is allowed =
-    kind_again s (root_tag roots.StickyClass) (lone_root sticky_class) (number_format s) (λ r. refl)
-    (λ r w. record { object = w; origin = tt }) (λ r w. refl) object rest is.object allowed
-root_again s object (thread_block thread) rest is allowed =
-    kind_again s (root_tag roots.ThreadBlock) (root_with thread_block) (two_numbers s 4) (λ r. refl)
-    (λ r w. record { object = w.0; origin = w.1 }) (λ r w. refl) (object, thread) rest (is.object, is.origin) allowed
-root_again s object monitor_used rest is allowed =
-    kind_again s (root_tag roots.MonitorUsed) (lone_root monitor_used) (number_format s) (λ r. refl)
-    (λ r w. record { object = w; origin = tt }) (λ r w. refl) object rest is.object allowed
-root_again s object (thread_object thread stack) rest is allowed =
-    kind_again s (root_tag roots.ThreadObject) (root_with_two thread_object) (three_numbers s) (λ r. refl)
-    (λ r w. record { object = w.0; origin = w.1 }) (λ r w. refl) (object, (thread, stack)) rest (is.object, is.origin)
-    allowed
+one_number : (s tag w : ℕ) (o : ℕ → RootOrigin) → ((n : ℕ) → origin_fields s (o n) ≡ number w n ∷ [])
+    → ((n : ℕ) → n < 256 ^ w → IsOrigin s (o n)) → ((n : ℕ) → tag ≡ origin_tag (o n))
+    → KindFormat s tag (root_with o) (λ p. (p.0 < 256 ^ s) × (p.1 < 256 ^ w))
+    (λ p. number s p.0 ∷ number w p.1 ∷ []) (numbers_at s w)
+one_number s tag w o fields is t = record {
+  under = two_numbers s w;
+  fields_are = λ p. ap (λ (more : List Field). number s p.0 ∷ more) (fields p.1);
+  in_bounds = λ p h. record { object = h.0; origin = is p.1 h.1 };
+  tag_is = λ p h. sym (t p.1);
+}
 
-root_fails_again : (s object : ℕ) (origin : RootOrigin) (rest : List ℕ) (flaw : Flaw)
-    → IsRoot s (record { object = object; origin = origin })
-    → Breaks flaw (root_fields s (record { object = object; origin = origin })) rest
-    → root_at s (origin_kind origin) rest ≡ Err flaw
-root_fails_again s object unknown rest flaw is b =
-    kind_fails_again s (root_tag roots.Unknown) (lone_root unknown) (number_format s) (λ r. refl)
-    (λ r w. record { object = w; origin = tt }) (λ r w. refl) object rest flaw is.object b
-root_fails_again s object (jni_global reference) rest flaw is b =
-    kind_fails_again s (root_tag roots.JniGlobal) (root_with jni_global) (two_numbers s s) (λ r. refl)
-    (λ r w. record { object = w.0; origin = w.1 }) (λ r w. refl) (object, reference) rest flaw (is.object, is.origin) b
-root_fails_again s object (jni_local thread frame) rest flaw is b =
-    kind_fails_again s (root_tag roots.JniLocal) (root_with_two jni_local) (three_numbers s) (λ r. refl)
-    (λ r w. record { object = w.0; origin = w.1 }) (λ r w. refl) (object, (thread, frame)) rest flaw
-    (is.object, is.origin) b
-root_fails_again s object (java_frame thread frame) rest flaw is b =
-    kind_fails_again s (root_tag roots.JavaFrame) (root_with_two java_frame) (three_numbers s) (λ r. refl)
-    (λ r w. record { object = w.0; origin = w.1 }) (λ r w. refl) (object, (thread, frame)) rest flaw
-    (is.object, is.origin) b
-root_fails_again s object (native_stack thread) rest flaw is b =
-    kind_fails_again s (root_tag roots.NativeStack) (root_with native_stack) (two_numbers s 4) (λ r. refl)
-    (λ r w. record { object = w.0; origin = w.1 }) (λ r w. refl) (object, thread) rest flaw (is.object, is.origin) b
-root_fails_again s object sticky_class rest flaw is b =
-    kind_fails_again s (root_tag roots.StickyClass) (lone_root sticky_class) (number_format s) (λ r. refl)
-    (λ r w. record { object = w; origin = tt }) (λ r w. refl) object rest flaw is.object b
-root_fails_again s object (thread_block thread) rest flaw is b =
-    kind_fails_again s (root_tag roots.ThreadBlock) (root_with thread_block) (two_numbers s 4) (λ r. refl)
-    (λ r w. record { object = w.0; origin = w.1 }) (λ r w. refl) (object, thread) rest flaw (is.object, is.origin) b
-root_fails_again s object monitor_used rest flaw is b =
-    kind_fails_again s (root_tag roots.MonitorUsed) (lone_root monitor_used) (number_format s) (λ r. refl)
-    (λ r w. record { object = w; origin = tt }) (λ r w. refl) object rest flaw is.object b
-root_fails_again s object (thread_object thread stack) rest flaw is b =
-    kind_fails_again s (root_tag roots.ThreadObject) (root_with_two thread_object) (three_numbers s) (λ r. refl)
-    (λ r w. record { object = w.0; origin = w.1 }) (λ r w. refl) (object, (thread, stack)) rest flaw
-    (is.object, is.origin) b
+two_more : (s tag : ℕ) (o : ℕ → ℕ → RootOrigin)
+    → ((m n : ℕ) → origin_fields s (o m n) ≡ number 4 m ∷ number 4 n ∷ [])
+    → ((m n : ℕ) → (m < 256 ^ 4) × (n < 256 ^ 4) → IsOrigin s (o m n)) → ((m n : ℕ) → tag ≡ origin_tag (o m n))
+    → KindFormat s tag (root_with_two o) (λ p. (p.0 < 256 ^ s) × ((p.1.0 < 256 ^ 4) × (p.1.1 < 256 ^ 4)))
+    (λ p. number s p.0 ∷ number 4 p.1.0 ∷ number 4 p.1.1 ∷ []) (then_at (number_at s) (λ _. numbers_at 4 4))
+two_more s tag o fields is t = record {
+  under = three_numbers s;
+  fields_are = λ p. ap (λ (more : List Field). number s p.0 ∷ more) (fields p.1.0 p.1.1);
+  in_bounds = λ p h. record { object = h.0; origin = is p.1.0 p.1.1 h.1 };
+  tag_is = λ p h. sym (t p.1.0 p.1.1);
+}
+
+root_read : (s tag : ℕ) (kind : RootKind) → tag ≡ root_tag kind → ReadsKind s tag (root_at s kind)
+root_read s tag roots.Unknown t = read_kind (no_number s tag unknown refl tt t)
+root_read s tag roots.JniGlobal t = read_kind (one_number s tag s jni_global (λ n. refl) (λ n h. h) (λ n. t))
+root_read s tag roots.JniLocal t = read_kind (two_more s tag jni_local (λ m n. refl) (λ m n h. h) (λ m n. t))
+root_read s tag roots.JavaFrame t = read_kind (two_more s tag java_frame (λ m n. refl) (λ m n h. h) (λ m n. t))
+root_read s tag roots.NativeStack t = read_kind (one_number s tag 4 native_stack (λ n. refl) (λ n h. h) (λ n. t))
+root_read s tag roots.StickyClass t = read_kind (no_number s tag sticky_class refl tt t)
+root_read s tag roots.ThreadBlock t = read_kind (one_number s tag 4 thread_block (λ n. refl) (λ n h. h) (λ n. t))
+root_read s tag roots.MonitorUsed t = read_kind (no_number s tag monitor_used refl tt t)
+root_read s tag roots.ThreadObject t = read_kind (two_more s tag thread_object (λ m n. refl) (λ m n h. h) (λ m n. t))
+
+root_back : (s object : ℕ) (o : RootOrigin) → IsRoot s (record { object = object; origin = o })
+    → ReadsBack s (root (record { object = object; origin = o })) (root_at s (origin_kind o))
+root_back s object unknown is = read_back (no_number s 0xFF unknown refl tt refl) object is.object
+root_back s object (jni_global reference) is =
+    read_back (one_number s 1 s jni_global (λ n. refl) (λ n h. h) (λ n. refl)) (object, reference)
+    (is.object, is.origin)
+root_back s object (jni_local thread frame) is =
+    read_back (two_more s 2 jni_local (λ m n. refl) (λ m n h. h) (λ m n. refl)) (object, (thread, frame))
+    (is.object, is.origin)
+root_back s object (java_frame thread frame) is =
+    read_back (two_more s 3 java_frame (λ m n. refl) (λ m n h. h) (λ m n. refl)) (object, (thread, frame))
+    (is.object, is.origin)
+root_back s object (native_stack thread) is =
+    read_back (one_number s 4 4 native_stack (λ n. refl) (λ n h. h) (λ n. refl)) (object, thread) (is.object, is.origin)
+root_back s object sticky_class is = read_back (no_number s 5 sticky_class refl tt refl) object is.object
+root_back s object (thread_block thread) is =
+    read_back (one_number s 6 4 thread_block (λ n. refl) (λ n h. h) (λ n. refl)) (object, thread) (is.object, is.origin)
+root_back s object monitor_used is = read_back (no_number s 7 monitor_used refl tt refl) object is.object
+root_back s object (thread_object thread stack) is =
+    read_back (two_more s 8 thread_object (λ m n. refl) (λ m n h. h) (λ m n. refl)) (object, (thread, stack))
+    (is.object, is.origin)
 
 -- ---- any sub-record
+
+class_kind : (s tag : ℕ) → tag ≡ 0x20 → KindFormat s tag class_dump (IsClass s) (class_fields s) (class_dump_at s)
+class_kind s tag t =
+    record { under = class_format s; fields_are = λ c. refl; in_bounds = λ c h. h; tag_is = λ c h. sym t }
+
+instance_kind : (s tag : ℕ) → tag ≡ 0x21
+    → KindFormat s tag instance_dump (IsInstance s) (instance_fields s) (instance_at s)
+instance_kind s tag t =
+    record { under = instance_format s; fields_are = λ i. refl; in_bounds = λ i h. h; tag_is = λ i h. sym t }
+
+object_array_kind : (s tag : ℕ) → tag ≡ 0x22
+    → KindFormat s tag object_array_dump (IsObjectArray s) (object_array_fields s) (object_array_at s)
+object_array_kind s tag t =
+    record { under = object_array_format s; fields_are = λ a. refl; in_bounds = λ a h. h; tag_is = λ a h. sym t }
+
+primitive_array_kind : (s tag : ℕ) → tag ≡ 0x23
+    → KindFormat s tag primitive_array_dump (IsPrimitiveArray s) (primitive_array_fields s) (primitive_array_at s)
+primitive_array_kind s tag t =
+    record { under = primitive_array_format s; fields_are = λ a. refl; in_bounds = λ a h. h; tag_is = λ a h. sym t }
+
+body_read : (s tag : ℕ) (kind : Kind) → kind_of tag ≡ Some kind → ReadsKind s tag (body_at s (Some kind))
+body_read s tag (kinds.Root kind) k = root_read s tag kind (root_tag_is tag kind k)
+body_read s tag kinds.Class k = read_kind (class_kind s tag (class_tag tag k))
+body_read s tag kinds.Instance k = read_kind (instance_kind s tag (instance_tag tag k))
+body_read s tag kinds.ObjectArray k = read_kind (object_array_kind s tag (object_array_tag tag k))
+body_read s tag kinds.PrimitiveArray k = read_kind (primitive_array_kind s tag (primitive_array_tag tag k))
+
+sub_back : (s : ℕ) (x : SubRecord) → IsFormed s x → ReadsBack s x (body_at s (Some (sub_kind x)))
+sub_back s (root r) h = root_back s r.object r.origin (bounds h)
+sub_back s (class_dump c) h = read_back (class_kind s 0x20 refl) c (bounds h)
+sub_back s (instance_dump i) h = read_back (instance_kind s 0x21 refl) i (bounds h)
+sub_back s (object_array_dump a) h = read_back (object_array_kind s 0x22 refl) a (bounds h)
+sub_back s (primitive_array_dump a) h = read_back (primitive_array_kind s 0x23 refl) a (bounds h)
 
 body_takes : (s tag : ℕ) (kind : Option Kind) (rest : List ℕ) (z : SubRecord × List ℕ) → kind_of tag ≡ kind
     → IsBytes rest → body_at s kind rest ≡ Ok z → SubTaken s (tag ∷ rest) z.0 z.1
 body_takes s tag None rest z k h e = absurd (cc)
-body_takes s tag (Some (kinds.Root kind)) rest z k h e = root_takes s tag kind rest z (root_tag_is tag kind k) h e
-body_takes s tag (Some kinds.Class) rest z k h e =
-    let t = class_tag tag k in
-    kind_takes s tag class_dump (class_format s) (λ c. refl) (λ c w. w) (λ c w. sym t) rest z h e
-body_takes s tag (Some kinds.Instance) rest z k h e =
-    let t = instance_tag tag k in
-    kind_takes s tag instance_dump (instance_format s) (λ i. refl) (λ i w. w) (λ i w. sym t) rest z h e
-body_takes s tag (Some kinds.ObjectArray) rest z k h e =
-    let t = object_array_tag tag k in
-    kind_takes s tag object_array_dump (object_array_format s) (λ a. refl) (λ a w. w) (λ a w. sym t) rest z h e
-body_takes s tag (Some kinds.PrimitiveArray) rest z k h e =
-    let t = primitive_array_tag tag k in
-    kind_takes s tag primitive_array_dump (primitive_array_format s) (λ a. refl) (λ a w. w) (λ a w. sym t) rest z h e
+body_takes s tag (Some kind) rest z k h e = (body_read s tag kind k).takes rest z h e
 
 -- what is read was spelled
 pub sub_takes : (s : ℕ) (bytes : List ℕ) (z : SubRecord × List ℕ) → IsBytes bytes → sub_record_at s bytes ≡ Ok z
@@ -244,37 +229,9 @@ sub_takes s (tag ∷ rest) z h e = body_takes s tag (kind_of tag) rest z refl (b
 pub sub_again : (s : ℕ) (x : SubRecord) (rest : List ℕ) → IsSubRecord s x
     → sub_record_at s (spelling_of s x ++ rest) ≡ Ok (x, rest)
 unfolding sub_record_at
-sub_again s (root r) rest h = rw (kind_says (root r)) (root_again s r.object r.origin rest (bounds h.formed) h.allowed)
-sub_again s (class_dump c) rest h =
-    rw (kind_says (class_dump c)) (kind_again s 0x20 class_dump (class_format s) (λ x. refl) (λ x w. w) (λ x w. refl) c
-    rest (bounds h.formed) h.allowed)
-sub_again s (instance_dump i) rest h =
-    rw (kind_says (instance_dump i)) (kind_again s 0x21 instance_dump (instance_format s) (λ x. refl) (λ x w. w)
-    (λ x w. refl) i rest (bounds h.formed) h.allowed)
-sub_again s (object_array_dump a) rest h =
-    rw (kind_says (object_array_dump a)) (kind_again s 0x22 object_array_dump (object_array_format s) (λ x. refl)
-    (λ x w. w) (λ x w. refl) a rest (bounds h.formed) h.allowed)
-sub_again s (primitive_array_dump a) rest h =
-    rw (kind_says (primitive_array_dump a)) (kind_again s 0x23 primitive_array_dump (primitive_array_format s)
-    (λ x. refl) (λ x w. w) (λ x w. refl) a rest (bounds h.formed) h.allowed)
+sub_again s x rest h = rw (kind_says x) ((sub_back s x h.formed).again rest h.allowed)
 
 -- ---- flaws
-
-body_fails : (s tag : ℕ) (kind : Kind) (rest : List ℕ) (flaw : Flaw) → kind_of tag ≡ Some kind → IsBytes rest
-    → body_at s (Some kind) rest ≡ Err flaw → SubBreaks s tag rest flaw
-body_fails s tag (kinds.Root kind) rest flaw k h e = root_fails s tag kind rest flaw (root_tag_is tag kind k) h e
-body_fails s tag kinds.Class rest flaw k h e =
-    let t = class_tag tag k in
-    kind_fails s tag class_dump (class_format s) (λ c. refl) (λ c w. w) (λ c w. sym t) rest flaw h e
-body_fails s tag kinds.Instance rest flaw k h e =
-    let t = instance_tag tag k in
-    kind_fails s tag instance_dump (instance_format s) (λ i. refl) (λ i w. w) (λ i w. sym t) rest flaw h e
-body_fails s tag kinds.ObjectArray rest flaw k h e =
-    let t = object_array_tag tag k in
-    kind_fails s tag object_array_dump (object_array_format s) (λ a. refl) (λ a w. w) (λ a w. sym t) rest flaw h e
-body_fails s tag kinds.PrimitiveArray rest flaw k h e =
-    let t = primitive_array_tag tag k in
-    kind_fails s tag primitive_array_dump (primitive_array_format s) (λ a. refl) (λ a w. w) (λ a w. sym t) rest flaw h e
 
 break_fault : (s tag : ℕ) (rest : List ℕ) (flaw : Flaw) → SubBreaks s tag rest flaw
     → SubFault s (tag ∷ rest) (flaw_code flaw)
@@ -289,7 +246,7 @@ kind_fault : (s tag : ℕ) (kind : Option Kind) (rest : List ℕ) (flaw : Flaw) 
 kind_fault s tag None rest flaw k h e =
     let same : UnknownTag ≡ flaw = cc in
     subst (λ (f : Flaw). SubFault s (tag ∷ rest) (flaw_code f)) same (unknown_tag tag rest (no_sub_tag tag k))
-kind_fault s tag (Some kind) rest flaw k h e = break_fault s tag rest flaw (body_fails s tag kind rest flaw k h e)
+kind_fault s tag (Some kind) rest flaw k h e = break_fault s tag rest flaw ((body_read s tag kind k).fails rest flaw h e)
 
 -- a flaw shows the fault
 pub sub_fails : (s tag : ℕ) (rest : List ℕ) (flaw : Flaw) → IsBytes (tag ∷ rest)
@@ -302,20 +259,7 @@ sub_fails s tag rest flaw h e = kind_fault s tag (kind_of tag) rest flaw refl (b
 body_fails_again : (s : ℕ) (x : SubRecord) (rest : List ℕ) (flaw : Flaw) → IsFormed s x
     → Breaks flaw (fields_of s x) rest → sub_record_at s (tag_of x ∷ rest) ≡ Err flaw
 unfolding sub_record_at
-body_fails_again s (root r) rest flaw h b =
-    rw (kind_says (root r)) (root_fails_again s r.object r.origin rest flaw (bounds h) b)
-body_fails_again s (class_dump c) rest flaw h b =
-    rw (kind_says (class_dump c)) (kind_fails_again s 0x20 class_dump (class_format s) (λ x. refl) (λ x w. w)
-    (λ x w. refl) c rest flaw (bounds h) b)
-body_fails_again s (instance_dump i) rest flaw h b =
-    rw (kind_says (instance_dump i)) (kind_fails_again s 0x21 instance_dump (instance_format s) (λ x. refl) (λ x w. w)
-    (λ x w. refl) i rest flaw (bounds h) b)
-body_fails_again s (object_array_dump a) rest flaw h b =
-    rw (kind_says (object_array_dump a)) (kind_fails_again s 0x22 object_array_dump (object_array_format s) (λ x. refl)
-    (λ x w. w) (λ x w. refl) a rest flaw (bounds h) b)
-body_fails_again s (primitive_array_dump a) rest flaw h b =
-    rw (kind_says (primitive_array_dump a)) (kind_fails_again s 0x23 primitive_array_dump (primitive_array_format s)
-    (λ x. refl) (λ x w. w) (λ x w. refl) a rest flaw (bounds h) b)
+body_fails_again s x rest flaw h b = rw (kind_says x) ((sub_back s x h).fails_again rest flaw b)
 
 unknown_read : (s tag : ℕ) (rest : List ℕ) → is_sub_tag tag ≡ false → sub_record_at s (tag ∷ rest) ≡ Err UnknownTag
 unfolding sub_record_at
