@@ -1,5 +1,5 @@
 -- The parts of a class dump that have counts, as they are read.
-use Rattle.std.proofs.Common.{List, [], ap, append_assoc, arith, drop, flat_map, length, map, subst, sym, ℕ, ◌*◌, ◌++◌}
+use Rattle.std.proofs.Common.{List, [], ap, append_assoc, arith, drop, flat_map, length, map, refl, subst, sym, ℕ, ◌*◌, ◌++◌}
 use Rattle.std.proofs.Common.{◌+◌, ◌<◌, ◌^◌, ◌∙◌, ◌∷◌, ◌≡◌, ◌≤◌}
 use Rattle.std.proofs.lemmas.List.{length-append, length-drop}
 use Rattle.std.proofs.Math.Seq.{drop-append_seam}
@@ -17,11 +17,10 @@ use Rattle.hprof_grammar.specs.Standing.{Sight, Stands}
 use Rattle.hprof_grammar.specs.Series.{HasCountedValues, LabelledValue, behind_counted_values, count_in}
 use Rattle.hprof_grammar.specs.Series.{counted_values_in, members_in, of_constant, of_static}
 use Rattle.hprof_grammar.specs.working.ClassParts.{IsPartOf, counted_fields, fields_from_constants, fields_from_members}
-use Rattle.hprof_grammar.specs.working.ClassParts.{fields_from_statics}
+use Rattle.hprof_grammar.specs.working.ClassParts.{fields_from_statics, ids_behind_stack}
 use Rattle.hprof_grammar.proofs.BoundsLaws.{bounds}
 use Rattle.hprof_grammar.proofs.Fields.{spelled_then}
-use Rattle.hprof_grammar.proofs.Places.{Spell, fields_stand, in_sight, length-spelled}
-use Rattle.hprof_grammar.proofs.FieldsStand.{class_stands}
+use Rattle.hprof_grammar.proofs.Places.{Spell, fields_in, in_sight, length-spelled}
 use Rattle.hprof_grammar.proofs.SeriesRead.{AreValues, members_again, values_again, widths-members}
 
 -- a count of 2 bytes stands first
@@ -82,17 +81,18 @@ constant_values s c bytes h =
     (values_again s 2 InConstant (λ k. k.index) (λ k. k.type) (λ k. k.value) c.constants behind
     (constants_fit s c.constants h.is.constants))
 
-pub constants_room : (s : ℕ) (c : Class) (bytes : List ℕ) → IsPartOf s c (fields_from_constants s c) bytes
+pub constants_room : {s : ℕ} {c : Class} {bytes : List ℕ} → IsPartOf s c (fields_from_constants s c) bytes
     → HasCountedValues s 2 bytes
-constants_room s c bytes h = (constant_values s c bytes h).room
+constants_room {s} {c} {bytes} h = (constant_values s c bytes h).room
 
-pub constants_read : (s : ℕ) (c : Class) (bytes : List ℕ) → IsPartOf s c (fields_from_constants s c) bytes
+pub constants_read : {s : ℕ} {c : Class} {bytes : List ℕ} → IsPartOf s c (fields_from_constants s c) bytes
     → counted_values_in s 2 bytes ≡ map of_constant c.constants
-constants_read s c bytes h = (constant_values s c bytes h).values
+constants_read {s} {c} {bytes} h = (constant_values s c bytes h).values
 
-pub behind_constants : (s : ℕ) (c : Class) (bytes : List ℕ) → IsPartOf s c (fields_from_constants s c) bytes
-    → IsPartOf s c (fields_from_statics s c) (behind_counted_values s 2 bytes)
-behind_constants s c bytes h = record { rest = h.rest; bytes_are = (constant_values s c bytes h).behind; is = h.is }
+pub behind_constants : {s : ℕ} {c : Class} {bytes behind : List ℕ} → IsPartOf s c (fields_from_constants s c) bytes
+    → behind ≡ behind_counted_values s 2 bytes → IsPartOf s c (fields_from_statics s c) behind
+behind_constants {s} {c} {bytes} h e =
+    record { rest = h.rest; bytes_are = e ∙ (constant_values s c bytes h).behind; is = h.is }
 
 static_values : (s : ℕ) (c : Class) (bytes : List ℕ) (h : IsPartOf s c (fields_from_statics s c) bytes)
     → IsCountedValues s s (map of_static c.statics) (spelled (fields_from_members s c) ++ h.rest) bytes
@@ -104,17 +104,18 @@ static_values s c bytes h =
     (values_again s s InStatic (λ f. f.name) (λ f. f.type) (λ f. f.value) c.statics behind
     (statics_fit s c.statics h.is.statics))
 
-pub statics_room : (s : ℕ) (c : Class) (bytes : List ℕ) → IsPartOf s c (fields_from_statics s c) bytes
+pub statics_room : {s : ℕ} {c : Class} {bytes : List ℕ} → IsPartOf s c (fields_from_statics s c) bytes
     → HasCountedValues s s bytes
-statics_room s c bytes h = (static_values s c bytes h).room
+statics_room {s} {c} {bytes} h = (static_values s c bytes h).room
 
-pub statics_read : (s : ℕ) (c : Class) (bytes : List ℕ) → IsPartOf s c (fields_from_statics s c) bytes
+pub statics_read : {s : ℕ} {c : Class} {bytes : List ℕ} → IsPartOf s c (fields_from_statics s c) bytes
     → counted_values_in s s bytes ≡ map of_static c.statics
-statics_read s c bytes h = (static_values s c bytes h).values
+statics_read {s} {c} {bytes} h = (static_values s c bytes h).values
 
-pub behind_statics : (s : ℕ) (c : Class) (bytes : List ℕ) → IsPartOf s c (fields_from_statics s c) bytes
-    → IsPartOf s c (fields_from_members s c) (behind_counted_values s s bytes)
-behind_statics s c bytes h = record { rest = h.rest; bytes_are = (static_values s c bytes h).behind; is = h.is }
+pub behind_statics : {s : ℕ} {c : Class} {bytes behind : List ℕ} → IsPartOf s c (fields_from_statics s c) bytes
+    → behind ≡ behind_counted_values s s bytes → IsPartOf s c (fields_from_members s c) behind
+behind_statics {s} {c} {bytes} h e =
+    record { rest = h.rest; bytes_are = e ∙ (static_values s c bytes h).behind; is = h.is }
 
 members_counted : (s : ℕ) (c : Class) (bytes : List ℕ) (h : IsPartOf s c (fields_from_members s c) bytes)
     → IsCounted (length c.members) (spelled (flat_map (member_fields s) c.members) ++ h.rest) bytes
@@ -126,9 +127,9 @@ members_counted s c bytes h =
     subst (λ (l : List ℕ). IsCounted (length c.members) inner l) (sym parts)
     (count_again (length c.members) inner h.is.member_count)
 
-pub members_room : (s : ℕ) (c : Class) (bytes : List ℕ) → IsPartOf s c (fields_from_members s c) bytes
+pub members_room : {s : ℕ} {c : Class} {bytes : List ℕ} → IsPartOf s c (fields_from_members s c) bytes
     → 2 + count_in bytes * (s + 1) ≤ length bytes
-members_room s c bytes h =
+members_room {s} {c} {bytes} h =
     let counted = members_counted s c bytes h in
     let fields = flat_map (member_fields s) c.members in
     rw counted.count (omega (
@@ -141,49 +142,32 @@ members_room s c bytes h =
       widths-members s c.members,
     ))
 
-pub members_read : (s : ℕ) (c : Class) (bytes : List ℕ) → IsPartOf s c (fields_from_members s c) bytes
+pub members_read : {s : ℕ} {c : Class} {bytes : List ℕ} → IsPartOf s c (fields_from_members s c) bytes
     → members_in s (count_in bytes) (drop 2 bytes) ≡ c.members
-members_read s c bytes h =
+members_read {s} {c} {bytes} h =
     let counted = members_counted s c bytes h in
     rw (counted.count, counted.behind) (members_again s c.members h.rest h.is.members)
 
--- ---- the same where w is what the fields of a view show, and v is the view
+-- ---- where w is what the fields of a view show, and v is the view
 
-pub constants_stand : {v w : Sight} → w ≡ v → (at : ℕ) (c : Class) → Stands v at (class_dump c)
+pub constants_stand : {v w : Sight} {at : ℕ} {c : Class} → w ≡ v → Stands v at (class_dump c)
     → Spell w.bytes (at + 9 + 7 * w.id_size) (spelled (fields_from_constants w.id_size c))
-constants_stand {v} {w} e at c h =
+constants_stand {w = w} {c = c} e h =
     let s = w.id_size in
-    fields_stand w.bytes at 0x20 (at + 9 + 7 * s)
-    (number s c.object ∷ number 4 c.stack ∷ number s c.super ∷ number s c.loader ∷ number s c.signers ∷ number s
-    c.domain ∷ number s c.reserved ∷ number s c.reserved_too ∷ number 4 c.instance_size ∷ [])
-    (fields_from_constants s c) (class_stands e at c h) (omega arith)
+    let front = number s c.object ∷ number 4 c.stack ∷ map (number s) (ids_behind_stack c)
+    ++ number 4 c.instance_size ∷ [] in
+    fields_in front (fields_from_constants s c) (in_sight e h) refl (omega arith)
 
-pub constants_part : {v w : Sight} → w ≡ v → (at : ℕ) (c : Class) → Stands v at (class_dump c)
-    → IsPartOf v.id_size c (fields_from_constants v.id_size c) (drop (at + 9 + 7 * w.id_size) w.bytes)
-constants_part {v} {w} e at c h =
-    let there = constants_stand e at c h in
-    subst (λ (x : Sight). IsPartOf x.id_size c (fields_from_constants x.id_size c)
-    (drop (at + 9 + 7 * w.id_size) w.bytes)) e
-    (record {
-      rest = there.rest;
-      bytes_are = there.bytes_are;
-      is = bounds (in_sight v w at (class_dump c) e h).is.formed;
-    })
+-- a part of a class, as the view says it and as its fields do
+pub part_seen : {v w : Sight} {c : Class} {bytes : List ℕ} (fields : ℕ → Class → List Field) → w ≡ v
+    → IsPartOf v.id_size c (fields v.id_size c) bytes → IsPartOf w.id_size c (fields w.id_size c) bytes
+part_seen {c = c} {bytes = bytes} fields e h =
+    subst (λ (x : Sight). IsPartOf x.id_size c (fields x.id_size c) bytes) (sym e) h
 
-pub constants_seen : {v w : Sight} → w ≡ v → (c : Class) (bytes : List ℕ)
+pub constants_part : {v w : Sight} {at : ℕ} {c : Class} {bytes : List ℕ} → w ≡ v
+    → bytes ≡ drop (at + 9 + 7 * w.id_size) w.bytes → Stands v at (class_dump c)
     → IsPartOf v.id_size c (fields_from_constants v.id_size c) bytes
-    → IsPartOf w.id_size c (fields_from_constants w.id_size c) bytes
-constants_seen {v} {w} e c bytes h =
-    subst (λ (x : Sight). IsPartOf x.id_size c (fields_from_constants x.id_size c) bytes) (sym e) h
-
-pub statics_seen : {v w : Sight} → w ≡ v → (c : Class) (bytes : List ℕ)
-    → IsPartOf v.id_size c (fields_from_statics v.id_size c) bytes
-    → IsPartOf w.id_size c (fields_from_statics w.id_size c) bytes
-statics_seen {v} {w} e c bytes h = subst (λ (x : Sight). IsPartOf x.id_size c (fields_from_statics x.id_size c) bytes)
-    (sym e) h
-
-pub statics_shown : {v w : Sight} → w ≡ v → (c : Class) (bytes : List ℕ)
-    → IsPartOf w.id_size c (fields_from_statics w.id_size c) bytes
-    → IsPartOf v.id_size c (fields_from_statics v.id_size c) bytes
-statics_shown {v} {w} e c bytes h =
-    subst (λ (x : Sight). IsPartOf x.id_size c (fields_from_statics x.id_size c) bytes) e h
+constants_part e bytes_are h =
+    let there = constants_stand e h in
+    part_seen fields_from_constants (sym e)
+    (record { rest = there.rest; bytes_are = bytes_are ∙ there.bytes_are; is = bounds (in_sight e h).is.formed })

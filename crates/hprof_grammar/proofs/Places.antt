@@ -5,10 +5,11 @@ use Rattle.std.proofs.lemmas.List.{drop-drop, get_or-drop, length-append, length
 use Rattle.std.proofs.Math.Seq.{drop-append_seam, take-append_seam}
 use Rattle.byteorder.specs.Endian.{big_bytes, big_number}
 use Rattle.byteorder.specs.Numbers.{big_number-reads_back, length-bytes_high_first}
-use Rattle.hprof_grammar.specs.Spelling.{Field, field_spelling, spelled}
+use Rattle.std.specs.List.{AllByRecursion}
+use Rattle.hprof_grammar.specs.Spelling.{Field, Fits, field_spelling, spelled}
 use Rattle.hprof_grammar.specs.Spelling.Field.{number, raw, type_code}
 use Rattle.hprof_grammar.specs.SubRecord.{SubRecord, fields_of, spelling_of, tag_of}
-use Rattle.hprof_grammar.proofs.Fields.{spelled-append}
+use Rattle.hprof_grammar.proofs.Fields.{all_split, spelled-append}
 use Rattle.hprof_grammar.specs.Standing.{Sight, Stands, SubRecordStandsAt}
 
 -- from that place on stand these bytes
@@ -91,25 +92,6 @@ length-spelled [] = refl
 length-spelled (f ∷ fs) = omega
     (arith, length-append (field_spelling f) (spelled fs), length-field_spelling f, length-spelled fs)
 
--- behind a tag and some fields stand the others
-pub fields_stand : (bytes : List ℕ) (at tag place : ℕ) (front more : List Field)
-    → Spell bytes at (tag ∷ spelled (front ++ more)) → place ≡ at + (1 + widths front)
-    → Spell bytes place (spelled more)
-fields_stand bytes at tag place front more h place_is =
-    let parted : Spell bytes at ((tag ∷ spelled front) ++ spelled more) =
-    subst (λ (l : List ℕ). Spell bytes at (tag ∷ l)) (spelled-append front more) h in
-    let there : at + length (tag ∷ spelled front) ≡ place = omega (arith, place_is, length-spelled front) in
-    subst (λ (n : ℕ). Spell bytes n (spelled more)) there
-    (next_stands bytes at (tag ∷ spelled front) (spelled more) parted)
-
-pub number_stands : (bytes : List ℕ) (at tag place : ℕ) (front : List Field) (w n : ℕ) (more : List Field)
-    → Spell bytes at (tag ∷ spelled (front ++ number w n ∷ more)) → n < 256 ^ w
-    → place ≡ at + (1 + widths front) → NumberAt bytes place w n
-number_stands bytes at tag place front w n more h fits place_is =
-    number_read bytes place w n fits
-    (first_stands bytes place (big_bytes w n) (spelled more)
-    (fields_stand bytes at tag place front (number w n ∷ more) h place_is))
-
 -- ---- sub-records
 
 pub sub_stands : (s : ℕ) (bytes : List ℕ) (at : ℕ) (sub : SubRecord) → SubRecordStandsAt s bytes at sub
@@ -117,5 +99,27 @@ pub sub_stands : (s : ℕ) (bytes : List ℕ) (at : ℕ) (sub : SubRecord) → S
 sub_stands s bytes at sub h = some_stand bytes at (tag_of sub) (spelled (fields_of s sub)) h.rest h.bytes_are
 
 -- what stands in sight of the fields of a view
-pub in_sight : (v w : Sight) (at : ℕ) (sub : SubRecord) → w ≡ v → Stands v at sub → Stands w at sub
-in_sight v w at sub e h = subst (λ (x : Sight). Stands x at sub) (sym e) h
+pub in_sight : {v w : Sight} {at : ℕ} {sub : SubRecord} → w ≡ v → Stands v at sub → Stands w at sub
+in_sight {v} {w} {at} {sub} e h = subst (λ (x : Sight). Stands x at sub) (sym e) h
+
+-- behind the tag and the first fields stand the others
+pub fields_in : {s at place : ℕ} {bytes : List ℕ} {sub : SubRecord} (front more : List Field)
+    → SubRecordStandsAt s bytes at sub → fields_of s sub ≡ front ++ more → place ≡ at + (1 + widths front)
+    → Spell bytes place (spelled more)
+fields_in {s} {at} {place} {bytes} {sub} front more h are place_is =
+    let tag = tag_of sub in
+    let parts : spelled (fields_of s sub) ≡ spelled front ++ spelled more = ap spelled are ∙ spelled-append front more in
+    let parted : Spell bytes at ((tag ∷ spelled front) ++ spelled more) =
+    subst (λ (l : List ℕ). Spell bytes at (tag ∷ l)) parts (sub_stands s bytes at sub h) in
+    let there : at + length (tag ∷ spelled front) ≡ place = omega (arith, place_is, length-spelled front) in
+    subst (λ (n : ℕ). Spell bytes n (spelled more)) there
+    (next_stands bytes at (tag ∷ spelled front) (spelled more) parted)
+
+-- a number among them: it fits its bytes, as all fields do
+pub number_in : {s at place w n : ℕ} {bytes : List ℕ} {sub : SubRecord} (front more : List Field)
+    → SubRecordStandsAt s bytes at sub → fields_of s sub ≡ front ++ number w n ∷ more
+    → place ≡ at + (1 + widths front) → NumberAt bytes place w n
+number_in {s} {at} {place} {w} {n} {bytes} {sub} front more h are place_is =
+    let fit = all_split Fits front (number w n ∷ more) (subst (AllByRecursion Fits) are h.is.formed.numbers) in
+    number_read bytes place w n fit.1.0
+    (first_stands bytes place (big_bytes w n) (spelled more) (fields_in front (number w n ∷ more) h are place_is))

@@ -1,12 +1,10 @@
 -- Superclass, loader, signers and domain stand one after the other, so four numbers read from the first on are they.
-use Rattle.std.proofs.Common.{arith, ◌∙◌}
+use Rattle.std.proofs.Common.{◌∙◌}
 use Rattle.hprof_grammar.proofs.FieldsStand.{leading_ids, leading_ids_room}
 use Rattle.hprof_grammar.proofs.view.View.leading_ids.Goals as goal
 
 pub new-requires-clause-room : goal.new-requires-clause-room
-new-requires-clause-room c =
-    let there = leading_ids_room c.self.view_is c.args.at c.requires.0 c.requires.1 in
-    omega (arith, there)
+new-requires-clause-room c = leading_ids_room c.self.view_is c.requires.1
 
 pub returns : goal.returns
-returns c = λ d h. c.new.ensures ∙ leading_ids c.self.view_is c.args.at d h
+returns c = λ k h. c.new.ensures ∙ leading_ids c.self.view_is h

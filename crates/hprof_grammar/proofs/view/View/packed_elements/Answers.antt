@@ -13,9 +13,9 @@ bytes_at-requires c =
     let total : c.element_count-count.result * c.size_of-size.result ≡ length a.values =
     ap (λ (n : ℕ). n * c.size_of-size.result) (c.element_count-count.ensures a h)
     ∙ ap (λ (n : ℕ). a.count * n) (c.size_of-size.ensures ∙ ap (size_of v.id_size) (c.element_type.ensures a h))
-    ∙ sym (packed_size c.self.view_is c.args.at a h) in
+    ∙ sym (packed_size h) in
     subst (λ (n : ℕ). c.args.at + 10 + c.self.inside.id_size + n ≤ length c.self.inside.bytes.now) (sym total)
-    (packed_elements c.self.view_is c.args.at a h).inside
+    (packed_elements c.self.view_is h).inside
 
 pub returns : goal.returns
 returns c = λ a h.
@@ -23,7 +23,7 @@ returns c = λ a h.
     let total : c.element_count-count.result * c.size_of-size.result ≡ length a.values =
     ap (λ (n : ℕ). n * c.size_of-size.result) (c.element_count-count.ensures a h)
     ∙ ap (λ (n : ℕ). a.count * n) (c.size_of-size.ensures ∙ ap (size_of v.id_size) (c.element_type.ensures a h))
-    ∙ sym (packed_size c.self.view_is c.args.at a h) in
+    ∙ sym (packed_size h) in
     let same = raw_read c.self.inside.bytes.now (c.args.at + 10 + c.self.inside.id_size) a.values
-    (packed_elements c.self.view_is c.args.at a h) in
+    (packed_elements c.self.view_is h) in
     cc (c.bytes_at.ensures, total, same)

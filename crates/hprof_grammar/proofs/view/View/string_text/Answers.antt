@@ -5,26 +5,24 @@ use Rattle.hprof_grammar.proofs.Places.{raw_read}
 use Rattle.hprof_grammar.proofs.view.View.string_text.Goals as goal
 
 pub u32_at-length-requires : goal.u32_at-length-requires
-u32_at-length-requires c =
-    let whole = string_length c.self.view_is c.args.at c.requires.0 c.requires.1 c.requires.2 c.requires.3 in
-    omega (arith, whole.room)
+u32_at-length-requires c = (string_length c.self.view_is c.requires.3).room
 
 pub overflow_sub-length : goal.overflow_sub-length
 overflow_sub-length c =
-    let whole = string_length c.self.view_is c.args.at c.requires.0 c.requires.1 c.requires.2 c.requires.3 in
+    let whole = string_length c.self.view_is c.requires.3 in
     omega (arith, c.u32_at-length.ensures, whole.value)
 
 pub bytes_at-requires : goal.bytes_at-requires
 bytes_at-requires c =
-    let whole = string_length c.self.view_is c.args.at c.requires.0 c.requires.1 c.requires.2 c.requires.3 in
-    let there = string_text c.self.view_is c.args.at c.requires.0 c.requires.1 c.requires.2 c.requires.3 in
+    let whole = string_length c.self.view_is c.requires.3 in
+    let there = string_text c.self.view_is c.requires.3 in
     omega (arith, c.u32_at-length.ensures, whole.value, there.inside)
 
 pub returns : goal.returns
 returns c = λ time id text h.
-    let whole = string_length c.self.view_is c.args.at time id text h in
+    let whole = string_length c.self.view_is h in
     let count : c.u32_at-length.result - c.self.inside.id_size ≡ length text =
     omega (arith, c.u32_at-length.ensures, whole.value) in
     let same = raw_read c.self.inside.bytes.now (c.args.at + 9 + c.self.inside.id_size) text
-    (string_text c.self.view_is c.args.at time id text h) in
+    (string_text c.self.view_is h) in
     cc (c.bytes_at.ensures, count, same)
