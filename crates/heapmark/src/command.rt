@@ -135,7 +135,7 @@ fn answer_words<W: Write, E: Write>(
         → (kind_of error.now ≡ ErrorKind.DisplayHelp) ⊎ (kind_of error.now ≡ ErrorKind.DisplayVersion) }
     ensures usage { result ≡ 2 → (kind_of error.now ≢ ErrorKind.DisplayHelp)
         × (kind_of error.now ≢ ErrorKind.DisplayVersion) × (kind_of error.now ≢ ErrorKind.OutOfMemory) }
-    ensures told { kind_of error.now ≢ ErrorKind.DisplayHelp → kind_of error.now ≢ ErrorKind.DisplayVersion
+    ensures wrong { kind_of error.now ≢ ErrorKind.DisplayHelp → kind_of error.now ≢ ErrorKind.DisplayVersion
         → kind_of error.now ≢ ErrorKind.OutOfMemory → result ≡ 2 }
     ensures silent { result ≡ 0 → Keeps (E.contents err.old) (E.contents err.new) }
     ensures untouched { result ≢ 0 → Keeps (W.contents (inner_of out.old)) (W.contents (inner_of out.new)) }
@@ -168,7 +168,7 @@ pub fn refuse_bytes<E: Write>(err: &mut E) -> u8
 
 /// Answers the exit status of a run on a file, and prints its refusal in one line.
 fn tell<E: Write>(err: &mut E, outcome: &Result<(), Trouble>) -> u8
-    ensures told { OnErr outcome.now (result ≡ 1) }
+    ensures refused { OnErr outcome.now (result ≡ 1) }
     ensures reported { OnOk outcome.now (result ≡ 0) }
     ensures silent { OnOk outcome.now (Keeps (E.contents err.old) (E.contents err.new)) }
 {

@@ -1,5 +1,10 @@
 //! The refusal of a run for that of each of its parts.
 
+ghost use Rattle.std.specs.Prelude.{◌≡◌};
+ghost use Rattle.heapmark.specs.RefusalOf.{form_refusal, link_refusal, reader_refusal, run_refusal, skip_refusal};
+ghost use Rattle.heapmark.specs.RefusalOf.{write_refusal};
+ghost use Rattle.heapmark.specs.Refusals.{out_of_memory};
+
 use super::Refusal;
 use drain::RunFault;
 use heap_graph::{LinkRefusal, SkipRefusal};
@@ -8,9 +13,6 @@ use hprof_grammar::ReadRefusal;
 use std::alloc::AllocError;
 
 impl From<ReaderRefusal> for Refusal {
-    ghost use Rattle.std.specs.Prelude.{◌≡◌};
-    ghost use Rattle.heapmark.specs.RefusalOf.{reader_refusal};
-
     ghost from_gives = { λ refusal r. r ≡ reader_refusal refusal };
 
     fn from(refusal: ReaderRefusal) -> Refusal {
@@ -22,9 +24,6 @@ impl From<ReaderRefusal> for Refusal {
 }
 
 impl From<ReadRefusal> for Refusal {
-    ghost use Rattle.std.specs.Prelude.{◌≡◌};
-    ghost use Rattle.heapmark.specs.RefusalOf.{form_refusal};
-
     ghost from_gives = { λ refusal r. r ≡ form_refusal refusal };
 
     fn from(refusal: ReadRefusal) -> Refusal {
@@ -39,9 +38,6 @@ impl From<ReadRefusal> for Refusal {
 }
 
 impl From<LinkRefusal> for Refusal {
-    ghost use Rattle.std.specs.Prelude.{◌≡◌};
-    ghost use Rattle.heapmark.specs.RefusalOf.{link_refusal};
-
     ghost from_gives = { λ refusal r. r ≡ link_refusal refusal };
 
     fn from(refusal: LinkRefusal) -> Refusal {
@@ -56,9 +52,6 @@ impl From<LinkRefusal> for Refusal {
 }
 
 impl From<SkipRefusal> for Refusal {
-    ghost use Rattle.std.specs.Prelude.{◌≡◌};
-    ghost use Rattle.heapmark.specs.RefusalOf.{skip_refusal};
-
     ghost from_gives = { λ refusal r. r ≡ skip_refusal refusal };
 
     fn from(refusal: SkipRefusal) -> Refusal {
@@ -70,9 +63,6 @@ impl From<SkipRefusal> for Refusal {
 }
 
 impl From<RunFault> for Refusal {
-    ghost use Rattle.std.specs.Prelude.{◌≡◌};
-    ghost use Rattle.heapmark.specs.RefusalOf.{run_refusal};
-
     ghost from_gives = { λ fault r. r ≡ run_refusal fault };
 
     fn from(fault: RunFault) -> Refusal {
@@ -85,9 +75,6 @@ impl From<RunFault> for Refusal {
 }
 
 impl From<WriteRefusal> for Refusal {
-    ghost use Rattle.std.specs.Prelude.{◌≡◌};
-    ghost use Rattle.heapmark.specs.RefusalOf.{write_refusal};
-
     ghost from_gives = { λ refusal r. r ≡ write_refusal refusal };
 
     fn from(refusal: WriteRefusal) -> Refusal {
@@ -99,9 +86,6 @@ impl From<WriteRefusal> for Refusal {
 }
 
 impl From<AllocError> for Refusal {
-    ghost use Rattle.std.specs.Prelude.{◌≡◌};
-    ghost use Rattle.heapmark.specs.Refusals.{out_of_memory};
-
     ghost from_gives = { λ _ r. r ≡ out_of_memory };
 
     fn from(_fault: AllocError) -> Refusal {
