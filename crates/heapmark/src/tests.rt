@@ -23,7 +23,7 @@ mod workers;
 
 ghost use Rattle.std.specs.Prelude.{◌≤◌};
 
-use crate::{Counted, NoGate, Options, Refusal, Skip, run};
+use crate::{Counted, Gate, NoGate, Options, Refusal, Skip, run};
 use std::alloc::{Allocator, Global};
 use std::fmt::Display;
 use std::io::{Read, Write};
@@ -53,30 +53,16 @@ fn least(workers: u32) -> Options
     options
 }
 
-/// A run with these options, which skips no field, and a gate that does nothing.
-fn run_with<T, A, R, W>(
-    rt: &T,
-    alloc: A,
-    options: &Options,
-    reader: R,
-    writer: W,
-) -> (Result<(), Refusal>, W)
-where
-    T: Threads + Wait + Sync,
-    A: Allocator + Sync,
-    R: Read + Drop,
-    W: Write,
-{
-    let skip = Skip::none(&alloc);
-    run_skipping(rt, &alloc, options, &skip, reader, writer)
-}
+/// What a run answers, and how much of its report it has written: none where anything else was written.
+type Answered = (Result<(), Refusal>, Option<usize>);
 
-/// A run with these options, which skips these fields, and a gate that does nothing.
-fn run_skipping<T, A, R, W, B>(
+/// A run with these options, which skips these fields, and this gate.
+fn run_with<T, A, R, W, B, G>(
     rt: &T,
     alloc: A,
     options: &Options,
     skip: &Skip<'_, B>,
+    gate: &G,
     reader: R,
     writer: W,
 ) -> (Result<(), Refusal>, W)
@@ -86,14 +72,44 @@ where
     R: Read + Drop,
     W: Write,
     B: Allocator,
+    G: Gate,
 {
     let mut reader = Counted::new(reader);
     let mut writer = Counted::new(writer);
-    let outcome = run(rt, alloc, &mut reader, &mut writer, options, skip, &NoGate);
+    let outcome = run(rt, alloc, &mut reader, &mut writer, options, skip, gate);
     (outcome, writer.into_inner())
 }
 
-/// Checks that a run with these options answers so and writes this report, in the case of this name or number.
+/// How much of a report was written: none where anything else was.
+fn length_of(written: &[u8], report: &str) -> Option<usize> {
+    if report.as_bytes().starts_with(written) {
+        Some(written.len())
+    } else {
+        None
+    }
+}
+
+/// The answer of a run with these options, which skips these fields, and a gate that does nothing. All that a run
+/// needs is let go of here, so that a test holds nothing while it asserts: that makes its proof cheap.
+fn answer<T, R>(
+    rt: &T,
+    alloc: Global,
+    options: &Options,
+    skip: &Skip<'_, Global>,
+    reader: R,
+    report: &str,
+) -> Answered
+where
+    T: Threads + Wait + Sync,
+    R: Read + Drop,
+{
+    let written = Vec::new(alloc);
+    let (outcome, written) = run_with(rt, alloc, options, skip, &NoGate, reader, written);
+    (outcome, length_of(written.as_slice(), report))
+}
+
+/// Checks that a run with these options, which skips no field, answers so and writes this report, in the case of this
+/// name or number.
 fn check<T, R, N>(
     rt: &T,
     alloc: Global,
@@ -106,15 +122,10 @@ fn check<T, R, N>(
 where
     T: Abort + Threads + Wait + Sync,
     R: Read + Drop,
-    N: Display + Drop,
+    N: Copy + Display,
 {
-    let (outcome, written) = run_with(rt, alloc, options, reader, Vec::new(alloc));
-    assert_eq!(rt; outcome, want, "{case}, {options:?}");
-    assert_eq!(rt;
-        written.as_slice(),
-        report.as_bytes(),
-        "{case}, {options:?}"
-    );
+    let told = answer(rt, alloc, options, &Skip::none(alloc), reader, report);
+    assert_eq!(rt; told, (want, Some(report.len())), "{case}, {options:?}");
 }
 
 /// The outcome of a refusal.

@@ -109,6 +109,26 @@ fn words_of<'a>(alloc: Global, line: &'a str, file: &'a str) -> Result<Vec<&'a s
     Ok(words)
 }
 
+/// What the program answers for these words: its status, whether it prints this report, and whether what it prints on
+/// standard error is nothing, and begins so.
+fn answered<T: Files + AllocGlobal + Threads + Wait + Sync>(
+    rt: &T,
+    words: &[&str],
+    report: &str,
+    begins: &str,
+) -> (u8, bool, bool, bool) {
+    let (status, out, err) = printed(rt, words);
+    let is_reported = out.as_slice() == report.as_bytes();
+    let begins_so = err.as_slice().starts_with(begins.as_bytes());
+    (status, is_reported, err.is_empty(), begins_so)
+}
+
+/// The status for these words where standard error fails.
+fn answered_unheard<T: Files + AllocGlobal + Threads + Wait + Sync>(rt: &T, words: &[&str]) -> u8 {
+    let mut out = Counted::new(Vec::new(rt.alloc()));
+    program(rt, words, &mut out, &mut Broken)
+}
+
 /// For these words the program has this status, also where standard error fails: with this report at 0, and else with
 /// nothing on the output and a text that begins so on standard error.
 fn answers<T: Abort + Files + AllocGlobal + Threads + Wait + Sync>(
@@ -118,13 +138,10 @@ fn answers<T: Abort + Files + AllocGlobal + Threads + Wait + Sync>(
     want: u8,
     begins: &str,
 ) {
-    let (status, out, err) = printed(rt, words);
-    assert_eq!(rt; (status, err.is_empty()), (want, want == 0), "{begins}");
     let report = if want == 0 { report } else { "" };
-    assert_eq!(rt; out.as_slice(), report.as_bytes(), "{begins}");
-    assert!(rt; err.as_slice().starts_with(begins.as_bytes()), "{begins}");
-    let mut out = Counted::new(Vec::new(rt.alloc()));
-    assert_eq!(rt; program(rt, words, &mut out, &mut Broken), want, "{begins}");
+    let told = answered(rt, words, report, begins);
+    assert_eq!(rt; told, (want, true, want == 0, true), "{begins}");
+    assert_eq!(rt; answered_unheard(rt, words), want, "{begins}");
 }
 
 /// Checks each of these lines on a file of these bytes, whose report is this one.
@@ -174,15 +191,28 @@ static TEXTS: [(&str, &str); 4] = [
     ("-V", "heapmark 0.1.0\nrattle logic "),
 ];
 
+/// The status for this word, whether nothing is printed on standard error, and whether the output begins so.
+fn asked<T: Files + AllocGlobal + Threads + Wait + Sync>(
+    rt: &T,
+    word: &str,
+    begins: &str,
+) -> (u8, bool, bool) {
+    let (status, out, err) = printed(rt, &["heapmark", word]);
+    let begins_so = out.as_slice().starts_with(begins.as_bytes());
+    (status, err.is_empty(), begins_so)
+}
+
+/// The status for this word where both streams fail, and how often the output did.
+fn asked_in_vain<T: Files + AllocGlobal + Threads + Wait + Sync>(rt: &T, word: &str) -> (u8, u64) {
+    let mut out = Counted::new(Broken);
+    let status = program(rt, &["heapmark", word], &mut out, &mut Broken);
+    (status, out.failures())
+}
+
 #[test]
 fn help_and_version_are_printed_on_the_output(rt: HostRuntime) {
     for (word, begins) in TEXTS {
-        let words = ["heapmark", word];
-        let (status, out, err) = printed(&rt, &words);
-        assert_eq!(rt; (status, err.is_empty()), (0, true), "{word}");
-        assert!(rt; out.as_slice().starts_with(begins.as_bytes()), "{word}");
-        let mut out = Counted::new(Broken);
-        assert_eq!(rt; program(&rt, &words, &mut out, &mut Broken), 0, "{word}");
-        assert_eq!(rt; out.failures(), 1, "{word}");
+        assert_eq!(rt; asked(&rt, word, begins), (0, true, true), "{word}");
+        assert_eq!(rt; asked_in_vain(&rt, word), (0, 1), "{word}");
     }
 }

@@ -7,7 +7,7 @@ mod two_workers;
 
 use super::dumps::two_objects;
 use super::{least, run_with};
-use crate::Options;
+use crate::{NoGate, Options, Skip};
 use answers::ANSWERS;
 use std::alloc::{AllocError, Global};
 use std::process::Abort;
@@ -49,14 +49,15 @@ fn mixed(before: u32, report: &[u8]) -> u32 {
 }
 
 /// A code and a place, or 0 and the length of the report, and what is mixed then.
-fn answer<T: Threads + Wait + Sync>(
+fn told<T: Threads + Wait + Sync>(
     rt: &T,
     alloc: Global,
     options: &Options,
     dump: &[u8],
     mix: u32,
 ) -> (u8, u64, u32) {
-    let (outcome, written) = run_with(rt, alloc, options, dump, Vec::new(alloc));
+    let (skip, written) = (Skip::none(alloc), Vec::new(alloc));
+    let (outcome, written) = run_with(rt, alloc, options, &skip, &NoGate, dump, written);
     let report = written.as_slice();
     match outcome {
         Ok(()) => (0, report.len() as u64, mixed(mix, report)),
@@ -69,41 +70,55 @@ fn answer<T: Threads + Wait + Sync>(
     }
 }
 
+/// The first file of a row that is answered otherwise than the row says: the value, and the code and the place.
+type Other = Option<(u8, u8, u64)>;
+
+/// Runs on each file of a row: how many there are, their reports mixed, and the first that is answered otherwise.
+fn run_row<T: Threads + Wait + Sync>(
+    rt: &T,
+    alloc: Global,
+    options: &Options,
+    row: &Answer,
+) -> Result<(u32, u32, Other), AllocError> {
+    let (place, first, last, code, at, _) = *row;
+    let mut dump = two_objects(alloc)?.bytes;
+    let was = dump.get(place).copied();
+    let mut files: u32 = 0;
+    let mut reports = 0;
+    let mut other = None;
+    for value in first..=last {
+        if was == Some(value) {
+            continue;
+        }
+        if let Some(byte) = dump.get_mut(place) {
+            *byte = value;
+        }
+        let (told_code, told_place, mix) = told(rt, alloc, options, dump.as_slice(), reports);
+        if other.is_none() && (told_code, told_place) != (code, at) {
+            other = Some((value, told_code, told_place));
+        }
+        files = files.wrapping_add(1);
+        reports = mix;
+    }
+    Ok((files, reports, other))
+}
+
 /// Checks each value of a row, and tells how many there are but the one that the dump has.
 fn check<T: Abort + Threads + Wait + Sync>(
     rt: &T,
     alloc: Global,
     options: &Options,
-    dump: &mut Vec<u8>,
     row: &Answer,
-) -> u32 {
-    let (place, first, last, code, at, mix) = *row;
-    let was = dump.get(place).copied();
-    let mut files: u32 = 0;
-    let mut reports = 0;
-    for value in first..=last {
-        if was == Some(value) {
-            continue;
-        }
-        put(dump, place, value);
-        let told = answer(rt, alloc, options, dump.as_slice(), reports);
-        assert_eq!(rt; (told.0, told.1), (code, at), "byte {place} is {value}");
-        files = files.wrapping_add(1);
-        reports = told.2;
-    }
+) -> Result<u32, AllocError> {
+    let (place, first, last, _, _, mix) = *row;
+    let (files, reports, other) = run_row(rt, alloc, options, row)?;
+    assert_eq!(rt; other, None, "byte {place}");
     assert_eq!(rt;
         reports,
         mix,
         "the reports where byte {place} is {first} to {last}"
     );
-    put(dump, place, was.unwrap_or(0));
-    files
-}
-
-fn put(bytes: &mut Vec<u8>, place: usize, value: u8) {
-    if let Some(byte) = bytes.get_mut(place) {
-        *byte = value;
-    }
+    Ok(files)
 }
 
 /// Checks each row, and that all rows together are of all files.
@@ -112,11 +127,10 @@ fn check_all<T: Abort + Threads + Wait + Sync>(
     alloc: Global,
     options: &Options,
 ) -> Result<(), AllocError> {
-    let mut dump = two_objects(alloc)?.bytes;
     let mut sums = [(0u32, 0u64); 15];
     let mut end = 0;
     for row in &ANSWERS {
-        let files = check(rt, alloc, options, &mut dump, row);
+        let files = check(rt, alloc, options, row)?;
         let (place, first, last, code, at, _) = *row;
         if let Some(sum) = sums.get_mut(usize::from(code)) {
             sum.0 = sum.0.wrapping_add(files);

@@ -22,6 +22,13 @@ pub fn two_objects(alloc: Global) -> Result<Bytes, AllocError> {
     Bytes::dump(alloc, 4, TWO_OBJECTS)
 }
 
+/// A dump of these names and of this heap.
+fn with_heap(alloc: Global, names: &[Record], heap: &Bytes) -> Result<Bytes, AllocError> {
+    let mut dump = Bytes::dump(alloc, 4, names)?;
+    dump.record(0x0C, heap.bytes.as_slice())?;
+    Ok(dump)
+}
+
 /// A class `A` without fields, and `count` instances of it from 0x201 on, each a root.
 pub fn roots_alone(alloc: Global, count: u64) -> Result<Bytes, AllocError> {
     let mut heap = Bytes::new(alloc, 4);
@@ -30,9 +37,7 @@ pub fn roots_alone(alloc: Global, count: u64) -> Result<Bytes, AllocError> {
         heap.sub(Sub::Instance(0x201 + place, 0x100, &[]))?;
         heap.sub(Sub::Root(0x201 + place))?;
     }
-    let mut dump = Bytes::dump(alloc, 4, &TWO_OBJECTS[..2])?;
-    dump.record(0x0C, heap.bytes.as_slice())?;
-    Ok(dump)
+    with_heap(alloc, &TWO_OBJECTS[..2], &heap)
 }
 
 /// The report of seven instances that are roots.
@@ -61,10 +66,7 @@ pub const NINE_ROOTS_REPORT: &str = "         9               0  A
 
 /// An array of 64 instances, which is the root.
 pub fn wide_array(alloc: Global) -> Result<Bytes, AllocError> {
-    let mut elements = Vec::new(alloc);
-    for id in 0x301..0x341u64 {
-        elements.push(id)?;
-    }
+    let elements: Vec<u64> = (0x301..0x341u64).collect(alloc)?;
     let mut heap = Bytes::new(alloc, 4);
     heap.subs(&[Sub::Class(0x100, 0, &[]), Sub::Class(0x110, 0, &[])])?;
     heap.objects(0x200, 0x110, elements.as_slice())?;
@@ -78,9 +80,7 @@ pub fn wide_array(alloc: Global) -> Result<Bytes, AllocError> {
         Record::Load(0x100, 1),
         Record::Load(0x110, 3),
     ];
-    let mut dump = Bytes::dump(alloc, 4, &names)?;
-    dump.record(0x0C, heap.bytes.as_slice())?;
-    Ok(dump)
+    with_heap(alloc, &names, &heap)
 }
 
 /// The report of that array.
@@ -94,10 +94,7 @@ pub const WIDE_ARRAY_REPORT: &str = "         1             256  [LL;
 
 /// The two instances, and an array that has the second of them as each of its 100,000 elements, which is a root too.
 pub fn long_array(alloc: Global) -> Result<Bytes, AllocError> {
-    let mut elements = Vec::new(alloc);
-    for _ in 0..100_000 {
-        elements.push(0x202u64)?;
-    }
+    let elements = vec![in alloc; 0x202u64; 100_000]?;
     let mut heap = Bytes::new(alloc, 4);
     heap.subs(&[
         Sub::Class(0x100, 0, &[2]),
@@ -106,9 +103,7 @@ pub fn long_array(alloc: Global) -> Result<Bytes, AllocError> {
     ])?;
     heap.objects(0x203, 0x100, elements.as_slice())?;
     heap.subs(&[Sub::Root(0x201), Sub::Root(0x203)])?;
-    let mut dump = Bytes::dump(alloc, 4, &TWO_OBJECTS[..2])?;
-    dump.record(0x0C, heap.bytes.as_slice())?;
-    Ok(dump)
+    with_heap(alloc, &TWO_OBJECTS[..2], &heap)
 }
 
 /// The report of these.
@@ -128,6 +123,8 @@ pub enum Sample {
     Roots(u64),
     WideArray,
     LongArray,
+    /// The size of identifiers, and the records.
+    Records(u32, &'static [Record]),
 }
 
 impl Sample {
@@ -138,6 +135,7 @@ impl Sample {
             Sample::Roots(count) => roots_alone(alloc, count),
             Sample::WideArray => wide_array(alloc),
             Sample::LongArray => long_array(alloc),
+            Sample::Records(id_size, records) => Bytes::dump(alloc, id_size, records),
         }
     }
 }

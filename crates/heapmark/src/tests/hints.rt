@@ -1,19 +1,24 @@
 //! What people are told to do about a refusal.
 
 use super::dumps::Bytes;
-use super::program::{file_of, printed};
-use crate::command::program_at_terminal;
+use super::program::{answered, answered_to_people, file_of};
 use crate::hint::advise;
-use crate::{Arguments, Counted, Refusal};
+use crate::{Arguments, Refusal};
+use std::env::Env;
 use std::fs;
-use std::process::Abort;
 use std::rt::Files;
 use std::sync::Wait;
 use std::test::Fail;
 use std::thread::Threads;
 
-/// What is told of a refusal of a file that is not there, with so many workers and buffers.
-fn hint<T: Files + AllocGlobal>(rt: &T, refusal: Refusal, workers: u32, buffers: u32) -> Vec<u8> {
+/// Whether this is told of a refusal of a file that is not there, with so many workers and buffers.
+fn is_hint<T: Files + AllocGlobal>(
+    rt: &T,
+    refusal: Refusal,
+    workers: u32,
+    buffers: u32,
+    want: &str,
+) -> bool {
     let arguments = Arguments {
         file: "/nowhere/a.hprof",
         workers,
@@ -24,7 +29,7 @@ fn hint<T: Files + AllocGlobal>(rt: &T, refusal: Refusal, workers: u32, buffers:
     };
     let mut err = Vec::new(rt.alloc());
     advise(rt, &mut err, &arguments, &refusal);
-    err
+    err.as_slice() == want.as_bytes()
 }
 
 #[test]
@@ -32,7 +37,7 @@ fn six_codes_have_a_hint(rt: HostRuntime) {
     for code in 0..=255u8 {
         let refusal = Refusal { code, offset: None };
         let has_hint = matches!(code, 1 | 14 | 15 | 16 | 18 | 21);
-        assert_eq!(rt; hint(&rt, refusal, 4, 1024).is_empty(), !has_hint, "{code}");
+        assert_eq!(rt; is_hint(&rt, refusal, 4, 1024, ""), !has_hint, "{code}");
     }
 }
 
@@ -90,28 +95,29 @@ fn each_hint_says_what_to_do(rt: HostRuntime) {
         (21, None, 64, 130, FIELDS),
     ];
     for (code, offset, workers, buffers, want) in cases {
-        let told = hint(&rt, Refusal { code, offset }, workers, buffers);
-        assert_eq!(rt; told.as_slice(), want.as_bytes(), "{code}");
+        let refusal = Refusal { code, offset };
+        assert!(rt;
+            is_hint(&rt, refusal, workers, buffers, want),
+            "{code}: {want}"
+        );
     }
 }
 
-/// A file of these bytes is no dump, and people are told this of it behind its name.
-fn is_told<T: Abort + Files + AllocGlobal + Threads + Wait + Sync>(
+/// Whether a file of these bytes is refused as no dump, and people are told something of it that ends so.
+fn is_told<T: AllocGlobal + Env + Files + Threads + Wait + Sync>(
     rt: &T,
-    file: &str,
+    bytes: &[u8],
     want: &str,
-) -> bool {
-    let refusal = "heapmark: refused 1 BadHeader at 0\n".as_bytes();
-    let (status, out, err) = printed(rt, &["heapmark", file]);
-    let in_one_line = (status, out.is_empty()) == (1, true) && err.as_slice() == refusal;
-
-    let mut out = Counted::new(Vec::new(rt.alloc()));
-    let mut err = Vec::new(rt.alloc());
-    let status = program_at_terminal(rt, &["heapmark", file], &mut out, &mut err);
-    in_one_line
-        && status == 1
-        && err.as_slice().starts_with(refusal)
-        && err.as_slice().ends_with(want.as_bytes())
+) -> Result<bool, Fail> {
+    let mut content = Bytes::new(rt.alloc(), 4);
+    content.bytes.extend_from_slice(bytes)?;
+    let path = file_of(rt, "heapmark_compressed.hprof", &content)?;
+    let file = path.to_str().ok_or("the name of the file is not text")?;
+    let (words, refusal) = (["heapmark", file], "heapmark: refused 1 BadHeader at 0\n");
+    let in_one_line = answered(rt, &words, "", refusal) == (1, true, true);
+    let (status, is_unreported, length) = answered_to_people(rt, &words, refusal, want);
+    fs::remove_file(rt, path.as_path())?;
+    Ok(in_one_line && status == 1 && is_unreported && length.is_some())
 }
 
 #[test]
@@ -126,12 +132,7 @@ fn a_compressed_file_is_told(rt: HostRuntime) -> Result<(), Fail> {
         (b"", no_dump),
     ];
     for (bytes, want) in cases {
-        let mut content = Bytes::new(rt.alloc(), 4);
-        content.bytes.extend_from_slice(bytes)?;
-        let path = file_of(&rt, "heapmark_compressed.hprof", &content)?;
-        let file = path.to_str().ok_or("the name of the file is not text")?;
-        assert!(rt; is_told(&rt, file, want), "{want}");
-        fs::remove_file(&rt, path.as_path())?;
+        assert!(rt; is_told(&rt, bytes, want)?, "{bytes:?}: {want}");
     }
     Ok(())
 }

@@ -1,13 +1,17 @@
 //! Workers that stay until all are idle: one that finds nothing at first comes to work when there is some, and the
 //! report is the same in each run.
 
-use super::check;
 use super::dumps::Sample::{Roots, WideArray};
 use super::dumps::{EIGHT_ROOTS_REPORT, SEVEN_ROOTS_REPORT, Sample, WIDE_ARRAY_REPORT, wide_array};
-use crate::{Counted, Gate, Options, Skip, run};
+use super::{Answered, check, length_of, run_with};
+use crate::{Gate, Options, Skip};
+use std::alloc::Global;
+use std::process::Abort;
+use std::sync::Wait;
 use std::sync::atomic::{AtomicU64, Ordering};
 use std::test::Fail;
 use std::thread;
+use std::thread::Threads;
 use std::time::{Clock, Duration};
 
 /// How often two workers run on the array. A worker stays for some 0.1 s, so on a busy machine one may leave too soon.
@@ -56,29 +60,31 @@ impl<C: Clock + Sync> Gate for Late<C> {
     }
 }
 
+/// The answer of a run on the array, and whether the two workers have met.
+fn run_late<T: Clock + Threads + Wait + Sync>(
+    rt: &T,
+    alloc: Global,
+) -> Result<(Answered, bool), Fail> {
+    let options = Options::new(2, 2, 1024, 0).map_err(|_| "the options are in range")?;
+    let dump = wide_array(alloc)?;
+    let gate = Late {
+        clock: rt,
+        come: AtomicU64::new(0),
+    };
+    let (skip, written) = (Skip::none(alloc), Vec::new(alloc));
+    let bytes = dump.bytes.as_slice();
+    let (outcome, written) = run_with(rt, alloc, &options, &skip, &gate, bytes, written);
+    let length = length_of(written.as_slice(), WIDE_ARRAY_REPORT);
+    Ok(((outcome, length), gate.has_met()))
+}
+
 #[test]
 fn a_worker_stays_until_another_has_made_work(rt: HostRuntime) -> Result<(), Fail> {
-    let alloc = rt.alloc();
-    let dump = wide_array(alloc)?;
-    let options = Options::new(2, 2, 1024, 0).map_err(|_| "the options are in range")?;
     let mut met: u32 = 0;
     for _ in 0..RUNS {
-        let gate = Late {
-            clock: rt,
-            come: AtomicU64::new(0),
-        };
-        let mut reader = Counted::new(dump.bytes.as_slice());
-        let mut writer = Counted::new(Vec::new(alloc));
-        let skip = Skip::none(alloc);
-        let outcome = run(&rt, alloc, &mut reader, &mut writer, &options, &skip, &gate);
-        assert_eq!(rt; outcome, Ok(()));
-        assert_eq!(rt;
-            writer.into_inner().as_slice(),
-            WIDE_ARRAY_REPORT.as_bytes()
-        );
-        if gate.has_met() {
-            met = met.saturating_add(1);
-        }
+        let (told, has_met) = run_late(&rt, rt.alloc())?;
+        assert_eq!(rt; told, (Ok(()), Some(WIDE_ARRAY_REPORT.len())));
+        met = met.saturating_add(u32::from(has_met));
     }
     assert!(rt;
         met > RUNS / 2,
@@ -96,17 +102,28 @@ static ROWS: [(Sample, u32, u32, u32, &str); 5] = [
     (Roots(7), 1, 2, 4, SEVEN_ROOTS_REPORT),
 ];
 
+/// Checks each run on a row.
+fn check_row<T: Abort + Threads + Wait + Sync>(
+    rt: &T,
+    alloc: Global,
+    row: &(Sample, u32, u32, u32, &str),
+) -> Result<(), Fail> {
+    let (sample, workers, buffer, buffers, report) = *row;
+    let options = Options::new(workers, buffer, buffers, 0).map_err(
+        |_| "the options are in range",
+    )?;
+    let dump = sample.dump(alloc)?;
+    for run in 0..RUNS_OF_MANY {
+        let bytes = dump.bytes.as_slice();
+        check(rt, alloc, &options, bytes, Ok(()), report, run);
+    }
+    Ok(())
+}
+
 #[test]
 fn each_run_reports_the_same(rt: HostRuntime) -> Result<(), Fail> {
-    for (sample, workers, buffer, buffers, report) in ROWS {
-        let options = Options::new(workers, buffer, buffers, 0).map_err(
-            |_| "the options are in range",
-        )?;
-        let dump = sample.dump(rt.alloc())?;
-        for run in 0..RUNS_OF_MANY {
-            let bytes = dump.bytes.as_slice();
-            check(&rt, rt.alloc(), &options, bytes, Ok(()), report, run);
-        }
+    for row in &ROWS {
+        check_row(&rt, rt.alloc(), row)?;
     }
     Ok(())
 }

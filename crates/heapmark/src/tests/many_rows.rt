@@ -3,9 +3,12 @@
 //! `rt try --test` takes some minutes for it: `--seconds 300` lets it end.
 
 use super::dumps::Bytes;
-use super::{run_with, usual};
+use super::{Answered, answer, usual};
+use crate::Skip;
 use std::alloc::{AllocError, Global};
+use std::sync::Wait;
 use std::test::Fail;
+use std::thread::Threads;
 
 const CLASSES: u32 = 100_000;
 
@@ -43,21 +46,26 @@ fn report(alloc: Global) -> Result<String, AllocError> {
     Ok(report)
 }
 
-#[test]
-fn a_hundred_thousand_rows_are_reported(rt: HostRuntime) -> Result<(), Fail> {
-    let alloc = rt.alloc();
+/// The first number of workers whose run answers anything but the report.
+fn other_answer<T: Threads + Wait + Sync>(
+    rt: &T,
+    alloc: Global,
+) -> Result<Option<(u32, Answered)>, AllocError> {
     let dump = classes(alloc)?;
     let report = report(alloc)?;
+    let (skip, bytes) = (Skip::none(alloc), dump.bytes.as_slice());
     for workers in [1, 2, 64] {
-        let options = usual(workers);
-        let written = Vec::new(alloc);
-        let (outcome, written) = run_with(&rt, alloc, &options, dump.bytes.as_slice(), written);
-        assert_eq!(rt; outcome, Ok(()), "{workers} workers");
-        // not told where they differ: that would be millions of numbers
-        assert!(rt;
-            written.as_slice() == report.as_bytes(),
-            "{workers} workers"
-        );
+        let told = answer(rt, alloc, &usual(workers), &skip, bytes, report.as_str());
+        if told != (Ok(()), Some(report.len())) {
+            return Ok(Some((workers, told)));
+        }
     }
+    Ok(None)
+}
+
+#[test]
+fn a_hundred_thousand_rows_are_reported(rt: HostRuntime) -> Result<(), Fail> {
+    let other = other_answer(&rt, rt.alloc())?;
+    assert_eq!(rt; other, None);
     Ok(())
 }

@@ -4,6 +4,9 @@ use crate::{Counted, start};
 use std::env::{Env, FillError};
 use std::io;
 use std::io::{IsTerminal, Write};
+use std::rt::Files;
+use std::sync::Wait;
+use std::thread::Threads;
 
 /// The words of a command line, which may be no text.
 #[derive(Drop)]
@@ -69,6 +72,23 @@ const NOT_THERE: &str = "heapmark: refused 19 ReadFault
 heapmark: /nowhere/heapmark.hprof: No such file or directory (os error 2)
 ";
 
+/// The status of the process for this line, whether it prints nothing on the output, and whether this on standard error.
+fn answered<T: AllocGlobal + Files + Threads + Wait + Sync>(
+    rt: &T,
+    words: &[&[u8]],
+    is_terminal: bool,
+    told: &str,
+) -> (u8, bool, bool) {
+    let mut out = Counted::new(Vec::new(rt.alloc()));
+    let mut err = Screen {
+        shown: Vec::new(rt.alloc()),
+        is_terminal,
+    };
+    let status = start(rt, &Words { words }, &mut out, &mut err);
+    let is_told = err.shown.as_slice() == told.as_bytes();
+    (status, out.into_inner().is_empty(), is_told)
+}
+
 #[test]
 fn each_line_has_its_status(rt: HostRuntime) {
     let cases: [(&[&[u8]], bool, u8, &str); 5] = [
@@ -89,13 +109,7 @@ fn each_line_has_its_status(rt: HostRuntime) {
         ),
     ];
     for (words, is_terminal, want, told) in cases {
-        let mut out = Counted::new(Vec::new(rt.alloc()));
-        let mut err = Screen {
-            shown: Vec::new(rt.alloc()),
-            is_terminal,
-        };
-        assert_eq!(rt; start(&rt, &Words { words }, &mut out, &mut err), want);
-        assert!(rt; out.into_inner().is_empty());
-        assert_eq!(rt; err.shown.as_slice(), told.as_bytes());
+        let answer = answered(&rt, words, is_terminal, told);
+        assert_eq!(rt; answer, (want, true, true), "{told}");
     }
 }

@@ -54,31 +54,72 @@ pub fn printed<T: Files + AllocGlobal + Threads + Wait + Sync>(
     (status, out.into_inner(), err)
 }
 
-/// A file of these records is answered by this status, and by these texts on the output and on standard error.
-fn is_answered<T: Abort + AllocGlobal + Env + Files + Threads + Wait + Sync>(
+/// What the program answers for these words: its status, and whether it prints this report, and this on standard error.
+pub fn answered<T: Files + AllocGlobal + Threads + Wait + Sync>(
+    rt: &T,
+    words: &[&str],
+    report: &str,
+    refusal: &str,
+) -> (u8, bool, bool) {
+    let (status, out, err) = printed(rt, words);
+    let is_reported = out.as_slice() == report.as_bytes();
+    (status, is_reported, err.as_slice() == refusal.as_bytes())
+}
+
+/// What the program answers for these words where people read standard error: its status, whether it prints nothing on
+/// the output, and the length of what it prints on standard error, if that begins and ends so.
+pub fn answered_to_people<T: Files + AllocGlobal + Threads + Wait + Sync>(
+    rt: &T,
+    words: &[&str],
+    begins: &str,
+    ends: &str,
+) -> (u8, bool, Option<usize>) {
+    let mut out = Counted::new(Vec::new(rt.alloc()));
+    let mut err = Vec::new(rt.alloc());
+    let status = program_at_terminal(rt, words, &mut out, &mut err);
+    let told = err.as_slice();
+    let is_so = told.starts_with(begins.as_bytes()) && told.ends_with(ends.as_bytes());
+    let length = if is_so { Some(told.len()) } else { None };
+    (status, out.into_inner().is_empty(), length)
+}
+
+/// What the program answers for a file of these records.
+fn answered_of<T: AllocGlobal + Env + Files + Threads + Wait + Sync>(
     rt: &T,
     name: &str,
     records: &[Record],
-    want: u8,
     report: &str,
     refusal: &str,
-) -> Result<(), Fail> {
+) -> Result<(u8, bool, bool), Fail> {
     let path = file_of(rt, name, &Bytes::dump(rt.alloc(), 4, records)?)?;
     let file = path.to_str().ok_or("the name of the file is not text")?;
-    let (status, out, err) = printed(rt, &["heapmark", file]);
+    let told = answered(rt, &["heapmark", file], report, refusal);
     fs::remove_file(rt, path.as_path())?;
-    assert_eq!(rt; status, want, "{name}");
-    assert_eq!(rt; out.as_slice(), report.as_bytes(), "{name}");
-    assert_eq!(rt; err.as_slice(), refusal.as_bytes(), "{name}");
-    Ok(())
+    Ok(told)
 }
 
 #[test]
 fn a_file_is_reported_or_refused(rt: HostRuntime) -> Result<(), Fail> {
     let name = "heapmark_two_objects.hprof";
-    is_answered(&rt, name, TWO_OBJECTS, 0, TWO_OBJECTS_REPORT, "")?;
+    let told = answered_of(&rt, name, TWO_OBJECTS, TWO_OBJECTS_REPORT, "")?;
+    assert_eq!(rt; told, (0, true, true), "{name}");
+    let name = "heapmark_bad_tag.hprof";
     let refusal = "heapmark: refused 5 BadSubTag at 45\n";
-    is_answered(&rt, "heapmark_bad_tag.hprof", &BAD_TAG, 1, "", refusal)
+    let told = answered_of(&rt, name, &BAD_TAG, "", refusal)?;
+    assert_eq!(rt; told, (1, true, true), "{name}");
+    Ok(())
+}
+
+/// The status for these words where the output fails, and whether this is printed on standard error.
+fn answered_unwritten<T: Files + AllocGlobal + Threads + Wait + Sync>(
+    rt: &T,
+    words: &[&str],
+    refusal: &str,
+) -> (u8, bool) {
+    let mut out = Counted::new(Broken);
+    let mut err = Vec::new(rt.alloc());
+    let status = program(rt, words, &mut out, &mut err);
+    (status, err.as_slice() == refusal.as_bytes())
 }
 
 #[test]
@@ -86,25 +127,17 @@ fn a_report_that_is_not_written_is_refused(rt: HostRuntime) -> Result<(), Fail> 
     let dump = Bytes::dump(rt.alloc(), 4, TWO_OBJECTS)?;
     let path = file_of(&rt, "heapmark_not_written.hprof", &dump)?;
     let file = path.to_str().ok_or("the name of the file is not text")?;
-    let mut out = Counted::new(Broken);
-    let mut err = Vec::new(rt.alloc());
-    let status = program(&rt, &["heapmark", file], &mut out, &mut err);
+    let refusal = "heapmark: refused 20 WriteFault\n";
+    let told = answered_unwritten(&rt, &["heapmark", file], refusal);
     fs::remove_file(&rt, path.as_path())?;
-    assert_eq!(rt; status, 1);
-    assert_eq!(rt;
-        err.as_slice(),
-        "heapmark: refused 20 WriteFault\n".as_bytes()
-    );
+    assert_eq!(rt; told, (1, true));
     Ok(())
 }
 
 #[test]
 fn a_file_that_is_not_there_is_refused(rt: HostRuntime) {
-    is_not_opened(
-        &rt,
-        "/nowhere/heapmark.hprof",
-        "heapmark: /nowhere/heapmark.hprof: No such file or directory (os error 2)\n",
-    );
+    let not_there = "heapmark: /nowhere/heapmark.hprof: No such file or directory (os error 2)\n";
+    is_not_opened(&rt, "/nowhere/heapmark.hprof", not_there);
     is_not_opened(&rt, "/", "heapmark: /: is a directory\n");
 }
 
@@ -114,16 +147,14 @@ fn is_not_opened<T: Abort + Files + AllocGlobal + Threads + Wait + Sync>(
     file: &str,
     reason: &str,
 ) {
-    let refusal = "heapmark: refused 19 ReadFault\n".as_bytes();
-    let (status, out, err) = printed(rt, &["heapmark", file]);
-    assert_eq!(rt; (status, out.is_empty()), (1, true));
-    assert_eq!(rt; err.as_slice(), refusal);
-
-    let mut out = Counted::new(Vec::new(rt.alloc()));
-    let mut err = Vec::new(rt.alloc());
-    let status = program_at_terminal(rt, &["heapmark", file], &mut out, &mut err);
-    assert_eq!(rt; (status, out.into_inner().is_empty()), (1, true));
-    assert!(rt; err.as_slice().starts_with(refusal));
-    assert!(rt; err.as_slice().ends_with(reason.as_bytes()));
-    assert_eq!(rt; err.len(), refusal.len() + reason.len());
+    let refusal = "heapmark: refused 19 ReadFault\n";
+    let words = ["heapmark", file];
+    assert_eq!(rt;
+        answered(rt, &words, "", refusal),
+        (1, true, true),
+        "{file}"
+    );
+    let told = answered_to_people(rt, &words, refusal, reason);
+    let length = refusal.len() + reason.len();
+    assert_eq!(rt; told, (1, true, Some(length)), "{file}");
 }

@@ -3,35 +3,40 @@
 use crate::Refusal;
 use std::test::Fail;
 
+/// The code and the name of each refusal.
+static NAMES: [(u8, &str); 21] = [
+    (1, "BadHeader"),
+    (2, "BadIdSize"),
+    (3, "Truncated"),
+    (4, "BadLength"),
+    (5, "BadSubTag"),
+    (6, "SubTruncated"),
+    (7, "BadType"),
+    (8, "DumpOrder"),
+    (9, "ZeroObject"),
+    (10, "DuplicateObject"),
+    (11, "UnknownClass"),
+    (12, "SuperChain"),
+    (13, "InstanceSize"),
+    (14, "TooLarge"),
+    (15, "OutOfMemory"),
+    (16, "TagSpent"),
+    (17, "NoBuffer"),
+    (18, "WorkerRefused"),
+    (19, "ReadFault"),
+    (20, "WriteFault"),
+    (21, "BadOptions"),
+];
+
+#[test]
+fn each_code_has_its_name(rt: HostRuntime) {
+    for (code, name) in NAMES {
+        assert_eq!(rt; Refusal { code, offset: None }.name(), name);
+    }
+}
+
 #[test]
 fn refusals_are_printed_by_code_name_and_place(rt: HostRuntime) -> Result<(), Fail> {
-    let names = [
-        "BadHeader",
-        "BadIdSize",
-        "Truncated",
-        "BadLength",
-        "BadSubTag",
-        "SubTruncated",
-        "BadType",
-        "DumpOrder",
-        "ZeroObject",
-        "DuplicateObject",
-        "UnknownClass",
-        "SuperChain",
-        "InstanceSize",
-        "TooLarge",
-        "OutOfMemory",
-        "TagSpent",
-        "NoBuffer",
-        "WorkerRefused",
-        "ReadFault",
-        "WriteFault",
-        "BadOptions",
-    ];
-    for (code, name) in (1u8..22).zip(names) {
-        let refusal = Refusal { code, offset: None };
-        assert_eq!(rt; refusal.name(), name);
-    }
     let placed = Refusal {
         code: 14,
         offset: Some(1_073_741_824),

@@ -5,9 +5,9 @@ mod names;
 use super::dumps::Record::{Heap, Load, Text};
 use super::dumps::Sub::{Class, Instance, Root};
 use super::dumps::{Bytes, Record};
-use super::program::{file_of, printed};
+use super::program::{answered, file_of};
 use super::rows::{Line, report_of};
-use super::{run_skipping, usual};
+use super::{answer, usual};
 use crate::{Skip, SkipRefusal};
 use names::NAMES;
 use std::alloc::Global;
@@ -54,7 +54,7 @@ const ALL: &[Line] = &[
 ];
 
 /// The same where the fields of `java/lang/ref/Reference` are skipped.
-pub const SUPERCLASS_SKIPPED: &[Line] = &[
+const SUPERCLASS_SKIPPED: &[Line] = &[
     (2, 16, "T"),
     (2, 0, "<class>"),
     (4, 16, "(reachable)"),
@@ -118,12 +118,10 @@ fn check<T: Abort + Threads + Wait + Sync>(
     report: &str,
 ) {
     for workers in [1, 2, 64] {
-        let options = usual(workers);
-        let (outcome, written) = run_skipping(rt, alloc, &options, skip, dump, Vec::new(alloc));
-        assert_eq!(rt; outcome, Ok(()), "{name}, {workers} workers");
+        let told = answer(rt, alloc, &usual(workers), skip, dump, report);
         assert_eq!(rt;
-            written.as_slice(),
-            report.as_bytes(),
+            told,
+            (Ok(()), Some(report.len())),
             "{name}, {workers} workers"
         );
     }
@@ -171,9 +169,8 @@ fn is_reported<T: Abort + Files + AllocGlobal + Threads + Wait + Sync>(
     lines: &[Line],
 ) -> Result<(), Fail> {
     let report = report_of(rt.alloc(), lines)?;
-    let (status, out, err) = printed(rt, words);
-    assert_eq!(rt; (status, err.is_empty()), (0, true));
-    assert_eq!(rt; out.as_slice(), report.as_bytes());
+    let told = answered(rt, words, report.as_str(), "");
+    assert_eq!(rt; told, (0, true, true));
     Ok(())
 }
 
@@ -197,9 +194,8 @@ fn is_refused<T: Abort + Files + AllocGlobal + Threads + Wait + Sync>(
     words: &[&str],
     refusal: &str,
 ) {
-    let (status, out, err) = printed(rt, words);
-    assert_eq!(rt; (status, out.is_empty()), (1, true), "{refusal}");
-    assert_eq!(rt; err.as_slice(), refusal.as_bytes());
+    let told = answered(rt, words, "", refusal);
+    assert_eq!(rt; told, (1, true, true), "{refusal}");
 }
 
 /// Texts that list no fields.

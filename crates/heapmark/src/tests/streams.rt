@@ -1,11 +1,15 @@
 //! Readers, writers and memory that fail, each at every call in turn.
 
-use super::dumps::{Bytes, NOTHING, TWO_OBJECTS_REPORT, two_objects};
-use super::{least, refused, run_with};
-use std::alloc::Global;
+use super::dumps::Sample::{Nothing, TwoObjects};
+use super::dumps::{NOTHING_REPORT, Sample, TWO_OBJECTS_REPORT, two_objects};
+use super::{Answered, answer, least, length_of, refused, run_with};
+use crate::{NoGate, Skip};
+use std::alloc::{AllocError, Global};
 use std::io;
 use std::io::{ErrorKind, Read, Write};
+use std::sync::Wait;
 use std::test::Fail;
+use std::thread::Threads;
 
 /// Gives its bytes one at a call, and fails at one call alone.
 #[derive(Drop)]
@@ -69,6 +73,13 @@ impl Tray {
             flushes: true,
         }
     }
+
+    /// Takes all, and fails at the first flush.
+    fn that_does_not_flush(alloc: Global) -> Self {
+        let mut tray = Tray::new(alloc, 1000, 1000, Failure::TakesNothing);
+        tray.flushes = false;
+        tray
+    }
 }
 
 impl Write for Tray {
@@ -97,69 +108,95 @@ impl Write for Tray {
     }
 }
 
+/// The answer of a run on the two objects whose reader fails so at this call.
+fn read_failing<T: Threads + Wait + Sync>(
+    rt: &T,
+    alloc: Global,
+    calls_left: usize,
+    kind: ErrorKind,
+) -> Result<Answered, AllocError> {
+    let dump = two_objects(alloc)?;
+    let drip = Drip {
+        bytes: dump.bytes.as_slice(),
+        calls_left,
+        kind,
+    };
+    let skip = Skip::none(alloc);
+    Ok(answer(rt, alloc, &least(2), &skip, drip, TWO_OBJECTS_REPORT))
+}
+
 #[test]
 fn a_read_fault_is_told_and_not_tried_again(rt: HostRuntime) -> Result<(), Fail> {
-    let alloc = rt.alloc();
-    let dump = two_objects(alloc)?;
     for kind in [
         ErrorKind::Interrupted,
         ErrorKind::UnexpectedEof,
         ErrorKind::Other,
     ] {
         for calls_left in 0..176usize {
-            let drip = Drip {
-                bytes: dump.bytes.as_slice(),
-                calls_left,
-                kind,
-            };
-            let (outcome, written) = run_with(&rt, alloc, &least(2), drip, Vec::new(alloc));
+            let told = read_failing(&rt, rt.alloc(), calls_left, kind)?;
             // 174 reads give a byte, and one more finds the end
-            if calls_left < 175 {
-                assert_eq!(rt; outcome, refused(19, None), "{calls_left} reads");
-                assert!(rt; written.is_empty());
+            let want = if calls_left < 175 {
+                (refused(19, None), Some(0))
             } else {
-                assert_eq!(rt; outcome, Ok(()), "{calls_left} reads");
-                assert_eq!(rt; written.as_slice(), TWO_OBJECTS_REPORT.as_bytes());
-            }
+                (Ok(()), Some(TWO_OBJECTS_REPORT.len()))
+            };
+            assert_eq!(rt; told, want, "{calls_left} reads");
+        }
+    }
+    Ok(())
+}
+
+/// The answer of a run on this dump whose report goes to this tray.
+fn written_to<T: Threads + Wait + Sync>(
+    rt: &T,
+    alloc: Global,
+    sample: Sample,
+    report: &str,
+    tray: Tray,
+) -> Result<Answered, AllocError> {
+    let dump = sample.dump(alloc)?;
+    let skip = Skip::none(alloc);
+    let bytes = dump.bytes.as_slice();
+    let (outcome, tray) = run_with(rt, alloc, &least(2), &skip, &NoGate, bytes, tray);
+    Ok((outcome, length_of(tray.taken.as_slice(), report)))
+}
+
+#[test]
+fn a_write_fault_leaves_a_beginning(rt: HostRuntime) -> Result<(), Fail> {
+    let report = TWO_OBJECTS_REPORT;
+    for failure in [
+        Failure::Fault(ErrorKind::Interrupted),
+        Failure::Fault(ErrorKind::WriteZero),
+        Failure::TakesNothing,
+    ] {
+        for writes_left in 0..32usize {
+            let tray = Tray::new(rt.alloc(), 10, writes_left, failure);
+            let told = written_to(&rt, rt.alloc(), TwoObjects, report, tray)?;
+            let taken = writes_left * 10;
+            let want = if taken < report.len() {
+                (refused(20, None), Some(taken))
+            } else {
+                (Ok(()), Some(report.len()))
+            };
+            assert_eq!(rt; told, want, "{writes_left} writes");
         }
     }
     Ok(())
 }
 
 #[test]
-fn a_write_fault_leaves_a_beginning(rt: HostRuntime) -> Result<(), Fail> {
-    let alloc = rt.alloc();
-    let dump = two_objects(alloc)?;
-    let report = TWO_OBJECTS_REPORT.as_bytes();
-    let failures = [
-        Failure::Fault(ErrorKind::Interrupted),
-        Failure::Fault(ErrorKind::WriteZero),
-        Failure::TakesNothing,
-    ];
-    for failure in failures {
-        for writes_left in 0..32usize {
-            let tray = Tray::new(alloc, 10, writes_left, failure);
-            let (outcome, tray) = run_with(&rt, alloc, &least(2), dump.bytes.as_slice(), tray);
-            let taken = writes_left * 10;
-            if taken < report.len() {
-                assert_eq!(rt; outcome, refused(20, None), "{writes_left} writes");
-                assert_eq!(rt; tray.taken.as_slice(), &report[..taken]);
-            } else {
-                assert_eq!(rt; outcome, Ok(()), "{writes_left} writes");
-                assert_eq!(rt; tray.taken.as_slice(), report);
-            }
-        }
-    }
-    let mut tray = Tray::new(alloc, 1000, 1000, Failure::TakesNothing);
-    tray.flushes = false;
-    let (outcome, tray) = run_with(&rt, alloc, &least(2), dump.bytes.as_slice(), tray);
-    assert_eq!(rt; outcome, refused(20, None), "the flush");
-    assert_eq!(rt; tray.taken.as_slice(), report);
+fn a_fault_of_the_flush_is_told(rt: HostRuntime) -> Result<(), Fail> {
+    let tray = Tray::that_does_not_flush(rt.alloc());
+    let told = written_to(&rt, rt.alloc(), TwoObjects, TWO_OBJECTS_REPORT, tray)?;
+    assert_eq!(rt; told, (refused(20, None), Some(TWO_OBJECTS_REPORT.len())));
+    Ok(())
+}
 
-    let nothing = Bytes::dump(alloc, 4, NOTHING)?;
-    let tray = Tray::new(alloc, 10, 1, Failure::Fault(ErrorKind::Other));
-    let (outcome, tray) = run_with(&rt, alloc, &least(2), nothing.bytes.as_slice(), tray);
-    assert_eq!(rt; outcome, refused(20, None));
-    assert_eq!(rt; tray.taken.as_slice(), b"         0".as_slice());
+/// The first of the lines that end each report, with nothing before them, is cut behind its count.
+#[test]
+fn a_write_fault_leaves_a_beginning_of_the_last_lines(rt: HostRuntime) -> Result<(), Fail> {
+    let tray = Tray::new(rt.alloc(), 10, 1, Failure::Fault(ErrorKind::Other));
+    let told = written_to(&rt, rt.alloc(), Nothing, NOTHING_REPORT, tray)?;
+    assert_eq!(rt; told, (refused(20, None), Some(10)));
     Ok(())
 }

@@ -1,10 +1,14 @@
 //! Runs with several workers: their calls of the gate, and that their number changes no report.
 
 use super::dumps::{EIGHT_ROOTS_REPORT, roots_alone};
-use crate::{Counted, Gate, Options, Skip, run};
+use super::{Answered, length_of, run_with};
+use crate::{Gate, Options, Skip};
+use std::alloc::Global;
+use std::sync::Wait;
 use std::sync::atomic::{AtomicU64, Ordering};
 use std::test::Fail;
 use std::thread;
+use std::thread::Threads;
 use std::time::{Clock, Duration};
 
 /// As many as eight workers with buffers of two objects share.
@@ -72,29 +76,46 @@ impl<C: Clock + Sync> Gate for Meeting<C> {
     }
 }
 
+/// The answer of a run on so many roots, whose workers meet at the gate; and how many of them waited in vain, the calls
+/// of the gate, a bit for each object, and how many calls no worker made.
+fn run_meeting<T: Clock + Threads + Wait + Sync>(
+    rt: &T,
+    alloc: Global,
+    workers: u32,
+    roots: u32,
+    report: &str,
+) -> Result<(Answered, [u64; 4]), Fail> {
+    let options = Options::new(workers, 2, 1024, 0).map_err(|_| "the options are in range")?;
+    let dump = roots_alone(alloc, u64::from(roots))?;
+    let gate = Meeting::new(rt, workers);
+    let (skip, written) = (Skip::none(alloc), Vec::new(alloc));
+    let bytes = dump.bytes.as_slice();
+    let (outcome, written) = run_with(rt, alloc, &options, &skip, &gate, bytes, written);
+    let counts = [
+        gate.late.load(Ordering::SeqCst),
+        gate.calls.load(Ordering::SeqCst),
+        gate.objects.load(Ordering::SeqCst),
+        gate.by_others.load(Ordering::SeqCst),
+    ];
+    Ok(((outcome, length_of(written.as_slice(), report)), counts))
+}
+
 #[test]
 fn workers_meet_at_the_gate(rt: HostRuntime) -> Result<(), Fail> {
-    let alloc = rt.alloc();
     let cases: [(u32, u32, &str); 3] = [
         (2, 8, EIGHT_ROOTS_REPORT),
         (4, 8, EIGHT_ROOTS_REPORT),
         (8, 60, MANY_ROOTS),
     ];
     for (workers, roots, report) in cases {
-        let dump = roots_alone(alloc, u64::from(roots))?;
-        let options = Options::new(workers, 2, 1024, 0).map_err(|_| "the options are in range")?;
-        let gate = Meeting::new(rt, workers);
-        let mut reader = Counted::new(dump.bytes.as_slice());
-        let mut writer = Counted::new(Vec::new(alloc));
-        let skip = Skip::none(alloc);
-        let outcome = run(&rt, alloc, &mut reader, &mut writer, &options, &skip, &gate);
-        assert_eq!(rt; outcome, Ok(()), "{workers} workers");
-        assert_eq!(rt; writer.into_inner().as_slice(), report.as_bytes());
-        assert_eq!(rt; gate.late.load(Ordering::SeqCst), 0, "{workers} workers");
-        assert_eq!(rt; gate.calls.load(Ordering::SeqCst), u64::from(roots) + 1);
+        let (told, counts) = run_meeting(&rt, rt.alloc(), workers, roots, report)?;
+        assert_eq!(rt; told, (Ok(()), Some(report.len())), "{workers} workers");
         let all = 2u64.wrapping_shl(roots).wrapping_sub(1);
-        assert_eq!(rt; gate.objects.load(Ordering::SeqCst), all);
-        assert_eq!(rt; gate.by_others.load(Ordering::SeqCst), 0);
+        assert_eq!(rt;
+            counts,
+            [0, u64::from(roots) + 1, all, 0],
+            "{workers} workers"
+        );
     }
     Ok(())
 }

@@ -5,25 +5,23 @@
 
 use super::answers::ANSWERS;
 use super::check;
-use crate::tests::dumps::two_objects;
 use crate::tests::least;
-use std::alloc::{AllocError, Global};
 use std::process::Abort;
 use std::sync::Wait;
 use std::test::Fail;
 use std::thread::Threads;
 
-/// Checks the rows of the places from `from` on and before `end`.
-fn check_places<T: Abort + Threads + Wait + Sync>(
+/// How many places of the dump a test changes.
+const PLACES: usize = 4;
+
+/// Checks the rows of so many places from this one on.
+fn check_from<T: Abort + AllocGlobal + Threads + Wait + Sync>(
     rt: &T,
-    alloc: Global,
     from: usize,
-    end: usize,
-) -> Result<(), AllocError> {
-    let mut dump = two_objects(alloc)?.bytes;
+) -> Result<(), Fail> {
     for row in &ANSWERS {
-        if from <= row.0 && row.0 < end {
-            let _ = check(rt, alloc, &least(2), &mut dump, row);
+        if from <= row.0 && row.0 - from < PLACES {
+            let _files = check(rt, rt.alloc(), &least(2), row)?;
         }
     }
     Ok(())
@@ -31,264 +29,220 @@ fn check_places<T: Abort + Threads + Wait + Sync>(
 
 #[test]
 fn each_byte_from_0(rt: HostRuntime) -> Result<(), Fail> {
-    check_places(&rt, rt.alloc(), 0, 4)?;
-    Ok(())
+    check_from(&rt, 0)
 }
 
 #[test]
 fn each_byte_from_4(rt: HostRuntime) -> Result<(), Fail> {
-    check_places(&rt, rt.alloc(), 4, 8)?;
-    Ok(())
+    check_from(&rt, 4)
 }
 
 #[test]
 fn each_byte_from_8(rt: HostRuntime) -> Result<(), Fail> {
-    check_places(&rt, rt.alloc(), 8, 12)?;
-    Ok(())
+    check_from(&rt, 8)
 }
 
 #[test]
 fn each_byte_from_12(rt: HostRuntime) -> Result<(), Fail> {
-    check_places(&rt, rt.alloc(), 12, 16)?;
-    Ok(())
+    check_from(&rt, 12)
 }
 
 #[test]
 fn each_byte_from_16(rt: HostRuntime) -> Result<(), Fail> {
-    check_places(&rt, rt.alloc(), 16, 20)?;
-    Ok(())
+    check_from(&rt, 16)
 }
 
 #[test]
 fn each_byte_from_20(rt: HostRuntime) -> Result<(), Fail> {
-    check_places(&rt, rt.alloc(), 20, 24)?;
-    Ok(())
+    check_from(&rt, 20)
 }
 
 #[test]
 fn each_byte_from_24(rt: HostRuntime) -> Result<(), Fail> {
-    check_places(&rt, rt.alloc(), 24, 28)?;
-    Ok(())
+    check_from(&rt, 24)
 }
 
 #[test]
 fn each_byte_from_28(rt: HostRuntime) -> Result<(), Fail> {
-    check_places(&rt, rt.alloc(), 28, 32)?;
-    Ok(())
+    check_from(&rt, 28)
 }
 
 #[test]
 fn each_byte_from_32(rt: HostRuntime) -> Result<(), Fail> {
-    check_places(&rt, rt.alloc(), 32, 36)?;
-    Ok(())
+    check_from(&rt, 32)
 }
 
 #[test]
 fn each_byte_from_36(rt: HostRuntime) -> Result<(), Fail> {
-    check_places(&rt, rt.alloc(), 36, 40)?;
-    Ok(())
+    check_from(&rt, 36)
 }
 
 #[test]
 fn each_byte_from_40(rt: HostRuntime) -> Result<(), Fail> {
-    check_places(&rt, rt.alloc(), 40, 44)?;
-    Ok(())
+    check_from(&rt, 40)
 }
 
 #[test]
 fn each_byte_from_44(rt: HostRuntime) -> Result<(), Fail> {
-    check_places(&rt, rt.alloc(), 44, 48)?;
-    Ok(())
+    check_from(&rt, 44)
 }
 
 #[test]
 fn each_byte_from_48(rt: HostRuntime) -> Result<(), Fail> {
-    check_places(&rt, rt.alloc(), 48, 52)?;
-    Ok(())
+    check_from(&rt, 48)
 }
 
 #[test]
 fn each_byte_from_52(rt: HostRuntime) -> Result<(), Fail> {
-    check_places(&rt, rt.alloc(), 52, 56)?;
-    Ok(())
+    check_from(&rt, 52)
 }
 
 #[test]
 fn each_byte_from_56(rt: HostRuntime) -> Result<(), Fail> {
-    check_places(&rt, rt.alloc(), 56, 60)?;
-    Ok(())
+    check_from(&rt, 56)
 }
 
 #[test]
 fn each_byte_from_60(rt: HostRuntime) -> Result<(), Fail> {
-    check_places(&rt, rt.alloc(), 60, 64)?;
-    Ok(())
+    check_from(&rt, 60)
 }
 
 #[test]
 fn each_byte_from_64(rt: HostRuntime) -> Result<(), Fail> {
-    check_places(&rt, rt.alloc(), 64, 68)?;
-    Ok(())
+    check_from(&rt, 64)
 }
 
 #[test]
 fn each_byte_from_68(rt: HostRuntime) -> Result<(), Fail> {
-    check_places(&rt, rt.alloc(), 68, 72)?;
-    Ok(())
+    check_from(&rt, 68)
 }
 
 #[test]
 fn each_byte_from_72(rt: HostRuntime) -> Result<(), Fail> {
-    check_places(&rt, rt.alloc(), 72, 76)?;
-    Ok(())
+    check_from(&rt, 72)
 }
 
 #[test]
 fn each_byte_from_76(rt: HostRuntime) -> Result<(), Fail> {
-    check_places(&rt, rt.alloc(), 76, 80)?;
-    Ok(())
+    check_from(&rt, 76)
 }
 
 #[test]
 fn each_byte_from_80(rt: HostRuntime) -> Result<(), Fail> {
-    check_places(&rt, rt.alloc(), 80, 84)?;
-    Ok(())
+    check_from(&rt, 80)
 }
 
 #[test]
 fn each_byte_from_84(rt: HostRuntime) -> Result<(), Fail> {
-    check_places(&rt, rt.alloc(), 84, 88)?;
-    Ok(())
+    check_from(&rt, 84)
 }
 
 #[test]
 fn each_byte_from_88(rt: HostRuntime) -> Result<(), Fail> {
-    check_places(&rt, rt.alloc(), 88, 92)?;
-    Ok(())
+    check_from(&rt, 88)
 }
 
 #[test]
 fn each_byte_from_92(rt: HostRuntime) -> Result<(), Fail> {
-    check_places(&rt, rt.alloc(), 92, 96)?;
-    Ok(())
+    check_from(&rt, 92)
 }
 
 #[test]
 fn each_byte_from_96(rt: HostRuntime) -> Result<(), Fail> {
-    check_places(&rt, rt.alloc(), 96, 100)?;
-    Ok(())
+    check_from(&rt, 96)
 }
 
 #[test]
 fn each_byte_from_100(rt: HostRuntime) -> Result<(), Fail> {
-    check_places(&rt, rt.alloc(), 100, 104)?;
-    Ok(())
+    check_from(&rt, 100)
 }
 
 #[test]
 fn each_byte_from_104(rt: HostRuntime) -> Result<(), Fail> {
-    check_places(&rt, rt.alloc(), 104, 108)?;
-    Ok(())
+    check_from(&rt, 104)
 }
 
 #[test]
 fn each_byte_from_108(rt: HostRuntime) -> Result<(), Fail> {
-    check_places(&rt, rt.alloc(), 108, 112)?;
-    Ok(())
+    check_from(&rt, 108)
 }
 
 #[test]
 fn each_byte_from_112(rt: HostRuntime) -> Result<(), Fail> {
-    check_places(&rt, rt.alloc(), 112, 116)?;
-    Ok(())
+    check_from(&rt, 112)
 }
 
 #[test]
 fn each_byte_from_116(rt: HostRuntime) -> Result<(), Fail> {
-    check_places(&rt, rt.alloc(), 116, 120)?;
-    Ok(())
+    check_from(&rt, 116)
 }
 
 #[test]
 fn each_byte_from_120(rt: HostRuntime) -> Result<(), Fail> {
-    check_places(&rt, rt.alloc(), 120, 124)?;
-    Ok(())
+    check_from(&rt, 120)
 }
 
 #[test]
 fn each_byte_from_124(rt: HostRuntime) -> Result<(), Fail> {
-    check_places(&rt, rt.alloc(), 124, 128)?;
-    Ok(())
+    check_from(&rt, 124)
 }
 
 #[test]
 fn each_byte_from_128(rt: HostRuntime) -> Result<(), Fail> {
-    check_places(&rt, rt.alloc(), 128, 132)?;
-    Ok(())
+    check_from(&rt, 128)
 }
 
 #[test]
 fn each_byte_from_132(rt: HostRuntime) -> Result<(), Fail> {
-    check_places(&rt, rt.alloc(), 132, 136)?;
-    Ok(())
+    check_from(&rt, 132)
 }
 
 #[test]
 fn each_byte_from_136(rt: HostRuntime) -> Result<(), Fail> {
-    check_places(&rt, rt.alloc(), 136, 140)?;
-    Ok(())
+    check_from(&rt, 136)
 }
 
 #[test]
 fn each_byte_from_140(rt: HostRuntime) -> Result<(), Fail> {
-    check_places(&rt, rt.alloc(), 140, 144)?;
-    Ok(())
+    check_from(&rt, 140)
 }
 
 #[test]
 fn each_byte_from_144(rt: HostRuntime) -> Result<(), Fail> {
-    check_places(&rt, rt.alloc(), 144, 148)?;
-    Ok(())
+    check_from(&rt, 144)
 }
 
 #[test]
 fn each_byte_from_148(rt: HostRuntime) -> Result<(), Fail> {
-    check_places(&rt, rt.alloc(), 148, 152)?;
-    Ok(())
+    check_from(&rt, 148)
 }
 
 #[test]
 fn each_byte_from_152(rt: HostRuntime) -> Result<(), Fail> {
-    check_places(&rt, rt.alloc(), 152, 156)?;
-    Ok(())
+    check_from(&rt, 152)
 }
 
 #[test]
 fn each_byte_from_156(rt: HostRuntime) -> Result<(), Fail> {
-    check_places(&rt, rt.alloc(), 156, 160)?;
-    Ok(())
+    check_from(&rt, 156)
 }
 
 #[test]
 fn each_byte_from_160(rt: HostRuntime) -> Result<(), Fail> {
-    check_places(&rt, rt.alloc(), 160, 164)?;
-    Ok(())
+    check_from(&rt, 160)
 }
 
 #[test]
 fn each_byte_from_164(rt: HostRuntime) -> Result<(), Fail> {
-    check_places(&rt, rt.alloc(), 164, 168)?;
-    Ok(())
+    check_from(&rt, 164)
 }
 
 #[test]
 fn each_byte_from_168(rt: HostRuntime) -> Result<(), Fail> {
-    check_places(&rt, rt.alloc(), 168, 172)?;
-    Ok(())
+    check_from(&rt, 168)
 }
 
 #[test]
 fn each_byte_from_172(rt: HostRuntime) -> Result<(), Fail> {
-    check_places(&rt, rt.alloc(), 172, usize::MAX)?;
-    Ok(())
+    check_from(&rt, 172)
 }
