@@ -24,7 +24,7 @@ use Rattle.mark_core.proofs.Contested.{losses_are_contested}
 use Rattle.buffer_pool.specs.Book.{Book, loaded, failed}
 use Rattle.buffer_pool.specs.Calls.{HeldBuffer, TriesPush}
 use Rattle.buffer_pool.specs.Steps.{try_push_steps}
-use Rattle.buffer_pool.specs.Story.{Log, Did, LeadsToBook, deeds}
+use Rattle.buffer_pool.specs.WorkerLog.{Log, Did, LeadsToBook, deeds}
 use Rattle.buffer_pool.specs.tests.Forged.{WasNotLost}
 use Rattle.buffer_pool.specs.declared.answers.TryPushed.{TryPushed}
 use Rattle.buffer_pool.specs.declared.answers.TryPushed.TheVariants as try_push

@@ -8,7 +8,7 @@ use Rattle.std.proofs.lemmas.Nat.Bits.{bit_at_or, bit_at_cat_low, bit_at_cat_hig
 use Rattle.std.proofs.lemmas.Nat.Bits.{shr_and_one}
 use Rattle.std.specs.Int.{bit_at}
 use native.Mathlib.Decide.{ℕ_discrete}
-use Rattle.buffer_pool.specs.working.Packed.{cut_marks, mark_of, pair_mark}
+use Rattle.buffer_pool.specs.working.MarkBits.{cut_marks, mark_of, pair_mark}
 
 no_more : (x : ℕ) → x ≡ x + 0
 no_more x = omega arith

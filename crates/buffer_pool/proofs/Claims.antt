@@ -16,12 +16,12 @@ use Rattle.mark_core.specs.Event as may
 use Rattle.mark_core.specs.Counts.{counted}
 use Rattle.mark_core.proofs.Places.{at_below}
 use Rattle.mark_core.proofs.Colours.{linear}
-use Rattle.buffer_pool.specs.tests.Packed.{LowWithHigh}
+use Rattle.buffer_pool.specs.tests.MarkBits.{LowWithHigh}
 use Rattle.buffer_pool.specs.declared.seat_view.SeatView.{SeatView}
 use Rattle.buffer_pool.specs.Book.{claimed, finished}
 use Rattle.buffer_pool.specs.working.Plays.{RestsWith, claim_made, finish_made}
-use Rattle.buffer_pool.specs.working.Laid.{IsLaid}
-use Rattle.buffer_pool.specs.working.Packed.{mark_in, pair_bits, pair_mark}
+use Rattle.buffer_pool.specs.working.BetweenCalls.{IsLaid}
+use Rattle.buffer_pool.specs.working.MarkBits.{mark_in, pair_bits, pair_mark}
 use Rattle.buffer_pool.specs.working.Layout.{first_mark, link_word, mark_word}
 use Rattle.buffer_pool.specs.working.Slots.{Reading, Carries, free}
 use Rattle.buffer_pool.specs.working.Table.{Rule, marking_of, view_counts}

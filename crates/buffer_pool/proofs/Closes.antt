@@ -22,9 +22,9 @@ use Rattle.mark_core.proofs.Counting.{lawful_where}
 use Rattle.buffer_pool.specs.declared.seat_view.SeatView.{SeatView}
 use Rattle.buffer_pool.specs.Book.{Book, counts_of}
 use Rattle.buffer_pool.specs.Closing.{IsAtTheEnd, MarksTell}
-use Rattle.buffer_pool.specs.Story.{deeds}
+use Rattle.buffer_pool.specs.WorkerLog.{deeds}
 use Rattle.buffer_pool.specs.working.Views.{HasSaidAll, IsViewOf}
-use Rattle.buffer_pool.specs.working.Packed.{mark_in, mark_of, marks_in, pair_mark}
+use Rattle.buffer_pool.specs.working.MarkBits.{mark_in, mark_of, marks_in, pair_mark}
 use Rattle.buffer_pool.specs.working.Layout.{first_mark}
 use Rattle.buffer_pool.specs.working.Slots.{Reading}
 use Rattle.buffer_pool.specs.working.Table.{Rule, marking_of, view_counts}

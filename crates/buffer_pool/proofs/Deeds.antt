@@ -9,7 +9,7 @@ use lib.ListN.{get_elem?}
 use Rattle.mark_core.specs.Event.{Event, Kind, Join}
 use Rattle.buffer_pool.specs.declared.seat_view.SeatView.{SeatView}
 use Rattle.buffer_pool.specs.Book.{Book}
-use Rattle.buffer_pool.specs.Story.{Log, Did, LeadsToBook, deeds}
+use Rattle.buffer_pool.specs.WorkerLog.{Log, Did, LeadsToBook, deeds}
 use Rattle.buffer_pool.specs.working.Views.{AreViewsOf, IsTakenIn, IsViewOf}
 use Rattle.atomic_table.proofs.Lists.{at_set}
 

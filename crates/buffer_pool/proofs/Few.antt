@@ -11,8 +11,8 @@ use Rattle.mark_core.proofs.Closing.{has_each_once}
 use Rattle.mark_core.proofs.Counting.{lawful_where}
 use Rattle.mark_core.proofs.Finished.{finished_few}
 use Rattle.buffer_pool.specs.Book.{Book}
-use Rattle.buffer_pool.specs.Story.{LeadsToBook, Log}
-use Rattle.buffer_pool.specs.working.Laid.{IsLaid}
+use Rattle.buffer_pool.specs.WorkerLog.{LeadsToBook, Log}
+use Rattle.buffer_pool.specs.working.BetweenCalls.{IsLaid}
 
 -- what a path of references leads to is an object
 reached_within : (t : TableId) (e : Setup) → IsLaid t e → (o : ℕ) → IsReachableIn e o → o < e.objects

@@ -13,7 +13,7 @@ use Rattle.mark_core.specs.Event.{Event, Kind, Claim, Finish, Split, Join, Load,
 use Rattle.mark_core.specs.Event.{IdleUp, IdleDown, LoadIdle, effect, happens, stack_popped}
 use Rattle.mark_core.specs.Runs.{Run}
 use Rattle.mark_core.proofs.Places.{at_below, at_one}
-use Rattle.buffer_pool.specs.Story.{EndsStory, deeds}
+use Rattle.buffer_pool.specs.WorkerLog.{EndsStory, deeds}
 use Rattle.buffer_pool.specs.working.Views.{IsTakenIn}
 use Rattle.buffer_pool.proofs.Deeds.{deeds_on}
 

@@ -23,12 +23,12 @@ use Rattle.mark_core.proofs.Closing.{has_each_once}
 use Rattle.buffer_pool.specs.declared.seat_view.SeatView.{SeatView}
 use Rattle.buffer_pool.specs.Book.{Book, counts_of, loaded, link_loaded}
 use Rattle.buffer_pool.specs.working.Plays.{RestsWith, head_seen, link_seen, set_aside, settled}
-use Rattle.buffer_pool.specs.working.Laid.{IsLaid, IsSound}
+use Rattle.buffer_pool.specs.working.BetweenCalls.{IsLaid, IsSound}
 use Rattle.buffer_pool.specs.working.Views.{HasSaidAll, IsViewOf, logged}
 use Rattle.mark_core.proofs.Colours.{charged}
 use Rattle.mark_core.proofs.Sums.{stands_times}
 use Rattle.buffer_pool.specs.Ranges.{IsWithin}
-use Rattle.buffer_pool.specs.working.Packed.{mark_in}
+use Rattle.buffer_pool.specs.working.MarkBits.{mark_in}
 use Rattle.buffer_pool.proofs.Bits.{marked_object}
 use Rattle.buffer_pool.specs.working.Layout.{first_mark, head_word, link_word}
 use Rattle.buffer_pool.specs.working.Slots.{Reading, IsTied, Rests, Carries, free}

@@ -14,7 +14,7 @@ use Rattle.mark_core.specs.Event.{IdleUp, IdleDown, LoadIdle, effect, happens, s
 use Rattle.mark_core.specs.Runs.{Run}
 use Rattle.mark_core.proofs.Places.{at_below}
 use Rattle.buffer_pool.specs.declared.seat_view.SeatView.{SeatView}
-use Rattle.buffer_pool.specs.Story.{deeds}
+use Rattle.buffer_pool.specs.WorkerLog.{deeds}
 use Rattle.buffer_pool.specs.working.Views.{AreViewsOf, IsTakenIn, IsViewOf}
 use Rattle.buffer_pool.specs.working.Setups.{kept_part, given_part, joined_view, no_share_view}
 use Rattle.buffer_pool.proofs.Deeds.{deeds_on, no_deed, taken_on, told_mine, told_theirs, told_set}

@@ -19,8 +19,8 @@ use Rattle.mark_core.proofs.Places.{at_get_or}
 use Rattle.buffer_pool.specs.declared.seat_view.SeatView.{SeatView}
 use Rattle.buffer_pool.specs.Book.{joined, new_book, parted}
 use Rattle.buffer_pool.specs.Ranges.{IsWithin}
-use Rattle.buffer_pool.specs.working.Laid.{IsLaid, IsSound}
-use Rattle.buffer_pool.specs.Story.{Log, Did, EndsStory, IsNewcomer, LeadsToBook, deeds}
+use Rattle.buffer_pool.specs.working.BetweenCalls.{IsLaid, IsSound}
+use Rattle.buffer_pool.specs.WorkerLog.{Log, Did, EndsStory, IsNewcomer, LeadsToBook, deeds}
 use Rattle.buffer_pool.specs.working.Views.{logged}
 use Rattle.buffer_pool.specs.working.Plays.{IsUpToDate}
 use Rattle.buffer_pool.specs.working.Setups.{kept_part, given_part, joined_view, no_share_view}

@@ -25,7 +25,7 @@ use Rattle.mark_core.proofs.Ownership.{place_one, top_stands}
 use Rattle.buffer_pool.specs.declared.seat_view.SeatView.{SeatView}
 use Rattle.buffer_pool.specs.Book.{popped, failed}
 use Rattle.buffer_pool.specs.working.Plays.{HasMissed, HasTaken, IsOurs, top_taken}
-use Rattle.buffer_pool.specs.working.Packed.{mark_in}
+use Rattle.buffer_pool.specs.working.MarkBits.{mark_in}
 use Rattle.buffer_pool.specs.working.Layout.{first_mark, head_word, link_word}
 use Rattle.buffer_pool.specs.working.Slots.{Reading, IsTied, Rests, Carries, free, slot_of}
 use Rattle.buffer_pool.specs.working.Table.{Reached, Rule, account_of, marking_of, view_counts}

@@ -25,8 +25,8 @@ use Rattle.mark_core.proofs.Sums.{times-remove_one, times_stands, only-same, onl
 use Rattle.buffer_pool.specs.declared.seat_view.SeatView.{SeatView}
 use Rattle.buffer_pool.specs.Book.{Book, pushed, failed}
 use Rattle.buffer_pool.specs.working.Plays.{CanPut, HasPushed, rested, link_stored, top_put}
-use Rattle.buffer_pool.specs.Story.{Did, LeadsToBook}
-use Rattle.buffer_pool.specs.working.Laid.{IsLaid}
+use Rattle.buffer_pool.specs.WorkerLog.{Did, LeadsToBook}
+use Rattle.buffer_pool.specs.working.BetweenCalls.{IsLaid}
 use Rattle.buffer_pool.specs.working.Views.{HasSaidAll, logged}
 use Rattle.buffer_pool.specs.working.Layout.{head_word, link_word}
 use Rattle.buffer_pool.specs.working.Slots.{Reading, IsTied, Rests, Carries, free}

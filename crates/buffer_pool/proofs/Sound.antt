@@ -14,9 +14,9 @@ use Rattle.mark_core.proofs.Sums.{times-without}
 use Rattle.buffer_pool.specs.declared.seat_view.SeatView.{SeatView}
 use Rattle.buffer_pool.specs.Book.{Book, loaded, link_loaded, failed, popped, pushed, claimed, finished}
 use Rattle.buffer_pool.specs.Ranges.{IsWithin}
-use Rattle.buffer_pool.specs.working.Laid.{IsBare, IsLaid, IsSound}
+use Rattle.buffer_pool.specs.working.BetweenCalls.{IsBare, IsLaid, IsSound}
 use Rattle.buffer_pool.specs.working.Plays.{RestsWith, rested}
-use Rattle.buffer_pool.specs.Story.{Log, LeadsToBook}
+use Rattle.buffer_pool.specs.WorkerLog.{Log, LeadsToBook}
 use Rattle.buffer_pool.specs.working.Views.{HasSaidAll, logged}
 use Rattle.buffer_pool.specs.working.Slots.{slots_of}
 

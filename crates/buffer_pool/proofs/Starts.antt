@@ -19,12 +19,12 @@ use Rattle.buffer_pool.specs.declared.seat_view.SeatView.{SeatView}
 use Rattle.mark_core.specs.Counts.{no_counts}
 use Rattle.mark_core.specs.Shares.{whole}
 use Rattle.buffer_pool.specs.Book.{new_book}
-use Rattle.buffer_pool.specs.Story.{LeadsToBook, first_log}
+use Rattle.buffer_pool.specs.WorkerLog.{LeadsToBook, first_log}
 use Rattle.buffer_pool.specs.Ranges.{IsInside}
-use Rattle.buffer_pool.specs.working.Laid.{IsLaid, IsSound}
+use Rattle.buffer_pool.specs.working.BetweenCalls.{IsLaid, IsSound}
 use Rattle.buffer_pool.specs.working.Setups.{first_view}
 use Rattle.buffer_pool.specs.working.Opening.{HasFirstWords, IsFirstSlot}
-use Rattle.buffer_pool.specs.working.Packed.{mark_in, mark_words, pair_mark}
+use Rattle.buffer_pool.specs.working.MarkBits.{mark_in, mark_words, pair_mark}
 use Rattle.buffer_pool.specs.working.Layout.{first_mark, head_word, link_word, mark_word}
 use Rattle.buffer_pool.specs.working.Slots.{Reading, IsTied, Rests, slot_of}
 use Rattle.buffer_pool.specs.working.Table.{Rule, cut, marking_of, marks_of}

@@ -27,7 +27,7 @@ use Rattle.buffer_pool.proofs.Deeds.{told_set, told_same, told_step, did_step}
 use Rattle.buffer_pool.specs.working.Views.{AreViewsOf, HasSaidAll, logged}
 use Rattle.buffer_pool.specs.working.Plays.{RestsWith}
 use Rattle.buffer_pool.specs.Book.{Book}
-use Rattle.buffer_pool.specs.Story.{Log, Did, LeadsToBook}
+use Rattle.buffer_pool.specs.WorkerLog.{Log, Did, LeadsToBook}
 use Rattle.buffer_pool.specs.working.Layout.{link_word}
 use Rattle.buffer_pool.specs.working.Slots.{Reading, IsTied, Rests, Carries, free, slot_of, slots_of}
 use Rattle.buffer_pool.specs.working.Table.{Reached, Rule, account_of, cut, marking_of, view_counts}

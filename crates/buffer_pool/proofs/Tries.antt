@@ -6,7 +6,7 @@ use Rattle.mark_core.specs.declared.which.Which.TheVariants.{Full, Empty}
 use Rattle.buffer_pool.specs.Book.{Book, loaded, link_loaded, failed}
 use Rattle.buffer_pool.specs.Calls.{Holder, HeldBuffer, MayPush, TriesPop, TriesPush}
 use Rattle.buffer_pool.specs.Steps.{lost_pops, try_pop_steps}
-use Rattle.buffer_pool.specs.Story.{Did, Log}
+use Rattle.buffer_pool.specs.WorkerLog.{Did, Log}
 use Rattle.buffer_pool.proofs.Deeds.{did_on}
 use Rattle.buffer_pool.specs.declared.answers.TryPopped.{TryPopped}
 use Rattle.buffer_pool.specs.declared.answers.TryPopped.TheVariants as try_pop

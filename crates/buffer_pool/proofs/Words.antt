@@ -10,7 +10,7 @@ use Rattle.mark_core.specs.declared.which.Which.{Which}
 use Rattle.mark_core.specs.declared.which.Which.TheVariants.{Full, Empty}
 use Rattle.mark_core.specs.World.{Setup, put, put_which}
 use Rattle.mark_core.proofs.Places.{put_here, put_else}
-use Rattle.buffer_pool.specs.working.Packed.{mark_in, pair_bits, pair_mark}
+use Rattle.buffer_pool.specs.working.MarkBits.{mark_in, pair_bits, pair_mark}
 use Rattle.buffer_pool.specs.working.Layout.{first_mark, head_word, link_word, mark_word}
 use Rattle.buffer_pool.specs.working.Table.{cut, marks_of}
 use Rattle.buffer_pool.proofs.Bits.{cut_object, mark_beside}

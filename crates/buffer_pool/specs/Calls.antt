@@ -10,7 +10,7 @@ use Rattle.mark_core.specs.World.{Setup, Marking}
 use Rattle.mark_core.specs.Event.{Event, IsBusy}
 use Rattle.mark_core.specs.Counts.{Counts, LeadTo}
 use Rattle.buffer_pool.specs.Book.{Book, loaded, link_loaded, failed, popped, pushed}
-use Rattle.buffer_pool.specs.Story.{Log}
+use Rattle.buffer_pool.specs.WorkerLog.{Log}
 use Rattle.buffer_pool.specs.declared.answers.TryPopped.{TryPopped}
 use Rattle.buffer_pool.specs.declared.answers.TryPopped.TheVariants as try_pop
 use Rattle.buffer_pool.specs.declared.answers.TryPushed.{TryPushed}

@@ -10,7 +10,7 @@ use Rattle.mark_core.specs.Counts.{Counts, LeadTo}
 use Rattle.mark_core.specs.Law.{Law}
 use Rattle.mark_core.specs.Runs.{IsListOf, LiesIn}
 use Rattle.buffer_pool.specs.Book.{Book, counts_of}
-use Rattle.buffer_pool.specs.Story.{Log, EndsStory}
+use Rattle.buffer_pool.specs.WorkerLog.{Log, EndsStory}
 
 -- of so many places none has a value
 abbrev pub IsEmptied : ℕ → List Bool → Type 0

@@ -1,6 +1,6 @@
 pub mod Steps
 pub mod Book
-pub mod Story
+pub mod WorkerLog
 pub mod Ranges
 pub mod Calls
 pub mod Faults

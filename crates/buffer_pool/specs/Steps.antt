@@ -3,7 +3,7 @@ use Rattle.std.specs.Prelude.{ℕ, zero, suc, List, [], ◌∷◌, ◌++◌, Opt
 use Rattle.mark_core.specs.declared.which.Which.{Which}
 use Rattle.mark_core.specs.Event.{Kind, Load, LoadLink, StoreLink, Pop, Push, Fail}
 use Rattle.buffer_pool.specs.Calls.{HeldBuffer as Held, ended, last_try}
-use Rattle.buffer_pool.specs.Story.{Log, Did}
+use Rattle.buffer_pool.specs.WorkerLog.{Log, Did}
 use Rattle.buffer_pool.specs.declared.answers.TryPopped.{TryPopped}
 use Rattle.buffer_pool.specs.declared.answers.TryPopped.TheVariants as try_pop
 use Rattle.buffer_pool.specs.declared.answers.TryPushed.{TryPushed}

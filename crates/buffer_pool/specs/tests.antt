@@ -1,4 +1,4 @@
 pub mod Rounds
 pub mod Worked
 pub mod Forged
-pub mod Packed
+pub mod MarkBits

@@ -1,11 +1,11 @@
 pub mod Views
 pub mod Codes
-pub mod Packed
+pub mod MarkBits
 pub mod Layout
 pub mod Slots
 pub mod Table
 pub mod Plays
 pub mod Buffers
 pub mod Setups
-pub mod Laid
+pub mod BetweenCalls
 pub mod Opening

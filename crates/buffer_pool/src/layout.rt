@@ -2,7 +2,7 @@
 //! object has two bits.
 
 ghost use Rattle.std.specs.Prelude.{◌≡◌, ◌+◌, ◌*◌, ◌/◌, ◌%◌, ◌<◌, ◌≤◌};
-ghost use Rattle.buffer_pool.specs.working.Packed.{mark_words, pair_bits};
+ghost use Rattle.buffer_pool.specs.working.MarkBits.{mark_words, pair_bits};
 ghost use Rattle.buffer_pool.specs.working.Layout.{head_word, link_word};
 
 use mark_core::Which;

@@ -6,18 +6,18 @@ ghost use Rattle.mark_core.specs.World.{Setup};
 ghost use Rattle.buffer_pool.specs.Book.{new_book};
 ghost use Rattle.buffer_pool.specs.Faults.{Refuses};
 ghost use Rattle.buffer_pool.specs.Ranges.{IsInside};
-ghost use Rattle.buffer_pool.specs.Story.{first_log};
+ghost use Rattle.buffer_pool.specs.WorkerLog.{first_log};
 
+mod claim_and_finish;
 mod close;
-mod first;
+mod head_exchange;
 mod idle;
 pub(crate) mod limits;
-mod marking;
 pub(crate) mod marks;
+mod opening;
 mod shares;
 mod slots;
 mod stacks;
-mod steps;
 mod try_pop;
 mod try_push;
 
@@ -27,9 +27,9 @@ use crate::rules::MarkingRule;
 use crate::seat_view::SeatView;
 use crate::worker::Worker;
 use atomic_table::Table;
-use first::first_words;
 use limits::{PoolFault, is_inside};
 use mark_core::Edges;
+use opening::first_words;
 use slots::first_slots;
 use std::alloc::Allocator;
 use std::marker::Model;
@@ -46,7 +46,7 @@ pub struct Pool<A: Allocator> {
 impl<A: Allocator> Model for Pool<A> {
     ghost use Rattle.std.specs.Prelude.{◌≡◌};
     ghost use Rattle.atomic_table.specs.Seated.{TableId};
-    ghost use Rattle.buffer_pool.specs.working.Laid.{IsLaid};
+    ghost use Rattle.buffer_pool.specs.working.BetweenCalls.{IsLaid};
     ghost use Rattle.buffer_pool.specs.working.Setups.{setup_of};
 
     ghost Value = { TableId };

@@ -5,7 +5,7 @@ ghost use Rattle.std.specs.Coded.{coded_bool, coded_list, coded_option, coded_â„
 ghost use Rattle.mark_core.specs.Event.{Event, Kind};
 ghost use Rattle.buffer_pool.specs.Book.{Book};
 ghost use Rattle.buffer_pool.specs.working.Codes.{book_code, event_code, kind_code, log_code};
-ghost use Rattle.buffer_pool.specs.Story.{Log};
+ghost use Rattle.buffer_pool.specs.WorkerLog.{Log};
 
 use std::marker::{Model, PhantomData};
 

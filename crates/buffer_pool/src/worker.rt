@@ -16,7 +16,7 @@ pub struct Worker<A: Allocator> {
 impl<A: Allocator> Model for Worker<A> {
     ghost use Rattle.std.specs.Prelude.{◌≡◌, length};
     ghost use Rattle.buffer_pool.specs.Calls.{Holder};
-    ghost use Rattle.buffer_pool.specs.working.Laid.{IsSound};
+    ghost use Rattle.buffer_pool.specs.working.BetweenCalls.{IsSound};
 
     ghost Value = { Holder };
 
@@ -30,7 +30,7 @@ impl<A: Allocator> Worker<A> {
     ghost use Rattle.std.specs.Prelude.{ℕ, length, ◌≤◌};
     ghost use Rattle.mark_core.specs.Lists.{times};
     ghost use Rattle.buffer_pool.specs.Ranges.{IsWithin};
-    ghost use Rattle.buffer_pool.specs.Story.{LeadsToBook};
+    ghost use Rattle.buffer_pool.specs.WorkerLog.{LeadsToBook};
 
     /// What each worker keeps, said of this one: the buffers that it holds are the pool's, and what it answers for are
     /// objects. The call does nothing.

@@ -10,7 +10,7 @@ use Rattle.hprof_grammar.specs.Record.{Record}
 use Rattle.hprof_grammar.specs.Standing.{IsPlaced, RecordStandsAt, Sight, StandInTurn, Stands}
 use Rattle.hprof_grammar.specs.Standing.{SubRecordStandsAt}
 use Rattle.hprof_grammar.specs.SubRecord.{SubRecord, spelling_of}
-use Rattle.heap_graph.specs.declared.entry.ClassEntry.{ClassEntry}
+use Rattle.heap_graph.specs.declared.class_entry.ClassEntry.{ClassEntry}
 use Rattle.heap_graph.specs.declared.objects.Objects.{Objects}
 use Rattle.heap_graph.specs.declared.plan.Plan.{Plan}
 use Rattle.heap_graph.specs.declared.refusal.LinkFault.{LinkFault}
@@ -19,7 +19,7 @@ use Rattle.heap_graph.specs.working.ClassPlans.{IsPlanOf}
 use Rattle.heap_graph.specs.working.HeldIds.{AreLinked, AreLinkedOf}
 use Rattle.heap_graph.specs.LinkFault.{HasLinkFault, IsFirstFault}
 use Rattle.heap_graph.specs.Linked.{IsLinked}
-use Rattle.heap_graph.specs.working.OnlyGraph.{GraphOf, GraphOf-prop}
+use Rattle.heap_graph.specs.working.GraphOf.{GraphOf, GraphOf-prop}
 use Rattle.heap_graph.specs.working.ReadObjects.{IsReadOf}
 use Rattle.heap_graph.specs.working.Resolving.{Resolves, target_in}
 use Rattle.heap_graph.specs.working.PlacedNames.{AreNames}

@@ -6,7 +6,7 @@ use Rattle.std.proofs.lemmas.Option.{slice_get-get_or}
 use Rattle.std.proofs.lemmas.Simd.{map-map}
 use Rattle.hprof_grammar.specs.Record.{Record}
 use Rattle.hprof_grammar.specs.SubRecord.{Class}
-use Rattle.heap_graph.specs.declared.entry.ClassEntry.{ClassEntry}
+use Rattle.heap_graph.specs.declared.class_entry.ClassEntry.{ClassEntry}
 use Rattle.heap_graph.specs.ClassNames.{class_text}
 use Rattle.heap_graph.specs.Heap.{class_dumps, heap_of}
 use Rattle.heap_graph.specs.ObjectGraph.{NamedClass, named_classes}

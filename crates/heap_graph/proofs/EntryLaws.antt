@@ -6,7 +6,7 @@ use Rattle.std.specs.List.{position_or_len}
 use Rattle.std.proofs.lemmas.List.Sums.{sum_by-cons}
 use Rattle.hprof_grammar.specs.SubRecord.{Class, Static, SubRecord}
 use Rattle.hprof_grammar.specs.Series.{LabelledValue, of_static}
-use Rattle.hprof_grammar.specs.Tables.{size_of}
+use Rattle.hprof_grammar.specs.FormatTables.{size_of}
 use Rattle.heap_graph.specs.Heap.{class_dumps, class_number}
 use Rattle.hprof_grammar.specs.Standing.{Sight}
 use Rattle.std.specs.Prelude.{position}

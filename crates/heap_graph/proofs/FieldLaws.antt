@@ -11,7 +11,7 @@ use Rattle.byteorder.specs.Endian.{big_number}
 use Rattle.hprof_grammar.specs.Spelling.{AreAllowed, IsAllowed}
 use Rattle.hprof_grammar.specs.Spelling.Field.{number}
 use Rattle.hprof_grammar.specs.SubRecord.{Class, Member, class_fields, constant_fields, member_fields, static_fields}
-use Rattle.hprof_grammar.specs.Tables.{is_type_at, size_of}
+use Rattle.hprof_grammar.specs.FormatTables.{is_type_at, size_of}
 use Rattle.hprof_grammar.specs.declared.kinds.TypePlace.TheVariants.{InMember}
 use Rattle.heap_graph.specs.Fields.{field_ids}
 use Rattle.heap_graph.specs.working.IdPlaces.{size_of_fields, size_together}

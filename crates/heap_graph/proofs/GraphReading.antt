@@ -1,7 +1,7 @@
 -- What is read of the objects at their places is what the graph that they stand for tells of each of them.
 use Rattle.std.proofs.Common.{Bool, List, Some, ap, map, slice_get, subst, sym, ℕ, ◌<◌, ◌∙◌, ◌≡◌}
 use Rattle.hprof_grammar.specs.SubRecord.{Class, Member, SubRecord}
-use Rattle.heap_graph.specs.declared.entry.ClassEntry.{ClassEntry}
+use Rattle.heap_graph.specs.declared.class_entry.ClassEntry.{ClassEntry}
 use Rattle.heap_graph.specs.declared.objects.Objects.{Objects}
 use Rattle.heap_graph.specs.declared.plan.Plan.{Plan}
 use Rattle.heap_graph.specs.declared.row.RowKey.{RowKey}

@@ -10,7 +10,7 @@ use Rattle.hprof_grammar.specs.Bounds.{IsClass, IsConstant, IsStatic}
 use Rattle.hprof_grammar.specs.SubRecord.{Class, Instance, Member, ObjectArray, PrimitiveArray, SubRecord}
 use Rattle.hprof_grammar.specs.SubRecord.SubRecord.{class_dump, instance_dump, object_array_dump, primitive_array_dump}
 use Rattle.hprof_grammar.specs.Series.{LabelledValue, of_constant, of_static}
-use Rattle.hprof_grammar.specs.Tables.{size_of}
+use Rattle.hprof_grammar.specs.FormatTables.{size_of}
 use Rattle.heap_graph.specs.declared.objects.Objects.{Objects}
 use Rattle.heap_graph.specs.Fields.{declared_fields, field_ids}
 use Rattle.heap_graph.specs.References.{class_ids, constant_ids, static_ids}

@@ -2,7 +2,7 @@
 use Rattle.std.proofs.Common.{List, None, Option, Some, [], ap, arith, map, min, refl, sym, ℕ, ◌++◌, ◌+◌, ◌∙◌, ◌∷◌, ◌≡◌}
 use Rattle.std.proofs.lemmas.List.Sums.{sum_by-append, sum_by-cons}
 use Rattle.hprof_grammar.specs.SubRecord.{Class, Member, SubRecord}
-use Rattle.hprof_grammar.specs.Tables.{size_of}
+use Rattle.hprof_grammar.specs.FormatTables.{size_of}
 use Rattle.heap_graph.specs.Fields.{declared_fields, own_fields}
 use Rattle.heap_graph.specs.Layout.{layout, layout_size}
 use Rattle.heap_graph.specs.working.Chains.{IsChainAt, IsFirst, most_size}

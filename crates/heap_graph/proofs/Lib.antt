@@ -1,5 +1,5 @@
 pub mod Naming
-pub mod FieldsLaws
+pub mod FollowedFields
 pub mod SkipLaws
 pub mod SkipCutting
 pub mod IndexAscending

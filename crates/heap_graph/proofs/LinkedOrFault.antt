@@ -17,7 +17,8 @@ use Rattle.heap_graph.specs.declared.rule.LinkRule.TheVariants.{UnknownClass, Ze
 use Rattle.heap_graph.specs.Heap.{class_named, heap_of, id_of, objects}
 use Rattle.heap_graph.specs.Layout.{IsChain, layout_size}
 use Rattle.heap_graph.specs.LinkFault.{HasLinkFault, IsFirstFault, code_of}
-use Rattle.heap_graph.specs.Linked.{Fails, IsAccepted, most_objects}
+use Rattle.heap_graph.specs.Accepted.{IsAccepted}
+use Rattle.heap_graph.specs.Linked.{Fails, most_objects}
 use Rattle.heap_graph.specs.working.RuleAnswers.{IsLateRule, IsLeastRule}
 use Rattle.heap_graph.proofs.Answering.{slice_get_of}
 use Rattle.heap_graph.proofs.ChainLaws.{chain_ends, cut_is_no_chain, one_chain}

@@ -1,5 +1,6 @@
 -- Strings and loaded classes are two kinds of records: each stands in turn, and the first one of an identifier counts.
-use Rattle.std.proofs.Common.{List, Option, Some, [], ap, filter, get_or, length, refl, slice_get, true, ℕ, ◌<◌, ◌∷◌, ◌≡◌}
+use Rattle.std.proofs.Common.{List, Option, Some, [], ap, filter, get_or, length, refl, slice_get, true, ℕ}
+use Rattle.std.proofs.Common.{◌<◌, ◌∷◌, ◌≡◌}
 use Rattle.std.specs.Prelude.{if◌then◌else◌, ◌==◌}
 use Rattle.std.proofs.lemmas.Option.{slice_get-get_or}
 use Rattle.hprof_grammar.specs.Places.{is_load, is_string}

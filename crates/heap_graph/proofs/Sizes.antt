@@ -14,7 +14,7 @@ use Rattle.hprof_grammar.specs.SubRecord.{IsSubRecord, Static, SubRecord, consta
 use Rattle.hprof_grammar.specs.SubRecord.{static_fields}
 use Rattle.hprof_grammar.specs.SubRecord.SubRecord.{class_dump, instance_dump, object_array_dump, primitive_array_dump}
 use Rattle.hprof_grammar.specs.SubRecord.SubRecord.{root}
-use Rattle.hprof_grammar.specs.Tables.{is_id_size, is_type_at, size_of}
+use Rattle.hprof_grammar.specs.FormatTables.{is_id_size, is_type_at, size_of}
 use Rattle.hprof_grammar.specs.declared.kinds.TypePlace.TheVariants.{InArray, InStatic}
 use Rattle.hprof_grammar.proofs.BoundsLaws.{bounds}
 use Rattle.heap_graph.specs.Rows.{bytes_of}

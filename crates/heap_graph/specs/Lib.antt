@@ -11,6 +11,7 @@ pub mod Skips
 pub mod SkipText
 pub mod SkipRefusals
 pub mod Linked
+pub mod Accepted
 pub mod LinkFault
 pub mod ObjectGraph
 pub mod Whole

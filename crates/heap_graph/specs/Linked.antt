@@ -2,9 +2,7 @@
 use Rattle.std.specs.Prelude.{Contains, List, None, Some, length, map, slice_get, take, ℕ, ◌≡◌, ◌≢◌, ◌≤◌}
 use Rattle.heap_graph.specs.SuperRule.{IsBadSuper}
 use Rattle.heap_graph.specs.Layout.{IsChain, layout_size}
-use Rattle.heap_graph.specs.Heap.{class_named, heap_of, id_of, objects}
-use Rattle.hprof_grammar.specs.Record.{IsOrderly, Record, tag_of}
-use Rattle.hprof_grammar.specs.Dump.{Spells}
+use Rattle.heap_graph.specs.Heap.{class_named, id_of, objects}
 use Rattle.hprof_grammar.specs.SubRecord.{Class, SubRecord}
 use Rattle.hprof_grammar.specs.SubRecord.SubRecord.{class_dump, instance_dump, object_array_dump}
 use Rattle.heap_graph.specs.declared.rule.LinkRule.{LinkRule}
@@ -46,9 +44,3 @@ Fails s heap n rule = (o : SubRecord) × (slice_get (objects heap) n ≡ Some o)
 -- A heap list is linked where no object breaks a rule.
 abbrev pub IsLinked : ℕ → List SubRecord → Type 0
 IsLinked s heap = (n : ℕ) (rule : LinkRule) → Fails s heap n rule → ⊥
-
--- A text is accepted where it spells a dump with an orderly list of records and a linked heap list.
-pub record IsAccepted (text : List ℕ) (s : ℕ) (records : List Record) : Type 0 where
-  pub spells : Spells text s records
-  pub orderly : IsOrderly (map tag_of records)
-  pub linked : IsLinked s (heap_of records)

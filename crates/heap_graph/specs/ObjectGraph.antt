@@ -4,7 +4,7 @@ use Rattle.std.specs.List.{concat}
 use Rattle.heap_graph.specs.ClassNames.{class_text}
 use Rattle.heap_graph.specs.Roots.{root_ids, root_objects}
 use Rattle.heap_graph.specs.Heap.{class_dumps, heap_of, id_of, objects}
-use Rattle.heap_graph.specs.Linked.{IsAccepted}
+use Rattle.heap_graph.specs.Accepted.{IsAccepted}
 use Rattle.heap_graph.specs.References.{AreIdLists, is_unresolved, targets}
 use Rattle.heap_graph.specs.Rows.{bytes_of, row_of}
 use Rattle.heap_graph.specs.Skips.{SkipEntry, is_skipped}

@@ -19,5 +19,5 @@ pub mod FieldsUp
 pub mod Rests
 pub mod CountedIds
 pub mod ReadObjects
-pub mod OnlyGraph
+pub mod GraphOf
 pub mod OneGraph

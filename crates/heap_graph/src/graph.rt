@@ -7,9 +7,9 @@ ghost use Rattle.hprof_grammar.specs.Dump.{limit};
 ghost use Rattle.heap_graph.specs.ObjectGraph.{bytes_at, class_at, class_count, object_count, references_of, row_at};
 ghost use Rattle.heap_graph.specs.Whole.{IsRowIn, IsWhole, held_by, unresolved_at, unresolved_roots};
 ghost use Rattle.heap_graph.specs.Walks.{ids_in, unresolved_left, references_in, step_in};
-ghost use Rattle.heap_graph.specs.working.OnlyGraph.{GraphOf, GraphOf-prop};
+ghost use Rattle.heap_graph.specs.working.GraphOf.{GraphOf, GraphOf-prop};
 
-use crate::entry::ClassEntry;
+use crate::class_entry::ClassEntry;
 use crate::objects::Objects;
 use crate::plan::Plan;
 use crate::row::RowKey;

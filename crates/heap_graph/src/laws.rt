@@ -8,7 +8,7 @@ ghost use Rattle.hprof_grammar.specs.SubRecord.{Class, Instance};
 ghost use Rattle.heap_graph.specs.Fields.{all_field_ids};
 ghost use Rattle.heap_graph.specs.Layout.{layout};
 ghost use Rattle.heap_graph.specs.LinkFault.{HasLinkFault};
-ghost use Rattle.heap_graph.specs.Linked.{IsAccepted};
+ghost use Rattle.heap_graph.specs.Accepted.{IsAccepted};
 ghost use Rattle.heap_graph.specs.ObjectGraph.{IsGraphOfText, ObjectGraph};
 ghost use Rattle.heap_graph.specs.References.{instance_ids};
 ghost use Rattle.heap_graph.specs.SkipText.{SpellsSkips};

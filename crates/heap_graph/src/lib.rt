@@ -16,8 +16,8 @@
 //! is accepted and refused stands in `docs/FORMAT.md`.
 #![tactic(auto)]
 
+mod class_entry;
 mod classes;
-mod entry;
 mod graph;
 mod held;
 mod index;

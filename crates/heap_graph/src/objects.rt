@@ -1,11 +1,11 @@
 //! The objects of a dump at their places.
 
 mod check;
-mod classes;
-mod plan;
+mod class_entries;
+mod class_plans;
+pub(crate) mod class_table;
 mod rows;
 mod scan;
-pub(crate) mod table;
 mod unresolved;
 
 ghost use Rattle.hprof_grammar.specs.SubRecord.{SubRecord};

@@ -1,11 +1,11 @@
 -- What a run answers for the bytes that it read.
 use Rattle.std.specs.Prelude.{IfSome, IsSome, List, Option, take, ℕ, ◌≡◌, ◌≢◌, ◌≤◌, ◌↔◌, ◌⊎◌}
 use Rattle.std.specs.Io.KnownBytes.{Appends, Consumes}
-use Rattle.heap_graph.specs.Linked.{IsAccepted}
+use Rattle.heap_graph.specs.Accepted.{IsAccepted}
 use Rattle.heap_graph.specs.LinkFault.{HasLinkFault}
 use Rattle.heap_graph.specs.Skips.{SkipEntry}
 use Rattle.histogram.specs.Report.{IsReport}
-use Rattle.heapmark.specs.Refusals.{out_of_memory, read_fault, fault_refusal}
+use Rattle.heapmark.specs.RefusalCodes.{out_of_memory, read_fault, fault_refusal}
 use Rattle.heapmark.specs.declared.refusal.Refusal.{Refusal}
 use Rattle.histogram.specs.Counting.{AppendsBeginning}
 use Rattle.hprof_grammar.specs.Fault.{FirstFault}

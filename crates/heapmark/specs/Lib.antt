@@ -1,7 +1,7 @@
 pub mod Answer
 pub mod Headline
-pub mod RefusalOf
+pub mod RefusalParts
 pub mod RefusalText
-pub mod Refusals
+pub mod RefusalCodes
 pub mod SkippedFields
 pub mod working

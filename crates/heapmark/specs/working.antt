@@ -1,3 +1,3 @@
 pub mod Hint
 pub mod Marking
-pub mod Trouble
+pub mod NoReport

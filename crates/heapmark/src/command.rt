@@ -8,14 +8,14 @@ ghost use Rattle.command_line.specs.Line.{AreInRange, AsksAboutProgram, GivesNum
 ghost use Rattle.command_line.specs.Line.{text_given, texts_of};
 ghost use Rattle.heapmark.specs.SkippedFields.{HasBadList, IsSkipListOf, WritesBeginningFor, WritesReportFor};
 ghost use Rattle.drain.specs.Options.{IsInRange};
-ghost use Rattle.heapmark.specs.working.Trouble.{HasTooFewBuffers, bad_options, list_of, starved, wanted};
+ghost use Rattle.heapmark.specs.working.NoReport.{HasTooFewBuffers, bad_options, list_of, starved, wanted};
 ghost use Rattle.histogram.specs.Counting.{failures_of, inner_of, is_flushed};
 
 use crate::hint::advise;
+use crate::no_report::NoReport;
 use crate::pipeline::run;
 use crate::refusal::Refusal;
 use crate::status;
-use crate::trouble::Trouble;
 use clap::error::ErrorKind;
 use command_line::{Arguments, Error, arguments};
 use drain::{BadOptions, NoGate, Options};
@@ -167,15 +167,15 @@ pub fn refuse_bytes<E: Write>(err: &mut E) -> u8
 }
 
 /// Answers the exit status of a run on a file, and prints its refusal in one line.
-fn tell<E: Write>(err: &mut E, outcome: &Result<(), Trouble>) -> u8
+fn tell<E: Write>(err: &mut E, outcome: &Result<(), NoReport>) -> u8
     ensures refused { OnErr outcome.now (result ≡ 1) }
     ensures reported { OnOk outcome.now (result ≡ 0) }
     ensures silent { OnOk outcome.now (Keeps (E.contents err.old) (E.contents err.new)) }
 {
     match outcome {
         Ok(()) => status::DONE,
-        Err(Trouble::Refused(refusal)) => refused(err, refusal),
-        Err(Trouble::NotOpened(_)) => refused(err, &Refusal::READ_FAULT),
+        Err(NoReport::Refused(refusal)) => refused(err, refusal),
+        Err(NoReport::NotOpened(_)) => refused(err, &Refusal::READ_FAULT),
     }
 }
 
@@ -184,14 +184,14 @@ fn explain<T: Files, E: Write>(
     rt: &T,
     err: &mut E,
     arguments: &Arguments<'_>,
-    outcome: &Result<(), Trouble>,
+    outcome: &Result<(), NoReport>,
 )
     ensures { OnOk outcome.now (Keeps (E.contents err.old) (E.contents err.new)) }
 {
     match outcome {
         Ok(()) => {}
-        Err(Trouble::Refused(refusal)) => advise(rt, err, arguments, refusal),
-        Err(Trouble::NotOpened(reason)) => {
+        Err(NoReport::Refused(refusal)) => advise(rt, err, arguments, refusal),
+        Err(NoReport::NotOpened(reason)) => {
             let file = arguments.file;
             let _ = writeln!(err, "heapmark: {file}: {reason}");
         }
@@ -238,7 +238,7 @@ fn report_file<T: Files + AllocGlobal + Threads + Wait + Sync, W: Write>(
     rt: &T,
     arguments: &Arguments<'_>,
     out: &mut Counted<W>,
-) -> Result<(), Trouble>
+) -> Result<(), NoReport>
     requires failures { failures_of out.old < 2 ^ 64 - 1 }
     requires ranges { AreInRange arguments.now }
     ensures too_few { HasTooFewBuffers arguments.now → result ≡ Err bad_options }
@@ -258,19 +258,19 @@ fn report_file<T: Files + AllocGlobal + Threads + Wait + Sync, W: Write>(
     ensures failures { failures_of out.new ≤ failures_of out.old + 1 }
 {
     let Ok(options) = options_of(arguments) else {
-        return Err(Trouble::Refused(Refusal::BAD_OPTIONS));
+        return Err(NoReport::Refused(Refusal::BAD_OPTIONS));
     };
     let skip = match skip_of(rt.alloc(), arguments) {
         Ok(skip) => skip,
-        Err(refusal) => return Err(Trouble::Refused(Refusal::from(refusal))),
+        Err(refusal) => return Err(NoReport::Refused(Refusal::from(refusal))),
     };
     let mut reader = match open(rt, arguments.file) {
         Ok(reader) => reader,
-        Err(reason) => return Err(Trouble::NotOpened(reason)),
+        Err(reason) => return Err(NoReport::NotOpened(reason)),
     };
     match run(rt, rt.alloc(), &mut reader, out, &options, &skip, &NoGate) {
         Ok(()) => Ok(()),
-        Err(refusal) => Err(Trouble::Refused(refusal)),
+        Err(refusal) => Err(NoReport::Refused(refusal)),
     }
 }
 

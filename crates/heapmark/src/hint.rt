@@ -3,7 +3,7 @@
 ghost use Rattle.std.specs.Prelude.{◌≡◌, ◌+◌, ◌*◌, IsSome};
 ghost use Rattle.std.specs.Io.KnownBytes.{Keeps};
 ghost use Rattle.heapmark.specs.working.Hint.{HasHint};
-ghost use Rattle.heapmark.specs.working.Trouble.{HasTooFewBuffers};
+ghost use Rattle.heapmark.specs.working.NoReport.{HasTooFewBuffers};
 
 use crate::refusal::Refusal;
 use command_line::Arguments;

@@ -4,8 +4,8 @@
 //! report, or answers why it does not. `program`, in `command.rt`, gives it the file and the options of the words, and
 //! makes the exit status of its answer; `main` is one line over `start`, below.
 //!
-//! The headline stands in `specs/Headline.antt`, the refusals in `specs/Refusals.antt`; README.md at the top says both
-//! in words, and `docs/ARCHITECTURE.md` where everything else is.
+//! The headline stands in `specs/Headline.antt`, the refusals in `specs/RefusalCodes.antt`; README.md at the top says
+//! both in words, and `docs/ARCHITECTURE.md` where everything else is.
 #![tactic(auto)]
 
 ghost use Rattle.std.specs.Prelude.{◌≡◌, ◌+◌, ◌-◌, ◌^◌, ◌<◌, ◌≤◌};
@@ -16,10 +16,10 @@ ghost use Rattle.histogram.specs.Counting.{failures_of, inner_of};
 mod command;
 mod hint;
 mod laws;
+mod no_report;
 mod pipeline;
 mod refusal;
 mod status;
-mod trouble;
 
 pub use command::program;
 pub use command_line::{Arguments, arguments};

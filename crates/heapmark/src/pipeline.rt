@@ -5,12 +5,12 @@ ghost use Rattle.std.specs.Prelude.{IfErr, IfOk, IfSome, IsErrAnd, OnOk, true};
 ghost use Rattle.std.specs.Io.KnownBytes.{Keeps};
 ghost use Rattle.histogram.specs.Report.{IsReport, report_of};
 ghost use Rattle.histogram.specs.Counting.{ConsumesFewer, failures_of, inner_of, is_flushed};
-ghost use Rattle.histogram.specs.Lines.{histogram_of};
+ghost use Rattle.histogram.specs.HistogramOf.{histogram_of};
 ghost use Rattle.heapmark.specs.Answer.{ConsumesBytesRead, IsAcceptedText, IsRunRefusal, IsRefusalOf};
 ghost use Rattle.heapmark.specs.Answer.{RefusesFirstFault};
 ghost use Rattle.heapmark.specs.Answer.{WritesBeginning, WritesSomeBeginning, WritesSomeReport, bytes_read};
 ghost use Rattle.heapmark.specs.Headline.{Headline};
-ghost use Rattle.heapmark.specs.Refusals.{HasCode, out_of_memory};
+ghost use Rattle.heapmark.specs.RefusalCodes.{HasCode, out_of_memory};
 ghost use Rattle.heapmark.specs.working.Marking.{IsOfMarking};
 
 use crate::refusal::Refusal;

@@ -17,22 +17,22 @@
 
 mod counted;
 mod laws;
-mod lines;
 mod names;
 mod reading;
 mod report;
+mod report_rows;
+mod report_text;
+mod report_writing;
 mod row_numbers;
 #[cfg(test)]
 mod tests;
-mod text;
 mod unmarked;
-mod whole;
-mod writing;
+mod write_whole;
 
 pub use counted::Counted;
 pub use laws::{one_histogram, one_report};
-pub use lines::rows;
 pub use reading::ReaderRefusal;
 pub use report::{Line, Report};
-pub use whole::WriteFault;
-pub use writing::{WriteRefusal, write_report};
+pub use report_rows::rows;
+pub use report_writing::{WriteRefusal, write_report};
+pub use write_whole::WriteFault;

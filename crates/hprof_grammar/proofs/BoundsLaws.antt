@@ -11,7 +11,7 @@ use Rattle.hprof_grammar.specs.SubRecord.RootOrigin.{java_frame, jni_global, jni
 use Rattle.hprof_grammar.specs.SubRecord.RootOrigin.{sticky_class, thread_block, thread_object, unknown}
 use Rattle.hprof_grammar.specs.SubRecord.SubRecord.{class_dump, instance_dump, object_array_dump}
 use Rattle.hprof_grammar.specs.SubRecord.SubRecord.{primitive_array_dump, root}
-use Rattle.hprof_grammar.specs.Tables.{is_sub_tag, size_of}
+use Rattle.hprof_grammar.specs.FormatTables.{is_sub_tag, size_of}
 use Rattle.hprof_grammar.specs.working.ClassParts.{counted_fields, fields_from_constants, fields_from_members}
 use Rattle.hprof_grammar.specs.working.ClassParts.{fields_from_statics}
 use Rattle.hprof_grammar.proofs.Fields.{all_join, all_split}

@@ -1,6 +1,6 @@
 -- The parts of a class dump that have counts, as they are read.
-use Rattle.std.proofs.Common.{List, [], ap, append_assoc, arith, drop, flat_map, length, map, refl, subst, sym, ℕ, ◌*◌, ◌++◌}
-use Rattle.std.proofs.Common.{◌+◌, ◌<◌, ◌^◌, ◌∙◌, ◌∷◌, ◌≡◌, ◌≤◌}
+use Rattle.std.proofs.Common.{List, [], ap, append_assoc, arith, drop, flat_map, length, map, refl, subst, sym, ℕ}
+use Rattle.std.proofs.Common.{◌*◌, ◌++◌, ◌+◌, ◌<◌, ◌^◌, ◌∙◌, ◌∷◌, ◌≡◌, ◌≤◌}
 use Rattle.std.proofs.lemmas.List.{length-append, length-drop}
 use Rattle.std.proofs.Math.Seq.{drop-append_seam}
 use Rattle.std.specs.List.{AllByRecursion}
@@ -11,7 +11,7 @@ use Rattle.hprof_grammar.specs.Spelling.Field.{number}
 use Rattle.hprof_grammar.specs.Bounds.{IsConstant, IsStatic}
 use Rattle.hprof_grammar.specs.SubRecord.{Class, Constant, Static, constant_fields, member_fields, static_fields}
 use Rattle.hprof_grammar.specs.SubRecord.SubRecord.{class_dump}
-use Rattle.hprof_grammar.specs.Tables.{size_of}
+use Rattle.hprof_grammar.specs.FormatTables.{size_of}
 use Rattle.hprof_grammar.specs.declared.kinds.TypePlace.TheVariants.{InConstant, InStatic}
 use Rattle.hprof_grammar.specs.Standing.{Sight, Stands}
 use Rattle.hprof_grammar.specs.Series.{HasCountedValues, LabelledValue, behind_counted_values, count_in}

@@ -1,6 +1,6 @@
--- Whether literal parts of a dump are as the format asks, by tests that compute, and what stands where a test says so.
-use Rattle.std.proofs.Common.{Bool, List, [], ap, arith, drop, false, length, map, nat_lt, suc, sym, take, true, zero, ℕ}
-use Rattle.std.proofs.Common.{◌*◌, ◌++◌, ◌<◌, ◌^◌, ◌∙◌, ◌∷◌, ◌≡◌}
+-- Whether literal parts of a dump are as the format asks, by tests that compute; what stands where a test says so.
+use Rattle.std.proofs.Common.{Bool, List, [], ap, arith, drop, false, length, map, nat_lt, suc, sym, take, true}
+use Rattle.std.proofs.Common.{zero, ℕ, ◌*◌, ◌++◌, ◌<◌, ◌^◌, ◌∙◌, ◌∷◌, ◌≡◌}
 use Rattle.std.specs.List.{AllByRecursion}
 use Rattle.std.specs.Prelude.{slice_index, ◌&&◌, ◌==◌}
 use Rattle.std.proofs.lemmas.Bool.{and_parts, eqb-true, ltb-true}
@@ -12,7 +12,7 @@ use Rattle.hprof_grammar.specs.Spelling.Field.{number, raw, type_code}
 use Rattle.hprof_grammar.specs.Standing.{RecordStands, Sight, Stands}
 use Rattle.hprof_grammar.specs.SubRecord.{HasSizes, IsSubRecord, Root, SubRecord, fields_of, spelling_of}
 use Rattle.hprof_grammar.specs.SubRecord.SubRecord.{class_dump, primitive_array_dump, root}
-use Rattle.hprof_grammar.specs.Tables.{is_heap_tag, is_length_of, is_type_at, size_of}
+use Rattle.hprof_grammar.specs.FormatTables.{is_heap_tag, is_length_of, is_type_at, size_of}
 use Rattle.hprof_grammar.proofs.TableLaws.{tag_known}
 
 abbrev every : {A : Type 0} → (A → Bool) → List A → Bool

@@ -19,14 +19,14 @@ use Rattle.hprof_grammar.specs.working.Reading.{behind, flaw_code, frame_at, sub
 use Rattle.hprof_grammar.specs.Record.{framed}
 use Rattle.hprof_grammar.specs.SubRecord.{SubRecord, spelling_of}
 use Rattle.hprof_grammar.specs.Kinds.{sub_kind}
-use Rattle.hprof_grammar.specs.Tables.{is_heap_tag, is_id_size, is_length_of, is_snapshot_tag}
+use Rattle.hprof_grammar.specs.FormatTables.{is_heap_tag, is_id_size, is_length_of, is_snapshot_tag}
 use Rattle.hprof_grammar.specs.declared.flaw.Flaw.{Flaw}
 use Rattle.hprof_grammar.specs.declared.flaw.FormatFault.{FormatFault}
 use Rattle.hprof_grammar.specs.declared.snapshot_order.Order.{Order}
 use Rattle.hprof_grammar.specs.declared.snapshot_order.Order.TheVariants.{Before, Ended, Segments, Whole}
 use Rattle.hprof_grammar.proofs.Bytes.{IsBytes, bytes-behind, bytes-drop, bytes-front}
-use Rattle.hprof_grammar.proofs.Framed.{IsPlacedFrame, heap_broken, heap_framed, load_framed, other_framed}
-use Rattle.hprof_grammar.proofs.Framed.{string_framed}
+use Rattle.hprof_grammar.proofs.FrameContents.{IsPlacedFrame, heap_broken, heap_framed, load_framed, other_framed}
+use Rattle.hprof_grammar.proofs.FrameContents.{string_framed}
 use Rattle.hprof_grammar.proofs.Frames.{FrameTaken, cut_record, frame_takes}
 use Rattle.hprof_grammar.proofs.Headers.{begins_with_magic, dump_read, header_stands, id_size_wrong, magic_is_found}
 use Rattle.hprof_grammar.proofs.Headers.{record_fault_read}

@@ -9,7 +9,7 @@ use Rattle.byteorder.specs.Endian.{big_bytes, big_number}
 use Rattle.hprof_grammar.specs.working.Reading.{number_at, raw_at, type_at, ◌>>=◌}
 use Rattle.hprof_grammar.specs.Spelling.{AreAllowed, Field, spelled}
 use Rattle.hprof_grammar.specs.Spelling.Field.{number, raw, type_code}
-use Rattle.hprof_grammar.specs.Tables.{is_type_at}
+use Rattle.hprof_grammar.specs.FormatTables.{is_type_at}
 use Rattle.hprof_grammar.specs.declared.kinds.TypePlace.{TypePlace}
 use Rattle.hprof_grammar.specs.declared.flaw.Flaw.{Flaw}
 use Rattle.hprof_grammar.specs.declared.flaw.Flaw.TheVariants.{Short, UnknownTag, WrongType}

@@ -14,10 +14,10 @@ use Rattle.hprof_grammar.specs.Fault.{FirstFault, HasMagic}
 use Rattle.hprof_grammar.specs.Fault.FirstFault.{bad_header, bad_id_size, in_records, short_header, too_large}
 use Rattle.hprof_grammar.specs.working.Joining.{AddsAll, HasHeader, HasRecordFault, nothing_of}
 use Rattle.hprof_grammar.specs.Record.{tag_of}
-use Rattle.hprof_grammar.specs.Tables.{is_id_size}
+use Rattle.hprof_grammar.specs.FormatTables.{is_id_size}
 use Rattle.hprof_grammar.specs.declared.flaw.FormatFault.{FormatFault}
 use Rattle.hprof_grammar.proofs.Bytes.{IsBytes, bytes-drop, number-lt, number_parts}
-use Rattle.hprof_grammar.proofs.FrameLaws.{header_parts}
+use Rattle.hprof_grammar.proofs.FrameBeginnings.{header_parts}
 use Rattle.hprof_grammar.proofs.SnapshotOrderLaws.{done_is_orderly}
 
 -- ---- the text of the header

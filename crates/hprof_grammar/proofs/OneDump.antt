@@ -8,10 +8,10 @@ use Rattle.hprof_grammar.specs.Places.{IsDumpOf, Places, places_of}
 use Rattle.hprof_grammar.specs.Record.{HasParts, IsRecord, Record, body_of, record_spelling, tag_of, time_of}
 use Rattle.hprof_grammar.specs.Record.Record.{heap, load_class, other, string}
 use Rattle.hprof_grammar.specs.SubRecord.{IsSubRecord, SubRecord, spelling_of}
-use Rattle.hprof_grammar.specs.Tables.{is_heap_tag}
+use Rattle.hprof_grammar.specs.FormatTables.{is_heap_tag}
 use Rattle.hprof_grammar.proofs.Bytes.{same_number}
 use Rattle.hprof_grammar.proofs.Fronts.{IsDetermined, same_list}
-use Rattle.hprof_grammar.proofs.FrameLaws.{same_frame, same_header}
+use Rattle.hprof_grammar.proofs.FrameBeginnings.{same_frame, same_header}
 use Rattle.hprof_grammar.proofs.SubRecords.{subs_determined}
 
 -- the numbers of a LOAD CLASS

@@ -12,9 +12,9 @@ use Rattle.hprof_grammar.specs.Fault.RecordFault.{bad_length, in_heap, no_snapsh
 use Rattle.hprof_grammar.specs.Record.{CanGoOn, IsOrderly, IsRecord, Record, body_of, framed, record_spelling, tag_of}
 use Rattle.hprof_grammar.specs.Record.{time_of}
 use Rattle.hprof_grammar.specs.SubRecord.{SubRecord, spelling_of}
-use Rattle.hprof_grammar.specs.Tables.{is_id_size, is_length_of}
-use Rattle.hprof_grammar.proofs.FrameLaws.{cut_or_whole, header_parts, length-framed, length-header, same_frame}
-use Rattle.hprof_grammar.proofs.FrameLaws.{same_header, same_size}
+use Rattle.hprof_grammar.specs.FormatTables.{is_id_size, is_length_of}
+use Rattle.hprof_grammar.proofs.FrameBeginnings.{cut_or_whole, header_parts, length-framed, length-header, same_frame}
+use Rattle.hprof_grammar.proofs.FrameBeginnings.{same_header, same_size}
 use Rattle.hprof_grammar.proofs.Fronts.{longest_front, same_fronts}
 use Rattle.hprof_grammar.proofs.Heaps.{one_longest_subs}
 use Rattle.hprof_grammar.proofs.OneDump.{records_determined}

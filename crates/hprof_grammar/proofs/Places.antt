@@ -108,7 +108,8 @@ pub fields_in : {s at place : ℕ} {bytes : List ℕ} {sub : SubRecord} (front m
     → Spell bytes place (spelled more)
 fields_in {s} {at} {place} {bytes} {sub} front more h are place_is =
     let tag = tag_of sub in
-    let parts : spelled (fields_of s sub) ≡ spelled front ++ spelled more = ap spelled are ∙ spelled-append front more in
+    let parts : spelled (fields_of s sub) ≡ spelled front ++ spelled more =
+    ap spelled are ∙ spelled-append front more in
     let parted : Spell bytes at ((tag ∷ spelled front) ++ spelled more) =
     subst (λ (l : List ℕ). Spell bytes at (tag ∷ l)) parts (sub_stands s bytes at sub h) in
     let there : at + length (tag ∷ spelled front) ≡ place = omega (arith, place_is, length-spelled front) in

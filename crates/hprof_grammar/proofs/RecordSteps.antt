@@ -12,7 +12,7 @@ use Rattle.hprof_grammar.specs.working.SnapshotOrder.{IsAt}
 use Rattle.hprof_grammar.specs.Record.{HasParts, IsRecord, Record, body_of, framed, record_spelling, subs_of, tag_of}
 use Rattle.hprof_grammar.specs.Record.{time_of}
 use Rattle.hprof_grammar.specs.SubRecord.{SubRecord}
-use Rattle.hprof_grammar.specs.Tables.{is_length_of}
+use Rattle.hprof_grammar.specs.FormatTables.{is_length_of}
 use Rattle.hprof_grammar.specs.declared.snapshot_order.Order.{Order}
 use Rattle.hprof_grammar.specs.declared.snapshot_order.Order.TheVariants.{Before}
 use Rattle.hprof_grammar.proofs.Fields.{all_join}

@@ -10,7 +10,7 @@ use Rattle.hprof_grammar.specs.Spelling.{Field, spelled}
 use Rattle.hprof_grammar.specs.Spelling.Field.{number, raw, type_code}
 use Rattle.hprof_grammar.specs.Bounds.{IsMember}
 use Rattle.hprof_grammar.specs.SubRecord.{Member, member_fields}
-use Rattle.hprof_grammar.specs.Tables.{size_of}
+use Rattle.hprof_grammar.specs.FormatTables.{size_of}
 use Rattle.hprof_grammar.specs.declared.kinds.TypePlace.{TypePlace}
 use Rattle.hprof_grammar.specs.Series.{HasValues, LabelledValue, behind_values, members_in, numbers_in, value_end}
 use Rattle.hprof_grammar.specs.Series.{values_in}

@@ -18,7 +18,7 @@ use Rattle.hprof_grammar.specs.SubRecord.RootOrigin.{java_frame, jni_global, jni
 use Rattle.hprof_grammar.specs.SubRecord.RootOrigin.{sticky_class, thread_block, thread_object, unknown}
 use Rattle.hprof_grammar.specs.SubRecord.SubRecord.{class_dump, instance_dump, object_array_dump, primitive_array_dump}
 use Rattle.hprof_grammar.specs.SubRecord.SubRecord.{root}
-use Rattle.hprof_grammar.specs.Tables.{is_sub_tag}
+use Rattle.hprof_grammar.specs.FormatTables.{is_sub_tag}
 use Rattle.hprof_grammar.specs.declared.kinds.RootKind.{RootKind}
 use Rattle.hprof_grammar.specs.declared.kinds.RootKind.TheVariants as roots
 use Rattle.hprof_grammar.specs.declared.kinds.Kind.{Kind}
@@ -29,8 +29,8 @@ use Rattle.hprof_grammar.proofs.BoundsLaws.{bounds, formed_by}
 use Rattle.hprof_grammar.proofs.Bytes.{IsBytes, bytes-tail}
 use Rattle.hprof_grammar.proofs.Fields.{Breaks, breaks_short, breaks_wrong, ends_short, has_wrong_type}
 use Rattle.hprof_grammar.proofs.Format.{IsFormat, bind_err, bind_ok, number_format}
-use Rattle.hprof_grammar.proofs.Formats.{class_format, instance_format, object_array_format, primitive_array_format}
-use Rattle.hprof_grammar.proofs.Formats.{three_numbers, two_numbers}
+use Rattle.hprof_grammar.proofs.PartFormats.{class_format, instance_format, object_array_format, primitive_array_format}
+use Rattle.hprof_grammar.proofs.PartFormats.{three_numbers, two_numbers}
 use Rattle.hprof_grammar.proofs.TableLaws.{class_tag, instance_tag, kind_says, no_kind, no_sub_tag, object_array_tag}
 use Rattle.hprof_grammar.proofs.TableLaws.{primitive_array_tag, root_tag_is, tag_known}
 
@@ -246,7 +246,8 @@ kind_fault : (s tag : ℕ) (kind : Option Kind) (rest : List ℕ) (flaw : Flaw) 
 kind_fault s tag None rest flaw k h e =
     let same : UnknownTag ≡ flaw = cc in
     subst (λ (f : Flaw). SubFault s (tag ∷ rest) (flaw_code f)) same (unknown_tag tag rest (no_sub_tag tag k))
-kind_fault s tag (Some kind) rest flaw k h e = break_fault s tag rest flaw ((body_read s tag kind k).fails rest flaw h e)
+kind_fault s tag (Some kind) rest flaw k h e =
+    break_fault s tag rest flaw ((body_read s tag kind k).fails rest flaw h e)
 
 -- a flaw shows the fault
 pub sub_fails : (s tag : ℕ) (rest : List ℕ) (flaw : Flaw) → IsBytes (tag ∷ rest)

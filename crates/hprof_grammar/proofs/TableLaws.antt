@@ -3,7 +3,7 @@ use Rattle.std.proofs.Common.{Bool, None, Option, Some, ap, arith, false, refl, 
 use Rattle.std.proofs.Common.{◌≡◌, ◌≤◌}
 use Rattle.std.specs.Prelude.{nat_le, ◌&&◌, ◌==◌, ◌||◌}
 use Rattle.std.proofs.lemmas.Bool.Decides.{nat_tests}
-use Rattle.hprof_grammar.specs.Tables.{is_heap_tag, is_id_size, is_length_of, is_sub_tag}
+use Rattle.hprof_grammar.specs.FormatTables.{is_heap_tag, is_id_size, is_length_of, is_sub_tag}
 use Rattle.hprof_grammar.specs.Kinds.{kind_of, origin_kind, root_kind, root_of, root_tag, sub_kind}
 use Rattle.hprof_grammar.specs.SubRecord.{RootOrigin, SubRecord, origin_tag, tag_of}
 use Rattle.hprof_grammar.specs.SubRecord.RootOrigin.{java_frame, jni_global, jni_local, monitor_used, native_stack}

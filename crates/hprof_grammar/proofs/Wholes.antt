@@ -15,12 +15,12 @@ use Rattle.hprof_grammar.specs.Record.{CanGoOn, IsOrderly, IsRecord, Record, bod
 use Rattle.hprof_grammar.specs.Record.{time_of}
 use Rattle.hprof_grammar.specs.Record.Record.{heap, load_class, other, string}
 use Rattle.hprof_grammar.specs.SubRecord.{IsSubRecord, SubRecord, spelling_of}
-use Rattle.hprof_grammar.specs.Tables.{is_heap_tag, is_length_of}
+use Rattle.hprof_grammar.specs.FormatTables.{is_heap_tag, is_length_of}
 use Rattle.hprof_grammar.specs.declared.snapshot_order.Order.{Order}
 use Rattle.hprof_grammar.specs.declared.flaw.FormatFault.{FormatFault}
 use Rattle.hprof_grammar.proofs.Bytes.{IsBytes, bytes-behind}
 use Rattle.hprof_grammar.proofs.Fields.{all_split}
-use Rattle.hprof_grammar.proofs.FrameLaws.{cut_or_whole, length-framed, same_frame}
+use Rattle.hprof_grammar.proofs.FrameBeginnings.{cut_or_whole, length-framed, same_frame}
 use Rattle.hprof_grammar.proofs.Frames.{FrameTaken}
 use Rattle.hprof_grammar.proofs.Fronts.{fronts}
 use Rattle.hprof_grammar.proofs.OneDump.{records_determined}

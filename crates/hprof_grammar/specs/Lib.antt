@@ -1,4 +1,4 @@
-pub mod Tables
+pub mod FormatTables
 pub mod Spelling
 pub mod SubRecord
 pub mod Bounds

@@ -1,6 +1,6 @@
 //! What can be wrong with the bytes of a dump.
 
-use crate::codes;
+use crate::fault_codes;
 use std::error::Error;
 use std::fmt;
 
@@ -24,9 +24,9 @@ impl Flaw {
         ensures { result ≡ reading.flaw_code self }
     {
         match self {
-            Flaw::UnknownTag => codes::BAD_SUB_TAG,
-            Flaw::Short => codes::SUB_TRUNCATED,
-            Flaw::WrongType => codes::BAD_TYPE,
+            Flaw::UnknownTag => fault_codes::BAD_SUB_TAG,
+            Flaw::Short => fault_codes::SUB_TRUNCATED,
+            Flaw::WrongType => fault_codes::BAD_TYPE,
         }
     }
 }

@@ -2,7 +2,7 @@
 
 ghost use Rattle.std.specs.Prelude.{◌≡◌};
 ghost use Rattle.hprof_grammar.specs.Kinds as kind_tables;
-ghost use Rattle.hprof_grammar.specs.Tables as tables;
+ghost use Rattle.hprof_grammar.specs.FormatTables as tables;
 
 use crate::kinds::{Kind, RootKind, TypePlace};
 use crate::tags;

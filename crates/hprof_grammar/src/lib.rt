@@ -18,8 +18,8 @@
 
 #![tactic(auto)]
 
-mod codes;
 mod dump;
+mod fault_codes;
 mod flaw;
 mod format_tables;
 mod frame;

@@ -6,8 +6,8 @@ ghost use Rattle.hprof_grammar.specs.Fault.{FirstFault};
 ghost use Rattle.hprof_grammar.specs.working.Joining.{HasHeader};
 ghost use Rattle.hprof_grammar.specs.Refusal.{IfFault};
 
-use crate::codes;
 use crate::dump::Dump;
+use crate::fault_codes;
 use crate::flaw::{FormatFault, ReadRefusal};
 use crate::format_tables::is_id_size;
 use crate::record_list::{FIRST_RECORD, note_records};
@@ -29,17 +29,17 @@ fn header_id_size(bytes: &[u8]) -> Result<u8, ReadRefusal>
     ensures fault { IfFault result (λ fault. FirstFault bytes.now fault.code fault.offset) }
 {
     if bytes.len() > LIMIT as usize {
-        return Err(ReadRefusal::Fault(FormatFault::new(codes::TOO_LARGE, LIMIT)));
+        return Err(ReadRefusal::Fault(FormatFault::new(fault_codes::TOO_LARGE, LIMIT)));
     }
     if !bytes.starts_with(MAGIC) {
-        return Err(ReadRefusal::Fault(FormatFault::new(codes::BAD_HEADER, 0)));
+        return Err(ReadRefusal::Fault(FormatFault::new(fault_codes::BAD_HEADER, 0)));
     }
     if bytes.len() < FIRST_RECORD as usize {
-        return Err(ReadRefusal::Fault(FormatFault::new(codes::TRUNCATED, 0)));
+        return Err(ReadRefusal::Fault(FormatFault::new(fault_codes::TRUNCATED, 0)));
     }
     let size = BigEndian::read_u32(&bytes[ID_SIZE_AT as usize..]);
     if !is_id_size(size) {
-        return Err(ReadRefusal::Fault(FormatFault::new(codes::BAD_ID_SIZE, ID_SIZE_AT)));
+        return Err(ReadRefusal::Fault(FormatFault::new(fault_codes::BAD_ID_SIZE, ID_SIZE_AT)));
     }
     Ok(size as u8)
 }

@@ -11,7 +11,7 @@ use crate::frame::next_frame;
 use crate::reader::Reader;
 use crate::snapshot_order::Order;
 use crate::sub_record_list::note_subs;
-use crate::{codes, tags};
+use crate::{fault_codes, tags};
 use std::alloc::Allocator;
 
 /// Where the records of a dump begin: the place behind its header.
@@ -35,10 +35,10 @@ fn note_record<A: Allocator>(
     ensures fault { IfFault result (FrameFault dump.old.id_size at tag body.now order) }
 {
     if !is_length_of(dump.id_size(), tag, body.len()) {
-        return Err(ReadRefusal::Fault(FormatFault::new(codes::BAD_LENGTH, at)));
+        return Err(ReadRefusal::Fault(FormatFault::new(fault_codes::BAD_LENGTH, at)));
     }
     let Some(next) = order.after(tag) else {
-        return Err(ReadRefusal::Fault(FormatFault::new(codes::DUMP_ORDER, at)));
+        return Err(ReadRefusal::Fault(FormatFault::new(fault_codes::DUMP_ORDER, at)));
     };
     match tag {
         tags::STRING_IN_UTF8 => dump.note_string(at)?,
@@ -62,13 +62,13 @@ pub fn note_records<A: Allocator>(dump: &mut Dump<A>, bytes: &[u8]) -> Result<()
     while !reader.is_empty() {
         let place = FIRST_RECORD + (bytes.len() - reader.rest.len()) as u32;
         let Ok(frame) = next_frame(&mut reader) else {
-            return Err(ReadRefusal::Fault(FormatFault::new(codes::TRUNCATED, place)));
+            return Err(ReadRefusal::Fault(FormatFault::new(fault_codes::TRUNCATED, place)));
         };
         order = note_record(dump, order, frame.tag, frame.body, place)?;
     }
     if !order.is_done() {
         let end = FIRST_RECORD + bytes.len() as u32;
-        return Err(ReadRefusal::Fault(FormatFault::new(codes::DUMP_ORDER, end)));
+        return Err(ReadRefusal::Fault(FormatFault::new(fault_codes::DUMP_ORDER, end)));
     }
     Ok(())
 }

@@ -4,7 +4,7 @@
 ghost use Rattle.std.specs.Prelude.{◌≡◌, ◌≤◌, IfOk, Some, slice_get, ℕ};
 ghost use Rattle.std.specs.Option.{option_and_then};
 ghost use Rattle.hprof_grammar.specs.Kinds as kind_tables;
-ghost use Rattle.hprof_grammar.specs.Tables as tables;
+ghost use Rattle.hprof_grammar.specs.FormatTables as tables;
 ghost use Rattle.hprof_grammar.specs.working.Reading.{Passes, class_dump_at, constant_at, counted_at, instance_at};
 ghost use Rattle.hprof_grammar.specs.working.Reading.{list_at};
 ghost use Rattle.hprof_grammar.specs.working.Reading.{member_at, number_at, object_array_at, then_at};

@@ -17,7 +17,7 @@ ghost use Rattle.std.specs.Prelude.{Some, true, ◌+◌, ◌≡◌, ◌≤◌, d
 ghost use Rattle.byteorder.specs.Endian.{big_number};
 ghost use Rattle.hprof_grammar.specs.Dump.{id_of, is_object};
 ghost use Rattle.hprof_grammar.specs.SubRecord.{SubRecord};
-ghost use Rattle.hprof_grammar.specs.Tables as tables;
+ghost use Rattle.hprof_grammar.specs.FormatTables as tables;
 ghost use Rattle.hprof_grammar.specs.Standing.{Stands, stack_of};
 
 use crate::{format_tables, tags};

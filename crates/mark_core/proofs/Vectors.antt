@@ -13,8 +13,8 @@ use Rattle.mark_core.specs.Account.{after_push}
 use Rattle.mark_core.specs.World.{Marking, items_of, account_at, put, put_which}
 use Rattle.mark_core.specs.Event.{Claim, Finish, Join, StoreLink, Pop, Push, stack_popped, IsBusy, CanClaim, CanFinish}
 use Rattle.mark_core.specs.Event.{CanPop}
-use Rattle.mark_core.specs.Step.{Listing, IsLawful, Does, Tries, heads_of, with_head, exchanged, marking_of}
-use Rattle.mark_core.specs.Step.{IsReadyToPush}
+use Rattle.mark_core.specs.WorldStep.{Listing, IsLawful, Does, Tries, heads_of, with_head, exchanged, marking_of}
+use Rattle.mark_core.specs.WorldStep.{IsReadyToPush}
 use Rattle.std.specs.Bool.{OnTrue}
 use Rattle.mark_core.proofs.Taking.{false_is_not_true}
 use Rattle.mark_core.proofs.Places.{put_here, put_else}

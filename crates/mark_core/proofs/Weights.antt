@@ -12,7 +12,7 @@ use Rattle.mark_core.specs.World.{Setup, Marking, items_of, IsThere}
 use Rattle.mark_core.specs.Event.{Kind, Claim, Finish, Split, Join, Load, LoadLink, StoreLink, Pop, Push, Fail, IdleUp}
 use Rattle.mark_core.specs.Event.{IdleDown, LoadIdle, Event, Allows, IsPossible, effect, happens, stack_popped}
 use Rattle.mark_core.specs.Event.{last_link}
-use Rattle.mark_core.specs.Step.{HasNumber, weight}
+use Rattle.mark_core.specs.WorldStep.{HasNumber, weight}
 use Rattle.mark_core.proofs.Places.{at_get_or, set_else}
 use Rattle.mark_core.proofs.Sums.{sum_of-set, sum_of-append}
 

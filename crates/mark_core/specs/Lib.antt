@@ -10,4 +10,4 @@ pub mod Runs
 pub mod Counts
 pub mod Conclusions
 pub mod Quiet
-pub mod Step
+pub mod WorldStep

@@ -10,7 +10,7 @@ use Rattle.mark_core.specs.declared.which.Which.TheVariants.{Full, Empty}
 use Rattle.mark_core.specs.Event.{Kind, Claim, Finish, Split, Join, Load, LoadLink, StoreLink, Pop, Push, Fail, IdleUp}
 use Rattle.mark_core.specs.Event.{IdleDown, LoadIdle, Event}
 use Rattle.buffer_pool.specs.Book.{Book}
-use Rattle.buffer_pool.specs.Story.{Log}
+use Rattle.buffer_pool.specs.WorkerLog.{Log}
 
 abbrev pub head_code : Coded Head
 head_code =

@@ -16,10 +16,10 @@ use Rattle.buffer_pool.specs.declared.seat_view.SeatView.{SeatView}
 use Rattle.buffer_pool.specs.Book.{Book, loaded, link_loaded, failed, popped, pushed, claimed, finished, idled, woken}
 use Rattle.buffer_pool.specs.Book.{idle_loaded}
 use Rattle.buffer_pool.specs.Calls.{Shows}
-use Rattle.buffer_pool.specs.Story.{Log, Did, EndsStory, LeadsToBook, deeds}
+use Rattle.buffer_pool.specs.WorkerLog.{Log, Did, EndsStory, LeadsToBook, deeds}
 use Rattle.buffer_pool.specs.Ranges.{IsWithin}
 use Rattle.buffer_pool.specs.working.Views.{HasSaidAll, logged}
-use Rattle.buffer_pool.specs.working.Packed.{pair_bits, pair_mark}
+use Rattle.buffer_pool.specs.working.MarkBits.{pair_bits, pair_mark}
 use Rattle.buffer_pool.specs.working.Layout.{head_word, link_word, mark_word}
 use Rattle.buffer_pool.specs.working.Slots.{Reading, free}
 

@@ -4,7 +4,7 @@ use Rattle.mark_core.specs.Shares.{whole}
 use Rattle.mark_core.specs.World.{Setup}
 use Rattle.mark_core.specs.Event.{Split, Join}
 use Rattle.buffer_pool.specs.Book.{Book, new_book, parted, joined, no_share_book}
-use Rattle.buffer_pool.specs.Story.{first_log}
+use Rattle.buffer_pool.specs.WorkerLog.{first_log}
 use Rattle.buffer_pool.specs.declared.key.Key.{Key}
 use Rattle.buffer_pool.specs.declared.seat_view.SeatView.{SeatView}
 

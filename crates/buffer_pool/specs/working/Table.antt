@@ -14,7 +14,7 @@ use Rattle.mark_core.specs.Counts.{Counts, LeadTo}
 use Rattle.buffer_pool.specs.declared.seat_view.SeatView.{SeatView}
 use Rattle.buffer_pool.specs.Book.{counts_of}
 use Rattle.buffer_pool.specs.working.Views.{AreViewsOf}
-use Rattle.buffer_pool.specs.working.Packed.{cut_marks, mark_in, mark_words}
+use Rattle.buffer_pool.specs.working.MarkBits.{cut_marks, mark_in, mark_words}
 use Rattle.buffer_pool.specs.working.Layout.{first_mark, head_word, idle_word, link_word}
 use Rattle.buffer_pool.specs.working.Slots.{Reading, IsTied, Rests, slot_of}
 

@@ -3,7 +3,7 @@ use Rattle.std.specs.Prelude.{◌≡◌, ◌≢◌, ℕ, ◌<◌, true, false, L
 use Rattle.mark_core.specs.Lists.{StandsAt}
 use Rattle.mark_core.specs.Event.{Event, Join}
 use Rattle.buffer_pool.specs.declared.seat_view.SeatView.{SeatView}
-use Rattle.buffer_pool.specs.Story.{Log, LeadsToBook, deeds}
+use Rattle.buffer_pool.specs.WorkerLog.{Log, LeadsToBook, deeds}
 
 -- the worker n, whose story this is, did nothing more until another one took it in
 pub record IsTakenIn (events : List Event) (n : ℕ) (story : List Event) : Type 0 where

@@ -3,10 +3,10 @@ ghost use Rattle.std.specs.Prelude.{◌≡◌, ◌↔◌, ℕ, [], ◌∷◌, Is
 ghost use Rattle.mark_core.specs.Event.{CanIdle, CanWake, IdleDown, IdleUp, LoadIdle};
 ghost use Rattle.buffer_pool.specs.Book.{idle_loaded, idled, woken};
 ghost use Rattle.buffer_pool.specs.Calls.{Shows};
-ghost use Rattle.buffer_pool.specs.working.Laid.{IsLaid, IsSound};
+ghost use Rattle.buffer_pool.specs.working.BetweenCalls.{IsLaid, IsSound};
 ghost use Rattle.buffer_pool.specs.working.Plays.{RestsWith};
 ghost use Rattle.buffer_pool.specs.working.Setups.{setup_of};
-ghost use Rattle.buffer_pool.specs.Story.{Did};
+ghost use Rattle.buffer_pool.specs.WorkerLog.{Did};
 
 use crate::layout::IDLE;
 use crate::plays::{ComeBack, GoIdle, SeeIdle};

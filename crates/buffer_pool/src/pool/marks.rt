@@ -1,7 +1,7 @@
 //! The marks of a pool that is closed.
 ghost use Rattle.std.specs.Prelude.{◌≡◌, ◌↔◌, ◌/◌, ◌%◌, ◌<◌, ◌≤◌, length, slice_index, IsTrue};
 ghost use Rattle.std.specs.Prelude.{◌==◌, count_by};
-ghost use Rattle.buffer_pool.specs.working.Packed.{mark_of};
+ghost use Rattle.buffer_pool.specs.working.MarkBits.{mark_of};
 
 use crate::buffer::Buffer;
 use crate::layout::mark_place;
@@ -22,7 +22,7 @@ impl<A: Allocator> Model for Marks<A> {
     ghost use Rattle.std.specs.Prelude.{◌≡◌, ◌==◌, ◌+◌, ℕ, List, count_by};
     ghost use Rattle.std.specs.Slots.{IsFull, slots_filled, slots_items, slots_len};
     ghost use Rattle.buffer_pool.specs.Closing.{IsEmptied};
-    ghost use Rattle.buffer_pool.specs.working.Packed.{mark_words, marks_in};
+    ghost use Rattle.buffer_pool.specs.working.MarkBits.{mark_words, marks_in};
 
     ghost Value = { List ℕ };
 

@@ -4,8 +4,8 @@ ghost use Rattle.mark_core.specs.Event.{Split, Join};
 ghost use Rattle.mark_core.specs.Lists.{times};
 ghost use Rattle.mark_core.specs.Runs.{AreApart};
 ghost use Rattle.buffer_pool.specs.Book.{joined, new_book, parted};
-ghost use Rattle.buffer_pool.specs.working.Laid.{IsSound};
-ghost use Rattle.buffer_pool.specs.Story.{Did, EndsStory, IsNewcomer};
+ghost use Rattle.buffer_pool.specs.working.BetweenCalls.{IsSound};
+ghost use Rattle.buffer_pool.specs.WorkerLog.{Did, EndsStory, IsNewcomer};
 
 use crate::plays::{SetAside, Settle};
 use crate::pool::Pool;

@@ -3,12 +3,12 @@ ghost use Rattle.std.specs.Prelude.{◌≡◌, ℕ, [], ◌∷◌, Option};
 ghost use Rattle.mark_core.specs.Event.{IsBusy, Load};
 ghost use Rattle.buffer_pool.specs.Calls.{MayPush, TriesPop, Pops, TriesPush, Pushes, Sees, ended};
 ghost use Rattle.buffer_pool.specs.Steps.{PopDid, PushDid, try_pop_steps, try_push_steps};
-ghost use Rattle.buffer_pool.specs.Story.{Did};
+ghost use Rattle.buffer_pool.specs.WorkerLog.{Did};
 
 use crate::answers::{Popped, TryPopped, TryPushed};
 use crate::held::Held;
 use crate::pool::Pool;
-use crate::pool::steps::load_head;
+use crate::pool::head_exchange::load_head;
 use crate::pool::try_pop::try_pop;
 use crate::pool::try_push::try_push;
 use crate::worker::Worker;

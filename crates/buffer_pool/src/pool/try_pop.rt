@@ -2,14 +2,14 @@
 ghost use Rattle.std.specs.Prelude.{◌≡◌};
 ghost use Rattle.mark_core.specs.Event.{IsBusy};
 ghost use Rattle.buffer_pool.specs.Calls.{TriesPop};
-ghost use Rattle.buffer_pool.specs.working.Laid.{IsLaid, IsSound};
+ghost use Rattle.buffer_pool.specs.working.BetweenCalls.{IsLaid, IsSound};
 ghost use Rattle.buffer_pool.specs.working.Setups.{setup_of};
 ghost use Rattle.buffer_pool.specs.Steps.{try_pop_steps};
-ghost use Rattle.buffer_pool.specs.Story.{Did};
+ghost use Rattle.buffer_pool.specs.WorkerLog.{Did};
 
 use crate::answers::TryPopped;
 use crate::held::Held;
-use crate::pool::steps::{load_head, load_link, take_top};
+use crate::pool::head_exchange::{load_head, load_link, take_top};
 use crate::rules::{Token, Words};
 use mark_core::Which;
 use std::alloc::Allocator;

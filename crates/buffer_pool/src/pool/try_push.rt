@@ -1,14 +1,14 @@
 //! One try of a push, as its steps in order.
 ghost use Rattle.std.specs.Prelude.{◌≡◌, ℕ, Option};
 ghost use Rattle.buffer_pool.specs.Calls.{MayPush, TriesPush};
-ghost use Rattle.buffer_pool.specs.working.Laid.{IsLaid, IsSound};
+ghost use Rattle.buffer_pool.specs.working.BetweenCalls.{IsLaid, IsSound};
 ghost use Rattle.buffer_pool.specs.working.Setups.{setup_of};
 ghost use Rattle.buffer_pool.specs.Steps.{try_push_steps};
-ghost use Rattle.buffer_pool.specs.Story.{Did};
+ghost use Rattle.buffer_pool.specs.WorkerLog.{Did};
 
 use crate::answers::TryPushed;
 use crate::held::Held;
-use crate::pool::steps::{load_head, put_top, store_link};
+use crate::pool::head_exchange::{load_head, put_top, store_link};
 use crate::rules::{Token, Words};
 use mark_core::Which;
 use std::alloc::Allocator;

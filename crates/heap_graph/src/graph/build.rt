@@ -15,7 +15,7 @@ ghost use Rattle.heap_graph.specs.working.ClassFates.{HaveFatesOf};
 
 use crate::graph::Graph;
 use crate::names::{Names, NamesById};
-use crate::objects::table::class_table;
+use crate::objects::class_table::class_table;
 use crate::objects::{Objects, index_of, read_ids};
 use crate::refusal::LinkRefusal;
 use crate::skip::{Skip, SkipPair};

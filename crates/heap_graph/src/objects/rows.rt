@@ -2,7 +2,7 @@
 
 ghost use Rattle.std.specs.Prelude.{List, None, Some, length, slice_get, sum_by, ◌<◌, ◌^◌, ◌≡◌, ◌≢◌};
 ghost use Rattle.hprof_grammar.specs.SubRecord.{SubRecord};
-ghost use Rattle.hprof_grammar.specs.Tables as tables;
+ghost use Rattle.hprof_grammar.specs.FormatTables as tables;
 ghost use Rattle.heap_graph.specs.Heap.{class_named, class_number, objects};
 ghost use Rattle.heap_graph.specs.Rows as rows;
 ghost use Rattle.heap_graph.specs.declared.row.RowKey.TheVariants as keys;

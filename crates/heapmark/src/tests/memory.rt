@@ -55,7 +55,7 @@ const SUPERCLASS_SKIPPED_REPORT: &str = "         2              16  T
          0               0  (unresolved)
 ";
 
-/// A dump; workers, objects in a buffer, and buffers; the list of fields to be skipped, if there is one; and the report.
+/// A dump; workers, objects in a buffer, and buffers; the list of fields to be skipped, if there is one; the report.
 type Row = (Sample, (u32, u32, u32), Option<&'static str>, &'static str);
 
 /// With few buffers.

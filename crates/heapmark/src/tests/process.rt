@@ -72,7 +72,8 @@ const NOT_THERE: &str = "heapmark: refused 19 ReadFault
 heapmark: /nowhere/heapmark.hprof: No such file or directory (os error 2)
 ";
 
-/// The status of the process for this line, whether it prints nothing on the output, and whether this on standard error.
+/// The status of the process for this line, whether it prints nothing on the output, and whether standard error has
+/// this.
 fn answered<T: AllocGlobal + Files + Threads + Wait + Sync>(
     rt: &T,
     words: &[&[u8]],

@@ -2,7 +2,7 @@
 use Rattle.std.specs.Prelude.{List, [], drop, false, flat_map, length, map, true, ℕ, ◌++◌, ◌+◌, ◌<◌, ◌^◌, ◌∷◌, ◌≡◌, ◌≤◌}
 use Rattle.std.specs.List.{AllByRecursion}
 use Rattle.hprof_grammar.specs.Record.{CanGoOn, HasParts, IsRecord, Record, body_of, subs_of, tag_of, time_of}
-use Rattle.hprof_grammar.specs.Tables.{is_heap_tag, is_id_size, is_length_of}
+use Rattle.hprof_grammar.specs.FormatTables.{is_heap_tag, is_id_size, is_length_of}
 use Rattle.hprof_grammar.specs.Dump.{header, heap_list, is_object, is_root, limit, placed, placed_subs, places_where}
 use Rattle.hprof_grammar.specs.Dump.{spellings}
 use Rattle.hprof_grammar.specs.Places.{Places, is_load, is_string}

@@ -2,7 +2,7 @@
 
 ghost use Rattle.std.specs.Prelude.{◌<◌, true, length};
 ghost use Rattle.mark_core.specs.Event.{IdleUp, IdleDown, LoadIdle};
-ghost use Rattle.mark_core.specs.Step.{Tries};
+ghost use Rattle.mark_core.specs.WorldStep.{Tries};
 
 use crate::state::State;
 use std::alloc::Allocator;

@@ -2,7 +2,7 @@
 
 ghost use Rattle.std.specs.Prelude.{◌<◌, true, length};
 ghost use Rattle.mark_core.specs.Event.{Load, LoadLink, Fail};
-ghost use Rattle.mark_core.specs.Step.{Tries};
+ghost use Rattle.mark_core.specs.WorldStep.{Tries};
 
 use crate::state::State;
 use crate::which::Which;

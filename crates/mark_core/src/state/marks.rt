@@ -2,7 +2,7 @@
 
 ghost use Rattle.std.specs.Prelude.{◌≡◌, ◌<◌, IfErr, IfOk, length, max, slice_index, slice_set, vec_len};
 ghost use Rattle.mark_core.specs.Event.{Claim, Finish};
-ghost use Rattle.mark_core.specs.Step.{IsLawful, MayDo, Tries};
+ghost use Rattle.mark_core.specs.WorldStep.{IsLawful, MayDo, Tries};
 
 use crate::out_of_memory::OutOfMemory;
 use crate::state::State;

@@ -2,7 +2,7 @@
 
 ghost use Rattle.std.specs.Prelude.{◌<◌, ◌↔◌, IfErr, IfOk, IsTrue, length};
 ghost use Rattle.mark_core.specs.Event.{Split, Join};
-ghost use Rattle.mark_core.specs.Step.{IsLawful, MayDo, Tries};
+ghost use Rattle.mark_core.specs.WorldStep.{IsLawful, MayDo, Tries};
 
 use crate::account::Account;
 use crate::out_of_memory::OutOfMemory;

@@ -4,7 +4,7 @@ ghost use Rattle.std.specs.Prelude.{◌≡◌, ◌<◌, ◌≤◌, ◌↔◌, If
 ghost use Rattle.std.specs.Bool.{OnTrue};
 ghost use Rattle.std.specs.Option.{ForSome};
 ghost use Rattle.mark_core.specs.Event.{StoreLink, Pop, Push};
-ghost use Rattle.mark_core.specs.Step.{IsLawful, MayDo, IsReadyToPush, Tries, exchanged, heads_of};
+ghost use Rattle.mark_core.specs.WorldStep.{IsLawful, MayDo, IsReadyToPush, Tries, exchanged, heads_of};
 
 use crate::numbers::Numbers;
 use crate::out_of_memory::OutOfMemory;

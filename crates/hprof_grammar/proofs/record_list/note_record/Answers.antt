@@ -3,11 +3,11 @@ use Rattle.std.proofs.Common.{arith, false, inl, inr, refl, true, ℕ, ◌+◌, 
 use Rattle.std.proofs.lemmas.Bool.Decides.{nat_tests}
 use Rattle.std.proofs.lemmas.Result.{err_from_is_err_and}
 use Rattle.hprof_grammar.specs.Record.{IsOther}
-use Rattle.hprof_grammar.specs.Tables.{is_heap_tag}
+use Rattle.hprof_grammar.specs.FormatTables.{is_heap_tag}
 use Rattle.hprof_grammar.specs.working.Joining.{FrameFault, HasSubFault}
 use Rattle.hprof_grammar.proofs.Refusals.{fault_passes}
-use Rattle.hprof_grammar.proofs.Framed.{heap_broken, heap_framed, load_framed, other_framed, placed_frame}
-use Rattle.hprof_grammar.proofs.Framed.{string_framed}
+use Rattle.hprof_grammar.proofs.FrameContents.{heap_broken, heap_framed, load_framed, other_framed, placed_frame}
+use Rattle.hprof_grammar.proofs.FrameContents.{string_framed}
 use Rattle.hprof_grammar.proofs.record_list.note_record.Goals as goal
 
 pub returns-in_ok-note_string-in-1-clause-adds : goal.returns-in_ok-note_string-in-1-clause-adds

@@ -7,8 +7,8 @@ use Rattle.buffer_pool.specs.working.Buffers.{buffer_reading}
 use Rattle.buffer_pool.specs.Book.{Book}
 use Rattle.buffer_pool.specs.Calls.{Holder}
 use Rattle.buffer_pool.specs.Closing.{IsAtTheEnd, MarksTell}
-use Rattle.buffer_pool.specs.Story.{Log}
-use Rattle.buffer_pool.specs.working.Packed.{marks_in}
+use Rattle.buffer_pool.specs.WorkerLog.{Log}
+use Rattle.buffer_pool.specs.working.MarkBits.{marks_in}
 use Rattle.buffer_pool.specs.working.Setups.{setup_of}
 use Rattle.buffer_pool.proofs.Closes.{ends_of}
 use Rattle.buffer_pool.proofs.pool.Pool.close.Given as given

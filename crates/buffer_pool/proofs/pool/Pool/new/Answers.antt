@@ -8,8 +8,8 @@ use Rattle.buffer_pool.specs.working.Buffers.{buffer_reading}
 use Rattle.buffer_pool.specs.working.Setups.{setup_of}
 use Rattle.buffer_pool.specs.working.Opening.{HasFirstWords}
 use Rattle.buffer_pool.specs.Ranges.{IsInside}
-use Rattle.buffer_pool.specs.working.Packed.{mark_words}
-use Rattle.buffer_pool.specs.working.Laid.{IsLaid, IsSound}
+use Rattle.buffer_pool.specs.working.MarkBits.{mark_words}
+use Rattle.buffer_pool.specs.working.BetweenCalls.{IsLaid, IsSound}
 use Rattle.buffer_pool.specs.declared.key.Key.{Key}
 use Rattle.buffer_pool.proofs.Starts.{starts, laid_first, sound_first}
 use Rattle.buffer_pool.proofs.pool.Pool.new.Given as given

@@ -3,7 +3,7 @@ use Rattle.std.proofs.Common.{◌≡◌, ℕ}
 use Rattle.mark_core.specs.Event.{IsBusy}
 use Rattle.buffer_pool.specs.Calls.{LostPops}
 use Rattle.buffer_pool.specs.Steps.{lost_pops}
-use Rattle.buffer_pool.specs.Story.{Did}
+use Rattle.buffer_pool.specs.WorkerLog.{Did}
 use Rattle.buffer_pool.proofs.pool.Pool.pop.Given as goal
 
 abbrev pub invariant-loop : goal.invariant-loop

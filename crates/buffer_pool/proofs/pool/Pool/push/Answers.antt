@@ -3,7 +3,7 @@ use Rattle.std.proofs.Common.{◌≡◌, ℕ, [], ◌∷◌, ap, refl, subst, �
 use Rattle.mark_core.specs.Event as events
 use Rattle.buffer_pool.specs.Calls.{HeldBuffer, TriesPush}
 use Rattle.buffer_pool.specs.Steps.{lost_pushes, try_push_steps}
-use Rattle.buffer_pool.specs.Story.{Did}
+use Rattle.buffer_pool.specs.WorkerLog.{Did}
 use Rattle.buffer_pool.specs.Calls.LostPushes.{none, more}
 use Rattle.buffer_pool.specs.declared.answers.TryPushed.TheVariants as try_push
 use Rattle.buffer_pool.proofs.Deeds.{did_nothing, did_on}

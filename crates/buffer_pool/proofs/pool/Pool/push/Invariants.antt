@@ -2,7 +2,7 @@
 use Rattle.std.proofs.Common.{◌≡◌, ℕ, List, Option}
 use Rattle.buffer_pool.specs.Calls.{LostPushes, MayPush}
 use Rattle.buffer_pool.specs.Steps.{lost_pushes}
-use Rattle.buffer_pool.specs.Story.{Did}
+use Rattle.buffer_pool.specs.WorkerLog.{Did}
 use Rattle.buffer_pool.proofs.pool.Pool.push.Given as goal
 
 abbrev pub invariant-loop : goal.invariant-loop

@@ -6,7 +6,7 @@ use Rattle.buffer_pool.specs.declared.buffer.Buffer.{Buffer}
 use Rattle.buffer_pool.specs.declared.seat_view.SeatView.{SeatView}
 use Rattle.buffer_pool.specs.working.Buffers.{buffer_reading}
 use Rattle.buffer_pool.specs.working.Setups.{setup_of}
-use Rattle.buffer_pool.specs.Story.{Log}
+use Rattle.buffer_pool.specs.WorkerLog.{Log}
 use Rattle.buffer_pool.proofs.Loads.{sets_aside, settles}
 use Rattle.buffer_pool.proofs.Parts.{noted_units, splits, kept_may, given_may, keeps_part, has_part}
 use Rattle.buffer_pool.proofs.pool.shares.give_part.Given as given

@@ -6,7 +6,7 @@ use Rattle.buffer_pool.specs.declared.buffer.Buffer.{Buffer}
 use Rattle.buffer_pool.specs.declared.seat_view.SeatView.{SeatView}
 use Rattle.buffer_pool.specs.working.Buffers.{buffer_reading}
 use Rattle.buffer_pool.specs.working.Setups.{setup_of}
-use Rattle.buffer_pool.specs.working.Laid.{IsSound}
+use Rattle.buffer_pool.specs.working.BetweenCalls.{IsSound}
 use Rattle.buffer_pool.proofs.Loads.{settles}
 use Rattle.mark_core.specs.Lists.{times}
 use Rattle.mark_core.specs.Account.{after_join}

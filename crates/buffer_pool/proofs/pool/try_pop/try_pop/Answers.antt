@@ -6,7 +6,7 @@ use Rattle.buffer_pool.proofs.Loads.{setup_loaded}
 use Rattle.mark_core.specs.Event.{Load, LoadLink, Pop, Fail}
 use Rattle.buffer_pool.proofs.Deeds.{did_three}
 use Rattle.buffer_pool.proofs.Sound.{bare_rested, sound_after, sound_as, sound_linked, sound_looked, sound_popped}
-use Rattle.buffer_pool.specs.working.Laid.{IsSound}
+use Rattle.buffer_pool.specs.working.BetweenCalls.{IsSound}
 use Rattle.buffer_pool.proofs.pool.try_pop.try_pop.Given as given
 use Rattle.buffer_pool.proofs.pool.try_pop.try_pop.Goals.{After-load_link-link}
 use Rattle.buffer_pool.proofs.pool.try_pop.try_pop.Goals as goal

@@ -11,10 +11,10 @@ use Rattle.buffer_pool.specs.working.Views.{logged}
 use Rattle.buffer_pool.proofs.Loads.{held_loaded, charge_loaded}
 use Rattle.mark_core.specs.Event as events
 use Rattle.mark_core.specs.Event.{Kind}
-use Rattle.buffer_pool.specs.Story.{Did, Log}
+use Rattle.buffer_pool.specs.WorkerLog.{Did, Log}
 use Rattle.buffer_pool.proofs.Deeds.{did_three}
 use Rattle.buffer_pool.proofs.Sound.{bare_rested, sound_after, sound_as, sound_missed, sound_pushed, sound_stored}
-use Rattle.buffer_pool.specs.working.Laid.{IsSound}
+use Rattle.buffer_pool.specs.working.BetweenCalls.{IsSound}
 use Rattle.buffer_pool.proofs.pool.try_push.try_push.Given as given
 use Rattle.buffer_pool.proofs.pool.try_push.try_push.Goals.{After-store_link}
 use Rattle.buffer_pool.proofs.pool.try_push.try_push.Goals as goal

@@ -3,7 +3,7 @@ use Rattle.std.proofs.Common.{List, ap, arith, length, sum_by, ◌*◌, ◌<◌,
 use Rattle.std.proofs.Math.Nat.{mul-le-mul_left}
 use Rattle.std.proofs.lemmas.List.{length-map}
 use Rattle.hprof_grammar.specs.Series.{LabelledValue, of_static}
-use Rattle.hprof_grammar.specs.Tables.{size_of}
+use Rattle.hprof_grammar.specs.FormatTables.{size_of}
 use Rattle.hprof_grammar.proofs.BoundsLaws.{bounds}
 use Rattle.heap_graph.specs.Rows.{bytes_of}
 use Rattle.heap_graph.proofs.EntryLaws.{static_bytes}

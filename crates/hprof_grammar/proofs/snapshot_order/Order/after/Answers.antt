@@ -2,7 +2,7 @@
 use Rattle.std.proofs.Common.{[], inl, inr, refl, subst, sym, true, ℕ, ◌++◌, ◌∷◌, ◌≡◌, ◌⊎◌}
 use Rattle.hprof_grammar.specs.working.SnapshotOrder.{IsAt, is_done}
 use Rattle.hprof_grammar.specs.Record.{CanGoOn}
-use Rattle.hprof_grammar.specs.Tables.{is_snapshot_tag}
+use Rattle.hprof_grammar.specs.FormatTables.{is_snapshot_tag}
 use Rattle.hprof_grammar.specs.declared.snapshot_order.Order.{Order}
 use Rattle.hprof_grammar.specs.declared.snapshot_order.Order.TheVariants.{Ended, Segments, Whole}
 use Rattle.hprof_grammar.proofs.SnapshotOrderLaws.{next_segment, no_dump_in_segments, no_more}

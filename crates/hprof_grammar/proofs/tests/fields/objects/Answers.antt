@@ -1,6 +1,6 @@
 -- The class, the instance and the arrays stand in both dumps, by computation.
 use Rattle.std.proofs.Common.{refl}
-use Rattle.hprof_grammar.specs.Tables.{is_type_at, size_of}
+use Rattle.hprof_grammar.specs.FormatTables.{is_type_at, size_of}
 use Rattle.hprof_grammar.proofs.Computed.{seen}
 use Rattle.hprof_grammar.proofs.TestDumps.{the_class, the_instance, the_objects, the_shorts}
 use Rattle.hprof_grammar.proofs.tests.fields.objects.Goals as goal

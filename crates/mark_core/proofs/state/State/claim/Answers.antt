@@ -2,7 +2,7 @@
 use Rattle.std.proofs.Common.{sym, subst, refl}
 use Rattle.mark_core.specs.Account.{Account}
 use Rattle.mark_core.specs.Event.{CanClaim, IsBusy}
-use Rattle.mark_core.specs.Step.{IsLawful}
+use Rattle.mark_core.specs.WorldStep.{IsLawful}
 use Rattle.mark_core.proofs.Steps.{always}
 use Rattle.mark_core.proofs.Vectors.{account_here, does_claim}
 use Rattle.mark_core.proofs.Within.{claim_within}

@@ -1,0 +1,57 @@
+-- The step keeps the rule, and is the event.
+use Rattle.std.proofs.Common.{◌≡◌, ℕ, ◌%◌}
+use Rattle.buffer_pool.specs.working.Buffers.{buffer_reading}
+use Rattle.buffer_pool.specs.working.MarkBits.{pair_mark}
+use Rattle.buffer_pool.specs.working.Plays.{claim_made}
+use Rattle.buffer_pool.specs.working.Setups.{setup_of}
+use Rattle.buffer_pool.specs.working.Layout.{mark_word}
+use Rattle.buffer_pool.proofs.Bits.{low_tells}
+use Rattle.buffer_pool.proofs.Claims.{claims, claimable_within, own_word, sets_pair}
+use Rattle.buffer_pool.proofs.Sound.{sound_after, sound_claimed}
+use Rattle.buffer_pool.proofs.pool.claim_and_finish.raise_to_claimed.Given as given
+use Rattle.buffer_pool.proofs.pool.claim_and_finish.raise_to_claimed.Goals as goal
+
+-- the word is that of the object by the worker's own setup
+own :
+    (g : given.Over) (c : goal.After-mark_place g)
+    → c.mark_word.result ≡ mark_word c.args.seat.now.me.0.book.setup c.args.object
+own g c =
+    own_word c.args.seat.now.table_id c.args.words.now.table_id (setup_of c.args.words.now.key)
+    c.args.seat.now.me.0.book.setup c.requires.table.0 c.requires.table.1 c.requires.sound.laid c.args.buffers
+    c.args.object c.mark_word.result c.requires.table.2 c.mark_word.ensures
+
+pub fetch_or-word-requires : goal.fetch_or-word-requires
+fetch_or-word-requires g c =
+    let z = c.args.words.now.table_id in
+    let e = setup_of c.args.words.now.key in
+    let me = c.args.seat.now.me in
+    let id = c.args.seat.now.id in
+    let object = c.args.object in
+    let table = c.requires.table in
+    let sound = c.requires.sound in
+    let below =
+    claimable_within c.args.seat.now.table_id me.0.book.setup me.0.book.account object sound.laid c.requires.can in
+    sets_pair c.args.seat.now.table_id z e me.0.book.setup table.0 table.1 sound.laid c.args.buffers object
+    c.mark_word.result table.2 c.mark_word.ensures buffer_reading id me 1 c.pair_bits.result c.pair_bits.ensures
+    below claim_made
+    (claims buffer_reading e z.slots id me object sound.carries sound.share sound.settled c.requires.can
+    c.requires.busy below)
+
+pub returns-clause-sound : goal.returns-clause-sound
+returns-clause-sound g c =
+    let t = c.args.seat.now.table_id in
+    let me = c.args.seat.now.me in
+    let below =
+    claimable_within t me.0.book.setup me.0.book.account c.args.object c.requires.sound.laid c.requires.can in
+    let found : ℕ = pair_mark c.fetch_or-word.result (c.args.object % 32) in
+    sound_after (sound_claimed t me c.requires.sound c.args.object found below) c.fetch_or-word.ensures.0
+    (c.fetch_or-word.ensures.2 c.args.object (own g c) c.pair_bits.ensures).0
+
+pub returns-clause-rests : goal.returns-clause-rests
+returns-clause-rests g c =
+    let pair : ℕ = c.args.object % 32 in
+    let made = c.fetch_or-word.ensures.2 c.args.object (own g c) c.pair_bits.ensures in (
+      pair_mark c.fetch_or-word.result pair,
+      made.0,
+      low_tells c.fetch_or-word.result pair c.mark_place.result c.mark_place.ensures.value made.1,
+    )

@@ -1,0 +1,50 @@
+-- The step keeps the rule, and is the event.
+use Rattle.std.proofs.Common.{◌≡◌}
+use Rattle.mark_core.proofs.Sums.{stands_times}
+use Rattle.buffer_pool.specs.working.Buffers.{buffer_reading}
+use Rattle.buffer_pool.specs.working.Plays.{finish_made}
+use Rattle.buffer_pool.specs.working.Setups.{setup_of}
+use Rattle.buffer_pool.specs.working.Layout.{mark_word}
+use Rattle.buffer_pool.proofs.Claims.{finishes, own_word, sets_pair}
+use Rattle.buffer_pool.proofs.Sound.{sound_after, sound_finished}
+use Rattle.buffer_pool.proofs.pool.claim_and_finish.raise_to_finished.Given as given
+use Rattle.buffer_pool.proofs.pool.claim_and_finish.raise_to_finished.Goals as goal
+
+-- the word is that of the object by the worker's own setup
+own :
+    (g : given.Over) (c : goal.After-fetch_or g)
+    → c.mark_word.result ≡ mark_word c.args.seat.now.me.0.book.setup c.args.object
+own g c =
+    own_word c.args.seat.now.table_id c.args.words.now.table_id (setup_of c.args.words.now.key)
+    c.args.seat.now.me.0.book.setup c.requires.table.0 c.requires.table.1 c.requires.sound.laid c.args.buffers
+    c.args.object c.mark_word.result c.requires.table.2 c.mark_word.ensures
+
+pub fetch_or-requires : goal.fetch_or-requires
+fetch_or-requires g c =
+    let z = c.args.words.now.table_id in
+    let e = setup_of c.args.words.now.key in
+    let me = c.args.seat.now.me in
+    let id = c.args.seat.now.id in
+    let object = c.args.object in
+    let table = c.requires.table in
+    let sound = c.requires.sound in
+    let below = sound.within.charge object c.requires.can.0 in
+    sets_pair c.args.seat.now.table_id z e me.0.book.setup table.0 table.1 sound.laid c.args.buffers object
+    c.mark_word.result table.2 c.mark_word.ensures buffer_reading id me 3 c.pair_bits.result c.pair_bits.ensures
+    below finish_made
+    (finishes buffer_reading e z.slots id me object sound.carries sound.share sound.settled c.requires.can
+    below)
+
+pub returns-clause-sound : goal.returns-clause-sound
+returns-clause-sound g c =
+    let t = c.args.seat.now.table_id in
+    let me = c.args.seat.now.me in
+    let mine = stands_times me.0.book.account.charge c.args.object c.requires.can.0 in
+    sound_after (sound_finished t me c.requires.sound c.args.object mine) c.fetch_or.ensures.0
+    (c.fetch_or.ensures.2 c.args.object (own g c) c.pair_bits.ensures).0
+
+pub returns-clause-rests : goal.returns-clause-rests
+returns-clause-rests g c = (c.fetch_or.ensures.2 c.args.object (own g c) c.pair_bits.ensures).0
+
+pub returns-clause-once : goal.returns-clause-once
+returns-clause-once g c = (c.fetch_or.ensures.2 c.args.object (own g c) c.pair_bits.ensures).1

@@ -1,0 +1,52 @@
+-- The store keeps the rule, and the buffer's slot comes out.
+use Rattle.tagged_index.specs.Head.{index_of}
+use Rattle.tagged_index.specs.Words.{index_of-low_of}
+use Rattle.mark_core.specs.Event.{StoreLink}
+use Rattle.buffer_pool.specs.WorkerLog.{Did}
+use Rattle.buffer_pool.specs.working.Views.{logged}
+use Rattle.std.proofs.Common.{◌≡◌, subst, suc, [], ◌∷◌, ap, ◌∙◌, None, refl, arith}
+use Rattle.mark_core.proofs.Sums.{stands_times}
+use Rattle.atomic_table.specs.Seated.{TableId}
+use Rattle.buffer_pool.specs.working.Buffers.{buffer_reading}
+use Rattle.buffer_pool.specs.working.Setups.{setup_of}
+use Rattle.buffer_pool.proofs.Pushes.{stores, low_small}
+use Rattle.buffer_pool.proofs.pool.head_exchange.store_link.Goals as goal
+
+pub store-requires : goal.store-requires
+store-requires g c =
+    let z = c.args.words.now.table_id in
+    let e = setup_of c.args.words.now.key in
+    let me = c.args.seat.now.me in
+    let slots : c.args.seat.now.table_id.slots ≡ z.slots = ap (λ (t : TableId). t.slots) c.requires.table.0 in
+    let same : me.0.book.setup.buffers ≡ e.buffers =
+    omega (arith, slots, c.requires.table.1.slots, c.requires.sound.0.laid.slots) in
+    let below = c.requires.sound.0.within.held c.args.index c.requires.held in
+    let low = low_small c.args.head.index me.0.book.setup.buffers c.requires.within in (
+      c.requires.table.0,
+      omega (arith, below, same, c.requires.table.1.words),
+      stores buffer_reading e z.slots c.args.seat.now.id me c.args.index c.link_to.result c.requires.sound.0.carries
+          c.requires.sound.0.share c.requires.sound.0.settled
+          (stands_times me.0.book.account.held c.args.index c.requires.held)
+          (omega (arith, low, same, c.link_to.ensures)),
+    )
+
+pub returns-clause-takes_out : goal.returns-clause-takes_out
+returns-clause-takes_out g c =
+    (c.store.ensures.2 c.args.index refl).0
+    ∙ ap (λ n. (
+      record (logged c.store.new.seat.me.0.log c.args.seat.now.me.0) {
+        out = suc c.args.index;
+        out_link = n;
+      },
+      (c.args.index, None) ∷ [],
+    )) c.link_to.ensures
+
+pub returns-clause-did : goal.returns-clause-did
+returns-clause-did g c =
+    let link : index_of c.link_to.result ≡ c.args.head.index = ap index_of c.link_to.ensures
+    ∙ index_of-low_of c.args.head.index in
+    subst (λ l. Did c.args.seat.now.me.0.log (StoreLink c.args.index l ∷ []) c.store.new.seat.me.0.log) link
+    (c.store.ensures.2 c.args.index refl).1
+
+pub returns-clause-story : goal.returns-clause-story
+returns-clause-story g c = (c.store.ensures.2 c.args.index refl).2

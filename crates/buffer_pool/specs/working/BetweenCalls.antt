@@ -1,0 +1,40 @@
+-- What ties a table to its setup, and what a worker is known to have.
+use Rattle.std.specs.Prelude.{◌≡◌, ℕ, ◌+◌, ◌<◌, ◌≤◌, [], Option, All}
+use Rattle.atomic_table.specs.Table.{Me}
+use Rattle.atomic_table.specs.Seated.{TableId}
+use Rattle.mark_core.specs.World.{Setup}
+use Rattle.buffer_pool.specs.declared.seat_view.SeatView.{SeatView}
+use Rattle.buffer_pool.specs.Ranges.{IsWithin}
+use Rattle.buffer_pool.specs.WorkerLog.{LeadsToBook}
+use Rattle.buffer_pool.specs.working.MarkBits.{mark_words}
+use Rattle.buffer_pool.specs.working.Slots.{Carries}
+use Rattle.buffer_pool.specs.working.Views.{HasSaidAll}
+
+-- the table has the words and slots of this setup, and roots and pairs are of objects
+pub record IsLaid (t : TableId) (e : Setup) : Type 0 where
+  pub words : t.words ≡ 32 + e.buffers + mark_words e.objects
+  pub slots : t.slots ≡ e.buffers
+  pub few : 4 ≤ e.buffers
+  pub many : e.buffers ≤ 65534
+  pub objects : e.objects ≤ 16777216
+  pub roots : All (λ o. o < e.objects) e.roots
+  pub pairs : All (λ p. (p.0 < e.objects) × (p.1 < e.objects)) e.pairs
+
+-- what a worker's seat keeps between two calls
+pub record IsSound {B : Type 0} (t : TableId) (m : Me (Option B) SeatView) : Type 0 where
+  pub laid : IsLaid t m.0.book.setup
+  pub share : 0 < m.0.book.account.share
+  pub carries : Carries m
+  pub within : IsWithin m.0.book.setup m.0.book.account
+  pub settled : HasSaidAll m.0
+  pub story : LeadsToBook m.0.log m.0.book
+
+-- a seat keeps its table and its number
+pub record IsSameSeat (old_table new_table : TableId) (old_id new_id : ℕ) : Type 0 where
+  pub table : new_table ≡ old_table
+  pub number : new_id ≡ old_id
+
+-- nothing is out
+pub record IsBare {B : Type 0} (m : Me (Option B) SeatView) : Type 0 where
+  pub slots : m.1 ≡ []
+  pub out : m.0.out ≡ 0

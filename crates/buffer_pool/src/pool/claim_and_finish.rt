@@ -1,0 +1,97 @@
+//! Claims and finishes: the marks of objects.
+ghost use Rattle.std.specs.Prelude.{◌≡◌, ◌↔◌, ◌≤◌, ℕ, [], ◌∷◌, IsTrue};
+ghost use Rattle.mark_core.specs.Event.{CanClaim, CanFinish, IsBusy};
+ghost use Rattle.mark_core.specs.Event as events;
+ghost use Rattle.mark_core.specs.Lists.{times};
+ghost use Rattle.buffer_pool.specs.Book.{claimed, finished};
+ghost use Rattle.buffer_pool.specs.working.BetweenCalls.{IsLaid, IsSound};
+ghost use Rattle.buffer_pool.specs.working.Plays.{RestsWith};
+ghost use Rattle.buffer_pool.specs.working.Setups.{setup_of};
+ghost use Rattle.buffer_pool.specs.WorkerLog.{Did};
+
+use crate::layout::{mark_place, mark_word, pair_bits};
+use crate::plays::{Claim, Finish};
+use crate::pool::Pool;
+use crate::rules::{Token, Words};
+use crate::worker::Worker;
+use std::alloc::Allocator;
+
+/// The bits of a claimed object: the low one of its two. A white object has none.
+const CLAIMED: u64 = 1;
+
+/// The bits of a finished object: both.
+const FINISHED: u64 = 3;
+
+/// Raises the mark of an object to claimed: true exactly where it was white.
+fn raise_to_claimed<A: Allocator>(
+    words: &Words<A>,
+    seat: &mut Token<A>,
+    buffers: u32,
+    object: u32,
+) -> bool
+    requires table { (seat.old.table_id ≡ words.now.table_id) × IsLaid words.now.table_id (setup_of words.now.key)
+        × (buffers ≡ words.now.key.buffers) }
+    requires sound { IsSound seat.old.table_id seat.old.me }
+    requires can { CanClaim seat.old.me.0.book.setup object seat.old.me.0.book.account }
+    requires busy { IsBusy seat.old.me.0.book.account }
+    ensures same { seat.new.table_id ≡ seat.old.table_id }
+    ensures sound { IsSound seat.new.table_id seat.new.me }
+    ensures rests { (found : ℕ)
+        × RestsWith seat.old.me (claimed object found seat.old.me.0.book) (events.Claim object ∷ []) seat.new.me
+        × (IsTrue result ↔ (found ≡ 0)) }
+{
+    let word = words.fetch_or::<Claim>(
+        seat,
+        mark_word(buffers, object),
+        pair_bits(CLAIMED, object),
+    );
+    (word >> mark_place(object)) & CLAIMED == 0
+}
+
+/// Raises the mark of an object to finished.
+fn raise_to_finished<A: Allocator>(words: &Words<A>, seat: &mut Token<A>, buffers: u32, object: u32)
+    requires table { (seat.old.table_id ≡ words.now.table_id) × IsLaid words.now.table_id (setup_of words.now.key)
+        × (buffers ≡ words.now.key.buffers) }
+    requires sound { IsSound seat.old.table_id seat.old.me }
+    requires can { CanFinish seat.old.me.0.book.setup object seat.old.me.0.book.account }
+    ensures same { seat.new.table_id ≡ seat.old.table_id }
+    ensures sound { IsSound seat.new.table_id seat.new.me }
+    ensures rests { RestsWith seat.old.me (finished object seat.old.me.0.book) (events.Finish object ∷ []) seat.new.me }
+    ensures once { (o : ℕ) → times o seat.new.me.0.book.account.finished ≤ 1 }
+{
+    words.fetch_or::<Finish>(
+        seat,
+        mark_word(buffers, object),
+        pair_bits(FINISHED, object),
+    );
+}
+
+impl<A: Allocator> Pool<A> {
+    /// Claims an object: true exactly where it was white. Then the worker answers for it. One atomic step;
+    /// waits for nobody.
+    pub fn claim(&self, worker: &mut Worker<A>, object: u32) -> bool
+        requires pool { worker.old.pool ≡ self.now }
+        requires can { CanClaim worker.old.book.setup object worker.old.book.account }
+        requires busy { IsBusy worker.old.book.account }
+        ensures pool { worker.new.pool ≡ worker.old.pool }
+        ensures event { (found : ℕ) × (worker.new.book ≡ claimed object found worker.old.book)
+            × (IsTrue result ↔ (found ≡ 0)) }
+        ensures did { Did worker.old.log (events.Claim object ∷ []) worker.new.log }
+    {
+        raise_to_claimed(&self.table.shared, &mut worker.seat, self.buffers, object)
+    }
+
+    /// Finishes an object that the worker answers for and of which it has seen each successor marked. One
+    /// atomic step; waits for nobody.
+    pub fn finish(&self, worker: &mut Worker<A>, object: u32)
+        requires pool { worker.old.pool ≡ self.now }
+        requires can { CanFinish worker.old.book.setup object worker.old.book.account }
+        ensures pool { worker.new.pool ≡ worker.old.pool }
+        ensures event { worker.new.book ≡ finished object worker.old.book }
+        ensures did { Did worker.old.log (events.Finish object ∷ []) worker.new.log }
+        ensures once { (o : ℕ) → times o worker.new.book.account.finished ≤ 1 }
+    {
+        raise_to_finished(&self.table.shared, &mut worker.seat, self.buffers, object);
+        worker.finished += 1;
+    }
+}

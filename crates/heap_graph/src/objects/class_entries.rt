@@ -1,0 +1,40 @@
+//! The classes of a dump, with the texts that name them.
+
+ghost use Rattle.std.specs.Prelude.{IfOk, List, length, map, ◌<◌, ◌^◌, ◌≡◌};
+ghost use Rattle.hprof_grammar.specs.Record.{Record};
+ghost use Rattle.heap_graph.specs.Heap.{heap_of};
+ghost use Rattle.heap_graph.specs.ObjectGraph.{named_classes};
+
+use crate::class_entry::ClassEntry;
+use crate::names::NamesById;
+use crate::objects::Objects;
+use std::alloc::{AllocError, Allocator};
+
+impl<'d, A: Allocator> Objects<'d, A> {
+    ghost use Rattle.heap_graph.specs.working.HeldIds.{AreLinkedOf};
+    ghost use Rattle.heap_graph.specs.working.PlacedNames.{AreNamesByIdOf};
+    ghost use Rattle.heap_graph.specs.working.Refinement.{named_class};
+    ghost use Rattle.heap_graph.specs.working.ClassFates.{HaveFatesOf};
+
+    /// The classes in the order of their dumps.
+    pub(crate) fn classes<'a, B: Allocator + Copy>(
+        &self,
+        alloc: B,
+        names: &NamesById<'_, 'a, B>,
+    ) -> Result<Vec<ClassEntry<'a>, B>, AllocError>
+        requires few { length self.now.classes.table.entries < 2 ^ 32 }
+        requires names { (records : List Record) × AreNamesByIdOf names.now records }
+        ensures { IfOk result (λ v. (records : List Record) → AreLinkedOf self.now (heap_of records)
+            → HaveFatesOf self.now (heap_of records) → AreNamesByIdOf names.now records
+            → map named_class v.items ≡ named_classes records) }
+    {
+        let count = self.classes.table.len();
+        let mut classes = Vec::with_capacity(alloc, count)?;
+        for number in 0..count {
+            let id = self.classes.id(number as u32);
+            let text = names.class_text(id);
+            classes.push(ClassEntry { id, text })?;
+        }
+        Ok(classes)
+    }
+}

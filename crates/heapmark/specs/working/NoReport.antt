@@ -1,0 +1,28 @@
+-- Why the program has no report of a file.
+use Rattle.std.specs.Prelude.{List, Option, option_map, ℕ, ◌*◌, ◌+◌, ◌<◌}
+use Rattle.command_line.specs.declared.parsed_arguments.Arguments.{Arguments}
+use Rattle.drain.specs.Options.{Choice, choice}
+use Rattle.heapmark.specs.RefusalParts.{bad_options_refusal}
+use Rattle.heapmark.specs.RefusalCodes.{out_of_memory}
+use Rattle.heapmark.specs.declared.no_report.NoReport.{NoReport}
+use Rattle.heapmark.specs.declared.no_report.NoReport.TheVariants as no_report
+
+-- the options of the words
+abbrev pub wanted : Arguments → Choice
+wanted a = choice a.workers a.buffer a.buffers a.first_tag
+
+-- fewer than two buffers for each worker and two more
+abbrev pub HasTooFewBuffers : Arguments → Type 0
+HasTooFewBuffers a = a.buffers < 2 * a.workers + 2
+
+-- the text that lists the fields that are not to be followed
+abbrev pub list_of : Arguments → Option (List ℕ)
+list_of a = option_map (λ text. text.now) a.skip
+
+-- the options or the list are refused
+abbrev pub bad_options : NoReport
+bad_options = no_report.Refused bad_options_refusal
+
+-- memory is refused
+abbrev pub starved : NoReport
+starved = no_report.Refused out_of_memory

@@ -1,0 +1,13 @@
+//! Why the program has no report of a file.
+
+use crate::refusal::Refusal;
+use std::io;
+
+/// Why there is no report of a file.
+#[derive(Drop)]
+pub(crate) enum NoReport {
+    /// The options or the file were refused.
+    Refused(Refusal),
+    /// The file could not be opened, for the system's reason.
+    NotOpened(io::Error),
+}

@@ -1,0 +1,59 @@
+//! Writing a report.
+
+ghost use Rattle.std.specs.Prelude.{◌≡◌, ◌≢◌, ◌+◌, ◌-◌, ◌^◌, ◌<◌, ◌↔◌, IsErrOf, OnOk, true};
+ghost use Rattle.std.specs.Io.KnownBytes.{Appends, Keeps};
+ghost use Rattle.histogram.specs.Counting.{AppendsBeginning, failures_of, inner_of, is_flushed};
+ghost use Rattle.histogram.specs.Report.{report_of};
+ghost use Rattle.histogram.specs.HistogramOf.{histogram_of};
+
+use crate::counted::Counted;
+use crate::report::Report;
+use crate::report_text::text_of;
+use std::alloc::Allocator;
+use std::io::Write;
+use thiserror::Error;
+
+/// Why a report was not written.
+#[derive(Clone, Copy, PartialEq, Eq, Debug, Error)]
+pub enum WriteRefusal {
+    /// The memory for the text was refused. Nothing was written.
+    #[error("out of memory")]
+    OutOfMemory,
+    /// A write or the flush failed. It was not tried again, and a beginning of the text was written.
+    #[error("a write failed")]
+    WriteFault,
+}
+
+/// Writes the text of a report, and flushes the writer. The whole text is made before the first write.
+///
+/// `OutOfMemory`: the memory for the text was refused, and nothing was written. `WriteFault`: a write or the flush
+/// failed; it is not tried again, and a beginning of the text was written.
+pub fn write_report<A: Allocator, B: Allocator, W: Write>(
+    alloc: B,
+    report: &Report<A>,
+    writer: &mut Counted<W>,
+) -> Result<(), WriteRefusal>
+    requires { failures_of writer.old < 2 ^ 64 - 1 }
+    ensures written { OnOk result (Appends (W.contents (inner_of writer.old)) (W.contents (inner_of writer.new))
+        (report_of (histogram_of report.now))) }
+    ensures beginning { result ≡ Err WriteRefusal.WriteFault
+        → AppendsBeginning (W.contents (inner_of writer.old)) (W.contents (inner_of writer.new))
+        (report_of (histogram_of report.now)) }
+    ensures untouched { result ≡ Err WriteRefusal.OutOfMemory
+        → Keeps (W.contents (inner_of writer.old)) (W.contents (inner_of writer.new)) }
+
+    // A flush came behind the last write that took something.
+    ensures flushed { OnOk result (is_flushed writer.new ≡ true) }
+
+    // The count rises where a write or the flush failed, and there alone.
+    ensures fault { IsErrOf result WriteRefusal.WriteFault ↔ (failures_of writer.new ≡ failures_of writer.old + 1) }
+    ensures no_fault { result ≢ Err WriteRefusal.WriteFault → failures_of writer.new ≡ failures_of writer.old }
+{
+    let Ok(text) = text_of(alloc, report) else {
+        return Err(WriteRefusal::OutOfMemory);
+    };
+    match writer.write_whole(text.as_slice()) {
+        Ok(()) => Ok(()),
+        Err(_) => Err(WriteRefusal::WriteFault),
+    }
+}
