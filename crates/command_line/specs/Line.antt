@@ -29,7 +29,7 @@ option_rule name values default = record (new_rule name) {
   defaults = default ∷ [];
 }
 
--- the same, whose numbers go from `least` to `most`
+-- an option `--NAME N` with a default, whose numbers go from `least` to `most`
 abbrev pub number_rule : Text → ℕ → ℕ → Text → Rule
 number_rule name least most default = option_rule name (parser.Unsigned least most) default
 

@@ -19,7 +19,7 @@ unresolved_at g o = count_by (is_unresolved_in g.ids) (held_by g o)
 abbrev pub unresolved_roots : ObjectGraph → ℕ
 unresolved_roots g = count_by (is_unresolved_in g.ids) g.root_names
 
--- the same of these objects together
+-- how many of the identifiers that these objects hold together are other than 0 and name no object
 abbrev pub unresolved_among : ObjectGraph → List ℕ → ℕ
 unresolved_among g numbers = sum_by (unresolved_at g) numbers
 

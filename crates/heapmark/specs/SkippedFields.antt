@@ -26,6 +26,6 @@ pub record WritesBeginningFor (list : Option (List ℕ)) (old new : Option (List
   pub is_list : IsSkipListOf list skip
   pub written : WritesSomeBeginning skip old new
 
--- the same of some list
+-- a beginning of a report without the fields of some list was written, and nothing else
 abbrev pub WritesBeginningForSome : Option (List ℕ) → Option (List ℕ) → Type 0
 WritesBeginningForSome old new = (list : Option (List ℕ)) × WritesBeginningFor list old new

@@ -47,7 +47,7 @@ placed_subs s at (x ∷ xs) = (at, x) ∷ placed_subs s (at + length (spelling_o
 abbrev pub heap_of : List Record → List SubRecord
 heap_of records = flat_map subs_of records
 
--- the same with their places
+-- all sub-records of the heap records, in order, with their places
 abbrev pub heap_list : ℕ → List Record → List (ℕ × SubRecord)
 heap_list s records = flat_map (λ p. placed_subs s (p.0 + 9) (subs_of p.1)) (placed s 31 records)
 

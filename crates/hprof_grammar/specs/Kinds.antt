@@ -46,7 +46,7 @@ root_kind tag =
     else if tag == 0x08 then Some ThreadObject
     else None
 
--- the same table from the other side: ROOT UNKNOWN, ROOT JNI GLOBAL, ROOT JNI LOCAL and so on
+-- the tag of a kind of root: ROOT UNKNOWN, ROOT JNI GLOBAL, ROOT JNI LOCAL and so on
 abbrev pub root_tag : RootKind → ℕ
 root_tag Unknown = 0xFF
 root_tag JniGlobal = 0x01

@@ -66,13 +66,13 @@ HasValues s front zero bytes = Unit {0}
 HasValues s front (suc n) bytes =
     (value_end s front bytes ≤ length bytes) × HasValues s front n (drop (value_end s front bytes) bytes)
 
--- the same, and the numbers in front can be read
+-- the bytes have room for n values with numbers in front, and the numbers in front can be read
 pub record HasLabelledValues (s front n : ℕ) (bytes : List ℕ) : Type 0 where
   pub low : 1 ≤ front
   pub high : front ≤ 8
   pub room : HasValues s front n bytes
 
--- the same behind a count of 2 bytes
+-- how many values stand behind a count of 2 bytes, which values, and the bytes behind them
 abbrev pub count_in : List ℕ → ℕ
 count_in bytes = big_number 2 bytes
 

@@ -21,12 +21,12 @@ pub record CameFrom (old new : Holder) : Type 0 where
   pub share : new.book.account.share ≡ old.book.account.share
   pub seen : (o : ℕ) → Contains old.book.account.seen o → Contains new.book.account.seen o
 
--- The same, and its idle number is what it was: so where it was busy it is busy.
+-- The worker came from the old one, and its idle number is what it was: so where it was busy it is busy.
 pub record WorksOn (old new : Holder) : Type 0 where
   pub came : CameFrom old new
   pub idle : new.book.account.idle ≡ old.book.account.idle
 
--- The same, and it finished nothing since.
+-- The worker came from the old one, its idle number is what it was, and it finished nothing since.
 pub record GoesOn (old new : Holder) : Type 0 where
   pub came : CameFrom old new
   pub idle : new.book.account.idle ≡ old.book.account.idle
@@ -40,7 +40,7 @@ pub record HasAtHand (p : PairState) (besides : List ℕ) (w : Holder) : Type 0 
   pub held : (i : ℕ) → times i w.book.account.held ≡ times i (numbers_of p)
   pub charge : (o : ℕ) → times o w.book.account.charge ≡ times o (pair_items p) + times o besides
 
--- The same of a worker that is not idle.
+-- A worker that is not idle holds the buffers of its pair, and answers for its items and for these objects.
 pub record IsAtWork (p : PairState) (besides : List ℕ) (w : Holder) : Type 0 where
   pub hand : HasAtHand p besides w
   pub busy : IsBusy w.book.account

@@ -270,8 +270,8 @@ fn lead_watched<T: Threads + Wait + Sync>(
     lead(rt, &job, leader).is_ok()
 }
 
-/// The same over the wide array: whether that was done, for how many objects the gate was called, and how often an
-/// object's references were asked for before.
+/// Leads behind others over the wide array: whether that was done, for how many objects the gate was called, and how
+/// often an object's references were asked for before.
 fn lead_over_array<T: Threads + Wait + Sync>(
     rt: &T,
     alloc: Global,

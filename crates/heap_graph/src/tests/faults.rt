@@ -156,7 +156,7 @@ fn fault_in(alloc: Global, bytes: &[u8]) -> Option<(u8, u64)> {
     }
 }
 
-/// The same of a heap dump of these sub-records.
+/// The code and the place of the fault that refuses the graph of a heap dump of these sub-records.
 fn first_fault(alloc: Global, subs: &'static [Sub]) -> Result<Option<(u8, u64)>, AllocError> {
     let file = Bytes::dump(alloc, 4, &[Record::Heap(subs)])?;
     Ok(fault_in(alloc, &file.bytes))
@@ -173,7 +173,8 @@ fn first_faults(rt: HostRuntime) -> Result<(), Fail> {
     Ok(())
 }
 
-/// The same of the two instances with the byte at this place changed. None also where there is no such place.
+/// The code and the place of the fault of the dump of two instances with the byte at this place changed. None also
+/// where there is no such place.
 fn fault_of_change(alloc: Global, at: usize, byte: u8) -> Result<Option<(u8, u64)>, AllocError> {
     let mut file = Bytes::dump(alloc, 4, TWO_OBJECTS)?;
     let Some(changed) = file.bytes.get_mut(at) else {

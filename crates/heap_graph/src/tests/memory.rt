@@ -150,7 +150,7 @@ fn requests_to_refuse(alloc: Global, bytes: &[u8], skip: &Skip<'_, Global>) -> O
     requests_of(alloc, &TooShort { alloc, bytes, skip })
 }
 
-/// The same of that dump.
+/// How many requests it takes to find the fault of the dump of an instance that is too short.
 fn requests_to_refuse_short(alloc: Global) -> Result<Option<u64>, AllocError> {
     let file = Bytes::dump(alloc, 4, &TOO_SHORT)?;
     Ok(requests_to_refuse(alloc, &file.bytes, &Skip::none(alloc)))
@@ -177,8 +177,8 @@ fn walks_over(
     }
 }
 
-/// The same over a heap that grants all the requests that it takes to build the graph, and how many it then has left
-/// and has refused.
+/// Whether the array is walked right over a heap that grants just the requests that it takes to build the graph; how
+/// many it then has left and has refused.
 fn walked(alloc: Global, bytes: &[u8], elements: &[u32]) -> (bool, u64, u64) {
     let skip = Skip::none(alloc);
     let heap = LimitedHeap::new(alloc, requests_to_build(alloc, bytes, &skip));
@@ -186,7 +186,8 @@ fn walked(alloc: Global, bytes: &[u8], elements: &[u32]) -> (bool, u64, u64) {
     (right, heap.requests_left(), heap.refusals())
 }
 
-/// The same of a long array.
+/// Whether a long array is walked right over the requests that it takes to build its graph; how many are then left, and
+/// were refused.
 fn walked_long(alloc: Global) -> Result<(bool, u64, u64), AllocError> {
     let file = long_array(alloc)?;
     let mut elements = vec![in alloc; 2u32; MANY + 1]?;

@@ -30,7 +30,8 @@ fn answered_with<C: Call>(alloc: Global, call: &C, alone: bool) -> Option<u64> {
     None
 }
 
-/// The same, where it is so in both ways.
+/// With how many requests the call is answered, where that number is the same with all behind a request refused and
+/// with each alone, and each answer was right.
 pub(crate) fn requests_of<C: Call>(alloc: Global, call: &C) -> Option<u64> {
     let requests = answered_with(alloc, call, false);
     if answered_with(alloc, call, true) != requests {

@@ -125,7 +125,7 @@ fn requests_to_read(alloc: Global, text: &str, entries: usize) -> Option<u64> {
     requests_of(alloc, &Reading { text, entries })
 }
 
-/// The same of a list of 64 entries.
+/// How many requests it takes to read a list of 64 entries, where each of them was refused before.
 fn requests_to_read_most(alloc: Global) -> Result<Option<u64>, AllocError> {
     let text = list_of(alloc, 64)?;
     Ok(requests_to_read(alloc, &text, 64))

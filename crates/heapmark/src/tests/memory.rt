@@ -22,7 +22,7 @@ const ARRAYS: Record = Record::Heap(&[
     Root(0x202),
 ]);
 
-/// The same, and the name of the class.
+/// Both kinds of array, and the name of their class.
 const NAMED_ARRAYS: &[Record] = &[
     Record::Text(1, b"[Ljava/lang/Object;"),
     Record::Load(0x100, 1),

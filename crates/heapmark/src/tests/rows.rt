@@ -23,7 +23,7 @@ pub type Line = (u64, u64, &'static str);
 /// The name of a row, the size of its identifiers, its records, and the lines of its report.
 pub type Reported = (&'static str, u32, &'static [Record], &'static [Line]);
 
-/// The same with the code and the place of a refusal.
+/// The name of a row, the size of its identifiers, its records, and the code and the place of its refusal.
 pub type Refused = (&'static str, u32, &'static [Record], u8, u64);
 
 /// What a report of these lines is.

@@ -53,7 +53,7 @@ const ALL: &[Line] = &[
     (1, 0, "(unresolved)"),
 ];
 
-/// The same where the fields of `java/lang/ref/Reference` are skipped.
+/// The report of these where the fields of `java/lang/ref/Reference` are skipped.
 const SUPERCLASS_SKIPPED: &[Line] = &[
     (2, 16, "T"),
     (2, 0, "<class>"),

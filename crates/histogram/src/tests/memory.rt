@@ -80,7 +80,7 @@ fn rows_in_turn<T: Threads + Wait + Sync>(
     }
 }
 
-/// The same of the graph of a dump that is whole and linked.
+/// The requests of the rows of a dump that is whole and linked: with all behind one of them refused, and one alone.
 fn rows_of_dump<T: Threads + Wait + Sync>(
     rt: &T,
     alloc: Global,

@@ -45,7 +45,7 @@ abbrev pub list_at : {A : Type 0} → (List ℕ → Result (A × List ℕ) Flaw)
 list_at one zero bytes = Ok ([], bytes)
 list_at one (suc n) bytes = one bytes >>= λ x. list_at one n x.1 >>= λ xs. Ok (x.0 ∷ xs.0, xs.1)
 
--- the same, as something else
+-- what is read, as something else
 abbrev pub as_at : {A B : Type 0} → (A → B) → (List ℕ → Result (A × List ℕ) Flaw) → List ℕ → Result (B × List ℕ) Flaw
 as_at to read bytes = read bytes >>= λ x. Ok (to x.0, x.1)
 

@@ -137,7 +137,8 @@ fn bare_lens<A: Allocator + Copy>(alloc: A) -> Result<Lens, PoolFault> {
     Ok(bare(alloc, &pool, &worker).lens())
 }
 
-/// The same, beside a pool that left no request, how many requests are left then, and how many were refused.
+/// What a pair without buffers has beside a pool that left no request, how many requests are left then, and how many
+/// were refused.
 fn bare_pair_without_memory(alloc: Global) -> Result<(Lens, u64, u64), PoolFault> {
     let heap = heap_of_a_pool(alloc, Refused::Each)?;
     let lens = bare_lens(&heap)?;

@@ -103,7 +103,7 @@ fn marked_with<T: Threads + Wait + Sync>(
     None
 }
 
-/// The same for the wide array, with all behind each request refused, and with each alone.
+/// With how many requests the wide array is marked: where all behind each request was refused, and where it was alone.
 fn array_marked_with<T: Threads + Wait + Sync>(
     rt: &T,
     alloc: Global,
@@ -155,7 +155,8 @@ fn told_with<T: Threads + Wait + Sync>(
     Ok((left, told, heap.refusals()))
 }
 
-/// The same for the wide array, and with as many requests as its marking makes.
+/// Marks the wide array over a heap that grants just the requests that it takes: how many are left, what is told of the
+/// marking, and how many were refused.
 fn array_told<T: Threads + Wait + Sync>(
     rt: &T,
     alloc: Global,

@@ -73,7 +73,7 @@ fn graph_tells<T: Threads + Wait + Sync>(
     Ok(is_told(&marked, rows, unresolved))
 }
 
-/// The same for the graph of a dump, and with so many workers.
+/// Marks the graph of a dump with so many workers, and answers whether that is told of the marked objects.
 fn tells<T: Threads + Wait + Sync>(
     rt: &T,
     alloc: Global,

@@ -1,4 +1,4 @@
-//! The same with two workers.
+//! The dump of two objects with each byte changed to each other value, marked by two workers.
 //!
 //! The dumps are shared out among tests, four places each: on an idle machine of several processors a run may wait
 //! 20 ms for its workers' turns, and a test has to end within a minute.

@@ -64,7 +64,8 @@ fn left_behind(
     }
 }
 
-/// The same of a heap that grants what the list takes, and how many requests it refused.
+/// How many requests a heap that grants what the list takes has left behind it, whether the world is right, and how
+/// many requests were refused.
 fn looked_at(alloc: Global, list: &List, end: End) -> Result<(u64, bool, u64), OutOfMemory> {
     let heap = LimitedHeap::new(alloc, requests_of(alloc, list, end));
     let (left, right) = left_behind(&heap, list, end)?;
