@@ -104,7 +104,7 @@ ends_of r e id v words slots first objects place number final all none_held none
     rule = final.1.0
 
     told : IsViewOf rule.reached.events id v
-    told = rule.reached.told id v final.1.1 (omega (arith, all))
+    told = rule.reached.views id v final.1.1 (omega (arith, all))
 
     last : Marking
     last = marking_of r e final.0

@@ -127,7 +127,7 @@ only_seen {B} r e s rule id v is there w same log unsaid taken named from =
     (agrees (marking_of r e t) (marking_of r e s) (λ q. refl) (λ i. refl) (λ o. refl) refl refl
     (accounts_same r e s rule id v is w (ap (λ (b : Book). b.account) same)))
     (counts_same r e s rule id v is w (ap counts_of same))
-    (told_seen rule.reached.events s.views rule.reached.told id v is there w log unsaid taken named from
+    (told_seen rule.reached.events s.views rule.reached.views id v is there w log unsaid taken named from
     (leads_here r e s rule id v is there w rule.reached.events log (ap (λ (b : Book). b.setup) same) (marking_of r e s)
     (map view_counts s.views) (sym (accounts_same r e s rule id v is w (ap (λ (b : Book). b.account) same)))
     (sym (counts_same r e s rule id v is w (ap counts_of same))) rule.reached.led))
@@ -269,7 +269,7 @@ module _ {B : Type 0} (r : Reading B) (e : Setup) (slots id : ℕ) where
             { words = slice_set s.words word x; homes = s.homes; views = set s.views id w })) hit kept) (λ miss. kept),
         (
           refl,
-          let did = did_none rule.reached.events id v (rule.reached.told id v is there) done.named in
+          let did = did_none rule.reached.events id v (rule.reached.views id v is there) done.named in
               (did.0, did.1, did.2 ∙ done.unsaid),
         ),
       ))
@@ -281,7 +281,7 @@ module _ {B : Type 0} (r : Reading B) (e : Setup) (slots id : ℕ) where
       (λ s rule count is fits.
       let v : SeatView = free me.0 in
       let w : SeatView = logged (log_now r e s rule id) v in
-      let told : IsViewOf rule.reached.events id v = rule.reached.told id v is there in
+      let told : IsViewOf rule.reached.events id v = rule.reached.views id v is there in
       let t : State (Option B) SeatView = record { words = s.words; homes = s.homes; views = set s.views id w } in
       let after : Rule r e t =
       noticed r e s rule id v is refl there s.words w refl (λ j b. refl) refl refl refl

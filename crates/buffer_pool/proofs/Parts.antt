@@ -113,7 +113,7 @@ module _ {B : Type 0} (r : Reading B) (e : Setup) (id : ℕ) (v : SeatView) wher
           ∙ ap (λ (xs : List Account). xs ++ part v.aside ∷ []) (accounts_set s.views id (kept_part v))))
           (map-append view_counts (set s.views id (kept_part v)) (given_part v ∷ [])
           ∙ ap (λ (xs : List Counts). xs ++ no_counts ∷ []) (counts_same r e s rule id v is (kept_part v) refl))
-          (λ x counts accounts each led. told_split rule.reached.events s.views rule.reached.told id v is there known
+          (λ x counts accounts each led. told_split rule.reached.events s.views rule.reached.views id v is there known
           nobody)
 
   module _ (other : ℕ) (w : SeatView) where
@@ -207,8 +207,8 @@ module _ {B : Type 0} (r : Reading B) (e : Setup) (id : ℕ) (v : SeatView) wher
             ∙ ap (λ (xs : List Account). set xs other no_share) (accounts_set s.views id both)
             ∙ ap (λ a. set (set m.accounts id (after_join v.book.account a)) other no_share) (sym account)))
             (added ∙ (λ k. set (set counts id (add_counts (sym first k) (sym second k))) other no_counts))
-            (λ x ns accounts each led. told_join rule.reached.events s.views rule.reached.told id v is there known other
-            w apart at theirs_there theirs_known theirs_said)
+            (λ x ns accounts each led. told_join rule.reached.events s.views rule.reached.views id v is there known
+            other w apart at theirs_there theirs_known theirs_said)
 
 -- the units of a split are as they were noted, and the worker knows its number
 pub noted_units :

@@ -158,7 +158,7 @@ starts {B} r e words slots some_buffer first count all =
           record {
             events = [];
             led = record { run = opened; counts = refl };
-            told =
+            views =
                 λ w v at there. one_told w (first_view e) v at (told_now [] 0 (first_view e) refl refl refl refl refl
                 (first_story e));
           };

@@ -174,13 +174,13 @@ module _ {B : Type 0} (r : Reading B) (e : Setup) (s : State (Option B) SeatView
         → LeadTo e (rule.reached.events ++ record { worker = id; kind = kind } ∷ []) m counts
         → AreViewsOf (rule.reached.events ++ record { worker = id; kind = kind } ∷ []) (set s.views id w)
     told_after kind w log unsaid taken named from setup m counts accounts each led =
-        told_step rule.reached.events s.views rule.reached.told id v is there kind w log unsaid taken named from
+        told_step rule.reached.events s.views rule.reached.views id v is there kind w log unsaid taken named from
         (leads_here w (rule.reached.events ++ record { worker = id; kind = kind } ∷ []) log setup m counts accounts each
         led)
 
     -- and the seat did this alone
     pub did_after : v.named ≡ true → v.unsaid ≡ [] → (kind : Kind) → Did v.log (kind ∷ []) (log_after kind)
-    did_after = did_step rule.reached.events s.views rule.reached.told id v is there
+    did_after = did_step rule.reached.events s.views rule.reached.views id v is there
 
 -- the items at home in a slot after a write
 pub slots_set : {B : Type 0} (r : Reading B) (homes : List (maybe.Option (Option B))) (i : ℕ)
@@ -206,7 +206,7 @@ module _ {B : Type 0} (r : Reading B) (e : Setup) (s : State (Option B) SeatView
         events = rule.reached.events;
         led = subst (λ cs. LeadTo e rule.reached.events (marking_of r e t) cs) (sym counts)
             (subst (λ x. LeadTo e rule.reached.events x (map view_counts s.views)) (sym marking) rule.reached.led);
-        told = told;
+        views = told;
       }
 
   module _ (id : ℕ) (v : SeatView) (is : get_elem? s.views id ≡ some v) where
@@ -269,7 +269,7 @@ module _ {B : Type 0} (r : Reading B) (e : Setup) (s : State (Option B) SeatView
         record {
           events = rule.reached.events ++ record { worker = id; kind = kind } ∷ [];
           led = led;
-          told = told
+          views = told
               (marking_of r e t) (map view_counts t.views) refl refl led;
         }
 
@@ -283,8 +283,8 @@ module _ {B : Type 0} (r : Reading B) (e : Setup) (s : State (Option B) SeatView
       nothing_happened r e s rule t
       (agrees (marking_of r e t) (marking_of r e s) (λ q. refl) (λ i. refl) (λ o. refl) same refl
       (accounts_same r e s rule id v is (free v) refl)) (counts_same r e s rule id v is (free v) refl)
-      (told_set rule.reached.events s.views id (free v) (λ k u other at share. rule.reached.told k u at share)
-      (λ share. told_same rule.reached.events id v (rule.reached.told id v is share) (free v) refl refl refl refl refl
+      (told_set rule.reached.events s.views id (free v) (λ k u other at share. rule.reached.views k u at share)
+      (λ share. told_same rule.reached.events id v (rule.reached.views id v is share) (free v) refl refl refl refl refl
       refl))
 
   pub given_back : (n : ℕ) → v.out ≡ n
@@ -373,7 +373,7 @@ pub leads_now :
     {B : Type 0} (r : Reading B) (e : Setup) (t : State (Option B) SeatView) → Rule r e t → (id : ℕ) (w : SeatView)
     → get_elem? t.views id ≡ some w → 0 < w.book.account.share → w.named ≡ true → w.unsaid ≡ []
     → LeadsToBook w.log w.book
-leads_now r e t rule id w at there = (rule.reached.told id w at there).leads
+leads_now r e t rule id w at there = (rule.reached.views id w at there).leads
 
 -- a seat that had said all that it did rests with its new book after an event, where the rule holds then
 pub rests_after :

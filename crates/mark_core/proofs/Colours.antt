@@ -30,7 +30,7 @@ module _ (e : Setup) (mark : ℕ → ℕ) (slots : List (Option (List ℕ))) (ac
   pub linear : (o : ℕ) → (mark o ≡ stacked_times o slots + charged_times o accounts + 2 * finished_times o accounts)
       × (stacked_times o slots + charged_times o accounts + finished_times o accounts ≤ 1)
   linear o = tells_sums (mark o) (stacked_times o slots + charged_times o accounts) (finished_times o accounts)
-      (c.tells o)
+      (c.colours o)
 
   -- other slots and accounts, in which each object stands as often as before
   pub coloured_recount :
@@ -41,11 +41,11 @@ module _ (e : Setup) (mark : ℕ → ℕ) (slots : List (Option (List ℕ))) (ac
       → ((w : ℕ) (a : Account) → StandsAt accounts' w a → (o : ℕ) → Contains a.seen o → 1 ≤ mark o)
       → IsColoured e mark slots' accounts'
   coloured_recount slots' accounts' working done saw =
-      record { tells = tells; closed = c.closed; reachable = c.reachable; saw = saw }
+      record { colours = colours; closed = c.closed; reachable = c.reachable; saw = saw }
     where
-      tells : (o : ℕ)
+      colours : (o : ℕ)
           → HasColour (mark o) (stacked_times o slots' + charged_times o accounts') (finished_times o accounts')
-      tells o = let t = linear o in sums_tell (mark o) (stacked_times o slots' + charged_times o accounts')
+      colours o = let t = linear o in sums_tell (mark o) (stacked_times o slots' + charged_times o accounts')
           (finished_times o accounts') (omega (arith, working o, done o)) (omega (arith, working o, done o))
 
   -- a mark is written: what is told of that object is told anew, no mark falls, and the object is reachable
@@ -59,7 +59,7 @@ module _ (e : Setup) (mark : ℕ → ℕ) (slots : List (Option (List ℕ))) (ac
       → IsColoured e (put o x mark) slots accounts'
   coloured_put o x accounts' some grows here others next reach saw =
       record {
-        tells = λ y. tells y (ℕ_discrete y o);
+        colours = λ y. colours y (ℕ_discrete y o);
         closed = λ y s. closed y s (ℕ_discrete y o);
         reachable = λ y. reachable y (ℕ_discrete y o);
         saw =
@@ -71,14 +71,14 @@ module _ (e : Setup) (mark : ℕ → ℕ) (slots : List (Option (List ℕ))) (ac
       marked y (inl h) (no n) = omega (arith, put_else o y x mark n)
       marked y (inr h) (no n) = absurd (n h)
 
-      tells : (y : ℕ) → Dec (y ≡ o) → HasColour (put o x mark y) (stacked_times y slots + charged_times y accounts')
+      colours : (y : ℕ) → Dec (y ≡ o) → HasColour (put o x mark y) (stacked_times y slots + charged_times y accounts')
           (finished_times y accounts')
-      tells y (yes p) =
+      colours y (yes p) =
           subst (λ z. HasColour z (stacked_times y slots + charged_times y accounts') (finished_times y accounts'))
           (sym (put_here o y x mark p))
           (subst (λ z. HasColour x (stacked_times z slots + charged_times z accounts') (finished_times z accounts'))
           (sym p) here)
-      tells y (no n) =
+      colours y (no n) =
           let t = linear y in
           let s = others y n in
           let m = put_else o y x mark n in

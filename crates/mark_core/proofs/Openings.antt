@@ -135,7 +135,7 @@ module _ (e : Setup) (tag : ℕ) (some_buffer : 0 < e.buffers) where
   first_coloured : IsColoured e (λ o. 0) (replicate e.buffers (Some [])) (part whole ∷ [])
   first_coloured =
       record {
-        tells = λ o. inl (refl, omega (arith, bare o), refl);
+        colours = λ o. inl (refl, omega (arith, bare o), refl);
         closed = λ o s two pair. absurd (omega arith);
         reachable = λ o one. absurd (omega arith);
         saw = λ w a at o k. let none : Contains [] o =

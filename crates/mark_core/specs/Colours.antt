@@ -42,7 +42,7 @@ HasColour mark working done = IsWhite mark working done ⊎ (IsClaimed mark work
 
 pub record IsColoured
     (e : Setup) (mark : ℕ → ℕ) (slots : List (Option (List ℕ))) (accounts : List Account) : Type 0 where
-  pub tells : (o : ℕ)
+  pub colours : (o : ℕ)
       → HasColour (mark o) (stacked_times o slots + charged_times o accounts) (finished_times o accounts)
   pub closed : (o s : ℕ) → mark o ≡ 2 → Contains e.pairs (o, s) → 1 ≤ mark s
   pub reachable : (o : ℕ) → 1 ≤ mark o → IsReachableIn e o

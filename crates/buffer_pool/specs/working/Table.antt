@@ -52,7 +52,7 @@ module _ {B : Type 0} (r : Reading B) where
   pub record Reached (e : Setup) (s : State (Option B) SeatView) : Type 0 where
     pub events : List Event
     pub led : LeadTo e events (marking_of e s) (map view_counts s.views)
-    pub told : AreViewsOf events s.views
+    pub views : AreViewsOf events s.views
 
   -- what holds between any two steps: the run that led here, and what the code needs besides
   pub record Rule (e : Setup) (s : State (Option B) SeatView) : Type 0 where
