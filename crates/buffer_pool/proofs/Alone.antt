@@ -11,7 +11,7 @@ use Rattle.mark_core.specs.Lists.{StandsAt}
 use Rattle.mark_core.specs.Shares.{whole}
 use Rattle.mark_core.specs.Account.{Account, after_load}
 use Rattle.mark_core.specs.World.{Setup, Marking, account_at, IsThere}
-use Rattle.mark_core.specs.Event.{Event, Kind, Load, StoreLink, Fail, IsPossible, happens}
+use Rattle.mark_core.specs.Events.{Event, Kind, Load, StoreLink, Fail, IsPossible, happens}
 use Rattle.mark_core.specs.Runs.{Run, opening}
 use Rattle.mark_core.specs.Counts.{LeadTo}
 use Rattle.mark_core.specs.Conclusions.{Exchanges}

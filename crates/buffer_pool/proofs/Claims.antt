@@ -11,8 +11,8 @@ use Rattle.atomic_table.proofs.Lists.{set_here}
 use Rattle.tagged_index.specs.Head.{head_of, index_of}
 use Rattle.mark_core.specs.Account.{Account, after_claim}
 use Rattle.mark_core.specs.World.{Setup, Marking, put}
-use Rattle.mark_core.specs.Event.{Kind, Claim, Finish, CanClaim, CanFinish, IsBusy, effect}
-use Rattle.mark_core.specs.Event as may
+use Rattle.mark_core.specs.Events.{Kind, Claim, Finish, CanClaim, CanFinish, IsBusy, effect}
+use Rattle.mark_core.specs.Events as may
 use Rattle.mark_core.specs.Counts.{counted}
 use Rattle.mark_core.proofs.Places.{at_below}
 use Rattle.mark_core.proofs.Colours.{linear}

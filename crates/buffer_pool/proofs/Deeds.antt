@@ -6,7 +6,7 @@ use Rattle.std.proofs.lemmas.List.{append_assoc, append-nil}
 use mathlib.Core.Option.{some}
 use native.Mathlib.Decide.{ℕ_discrete}
 use lib.ListN.{get_elem?}
-use Rattle.mark_core.specs.Event.{Event, Kind, Join}
+use Rattle.mark_core.specs.Events.{Event, Kind, Join}
 use Rattle.buffer_pool.specs.declared.seat_view.SeatView.{SeatView}
 use Rattle.buffer_pool.specs.Book.{Book}
 use Rattle.buffer_pool.specs.WorkerLog.{Log, Did, LeadsToBook, deeds}

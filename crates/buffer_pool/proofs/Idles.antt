@@ -6,8 +6,8 @@ use lib.ListN.{get_elem?}
 use Rattle.atomic_table.specs.Table.{State, Me, Allows, step, keeps}
 use Rattle.tagged_index.specs.Head.{head_of, index_of}
 use Rattle.mark_core.specs.World.{Setup, Marking}
-use Rattle.mark_core.specs.Event.{Kind, IdleUp, IdleDown, LoadIdle, CanIdle, CanWake, effect, word_up, word_down}
-use Rattle.mark_core.specs.Event as may
+use Rattle.mark_core.specs.Events.{Kind, IdleUp, IdleDown, LoadIdle, CanIdle, CanWake, effect, word_up, word_down}
+use Rattle.mark_core.specs.Events as may
 use Rattle.mark_core.specs.Counts.{Counts, counted, count_load_idle}
 use Rattle.mark_core.specs.Account.{after_load_idle}
 use Rattle.buffer_pool.specs.declared.seat_view.SeatView.{SeatView}

@@ -15,7 +15,7 @@ use Rattle.mark_core.specs.Lists.{times}
 use Rattle.mark_core.specs.Account.{look_of, after_load, after_load_link}
 use Rattle.mark_core.specs.World.{Setup}
 use Rattle.mark_core.specs.Runs.{HasEachOnce, opening}
-use Rattle.mark_core.specs.Event.{Load, LoadLink, effect, last_link, link_from}
+use Rattle.mark_core.specs.Events.{Load, LoadLink, effect, last_link, link_from}
 use Rattle.mark_core.specs.Counts.{count_load}
 use Rattle.mark_core.proofs.Ownership.{stacked_below, top_stands}
 use Rattle.mark_core.proofs.Places.{at_below}

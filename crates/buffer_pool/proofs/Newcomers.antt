@@ -9,8 +9,8 @@ use lib.ListN.{get_elem?}
 use Rattle.mark_core.specs.declared.which.Which.{Which}
 use Rattle.mark_core.specs.Account.{Account, look_of, part, no_share, after_split, after_join}
 use Rattle.mark_core.specs.World.{Setup, Marking, account_at}
-use Rattle.mark_core.specs.Event.{Event, Kind, Claim, Finish, Split, Join, Load, LoadLink, StoreLink, Pop, Push, Fail}
-use Rattle.mark_core.specs.Event.{IdleUp, IdleDown, LoadIdle, effect, happens, stack_popped}
+use Rattle.mark_core.specs.Events.{Event, Kind, Claim, Finish, Split, Join, Load, LoadLink, StoreLink, Pop, Push, Fail}
+use Rattle.mark_core.specs.Events.{IdleUp, IdleDown, LoadIdle, effect, happens, stack_popped}
 use Rattle.mark_core.specs.Runs.{Run}
 use Rattle.mark_core.proofs.Places.{at_below}
 use Rattle.buffer_pool.specs.declared.seat_view.SeatView.{SeatView}

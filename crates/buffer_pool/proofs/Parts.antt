@@ -12,7 +12,7 @@ use Rattle.mark_core.specs.Lists.{times, only}
 use Rattle.mark_core.specs.Account.{Account, part, no_share, after_join}
 use Rattle.mark_core.specs.World.{Setup, Marking, account_at}
 use Rattle.mark_core.specs.Runs.{AreApart, HasEachOnce, opening}
-use Rattle.mark_core.specs.Event.{Event, Split, Join, effect}
+use Rattle.mark_core.specs.Events.{Event, Split, Join, effect}
 use Rattle.mark_core.specs.Counts.{Counts, add_counts, counts_at, no_counts}
 use Rattle.mark_core.proofs.Sums.{sum_of-append}
 use Rattle.mark_core.proofs.Places.{at_get_or}

@@ -16,8 +16,8 @@ use Rattle.mark_core.specs.declared.which.Which.TheVariants.{Full, Empty}
 use Rattle.mark_core.specs.Lists.{StandsAt, times, only}
 use Rattle.mark_core.specs.Account.{Account, look_of, after_pop}
 use Rattle.mark_core.specs.World.{Setup, Marking, items_of, put_which}
-use Rattle.mark_core.specs.Event.{Pop, Fail, IsBusy, effect}
-use Rattle.mark_core.specs.Event.{stack_popped as popped_event}
+use Rattle.mark_core.specs.Events.{Pop, Fail, IsBusy, effect}
+use Rattle.mark_core.specs.Events.{stack_popped as popped_event}
 use Rattle.mark_core.specs.Counts.{count_failure}
 use Rattle.mark_core.proofs.Colours.{linear}
 use Rattle.mark_core.proofs.Sums.{stands_times, sum_of-append, term_le, only-same, only-other}

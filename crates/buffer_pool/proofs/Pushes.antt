@@ -19,7 +19,7 @@ use Rattle.mark_core.specs.declared.which.Which.TheVariants.{Full, Empty}
 use Rattle.mark_core.specs.Lists.{times, remove_one, IsPart}
 use Rattle.mark_core.specs.Account.{look_of, after_push}
 use Rattle.mark_core.specs.World.{Setup, Marking, put}
-use Rattle.mark_core.specs.Event.{StoreLink, Push, Fail, IsBusy, effect}
+use Rattle.mark_core.specs.Events.{StoreLink, Push, Fail, IsBusy, effect}
 use Rattle.mark_core.proofs.Places.{at_below}
 use Rattle.mark_core.proofs.Sums.{times-remove_one, times_stands, only-same, only-other}
 use Rattle.buffer_pool.specs.declared.seat_view.SeatView.{SeatView}

@@ -9,7 +9,7 @@ use Rattle.mark_core.specs.declared.which.Which.{Which}
 use Rattle.mark_core.specs.declared.which.Which.TheVariants.{Full, Empty}
 use Rattle.mark_core.specs.Lists.{times, only, remove_one, without}
 use Rattle.mark_core.specs.World.{Setup}
-use Rattle.mark_core.specs.Event.{CanClaim, CanFinish}
+use Rattle.mark_core.specs.Events.{CanClaim, CanFinish}
 use Rattle.mark_core.proofs.Sums.{sum_of-append, only-same, remove_one-same, times-remove_one, times-without}
 use Rattle.mark_core.proofs.Sums.{times_stands}
 use Rattle.buffer_pool.specs.Book.{Book, loaded, link_loaded, failed, claimed, finished}

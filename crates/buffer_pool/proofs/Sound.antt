@@ -8,7 +8,7 @@ use Rattle.mark_core.specs.declared.which.Which.{Which}
 use Rattle.mark_core.specs.declared.which.Which.TheVariants.{Full, Empty}
 use Rattle.mark_core.specs.Lists.{times, remove_one, without, IsPart}
 use Rattle.mark_core.specs.World.{Setup}
-use Rattle.mark_core.specs.Event.{Kind}
+use Rattle.mark_core.specs.Events.{Kind}
 use Rattle.mark_core.proofs.Sums.{stands_times, times_stands, stands_push, stands_append, times-remove_one}
 use Rattle.mark_core.proofs.Sums.{times-without}
 use Rattle.buffer_pool.specs.declared.seat_view.SeatView.{SeatView}

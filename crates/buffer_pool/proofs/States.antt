@@ -13,8 +13,8 @@ use Rattle.mark_core.specs.declared.which.Which.{Which}
 use Rattle.mark_core.specs.Lists.{StandsAt, times}
 use Rattle.mark_core.specs.Account.{Account, no_share}
 use Rattle.mark_core.specs.World.{Setup, Marking, account_at, put}
-use Rattle.mark_core.specs.Event.{Event, Kind, effect}
-use Rattle.mark_core.specs.Event as may
+use Rattle.mark_core.specs.Events.{Event, Kind, effect}
+use Rattle.mark_core.specs.Events as may
 use Rattle.mark_core.specs.Counts.{Counts, LeadTo, counted, counts_at, no_counts}
 use Rattle.mark_core.specs.Law.{Law}
 use Rattle.mark_core.specs.Ownership.{held_times}

@@ -11,7 +11,7 @@ use Rattle.buffer_pool.proofs.Deeds.{did_on}
 use Rattle.buffer_pool.specs.declared.answers.TryPopped.{TryPopped}
 use Rattle.buffer_pool.specs.declared.answers.TryPopped.TheVariants as try_pop
 use Rattle.buffer_pool.specs.declared.answers.TryPushed.TheVariants as try_push
-use Rattle.mark_core.specs.Event.{IsBusy}
+use Rattle.mark_core.specs.Events.{IsBusy}
 
 may_loaded : (q : Which) (h : HeldBuffer) (head : Head) (b : Book) → MayPush q h b
     → MayPush q h (failed (loaded q head b))

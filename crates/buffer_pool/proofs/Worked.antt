@@ -2,7 +2,7 @@
 use Rattle.std.proofs.Common.{◌≡◌, ℕ, List, [], ◌∷◌, ◌++◌, length, Contains, ap, sym, refl, subst, ◌∙◌, inr, arith}
 use Rattle.std.proofs.lemmas.List.{nil_from_length}
 use Rattle.mark_core.specs.declared.which.Which.{Which}
-use Rattle.mark_core.specs.Event.{CanClaim}
+use Rattle.mark_core.specs.Events.{CanClaim}
 use Rattle.mark_core.specs.Lists.{times, remove_one, without}
 use Rattle.mark_core.specs.World.{Setup}
 use Rattle.buffer_pool.specs.Book.{Book, loaded, link_loaded, failed, popped, pushed, finished}

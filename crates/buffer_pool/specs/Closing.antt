@@ -5,7 +5,7 @@ use Rattle.mark_core.specs.declared.which.Which.TheVariants.{Full, Empty}
 use Rattle.mark_core.specs.Lists.{StandsAt, one_where, times}
 use Rattle.mark_core.specs.World.{Marking}
 use Rattle.mark_core.specs.Colours.{IsReachableIn}
-use Rattle.mark_core.specs.Event.{Event}
+use Rattle.mark_core.specs.Events.{Event}
 use Rattle.mark_core.specs.Counts.{Counts, LeadTo}
 use Rattle.mark_core.specs.Law.{Law}
 use Rattle.mark_core.specs.Runs.{IsListOf, LiesIn}

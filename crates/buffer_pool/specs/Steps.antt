@@ -1,7 +1,7 @@
 -- Which events each call of a pool is, in order.
 use Rattle.std.specs.Prelude.{ℕ, zero, suc, List, [], ◌∷◌, ◌++◌, Option, Result}
 use Rattle.mark_core.specs.declared.which.Which.{Which}
-use Rattle.mark_core.specs.Event.{Kind, Load, LoadLink, StoreLink, Pop, Push, Fail}
+use Rattle.mark_core.specs.Events.{Kind, Load, LoadLink, StoreLink, Pop, Push, Fail}
 use Rattle.buffer_pool.specs.Calls.{HeldBuffer as Held, ended, last_try}
 use Rattle.buffer_pool.specs.WorkerLog.{Log, Did}
 use Rattle.buffer_pool.specs.declared.answers.TryPopped.{TryPopped}

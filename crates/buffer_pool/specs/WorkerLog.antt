@@ -2,7 +2,7 @@
 use Rattle.std.specs.Prelude.{◌≡◌, ℕ, ◌==◌, if◌then◌else◌, List, [], ◌∷◌, ◌++◌}
 use Rattle.mark_core.specs.Lists.{StandsAt}
 use Rattle.mark_core.specs.World.{Marking}
-use Rattle.mark_core.specs.Event.{Kind, Event}
+use Rattle.mark_core.specs.Events.{Kind, Event}
 use Rattle.mark_core.specs.Counts.{Counts, LeadTo}
 use Rattle.buffer_pool.specs.Book.{Book, counts_of}
 

@@ -2,7 +2,7 @@
 ghost use Rattle.std.specs.Borrow.{ftrue};
 ghost use Rattle.std.specs.Prelude.{ℕ, Bool, List, Option};
 ghost use Rattle.std.specs.Coded.{coded_bool, coded_list, coded_option, coded_ℕ};
-ghost use Rattle.mark_core.specs.Event.{Event, Kind};
+ghost use Rattle.mark_core.specs.Events.{Event, Kind};
 ghost use Rattle.buffer_pool.specs.Book.{Book};
 ghost use Rattle.buffer_pool.specs.working.Codes.{book_code, event_code, kind_code, log_code};
 ghost use Rattle.buffer_pool.specs.WorkerLog.{Log};

@@ -6,7 +6,7 @@ use Rattle.std.proofs.lemmas.List.Elements.{Contains-get_or, Contains-push, Cont
 use Rattle.mark_core.specs.Lists.{times, only}
 use Rattle.mark_core.specs.World.{Setup}
 use Rattle.mark_core.specs.Account.{Account}
-use Rattle.mark_core.specs.Event.{CanClaim, CanFinish, IsBusy}
+use Rattle.mark_core.specs.Events.{CanClaim, CanFinish, IsBusy}
 use Rattle.mark_core.proofs.Sums.{only-same, stands_times, times-remove_one, times_stands, sum_of-append}
 use Rattle.buffer_pool.specs.Book.{Book, claimed, finished}
 use Rattle.buffer_pool.specs.Calls.{Holder}

@@ -1,7 +1,7 @@
 -- A worker that goes idle, looks at the idle word and at the full stack, and comes back.
 use Rattle.std.proofs.Common.{◌≡◌, ℕ, ◌*◌, ◌+◌, Bool, true, false, List, [], ◌&&◌, ◌||◌, Contains, is_none, is_some, ap}
 use Rattle.std.proofs.Common.{inr, sym, refl, subst, ◌∙◌, arith}
-use Rattle.mark_core.specs.Event.{CanIdle}
+use Rattle.mark_core.specs.Events.{CanIdle}
 use Rattle.mark_core.specs.Lists.{times}
 use Rattle.mark_core.specs.World.{Setup}
 use Rattle.mark_core.specs.declared.which.Which.TheVariants.{Full}

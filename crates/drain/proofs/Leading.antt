@@ -1,7 +1,7 @@
 -- The leader, as it gives away units and takes workers in.
 use Rattle.std.proofs.Common.{◌≡◌, ℕ, ◌<◌, List, [], Contains, ap, inl, sym, refl, subst, ◌∙◌, arith}
 use Rattle.std.proofs.lemmas.List.Elements.{Contains-append_left}
-use Rattle.mark_core.specs.Event.{IsBusy}
+use Rattle.mark_core.specs.Events.{IsBusy}
 use Rattle.mark_core.specs.Lists.{times, only}
 use Rattle.mark_core.specs.World.{Setup}
 use Rattle.mark_core.proofs.Sums.{sum_of-append}

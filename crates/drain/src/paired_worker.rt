@@ -24,7 +24,7 @@ pub(crate) struct PairedWorker<A: Allocator> {
 impl<A: Allocator> PairedWorker<A> {
     ghost use Rattle.std.specs.Prelude.{◌≡◌, ◌<◌, ◌↔◌, ◌⊎◌, ◌∷◌, [], ℕ, All, IfErr, IfNone, IfOk, IfSome, IsTrue};
     ghost use Rattle.std.specs.Prelude.{List, OnOk, false, length};
-    ghost use Rattle.mark_core.specs.Event.{IsBusy};
+    ghost use Rattle.mark_core.specs.Events.{IsBusy};
     ghost use Rattle.mark_core.specs.declared.which.Which.TheVariants.{Empty};
     ghost use Rattle.work_pair.specs.Moves.{WasSeenEmpty};
     ghost use Rattle.work_pair.specs.PairState.{buffered_items};

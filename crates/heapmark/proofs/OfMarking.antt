@@ -3,8 +3,8 @@ use Rattle.std.proofs.Common.{List, inl, inr, refl, subst, sym, ℕ, ◌≡◌, 
 use Rattle.drain.specs.declared.marked.RunFault.{RunFault}
 use Rattle.drain.specs.declared.marked.RunFault.TheVariants.{OutOfMemory, TagSpent, WorkerRefused}
 use Rattle.heapmark.specs.Answer.{IsAcceptedText, RefusesFirstFault}
-use Rattle.heapmark.specs.RefusalParts.{run_refusal}
-use Rattle.heapmark.specs.RefusalCodes.{out_of_memory}
+use Rattle.heapmark.specs.RefusalCodes.{run_refusal}
+use Rattle.heapmark.specs.RunRefusals.{out_of_memory}
 use Rattle.heapmark.specs.working.Marking.{IsOfMarking}
 use Rattle.heapmark.specs.declared.refusal.Refusal.{Refusal}
 

@@ -1,7 +1,7 @@
 pub mod Answer
 pub mod Headline
-pub mod RefusalParts
-pub mod RefusalText
 pub mod RefusalCodes
+pub mod RefusalText
+pub mod RunRefusals
 pub mod SkippedFields
 pub mod working

@@ -1,17 +1,53 @@
--- What a run refuses with.
-use Rattle.std.specs.Prelude.{IsErrAnd, None, Result, Some, ℕ, ◌≡◌}
+-- The refusal of a run for that of each of its parts.
+use Rattle.std.specs.Prelude.{None}
+use Rattle.drain.specs.declared.marked.RunFault.{RunFault}
+use Rattle.drain.specs.declared.marked.RunFault.TheVariants as marking
+use Rattle.heap_graph.specs.declared.refusal.LinkRefusal.{LinkRefusal}
+use Rattle.heap_graph.specs.declared.refusal.LinkRefusal.TheVariants as link
+use Rattle.heap_graph.specs.declared.skip.refusal.SkipRefusal.{SkipRefusal}
+use Rattle.heap_graph.specs.declared.skip.refusal.SkipRefusal.TheVariants as skipping
+use Rattle.histogram.specs.declared.reading.ReaderRefusal.{ReaderRefusal}
+use Rattle.histogram.specs.declared.reading.ReaderRefusal.TheVariants as reading
+use Rattle.histogram.specs.declared.report_writing.WriteRefusal.{WriteRefusal}
+use Rattle.histogram.specs.declared.report_writing.WriteRefusal.TheVariants as writing
+use Rattle.hprof_grammar.specs.declared.flaw.ReadRefusal.{ReadRefusal}
+use Rattle.hprof_grammar.specs.declared.flaw.ReadRefusal.TheVariants as form
+use Rattle.heapmark.specs.RunRefusals.{out_of_memory, read_fault, fault_refusal}
 use Rattle.heapmark.specs.declared.refusal.Refusal.{Refusal}
 
--- a fault of the bytes, with its place
-abbrev pub fault_refusal : ℕ → ℕ → Refusal
-fault_refusal code place = record { code = code; offset = Some place }
+abbrev pub form_refusal : ReadRefusal → Refusal
+form_refusal (form.Fault f) = fault_refusal f.code f.offset
+form_refusal form.OutOfMemory = out_of_memory
 
-abbrev pub out_of_memory : Refusal
-out_of_memory = record { code = 15; offset = None }
+abbrev pub link_refusal : LinkRefusal → Refusal
+link_refusal (link.Fault f) = fault_refusal f.code f.offset
+link_refusal link.OutOfMemory = out_of_memory
 
-abbrev pub read_fault : Refusal
-read_fault = record { code = 19; offset = None }
+abbrev pub tag_spent : Refusal
+tag_spent = record { code = 16; offset = None }
 
--- refused with that code
-abbrev pub HasCode : {X : Type 0} → Result X Refusal → ℕ → Type 0
-HasCode result code = IsErrAnd result (λ refusal. refusal.code ≡ code)
+abbrev pub worker_refused : Refusal
+worker_refused = record { code = 18; offset = None }
+
+abbrev pub run_refusal : RunFault → Refusal
+run_refusal marking.OutOfMemory = out_of_memory
+run_refusal marking.TagSpent = tag_spent
+run_refusal marking.WorkerRefused = worker_refused
+
+abbrev pub reader_refusal : ReaderRefusal → Refusal
+reader_refusal reading.ReadFault = read_fault
+reader_refusal reading.OutOfMemory = out_of_memory
+
+abbrev pub write_fault : Refusal
+write_fault = record { code = 20; offset = None }
+
+abbrev pub write_refusal : WriteRefusal → Refusal
+write_refusal writing.WriteFault = write_fault
+write_refusal writing.OutOfMemory = out_of_memory
+
+abbrev pub bad_options_refusal : Refusal
+bad_options_refusal = record { code = 21; offset = None }
+
+abbrev pub skip_refusal : SkipRefusal → Refusal
+skip_refusal skipping.BadOptions = bad_options_refusal
+skip_refusal skipping.OutOfMemory = out_of_memory

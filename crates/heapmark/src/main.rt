@@ -4,7 +4,7 @@
 //! report, or answers why it does not. `program`, in `command.rt`, gives it the file and the options of the words, and
 //! makes the exit status of its answer; `main` is one line over `start`, below.
 //!
-//! The headline stands in `specs/Headline.antt`, the refusals in `specs/RefusalCodes.antt`; README.md at the top says
+//! The headline stands in `specs/Headline.antt`, the refusals in `specs/RunRefusals.antt`; README.md at the top says
 //! both in words, and `docs/ARCHITECTURE.md` where everything else is.
 #![tactic(auto)]
 

@@ -10,7 +10,7 @@ ghost use Rattle.heapmark.specs.Answer.{ConsumesBytesRead, IsAcceptedText, IsRun
 ghost use Rattle.heapmark.specs.Answer.{RefusesFirstFault};
 ghost use Rattle.heapmark.specs.Answer.{WritesBeginning, WritesSomeBeginning, WritesSomeReport, bytes_read};
 ghost use Rattle.heapmark.specs.Headline.{Headline};
-ghost use Rattle.heapmark.specs.RefusalCodes.{HasCode, out_of_memory};
+ghost use Rattle.heapmark.specs.RunRefusals.{HasCode, out_of_memory};
 ghost use Rattle.heapmark.specs.working.Marking.{IsOfMarking};
 
 use crate::refusal::Refusal;

@@ -8,7 +8,7 @@ use Rattle.mark_core.specs.Account.{part}
 use Rattle.mark_core.specs.World.{Setup, Marking}
 use Rattle.mark_core.specs.Shares.{whole}
 use Rattle.mark_core.specs.Runs.{first_heads, first_link, opening}
-use Rattle.mark_core.specs.WorldStep.{Listing, IsLawful, heads_of, marking_of}
+use Rattle.mark_core.specs.StepCall.{Listing, IsLawful, heads_of, marking_of}
 use Rattle.mark_core.specs.Law.{Law}
 use Rattle.mark_core.proofs.Openings.{opening_keeps}
 use Rattle.mark_core.proofs.Weights.{AreNumbered, numbered_opening}

@@ -11,9 +11,9 @@ use Rattle.mark_core.specs.Account.{Account, look_of, part, no_share, after_clai
 use Rattle.mark_core.specs.Account.{after_join, after_load, after_load_link, after_pop, after_push, after_idle_up}
 use Rattle.mark_core.specs.Account.{after_idle_down, after_load_idle}
 use Rattle.mark_core.specs.World.{Setup, Marking, account_at, items_of, put_which}
-use Rattle.mark_core.specs.Event.{Kind, Claim, Finish, Split, Join, Load, LoadLink, StoreLink, Pop, Push, Fail, IdleUp}
-use Rattle.mark_core.specs.Event.{IdleDown, LoadIdle, Event, Allows, IsPossible, effect, happens, stack_popped}
-use Rattle.mark_core.specs.Event.{last_link}
+use Rattle.mark_core.specs.Events.{Kind, Claim, Finish, Split, Join, Load, LoadLink, StoreLink, Pop, Push, Fail, IdleUp}
+use Rattle.mark_core.specs.Events.{IdleDown, LoadIdle, Event, Allows, IsPossible, effect, happens, stack_popped}
+use Rattle.mark_core.specs.Events.{last_link}
 use Rattle.mark_core.specs.Runs.{Run}
 use Rattle.mark_core.specs.Conclusions.{Exchanges, LossesAreContested}
 use Rattle.mark_core.proofs.Places.{at_get_or, at_longer, at_one, set_else, set_here}

@@ -1,7 +1,7 @@
 -- A list of events that leads to a marking goes on by each event that is possible there.
 use Rattle.std.proofs.Common.{◌≡◌, ◌<◌, List, [], ◌∷◌, ◌++◌, ap, sym, refl, subst, ◌∙◌}
 use Rattle.mark_core.specs.World.{Setup, Marking}
-use Rattle.mark_core.specs.Event.{Event, IsPossible, happens}
+use Rattle.mark_core.specs.Events.{Event, IsPossible, happens}
 use Rattle.mark_core.specs.Law.{Law}
 use Rattle.mark_core.specs.Runs.{opening, Run}
 use Rattle.mark_core.specs.Counts.{Counts, LeadTo, no_counts, counted, all_counted}

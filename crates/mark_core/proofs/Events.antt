@@ -9,7 +9,7 @@ use Rattle.mark_core.specs.Lists.{StandsAt, times, only, IsPart}
 use Rattle.mark_core.specs.Account.{Account, look_of, part, no_share, after_claim, after_finish, after_split}
 use Rattle.mark_core.specs.Account.{after_join, after_load, after_load_link, after_pop, after_push}
 use Rattle.mark_core.specs.World.{Setup, Marking, put, put_which}
-use Rattle.mark_core.specs.Event.{CanClaim, CanFinish}
+use Rattle.mark_core.specs.Events.{CanClaim, CanFinish}
 use Rattle.mark_core.specs.Ownership.{IsRecent, IsOwned}
 use Rattle.mark_core.specs.Colours.{HasColour, IsReachableIn, stacked_times, charged_times, finished_times}
 use Rattle.mark_core.specs.Law.{Law}

@@ -14,9 +14,9 @@ use Rattle.mark_core.specs.Account.{Account, look_of, part, no_share, after_clai
 use Rattle.mark_core.specs.Account.{after_join, after_load, after_load_link, after_push, after_idle_up, after_idle_down}
 use Rattle.mark_core.specs.Account.{after_load_idle}
 use Rattle.mark_core.specs.World.{Setup, Marking, account_at}
-use Rattle.mark_core.specs.Event.{Kind, Claim, Finish, Split, Join, Load, LoadLink, StoreLink, Pop, Push, Fail, IdleUp}
-use Rattle.mark_core.specs.Event.{IdleDown, LoadIdle, Event, Allows, IsPossible, effect, happens, stack_popped}
-use Rattle.mark_core.specs.Event.{last_link}
+use Rattle.mark_core.specs.Events.{Kind, Claim, Finish, Split, Join, Load, LoadLink, StoreLink, Pop, Push, Fail, IdleUp}
+use Rattle.mark_core.specs.Events.{IdleDown, LoadIdle, Event, Allows, IsPossible, effect, happens, stack_popped}
+use Rattle.mark_core.specs.Events.{last_link}
 use Rattle.mark_core.specs.Shares.{whole}
 use Rattle.mark_core.specs.Runs.{Run, first_heads, opening}
 use Rattle.mark_core.specs.Counts.{Counts, LeadTo, add_counts, all_counted, count_failure, count_load, count_load_idle}

@@ -6,8 +6,8 @@ use Rattle.mark_core.specs.declared.which.Which.{Which}
 use Rattle.mark_core.specs.declared.which.Which.TheVariants.{Full, Empty}
 use Rattle.mark_core.specs.Account.{Account, look_of, no_share}
 use Rattle.mark_core.specs.World.{Setup, Marking, IsThere, put_which}
-use Rattle.mark_core.specs.Event.{Kind, Claim, Finish, Split, Join, Load, LoadLink, StoreLink, Pop, Push, Fail, IdleUp}
-use Rattle.mark_core.specs.Event.{IdleDown, LoadIdle, Event, Allows, IsPossible, effect, happens, stack_popped}
+use Rattle.mark_core.specs.Events.{Kind, Claim, Finish, Split, Join, Load, LoadLink, StoreLink, Pop, Push, Fail, IdleUp}
+use Rattle.mark_core.specs.Events.{IdleDown, LoadIdle, Event, Allows, IsPossible, effect, happens, stack_popped}
 use Rattle.mark_core.specs.Law.{Law}
 use Rattle.mark_core.specs.Runs.{Changes, IsListOf, Run, opening}
 use Rattle.mark_core.specs.Conclusions.{TagsKeepParity, one_stack, push_count, pushes_among}

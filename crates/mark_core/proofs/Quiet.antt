@@ -12,9 +12,9 @@ use Rattle.mark_core.specs.Account.{Account, look_of, part, no_share, after_clai
 use Rattle.mark_core.specs.Account.{after_join, after_load, after_load_link, after_pop, after_push, after_idle_up}
 use Rattle.mark_core.specs.Account.{after_idle_down, after_load_idle}
 use Rattle.mark_core.specs.World.{Setup, Marking, items_of, IsThere}
-use Rattle.mark_core.specs.Event.{Kind, Claim, Finish, Split, Join, Load, LoadLink, StoreLink, Pop, Push, Fail, IdleUp}
-use Rattle.mark_core.specs.Event.{IdleDown, LoadIdle, Event, IsBusy, Allows, IsPossible, effect, happens, stack_popped}
-use Rattle.mark_core.specs.Event.{last_link, word_up, word_down}
+use Rattle.mark_core.specs.Events.{Kind, Claim, Finish, Split, Join, Load, LoadLink, StoreLink, Pop, Push, Fail, IdleUp}
+use Rattle.mark_core.specs.Events.{IdleDown, LoadIdle, Event, IsBusy, Allows, IsPossible, effect, happens, stack_popped}
+use Rattle.mark_core.specs.Events.{last_link, word_up, word_down}
 use Rattle.mark_core.specs.Shares.{whole}
 use Rattle.mark_core.specs.Runs.{Run, IsRun, opening}
 use Rattle.mark_core.specs.Quiet.{HasGivenUnits, QuietIsDone}

@@ -5,10 +5,10 @@ use Rattle.mark_core.specs.Lists.{StandsAt}
 use Rattle.mark_core.specs.Account.{Account, look_of, no_share, after_join, after_load_link, after_idle_up}
 use Rattle.mark_core.specs.Account.{after_idle_down, after_load_idle}
 use Rattle.mark_core.specs.World.{Setup, Marking, items_of, IsThere}
-use Rattle.mark_core.specs.Event.{Kind, Claim, Finish, Split, Join, Load, LoadLink, StoreLink, Pop, Push, Fail, IdleUp}
-use Rattle.mark_core.specs.Event.{IdleDown, LoadIdle, Event, Allows, effect, happens, stack_popped, last_link}
-use Rattle.mark_core.specs.Event.{link_from}
-use Rattle.mark_core.specs.Event.{word_up, word_down}
+use Rattle.mark_core.specs.Events.{Kind, Claim, Finish, Split, Join, Load, LoadLink, StoreLink, Pop, Push, Fail, IdleUp}
+use Rattle.mark_core.specs.Events.{IdleDown, LoadIdle, Event, Allows, effect, happens, stack_popped, last_link}
+use Rattle.mark_core.specs.Events.{link_from}
+use Rattle.mark_core.specs.Events.{word_up, word_down}
 use Rattle.mark_core.specs.Ownership.{IsRecent}
 use Rattle.mark_core.specs.Law.{Law}
 use Rattle.mark_core.specs.Runs.{Run, RunsKeepLaw, EventsKeepLaw}

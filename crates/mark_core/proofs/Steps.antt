@@ -4,10 +4,10 @@ use Rattle.std.proofs.Common.{◌∙◌}
 use Rattle.std.proofs.lemmas.List.{get_or_default}
 use Rattle.mark_core.specs.Account.{Account, no_share}
 use Rattle.mark_core.specs.World.{Setup, Marking, account_at, IsThere}
-use Rattle.mark_core.specs.Event.{Kind, Event, Allows}
+use Rattle.mark_core.specs.Events.{Kind, Event, Allows}
 use Rattle.mark_core.specs.Law.{Law}
-use Rattle.mark_core.specs.WorldStep.{Listing, IsLawful, HasAccount, HasNumber, CanStep, MayDo, Tries, Follows, Steps}
-use Rattle.mark_core.specs.WorldStep.{marking_of}
+use Rattle.mark_core.specs.StepCall.{Listing, IsLawful, HasAccount, HasNumber, CanStep, MayDo, Tries, Follows, Steps}
+use Rattle.mark_core.specs.StepCall.{marking_of}
 use Rattle.mark_core.proofs.Places.{at_get_or}
 use Rattle.mark_core.proofs.Runs.{happens_keeps}
 use Rattle.mark_core.proofs.Within.{stands_here, is_there}

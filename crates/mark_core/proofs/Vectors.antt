@@ -11,10 +11,10 @@ use Rattle.mark_core.specs.Lists.{IsPart}
 use Rattle.mark_core.specs.Account.{Account, Look, look_of, no_share, after_claim, after_finish, after_join, after_pop}
 use Rattle.mark_core.specs.Account.{after_push}
 use Rattle.mark_core.specs.World.{Marking, items_of, account_at, put, put_which}
-use Rattle.mark_core.specs.Event.{Claim, Finish, Join, StoreLink, Pop, Push, stack_popped, IsBusy, CanClaim, CanFinish}
-use Rattle.mark_core.specs.Event.{CanPop}
-use Rattle.mark_core.specs.WorldStep.{Listing, IsLawful, Does, Tries, heads_of, with_head, exchanged, marking_of}
-use Rattle.mark_core.specs.WorldStep.{IsReadyToPush}
+use Rattle.mark_core.specs.Events.{Claim, Finish, Join, StoreLink, Pop, Push, stack_popped, IsBusy, CanClaim, CanFinish}
+use Rattle.mark_core.specs.Events.{CanPop}
+use Rattle.mark_core.specs.StepCall.{Listing, IsLawful, Does, Tries, heads_of, with_head, exchanged, marking_of}
+use Rattle.mark_core.specs.StepCall.{IsReadyToPush}
 use Rattle.std.specs.Bool.{OnTrue}
 use Rattle.mark_core.proofs.Taking.{false_is_not_true}
 use Rattle.mark_core.proofs.Places.{put_here, put_else}

@@ -9,10 +9,10 @@ use Rattle.mark_core.specs.Account.{Account, look_of, part, no_share, after_clai
 use Rattle.mark_core.specs.Account.{after_join, after_load, after_load_link, after_pop, after_push, after_idle_up}
 use Rattle.mark_core.specs.Account.{after_idle_down, after_load_idle}
 use Rattle.mark_core.specs.World.{Setup, Marking, items_of, IsThere}
-use Rattle.mark_core.specs.Event.{Kind, Claim, Finish, Split, Join, Load, LoadLink, StoreLink, Pop, Push, Fail, IdleUp}
-use Rattle.mark_core.specs.Event.{IdleDown, LoadIdle, Event, Allows, IsPossible, effect, happens, stack_popped}
-use Rattle.mark_core.specs.Event.{last_link}
-use Rattle.mark_core.specs.WorldStep.{HasNumber, weight}
+use Rattle.mark_core.specs.Events.{Kind, Claim, Finish, Split, Join, Load, LoadLink, StoreLink, Pop, Push, Fail, IdleUp}
+use Rattle.mark_core.specs.Events.{IdleDown, LoadIdle, Event, Allows, IsPossible, effect, happens, stack_popped}
+use Rattle.mark_core.specs.Events.{last_link}
+use Rattle.mark_core.specs.StepCall.{HasNumber, weight}
 use Rattle.mark_core.proofs.Places.{at_get_or, set_else}
 use Rattle.mark_core.proofs.Sums.{sum_of-set, sum_of-append}
 

@@ -7,7 +7,7 @@ use Rattle.mark_core.specs.declared.which.Which.TheVariants.{Full, Empty}
 use Rattle.mark_core.specs.Lists.{StandsAt, sum_of}
 use Rattle.mark_core.specs.Account.{Account, look_of}
 use Rattle.mark_core.specs.World.{Setup, Marking}
-use Rattle.mark_core.specs.Event.{Kind, Load, Pop, Push, Fail, Event, happens}
+use Rattle.mark_core.specs.Events.{Kind, Load, Pop, Push, Fail, Event, happens}
 use Rattle.mark_core.specs.Law.{Law}
 use Rattle.mark_core.specs.Runs.{IsListOf, Run, first_heads, opening}
 use Rattle.mark_core.specs.Counts.{Counts, LeadTo}

@@ -4,7 +4,7 @@ use Rattle.tagged_index.specs.Head.{Head}
 use Rattle.mark_core.specs.declared.which.Which.{Which}
 use Rattle.mark_core.specs.declared.which.Which.TheVariants.{Full, Empty}
 use Rattle.mark_core.specs.World.{Setup, Marking}
-use Rattle.mark_core.specs.Event.{Kind, Split, Join, Load, Fail, LoadIdle, Event, happens}
+use Rattle.mark_core.specs.Events.{Kind, Split, Join, Load, Fail, LoadIdle, Event, happens}
 use Rattle.mark_core.specs.Runs.{opening, Run}
 
 pub record Counts : Type 0 where

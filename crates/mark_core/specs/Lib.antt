@@ -1,7 +1,7 @@
 pub mod Lists
 pub mod Account
 pub mod World
-pub mod Event
+pub mod Events
 pub mod Ownership
 pub mod Colours
 pub mod Shares
@@ -10,4 +10,4 @@ pub mod Runs
 pub mod Counts
 pub mod Conclusions
 pub mod Quiet
-pub mod WorldStep
+pub mod StepCall

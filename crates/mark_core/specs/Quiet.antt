@@ -5,7 +5,7 @@ use Rattle.mark_core.specs.declared.which.Which.TheVariants.{Full}
 use Rattle.mark_core.specs.Lists.{StandsAt}
 use Rattle.mark_core.specs.Account.{Account}
 use Rattle.mark_core.specs.World.{Setup, Marking}
-use Rattle.mark_core.specs.Event.{IsBusy}
+use Rattle.mark_core.specs.Events.{IsBusy}
 use Rattle.mark_core.specs.Shares.{whole}
 use Rattle.mark_core.specs.Runs.{IsListOf, IsRun}
 

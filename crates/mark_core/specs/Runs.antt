@@ -7,7 +7,7 @@ use Rattle.mark_core.specs.declared.which.Which.TheVariants.{Full, Empty}
 use Rattle.mark_core.specs.Lists.{StandsAt, times, one_where}
 use Rattle.mark_core.specs.Account.{Account, look_of, part}
 use Rattle.mark_core.specs.World.{Setup, Marking}
-use Rattle.mark_core.specs.Event.{Kind, Pop, Push, Event, CanPop, IsPossible, happens}
+use Rattle.mark_core.specs.Events.{Kind, Pop, Push, Event, CanPop, IsPossible, happens}
 use Rattle.mark_core.specs.Ownership.{Chain}
 use Rattle.mark_core.specs.Shares.{whole, HasNothing}
 use Rattle.mark_core.specs.Law.{Law}

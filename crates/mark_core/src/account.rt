@@ -6,7 +6,7 @@ ghost use Rattle.mark_core.specs.Account.{part, no_share, look_of, after_claim, 
 ghost use Rattle.mark_core.specs.Account.{after_split, after_join, after_load, after_load_link};
 ghost use Rattle.mark_core.specs.Account.{after_pop, after_push};
 ghost use Rattle.mark_core.specs.Account.{after_idle_up, after_idle_down, after_load_idle};
-ghost use Rattle.mark_core.specs.Event.{CanClaim, CanFinish, CanIdle, CanSplit, CanWake, IsBusy};
+ghost use Rattle.mark_core.specs.Events.{CanClaim, CanFinish, CanIdle, CanSplit, CanWake, IsBusy};
 ghost use Rattle.mark_core.specs.declared.which.Which.TheVariants.{Full};
 ghost use Rattle.mark_core.specs.Lists.{IsPart};
 ghost use Rattle.mark_core.specs.World.{items_of};

@@ -17,7 +17,7 @@
 //!     }
 //!     assert_eq!(rt; world.marks(), &[2, 2][..]);
 //!
-//! The law's parts stand in `specs/Law.antt`, the events in `specs/Event.antt`, and both in words in `docs/MARKING.md`.
+//! The law's parts stand in `specs/Law.antt`, the events in `specs/Events.antt`, both in words in `docs/MARKING.md`.
 
 #![tactic(auto)]
 

@@ -2,7 +2,7 @@
 
 ghost use Rattle.std.specs.Prelude.{◌≡◌, ◌↔◌, IsTrue, IsSome, IfSome, length};
 ghost use Rattle.std.specs.Prelude.{slice_index_or};
-ghost use Rattle.mark_core.specs.WorldStep.{HasAccount, heads_of, with_head};
+ghost use Rattle.mark_core.specs.StepCall.{HasAccount, heads_of, with_head};
 ghost use Rattle.mark_core.specs.World.{account_at};
 
 mod act;
@@ -35,7 +35,7 @@ pub struct State<A: Allocator> {
 }
 
 impl<A: Allocator> Model for State<A> {
-    ghost use Rattle.mark_core.specs.WorldStep.{Listing};
+    ghost use Rattle.mark_core.specs.StepCall.{Listing};
 
     ghost Value = { Listing };
 

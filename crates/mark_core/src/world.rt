@@ -3,7 +3,7 @@
 ghost use Rattle.std.specs.Prelude.{◌≡◌, ◌↔◌, ◌<◌, ◌≤◌, All, IfErr, IfOk, IsSome, IfSome, length};
 ghost use Rattle.std.specs.Prelude.{vec_items};
 ghost use Rattle.mark_core.specs.Runs.{opening};
-ghost use Rattle.mark_core.specs.WorldStep.{Answers, CanStep, HasAccount, IsLawful, event_of, marking_of};
+ghost use Rattle.mark_core.specs.StepCall.{Answers, CanStep, HasAccount, IsLawful, event_of, marking_of};
 ghost use Rattle.mark_core.specs.World.{account_at};
 
 use crate::event::Event;
@@ -24,7 +24,7 @@ pub struct World<A: Allocator> {
 }
 
 impl<A: Allocator> Model for World<A> {
-    ghost use Rattle.mark_core.specs.WorldStep.{Listing, IsLawful};
+    ghost use Rattle.mark_core.specs.StepCall.{Listing, IsLawful};
 
     ghost Value = { Listing };
 

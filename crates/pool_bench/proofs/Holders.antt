@@ -5,7 +5,7 @@ use Rattle.std.proofs.lemmas.List.FromFn.{length-range_with_len, get_or-range_wi
 use Rattle.std.proofs.lemmas.List.Elements.{Contains-append_left, Contains-append_right}
 use Rattle.mark_core.specs.declared.which.Which.TheVariants.{Empty}
 use Rattle.mark_core.specs.Lists.{times}
-use Rattle.mark_core.specs.Event.{CanClaim}
+use Rattle.mark_core.specs.Events.{CanClaim}
 use Rattle.buffer_pool.specs.Book.{Book, claimed}
 use Rattle.buffer_pool.specs.Calls.{Holder, HeldBuffer, LostPops, LostPushes, MayPush, Pops, Pushes}
 use Rattle.buffer_pool.specs.Calls.LostPops.{none as no_pop, more as more_pops}

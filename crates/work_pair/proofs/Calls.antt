@@ -5,7 +5,7 @@ use Rattle.mark_core.specs.declared.which.Which.{Which}
 use Rattle.mark_core.specs.declared.which.Which.TheVariants.{Full, Empty}
 use Rattle.std.proofs.lemmas.List.{append-nil}
 use Rattle.atomic_table.specs.Seated.{TableId}
-use Rattle.mark_core.specs.Event.{IsBusy}
+use Rattle.mark_core.specs.Events.{IsBusy}
 use Rattle.buffer_pool.specs.Book.{Book}
 use Rattle.buffer_pool.specs.Calls.{HeldBuffer, Holder}
 use Rattle.work_pair.specs.Deals.{Gives, GivesLowerPart, HasMore, lower_part, push_of}

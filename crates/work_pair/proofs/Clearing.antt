@@ -1,7 +1,7 @@
 -- What it tells that all buffers of a pair were given back.
 use Rattle.std.proofs.Common.{◌≡◌, ◌≢◌, [], Option, None, Result, Ok, Err, refl, sym, subst, ⊎_elim}
 use Rattle.mark_core.specs.declared.which.Which.{Which}
-use Rattle.mark_core.specs.Event.{IsBusy}
+use Rattle.mark_core.specs.Events.{IsBusy}
 use Rattle.buffer_pool.specs.Book.{Book}
 use Rattle.buffer_pool.specs.Calls.{HeldBuffer}
 use Rattle.work_pair.specs.Moves.{Ended, Moved, HasPushOnFull, HasPopFromFull, EndAtLastTag}

@@ -3,7 +3,7 @@ use Rattle.std.proofs.Common.{◌≡◌, ℕ, Bool, true, false, List, [], ◌�
 use Rattle.std.proofs.Common.{inl, inr, ⊎_elim, arith}
 use Rattle.mark_core.specs.declared.which.Which.{Which}
 use Rattle.mark_core.specs.declared.which.Which.TheVariants.{Empty}
-use Rattle.mark_core.specs.Event.{IsBusy}
+use Rattle.mark_core.specs.Events.{IsBusy}
 use Rattle.mark_core.specs.Lists.{only}
 use Rattle.mark_core.proofs.Sums.{sum_of-append}
 use Rattle.buffer_pool.specs.Book.{Book}

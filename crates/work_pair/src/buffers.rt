@@ -23,7 +23,7 @@ pub(crate) struct Buffers<A: Allocator> {
 
 impl<A: Allocator> Buffers<A> {
     ghost use Rattle.std.specs.Prelude.{◌≡◌, ◌≢◌, None, Ok, true, [], ◌∷◌, IsOk};
-    ghost use Rattle.mark_core.specs.Event.{IsBusy};
+    ghost use Rattle.mark_core.specs.Events.{IsBusy};
     ghost use Rattle.work_pair.specs.Deals.{HasMore};
     ghost use Rattle.work_pair.specs.PairState.{HasRoom, IsBacked, pair_items};
     ghost use Rattle.work_pair.specs.working.Asks.{MayTrade};

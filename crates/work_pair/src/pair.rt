@@ -45,7 +45,7 @@ impl<A: Allocator> Model for Pair<A> {
 impl<A: Allocator> Pair<A> {
     ghost use Rattle.std.specs.Prelude.{◌≡◌, ◌≢◌, ◌⊎◌, ℕ, true, false, List, [], ◌∷◌, ◌++◌, Some, Ok};
     ghost use Rattle.std.specs.Prelude.{IfErr, IfNone, IfOk, IfSome, IsOk, OnOk, length};
-    ghost use Rattle.mark_core.specs.Event.{IsBusy};
+    ghost use Rattle.mark_core.specs.Events.{IsBusy};
     ghost use Rattle.mark_core.specs.declared.which.Which.TheVariants.{Empty, Full};
     ghost use Rattle.work_pair.specs.Deals.{Balances, Deals, DealsOut, DealsQuietly, Disposes, HasMore, OpensNone};
     ghost use Rattle.work_pair.specs.Deals.{Puts};

@@ -1,6 +1,6 @@
 //! One pop, and one push to the stack that a buffer belongs on.
 ghost use Rattle.std.specs.Prelude.{◌≡◌, ◌≢◌, [], Contains};
-ghost use Rattle.mark_core.specs.Event.{IsBusy};
+ghost use Rattle.mark_core.specs.Events.{IsBusy};
 ghost use Rattle.mark_core.specs.Lists.{IsPart};
 ghost use Rattle.work_pair.specs.working.Steps.{PopsOne, Shelves};
 

@@ -9,7 +9,7 @@ use Rattle.mark_core.specs.declared.which.Which.{Which}
 use Rattle.mark_core.specs.declared.which.Which.TheVariants.{Full}
 use Rattle.mark_core.specs.Account.{look_of}
 use Rattle.mark_core.specs.World.{Setup, Marking}
-use Rattle.mark_core.specs.Event.{Event}
+use Rattle.mark_core.specs.Events.{Event}
 use Rattle.mark_core.specs.Runs.{Run, first_heads, opening}
 use Rattle.mark_core.specs.Conclusions.{HadHead}
 use Rattle.buffer_pool.specs.declared.seat_view.SeatView.{SeatView}

@@ -9,8 +9,8 @@ use Rattle.mark_core.specs.declared.which.Which.TheVariants.{Full, Empty}
 use Rattle.mark_core.specs.Lists.{times, IsPart}
 use Rattle.mark_core.specs.Account.{look_of}
 use Rattle.mark_core.specs.World.{Setup}
-use Rattle.mark_core.specs.Event.{Kind, Event, Claim, Finish, Load, LoadLink, StoreLink, Pop, Push, Fail, IdleUp}
-use Rattle.mark_core.specs.Event.{IdleDown, LoadIdle, IsBusy}
+use Rattle.mark_core.specs.Events.{Kind, Event, Claim, Finish, Load, LoadLink, StoreLink, Pop, Push, Fail, IdleUp}
+use Rattle.mark_core.specs.Events.{IdleDown, LoadIdle, IsBusy}
 use Rattle.mark_core.specs.Runs.{HasEachOnce}
 use Rattle.buffer_pool.specs.declared.seat_view.SeatView.{SeatView}
 use Rattle.buffer_pool.specs.Book.{Book, loaded, link_loaded, failed, popped, pushed, claimed, finished, idled, woken}

@@ -2,7 +2,7 @@
 use Rattle.std.specs.Prelude.{true, false, [], ◌∷◌, ◌++◌, Some, None}
 use Rattle.mark_core.specs.Shares.{whole}
 use Rattle.mark_core.specs.World.{Setup}
-use Rattle.mark_core.specs.Event.{Split, Join}
+use Rattle.mark_core.specs.Events.{Split, Join}
 use Rattle.buffer_pool.specs.Book.{Book, new_book, parted, joined, no_share_book}
 use Rattle.buffer_pool.specs.WorkerLog.{first_log}
 use Rattle.buffer_pool.specs.declared.key.Key.{Key}

@@ -1,7 +1,7 @@
 -- Views: what each worker knows of the events that led to a table.
 use Rattle.std.specs.Prelude.{◌≡◌, ◌≢◌, ℕ, ◌<◌, true, false, List, [], ◌∷◌, ◌++◌, Some, None}
 use Rattle.mark_core.specs.Lists.{StandsAt}
-use Rattle.mark_core.specs.Event.{Event, Join}
+use Rattle.mark_core.specs.Events.{Event, Join}
 use Rattle.buffer_pool.specs.declared.seat_view.SeatView.{SeatView}
 use Rattle.buffer_pool.specs.WorkerLog.{Log, LeadsToBook, deeds}
 

@@ -1,7 +1,7 @@
 //! Claims and finishes: the marks of objects.
 ghost use Rattle.std.specs.Prelude.{◌≡◌, ◌↔◌, ◌≤◌, ℕ, [], ◌∷◌, IsTrue};
-ghost use Rattle.mark_core.specs.Event.{CanClaim, CanFinish, IsBusy};
-ghost use Rattle.mark_core.specs.Event as events;
+ghost use Rattle.mark_core.specs.Events.{CanClaim, CanFinish, IsBusy};
+ghost use Rattle.mark_core.specs.Events as events;
 ghost use Rattle.mark_core.specs.Lists.{times};
 ghost use Rattle.buffer_pool.specs.Book.{claimed, finished};
 ghost use Rattle.buffer_pool.specs.working.BetweenCalls.{IsLaid, IsSound};

@@ -5,7 +5,7 @@ ghost use Rattle.std.specs.Option.{ForSome};
 ghost use Rattle.tagged_index.specs.Head.{Head, after, last_tag, low_of};
 ghost use Rattle.mark_core.specs.declared.which.Which.TheVariants.{Empty};
 ghost use Rattle.mark_core.specs.Account.{look_of};
-ghost use Rattle.mark_core.specs.Event.{CanPop, IsBusy, Load, LoadLink, StoreLink as StoreLinkOf};
+ghost use Rattle.mark_core.specs.Events.{CanPop, IsBusy, Load, LoadLink, StoreLink as StoreLinkOf};
 ghost use Rattle.atomic_table.specs.Table.{step};
 ghost use mathlib.Core.Option.{none};
 ghost use Rattle.buffer_pool.specs.working.Buffers.{buffer_reading};

@@ -1,6 +1,6 @@
 //! Idle workers: each goes idle, comes back, and asks how many are.
 ghost use Rattle.std.specs.Prelude.{◌≡◌, ◌↔◌, ℕ, [], ◌∷◌, IsTrue};
-ghost use Rattle.mark_core.specs.Event.{CanIdle, CanWake, IdleDown, IdleUp, LoadIdle};
+ghost use Rattle.mark_core.specs.Events.{CanIdle, CanWake, IdleDown, IdleUp, LoadIdle};
 ghost use Rattle.buffer_pool.specs.Book.{idle_loaded, idled, woken};
 ghost use Rattle.buffer_pool.specs.Calls.{Shows};
 ghost use Rattle.buffer_pool.specs.working.BetweenCalls.{IsLaid, IsSound};

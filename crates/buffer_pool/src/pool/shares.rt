@@ -1,6 +1,6 @@
 //! How a worker's share is cut in two, and how two workers become one.
 ghost use Rattle.std.specs.Prelude.{◌≡◌, ◌≢◌, ℕ, ◌<◌, ◌≤◌, [], ◌∷◌};
-ghost use Rattle.mark_core.specs.Event.{Split, Join};
+ghost use Rattle.mark_core.specs.Events.{Split, Join};
 ghost use Rattle.mark_core.specs.Lists.{times};
 ghost use Rattle.mark_core.specs.Runs.{AreApart};
 ghost use Rattle.buffer_pool.specs.Book.{joined, new_book, parted};

@@ -1,6 +1,6 @@
 //! The two stacks, as workers use them.
 ghost use Rattle.std.specs.Prelude.{◌≡◌, ℕ, [], ◌∷◌, Option};
-ghost use Rattle.mark_core.specs.Event.{IsBusy, Load};
+ghost use Rattle.mark_core.specs.Events.{IsBusy, Load};
 ghost use Rattle.buffer_pool.specs.Calls.{MayPush, TriesPop, Pops, TriesPush, Pushes, Sees, ended};
 ghost use Rattle.buffer_pool.specs.Steps.{PopDid, PushDid, try_pop_steps, try_push_steps};
 ghost use Rattle.buffer_pool.specs.WorkerLog.{Did};

@@ -1,6 +1,6 @@
 //! One try of a pop, as its steps in order.
 ghost use Rattle.std.specs.Prelude.{◌≡◌};
-ghost use Rattle.mark_core.specs.Event.{IsBusy};
+ghost use Rattle.mark_core.specs.Events.{IsBusy};
 ghost use Rattle.buffer_pool.specs.Calls.{TriesPop};
 ghost use Rattle.buffer_pool.specs.working.BetweenCalls.{IsLaid, IsSound};
 ghost use Rattle.buffer_pool.specs.working.Setups.{setup_of};

@@ -1,6 +1,6 @@
 //! A run over objects with references: two objects with their class.
 ghost use Rattle.std.specs.Prelude.{◌≡◌, ◌≢◌, ℕ, [], ◌∷◌, IfOk};
-ghost use Rattle.mark_core.specs.Event.{CanClaim};
+ghost use Rattle.mark_core.specs.Events.{CanClaim};
 ghost use Rattle.buffer_pool.specs.Book.{claimed};
 ghost use Rattle.buffer_pool.specs.tests.Worked.{all_finished, begun, claimed_again, references, root_finished};
 

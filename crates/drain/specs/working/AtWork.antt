@@ -1,6 +1,6 @@
 -- What a worker has between its calls.
 use Rattle.std.specs.Prelude.{Contains, List, [], false, true, ℕ, ◌+◌, ◌<◌, ◌≡◌, ◌⊎◌}
-use Rattle.mark_core.specs.Event.{IsBusy}
+use Rattle.mark_core.specs.Events.{IsBusy}
 use Rattle.mark_core.specs.Lists.{times}
 use Rattle.mark_core.specs.World.{Setup}
 use Rattle.mark_core.specs.declared.which.Which.TheVariants.{Empty}

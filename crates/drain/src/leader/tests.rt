@@ -2,7 +2,7 @@
 //! an object.
 
 ghost use Rattle.std.specs.Prelude.{◌≡◌, ◌<◌, ◌≤◌, ◌+◌};
-ghost use Rattle.mark_core.specs.Event.{IsBusy};
+ghost use Rattle.mark_core.specs.Events.{IsBusy};
 ghost use Rattle.drain.specs.working.AtWork.{IsFree};
 
 use super::*;

@@ -13,7 +13,7 @@ use work_pair::Stop;
 
 impl<A: Allocator> PairedWorker<A> {
     ghost use Rattle.std.specs.Prelude.{◌≡◌, [], IfOk, OnOk};
-    ghost use Rattle.mark_core.specs.Event.{IsBusy};
+    ghost use Rattle.mark_core.specs.Events.{IsBusy};
     ghost use Rattle.drain.specs.working.AtWork.{GoesOn, HasGiven, IsAtWork, IsFree, IsSetupOf, IsThrough, SawRoots};
     ghost use Rattle.drain.specs.working.Tallying.{HasTallied};
 

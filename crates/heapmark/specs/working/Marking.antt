@@ -1,6 +1,6 @@
 -- What a marking refuses beside want of memory.
 use Rattle.std.specs.Prelude.{◌≡◌, ◌⊎◌}
-use Rattle.heapmark.specs.RefusalParts.{tag_spent, worker_refused}
+use Rattle.heapmark.specs.RefusalCodes.{tag_spent, worker_refused}
 use Rattle.heapmark.specs.declared.refusal.Refusal.{Refusal}
 
 -- a last tag, or no thread

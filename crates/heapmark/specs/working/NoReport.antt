@@ -2,8 +2,8 @@
 use Rattle.std.specs.Prelude.{List, Option, option_map, ℕ, ◌*◌, ◌+◌, ◌<◌}
 use Rattle.command_line.specs.declared.parsed_arguments.Arguments.{Arguments}
 use Rattle.drain.specs.Options.{Choice, choice}
-use Rattle.heapmark.specs.RefusalParts.{bad_options_refusal}
-use Rattle.heapmark.specs.RefusalCodes.{out_of_memory}
+use Rattle.heapmark.specs.RefusalCodes.{bad_options_refusal}
+use Rattle.heapmark.specs.RunRefusals.{out_of_memory}
 use Rattle.heapmark.specs.declared.no_report.NoReport.{NoReport}
 use Rattle.heapmark.specs.declared.no_report.NoReport.TheVariants as no_report
 

@@ -1,9 +1,9 @@
 //! The refusal of a run for that of each of its parts.
 
 ghost use Rattle.std.specs.Prelude.{◌≡◌};
-ghost use Rattle.heapmark.specs.RefusalParts.{form_refusal, link_refusal, reader_refusal, run_refusal, skip_refusal};
-ghost use Rattle.heapmark.specs.RefusalParts.{write_refusal};
-ghost use Rattle.heapmark.specs.RefusalCodes.{out_of_memory};
+ghost use Rattle.heapmark.specs.RefusalCodes.{form_refusal, link_refusal, reader_refusal, run_refusal, skip_refusal};
+ghost use Rattle.heapmark.specs.RefusalCodes.{write_refusal};
+ghost use Rattle.heapmark.specs.RunRefusals.{out_of_memory};
 
 use super::Refusal;
 use drain::RunFault;

@@ -1,7 +1,7 @@
 //! One step of one worker.
 
 ghost use Rattle.std.specs.Prelude.{IfErr, IfOk};
-ghost use Rattle.mark_core.specs.WorldStep.{CanStep, IsLawful, Steps, event_of};
+ghost use Rattle.mark_core.specs.StepCall.{CanStep, IsLawful, Steps, event_of};
 
 use crate::event::{Event, Kind};
 use crate::numbers::Numbers;

@@ -1,8 +1,8 @@
 //! The idle word.
 
 ghost use Rattle.std.specs.Prelude.{◌<◌, true, length};
-ghost use Rattle.mark_core.specs.Event.{IdleUp, IdleDown, LoadIdle};
-ghost use Rattle.mark_core.specs.WorldStep.{Tries};
+ghost use Rattle.mark_core.specs.Events.{IdleUp, IdleDown, LoadIdle};
+ghost use Rattle.mark_core.specs.StepCall.{Tries};
 
 use crate::state::State;
 use std::alloc::Allocator;

@@ -1,8 +1,8 @@
 //! Loads of heads and links, and exchanges that fail.
 
 ghost use Rattle.std.specs.Prelude.{◌<◌, true, length};
-ghost use Rattle.mark_core.specs.Event.{Load, LoadLink, Fail};
-ghost use Rattle.mark_core.specs.WorldStep.{Tries};
+ghost use Rattle.mark_core.specs.Events.{Load, LoadLink, Fail};
+ghost use Rattle.mark_core.specs.StepCall.{Tries};
 
 use crate::state::State;
 use crate::which::Which;

@@ -1,8 +1,8 @@
 //! Claim and finish.
 
 ghost use Rattle.std.specs.Prelude.{◌≡◌, ◌<◌, IfErr, IfOk, length, max, slice_index, slice_set, vec_len};
-ghost use Rattle.mark_core.specs.Event.{Claim, Finish};
-ghost use Rattle.mark_core.specs.WorldStep.{IsLawful, MayDo, Tries};
+ghost use Rattle.mark_core.specs.Events.{Claim, Finish};
+ghost use Rattle.mark_core.specs.StepCall.{IsLawful, MayDo, Tries};
 
 use crate::out_of_memory::OutOfMemory;
 use crate::state::State;

@@ -3,7 +3,7 @@
 ghost use Rattle.std.specs.Prelude.{◌≡◌, ◌<◌, ◌≤◌, ℕ, Some, None, [], IfOk, replicate, length};
 ghost use Rattle.std.specs.Prelude.{slice_index_or};
 ghost use Rattle.mark_core.specs.Runs.{first_link, opening};
-ghost use Rattle.mark_core.specs.WorldStep.{marking_of};
+ghost use Rattle.mark_core.specs.StepCall.{marking_of};
 
 use crate::account::Account;
 use crate::numbers::Numbers;

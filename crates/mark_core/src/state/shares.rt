@@ -1,8 +1,8 @@
 //! Split and join.
 
 ghost use Rattle.std.specs.Prelude.{◌<◌, ◌↔◌, IfErr, IfOk, IsTrue, length};
-ghost use Rattle.mark_core.specs.Event.{Split, Join};
-ghost use Rattle.mark_core.specs.WorldStep.{IsLawful, MayDo, Tries};
+ghost use Rattle.mark_core.specs.Events.{Split, Join};
+ghost use Rattle.mark_core.specs.StepCall.{IsLawful, MayDo, Tries};
 
 use crate::account::Account;
 use crate::out_of_memory::OutOfMemory;

@@ -3,8 +3,8 @@
 ghost use Rattle.std.specs.Prelude.{◌≡◌, ◌<◌, ◌≤◌, ◌↔◌, IfErr, IfOk, IsTrue, length, slice_index_or};
 ghost use Rattle.std.specs.Bool.{OnTrue};
 ghost use Rattle.std.specs.Option.{ForSome};
-ghost use Rattle.mark_core.specs.Event.{StoreLink, Pop, Push};
-ghost use Rattle.mark_core.specs.WorldStep.{IsLawful, MayDo, IsReadyToPush, Tries, exchanged, heads_of};
+ghost use Rattle.mark_core.specs.Events.{StoreLink, Pop, Push};
+ghost use Rattle.mark_core.specs.StepCall.{IsLawful, MayDo, IsReadyToPush, Tries, exchanged, heads_of};
 
 use crate::numbers::Numbers;
 use crate::out_of_memory::OutOfMemory;

@@ -1,7 +1,7 @@
 -- What the parts of a call of a pair ask of a worker, and of the places.
 use Rattle.std.specs.Prelude.{◌≡◌, ℕ, List, Option, None}
 use Rattle.atomic_table.specs.Seated.{TableId}
-use Rattle.mark_core.specs.Event.{IsBusy}
+use Rattle.mark_core.specs.Events.{IsBusy}
 use Rattle.mark_core.specs.Lists.{IsPart}
 use Rattle.buffer_pool.specs.Book.{Book}
 use Rattle.buffer_pool.specs.Calls.{HeldBuffer, Holder}

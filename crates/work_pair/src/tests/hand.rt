@@ -1,6 +1,6 @@
 //! A worker with its pair, over objects that are all roots.
 ghost use Rattle.std.specs.Prelude.{◌≡◌, ◌⊎◌, [], ◌∷◌, IfNone, IfOk, true};
-ghost use Rattle.mark_core.specs.Event.{IsBusy};
+ghost use Rattle.mark_core.specs.Events.{IsBusy};
 ghost use Rattle.mark_core.specs.Shares.{whole};
 ghost use Rattle.work_pair.specs.PairState.{HasStopped, IsBacked};
 ghost use Rattle.work_pair.specs.tests.Ready.{IsReady, IsWorker, numbers};

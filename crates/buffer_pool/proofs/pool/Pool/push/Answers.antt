@@ -1,6 +1,6 @@
 -- A try that was lost goes with those before it, and may be made again.
 use Rattle.std.proofs.Common.{◌≡◌, ℕ, [], ◌∷◌, ap, refl, subst, ◌∙◌}
-use Rattle.mark_core.specs.Event as events
+use Rattle.mark_core.specs.Events as events
 use Rattle.buffer_pool.specs.Calls.{HeldBuffer, TriesPush}
 use Rattle.buffer_pool.specs.Steps.{lost_pushes, try_push_steps}
 use Rattle.buffer_pool.specs.WorkerLog.{Did}

@@ -2,7 +2,7 @@
 use Rattle.std.proofs.Common.{◌≡◌, ℕ, ◌<◌, [], ◌∷◌, sym, subst, Some, arith}
 use mathlib.Core.Option.{none}
 use Rattle.tagged_index.specs.Head.{Head}
-use Rattle.mark_core.specs.Event.{Load}
+use Rattle.mark_core.specs.Events.{Load}
 use Rattle.atomic_table.specs.Table.{Allows, step}
 use Rattle.buffer_pool.specs.working.Buffers.{buffer_reading}
 use Rattle.buffer_pool.specs.working.Plays.{RestsWith, head_seen}

@@ -1,7 +1,7 @@
 -- The store keeps the rule, and the buffer's slot comes out.
 use Rattle.tagged_index.specs.Head.{index_of}
 use Rattle.tagged_index.specs.Words.{index_of-low_of}
-use Rattle.mark_core.specs.Event.{StoreLink}
+use Rattle.mark_core.specs.Events.{StoreLink}
 use Rattle.buffer_pool.specs.WorkerLog.{Did}
 use Rattle.buffer_pool.specs.working.Views.{logged}
 use Rattle.std.proofs.Common.{◌≡◌, subst, suc, [], ◌∷◌, ap, ◌∙◌, None, refl, arith}

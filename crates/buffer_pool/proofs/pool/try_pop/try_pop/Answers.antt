@@ -3,7 +3,7 @@ use Rattle.std.proofs.Common.{◌≡◌, ◌<◌, refl, sym, subst, ◌∙◌}
 use Rattle.mark_core.specs.World.{Setup}
 use Rattle.buffer_pool.specs.Book.{failed}
 use Rattle.buffer_pool.proofs.Loads.{setup_loaded}
-use Rattle.mark_core.specs.Event.{Load, LoadLink, Pop, Fail}
+use Rattle.mark_core.specs.Events.{Load, LoadLink, Pop, Fail}
 use Rattle.buffer_pool.proofs.Deeds.{did_three}
 use Rattle.buffer_pool.proofs.Sound.{bare_rested, sound_after, sound_as, sound_linked, sound_looked, sound_popped}
 use Rattle.buffer_pool.specs.working.BetweenCalls.{IsSound}

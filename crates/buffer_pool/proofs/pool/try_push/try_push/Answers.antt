@@ -9,8 +9,8 @@ use Rattle.buffer_pool.specs.Book.{failed}
 use Rattle.buffer_pool.specs.Calls.{HeldBuffer}
 use Rattle.buffer_pool.specs.working.Views.{logged}
 use Rattle.buffer_pool.proofs.Loads.{held_loaded, charge_loaded}
-use Rattle.mark_core.specs.Event as events
-use Rattle.mark_core.specs.Event.{Kind}
+use Rattle.mark_core.specs.Events as events
+use Rattle.mark_core.specs.Events.{Kind}
 use Rattle.buffer_pool.specs.WorkerLog.{Did, Log}
 use Rattle.buffer_pool.proofs.Deeds.{did_three}
 use Rattle.buffer_pool.proofs.Sound.{bare_rested, sound_after, sound_as, sound_missed, sound_pushed, sound_stored}

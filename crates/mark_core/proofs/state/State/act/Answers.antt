@@ -1,6 +1,6 @@
 -- A step needs an account of that number, and a split a free number. Else what each kind of event tells is the step.
 use Rattle.std.proofs.Common.{true, refl}
-use Rattle.mark_core.specs.Event.{Claim, Finish, Split, Join, Pop}
+use Rattle.mark_core.specs.Events.{Claim, Finish, Split, Join, Pop}
 use Rattle.mark_core.proofs.Steps.{no_account, no_number, steps_of, steps_ok, steps_refused}
 use Rattle.mark_core.proofs.Taking.{false_is_not_true}
 use Rattle.mark_core.proofs.state.State.act.Goals as goal

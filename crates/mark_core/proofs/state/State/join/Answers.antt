@@ -3,7 +3,7 @@ use Rattle.std.proofs.Common.{◌≡◌, ◌<◌, get_or, sym, subst, refl, ◌�
 use Rattle.std.proofs.lemmas.List.{get_or_default}
 use Rattle.mark_core.specs.Account.{Account, no_share}
 use Rattle.mark_core.specs.World.{account_at}
-use Rattle.mark_core.specs.WorldStep.{IsLawful}
+use Rattle.mark_core.specs.StepCall.{IsLawful}
 use Rattle.mark_core.proofs.Steps.{always}
 use Rattle.mark_core.proofs.Taking.{false_is_not_true}
 use Rattle.mark_core.proofs.Vectors.{account_here, does_join}

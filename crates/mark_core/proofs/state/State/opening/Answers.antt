@@ -3,7 +3,7 @@ use Rattle.std.proofs.Common.{List, [], ◌∷◌, ◌++◌, ap, refl, ◌∙◌
 use Rattle.mark_core.specs.Account.{Account}
 use Rattle.mark_core.specs.World.{Setup}
 use Rattle.mark_core.specs.Runs.{opening}
-use Rattle.mark_core.specs.WorldStep.{Listing}
+use Rattle.mark_core.specs.StepCall.{Listing}
 use Rattle.mark_core.proofs.Begins.{opens}
 use Rattle.mark_core.proofs.state.State.opening.Goals as goal
 

@@ -1,7 +1,7 @@
 -- The head that was loaded still stands, so its buffer is on top and has a slot, and the link fits into the next head.
 use Rattle.std.proofs.Common.{◌≡◌, ℕ, List, Option, get_or, ap, sym, subst, refl, arith, ◌∙◌}
 use Rattle.tagged_index.specs.Head.{Head}
-use Rattle.mark_core.specs.WorldStep.{IsLawful}
+use Rattle.mark_core.specs.StepCall.{IsLawful}
 use Rattle.mark_core.proofs.Vectors.{tries_pop, pop_told}
 use Rattle.mark_core.proofs.Within.{buffer_within, link_within}
 use Rattle.mark_core.proofs.state.State.pop.Goals as goal

@@ -1,6 +1,6 @@
 -- A buffer that is held is one of the setup's, since the state is lawful: it has a slot, and its number fits a head.
 use Rattle.std.proofs.Common.{◌≡◌, sym, subst, refl, arith}
-use Rattle.mark_core.specs.WorldStep.{IsLawful}
+use Rattle.mark_core.specs.StepCall.{IsLawful}
 use Rattle.mark_core.proofs.Vectors.{tries_push, push_within}
 use Rattle.mark_core.proofs.state.State.push.Goals as goal
 

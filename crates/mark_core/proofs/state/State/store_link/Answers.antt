@@ -1,6 +1,6 @@
 -- A buffer that is held is one of the setup's, since the state is lawful: so it has a link to be stored.
 use Rattle.std.proofs.Common.{sym, subst, refl, arith}
-use Rattle.mark_core.specs.WorldStep.{IsLawful}
+use Rattle.mark_core.specs.StepCall.{IsLawful}
 use Rattle.mark_core.proofs.Vectors.{does_store}
 use Rattle.mark_core.proofs.Within.{held_within}
 use Rattle.mark_core.proofs.state.State.store_link.Goals as goal

@@ -9,8 +9,8 @@ use Rattle.mark_core.specs.declared.event.Kind as given
 use Rattle.mark_core.specs.declared.event.Event as given_event
 use Rattle.mark_core.specs.Account.{Account, look_of}
 use Rattle.mark_core.specs.World.{Setup, Marking, account_at}
-use Rattle.mark_core.specs.Event.{Kind, Claim, Finish, Split, Join, Load, LoadLink, StoreLink, Pop, Push, Fail, IdleUp}
-use Rattle.mark_core.specs.Event.{IdleDown, LoadIdle, Event, IsBusy, Allows, effect, IsPossible, happens}
+use Rattle.mark_core.specs.Events.{Kind, Claim, Finish, Split, Join, Load, LoadLink, StoreLink, Pop, Push, Fail, IdleUp}
+use Rattle.mark_core.specs.Events.{IdleDown, LoadIdle, Event, IsBusy, Allows, effect, IsPossible, happens}
 use Rattle.mark_core.specs.Law.{Law}
 
 -- a marking as lists, with its setup: what callers see of a `World`
