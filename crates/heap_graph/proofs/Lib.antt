@@ -17,7 +17,7 @@ pub mod FateLaws
 pub mod LayoutLaws
 pub mod ClimbLaws
 pub mod ClassTableLaws
-pub mod SpreadLaws
+pub mod InsertLaws
 pub mod RuleLaws
 pub mod InstanceLaws
 pub mod PlanLaws

@@ -6,10 +6,10 @@ mod fate;
 mod sizes;
 mod table;
 
-pub(crate) use builder::ClassesBuilder;
 pub(crate) use fate::{Fate, Layout};
 use hprof_grammar::View;
 use std::alloc::Allocator;
+pub(crate) use table::ClassHash;
 use table::ClassTable;
 
 /// What is kept of a class: the place of its dump, and how many bytes the values of all fields have that it declares.

@@ -4,8 +4,8 @@ ghost use Rattle.std.specs.Prelude.{◌≡◌};
 ghost use Rattle.heap_graph.specs.LinkFault.{code_of};
 
 use crate::rule::LinkRule;
-use std::error::Error;
 use std::fmt;
+use thiserror::Error;
 
 impl LinkRule {
     /// The code of a fault where the rule is broken.
@@ -24,7 +24,7 @@ impl LinkRule {
 }
 
 /// The first fault in the links of a dump.
-#[derive(Clone, Copy, Debug, PartialEq, Eq)]
+#[derive(Clone, Copy, Debug, PartialEq, Eq, Error)]
 pub struct LinkFault {
     /// 9 to 14.
     pub code: u8,
@@ -45,10 +45,8 @@ impl fmt::Display for LinkFault {
     }
 }
 
-impl Error for LinkFault {}
-
 /// Why no graph was built.
-#[derive(Clone, Copy, Debug, PartialEq, Eq)]
+#[derive(Clone, Copy, Debug, PartialEq, Eq, Error)]
 pub enum LinkRefusal {
     /// The objects of the dump are not linked.
     Fault(LinkFault),
@@ -71,5 +69,3 @@ impl fmt::Display for LinkRefusal {
         }
     }
 }
-
-impl Error for LinkRefusal {}

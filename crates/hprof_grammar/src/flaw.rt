@@ -1,8 +1,8 @@
 //! What can be wrong with the bytes of a dump.
 
 use crate::fault_codes;
-use std::error::Error;
 use std::fmt;
+use thiserror::Error;
 
 /// What is wrong where no whole sub-record stands.
 #[derive(Clone, Copy, Debug, PartialEq, Eq)]
@@ -32,7 +32,7 @@ impl Flaw {
 }
 
 /// The first fault of bytes that are no dump.
-#[derive(Clone, Copy, Debug, PartialEq, Eq)]
+#[derive(Clone, Copy, Debug, PartialEq, Eq, Error)]
 pub struct FormatFault {
     /// 1 the text of the header, 2 the size of identifiers, 3 the header or a record is cut, 4 the length of a
     /// record, 5 the tag of a sub-record, 6 a sub-record is cut, 7 a type code, 8 the order of the snapshot's
@@ -69,10 +69,8 @@ impl fmt::Display for FormatFault {
     }
 }
 
-impl Error for FormatFault {}
-
 /// Why bytes were not read as a dump.
-#[derive(Clone, Copy, Debug, PartialEq, Eq)]
+#[derive(Clone, Copy, Debug, PartialEq, Eq, Error)]
 pub enum ReadRefusal {
     /// The bytes are no dump.
     Fault(FormatFault),
@@ -93,5 +91,3 @@ impl fmt::Display for ReadRefusal {
         }
     }
 }
-
-impl Error for ReadRefusal {}

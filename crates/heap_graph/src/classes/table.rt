@@ -1,56 +1,68 @@
 //! The table of classes: how a class is found by its identifier, and what is kept of it.
 
-ghost use Rattle.std.specs.Prelude.{IfOk, Some, length, position, slice_get, slice_index, ◌<◌, ◌==◌, ◌^◌, ◌≡◌, ℕ};
+ghost use Rattle.std.specs.Prelude.{Contains, OnOk, Some, [], length, position, slice_get, slice_index};
+ghost use Rattle.std.specs.Prelude.{◌++◌, ◌<◌, ◌==◌, ◌^◌, ◌∷◌, ◌≡◌, ℕ};
 ghost use Rattle.heap_graph.specs.working.ClassList.{TableEntry, ids_of};
-ghost use Rattle.heap_graph.specs.working.ClassList as list;
 
 use crate::classes::{ClassPlace, Classes};
-use crate::index::{Index, IndexBuilder};
+use indexmap::IndexMap;
 use std::alloc::{AllocError, Allocator};
+use std::hash::{BuildHasher, FoldHasher, Hasher};
 use std::marker::Model;
 
-/// What an identifier is multiplied by, an odd number.
-const SPREAD: u64 = 0x9e37_79b9_7f4a_7c15;
-
-/// An identifier, spread over 64 bits. No two are spread to one number.
-fn spread(id: u64) -> u64
-    ensures { result ≡ list.spread id }
-{
-    id.wrapping_mul(SPREAD)
+/// How identifiers of classes are hashed: the hasher of each has read the identifiers of all classes of the dump before
+/// it, so a file cannot be made for a hash that is known beforehand. Nothing rests on it but time.
+#[derive(Clone, Copy, Drop)]
+pub(crate) struct ClassHash {
+    begun: FoldHasher,
 }
 
-/// Classes in order, found by their identifiers. Classes stand close together in a heap, so it is their identifiers
-/// spread over 64 bits that are indexed: few of them are in one bucket of the index.
+impl ClassHash {
+    /// A hash that has read no identifier.
+    pub(crate) fn new() -> Self {
+        ClassHash {
+            begun: FoldHasher::default(),
+        }
+    }
+
+    /// Reads an identifier more.
+    pub(crate) fn read(&mut self, id: u64) {
+        self.begun.write(&id.to_le_bytes());
+    }
+}
+
+impl BuildHasher for ClassHash {
+    type Hasher = FoldHasher;
+
+    ghost build_hasher = { λ hash. hash.begun };
+
+    fn build_hasher(&self) -> FoldHasher {
+        self.begun
+    }
+}
+
+/// Classes in order, found by their identifiers. A class's number is its position in the map.
 #[derive(Drop)]
 pub(crate) struct ClassTable<A: Allocator> {
-    entries: Vec<(u64, ClassPlace), A>,
-    /// The identifiers, spread.
-    index: Index<A>,
+    map: IndexMap<u64, ClassPlace, ClassHash, A>,
 }
 
 impl<A: Allocator> Model for ClassTable<A> {
-    ghost use Rattle.heap_graph.specs.working.ClassList.{ClassList, IsSpread};
+    ghost use Rattle.heap_graph.specs.working.ClassList.{ClassList};
 
     ghost Value = { ClassList };
 
-    ghost view = { λ t. record { entries = t.entries.items } };
-
-    ghost invariant = { λ t. IsSpread t.entries.items t.index };
+    ghost view = { λ t. record { entries = t.map.entries } };
 }
 
 impl<A: Allocator + Copy> ClassTable<A> {
-    /// The table of these classes.
-    pub(crate) fn of(alloc: A, entries: Vec<(u64, ClassPlace), A>) -> Result<Self, AllocError>
-        requires { length entries.items < 2 ^ 32 }
-        ensures { IfOk result (λ table. table.entries ≡ entries.items) }
+    /// No class.
+    pub(crate) fn new(alloc: A, hash: ClassHash) -> Self
+        ensures { result.entries ≡ [] }
     {
-        let mut builder = IndexBuilder::with_capacity(alloc, entries.len())?;
-        for entry in &entries {
-            let (id, _) = *entry;
-            builder.push(spread(id));
+        ClassTable {
+            map: IndexMap::with_hasher(alloc, hash),
         }
-        let index = builder.finish(alloc)?;
-        Ok(ClassTable { entries, index })
     }
 }
 
@@ -59,14 +71,27 @@ impl<A: Allocator> ClassTable<A> {
     pub(crate) fn len(&self) -> usize
         ensures { result ≡ length self.now.entries }
     {
-        self.entries.len()
+        self.map.len()
+    }
+
+    /// Adds a class, whose identifier is a new one.
+    pub(crate) fn push(&mut self, id: u64, place: ClassPlace) -> Result<(), AllocError>
+        requires { Contains (ids_of self.old.entries) id → ⊥ }
+        ensures { OnOk result (self.new.entries ≡ self.old.entries ++ (id, place) ∷ []) }
+    {
+        self.map.insert(id, place)?;
+        Ok(())
     }
 
     /// The number of the class with that identifier.
     fn find(&self, id: u64) -> Option<u32>
+        requires { length self.now.entries < 2 ^ 32 }
         ensures { result ≡ position (λ x. x == id) (ids_of self.now.entries) }
     {
-        self.index.find(spread(id))
+        match self.map.get_index_of(&id) {
+            Some(number) => return Some(number as u32),
+            None => return None,
+        }
     }
 
     /// The class of that number.
@@ -74,7 +99,10 @@ impl<A: Allocator> ClassTable<A> {
         requires { number < length self.now.entries }
         ensures { (e : TableEntry) → slice_get self.now.entries number ≡ Some e → result ≡ e }
     {
-        self.entries[number as usize]
+        match self.map.get_index(number as usize) {
+            Some((id, place)) => return (*id, *place),
+            None => unreachable!(),
+        }
     }
 }
 

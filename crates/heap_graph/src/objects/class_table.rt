@@ -5,25 +5,54 @@ ghost use Rattle.hprof_grammar.specs.SubRecord.{SubRecord};
 ghost use Rattle.heap_graph.specs.working.ClassTable.{AreClassesAmong, AreClassesOf};
 ghost use Rattle.heap_graph.specs.working.PlacedObjects.{AreObjects};
 
-use crate::classes::{Classes, ClassesBuilder};
+use crate::classes::{ClassHash, Classes};
 use crate::index::Index;
 use hprof_grammar::{ObjectKind, View};
 use std::alloc::{AllocError, Allocator};
 
+/// Reads the identifier of the object of that number, if it is a class.
+fn read_class<B: Allocator>(
+    hash: &mut ClassHash,
+    view: &View<'_>,
+    places: &[u32],
+    index: &Index<B>,
+    number: usize,
+)
+    requires below { number < length places.now }
+    requires heap { (heap : List SubRecord) × AreObjects view.now places.now index.now heap }
+{
+    let place = places[number];
+    if view.kind(place) == ObjectKind::Class {
+        hash.read(view.object_id(place));
+    }
+    let _ = index;
+}
+
+/// The hash of these classes' identifiers.
+fn hash_of<B: Allocator>(view: &View<'_>, places: &[u32], index: &Index<B>) -> ClassHash
+    requires { (heap : List SubRecord) × AreObjects view.now places.now index.now heap }
+{
+    let mut hash = ClassHash::new();
+    for number in 0..places.len() {
+        read_class(&mut hash, view, places, index, number);
+    }
+    hash
+}
+
 /// Adds the object of that number, if it is a class that its identifier names.
 fn add_object<A: Allocator, B: Allocator>(
-    classes: &mut ClassesBuilder<'_, A>,
+    classes: &mut Classes<'_, A>,
     places: &[u32],
     index: &Index<B>,
     number: usize,
 ) -> Result<(), AllocError>
     requires below { number < length places.now }
     requires heap { (heap : List SubRecord) × AreObjects classes.old.view places.now index.now heap
-        × AreClassesAmong classes.old.view heap number classes.old.entries.items }
+        × AreClassesAmong classes.old.view heap number classes.old.table.entries }
     ensures view { OnOk result (classes.new.view ≡ classes.old.view) }
     ensures among { OnOk result ((heap : List SubRecord) → AreObjects classes.old.view places.now index.now heap
-        → AreClassesAmong classes.old.view heap number classes.old.entries.items
-        → AreClassesAmong classes.old.view heap (number + 1) classes.new.entries.items) }
+        → AreClassesAmong classes.old.view heap number classes.old.table.entries
+        → AreClassesAmong classes.old.view heap (number + 1) classes.new.table.entries) }
 {
     let place = places[number];
     match classes.view.kind(place) {
@@ -56,9 +85,10 @@ pub(crate) fn class_table<'d, A: Allocator + Copy, B: Allocator>(
         → AreObjects view.entry places.now index.now heap → AreClassesOf classes heap) }
     ensures few { IfOk result (λ classes. length classes.table.entries ≤ length places.now) }
 {
-    let mut builder = ClassesBuilder::new(alloc, view);
+    let hash = hash_of(&view, places, index);
+    let mut classes = Classes::new(alloc, view, hash);
     for number in 0..places.len() {
-        add_object(&mut builder, places, index, number)?;
+        add_object(&mut classes, places, index, number)?;
     }
-    builder.finish(alloc)
+    Ok(classes)
 }

@@ -1,10 +1,10 @@
 //! Why no list of fields was made.
 
-use std::error::Error;
 use std::fmt;
+use thiserror::Error;
 
 /// Why no list of fields was made.
-#[derive(Clone, Copy, Debug, PartialEq, Eq)]
+#[derive(Clone, Copy, Debug, PartialEq, Eq, Error)]
 pub enum SkipRefusal {
     /// The text is no list of 1 to 64 entries `Class.field` with commas between.
     BadOptions,
@@ -25,5 +25,3 @@ impl fmt::Display for SkipRefusal {
         }
     }
 }
-
-impl Error for SkipRefusal {}

@@ -1,5 +1,5 @@
 -- What is no class, has identifier 0 or an earlier object's, is no class that an identifier names: the rest are added.
-use Rattle.std.proofs.Common.{Contains, None, Option, Some, ap, get_or, refl, subst, sym, take}
+use Rattle.std.proofs.Common.{Contains, None, Option, Some, ap, arith, get_or, refl, subst, sym, take}
 use Rattle.std.proofs.Common.{ℕ, ◌∙◌, ◌≡◌}
 use Rattle.std.specs.Prelude.{option_and_then}
 use Rattle.std.proofs.lemmas.Bool.{iff_false, ne_eqb}
@@ -9,6 +9,7 @@ use Rattle.hprof_grammar.specs.SubRecord.{SubRecord}
 use Rattle.hprof_grammar.specs.SubRecord.SubRecord.{class_dump}
 use Rattle.heap_graph.specs.Heap.{as_class, class_named, number_named}
 use Rattle.heap_graph.proofs.Adding.{on_ok}
+use Rattle.heap_graph.proofs.ChainLaws.{some_inj}
 use Rattle.heap_graph.proofs.Standings.{IsDumpBy, class_is, is_class_dump, no_class_dump, there}
 use Rattle.heap_graph.proofs.TableGrowth.{among_more, among_skip, first_number, no_class_skip, repeated_linked}
 use Rattle.heap_graph.proofs.TableGrowth.{repeated_skip, zero_linked, zero_skip}
@@ -28,7 +29,7 @@ pub returns-then-id-eq0-clause-among : goal.returns-then-id-eq0-clause-among
 returns-then-id-eq0-clause-among g c = λ heap are among.
     let it = there _ _ _ _ _ are c.requires.below in
     let zero_id : id_of it.object ≡ 0 = sym (c.object_id-id.ensures it.object it.stands) ∙ c.if-id-eq0.true in
-    among_skip c.args.classes.now.view heap c.args.number c.args.classes.now.entries.items it.object among it.is
+    among_skip c.args.classes.now.view heap c.args.number c.args.classes.now.table.entries it.object among it.is
     (zero_skip heap c.args.number it.object it.is zero_id)
     (λ linked. absurd (zero_linked c.args.classes.now.view.id_size heap c.args.number it.object it.is zero_id linked))
 
@@ -38,12 +39,12 @@ returns-then-is_repeated-clause-among g c = λ heap are among.
     let again : Contains (take c.args.number c.args.index.now) (id_of it.object) =
     subst (λ (id : ℕ). Contains (take c.args.number c.args.index.now) id)
     (c.object_id-id.ensures it.object it.stands) (c.if-is_repeated.ensures.0 refl) in
-    among_skip c.args.classes.now.view heap c.args.number c.args.classes.now.entries.items it.object among it.is
+    among_skip c.args.classes.now.view heap c.args.number c.args.classes.now.table.entries it.object among it.is
     (repeated_skip c.args.classes.now.view c.args.places.now _ heap c.args.number it.object are it.is again)
     (λ linked. absurd (repeated_linked _ c.args.places.now _ heap c.args.number it.object are it.is again linked))
 
-pub add-requires : goal.add-requires
-add-requires g c =
+pub add-requires-clause-dump : goal.add-requires-clause-dump
+add-requires-clause-dump g c =
     let it = there _ _ _ _ _ c.requires.heap.1 c.requires.below in
     let dump : IsDumpBy class_dump it.object =
     is_class_dump it.object (c.in-Class.ensures it.object it.stands it.describes) in (
@@ -51,6 +52,17 @@ add-requires g c =
       subst (λ (x : SubRecord). Stands c.args.classes.now.view (get_or c.args.places.now c.args.number 0) x)
           dump.same it.stands,
     )
+
+pub add-requires-clause-new : goal.add-requires-clause-new
+add-requires-clause-new g c = λ contained.
+    let it = there _ _ _ _ _ c.requires.heap.1 c.requires.below in
+    let first : number_named c.requires.heap.0 c.object_id-id.result ≡ Some c.args.number =
+    first_number c.args.classes.now.view c.args.places.now c.args.index.now c.requires.heap.0 c.args.number
+    c.object_id-id.result it.object c.requires.heap.1 it.is (c.object_id-id.ensures it.object it.stands)
+    (λ again. iff_false c.is_repeated.ensures c.if-is_repeated.false again) in
+    let earlier = c.requires.heap.2.only c.object_id-id.result contained in
+    let same : earlier.0 ≡ c.args.number = some_inj (sym earlier.1 ∙ first) in
+    omega (arith, earlier.2, same)
 
 pub returns-in-Class-clause-among : goal.returns-in-Class-clause-among
 returns-in-Class-clause-among g c = on_ok c.add.result (λ h heap are among.
@@ -70,7 +82,7 @@ returns-in-Class-clause-among g c = on_ok c.add.result (λ h heap are among.
     class_is heap c.object_id-id.result (Some c.args.number) (ne_eqb c.object_id-id.result 0 c.if-id-eq0.false)
     first ∙ ap (λ (x : Option SubRecord). option_and_then as_class x) here in
     among_more c.args.classes.now.view heap c.args.number c.object_id-id.result
-    (get_or c.args.places.now c.args.number 0) c.args.classes.now.entries.items c.add.new.self.entries.items dump.what
+    (get_or c.args.places.now c.args.number 0) c.args.classes.now.table.entries c.add.new.self.table.entries dump.what
     among here (sym (ap id_of dump.same) ∙ sym id_is) first named stands (h dump.what stands)) c.add.ensures.added
 
 pub returns-in_default : goal.returns-in_default
@@ -81,6 +93,6 @@ returns-in_default g c = record {
       let none : as_class it.object ≡ None =
       no_class_dump it.object c.kind.result (c.kind.ensures it.object it.stands it.describes)
       c.in_default.not-Class in
-      among_skip c.args.classes.now.view heap c.args.number c.args.classes.now.entries.items it.object among it.is
+      among_skip c.args.classes.now.view heap c.args.number c.args.classes.now.table.entries it.object among it.is
       (no_class_skip heap c.args.number it.object it.is none) (λ linked. none);
 }

@@ -7,7 +7,7 @@ use Rattle.heap_graph.proofs.objects.class_table.class_table.Given as goal
 
 abbrev pub invariant-loop-number : goal.invariant-loop-number
 invariant-loop-number g l = record {
-  view : l.builder.view ≡ l.fn.view;
+  view : l.classes.view ≡ l.fn.view;
   among : (heap : List SubRecord) → AreObjects l.fn.view l.places l.index heap → AreClassesAmong l.fn.view heap l.number
-      l.builder.entries.items;
+      l.classes.table.entries;
 }

@@ -3,12 +3,12 @@ use Rattle.std.proofs.Common.{List, ap, arith, length, refl, ◌<◌, ◌^◌, �
 use Rattle.hprof_grammar.specs.SubRecord.{Member}
 use Rattle.hprof_grammar.proofs.BoundsLaws.{bounds}
 use Rattle.heap_graph.specs.working.IdPlaces.{size_together}
-use Rattle.heap_graph.proofs.classes.builder.ClassesBuilder.add.Goals as goal
+use Rattle.heap_graph.proofs.classes.Classes.add.Goals as goal
 
 pub bytes_of_fields-size-requires : goal.bytes_of_fields-size-requires
 bytes_of_fields-size-requires g c =
-    let few : length c.requires.0.members < 256 ^ 2 = (bounds c.requires.1.is.formed).member_count in
-    omega (arith, few, ap length (c.members-members.ensures c.requires.0 c.requires.1))
+    let few : length c.requires.dump.0.members < 256 ^ 2 = (bounds c.requires.dump.1.is.formed).member_count in
+    omega (arith, few, ap length (c.members-members.ensures c.requires.dump.0 c.requires.dump.1))
 
 pub returns-clause-added : goal.returns-clause-added
 returns-clause-added g c = λ dump st. record {
@@ -19,5 +19,5 @@ returns-clause-added g c = λ dump st. record {
       (λ (ms : List Member). size_together c.args.self.now.view.id_size ms)
       (c.members-members.ensures dump st);
   few_bytes = c.bytes_of_fields-size.ensures.few;
-  entries_are = c.in_ok-push.ensures.items;
+  entries_are = c.in_ok-push.ensures;
 }
