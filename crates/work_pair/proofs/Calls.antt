@@ -1,4 +1,5 @@
 -- What the calls of a pair tell, from what their parts tell.
+use Rattle.std.specs.Bool.{OnTrue}
 use Rattle.std.proofs.Common.{◌≡◌, ◌≢◌, ◌⊎◌, ℕ, ◌<◌, ◌≤◌, Bool, true, false, List, [], ◌∷◌, ◌++◌, length, Option, Some}
 use Rattle.std.proofs.Common.{None, Result, Ok, Err, refl, sym, ap, subst, ◌∙◌, inl, inr, ⊎_elim, arith}
 use Rattle.mark_core.specs.declared.which.Which.{Which}
@@ -48,6 +49,31 @@ pushes_told (Some k) h ms is push full =
     is ∙ ap (λ (q : Which). Took Empty h ∷ Gave q k ∷ [])
     (pushed_full (shelf_of k.items) h k (subst HasPushOnFull is (push (full k refl))))
 
+-- a place with items was renewed
+pub publish_renewed : (size : ℕ) (old : Option HeldBuffer) (b : Book) (new third : Option HeldBuffer) (c : Book)
+    (done : Bool) → items_at old ≢ [] → RenewAnswers false Empty size old b new third c (Ok done)
+    → OnTrue done ((h : HeldBuffer) × (new ≡ Some h) × (h.items ≡ [])) → PublishesAt size old b new third c (Ok tt)
+publish_renewed size old b new third c true some told bare = (
+  told.0,
+  told.1,
+  inr (ap items_at bare.1 ∙ bare.2),
+  told.3,
+  inr (inr (
+    told.4.0,
+    told.4.3 refl,
+    some,
+    pushes_told old told.4.0 told.0.moves told.4.1 told.2 (λ k is none. some (ap items_at is ∙ none)),
+    told.4.2,
+  )),
+)
+publish_renewed size old b new third c false some told bare = (
+  told.0,
+  told.1,
+  inl told.3,
+  out_alone told.0.moves told.4,
+  inr (inl (told.4, some, told.2)),
+)
+
 -- what a balance gave of the first
 gives_lower : (f s t n third : Option HeldBuffer) (h : HeldBuffer) (ms : List Move) → 4 < length (items_at f)
     → items_at s ≡ []
@@ -68,7 +94,7 @@ gives_lower (Some k) s t n third h ms many none is n_is push =
       refl,
     )
 
-some_items : (xs : List ℕ) → 0 < length xs → xs ≢ []
+pub some_items : (xs : List ℕ) → 0 < length xs → xs ≢ []
 some_items xs some none = omega (arith, some, ap length none)
 
 -- what may be traded may be renewed
@@ -269,7 +295,13 @@ module _ (f s t n third : Option HeldBuffer) (b c : Book) (vacant : t ≡ None)
           (λ none. ⊎_elim (λ saw. inl (omega (arith, saw, e₁.empties)))
           (λ none₂. inr (none_of (items_at n) (items_at m) (items_at last) none none₂ (ap items_at second.1)))
           second.2) first.2 in
-          (both second.0, second.1, seen, out_on first.0.moves second.0.moves first.3 second.3)
+          (
+            both second.0,
+            second.1,
+            seen,
+            out_on first.0.moves second.0.moves first.3 second.3,
+            (first.0.moves, second.0.moves, refl, first.4, second.4),
+          )
       both_published (Err TagSpent) second = (
         both second.0,
         end_on first.0.moves second.0.moves second.1,

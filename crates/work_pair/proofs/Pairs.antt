@@ -8,7 +8,7 @@ use Rattle.atomic_table.specs.Seated.{TableId}
 use Rattle.mark_core.specs.Events.{IsBusy}
 use Rattle.buffer_pool.specs.Book.{Book}
 use Rattle.buffer_pool.specs.Calls.{Holder}
-use Rattle.work_pair.specs.Deals.{Balances, Deals, DealsOut, Disposes, Puts}
+use Rattle.work_pair.specs.Deals.{Balances, Deals, DealsOut, Disposes, PublishesBoth, Puts}
 use Rattle.work_pair.specs.Moves.{Move, FoundNone, EndAtLastTag, WasSeenEmpty}
 use Rattle.work_pair.specs.PairState.{PairState, buffered_items, pair_items, AreAlike, IsBacked, IsOpen}
 use Rattle.work_pair.specs.declared.buffers.Buffers.{Buffers}
@@ -151,6 +151,12 @@ module _ {A : Type 0} {v : PairState} (i : Inside A) (is : seen_as i ≡ v) wher
         publishes told =
             subst (λ (w : PairState). DealsOut w b (listed (places_of q) i.spill.items i.stopped i.starved) c) is
             (trades i.spill.items refl i.stopped i.starved [] [] backed told.0 (not_ended going told.0.moves), told.3)
+
+        pub publishes_both : PublishAnswers (places_of i.buffers) b (places_of q) c (Ok done)
+            → PublishesBoth v b (listed (places_of q) i.spill.items i.stopped i.starved) c
+        publishes_both told =
+            subst (λ (w : PairState). PublishesBoth w b (listed (places_of q) i.spill.items i.stopped i.starved) c) is
+            (trades i.spill.items refl i.stopped i.starved [] [] backed told.0 (not_ended going told.0.moves), told.4)
 
       -- a call was stopped that popped nothing from full
       pub stops : (stop : Stop) → EndsOut (places_of i.buffers) b (places_of q) c stop

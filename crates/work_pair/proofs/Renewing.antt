@@ -1,5 +1,4 @@
 -- What was done with one place.
-use Rattle.std.specs.Bool.{OnTrue}
 use Rattle.std.proofs.Common.{◌≡◌, ◌≢◌, ℕ, ◌+◌, Bool, true, false, Contains, List, [], ◌∷◌, ◌++◌, Option, Some, None}
 use Rattle.std.proofs.Common.{Ok, Err, refl, sym, ap, subst, ◌∙◌, inl, inr, ⊎_elim, arith}
 use Rattle.std.proofs.lemmas.List.{append-nil}
@@ -103,7 +102,7 @@ module _ (w : Holder) (pool : TableId) (place third : Option HeldBuffer) (may : 
         filled = tt;
         sized = may.backed.sized;
         left_sized = left_sized;
-      } in (r, may.vacant, inr none, λ pop. pop)
+      } in (r, may.vacant, inr none, λ pop. pop, inl (refl, none, refl))
 
   module _ (c : Book) (half : Bool) where
     abbrev unchanged : (move : Move) → Moved move w.book c → IsIdle move
@@ -225,15 +224,6 @@ module _ (old : Option HeldBuffer) (q : Which) (h : HeldBuffer) (b mid : Book) (
 -- a look for an empty buffer pops nothing from full
 pub out_alone : (ms : List Move) → ms ≡ FoundNone Empty ∷ [] → HasPopFromFull ms → ⊥
 out_alone ms is pop = ⊎_elim (λ x. x) (λ x. x) (subst HasPopFromFull is pop)
-
--- a place with items was renewed
-pub publish_renewed : (size : ℕ) (old : Option HeldBuffer) (b : Book) (new third : Option HeldBuffer) (c : Book)
-    (done : Bool) → RenewAnswers false Empty size old b new third c (Ok done)
-    → OnTrue done ((h : HeldBuffer) × (new ≡ Some h) × (h.items ≡ [])) → PublishesAt size old b new third c (Ok tt)
-publish_renewed size old b new third c true told bare =
-    (told.0, told.1, inr (ap items_at bare.1 ∙ bare.2), told.3)
-publish_renewed size old b new third c false told bare =
-    (told.0, told.1, inl told.3, out_alone told.0.moves told.4)
 
 -- after a pop its worker is not idle still, and the buffer is of the pool's size
 module _ (q : Which) (h : HeldBuffer) (b mid : Book) (took : Moved (Took q h) b mid) where

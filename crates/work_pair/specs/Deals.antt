@@ -114,6 +114,26 @@ FillsNext old object moves new =
     (h : HeldBuffer) × (moves ≡ Took Empty h ∷ push_of old.second)
     × (new.first ≡ Some (record h { items = object ∷ [] })) × (new.second ≡ old.first)
 
+-- what a publishing does with one place: it has no items, and stays; or no empty buffer was found, and it stays; or its
+-- buffer is pushed on full, and the one that was popped is in its place
+abbrev pub PublishesPlace : Option HeldBuffer → List Move → Option HeldBuffer → Type 0
+PublishesPlace old moves new =
+    ((moves ≡ []) × (items_at old ≡ []) × (new ≡ old))
+    ⊎ (((moves ≡ FoundNone Empty ∷ []) × (items_at old ≢ []) × (new ≡ old))
+    ⊎ ((h : HeldBuffer) × (h.items ≡ []) × (items_at old ≢ []) × (moves ≡ Took Empty h ∷ push_of old)
+    × (new ≡ Some h)))
+
+-- the first place, and then the second
+abbrev pub Publishes : PairState → List Move → PairState → Type 0
+Publishes old moves new =
+    (first : List Move) × (second : List Move) × (moves ≡ first ++ second)
+    × PublishesPlace old.first first new.first × PublishesPlace old.second second new.second
+
+-- a publishing did just this
+abbrev pub PublishesBoth : PairState → Book → PairState → Book → Type 0
+PublishesBoth old before new after =
+    (deals : Deals old before [] [] new after) × Publishes old deals.moves new
+
 -- an object was put: into a buffer, or at the end of the spill list; then all that the call did with the stacks was to
 -- look for an empty buffer, and it found none; it popped nothing from full; where a buffer had room it did nothing with
 -- the stacks, and else it pushed the one that was filled first

@@ -48,7 +48,7 @@ impl<A: Allocator> Pair<A> {
     ghost use Rattle.mark_core.specs.Events.{IsBusy};
     ghost use Rattle.mark_core.specs.declared.which.Which.TheVariants.{Empty, Full};
     ghost use Rattle.work_pair.specs.Deals.{Balances, Deals, DealsOut, DealsQuietly, Disposes, HasMore, OpensNone};
-    ghost use Rattle.work_pair.specs.Deals.{Puts};
+    ghost use Rattle.work_pair.specs.Deals.{PublishesBoth, Puts};
     ghost use Rattle.work_pair.specs.Moves.{FoundNone, WasSeenEmpty};
     ghost use Rattle.work_pair.specs.PairState.{AreAlike, HasRoom, HasStopped, IsBacked, IsNew, IsOpen, PairState};
     ghost use Rattle.work_pair.specs.PairState.{buffered_items, pair_items, empty_pair};
@@ -239,6 +239,7 @@ impl<A: Allocator> Pair<A> {
             ≡ [])) }
         ensures published { OnOk result (Deals self.old worker.old.book [] [] self.new worker.new.book) }
         ensures only_gives { OnOk result (DealsOut self.old worker.old.book self.new worker.new.book) }
+        ensures publishes { OnOk result (PublishesBoth self.old worker.old.book self.new worker.new.book) }
         ensures nothing { buffered_items self.old ≡ [] → (self.new ≡ self.old) × (worker.new ≡ worker.old)
             × IsOk result }
         ensures spill { (self.new.spill ≡ self.old.spill) × (self.new.starved ≡ self.old.starved) }

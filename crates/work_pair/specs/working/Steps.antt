@@ -6,7 +6,7 @@ use Rattle.mark_core.specs.declared.which.Which.TheVariants.{Full, Empty}
 use Rattle.mark_core.specs.Lists.{times}
 use Rattle.buffer_pool.specs.Book.{Book}
 use Rattle.buffer_pool.specs.Calls.{HeldBuffer}
-use Rattle.work_pair.specs.Deals.{FillsNext, Gives, HasMore, lower_part, upper_half}
+use Rattle.work_pair.specs.Deals.{FillsNext, Gives, HasMore, Publishes, PublishesPlace, lower_part, upper_half}
 use Rattle.work_pair.specs.Moves.{Move, Took, Gave, FoundNone, Ended, Moved, Moves, popped_items, popped_numbers}
 use Rattle.work_pair.specs.Moves.{pushed_items, pushed_numbers, AreFilled, HasPushOnFull, HasPopFromFull, EndAtLastTag}
 use Rattle.work_pair.specs.Moves.{WasSeenEmpty}
@@ -124,6 +124,7 @@ abbrev pub PublishesAt : ℕ → Option HeldBuffer → Book → Option HeldBuffe
     → Result Unit Stop → Type 0
 PublishesAt size old before new third after (Ok done) = (r : Renews size old before new third after)
     × (third ≡ None) × (WasSeenEmpty Empty before after ⊎ (items_at new ≡ [])) × (HasPopFromFull r.moves → ⊥)
+    × PublishesPlace old r.moves new
 PublishesAt size old before new third after (Err TagSpent) = (r : Renews size old before new third after)
     × EndAtLastTag r.moves × (HasPopFromFull r.moves → ⊥)
 PublishesAt size old before new third after (Err OutOfMemory) = ⊥
@@ -178,6 +179,7 @@ BalanceAnswers old before new after (Err stop) = EndsOut old before new after st
 abbrev pub PublishAnswers : PairState → Book → PairState → Book → Result Unit Stop → Type 0
 PublishAnswers old before new after (Ok done) = (t : Trades old before [] [] new after) × (new.third ≡ None)
     × (WasSeenEmpty Empty before after ⊎ (pair_items new ≡ [])) × (HasPopFromFull t.moves → ⊥)
+    × Publishes old t.moves new
 PublishAnswers old before new after (Err stop) = EndsOut old before new after stop
 
 -- buffers were put back, and these are left

@@ -1,7 +1,8 @@
 -- A place without objects stays as it is. Any other is renewed: it is bare then, or no empty buffer was found.
 use Rattle.std.proofs.Common.{◌≤◌, length, arith}
 use Rattle.work_pair.specs.PairState.{items_at}
-use Rattle.work_pair.proofs.Renewing.{publish_nothing, publish_renewed}
+use Rattle.work_pair.proofs.Calls.{publish_renewed, some_items}
+use Rattle.work_pair.proofs.Renewing.{publish_nothing}
 use Rattle.work_pair.proofs.Spilling.{none_in}
 use Rattle.work_pair.proofs.place.publish_at.Goals as goal
 
@@ -15,5 +16,7 @@ pub returns-in-Ok-clause-publishes : goal.returns-in-Ok-clause-publishes
 returns-in-Ok-clause-publishes g c =
     let b = c.args.worker.now.book in
     let n = c.renew.new in
-    publish_renewed b.setup.size c.args.place.now b n.place n.third n.worker.book c.in-Ok.field-0
+    let place = c.args.place.now in
+    publish_renewed b.setup.size place b n.place n.third n.worker.book c.in-Ok.field-0
+    (some_items (items_at place) (omega (arith, c.if-len_at-eq0.false, c.len_at.ensures)))
     c.in-Ok.ensures.renews c.in-Ok.ensures.bare
