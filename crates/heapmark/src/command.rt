@@ -102,13 +102,39 @@ pub fn program_at_terminal<T: Files + AllocGlobal + Threads + Wait + Sync, W: Wr
 ) -> u8
     requires { failures_of out.old < 2 ^ 64 - 1 }
     ensures status { result ≤ 2 }
-    ensures silent { result ≡ 0 → Keeps (E.contents err.old) (E.contents err.new) }
+
+    // 2 is for words that are wrong, and for no others. Such words are answered by 2, or by 1 for want of memory.
+    ensures usage { result ≡ 2 → IsWrong (texts_of words.now) }
+    ensures wrong { (IsTaken (texts_of words.now) → ⊥) → (AsksAboutProgram (texts_of words.now) → ⊥) → result ≢ 0 }
     ensures untouched { result ≡ 2 → Keeps (W.contents (inner_of out.old)) (W.contents (inner_of out.new)) }
+
+    // At 0 no refusal was told, and what was written, where neither help nor version was asked for, is a report without
+    // the fields that the words list, flushed. No contract can say that it is the report of the file.
+    ensures reported { result ≡ 0 → (AsksAboutProgram (texts_of words.now) → ⊥)
+        → WritesReportFor (text_given (codes "skip") (texts_of words.now))
+        (W.contents (inner_of out.old)) (W.contents (inner_of out.new)) }
+    ensures flushed { result ≡ 0 → (AsksAboutProgram (texts_of words.now) → ⊥) → is_flushed out.new ≡ true }
+    ensures silent { result ≡ 0 → Keeps (E.contents err.old) (E.contents err.new) }
+
+    // Too few buffers for the workers are refused, with nothing written.
+    ensures too_few { (workers buffers : ℕ) → GivesNumber (codes "workers") (texts_of words.now) workers
+        → GivesNumber (codes "buffers") (texts_of words.now) buffers → buffers < 2 * workers + 2
+        → (AsksAboutProgram (texts_of words.now) → ⊥)
+        → (result ≢ 0) × Keeps (W.contents (inner_of out.old)) (W.contents (inner_of out.new)) }
+
+    // So is a text that lists no fields.
+    ensures bad_list { HasBadList (text_given (codes "skip") (texts_of words.now))
+        → (AsksAboutProgram (texts_of words.now) → ⊥)
+        → (result ≢ 0) × Keeps (W.contents (inner_of out.old)) (W.contents (inner_of out.new)) }
+
+    // At 1 nothing was written, but for a beginning of a report where the writer failed.
     ensures unwritten { result ≡ 1 → failures_of out.new ≡ failures_of out.old
         → Keeps (W.contents (inner_of out.old)) (W.contents (inner_of out.new)) }
     ensures beginning { result ≡ 1 → failures_of out.new ≡ failures_of out.old + 1
         → WritesBeginningFor (text_given (codes "skip") (texts_of words.now))
         (W.contents (inner_of out.old)) (W.contents (inner_of out.new)) }
+    ensures no_failure { result ≢ 1 → (AsksAboutProgram (texts_of words.now) → ⊥)
+        → failures_of out.new ≡ failures_of out.old }
     ensures failures { failures_of out.new ≤ failures_of out.old + 1 }
 {
     match arguments(rt.alloc(), words) {
