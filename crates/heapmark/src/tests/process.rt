@@ -1,11 +1,15 @@
 //! The process: the words that it is given, whatever they are, and the status that it answers.
 
+use super::dumps::{Bytes, TWO_OBJECTS, TWO_OBJECTS_REPORT};
+use super::program::file_of;
 use crate::{Counted, start};
 use std::env::{Env, FillError};
 use std::io;
+use std::fs;
 use std::io::{IsTerminal, Write};
 use std::rt::Files;
 use std::sync::Wait;
+use std::test::Fail;
 use std::thread::Threads;
 
 /// The words of a command line, which may be no text.
@@ -113,4 +117,38 @@ fn each_line_has_its_status(rt: HostRuntime) {
         let answer = answered(&rt, words, is_terminal, told);
         assert_eq!(rt; answer, (want, true, true), "{told}");
     }
+}
+
+/// The status of the process for this line, and whether this is all that it prints on the output.
+fn reported<T: AllocGlobal + Files + Threads + Wait + Sync>(
+    rt: &T,
+    words: &[&[u8]],
+    is_terminal: bool,
+    report: &str,
+) -> (u8, bool) {
+    let mut out = Counted::new(Vec::new(rt.alloc()));
+    let mut err = Screen {
+        shown: Vec::new(rt.alloc()),
+        is_terminal,
+    };
+    let status = start(rt, &Words { words }, &mut out, &mut err);
+    (status, out.into_inner().as_slice() == report.as_bytes())
+}
+
+/// A file is reported, and each word behind it counts, whoever reads standard error.
+#[test]
+fn a_line_is_answered_to_its_end(rt: HostRuntime) -> Result<(), Fail> {
+    let dump = Bytes::dump(rt.alloc(), 4, TWO_OBJECTS)?;
+    let path = file_of(&rt, "heapmark_process.hprof", &dump)?;
+    let file = path.to_str().ok_or("the name of the file is not text")?.as_bytes();
+    for is_terminal in [false, true] {
+        let told = reported(&rt, &[b"heapmark", file], is_terminal, TWO_OBJECTS_REPORT);
+        assert_eq!(rt; told, (0, true), "{is_terminal}");
+        let told = reported(&rt, &[b"heapmark", file, b"--workers", b"0"], is_terminal, "");
+        assert_eq!(rt; told, (2, true), "{is_terminal}");
+        let told = reported(&rt, &[b"heapmark", file, b"--skip", b"A"], is_terminal, "");
+        assert_eq!(rt; told, (1, true), "{is_terminal}");
+    }
+    fs::remove_file(&rt, path.as_path())?;
+    Ok(())
 }
