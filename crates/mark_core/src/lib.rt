@@ -6,7 +6,7 @@
 //! list of possible events, in whatever order threads made them, each claimed object lies in exactly one place and each
 //! finished object has its successors marked.
 //!
-//! From `src/example.rt`, which is proved and run as a test:
+//! From `crates/core_tests/src/world_example.rt`, which is proved and run as a test:
 //!
 //!     let mut world = World::new(alloc, 2, vec![in alloc; 0]?, vec![in alloc; (0, 1)]?, 4, 2, 0)?;
 //!     for kind in [Kind::Claim(0), Kind::Claim(1), Kind::Finish(0), Kind::Finish(1)] {
@@ -39,6 +39,3 @@ pub use law::all_runs_keep_law;
 pub use out_of_memory::OutOfMemory;
 pub use which::Which;
 pub use world::{World, step};
-
-#[cfg(test)]
-mod example;

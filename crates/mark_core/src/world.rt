@@ -137,6 +137,3 @@ pub fn step<A: Allocator + Copy>(
         Ok(None)
     }
 }
-
-#[cfg(test)]
-mod tests;

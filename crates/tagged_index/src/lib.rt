@@ -4,7 +4,7 @@
 //! changed back is another word, and an exchange that began before is refused. At the last tag `next` answers `None`:
 //! tags never begin anew.
 //!
-//! From `src/example.rt`, which is proved and run as a test:
+//! From `crates/core_tests/src/head_example.rt`, which is proved and run as a test:
 //!
 //!     let empty = HeadWord::none(7);
 //!     let pushed = empty.next(Some(3));
@@ -21,6 +21,3 @@ mod law;
 
 pub use head_word::{HeadWord, LAST_INDEX, LAST_TAG};
 pub use law::words_tell_heads_apart;
-
-#[cfg(test)]
-mod example;

@@ -1,6 +1,8 @@
 //! Lists of events, replayed.
 
-use super::*;
+mod lists;
+mod memory;
+
 use Does::{Claim, Finish, IdleDown, IdleUp, Load, LoadIdle, LoadLink, Pop};
 use Which::{Empty, Full};
 use lists::{
@@ -8,9 +10,9 @@ use lists::{
     ONE_LOOKED_AGAIN, ONE_PUSHED, ONE_WAITS, ONE_WOKEN, OVERTAKEN, ROOT_CLAIMED, ROOT_FINISHED,
     START, TWO_STACKED, Turn,
 };
-
-mod lists;
-mod memory;
+use mark_core::{Event, OutOfMemory, Which, World, step};
+use std::alloc::Allocator;
+use tagged_index::HeadWord;
 
 /// The world behind a turn, or none where an event of it is not possible.
 fn turned<A: Allocator + Copy>(

@@ -1,6 +1,6 @@
 //! A head that changes, and changes back.
 
-use crate::HeadWord;
+use tagged_index::HeadWord;
 
 /// An empty stack gets a buffer on top, and loses it again.
 #[test]

@@ -1,6 +1,6 @@
 //! A run of one account.
 
-use crate::{Event, Kind, OutOfMemory, World, step};
+use mark_core::{Event, Kind, OutOfMemory, World, step};
 
 /// Object 0 is a root and leads to object 1: both are claimed, and then finished.
 #[test]

@@ -1,15 +1,12 @@
 //! Lists of events.
 
-use crate::event::Kind;
-use crate::out_of_memory::OutOfMemory;
-use crate::which::Which;
-use crate::world::World;
 use Does::{
     Claim, Fail, Finish, IdleDown, IdleUp, Join, Load, LoadIdle, LoadLink, Pop, Push, Split,
     StoreLink,
 };
 use Opening::{NoObjects, ThreeObjects};
 use Which::{Empty, Full};
+use mark_core::{Kind, OutOfMemory, Which, World};
 use std::alloc::Allocator;
 
 /// What an account does, as a table has it: a buffer that is pushed has no items.

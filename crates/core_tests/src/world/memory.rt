@@ -2,8 +2,8 @@
 
 use super::lists::{ALL_FINISHED, List, OVERTAKEN};
 use super::{End, ends, replayed};
-use crate::out_of_memory::OutOfMemory;
 use limited_heap::LimitedHeap;
+use mark_core::OutOfMemory;
 use std::alloc::Global;
 
 /// Lists that take memory, and how they end.
