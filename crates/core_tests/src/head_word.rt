@@ -2,32 +2,43 @@
 
 use tagged_index::{HeadWord, LAST_INDEX, LAST_TAG};
 
+/// The last tag.
+const LAST: u64 = 281_474_976_710_655;
+
+/// An index, a tag, the word of the head with the two, and the tag of the next head.
+const WORDS: [(Option<u32>, u64, u64, Option<u64>); 6] = [
+    (None, 0, 0, Some(1)),
+    (Some(0), 0, 1, Some(1)),
+    (Some(0), 1, 65_537, Some(2)),
+    (Some(65_534), 0, 65_535, Some(1)),
+    (None, LAST, 18_446_744_073_709_486_080, None),
+    (Some(65_534), LAST, 18_446_744_073_709_551_615, None),
+];
+
+/// The word of the head with this index and this tag, where a head may have them.
+fn word_of(index: Option<u32>, tag: u64) -> Option<u64> {
+    if tag > LAST_TAG {
+        return None;
+    }
+    match index {
+        None => Some(HeadWord::none(tag).word()),
+        Some(index) if index <= LAST_INDEX => Some(HeadWord::of(index, tag).word()),
+        Some(_) => None,
+    }
+}
+
+/// The index and the tag of the head that a word spells, and the tag of the next head.
+fn spelled_by(word: u64) -> (Option<u32>, u64, Option<u64>) {
+    let head = HeadWord::from_word(word);
+    let next = head.next(None);
+    (head.index(), head.tag(), next.map(|head| head.tag()))
+}
+
 #[test]
 fn words_of_the_format(rt: HostRuntime) {
-    let last = 281_474_976_710_655;
-    for (index, tag, word) in [
-        (None, 0, 0),
-        (Some(0), 0, 1),
-        (Some(0), 1, 65_537),
-        (Some(65_534), 0, 65_535),
-        (None, last, 18_446_744_073_709_486_080),
-        (Some(65_534), last, 18_446_744_073_709_551_615),
-    ] {
-        assert!(rt; tag <= LAST_TAG);
-        let made = match index {
-            None => HeadWord::none(tag),
-            Some(index) => {
-                assert!(rt; index <= LAST_INDEX);
-                HeadWord::of(index, tag)
-            }
-        };
-        assert_eq!(rt; made.word(), word, "the word of {word}");
-        let head = HeadWord::from_word(word);
-        assert_eq!(rt; head.index(), index, "the index of {word}");
-        assert_eq!(rt; head.tag(), tag, "the tag of {word}");
-        let next = head.next(None).map(|head| head.tag());
-        let rises = (tag < last).then_some(tag + 1);
-        assert_eq!(rt; next, rises, "the next tag of {word}");
+    for (index, tag, word, next) in WORDS {
+        assert_eq!(rt; word_of(index, tag), Some(word), "the word of {word}");
+        assert_eq!(rt; spelled_by(word), (index, tag, next), "the head of {word}");
     }
     let next = HeadWord::from_word(65_537).next(Some(4));
     assert_eq!(rt; next.map(|head| head.word()), Some(131_077));

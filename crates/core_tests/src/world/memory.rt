@@ -26,6 +26,18 @@ fn requests_of(alloc: Global, list: &List, end: End) -> u64 {
     u64::MAX.saturating_sub(heap.requests_left())
 }
 
+/// The same over a heap that grants so many requests.
+fn where_the_rest_is_refused(alloc: Global, requests: u64, list: &List, end: End) -> (bool, bool) {
+    let heap = LimitedHeap::new(alloc, requests);
+    is_right_or_told(&heap, list, end)
+}
+
+/// The same over a heap that refuses this request alone.
+fn where_one_is_refused(alloc: Global, request: u64, list: &List, end: End) -> (bool, bool) {
+    let heap = LimitedHeap::refusing(alloc, request);
+    is_right_or_told(&heap, list, end)
+}
+
 /// One heap serves a whole replay, so what a step takes is refused as well as what the world does: with all requests
 /// behind it, and alone.
 #[test]
@@ -36,18 +48,10 @@ fn each_request_may_be_refused(rt: HostRuntime) {
         assert!(rt; requests > 4);
         for request in 0..=requests {
             let wanted = (true, request == requests);
-            let from_one_on = LimitedHeap::new(alloc, request);
-            assert_eq!(rt;
-                is_right_or_told(&from_one_on, list, *end),
-                wanted,
-                "{request} and all behind it"
-            );
-            let one_alone = LimitedHeap::refusing(alloc, request);
-            assert_eq!(rt;
-                is_right_or_told(&one_alone, list, *end),
-                wanted,
-                "{request} alone"
-            );
+            let rest = where_the_rest_is_refused(alloc, request, list, *end);
+            assert_eq!(rt; rest, wanted, "{request} and all behind it");
+            let alone = where_one_is_refused(alloc, request, list, *end);
+            assert_eq!(rt; alone, wanted, "{request} alone");
         }
     }
 }
