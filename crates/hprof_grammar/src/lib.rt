@@ -4,7 +4,7 @@
 //! alone, 4 bytes for each string, loaded class, root and object; a `View` then reads a field of what stands at a
 //! place.
 //!
-//! From `src/tests.rt`, which is proved and run:
+//! From `crates/grammar_tests/src/worked_file.rt`, which is proved and run:
 //!
 //!     let dump = read(rt.alloc(), &FILE)?;
 //!     assert_eq!(rt; dump.id_size(), 4);
@@ -45,6 +45,3 @@ pub use view::ids::Ids;
 pub use view::members::{MemberField, Members};
 pub use view::values::{TypedValue, Values};
 pub use view::{ObjectKind, View};
-
-#[cfg(test)]
-mod tests;

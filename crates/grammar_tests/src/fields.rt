@@ -6,8 +6,9 @@ ghost use Rattle.hprof_grammar.specs.SubRecord.SubRecord.{class_dump, instance_d
 ghost use Rattle.hprof_grammar.specs.SubRecord.SubRecord.{object_array_dump, primitive_array_dump};
 ghost use Rattle.hprof_grammar.specs.Standing.{HeaderStands, LoadStands, Stands, StringStands};
 
-use super::dumps::{WITH_EIGHT, WITH_FOUR};
-use crate::{Ids, ObjectKind, RootKind, TypedValue, Values, View, read};
+use crate::dumps::{WITH_EIGHT, WITH_FOUR};
+use hprof_grammar::{Ids, ObjectKind, ReadRefusal, RootKind, TypedValue, Values, View, read};
+use std::alloc::Global;
 use std::process::Abort;
 use std::test::Fail;
 
@@ -180,37 +181,51 @@ fn root_numbers(view: &View<'_>, at: u32) -> RootNumbers
 }
 
 /// The places of a dump's parts: strings, loaded classes, objects, roots.
-type PlacesOfParts<'a> = [&'a [u32]; 4];
+type PlacesOfParts = [&'static [u32]; 4];
+
+/// A dump with one part of every kind, how many bytes its identifiers have, and the places of its parts.
+const PLACES: [(&[u8], u8, PlacesOfParts); 2] = [
+    (
+        &WITH_FOUR,
+        4,
+        [
+            &[31],
+            &[45],
+            &[79, 162, 184, 209],
+            &[229, 234, 243, 256, 269, 278, 283, 292, 297],
+        ],
+    ),
+    (
+        &WITH_EIGHT,
+        8,
+        [
+            &[31],
+            &[49],
+            &[91, 226, 260, 301],
+            &[325, 334, 351, 368, 385, 398, 407, 420, 429],
+        ],
+    ),
+];
+
+/// How many bytes the identifiers of a dump have, and whether these are the places of its parts.
+fn placed_so(
+    alloc: Global,
+    bytes: &[u8],
+    places: PlacesOfParts,
+) -> Result<(u8, bool), ReadRefusal> {
+    let dump = read(alloc, bytes)?;
+    let found = [dump.strings(), dump.loaded(), dump.objects(), dump.roots()];
+    Ok((dump.id_size(), found == places))
+}
 
 #[test]
 fn places(rt: HostRuntime) -> Result<(), Fail> {
-    let dumps: [(&[u8], u8, PlacesOfParts<'_>); 2] = [
-        (
-            &WITH_FOUR,
-            4,
-            [
-                &[31],
-                &[45],
-                &[79, 162, 184, 209],
-                &[229, 234, 243, 256, 269, 278, 283, 292, 297],
-            ],
-        ),
-        (
-            &WITH_EIGHT,
-            8,
-            [
-                &[31],
-                &[49],
-                &[91, 226, 260, 301],
-                &[325, 334, 351, 368, 385, 398, 407, 420, 429],
-            ],
-        ),
-    ];
-    for (bytes, id_size, places) in dumps {
-        let dump = read(rt.alloc(), bytes)?;
-        assert_eq!(rt; dump.id_size(), id_size);
-        let found = [dump.strings(), dump.loaded(), dump.objects(), dump.roots()];
-        assert_eq!(rt; found, places, "identifiers of {id_size} bytes");
+    for (bytes, id_size, places) in PLACES {
+        assert_eq!(rt;
+            placed_so(rt.alloc(), bytes, places)?,
+            (id_size, true),
+            "identifiers of {id_size} bytes"
+        );
     }
     Ok(())
 }

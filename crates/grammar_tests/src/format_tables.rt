@@ -1,7 +1,7 @@
 //! Each tag and each type code, in each place that one has, and each order of the snapshot's records.
 
-use super::fault;
-use crate::read;
+use crate::worked_file::fault;
+use hprof_grammar::read;
 use std::alloc::{AllocError, Global};
 use std::test::Fail;
 
@@ -92,51 +92,81 @@ fn padded(alloc: Global, first: &[u8], zeros: usize) -> Result<Vec<u8>, AllocErr
     Ok(bytes)
 }
 
+/// The fault of a file with records of these tags, all of them empty.
+fn order_fault(alloc: Global, tags: &[u8]) -> Result<Option<(u8, u64)>, AllocError> {
+    let mut file = header(alloc)?;
+    for tag in tags {
+        push_record(&mut file, *tag, &[])?;
+    }
+    Ok(fault(read(alloc, &file)))
+}
+
 #[test]
 fn orders_of_the_snapshot(rt: HostRuntime) -> Result<(), Fail> {
     for (tags, expected) in &ORDERS {
-        let mut file = header(rt.alloc())?;
-        for tag in tags.iter() {
-            push_record(&mut file, *tag, &[])?;
-        }
-        assert_eq!(rt; fault(read(rt.alloc(), &file)), *expected, "{tags:?}");
+        assert_eq!(rt; order_fault(rt.alloc(), tags)?, *expected, "{tags:?}");
     }
     Ok(())
+}
+
+/// The fault of a file with a record of this tag and three zeros, and an empty heap dump.
+fn record_fault(alloc: Global, tag: u8) -> Result<Option<(u8, u64)>, AllocError> {
+    let mut file = header(alloc)?;
+    push_record(&mut file, tag, &[0, 0, 0])?;
+    push_record(&mut file, 0x0c, &[])?;
+    Ok(fault(read(alloc, &file)))
 }
 
 #[test]
 fn tags_of_records(rt: HostRuntime) -> Result<(), Fail> {
     for tag in 0..=255u8 {
-        let mut file = header(rt.alloc())?;
-        push_record(&mut file, tag, &[0, 0, 0])?;
-        push_record(&mut file, 0x0c, &[])?;
         let expected = match tag {
             0x01 | 0x02 | 0x2c => Some((4, 31)),
             0x0c | 0x1c => Some((5, 40)),
             _ => None,
         };
-        assert_eq!(rt; fault(read(rt.alloc(), &file)), expected, "{tag}");
+        assert_eq!(rt; record_fault(rt.alloc(), tag)?, expected, "{tag}");
     }
     Ok(())
+}
+
+/// The fault of a file with one sub-record: its tag, and so many zeros.
+fn sub_fault(alloc: Global, tag: u8, zeros: usize) -> Result<Option<(u8, u64)>, AllocError> {
+    let body = padded(alloc, &[tag], zeros)?;
+    heap_fault(alloc, &body)
+}
+
+/// The fault of a file with one sub-record, of which all bytes but the last are zeros behind its tag.
+fn ended_fault(
+    alloc: Global,
+    tag: u8,
+    zeros: usize,
+    last: u8,
+) -> Result<Option<(u8, u64)>, AllocError> {
+    let mut body = padded(alloc, &[tag], zeros)?;
+    body.push(last)?;
+    heap_fault(alloc, &body)
 }
 
 #[test]
 fn tags_of_sub_records(rt: HostRuntime) -> Result<(), Fail> {
     for tag in 0..=255u8 {
         let Some(size) = entry(&SUB_RECORDS, tag) else {
-            let body = padded(rt.alloc(), &[tag], 60)?;
-            assert_eq!(rt; heap_fault(rt.alloc(), &body)?, Some((5, 40)), "{tag}");
+            assert_eq!(rt; sub_fault(rt.alloc(), tag, 60)?, Some((5, 40)), "{tag}");
             continue;
         };
         assert!(rt; size > 1);
-        let mut body = padded(rt.alloc(), &[tag], size - 1)?;
-        if tag == 0x23 {
-            body.pop();
-            body.push(8)?;
-        }
-        assert_eq!(rt; heap_fault(rt.alloc(), &body)?, None, "{tag}");
-        body.pop();
-        assert_eq!(rt; heap_fault(rt.alloc(), &body)?, Some((6, 40)), "{tag}");
+        let last = if tag == 0x23 { 8 } else { 0 };
+        assert_eq!(rt;
+            ended_fault(rt.alloc(), tag, size - 2, last)?,
+            None,
+            "{tag}"
+        );
+        assert_eq!(rt;
+            sub_fault(rt.alloc(), tag, size - 2)?,
+            Some((6, 40)),
+            "{tag}"
+        );
     }
     Ok(())
 }
@@ -152,19 +182,33 @@ const CODE_PLACES: [CodePlace; 4] = [
     ("array", 0x23, 8, &[0, 0, 0, 1], true, 0),
 ];
 
+/// The fault of a file with one sub-record that has this code at this place, and a value of so many bytes where one
+/// follows.
+fn code_fault(
+    alloc: Global,
+    place: &CodePlace,
+    code: u8,
+    size: usize,
+) -> Result<Option<(u8, u64)>, AllocError> {
+    let (_, tag, zeros, front, has_value, behind) = *place;
+    let mut body = padded(alloc, &[tag], zeros)?;
+    body.extend_from_slice(front)?;
+    body.push(code)?;
+    let value = if has_value { size } else { 0 };
+    let body = padded(alloc, &body, value.saturating_add(behind))?;
+    heap_fault(alloc, &body)
+}
+
 #[test]
 fn type_codes(rt: HostRuntime) -> Result<(), Fail> {
     for code in 0..=255u8 {
         let known = entry(&TYPES, code);
-        for (of, tag, zeros, front, has_value, behind) in CODE_PLACES {
-            let mut body = padded(rt.alloc(), &[tag], zeros)?;
-            body.extend_from_slice(front)?;
-            body.push(code)?;
-            let size = if has_value { known.unwrap_or(8) } else { 0 };
-            let body = padded(rt.alloc(), &body, size.saturating_add(behind))?;
+        for place in &CODE_PLACES {
+            let (of, tag, _, _, _, _) = *place;
             let is_allowed = known.is_some() && (tag == 0x20 || code != 2);
-            let told = if is_allowed { None } else { Some((7, 40)) };
-            assert_eq!(rt; heap_fault(rt.alloc(), &body)?, told, "{of} {code}");
+            let expected = if is_allowed { None } else { Some((7, 40)) };
+            let found = code_fault(rt.alloc(), place, code, known.unwrap_or(8))?;
+            assert_eq!(rt; found, expected, "{of} {code}");
         }
     }
     Ok(())

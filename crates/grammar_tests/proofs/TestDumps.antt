@@ -12,7 +12,7 @@ use Rattle.hprof_grammar.specs.SubRecord.RootOrigin.{sticky_class, thread_block,
 use Rattle.hprof_grammar.specs.SubRecord.SubRecord.{root}
 use Rattle.hprof_grammar.specs.declared.kinds.RootKind.{RootKind}
 use Rattle.hprof_grammar.specs.declared.kinds.RootKind.TheVariants as roots
-use Rattle.hprof_grammar.proofs.Computed.{Begin, parted}
+use Rattle.grammar_tests.proofs.Computed.{Begin, parted}
 
 pub header_seen : {bytes : List ℕ} {s time : ℕ} (v : Sight) → v.bytes ≡ bytes → v.id_size ≡ s → time < 256 ^ 8
     → Begin bytes 0 (header s time) → HeaderStands v time

@@ -2,9 +2,9 @@
 use Rattle.std.proofs.Common.{arith, subst, true, ◌≡◌}
 use Rattle.hprof_grammar.specs.RootFields.{frame_of, reference_of, thread_of, trace_of}
 use Rattle.hprof_grammar.specs.declared.kinds.RootKind.{RootKind}
-use Rattle.hprof_grammar.proofs.TestDumps.{frame_there, has_frame, has_thread, reference_there, said, thread_there}
-use Rattle.hprof_grammar.proofs.TestDumps.{trace_there}
-use Rattle.hprof_grammar.proofs.tests.fields.root_numbers.Goals as goal
+use Rattle.grammar_tests.proofs.TestDumps.{frame_there, has_frame, has_thread, reference_there, said, thread_there}
+use Rattle.grammar_tests.proofs.TestDumps.{trace_there}
+use Rattle.grammar_tests.proofs.fields.root_numbers.Goals as goal
 
 pub root_reference-requires : goal.root_reference-requires
 root_reference-requires c =

@@ -1,9 +1,9 @@
 -- The class, the instance and the arrays stand in both dumps, by computation.
 use Rattle.std.proofs.Common.{refl}
 use Rattle.hprof_grammar.specs.FormatTables.{is_type_at, size_of}
-use Rattle.hprof_grammar.proofs.Computed.{seen}
-use Rattle.hprof_grammar.proofs.TestDumps.{the_class, the_instance, the_objects, the_shorts}
-use Rattle.hprof_grammar.proofs.tests.fields.objects.Goals as goal
+use Rattle.grammar_tests.proofs.Computed.{seen}
+use Rattle.grammar_tests.proofs.TestDumps.{the_class, the_instance, the_objects, the_shorts}
+use Rattle.grammar_tests.proofs.fields.objects.Goals as goal
 
 pub has_class-requires : goal.has_class-requires
 unfolding is_type_at size_of

@@ -1,10 +1,6 @@
 //! Rows of bytes with the places or the fault that they have to give.
 
-mod dumps;
-mod fields;
-mod format_tables;
-
-use crate::{Dump, FormatFault, ReadRefusal, read};
+use hprof_grammar::{Dump, FormatFault, ReadRefusal, read};
 use limited_heap::LimitedHeap;
 use std::alloc::{Allocator, Global};
 use std::test::Fail;
@@ -52,7 +48,8 @@ const CHANGES: [(usize, u8, u8, u64); 8] = [
     (140, 1, 6, 127),
 ];
 
-fn fault<D>(outcome: Result<D, ReadRefusal>) -> Option<(u8, u64)>
+/// The code and the place of a fault.
+pub fn fault<D>(outcome: Result<D, ReadRefusal>) -> Option<(u8, u64)>
 where
     D: Drop,
 {
@@ -131,34 +128,49 @@ fn requests_of_the_file(alloc: Global) -> u64 {
     u64::MAX.saturating_sub(heap.requests_left())
 }
 
+/// Whether the file is read, or want of memory told, over a heap that grants so many requests; and whether none was
+/// refused.
+fn where_the_rest_is_refused(alloc: Global, requests: u64) -> (bool, bool) {
+    let heap = LimitedHeap::new(alloc, requests);
+    (is_right_or_told(&heap), heap.refusals() == 0)
+}
+
+/// The same over a heap that refuses this request alone.
+fn where_one_is_refused(alloc: Global, request: u64) -> (bool, bool) {
+    let heap = LimitedHeap::refusing(alloc, request);
+    (is_right_or_told(&heap), heap.refusals() == 0)
+}
+
 /// Each request is refused in turn: with all behind it, and alone.
 #[test]
 fn memory_refused_in_turn(rt: HostRuntime) {
     let requests = requests_of_the_file(rt.alloc());
     assert!(rt; requests > 0);
     for request in 0..=requests {
-        let from_one_on = LimitedHeap::new(rt.alloc(), request);
-        assert!(rt;
-            is_right_or_told(&from_one_on),
-            "{request} and all behind it"
-        );
-        assert_eq!(rt; from_one_on.refusals() == 0, request == requests);
-        let one_alone = LimitedHeap::refusing(rt.alloc(), request);
-        assert!(rt; is_right_or_told(&one_alone), "{request} alone");
-        assert_eq!(rt; one_alone.refusals() == 0, request == requests);
+        let wanted = (true, request == requests);
+        let rest = where_the_rest_is_refused(rt.alloc(), request);
+        assert_eq!(rt; rest, wanted, "{request} and all behind it");
+        let alone = where_one_is_refused(rt.alloc(), request);
+        assert_eq!(rt; alone, wanted, "{request} alone");
     }
+}
+
+/// How many requests a heap that grants what the file takes has left behind it, whether the dump is right, whether it
+/// has no objects once they are forgotten, and how many requests were refused.
+fn looked_at(alloc: Global) -> Result<(u64, bool, bool, u64), ReadRefusal> {
+    let heap = LimitedHeap::new(alloc, requests_of_the_file(alloc));
+    let mut dump = read(&heap, &FILE)?;
+    let left = heap.requests_left();
+    let right = is_of_the_file(&dump);
+    dump.forget_objects();
+    let forgotten = dump.objects().is_empty();
+    Ok((left, right, forgotten, heap.refusals()))
 }
 
 /// What a dump tells takes no memory: it is asked while each request would be refused, and makes none. A `View` is
 /// handed no allocator.
 #[test]
 fn reading_fields_takes_no_memory(rt: HostRuntime) -> Result<(), Fail> {
-    let heap = LimitedHeap::new(rt.alloc(), requests_of_the_file(rt.alloc()));
-    let mut dump = read(&heap, &FILE)?;
-    assert_eq!(rt; heap.requests_left(), 0);
-    assert!(rt; is_of_the_file(&dump));
-    dump.forget_objects();
-    assert!(rt; dump.objects().is_empty());
-    assert_eq!(rt; heap.refusals(), 0);
+    assert_eq!(rt; looked_at(rt.alloc())?, (0, true, true, 0));
     Ok(())
 }

@@ -1,8 +1,8 @@
 -- The roots stand in both dumps, in turn, by computation.
-use Rattle.std.proofs.Common.{List, refl, ℕ}
-use Rattle.hprof_grammar.proofs.Computed.{AreThere, roots_seen}
-use Rattle.hprof_grammar.proofs.TestDumps.{the_roots}
-use Rattle.hprof_grammar.proofs.tests.fields.roots.Goals as goal
+use Rattle.std.proofs.Common.{refl}
+use Rattle.grammar_tests.proofs.Computed.{roots_seen}
+use Rattle.grammar_tests.proofs.TestDumps.{the_roots}
+use Rattle.grammar_tests.proofs.fields.roots.Goals as goal
 
 pub has_roots-requires : goal.has_roots-requires
 has_roots-requires g c =

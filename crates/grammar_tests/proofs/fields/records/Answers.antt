@@ -1,9 +1,9 @@
 -- The header, the string and the loaded class stand in both dumps, by computation.
 use Rattle.std.proofs.Common.{[], lit<, refl, ◌∷◌}
 use Rattle.hprof_grammar.specs.FormatTables.{is_length_of}
-use Rattle.hprof_grammar.proofs.Computed.{record_seen}
-use Rattle.hprof_grammar.proofs.TestDumps.{header_seen}
-use Rattle.hprof_grammar.proofs.tests.fields.records.Goals as goal
+use Rattle.grammar_tests.proofs.Computed.{record_seen}
+use Rattle.grammar_tests.proofs.TestDumps.{header_seen}
+use Rattle.grammar_tests.proofs.fields.records.Goals as goal
 
 pub has_records-requires-clause-header : goal.has_records-requires-clause-header
 has_records-requires-clause-header g c =

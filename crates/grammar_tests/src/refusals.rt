@@ -1,0 +1,41 @@
+//! How a fault and a refusal are shown.
+
+use hprof_grammar::{FormatFault, ReadRefusal};
+use std::alloc::{AllocError, Global};
+use std::test::Fail;
+
+/// Too many bytes.
+const TOO_LARGE: FormatFault = FormatFault {
+    code: 14,
+    offset: 1_073_741_824,
+};
+
+/// Refusals, and how each is shown.
+const SHOWN: [(ReadRefusal, &str); 2] = [
+    (
+        ReadRefusal::Fault(TOO_LARGE),
+        "the bytes are no heap dump: fault 14 at 1073741824",
+    ),
+    (ReadRefusal::OutOfMemory, "out of memory"),
+];
+
+/// Whether the fault is shown so.
+fn fault_is_shown(alloc: Global, fault: FormatFault, text: &str) -> Result<bool, AllocError> {
+    let shown = format!(in alloc; "{fault}")?;
+    Ok(shown.as_str() == text)
+}
+
+/// Whether the refusal is shown so.
+fn refusal_is_shown(alloc: Global, refusal: ReadRefusal, text: &str) -> Result<bool, AllocError> {
+    let shown = format!(in alloc; "{refusal}")?;
+    Ok(shown.as_str() == text)
+}
+
+#[test]
+fn texts_of_refusals(rt: HostRuntime) -> Result<(), Fail> {
+    assert!(rt; fault_is_shown(rt.alloc(), TOO_LARGE, "fault 14 at 1073741824")?);
+    for (refusal, text) in SHOWN {
+        assert!(rt; refusal_is_shown(rt.alloc(), refusal, text)?, "{text}");
+    }
+    Ok(())
+}
