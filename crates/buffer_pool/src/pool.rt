@@ -57,7 +57,7 @@ impl<A: Allocator> Model for Pool<A> {
         × (p.buffers ≡ p.table.shared.key.buffers) × (p.objects ≡ p.table.shared.key.objects) };
 }
 
-impl<A: Allocator + Clone> Pool<A> {
+impl<A: Allocator + Copy> Pool<A> {
     /// A pool for at most 16,777,216 objects, of 4 to 65,534 buffers for 2 to 4,096 objects each, whose
     /// stacks' heads begin with a tag of at most 281,474,976,710,655. No object is marked, all buffers are on
     /// the empty stack, and the worker has the whole share. All memory of the pool is taken here.
@@ -84,8 +84,8 @@ impl<A: Allocator + Clone> Pool<A> {
         if !is_inside(objects, buffers, size, first_tag) {
             return Err(PoolFault::BadOptions);
         }
-        let words = first_words(alloc.clone()?, objects, buffers, first_tag)?;
-        let slots = first_slots(alloc.clone()?, buffers, size)?;
+        let words = first_words(alloc, objects, buffers, first_tag)?;
+        let slots = first_slots(alloc, buffers, size)?;
         let key = Key {
             named: Named::of(edges),
             objects,

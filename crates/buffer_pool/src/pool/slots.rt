@@ -11,7 +11,7 @@ use atomic_table::Closed;
 use std::alloc::{AllocError, Allocator};
 
 /// For each buffer a slot with it, without items.
-pub(super) fn first_slots<A: Allocator + Clone>(
+pub(super) fn first_slots<A: Allocator + Copy>(
     alloc: A,
     buffers: u32,
     size: u32,
@@ -19,9 +19,9 @@ pub(super) fn first_slots<A: Allocator + Clone>(
     requires { 0 < size }
     ensures { IfOk result (λ s. (length s.items ≡ buffers) × All (IsFirstSlot buffer_reading size) s.items) }
 {
-    let mut slots = Vec::with_capacity(alloc.clone()?, buffers as usize)?;
+    let mut slots = Vec::with_capacity(alloc, buffers as usize)?;
     while slots.len() < buffers as usize {
-        slots.push_reserved(Some(Buffer::new(alloc.clone()?, size)?));
+        slots.push_reserved(Some(Buffer::new(alloc, size)?));
     }
     Ok(slots)
 }

@@ -25,7 +25,7 @@ impl Edges for Roots {
 }
 
 /// A pool over roots alone, and its worker.
-pub(super) fn pool_of_roots<A: Allocator + Clone>(
+pub(super) fn pool_of_roots<A: Allocator + Copy>(
     alloc: A,
     objects: u32,
     buffers: u32,

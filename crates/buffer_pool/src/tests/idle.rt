@@ -32,7 +32,7 @@ fn idle_in_turn<A: Allocator>(
 }
 
 /// Two workers of one unit each go idle in turn.
-fn two_idle_workers<A: Allocator + Clone>(alloc: A) -> Result<Option<[bool; 4]>, PoolFault> {
+fn two_idle_workers<A: Allocator + Copy>(alloc: A) -> Result<Option<[bool; 4]>, PoolFault> {
     let (pool, leader) = pool_of_roots(alloc, 1, 4, 2)?;
     let (leader, mut one) = pool.split(leader, 1);
     let (_leader, mut other) = pool.split(leader, 1);

@@ -37,12 +37,12 @@ fn pop_and_push<A: Allocator>(pool: &Pool<A>, worker: &mut Worker<A>) -> Option<
     Some((before, back.len(), spent))
 }
 
-fn at_the_last<A: Allocator + Clone>(alloc: A) -> Result<[bool; 3], PoolFault> {
+fn at_the_last<A: Allocator + Copy>(alloc: A) -> Result<[bool; 3], PoolFault> {
     let (pool, mut worker) = bare_pool(alloc, LAST_TAG)?;
     Ok(look_at_both(&pool, &mut worker))
 }
 
-fn before_the_last<A: Allocator + Clone>(alloc: A) -> Result<Option<(u32, u32, bool)>, PoolFault> {
+fn before_the_last<A: Allocator + Copy>(alloc: A) -> Result<Option<(u32, u32, bool)>, PoolFault> {
     let (pool, mut worker) = bare_pool(alloc, LAST_TAG - 1)?;
     Ok(pop_and_push(&pool, &mut worker))
 }

@@ -17,7 +17,7 @@ use tagged_index::HeadWord;
 pub(super) const BUFFERS: u32 = 4;
 
 /// A pool without objects, of four buffers for two objects each.
-pub(super) fn bare_pool<A: Allocator + Clone>(
+pub(super) fn bare_pool<A: Allocator + Copy>(
     alloc: A,
     first_tag: u64,
 ) -> Result<(Pool<A>, Worker<A>), PoolFault>
@@ -174,7 +174,7 @@ fn stacks_at_the_opening(rt: HostRuntime) -> Result<(), Fail> {
 }
 
 /// The pops and pushes of the worked table of events. Answers the stacks once two buffers were pushed, and at the end.
-fn go_in_turn<R: Wait + Abort, A: Allocator + Clone>(
+fn go_in_turn<R: Wait + Abort, A: Allocator + Copy>(
     rt: &R,
     alloc: A,
 ) -> Result<(Stacks, Stacks), PoolFault> {

@@ -99,7 +99,7 @@ fn go_in_turn<R: Abort, A: Allocator>(
 }
 
 /// What is told of a new pool once two workers did this in turn.
-fn told_after<R: Abort, A: Allocator + Clone>(
+fn told_after<R: Abort, A: Allocator + Copy>(
     rt: &R,
     alloc: A,
     turns: &[(Who, Does)],
@@ -213,7 +213,7 @@ fn items_of_two<A: Allocator>(pool: &Pool<A>, worker: &mut Worker<A>) -> Option<
     Some((back, lens, take_three(&mut lower), take_three(&mut upper)))
 }
 
-fn items_of_a_pool<A: Allocator + Clone>(alloc: A) -> Result<Option<Items>, PoolFault> {
+fn items_of_a_pool<A: Allocator + Copy>(alloc: A) -> Result<Option<Items>, PoolFault> {
     let (pool, mut worker) = Pool::new(alloc, &Roots { objects: 0 }, 4, 5, 0)?;
     Ok(items_of_two(&pool, &mut worker))
 }

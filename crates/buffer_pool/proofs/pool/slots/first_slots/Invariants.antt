@@ -4,11 +4,11 @@ use Rattle.buffer_pool.specs.working.Buffers.{buffer_reading}
 use Rattle.buffer_pool.specs.working.Opening.{IsFirstSlot}
 use Rattle.buffer_pool.proofs.pool.slots.first_slots.Given as goal
 
-abbrev pub decreases-loop-slots : goal.decreases-loop-slots
-decreases-loop-slots g l = l.buffers - vec_len l.slots
+abbrev pub decreases-loop-alloc : goal.decreases-loop-alloc
+decreases-loop-alloc g l = l.buffers - vec_len l.slots
 
-abbrev pub invariant-loop-slots : goal.invariant-loop-slots
-invariant-loop-slots g l = record {
+abbrev pub invariant-loop-alloc : goal.invariant-loop-alloc
+invariant-loop-alloc g l = record {
   room : vec_capacity l.slots ≡ l.buffers;
   within : vec_len l.slots ≤ l.buffers;
   slots : All (IsFirstSlot buffer_reading l.size) l.slots.items;
