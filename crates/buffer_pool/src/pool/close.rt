@@ -3,7 +3,7 @@ ghost use Rattle.std.specs.Prelude.{◌≡◌, []};
 ghost use Rattle.mark_core.specs.Shares.{whole};
 ghost use Rattle.buffer_pool.specs.Closing.{IsAtTheEnd, MarksTell};
 
-use crate::layout::FIRST_LINK;
+use crate::layout::mark_word;
 use crate::pool::Pool;
 use crate::pool::marks::Marks;
 use crate::pool::slots::empty_slots;
@@ -26,13 +26,9 @@ impl<A: Allocator> Pool<A> {
             objects,
         } = self;
         let Worker { seat, finished } = worker;
+        let first_mark = mark_word(buffers, 0);
         let mut closed = table.close_with(seat);
         empty_slots(&mut closed);
-        Marks {
-            closed,
-            first_mark: FIRST_LINK + buffers as usize,
-            objects,
-            finished,
-        }
+        Marks::of_words(closed, first_mark, objects, finished)
     }
 }

@@ -1,7 +1,9 @@
 //! The marks of a pool that is closed.
-ghost use Rattle.std.specs.Prelude.{◌≡◌, ◌↔◌, ◌/◌, ◌%◌, ◌<◌, ◌≤◌, length, slice_index, IsTrue};
+ghost use Rattle.std.specs.Prelude.{◌≡◌, ◌↔◌, ◌+◌, ◌/◌, ◌%◌, ◌<◌, ◌≤◌, length, slice_index, IsTrue};
 ghost use Rattle.std.specs.Prelude.{◌==◌, count_by};
-ghost use Rattle.buffer_pool.specs.working.MarkBits.{mark_of};
+ghost use Rattle.std.specs.Slots.{IsFull, slots_filled, slots_items, slots_len};
+ghost use Rattle.buffer_pool.specs.Closing.{IsEmptied};
+ghost use Rattle.buffer_pool.specs.working.MarkBits.{mark_of, mark_words, marks_in};
 
 use crate::buffer::Buffer;
 use crate::layout::mark_place;
@@ -35,6 +37,28 @@ impl<A: Allocator> Model for Marks<A> {
 }
 
 impl<A: Allocator> Marks<A> {
+    /// The marks in the words of a table that is closed and whose slots are empty: those from this word on, to the last.
+    pub(super) fn of_words(
+        closed: Closed<Option<Buffer<A>>, A>,
+        first_mark: usize,
+        objects: u32,
+        finished: u64,
+    ) -> Marks<A>
+        requires full { IsFull closed.words }
+        requires emptied { IsEmptied (slots_len closed.slots) (slots_filled closed.slots) }
+        requires place { first_mark + mark_words objects ≡ slots_len closed.words }
+        requires counted { finished
+            ≡ count_by (λ m. m == 2) (marks_in (slots_items closed.words) first_mark objects) }
+        ensures { result ≡ marks_in (slots_items closed.words) first_mark objects }
+    {
+        Marks {
+            closed,
+            first_mark,
+            objects,
+            finished,
+        }
+    }
+
     /// The two bits of an object's mark.
     fn bits(&self, object: u32) -> u64
         requires { object < length self.now }
