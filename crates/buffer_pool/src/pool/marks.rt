@@ -37,7 +37,7 @@ impl<A: Allocator> Model for Marks<A> {
 }
 
 impl<A: Allocator> Marks<A> {
-    /// The marks in the words of a table that is closed and whose slots are empty: those from this word on, to the last.
+    /// The marks in the words of a table that is closed and whose slots are empty: from this word on, to the last.
     pub(super) fn of_words(
         closed: Closed<Option<Buffer<A>>, A>,
         first_mark: usize,
