@@ -7,6 +7,7 @@ mod graph;
 mod idle;
 mod mark_bits;
 mod memory;
+mod messages;
 mod opening;
 mod race;
 mod rounds;
