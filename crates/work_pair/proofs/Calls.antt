@@ -11,13 +11,14 @@ use Rattle.buffer_pool.specs.Book.{Book}
 use Rattle.buffer_pool.specs.Calls.{HeldBuffer, Holder}
 use Rattle.work_pair.specs.Deals.{Gives, GivesLowerPart, HasMore, lower_part, push_of}
 use Rattle.work_pair.specs.Moves.{Move, Took, Gave, FoundNone, IsOnFull, HasPushOnFull, HasPopFromFull, WasSeenEmpty}
+use Rattle.work_pair.specs.Moves.{shelf_of, shelving_of}
 use Rattle.work_pair.specs.PairState.{PairState, items_at, pair_items, IsOfSize, AreOfSize, AreAlike, IsBacked}
 use Rattle.work_pair.specs.declared.stop.Stop.{Stop}
 use Rattle.work_pair.specs.declared.stop.Stop.TheVariants.{TagSpent, OutOfMemory}
 use Rattle.work_pair.specs.working.Asks.{IsBackedAt, MayRenew, MayTrade}
 use Rattle.work_pair.specs.working.Steps.{EndsOut, FindsNone, PublishAnswers, PublishesAt, PutAnswers, Renews}
 use Rattle.work_pair.specs.working.Steps.{RenewAnswers, Trades}
-use Rattle.work_pair.specs.working.Steps.{next_of, places, pushed_part, shelf_of, shelving_of}
+use Rattle.work_pair.specs.working.Steps.{next_of, places, pushed_part}
 use Rattle.work_pair.proofs.Effects.{busy_after, moves_effect}
 use Rattle.work_pair.proofs.Locals.{put_first, swapped}
 use Rattle.work_pair.proofs.Renewing.{out_alone}
@@ -294,8 +295,7 @@ module _ (f s t n third : Option HeldBuffer) (b c : Book) (vacant : t ≡ None)
           ⊎_elim (λ saw. inl (omega (arith, saw, e₂.empties)))
           (λ none. ⊎_elim (λ saw. inl (omega (arith, saw, e₁.empties)))
           (λ none₂. inr (none_of (items_at n) (items_at m) (items_at last) none none₂ (ap items_at second.1)))
-          second.2) first.2 in
-          (
+          second.2) first.2 in (
             both second.0,
             second.1,
             seen,

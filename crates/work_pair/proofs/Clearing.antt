@@ -1,10 +1,11 @@
 -- What it tells that all buffers of a pair were given back.
-use Rattle.std.proofs.Common.{◌≡◌, ◌≢◌, [], Option, None, Result, Ok, Err, refl, sym, subst, ⊎_elim}
+use Rattle.std.proofs.Common.{◌≡◌, ◌≢◌, List, [], ◌++◌, Option, None, Result, Ok, Err, refl, sym, ap, subst, ◌∙◌}
+use Rattle.std.proofs.Common.{⊎_elim}
 use Rattle.mark_core.specs.declared.which.Which.{Which}
 use Rattle.mark_core.specs.Events.{IsBusy}
 use Rattle.buffer_pool.specs.Book.{Book}
 use Rattle.buffer_pool.specs.Calls.{HeldBuffer}
-use Rattle.work_pair.specs.Moves.{Ended, Moved, HasPushOnFull, HasPopFromFull, EndAtLastTag}
+use Rattle.work_pair.specs.Moves.{Move, Ended, Moved, HasPushOnFull, HasPopFromFull, EndAtLastTag, shelving_of}
 use Rattle.work_pair.specs.PairState.{PairState, items_at, pair_items, AreOfSize, IsBacked}
 use Rattle.work_pair.specs.declared.stop.Stop.{Stop}
 use Rattle.work_pair.specs.declared.stop.Stop.TheVariants.{TagSpent, OutOfMemory}
@@ -30,9 +31,12 @@ module _ (f s t : Option HeldBuffer) (b : Book) (busy : pair_items (places f s t
     pub third_busy : items_at t ≢ [] → IsBusy c.account
     third_busy some = busy_then (λ none. some (none_at f s t none).2)
 
+both_are : (ms ks ns ls : List Move) → ms ≡ ks → ns ≡ ls → ms ++ ns ≡ ks ++ ls
+both_are ms ks ns ls m n = ap (λ (x : List Move). x ++ ns) m ∙ ap (λ (x : List Move). ks ++ x) n
+
 -- a clearing that went on, and one that stopped
 module _ (p : PairState) (b : Book) (q : PairState) (c : Book) (so_far : Clears p b q c) where
-  clears_on : (r : PairState) (d : Book) (t : Trades q c [] [] r d) → (pair_items p ≡ [] → HasPushOnFull t.moves → ⊥)
+  abbrev clears_on : (r : PairState) (d : Book) (t : Trades q c [] [] r d) → (pair_items p ≡ [] → HasPushOnFull t.moves → ⊥)
       → (HasPopFromFull t.moves → ⊥) → Clears p b r d
   clears_on r d t quiet out =
       record {
@@ -46,7 +50,6 @@ module _ (p : PairState) (b : Book) (q : PairState) (c : Book) (so_far : Clears 
 
   stuck : (d : Book) (which : Which) → Moved (Ended which) c d
       → (all : Clears p b q d) × EndAtLastTag all.trades.moves
-  unfolding clears_on
   stuck d which moved =
       let t = ended_at q which c d moved now_sized in (
         clears_on q d t (λ none push. ⊎_elim (λ x. x) (λ x. x) push) (λ pop. ⊎_elim (λ x. x) (λ x. x) pop),
@@ -54,29 +57,37 @@ module _ (p : PairState) (b : Book) (q : PairState) (c : Book) (so_far : Clears 
       )
 
 module _ (f s t : Option HeldBuffer) (b : Book) (sized : AreOfSize b.setup.size (places f s t)) where
-  begun : Clears (places f s t) b (places f s t) b
+  abbrev begun : Clears (places f s t) b (places f s t) b
   begun = record { trades = untouched (places f s t) b sized; quiet = λ none push. push; out = λ pop. pop }
+
+  -- a clearing that made these moves
+  abbrev ClearsBy : List Move → PairState → Book → Type 0
+  ClearsBy moves q c = (all : Clears (places f s t) b q c) × (all.trades.moves ≡ moves)
 
   -- after the first buffer, and after the second
   pub first_cleared : (c : Book) (n : Option HeldBuffer) (done : Unit) → ClearsAt f b n c (Ok done)
-      → Clears (places f s t) b (places None s t) c
+      → ClearsBy (shelving_of f) (places None s t) c
   first_cleared c n done told =
-      let r = cleared b.setup.size f b c told.1 in
-      clears_on (places f s t) b (places f s t) b begun (places None s t) c (at_first f s t None b c r.0 sized)
-      (λ none. r.1 (none_at f s t none).0) r.2
+      let r = cleared b.setup.size f b c told.1 in (
+        clears_on (places f s t) b (places f s t) b begun (places None s t) c (at_first f s t None b c r.0 sized)
+            (λ none. r.1 (none_at f s t none).0) r.2,
+        r.3,
+      )
 
   pub backed_then : (c : Book) (q : PairState) → IsBacked (places f s t) [] b → Clears (places f s t) b q c
       → IsBacked q [] c
   backed_then c q backed first = backed_after (places f s t) b [] [] q c backed first.trades
 
   pub second_cleared : (c d : Book) (n : Option HeldBuffer) (done : Unit)
-      → Clears (places f s t) b (places None s t) c → ClearsAt s c n d (Ok done)
-      → Clears (places f s t) b (places None None t) d
+      → ClearsBy (shelving_of f) (places None s t) c → ClearsAt s c n d (Ok done)
+      → ClearsBy (shelving_of f ++ shelving_of s) (places None None t) d
   second_cleared c d n done first told =
-      let r = cleared c.setup.size s c d told.1 in
-      clears_on (places f s t) b (places None s t) c first (places None None t) d
-      (at_second None s t None c d r.0 (now_sized (places f s t) b (places None s t) c first))
-      (λ none. r.1 (none_at f s t none).1) r.2
+      let r = cleared c.setup.size s c d told.1 in (
+        clears_on (places f s t) b (places None s t) c first.0 (places None None t) d
+            (at_second None s t None c d r.0 (now_sized (places f s t) b (places None s t) c first.0))
+            (λ none. r.1 (none_at f s t none).1) r.2,
+        both_are first.0.trades.moves (shelving_of f) r.0.moves (shelving_of s) first.1 r.3,
+      )
 
   -- a clearing that stopped with these buffers left
   abbrev LeavesOver : Option HeldBuffer → Option HeldBuffer → Option HeldBuffer → Book → Type 0
@@ -99,16 +110,18 @@ module _ (f s t : Option HeldBuffer) (b : Book) (sized : AreOfSize b.setup.size 
       (stuck (places f s t) b (places None s t) c first d told.1.0 told.1.1))
 
   pub third_told : (c d : Book) (n m k : Option HeldBuffer) (r : Result Unit Stop) → n ≡ None → m ≡ None
-      → Clears (places f s t) b (places None None t) c → ClearsAt t c k d r
+      → ClearsBy (shelving_of f ++ shelving_of s) (places None None t) c → ClearsAt t c k d r
       → ClearAnswers (places f s t) b (places n m k) d r
   third_told c d n m k (Ok done) vacant empty second told =
-      let r = cleared c.setup.size t c d told.1 in
-      clears_on (places f s t) b (places None None t) c second (places None None None) d
-      (at_third None None t None c d r.0 (now_sized (places f s t) b (places None None t) c second))
-      (λ none. r.1 (none_at f s t none).2) r.2
+      let r = cleared c.setup.size t c d told.1 in (
+        clears_on (places f s t) b (places None None t) c second.0 (places None None None) d
+            (at_third None None t None c d r.0 (now_sized (places f s t) b (places None None t) c second.0))
+            (λ none. r.1 (none_at f s t none).2) r.2,
+        both_are second.0.trades.moves (shelving_of f ++ shelving_of s) r.0.moves (shelving_of t) second.1 r.3,
+      )
   third_told c d n m k (Err OutOfMemory) vacant empty second none = absurd none
   third_told c d n m k (Err TagSpent) vacant empty second told =
       subst (λ (x : Option HeldBuffer). LeavesOver x m k d) (sym vacant)
       (subst (λ (y : Option HeldBuffer). LeavesOver None y k d) (sym empty)
       (subst (λ (z : Option HeldBuffer). LeavesOver None None z d) (sym told.0)
-      (stuck (places f s t) b (places None None t) c second d told.1.0 told.1.1)))
+      (stuck (places f s t) b (places None None t) c second.0 d told.1.0 told.1.1)))

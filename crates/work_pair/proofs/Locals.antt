@@ -1,6 +1,6 @@
 -- Changes of a pair that its worker's stacks do not see.
 use Rattle.std.proofs.Common.{◌≡◌, ℕ, ◌+◌, List, [], ◌∷◌, ◌++◌, Option, Some, None, MatchOption, refl, sym, ap, subst}
-use Rattle.std.proofs.Common.{◌∙◌, arith}
+use Rattle.std.proofs.Common.{◌∙◌, inr, arith}
 use Rattle.mark_core.specs.Lists.{times, only}
 use Rattle.mark_core.proofs.Sums.{sum_of-append}
 use Rattle.buffer_pool.specs.Calls.{HeldBuffer}
@@ -82,13 +82,11 @@ pub taken_second : (f s t x y g : Option HeldBuffer) → x ≡ s → y ≡ f →
 taken_second f s t x y g x_is y_is none None told = (
   swapped f s t g y (told.1 ∙ x_is) y_is,
   refl,
-  ap items_at told.1 ∙ told.0,
-  ap items_at y_is ∙ none,
-  none,
-  ap items_at (sym x_is) ∙ told.0,
+  (none, ap items_at (sym x_is) ∙ told.0, told.1 ∙ x_is, y_is),
 )
 taken_second f s t x y g x_is y_is none (Some o) told = (
   local_again f s t x y t g y [] (o ∷ []) (swapped f s t x y x_is y_is)
       (take_first x y t told.0 told.1 o g told.2 told.3 told.4 told.5),
   refl,
+  inr (none, (told.0, told.1.items, sym x_is ∙ told.2, told.4, told.3 ∙ ap Some told.5), y_is),
 )

@@ -8,14 +8,14 @@ use Rattle.mark_core.specs.Lists.{only}
 use Rattle.mark_core.proofs.Sums.{sum_of-append}
 use Rattle.buffer_pool.specs.Book.{Book}
 use Rattle.buffer_pool.specs.Calls.{HeldBuffer}
-use Rattle.work_pair.specs.Deals.{Deals, DealsQuietly, OpensNone}
+use Rattle.work_pair.specs.Deals.{Deals, DealsQuietly, OpensNone, OpensTwo}
 use Rattle.work_pair.specs.Moves.{Move, Took, Gave, FoundNone, Ended, Moved, HasPushOnFull, HasPopFromFull, IsFromFull}
-use Rattle.work_pair.specs.Moves.{IsOnFull, WasSeenEmpty, EndAtLastTag}
+use Rattle.work_pair.specs.Moves.{IsOnFull, WasSeenEmpty, EndAtLastTag, shelf_of}
 use Rattle.work_pair.specs.PairState.{PairState, empty_pair, IsBacked, IsNew}
 use Rattle.work_pair.specs.declared.stop.Stop.{Stop}
 use Rattle.work_pair.specs.declared.stop.Stop.TheVariants.{TagSpent, OutOfMemory}
 use Rattle.work_pair.specs.working.Asks.{IsBackedAt}
-use Rattle.work_pair.specs.working.Steps.{ClearsAt, PopsOne, Renews, Trades, places, shelf_of}
+use Rattle.work_pair.specs.working.Steps.{ClearsAt, PopsOne, Renews, Trades, places}
 use Rattle.work_pair.proofs.Effects.{busy_after, found_none, move_effect}
 use Rattle.work_pair.proofs.Renewing.{cleared, took_bare, took_size}
 use Rattle.work_pair.proofs.Spilling.{dealt_listed, listed}
@@ -134,6 +134,20 @@ module _ (b : Book) where
           quietly b (Some h) (Some k) None false c
               (on_and_on empty_pair b just mid [] [] (places (Some h) (Some k) None) c one last) (λ x. cc)
               (quiet_on one.moves last.moves (took_quiet h b mid took) (took_quiet k mid c moved)),
+        )
+
+    pub opens_two : (k : HeldBuffer) (c : Book) → PopsOne Empty mid c (Ok (Some k))
+        → OpensTwo b (places (Some h) (Some k) None) c
+    opens_two k c moved =
+        let last = at_second (Some h) None None (Some k) mid c (taken k mid c moved)
+        (sized_after empty_pair b [] [] just mid one) in (
+          from_nothing b (Some h) (Some k) None false c
+              (on_and_on empty_pair b just mid [] [] (places (Some h) (Some k) None) c one last) (λ x. cc),
+          h,
+          k,
+          refl {a = Took Empty h ∷ Took Empty k ∷ []},
+          refl,
+          refl,
         )
 
     -- there was no second one

@@ -7,10 +7,11 @@ use Rattle.mark_core.specs.Lists.{times}
 use Rattle.atomic_table.specs.Seated.{TableId}
 use Rattle.mark_core.specs.Events.{IsBusy}
 use Rattle.buffer_pool.specs.Book.{Book}
-use Rattle.buffer_pool.specs.Calls.{Holder}
-use Rattle.work_pair.specs.Deals.{Balances, Deals, DealsOut, Disposes, PublishesBoth, Puts}
+use Rattle.buffer_pool.specs.Calls.{HeldBuffer, Holder}
+use Rattle.work_pair.specs.Deals.{Balances, Deals, DealsOut, Disposes, Gets, GetsBy, PublishesBoth, Puts, Refills}
+use Rattle.work_pair.specs.Deals.{ShelvesAll}
 use Rattle.work_pair.specs.Moves.{Move, FoundNone, EndAtLastTag, WasSeenEmpty}
-use Rattle.work_pair.specs.PairState.{PairState, buffered_items, pair_items, AreAlike, IsBacked, IsOpen}
+use Rattle.work_pair.specs.PairState.{PairState, buffered_items, pair_items, empty_pair, AreAlike, IsBacked, IsOpen}
 use Rattle.work_pair.specs.declared.buffers.Buffers.{Buffers}
 use Rattle.work_pair.specs.declared.pair.Pair.TheInside.{Inside}
 use Rattle.work_pair.specs.declared.stop.Stop.{Stop}
@@ -26,6 +27,25 @@ use Rattle.work_pair.proofs.Trading.{backed_less, untouched}
 -- a pair as a contract sees it
 abbrev pub seen_as : {A : Type 0} → Inside A → PairState
 seen_as i = listed (places_of i.buffers) i.spill.items i.stopped i.starved
+
+-- what was popped from full does not depend on the list
+refills_of : (p q : PairState) → p.first ≡ q.first → p.second ≡ q.second → (popped : List HeldBuffer)
+    (moves : List Move) (new : PairState) → Refills popped p moves new → Refills popped q moves new
+refills_of p q f s [] moves new r = (r.0, r.1 ∙ f, r.2 ∙ s)
+refills_of p q f s (h ∷ popped) moves new r =
+    (r.0, r.1, refills_of p q f s popped r.1 r.0 r.2, r.3, r.4, r.5, r.6, r.7)
+
+by_rule : {A : Type 0} (i : Inside A) (q : PairState) (moves : List Move) (r : Option ℕ)
+    → GetsBy (places_of i.buffers) moves r q → GetsBy (seen_as i) moves r q
+by_rule i q moves r told = (
+  told.0,
+  told.1,
+  told.2,
+  told.3,
+  told.4,
+  refills_of (places_of i.buffers) (seen_as i) refl refl told.0 told.2 told.1 told.5,
+  told.6,
+)
 
 -- a pair that a contract sees as v
 module _ {A : Type 0} {v : PairState} (i : Inside A) (is : seen_as i ≡ v) where
@@ -188,6 +208,20 @@ module _ {A : Type 0} {v : PairState} (i : Inside A) (is : seen_as i ≡ v) wher
           got_told (Some o) told = gets i.stopped (o ∷ []) told.0 (not_ended going told.0.moves)
           got_told None told = tt
 
+          -- by the rule, which knows of no list
+          pub gets_told : (r : Option ℕ) → GetAnswers (places_of i.buffers) b (places_of q) c (Ok r)
+              → Gets v b r (listed (places_of q) m i.stopped i.starved) c
+          gets_told (Some o) told =
+              subst (λ (w : PairState). Gets w b (Some o) (listed (places_of q) m i.stopped i.starved) c) is (
+                trades m m_is i.stopped i.starved [] (o ∷ []) backed told.0 (not_ended going told.0.moves),
+                by_rule i (places_of q) told.0.moves (Some o) told.2,
+              )
+          gets_told None told =
+              subst (λ (w : PairState). Gets w b None (listed (places_of q) m i.stopped i.starved) c) is (
+                trades m m_is i.stopped i.starved [] [] backed told.0 (not_ended going told.0.moves),
+                by_rule i (places_of q) told.0.moves None told.6,
+              )
+
           pub none_told : m ≡ [] → (r : Option ℕ) → GetAnswers (places_of i.buffers) b (places_of q) c (Ok r)
               → IfNone r (Deals v b [] [] (listed (places_of q) m i.stopped i.starved) c
               × (pair_items (listed (places_of q) m i.stopped i.starved) ≡ []) × WasSeenEmpty Full b c)
@@ -197,6 +231,17 @@ module _ {A : Type 0} {v : PairState} (i : Inside A) (is : seen_as i ≡ v) wher
             ap (λ (k : List ℕ). k ++ buffered_items (places_of q)) empty ∙ told.2,
             told.3,
           )
+
+  -- the buffers were given back one after the other
+  pub shelves : (b : Book) → IsBacked v [] b → (c : Book) (done : Unit)
+      → ClearAnswers (places_of i.buffers) b empty_pair c (Ok done) → ShelvesAll v b c
+  shelves b backed c done told =
+      subst (λ (w : PairState). ShelvesAll w b c) is (
+        dealt_listed (places_of i.buffers) empty_pair [] [] [] [] [] [] i.stopped i.starved false false b c refl refl
+            (λ o. refl) (given_up (places_of i.buffers) i.spill.items i.stopped i.starved b (seen [] b backed))
+            told.0.trades (λ stopped. absurd (false≢true stopped)),
+        told.1,
+      )
 
   -- the buffers were given back, and the list was given up before
   pub disposes : (b : Book) → IsBacked v [] b → (q : PairState) (c : Book) → q.spill ≡ [] → (now starving : Bool)

@@ -13,13 +13,13 @@ use Rattle.buffer_pool.specs.Book.{Book}
 use Rattle.buffer_pool.specs.Calls.{HeldBuffer, Holder}
 use Rattle.work_pair.specs.Moves.{Move, Took, Gave, FoundNone, Ended, Moved, Moves, IsFilled, AreFilled}
 use Rattle.work_pair.specs.Moves.{HasPushOnFull, IsFromFull, IsOnFull, HasPopFromFull}
-use Rattle.work_pair.specs.Moves.{popped_items, popped_numbers, pushed_items, pushed_numbers}
+use Rattle.work_pair.specs.Moves.{popped_items, popped_numbers, pushed_items, pushed_numbers, shelf_of, shelving_of}
 use Rattle.work_pair.specs.PairState.{items_at, buffer_number, IsOfSize}
 use Rattle.work_pair.specs.declared.stop.Stop.{Stop}
 use Rattle.work_pair.specs.declared.stop.Stop.TheVariants.{TagSpent, OutOfMemory}
 use Rattle.work_pair.specs.working.Asks.{IsBackedAt, MayRenew}
 use Rattle.work_pair.specs.working.Steps.{IsFull, Leaves, PopsOne, PublishesAt, PutsOut, Renews, RenewAnswers}
-use Rattle.work_pair.specs.working.Steps.{next_of, pushed_part, shelf_of, shelving_of}
+use Rattle.work_pair.specs.working.Steps.{next_of, pushed_part}
 use Rattle.work_pair.proofs.Looks.{lost_pops}
 use Rattle.work_pair.proofs.Effects.{busy_after, found_none, move_effect}
 use Rattle.work_pair.proofs.Trading.{IsIdle}
@@ -249,7 +249,7 @@ stands place h b is backed =
 
 -- the buffer at a place was pushed
 pub cleared : (size : ℕ) (f : Option HeldBuffer) (b c : Book) → Leaves f b c → (r : Renews size f b None None c)
-    × (items_at f ≡ [] → HasPushOnFull r.moves → ⊥) × (HasPopFromFull r.moves → ⊥)
+    × (items_at f ≡ [] → HasPushOnFull r.moves → ⊥) × (HasPopFromFull r.moves → ⊥) × (r.moves ≡ shelving_of f)
 cleared size f b c left =
     let push = shelving f in
     let r : Renews size f b None None c =
@@ -261,4 +261,4 @@ cleared size f b c left =
       filled = push.filled;
       sized = tt;
       left_sized = tt;
-    } in (r, push.quiet, push.out)
+    } in (r, push.quiet, push.out, refl)

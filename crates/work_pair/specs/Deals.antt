@@ -5,7 +5,7 @@ use Rattle.mark_core.specs.declared.which.Which.TheVariants.{Full, Empty}
 use Rattle.buffer_pool.specs.Book.{Book}
 use Rattle.buffer_pool.specs.Calls.{HeldBuffer}
 use Rattle.work_pair.specs.Moves.{Move, Took, Gave, FoundNone, Moves, popped_items, popped_numbers, pushed_items}
-use Rattle.work_pair.specs.Moves.{pushed_numbers, AreFilled, HasPushOnFull, HasPopFromFull, EndAtLastTag}
+use Rattle.work_pair.specs.Moves.{pushed_numbers, AreFilled, HasPushOnFull, HasPopFromFull, EndAtLastTag, shelving_of}
 use Rattle.work_pair.specs.PairState.{PairState, buffered_items, pair_items, items_at, numbers_of, empty_pair}
 use Rattle.work_pair.specs.PairState.{without_spill}
 use Rattle.work_pair.specs.PairState.{HasRoom, IsBacked, SameNumbers}
@@ -66,6 +66,12 @@ OpensNone before after =
     (deals : Deals empty_pair before [] [] empty_pair after)
     × ((deals.moves ≡ FoundNone Empty ∷ [])
     ⊎ ((h : HeldBuffer) × (deals.moves ≡ Took Empty h ∷ FoundNone Empty ∷ Gave Empty h ∷ [])))
+
+-- a pair was opened: of two buffers that were popped from empty, the one that was popped first in its first place
+abbrev pub OpensTwo : Book → PairState → Book → Type 0
+OpensTwo before opened after =
+    (deals : Deals empty_pair before [] [] opened after) × (h : HeldBuffer) × (k : HeldBuffer)
+    × (deals.moves ≡ Took Empty h ∷ Took Empty k ∷ []) × (opened.first ≡ Some h) × (opened.second ≡ Some k)
 
 -- the push of the buffer at a place
 abbrev pub push_of : Option HeldBuffer → List Move
@@ -145,6 +151,54 @@ Puts old before object new after =
     × ((HasRoom old × (deals.moves ≡ []))
     ⊎ ((deals.moves ≡ FoundNone Empty ∷ []) ⊎ FillsNext old object deals.moves new))
 
+-- the last item of the buffer at a place was taken out of it
+abbrev pub TakesLast : Option HeldBuffer → ℕ → Option HeldBuffer → Type 0
+TakesLast old object new =
+    (h : HeldBuffer) × (rest : List ℕ) × (old ≡ Some h) × (h.items ≡ rest ++ object ∷ [])
+    × (new ≡ Some (record h { items = rest }))
+
+-- it was the first buffer; or that had none, and it was the second, and then the two have changed places
+abbrev pub TakesOwn : PairState → ℕ → PairState → Type 0
+TakesOwn old object new =
+    (TakesLast old.first object new.first × (new.second ≡ old.second))
+    ⊎ ((items_at old.first ≡ []) × TakesLast old.second object new.first × (new.second ≡ old.first))
+
+-- neither buffer had an item, and the two have changed places
+abbrev pub FindsNoOwn : PairState → PairState → Type 0
+FindsNoOwn old new =
+    (items_at old.first ≡ []) × (items_at old.second ≡ [])
+    × (new.first ≡ old.second) × (new.second ≡ old.first)
+
+-- these buffers were popped from full, the last one first in the list, each where neither of the pair's had an item; it
+-- is the first then, and the first the second, and the second was pushed on empty
+abbrev pub Refills : List HeldBuffer → PairState → List Move → PairState → Type 0
+Refills [] old moves new = (moves ≡ []) × (new.first ≡ old.first) × (new.second ≡ old.second)
+Refills (h ∷ popped) old moves new =
+    (mid : PairState) × (before : List Move) × Refills popped old before mid
+    × (items_at mid.first ≡ []) × (items_at mid.second ≡ [])
+    × (moves ≡ before ++ Took Full h ∷ shelving_of mid.second)
+    × (new.first ≡ Some h) × (new.second ≡ mid.first)
+
+-- how a get ends: with an object of the pair's own, or where there is none with a look that found none on full
+abbrev pub EndsGet : PairState → List Move → Option ℕ → PairState → Type 0
+EndsGet old moves (Some object) new = (moves ≡ []) × TakesOwn old object new
+EndsGet old moves None new = (moves ≡ FoundNone Full ∷ []) × FindsNoOwn old new
+
+abbrev pub GetsBy : PairState → List Move → Option ℕ → PairState → Type 0
+GetsBy old moves got new =
+    (popped : List HeldBuffer) × (mid : PairState) × (refilling : List Move) × (last : List Move)
+    × (moves ≡ refilling ++ last) × Refills popped old refilling mid × EndsGet mid last got new
+
+-- what was got, as a list
+abbrev pub got_of : Option ℕ → List ℕ
+got_of None = []
+got_of (Some object) = object ∷ []
+
+-- an object was got from the buffers, or none was left
+abbrev pub Gets : PairState → Book → Option ℕ → PairState → Book → Type 0
+Gets old before got new after =
+    (deals : Deals old before [] (got_of got) new after) × GetsBy old deals.moves got new
+
 -- a call that gave buffers back, none of them on full where there were no items in them, and popped nothing from full;
 -- a spill list was given up before
 abbrev pub Disposes : PairState → Book → PairState → Book → Type 0
@@ -152,3 +206,9 @@ Disposes old before new after =
     (deals : Deals (without_spill old) before [] [] new after)
     × (buffered_items old ≡ [] → HasPushOnFull deals.moves → ⊥)
     × (HasPopFromFull deals.moves → ⊥)
+
+-- all were given back, one after the other, each on full if it has items, and else on empty
+abbrev pub ShelvesAll : PairState → Book → Book → Type 0
+ShelvesAll old before after =
+    (deals : Deals (without_spill old) before [] [] empty_pair after)
+    × (deals.moves ≡ shelving_of old.first ++ shelving_of old.second ++ shelving_of old.third)

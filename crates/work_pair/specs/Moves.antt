@@ -1,5 +1,5 @@
 -- What a call of a pair does with the stacks of its pool.
-use Rattle.std.specs.Prelude.{◌≡◌, ◌≢◌, ◌⊎◌, ℕ, ◌<◌, List, [], ◌∷◌, ◌++◌}
+use Rattle.std.specs.Prelude.{◌≡◌, ◌≢◌, ◌⊎◌, ℕ, ◌<◌, List, [], ◌∷◌, ◌++◌, Option, Some, None}
 use Rattle.mark_core.specs.declared.which.Which.{Which}
 use Rattle.mark_core.specs.declared.which.Which.TheVariants.{Full, Empty}
 use Rattle.buffer_pool.specs.Book.{Book, empties_of}
@@ -29,6 +29,16 @@ Moved (Ended q) old new = Pops q old new pop.Spent ⊎ ((h : HeldBuffer) × MayP
 abbrev pub Moves : Book → List Move → Book → Type 0
 Moves old [] new = new ≡ old
 Moves old (move ∷ moves) new = (mid : Book) × Moved move old mid × Moves mid moves new
+
+-- the stack for a buffer with these items: full where there are some, and else empty
+abbrev pub shelf_of : List ℕ → Which
+shelf_of [] = Empty
+shelf_of (o ∷ os) = Full
+
+-- the push of the buffer at a place, if there is one, to the stack that it belongs on
+abbrev pub shelving_of : Option HeldBuffer → List Move
+shelving_of None = []
+shelving_of (Some h) = Gave (shelf_of h.items) h ∷ []
 
 -- the items and the numbers of the buffers popped
 abbrev pub taken_items : Move → List ℕ

@@ -47,8 +47,8 @@ impl<A: Allocator> Pair<A> {
     ghost use Rattle.std.specs.Prelude.{IfErr, IfNone, IfOk, IfSome, IsOk, OnOk, length};
     ghost use Rattle.mark_core.specs.Events.{IsBusy};
     ghost use Rattle.mark_core.specs.declared.which.Which.TheVariants.{Empty, Full};
-    ghost use Rattle.work_pair.specs.Deals.{Balances, Deals, DealsOut, DealsQuietly, Disposes, HasMore, OpensNone};
-    ghost use Rattle.work_pair.specs.Deals.{PublishesBoth, Puts};
+    ghost use Rattle.work_pair.specs.Deals.{Balances, Deals, DealsOut, DealsQuietly, Disposes, Gets, HasMore};
+    ghost use Rattle.work_pair.specs.Deals.{OpensNone, OpensTwo, PublishesBoth, Puts, ShelvesAll};
     ghost use Rattle.work_pair.specs.Moves.{FoundNone, WasSeenEmpty};
     ghost use Rattle.work_pair.specs.PairState.{AreAlike, HasRoom, HasStopped, IsBacked, IsNew, IsOpen, PairState};
     ghost use Rattle.work_pair.specs.PairState.{buffered_items, pair_items, empty_pair};
@@ -92,6 +92,7 @@ impl<A: Allocator> Pair<A> {
         ensures pool { worker.new.pool ≡ worker.old.pool }
         ensures opened { IfOk result (λ r. IfSome r (λ p. IsNew p × DealsQuietly empty_pair worker.old.book p
             worker.new.book)) }
+        ensures two { IfOk result (λ r. IfSome r (λ p. OpensTwo worker.old.book p worker.new.book)) }
         ensures none { IfOk result (λ r. IfNone r (DealsQuietly empty_pair worker.old.book empty_pair worker.new.book
             × WasSeenEmpty Empty worker.old.book worker.new.book)) }
         ensures not_found { IfOk result (λ r. IfNone r (OpensNone worker.old.book worker.new.book)) }
@@ -169,6 +170,8 @@ impl<A: Allocator> Pair<A> {
             worker.new.book)) }
         ensures none { IfOk result (λ r. IfNone r (Deals self.old worker.old.book [] [] self.new worker.new.book
             × (pair_items self.new ≡ []) × WasSeenEmpty Full worker.old.book worker.new.book)) }
+        ensures gets { self.old.spill ≡ [] → IfOk result (λ r. Gets self.old worker.old.book r self.new
+            worker.new.book) }
         ensures own { pair_items self.old ≢ [] → (worker.new ≡ worker.old) × IsOk result }
         ensures last { (o : ℕ) (rest : List ℕ) → self.old.spill ≡ rest ++ o ∷ [] → (result ≡ Ok (Some o)) × (self.new
             ≡ record self.old { spill = rest }) }
@@ -271,6 +274,7 @@ impl<A: Allocator> Pair<A> {
         requires spill { (self.spill ≡ []) ⊎ HasStopped self }
         ensures pool { worker.new.pool ≡ worker.old.pool }
         ensures gone { OnOk result (Disposes self worker.old.book empty_pair worker.new.book) }
+        ensures shelved { OnOk result (ShelvesAll self worker.old.book worker.new.book) }
         ensures spent { IfErr result (λ e. (e.1 ≡ TagSpent) × (e.0.stopped ≡ true) × (e.0.spill ≡ [])
             × Disposes self worker.old.book e.0 worker.new.book) }
     {

@@ -1,15 +1,16 @@
 -- What the parts of a call of a pair tell.
-use Rattle.std.specs.Prelude.{◌≡◌, ◌≢◌, ◌⊎◌, ℕ, ◌+◌, false, Bool, true, List, [], ◌∷◌, Option, Some, None, Result, Ok}
-use Rattle.std.specs.Prelude.{Err}
+use Rattle.std.specs.Prelude.{◌≡◌, ◌≢◌, ◌⊎◌, ℕ, ◌+◌, false, Bool, true, List, [], ◌∷◌, ◌++◌, Option, Some, None, Result}
+use Rattle.std.specs.Prelude.{Ok, Err}
 use Rattle.mark_core.specs.declared.which.Which.{Which}
 use Rattle.mark_core.specs.declared.which.Which.TheVariants.{Full, Empty}
 use Rattle.mark_core.specs.Lists.{times}
 use Rattle.buffer_pool.specs.Book.{Book}
 use Rattle.buffer_pool.specs.Calls.{HeldBuffer}
-use Rattle.work_pair.specs.Deals.{FillsNext, Gives, HasMore, Publishes, PublishesPlace, lower_part, upper_half}
+use Rattle.work_pair.specs.Deals.{FillsNext, FindsNoOwn, GetsBy, Gives, HasMore, Publishes, PublishesPlace}
+use Rattle.work_pair.specs.Deals.{TakesOwn, lower_part, upper_half}
 use Rattle.work_pair.specs.Moves.{Move, Took, Gave, FoundNone, Ended, Moved, Moves, popped_items, popped_numbers}
 use Rattle.work_pair.specs.Moves.{pushed_items, pushed_numbers, AreFilled, HasPushOnFull, HasPopFromFull, EndAtLastTag}
-use Rattle.work_pair.specs.Moves.{WasSeenEmpty}
+use Rattle.work_pair.specs.Moves.{WasSeenEmpty, shelf_of, shelving_of}
 use Rattle.work_pair.specs.PairState.{PairState, items_at, buffer_number, pair_items, numbers_of, empty_pair, IsOfSize}
 use Rattle.work_pair.specs.PairState.{AreOfSize}
 use Rattle.work_pair.specs.PairState.{AreAlike, HasRoom}
@@ -20,11 +21,6 @@ use Rattle.work_pair.specs.declared.stop.Stop.TheVariants.{TagSpent, OutOfMemory
 abbrev pub places : Option HeldBuffer → Option HeldBuffer → Option HeldBuffer → PairState
 places first second third =
     record { first = first; second = second; third = third; spill = []; stopped = false; starved = false }
-
--- the stack for a buffer with these items
-abbrev pub shelf_of : List ℕ → Which
-shelf_of [] = Empty
-shelf_of (o ∷ os) = Full
 
 -- one pop
 abbrev pub PopsOne : Which → Book → Book → Result (Option HeldBuffer) Stop → Type 0
@@ -65,9 +61,9 @@ pub record IsLocal (old new : PairState) (put got : List ℕ) : Type 0 where
   pub sized : (size : ℕ) → AreOfSize size old → AreOfSize size new
 
 abbrev pub Takes : PairState → PairState → Option ℕ → Type 0
-Takes old new (Some object) = IsLocal old new [] (object ∷ []) × (new.third ≡ old.third)
-Takes old new None = IsLocal old new [] [] × (new.third ≡ old.third) × (items_at new.first ≡ [])
-    × (items_at new.second ≡ []) × (items_at old.first ≡ []) × (items_at old.second ≡ [])
+Takes old new (Some object) =
+    IsLocal old new [] (object ∷ []) × (new.third ≡ old.third) × TakesOwn old object new
+Takes old new None = IsLocal old new [] [] × (new.third ≡ old.third) × FindsNoOwn old new
 
 -- what was done with one place: its buffer before, the buffer there after, and the one left over
 pub record Renews (size : ℕ) (old : Option HeldBuffer) (before : Book) (new third : Option HeldBuffer) (after : Book)
@@ -86,11 +82,6 @@ pub record Renews (size : ℕ) (old : Option HeldBuffer) (before : Book) (new th
 abbrev pub IsFull : Which → Type 0
 IsFull Full = Unit {0}
 IsFull Empty = ⊥
-
--- the push of the buffer at a place, to the stack that it belongs on
-abbrev pub shelving_of : Option HeldBuffer → List Move
-shelving_of None = []
-shelving_of (Some h) = Gave (shelf_of h.items) h ∷ []
 
 -- what is pushed of the buffer at a place, and what the next one is: all of it and the one that was popped, or where it
 -- is halved its lower part and the one popped with the upper half
@@ -164,10 +155,12 @@ PutAnswers object old before new after (Ok false) = FindsNone old before new aft
 PutAnswers object old before new after (Err stop) = EndsOut old before new after stop
 
 abbrev pub GetAnswers : PairState → Book → PairState → Book → Result (Option ℕ) Stop → Type 0
-GetAnswers old before new after (Ok (Some object)) = Trades old before [] (object ∷ []) new after × (new.third ≡ None)
+GetAnswers old before new after (Ok (Some object)) =
+    (t : Trades old before [] (object ∷ []) new after) × (new.third ≡ None) × GetsBy old t.moves (Some object) new
 GetAnswers old before new after (Ok None) =
-    Trades old before [] [] new after × (new.third ≡ None) × (pair_items new ≡ []) × WasSeenEmpty Full before after
-    × (after.account.open_push ≡ false) × (after.account.found ≡ true)
+    (t : Trades old before [] [] new after) × (new.third ≡ None) × (pair_items new ≡ [])
+    × WasSeenEmpty Full before after × (after.account.open_push ≡ false) × (after.account.found ≡ true)
+    × GetsBy old t.moves None new
 GetAnswers old before new after (Err stop) = Ends old before new after stop
 
 abbrev pub BalanceAnswers : PairState → Book → PairState → Book → Result Unit Stop → Type 0
@@ -189,6 +182,7 @@ pub record Clears (old : PairState) (before : Book) (new : PairState) (after : B
   pub out : HasPopFromFull trades.moves → ⊥
 
 abbrev pub ClearAnswers : PairState → Book → PairState → Book → Result Unit Stop → Type 0
-ClearAnswers old before new after (Ok done) = Clears old before empty_pair after
+ClearAnswers old before new after (Ok done) = (c : Clears old before empty_pair after)
+    × (c.trades.moves ≡ shelving_of old.first ++ shelving_of old.second ++ shelving_of old.third)
 ClearAnswers old before new after (Err TagSpent) = (c : Clears old before new after) × EndAtLastTag c.trades.moves
 ClearAnswers old before new after (Err OutOfMemory) = ⊥

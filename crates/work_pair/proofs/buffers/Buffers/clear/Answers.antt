@@ -35,11 +35,11 @@ clear_at-requires-2 g c =
     let left = places None m.second m.third in
     let once = first_cleared m.first m.second m.third b sized mid c.clear_at.new.place c.in_ok-clear_at.field-0
     c.in_ok-clear_at.ensures.clears in
-    let backed = backed_then m.first m.second m.third b sized mid left c.requires.backed once in
+    let backed = backed_then m.first m.second m.third b sized mid left c.requires.backed once.0 in
     record {
       pool = c.clear_at.ensures.pool ∙ c.requires.pool;
       backed = second_backed left [] mid backed;
-      busy = second_busy m.first m.second m.third b c.requires.busy left mid once;
+      busy = second_busy m.first m.second m.third b c.requires.busy left mid once.0;
     }
 
 pub returns-in_err-clear_at-2-clause-clears : goal.returns-in_err-clear_at-2-clause-clears
@@ -51,7 +51,7 @@ returns-in_err-clear_at-2-clause-clears g c =
     c.clear_at-2.new.worker.book c.clear_at.new.place c.clear_at-2.new.place c.in_err-clear_at-2.field-0.0
     c.in_ok-clear_at.ensures.clears.0
     (first_cleared m.first m.second m.third c.args.worker.now.book c.requires.backed.sized c.clear_at.new.worker.book
-    c.clear_at.new.place c.in_ok-clear_at.field-0 c.in_ok-clear_at.ensures.clears)
+    c.clear_at.new.place c.in_ok-clear_at.field-0 c.in_ok-clear_at.ensures.clears).0
     c.in_err-clear_at-2.ensures.clears)
 
 pub clear_at-requires-3 : goal.clear_at-requires-3
@@ -66,11 +66,11 @@ clear_at-requires-3 g c =
     c.in_ok-clear_at.ensures.clears in
     let twice = second_cleared m.first m.second m.third b sized mid last c.clear_at-2.new.place
     c.in_ok-clear_at-2.field-0 once c.in_ok-clear_at-2.ensures.clears in
-    let backed = backed_then m.first m.second m.third b sized last left c.requires.backed twice in
+    let backed = backed_then m.first m.second m.third b sized last left c.requires.backed twice.0 in
     record {
       pool = c.clear_at-2.ensures.pool ∙ c.clear_at.ensures.pool ∙ c.requires.pool;
       backed = third_backed left [] last backed;
-      busy = third_busy m.first m.second m.third b c.requires.busy left last twice;
+      busy = third_busy m.first m.second m.third b c.requires.busy left last twice.0;
     }
 
 pub returns-clause-clears : goal.returns-clause-clears

@@ -19,7 +19,7 @@ loop-init g c =
     record {
       pool = refl;
       third = c.requires.third;
-      trades = untouched p c.args.worker.now.book c.requires.backed.sized;
+      trades = (untouched p c.args.worker.now.book c.requires.backed.sized, [], (refl, refl, refl));
       own = λ some. (refl, some);
     }
 
@@ -40,25 +40,27 @@ popped g c = subst (λ (r : Option HeldBuffer). PopsOne Full c.loop.worker.book 
 pub returns-in-Some-take-clause-gets : goal.returns-in-Some-take-clause-gets
 returns-in-Some-take-clause-gets g c =
     got (places_of c.args.self.now) c.args.worker.now.book c.requires.backed c.loop.self c.loop.worker.book
-    c.loop.invariant.trades c.loop.invariant.third c.take.new.self c.in-Some-take.object c.in-Some-take.ensures
+    c.loop.invariant.trades.0 c.loop.invariant.third c.loop.invariant.trades.1 c.loop.invariant.trades.2 c.take.new.self
+    c.in-Some-take.object c.in-Some-take.ensures
 
 pub pop_one-requires-clause-busy : goal.pop_one-requires-clause-busy
 pop_one-requires-clause-busy g c =
     now_busy (places_of c.args.self.now) c.args.worker.now.book c.requires.backed c.loop.self c.loop.worker.book
-    c.loop.invariant.trades c.loop.invariant.third c.requires.busy
+    c.loop.invariant.trades.0 c.loop.invariant.third c.requires.busy
 
 pub returns-in_err-next-clause-gets : goal.returns-in_err-next-clause-gets
 returns-in_err-next-clause-gets g c =
     let p = err_from_is_err_and c.from_residual.result c.from_residual.ensures.1 in
     rw (p.1, p.2)
     (pop_stopped (places_of c.args.self.now) c.args.worker.now.book c.requires.backed c.loop.self c.loop.worker.book
-    c.loop.invariant.trades c.loop.invariant.third c.take.new.self c.in_default.ensures c.pop_one.new.worker.book
+    c.loop.invariant.trades.0 c.loop.invariant.third c.take.new.self c.in_default.ensures c.pop_one.new.worker.book
     c.in_err-next.field-0.0 c.in_err-next.ensures.pops)
 
 pub returns-in_default-2-clause-gets : goal.returns-in_default-2-clause-gets
 returns-in_default-2-clause-gets g c =
     none_got (places_of c.args.self.now) c.args.worker.now.book c.requires.backed c.loop.self c.loop.worker.book
-    c.loop.invariant.trades c.loop.invariant.third c.take.new.self c.in_default.ensures c.pop_one.new.worker.book
+    c.loop.invariant.trades.0 c.loop.invariant.third c.take.new.self c.in_default.ensures c.loop.invariant.trades.1
+    c.loop.invariant.trades.2 c.pop_one.new.worker.book
     (subst (λ (r : Option HeldBuffer). PopsOne Full c.loop.worker.book c.pop_one.new.worker.book (Ok r))
     c.in_default-2.is c.in_ok-next.ensures.pops)
 
@@ -73,9 +75,9 @@ put_out-requires g c =
     record {
       same = c.pop_one.ensures.pool ∙ so_far.pool ∙ c.requires.same;
       vacant = c.in_default.ensures.1 ∙ so_far.third;
-      backed = backed_at_first old b c.requires.backed c.loop.self c.loop.worker.book so_far.trades so_far.third
+      backed = backed_at_first old b c.requires.backed c.loop.self c.loop.worker.book so_far.trades.0 so_far.third
           c.take.new.self c.in_default.ensures next mid took;
-      busy = busy_here old b c.requires.backed c.loop.self c.loop.worker.book so_far.trades so_far.third
+      busy = busy_here old b c.requires.backed c.loop.self c.loop.worker.book so_far.trades.0 so_far.third
           c.take.new.self c.in_default.ensures next mid took c.requires.busy;
     }
 
@@ -83,9 +85,10 @@ pub loop-preserved : goal.loop-preserved
 loop-preserved g c =
     let both =
     turned (places_of c.args.self.now) c.args.worker.now.book c.requires.backed c.loop.self c.loop.worker.book
-    c.loop.invariant.trades c.loop.invariant.third c.take.new.self c.in_default.ensures c.in-Some-2.next
+    c.loop.invariant.trades.0 c.loop.invariant.third c.take.new.self c.in_default.ensures c.in-Some-2.next
     c.pop_one.new.worker.book (popped g (goal.at.loop-preserved g c).In-Some-2) c.put_out.new.place
-    c.put_out.new.third c.put_out.new.worker.book c.in_ok-put_out.field-0 c.in_ok-put_out.ensures.out in
+    c.put_out.new.third c.put_out.new.worker.book c.loop.invariant.trades.1 c.loop.invariant.trades.2
+    c.in_ok-put_out.field-0 c.in_ok-put_out.ensures.out in
     record {
       pool = c.put_out.ensures.pool ∙ c.pop_one.ensures.pool ∙ c.loop.invariant.pool;
       third = both.1;
@@ -98,7 +101,7 @@ returns-in_err-put_out-clause-gets g c =
     let p = err_from_is_err_and c.from_residual-in_err-put_out.result c.from_residual-in_err-put_out.ensures.1 in
     rw (p.1, p.2)
     (put_stopped (places_of c.args.self.now) c.args.worker.now.book c.requires.backed c.loop.self c.loop.worker.book
-    c.loop.invariant.trades c.loop.invariant.third c.take.new.self c.in_default.ensures c.in-Some-2.next
+    c.loop.invariant.trades.0 c.loop.invariant.third c.take.new.self c.in_default.ensures c.in-Some-2.next
     c.pop_one.new.worker.book (popped g (goal.at.returns-in_err-put_out-clause-gets g c).In-Some-2)
     c.put_out.new.place c.put_out.new.third c.put_out.new.worker.book c.in_err-put_out.field-0.0
     c.in_err-put_out.ensures.out)

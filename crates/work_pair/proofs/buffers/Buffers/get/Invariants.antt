@@ -2,7 +2,7 @@
 use Rattle.std.proofs.Common.{◌≡◌, ◌≢◌, [], None}
 use Rattle.work_pair.specs.PairState.{pair_items}
 use Rattle.work_pair.specs.working.Buffers.{places_of}
-use Rattle.work_pair.specs.working.Steps.{Trades}
+use Rattle.work_pair.proofs.Getting.{RefillsBy}
 use Rattle.work_pair.proofs.buffers.Buffers.get.Given as goal
 
 abbrev pub invariant-loop : goal.invariant-loop
@@ -10,8 +10,7 @@ invariant-loop g l =
     record {
       pool : l.worker.pool ≡ l.initial.worker.pool;
       third : l.self.third ≡ None;
-      trades : Trades (places_of l.initial.self) l.initial.worker.book
-          [] [] (places_of l.self) l.worker.book;
+      trades : RefillsBy (places_of l.initial.self) l.initial.worker.book (places_of l.self) l.worker.book;
       own : pair_items (places_of l.initial.self) ≢ []
           → (l.worker ≡ l.initial.worker) × (pair_items (places_of l.self) ≢ []);
     }

@@ -1,5 +1,5 @@
 -- The object comes from the first place, or from the second once the two have changed places.
-use Rattle.std.proofs.Common.{refl, ◌∙◌}
+use Rattle.std.proofs.Common.{Some, ap, inl, refl, ◌∙◌}
 use Rattle.work_pair.proofs.Locals.{take_first, taken_second}
 use Rattle.work_pair.proofs.buffers.Buffers.take.Goals as goal
 
@@ -10,6 +10,7 @@ returns-in-Some g c =
       take_first m.first m.second m.third told.0 told.1 c.in-Some.object c.take_at.new.place told.2 told.3 told.4
           told.5,
       refl,
+      inl ((told.0, told.1.items, told.2, told.4, told.3 ∙ ap Some told.5), refl),
     )
 
 pub returns : goal.returns

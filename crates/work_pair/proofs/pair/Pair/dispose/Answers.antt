@@ -4,7 +4,7 @@ use Rattle.std.proofs.lemmas.Bool.{false≢true}
 use Rattle.work_pair.specs.PairState.{pair_items, empty_pair}
 use Rattle.work_pair.specs.working.Buffers.{places_of}
 use Rattle.work_pair.proofs.Calls.{none_last}
-use Rattle.work_pair.proofs.Pairs.{clears_told, disposes, inner}
+use Rattle.work_pair.proofs.Pairs.{clears_told, disposes, inner, shelves}
 use Rattle.work_pair.proofs.pair.Pair.dispose.Goals as goal
 
 pub clear-requires-clause-backed : goal.clear-requires-clause-backed
@@ -20,7 +20,12 @@ clear-requires-clause-busy g c some =
 pub returns-in-Ok-clause-gone : goal.returns-in-Ok-clause-gone
 returns-in-Ok-clause-gone g c =
     disposes c.self.inside c.self.view_is c.args.worker.now.book c.requires.backed empty_pair c.clear.new.worker.book
-    refl false false [] refl c.in-Ok.ensures.clears (λ stopped. absurd (false≢true stopped))
+    refl false false [] refl c.in-Ok.ensures.clears.0 (λ stopped. absurd (false≢true stopped))
+
+pub returns-in-Ok-clause-shelved : goal.returns-in-Ok-clause-shelved
+returns-in-Ok-clause-shelved g c =
+    shelves c.self.inside c.self.view_is c.args.worker.now.book c.requires.backed c.clear.new.worker.book tt
+    c.in-Ok.ensures.clears
 
 pub returns-in-Err-clause-spent : goal.returns-in-Err-clause-spent
 returns-in-Err-clause-spent g c =

@@ -1,7 +1,9 @@
 -- The last object of the list, or what the buffers tell of a get, told of the pair.
-use Rattle.std.proofs.Common.{◌∙◌, [], sym, arith}
+use Rattle.std.proofs.Common.{◌∙◌, [], ◌∷◌, length, ap, sym, arith}
 use Rattle.std.proofs.lemmas.List.{append-nil}
-use Rattle.work_pair.proofs.Pairs.{get_stops, got_told, may_trade, none_told, takes_last}
+use Rattle.work_pair.specs.PairState.{PairState}
+use Rattle.work_pair.proofs.Calls.{none_last}
+use Rattle.work_pair.proofs.Pairs.{get_stops, gets_told, got_told, may_trade, none_told, takes_last}
 use Rattle.work_pair.proofs.Spilling.{none_in}
 use Rattle.work_pair.proofs.pair.Pair.get.Goals as goal
 
@@ -20,6 +22,19 @@ returns-in-Ok-clause-got g c =
     let m = c.pop.new.self.items in
     got_told c.self.inside c.self.view_is c.args.worker.now.book c.get.new.self c.get.new.worker.book c.requires.backed
     m (sym (c.in_default.ensures.items ∙ append-nil m)) c.requires.going c.in-Ok.got c.in-Ok.ensures.gets
+
+pub returns-in-Some-clause-gets : goal.returns-in-Some-clause-gets
+returns-in-Some-clause-gets g c none =
+    let m = c.pop.new.self.items in
+    let empty = sym c.in-Some.ensures.items ∙ ap (λ (w : PairState). w.spill) c.self.view_is ∙ none in
+    absurd (omega (arith, ap length (none_last m (c.in-Some.object ∷ []) empty)))
+
+pub returns-in-Ok-clause-gets : goal.returns-in-Ok-clause-gets
+returns-in-Ok-clause-gets g c none =
+    let m = c.pop.new.self.items in
+    gets_told c.self.inside c.self.view_is c.args.worker.now.book c.get.new.self c.get.new.worker.book
+    c.requires.backed m (sym (c.in_default.ensures.items ∙ append-nil m)) c.requires.going c.in-Ok.got
+    c.in-Ok.ensures.gets
 
 pub returns-in-Ok-clause-none : goal.returns-in-Ok-clause-none
 returns-in-Ok-clause-none g c =

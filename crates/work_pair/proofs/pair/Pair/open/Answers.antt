@@ -4,10 +4,10 @@ use Rattle.std.proofs.lemmas.Result.{err_from_is_err_and}
 use Rattle.mark_core.specs.declared.which.Which.TheVariants.{Empty}
 use Rattle.buffer_pool.specs.Calls.{HeldBuffer}
 use Rattle.work_pair.specs.PairState.{PairState, IsNew, empty_pair}
-use Rattle.work_pair.specs.Deals.{DealsQuietly}
+use Rattle.work_pair.specs.Deals.{DealsQuietly, OpensTwo}
 use Rattle.work_pair.specs.working.Steps.{PopsOne}
 use Rattle.work_pair.proofs.Opening.{back_backed, back_busy, back_stopped, both_taken, first_missing, first_stopped}
-use Rattle.work_pair.proofs.Opening.{first_unfound, gave_back, given_back, one_busy, second_stopped}
+use Rattle.work_pair.proofs.Opening.{first_unfound, gave_back, given_back, one_busy, opens_two, second_stopped}
 use Rattle.work_pair.proofs.pair.Pair.open.Given as given
 use Rattle.work_pair.proofs.pair.Pair.open.Goals.{In-Some, In_default, In_default-2}
 use Rattle.work_pair.proofs.pair.Pair.open.Goals as goal
@@ -69,6 +69,16 @@ returns-in-Some-2-clause-opened g c =
     let last = c.pop_one-2.new.worker.book in
     subst (λ (p : PairState). IsNew p × DealsQuietly empty_pair b p last) (sym c.of.ensures)
     (both_taken b c.in-Some.first mid (took_first g (goal.at.returns-in-Some-2-clause-opened g c).In-Some)
+    c.in-Some-2.second last
+    (subst (λ (r : Option HeldBuffer). PopsOne Empty mid last (Ok r)) c.in-Some-2.is c.in_ok-second.ensures.pops))
+
+pub returns-in-Some-2-clause-two : goal.returns-in-Some-2-clause-two
+returns-in-Some-2-clause-two g c =
+    let b = c.args.worker.now.book in
+    let mid = c.pop_one.new.worker.book in
+    let last = c.pop_one-2.new.worker.book in
+    subst (λ (p : PairState). OpensTwo b p last) (sym c.of.ensures)
+    (opens_two b c.in-Some.first mid (took_first g (goal.at.returns-in-Some-2-clause-two g c).In-Some)
     c.in-Some-2.second last
     (subst (λ (r : Option HeldBuffer). PopsOne Empty mid last (Ok r)) c.in-Some-2.is c.in_ok-second.ensures.pops))
 
