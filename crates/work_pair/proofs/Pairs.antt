@@ -167,14 +167,8 @@ module _ {A : Type 0} {v : PairState} (i : Inside A) (is : seen_as i ≡ v) wher
             )
 
         pub publishes : PublishAnswers (places_of i.buffers) b (places_of q) c (Ok done)
-            → DealsOut v b (listed (places_of q) i.spill.items i.stopped i.starved) c
-        publishes told =
-            subst (λ (w : PairState). DealsOut w b (listed (places_of q) i.spill.items i.stopped i.starved) c) is
-            (trades i.spill.items refl i.stopped i.starved [] [] backed told.0 (not_ended going told.0.moves), told.3)
-
-        pub publishes_both : PublishAnswers (places_of i.buffers) b (places_of q) c (Ok done)
             → PublishesBoth v b (listed (places_of q) i.spill.items i.stopped i.starved) c
-        publishes_both told =
+        publishes told =
             subst (λ (w : PairState). PublishesBoth w b (listed (places_of q) i.spill.items i.stopped i.starved) c) is
             (trades i.spill.items refl i.stopped i.starved [] [] backed told.0 (not_ended going told.0.moves), told.4)
 

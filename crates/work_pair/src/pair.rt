@@ -241,7 +241,6 @@ impl<A: Allocator> Pair<A> {
         ensures none_left { OnOk result (WasSeenEmpty Empty worker.old.book worker.new.book ⊎ (buffered_items self.new
             ≡ [])) }
         ensures published { OnOk result (Deals self.old worker.old.book [] [] self.new worker.new.book) }
-        ensures only_gives { OnOk result (DealsOut self.old worker.old.book self.new worker.new.book) }
         ensures publishes { OnOk result (PublishesBoth self.old worker.old.book self.new worker.new.book) }
         ensures nothing { buffered_items self.old ≡ [] → (self.new ≡ self.old) × (worker.new ≡ worker.old)
             × IsOk result }

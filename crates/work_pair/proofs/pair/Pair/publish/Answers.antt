@@ -1,17 +1,12 @@
 -- What the buffers tell of a publishing, told of the pair; its list stays.
 use Rattle.std.proofs.Common.{[]}
-use Rattle.work_pair.proofs.Pairs.{may_trade, publishes, publishes_both, stops}
+use Rattle.work_pair.proofs.Pairs.{may_trade, publishes, stops}
 use Rattle.work_pair.proofs.pair.Pair.publish.Goals as goal
 
 pub publish-requires : goal.publish-requires
 publish-requires g c =
     may_trade c.self.inside c.self.view_is c.args.worker.now c.args.pool.now [] c.requires.pool c.requires.going
     c.requires.backed c.requires.busy
-
-pub returns-in-Ok-clause-only_gives : goal.returns-in-Ok-clause-only_gives
-returns-in-Ok-clause-only_gives g c =
-    publishes c.self.inside c.self.view_is c.args.worker.now.book c.publish.new.self c.publish.new.worker.book
-    c.requires.backed c.requires.going tt c.in-Ok.ensures.publishes
 
 pub returns-in-Ok-clause-published : goal.returns-in-Ok-clause-published
 returns-in-Ok-clause-published g c =
@@ -20,7 +15,7 @@ returns-in-Ok-clause-published g c =
 
 pub returns-in-Ok-clause-publishes : goal.returns-in-Ok-clause-publishes
 returns-in-Ok-clause-publishes g c =
-    publishes_both c.self.inside c.self.view_is c.args.worker.now.book c.publish.new.self c.publish.new.worker.book
+    publishes c.self.inside c.self.view_is c.args.worker.now.book c.publish.new.self c.publish.new.worker.book
     c.requires.backed c.requires.going tt c.in-Ok.ensures.publishes
 
 pub returns-in-Err-clause-spent : goal.returns-in-Err-clause-spent
