@@ -1,7 +1,7 @@
 -- What was done with one place.
 use Rattle.std.proofs.Common.{◌≡◌, ◌≢◌, ℕ, ◌+◌, Bool, true, false, Contains, List, [], ◌∷◌, ◌++◌, Option, Some, None}
-use Rattle.std.proofs.Common.{Ok, Err, refl, sym, ap, subst, ◌∙◌, inl, inr, ⊎_elim, arith}
-use Rattle.std.proofs.lemmas.List.{append-nil}
+use Rattle.std.proofs.Common.{Ok, Err, refl, sym, ap, subst, ◌∙◌, inl, inr, ⊎_elim, arith, length, ◌-◌, ◌/◌}
+use Rattle.std.proofs.lemmas.List.{append-nil, take-append-drop}
 use Rattle.atomic_table.specs.Seated.{TableId}
 use Rattle.mark_core.specs.declared.which.Which.{Which}
 use Rattle.mark_core.specs.declared.which.Which.TheVariants.{Full, Empty}
@@ -11,6 +11,7 @@ use Rattle.mark_core.specs.World.{Setup}
 use Rattle.mark_core.proofs.Sums.{only-same, times_stands, sum_of-append}
 use Rattle.buffer_pool.specs.Book.{Book}
 use Rattle.buffer_pool.specs.Calls.{HeldBuffer, Holder}
+use Rattle.work_pair.specs.Deals.{lower_part, upper_half}
 use Rattle.work_pair.specs.Moves.{Move, Took, Gave, FoundNone, Ended, Moved, Moves, IsFilled, AreFilled}
 use Rattle.work_pair.specs.Moves.{HasPushOnFull, IsFromFull, IsOnFull, HasPopFromFull}
 use Rattle.work_pair.specs.Moves.{popped_items, popped_numbers, pushed_items, pushed_numbers, shelf_of, shelving_of}
@@ -41,6 +42,20 @@ shelf_full h some = go h.items refl
 
 shelf_quiet : (h : HeldBuffer) → h.items ≡ [] → IsOnFull (Gave (shelf_of h.items) h) → ⊥
 shelf_quiet h none = subst (λ (items : List ℕ). IsOnFull (Gave (shelf_of items) h) → ⊥) (sym none) (λ x. x)
+
+-- the lower part and the upper half together are what stood at the place
+pub halves_share : (old place : Option HeldBuffer) (h upper : HeldBuffer) → place ≡ pushed_part true old
+    → upper ≡ next_of true old h → (o : ℕ) → times o (items_at place) + times o upper.items ≡ times o (items_at old)
+halves_share None place h upper low high o =
+    omega (arith, ap (λ (p : Option HeldBuffer). times o (items_at p)) low, ap (λ (k : HeldBuffer). times o k.items) high)
+halves_share (Some k) place h upper low high o =
+    omega (
+      arith,
+      ap (λ (p : Option HeldBuffer). times o (items_at p)) low,
+      ap (λ (m : HeldBuffer). times o m.items) high,
+      sum_of-append (only o) (lower_part k.items) (upper_half k.items),
+      ap (times o) (take-append-drop (length k.items - length k.items / 2) k.items),
+    )
 
 -- the push of the buffer at a place: it gives that buffer and takes none, and is on full where there are items
 record IsPushOf (place : Option HeldBuffer) (moves : List Move) : Type 0 where

@@ -1,9 +1,8 @@
 //! A place for a buffer in a pair. It is vacant in a bare pair, and once a call was stopped.
-ghost use Rattle.std.specs.Prelude.{◌≡◌, ◌≢◌, ◌+◌, ◌↔◌, ◌<◌, ℕ, [], ◌∷◌, ◌++◌, Some, None, IsTrue, IfOk, length};
+ghost use Rattle.std.specs.Prelude.{◌≡◌, ◌≢◌, ◌↔◌, ◌<◌, ℕ, [], ◌∷◌, ◌++◌, Some, None, IsTrue, IfOk, length};
 ghost use Rattle.std.specs.Prelude.{true, false, IsOk, MatchOption};
 ghost use Rattle.std.specs.Bool.{OnTrue, OnFalse};
 ghost use Rattle.mark_core.specs.Events.{IsBusy};
-ghost use Rattle.mark_core.specs.Lists.{times};
 ghost use Rattle.mark_core.specs.declared.which.Which.TheVariants.{Empty};
 ghost use Rattle.buffer_pool.specs.Calls.{HeldBuffer};
 ghost use Rattle.work_pair.specs.PairState.{items_at, buffer_number, HasRoomAt, IsOfSize};
@@ -58,7 +57,6 @@ pub(crate) fn take_at<A: Allocator>(place: &mut Option<Held<A>>) -> Option<u32>
 fn split_at<A: Allocator>(place: &mut Option<Held<A>>, upper: &mut Held<A>)
     requires empty { upper.old.items ≡ [] }
     requires room { IsOfSize upper.old.size place.old }
-    ensures shared { (o : ℕ) → times o (items_at place.new) + times o upper.new.items ≡ times o (items_at place.old) }
     ensures some { items_at place.old ≢ [] → items_at place.new ≢ [] }
     ensures number { buffer_number place.new ≡ buffer_number place.old }
     ensures sized { (size : ℕ) → IsOfSize size place.old → IsOfSize size place.new }

@@ -6,8 +6,8 @@ use Rattle.mark_core.specs.Lists.{times}
 use Rattle.buffer_pool.specs.Calls.{HeldBuffer}
 use Rattle.work_pair.specs.PairState.{IsOfSize}
 use Rattle.work_pair.specs.working.Steps.{PopsOne}
-use Rattle.work_pair.proofs.Renewing.{found_nothing, put_out_done, put_out_stopped, still_backed, still_busy}
-use Rattle.work_pair.proofs.Renewing.{stopped_at_once, took_bare, took_size}
+use Rattle.work_pair.proofs.Renewing.{found_nothing, halves_share, put_out_done, put_out_stopped, still_backed}
+use Rattle.work_pair.proofs.Renewing.{still_busy, stopped_at_once, took_bare, took_size}
 use Rattle.work_pair.proofs.place.halve.Given as given
 use Rattle.work_pair.proofs.place.halve.Goals.{In-Some}
 use Rattle.work_pair.proofs.place.halve.Goals as goal
@@ -50,12 +50,14 @@ put_out-requires g c =
     let mid = c.pop_one.new.worker.book in
     let upper = c.in-Some.upper in
     let split = c.split_at.ensures in
+    let shared = halves_share c.args.place.now c.split_at.new.place upper c.split_at.new.upper split.lower
+    split.all_upper in
     let t = popped g (goal.at.put_out-requires g c).In-Some in
     record {
       same = c.pop_one.ensures.pool ∙ c.requires.same;
       vacant = c.requires.vacant;
       backed = still_backed c.args.place.now Empty upper b mid t c.split_at.new.place c.split_at.new.upper
-          (λ o. omega (arith, split.shared o, ap (times o) (took_bare upper b mid t))) split.number c.requires.backed
+          (λ o. omega (arith, shared o, ap (times o) (took_bare upper b mid t))) split.number c.requires.backed
           (split.sized b.setup.size c.requires.backed.sized);
       busy = still_busy Empty upper b mid t c.requires.busy;
     }
@@ -67,11 +69,13 @@ returns-in_err-put_out-clause-renews g c =
     let upper = c.in-Some.upper in
     let place = c.args.place.now in
     let split = c.split_at.ensures in
+    let shared = halves_share c.args.place.now c.split_at.new.place upper c.split_at.new.upper split.lower
+    split.all_upper in
     let t = popped g (goal.at.returns-in_err-put_out-clause-renews g c).In-Some in
     let p = err_from_is_err_and c.from_residual-in_err-put_out.result c.from_residual-in_err-put_out.ensures.1 in
     rw (p.1, p.2)
     (put_out_stopped place Empty upper b mid t c.split_at.new.place c.split_at.new.upper
-    (λ o. omega (arith, split.shared o, ap (times o) (took_bare upper b mid t))) split.number b.setup.size
+    (λ o. omega (arith, shared o, ap (times o) (took_bare upper b mid t))) split.number b.setup.size
     split.upper.0 (split.sized b.setup.size c.requires.backed.sized) (split.upper.1 ∙ took_size Empty upper b mid t)
     c.put_out.new.worker.book c.put_out.new.place c.put_out.new.third true c.in_err-put_out.field-0.0
     c.in_err-put_out.ensures.out)
@@ -83,9 +87,11 @@ returns-clause-renews g c =
     let upper = c.in-Some.upper in
     let place = c.args.place.now in
     let split = c.split_at.ensures in
+    let shared = halves_share c.args.place.now c.split_at.new.place upper c.split_at.new.upper split.lower
+    split.all_upper in
     let t = popped g (goal.at.returns-clause-renews g c).In-Some in
     put_out_done place Empty upper b mid t c.split_at.new.place c.split_at.new.upper
-    (λ o. omega (arith, split.shared o, ap (times o) (took_bare upper b mid t))) split.number b.setup.size
+    (λ o. omega (arith, shared o, ap (times o) (took_bare upper b mid t))) split.number b.setup.size
     split.upper.0 (split.sized b.setup.size c.requires.backed.sized) (split.upper.1 ∙ took_size Empty upper b mid t)
     c.put_out.new.worker.book c.put_out.new.place c.put_out.new.third true split.lower split.all_upper tt split.some
     c.in_ok-put_out.ensures.out
