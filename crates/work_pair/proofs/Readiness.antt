@@ -1,17 +1,23 @@
 -- What the tests' workers have after a call.
-use Rattle.std.proofs.Common.{◌≡◌, ℕ, ◌<◌, List, [], ◌∷◌, ◌++◌, All, Contains, cond}
-use Rattle.std.proofs.Common.{eq-eqb, ap, sym, subst, ◌∙◌, inl, arith}
+use Rattle.std.proofs.Common.{◌≡◌, ℕ, ◌<◌, List, [], ◌∷◌, ◌++◌, All, Contains, cond, Option, Some, None, Result, Ok}
+use Rattle.std.proofs.Common.{Err, eq-eqb, ap, sym, subst, ◌∙◌, inl, arith}
 use Rattle.std.proofs.lemmas.List.FromFn.{length-range_with_len, get_or-range_with_len}
 use Rattle.atomic_table.specs.Seated.{TableId}
+use Rattle.mark_core.specs.declared.which.Which.{Which}
 use Rattle.mark_core.specs.Lists.{times, only}
 use Rattle.mark_core.specs.World.{Setup}
 use Rattle.mark_core.specs.Events.{CanClaim}
 use Rattle.mark_core.proofs.Sums.{sum_of-append}
 use Rattle.buffer_pool.specs.Book.{Book, claimed}
-use Rattle.buffer_pool.specs.Calls.{Holder}
+use Rattle.buffer_pool.specs.Calls.{HeldBuffer, Holder}
 use Rattle.work_pair.specs.Deals.{Deals}
+use Rattle.work_pair.specs.Moves.{Took, FoundNone, Ended}
 use Rattle.work_pair.specs.PairState.{PairState, pair_items, IsBacked, IsOpen, AreOfSize}
+use Rattle.work_pair.specs.declared.stop.Stop.{Stop}
+use Rattle.work_pair.specs.declared.stop.Stop.TheVariants.{TagSpent, OutOfMemory}
 use Rattle.work_pair.specs.tests.Ready.{IsReady, IsWorker, numbers}
+use Rattle.work_pair.specs.working.Steps.{PopsOne}
+use Rattle.work_pair.proofs.Effects.{move_effect}
 use Rattle.work_pair.proofs.Trading.{backed_less}
 
 pub roots_below : (n : ℕ) → All (λ o. o < n) (numbers n)
@@ -36,6 +42,17 @@ pub still_worker : (n : ℕ) (pool : TableId) (old new : Holder) → IsWorker n 
     → new.book.setup ≡ old.book.setup → new.book.account.idle ≡ old.book.account.idle → IsWorker n pool new
 still_worker n pool old new w same setup idle =
     record { same = same ∙ w.same; roots = ap (λ (e : Setup). e.roots) setup ∙ w.roots; idle = idle ∙ w.idle }
+
+-- after one pop
+pub popped_worker : (n : ℕ) (pool : TableId) (q : Which) (old new : Holder) (r : Result (Option HeldBuffer) Stop)
+    → IsWorker n pool old → new.pool ≡ old.pool → PopsOne q old.book new.book r → IsWorker n pool new
+popped_worker n pool q old new (Ok (Some h)) w same moved =
+    let e = move_effect (Took q h) old.book new.book moved in still_worker n pool old new w same e.setup e.idle
+popped_worker n pool q old new (Ok None) w same moved =
+    let e = move_effect (FoundNone q) old.book new.book moved in still_worker n pool old new w same e.setup e.idle
+popped_worker n pool q old new (Err TagSpent) w same moved =
+    let e = move_effect (Ended q) old.book new.book moved in still_worker n pool old new w same e.setup e.idle
+popped_worker n pool q old new (Err OutOfMemory) w same none = absurd none
 
 -- a white object was claimed
 pub claimed_backed : (p : PairState) (o found : ℕ) (old new : Book) → new ≡ claimed o found old → found ≡ 0

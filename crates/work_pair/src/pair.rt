@@ -313,6 +313,12 @@ impl<A: Allocator> Pair<A> {
         ]
     }
 
+    /// The buffers of the pair, which ends with that.
+    #[cfg(test)]
+    pub(crate) fn into_buffers(self) -> Buffers<A> {
+        self.buffers
+    }
+
     /// How many objects the spill list has.
     pub fn spilled(&self) -> usize
         ensures { result ≡ length self.now.spill }

@@ -5,4 +5,5 @@ mod memory;
 mod runs;
 mod stopped;
 mod threads;
+mod trace;
 mod vectors;

@@ -161,3 +161,15 @@ fn stopped_pairs_keep_their_buffers(rt: HostRuntime) -> Result<(), Fail> {
     }
     Ok(())
 }
+
+#[test]
+fn each_stop_has_its_words(rt: HostRuntime) -> Result<(), Fail> {
+    for (stop, words) in [
+        (Stop::TagSpent, "a stack's last tag was loaded"),
+        (Stop::OutOfMemory, "out of memory"),
+    ] {
+        let told = format!(in rt.alloc(); "{stop}")?;
+        assert_eq!(rt; told.as_str(), words);
+    }
+    Ok(())
+}

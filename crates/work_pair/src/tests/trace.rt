@@ -1,0 +1,163 @@
+//! Four buffers for two objects, filled one after the other: which objects each has, and where it lies.
+ghost use Rattle.std.specs.Prelude.{◌≡◌};
+ghost use Rattle.work_pair.specs.tests.Ready.{IsReady, IsWorker};
+
+use super::hand::{OBJECTS, open, pool_of_roots, publish, put};
+use crate::Pair;
+use crate::buffers::Buffers;
+use crate::steps::pop_one;
+use buffer_pool::{Held, Pool, PoolFault, Which, Worker};
+use std::alloc::{Allocator, Global};
+use std::process::Abort;
+use std::sync::Wait;
+use std::test::Fail;
+
+/// The objects of a buffer for two, in the order in which they were put.
+type Two = [Option<u32>; 2];
+
+/// A stack, its top first.
+type Stack = [Option<Two>; 4];
+
+/// What is in the first and in the second place, the full stack, the empty one, and how many objects are spilled.
+#[derive(Clone, Copy, PartialEq, Eq)]
+struct Seen {
+    places: [Option<Two>; 2],
+    full: Stack,
+    empty: Stack,
+    spilled: usize,
+}
+
+/// The objects of that buffer.
+fn objects_of<A: Allocator>(held: Held<A>) -> Two {
+    let mut held = held;
+    let last = held.take();
+    match held.take() {
+        None => [last, None],
+        first => [first, last],
+    }
+}
+
+/// The objects of the buffer at that place.
+fn objects_at<A: Allocator>(place: Option<Held<A>>) -> Option<Two> {
+    match place {
+        Some(held) => Some(objects_of(held)),
+        None => None,
+    }
+}
+
+/// Takes all buffers off a stack.
+fn objects_on<R: Wait + Abort, A: Allocator>(
+    rt: &R,
+    pool: &Pool<A>,
+    worker: &mut Worker<A>,
+    which: Which,
+) -> Stack
+    requires { IsWorker OBJECTS pool.now worker.old }
+    ensures { IsWorker OBJECTS pool.now worker.new }
+{
+    let mut stack: Stack = [None; 4];
+    for place in &mut stack {
+        let Ok(popped) = pop_one(rt, pool, worker, which) else {
+            panic!(rt; "no tag is near the last one");
+        };
+        *place = objects_at(popped);
+    }
+    stack
+}
+
+/// Opens a pair, puts so many objects, from 1 on, and publishes them where that is asked for.
+fn pair_after<R: Wait + Abort, A: Allocator>(
+    rt: &R,
+    alloc: A,
+    pool: &Pool<A>,
+    worker: &mut Worker<A>,
+    puts: u32,
+    publishes: bool,
+) -> Pair<A>
+    requires { IsWorker OBJECTS pool.now worker.old }
+    ensures { IsReady OBJECTS pool.now worker.new result }
+{
+    let mut pair = open(rt, alloc, pool, worker);
+    for object in 0..puts {
+        put(rt, pool, worker, &mut pair, object + 1);
+    }
+    if publishes {
+        publish(rt, pool, worker, &mut pair);
+    }
+    pair
+}
+
+/// What is seen then, in a new pool.
+fn seen_after<R: Wait + Abort>(
+    rt: &R,
+    alloc: Global,
+    puts: u32,
+    publishes: bool,
+) -> Result<Seen, PoolFault> {
+    let (pool, mut worker) = pool_of_roots(alloc, 4, 2, 0)?;
+    let pair = pair_after(rt, alloc, &pool, &mut worker, puts, publishes);
+    let spilled = pair.spilled();
+    let Buffers { first, second, .. } = pair.into_buffers();
+    Ok(Seen {
+        places: [objects_at(first), objects_at(second)],
+        full: objects_on(rt, &pool, &mut worker, Which::Full),
+        empty: objects_on(rt, &pool, &mut worker, Which::Empty),
+        spilled,
+    })
+}
+
+/// A buffer without objects, one with the first two, and so on. No call tells a buffer's number, so each is known by its
+/// objects.
+const BARE: Option<Two> = Some([None, None]);
+
+const ONE: Option<Two> = Some([Some(1), Some(2)]);
+
+const THREE: Option<Two> = Some([Some(3), Some(4)]);
+
+const FIVE: Option<Two> = Some([Some(5), Some(6)]);
+
+const SEVEN: Option<Two> = Some([Some(7), None]);
+
+const EIGHT: Option<Two> = Some([Some(7), Some(8)]);
+
+/// A stack without buffers, the empty one with two and with one, and the full one with one and with two.
+const NONE: Stack = [None; 4];
+
+const TWO_LEFT: Stack = [BARE, BARE, None, None];
+
+const ONE_LEFT: Stack = [BARE, None, None, None];
+
+const ONE_GIVEN: Stack = [ONE, None, None, None];
+
+const TWO_GIVEN: Stack = [THREE, ONE, None, None];
+
+/// How many objects are put, whether they are published, the two places, the full stack and the empty one, and how many
+/// objects are spilled.
+type Row = (u32, bool, [Option<Two>; 2], Stack, Stack, usize);
+
+/// The seventh object takes the last buffer, so there is none to publish with, and a ninth has none.
+const ROWS: [Row; 8] = [
+    (0, false, [BARE, BARE], NONE, TWO_LEFT, 0),
+    (2, false, [ONE, BARE], NONE, TWO_LEFT, 0),
+    (4, false, [THREE, ONE], NONE, TWO_LEFT, 0),
+    (6, false, [FIVE, THREE], ONE_GIVEN, ONE_LEFT, 0),
+    (7, false, [SEVEN, FIVE], TWO_GIVEN, NONE, 0),
+    (7, true, [SEVEN, FIVE], TWO_GIVEN, NONE, 0),
+    (8, false, [EIGHT, FIVE], TWO_GIVEN, NONE, 0),
+    (9, false, [FIVE, EIGHT], TWO_GIVEN, NONE, 1),
+];
+
+#[test]
+fn four_buffers_are_filled(rt: HostRuntime) -> Result<(), Fail> {
+    for (puts, publishes, places, full, empty, spilled) in ROWS {
+        let wanted = Seen {
+            places,
+            full,
+            empty,
+            spilled,
+        };
+        let seen = seen_after(&rt, rt.alloc(), puts, publishes)?;
+        assert!(rt; seen == wanted, "after {puts} objects");
+    }
+    Ok(())
+}
