@@ -169,8 +169,8 @@ FindsNoOwn old new =
     (items_at old.first ≡ []) × (items_at old.second ≡ [])
     × (new.first ≡ old.second) × (new.second ≡ old.first)
 
--- these buffers were popped from full, the last one first in the list, each where neither of the pair's had an item; it
--- is the first then, and the first the second, and the second was pushed on empty
+-- these buffers were popped from full, in the list the last one first. Each was popped where neither of the pair's two
+-- had an item: it takes the first place, the buffer there goes to the second, and the one there is pushed on empty
 abbrev pub Refills : List HeldBuffer → PairState → List Move → PairState → Type 0
 Refills [] old moves new = (moves ≡ []) × (new.first ≡ old.first) × (new.second ≡ old.second)
 Refills (h ∷ popped) old moves new =
@@ -179,11 +179,12 @@ Refills (h ∷ popped) old moves new =
     × (moves ≡ before ++ Took Full h ∷ shelving_of mid.second)
     × (new.first ≡ Some h) × (new.second ≡ mid.first)
 
--- how a get ends: with an object of the pair's own, or where there is none with a look that found none on full
+-- how a get ends: with an object of the pair's own, or where it has none with a look that found none on full
 abbrev pub EndsGet : PairState → List Move → Option ℕ → PairState → Type 0
 EndsGet old moves (Some object) new = (moves ≡ []) × TakesOwn old object new
 EndsGet old moves None new = (moves ≡ FoundNone Full ∷ []) × FindsNoOwn old new
 
+-- the whole of it; of the buffers that were popped all but the last had no item
 abbrev pub GetsBy : PairState → List Move → Option ℕ → PairState → Type 0
 GetsBy old moves got new =
     (popped : List HeldBuffer) × (mid : PairState) × (refilling : List Move) × (last : List Move)
