@@ -6,7 +6,7 @@ use Rattle.std.proofs.lemmas.List.{length-map}
 use Rattle.std.proofs.lemmas.Option.{slice_get-get_or}
 use Rattle.hprof_grammar.specs.Dump.{id_of, is_object}
 use Rattle.hprof_grammar.specs.ObjectKinds.{object_kind}
-use Rattle.hprof_grammar.specs.Standing.{Sight, Stands}
+use Rattle.hprof_grammar.specs.Standing.{Sight, StandInTurn, Stands}
 use Rattle.hprof_grammar.specs.SubRecord.{SubRecord}
 use Rattle.hprof_grammar.specs.SubRecord.SubRecord.{class_dump, instance_dump, object_array_dump, primitive_array_dump}
 use Rattle.hprof_grammar.specs.declared.view.ObjectKind.{ObjectKind}
@@ -32,11 +32,15 @@ pub same_count : (v : Sight) (places ids : List ℕ) (heap : List SubRecord) →
     → length ids ≡ length places
 same_count v places ids heap are = ap length are.ids_are ∙ length-map (objects heap) id_of ∙ sym are.stand.count
 
+pub stands_there : (v : Sight) (places : List ℕ) (heap : List SubRecord) (n : ℕ)
+    → StandInTurn (Stands v) places (objects heap) → n < length places → IsThere v heap n (get_or places n 0)
+stands_there v places heap n stand h =
+    let it = stand.each n (get_or places n 0) (slice_get-get_or places n 0 h) in
+    record { object = it.0; is = it.1; stands = it.2; describes = filter_passes is_object heap n it.0 it.1 }
+
 pub there : (v : Sight) (places ids : List ℕ) (heap : List SubRecord) (n : ℕ) → AreObjects v places ids heap
     → n < length places → IsThere v heap n (get_or places n 0)
-there v places ids heap n are h =
-    let it = are.stand.each n (get_or places n 0) (slice_get-get_or places n 0 h) in
-    record { object = it.0; is = it.1; stands = it.2; describes = filter_passes is_object heap n it.0 it.1 }
+there v places ids heap n are h = stands_there v places heap n are.stand h
 
 -- the same of a place that was read
 pub there_at : (v : Sight) (places ids : List ℕ) (heap : List SubRecord) (n at : ℕ) → AreObjects v places ids heap

@@ -3,13 +3,14 @@
 mod builder;
 mod chains;
 mod fate;
+mod hash;
 mod sizes;
 mod table;
 
 pub(crate) use fate::{Fate, Layout};
+pub(crate) use hash::{ClassHash, HashSeed};
 use hprof_grammar::View;
 use std::alloc::Allocator;
-pub(crate) use table::ClassHash;
 use table::ClassTable;
 
 /// What is kept of a class: the place of its dump, and how many bytes the values of all fields have that it declares.

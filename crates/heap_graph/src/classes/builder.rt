@@ -7,7 +7,8 @@ ghost use Rattle.hprof_grammar.specs.Standing.{Stands};
 ghost use Rattle.hprof_grammar.specs.SubRecord.{Class};
 ghost use Rattle.hprof_grammar.specs.SubRecord.SubRecord.{class_dump};
 
-use crate::classes::table::{ClassHash, ClassTable};
+use crate::classes::hash::ClassHash;
+use crate::classes::table::ClassTable;
 use crate::classes::{ClassPlace, Classes};
 use hprof_grammar::{Members, View};
 use std::alloc::{AllocError, Allocator};

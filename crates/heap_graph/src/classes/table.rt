@@ -4,42 +4,11 @@ ghost use Rattle.std.specs.Prelude.{Contains, OnOk, Some, [], length, position, 
 ghost use Rattle.std.specs.Prelude.{◌++◌, ◌<◌, ◌==◌, ◌^◌, ◌∷◌, ◌≡◌, ℕ};
 ghost use Rattle.heap_graph.specs.working.ClassList.{TableEntry, ids_of};
 
+use crate::classes::hash::ClassHash;
 use crate::classes::{ClassPlace, Classes};
 use indexmap::IndexMap;
 use std::alloc::{AllocError, Allocator};
-use std::hash::{BuildHasher, FoldHasher, Hasher};
 use std::marker::Model;
-
-/// How identifiers of classes are hashed: the hasher of each has read the identifiers of all classes of the dump before
-/// it, so a file cannot be made for a hash that is known beforehand. Nothing rests on it but time.
-#[derive(Clone, Copy, Drop)]
-pub(crate) struct ClassHash {
-    begun: FoldHasher,
-}
-
-impl ClassHash {
-    /// A hash that has read no identifier.
-    pub(crate) fn new() -> Self {
-        ClassHash {
-            begun: FoldHasher::default(),
-        }
-    }
-
-    /// Reads an identifier more.
-    pub(crate) fn read(&mut self, id: u64) {
-        self.begun.write(&id.to_le_bytes());
-    }
-}
-
-impl BuildHasher for ClassHash {
-    type Hasher = FoldHasher;
-
-    ghost build_hasher = { λ hash. hash.begun };
-
-    fn build_hasher(&self) -> FoldHasher {
-        self.begun
-    }
-}
 
 /// Classes in order, found by their identifiers. A class's number is its position in the map.
 #[derive(Drop)]
@@ -75,6 +44,7 @@ impl<A: Allocator> ClassTable<A> {
     }
 
     /// Adds a class, whose identifier is a new one.
+    #[tactic(auto, using(crate::proofs::InsertLaws::insert_last))]
     pub(crate) fn push(&mut self, id: u64, place: ClassPlace) -> Result<(), AllocError>
         requires { Contains (ids_of self.old.entries) id → ⊥ }
         ensures { OnOk result (self.new.entries ≡ self.old.entries ++ (id, place) ∷ []) }

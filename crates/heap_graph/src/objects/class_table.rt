@@ -1,42 +1,28 @@
 //! How the table of classes is filled from the objects.
 
 ghost use Rattle.std.specs.Prelude.{IfOk, List, OnOk, length, ◌+◌, ◌<◌, ◌^◌, ◌≡◌, ◌≤◌};
+ghost use Rattle.hprof_grammar.specs.Standing.{StandInTurn, Stands};
 ghost use Rattle.hprof_grammar.specs.SubRecord.{SubRecord};
+ghost use Rattle.heap_graph.specs.Heap.{objects};
 ghost use Rattle.heap_graph.specs.working.ClassTable.{AreClassesAmong, AreClassesOf};
 ghost use Rattle.heap_graph.specs.working.PlacedObjects.{AreObjects};
 
-use crate::classes::{ClassHash, Classes};
+use crate::classes::{ClassHash, Classes, HashSeed};
 use crate::index::Index;
 use hprof_grammar::{ObjectKind, View};
 use std::alloc::{AllocError, Allocator};
 
-/// Reads the identifier of the object of that number, if it is a class.
-fn read_class<B: Allocator>(
-    hash: &mut ClassHash,
-    view: &View<'_>,
-    places: &[u32],
-    index: &Index<B>,
-    number: usize,
-)
-    requires below { number < length places.now }
-    requires heap { (heap : List SubRecord) × AreObjects view.now places.now index.now heap }
+/// The hash of the classes among the objects at these places.
+fn hash_of(view: &View<'_>, places: &[u32]) -> ClassHash
+    requires { (heap : List SubRecord) × StandInTurn (Stands view.now) places.now (objects heap) }
 {
-    let place = places[number];
-    if view.kind(place) == ObjectKind::Class {
-        hash.read(view.object_id(place));
+    let mut seed = HashSeed::new();
+    for at in places {
+        if view.kind(*at) == ObjectKind::Class {
+            seed.read(view.object_id(*at));
+        }
     }
-    let _ = index;
-}
-
-/// The hash of these classes' identifiers.
-fn hash_of<B: Allocator>(view: &View<'_>, places: &[u32], index: &Index<B>) -> ClassHash
-    requires { (heap : List SubRecord) × AreObjects view.now places.now index.now heap }
-{
-    let mut hash = ClassHash::new();
-    for number in 0..places.len() {
-        read_class(&mut hash, view, places, index, number);
-    }
-    hash
+    seed.finish()
 }
 
 /// Adds the object of that number, if it is a class that its identifier names.
@@ -85,7 +71,7 @@ pub(crate) fn class_table<'d, A: Allocator + Copy, B: Allocator>(
         → AreObjects view.entry places.now index.now heap → AreClassesOf classes heap) }
     ensures few { IfOk result (λ classes. length classes.table.entries ≤ length places.now) }
 {
-    let hash = hash_of(&view, places, index);
+    let hash = hash_of(&view, places);
     let mut classes = Classes::new(alloc, view, hash);
     for number in 0..places.len() {
         add_object(&mut classes, places, index, number)?;
