@@ -1,10 +1,11 @@
 -- The identifiers in the fields of an instance, up the classes that declare fields.
 use Rattle.std.proofs.Common.{Bool, List, None, Option, Some, [], ap, arith, drop, false, length, map, not, refl}
 use Rattle.std.proofs.Common.{slice_get, subst}
-use Rattle.std.proofs.Common.{suc, sym, take, true, zero, ℕ, ◌&&◌, ◌++◌, ◌+◌, ◌<◌, ◌∙◌, ◌∷◌, ◌≡◌, ◌≤◌}
+use Rattle.std.proofs.Common.{suc, sym, take, true, zero, ℕ, ◌&&◌, ◌++◌, ◌+◌, ◌-◌, ◌<◌, ◌∙◌, ◌∷◌, ◌≡◌, ◌≤◌}
 use Rattle.std.specs.Prelude.{if◌then◌else◌, slice_index, slice_index_or, ◌==◌}
 use Rattle.std.proofs.lemmas.Bool.{eqb-true}
-use Rattle.std.proofs.lemmas.List.{drop-drop, length-append, length-drop, length-map, map-append}
+use Rattle.std.proofs.lemmas.List.{drop-drop, drop-take, length-append, length-drop, length-map, length-take}
+use Rattle.std.proofs.lemmas.List.{map-append}
 use Rattle.std.proofs.lemmas.List.Sums.{sum_by-append, sum_by-cons}
 use Rattle.std.proofs.lemmas.Option.{get_or_from_slice_get}
 use Rattle.byteorder.specs.Endian.{big_number}
@@ -246,10 +247,31 @@ same_up : (known : List Fate) (first : Option ℕ) (ks ms : List ℕ) → AreUp 
     → ks ≡ ms
 same_up known first ks ms h e = ap (λ (u : Up known first). u.0) (Up-prop known first (ks, h) (ms, e))
 
-pub first_room : (s own : ℕ) (here values rest : List ℕ) (place : ℕ) → StandInside s here own values
-    → here ≡ place ∷ rest → place + s ≤ length values
-first_room s own here values rest place stand e =
-    omega (arith, stand.room, stand.inside 0 place (ap (λ (ps : List ℕ). slice_get ps 0) e))
+first_within : (s own : ℕ) (here values rest : List ℕ) (place : ℕ) → StandInside s here own values
+    → here ≡ place ∷ rest → place + s ≤ own
+first_within s own here values rest place stand e =
+    omega (arith, stand.inside 0 place (ap (λ (ps : List ℕ). slice_get ps 0) e))
+
+-- it is read among the values of the class
+pub first_room : (s own : ℕ) (here values rest own_values : List ℕ) (place : ℕ) → StandInside s here own values
+    → here ≡ place ∷ rest → own_values ≡ take own values → place + s ≤ length own_values
+first_room s own here values rest own_values place stand e is =
+    rw is (omega (arith, stand.room, length-take own values, first_within s own here values rest place stand e))
+
+number_within : (s place own : ℕ) (values : List ℕ) → place + s ≤ own
+    → big_number s (drop place (take own values)) ≡ big_number s (drop place values)
+number_within s place own values h =
+    let parts : own ≡ place + (own - place) = omega (arith, h) in
+    ap (λ (n : ℕ). big_number s (drop place (take n values))) parts
+    ∙ ap (λ (xs : List ℕ). big_number s xs) (drop-take place (own - place) values)
+    ∙ big_from-take 0 s (own - place) (drop place values) (omega (arith, h))
+
+pub first_read : (s own : ℕ) (here values rest own_values : List ℕ) (place id : ℕ) → StandInside s here own values
+    → here ≡ place ∷ rest → own_values ≡ take own values → id ≡ big_number s (drop place own_values)
+    → id ≡ big_number s (drop place values)
+first_read s own here values rest own_values place id stand e own_is is =
+    is ∙ ap (λ (xs : List ℕ). big_number s (drop place xs)) own_is
+    ∙ number_within s place own values (first_within s own here values rest place stand e)
 
 rest_stands : (s own : ℕ) (here values rest : List ℕ) (place : ℕ) → StandInside s here own values
     → here ≡ place ∷ rest → StandInside s rest own values

@@ -1,5 +1,6 @@
 //! The identifiers in the fields of an instance.
 
+ghost use Rattle.std.specs.Prelude.{drop, length, take, ◌<◌, ◌≡◌, ◌≤◌};
 ghost use Rattle.heap_graph.specs.working.FieldsUp.{Up, Up-prop};
 
 use crate::classes::Fate;
@@ -44,8 +45,18 @@ impl<'g, A: Allocator> Model for FieldIds<'g, A> {
     } };
 }
 
+/// The values of the fields of a class, which have so many bytes, and those of the classes above it, which stand behind
+/// them.
+#[inline(always)]
+fn by_class(values: &[u8], own: usize) -> (&[u8], &[u8])
+    requires { own ≤ length values.now }
+    ensures own { result.0.now ≡ take own values.now }
+    ensures above { result.1.now ≡ drop own values.now }
+{
+    values.split_at(own)
+}
+
 impl<'d, A: Allocator> Objects<'d, A> {
-    ghost use Rattle.std.specs.Prelude.{length, ◌<◌, ◌≡◌};
     ghost use Rattle.heap_graph.specs.working.FieldsUp.{next_above};
 
     /// The first of the classes above a class that declares fields.
@@ -61,7 +72,7 @@ impl<'d, A: Allocator> Objects<'d, A> {
 }
 
 impl<'g, A: Allocator> FieldIds<'g, A> {
-    ghost use Rattle.std.specs.Prelude.{Bool, List, length, ◌≡◌, ◌≤◌, ℕ};
+    ghost use Rattle.std.specs.Prelude.{Bool, List, ℕ};
     ghost use Rattle.hprof_grammar.specs.SubRecord.{Class, Member, SubRecord};
     ghost use Rattle.heap_graph.specs.Fields.{field_ids};
     ghost use Rattle.heap_graph.specs.working.ClassPlans.{IsPlanOf};
@@ -121,16 +132,12 @@ impl<'g, A: Allocator> Iterator for FieldIds<'g, A> {
     #[inline(always)]
     fn next(&mut self) -> Option<u64> {
         loop {
+            let (own, above) = by_class(self.values, self.own);
             if let Some((place, left)) = self.places.split_first() {
                 self.places = left;
-                return Some(
-                    self.objects
-                        .view
-                        .identifier_at(self.values, *place as usize),
-                );
+                return Some(self.objects.view.identifier_at(own, *place as usize));
             }
             let number = self.next?;
-            let (_, above) = self.values.split_at(self.own);
             self.values = above;
             self.own = self.plan.bytes_of(number) as usize;
             self.places = self.plan.id_places(number);

@@ -1,13 +1,13 @@
 -- The first place that is left is given away; where none is left, the next class up brings its own.
 use Rattle.std.proofs.Common.{rules}
-use Rattle.heap_graph.proofs.FieldsUpLaws.{fewer_above, fewer_left, first_given, first_gone, first_room, has_next}
-use Rattle.heap_graph.proofs.FieldsUpLaws.{next_left, none_left}
+use Rattle.heap_graph.proofs.FieldsUpLaws.{fewer_above, fewer_left, first_given, first_gone, first_read, first_room}
+use Rattle.heap_graph.proofs.FieldsUpLaws.{has_next, next_left, none_left}
 use Rattle.heap_graph.proofs.held.field_ids.FieldIdsIterator.next.Goals as goal
 
 pub identifier_at-requires : goal.identifier_at-requires
 identifier_at-requires g c = record {
-  room = first_room _ _ _ _ c.in-Some.left.now c.in-Some.place.now c.loop-place.invariant.stand
-      c.in-Some.ensures.cases.0;
+  room = first_room _ _ _ _ c.in-Some.left.now _ c.in-Some.place.now c.loop-place.invariant.stand
+      c.in-Some.ensures.cases.0 c.by_class.ensures.own;
 }
 
 pub invariant_of-self : goal.invariant_of-self
@@ -25,7 +25,9 @@ returns-in-Some-clause-steps g c =
     let o = f.objects.now in
     first_given o.view.id_size f.plan.now.classes.items f.plan.now.places.items o.fates.items f.places.now f.own
     f.values.now f.up.0 _ c.args.self.now c.in-Some.left.now f.next c.in-Some.place.now c.identifier_at.result
-    c.loop-place.invariant c.in-Some.ensures.cases.0 c.identifier_at.ensures f.up.1 (search rules)
+    c.loop-place.invariant c.in-Some.ensures.cases.0
+    (first_read _ _ _ _ c.in-Some.left.now _ c.in-Some.place.now c.identifier_at.result c.loop-place.invariant.stand
+    c.in-Some.ensures.cases.0 c.by_class.ensures.own c.identifier_at.ensures) f.up.1 (search rules)
 
 pub returns-in-Some-clause-goes : goal.returns-in-Some-clause-goes
 returns-in-Some-clause-goes g c =
@@ -76,6 +78,6 @@ loop-place-preserved g c =
     let n = has_next _ _ _ _ _ _ _ _ c.in_ok-number.was c.loop-place.self-inside.up.1 c.loop-place.invariant.above in
     next_left o.view.id_size f.plan.now.classes.items f.plan.now.places.items o.fates.items f.places.now f.own
     f.values.now f.up.0 c.args.self.now c.in_ok-number.number c.id_places-self-inside.result.now c.bytes_of.result
-    c.split_at.result.1.now c.next_of-self-inside.result _
+    c.by_class.result.1.now c.next_of-self-inside.result _
     c.loop-place.invariant c.in_default.ensures.cases n c.id_places-self-inside.ensures c.bytes_of.ensures
-    c.split_at.ensures.back c.next_of-self-inside.ensures (search rules)
+    c.by_class.ensures.above c.next_of-self-inside.ensures (search rules)
