@@ -16,8 +16,9 @@ use Rattle.mark_core.specs.World.{Marking}
 use Rattle.drain.specs.Marks.{IsMarkingOf, is_set}
 use Rattle.drain.specs.Totals.{marked_objects, of_row, total}
 use Rattle.drain.specs.declared.sum.Sum.{Sum}
-use Rattle.drain.specs.working.Measures.{measure_of, row_place, sum_at, sum_of_row}
-use Rattle.drain.specs.working.Tallies.{IsTallyOf, no_object, sum_in}
+use Rattle.drain.specs.Sums.{no_object, sum_at, sum_of_row}
+use Rattle.drain.specs.working.Measures.{measure_of, row_place}
+use Rattle.drain.specs.working.Tallies.{IsTallyOf, sum_in}
 use Rattle.drain.proofs.Closes.{marked_where_set}
 use Rattle.drain.proofs.Passing.{passing_count, passing_sum}
 use Rattle.drain.proofs.Places.{in_or_not, none_of_row, place_within, row_there, same_place}

@@ -6,8 +6,9 @@ use Rattle.std.proofs.lemmas.List.{get_or-replicate, length-replicate}
 use Rattle.std.proofs.lemmas.List.Elements.{All-from_get_or}
 use Rattle.std.proofs.lemmas.List.Sums.{sum_by-append, sum_by-le, sum_by_push}
 use native.Mathlib.Decide.{ℕ_discrete}
+use Rattle.drain.specs.Sums.{no_object}
 use Rattle.drain.specs.declared.sum.Sum.{Sum}
-use Rattle.drain.specs.working.Tallies.{IsMeasureOf, IsSmall, IsTallyOf, Measure, no_object, one_more, sum_in, together}
+use Rattle.drain.specs.working.Tallies.{IsMeasureOf, IsSmall, IsTallyOf, Measure, one_more, sum_in, together}
 
 -- what an object counts for in a row, and its bytes there
 abbrev counts : Measure → ℕ → ℕ → ℕ

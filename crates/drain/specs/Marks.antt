@@ -3,9 +3,9 @@ use Rattle.std.specs.Prelude.{Bool, List, length, nat_le, slice_index, ℕ, ◌�
 use Rattle.heap_graph.specs.ObjectGraph.{ObjectGraph, object_count}
 use Rattle.heap_graph.specs.Whole.{unresolved_among}
 use Rattle.heap_graph.specs.declared.row.RowKey.{RowKey}
+use Rattle.drain.specs.Sums.{sum_of_row}
 use Rattle.drain.specs.Totals.{marked_objects, of_row, total}
 use Rattle.drain.specs.declared.sum.Sum.{Sum}
-use Rattle.drain.specs.working.Measures.{sum_of_row}
 
 -- a white object has 0, a claimed one 1, and a finished one 2
 abbrev pub is_set : ℕ → Bool

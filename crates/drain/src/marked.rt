@@ -4,7 +4,7 @@ use crate::tally::Tally;
 use crate::walked_graph::row_place;
 use buffer_pool::Marks;
 use heap_graph::RowKey;
-use std::alloc::{AllocError, AllocFailed, Allocator};
+use std::alloc::{AllocError, Allocator};
 use std::marker::Model;
 use thiserror::Error;
 use work_pair::Stop;
@@ -76,7 +76,7 @@ impl<A: Allocator> Marked<A> {
     ghost use Rattle.std.specs.Prelude.{◌≡◌, ◌↔◌, IsTrue, count_by, length, map};
     ghost use Rattle.heap_graph.specs.Reachable.{IsMarked};
     ghost use Rattle.drain.specs.Marks.{AreFinished, MarkedObjects, is_set};
-    ghost use Rattle.drain.specs.working.Measures.{sum_of_row};
+    ghost use Rattle.drain.specs.Sums.{sum_of_row};
 
     /// The marks of so many objects, and the tally of those that are marked.
     pub(crate) fn new(marks: Marks<A>, objects: u32, tally: Tally<A>) -> Self

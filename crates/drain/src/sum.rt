@@ -1,7 +1,8 @@
 //! How many objects there are, and their bytes together.
 
 ghost use Rattle.std.specs.Prelude.{◌≡◌, ◌+◌, ◌^◌, ◌<◌};
-ghost use Rattle.drain.specs.working.Tallies.{no_object, one_more, together};
+ghost use Rattle.drain.specs.Sums.{no_object};
+ghost use Rattle.drain.specs.working.Tallies.{one_more, together};
 
 /// How many objects there are, and their bytes together.
 #[derive(Clone, Copy)]

@@ -1,7 +1,7 @@
 //! What a worker counts of the objects that it finished.
 
 ghost use Rattle.std.specs.Prelude.{◌≡◌, ◌<◌, ◌≤◌, ◌^◌, ◌++◌, ◌∷◌, [], ℕ, IfOk, List, length};
-ghost use Rattle.drain.specs.working.Measures.{sum_at};
+ghost use Rattle.drain.specs.Sums.{sum_at};
 ghost use Rattle.drain.specs.working.Tallying.{HasSmallSums, Tallies};
 ghost use Rattle.drain.specs.working.Tallies.{Measure};
 ghost use Rattle.drain.specs.working.Scans.{IsScanOf};

@@ -1,10 +1,8 @@
 -- What a tally of objects says: of each row how many of them it has and their bytes together, and how many identifiers
 -- they miss.
 use Rattle.std.specs.Prelude.{List, if◌then◌else◌, length, slice_index_or, sum_by, ℕ, ◌+◌, ◌<◌, ◌==◌, ◌^◌, ◌≡◌, ◌≤◌}
+use Rattle.drain.specs.Sums.{no_object}
 use Rattle.drain.specs.declared.sum.Sum.{Sum}
-
-abbrev pub no_object : Sum
-no_object = record { count = 0; bytes = 0 }
 
 abbrev pub one_more : Sum → ℕ → Sum
 one_more s bytes = record { count = s.count + 1; bytes = s.bytes + bytes }
