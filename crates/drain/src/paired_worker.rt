@@ -29,8 +29,9 @@ impl<A: Allocator> PairedWorker<A> {
     ghost use Rattle.work_pair.specs.Moves.{WasSeenEmpty};
     ghost use Rattle.work_pair.specs.PairState.{buffered_items};
     ghost use Rattle.std.specs.Iterator.{AlwaysYields, IsFinite};
-    ghost use Rattle.drain.specs.working.AtWork.{AreClaimed, GoesOn, HasAtHand, HasNoneLeft, IsAtWork};
+    ghost use Rattle.drain.specs.working.AtWork.{AreClaimed, CameFrom, GoesOn, HasAtHand, HasNoneLeft, IsAtWork};
     ghost use Rattle.drain.specs.working.AtWork.{IsFree, IsSetupOf, IsThrough, MayClaim, WorksOn};
+    ghost use Rattle.drain.specs.working.Idle.{IsAwake};
     ghost use Rattle.drain.specs.working.RecentlySeen.{HasSeenAll, IsNoted};
     ghost use Rattle.drain.specs.working.Sharing.{GivesSome, PutsAgain, SharesWork, Unspills};
     ghost use Rattle.drain.specs.working.Tallying.{HasTallied};
@@ -286,7 +287,8 @@ impl<A: Allocator> PairedWorker<A> {
         Ok(true)
     }
 
-    /// Scans until no object is left, and gives to others what it has too much of.
+    /// Scans until no object is left, and stays until all are idle or it waited long enough. Each time before it looks
+    /// for an object it gives to others what it has too much of, but where it was idle: then it has nothing.
     pub(crate) fn work_off<R: Wait, V: Walk, G: Gate, S>(
         &mut self,
         rt: &R,
@@ -298,16 +300,19 @@ impl<A: Allocator> PairedWorker<A> {
         requires setup { IsSetupOf (V.count job.now.graph.now) (V.roots job.now.graph.now)
             (V.pairs job.now.graph.now) self.old.worker.book.setup }
         requires at_work { IsAtWork self.old.pair [] self.old.worker }
+        requires awake { IsAwake self.old.worker }
         requires tally { HasTallied (V.measure job.now.graph.now) self.old.worker tally.old }
-        ensures goes_on { OnOk result (WorksOn self.old.worker self.new.worker) }
-        ensures at_work { OnOk result (IsAtWork self.new.pair [] self.new.worker) }
+        ensures came { OnOk result (CameFrom self.old.worker self.new.worker) }
+        ensures hand { OnOk result (HasAtHand self.new.pair [] self.new.worker) }
         ensures tally { OnOk result (HasTallied (V.measure job.now.graph.now) self.new.worker tally.new) }
         ensures none { OnOk result (HasNoneLeft self.new.pair self.new.worker) }
     {
         let mut seen = RecentlySeen::new();
+        self.share(rt, job.pool)?;
         for _ in rt.forever() {
-            self.share(rt, job.pool)?;
-            if !self.scan_next(rt, job, number, &mut seen, tally)? {
+            if self.scan_next(rt, job, number, &mut seen, tally)? {
+                self.share(rt, job.pool)?;
+            } else if !self.finds_more(rt, job.pool, job.workers) {
                 return Ok(());
             }
         }

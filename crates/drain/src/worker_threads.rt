@@ -66,14 +66,9 @@ fn work<T: Wait, A: Allocator + Copy, V: Walk, G: Gate, S>(
         Ok(paired) => paired,
         Err(worker) => return Ok(Tallied { worker, tally }),
     };
-    for _ in rt.forever() {
-        paired.work_off(rt, job, number, &mut tally)?;
-        if !paired.finds_more(rt, job.pool, job.workers) {
-            let worker = paired.close(rt, job.pool)?;
-            return Ok(Tallied { worker, tally });
-        }
-    }
-    unreachable!()
+    paired.work_off(rt, job, number, &mut tally)?;
+    let worker = paired.close(rt, job.pool)?;
+    Ok(Tallied { worker, tally })
 }
 
 /// Starts the thread of a worker.
