@@ -1,23 +1,15 @@
 -- What a thread owed comes back, whatever the leader did meanwhile.
-use Rattle.std.proofs.Common.{ap, subst, sym, ◌∙◌}
+use Rattle.std.proofs.Common.{ap, subst, sym, ◌≡◌, ◌∙◌}
 use Rattle.mark_core.specs.World.{Setup}
-use Rattle.buffer_pool.specs.Book.{Book, new_book}
+use Rattle.buffer_pool.specs.Book.{Book}
 use Rattle.buffer_pool.specs.Calls.{Holder}
+use Rattle.drain.specs.declared.tallied.Tallied.{Tallied}
 use Rattle.drain.specs.declared.tally.Tally.{Tally}
 use Rattle.drain.specs.declared.worker_threads.Duty.{Duty}
-use Rattle.drain.specs.working.AtWork.{IsThrough, Leads}
+use Rattle.drain.specs.working.AtWork.{IsThrough}
 use Rattle.drain.specs.working.Duties.{IsBackUnder, IsDutyUnder}
 use Rattle.drain.specs.working.Tallies.{Measure}
 use Rattle.drain.specs.working.Tallying.{HasTallied}
-
--- a leader that leads still is owed the same
-pub owed_still : {A V : Type 0} (graph : V) (old new : Holder) (duty : Duty A V) → Leads old new
-    → IsDutyUnder graph old duty → IsDutyUnder graph new duty
-owed_still graph old new duty leads owed = record {
-  pool = owed.pool ∙ sym leads.pool;
-  book = owed.book ∙ ap (λ (e : Setup). new_book e 1) (sym leads.setup);
-  graph_is = owed.graph_is;
-}
 
 -- a worker that kept its duty is back
 pub came_back : {A V : Type 0} (measure : V → Measure) (graph : V) (leader w : Holder) (t : Tally A) (duty : Duty A V)
@@ -29,4 +21,19 @@ came_back measure graph leader w t duty owed through tally = record {
   share = through.0.share ∙ ap (λ (b : Book). b.account.share) owed.book;
   free = through.1;
   tally = subst (λ v. HasTallied (measure v) w t) owed.graph_is tally;
+}
+
+-- a worker and its tally are back
+abbrev pub Back : {A : Type 0} → Measure → Holder → Tallied A → Type 0
+Back m leader t = IsBackUnder m leader t.worker t.tally
+
+-- for a leader of the same pool and setup as well
+pub back_still : {A : Type 0} (m : Measure) (old new w : Holder) (t : Tally A) → new.pool ≡ old.pool
+    → new.book.setup ≡ old.book.setup → IsBackUnder m old w t → IsBackUnder m new w t
+back_still m old new w t pool setup back = record {
+  pool = back.pool ∙ sym pool;
+  setup = back.setup ∙ sym setup;
+  share = back.share;
+  free = back.free;
+  tally = back.tally;
 }

@@ -1,5 +1,5 @@
 -- The leader, as it gives away units and takes workers in.
-use Rattle.std.proofs.Common.{◌≡◌, ℕ, ◌<◌, List, [], Contains, ap, inl, sym, refl, subst, ◌∙◌, arith}
+use Rattle.std.proofs.Common.{◌≡◌, ℕ, ◌<◌, ◌||◌, List, [], ◌++◌, Contains, ap, inl, sym, refl, subst, ◌∙◌, arith}
 use Rattle.std.proofs.lemmas.List.Elements.{Contains-append_left}
 use Rattle.mark_core.specs.Events.{IsBusy}
 use Rattle.mark_core.specs.Lists.{times, only}
@@ -63,6 +63,15 @@ took_in old other new pool is free = record {
     ap (times o) free.charge,
   );
   pushed = ap (λ (b : Book). b.account.pushed) is;
+}
+
+-- and it is free then where it was
+pub joined_free : (old other new : Holder) → new.book ≡ joined old.book other.book → IsFree old → IsFree other
+    → IsFree new
+joined_free old other new is free other_free = record {
+  held = ap (λ (b : Book). b.account.held) is ∙ (λ k. free.held k ++ other_free.held k);
+  charge = ap (λ (b : Book). b.account.charge) is ∙ (λ k. free.charge k ++ other_free.charge k);
+  open_push = ap (λ (b : Book). b.account.open_push) is ∙ (λ k. free.open_push k || other_free.open_push k);
 }
 
 -- its pair is its pair still

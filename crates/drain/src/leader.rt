@@ -1,6 +1,6 @@
 //! The call that marks a graph, and the thread that leads.
 
-ghost use Rattle.std.specs.Prelude.{◌≡◌, ◌<◌, [], IfOk};
+ghost use Rattle.std.specs.Prelude.{◌≡◌, ◌<◌, ◌+◌, [], IfOk};
 ghost use Rattle.mark_core.specs.Shares.{whole};
 ghost use Rattle.drain.specs.ExactlyReachable.{ExactlyReachable};
 ghost use Rattle.drain.specs.Marks.{IsMarkingOf};
@@ -12,6 +12,7 @@ use crate::job::Job;
 use crate::marked::{Marked, RunFault};
 use crate::options::Options;
 use crate::paired_worker::PairedWorker;
+use crate::shares::join_shares;
 use crate::start_hook::{StartHook, StartsAll};
 use crate::supplies::supplies_of;
 use crate::tallied::Tallied;
@@ -27,7 +28,8 @@ use std::thread::Threads;
 #[cfg(test)]
 mod tests;
 
-/// Claims the roots and gives them to the workers, runs these, and then scans what is left.
+/// Claims the roots and gives them to the workers, runs these, scans what is left once all have ended, and then joins
+/// them.
 fn lead<T, A, V, G, S>(
     rt: &T,
     job: &Job<'_, A, V, G, S>,
@@ -43,8 +45,7 @@ where
     requires setup { IsSetupOf (V.count job.now.graph.now) (V.roots job.now.graph.now) (V.pairs job.now.graph.now)
         leader.book.setup }
     requires free { IsFree leader }
-    requires share { job.now.workers < leader.book.account.share }
-    requires several { 1 < leader.book.account.share }
+    requires share { job.now.workers + 1 < leader.book.account.share }
     requires none { leader.book.account.finished ≡ [] }
     ensures led { IfOk result (λ t. HasLed leader.book.account.share leader t.worker) }
     ensures tally { IfOk result (λ t. HasTallied (V.measure job.now.graph.now) t.worker t.tally) }
@@ -52,8 +53,9 @@ where
     let supplies = supplies_of(job)?;
     job.graph.is_measured();
     let paired = PairedWorker::begun(rt, job.alloc, job.pool, job.graph.roots(), leader)?;
-    let (paired, tally) = run_workers(rt, job, paired, supplies)?;
-    Ok(paired.end(rt, job, tally)?)
+    let (paired, tally, back) = run_workers(rt, job, paired, supplies)?;
+    let drained = paired.end(rt, job, tally)?;
+    Ok(join_shares(job.graph, job.pool, drained, back))
 }
 
 /// Marks the objects that a path of references joins to a root, with a thread for each worker, and calls the gate

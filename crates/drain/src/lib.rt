@@ -28,6 +28,7 @@ mod paired_worker;
 mod pause;
 mod recently_seen;
 mod scanned;
+mod shares;
 mod start_hook;
 mod sum;
 mod supplies;

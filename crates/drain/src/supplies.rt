@@ -6,36 +6,43 @@ ghost use Rattle.drain.specs.working.Tallying.{AreTalliesOfNone, Tallies};
 
 use crate::job::Job;
 use crate::measured::Measured;
+use crate::tallied::Tallied;
 use crate::tally::Tally;
 use crate::worker_threads::Started;
 use std::alloc::{AllocError, Allocator};
 
-/// Room for the threads of a job, and the tallies of all that count in it.
+/// Room for the threads of a job and for the workers that come back from them, and the tallies of all that count in it.
 #[derive(Drop)]
 pub(crate) struct Supplies<A: Allocator, V: Measured> {
     /// The threads: none yet, and room for each.
     pub(crate) threads: Vec<Started<A, V>, A>,
+    /// The workers that are through: none yet, and room for each.
+    pub(crate) back: Vec<Tallied<A>, A>,
     /// A tally for each worker, of no object.
     pub(crate) tallies: Vec<Tally<A>, A>,
     /// The leader's tally, of no object.
     pub(crate) tally: Tally<A>,
 }
 
-/// Takes the memory for the threads of a job, then for the workers' tallies, then for the leader's.
+/// Takes the memory for the threads of a job, for the workers that come back from them, for the workers' tallies, and
+/// for the leader's, in this order.
 pub(crate) fn supplies_of<A: Allocator + Copy, V: Measured, G, S>(
     job: &Job<'_, A, V, G, S>,
 ) -> Result<Supplies<A, V>, AllocError>
     ensures room { IfOk result (λ s. (vec_len s.threads ≡ 0) × (job.now.workers ≤ vec_capacity s.threads)) }
+    ensures back { IfOk result (λ s. (vec_len s.back ≡ 0) × (job.now.workers ≤ vec_capacity s.back)) }
     ensures tallies { IfOk result (λ s. (job.now.workers ≤ vec_len s.tallies)
         × AreTalliesOfNone (V.measure job.now.graph.now) s.tallies.items) }
     ensures tally { IfOk result (λ s. Tallies (V.measure job.now.graph.now) [] s.tally) }
 {
     let threads = Vec::with_capacity(job.alloc, job.workers as usize)?;
+    let back = Vec::with_capacity(job.alloc, job.workers as usize)?;
     let rows = job.graph.rows();
     let tallies = tallies_of_none(job.alloc, job.workers, rows)?;
     let tally = Tally::new(job.alloc, rows)?;
     Ok(Supplies {
         threads,
+        back,
         tallies,
         tally,
     })

@@ -2,10 +2,10 @@
 
 ghost use Rattle.std.specs.Prelude.{◌≡◌, ◌<◌, ◌≤◌, ◌+◌, ◌⊎◌, ℕ, IfErr, IfOk, get_or, vec_capacity, vec_len};
 ghost use Rattle.drain.specs.declared.marked.RunFault.TheVariants as fault;
+ghost use Rattle.buffer_pool.specs.Calls.{Holder};
 ghost use Rattle.drain.specs.working.AtWork.{HasGiven, IsSetupOf, IsThrough, Leads};
-ghost use Rattle.drain.specs.working.Duties.{IsBackUnder, IsDutyUnder};
+ghost use Rattle.drain.specs.working.Duties.{AreBackUnder, IsDutyUnder};
 ghost use Rattle.drain.specs.working.Jobs.{MayRun, MayWork};
-ghost use Rattle.drain.specs.working.Tallies.{IsMeasureOf};
 ghost use Rattle.drain.specs.working.Tallying.{AreTalliesOfNone, HasTallied, Tallies};
 
 use crate::gate::Gate;
@@ -154,88 +154,34 @@ where
     Ok((leader, threads))
 }
 
-/// Puts a worker that is through into the leader, and what it counted into the leader's tally.
-fn put_in<A: Allocator, V: Measured>(
-    graph: &V,
-    pool: &Pool<A>,
-    leader: Tallied<A>,
-    back: Tallied<A>,
-) -> Tallied<A>
-    requires pool { leader.worker.pool ≡ pool.now }
-    requires back { IsBackUnder (V.measure graph.now) leader.worker back.worker back.tally }
-    requires measure { IsMeasureOf leader.worker.book.setup.objects (V.measure graph.now) }
-    requires tally { HasTallied (V.measure graph.now) leader.worker leader.tally }
-    ensures leads { Leads leader.worker result.worker }
-    ensures share { result.worker.book.account.share ≡ leader.worker.book.account.share + 1 }
-    ensures tally { HasTallied (V.measure graph.now) result.worker result.tally }
-{
-    let Tallied { worker, mut tally } = leader;
-    let Tallied {
-        worker: other,
-        tally: more,
-    } = back;
-    worker.has_finished_few();
-    other.has_finished_few();
-    tally.join(&more);
-    let worker = pool.join(worker, other);
-    Tallied { worker, tally }
-}
-
-/// Waits for a thread, and takes in its worker and what that counted.
-fn take_in<T: Threads, A: Allocator, V: Measured>(
-    rt: &T,
-    graph: &V,
-    pool: &Pool<A>,
-    leader: Tallied<A>,
-    thread: Started<A, V>,
-) -> Result<Tallied<A>, RunFault>
-    requires pool { leader.worker.pool ≡ pool.now }
-    requires owes { IsDutyUnder graph.now leader.worker thread.promise }
-    requires measure { IsMeasureOf leader.worker.book.setup.objects (V.measure graph.now) }
-    requires tally { HasTallied (V.measure graph.now) leader.worker leader.tally }
-    ensures leads { IfOk result (λ t. Leads leader.worker t.worker) }
-    ensures share { IfOk result (λ t. t.worker.book.account.share ≡ leader.worker.book.account.share + 1) }
-    ensures tally { IfOk result (λ t. HasTallied (V.measure graph.now) t.worker t.tally) }
-    ensures refused { IfErr result (λ e. (e ≡ fault.TagSpent) ⊎ (e ≡ fault.OutOfMemory)) }
-{
-    let joined = thread.join(rt)?;
-    Ok(put_in(graph, pool, leader, joined))
-}
-
-/// Waits for each thread in turn, and takes in its worker and what that counted. Answers at the first worker that was
-/// refused.
+/// Waits for each thread in turn, and lists their workers. Answers at the first worker that was refused.
 fn join_all<T: Threads, A: Allocator, V: Measured>(
     rt: &T,
-    graph: &V,
-    pool: &Pool<A>,
-    leader: Tallied<A>,
     threads: Vec<Started<A, V>, A>,
-) -> Result<Tallied<A>, RunFault>
-    requires pool { leader.worker.pool ≡ pool.now }
-    requires threads { (number : ℕ) (t : _) → number < vec_len threads
-        → IsDutyUnder graph.now leader.worker (get_or threads.items number t).promise }
-    requires measure { IsMeasureOf leader.worker.book.setup.objects (V.measure graph.now) }
-    requires tally { HasTallied (V.measure graph.now) leader.worker leader.tally }
-    ensures leads { IfOk result (λ t. Leads leader.worker t.worker) }
-    ensures share { IfOk result (λ t.
-        t.worker.book.account.share ≡ leader.worker.book.account.share + vec_len threads) }
-    ensures tally { IfOk result (λ t. HasTallied (V.measure graph.now) t.worker t.tally) }
+    back: Vec<Tallied<A>, A>,
+) -> Result<Vec<Tallied<A>, A>, RunFault>
+    requires room { (vec_len back ≡ 0) × (vec_len threads ≤ vec_capacity back) }
+    ensures count { IfOk result (λ l. vec_len l ≡ vec_len threads) }
+    ensures back { IfOk result (λ l. (graph : _) (leader : Holder) → ((number : ℕ) (t : _) → number < vec_len threads
+        → IsDutyUnder graph leader (get_or threads.items number t).promise)
+        → AreBackUnder (V.measure graph) leader l.items) }
     ensures refused { IfErr result (λ e. (e ≡ fault.TagSpent) ⊎ (e ≡ fault.OutOfMemory)) }
 {
-    let mut leader = leader;
+    let mut back = back;
     for thread in threads {
-        leader = take_in(rt, graph, pool, leader, thread)?;
+        back.push_reserved(thread.join(rt)?);
     }
-    Ok(leader)
+    Ok(back)
 }
 
-/// Runs the workers for a leader that has given them what it has to do, and takes all of them in.
+/// Runs the workers for a leader that has given them what it has to do. Answers the leader and its tally, and lists the
+/// workers that are through: the last thread has ended, and none was joined to the leader.
 pub(crate) fn run_workers<T, A, V, G, S>(
     rt: &T,
     job: &Job<'_, A, V, G, S>,
     paired: PairedWorker<A>,
     supplies: Supplies<A, V>,
-) -> Result<(PairedWorker<A>, Tally<A>), RunFault>
+) -> Result<(PairedWorker<A>, Tally<A>, Vec<Tallied<A>, A>), RunFault>
 where
     T: Threads + Wait + Sync,
     A: Allocator + Copy + Send + Sync,
@@ -248,14 +194,17 @@ where
     requires given { HasGiven paired.pair paired.worker }
     requires share { job.now.workers < paired.worker.book.account.share }
     requires room { (vec_len supplies.threads ≡ 0) × (job.now.workers ≤ vec_capacity supplies.threads) }
+    requires back { (vec_len supplies.back ≡ 0) × (job.now.workers ≤ vec_capacity supplies.back) }
     requires tallies { (job.now.workers ≤ vec_len supplies.tallies)
         × AreTalliesOfNone (V.measure job.now.graph.now) supplies.tallies.items }
-    requires measure { IsMeasureOf paired.worker.book.setup.objects (V.measure job.now.graph.now) }
     requires tally { HasTallied (V.measure job.now.graph.now) paired.worker supplies.tally }
     ensures leads { IfOk result (λ s. Leads paired.worker s.0.worker) }
     ensures pair { IfOk result (λ s. s.0.pair ≡ paired.pair) }
-    ensures share { IfOk result (λ s. s.0.worker.book.account.share ≡ paired.worker.book.account.share) }
+    ensures share { IfOk result (λ s. s.0.worker.book.account.share + job.now.workers
+        ≡ paired.worker.book.account.share) }
     ensures tally { IfOk result (λ s. HasTallied (V.measure job.now.graph.now) s.0.worker s.1) }
+    ensures count { IfOk result (λ s. vec_len s.2 ≡ job.now.workers) }
+    ensures back { IfOk result (λ s. AreBackUnder (V.measure job.now.graph.now) s.0.worker s.2.items) }
 {
     let PairedWorker {
         worker: leader,
@@ -263,22 +212,27 @@ where
     } = paired;
     let Supplies {
         threads,
+        back,
         tallies,
         tally,
     } = supplies;
-    let Tallied { worker, tally } = thread::scope(
+    let (worker, back) = thread::scope(
         thread::scope_env(),
         rt,
-        move |scope| -> Result<Tallied<A>, RunFault>
+        move |scope| -> Result<(Worker<A>, Vec<Tallied<A>, A>), RunFault>
             requires may { MayRun V.count V.roots V.pairs V.measure job.now leader (vec_len threads)
-                (vec_capacity threads) tallies.items (vec_len tallies) tally }
-            ensures leads { IfOk result (λ t. Leads leader t.worker) }
-            ensures share { IfOk result (λ t. t.worker.book.account.share ≡ leader.book.account.share) }
-            ensures tally { IfOk result (λ t. HasTallied (V.measure job.entry.now.graph.now) t.worker t.tally) }
+                (vec_capacity threads) (vec_len back) (vec_capacity back) tallies.items (vec_len tallies) }
+            ensures leads { IfOk result (λ s. Leads leader s.0) }
+            ensures finished { IfOk result (λ s. s.0.book.account.finished ≡ leader.book.account.finished) }
+            ensures share { IfOk result (λ s. s.0.book.account.share + job.entry.now.workers
+                ≡ leader.book.account.share) }
+            ensures count { IfOk result (λ s. vec_len s.1 ≡ job.entry.now.workers) }
+            ensures back { IfOk result (λ s. AreBackUnder (V.measure job.entry.now.graph.now) s.0 s.1.items) }
         {
-            let (worker, threads) = start_all(rt, scope, job, leader, threads, tallies)?;
-            join_all(rt, job.graph, job.pool, Tallied { worker, tally }, threads)
+            let (leader, threads) = start_all(rt, scope, job, leader, threads, tallies)?;
+            let back = join_all(rt, threads, back)?;
+            Ok((leader, back))
         },
     )?;
-    Ok((PairedWorker { worker, pair }, tally))
+    Ok((PairedWorker { worker, pair }, tally, back))
 }

@@ -1,7 +1,8 @@
 -- What the threads of workers owe, and what comes back from them.
-use Rattle.std.specs.Prelude.{◌≡◌}
+use Rattle.std.specs.Prelude.{All, List, ◌≡◌}
 use Rattle.buffer_pool.specs.Book.{new_book}
 use Rattle.buffer_pool.specs.Calls.{Holder}
+use Rattle.drain.specs.declared.tallied.Tallied.{Tallied}
 use Rattle.drain.specs.declared.tally.Tally.{Tally}
 use Rattle.drain.specs.declared.worker_threads.Duty.{Duty}
 use Rattle.drain.specs.working.AtWork.{IsFree}
@@ -21,3 +22,7 @@ pub record IsBackUnder {A : Type 0} (m : Measure) (leader w : Holder) (t : Tally
   pub share : w.book.account.share ≡ 1
   pub free : IsFree w
   pub tally : HasTallied m w t
+
+-- these are each back
+abbrev pub AreBackUnder : {A : Type 0} → Measure → Holder → List (Tallied A) → Type 0
+AreBackUnder m leader back = All (λ t. IsBackUnder m leader t.worker t.tally) back

@@ -1,9 +1,8 @@
 //! Which refusal is told where several workers are refused.
 
-ghost use Rattle.std.specs.Prelude.{◌≡◌, ◌<◌, ◌≤◌, ℕ, IfOk, get_or, length, vec_len};
+ghost use Rattle.std.specs.Prelude.{◌≡◌, ◌<◌, ◌≤◌, ℕ, IfOk, get_or, length, vec_capacity, vec_len};
 ghost use Rattle.drain.specs.working.AtWork.{IsFree, IsThrough, Leads};
 ghost use Rattle.drain.specs.working.Duties.{IsDutyUnder};
-ghost use Rattle.drain.specs.working.Tallies.{IsMeasureOf};
 ghost use Rattle.drain.specs.working.Tallying.{HasTallied};
 
 use super::*;
@@ -115,23 +114,21 @@ fn told<T: Threads + Wait, V: Measured + Sync>(
 ) -> Result<Option<RunFault>, Fail>
     requires { length stops.now ≤ 64 }
 {
-    let tally = Tally::new(alloc, graph.rows())?;
+    let back = Vec::with_capacity(alloc, stops.len())?;
     let Ok((pool, leader)) = Pool::new(alloc, graph, 4, 2, 0) else {
         return Err("the pool was refused".into());
     };
     let pool = &pool;
-    graph.is_measured();
     let outcome = thread::scope(
         thread::scope_env(),
         rt,
-        move |scope| -> Result<Tallied<Global>, RunFault>
+        move |scope| -> Result<Vec<Tallied<Global>>, RunFault>
             requires pool { leader.pool ≡ pool.now }
             requires share { length stops.now < leader.book.account.share }
-            requires measure { IsMeasureOf leader.book.setup.objects (V.measure graph.now) }
-            requires tally { HasTallied (V.measure graph.now) leader tally }
+            requires room { (vec_len back ≡ 0) × (length stops.now ≤ vec_capacity back) }
         {
-            let (worker, threads) = answer_all(scope, alloc, graph, pool, leader, stops)?;
-            join_all(rt, graph, pool, Tallied { worker, tally }, threads)
+            let (_leader, threads) = answer_all(scope, alloc, graph, pool, leader, stops)?;
+            join_all(rt, threads, back)
         },
     );
     Ok(outcome.err())

@@ -1,18 +1,17 @@
--- The leader took in those that were joined, the others are owed still, and its tally is of all that it has finished.
-use Rattle.std.proofs.Common.{◌≡◌, ◌<◌, ◌+◌, ℕ, get_or, vec_len}
+-- Those that were joined are back for whatever leader all threads owe, the others are owed still, and there is room.
+use Rattle.std.proofs.Common.{◌≡◌, ◌<◌, ◌≤◌, ◌+◌, ℕ, get_or, vec_capacity, vec_len}
 use Rattle.std.specs.Vec.Iter.{into_iter_items, into_iter_len}
-use Rattle.drain.specs.working.AtWork.{Leads}
-use Rattle.drain.specs.working.Duties.{IsDutyUnder}
-use Rattle.drain.specs.working.Tallying.{HasTallied}
+use Rattle.buffer_pool.specs.Calls.{Holder}
+use Rattle.drain.specs.working.Duties.{AreBackUnder, IsDutyUnder}
 use Rattle.drain.proofs.worker_threads.join_all.Given as goal
 
 abbrev pub invariant-loop-thread : goal.invariant-loop-thread
 invariant-loop-thread g l =
     let rest = l.thread-iterator in
-    let begun = l.initial.leader.worker in
-    let units = begun.book.account.share in
-    Leads begun l.leader.worker
-    × (l.leader.worker.book.account.share + into_iter_len rest ≡ units + vec_len l.fn.threads)
-    × ((k : ℕ) (d : _) → k < into_iter_len rest
-    → IsDutyUnder l.graph begun (get_or (into_iter_items rest) k d).promise)
-    × HasTallied (g.V.Measured.measure l.graph) l.leader.worker l.leader.tally
+    let all = l.fn.threads in
+    (vec_len l.back + into_iter_len rest ≡ vec_len all)
+    × (vec_len all ≤ vec_capacity l.back)
+    × ((graph : _) (leader : Holder) → ((k : ℕ) (t : _) → k < vec_len all
+    → IsDutyUnder graph leader (get_or all.items k t).promise)
+    → ((k : ℕ) (t : _) → k < into_iter_len rest → IsDutyUnder graph leader (get_or (into_iter_items rest) k t).promise)
+    × AreBackUnder (g.V.Measured.measure graph) leader l.back.items)

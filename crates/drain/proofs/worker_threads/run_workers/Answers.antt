@@ -1,5 +1,5 @@
 -- What the closure asks is what the call asks, and what may be sent to threads.
-use Rattle.std.proofs.Common.{rules}
+use Rattle.drain.proofs.Scanning.{same_tally}
 use Rattle.drain.proofs.worker_threads.run_workers.Goals as goal
 
 pub scoped-requires : goal.scoped-requires
@@ -13,14 +13,14 @@ scoped-requires g c = record {
           share = asked.share;
           none = asked.room.0;
           room = asked.room.1;
+          none_back = asked.back.0;
+          room_back = asked.back.1;
           enough = asked.tallies.0;
           tallies_of_none = asked.tallies.1;
-          measured = asked.measure;
-          tally = asked.tally;
         },
         (
           sent.send-A,
-          search rules,
+          record { owned = sent.send-V-Visit.owned; leaving = sent.send-V-Visit.leaving },
           record { shared = sent.sync-T.shared },
           sent.sync-A,
           record { shared = sent.sync-V.shared },
@@ -30,3 +30,9 @@ scoped-requires g c = record {
         ),
       );
 }
+
+pub returns-clause-tally : goal.returns-clause-tally
+returns-clause-tally g c =
+    let m = g.V.Measured.measure c.args.job.now.graph.now in
+    same_tally m c.args.paired.worker c.in_ok-worker.worker c.args.supplies.tally c.in_ok-worker.ensures.2
+    c.requires.tally

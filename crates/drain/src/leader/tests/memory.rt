@@ -120,8 +120,9 @@ fn array_marked_with<T: Threads + Wait + Sync>(
 #[test]
 fn want_of_memory_starts_no_thread(rt: HostRuntime) -> Result<(), Fail> {
     let requests = array_marked_with(&rt, rt.alloc())?;
-    // The words, the slots, six buffers, two blocks of the table, the threads, the tallies and three of them.
-    assert_eq!(rt; requests, (Some(15), Some(15)));
+    // The words, the slots, six buffers, two blocks of the table, the threads, the workers that come back, the tallies
+    // and three of them.
+    assert_eq!(rt; requests, (Some(16), Some(16)));
     Ok(())
 }
 

@@ -4,9 +4,9 @@ use Rattle.mark_core.specs.World.{Setup}
 use Rattle.buffer_pool.specs.Book.{Book}
 use Rattle.buffer_pool.specs.Calls.{Holder}
 use Rattle.drain.specs.working.Tallying.{Tallies}
-use Rattle.drain.proofs.Leading.{took_in}
+use Rattle.drain.proofs.Leading.{joined_free, took_in}
 use Rattle.drain.proofs.Tallies.{tally_is_small}
-use Rattle.drain.proofs.worker_threads.put_in.Goals as goal
+use Rattle.drain.proofs.shares.join_share.Goals as goal
 
 pub join-requires-clause-rows : goal.join-requires-clause-rows
 join-requires-clause-rows g c = c.requires.tally.each ∙ sym c.requires.back.tally.each
@@ -32,6 +32,11 @@ returns-clause-leads g c =
     let pool = ap (λ (h : Holder). h.pool) c.join-worker.ensures.together in
     let book = ap (λ (h : Holder). h.book) c.join-worker.ensures.together in
     took_in c.args.leader.worker c.args.back.worker c.join-worker.result pool book c.requires.back.free
+
+pub returns-clause-free : goal.returns-clause-free
+returns-clause-free g c =
+    let book = ap (λ (h : Holder). h.book) c.join-worker.ensures.together in
+    joined_free c.args.leader.worker c.args.back.worker c.join-worker.result book c.requires.free c.requires.back.free
 
 pub returns-clause-share : goal.returns-clause-share
 returns-clause-share g c =

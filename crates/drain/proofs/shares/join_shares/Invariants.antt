@@ -1,0 +1,19 @@
+-- The leader took in those that were joined and is free, the others are back still, and its tally is of all that it has
+-- finished.
+use Rattle.std.proofs.Common.{◌≡◌, ◌<◌, ◌+◌, ℕ, get_or, vec_len}
+use Rattle.std.specs.Vec.Iter.{into_iter_items, into_iter_len}
+use Rattle.drain.specs.working.AtWork.{IsFree, Leads}
+use Rattle.drain.specs.working.Tallying.{HasTallied}
+use Rattle.drain.proofs.Duties.{Back}
+use Rattle.drain.proofs.shares.join_shares.Given as goal
+
+abbrev pub invariant-loop-other : goal.invariant-loop-other
+invariant-loop-other g l =
+    let rest = l.other-iterator in
+    let begun = l.initial.leader.worker in
+    let m = g.V.Measured.measure l.graph in
+    Leads begun l.leader.worker
+    × IsFree l.leader.worker
+    × (l.leader.worker.book.account.share + into_iter_len rest ≡ begun.book.account.share + vec_len l.fn.back)
+    × ((k : ℕ) (d : _) → k < into_iter_len rest → Back m begun (get_or (into_iter_items rest) k d))
+    × HasTallied m l.leader.worker l.leader.tally
