@@ -21,6 +21,7 @@ mod gate_calls;
 mod memory;
 mod starts;
 mod tallies;
+mod texts;
 
 /// Puts class 0x100, without a superclass, fields and values.
 fn put_class(heap: &mut Vec<u8>) -> Result<(), AllocError> {
@@ -28,9 +29,9 @@ fn put_class(heap: &mut Vec<u8>) -> Result<(), AllocError> {
     heap.extend_from_slice(&[0; 38])
 }
 
-/// Puts an instance of that class, 0x300 and the number.
-fn put_instance(heap: &mut Vec<u8>, id: u8) -> Result<(), AllocError> {
-    heap.extend_from_slice(&[0x21, 0, 0, 3, id, 0, 0, 0, 0, 0, 0, 1, 0, 0, 0, 0, 0])
+/// Puts an instance of that class, whose identifier has these two bytes behind two of 0.
+fn put_instance(heap: &mut Vec<u8>, [high, low]: [u8; 2]) -> Result<(), AllocError> {
+    heap.extend_from_slice(&[0x21, 0, 0, high, low, 0, 0, 0, 0, 0, 0, 1, 0, 0, 0, 0, 0])
 }
 
 /// Puts the header of a dump and the record of this heap.
@@ -59,7 +60,7 @@ fn put_wide_array(heap: &mut Vec<u8>) -> Result<(), AllocError> {
         heap.extend_from_slice(&[0, 0, 3, id])?;
     }
     for id in 0..60u8 {
-        put_instance(heap, id)?;
+        put_instance(heap, [3, id])?;
     }
     heap.extend_from_slice(&[0xff, 0, 0, 2, 0])
 }
@@ -93,34 +94,41 @@ impl StartHook for AllBut {
     }
 }
 
-/// Marks the wide array by so many workers with so many buffers of so many objects, and answers how many objects are
-/// marked, or why none is.
+/// Marks the wide array by so many workers with so many buffers of so many objects and a first tag, and answers how many
+/// objects are marked, or why none is.
 fn marked_where<T: Threads + Wait + Sync, G: Gate, S: StartHook>(
     rt: &T,
     alloc: Global,
-    (workers, buffer, buffers): (u32, u32, u32),
+    (workers, buffer, buffers, first_tag): (u32, u32, u32, u64),
     gate: &G,
     hook: &S,
 ) -> Result<Result<u64, RunFault>, Fail> {
-    let options = Options::new(workers, buffer, buffers, 0)?;
+    let options = Options::new(workers, buffer, buffers, first_tag)?;
     let dump = wide_array(alloc)?;
     let skip = Skip::none(alloc);
     let graph = graph_of(alloc, dump.as_slice(), &skip)?;
     Ok(mark_where(rt, alloc, &graph, &options, gate, hook).map(|marked| marked.len()))
 }
 
-/// Workers, objects of a buffer, and buffers; the worker without a thread; and what is answered.
-type Start = ((u32, u32, u32), u32, Result<u64, RunFault>);
+/// Workers, objects of a buffer, buffers, and the first tag; the worker without a thread; and what is answered.
+type Start = ((u32, u32, u32, u64), u32, Result<u64, RunFault>);
 
-static STARTS: [Start; 7] = [
-    ((4, 256, 1024), 0, Err(RunFault::WorkerRefused)),
-    ((4, 256, 1024), 1, Err(RunFault::WorkerRefused)),
-    ((4, 256, 1024), 2, Err(RunFault::WorkerRefused)),
-    ((4, 256, 1024), 3, Err(RunFault::WorkerRefused)),
-    ((4, 256, 1024), 4, Ok(62)),
+/// The leader takes three buffers, two for its pair and one for the root that it gives away: then the stack of the empty
+/// ones has its last tag, and no worker finds a pair.
+const LATE: u64 = Options::LAST_TAG - 3;
+
+static STARTS: [Start; 9] = [
+    ((4, 256, 1024, 0), 0, Err(RunFault::WorkerRefused)),
+    ((4, 256, 1024, 0), 1, Err(RunFault::WorkerRefused)),
+    ((4, 256, 1024, 0), 2, Err(RunFault::WorkerRefused)),
+    ((4, 256, 1024, 0), 3, Err(RunFault::WorkerRefused)),
+    ((4, 256, 1024, 0), 4, Ok(62)),
     // 60 references find no room in six buffers of two, and go to the lists of who found them.
-    ((2, 2, 6), 2, Ok(62)),
-    ((2, 2, 6), 1, Err(RunFault::WorkerRefused)),
+    ((2, 2, 6, 0), 2, Ok(62)),
+    ((2, 256, 1024, LATE), 2, Err(RunFault::TagSpent)),
+    // Worker 0 is refused as well, but worker 1 was not started.
+    ((2, 256, 1024, LATE), 1, Err(RunFault::WorkerRefused)),
+    ((2, 256, 1024, LATE), 0, Err(RunFault::WorkerRefused)),
 ];
 
 #[test]

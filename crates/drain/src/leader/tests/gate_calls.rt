@@ -85,17 +85,19 @@ impl<C: Clock + Sync> Gate for Meeting<C> {
 }
 
 /// Puts so many instances of one class, each a root.
-fn put_roots(heap: &mut Vec<u8>, count: u8) -> Result<(), AllocError> {
+fn put_roots(heap: &mut Vec<u8>, count: u16) -> Result<(), AllocError> {
     put_class(heap)?;
-    for id in 0..count {
-        put_instance(heap, id)?;
-        heap.extend_from_slice(&[0xff, 0, 0, 3, id])?;
+    for number in 0..count {
+        let [high, low] = number.to_be_bytes();
+        // The class has 0x100, and of so many numbers none comes to 0x8000.
+        put_instance(heap, [high | 0x80, low])?;
+        heap.extend_from_slice(&[0xff, 0, 0, high | 0x80, low])?;
     }
     Ok(())
 }
 
 /// A dump with so many instances of one class, each a root.
-fn roots_alone(alloc: Global, count: u8) -> Result<Vec<u8>, AllocError> {
+fn roots_alone(alloc: Global, count: u16) -> Result<Vec<u8>, AllocError> {
     let mut heap = Vec::new(alloc);
     put_roots(&mut heap, count)?;
     dump_of(alloc, heap.as_slice())
@@ -131,7 +133,7 @@ fn marked<T: Threads + Wait + Sync, G: Gate>(
 fn calls_of<T: Clock + Copy + Threads + Wait + Sync>(
     rt: T,
     alloc: Global,
-    roots: u8,
+    roots: u16,
     workers: u32,
     buffers: u32,
 ) -> Result<(u64, (u64, u64, u64)), Fail> {
@@ -143,9 +145,11 @@ fn calls_of<T: Clock + Copy + Threads + Wait + Sync>(
 }
 
 /// Roots, workers, buffers; the workers that came, and the calls of the leader.
-static ROWS: [(u8, u32, u32, u64, u64); 2] = [
+static ROWS: [(u16, u32, u32, u64, u64); 3] = [
     // There is a buffer of two roots for each of 64 workers, and none scans before all have come.
     (128, 64, 1024, u64::MAX, 0),
+    // Of many objects as well each of four workers scans some, and none before all have come.
+    (3_000, 4, 4096, 0xf, 0),
     // Seven roots take all four buffers: the worker has no pair, and the leader scans all that there is.
     (7, 1, 4, 0, 8),
 ];

@@ -172,7 +172,6 @@ fn array_told<T: Threads + Wait + Sync>(
 
 #[test]
 fn a_marking_answers_without_memory(rt: HostRuntime) -> Result<(), Fail> {
-    assert_eq!(rt; with_room()?, with_room()?);
     let told = array_told(&rt, rt.alloc())?;
     assert_eq!(rt; told, Ok((0, (true, false, 62, (61, 240), 0), 0)));
     Ok(())

@@ -66,7 +66,7 @@ fn noted_twice<T: Clock + Copy + Threads + Wait + Sync>(
     alloc: Global,
 ) -> Result<(Result<u64, RunFault>, Notes, Notes), Fail> {
     let one = RefusesOne::new(rt);
-    let outcome = marked_where(&rt, alloc, (4, 256, 1024), &one, &one)?;
+    let outcome = marked_where(&rt, alloc, (4, 256, 1024, 0), &one, &one)?;
     let first = one.noted();
     thread::sleep(&rt, Duration::from_millis(2));
     Ok((outcome, first, one.noted()))
