@@ -4,6 +4,15 @@ use crate::{Arguments, arguments};
 use clap::error::ErrorKind;
 use std::test::Fail;
 
+/// What a user is told of a list that comes again.
+const LIST_TWICE: &str = "\
+error: the argument '--skip <LIST>' cannot be used multiple times
+
+Usage: heapmark [OPTIONS] <FILE>
+
+For more information, try '--help'.
+";
+
 #[test]
 fn takes_a_file_alone(rt: HostRuntime) -> Result<(), Fail> {
     let given = arguments(rt.alloc(), &["heapmark", "app.hprof"])?;
@@ -35,6 +44,8 @@ fn takes_one_list_of_fields(rt: HostRuntime) -> Result<(), Fail> {
         return Err(Fail::from("a list that comes again is taken"));
     };
     assert_eq!(rt; error.kind(), ErrorKind::ArgumentConflict);
+    let text = format!(in alloc; "{error}")?;
+    assert_eq!(rt; text.as_str(), LIST_TWICE);
     Ok(())
 }
 

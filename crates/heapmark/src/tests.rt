@@ -19,6 +19,7 @@ mod refusals;
 mod rows;
 mod skips;
 mod streams;
+mod texts;
 mod workers;
 
 ghost use Rattle.std.specs.Prelude.{◌≤◌};

@@ -1,7 +1,12 @@
 //! Lines of words that the program takes or refuses, and what it answers to each.
 
 use super::dumps::{Bytes, NOTHING_REPORT, Sample, WIDE_ARRAY_REPORT};
-use super::program::{Broken, file_of, printed};
+use super::program::{Broken, answered, file_of};
+use super::texts::{
+    ALMOST_AN_OPTION, ANOTHER_WORD, BUFFER_1, BUFFER_4097, BUFFERS_3, BUFFERS_65535, HELP,
+    HEXADECIMAL_TAG, NO_FILE, NO_FILE_BUT_WORKERS, NO_VALUE, SKIP_TWICE, TAG_BEHIND_THE_LAST,
+    UNKNOWN_OPTION, VERSION, WORKERS_0, WORKERS_65, WORKERS_TWICE,
+};
 use crate::{Counted, program};
 use std::alloc::{AllocError, Global};
 use std::env::Env;
@@ -12,26 +17,18 @@ use std::sync::Wait;
 use std::test::Fail;
 use std::thread::Threads;
 
-/// Words behind the program's name, with FILE for a dump, the status that they have, and how standard error begins.
+/// Words behind the program's name, with FILE for a dump, the status that they have, and all that standard error has.
 type Line = (&'static str, u8, &'static str);
 
 const BAD_OPTIONS: &str = "heapmark: refused 21 BadOptions\n";
 
-const INVALID: &str = "error: invalid value";
-
-const NO_FILE: &str = "error: the following required arguments were not provided:";
-
 const TAG_SPENT: &str = "heapmark: refused 16 TagSpent\n";
 
-const WORKERS_TWICE: &str = "error: the argument '--workers <N>' cannot be used";
-
-const SKIP_TWICE: &str = "error: the argument '--skip <LIST>' cannot be used";
-
 /// Options, of a dump without objects.
-static OPTIONS: [Line; 19] = [
+const OPTIONS: &[Line] = &[
     ("--workers 64 --buffers 130 FILE", 0, ""),
     ("--workers 64 --buffers 129 FILE", 1, BAD_OPTIONS),
-    ("--workers 4 --buffers 9 FILE", 1, BAD_OPTIONS),
+    ("FILE --workers 4 --buffers 9", 1, BAD_OPTIONS),
     ("--workers 4 --buffers 9 /nowhere/a.hprof", 1, BAD_OPTIONS),
     (
         "FILE --workers=1 --buffer=2 --buffers=4 --first-tag=0",
@@ -39,21 +36,20 @@ static OPTIONS: [Line; 19] = [
         "",
     ),
     ("FILE --buffer 4096 --buffers 65534", 0, ""),
-    ("FILE --workers 0", 2, INVALID),
-    ("FILE --workers 65", 2, INVALID),
-    ("FILE --buffer 1", 2, INVALID),
-    ("FILE --buffer 4097", 2, INVALID),
-    ("FILE --buffers 3", 2, INVALID),
-    ("FILE --buffers 65535", 2, INVALID),
-    ("FILE --first-tag 281474976710656", 2, INVALID),
-    ("FILE --first-tag 0x10", 2, INVALID),
+    ("FILE --workers 0", 2, WORKERS_0),
+    ("FILE --workers 65", 2, WORKERS_65),
+    ("FILE --buffer 1", 2, BUFFER_1),
+    ("FILE --buffer 4097", 2, BUFFER_4097),
+    ("FILE --buffers 3", 2, BUFFERS_3),
+    ("FILE --buffers 65535", 2, BUFFERS_65535),
+    ("FILE --first-tag 281474976710656", 2, TAG_BEHIND_THE_LAST),
+    ("FILE --first-tag 0x10", 2, HEXADECIMAL_TAG),
     ("", 2, NO_FILE),
-    ("a b", 2, "error: unexpected argument 'b' found"),
-    (
-        "--treads 2 a",
-        2,
-        "error: unexpected argument '--treads' found",
-    ),
+    ("--workers 2", 2, NO_FILE_BUT_WORKERS),
+    ("FILE --workers", 2, NO_VALUE),
+    ("a b", 2, ANOTHER_WORD),
+    ("--treads 2 a", 2, UNKNOWN_OPTION),
+    ("--worker 2 a", 2, ALMOST_AN_OPTION),
     ("a --workers 1 --workers 2", 2, WORKERS_TWICE),
     ("a --skip a.b --skip c.d", 2, SKIP_TWICE),
 ];
@@ -109,20 +105,6 @@ fn words_of<'a>(alloc: Global, line: &'a str, file: &'a str) -> Result<Vec<&'a s
     Ok(words)
 }
 
-/// What the program answers for these words: its status, whether it prints this report, and whether what it prints on
-/// standard error is nothing, and begins so.
-fn answered<T: Files + AllocGlobal + Threads + Wait + Sync>(
-    rt: &T,
-    words: &[&str],
-    report: &str,
-    begins: &str,
-) -> (u8, bool, bool, bool) {
-    let (status, out, err) = printed(rt, words);
-    let is_reported = out.as_slice() == report.as_bytes();
-    let begins_so = err.as_slice().starts_with(begins.as_bytes());
-    (status, is_reported, err.is_empty(), begins_so)
-}
-
 /// The status for these words where standard error fails.
 fn answered_unheard<T: Files + AllocGlobal + Threads + Wait + Sync>(rt: &T, words: &[&str]) -> u8 {
     let mut out = Counted::new(Vec::new(rt.alloc()));
@@ -130,18 +112,18 @@ fn answered_unheard<T: Files + AllocGlobal + Threads + Wait + Sync>(rt: &T, word
 }
 
 /// For these words the program has this status, also where standard error fails: with this report at 0, and else with
-/// nothing on the output and a text that begins so on standard error.
+/// nothing on the output; and with all of this text on standard error.
 fn answers<T: Abort + Files + AllocGlobal + Threads + Wait + Sync>(
     rt: &T,
     words: &[&str],
     report: &str,
     want: u8,
-    begins: &str,
+    told: &str,
 ) {
     let report = if want == 0 { report } else { "" };
-    let told = answered(rt, words, report, begins);
-    assert_eq!(rt; told, (want, true, want == 0, true), "{begins}");
-    assert_eq!(rt; answered_unheard(rt, words), want, "{begins}");
+    let answer = answered(rt, words, report, told);
+    assert_eq!(rt; answer, (want, true, true), "{words:?}: {told}");
+    assert_eq!(rt; answered_unheard(rt, words), want, "{words:?}: {told}");
 }
 
 /// Checks each of these lines on a file of these bytes, whose report is this one.
@@ -154,9 +136,9 @@ fn all_answer<T: Abort + AllocGlobal + Env + Files + Threads + Wait + Sync>(
 ) -> Result<(), Fail> {
     let path = file_of(rt, name, dump)?;
     let file = path.to_str().ok_or("the name of the file is not text")?;
-    for (line, want, begins) in lines {
+    for (line, want, told) in lines {
         let words = words_of(rt.alloc(), line, file)?;
-        answers(rt, words.as_slice(), report, *want, begins);
+        answers(rt, words.as_slice(), report, *want, told);
     }
     fs::remove_file(rt, path.as_path())?;
     Ok(())
@@ -166,7 +148,7 @@ fn all_answer<T: Abort + AllocGlobal + Env + Files + Threads + Wait + Sync>(
 fn options_are_taken_or_refused(rt: HostRuntime) -> Result<(), Fail> {
     let nothing = Sample::Nothing.dump(rt.alloc())?;
     let name = "heapmark_nothing.hprof";
-    all_answer(&rt, name, &nothing, NOTHING_REPORT, &OPTIONS)?;
+    all_answer(&rt, name, &nothing, NOTHING_REPORT, OPTIONS)?;
     all_answer(&rt, name, &nothing, NOTHING_REPORT, &TAGS_OF_NOTHING)
 }
 
@@ -183,24 +165,13 @@ fn no_words_are_told(rt: HostRuntime) {
     answers(&rt, &[], "", 2, NO_FILE);
 }
 
-/// Words that ask for a text, and how it begins.
+/// Words that ask for a text, and the text.
 static TEXTS: [(&str, &str); 4] = [
-    ("--help", "Marks the objects of a Java heap dump"),
-    ("-h", "Marks the objects of a Java heap dump"),
-    ("--version", "heapmark 0.1.0\nrattle logic "),
-    ("-V", "heapmark 0.1.0\nrattle logic "),
+    ("--help", HELP),
+    ("-h", HELP),
+    ("--version", VERSION),
+    ("-V", VERSION),
 ];
-
-/// The status for this word, whether nothing is printed on standard error, and whether the output begins so.
-fn asked<T: Files + AllocGlobal + Threads + Wait + Sync>(
-    rt: &T,
-    word: &str,
-    begins: &str,
-) -> (u8, bool, bool) {
-    let (status, out, err) = printed(rt, &["heapmark", word]);
-    let begins_so = out.as_slice().starts_with(begins.as_bytes());
-    (status, err.is_empty(), begins_so)
-}
 
 /// The status for this word where both streams fail, and how often the output did.
 fn asked_in_vain<T: Files + AllocGlobal + Threads + Wait + Sync>(rt: &T, word: &str) -> (u8, u64) {
@@ -211,8 +182,9 @@ fn asked_in_vain<T: Files + AllocGlobal + Threads + Wait + Sync>(rt: &T, word: &
 
 #[test]
 fn help_and_version_are_printed_on_the_output(rt: HostRuntime) {
-    for (word, begins) in TEXTS {
-        assert_eq!(rt; asked(&rt, word, begins), (0, true, true), "{word}");
+    for (word, text) in TEXTS {
+        let told = answered(&rt, &["heapmark", word], text, "");
+        assert_eq!(rt; told, (0, true, true), "{word}");
         assert_eq!(rt; asked_in_vain(&rt, word), (0, 1), "{word}");
     }
 }

@@ -1,7 +1,8 @@
 //! How a refusal is printed.
 
 use crate::Refusal;
-use std::test::Fail;
+use crate::command::refused;
+use std::alloc::Global;
 
 /// The code and the name of each refusal.
 static NAMES: [(u8, &str); 21] = [
@@ -35,13 +36,24 @@ fn each_code_has_its_name(rt: HostRuntime) {
     }
 }
 
+/// The status of a refusal, and whether this is what is printed of it.
+fn told(alloc: Global, refusal: &Refusal, want: &str) -> (u8, bool) {
+    let mut err = Vec::new(alloc);
+    let status = refused(&mut err, refusal);
+    (status, err.as_slice() == want.as_bytes())
+}
+
 #[test]
-fn refusals_are_printed_by_code_name_and_place(rt: HostRuntime) -> Result<(), Fail> {
-    let placed = Refusal {
+fn refusals_are_printed_by_code_name_and_place(rt: HostRuntime) {
+    let too_large = Refusal {
         code: 14,
         offset: Some(1_073_741_824),
     };
-    let text = format!(in rt.alloc(); "{placed}")?;
-    assert_eq!(rt; text.as_str(), "refused 14 TooLarge at 1073741824");
-    Ok(())
+    let cases = [
+        (too_large, "heapmark: refused 14 TooLarge at 1073741824\n"),
+        (Refusal::OUT_OF_MEMORY, "heapmark: refused 15 OutOfMemory\n"),
+    ];
+    for (refusal, want) in cases {
+        assert_eq!(rt; told(rt.alloc(), &refusal, want), (1, true), "{want}");
+    }
 }

@@ -1,0 +1,158 @@
+//! What the program prints for words that ask about it or are wrong, each text whole, as clap words it.
+
+/// The help.
+pub const HELP: &str = "\
+Marks the objects of a Java heap dump that a path of references joins to a root, with several
+threads, and prints a histogram of them: one line for each class, with the number of its objects
+and the bytes of their fields or elements.
+
+Usage: heapmark [OPTIONS] <FILE>
+
+Arguments:
+  <FILE>  A heap dump of at most 1 GiB, as `jcmd PID GC.heap_dump FILE` writes it (HPROF binary,
+          JAVA PROFILE 1.0.2)
+
+Options:
+      --workers <N>    Threads that mark, 1 to 64 [default: 4]
+      --buffer <N>     Objects in one work buffer, 2 to 4096 [default: 256]
+      --buffers <N>    Work buffers, 4 to 65534, and at least two for each worker and two
+                       more [default: 1024]
+      --first-tag <N>  First tag of the two stacks of buffers, 0 to 281474976710655; only
+                       tests of the last tags need it [default: 0]
+      --skip <LIST>    Fields of instances that are not followed, 1 to 64 of the form
+                       Class.field with commas between, as java/lang/ref/Reference.referent
+  -h, --help           Print help
+  -V, --version        Print version
+
+The report, on standard output, has the number of objects, their bytes and the class in each line,
+the most bytes first. Its last three lines count the reachable objects, the unreachable ones, and
+the references to objects that are not in the dump. --skip changes it, and no other option.
+
+Exit status:
+  0  the report was written, or this help, or the version
+  1  refused, as `heapmark: refused 5 BadSubTag at 49` on standard error tells: the code, its name,
+     and for a fault of the dump its place in the file; nothing was written on standard output, but
+     for a beginning of the report at 20 WriteFault
+  2  the command line is wrong, as a message on standard error tells
+
+Example:
+  $ jcmd 4711 GC.heap_dump app.hprof
+  $ heapmark --workers 8 app.hprof
+";
+
+/// The version, and the logic that it is proved with.
+pub const VERSION: &str = "heapmark 0.1.0
+rattle logic dac8208d650f15bf
+";
+
+/// What is told of no words, or of a line without FILE.
+pub const NO_FILE: &str = "error: the following required arguments were not provided:
+  <FILE>
+
+Usage: heapmark <FILE>
+
+For more information, try '--help'.
+";
+
+/// A line with an option and without FILE.
+pub const NO_FILE_BUT_WORKERS: &str = "error: the following required arguments were not provided:
+  <FILE>
+
+Usage: heapmark --workers <N> <FILE>
+
+For more information, try '--help'.
+";
+
+/// A second word that is no option.
+pub const ANOTHER_WORD: &str = "error: unexpected argument 'b' found
+
+Usage: heapmark [OPTIONS] <FILE>
+
+For more information, try '--help'.
+";
+
+/// An option that is not there.
+pub const UNKNOWN_OPTION: &str = "error: unexpected argument '--treads' found
+
+  tip: to pass '--treads' as a value, use '-- --treads'
+
+Usage: heapmark [OPTIONS] <FILE>
+
+For more information, try '--help'.
+";
+
+/// An option that is not there, and is like one that is.
+pub const ALMOST_AN_OPTION: &str = "error: unexpected argument '--worker' found
+
+  tip: a similar argument exists: '--workers'
+
+Usage: heapmark --workers <N> <FILE>
+
+For more information, try '--help'.
+";
+
+/// An option without a value.
+pub const NO_VALUE: &str = "error: a value is required for '--workers <N>' but none was supplied
+
+For more information, try '--help'.
+";
+
+/// Options that stand twice.
+pub const WORKERS_TWICE: &str = "error: the argument '--workers <N>' cannot be used multiple times
+
+Usage: heapmark [OPTIONS] <FILE>
+
+For more information, try '--help'.
+";
+
+pub const SKIP_TWICE: &str = "error: the argument '--skip <LIST>' cannot be used multiple times
+
+Usage: heapmark [OPTIONS] <FILE>
+
+For more information, try '--help'.
+";
+
+/// Values that are out of their ranges, or no numbers.
+pub const WORKERS_0: &str = "error: invalid value '0' for '--workers <N>': 0 is not in 1..=64
+
+For more information, try '--help'.
+";
+
+pub const WORKERS_65: &str = "error: invalid value '65' for '--workers <N>': 65 is not in 1..=64
+
+For more information, try '--help'.
+";
+
+pub const BUFFER_1: &str = "error: invalid value '1' for '--buffer <N>': 1 is not in 2..=4096
+
+For more information, try '--help'.
+";
+
+pub const BUFFER_4097: &str =
+    "error: invalid value '4097' for '--buffer <N>': 4097 is not in 2..=4096
+
+For more information, try '--help'.
+";
+
+pub const BUFFERS_3: &str = "error: invalid value '3' for '--buffers <N>': 3 is not in 4..=65534
+
+For more information, try '--help'.
+";
+
+pub const BUFFERS_65535: &str =
+    "error: invalid value '65535' for '--buffers <N>': 65535 is not in 4..=65534
+
+For more information, try '--help'.
+";
+
+pub const TAG_BEHIND_THE_LAST: &str =
+    "error: invalid value '281474976710656' for '--first-tag <N>': 281474976710656 is not in 0..=281474976710655
+
+For more information, try '--help'.
+";
+
+pub const HEXADECIMAL_TAG: &str =
+    "error: invalid value '0x10' for '--first-tag <N>': invalid digit found in string
+
+For more information, try '--help'.
+";
