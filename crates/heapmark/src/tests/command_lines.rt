@@ -1,6 +1,9 @@
 //! Lines of words that the program takes or refuses, and what it answers to each.
 
-use super::dumps::{Bytes, NOTHING_REPORT, Sample, WIDE_ARRAY_REPORT};
+use super::dumps::{
+    Bytes, NINE_ROOTS_REPORT, NOTHING_REPORT, SEVEN_ROOTS_REPORT, Sample, TWO_OBJECTS_REPORT,
+    WIDE_ARRAY_REPORT,
+};
 use super::program::{Broken, answered, file_of};
 use super::texts::{
     ALMOST_AN_OPTION, ANOTHER_WORD, BUFFER_1, BUFFER_4097, BUFFERS_3, BUFFERS_65535, HELP,
@@ -55,14 +58,35 @@ const OPTIONS: &[Line] = &[
 ];
 
 /// The last tags that serve a dump without objects: the leader and each worker make four exchanges of one head.
-static TAGS_OF_NOTHING: [Line; 2] = [
-    ("--workers 1 --first-tag 281474976710647 FILE", 0, ""),
-    ("--workers 2 --first-tag 281474976710647 FILE", 1, TAG_SPENT),
+const TAGS_OF_NOTHING: &[Line] = &[
+    ("FILE --workers 1 --first-tag 281474976710647", 0, ""),
+    ("FILE --workers 1 --first-tag 281474976710648", 1, TAG_SPENT),
+    ("FILE --workers 2 --first-tag 281474976710643", 0, ""),
+    ("FILE --workers 2 --first-tag 281474976710644", 1, TAG_SPENT),
+    (
+        "FILE --workers 64 --buffers 130 --first-tag 281474976710395",
+        0,
+        "",
+    ),
+    (
+        "FILE --workers 64 --buffers 130 --first-tag 281474976710396",
+        1,
+        TAG_SPENT,
+    ),
 ];
 
-/// The last tags that serve one worker on an array of 64 objects. The head of the empty stack changes 72 times in 128
-/// buffers of 2, 20 times in 8 of 64, and 12 times in 4 of 2: so the numbers are those of the words.
-static TAGS_OF_AN_ARRAY: [Line; 6] = [
+/// The first exchange is one too many.
+const LAST_TAG: &[Line] = &[("FILE --first-tag 281474976710655", 1, TAG_SPENT)];
+
+/// The least buffers for one worker.
+const LEAST_BUFFERS: &[Line] = &[("FILE --workers 1 --buffer 2 --buffers 4", 0, "")];
+
+/// Few buffers or small ones for an array of 64 objects, and the last tags that serve one worker. The head of the empty
+/// stack changes 72 times in 128 buffers of 2, 20 times in 8 of 64, and 12 times in 4 of 2: so the numbers are those of
+/// the words.
+const BUFFERS_OF_AN_ARRAY: &[Line] = &[
+    ("FILE --workers 1 --buffer 2 --buffers 4", 0, ""),
+    ("FILE --workers 64 --buffer 2", 0, ""),
     (
         "FILE --workers 1 --buffer 2 --buffers 128 --first-tag 281474976710583",
         0,
@@ -92,6 +116,46 @@ static TAGS_OF_AN_ARRAY: [Line; 6] = [
         "FILE --workers 1 --buffer 2 --buffers 4 --first-tag 281474976710644",
         1,
         TAG_SPENT,
+    ),
+];
+
+/// The name of a file, the dump in it, its report, and the lines that are tried on it.
+static LINES: [(&str, Sample, &str, &[Line]); 6] = [
+    (
+        "heapmark_nothing.hprof",
+        Sample::Nothing,
+        NOTHING_REPORT,
+        OPTIONS,
+    ),
+    (
+        "heapmark_tags.hprof",
+        Sample::Nothing,
+        NOTHING_REPORT,
+        TAGS_OF_NOTHING,
+    ),
+    (
+        "heapmark_last_tag.hprof",
+        Sample::TwoObjects,
+        TWO_OBJECTS_REPORT,
+        LAST_TAG,
+    ),
+    (
+        "heapmark_seven_roots.hprof",
+        Sample::Roots(7),
+        SEVEN_ROOTS_REPORT,
+        LEAST_BUFFERS,
+    ),
+    (
+        "heapmark_nine_roots.hprof",
+        Sample::Roots(9),
+        NINE_ROOTS_REPORT,
+        LEAST_BUFFERS,
+    ),
+    (
+        "heapmark_wide_array.hprof",
+        Sample::WideArray,
+        WIDE_ARRAY_REPORT,
+        BUFFERS_OF_AN_ARRAY,
     ),
 ];
 
@@ -145,18 +209,12 @@ fn all_answer<T: Abort + AllocGlobal + Env + Files + Threads + Wait + Sync>(
 }
 
 #[test]
-fn options_are_taken_or_refused(rt: HostRuntime) -> Result<(), Fail> {
-    let nothing = Sample::Nothing.dump(rt.alloc())?;
-    let name = "heapmark_nothing.hprof";
-    all_answer(&rt, name, &nothing, NOTHING_REPORT, OPTIONS)?;
-    all_answer(&rt, name, &nothing, NOTHING_REPORT, &TAGS_OF_NOTHING)
-}
-
-#[test]
-fn the_heap_is_marked_as_the_words_say(rt: HostRuntime) -> Result<(), Fail> {
-    let array = Sample::WideArray.dump(rt.alloc())?;
-    let name = "heapmark_wide_array.hprof";
-    all_answer(&rt, name, &array, WIDE_ARRAY_REPORT, &TAGS_OF_AN_ARRAY)
+fn lines_are_answered(rt: HostRuntime) -> Result<(), Fail> {
+    for (name, sample, report, lines) in LINES {
+        let dump = sample.dump(rt.alloc())?;
+        all_answer(&rt, name, &dump, report, lines)?;
+    }
+    Ok(())
 }
 
 /// Not even the program's own name is there.
