@@ -1,7 +1,8 @@
 //! The dump of two objects cut at each length.
 
 use super::dumps::{NOTHING_REPORT, TWO_OBJECTS_REPORT, two_objects};
-use super::{check, least, refused};
+use super::{check, least, refused, usual};
+use crate::Refusal;
 use std::alloc::Global;
 use std::process::Abort;
 use std::sync::Wait;
@@ -74,7 +75,21 @@ fn with_body(dump: &mut Vec<u8>, length: usize) -> &[u8] {
     front(dump.as_slice(), length.saturating_add(79))
 }
 
-/// Checks that a run on so much of the dump as this is refused so.
+/// Checks the runs on so much of the dump as this: of two workers with the least buffers, and of 1, 2 and 64 workers
+/// with the buffers of the program.
+fn check_runs<T: Abort + Threads + Wait + Sync>(
+    rt: &T,
+    alloc: Global,
+    cut: &[u8],
+    want: Result<(), Refusal>,
+    report: &str,
+) {
+    for options in [least(2), usual(1), usual(2), usual(64)] {
+        check(rt, alloc, &options, cut, want, report, cut.len());
+    }
+}
+
+/// Checks that runs on so much of the dump as this are refused so.
 fn is_refused<T: Abort + Threads + Wait + Sync>(
     rt: &T,
     alloc: Global,
@@ -82,8 +97,7 @@ fn is_refused<T: Abort + Threads + Wait + Sync>(
     code: u8,
     place: u64,
 ) {
-    let want = refused(code, Some(place));
-    check(rt, alloc, &least(2), cut, want, "", cut.len());
+    check_runs(rt, alloc, cut, refused(code, Some(place)), "");
 }
 
 #[test]
@@ -116,7 +130,7 @@ fn a_heap_record_may_end_at_a_sub_record(rt: HostRuntime) -> Result<(), Fail> {
     let mut dump = two_objects(rt.alloc())?;
     for (length, report) in WHOLE_BODIES {
         let cut = with_body(&mut dump.bytes, length);
-        check(&rt, rt.alloc(), &least(2), cut, Ok(()), report, length);
+        check_runs(&rt, rt.alloc(), cut, Ok(()), report);
     }
     Ok(())
 }

@@ -2,8 +2,8 @@
 
 use super::dumps::Sample::{Nothing, TwoObjects};
 use super::dumps::{NOTHING_REPORT, Sample, TWO_OBJECTS_REPORT, two_objects};
-use super::{Answered, answer, least, length_of, refused, run_with};
-use crate::{NoGate, Skip};
+use super::{Answered, answer, least, length_of, refused, run_with, usual};
+use crate::{NoGate, Options, Skip};
 use std::alloc::{AllocError, Global};
 use std::io;
 use std::io::{ErrorKind, Read, Write};
@@ -146,10 +146,11 @@ fn a_read_fault_is_told_and_not_tried_again(rt: HostRuntime) -> Result<(), Fail>
     Ok(())
 }
 
-/// The answer of a run on this dump whose report goes to this tray.
+/// The answer of a run with these options on this dump whose report goes to this tray.
 fn written_to<T: Threads + Wait + Sync>(
     rt: &T,
     alloc: Global,
+    options: &Options,
     sample: Sample,
     report: &str,
     tray: Tray,
@@ -157,7 +158,7 @@ fn written_to<T: Threads + Wait + Sync>(
     let dump = sample.dump(alloc)?;
     let skip = Skip::none(alloc);
     let bytes = dump.bytes.as_slice();
-    let (outcome, tray) = run_with(rt, alloc, &least(2), &skip, &NoGate, bytes, tray);
+    let (outcome, tray) = run_with(rt, alloc, options, &skip, &NoGate, bytes, tray);
     Ok((outcome, length_of(tray.taken.as_slice(), report)))
 }
 
@@ -171,7 +172,7 @@ fn a_write_fault_leaves_a_beginning(rt: HostRuntime) -> Result<(), Fail> {
     ] {
         for writes_left in 0..32usize {
             let tray = Tray::new(rt.alloc(), 10, writes_left, failure);
-            let told = written_to(&rt, rt.alloc(), TwoObjects, report, tray)?;
+            let told = written_to(&rt, rt.alloc(), &least(2), TwoObjects, report, tray)?;
             let taken = writes_left * 10;
             let want = if taken < report.len() {
                 (refused(20, None), Some(taken))
@@ -187,7 +188,14 @@ fn a_write_fault_leaves_a_beginning(rt: HostRuntime) -> Result<(), Fail> {
 #[test]
 fn a_fault_of_the_flush_is_told(rt: HostRuntime) -> Result<(), Fail> {
     let tray = Tray::that_does_not_flush(rt.alloc());
-    let told = written_to(&rt, rt.alloc(), TwoObjects, TWO_OBJECTS_REPORT, tray)?;
+    let told = written_to(
+        &rt,
+        rt.alloc(),
+        &least(2),
+        TwoObjects,
+        TWO_OBJECTS_REPORT,
+        tray,
+    )?;
     assert_eq!(rt; told, (refused(20, None), Some(TWO_OBJECTS_REPORT.len())));
     Ok(())
 }
@@ -195,8 +203,10 @@ fn a_fault_of_the_flush_is_told(rt: HostRuntime) -> Result<(), Fail> {
 /// The first of the lines that end each report, with nothing before them, is cut behind its count.
 #[test]
 fn a_write_fault_leaves_a_beginning_of_the_last_lines(rt: HostRuntime) -> Result<(), Fail> {
-    let tray = Tray::new(rt.alloc(), 10, 1, Failure::Fault(ErrorKind::Other));
-    let told = written_to(&rt, rt.alloc(), Nothing, NOTHING_REPORT, tray)?;
-    assert_eq!(rt; told, (refused(20, None), Some(10)));
+    for options in [least(2), usual(1), usual(2), usual(64)] {
+        let tray = Tray::new(rt.alloc(), 10, 1, Failure::Fault(ErrorKind::Other));
+        let told = written_to(&rt, rt.alloc(), &options, Nothing, NOTHING_REPORT, tray)?;
+        assert_eq!(rt; told, (refused(20, None), Some(10)), "{options:?}");
+    }
     Ok(())
 }
