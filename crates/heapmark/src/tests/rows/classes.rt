@@ -1,10 +1,10 @@
-//! Dumps that show what a class refers to, each primitive type, and the fields of superclasses, and their reports.
+//! Dumps that show what a class refers to, and the fields of superclasses, and their reports.
 
 use super::Reported;
 use crate::tests::dumps::Record::{Heap, Load, Text};
 use crate::tests::dumps::Sub::{Class, Instance, Raw, Root, Values};
 
-pub static CLASSES: [Reported; 4] = [
+pub static CLASSES: [Reported; 3] = [
     (
         "what a class refers to: loader, protection domain, a constant, a static field, and not what is reserved",
         4,
@@ -26,41 +26,6 @@ pub static CLASSES: [Reported; 4] = [
             (4, 4, "byte[]"),
             (5, 10, "(reachable)"),
             (1, 1, "(unreachable)"),
-            (0, 0, "(unresolved)"),
-        ],
-    ),
-    (
-        "primitive arrays of each type",
-        4,
-        &[Heap(&[
-            Values(0x201, 4, 1, &[1]),
-            Values(0x202, 5, 1, &[0, 1]),
-            Values(0x203, 6, 1, &[0; 4]),
-            Values(0x204, 7, 1, &[0; 8]),
-            Values(0x205, 8, 3, &[0; 3]),
-            Values(0x206, 9, 3, &[0; 6]),
-            Values(0x207, 10, 3, &[0; 12]),
-            Values(0x208, 11, 3, &[0; 24]),
-            Root(0x201),
-            Root(0x202),
-            Root(0x203),
-            Root(0x204),
-            Root(0x205),
-            Root(0x206),
-            Root(0x207),
-            Root(0x208),
-        ])],
-        &[
-            (1, 24, "long[]"),
-            (1, 12, "int[]"),
-            (1, 8, "double[]"),
-            (1, 6, "short[]"),
-            (1, 4, "float[]"),
-            (1, 3, "byte[]"),
-            (1, 2, "char[]"),
-            (1, 1, "boolean[]"),
-            (8, 60, "(reachable)"),
-            (0, 0, "(unreachable)"),
             (0, 0, "(unresolved)"),
         ],
     ),

@@ -78,7 +78,7 @@ pub static REPORTED: [Reported; 10] = [
         ],
     ),
     (
-        "a row for each primitive type",
+        "a row for each primitive type, and arrays of no element and of three",
         4,
         &[Heap(&[
             Values(0x301, 4, 1, &[1]),
@@ -90,6 +90,7 @@ pub static REPORTED: [Reported; 10] = [
             Values(0x307, 10, 1, &[1, 2, 3, 4]),
             Values(0x308, 11, 1, &[1, 2, 3, 4, 5, 6, 7, 8]),
             Values(0x309, 11, 0, &[]),
+            Values(0x30a, 10, 3, &[0; 12]),
             Root(0x301),
             Root(0x302),
             Root(0x303),
@@ -109,7 +110,7 @@ pub static REPORTED: [Reported; 10] = [
             (1, 1, "boolean[]"),
             (1, 1, "byte[]"),
             (8, 30, "(reachable)"),
-            (1, 0, "(unreachable)"),
+            (2, 12, "(unreachable)"),
             (0, 0, "(unresolved)"),
         ],
     ),
