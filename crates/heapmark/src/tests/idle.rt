@@ -14,7 +14,7 @@ use std::thread;
 use std::thread::Threads;
 use std::time::{Clock, Duration};
 
-/// How often two workers run on the array. A worker stays for some 0.1 s, so on a busy machine one may leave too soon.
+/// How often two workers run on the array. A worker stays for some 0.4 s, so on a busy machine one may leave too soon.
 const RUNS: u32 = 10;
 
 /// How often the worker that has made work looks whether the other has come, 1 ms apart.
