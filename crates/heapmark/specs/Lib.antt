@@ -4,4 +4,5 @@ pub mod RefusalCodes
 pub mod RefusalText
 pub mod RunRefusals
 pub mod SkippedFields
+pub mod StatusOf
 pub mod working

@@ -1,18 +1,19 @@
 //! The program over its words, and its exit status.
 
 ghost use Rattle.std.specs.Prelude.{◌≡◌, ◌≢◌, ◌↔◌, ◌⊎◌, ◌*◌, ◌+◌, ◌-◌, ◌^◌, ◌<◌, ◌≤◌};
-ghost use Rattle.std.specs.Prelude.{IfErr, IfOk, IsOk, OnErr, OnOk, true, ℕ, codes};
+ghost use Rattle.std.specs.Prelude.{IfErr, IfOk, IsOk, IsSome, OnErr, OnOk, true, ℕ, codes};
 ghost use Rattle.std.specs.Io.KnownBytes.{Keeps};
 ghost use Rattle.clap.specs.Words.{kind_of};
 ghost use Rattle.command_line.specs.Line.{AreInRange, AsksAboutProgram, GivesNumber, IsTaken, IsWrong};
 ghost use Rattle.command_line.specs.Line.{text_given, texts_of};
+ghost use Rattle.heapmark.specs.StatusOf.{IsStatusOf};
 ghost use Rattle.heapmark.specs.SkippedFields.{HasBadList, IsSkipListOf, WritesBeginningFor, WritesReportFor};
 ghost use Rattle.drain.specs.Options.{IsInRange};
 ghost use Rattle.heapmark.specs.working.NoReport.{HasTooFewBuffers, bad_options, list_of, starved, wanted};
 ghost use Rattle.histogram.specs.Counting.{failures_of, inner_of, is_flushed};
 
 use crate::hint::advise;
-use crate::no_report::NoReport;
+use crate::no_report::{NoReport, Unreported};
 use crate::pipeline::run;
 use crate::refusal::Refusal;
 use crate::status;
@@ -83,17 +84,12 @@ pub fn program<T: Files + AllocGlobal + Threads + Wait + Sync, W: Write, E: Writ
         → failures_of out.new ≡ failures_of out.old }
     ensures failures { failures_of out.new ≤ failures_of out.old + 1 }
 {
-    match arguments(rt.alloc(), words) {
-        Ok(arguments) => {
-            let outcome = report_file(rt, &arguments, out);
-            tell(err, &outcome)
-        }
-        Err(error) => answer_words(rt.alloc(), &error, out, err),
-    }
+    let (status, _) = answer_line(rt, words, out, err);
+    status
 }
 
 /// The program where people read `err`: behind the refusal a second line tells why the file could not be opened, or
-/// what can be done.
+/// what can be done. Its status says what that of `program` says.
 pub fn program_at_terminal<T: Files + AllocGlobal + Threads + Wait + Sync, W: Write, E: Write>(
     rt: &T,
     words: &[&str],
@@ -101,50 +97,38 @@ pub fn program_at_terminal<T: Files + AllocGlobal + Threads + Wait + Sync, W: Wr
     err: &mut E,
 ) -> u8
     requires { failures_of out.old < 2 ^ 64 - 1 }
-    ensures status { result ≤ 2 }
-
-    // 2 is for words that are wrong, and for no others. Such words are answered by 2, or by 1 for want of memory.
-    ensures usage { result ≡ 2 → IsWrong (texts_of words.now) }
-    ensures wrong { (IsTaken (texts_of words.now) → ⊥) → (AsksAboutProgram (texts_of words.now) → ⊥) → result ≢ 0 }
-    ensures untouched { result ≡ 2 → Keeps (W.contents (inner_of out.old)) (W.contents (inner_of out.new)) }
-
-    // At 0 no refusal was told, and what was written, where neither help nor version was asked for, is a report without
-    // the fields that the words list, flushed. No contract can say that it is the report of the file.
-    ensures reported { result ≡ 0 → (AsksAboutProgram (texts_of words.now) → ⊥)
-        → WritesReportFor (text_given (codes "skip") (texts_of words.now))
-        (W.contents (inner_of out.old)) (W.contents (inner_of out.new)) }
-    ensures flushed { result ≡ 0 → (AsksAboutProgram (texts_of words.now) → ⊥) → is_flushed out.new ≡ true }
+    ensures status { IsStatusOf (texts_of words.now) result W.contents out.old out.new }
     ensures silent { result ≡ 0 → Keeps (E.contents err.old) (E.contents err.new) }
+{
+    let (status, unreported) = answer_line(rt, words, out, err);
+    if let Some(unreported) = unreported {
+        explain(rt, err, &unreported);
+    }
+    status
+}
 
-    // Too few buffers for the workers are refused, with nothing written.
-    ensures too_few { (workers buffers : ℕ) → GivesNumber (codes "workers") (texts_of words.now) workers
-        → GivesNumber (codes "buffers") (texts_of words.now) buffers → buffers < 2 * workers + 2
-        → (AsksAboutProgram (texts_of words.now) → ⊥)
-        → (result ≢ 0) × Keeps (W.contents (inner_of out.old)) (W.contents (inner_of out.new)) }
-
-    // So is a text that lists no fields.
-    ensures bad_list { HasBadList (text_given (codes "skip") (texts_of words.now))
-        → (AsksAboutProgram (texts_of words.now) → ⊥)
-        → (result ≢ 0) × Keeps (W.contents (inner_of out.old)) (W.contents (inner_of out.new)) }
-
-    // At 1 nothing was written, but for a beginning of a report where the writer failed.
-    ensures unwritten { result ≡ 1 → failures_of out.new ≡ failures_of out.old
-        → Keeps (W.contents (inner_of out.old)) (W.contents (inner_of out.new)) }
-    ensures beginning { result ≡ 1 → failures_of out.new ≡ failures_of out.old + 1
-        → WritesBeginningFor (text_given (codes "skip") (texts_of words.now))
-        (W.contents (inner_of out.old)) (W.contents (inner_of out.new)) }
-    ensures no_failure { result ≢ 1 → (AsksAboutProgram (texts_of words.now) → ⊥)
-        → failures_of out.new ≡ failures_of out.old }
-    ensures failures { failures_of out.new ≤ failures_of out.old + 1 }
+/// Does what the words want, and tells a refusal in one line, or what is wrong with the words. Answers the exit status,
+/// and why there is no report of the file, where one was wanted.
+fn answer_line<'a, T: Files + AllocGlobal + Threads + Wait + Sync, W: Write, E: Write>(
+    rt: &T,
+    words: &'a [&'a str],
+    out: &mut Counted<W>,
+    err: &mut E,
+) -> (u8, Option<Unreported<'a>>)
+    requires { failures_of out.old < 2 ^ 64 - 1 }
+    ensures status { IsStatusOf (texts_of words.entry.now) result.0 W.contents out.old out.new }
+    ensures silent { result.0 ≡ 0 → Keeps (E.contents err.old) (E.contents err.new) }
+    ensures refused { IsSome result.1 → result.0 ≡ 1 }
 {
     match arguments(rt.alloc(), words) {
-        Ok(arguments) => {
-            let outcome = report_file(rt, &arguments, out);
-            let status = tell(err, &outcome);
-            explain(rt, err, &arguments, &outcome);
-            status
-        }
-        Err(error) => answer_words(rt.alloc(), &error, out, err),
+        Ok(arguments) => match report_file(rt, &arguments, out) {
+            Ok(()) => (status::DONE, None),
+            Err(reason) => {
+                let status = tell(err, &reason);
+                (status, Some(Unreported { arguments, reason }))
+            }
+        },
+        Err(error) => (answer_words(rt.alloc(), &error, out, err), None),
     }
 }
 
@@ -192,32 +176,22 @@ pub fn refuse_bytes<E: Write>(err: &mut E) -> u8
     status::WRONG_WORDS
 }
 
-/// Answers the exit status of a run on a file, and prints its refusal in one line.
-fn tell<E: Write>(err: &mut E, outcome: &Result<(), NoReport>) -> u8
-    ensures refused { OnErr outcome.now (result ≡ 1) }
-    ensures reported { OnOk outcome.now (result ≡ 0) }
-    ensures silent { OnOk outcome.now (Keeps (E.contents err.old) (E.contents err.new)) }
+/// Prints in one line that there is no report of a file, and answers the exit status.
+fn tell<E: Write>(err: &mut E, reason: &NoReport) -> u8
+    ensures { result ≡ 1 }
 {
-    match outcome {
-        Ok(()) => status::DONE,
-        Err(NoReport::Refused(refusal)) => refused(err, refusal),
-        Err(NoReport::NotOpened(_)) => refused(err, &Refusal::READ_FAULT),
+    match reason {
+        NoReport::Refused(refusal) => refused(err, refusal),
+        NoReport::NotOpened(_) => refused(err, &Refusal::READ_FAULT),
     }
 }
 
 /// Prints why a file could not be opened, or what can be done about a refusal.
-fn explain<T: Files, E: Write>(
-    rt: &T,
-    err: &mut E,
-    arguments: &Arguments<'_>,
-    outcome: &Result<(), NoReport>,
-)
-    ensures { OnOk outcome.now (Keeps (E.contents err.old) (E.contents err.new)) }
-{
-    match outcome {
-        Ok(()) => {}
-        Err(NoReport::Refused(refusal)) => advise(rt, err, arguments, refusal),
-        Err(NoReport::NotOpened(reason)) => {
+fn explain<T: Files, E: Write>(rt: &T, err: &mut E, unreported: &Unreported<'_>) {
+    let Unreported { arguments, reason } = unreported;
+    match reason {
+        NoReport::Refused(refusal) => advise(rt, err, arguments, refusal),
+        NoReport::NotOpened(reason) => {
             let file = arguments.file;
             let _ = writeln!(err, "heapmark: {file}: {reason}");
         }

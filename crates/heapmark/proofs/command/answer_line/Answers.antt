@@ -1,0 +1,44 @@
+-- Words that give no arguments: 0 is for the help and the version, which they ask for then, and else nothing is written.
+use Rattle.std.proofs.Common.{arith, inl, inr, rules, subst, ◌≡◌, ◌≢◌, ◌⊎◌}
+use Rattle.clap.specs.Words.{IsAmong, Kinds, kind_of}
+use Rattle.clap.specs.declared.error.kind.ErrorKind.{ErrorKind}
+use Rattle.clap.specs.declared.error.kind.ErrorKind.TheVariants as variant
+use Rattle.command_line.specs.Line.{AsksAboutProgram, faults_of, texts_of}
+use Rattle.heapmark.proofs.command.answer_line.Goals as goal
+
+-- an error that is a wish is one of what the words ask for
+asks : (kinds : Kinds) (kind : ErrorKind) → (kind ≡ variant.DisplayHelp) ⊎ (kind ≡ variant.DisplayVersion)
+    → (kind ≡ variant.OutOfMemory) ⊎ IsAmong kind kinds
+    → IsAmong variant.DisplayHelp kinds ⊎ IsAmong variant.DisplayVersion kinds
+asks kinds kind (inl help) (inl memory) = search rules
+asks kinds kind (inr version) (inl memory) = search rules
+asks kinds kind (inl help) (inr among) = inl (subst (λ k. IsAmong k kinds) help among)
+asks kinds kind (inr version) (inr among) = inr (subst (λ k. IsAmong k kinds) version among)
+
+pub returns-in-Err-clause-status : goal.returns-in-Err-clause-status
+returns-in-Err-clause-status g c =
+    let words = texts_of c.args.words.now in
+    let kind = kind_of c.in-Err.error in
+    let told = c.answer_words.ensures in
+    let not_done : (AsksAboutProgram words → ⊥) → c.answer_words.result ≢ 0 =
+    λ none zero. none (asks (faults_of words) kind (told.asked zero) c.in-Err.ensures.faults) in
+    record {
+      most = told.status;
+      usage = λ two.
+          let usage = told.usage two in (
+            kind,
+            elim c.in-Err.ensures.faults [ inl memory ↦ absurd (usage.2 memory) | inr among ↦ among ],
+            usage.0,
+            usage.1,
+          );
+      wrong = λ _ none. not_done none;
+      untouched = λ two. told.untouched (λ zero. omega (arith, two, zero));
+      reported = λ zero none. absurd (not_done none zero);
+      flushed = λ zero none. absurd (not_done none zero);
+      too_few = λ _ _ _ _ _ none. (not_done none, told.untouched (not_done none));
+      bad_list = λ _ none. (not_done none, told.untouched (not_done none));
+      unwritten = λ one _. told.untouched (λ zero. omega (arith, one, zero));
+      beginning = λ one rose. absurd (omega (arith, rose, told.no_failure (λ zero. omega (arith, one, zero))));
+      no_failure = λ _ none. told.no_failure (not_done none);
+      failures = told.failures;
+    }
