@@ -6,9 +6,11 @@ ghost use Rattle.histogram.specs.Counting.{AppendsBeginning, failures_of, inner_
 
 use crate::counted::Counted;
 use std::io::Write;
+use thiserror::Error;
 
 /// A write or a flush failed.
-#[derive(Clone, Copy, PartialEq, Eq, Debug)]
+#[derive(Clone, Copy, PartialEq, Eq, Debug, Error)]
+#[error("a write failed")]
 pub struct WriteFault;
 
 impl<W: Write> Counted<W> {
