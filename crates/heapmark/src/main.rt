@@ -23,7 +23,7 @@ mod status;
 
 pub use command::program;
 pub use command_line::{Arguments, arguments};
-pub use drain::{Gate, NoGate, Options};
+pub use drain::{BadOptions, Gate, NoGate, Options};
 pub use heap_graph::{Skip, SkipRefusal};
 pub use histogram::{Counted, one_report};
 pub use laws::{accepted_or_fault, always_accepted_or_fault, one_first_fault};

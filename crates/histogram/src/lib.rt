@@ -31,6 +31,7 @@ mod write_whole;
 
 pub use counted::Counted;
 pub use laws::{one_histogram, one_report};
+pub use mark_core::OutOfMemory;
 pub use reading::ReaderRefusal;
 pub use report::{Line, Report};
 pub use report_rows::rows;

@@ -13,18 +13,19 @@ use crate::row_numbers::{reachable, row_count, row_of_number};
 use crate::unmarked::count_unmarked;
 use drain::Marked;
 use heap_graph::{Graph, RowKey};
+use mark_core::OutOfMemory;
 use std::alloc::{AllocError, Allocator};
 use std::cmp::Ordering;
 
 /// Makes the histogram of a graph and of a marking of it: a line for each row that has a marked object, in the order of
 /// the report, and the three totals.
 ///
-/// The only error is that a request for memory was refused.
-pub fn rows<A: Allocator + Clone, B: Allocator, C: Allocator>(
+/// `OutOfMemory`: a request for memory was refused. It is the only error.
+pub fn rows<A: Allocator + Copy, B: Allocator, C: Allocator>(
     alloc: A,
     graph: &Graph<'_, B>,
     marks: &Marked<C>,
-) -> Result<Report<A>, AllocError>
+) -> Result<Report<A>, OutOfMemory>
     requires { IsMarkingOf graph.now marks.now }
     ensures { IfOk result (λ report. IsHistogram graph.now marks.now.marks (histogram_of report)) }
 {
@@ -55,7 +56,7 @@ fn all_unresolved<A: Allocator, B: Allocator>(
 }
 
 /// A line for each row that has a marked object, in the order of the report.
-fn lines_in_order<A: Allocator + Clone, B: Allocator, C: Allocator>(
+fn lines_in_order<A: Allocator + Copy, B: Allocator, C: Allocator>(
     alloc: A,
     graph: &Graph<'_, B>,
     marks: &Marked<C>,
@@ -86,7 +87,7 @@ fn compare_lines<A: Allocator>(a: &Line<A>, b: &Line<A>) -> Ordering
 }
 
 /// A line for each row that has a marked object, in the order of the rows' numbers.
-fn lines_by_number<A: Allocator + Clone, B: Allocator, C: Allocator>(
+fn lines_by_number<A: Allocator + Copy, B: Allocator, C: Allocator>(
     alloc: A,
     graph: &Graph<'_, B>,
     marks: &Marked<C>,
@@ -94,12 +95,12 @@ fn lines_by_number<A: Allocator + Clone, B: Allocator, C: Allocator>(
     requires { IsMarkingOf graph.now marks.now }
     ensures { IfOk result (λ v. map entry_of v.items ≡ entries graph.now (marked_objects graph.now marks.now.marks)) }
 {
-    let mut lines = Vec::new(alloc.clone()?);
+    let mut lines = Vec::new(alloc);
     for number in 0..row_count(graph) {
         let row = row_of_number(graph, number);
         let (count, bytes) = marks.tally(&row);
         if count > 0 {
-            let line = line_of_row(alloc.clone()?, graph, row, count, bytes)?;
+            let line = line_of_row(alloc, graph, row, count, bytes)?;
             lines.push(line)?;
         }
     }

@@ -8,9 +8,8 @@ ghost use Rattle.heapmark.specs.RunRefusals.{out_of_memory};
 use super::Refusal;
 use drain::RunFault;
 use heap_graph::{LinkRefusal, SkipRefusal};
-use histogram::{ReaderRefusal, WriteRefusal};
+use histogram::{OutOfMemory, ReaderRefusal, WriteRefusal};
 use hprof_grammar::ReadRefusal;
-use std::alloc::AllocError;
 
 impl From<ReaderRefusal> for Refusal {
     ghost from_gives = { λ refusal r. r ≡ reader_refusal refusal };
@@ -85,10 +84,10 @@ impl From<WriteRefusal> for Refusal {
     }
 }
 
-impl From<AllocError> for Refusal {
+impl From<OutOfMemory> for Refusal {
     ghost from_gives = { λ _ r. r ≡ out_of_memory };
 
-    fn from(_fault: AllocError) -> Refusal {
+    fn from(_fault: OutOfMemory) -> Refusal {
         Refusal::OUT_OF_MEMORY
     }
 }

@@ -4,7 +4,7 @@
 ghost use Rattle.drain.specs.Marks.{IsMarkingOf};
 
 use super::{TWO_OBJECTS, two_objects, writes};
-use crate::{Counted, ReaderRefusal, Report, WriteRefusal, rows, write_report};
+use crate::{Counted, OutOfMemory, ReaderRefusal, Report, WriteRefusal, rows, write_report};
 use drain::{Marked, NoGate, Options, mark};
 use heap_graph::{Graph, Skip};
 use hprof_grammar::read;
@@ -37,7 +37,7 @@ fn rows_over(
 {
     match rows(heap, graph, marks) {
         Ok(report) => writes(alloc, &report, TWO_OBJECTS),
-        Err(AllocError) => heap.refusals() > 0,
+        Err(OutOfMemory) => heap.refusals() > 0,
     }
 }
 

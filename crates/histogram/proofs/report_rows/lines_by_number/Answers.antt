@@ -6,7 +6,7 @@ use Rattle.histogram.specs.working.RowNumbers.{row_count}
 use Rattle.histogram.proofs.EntryLemmas.{all_entries, line_less, line_more}
 use Rattle.histogram.proofs.report_rows.lines_by_number.Goals as goal
 use Rattle.histogram.proofs.report_rows.lines_by_number.Goals.{else-count-gt0}
-use Rattle.histogram.proofs.report_rows.lines_by_number.Goals.{then-count-gt0+in_ok-clone-2+in_ok-line+in_ok-push}
+use Rattle.histogram.proofs.report_rows.lines_by_number.Goals.{then-count-gt0+in_ok-line+in_ok-push}
 
 pub loop-number-preserved : goal.loop-number-preserved
 loop-number-preserved g c =
@@ -19,7 +19,7 @@ loop-number-preserved g c =
     ∙ ap (λ r. total graph (of_row graph r chosen)) row.ensures.value in
     let lines = c.loop-number.lines.items in
     elim c.if-count-gt0.branch [
-      | then-count-gt0+in_ok-clone-2+in_ok-line+in_ok-push w ↦
+      | then-count-gt0+in_ok-line+in_ok-push w ↦
           ap (λ v. map entry_of v.items) w.lines-is
           ∙ line_more graph chosen entry_of lines n told.0 told.1 is c.loop-number.invariant w.push.new.self.items
           w.in_ok-line.line row.result w.if-count-gt0.true row.ensures.value w.in_ok-line.ensures
