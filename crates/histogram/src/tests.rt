@@ -8,19 +8,23 @@ use std::test::Fail;
 
 mod memory;
 
-/// A reader that gives one byte a call, and fails at one call.
+/// The kinds of fault that a caller might be tempted to try again.
+const KINDS: [io::ErrorKind; 2] = [io::ErrorKind::Interrupted, io::ErrorKind::WouldBlock];
+
+/// A reader that gives one byte a call, and fails at one call, with this kind.
 #[derive(Drop)]
 struct Drip<'a> {
     bytes: &'a [u8],
     calls: u32,
     fails_at: u32,
+    kind: io::ErrorKind,
 }
 
 impl Read for Drip<'_> {
     fn read(&mut self, buf: &mut [u8]) -> io::Result<usize> {
         self.calls = self.calls.saturating_add(1);
         if self.calls == self.fails_at {
-            return Err(io::Error::from(io::ErrorKind::Interrupted));
+            return Err(io::Error::from(self.kind));
         }
         let count = self.bytes.len().min(buf.len()).min(1);
         let (front, rest) = self.bytes.split_at(count);
@@ -61,17 +65,18 @@ fn a_reader_without_an_end_is_read_up_to_the_limit(rt: HostRuntime) -> Result<()
 }
 
 /// A reader of four bytes that fails at one call.
-fn dripping(fails_at: u32) -> Drip<'static> {
+fn dripping(fails_at: u32, kind: io::ErrorKind) -> Drip<'static> {
     Drip {
         bytes: b"heap",
         calls: 0,
         fails_at,
+        kind,
     }
 }
 
 /// Whether these bytes are read up to the limit, and no call failed.
 fn reads(alloc: Global, limit: usize, want: &str) -> bool {
-    let mut reader = Counted::new(dripping(0));
+    let mut reader = Counted::new(dripping(0, io::ErrorKind::Other));
     match reader.read_to_limit(alloc, limit) {
         Ok(bytes) => bytes.as_slice() == want.as_bytes() && reader.failures() == 0,
         Err(_) => false,
@@ -87,8 +92,12 @@ fn reads_to_the_end_or_the_limit(rt: HostRuntime) {
 
 /// What becomes of a read that fails at one call: how many bytes are read or why none are, how many calls failed, and
 /// how many there were.
-fn read_failing(alloc: Global, fails_at: u32) -> (Result<usize, ReaderRefusal>, u64, u32) {
-    let mut reader = Counted::new(dripping(fails_at));
+fn read_failing(
+    alloc: Global,
+    fails_at: u32,
+    kind: io::ErrorKind,
+) -> (Result<usize, ReaderRefusal>, u64, u32) {
+    let mut reader = Counted::new(dripping(fails_at, kind));
     let outcome = reader.read_to_limit(alloc, 9).map(|bytes| bytes.len());
     let failures = reader.failures();
     (outcome, failures, reader.into_inner().calls)
@@ -96,31 +105,33 @@ fn read_failing(alloc: Global, fails_at: u32) -> (Result<usize, ReaderRefusal>, 
 
 #[test]
 fn a_read_fault_is_no_end(rt: HostRuntime) {
-    for fails_at in 1..=5 {
-        assert_eq!(rt;
-            read_failing(rt.alloc(), fails_at),
-            (Err(ReaderRefusal::ReadFault), 1, fails_at),
-            "no call after the fault at call {fails_at}"
-        );
+    for kind in KINDS {
+        for fails_at in 1..=5 {
+            assert_eq!(rt;
+                read_failing(rt.alloc(), fails_at, kind),
+                (Err(ReaderRefusal::ReadFault), 1, fails_at),
+                "no call after the fault at call {fails_at}"
+            );
+        }
     }
 }
 
-/// A writer that takes ten bytes a call, and at one call fails or takes nothing.
+/// A writer that takes ten bytes a call, and at one call fails with this kind, or takes nothing.
 #[derive(Drop)]
 struct Trickle {
     taken: Vec<u8>,
     calls: u32,
     trouble_at: u32,
-    fails: bool,
+    fault: Option<io::ErrorKind>,
 }
 
 impl Trickle {
-    fn new(alloc: Global, trouble_at: u32, fails: bool) -> Trickle {
+    fn new(alloc: Global, trouble_at: u32, fault: Option<io::ErrorKind>) -> Trickle {
         Trickle {
             taken: Vec::new(alloc),
             calls: 0,
             trouble_at,
-            fails,
+            fault,
         }
     }
 }
@@ -131,20 +142,20 @@ impl Write for Trickle {
         if self.calls != self.trouble_at {
             let count = buf.len().min(10);
             self.taken.extend_from_slice(&buf[..count])?;
-            Ok(count)
-        } else if self.fails {
-            Err(io::Error::from(io::ErrorKind::Interrupted))
-        } else {
-            Ok(0)
+            return Ok(count);
+        }
+        match self.fault {
+            Some(kind) => Err(io::Error::from(kind)),
+            None => Ok(0),
         }
     }
 
     fn flush(&mut self) -> io::Result<()> {
         self.calls = self.calls.saturating_add(1);
-        if self.calls == self.trouble_at && self.fails {
-            return Err(io::Error::from(io::ErrorKind::Interrupted));
+        match self.fault {
+            Some(kind) if self.calls == self.trouble_at => Err(io::Error::from(kind)),
+            _ => Ok(()),
         }
-        Ok(())
     }
 }
 
@@ -207,8 +218,13 @@ fn writes_the_worked_reports(rt: HostRuntime) -> Result<(), Fail> {
 
 /// Whether the report of no object is refused where the writer has trouble at one call: it counts one failure, is
 /// called no more, and has taken the beginning of so many bytes.
-fn leaves_beginning(alloc: Global, trouble_at: u32, fails: bool, length: usize) -> bool {
-    let mut writer = Counted::new(Trickle::new(alloc, trouble_at, fails));
+fn leaves_beginning(
+    alloc: Global,
+    trouble_at: u32,
+    fault: Option<io::ErrorKind>,
+    length: usize,
+) -> bool {
+    let mut writer = Counted::new(Trickle::new(alloc, trouble_at, fault));
     let outcome = write_report(alloc, &no_object(alloc), &mut writer);
     let is_told = outcome == Err(WriteRefusal::WriteFault) && writer.failures() == 1;
     let trickle = writer.into_inner();
@@ -221,13 +237,36 @@ fn leaves_beginning(alloc: Global, trouble_at: u32, fails: bool, length: usize) 
 #[test]
 fn a_write_fault_leaves_a_beginning(rt: HostRuntime) {
     // 123 bytes are thirteen writes, and behind them is the flush, which takes nothing.
-    for (fails, calls) in [(false, 13u32), (true, 14)] {
+    let troubles = [
+        (None, 13u32),
+        (Some(io::ErrorKind::Interrupted), 14),
+        (Some(io::ErrorKind::WouldBlock), 14),
+    ];
+    for (fault, calls) in troubles {
         for before in 0..calls {
             let length = (10 * before as usize).min(123);
             assert!(rt;
-                leaves_beginning(rt.alloc(), before + 1, fails, length),
+                leaves_beginning(rt.alloc(), before + 1, fault, length),
                 "behind {before} calls"
             );
         }
     }
+}
+
+#[test]
+fn each_error_has_its_text(rt: HostRuntime) -> Result<(), Fail> {
+    let (read, memory) = (ReaderRefusal::ReadFault, ReaderRefusal::OutOfMemory);
+    let shown = format!(in rt.alloc(); "{read}, {memory}")?;
+    assert_eq!(rt; shown.as_str(), "a read failed, out of memory");
+    let (write, memory, alone) = (
+        WriteRefusal::WriteFault,
+        WriteRefusal::OutOfMemory,
+        WriteFault,
+    );
+    let shown = format!(in rt.alloc(); "{write}, {memory}, {alone}")?;
+    assert_eq!(rt;
+        shown.as_str(),
+        "a write failed, out of memory, a write failed"
+    );
+    Ok(())
 }
