@@ -4,13 +4,12 @@ use super::dumps::{Bytes, TWO_OBJECTS, TWO_OBJECTS_REPORT};
 use super::program::file_of;
 use crate::{Counted, start};
 use std::env::{Env, FillError};
-use std::io;
-use std::fs;
 use std::io::{IsTerminal, Write};
 use std::rt::Files;
 use std::sync::Wait;
 use std::test::Fail;
 use std::thread::Threads;
+use std::{fs, io};
 
 /// The words of a command line, which may be no text.
 #[derive(Drop)]
@@ -140,14 +139,38 @@ fn reported<T: AllocGlobal + Files + Threads + Wait + Sync>(
 fn a_line_is_answered_to_its_end(rt: HostRuntime) -> Result<(), Fail> {
     let dump = Bytes::dump(rt.alloc(), 4, TWO_OBJECTS)?;
     let path = file_of(&rt, "heapmark_process.hprof", &dump)?;
-    let file = path.to_str().ok_or("the name of the file is not text")?.as_bytes();
-    for is_terminal in [false, true] {
-        let told = reported(&rt, &[b"heapmark", file], is_terminal, TWO_OBJECTS_REPORT);
-        assert_eq!(rt; told, (0, true), "{is_terminal}");
-        let told = reported(&rt, &[b"heapmark", file, b"--workers", b"0"], is_terminal, "");
-        assert_eq!(rt; told, (2, true), "{is_terminal}");
-        let told = reported(&rt, &[b"heapmark", file, b"--skip", b"A"], is_terminal, "");
-        assert_eq!(rt; told, (1, true), "{is_terminal}");
+    let file = path
+        .to_str()
+        .ok_or("the name of the file is not text")?
+        .as_bytes();
+    let all: [&[u8]; 12] = [
+        b"heapmark",
+        file,
+        b"--workers",
+        b"1",
+        b"--buffer",
+        b"2",
+        b"--buffers",
+        b"4",
+        b"--first-tag",
+        b"0",
+        b"--skip",
+        b"A",
+    ];
+    let lines: [(&[&[u8]], u8, &str); 7] = [
+        (&[b"heapmark", file], 0, TWO_OBJECTS_REPORT),
+        (&[b"heapmark", file, b"--workers", b"0"], 2, ""),
+        (&[b"heapmark", file, b"--buffer", b"1"], 2, ""),
+        (&[b"heapmark", file, b"--buffers", b"3"], 2, ""),
+        (&[b"heapmark", file, b"--first-tag", b"x"], 2, ""),
+        (&[b"heapmark", file, b"--skip", b"A"], 1, ""),
+        (&all, 1, ""),
+    ];
+    for (words, want, report) in lines {
+        for is_terminal in [false, true] {
+            let told = reported(&rt, words, is_terminal, report);
+            assert_eq!(rt; told, (want, true), "{is_terminal}");
+        }
     }
     fs::remove_file(&rt, path.as_path())?;
     Ok(())
