@@ -22,6 +22,13 @@ impl<A: Allocator> Model for Held<A> {
 }
 
 impl<A: Allocator> Held<A> {
+    /// The buffer's number in its pool, below the number of buffers.
+    pub fn index(&self) -> u32
+        ensures { result ≡ self.now.index }
+    {
+        self.index
+    }
+
     /// How many objects the buffer has.
     pub fn len(&self) -> u32
         ensures { result ≡ length self.now.items }

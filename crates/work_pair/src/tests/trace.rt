@@ -12,8 +12,8 @@ use std::process::Abort;
 use std::sync::Wait;
 use std::test::Fail;
 
-/// The objects of a buffer for two, in the order in which they were put.
-type Two = [Option<u32>; 2];
+/// A buffer for two: its number, and its objects in the order in which they were put.
+type Two = (u32, [Option<u32>; 2]);
 
 /// A stack, its top first.
 type Stack = [Option<Two>; 4];
@@ -27,26 +27,27 @@ struct Seen {
     spilled: usize,
 }
 
-/// The objects of that buffer.
-fn objects_of<A: Allocator>(held: Held<A>) -> Two {
+/// The number and the objects of that buffer.
+fn two_of<A: Allocator>(held: Held<A>) -> Two {
     let mut held = held;
+    let index = held.index();
     let last = held.take();
     match held.take() {
-        None => [last, None],
-        first => [first, last],
+        None => (index, [last, None]),
+        first => (index, [first, last]),
     }
 }
 
-/// The objects of the buffer at that place.
-fn objects_at<A: Allocator>(place: Option<Held<A>>) -> Option<Two> {
+/// The buffer at that place.
+fn two_at<A: Allocator>(place: Option<Held<A>>) -> Option<Two> {
     match place {
-        Some(held) => Some(objects_of(held)),
+        Some(held) => Some(two_of(held)),
         None => None,
     }
 }
 
 /// Takes all buffers off a stack.
-fn objects_on<R: Wait + Abort, A: Allocator>(
+fn buffers_on<R: Wait + Abort, A: Allocator>(
     rt: &R,
     pool: &Pool<A>,
     worker: &mut Worker<A>,
@@ -60,7 +61,7 @@ fn objects_on<R: Wait + Abort, A: Allocator>(
         let Ok(popped) = pop_one(rt, pool, worker, which) else {
             panic!(rt; "no tag is near the last one");
         };
-        *place = objects_at(popped);
+        *place = two_at(popped);
     }
     stack
 }
@@ -99,33 +100,38 @@ fn seen_after<R: Wait + Abort>(
     let spilled = pair.spilled();
     let Buffers { first, second, .. } = pair.into_buffers();
     Ok(Seen {
-        places: [objects_at(first), objects_at(second)],
-        full: objects_on(rt, &pool, &mut worker, Which::Full),
-        empty: objects_on(rt, &pool, &mut worker, Which::Empty),
+        places: [two_at(first), two_at(second)],
+        full: buffers_on(rt, &pool, &mut worker, Which::Full),
+        empty: buffers_on(rt, &pool, &mut worker, Which::Empty),
         spilled,
     })
 }
 
-/// A buffer without objects, one with the first two, and so on. No call tells a buffer's number, so each is known by its
-/// objects.
-const BARE: Option<Two> = Some([None, None]);
+/// Each buffer as it is before anything is put, and with the objects that it takes.
+const BARE_0: Option<Two> = Some((0, [None, None]));
 
-const ONE: Option<Two> = Some([Some(1), Some(2)]);
+const BARE_1: Option<Two> = Some((1, [None, None]));
 
-const THREE: Option<Two> = Some([Some(3), Some(4)]);
+const BARE_2: Option<Two> = Some((2, [None, None]));
 
-const FIVE: Option<Two> = Some([Some(5), Some(6)]);
+const BARE_3: Option<Two> = Some((3, [None, None]));
 
-const SEVEN: Option<Two> = Some([Some(7), None]);
+const ONE: Option<Two> = Some((0, [Some(1), Some(2)]));
 
-const EIGHT: Option<Two> = Some([Some(7), Some(8)]);
+const THREE: Option<Two> = Some((1, [Some(3), Some(4)]));
+
+const FIVE: Option<Two> = Some((2, [Some(5), Some(6)]));
+
+const SEVEN: Option<Two> = Some((3, [Some(7), None]));
+
+const EIGHT: Option<Two> = Some((3, [Some(7), Some(8)]));
 
 /// A stack without buffers, the empty one with two and with one, and the full one with one and with two.
 const NONE: Stack = [None; 4];
 
-const TWO_LEFT: Stack = [BARE, BARE, None, None];
+const TWO_LEFT: Stack = [BARE_2, BARE_3, None, None];
 
-const ONE_LEFT: Stack = [BARE, None, None, None];
+const ONE_LEFT: Stack = [BARE_3, None, None, None];
 
 const ONE_GIVEN: Stack = [ONE, None, None, None];
 
@@ -137,8 +143,8 @@ type Row = (u32, bool, [Option<Two>; 2], Stack, Stack, usize);
 
 /// The seventh object takes the last buffer, so there is none to publish with, and a ninth has none.
 const ROWS: [Row; 8] = [
-    (0, false, [BARE, BARE], NONE, TWO_LEFT, 0),
-    (2, false, [ONE, BARE], NONE, TWO_LEFT, 0),
+    (0, false, [BARE_0, BARE_1], NONE, TWO_LEFT, 0),
+    (2, false, [ONE, BARE_1], NONE, TWO_LEFT, 0),
     (4, false, [THREE, ONE], NONE, TWO_LEFT, 0),
     (6, false, [FIVE, THREE], ONE_GIVEN, ONE_LEFT, 0),
     (7, false, [SEVEN, FIVE], TWO_GIVEN, NONE, 0),
