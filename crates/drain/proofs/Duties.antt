@@ -1,6 +1,5 @@
 -- What a thread owed comes back, whatever the leader did meanwhile.
 use Rattle.std.proofs.Common.{ap, subst, sym, ◌≡◌, ◌∙◌}
-use Rattle.mark_core.specs.World.{Setup}
 use Rattle.buffer_pool.specs.Book.{Book}
 use Rattle.buffer_pool.specs.Calls.{Holder}
 use Rattle.drain.specs.declared.tallied.Tallied.{Tallied}

@@ -1,4 +1,7 @@
 -- What the closure asks is what the call asks, and what may be sent to threads.
+use mir.Syntax.{of_param}
+use denote.Exit.{unseen}
+use denote.Param.Send.{Quiet-if}
 use Rattle.drain.proofs.Scanning.{same_tally}
 use Rattle.drain.proofs.worker_threads.run_workers.Goals as goal
 
@@ -20,7 +23,10 @@ scoped-requires g c = record {
         },
         (
           sent.send-A,
-          record { owned = sent.send-V-Visit.owned; leaving = sent.send-V-Visit.leaving },
+          record {
+            owned = sent.send-V-Visit.owned;
+            leaving = λ k. Quiet-if (k (of_param 5)) unseen unseen (λ x w. tt) (λ x w. tt);
+          },
           record { shared = sent.sync-T.shared },
           sent.sync-A,
           record { shared = sent.sync-V.shared },
@@ -34,5 +40,5 @@ scoped-requires g c = record {
 pub returns-clause-tally : goal.returns-clause-tally
 returns-clause-tally g c =
     let m = g.V.Measured.measure c.args.job.now.graph.now in
-    same_tally m c.args.paired.worker c.in_ok-worker.worker c.args.supplies.tally c.in_ok-worker.ensures.2
+    same_tally m c.args.paired.worker c.in_ok-worker.worker c.args.supplies.tally c.in_ok-worker.ensures.1.1.0
     c.requires.tally
