@@ -8,5 +8,6 @@ pub(crate) mod refused;
 mod sizes;
 mod skipped;
 mod skips;
+mod texts;
 mod walks;
 mod worked;
