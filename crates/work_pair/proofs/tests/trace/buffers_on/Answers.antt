@@ -1,6 +1,6 @@
 -- A pop leaves the worker's setup and its idle number.
 use Rattle.work_pair.proofs.Readiness.{popped_worker}
-use Rattle.work_pair.proofs.tests.trace.objects_on.Goals as goal
+use Rattle.work_pair.proofs.tests.trace.buffers_on.Goals as goal
 
 pub loop-place-preserved : goal.loop-place-preserved
 loop-place-preserved g c =
