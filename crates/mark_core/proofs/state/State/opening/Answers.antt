@@ -1,5 +1,6 @@
 -- Table by table this is the opening: its heads, its links, white marks, slots without items, and one account.
-use Rattle.std.proofs.Common.{List, [], ◌∷◌, ◌++◌, ap, refl, ◌∙◌}
+use Rattle.std.proofs.Common.{List, [], ◌∷◌, ◌++◌, ap, refl, length, ◌∙◌}
+use lib.ListN.{length-replicate}
 use Rattle.mark_core.specs.Account.{Account}
 use Rattle.mark_core.specs.World.{Setup}
 use Rattle.mark_core.specs.Runs.{opening}
@@ -28,3 +29,18 @@ returns-clause-marking g c =
     c.in_ok-links.ensures.links (c.in_ok-marks.ensures.items_if_clones_equal (λ y e. e)) c.in_ok-slots.ensures
     refl accounts
     ∙ ap (λ (e : Setup). opening c.args.setup e.first_tag) c.setup.view_is
+
+pub returns-clause-setup : goal.returns-clause-setup
+returns-clause-setup g c = refl
+
+pub returns-clause-links : goal.returns-clause-links
+returns-clause-links g c = c.in_ok-links.ensures.len ∙ ap (λ (e : Setup). e.buffers) c.setup.view_is
+
+pub returns-clause-slots : goal.returns-clause-slots
+returns-clause-slots g c =
+    ap length c.in_ok-slots.ensures ∙ length-replicate _ _ ∙ ap (λ (e : Setup). e.buffers) c.setup.view_is
+
+pub returns-clause-marks : goal.returns-clause-marks
+returns-clause-marks g c =
+    ap length (c.in_ok-marks.ensures.items_if_clones_equal (λ y e. e)) ∙ length-replicate _ _
+    ∙ ap (λ (e : Setup). e.objects) c.setup.view_is
