@@ -24,3 +24,4 @@ pub mod Begins
 pub mod SameObjects
 pub mod Chosen
 pub mod Finished
+pub mod Looked
