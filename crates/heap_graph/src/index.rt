@@ -2,8 +2,6 @@
 
 mod beginnings;
 mod builder;
-#[cfg(test)]
-mod tests;
 
 ghost use Rattle.std.specs.Prelude.{Contains, IfOk, IsSorted, IsTrue, length, position, take};
 ghost use Rattle.std.specs.Prelude.{◌==◌, ◌≡◌, ◌↔◌, ◌+◌, ◌<◌, ◌≤◌};
@@ -13,13 +11,13 @@ ghost use Rattle.heap_graph.specs.working.IndexPairs.{pair_cmp};
 ghost use Rattle.heap_graph.specs.working.Resolving.{Resolves, ResolvesOne, is_unresolved_in, target_in};
 
 use self::beginnings::Beginnings;
-pub(crate) use self::builder::IndexBuilder;
+pub use self::builder::IndexBuilder;
 use std::alloc::{AllocError, Allocator};
 use std::marker::Model;
 
 /// The objects by their identifiers. An identifier names the first object that bears it.
 #[derive(Drop)]
-pub(crate) struct Index<A: Allocator> {
+pub struct Index<A: Allocator> {
     /// The identifier and the number of each object, in ascending order.
     pairs: Vec<(u64, u32), A>,
     beginnings: Beginnings<A>,
@@ -143,7 +141,7 @@ fn least_repeat(pairs: &[(u64, u32)]) -> usize
 
 impl<A: Allocator> Index<A> {
     /// The number of the object that an identifier names.
-    pub(crate) fn find(&self, id: u64) -> Option<u32>
+    pub fn find(&self, id: u64) -> Option<u32>
         ensures { result ≡ position (λ x. x == id) self.now }
     {
         first_bearer(&self.pairs, &self.beginnings, id)
@@ -167,7 +165,7 @@ impl<A: Allocator> Index<A> {
     }
 
     /// Whether an object before that number bears the identifier.
-    pub(crate) fn is_repeated(&self, id: u64, number: usize) -> bool
+    pub fn is_repeated(&self, id: u64, number: usize) -> bool
         ensures { IsTrue result ↔ Contains (take number self.now) id }
     {
         match self.find(id) {

@@ -5,7 +5,7 @@
 //! object refers to is read from the bytes each time that it is asked for, in order and with repeats. The fields that a
 //! `Skip` lists are not followed.
 //!
-//! From `src/tests/graphs.rt`, which is proved and run with the tests:
+//! From `crates/graph_tests/src/graphs.rt`, which is proved and run with the tests:
 //!
 //!     let Ok(dump) = read(alloc, bytes) else {
 //!         return None;
@@ -34,13 +34,11 @@ mod types;
 mod visit;
 
 pub use graph::Graph;
+pub use index::{Index, IndexBuilder};
 pub use laws::{always_linked_or_fault, an_empty_list_skips_nothing, one_graph, one_skip_list};
 pub use refusal::{LinkFault, LinkRefusal};
 pub use row::RowKey;
 pub use rule::LinkRule;
-pub use skip::{Skip, SkipRefusal};
+pub use skip::{Skip, SkipPair, SkipRefusal};
 pub use successors::Successors;
 pub use visit::Visit;
-
-#[cfg(test)]
-mod tests;

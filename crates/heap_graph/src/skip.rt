@@ -9,7 +9,7 @@ mod entry;
 mod refusal;
 
 pub(crate) use class_skips::ClassSkips;
-pub(crate) use entry::SkipPair;
+pub use entry::SkipPair;
 use entry::{entry_of, first_piece};
 pub use refusal::SkipRefusal;
 use std::alloc::Allocator;
@@ -68,7 +68,7 @@ impl<'t, A: Allocator> Skip<'t, A> {
     }
 
     /// The entries, in the order of the text.
-    pub(crate) fn pairs(&self) -> &[SkipPair<'t>]
+    pub fn pairs(&self) -> &[SkipPair<'t>]
         ensures { result.now ≡ self.now }
     {
         &self.pairs

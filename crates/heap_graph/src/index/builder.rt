@@ -9,7 +9,7 @@ use std::marker::Model;
 
 /// The identifiers of objects in the order of the file, of which an index is made. The room for them is taken at once.
 #[derive(Drop)]
-pub(crate) struct IndexBuilder<A: Allocator> {
+pub struct IndexBuilder<A: Allocator> {
     /// The identifier of each object, and its number.
     pairs: Vec<(u64, u32), A>,
 }
@@ -30,7 +30,7 @@ impl<A: Allocator> Model for IndexBuilder<A> {
 
 impl<A: Allocator> IndexBuilder<A> {
     /// No object, with room for that many.
-    pub(crate) fn with_capacity(alloc: A, objects: usize) -> Result<Self, AllocError>
+    pub fn with_capacity(alloc: A, objects: usize) -> Result<Self, AllocError>
         requires { objects < 2 ^ 32 }
         ensures ids { IfOk result (λ builder. builder.ids ≡ []) }
         ensures room { IfOk result (λ builder. builder.room ≡ objects) }
@@ -41,7 +41,7 @@ impl<A: Allocator> IndexBuilder<A> {
     }
 
     /// Adds the next object, for which there is room.
-    pub(crate) fn push(&mut self, id: u64)
+    pub fn push(&mut self, id: u64)
         requires { length self.old.ids < self.old.room }
         ensures ids { self.new.ids ≡ self.old.ids ++ id ∷ [] }
         ensures count { length self.new.ids ≡ length self.old.ids + 1 }
@@ -52,7 +52,7 @@ impl<A: Allocator> IndexBuilder<A> {
     }
 
     /// The index of these objects.
-    pub(crate) fn finish(self, alloc: A) -> Result<Index<A>, AllocError>
+    pub fn finish(self, alloc: A) -> Result<Index<A>, AllocError>
         ensures { IfOk result (λ index. index ≡ self.ids) }
     {
         let mut pairs = self.pairs;

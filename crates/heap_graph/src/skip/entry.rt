@@ -8,7 +8,7 @@ use std::marker::Model;
 
 /// A field that is not followed.
 #[derive(Drop)]
-pub(crate) struct SkipPair<'t> {
+pub struct SkipPair<'t> {
     class: &'t [u8],
     field: &'t [u8],
 }
@@ -23,14 +23,14 @@ impl<'t> Model for SkipPair<'t> {
 
 impl<'t> SkipPair<'t> {
     /// The text that names the class that declares the field.
-    pub(crate) fn class(&self) -> &'t [u8]
+    pub fn class(&self) -> &'t [u8]
         ensures { result.now ≡ self.now.class }
     {
         self.class
     }
 
     /// The field's own name.
-    pub(crate) fn field(&self) -> &'t [u8]
+    pub fn field(&self) -> &'t [u8]
         ensures { result.now ≡ self.now.field }
     {
         self.field

@@ -7,7 +7,7 @@ use std::alloc::Global;
 const MANY: u64 = 512;
 
 /// A call that takes memory.
-pub(crate) trait Call {
+pub trait Call {
     /// Whether the answer over this heap is right: the whole one, or want of memory where a request was refused.
     fn is_right(&self, heap: &LimitedHeap<Global>) -> bool;
 }
@@ -32,7 +32,7 @@ fn answered_with<C: Call>(alloc: Global, call: &C, alone: bool) -> Option<u64> {
 
 /// With how many requests the call is answered, where that number is the same with all behind a request refused and
 /// with each alone, and each answer was right.
-pub(crate) fn requests_of<C: Call>(alloc: Global, call: &C) -> Option<u64> {
+pub fn requests_of<C: Call>(alloc: Global, call: &C) -> Option<u64> {
     let requests = answered_with(alloc, call, false);
     if answered_with(alloc, call, true) != requests {
         return None;

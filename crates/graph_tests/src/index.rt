@@ -1,7 +1,7 @@
 //! Look-ups beside a search one by one.
 
-use crate::index::{Index, IndexBuilder};
-use crate::tests::refused::{Call, requests_of};
+use crate::refused::{Call, requests_of};
+use heap_graph::{Index, IndexBuilder};
 use limited_heap::LimitedHeap;
 use std::alloc::{AllocError, Allocator, Global};
 use std::test::Fail;

@@ -1,8 +1,8 @@
 //! The graphs of dumps of which some fields are not followed.
 
-use super::walks::REFERENCES;
-use super::worked::{A_CLASS, Worked};
-use crate::RowKey;
+use crate::walks::REFERENCES;
+use crate::worked::{A_CLASS, Worked};
+use heap_graph::RowKey;
 use test_dumps::Record::{Heap, Load, Text};
 use test_dumps::Sub::{Instance, Named, Root, Whole};
 use test_dumps::{ClassParts, Record};

@@ -1,7 +1,7 @@
 //! Dumps that are not linked, with the code and the place of their first fault.
 
-use super::chains::{CHAINS, SIZES};
-use crate::{Graph, LinkFault, LinkRefusal, Skip};
+use crate::chains::{CHAINS, SIZES};
+use heap_graph::{Graph, LinkFault, LinkRefusal, Skip};
 use hprof_grammar::read;
 use std::alloc::{AllocError, Global};
 use std::test::Fail;

@@ -1,6 +1,6 @@
 //! Dumps whose superclasses or whose instances' sizes are wrong.
 
-use super::faults::Faulty;
+use crate::faults::Faulty;
 use test_dumps::Sub::{Class, Instance, Objects, Values};
 
 /// Superclasses that are not there, or that never end.

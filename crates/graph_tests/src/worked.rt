@@ -1,6 +1,6 @@
 //! Dumps with the graphs that they have to give.
 
-use crate::RowKey;
+use heap_graph::RowKey;
 use test_dumps::Record::{Heap, Load, Text};
 use test_dumps::Sub::{Class, Instance, Objects, Root, Static, Values, Whole};
 use test_dumps::{ClassParts, Record, TWO_OBJECTS};

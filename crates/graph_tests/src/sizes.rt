@@ -1,6 +1,6 @@
 //! How large the values are that are moved for each object.
 
-use crate::Visit;
+use heap_graph::Visit;
 use std::alloc::Global;
 use std::mem::size_of;
 use std::process::Abort;

@@ -1,7 +1,7 @@
 //! The texts that are lists of fields, and those that are none.
 
-use super::refused::{Call, requests_of};
-use crate::{Skip, SkipRefusal};
+use crate::refused::{Call, requests_of};
+use heap_graph::{Skip, SkipRefusal};
 use limited_heap::LimitedHeap;
 use std::alloc::{AllocError, Allocator, Global};
 use std::test::Fail;

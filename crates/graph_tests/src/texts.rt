@@ -1,6 +1,6 @@
 //! How the refusals are shown.
 
-use crate::{LinkFault, LinkRefusal, SkipRefusal};
+use heap_graph::{LinkFault, LinkRefusal, SkipRefusal};
 use std::alloc::{AllocError, Global};
 use std::fmt;
 use std::test::Fail;

@@ -1,12 +1,12 @@
 //! Want of memory: of the requests of `build` each is refused in turn, with all behind it and alone. And asking a graph
 //! makes none.
 
-use super::graphs::{is_worked, tells};
-use super::refused::{Call, requests_of};
-use super::skipped::SKIPPED;
-use super::walks::{MANY, long_array};
-use super::worked::{WORKED, Worked};
-use crate::{Graph, LinkFault, LinkRefusal, RowKey, Skip};
+use crate::graphs::{is_worked, tells};
+use crate::refused::{Call, requests_of};
+use crate::skipped::SKIPPED;
+use crate::walks::{MANY, long_array};
+use crate::worked::{WORKED, Worked};
+use heap_graph::{Graph, LinkFault, LinkRefusal, RowKey, Skip};
 use hprof_grammar::read;
 use limited_heap::LimitedHeap;
 use std::alloc::{AllocError, Allocator, Global};

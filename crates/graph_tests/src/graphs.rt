@@ -1,7 +1,7 @@
 //! The graphs of worked dumps.
 
-use super::worked::{ClassRow, Object, WORKED, Worked};
-use crate::{Graph, Skip, Successors, Visit};
+use crate::worked::{ClassRow, Object, WORKED, Worked};
+use heap_graph::{Graph, Skip, Successors, Visit};
 use hprof_grammar::read;
 use std::alloc::{Allocator, Global};
 use std::test::Fail;

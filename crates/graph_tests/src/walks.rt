@@ -1,8 +1,8 @@
 //! Walks over the identifiers that objects hold.
 
-use super::graphs::graph_of;
-use super::worked::{WORKED, Worked};
-use crate::{Skip, Successors};
+use crate::graphs::graph_of;
+use crate::worked::{WORKED, Worked};
+use heap_graph::{Skip, Successors};
 use std::alloc::{AllocError, Allocator, Global};
 use std::test::Fail;
 use test_dumps::Sub::{Class, Instance, Root};
