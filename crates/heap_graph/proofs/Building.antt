@@ -15,11 +15,11 @@ use Rattle.heap_graph.specs.declared.objects.Objects.{Objects}
 use Rattle.heap_graph.specs.declared.plan.Plan.{Plan}
 use Rattle.heap_graph.specs.declared.refusal.LinkFault.{LinkFault}
 use Rattle.heap_graph.specs.Heap.{heap_of, objects}
-use Rattle.heap_graph.specs.working.ClassPlans.{IsPlanOf}
 use Rattle.heap_graph.specs.working.HeldIds.{AreLinked, AreLinkedOf}
 use Rattle.heap_graph.specs.LinkFault.{HasLinkFault, IsFirstFault}
 use Rattle.heap_graph.specs.Linked.{IsLinked}
 use Rattle.heap_graph.specs.working.GraphOf.{GraphOf, GraphOf-prop}
+use Rattle.heap_graph.specs.working.GraphParts.{AreNamedOf, AreRootsOf}
 use Rattle.heap_graph.specs.working.ReadObjects.{IsReadOf}
 use Rattle.heap_graph.specs.working.Resolving.{Resolves, target_in}
 use Rattle.heap_graph.specs.working.PlacedNames.{AreNames}
@@ -29,7 +29,7 @@ use Rattle.heap_graph.specs.References.{AreIdLists, is_unresolved, targets}
 use Rattle.heap_graph.specs.Roots.{root_ids, root_objects}
 use Rattle.heap_graph.specs.Rows.{bytes_of, row_of}
 use Rattle.heap_graph.specs.Skips.{SkipEntry, is_skipped}
-use Rattle.heap_graph.specs.working.Refinement.{StandFor, named_class}
+use Rattle.heap_graph.specs.working.Refinement.{StandFor}
 use Rattle.heap_graph.specs.working.RuleAnswers.{IsFaultOf}
 use Rattle.heap_graph.specs.working.ClassFates.{HaveFatesOf}
 use Rattle.heap_graph.proofs.Counting.{few_in_dump, few_of_records}
@@ -137,11 +137,6 @@ has_fault bytes dump is s places fault size_is places_are f = record {
 
 -- ---- the graph
 
--- the roots that were resolved, and how many were not
-pub record AreRootsOf (heap : List SubRecord) (roots : List ℕ) (unresolved : ℕ) : Type 0 where
-  pub roots_are : roots ≡ targets heap (root_ids heap)
-  pub unresolved_is : unresolved ≡ count_by (is_unresolved heap) (root_ids heap)
-
 pub roots_resolved : (heap : List SubRecord) (ids wanted old new : List ℕ) (unresolved : ℕ)
     → ids ≡ map id_of (objects heap) → old ≡ [] → wanted ≡ root_ids heap → Resolves ids wanted old new unresolved
     → AreRootsOf heap new unresolved
@@ -213,32 +208,38 @@ pub stand_for : {A : Type 0} (o : Objects A) (plan : Plan A) (records : List Rec
     → ((at : ℕ) (sub : SubRecord) → Stands o.view at sub
     → at + length (spelling_of o.view.id_size sub) ≤ length o.view.bytes) → length (root_ids (heap_of records)) ≤ limit
     → (linked : AreLinkedOf o (heap_of records)) → (told : HaveFatesOf o (heap_of records))
-    → IsPlanOf (is_skipped records skip) o (heap_of records) plan → map named_class classes ≡ named_classes records
-    → AreRootsOf (heap_of records) roots unresolved → StandFor o plan roots classes unresolved skip
+    → AreNamedOf records skip o plan classes → AreRootsOf (heap_of records) roots unresolved
+    → StandFor o plan roots classes unresolved skip
     (graph_with o.view.id_size records (lists_of o records skip linked told))
-stand_for o plan records roots classes unresolved skip within few_roots linked told planned classes_are found =
+stand_for o plan records roots classes unresolved skip within few_roots linked told named found =
     let g : ObjectGraph = graph_with o.view.id_size records (lists_of o records skip linked told) in
     let graph : IsGraphOf o.view.id_size records skip g = graph_made o records skip linked told in
     record {
       records = records;
       linked = linked;
       fates = told;
-      planned = planned;
+      planned = named.planned;
       graph = graph;
       whole =
           is_whole o.view o.places.items o.index records skip g linked within
           (few_held (is_skipped records skip) o.view.id_size (heap_of records)
           (held_lists (is_skipped records skip) o (heap_of records) linked told)) few_roots graph;
       roots_are = sym found.roots_are;
-      classes_are = sym classes_are;
+      classes_are = sym named.classes_are;
       unresolved_is = roots_unresolved o.view.id_size records skip g graph ∙ sym found.unresolved_is;
     }
 
+-- the graph of the objects that were read
+abbrev pub graph_read : {A : Type 0} (o : Objects A) (text : List ℕ) (dump : Places) (is : IsDumpOf text dump)
+    (skip : List SkipEntry) → IsReadOf text dump is o → ObjectGraph
+graph_read o text dump is skip read =
+    graph_with o.view.id_size is.records (lists_of o is.records skip read.linked read.fates)
+
 pub text_graph_made : {A : Type 0} (o : Objects A) (text : List ℕ) (dump : Places) (is : IsDumpOf text dump)
-    (skip : List SkipEntry) (read : IsReadOf text dump is o) → IsGraphOfText o.view.bytes skip
-    (graph_with o.view.id_size is.records (lists_of o is.records skip read.linked read.fates))
+    (skip : List SkipEntry) (read : IsReadOf text dump is o)
+    → IsGraphOfText o.view.bytes skip (graph_read o text dump is skip read)
 text_graph_made o text dump is skip read =
-    let g : ObjectGraph = graph_with o.view.id_size is.records (lists_of o is.records skip read.linked read.fates) in
+    let g : ObjectGraph = graph_read o text dump is skip read in
     subst (λ (bytes : List ℕ). IsGraphOfText bytes skip g) (sym read.bytes_are)
     (text_graph text dump is o.view.id_size skip g read.size_is read.linked.linked
     (graph_made o is.records skip read.linked read.fates))

@@ -19,5 +19,6 @@ pub mod FieldsUp
 pub mod Rests
 pub mod CountedIds
 pub mod ReadObjects
+pub mod GraphParts
 pub mod GraphOf
 pub mod OneGraph

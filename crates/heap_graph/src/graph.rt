@@ -1,6 +1,7 @@
 //! The graph of the objects of a dump.
 
 mod build;
+mod parts;
 
 ghost use Rattle.std.specs.Prelude.{All, ◌+◌, ◌<◌, ◌^◌, ◌≡◌, ◌≤◌, map, option_copied};
 ghost use Rattle.hprof_grammar.specs.Dump.{limit};

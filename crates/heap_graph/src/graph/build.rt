@@ -8,15 +8,17 @@ ghost use Rattle.heap_graph.specs.Heap.{heap_of};
 ghost use Rattle.heap_graph.specs.LinkFault.{HasLinkFault};
 ghost use Rattle.heap_graph.specs.ObjectGraph.{IsGraphOfText};
 ghost use Rattle.heap_graph.specs.Refusal.{IfLinkFault};
+ghost use Rattle.heap_graph.specs.working.GraphParts.{AreNamedOf, AreRootsOf};
 ghost use Rattle.heap_graph.specs.working.PlacedNames.{AreNamesOf};
 ghost use Rattle.heap_graph.specs.working.PlacedObjects.{ArePlacesOf, IsReadFrom};
 ghost use Rattle.heap_graph.specs.working.ReadObjects.{IsReadOf};
 ghost use Rattle.heap_graph.specs.working.ClassFates.{HaveFatesOf};
 
 use crate::graph::Graph;
-use crate::names::{Names, NamesById};
+use crate::graph::parts::{Named, Rooted, find_roots, name_classes};
+use crate::names::Names;
 use crate::objects::class_table::class_table;
-use crate::objects::{Objects, index_of, read_ids};
+use crate::objects::{Objects, index_of};
 use crate::refusal::LinkRefusal;
 use crate::skip::{Skip, SkipPair};
 use hprof_grammar::{Dump, View, dump_is_placed, stands_within};
@@ -67,6 +69,29 @@ fn take_objects<'a, A: Allocator + Copy, B: Allocator>(
 }
 
 impl<'a, A: Allocator + Copy> Graph<'a, A> {
+    /// The graph of linked objects, of which these are the classes and the roots.
+    fn of(
+        objects: Objects<'a, A>,
+        named: Named<'a, A>,
+        rooted: Rooted<A>,
+        skip: &'a [SkipPair<'a>],
+    ) -> Graph<'a, A>
+        requires { (text : List ℕ) × (dump : Places) × (is : IsDumpOf text dump) × IsReadOf text dump is objects
+            × AreNamedOf is.records skip.now objects named.plan named.classes.items
+            × AreRootsOf (heap_of is.records) rooted.roots.items rooted.unresolved }
+        ensures { IsGraphOfText objects.entry.view.bytes skip.now result }
+    {
+        stands_within();
+        Graph {
+            objects,
+            plan: named.plan,
+            roots: rooted.roots,
+            classes: named.classes,
+            unresolved: rooted.unresolved,
+            skip: Snapshot::of(&skip),
+        }
+    }
+
     /// The graph of linked objects.
     fn assemble(
         alloc: A,
@@ -80,22 +105,9 @@ impl<'a, A: Allocator + Copy> Graph<'a, A> {
             × StandInTurn (Stands objects.view) root_places.now (filter is_root (heap_of is.records)) }
         ensures { IfOk result (λ g. IsGraphOfText objects.entry.view.bytes skip.now g) }
     {
-        stands_within();
-        let by_id = NamesById::new(alloc, names)?;
-        let plan = objects.plan(alloc, &by_id, skip)?;
-        let classes = objects.classes(alloc, &by_id)?;
-        drop(by_id);
-        let root_ids = read_ids(alloc, &objects.view, root_places)?;
-        let mut roots = Vec::new(alloc);
-        let unresolved = objects.index.resolve(&root_ids, &mut roots)?;
-        Ok(Graph {
-            objects,
-            plan,
-            roots,
-            classes,
-            unresolved,
-            skip: Snapshot::of(&skip),
-        })
+        let named = name_classes(alloc, &objects, names, skip)?;
+        let rooted = find_roots(alloc, &objects, root_places)?;
+        Ok(Graph::of(objects, named, rooted, skip))
     }
 
     /// The graph of a dump that was read from these bytes, in which the fields on the list are not followed: a fault is
