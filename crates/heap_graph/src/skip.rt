@@ -1,6 +1,6 @@
 //! The list of fields that are not followed.
 
-ghost use Rattle.std.specs.Prelude.{IfOk, List, [], ◌≡◌};
+ghost use Rattle.std.specs.Prelude.{IfOk, List, [], false, true, ◌<◌, ◌≡◌, ◌≤◌};
 ghost use Rattle.heap_graph.specs.SkipText.{SpellsSkips};
 ghost use Rattle.heap_graph.specs.Skips.{SkipEntry};
 
@@ -33,6 +33,14 @@ impl<'t, A: Allocator> Model for Skip<'t, A> {
     ghost view = { λ skip. skip.pairs.items };
 }
 
+/// Whether a list of so many entries has room for another one.
+fn has_room(entries: usize) -> bool
+    ensures room { result ≡ true → entries < 64 }
+    ensures full { result ≡ false → 64 ≤ entries }
+{
+    entries < MOST_ENTRIES
+}
+
 impl<'t, A: Allocator> Skip<'t, A> {
     /// The list of no field: all are followed. It takes no memory.
     pub fn none(alloc: A) -> Self
@@ -51,7 +59,7 @@ impl<'t, A: Allocator> Skip<'t, A> {
     {
         let mut pairs = Vec::new(alloc);
         let mut rest = text;
-        while pairs.len() < MOST_ENTRIES {
+        while has_room(pairs.len()) {
             let (piece, more) = first_piece(rest);
             let Some(pair) = entry_of(piece) else {
                 return Err(SkipRefusal::BadOptions);

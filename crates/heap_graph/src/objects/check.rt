@@ -1,12 +1,12 @@
 //! The rules that the objects of a dump are tested by.
 
-ghost use Rattle.std.specs.Prelude.{IfErr, IfNone, List, OnOk, length, true, ◌<◌, ◌≡◌, ◌≤◌};
+ghost use Rattle.std.specs.Prelude.{IfErr, IfNone, List, OnOk, false, length, true, ◌<◌, ◌≡◌, ◌≢◌, ◌≤◌};
 ghost use Rattle.hprof_grammar.specs.Dump.{is_object};
 ghost use Rattle.hprof_grammar.specs.Standing.{Stands};
 ghost use Rattle.hprof_grammar.specs.SubRecord.{Class, Instance, ObjectArray, SubRecord};
 ghost use Rattle.hprof_grammar.specs.SubRecord.SubRecord.{class_dump, instance_dump, object_array_dump};
 
-use crate::classes::Fate;
+use crate::classes::{Fate, Layout};
 use crate::objects::Objects;
 use crate::refusal::LinkFault;
 use crate::rule::LinkRule;
@@ -15,6 +15,14 @@ use std::alloc::Allocator;
 
 /// The largest number of objects.
 const MOST_OBJECTS: usize = 16_777_216;
+
+/// Whether the values of an instance have the size of a layout.
+fn has_size(values: &[u8], layout: Layout) -> bool
+    ensures right { result ≡ true → length values.now ≡ layout.size }
+    ensures wrong { result ≡ false → length values.now ≢ layout.size }
+{
+    values.len() as u64 == layout.size
+}
 
 impl<'d, A: Allocator> Objects<'d, A> {
     ghost use Rattle.heap_graph.specs.Linked.{IsLinked};
@@ -58,7 +66,7 @@ impl<'d, A: Allocator> Objects<'d, A> {
         };
         match self.fates[number as usize] {
             Fate::Whole(layout) => {
-                if layout.size != self.view.instance_values(at).len() as u64 {
+                if !has_size(self.view.instance_values(at), layout) {
                     return Some(LinkRule::InstanceSize);
                 }
                 return None;

@@ -23,13 +23,14 @@ index-requires g c =
     (fate_found _ _ _ _ _ _ c.requires.heap.1 (sym c.in-Some.ensures)).below in
     grind (arith, common_steps)
 
-pub returns-then-layout-instance_values : goal.returns-then-layout-instance_values
-returns-then-layout-instance_values g c = λ heap i told st.
+pub returns-then-not-has_size : goal.returns-then-not-has_size
+returns-then-not-has_size g c = λ heap i told st.
     let it = fate_read _ heap _ _ _ _ _ _ (fates.Whole c.in-Whole.layout) told c.in-Some.ensures
     (c.instance_class.ensures i st) c.index.ensures c.in-Whole.is in
     instance_wrong _ heap i it.class it.says.0 it.named it.says.1
     (size_wrong _ heap _ i.class (length i.values) c.in-Whole.layout it.says (bounds st.is.formed).values
-    (λ e. omega (arith, e, ap length (c.instance_values.ensures i st))))
+    (λ e. c.has_size.ensures.wrong c.if-not-has_size.true
+    (omega (arith, e, ap length (c.instance_values.ensures i st)))))
 
 pub returns-in-Whole : goal.returns-in-Whole
 returns-in-Whole g c = λ heap i told st.
@@ -37,7 +38,7 @@ returns-in-Whole g c = λ heap i told st.
     (c.instance_class.ensures i st) c.index.ensures c.in-Whole.is in
     instance_fine _ heap i it.class it.named
     (size_right _ heap _ i.class (length i.values) c.in-Whole.layout it.says (bounds st.is.formed).values
-    (omega (arith, ap length (c.instance_values.ensures i st))))
+    (omega (arith, c.has_size.ensures.right c.if-not-has_size.false, ap length (c.instance_values.ensures i st))))
 
 pub returns-in_default : goal.returns-in_default
 returns-in_default g c = λ heap i told st.

@@ -38,4 +38,5 @@ loop-rest-preserved g c =
 pub returns-clause-bad : goal.returns-clause-bad
 returns-clause-bad g c =
     λ bad.
-    too_many c.args.text.now c.loop-rest.rest.now c.loop-rest.pairs.items c.loop-rest.invariant.1 (omega arith)
+    too_many c.args.text.now c.loop-rest.rest.now c.loop-rest.pairs.items c.loop-rest.invariant.1
+    (omega (arith, c.has_room.ensures.full c.loop-rest-test.false))
