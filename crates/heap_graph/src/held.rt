@@ -118,8 +118,9 @@ impl<'d, A: Allocator> Objects<'d, A> {
             → Stands self.now.view at (class_dump c)
             → AreIdsOf skips self.now.view.id_size heap (class_dump c) result }
     {
+        let ids = ClassIds::new(&self.view, at);
         HeldIds {
-            rest: Rest::OfClass(ClassIds::new(&self.view, at)),
+            rest: Rest::OfClass(ids),
         }
     }
 
