@@ -93,7 +93,7 @@ pub is_class_dump : (o : SubRecord) → object_kind o ≡ Some kinds.Class → I
 is_class_dump (class_dump c) h = record { what = c; same = refl }
 is_class_dump o h = absurd (cc h)
 
-is_instance_dump : (o : SubRecord) → object_kind o ≡ Some kinds.Instance → IsDumpBy instance_dump o
+pub is_instance_dump : (o : SubRecord) → object_kind o ≡ Some kinds.Instance → IsDumpBy instance_dump o
 is_instance_dump (instance_dump i) h = record { what = i; same = refl }
 is_instance_dump o h = absurd (cc h)
 

@@ -1,10 +1,10 @@
 -- The object at the place is of the kind that was read there, so the rules of that kind are those that it is tested by.
 use Rattle.std.proofs.Common.{subst, sym}
 use Rattle.hprof_grammar.specs.SubRecord.{SubRecord}
-use Rattle.hprof_grammar.specs.SubRecord.SubRecord.{class_dump}
+use Rattle.hprof_grammar.specs.SubRecord.SubRecord.{class_dump, instance_dump}
 use Rattle.hprof_grammar.specs.Standing.{Stands}
 use Rattle.heap_graph.specs.working.RuleAnswers.{IsLateRule}
-use Rattle.heap_graph.proofs.Standings.{IsDumpBy, is_class_dump}
+use Rattle.heap_graph.proofs.Standings.{IsDumpBy, is_class_dump, is_instance_dump}
 use Rattle.heap_graph.proofs.objects.Objects.late_rule.Goals as goal
 
 pub returns-in-Class : goal.returns-in-Class
@@ -12,4 +12,11 @@ returns-in-Class g c = λ heap o told st describes.
     let dump : IsDumpBy class_dump o = is_class_dump o (c.in-Class.ensures o st describes) in
     subst (λ (x : SubRecord). IsLateRule c.args.self.now.view.id_size heap x c.class_rule.result) (sym dump.same)
     (c.class_rule.ensures heap dump.what told
+    (subst (λ (x : SubRecord). Stands c.args.self.now.view c.args.at x) dump.same st))
+
+pub returns-in-Instance : goal.returns-in-Instance
+returns-in-Instance g c = λ heap o told st describes.
+    let dump : IsDumpBy instance_dump o = is_instance_dump o (c.in-Instance.ensures o st describes) in
+    subst (λ (x : SubRecord). IsLateRule c.args.self.now.view.id_size heap x c.instance_rule.result) (sym dump.same)
+    (c.instance_rule.ensures heap dump.what told
     (subst (λ (x : SubRecord). Stands c.args.self.now.view c.args.at x) dump.same st))
