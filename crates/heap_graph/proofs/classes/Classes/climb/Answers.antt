@@ -1,8 +1,10 @@
 -- A class that comes onto the path is unknown no more, so fewer are; where the climb ends, it ends above the path.
-use Rattle.std.proofs.Common.{Contains, List, [], set, subst, sym, ℕ, ◌++◌, ◌∷◌}
+use Rattle.std.proofs.Common.{Contains, List, [], set, subst, sym, ℕ, ◌++◌, ◌∷◌, ◌∙◌}
+use lib.ListN.{length-set}
 use Rattle.heap_graph.specs.declared.classes.fate.Fate.TheVariants as fates
 use Rattle.heap_graph.specs.working.ClassTable.{ids_of}
 use Rattle.heap_graph.specs.working.Chains.{AreFates, IsClimb, IsTop}
+use Rattle.heap_graph.proofs.ClassTableLaws.{same_count}
 use Rattle.heap_graph.proofs.ClimbLaws.{climb_end, climb_step}
 use Rattle.heap_graph.proofs.FateLaws.{fewer_unknown, stay_open}
 use Rattle.heap_graph.proofs.classes.Classes.climb.Goals as goal
@@ -44,3 +46,12 @@ returns-in-End-clause-top g c = λ heap are start.
     (climb_end c.args.self.now.view heap c.args.self.now.table.entries c.args.first c.up.path.items c.up.known c.up.at
     c.in-End.fate are (c.up.invariant.climbs heap are start)
     (λ super known under path. c.in-End.ensures heap (c.up.path.items ++ c.up.at ∷ []) super are known under path))
+
+pub next_step-requires-clause-each : goal.next_step-requires-clause-each
+next_step-requires-clause-each g c =
+    let heap = c.requires.heap in
+    let climb = c.up.invariant.climbs heap.0 heap.1 heap.2 in
+    length-set c.up.known c.up.at fates.OnPath ∙ climb.fates_are.one_each ∙ same_count c.args.self.now.table.entries
+
+pub next_step-requires-clause-heap : goal.next_step-requires-clause-heap
+next_step-requires-clause-heap g c = (c.requires.heap.0, c.requires.heap.1)
