@@ -1,5 +1,6 @@
 -- The last class of the path stands right below what has the fate, so its own fate follows, and so on down.
-use Rattle.std.proofs.Common.{arith, length, ◌<◌}
+use Rattle.std.proofs.Common.{arith, length, List, [], ℕ, rules, subst, ◌<◌, ◌≡◌}
+use Rattle.heap_graph.specs.working.Chains.{AreFatesOf}
 use Rattle.heap_graph.proofs.ClassTableLaws.{same_count}
 use Rattle.heap_graph.proofs.ClimbLaws.{back_fates, back_known, back_top, last_under}
 use Rattle.heap_graph.proofs.FateLaws.{stay_known}
@@ -45,3 +46,9 @@ loop-number-preserved g c =
           (λ super under fate. c.fate_below-fate.ensures.fate heap super are under fate)
           c.fate_below-fate.ensures.settled;
     }
+
+pub returns-clause-fates : goal.returns-clause-fates
+returns-clause-fates g c = λ heap are fates top.
+    let empty : c.loop-number.path.items ≡ [] = search rules in
+    subst (λ (p : List ℕ). AreFatesOf c.args.self.now heap p c.loop-number.known) empty
+    (c.loop-number.invariant.fates heap are fates top)
