@@ -12,3 +12,13 @@ returns g c = λ records linked fates names.
       planned = c.in_ok-plan.ensures records fates by_id;
       classes_are = c.in_ok-classes.ensures records linked fates by_id;
     }
+
+pub plan-requires-clause-fates : goal.plan-requires-clause-fates
+plan-requires-clause-fates g c = c.requires.fates
+
+pub plan-requires-clause-names : goal.plan-requires-clause-names
+plan-requires-clause-names g c =
+    (c.requires.names.0, c.in_ok-by_id.ensures c.requires.names.0 c.requires.names.1)
+
+pub classes-requires-clause-few : goal.classes-requires-clause-few
+classes-requires-clause-few g c = c.requires.fates.1.few
