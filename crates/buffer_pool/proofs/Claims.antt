@@ -16,7 +16,6 @@ use Rattle.mark_core.specs.Events as may
 use Rattle.mark_core.specs.Counts.{counted}
 use Rattle.mark_core.proofs.Places.{at_below}
 use Rattle.mark_core.proofs.Colours.{linear}
-use Rattle.buffer_pool.specs.tests.MarkBits.{LowWithHigh}
 use Rattle.buffer_pool.specs.declared.seat_view.SeatView.{SeatView}
 use Rattle.buffer_pool.specs.Book.{claimed, finished}
 use Rattle.buffer_pool.specs.working.Plays.{RestsWith, claim_made, finish_made}
@@ -204,6 +203,3 @@ pub claimable_within : (t : TableId) (e : Setup) (a : Account) (o : ℕ) → IsL
 claimable_within t e a o laid can = ⊎_elim (λ root. All-contains (λ x. x < e.objects) e.roots o laid.roots root)
     (λ next. (All-contains (λ (p : ℕ × ℕ). (p.0 < e.objects) × (p.1 < e.objects)) e.pairs
     (next.0, o) laid.pairs next.2).1) can
-
-pub low_with_high : {B : Type 0} (r : Reading B) → LowWithHigh r
-low_with_high r e s rule o below high = omega (arith, high, mark_known r e s rule o below)

@@ -14,9 +14,4 @@ pub mod Sound
 pub mod Starts
 pub mod Closes
 pub mod Tries
-pub mod Rounds
-pub mod Worked
-pub mod Races
-pub mod Forged
-pub mod Alone
 pub mod Few

@@ -6,4 +6,3 @@ pub mod Calls
 pub mod Faults
 pub mod Closing
 pub mod working
-pub mod tests

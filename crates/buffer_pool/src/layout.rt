@@ -18,10 +18,10 @@ const EMPTY_HEAD: usize = 16;
 pub(crate) const IDLE: usize = 8;
 
 /// The word of the first buffer's link; those of the others follow.
-pub(crate) const FIRST_LINK: usize = 32;
+pub const FIRST_LINK: usize = 32;
 
 /// The word of a stack's head.
-pub(crate) fn head_word(which: Which) -> usize
+pub fn head_word(which: Which) -> usize
     ensures { result ≡ head_word which }
 {
     match which {
@@ -38,7 +38,7 @@ pub(crate) fn mark_words(objects: u32) -> usize
 }
 
 /// The word of an object's mark, behind the links of so many buffers.
-pub(crate) fn mark_word(buffers: u32, object: u32) -> usize
+pub fn mark_word(buffers: u32, object: u32) -> usize
     ensures { result ≡ 32 + buffers + object / 32 }
 {
     FIRST_LINK + buffers as usize + object as usize / 32

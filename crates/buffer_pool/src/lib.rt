@@ -5,7 +5,7 @@
 //! tries of one. Each call's contract says which events of `mark_core` it made, so the law of the marking holds of the
 //! pool's words between any two steps, and `close` tells what it says once all workers are joined.
 //!
-//! From `src/tests/worked.rt`, which is proved and run:
+//! From `src/worked.rt` of `pool_tests`, which has the tests of this crate, proved and run:
 //!
 //!     let (pool, worker) = pool_of_roots(alloc, OBJECTS, 4, 2)?;
 //!     let (mut worker, mut other) = pool.split(worker, 1);
@@ -22,7 +22,7 @@ mod answers;
 mod buffer;
 mod held;
 mod key;
-mod layout;
+pub mod layout;
 mod plays;
 mod pool;
 mod rules;
@@ -38,6 +38,3 @@ pub use pool::limits::{
 };
 pub use pool::marks::Marks;
 pub use worker::Worker;
-
-#[cfg(test)]
-mod tests;

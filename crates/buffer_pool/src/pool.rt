@@ -15,6 +15,7 @@ mod idle;
 pub(crate) mod limits;
 pub(crate) mod marks;
 mod opening;
+mod peek;
 mod shares;
 mod slots;
 mod stacks;

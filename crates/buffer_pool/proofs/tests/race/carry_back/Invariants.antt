@@ -1,7 +1,0 @@
--- Between two rounds nothing is held.
-use Rattle.std.proofs.Common.{◌≡◌, []}
-use Rattle.buffer_pool.specs.tests.Worked.{Holds}
-use Rattle.buffer_pool.proofs.tests.race.carry_back.Given as goal
-
-abbrev pub invariant-loop : goal.invariant-loop
-invariant-loop g l = (l.worker.pool ≡ l.initial.worker.pool) × Holds 2 [] l.worker

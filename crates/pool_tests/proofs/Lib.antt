@@ -1,0 +1,6 @@
+mod RoundSteps
+mod SmallRuns
+mod Races
+mod ForgedTellings
+mod MarkBits
+mod Alone

@@ -1,0 +1,6 @@
+-- A worker that never went idle is busy.
+use Rattle.std.proofs.Common.{inr}
+use Rattle.pool_tests.proofs.graph.claim_marked.Goals as goal
+
+pub claim-requires-clause-busy : goal.claim-requires-clause-busy
+claim-requires-clause-busy g c = inr c.requires.awake

@@ -1,0 +1,48 @@
+//! Two workers that go idle.
+ghost use Rattle.std.specs.Prelude.{◌≡◌};
+ghost use Rattle.pool_tests.specs.Worked.{IsOfOneUnit};
+
+use crate::edges::pool_of_roots;
+use crate::memory::heap_of_a_pool;
+use buffer_pool::{Pool, PoolFault, Which, Worker};
+use std::alloc::Allocator;
+use std::test::Fail;
+
+/// Both go idle, and the first comes back. Answers what each sees of the other before and after that: whether one is
+/// idle and so two are, whether two are, whether it is one, and whether two are still. None where the full stack was
+/// not seen empty.
+fn idle_in_turn<A: Allocator>(
+    pool: &Pool<A>,
+    one: &mut Worker<A>,
+    other: &mut Worker<A>,
+) -> Option<[bool; 4]>
+    requires pool { (one.old.pool ≡ pool.now) × (other.old.pool ≡ pool.now) }
+    requires new { IsOfOneUnit one.old × IsOfOneUnit other.old }
+{
+    if !pool.sees_empty(one, Which::Full) || !pool.sees_empty(other, Which::Full) {
+        return None;
+    }
+    pool.idle_up(one);
+    let two_with_one_idle = pool.all_idle(other, 2);
+    pool.idle_up(other);
+    let two = pool.all_idle(one, 2);
+    let one_alone = pool.all_idle(one, 1);
+    pool.idle_down(one);
+    Some([two_with_one_idle, two, one_alone, pool.all_idle(other, 2)])
+}
+
+/// Two workers of one unit each go idle in turn.
+fn two_idle_workers<A: Allocator + Copy>(alloc: A) -> Result<Option<[bool; 4]>, PoolFault> {
+    let (pool, leader) = pool_of_roots(alloc, 1, 4, 2)?;
+    let (leader, mut one) = pool.split(leader, 1);
+    let (_leader, mut other) = pool.split(leader, 1);
+    Ok(idle_in_turn(&pool, &mut one, &mut other))
+}
+
+#[test]
+fn all_are_idle_until_one_comes_back(rt: HostRuntime) -> Result<(), Fail> {
+    let heap = heap_of_a_pool(rt.alloc());
+    assert_eq!(rt; two_idle_workers(&heap)?, Some([false, true, false, false]));
+    assert_eq!(rt; heap.refusals(), 0);
+    Ok(())
+}

@@ -1,0 +1,106 @@
+//! The two bits of each object, as they lie in the words of marks.
+ghost use Rattle.std.specs.Prelude.{◌≡◌, ◌<◌};
+ghost use Rattle.buffer_pool.specs.Book.{claimed, finished};
+ghost use Rattle.pool_tests.specs.MarkBits.{LowWithHigh};
+ghost use Rattle.pool_tests.specs.Rounds.{HasRoots, IsSameWorker};
+ghost use Rattle.buffer_pool.specs.working.Buffers.{buffer_reading};
+
+use crate::edges::pool_of_roots;
+use crate::graph::claim_white;
+use buffer_pool::layout::mark_word;
+use buffer_pool::{Pool, PoolFault, Worker};
+use std::alloc::{Allocator, Global};
+use std::process::Abort;
+use std::test::Fail;
+
+/// One more than a word has marks of.
+const OBJECTS: u32 = 33;
+
+const BUFFERS: u32 = 4;
+
+/// The word of marks of that number as it is now, if there is one.
+fn word_now<A: Allocator>(pool: &Pool<A>, number: usize) -> Option<u64>
+    requires { number < 4 }
+{
+    pool.peek(mark_word(BUFFERS, 0) + number)
+}
+
+/// Claims a white object.
+fn claim_root<R: Abort, A: Allocator>(rt: &R, pool: &Pool<A>, worker: &mut Worker<A>, object: u32)
+    requires pool { worker.old.pool ≡ pool.now }
+    requires roots { HasRoots OBJECTS worker.old }
+    requires awake { worker.old.book.account.idle ≡ 0 }
+    requires object { object < OBJECTS }
+    ensures same { IsSameWorker worker.old worker.new }
+    ensures book { worker.new.book ≡ claimed object 0 worker.old.book }
+{
+    claim_white(rt, pool, worker, object);
+}
+
+/// Claims a white object and finishes it. Answers word 0 after each of the two.
+fn claim_and_finish<R: Abort, A: Allocator>(
+    rt: &R,
+    pool: &Pool<A>,
+    worker: &mut Worker<A>,
+    object: u32,
+) -> (Option<u64>, Option<u64>)
+    requires pool { worker.old.pool ≡ pool.now }
+    requires roots { HasRoots OBJECTS worker.old }
+    requires awake { worker.old.book.account.idle ≡ 0 }
+    requires object { object < OBJECTS }
+    ensures pool { worker.new.pool ≡ worker.old.pool }
+    ensures roots { HasRoots OBJECTS worker.new }
+    ensures awake { worker.new.book.account.idle ≡ 0 }
+    ensures book { worker.new.book ≡ finished object (claimed object 0 worker.old.book) }
+{
+    claim_root(rt, pool, worker, object);
+    let claimed = word_now(pool, 0);
+    pool.finish(worker, object);
+    (claimed, word_now(pool, 0))
+}
+
+/// The words of marks as objects 0, 31 and 32 are claimed, the first two of them finished at once: word 0 after each of
+/// these four, and words 0, 1 and 2 at the end. And how many are finished then.
+type Words = ([Option<u64>; 4], [Option<u64>; 3], u64);
+
+fn words_of_33<R: Abort>(rt: &R, alloc: Global) -> Result<Words, PoolFault> {
+    let (pool, mut worker) = pool_of_roots(alloc, OBJECTS, BUFFERS, 2)?;
+    let first = claim_and_finish(rt, &pool, &mut worker, 0);
+    let last = claim_and_finish(rt, &pool, &mut worker, 31);
+    claim_root(rt, &pool, &mut worker, 32);
+    let words = [word_now(&pool, 0), word_now(&pool, 1), word_now(&pool, 2)];
+    pool.finish(&mut worker, 32);
+    let marks = pool.close(worker);
+    Ok((
+        [first.0, first.1, last.0, last.1],
+        words,
+        marks.finished_len(),
+    ))
+}
+
+#[test]
+fn bits_of_33_objects(rt: HostRuntime) -> Result<(), Fail> {
+    let (word_0, words, finished) = words_of_33(&rt, rt.alloc())?;
+    assert_eq!(rt;
+        word_0,
+        [
+            Some(1),
+            Some(3),
+            Some(4_611_686_018_427_387_907),
+            Some(13_835_058_055_282_163_715),
+        ]
+    );
+    assert_eq!(rt; words, [Some(13_835_058_055_282_163_715), Some(1), None]);
+    assert_eq!(rt; finished, 3);
+    Ok(())
+}
+
+/// It does nothing: its contract says that the rule of a pool's table leaves no room for a high bit alone.
+fn no_high_bit_stands_alone<A: Allocator>()
+    ensures { LowWithHigh (buffer_reading {A = A}) }
+{}
+
+#[test]
+fn pairs() {
+    no_high_bit_stands_alone::<Global>();
+}

@@ -1,0 +1,192 @@
+//! Four threads that pop and push four buffers at the same time. Where they overlap they lose exchanges. How many is
+//! the machine's choice, and none is right too, as on a single processor that runs the threads one after another: no
+//! call of a pool can be held between its load and its exchange. So losses are counted and not asked for.
+ghost use Rattle.std.specs.Prelude.{◌≡◌, [], ◌∷◌, IfOk, MatchOption};
+ghost use Rattle.pool_tests.specs.Worked.{Holds, bare};
+
+use crate::waiting::{BUFFERS, bare_pool, head, push_bare};
+use buffer_pool::{Held, Pool, Popped, TryPopped, Which, Worker};
+use std::alloc::{Allocator, Global};
+use std::process::Abort;
+use std::sync::Wait;
+use std::test::Fail;
+use std::thread::{Threads, join};
+
+/// The rounds of each of the four threads.
+const ROUNDS: u32 = 20_000;
+
+/// A worker, how many exchanges of a head it has won, and how many tries of a pop it has lost.
+#[derive(Drop)]
+struct Racer {
+    worker: Worker<Global>,
+    won: u64,
+    lost: u64,
+}
+
+/// Pops the buffer on top, which has no items.
+fn pop_any<R: Wait + Abort, A: Allocator>(
+    rt: &R,
+    pool: &Pool<A>,
+    worker: &mut Worker<A>,
+    which: Which,
+) -> Option<Held<A>>
+    requires pool { worker.old.pool ≡ pool.now }
+    requires none { Holds 2 [] worker.old }
+    ensures pool { worker.new.pool ≡ worker.old.pool }
+    ensures held { MatchOption result (Holds 2 [] worker.new)
+        (λ h. Holds 2 (h.index ∷ []) worker.new × (h ≡ bare 2 h.index)) }
+{
+    match pool.pop(rt, worker, which) {
+        Popped::Took(held) => {
+            assert_eq!(rt; held.len(), 0);
+            Some(held)
+        }
+        Popped::Empty => None,
+        Popped::Spent => panic!(rt; "no tag is near the last one"),
+    }
+}
+
+/// Moves the buffer on top of one stack to the other. Answers how many exchanges were won: two, or none where there is
+/// no buffer.
+fn carry<R: Wait + Abort, A: Allocator>(
+    rt: &R,
+    pool: &Pool<A>,
+    worker: &mut Worker<A>,
+    from: Which,
+    to: Which,
+) -> u64
+    requires pool { worker.old.pool ≡ pool.now }
+    requires none { Holds 2 [] worker.old }
+    ensures pool { worker.new.pool ≡ worker.old.pool }
+    ensures none { Holds 2 [] worker.new }
+{
+    match pop_any(rt, pool, worker, from) {
+        Some(held) => {
+            push_bare(rt, pool, worker, to, held);
+            2
+        }
+        None => 0,
+    }
+}
+
+/// Tries once to pop, and puts back what was taken. True where the try was lost.
+fn loses<R: Wait + Abort, A: Allocator>(
+    rt: &R,
+    pool: &Pool<A>,
+    worker: &mut Worker<A>,
+    won: &mut u64,
+) -> bool
+    requires pool { worker.old.pool ≡ pool.now }
+    requires none { Holds 2 [] worker.old }
+    ensures pool { worker.new.pool ≡ worker.old.pool }
+    ensures none { Holds 2 [] worker.new }
+{
+    match pool.try_pop(worker, Which::Empty) {
+        TryPopped::Took(held) => {
+            assert_eq!(rt; held.len(), 0);
+            push_bare(rt, pool, worker, Which::Empty, held);
+            *won = won.saturating_add(2);
+            false
+        }
+        TryPopped::Empty => false,
+        TryPopped::Lost => true,
+        TryPopped::Spent => panic!(rt; "no tag is near the last one"),
+    }
+}
+
+/// Carries buffers to and fro, and tries once to pop in each round.
+fn run<R: Wait + Abort>(rt: &R, pool: &Pool<Global>, worker: Worker<Global>) -> Racer
+    requires pool { worker.pool ≡ pool.now }
+    requires none { Holds 2 [] worker }
+    ensures pool { result.worker.pool ≡ pool.now }
+    ensures none { Holds 2 [] result.worker }
+{
+    let mut worker = worker;
+    let mut won = 0u64;
+    let mut lost = 0u64;
+    for _ in 0..ROUNDS {
+        won = won.saturating_add(carry(rt, pool, &mut worker, Which::Empty, Which::Full));
+        won = won.saturating_add(carry(rt, pool, &mut worker, Which::Full, Which::Empty));
+        if loses(rt, pool, &mut worker, &mut won) {
+            lost = lost.saturating_add(1);
+        }
+    }
+    Racer { worker, won, lost }
+}
+
+/// Two threads side by side.
+fn run_two<R: Threads + Wait + Abort + Sync>(
+    rt: &R,
+    pool: &Pool<Global>,
+    first: Worker<Global>,
+    second: Worker<Global>,
+) -> Racer
+    requires pool { (first.pool ≡ pool.now) × (second.pool ≡ pool.now) }
+    requires none { Holds 2 [] first × Holds 2 [] second }
+    ensures pool { result.worker.pool ≡ pool.now }
+    ensures none { Holds 2 [] result.worker }
+{
+    let (first, second) = join(
+        rt,
+        move || run(rt, pool, first),
+        move || run(rt, pool, second),
+    );
+    both(pool, first, second)
+}
+
+fn both(pool: &Pool<Global>, first: Racer, second: Racer) -> Racer
+    requires pool { (first.worker.pool ≡ pool.now) × (second.worker.pool ≡ pool.now) }
+    requires none { Holds 2 [] first.worker × Holds 2 [] second.worker }
+    ensures pool { result.worker.pool ≡ pool.now }
+    ensures none { Holds 2 [] result.worker }
+{
+    Racer {
+        worker: pool.join(first.worker, second.worker),
+        won: first.won.saturating_add(second.won),
+        lost: first.lost.saturating_add(second.lost),
+    }
+}
+
+/// Carries all buffers back to the empty stack. Answers how many exchanges were won in all, and how many tries lost.
+fn carry_back<R: Wait + Abort>(rt: &R, pool: &Pool<Global>, racer: Racer) -> (u64, u64)
+    requires pool { racer.worker.pool ≡ pool.now }
+    requires none { Holds 2 [] racer.worker }
+{
+    let Racer {
+        mut worker,
+        mut won,
+        lost,
+    } = racer;
+    for _ in 0..BUFFERS {
+        won = won.saturating_add(carry(rt, pool, &mut worker, Which::Full, Which::Empty));
+    }
+    (won, lost)
+}
+
+/// All pops and pushes end, also where threads lose exchanges, and the tags count those that were won. A try is lost
+/// only to an exchange that another thread won since its load, and each of these takes at most one try from each of the
+/// three others.
+#[test]
+fn lost_exchanges(rt: HostRuntime) -> Result<(), Fail> {
+    let (pool, worker) = bare_pool(rt.alloc(), 0)?;
+    let (first, worker) = pool.split(worker, 30_000);
+    let (second, worker) = pool.split(worker, 20_000);
+    let (third, fourth) = pool.split(worker, 10_000);
+    let shared = &pool;
+    let handle = &rt;
+    let (front, back) = join(
+        handle,
+        move || run_two(handle, shared, first, second),
+        move || run_two(handle, shared, third, fourth),
+    );
+    let (won, lost) = carry_back(handle, shared, both(shared, front, back));
+    let (top, full_tag) = head(handle, shared, Which::Full);
+    let (_, empty_tag) = head(handle, shared, Which::Empty);
+    assert_eq!(rt; top, None);
+    assert_eq!(rt; full_tag.saturating_add(empty_tag), won);
+    assert!(rt;
+        lost <= won.saturating_mul(3),
+        "{lost} tries were lost, {won} exchanges won"
+    );
+    Ok(())
+}

@@ -1,0 +1,237 @@
+//! Four threads that fill buffers, push them, pop them and finish what they find, all at the same time.
+ghost use Rattle.std.specs.Prelude.{◌≡◌, ◌≤◌, ◌+◌, ◌*◌, [], MatchOption};
+ghost use Rattle.mark_core.specs.declared.which.Which.TheVariants.{Empty};
+ghost use Rattle.pool_tests.specs.Rounds.{HasNone, HasOne, HasRoots, IsSameWorker};
+
+use crate::edges::pool_of_roots;
+use buffer_pool::{Held, Pool, TryPopped, TryPushed, Which, Worker};
+use std::alloc::{Allocator, Global};
+use std::process::Abort;
+use std::test::Fail;
+use std::thread::{Threads, join};
+
+pub(crate) const OBJECTS: u32 = 4_000;
+
+const BUFFERS: u32 = 64;
+
+/// The objects of one thread.
+const PART: u32 = 1_000;
+
+/// The objects of one round, which are as many as a buffer takes.
+const ROUND: u32 = 16;
+
+/// The tries of one pop or push. One is lost only where another thread's pop or push succeeds between its two
+/// steps, and all threads together make about a thousand of these.
+const TURNS: u32 = 10_000;
+
+fn pop_within<R: Abort, A: Allocator>(
+    rt: &R,
+    pool: &Pool<A>,
+    worker: &mut Worker<A>,
+    which: Which,
+) -> Option<Held<A>>
+    requires pool { worker.old.pool ≡ pool.now }
+    requires none { HasNone worker.old }
+    ensures same { IsSameWorker worker.old worker.new }
+    ensures held { MatchOption result (HasNone worker.new) (HasOne worker.new) }
+{
+    for _ in 0..TURNS {
+        match pool.try_pop(worker, which) {
+            TryPopped::Took(held) => return Some(held),
+            TryPopped::Empty => return None,
+            TryPopped::Lost => {}
+            TryPopped::Spent => panic!(rt; "no tag is near the last one"),
+        }
+    }
+    panic!(rt; "each pop was lost")
+}
+
+fn push_within<R: Abort, A: Allocator>(
+    rt: &R,
+    pool: &Pool<A>,
+    worker: &mut Worker<A>,
+    which: Which,
+    held: Held<A>,
+)
+    requires pool { worker.old.pool ≡ pool.now }
+    requires one { HasOne worker.old held }
+    requires bare { which ≡ Empty → held.items ≡ [] }
+    ensures same { IsSameWorker worker.old worker.new }
+    ensures none { HasNone worker.new }
+{
+    let mut held = held;
+    for _ in 0..TURNS {
+        match pool.try_push(worker, which, held) {
+            TryPushed::Done => return,
+            TryPushed::Lost(back) => held = back,
+            TryPushed::Spent(_) => panic!(rt; "no tag is near the last one"),
+        }
+    }
+    panic!(rt; "each push was lost")
+}
+
+/// Claims these objects, and puts those that were white into the buffer.
+fn fill<R: Abort, A: Allocator>(
+    rt: &R,
+    pool: &Pool<A>,
+    worker: &mut Worker<A>,
+    held: &mut Held<A>,
+    from: u32,
+    to: u32,
+)
+    requires pool { worker.old.pool ≡ pool.now }
+    requires roots { HasRoots OBJECTS worker.old }
+    requires to { to ≤ OBJECTS }
+    requires one { HasOne worker.old held.old }
+    ensures same { IsSameWorker worker.old worker.new }
+    ensures one { HasOne worker.new held.new }
+{
+    for object in from..to {
+        if pool.claim(worker, object) {
+            let Ok(()) = held.put(object) else {
+                panic!(rt; "a round is no more than a buffer takes");
+            };
+        }
+    }
+}
+
+fn finish_items<A: Allocator>(pool: &Pool<A>, worker: &mut Worker<A>, held: &mut Held<A>)
+    requires pool { worker.old.pool ≡ pool.now }
+    requires roots { HasRoots OBJECTS worker.old }
+    requires one { HasOne worker.old held.old }
+    ensures same { IsSameWorker worker.old worker.new }
+    ensures one { HasOne worker.new held.new }
+    ensures bare { held.new.items ≡ [] }
+{
+    while let Some(object) = held.take() {
+        pool.finish(worker, object);
+    }
+}
+
+/// Finishes what a buffer of the full stack has, and puts it on the empty one. False where there is none.
+pub(crate) fn finish_buffer<R: Abort, A: Allocator>(
+    rt: &R,
+    pool: &Pool<A>,
+    worker: &mut Worker<A>,
+) -> bool
+    requires pool { worker.old.pool ≡ pool.now }
+    requires roots { HasRoots OBJECTS worker.old }
+    requires none { HasNone worker.old }
+    ensures same { IsSameWorker worker.old worker.new }
+    ensures none { HasNone worker.new }
+{
+    let Some(mut held) = pop_within(rt, pool, worker, Which::Full) else {
+        return false;
+    };
+    finish_items(pool, worker, &mut held);
+    push_within(rt, pool, worker, Which::Empty, held);
+    true
+}
+
+/// Claims these objects, and puts a buffer with them on the full stack.
+pub(crate) fn fill_buffer<R: Abort, A: Allocator>(
+    rt: &R,
+    pool: &Pool<A>,
+    worker: &mut Worker<A>,
+    from: u32,
+    to: u32,
+)
+    requires pool { worker.old.pool ≡ pool.now }
+    requires roots { HasRoots OBJECTS worker.old }
+    requires to { to ≤ OBJECTS }
+    requires none { HasNone worker.old }
+    ensures same { IsSameWorker worker.old worker.new }
+    ensures none { HasNone worker.new }
+{
+    let Some(mut held) = pop_within(rt, pool, worker, Which::Empty) else {
+        panic!(rt; "there are more buffers than threads");
+    };
+    fill(rt, pool, worker, &mut held, from, to);
+    push_within(rt, pool, worker, Which::Full, held);
+}
+
+/// The work of one thread.
+fn go_through<R: Abort, A: Allocator>(
+    rt: &R,
+    pool: &Pool<A>,
+    worker: Worker<A>,
+    begin: u32,
+) -> Worker<A>
+    requires pool { worker.pool ≡ pool.now }
+    requires roots { HasRoots OBJECTS worker }
+    requires begin { begin + PART ≤ OBJECTS }
+    requires none { HasNone worker }
+    ensures same { IsSameWorker worker result }
+    ensures none { HasNone result }
+{
+    let mut worker = worker;
+    let end = begin + PART;
+    for round in 0..PART.div_ceil(ROUND) {
+        let from = begin + round * ROUND;
+        fill_buffer(rt, pool, &mut worker, from, end.min(from + ROUND));
+        finish_buffer(rt, pool, &mut worker);
+    }
+    worker
+}
+
+/// Two threads, each with a part of its own.
+fn go_side_by_side<R: Threads + Abort + Sync>(
+    rt: &R,
+    pool: &Pool<Global>,
+    first: Worker<Global>,
+    second: Worker<Global>,
+    begin: u32,
+) -> Worker<Global>
+    requires pool { (first.pool ≡ pool.now) × (second.pool ≡ pool.now) }
+    requires roots { HasRoots OBJECTS first × HasRoots OBJECTS second }
+    requires begin { begin + 2 * PART ≤ OBJECTS }
+    requires none { HasNone first × HasNone second }
+    ensures pool { result.pool ≡ first.pool }
+    ensures setup { result.book.setup ≡ first.book.setup }
+    ensures share { result.book.account.share ≡ first.book.account.share + second.book.account.share }
+    ensures none { HasNone result }
+{
+    let (first, second) = join(
+        rt,
+        move || go_through(rt, pool, first, begin),
+        move || go_through(rt, pool, second, begin + PART),
+    );
+    pool.join(first, second)
+}
+
+/// Finishes what is left on the full stack.
+fn finish_rest<R: Abort, A: Allocator>(rt: &R, pool: &Pool<A>, worker: Worker<A>) -> Worker<A>
+    requires pool { worker.pool ≡ pool.now }
+    requires roots { HasRoots OBJECTS worker }
+    requires none { HasNone worker }
+    ensures same { IsSameWorker worker result }
+    ensures none { HasNone result }
+{
+    let mut worker = worker;
+    for _ in 0..BUFFERS {
+        finish_buffer(rt, pool, &mut worker);
+    }
+    worker
+}
+
+#[test]
+fn four_threads(rt: HostRuntime) -> Result<(), Fail> {
+    let (pool, worker) = pool_of_roots(rt.alloc(), OBJECTS, BUFFERS, ROUND)?;
+    let (first, worker) = pool.split(worker, 30_000);
+    let (second, worker) = pool.split(worker, 20_000);
+    let (third, fourth) = pool.split(worker, 10_000);
+    let shared = &pool;
+    let handle = &rt;
+    let (front, back) = join(
+        handle,
+        move || go_side_by_side(handle, shared, first, second, 0),
+        move || go_side_by_side(handle, shared, third, fourth, 2 * PART),
+    );
+    let worker = finish_rest(&rt, &pool, pool.join(front, back));
+    let marks = pool.close(worker);
+    for object in 0..OBJECTS {
+        assert!(rt; marks.is_finished(object), "object {object}");
+    }
+    assert_eq!(rt; marks.finished_len(), u64::from(OBJECTS));
+    Ok(())
+}

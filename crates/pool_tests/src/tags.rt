@@ -1,0 +1,66 @@
+//! Stacks whose heads bear the last tag.
+ghost use Rattle.std.specs.Prelude.{◌≡◌, []};
+ghost use Rattle.pool_tests.specs.Worked.{Holds};
+
+use crate::memory::heap_of_a_pool;
+use crate::waiting::bare_pool;
+use buffer_pool::{Pool, PoolFault, TryPopped, TryPushed, Which, Worker};
+use std::alloc::Allocator;
+use std::test::Fail;
+use tagged_index::LAST_TAG;
+
+/// Whether the full stack is empty to a pop and to a look, and a pop of the empty one finds its last tag.
+fn look_at_both<A: Allocator>(pool: &Pool<A>, worker: &mut Worker<A>) -> [bool; 3]
+    requires pool { worker.old.pool ≡ pool.now }
+    requires none { Holds 2 [] worker.old }
+{
+    let popped = matches!(pool.try_pop(worker, Which::Full), TryPopped::Empty);
+    let seen = pool.sees_empty(worker, Which::Full);
+    let spent = matches!(pool.try_pop(worker, Which::Empty), TryPopped::Spent);
+    [popped, seen, spent]
+}
+
+/// Pops a buffer of the empty stack and pushes it there, which finds the last tag. Answers how many items the buffer
+/// has before and after it, and whether a pop finds that tag, too. None where the pop or the push goes another way.
+fn pop_and_push<A: Allocator>(pool: &Pool<A>, worker: &mut Worker<A>) -> Option<(u32, u32, bool)>
+    requires pool { worker.old.pool ≡ pool.now }
+    requires none { Holds 2 [] worker.old }
+{
+    let TryPopped::Took(held) = pool.try_pop(worker, Which::Empty) else {
+        return None;
+    };
+    let before = held.len();
+    let TryPushed::Spent(back) = pool.try_push(worker, Which::Empty, held) else {
+        return None;
+    };
+    let spent = matches!(pool.try_pop(worker, Which::Empty), TryPopped::Spent);
+    Some((before, back.len(), spent))
+}
+
+fn at_the_last<A: Allocator + Copy>(alloc: A) -> Result<[bool; 3], PoolFault> {
+    let (pool, mut worker) = bare_pool(alloc, LAST_TAG)?;
+    Ok(look_at_both(&pool, &mut worker))
+}
+
+fn before_the_last<A: Allocator + Copy>(alloc: A) -> Result<Option<(u32, u32, bool)>, PoolFault> {
+    let (pool, mut worker) = bare_pool(alloc, LAST_TAG - 1)?;
+    Ok(pop_and_push(&pool, &mut worker))
+}
+
+/// An empty stack is empty also at the last tag.
+#[test]
+fn at_the_last_tag(rt: HostRuntime) -> Result<(), Fail> {
+    let heap = heap_of_a_pool(rt.alloc());
+    assert_eq!(rt; at_the_last(&heap)?, [true, true, true]);
+    assert_eq!(rt; heap.refusals(), 0);
+    Ok(())
+}
+
+/// One exchange is left: a pop takes it, and the push of that buffer is refused.
+#[test]
+fn before_the_last_tag(rt: HostRuntime) -> Result<(), Fail> {
+    let heap = heap_of_a_pool(rt.alloc());
+    assert_eq!(rt; before_the_last(&heap)?, Some((0, 0, true)));
+    assert_eq!(rt; heap.refusals(), 0);
+    Ok(())
+}

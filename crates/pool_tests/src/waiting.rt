@@ -1,0 +1,220 @@
+//! Pops and pushes that try again until one is not lost, and what is seen of the stacks between them.
+ghost use Rattle.std.specs.Prelude.{◌≡◌, ℕ, ◌<◌, List, [], ◌∷◌, ◌++◌, Contains, IfOk};
+ghost use Rattle.mark_core.specs.Lists.{remove_one};
+ghost use Rattle.mark_core.specs.Shares.{whole};
+ghost use Rattle.pool_tests.specs.Worked.{Holds, bare};
+
+use crate::edges::Roots;
+use crate::memory::heap_of_a_pool;
+use buffer_pool::layout::{FIRST_LINK, head_word};
+use buffer_pool::{Held, Pool, PoolFault, Popped, Which, Worker};
+use std::alloc::{Allocator, Global};
+use std::process::Abort;
+use std::sync::Wait;
+use std::test::Fail;
+use tagged_index::HeadWord;
+
+pub(crate) const BUFFERS: u32 = 4;
+
+/// A pool without objects, of four buffers for two objects each.
+pub(crate) fn bare_pool<A: Allocator + Copy>(
+    alloc: A,
+    first_tag: u64,
+) -> Result<(Pool<A>, Worker<A>), PoolFault>
+    ensures pool { IfOk result (λ p. p.1.pool ≡ p.0) }
+    ensures none { IfOk result (λ p. Holds 2 [] p.1) }
+    ensures share { IfOk result (λ p. p.1.book.account.share ≡ whole) }
+{
+    Pool::new(alloc, &Roots { objects: 0 }, BUFFERS, 2, first_tag)
+}
+
+/// A word of the table, as it stands there.
+fn word<R: Abort, A: Allocator>(rt: &R, pool: &Pool<A>, number: usize) -> u64 {
+    let Some(word) = pool.peek(number) else {
+        panic!(rt; "the table has each of these words");
+    };
+    word
+}
+
+/// The index and the tag of a head, as they stand in the table.
+pub(crate) fn head<R: Abort, A: Allocator>(
+    rt: &R,
+    pool: &Pool<A>,
+    which: Which,
+) -> (Option<u32>, u64) {
+    let head = HeadWord::from_word(word(rt, pool, head_word(which)));
+    (head.index(), head.tag())
+}
+
+/// The link word of a buffer, as it stands in the table.
+fn link<R: Abort, A: Allocator>(rt: &R, pool: &Pool<A>, buffer: usize) -> u64
+    requires { buffer < 4 }
+{
+    word(rt, pool, FIRST_LINK + buffer)
+}
+
+fn links<R: Abort, A: Allocator>(rt: &R, pool: &Pool<A>) -> [u64; 4] {
+    [
+        link(rt, pool, 0),
+        link(rt, pool, 1),
+        link(rt, pool, 2),
+        link(rt, pool, 3),
+    ]
+}
+
+/// Pops this buffer, which has no items.
+fn pop_bare<R: Wait + Abort, A: Allocator>(
+    rt: &R,
+    pool: &Pool<A>,
+    worker: &mut Worker<A>,
+    which: Which,
+    wanted: u32,
+) -> Held<A>
+    requires pool { worker.old.pool ≡ pool.now }
+    requires awake { worker.old.book.account.idle ≡ 0 }
+    ensures pool { worker.new.pool ≡ worker.old.pool }
+    ensures held { (n : ℕ) (list : List ℕ) → Holds n list worker.old
+        → Holds n (list ++ wanted ∷ []) worker.new × (result ≡ bare n wanted) }
+{
+    let Popped::Took(held) = pool.pop(rt, worker, which) else {
+        panic!(rt; "there is a buffer, and a tag");
+    };
+    assert_eq!(rt; held.index(), wanted);
+    assert_eq!(rt; held.len(), 0);
+    held
+}
+
+/// Pushes a buffer without items.
+pub(crate) fn push_bare<R: Wait + Abort, A: Allocator>(
+    rt: &R,
+    pool: &Pool<A>,
+    worker: &mut Worker<A>,
+    which: Which,
+    held: Held<A>,
+)
+    requires pool { worker.old.pool ≡ pool.now }
+    requires held { (n : ℕ) × (list : List ℕ) × Holds n list worker.old
+        × Contains list held.index × (held ≡ bare n held.index) }
+    ensures pool { worker.new.pool ≡ worker.old.pool }
+    ensures held { (n : ℕ) (list : List ℕ) → Holds n list worker.old → Holds n (remove_one held.index list) worker.new }
+{
+    let Ok(()) = pool.push(rt, worker, which, held) else {
+        panic!(rt; "no tag is near the last one");
+    };
+}
+
+fn sees_empty<A: Allocator>(pool: &Pool<A>, worker: &mut Worker<A>, which: Which) -> bool
+    requires pool { worker.old.pool ≡ pool.now }
+    ensures pool { worker.new.pool ≡ worker.old.pool }
+    ensures held { (n : ℕ) (list : List ℕ) → Holds n list worker.old → Holds n list worker.new }
+{
+    pool.sees_empty(worker, which)
+}
+
+/// Takes buffers 0, 1 and 2 from the empty stack. The last two come back.
+fn pop_three<R: Wait + Abort, A: Allocator>(
+    rt: &R,
+    pool: &Pool<A>,
+    worker: &mut Worker<A>,
+) -> (Held<A>, Held<A>)
+    requires pool { worker.old.pool ≡ pool.now }
+    requires none { Holds 2 [] worker.old }
+    ensures pool { worker.new.pool ≡ worker.old.pool }
+    ensures held { Holds 2 (0 ∷ 1 ∷ 2 ∷ []) worker.new }
+    ensures two { (result.0 ≡ bare 2 1) × (result.1 ≡ bare 2 2) }
+{
+    pop_bare(rt, pool, worker, Which::Empty, 0);
+    let second = pop_bare(rt, pool, worker, Which::Empty, 1);
+    let third = pop_bare(rt, pool, worker, Which::Empty, 2);
+    (second, third)
+}
+
+/// Puts buffer 2 and then 1 on the full stack, which is seen empty before the first and not after it.
+fn push_two<R: Wait + Abort, A: Allocator>(
+    rt: &R,
+    pool: &Pool<A>,
+    worker: &mut Worker<A>,
+    second: Held<A>,
+    third: Held<A>,
+)
+    requires pool { worker.old.pool ≡ pool.now }
+    requires held { Holds 2 (0 ∷ 1 ∷ 2 ∷ []) worker.old }
+    requires two { (second ≡ bare 2 1) × (third ≡ bare 2 2) }
+    ensures pool { worker.new.pool ≡ worker.old.pool }
+{
+    assert!(rt; sees_empty(pool, worker, Which::Full));
+    push_bare(rt, pool, worker, Which::Full, third);
+    assert!(rt; !sees_empty(pool, worker, Which::Full));
+    push_bare(rt, pool, worker, Which::Full, second);
+}
+
+/// Takes both from the full stack, which is then seen empty, and puts buffer 1 back.
+fn pop_two_push_one<R: Wait + Abort, A: Allocator>(rt: &R, pool: &Pool<A>, worker: &mut Worker<A>)
+    requires pool { worker.old.pool ≡ pool.now }
+    requires none { Holds 2 [] worker.old }
+{
+    let first = pop_bare(rt, pool, worker, Which::Full, 1);
+    assert!(rt; !sees_empty(pool, worker, Which::Full));
+    pop_bare(rt, pool, worker, Which::Full, 2);
+    assert!(rt; sees_empty(pool, worker, Which::Full));
+    push_bare(rt, pool, worker, Which::Full, first);
+    assert!(rt; !sees_empty(pool, worker, Which::Full));
+}
+
+/// The heads of the full stack and of the empty one, and the link words.
+type Stacks = ((Option<u32>, u64), (Option<u32>, u64), [u64; 4]);
+
+fn stacks<R: Abort, A: Allocator>(rt: &R, pool: &Pool<A>) -> Stacks {
+    (
+        head(rt, pool, Which::Full),
+        head(rt, pool, Which::Empty),
+        links(rt, pool),
+    )
+}
+
+/// The stacks of a new pool, and whether the full one and the empty one are seen empty.
+fn opened<R: Abort>(
+    rt: &R,
+    alloc: Global,
+    first_tag: u64,
+) -> Result<(Stacks, bool, bool), PoolFault> {
+    let (pool, mut worker) = bare_pool(alloc, first_tag)?;
+    let full = pool.sees_empty(&mut worker, Which::Full);
+    let empty = pool.sees_empty(&mut worker, Which::Empty);
+    Ok((stacks(rt, &pool), full, empty))
+}
+
+/// Both heads bear the first tag, and the empty stack has buffers 0 to 3 in this order.
+#[test]
+fn stacks_at_the_opening(rt: HostRuntime) -> Result<(), Fail> {
+    for first_tag in [0, 5, tagged_index::LAST_TAG] {
+        let stacks = ((None, first_tag), (Some(0), first_tag), [2, 3, 4, 0]);
+        assert_eq!(rt; opened(&rt, rt.alloc(), first_tag)?, (stacks, true, false));
+    }
+    Ok(())
+}
+
+/// The pops and pushes of the worked table of events. Answers the stacks once two buffers were pushed, and at the end.
+fn go_in_turn<R: Wait + Abort, A: Allocator + Copy>(
+    rt: &R,
+    alloc: A,
+) -> Result<(Stacks, Stacks), PoolFault> {
+    let (pool, worker) = bare_pool(alloc, 5)?;
+    let (mut worker, mut other) = pool.split(worker, 1);
+    let (second, third) = pop_three(rt, &pool, &mut worker);
+    push_two(rt, &pool, &mut worker, second, third);
+    let pushed = stacks(rt, &pool);
+    pop_two_push_one(rt, &pool, &mut other);
+    Ok((pushed, stacks(rt, &pool)))
+}
+
+/// Each exchange of a head raises its tag by one.
+#[test]
+fn two_workers_in_turn(rt: HostRuntime) -> Result<(), Fail> {
+    let heap = heap_of_a_pool(rt.alloc());
+    let (pushed, last) = go_in_turn(&rt, &heap)?;
+    assert_eq!(rt; pushed, ((Some(1), 7), (Some(3), 8), [2, 3, 0, 0]));
+    assert_eq!(rt; last, ((Some(1), 10), (Some(3), 8), [2, 0, 0, 0]));
+    assert_eq!(rt; heap.refusals(), 0);
+    Ok(())
+}

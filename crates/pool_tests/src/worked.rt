@@ -1,0 +1,233 @@
+//! Small runs of one thread, with their answers.
+ghost use Rattle.std.specs.Prelude.{◌≡◌, ◌≤◌, ◌<◌, [], length};
+ghost use Rattle.pool_tests.specs.Rounds.{HasNone, HasRoots, IsSameWorker};
+
+use crate::edges::{Roots, pool_of_roots};
+use crate::memory::heap_of_a_pool;
+use crate::rounds::{OBJECTS, fill_buffer, finish_buffer};
+use buffer_pool::{Held, Marks, Pool, PoolFault, TryPopped, Which, Worker};
+use std::alloc::{Allocator, Global};
+use std::process::Abort;
+use std::test::Fail;
+
+/// Whether an object was claimed, and whether it was finished.
+pub(crate) fn mark<A: Allocator>(marks: &Marks<A>, object: u32) -> (bool, bool)
+    requires { object < length marks.now }
+{
+    (marks.is_claimed(object), marks.is_finished(object))
+}
+
+/// The marks of objects 0 to 4, and how many objects are finished.
+type Told = ([(bool, bool); 5], u64);
+
+fn told<A: Allocator>(marks: &Marks<A>) -> Told
+    requires { length marks.now ≡ OBJECTS }
+{
+    let first = [
+        mark(marks, 0),
+        mark(marks, 1),
+        mark(marks, 2),
+        mark(marks, 3),
+        mark(marks, 4),
+    ];
+    (first, marks.finished_len())
+}
+
+/// Objects 0 and 1 are finished, 2 and 3 lie on the full stack, and 4 is white.
+fn marks_of_each_kind<R: Abort>(rt: &R, alloc: Global) -> Result<Told, PoolFault> {
+    let (pool, worker) = pool_of_roots(alloc, OBJECTS, 4, 2)?;
+    let (mut worker, mut other) = pool.split(worker, 1);
+    fill_buffer(rt, &pool, &mut worker, 0, 2);
+    finish_buffer(rt, &pool, &mut other);
+    fill_buffer(rt, &pool, &mut worker, 2, 4);
+    let worker = pool.join(worker, other);
+    let marks = pool.close(worker);
+    Ok(told(&marks))
+}
+
+/// Of two workers the one that does something.
+#[derive(Clone, Copy, Drop)]
+enum Who {
+    One,
+    Other,
+}
+
+/// What a worker does: it claims these objects and puts a buffer with them on the full stack, or it finishes what a
+/// buffer of the full stack has, and finds one or none.
+#[derive(Clone, Copy, Drop)]
+enum Does {
+    Fill(u32, u32),
+    Finish(bool),
+}
+
+fn take_turn<R: Abort, A: Allocator>(rt: &R, pool: &Pool<A>, worker: &mut Worker<A>, what: Does)
+    requires pool { worker.old.pool ≡ pool.now }
+    requires roots { HasRoots OBJECTS worker.old }
+    requires none { HasNone worker.old }
+    ensures same { IsSameWorker worker.old worker.new }
+    ensures none { HasNone worker.new }
+{
+    match what {
+        Does::Fill(from, to) => fill_buffer(rt, pool, worker, from, to.min(OBJECTS)),
+        Does::Finish(some) => {
+            let found = finish_buffer(rt, pool, worker);
+            assert_eq!(rt; found, some);
+        }
+    }
+}
+
+/// Two workers do this in turn.
+fn go_in_turn<R: Abort, A: Allocator>(
+    rt: &R,
+    pool: &Pool<A>,
+    one: &mut Worker<A>,
+    other: &mut Worker<A>,
+    turns: &[(Who, Does)],
+)
+    requires pool { (one.old.pool ≡ pool.now) × (other.old.pool ≡ pool.now) }
+    requires roots { HasRoots OBJECTS one.old × HasRoots OBJECTS other.old }
+    requires none { HasNone one.old × HasNone other.old }
+    ensures same { IsSameWorker one.old one.new × IsSameWorker other.old other.new }
+    ensures none { HasNone one.new × HasNone other.new }
+{
+    for (who, what) in turns {
+        match who {
+            Who::One => take_turn(rt, pool, one, *what),
+            Who::Other => take_turn(rt, pool, other, *what),
+        }
+    }
+}
+
+/// What is told of a new pool once two workers did this in turn.
+fn told_after<R: Abort, A: Allocator + Copy>(
+    rt: &R,
+    alloc: A,
+    turns: &[(Who, Does)],
+) -> Result<Told, PoolFault> {
+    let (pool, worker) = pool_of_roots(alloc, OBJECTS, 4, 2)?;
+    let (mut one, mut other) = pool.split(worker, 1);
+    go_in_turn(rt, &pool, &mut one, &mut other, turns);
+    let worker = pool.join(one, other);
+    let marks = pool.close(worker);
+    Ok(told(&marks))
+}
+
+const WHITE: (bool, bool) = (false, false);
+
+const CLAIMED: (bool, bool) = (true, false);
+
+const FINISHED: (bool, bool) = (true, true);
+
+/// What two workers do in turn, and then the marks of objects 0 to 4 and how many objects are finished.
+type Run = (&'static [(Who, Does)], &'static [(bool, bool)], u64);
+
+/// Nothing is claimed. One worker finishes objects 0 and 1, another one object 2, and 3 is claimed and not finished.
+/// Both fill a buffer, of which they share an object, and finish one; then both buffers are taken.
+static RUNS: [Run; 3] = [
+    (&[], &[WHITE, WHITE, WHITE, WHITE, WHITE], 0),
+    (
+        &[
+            (Who::One, Does::Fill(0, 2)),
+            (Who::One, Does::Finish(true)),
+            (Who::One, Does::Fill(2, 3)),
+            (Who::Other, Does::Finish(true)),
+            (Who::Other, Does::Fill(3, 4)),
+        ],
+        &[FINISHED, FINISHED, FINISHED, CLAIMED, WHITE],
+        3,
+    ),
+    (
+        &[
+            (Who::One, Does::Fill(0, 2)),
+            (Who::Other, Does::Fill(1, 3)),
+            (Who::One, Does::Finish(true)),
+            (Who::Other, Does::Finish(true)),
+            (Who::Other, Does::Finish(false)),
+        ],
+        &[FINISHED, FINISHED, FINISHED, WHITE, WHITE],
+        3,
+    ),
+];
+
+#[test]
+fn marks_of_one_run(rt: HostRuntime) -> Result<(), Fail> {
+    let (marks, finished) = marks_of_each_kind(&rt, rt.alloc())?;
+    assert_eq!(rt; marks, [FINISHED, FINISHED, CLAIMED, CLAIMED, WHITE]);
+    assert_eq!(rt; finished, 2);
+    Ok(())
+}
+
+/// What is done with a pool takes no memory: it is done while each request would be refused, and makes none. The tests
+/// of idle workers, of the last tags, of items and of pops and pushes that wait run over such a heap too.
+#[test]
+fn the_pool_takes_no_memory(rt: HostRuntime) -> Result<(), Fail> {
+    for (turns, wanted, wanted_finished) in &RUNS {
+        let heap = heap_of_a_pool(rt.alloc());
+        let (marks, finished) = told_after(&rt, &heap, turns)?;
+        assert_eq!(rt; &marks[..], *wanted);
+        assert_eq!(rt; finished, *wanted_finished);
+        assert_eq!(rt; heap.requests_left(), 0);
+        assert_eq!(rt; heap.refusals(), 0);
+    }
+    Ok(())
+}
+
+/// Puts objects until one comes back, and answers that one.
+fn put_until_full<A: Allocator>(held: &mut Held<A>, objects: &[u32]) -> Option<u32>
+    ensures { held.new.size ≡ held.old.size }
+{
+    for object in objects {
+        if let Err(back) = held.put(*object) {
+            return Some(back);
+        }
+    }
+    None
+}
+
+/// What three takes answer, and how many objects are left.
+type Taken = ([Option<u32>; 3], u32);
+
+fn take_three<A: Allocator>(held: &mut Held<A>) -> Taken {
+    let taken = [held.take(), held.take(), held.take()];
+    (taken, held.len())
+}
+
+/// The object that came back where one more was put than there is room for, how many objects each of two buffers had
+/// then, and what was taken from each once the upper half was moved.
+type Items = (Option<u32>, (u32, u32), Taken, Taken);
+
+/// Puts 10 to 15 into a buffer of a new pool and moves the upper half into another one. None where two are not found.
+fn items_of_two<A: Allocator>(pool: &Pool<A>, worker: &mut Worker<A>) -> Option<Items>
+    requires pool { worker.old.pool ≡ pool.now }
+    requires awake { worker.old.book.account.idle ≡ 0 }
+{
+    let TryPopped::Took(mut lower) = pool.try_pop(worker, Which::Empty) else {
+        return None;
+    };
+    let TryPopped::Took(mut upper) = pool.try_pop(worker, Which::Empty) else {
+        return None;
+    };
+    let back = put_until_full(&mut lower, &[10, 11, 12, 13, 14, 15]);
+    let lens = (lower.len(), upper.len());
+    lower.split_upper_into(&mut upper);
+    Some((back, lens, take_three(&mut lower), take_three(&mut upper)))
+}
+
+fn items_of_a_pool<A: Allocator + Copy>(alloc: A) -> Result<Option<Items>, PoolFault> {
+    let (pool, mut worker) = Pool::new(alloc, &Roots { objects: 0 }, 4, 5, 0)?;
+    Ok(items_of_two(&pool, &mut worker))
+}
+
+/// Five objects put, two of them moved, and all taken: the last first. A full buffer gives an object back.
+#[test]
+fn items_of_buffers(rt: HostRuntime) -> Result<(), Fail> {
+    let heap = heap_of_a_pool(rt.alloc());
+    let lower = ([Some(12), Some(11), Some(10)], 0);
+    let upper = ([Some(14), Some(13), None], 0);
+    assert_eq!(rt;
+        items_of_a_pool(&heap)?,
+        Some((Some(15), (5, 0), lower, upper))
+    );
+    assert_eq!(rt; heap.refusals(), 0);
+    Ok(())
+}
