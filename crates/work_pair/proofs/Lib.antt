@@ -8,5 +8,4 @@ pub mod Clearing
 pub mod Getting
 pub mod Pairs
 pub mod Opening
-pub mod Readiness
 pub mod Spilling

@@ -2,4 +2,3 @@ pub mod PairState
 pub mod Moves
 pub mod Deals
 pub mod working
-pub mod tests

@@ -24,6 +24,11 @@ abbrev pub buffer_number : Option HeldBuffer → List ℕ
 buffer_number None = []
 buffer_number (Some h) = h.index ∷ []
 
+-- how many items the buffer at a place has, if there is one
+abbrev pub count_at : Option HeldBuffer → Option ℕ
+count_at None = None
+count_at (Some h) = Some (length h.items)
+
 -- the items of a pair's buffers; with those of its spill list; and the numbers of the buffers, without order
 abbrev pub buffered_items : PairState → List ℕ
 buffered_items p = items_at p.first ++ items_at p.second ++ items_at p.third

@@ -2,7 +2,7 @@
 ghost use Rattle.std.specs.Prelude.{◌≡◌, None};
 
 use crate::buffers::Buffers;
-use crate::place::clear_at;
+use crate::place::{clear_at, count_at};
 use crate::steps::pop_one;
 use crate::stop::Stop;
 use buffer_pool::{Held, Pool, Which, Worker};
@@ -51,7 +51,7 @@ impl<A: Allocator> Pair<A> {
     ghost use Rattle.work_pair.specs.Deals.{OpensNone, OpensTwo, PublishesBoth, Puts, ShelvesAll};
     ghost use Rattle.work_pair.specs.Moves.{FoundNone, WasSeenEmpty};
     ghost use Rattle.work_pair.specs.PairState.{AreAlike, HasRoom, HasStopped, IsBacked, IsNew, IsOpen, PairState};
-    ghost use Rattle.work_pair.specs.PairState.{buffered_items, pair_items, empty_pair};
+    ghost use Rattle.work_pair.specs.PairState.{buffered_items, count_at, pair_items, empty_pair};
     ghost use Rattle.work_pair.specs.declared.stop.Stop.TheVariants.{OutOfMemory, TagSpent};
 
     /// A pair with these buffers, and nothing spilled.
@@ -298,25 +298,29 @@ impl<A: Allocator> Pair<A> {
         }
     }
 
-    /// How many objects each place of the pair has, and `None` for a place without a buffer.
-    #[cfg(test)]
-    pub(crate) fn lens(&self) -> [Option<u32>; 3] {
+    /// How many objects each place of the pair has, and `None` for a place without a buffer: the first, the second, and
+    /// the one for what a stopped call left over.
+    pub fn lens(&self) -> [Option<u32>; 3]
+        ensures { result ≡ count_at self.now.first ∷ count_at self.now.second ∷ count_at self.now.third ∷ [] }
+    {
+        [
+            count_at(&self.buffers.first),
+            count_at(&self.buffers.second),
+            count_at(&self.buffers.third),
+        ]
+    }
+
+    /// The buffers of the pair in the order of [`lens`](Self::lens). The pair ends with that, and what is spilled is
+    /// given up: its objects stay in the worker's charge.
+    pub fn into_buffers(self) -> (Option<Held<A>>, Option<Held<A>>, Option<Held<A>>)
+        ensures { result ≡ (self.first, self.second, self.third) }
+    {
         let Buffers {
             first,
             second,
             third,
-        } = &self.buffers;
-        [
-            first.as_ref().map(|held| held.len()),
-            second.as_ref().map(|held| held.len()),
-            third.as_ref().map(|held| held.len()),
-        ]
-    }
-
-    /// The buffers of the pair, which ends with that.
-    #[cfg(test)]
-    pub(crate) fn into_buffers(self) -> Buffers<A> {
-        self.buffers
+        } = self.buffers;
+        (first, second, third)
     }
 
     /// How many objects the spill list has.

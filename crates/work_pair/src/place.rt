@@ -5,7 +5,7 @@ ghost use Rattle.std.specs.Bool.{OnTrue, OnFalse};
 ghost use Rattle.mark_core.specs.Events.{IsBusy};
 ghost use Rattle.mark_core.specs.declared.which.Which.TheVariants.{Empty};
 ghost use Rattle.buffer_pool.specs.Calls.{HeldBuffer};
-ghost use Rattle.work_pair.specs.PairState.{items_at, buffer_number, HasRoomAt, IsOfSize};
+ghost use Rattle.work_pair.specs.PairState.{items_at, buffer_number, count_at, HasRoomAt, IsOfSize};
 ghost use Rattle.work_pair.specs.working.Asks.{IsBackedAt, MayRenew};
 ghost use Rattle.work_pair.specs.working.Steps.{ClearsAt, PublishesAt, PutsOut, RenewAnswers, next_of};
 ghost use Rattle.work_pair.specs.working.Steps.{pushed_part};
@@ -23,6 +23,16 @@ pub(crate) fn len_at<A: Allocator>(place: &Option<Held<A>>) -> u32
     match place {
         Some(held) => held.len(),
         None => 0,
+    }
+}
+
+/// How many objects the buffer has, if there is one.
+pub(crate) fn count_at<A: Allocator>(place: &Option<Held<A>>) -> Option<u32>
+    ensures { result ≡ count_at place.now }
+{
+    match place {
+        Some(held) => Some(held.len()),
+        None => None,
     }
 }
 

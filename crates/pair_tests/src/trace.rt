@@ -1,0 +1,181 @@
+//! Four buffers for two objects, filled one after the other: which objects each has, and where it lies.
+ghost use Rattle.std.specs.Prelude.{◌≡◌};
+ghost use Rattle.pair_tests.specs.Ready.{IsReady, IsWorker};
+
+use crate::hand::{OBJECTS, open, pool_of_roots, publish, put};
+use buffer_pool::{Held, Pool, PoolFault, Popped, Which, Worker};
+use std::alloc::{Allocator, Global};
+use std::process::Abort;
+use std::sync::Wait;
+use std::test::Fail;
+use work_pair::Pair;
+
+/// A buffer for two: its number, and its objects in the order in which they were put.
+type Two = (u32, [Option<u32>; 2]);
+
+/// A stack, its top first.
+type Stack = [Option<Two>; 4];
+
+/// What is in the first and in the second place, the full stack, the empty one, and how many objects are spilled.
+#[derive(Clone, Copy, PartialEq, Eq)]
+struct Seen {
+    places: [Option<Two>; 2],
+    full: Stack,
+    empty: Stack,
+    spilled: usize,
+}
+
+/// The number and the objects of that buffer.
+fn two_of<A: Allocator>(held: Held<A>) -> Two {
+    let mut held = held;
+    let index = held.index();
+    let last = held.take();
+    match held.take() {
+        None => (index, [last, None]),
+        first => (index, [first, last]),
+    }
+}
+
+/// The buffer at that place.
+fn two_at<A: Allocator>(place: Option<Held<A>>) -> Option<Two> {
+    match place {
+        Some(held) => Some(two_of(held)),
+        None => None,
+    }
+}
+
+/// Pops a buffer, if the stack has one.
+fn pop_one<R: Wait + Abort, A: Allocator>(
+    rt: &R,
+    pool: &Pool<A>,
+    worker: &mut Worker<A>,
+    which: Which,
+) -> Option<Held<A>>
+    requires { IsWorker OBJECTS pool.now worker.old }
+    ensures { IsWorker OBJECTS pool.now worker.new }
+{
+    match pool.pop(rt, worker, which) {
+        Popped::Took(held) => Some(held),
+        Popped::Empty => None,
+        Popped::Spent => panic!(rt; "no tag is near the last one"),
+    }
+}
+
+/// Takes all buffers off a stack.
+fn buffers_on<R: Wait + Abort, A: Allocator>(
+    rt: &R,
+    pool: &Pool<A>,
+    worker: &mut Worker<A>,
+    which: Which,
+) -> Stack
+    requires { IsWorker OBJECTS pool.now worker.old }
+    ensures { IsWorker OBJECTS pool.now worker.new }
+{
+    let mut stack: Stack = [None; 4];
+    for place in &mut stack {
+        *place = two_at(pop_one(rt, pool, worker, which));
+    }
+    stack
+}
+
+/// Opens a pair, puts so many objects, from 1 on, and publishes them where that is asked for.
+fn pair_after<R: Wait + Abort, A: Allocator>(
+    rt: &R,
+    alloc: A,
+    pool: &Pool<A>,
+    worker: &mut Worker<A>,
+    puts: u32,
+    publishes: bool,
+) -> Pair<A>
+    requires { IsWorker OBJECTS pool.now worker.old }
+    ensures { IsReady OBJECTS pool.now worker.new result }
+{
+    let mut pair = open(rt, alloc, pool, worker);
+    for object in 0..puts {
+        put(rt, pool, worker, &mut pair, object + 1);
+    }
+    if publishes {
+        publish(rt, pool, worker, &mut pair);
+    }
+    pair
+}
+
+/// What is seen then, in a new pool.
+fn seen_after<R: Wait + Abort>(
+    rt: &R,
+    alloc: Global,
+    puts: u32,
+    publishes: bool,
+) -> Result<Seen, PoolFault> {
+    let (pool, mut worker) = pool_of_roots(alloc, 4, 2, 0)?;
+    let pair = pair_after(rt, alloc, &pool, &mut worker, puts, publishes);
+    let spilled = pair.spilled();
+    let (first, second, _) = pair.into_buffers();
+    Ok(Seen {
+        places: [two_at(first), two_at(second)],
+        full: buffers_on(rt, &pool, &mut worker, Which::Full),
+        empty: buffers_on(rt, &pool, &mut worker, Which::Empty),
+        spilled,
+    })
+}
+
+/// Each buffer as it is before anything is put, and with the objects that it takes.
+const BARE_0: Option<Two> = Some((0, [None, None]));
+
+const BARE_1: Option<Two> = Some((1, [None, None]));
+
+const BARE_2: Option<Two> = Some((2, [None, None]));
+
+const BARE_3: Option<Two> = Some((3, [None, None]));
+
+const ONE: Option<Two> = Some((0, [Some(1), Some(2)]));
+
+const THREE: Option<Two> = Some((1, [Some(3), Some(4)]));
+
+const FIVE: Option<Two> = Some((2, [Some(5), Some(6)]));
+
+const SEVEN: Option<Two> = Some((3, [Some(7), None]));
+
+const EIGHT: Option<Two> = Some((3, [Some(7), Some(8)]));
+
+/// A stack without buffers, the empty one with two and with one, and the full one with one and with two.
+const NONE: Stack = [None; 4];
+
+const TWO_LEFT: Stack = [BARE_2, BARE_3, None, None];
+
+const ONE_LEFT: Stack = [BARE_3, None, None, None];
+
+const ONE_GIVEN: Stack = [ONE, None, None, None];
+
+const TWO_GIVEN: Stack = [THREE, ONE, None, None];
+
+/// How many objects are put, whether they are published, the two places, the full stack and the empty one, and how many
+/// objects are spilled.
+type Row = (u32, bool, [Option<Two>; 2], Stack, Stack, usize);
+
+/// The seventh object takes the last buffer, so there is none to publish with, and a ninth has none.
+const ROWS: [Row; 8] = [
+    (0, false, [BARE_0, BARE_1], NONE, TWO_LEFT, 0),
+    (2, false, [ONE, BARE_1], NONE, TWO_LEFT, 0),
+    (4, false, [THREE, ONE], NONE, TWO_LEFT, 0),
+    (6, false, [FIVE, THREE], ONE_GIVEN, ONE_LEFT, 0),
+    (7, false, [SEVEN, FIVE], TWO_GIVEN, NONE, 0),
+    (7, true, [SEVEN, FIVE], TWO_GIVEN, NONE, 0),
+    (8, false, [EIGHT, FIVE], TWO_GIVEN, NONE, 0),
+    (9, false, [FIVE, EIGHT], TWO_GIVEN, NONE, 1),
+];
+
+#[test]
+fn four_buffers_are_filled(rt: HostRuntime) -> Result<(), Fail> {
+    for (puts, publishes, places, full, empty, spilled) in ROWS {
+        let wanted = Seen {
+            places,
+            full,
+            empty,
+            spilled,
+        };
+        let seen = seen_after(&rt, rt.alloc(), puts, publishes)?;
+        assert!(rt; seen == wanted, "after {puts} objects");
+    }
+    Ok(())
+}

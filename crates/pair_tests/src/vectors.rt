@@ -1,0 +1,93 @@
+//! Small runs of one thread: which objects come back in which order, and how often the head of the empty stack changes.
+
+use crate::hand::{Lens, bare, dispose, open, pool_of_roots};
+use crate::runs::{End, Run, Step, go_through, left_after};
+use End::AllGot;
+use Step::{Balance, Fill, FullIsEmpty, Get, Has, NoneLeft, Put, Spilled};
+use buffer_pool::PoolFault;
+use std::alloc::Global;
+use std::process::Abort;
+use std::sync::Wait;
+use std::test::Fail;
+
+/// Five objects, a balance, and all of them back. The upper half of them stays, and the lower part comes back from the
+/// full stack.
+const FIVE: Run = (
+    "five objects",
+    &[Fill(5), Balance, FullIsEmpty(false), Get(&[4, 3, 2, 1, 0])],
+    AllGot,
+);
+
+/// Four objects are few: a balance leaves them.
+const FOUR: Run = (
+    "four objects",
+    &[Fill(4), Balance, FullIsEmpty(true), Get(&[3, 2, 1, 0])],
+    AllGot,
+);
+
+/// Four buffers for two objects take eight. A ninth goes to the spill list, and changes nothing else but the places of
+/// the buffers; it comes back first.
+const NINE: Run = (
+    "nine objects",
+    &[
+        Fill(9),
+        Has([Some(2), Some(2), None]),
+        Spilled(1),
+        Get(&[8, 5, 4, 7, 6, 3, 2, 1, 0]),
+    ],
+    AllGot,
+);
+
+/// A run, the objects of a buffer, the first tag, and what the pair has left where it could not be disposed of.
+type Row = (Run, u32, u64, Option<Lens>);
+
+/// From the opening to the end of five objects the head of the empty stack changes six times, so it does from six tags
+/// before the last. One tag later the last buffer cannot be given back, and stays with the pair.
+const ROWS: [Row; 5] = [
+    (FIVE, 8, 0, None),
+    (FOUR, 8, 0, None),
+    (FIVE, 8, 281_474_976_710_649, None),
+    (FIVE, 8, 281_474_976_710_650, Some([None, Some(0), None])),
+    (NINE, 2, 0, None),
+];
+
+#[test]
+fn runs_of_one_pair(rt: HostRuntime) -> Result<(), Fail> {
+    for (run, size, first_tag, wanted) in ROWS {
+        let left = left_after(&rt, rt.alloc(), run, size, first_tag)?;
+        assert!(rt; left == wanted, "{} from tag {first_tag} on", run.0);
+    }
+    Ok(())
+}
+
+/// A pair without buffers takes two objects and gives them back, and has none still.
+const TAKES_AND_GIVES: &[Step] = &[Fill(2), Get(&[1, 0]), NoneLeft, Has([None, None, None])];
+
+/// It has a buffer once one is to be found.
+const FINDS_A_BUFFER: &[Step] = &[Put(2), Has([Some(1), None, None]), FullIsEmpty(true)];
+
+/// Goes through both with a pair without buffers, while others have all; between them one is disposed of. Answers what
+/// was left of that.
+fn left_beside_a_bare_pair<R: Wait + Abort>(
+    rt: &R,
+    alloc: Global,
+) -> Result<Option<Lens>, PoolFault> {
+    let (pool, worker) = pool_of_roots(alloc, 4, 2, 0)?;
+    let (mut other, worker) = pool.split(worker, 2);
+    let (mut third, mut worker) = pool.split(worker, 1);
+    let one = open(rt, alloc, &pool, &mut other);
+    let _two = open(rt, alloc, &pool, &mut third);
+    let mut pair = bare(alloc, &pool, &worker);
+    go_through(rt, &pool, &mut worker, &mut pair, TAKES_AND_GIVES);
+    let left = dispose(rt, &pool, &mut other, one);
+    go_through(rt, &pool, &mut worker, &mut pair, FINDS_A_BUFFER);
+    Ok(left)
+}
+
+/// A pair without buffers keeps what is put into it, and has a buffer once one is to be found.
+#[test]
+fn a_bare_pair_takes_and_gives(rt: HostRuntime) -> Result<(), Fail> {
+    let left = left_beside_a_bare_pair(&rt, rt.alloc())?;
+    assert_eq!(rt; left, None);
+    Ok(())
+}

@@ -1,6 +1,0 @@
--- Between two objects the worker is ready, with a pair that its book backs.
-use Rattle.work_pair.specs.tests.Ready.{IsReady}
-use Rattle.work_pair.proofs.tests.threads.get_rest.Given as goal
-
-abbrev pub invariant-loop : goal.invariant-loop
-invariant-loop g l = IsReady 400 l.pool l.worker l.pair
