@@ -14,6 +14,7 @@ mod head_exchange;
 mod idle;
 pub(crate) mod limits;
 pub(crate) mod marks;
+mod next_head;
 mod opening;
 mod peek;
 mod shares;

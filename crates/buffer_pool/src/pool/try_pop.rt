@@ -10,6 +10,7 @@ ghost use Rattle.buffer_pool.specs.WorkerLog.{Did};
 use crate::answers::TryPopped;
 use crate::held::Held;
 use crate::pool::head_exchange::{load_head, load_link, take_top};
+use crate::pool::next_head::head_below;
 use crate::rules::{Token, Words};
 use mark_core::Which;
 use std::alloc::Allocator;
@@ -39,9 +40,7 @@ pub(crate) fn try_pop<A: Allocator>(
         return TryPopped::Spent;
     }
     let link = load_link(words, seat, which, index);
-    let Some(next) = head.next(link) else {
-        unreachable!()
-    };
+    let next = head_below(head, link);
     match take_top(words, seat, which, head, next, index) {
         Some(buffer) => TryPopped::Took(Held { index, buffer }),
         None => TryPopped::Lost,

@@ -9,6 +9,7 @@ ghost use Rattle.buffer_pool.specs.WorkerLog.{Did};
 use crate::answers::TryPushed;
 use crate::held::Held;
 use crate::pool::head_exchange::{load_head, put_top, store_link};
+use crate::pool::next_head::head_above;
 use crate::rules::{Token, Words};
 use mark_core::Which;
 use std::alloc::Allocator;
@@ -31,7 +32,7 @@ pub(crate) fn try_push<A: Allocator>(
 {
     let index = held.index;
     let head = load_head(words, seat, which);
-    let Some(next) = head.next(Some(index)) else {
+    let Some(next) = head_above(head, index) else {
         return TryPushed::Spent(held);
     };
     store_link(words, seat, head, index);

@@ -19,12 +19,11 @@ use Rattle.buffer_pool.proofs.pool.try_push.try_push.Given as given
 use Rattle.buffer_pool.proofs.pool.try_push.try_push.Goals.{After-store_link}
 use Rattle.buffer_pool.proofs.pool.try_push.try_push.Goals as goal
 
-pub next-requires : goal.next-requires
-next-requires g c = λ x e.
+pub head_above-requires : goal.head_above-requires
+head_above-requires g c =
     let index : c.held.inside.index ≡ c.args.held.index = ap (λ (y : HeldBuffer). y.index) c.held.view_is in
-    let same : c.held.inside.index ≡ x = cc in
     let below = c.requires.sound.within.held c.args.held.index c.requires.may.held in
-    omega (arith, index, same, below, c.requires.sound.laid.many)
+    omega (arith, index, below, c.requires.sound.laid.many)
 
 pub returns-in_default-clause-sound : goal.returns-in_default-clause-sound
 returns-in_default-clause-sound g c = c.load_head-head.ensures.sound
