@@ -1,7 +1,7 @@
 //! A heap for tests of want of memory: it passes requests to the allocator behind it, and refuses all of them from a
 //! given one on, or that one alone. Threads may share it.
 //!
-//! From `src/tests.rt`, which is proved and run:
+//! From `src/requests.rt` of `heap_tests`, which has the tests of this crate, proved and run:
 //!
 //!     let heap = LimitedHeap::new(rt.alloc(), 1);
 //!     assert_eq!(rt; (heap.requests_left(), heap.refusals()), (1, 0));
@@ -15,7 +15,5 @@
 
 mod heap;
 mod quota;
-#[cfg(test)]
-mod tests;
 
 pub use heap::LimitedHeap;

@@ -1,6 +1,6 @@
 //! What no clause says: which requests are granted.
 
-use crate::LimitedHeap;
+use limited_heap::LimitedHeap;
 use std::alloc::{AllocError, Allocator};
 use std::test::Fail;
 use std::thread::{Threads, join};
