@@ -25,12 +25,9 @@ use std::alloc::Allocator;
 use std::sync::Wait;
 use std::thread::Threads;
 
-#[cfg(test)]
-mod tests;
-
 /// Claims the roots and gives them to the workers, runs these, scans what is left once all have ended, and then joins
 /// them.
-fn lead<T, A, V, G, S>(
+pub fn lead<T, A, V, G, S>(
     rt: &T,
     job: &Job<'_, A, V, G, S>,
     leader: Worker<A>,
@@ -84,7 +81,7 @@ where
 }
 
 /// Marks as [`mark`] does, where the thread of each worker has to be allowed by a hook.
-pub(crate) fn mark_where<T, A, B, G, S>(
+pub fn mark_where<T, A, B, G, S>(
     rt: &T,
     alloc: A,
     graph: &Graph<'_, B>,

@@ -4,7 +4,7 @@
 //! of each row and their bytes. Its clause `exactly_reachable` is the theorem: what is marked is exactly what a path of
 //! references joins to a root, whatever the number of workers and the order of their steps.
 //!
-//! From `src/leader/tests/memory.rt`, which is proved and run as a test:
+//! From `crates/drain_tests/src/memory.rt`, which is proved and run as a test:
 //!
 //!     let heap = LimitedHeap::new(alloc, requests);
 //!     let marked = mark(rt, &heap, graph, options, &NoGate)?;
@@ -18,6 +18,7 @@
 #![tactic(auto)]
 
 mod gate;
+pub mod inside;
 mod job;
 mod laws;
 mod leader;

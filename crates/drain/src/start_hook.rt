@@ -1,13 +1,13 @@
 //! A place where a test refuses to start a worker's thread: the system cannot be made to.
 
 /// Asked before the thread of each worker is started.
-pub(crate) trait StartHook: Sync {
+pub trait StartHook: Sync {
     /// Whether the thread of the worker of this number may be started.
     fn may_start(&self, worker: u32) -> bool;
 }
 
 /// A hook that refuses no thread.
-pub(crate) struct StartsAll;
+pub struct StartsAll;
 
 impl StartHook for StartsAll {
     fn may_start(&self, _worker: u32) -> bool {

@@ -6,11 +6,11 @@ ghost use Rattle.drain.specs.working.Tallies.{one_more, together};
 
 /// How many objects there are, and their bytes together.
 #[derive(Clone, Copy)]
-pub(crate) struct Sum {
+pub struct Sum {
     /// How many objects there are.
-    pub(crate) count: u64,
+    pub count: u64,
     /// How many bytes they have together.
-    pub(crate) bytes: u64,
+    pub bytes: u64,
 }
 
 impl Sum {

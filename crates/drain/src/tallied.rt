@@ -6,9 +6,9 @@ use std::alloc::Allocator;
 
 /// A worker, and the tally of the objects that it finished.
 #[derive(Drop)]
-pub(crate) struct Tallied<A: Allocator> {
+pub struct Tallied<A: Allocator> {
     /// The worker, which has no buffer and answers for nothing.
-    pub(crate) worker: Worker<A>,
+    pub worker: Worker<A>,
     /// What it counted.
-    pub(crate) tally: Tally<A>,
+    pub tally: Tally<A>,
 }

@@ -10,22 +10,19 @@ use crate::scanned::Scanned;
 use crate::sum::Sum;
 use std::alloc::{AllocError, Allocator};
 
-#[cfg(test)]
-mod tests;
-
 /// What is counted of some objects: of each row how many of them it has, and their bytes; and how many of their
 /// identifiers name no object.
 #[derive(Drop)]
-pub(crate) struct Tally<A: Allocator> {
+pub struct Tally<A: Allocator> {
     /// The sums of the rows, by their places.
-    pub(crate) rows: Vec<Sum, A>,
+    pub rows: Vec<Sum, A>,
     /// How many identifiers are other than 0 and name no object.
-    pub(crate) unresolved: u64,
+    pub unresolved: u64,
 }
 
 impl<A: Allocator> Tally<A> {
     /// The tally of no object, with so many rows. All its memory is taken here.
-    pub(crate) fn new(alloc: A, rows: usize) -> Result<Tally<A>, AllocError>
+    pub fn new(alloc: A, rows: usize) -> Result<Tally<A>, AllocError>
         ensures { IfOk result (λ t. (m : Measure) → m.rows ≡ rows → Tallies m [] t) }
     {
         let rows = vec![in alloc; Sum::none(); rows]?;
@@ -36,7 +33,7 @@ impl<A: Allocator> Tally<A> {
     }
 
     /// Takes in one object more.
-    pub(crate) fn add(&mut self, object: Scanned)
+    pub fn add(&mut self, object: Scanned)
         requires row { object.row < length self.old.rows.items }
         requires small { HasSmallSums self.old }
         requires bytes { object.bytes ≤ 2 ^ 30 }
@@ -50,7 +47,7 @@ impl<A: Allocator> Tally<A> {
     }
 
     /// Takes in the objects of another tally of as many rows.
-    pub(crate) fn join(&mut self, other: &Tally<A>)
+    pub fn join(&mut self, other: &Tally<A>)
         requires rows { length self.old.rows.items ≡ length other.now.rows.items }
         requires small { HasSmallSums self.old }
         requires others { HasSmallSums other.now }
@@ -65,7 +62,7 @@ impl<A: Allocator> Tally<A> {
     }
 
     /// How many objects the row at that place has, and their bytes together: 0 and 0 where there is no such place.
-    pub(crate) fn told_at(&self, place: usize) -> (u64, u64)
+    pub fn told_at(&self, place: usize) -> (u64, u64)
         ensures { result ≡ sum_at self.now.rows.items place }
     {
         match self.rows.get(place) {

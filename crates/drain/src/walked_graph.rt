@@ -15,9 +15,9 @@ const FIXED_ROWS: usize = 9;
 
 /// A graph of bytes that live for `'b`, whose roots and references are walked.
 #[derive(Drop)]
-pub(crate) struct WalkedGraph<'a, 'b, A: Allocator> {
+pub struct WalkedGraph<'a, 'b, A: Allocator> {
     /// The graph of the dump.
-    pub(crate) graph: &'a Graph<'b, A>,
+    pub graph: &'a Graph<'b, A>,
 }
 
 impl<'a, 'b, A: Allocator> Edges for WalkedGraph<'a, 'b, A> {

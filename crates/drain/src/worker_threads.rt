@@ -26,15 +26,14 @@ use std::thread;
 use std::thread::{Promise, PromisedHandle, Scope, Threads};
 use work_pair::Stop;
 
-#[cfg(test)]
-mod tests;
-
 /// What the thread of a worker owes: the worker that it began with, through with its work, and a tally of what it
 /// finished.
 #[derive(Drop)]
-pub(crate) struct Duty<A: Allocator, V> {
-    begun: Snapshot<Worker<A>>,
-    graph: Snapshot<V>,
+pub struct Duty<A: Allocator, V> {
+    /// The worker as it began.
+    pub begun: Snapshot<Worker<A>>,
+    /// The graph that it works on.
+    pub graph: Snapshot<V>,
 }
 
 impl<A: Allocator, V: Measured> Promise<Result<Tallied<A>, Stop>> for Duty<A, V> {
@@ -47,7 +46,7 @@ impl<A: Allocator, V: Measured> Promise<Result<Tallied<A>, Stop>> for Duty<A, V>
 }
 
 /// A worker that was started.
-pub(crate) type Started<A, V> = PromisedHandle<Result<Tallied<A>, Stop>, Duty<A, V>>;
+pub type Started<A, V> = PromisedHandle<Result<Tallied<A>, Stop>, Duty<A, V>>;
 
 /// The work of one worker: it scans until it has nothing left, and stays until all are idle or it waited long enough.
 /// It has none to do where there are not two empty buffers for it.
@@ -155,7 +154,7 @@ where
 }
 
 /// Waits for each thread in turn, and lists their workers. Answers at the first worker that was refused.
-fn join_all<T: Threads, A: Allocator, V: Measured>(
+pub fn join_all<T: Threads, A: Allocator, V: Measured>(
     rt: &T,
     threads: Vec<Started<A, V>, A>,
     back: Vec<Tallied<A>, A>,

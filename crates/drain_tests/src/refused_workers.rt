@@ -5,10 +5,16 @@ ghost use Rattle.drain.specs.working.AtWork.{IsFree, IsThrough, Leads};
 ghost use Rattle.drain.specs.working.Duties.{IsDutyUnder};
 ghost use Rattle.drain.specs.working.Tallying.{HasTallied};
 
-use super::*;
-use buffer_pool::Edges;
+use buffer_pool::{Edges, Pool, Worker};
+use drain::RunFault;
+use drain::inside::{Duty, Measured, Started, Tallied, Tally, join_all};
 use std::alloc::Global;
+use std::snapshot::Snapshot;
+use std::sync::Wait;
 use std::test::Fail;
+use std::thread;
+use std::thread::{Scope, Threads};
+use work_pair::Stop;
 
 /// No object.
 #[derive(Drop)]

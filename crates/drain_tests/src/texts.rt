@@ -1,6 +1,6 @@
 //! What is printed where a graph is not marked.
 
-use crate::{BadOptions, RunFault};
+use drain::{BadOptions, RunFault};
 use std::test::Fail;
 
 static FAULTS: [(RunFault, &str); 3] = [

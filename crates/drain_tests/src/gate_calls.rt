@@ -1,7 +1,7 @@
 //! Who calls the gate: each of many workers, the leader under a number of its own, and a worker to which another gave.
 
-use super::{dump_of, graph_of, put_class, put_instance, wide_array};
-use crate::{Gate, Options, RunFault, mark};
+use crate::dumps::{dump_of, graph_of, put_class, put_instance, wide_array};
+use drain::{Gate, Options, RunFault, mark};
 use heap_graph::{Graph, Skip};
 use std::alloc::{AllocError, Global};
 use std::sync::Wait;

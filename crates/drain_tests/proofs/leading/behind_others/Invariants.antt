@@ -1,7 +1,7 @@
 -- The leader gave a unit to each of the others so far, and nothing else of it changed.
 use Rattle.std.proofs.Common.{◌≡◌, ◌+◌}
 use Rattle.drain.specs.working.AtWork.{IsFree}
-use Rattle.drain.proofs.leader.tests.behind_others.Given as goal
+use Rattle.drain_tests.proofs.leading.behind_others.Given as goal
 
 abbrev pub invariant-loop : goal.invariant-loop
 invariant-loop g l =

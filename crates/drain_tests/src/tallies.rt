@@ -1,8 +1,7 @@
 //! What a marking tells of rows and of identifiers that name no object, whoever marked.
 
-use super::{dump_of, graph_of, put_class, wide_array};
-use crate::marked::{Marked, RunFault};
-use crate::{NoGate, Options, mark};
+use crate::dumps::{dump_of, graph_of, put_class, wide_array};
+use drain::{Marked, NoGate, Options, RunFault, mark};
 use heap_graph::{Graph, RowKey, Skip};
 use std::alloc::{AllocError, Global};
 use std::process::Abort;

@@ -1,144 +1,20 @@
-//! What no clause of a marking says: which refusal is told where a thread is not started, and when the gate is told of
-//! an object.
+//! What no clause of a marking says: when the gate is told of an object; and a leader that finds no buffers.
 
 ghost use Rattle.std.specs.Prelude.{◌≡◌, ◌<◌, ◌≤◌, ◌+◌};
 ghost use Rattle.mark_core.specs.Events.{IsBusy};
 ghost use Rattle.drain.specs.working.AtWork.{IsFree};
 
-use super::*;
-use crate::gate::NoGate;
-use crate::measured::Measured;
-use crate::scanned::Scanned;
-use buffer_pool::Edges;
+use crate::dumps::{graph_of, wide_array};
+use buffer_pool::{Edges, Pool, Worker};
+use drain::Gate;
+use drain::inside::{Job, Measured, Scanned, StartsAll, Walk, WalkedGraph, lead};
 use heap_graph::{Skip, Visit};
-use hprof_grammar::read;
-use std::alloc::{AllocError, Global};
+use std::alloc::Global;
+use std::sync::Wait;
 use std::sync::atomic::{AtomicU64, Ordering};
 use std::test::Fail;
+use std::thread::Threads;
 use work_pair::Pair;
-
-mod gate_calls;
-mod memory;
-mod starts;
-mod tallies;
-mod texts;
-
-/// Puts class 0x100, without a superclass, fields and values.
-fn put_class(heap: &mut Vec<u8>) -> Result<(), AllocError> {
-    heap.extend_from_slice(&[0x20, 0, 0, 1, 0])?;
-    heap.extend_from_slice(&[0; 38])
-}
-
-/// Puts an instance of that class, whose identifier has these two bytes behind two of 0.
-fn put_instance(heap: &mut Vec<u8>, [high, low]: [u8; 2]) -> Result<(), AllocError> {
-    heap.extend_from_slice(&[0x21, 0, 0, high, low, 0, 0, 0, 0, 0, 0, 1, 0, 0, 0, 0, 0])
-}
-
-/// Puts the header of a dump and the record of this heap.
-fn put_dump(dump: &mut Vec<u8>, heap: &[u8]) -> Result<(), AllocError> {
-    dump.extend_from_slice(b"JAVA PROFILE 1.0.2\0\0\0\0\x04")?;
-    dump.extend_from_slice(&[0; 8])?;
-    dump.extend_from_slice(&[0x0c, 0, 0, 0, 0])?;
-    let length = u32::try_from(heap.len()).unwrap_or(u32::MAX);
-    dump.extend_from_slice(&length.to_be_bytes())?;
-    dump.extend_from_slice(heap)
-}
-
-/// A dump with this heap.
-fn dump_of(alloc: Global, heap: &[u8]) -> Result<Vec<u8>, AllocError> {
-    let mut dump = Vec::new(alloc);
-    put_dump(&mut dump, heap)?;
-    Ok(dump)
-}
-
-/// Puts an array that is the root, and the 60 instances that it refers to.
-fn put_wide_array(heap: &mut Vec<u8>) -> Result<(), AllocError> {
-    put_class(heap)?;
-    // Array 0x200 of that class.
-    heap.extend_from_slice(&[0x22, 0, 0, 2, 0, 0, 0, 0, 0, 0, 0, 0, 60, 0, 0, 1, 0])?;
-    for id in 0..60u8 {
-        heap.extend_from_slice(&[0, 0, 3, id])?;
-    }
-    for id in 0..60u8 {
-        put_instance(heap, [3, id])?;
-    }
-    heap.extend_from_slice(&[0xff, 0, 0, 2, 0])
-}
-
-/// A dump with an array that is the root, and the 60 instances that it refers to.
-fn wide_array(alloc: Global) -> Result<Vec<u8>, AllocError> {
-    let mut heap = Vec::new(alloc);
-    put_wide_array(&mut heap)?;
-    dump_of(alloc, heap.as_slice())
-}
-
-/// The graph of a dump that is whole.
-fn graph_of<'a>(
-    alloc: Global,
-    dump: &'a [u8],
-    skip: &'a Skip<'_, Global>,
-) -> Result<Graph<'a, Global>, Fail> {
-    let places = read(alloc, dump)?;
-    Ok(Graph::build(alloc, dump, places, skip)?)
-}
-
-/// Refuses the thread of the worker of one number.
-#[derive(Drop)]
-struct AllBut {
-    refused: u32,
-}
-
-impl StartHook for AllBut {
-    fn may_start(&self, worker: u32) -> bool {
-        worker != self.refused
-    }
-}
-
-/// Marks the wide array by so many workers with so many buffers of so many objects and a first tag, and answers how many
-/// objects are marked, or why none is.
-fn marked_where<T: Threads + Wait + Sync, G: Gate, S: StartHook>(
-    rt: &T,
-    alloc: Global,
-    (workers, buffer, buffers, first_tag): (u32, u32, u32, u64),
-    gate: &G,
-    hook: &S,
-) -> Result<Result<u64, RunFault>, Fail> {
-    let options = Options::new(workers, buffer, buffers, first_tag)?;
-    let dump = wide_array(alloc)?;
-    let skip = Skip::none(alloc);
-    let graph = graph_of(alloc, dump.as_slice(), &skip)?;
-    Ok(mark_where(rt, alloc, &graph, &options, gate, hook).map(|marked| marked.len()))
-}
-
-/// Workers, objects of a buffer, buffers, and the first tag; the worker without a thread; and what is answered.
-type Start = ((u32, u32, u32, u64), u32, Result<u64, RunFault>);
-
-/// The leader takes three buffers, two for its pair and one for the root that it gives away: then the stack of the empty
-/// ones has its last tag, and no worker finds a pair.
-const LATE: u64 = Options::LAST_TAG - 3;
-
-static STARTS: [Start; 9] = [
-    ((4, 256, 1024, 0), 0, Err(RunFault::WorkerRefused)),
-    ((4, 256, 1024, 0), 1, Err(RunFault::WorkerRefused)),
-    ((4, 256, 1024, 0), 2, Err(RunFault::WorkerRefused)),
-    ((4, 256, 1024, 0), 3, Err(RunFault::WorkerRefused)),
-    ((4, 256, 1024, 0), 4, Ok(62)),
-    // 60 references find no room in six buffers of two, and go to the lists of who found them.
-    ((2, 2, 6, 0), 2, Ok(62)),
-    ((2, 256, 1024, LATE), 2, Err(RunFault::TagSpent)),
-    // Worker 0 is refused as well, but worker 1 was not started.
-    ((2, 256, 1024, LATE), 1, Err(RunFault::WorkerRefused)),
-    ((2, 256, 1024, LATE), 0, Err(RunFault::WorkerRefused)),
-];
-
-#[test]
-fn a_thread_that_cannot_be_started_is_told(rt: HostRuntime) -> Result<(), Fail> {
-    for (options, refused, want) in STARTS {
-        let outcome = marked_where(&rt, rt.alloc(), options, &NoGate, &AllBut { refused })?;
-        assert_eq!(rt; outcome, want, "worker {refused}");
-    }
-    Ok(())
-}
 
 /// The graph of a dump with at most 64 objects, and for which of them the gate was called.
 #[derive(Drop)]

@@ -1,10 +1,8 @@
 //! Want of memory: where a request is refused no thread is started, and what is asked of a marking takes none.
 
-use super::{graph_of, wide_array};
-use crate::leader::mark_where;
-use crate::marked::{Marked, RunFault};
-use crate::start_hook::StartHook;
-use crate::{Gate, NoGate, Options, mark};
+use crate::dumps::{graph_of, wide_array};
+use drain::inside::{StartHook, mark_where};
+use drain::{Gate, Marked, NoGate, Options, RunFault, mark};
 use heap_graph::{Graph, RowKey, Skip};
 use limited_heap::LimitedHeap;
 use std::alloc::{Allocator, Global};

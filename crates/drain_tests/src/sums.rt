@@ -3,8 +3,8 @@
 ghost use Rattle.std.specs.Prelude.{◌≡◌, ◌≤◌, ◌^◌, IfOk, length};
 ghost use Rattle.drain.specs.working.Tallying.{HasSmallSums};
 
-use super::*;
-use std::alloc::Global;
+use drain::inside::{Scanned, Sum, Tally};
+use std::alloc::{AllocError, Global};
 use std::test::Fail;
 
 const OBJECTS: u64 = 1 << 24;

@@ -1,0 +1,13 @@
+//! What runs behind [`mark`](crate::mark), for the crate of its tests: no other caller needs it.
+
+pub use crate::job::Job;
+pub use crate::leader::{lead, mark_where};
+pub use crate::measured::Measured;
+pub use crate::scanned::Scanned;
+pub use crate::start_hook::{StartHook, StartsAll};
+pub use crate::sum::Sum;
+pub use crate::tallied::Tallied;
+pub use crate::tally::Tally;
+pub use crate::walk::Walk;
+pub use crate::walked_graph::WalkedGraph;
+pub use crate::worker_threads::{Duty, Started, join_all};

@@ -1,0 +1,65 @@
+//! The dumps that are marked, and their graphs.
+
+use heap_graph::{Graph, Skip};
+use hprof_grammar::read;
+use std::alloc::{AllocError, Global};
+use std::test::Fail;
+
+/// Puts class 0x100, without a superclass, fields and values.
+pub(crate) fn put_class(heap: &mut Vec<u8>) -> Result<(), AllocError> {
+    heap.extend_from_slice(&[0x20, 0, 0, 1, 0])?;
+    heap.extend_from_slice(&[0; 38])
+}
+
+/// Puts an instance of that class, whose identifier has these two bytes behind two of 0.
+pub(crate) fn put_instance(heap: &mut Vec<u8>, [high, low]: [u8; 2]) -> Result<(), AllocError> {
+    heap.extend_from_slice(&[0x21, 0, 0, high, low, 0, 0, 0, 0, 0, 0, 1, 0, 0, 0, 0, 0])
+}
+
+/// Puts the header of a dump and the record of this heap.
+fn put_dump(dump: &mut Vec<u8>, heap: &[u8]) -> Result<(), AllocError> {
+    dump.extend_from_slice(b"JAVA PROFILE 1.0.2\0\0\0\0\x04")?;
+    dump.extend_from_slice(&[0; 8])?;
+    dump.extend_from_slice(&[0x0c, 0, 0, 0, 0])?;
+    let length = u32::try_from(heap.len()).unwrap_or(u32::MAX);
+    dump.extend_from_slice(&length.to_be_bytes())?;
+    dump.extend_from_slice(heap)
+}
+
+/// A dump with this heap.
+pub(crate) fn dump_of(alloc: Global, heap: &[u8]) -> Result<Vec<u8>, AllocError> {
+    let mut dump = Vec::new(alloc);
+    put_dump(&mut dump, heap)?;
+    Ok(dump)
+}
+
+/// Puts an array that is the root, and the 60 instances that it refers to.
+fn put_wide_array(heap: &mut Vec<u8>) -> Result<(), AllocError> {
+    put_class(heap)?;
+    // Array 0x200 of that class.
+    heap.extend_from_slice(&[0x22, 0, 0, 2, 0, 0, 0, 0, 0, 0, 0, 0, 60, 0, 0, 1, 0])?;
+    for id in 0..60u8 {
+        heap.extend_from_slice(&[0, 0, 3, id])?;
+    }
+    for id in 0..60u8 {
+        put_instance(heap, [3, id])?;
+    }
+    heap.extend_from_slice(&[0xff, 0, 0, 2, 0])
+}
+
+/// A dump with an array that is the root, and the 60 instances that it refers to.
+pub(crate) fn wide_array(alloc: Global) -> Result<Vec<u8>, AllocError> {
+    let mut heap = Vec::new(alloc);
+    put_wide_array(&mut heap)?;
+    dump_of(alloc, heap.as_slice())
+}
+
+/// The graph of a dump that is whole.
+pub(crate) fn graph_of<'a>(
+    alloc: Global,
+    dump: &'a [u8],
+    skip: &'a Skip<'_, Global>,
+) -> Result<Graph<'a, Global>, Fail> {
+    let places = read(alloc, dump)?;
+    Ok(Graph::build(alloc, dump, places, skip)?)
+}

@@ -1,0 +1,141 @@
+//! A thread that is not started: that is told, no later one is started, and no started one is left.
+
+use crate::dumps::{graph_of, wide_array};
+use drain::inside::{StartHook, mark_where};
+use drain::{Gate, NoGate, Options, RunFault};
+use heap_graph::Skip;
+use std::alloc::Global;
+use std::sync::Wait;
+use std::sync::atomic::{AtomicU64, Ordering};
+use std::test::Fail;
+use std::thread;
+use std::thread::Threads;
+use std::time::{Clock, Duration};
+
+/// Refuses the thread of the worker of one number.
+#[derive(Drop)]
+struct AllBut {
+    refused: u32,
+}
+
+impl StartHook for AllBut {
+    fn may_start(&self, worker: u32) -> bool {
+        worker != self.refused
+    }
+}
+
+/// Marks the wide array by so many workers with so many buffers of so many objects and a first tag, and answers how
+/// many objects are marked, or why none is.
+fn marked_where<T: Threads + Wait + Sync, G: Gate, S: StartHook>(
+    rt: &T,
+    alloc: Global,
+    (workers, buffer, buffers, first_tag): (u32, u32, u32, u64),
+    gate: &G,
+    hook: &S,
+) -> Result<Result<u64, RunFault>, Fail> {
+    let options = Options::new(workers, buffer, buffers, first_tag)?;
+    let dump = wide_array(alloc)?;
+    let skip = Skip::none(alloc);
+    let graph = graph_of(alloc, dump.as_slice(), &skip)?;
+    Ok(mark_where(rt, alloc, &graph, &options, gate, hook).map(|marked| marked.len()))
+}
+
+/// Workers, objects of a buffer, buffers, and the first tag; the worker without a thread; and what is answered.
+type Start = ((u32, u32, u32, u64), u32, Result<u64, RunFault>);
+
+/// The leader takes three buffers, two for its pair and one for the root that it gives away: then the stack of the
+/// empty ones has its last tag, and no worker finds a pair.
+const LATE: u64 = Options::LAST_TAG - 3;
+
+static STARTS: [Start; 9] = [
+    ((4, 256, 1024, 0), 0, Err(RunFault::WorkerRefused)),
+    ((4, 256, 1024, 0), 1, Err(RunFault::WorkerRefused)),
+    ((4, 256, 1024, 0), 2, Err(RunFault::WorkerRefused)),
+    ((4, 256, 1024, 0), 3, Err(RunFault::WorkerRefused)),
+    ((4, 256, 1024, 0), 4, Ok(62)),
+    // 60 references find no room in six buffers of two, and go to the lists of who found them.
+    ((2, 2, 6, 0), 2, Ok(62)),
+    ((2, 256, 1024, LATE), 2, Err(RunFault::TagSpent)),
+    // Worker 0 is refused as well, but worker 1 was not started.
+    ((2, 256, 1024, LATE), 1, Err(RunFault::WorkerRefused)),
+    ((2, 256, 1024, LATE), 0, Err(RunFault::WorkerRefused)),
+];
+
+#[test]
+fn a_thread_that_cannot_be_started_is_told(rt: HostRuntime) -> Result<(), Fail> {
+    for (options, refused, want) in STARTS {
+        let outcome = marked_where(&rt, rt.alloc(), options, &NoGate, &AllBut { refused })?;
+        assert_eq!(rt; outcome, want, "worker {refused}");
+    }
+    Ok(())
+}
+
+/// The workers that were to be started, those that scanned, and how often.
+type Notes = (u64, u64, u64);
+
+/// Notes for which workers a thread was to be started, and refuses it to worker 1. Notes which workers scan, and how
+/// often, each scan of 1 ms at least.
+#[derive(Drop)]
+struct RefusesOne<C: Clock> {
+    clock: C,
+    /// A bit for each worker.
+    asked: AtomicU64,
+    came: AtomicU64,
+    scans: AtomicU64,
+}
+
+impl<C: Clock + Sync> StartHook for RefusesOne<C> {
+    fn may_start(&self, worker: u32) -> bool {
+        self.asked.fetch_or(1 << (worker % 64), Ordering::SeqCst);
+        worker != 1
+    }
+}
+
+impl<C: Clock + Sync> Gate for RefusesOne<C> {
+    fn before_scan(&self, worker: u32, _object: u32) {
+        self.came.fetch_or(1 << (worker % 64), Ordering::SeqCst);
+        thread::sleep(&self.clock, Duration::from_millis(1));
+        self.scans.fetch_add(1, Ordering::SeqCst);
+    }
+}
+
+impl<C: Clock> RefusesOne<C> {
+    fn new(clock: C) -> Self {
+        RefusesOne {
+            clock,
+            asked: AtomicU64::new(0),
+            came: AtomicU64::new(0),
+            scans: AtomicU64::new(0),
+        }
+    }
+
+    fn noted(&self) -> Notes {
+        (
+            self.asked.load(Ordering::SeqCst),
+            self.came.load(Ordering::SeqCst),
+            self.scans.load(Ordering::SeqCst),
+        )
+    }
+}
+
+/// What is answered where worker 1 is refused, what was noted by then, and what was noted somewhat later.
+fn noted_twice<T: Clock + Copy + Threads + Wait + Sync>(
+    rt: T,
+    alloc: Global,
+) -> Result<(Result<u64, RunFault>, Notes, Notes), Fail> {
+    let one = RefusesOne::new(rt);
+    let outcome = marked_where(&rt, alloc, (4, 256, 1024, 0), &one, &one)?;
+    let first = one.noted();
+    thread::sleep(&rt, Duration::from_millis(2));
+    Ok((outcome, first, one.noted()))
+}
+
+#[test]
+fn no_worker_is_started_behind_a_refused_one(rt: HostRuntime) -> Result<(), Fail> {
+    let (outcome, first, later) = noted_twice(rt, rt.alloc())?;
+    assert_eq!(rt; outcome, Err(RunFault::WorkerRefused));
+    // A thread was to be started for workers 0 and 1; worker 0 alone came, and all that it found was done.
+    assert_eq!(rt; first, (3, 1, 62));
+    assert_eq!(rt; later, first, "no thread is left");
+    Ok(())
+}
