@@ -1,7 +1,6 @@
 -- A worker that got an object, claimed what it refers to and finished it: its tally had room, and takes the object in.
-use Rattle.std.proofs.Common.{◌≡◌, ◌≤◌, ap, arith, length, List, sym, subst, ℕ}
+use Rattle.std.proofs.Common.{◌≡◌, ◌≤◌, ◌++◌, ◌∷◌, [], ap, arith, length, List, sym, subst, ℕ}
 use Rattle.std.proofs.lemmas.List.{length_push}
-use Rattle.buffer_pool.specs.Book.{Book, finished}
 use Rattle.buffer_pool.specs.Calls.{Holder}
 use Rattle.drain.specs.declared.tally.Tally.{Tally}
 use Rattle.drain.specs.working.Tallies.{IsMeasureOf, Measure}
@@ -14,12 +13,11 @@ pub same_tally : {A : Type 0} (m : Measure) (old new : Holder) (t : Tally A)
 same_tally m old new t same was = subst (λ (xs : List ℕ). Tallies m xs t) (sym same) was
 
 -- a tally to which the object that was finished last is still to be added
-pub small_before : {A : Type 0} (m : Measure) (count o : ℕ) (mid end : Holder) (t : Tally A) → IsMeasureOf count m
-    → mid.book.setup.objects ≡ count → end.book ≡ finished o mid.book
-    → length end.book.account.finished ≤ end.book.setup.objects → HasTallied m mid t → HasSmallSums t
-small_before m count o mid end t bounded objects is few was =
-    let before = mid.book.account.finished in
-    let setup = ap (λ (b : Book). b.setup.objects) is in
-    let one_more = ap (λ (b : Book). length b.account.finished) is in
-    let short : length before ≤ count = omega (arith, one_more, length_push before o, few, setup, objects) in
+pub small_before : {A : Type 0} (m : Measure) (count o : ℕ) (old end : Holder) (t : Tally A) → IsMeasureOf count m
+    → end.book.setup.objects ≡ count → end.book.account.finished ≡ old.book.account.finished ++ o ∷ []
+    → length end.book.account.finished ≤ end.book.setup.objects → HasTallied m old t → HasSmallSums t
+small_before m count o old end t bounded objects is few was =
+    let before = old.book.account.finished in
+    let one_more = ap (λ (xs : List ℕ). length xs) is in
+    let short : length before ≤ count = omega (arith, one_more, length_push before o, few, objects) in
     tally_is_small count m bounded before short t.rows.items t.unresolved was

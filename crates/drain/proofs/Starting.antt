@@ -4,18 +4,9 @@ use Rattle.mark_core.specs.World.{Setup}
 use Rattle.buffer_pool.specs.Book.{Book, new_book, parted}
 use Rattle.buffer_pool.specs.Calls.{Holder}
 use Rattle.drain.specs.declared.worker_threads.Duty.{Duty}
-use Rattle.drain.specs.working.AtWork.{Leads}
-use Rattle.drain.specs.working.Duties.{IsDutyUnder}
+use Rattle.drain.specs.working.Duties.{HasStarted, IsDutyUnder}
 use Rattle.drain.proofs.Each.{pushed_holds}
 use Rattle.drain.proofs.Leading.{gave_away, leads_again}
-
--- so many threads were started, each with a unit of the leader's, who has finished no more than before
-pub record HasStarted {A V X : Type 0} (graph : V) (duty : X → Duty A V) (begun leader : Holder) (threads : List X)
-    (number : ℕ) : Type 0 where
-  pub leads : Leads begun leader
-  pub share : leader.book.account.share + number ≡ begun.book.account.share
-  pub finished : leader.book.account.finished ≡ begun.book.account.finished
-  pub owed : (k : ℕ) (t : X) → k < number → IsDutyUnder graph begun (duty (get_or threads k t))
 
 -- one thread more
 pub one_more_started : {A V X : Type 0} (graph : V) (duty : X → Duty A V) (begun old rest worker : Holder)

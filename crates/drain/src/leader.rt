@@ -11,10 +11,9 @@ use crate::gate::Gate;
 use crate::job::Job;
 use crate::marked::{Marked, RunFault};
 use crate::options::Options;
-use crate::paired_worker::PairedWorker;
-use crate::shares::join_shares;
+use crate::ready::make_ready;
+use crate::shares::gather;
 use crate::start_hook::{StartHook, StartsAll};
-use crate::supplies::supplies_of;
 use crate::tallied::Tallied;
 use crate::walk::Walk;
 use crate::walked_graph::WalkedGraph;
@@ -47,12 +46,9 @@ where
     ensures led { IfOk result (λ t. HasLed leader.book.account.share leader t.worker) }
     ensures tally { IfOk result (λ t. HasTallied (V.measure job.now.graph.now) t.worker t.tally) }
 {
-    let supplies = supplies_of(job)?;
-    job.graph.is_measured();
-    let paired = PairedWorker::begun(rt, job.alloc, job.pool, job.graph.roots(), leader)?;
-    let (paired, tally, back) = run_workers(rt, job, paired, supplies)?;
-    let drained = paired.end(rt, job, tally)?;
-    Ok(join_shares(job.graph, job.pool, drained, back))
+    let ready = make_ready(rt, job, leader)?;
+    let ran = run_workers(rt, job, ready)?;
+    Ok(gather(rt, job, ran)?)
 }
 
 /// Marks the objects that a path of references joins to a root, with a thread for each worker, and calls the gate

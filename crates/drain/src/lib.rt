@@ -27,6 +27,7 @@ mod measured;
 mod options;
 mod paired_worker;
 mod pause;
+mod ready;
 mod recently_seen;
 mod scanned;
 mod shares;

@@ -22,8 +22,8 @@ pub(crate) struct PairedWorker<A: Allocator> {
 }
 
 impl<A: Allocator> PairedWorker<A> {
-    ghost use Rattle.std.specs.Prelude.{◌≡◌, ◌<◌, ◌↔◌, ◌⊎◌, ◌∷◌, [], ℕ, All, IfErr, IfNone, IfOk, IfSome, IsTrue};
-    ghost use Rattle.std.specs.Prelude.{List, OnOk, false, length};
+    ghost use Rattle.std.specs.Prelude.{◌≡◌, ◌<◌, ◌↔◌, ◌⊎◌, ◌∷◌, ◌++◌, [], ℕ, All, Contains, IfErr, IfNone, IfOk};
+    ghost use Rattle.std.specs.Prelude.{IfSome, IsTrue, List, OnOk, false, length};
     ghost use Rattle.mark_core.specs.Events.{IsBusy};
     ghost use Rattle.mark_core.specs.declared.which.Which.TheVariants.{Empty};
     ghost use Rattle.work_pair.specs.Moves.{WasSeenEmpty};
@@ -252,6 +252,34 @@ impl<A: Allocator> PairedWorker<A> {
         Ok(Some(object))
     }
 
+    /// Claims what the object at hand refers to, and then finishes it.
+    fn claim_and_finish<R: Wait, I: Iterator<Item = u32> + Drop>(
+        &mut self,
+        rt: &R,
+        pool: &Pool<A>,
+        seen: &mut RecentlySeen,
+        object: u32,
+        successors: &mut I,
+    ) -> Result<(), Stop>
+        requires pool { self.old.worker.pool ≡ pool.now }
+        requires at_work { IsAtWork self.old.pair (object ∷ []) self.old.worker }
+        requires can { I.can_next successors.old }
+        requires ends { IsFinite (I.remaining successors.old) }
+        requires exact { (given : List ℕ) × AlwaysYields I.next_gives (λ o. o) successors.old given
+            × ((o : ℕ) → Contains given o ↔ Contains self.old.worker.book.setup.pairs (object, o)) }
+        requires seen { HasSeenAll seen.old self.old.worker }
+        ensures goes_on { OnOk result (WorksOn self.old.worker self.new.worker) }
+        ensures at_work { OnOk result (IsAtWork self.new.pair [] self.new.worker) }
+        ensures finished { OnOk result (self.new.worker.book.account.finished
+            ≡ self.old.worker.book.account.finished ++ object ∷ []) }
+        ensures ended { OnOk result (HasEnded I.next_gives successors.old successors.new) }
+        ensures seen { OnOk result (HasSeenAll seen.new self.new.worker) }
+    {
+        self.claim_all(rt, pool, seen, successors)?;
+        pool.finish(&mut self.worker, object);
+        Ok(())
+    }
+
     /// Scans an object of the pair, or of the full stack: claims what it refers to, finishes it, and adds it to the
     /// tally. False where none is left.
     fn scan_next<R: Wait, V: Walk, G: Gate, S>(
@@ -279,12 +307,43 @@ impl<A: Allocator> PairedWorker<A> {
         };
         job.gate.before_scan(number, object);
         let mut visit = job.graph.visit(object);
-        self.claim_all(rt, job.pool, seen, &mut visit)?;
-        job.pool.finish(&mut self.worker, object);
+        self.claim_and_finish(rt, job.pool, seen, object, &mut visit)?;
         self.worker.has_finished_few();
         job.graph.is_measured();
         tally.add(V::read(&visit));
         Ok(true)
+    }
+
+    /// Scans an object, and gives to others what it has too much of; where none is left it waits for others. False
+    /// where it leaves: then it is idle still.
+    fn turn<R: Wait, V: Walk, G: Gate, S>(
+        &mut self,
+        rt: &R,
+        job: &Job<'_, A, V, G, S>,
+        number: u32,
+        seen: &mut RecentlySeen,
+        tally: &mut Tally<A>,
+    ) -> Result<bool, Stop>
+        requires pool { self.old.worker.pool ≡ job.now.pool.now }
+        requires setup { IsSetupOf (V.count job.now.graph.now) (V.roots job.now.graph.now)
+            (V.pairs job.now.graph.now) self.old.worker.book.setup }
+        requires hand { HasAtHand self.old.pair [] self.old.worker }
+        requires awake { IsAwake self.old.worker }
+        requires seen { HasSeenAll seen.old self.old.worker }
+        requires tally { HasTallied (V.measure job.now.graph.now) self.old.worker tally.old }
+        ensures came { OnOk result (CameFrom self.old.worker self.new.worker) }
+        ensures hand { OnOk result (HasAtHand self.new.pair [] self.new.worker) }
+        ensures seen { OnOk result (HasSeenAll seen.new self.new.worker) }
+        ensures tally { OnOk result (HasTallied (V.measure job.now.graph.now) self.new.worker tally.new) }
+        ensures awake { IfOk result (λ more. IsTrue more → IsAwake self.new.worker) }
+        ensures none { IfOk result (λ more. more ≡ false → HasNoneLeft self.new.pair self.new.worker) }
+    {
+        let scanned = self.scan_next(rt, job, number, seen, tally)?;
+        if scanned {
+            self.share(rt, job.pool)?;
+            return Ok(true);
+        }
+        Ok(self.finds_more(rt, job.pool, job.workers))
     }
 
     /// Scans until no object is left, and stays until all are idle or it waited long enough. Each time before it looks
@@ -310,9 +369,7 @@ impl<A: Allocator> PairedWorker<A> {
         let mut seen = RecentlySeen::new();
         self.share(rt, job.pool)?;
         for _ in rt.forever() {
-            if self.scan_next(rt, job, number, &mut seen, tally)? {
-                self.share(rt, job.pool)?;
-            } else if !self.finds_more(rt, job.pool, job.workers) {
+            if !self.turn(rt, job, number, &mut seen, tally)? {
                 return Ok(());
             }
         }
@@ -357,7 +414,7 @@ impl<A: Allocator> PairedWorker<A> {
         let PairedWorker { mut worker, pair } = self;
         match pair.dispose(rt, pool, &mut worker) {
             Ok(()) => Ok(worker),
-            Err((_, stop)) => Err(stop),
+            Err((_held, stop)) => Err(stop),
         }
     }
 }

@@ -1,15 +1,21 @@
 //! The joins: what the leader takes in once it has drained.
 
-ghost use Rattle.std.specs.Prelude.{◌≡◌, ◌+◌, vec_len};
-ghost use Rattle.drain.specs.working.AtWork.{IsFree, Leads};
+ghost use Rattle.std.specs.Prelude.{◌≡◌, ◌+◌, [], ℕ, Contains, IfOk, vec_len};
+ghost use Rattle.drain.specs.working.AtWork.{IsAtWork, IsFree, IsSetupOf, Leads};
 ghost use Rattle.drain.specs.working.Duties.{AreBackUnder, IsBackUnder};
 ghost use Rattle.drain.specs.working.Tallies.{IsMeasureOf};
 ghost use Rattle.drain.specs.working.Tallying.{HasTallied};
 
+use crate::gate::Gate;
+use crate::job::Job;
 use crate::measured::Measured;
 use crate::tallied::Tallied;
+use crate::walk::Walk;
+use crate::worker_threads::Ran;
 use buffer_pool::Pool;
 use std::alloc::Allocator;
+use std::sync::Wait;
+use work_pair::Stop;
 
 /// Joins a worker that is through to the leader, and what it counted to the leader's tally.
 fn join_share<A: Allocator, V: Measured>(
@@ -42,7 +48,7 @@ fn join_share<A: Allocator, V: Measured>(
 
 /// Joins each worker that is through to the leader, which has given its buffers back, and what they counted to the
 /// leader's tally.
-pub(crate) fn join_shares<A: Allocator, V: Measured>(
+fn join_shares<A: Allocator, V: Measured>(
     graph: &V,
     pool: &Pool<A>,
     leader: Tallied<A>,
@@ -63,4 +69,35 @@ pub(crate) fn join_shares<A: Allocator, V: Measured>(
         leader = join_share(graph, pool, leader, other);
     }
     leader
+}
+
+/// Scans what is left once all workers have ended, and then joins them.
+pub(crate) fn gather<R: Wait, A: Allocator, V: Walk, G: Gate, S>(
+    rt: &R,
+    job: &Job<'_, A, V, G, S>,
+    ran: Ran<A>,
+) -> Result<Tallied<A>, Stop>
+    requires pool { ran.paired.worker.pool ≡ job.now.pool.now }
+    requires setup { IsSetupOf (V.count job.now.graph.now) (V.roots job.now.graph.now) (V.pairs job.now.graph.now)
+        ran.paired.worker.book.setup }
+    requires at_work { IsAtWork ran.paired.pair [] ran.paired.worker }
+    requires tally { HasTallied (V.measure job.now.graph.now) ran.paired.worker ran.tally }
+    requires back { AreBackUnder (V.measure job.now.graph.now) ran.paired.worker ran.back.items }
+    ensures pool { IfOk result (λ t. t.worker.pool ≡ ran.paired.worker.pool) }
+    ensures setup { IfOk result (λ t. t.worker.book.setup ≡ ran.paired.worker.book.setup) }
+    ensures seen { IfOk result (λ t. (o : ℕ) → Contains ran.paired.worker.book.account.seen o
+        → Contains t.worker.book.account.seen o) }
+    ensures share { IfOk result (λ t. t.worker.book.account.share
+        ≡ ran.paired.worker.book.account.share + vec_len ran.back) }
+    ensures free { IfOk result (λ t. IsFree t.worker) }
+    ensures tally { IfOk result (λ t. HasTallied (V.measure job.now.graph.now) t.worker t.tally) }
+{
+    let Ran {
+        paired,
+        tally,
+        back,
+    } = ran;
+    let drained = paired.end(rt, job, tally)?;
+    job.graph.is_measured();
+    Ok(join_shares(job.graph, job.pool, drained, back))
 }

@@ -4,7 +4,7 @@ ghost use Rattle.std.specs.Prelude.{◌≡◌, ◌<◌, ◌≤◌, ◌+◌, ◌�
 ghost use Rattle.drain.specs.declared.marked.RunFault.TheVariants as fault;
 ghost use Rattle.buffer_pool.specs.Calls.{Holder};
 ghost use Rattle.drain.specs.working.AtWork.{HasGiven, IsSetupOf, IsThrough, Leads};
-ghost use Rattle.drain.specs.working.Duties.{AreBackUnder, IsDutyUnder};
+ghost use Rattle.drain.specs.working.Duties.{AreBackUnder, HasStarted, IsDutyUnder};
 ghost use Rattle.drain.specs.working.Jobs.{MayRun, MayWork};
 ghost use Rattle.drain.specs.working.Tallying.{AreTalliesOfNone, HasTallied, Tallies};
 
@@ -13,6 +13,7 @@ use crate::job::Job;
 use crate::marked::RunFault;
 use crate::measured::Measured;
 use crate::paired_worker::PairedWorker;
+use crate::ready::Ready;
 use crate::start_hook::StartHook;
 use crate::supplies::Supplies;
 use crate::tallied::Tallied;
@@ -107,50 +108,92 @@ where
     }
 }
 
-/// Splits off one unit for each worker, and starts its thread with a tally of its own. What the leader has left comes
-/// back with the threads.
-fn start_all<'s, E, T, A, V, G, S>(
-    rt: &'s T,
-    scope: &'s Scope<'s, E>,
-    job: &'s Job<'s, A, V, G, S>,
+/// A leader that gives units away, the threads that were started with them so far, and the tallies of those to come.
+#[derive(Drop)]
+struct Starting<A: Allocator, V: Measured> {
     leader: Worker<A>,
     threads: Vec<Started<A, V>, A>,
     tallies: Vec<Tally<A>, A>,
-) -> Result<(Worker<A>, Vec<Started<A, V>, A>), RunFault>
+}
+
+/// Splits off a unit for one worker more, and starts its thread with a tally of its own.
+fn start_next<'s, E, T, A, V, G, S>(
+    rt: &'s T,
+    scope: &'s Scope<'s, E>,
+    job: &'s Job<'s, A, V, G, S>,
+    starting: Starting<A, V>,
+    number: u32,
+) -> Result<Starting<A, V>, RunFault>
 where
     T: Wait + Sync,
     A: Allocator + Copy + Send + Sync + 's,
     V: Walk,
     G: Gate,
     S: StartHook,
-    requires pool { leader.pool ≡ job.now.pool.now }
+    requires pool { starting.leader.pool ≡ job.now.pool.now }
     requires setup { IsSetupOf (V.count job.now.graph.now) (V.roots job.now.graph.now) (V.pairs job.now.graph.now)
-        leader.book.setup }
-    requires share { job.now.workers < leader.book.account.share }
-    requires room { (vec_len threads ≡ 0) × (job.now.workers ≤ vec_capacity threads) }
-    requires tallies { (job.now.workers ≤ vec_len tallies)
-        × AreTalliesOfNone (V.measure job.now.graph.now) tallies.items }
-    ensures leads { IfOk result (λ s. Leads leader s.0) }
-    ensures finished { IfOk result (λ s. s.0.book.account.finished ≡ leader.book.account.finished) }
-    ensures share { IfOk result (λ s. s.0.book.account.share + job.now.workers ≡ leader.book.account.share) }
-    ensures count { IfOk result (λ s. vec_len s.1 ≡ job.now.workers) }
-    ensures threads { IfOk result (λ s. (number : ℕ) (t : _) → number < job.now.workers
-        → IsDutyUnder job.now.graph.now leader (get_or s.1.items number t).promise) }
+        starting.leader.book.setup }
+    requires share { 1 < starting.leader.book.account.share }
+    requires room { vec_len starting.threads < vec_capacity starting.threads }
+    requires tallies { (0 < vec_len starting.tallies)
+        × AreTalliesOfNone (V.measure job.now.graph.now) starting.tallies.items }
+    ensures started { IfOk result (λ s. (begun : Holder) → number < begun.book.account.share
+        → vec_len starting.threads ≡ number
+        → HasStarted job.now.graph.now (λ t. t.promise) begun starting.leader starting.threads.items number
+        → HasStarted job.now.graph.now (λ t. t.promise) begun s.leader s.threads.items (number + 1)) }
+    ensures room { IfOk result (λ s. (vec_len s.threads ≡ vec_len starting.threads + 1)
+        × (vec_capacity s.threads ≡ vec_capacity starting.threads)) }
+    ensures tallies { IfOk result (λ s. (vec_len s.tallies + 1 ≡ vec_len starting.tallies)
+        × AreTalliesOfNone (V.measure job.now.graph.now) s.tallies.items) }
     ensures refused { IfErr result (λ e. e ≡ fault.WorkerRefused) }
 {
-    let mut leader = leader;
-    let mut threads = threads;
-    let mut tallies = tallies;
+    let Starting {
+        leader,
+        mut threads,
+        mut tallies,
+    } = starting;
+    let (leader, worker) = job.pool.split(leader, 1);
+    let Some(tally) = tallies.pop() else {
+        unreachable!();
+    };
+    let thread = start(rt, scope, job, Tallied { worker, tally }, number)?;
+    threads.push_reserved(thread);
+    Ok(Starting {
+        leader,
+        threads,
+        tallies,
+    })
+}
+
+/// Starts a thread for each worker. What the leader has left comes back with the threads.
+fn start_all<'s, E, T, A, V, G, S>(
+    rt: &'s T,
+    scope: &'s Scope<'s, E>,
+    job: &'s Job<'s, A, V, G, S>,
+    starting: Starting<A, V>,
+) -> Result<Starting<A, V>, RunFault>
+where
+    T: Wait + Sync,
+    A: Allocator + Copy + Send + Sync + 's,
+    V: Walk,
+    G: Gate,
+    S: StartHook,
+    requires pool { starting.leader.pool ≡ job.now.pool.now }
+    requires setup { IsSetupOf (V.count job.now.graph.now) (V.roots job.now.graph.now) (V.pairs job.now.graph.now)
+        starting.leader.book.setup }
+    requires share { job.now.workers < starting.leader.book.account.share }
+    requires room { (vec_len starting.threads ≡ 0) × (job.now.workers ≤ vec_capacity starting.threads) }
+    requires tallies { (job.now.workers ≤ vec_len starting.tallies)
+        × AreTalliesOfNone (V.measure job.now.graph.now) starting.tallies.items }
+    ensures started { IfOk result (λ s. (vec_len s.threads ≡ job.now.workers)
+        × HasStarted job.now.graph.now (λ t. t.promise) starting.leader s.leader s.threads.items job.now.workers) }
+    ensures refused { IfErr result (λ e. e ≡ fault.WorkerRefused) }
+{
+    let mut starting = starting;
     for number in 0..job.workers {
-        let (rest, worker) = job.pool.split(leader, 1);
-        leader = rest;
-        let Some(tally) = tallies.pop() else {
-            unreachable!();
-        };
-        let thread = start(rt, scope, job, Tallied { worker, tally }, number)?;
-        threads.push_reserved(thread);
+        starting = start_next(rt, scope, job, starting, number)?;
     }
-    Ok((leader, threads))
+    Ok(starting)
 }
 
 /// Waits for each thread in turn, and lists their workers. Answers at the first worker that was refused.
@@ -173,38 +216,49 @@ pub fn join_all<T: Threads, A: Allocator, V: Measured>(
     Ok(back)
 }
 
+/// A leader whose workers ran: it has joined none of them yet.
+#[derive(Drop)]
+pub(crate) struct Ran<A: Allocator> {
+    /// The leader with its pair.
+    pub(crate) paired: PairedWorker<A>,
+    /// What the leader itself finished.
+    pub(crate) tally: Tally<A>,
+    /// The workers that are through.
+    pub(crate) back: Vec<Tallied<A>, A>,
+}
+
 /// Runs the workers for a leader that has given them what it has to do. Answers the leader and its tally, and lists the
 /// workers that are through: the last thread has ended, and none was joined to the leader.
 pub(crate) fn run_workers<T, A, V, G, S>(
     rt: &T,
     job: &Job<'_, A, V, G, S>,
-    paired: PairedWorker<A>,
-    supplies: Supplies<A, V>,
-) -> Result<(PairedWorker<A>, Tally<A>, Vec<Tallied<A>, A>), RunFault>
+    ready: Ready<A, V>,
+) -> Result<Ran<A>, RunFault>
 where
     T: Threads + Wait + Sync,
     A: Allocator + Copy + Send + Sync,
     V: Walk,
     G: Gate,
     S: StartHook,
-    requires pool { paired.worker.pool ≡ job.now.pool.now }
+    requires pool { ready.paired.worker.pool ≡ job.now.pool.now }
     requires setup { IsSetupOf (V.count job.now.graph.now) (V.roots job.now.graph.now) (V.pairs job.now.graph.now)
-        paired.worker.book.setup }
-    requires given { HasGiven paired.pair paired.worker }
-    requires share { job.now.workers < paired.worker.book.account.share }
-    requires room { (vec_len supplies.threads ≡ 0) × (job.now.workers ≤ vec_capacity supplies.threads) }
-    requires back { (vec_len supplies.back ≡ 0) × (job.now.workers ≤ vec_capacity supplies.back) }
-    requires tallies { (job.now.workers ≤ vec_len supplies.tallies)
-        × AreTalliesOfNone (V.measure job.now.graph.now) supplies.tallies.items }
-    requires tally { HasTallied (V.measure job.now.graph.now) paired.worker supplies.tally }
-    ensures leads { IfOk result (λ s. Leads paired.worker s.0.worker) }
-    ensures pair { IfOk result (λ s. s.0.pair ≡ paired.pair) }
-    ensures share { IfOk result (λ s. s.0.worker.book.account.share + job.now.workers
-        ≡ paired.worker.book.account.share) }
-    ensures tally { IfOk result (λ s. HasTallied (V.measure job.now.graph.now) s.0.worker s.1) }
-    ensures count { IfOk result (λ s. vec_len s.2 ≡ job.now.workers) }
-    ensures back { IfOk result (λ s. AreBackUnder (V.measure job.now.graph.now) s.0.worker s.2.items) }
+        ready.paired.worker.book.setup }
+    requires given { HasGiven ready.paired.pair ready.paired.worker }
+    requires share { job.now.workers < ready.paired.worker.book.account.share }
+    requires room { (vec_len ready.supplies.threads ≡ 0) × (job.now.workers ≤ vec_capacity ready.supplies.threads) }
+    requires back { (vec_len ready.supplies.back ≡ 0) × (job.now.workers ≤ vec_capacity ready.supplies.back) }
+    requires tallies { (job.now.workers ≤ vec_len ready.supplies.tallies)
+        × AreTalliesOfNone (V.measure job.now.graph.now) ready.supplies.tallies.items }
+    requires tally { HasTallied (V.measure job.now.graph.now) ready.paired.worker ready.supplies.tally }
+    ensures leads { IfOk result (λ s. Leads ready.paired.worker s.paired.worker) }
+    ensures pair { IfOk result (λ s. s.paired.pair ≡ ready.paired.pair) }
+    ensures share { IfOk result (λ s. s.paired.worker.book.account.share + job.now.workers
+        ≡ ready.paired.worker.book.account.share) }
+    ensures tally { IfOk result (λ s. HasTallied (V.measure job.now.graph.now) s.paired.worker s.tally) }
+    ensures count { IfOk result (λ s. vec_len s.back ≡ job.now.workers) }
+    ensures back { IfOk result (λ s. AreBackUnder (V.measure job.now.graph.now) s.paired.worker s.back.items) }
 {
+    let Ready { paired, supplies } = ready;
     let PairedWorker {
         worker: leader,
         pair,
@@ -228,10 +282,20 @@ where
             ensures count { IfOk result (λ s. vec_len s.1 ≡ job.entry.now.workers) }
             ensures back { IfOk result (λ s. AreBackUnder (V.measure job.entry.now.graph.now) s.0 s.1.items) }
         {
-            let (leader, threads) = start_all(rt, scope, job, leader, threads, tallies)?;
-            let back = join_all(rt, threads, back)?;
-            Ok((leader, back))
+            let starting = Starting {
+                leader,
+                threads,
+                tallies,
+            };
+            let started = start_all(rt, scope, job, starting)?;
+            let back = join_all(rt, started.threads, back)?;
+            Ok((started.leader, back))
         },
     )?;
-    Ok((PairedWorker { worker, pair }, tally, back))
+    let paired = PairedWorker { worker, pair };
+    Ok(Ran {
+        paired,
+        tally,
+        back,
+    })
 }

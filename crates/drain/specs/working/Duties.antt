@@ -1,11 +1,11 @@
 -- What the threads of workers owe, and what comes back from them.
-use Rattle.std.specs.Prelude.{All, List, ◌≡◌}
+use Rattle.std.specs.Prelude.{All, List, get_or, ℕ, ◌+◌, ◌<◌, ◌≡◌}
 use Rattle.buffer_pool.specs.Book.{new_book}
 use Rattle.buffer_pool.specs.Calls.{Holder}
 use Rattle.drain.specs.declared.tallied.Tallied.{Tallied}
 use Rattle.drain.specs.declared.tally.Tally.{Tally}
 use Rattle.drain.specs.declared.worker_threads.Duty.{Duty}
-use Rattle.drain.specs.working.AtWork.{IsFree}
+use Rattle.drain.specs.working.AtWork.{IsFree, Leads}
 use Rattle.drain.specs.working.Tallies.{Measure}
 use Rattle.drain.specs.working.Tallying.{HasTallied}
 
@@ -14,6 +14,14 @@ pub record IsDutyUnder {A V : Type 0} (graph : V) (leader : Holder) (duty : Duty
   pub pool : duty.begun.value.pool ≡ leader.pool
   pub book : duty.begun.value.book ≡ new_book leader.book.setup 1
   pub graph_is : duty.graph.value ≡ graph
+
+-- so many threads were started, each with a unit of the leader's, who has finished no more than before
+pub record HasStarted {A V X : Type 0} (graph : V) (duty : X → Duty A V) (begun leader : Holder) (threads : List X)
+    (number : ℕ) : Type 0 where
+  pub leads : Leads begun leader
+  pub share : leader.book.account.share + number ≡ begun.book.account.share
+  pub finished : leader.book.account.finished ≡ begun.book.account.finished
+  pub owed : (k : ℕ) (t : X) → k < number → IsDutyUnder graph begun (duty (get_or threads k t))
 
 -- a worker of the leader's pool that is through and has its one unit, and the tally of what it finished
 pub record IsBackUnder {A : Type 0} (m : Measure) (leader w : Holder) (t : Tally A) : Type 0 where

@@ -12,9 +12,33 @@ use std::sync::Wait;
 const TURNS: u32 = 1024;
 
 impl<A: Allocator> PairedWorker<A> {
-    ghost use Rattle.std.specs.Prelude.{◌≡◌, [], IsTrue, false};
+    ghost use Rattle.std.specs.Prelude.{◌≡◌, ◌↔◌, [], ℕ, IsTrue, false};
+    ghost use Rattle.mark_core.specs.Events.{CanWake};
+    ghost use Rattle.buffer_pool.specs.Book.{idle_loaded, woken};
     ghost use Rattle.drain.specs.working.AtWork.{CameFrom, HasAtHand, HasNoneLeft};
     ghost use Rattle.drain.specs.working.Idle.{HasWaited, IsAwake};
+
+    /// Looks at the idle word: whether so many workers are idle.
+    fn sees_all_idle(&mut self, pool: &Pool<A>, workers: u32) -> bool
+        requires { self.old.worker.pool ≡ pool.now }
+        ensures pool { self.new.worker.pool ≡ self.old.worker.pool }
+        ensures pair { self.new.pair ≡ self.old.pair }
+        ensures sees { (word : ℕ) × (self.new.worker.book ≡ idle_loaded word self.old.worker.book)
+            × (IsTrue result ↔ (word ≡ workers)) }
+    {
+        pool.all_idle(&mut self.worker, workers)
+    }
+
+    /// Comes back: the worker is no longer idle.
+    fn come_back(&mut self, pool: &Pool<A>)
+        requires pool { self.old.worker.pool ≡ pool.now }
+        requires may { CanWake self.old.worker.book.account }
+        ensures pool { self.new.worker.pool ≡ self.old.worker.pool }
+        ensures pair { self.new.pair ≡ self.old.pair }
+        ensures back { self.new.worker.book ≡ woken self.old.worker.book }
+    {
+        pool.idle_down(&mut self.worker);
+    }
 
     /// Goes idle, and waits until the full stack has a buffer again: true, and it is no longer idle. False where all
     /// workers are idle, or after so many turns: it is idle still.
@@ -33,11 +57,11 @@ impl<A: Allocator> PairedWorker<A> {
         pool.idle_up(&mut self.worker);
         let backoff = Backoff::new();
         for turn in 0..TURNS {
-            if pool.all_idle(&mut self.worker, workers) {
+            if self.sees_all_idle(pool, workers) {
                 return false;
             }
             if !pool.sees_empty(&mut self.worker, Which::Full) {
-                pool.idle_down(&mut self.worker);
+                self.come_back(pool);
                 return true;
             }
             pause(rt, &backoff, turn);

@@ -44,5 +44,6 @@ loop-thread-preserved g c =
           ),
     )
 
+-- all were joined
 pub returns-clause-back : goal.returns-clause-back
 returns-clause-back g c graph leader owed = (c.loop-thread.invariant.2 graph leader owed).1

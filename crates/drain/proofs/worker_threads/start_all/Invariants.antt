@@ -1,12 +1,13 @@
 -- So many threads were started, each with a unit of the leader's and a tally of its own.
 use Rattle.std.proofs.Common.{◌≡◌, ◌+◌, ◌≤◌, vec_len, vec_capacity}
+use Rattle.drain.specs.working.Duties.{HasStarted}
 use Rattle.drain.specs.working.Tallying.{AreTalliesOfNone}
-use Rattle.drain.proofs.Starting.{HasStarted}
 use Rattle.drain.proofs.worker_threads.start_all.Given as goal
 
 abbrev pub invariant-loop-number : goal.invariant-loop-number
 invariant-loop-number g l =
-    (vec_len l.threads ≡ l.number) × (l.job.workers ≤ vec_capacity l.threads)
-    × HasStarted l.job.graph.now (λ t. t.promise) l.initial.leader l.leader l.threads.items l.number
-    × (l.job.workers ≤ vec_len l.tallies + l.number)
-    × AreTalliesOfNone (g.V.Measured.measure l.job.graph.now) l.tallies.items
+    let now = l.starting in
+    (vec_len now.threads ≡ l.number) × (l.job.workers ≤ vec_capacity now.threads)
+    × HasStarted l.job.graph.now (λ t. t.promise) l.initial.starting.leader now.leader now.threads.items l.number
+    × (l.job.workers ≤ vec_len now.tallies + l.number)
+    × AreTalliesOfNone (g.V.Measured.measure l.job.graph.now) now.tallies.items

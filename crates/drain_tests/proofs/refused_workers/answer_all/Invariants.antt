@@ -1,6 +1,6 @@
 -- So many threads were started, each with a unit of the leader's, who has finished no more than before.
 use Rattle.std.proofs.Common.{◌≡◌, ◌≤◌, length, vec_len, vec_capacity}
-use Rattle.drain.proofs.Starting.{HasStarted}
+use Rattle.drain.specs.working.Duties.{HasStarted}
 use Rattle.drain_tests.proofs.refused_workers.answer_all.Given as goal
 
 abbrev pub invariant-loop-number : goal.invariant-loop-number

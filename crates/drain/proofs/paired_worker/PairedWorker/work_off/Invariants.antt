@@ -1,7 +1,7 @@
--- Between two scans the worker is at work with the one unit that it began with, and its tally and its table are of what
--- it finished and saw.
+-- Between two turns the worker is awake at its pair, with the one unit that it began with, and its tally and its table
+-- are of what it finished and saw.
 use Rattle.std.proofs.Common.{[]}
-use Rattle.drain.specs.working.AtWork.{CameFrom, IsAtWork}
+use Rattle.drain.specs.working.AtWork.{CameFrom, HasAtHand}
 use Rattle.drain.specs.working.Idle.{IsAwake}
 use Rattle.drain.specs.working.RecentlySeen.{HasSeenAll}
 use Rattle.drain.specs.working.Tallying.{HasTallied}
@@ -9,5 +9,5 @@ use Rattle.drain.proofs.paired_worker.PairedWorker.work_off.Given as goal
 
 abbrev pub invariant-loop : goal.invariant-loop
 invariant-loop g l =
-    CameFrom l.initial.self.worker l.self.worker × IsAtWork l.self.pair [] l.self.worker × IsAwake l.self.worker
+    CameFrom l.initial.self.worker l.self.worker × HasAtHand l.self.pair [] l.self.worker × IsAwake l.self.worker
     × HasSeenAll l.seen l.self.worker × HasTallied (g.V.Measured.measure l.job.graph.now) l.self.worker l.tally

@@ -5,15 +5,16 @@ use Rattle.drain.proofs.worker_threads.fn.run_workers.scope.Goals as goal
 
 pub returns : goal.returns
 returns g c =
-    let started = c.in_ok-leader.ensures in
+    let started = c.in_ok-started.ensures.started in
     let came = c.in_ok-back.ensures in
     let begun = c.captures.leader in
-    let owed = came.back _ begun (λ k t below. started.threads k t (omega (arith, below, started.count))) in
+    let leads = started.1.leads in
+    let owed = came.back _ begun (λ k t below. started.1.owed k t (omega (arith, below, started.0))) in
     record {
-      leads = started.leads;
-      finished = started.finished;
-      share = started.share;
-      count = came.count ∙ started.count;
+      leads = leads;
+      finished = started.1.finished;
+      share = started.1.share;
+      count = came.count ∙ started.0;
       back = λ k d below.
-          back_still _ begun c.in_ok-leader.leader _ _ started.leads.pool started.leads.setup (owed k d below);
+          back_still _ begun c.in_ok-started.started.leader _ _ leads.pool leads.setup (owed k d below);
     }
