@@ -1,5 +1,5 @@
 -- The leader, turn by turn, while it gives each thread that is started a unit of its own.
-use Rattle.std.proofs.Common.{◌≡◌, ◌+◌, ◌<◌, ◌++◌, ◌∷◌, [], List, ap, arith, get_or, length, ℕ, ◌∙◌}
+use Rattle.std.proofs.Common.{◌≡◌, ◌+◌, ◌<◌, ◌++◌, ◌∷◌, [], List, ap, arith, length, ℕ, ◌∙◌}
 use Rattle.mark_core.specs.World.{Setup}
 use Rattle.buffer_pool.specs.Book.{Book, new_book, parted}
 use Rattle.buffer_pool.specs.Calls.{Holder}
