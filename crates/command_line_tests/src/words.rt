@@ -1,0 +1,86 @@
+//! What no clause says: that the words of a user are taken, and what is told of those that are not.
+
+use clap::error::ErrorKind;
+use command_line::{Arguments, arguments};
+use std::alloc::Global;
+use std::test::Fail;
+
+/// What a user is told of a list that comes again.
+const LIST_TWICE: &str = "\
+error: the argument '--skip <LIST>' cannot be used multiple times
+
+Usage: heapmark [OPTIONS] <FILE>
+
+For more information, try '--help'.
+";
+
+#[test]
+fn takes_a_file_alone(rt: HostRuntime) -> Result<(), Fail> {
+    let given = arguments(rt.alloc(), &["heapmark", "app.hprof"])?;
+    let want = Arguments {
+        file: "app.hprof",
+        workers: 4,
+        buffer: 256,
+        buffers: 1024,
+        first_tag: 0,
+        skip: None,
+    };
+    assert_eq!(rt; given, want);
+    Ok(())
+}
+
+/// Whether the words are taken, and give this list.
+fn gives_list(alloc: Global, words: &[&str], list: &str) -> bool {
+    match arguments(alloc, words) {
+        Ok(given) => given.skip == Some(list),
+        Err(_) => false,
+    }
+}
+
+/// Whether the words are refused by an error of this kind, which is told so.
+fn is_told(alloc: Global, words: &[&str], kind: ErrorKind, text: &str) -> bool {
+    let Err(error) = arguments(alloc, words) else {
+        return false;
+    };
+    match format!(in alloc; "{error}") {
+        Ok(told) => error.kind() == kind && told.as_str() == text,
+        Err(_) => false,
+    }
+}
+
+#[test]
+fn takes_one_list_of_fields(rt: HostRuntime) {
+    // no text is a text: what it lists is not known here
+    let lists: [(&[&str], &str); 3] = [
+        (&["heapmark", "--skip", "a.b,c.d", "app.hprof"], "a.b,c.d"),
+        (&["heapmark", "app.hprof", "--skip="], ""),
+        (&["heapmark", "--skip", "", "app.hprof"], ""),
+    ];
+    for (words, list) in lists {
+        assert!(rt; gives_list(rt.alloc(), words, list), "{words:?}");
+    }
+    let two = ["heapmark", "--skip", "a.b", "--skip", "c.d", "app.hprof"];
+    assert!(rt; is_told(rt.alloc(), &two, ErrorKind::ArgumentConflict, LIST_TWICE));
+}
+
+/// The kind of the error by which the words are refused.
+fn kind_of_refusal(alloc: Global, words: &[&str]) -> Option<ErrorKind> {
+    match arguments(alloc, words) {
+        Ok(_) => None,
+        Err(error) => Some(error.kind()),
+    }
+}
+
+#[test]
+fn help_and_version_are_asked_for(rt: HostRuntime) {
+    let wishes = [
+        ("--help", ErrorKind::DisplayHelp),
+        ("-h", ErrorKind::DisplayHelp),
+        ("--version", ErrorKind::DisplayVersion),
+        ("-V", ErrorKind::DisplayVersion),
+    ];
+    for (word, kind) in wishes {
+        let told = kind_of_refusal(rt.alloc(), &["heapmark", word]);
+        assert_eq!(rt; told, Some(kind), "{word}");
+    }
+}
