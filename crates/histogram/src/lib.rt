@@ -4,7 +4,7 @@
 //! three totals. `write_report` writes its text and nothing else. `Counted` stands around a reader or a writer and
 //! counts its failures, so that contracts can say which calls failed.
 //!
-//! From `src/tests.rt`, which is proved and run:
+//! From `reports.rt` of `histogram_tests`, which is proved and run:
 //!
 //!     let mut writer = Counted::new(Vec::new(alloc));
 //!     let is_whole = write_report(alloc, report, &mut writer).is_ok() && writer.failures() == 0;
@@ -24,14 +24,13 @@ mod report_rows;
 mod report_text;
 mod report_writing;
 mod row_numbers;
-#[cfg(test)]
-mod tests;
 mod unmarked;
 mod write_whole;
 
 pub use counted::Counted;
 pub use laws::{one_histogram, one_report};
 pub use mark_core::OutOfMemory;
+pub use names::append_unnamed;
 pub use reading::ReaderRefusal;
 pub use report::{Line, Report};
 pub use report_rows::rows;

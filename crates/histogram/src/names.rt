@@ -85,8 +85,10 @@ fn is_plain_byte(byte: u8) -> bool
     0x21 <= byte && byte <= 0x7E && byte != b'\\'
 }
 
-/// What stands for the name of a class that has none: `?0x` and its identifier in lower-case hex digits.
-fn append_unnamed<A: Allocator>(out: &mut Vec<u8, A>, class: u64) -> Result<(), AllocError>
+/// Appends what stands for the name of a class that has none: `?0x` and its identifier in lower-case hex digits.
+///
+/// `AllocError`: the memory for it was refused.
+pub fn append_unnamed<A: Allocator>(out: &mut Vec<u8, A>, class: u64) -> Result<(), AllocError>
     ensures { OnOk result (out.new.items ≡ out.old.items ++ unnamed class) }
 {
     write!(out, "?0x{class:x}").map_err(|_| AllocError)
@@ -105,48 +107,5 @@ fn primitive_name(code: u8) -> &'static [u8]
         9 => b"short[]",
         10 => b"int[]",
         _ => b"long[]",
-    }
-}
-
-#[cfg(test)]
-mod tests {
-    use super::*;
-    use std::alloc::Global;
-    use std::test::Fail;
-
-    /// Whether a text is shown so.
-    fn is_shown(alloc: Global, text: &[u8], want: &str) -> Result<bool, AllocError> {
-        let mut shown = Vec::new(alloc);
-        append_shown(&mut shown, text)?;
-        Ok(shown.as_slice() == want.as_bytes())
-    }
-
-    /// Whether a class without a text is shown so.
-    fn is_unnamed(alloc: Global, class: u64, want: &str) -> Result<bool, AllocError> {
-        let mut shown = Vec::new(alloc);
-        append_unnamed(&mut shown, class)?;
-        Ok(shown.as_slice() == want.as_bytes())
-    }
-
-    #[test]
-    fn shows_the_worked_names(rt: HostRuntime) -> Result<(), Fail> {
-        let names: [(&[u8], &str); 5] = [
-            (b"A \xc3", "A\\x20\\xc3"),
-            (b"[Ljava/lang/Object;", "[Ljava/lang/Object;"),
-            (b"!~", "!~"),
-            (b"\\\x7f\x00\x0a", "\\x5c\\x7f\\x00\\x0a"),
-            (b"", ""),
-        ];
-        for (text, want) in names {
-            assert!(rt; is_shown(rt.alloc(), text, want)?, "{want}");
-        }
-        for (class, want) in [
-            (0xab0, "?0xab0"),
-            (0, "?0x0"),
-            (u64::MAX, "?0xffffffffffffffff"),
-        ] {
-            assert!(rt; is_unnamed(rt.alloc(), class, want)?, "{want}");
-        }
-        Ok(())
     }
 }

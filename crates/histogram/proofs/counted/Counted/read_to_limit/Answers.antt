@@ -1,5 +1,5 @@
 -- Making room and reading leave what is filled, and each read adds to it what the reader lost.
-use Rattle.std.proofs.Common.{ap, arith, length-take, rules, take, ◌∙◌}
+use Rattle.std.proofs.Common.{ap, arith, length, length-take, rules, take, ◌<◌, ◌∙◌}
 use Rattle.std.proofs.KnownBytes.{Consumes-kept}
 use Rattle.std.proofs.lemmas.List.{places, with_items_is}
 use Rattle.histogram.proofs.ReadInPlace.{read_on}
@@ -19,8 +19,10 @@ loop-filled-preserved g c =
     }
 
 pub returns-in-Err-clause-below : goal.returns-in-Err-clause-below
-returns-in-Err-clause-below g c = λ _. (
-  take c.loop-filled.filled c.loop-filled.bytes.items,
-  omega (arith, length-take c.loop-filled.filled c.loop-filled.bytes.items, c.loop-filled-test.true),
-  Consumes-kept _ _ _ _ c.loop-filled.invariant.read c.in-Err.ensures.kept,
-)
+returns-in-Err-clause-below g c =
+    let bytes = c.loop-filled.bytes.items in
+    let filled = c.loop-filled.filled in
+    let fewer : length (take filled bytes) < c.args.limit =
+    omega (arith, length-take filled bytes, c.loop-filled-test.true) in
+    let consumed = Consumes-kept _ _ _ _ c.loop-filled.invariant.read c.in-Err.ensures.kept in
+    λ _. (take filled bytes, fewer, consumed)

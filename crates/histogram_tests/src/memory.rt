@@ -3,16 +3,14 @@
 
 ghost use Rattle.drain.specs.Marks.{IsMarkingOf};
 
-use super::{TWO_OBJECTS, two_objects, writes};
-use crate::{Counted, OutOfMemory, ReaderRefusal, Report, WriteRefusal, rows, write_report};
+use crate::reports::{TWO_OBJECTS, two_objects, writes};
 use drain::{Marked, NoGate, Options, mark};
 use heap_graph::{Graph, Skip};
+use histogram::{Counted, OutOfMemory, ReaderRefusal, Report, WriteRefusal, rows, write_report};
 use hprof_grammar::read;
 use limited_heap::LimitedHeap;
-use std::alloc::{AllocError, Allocator, Global};
-use std::process::Abort;
+use std::alloc::Global;
 use std::sync::Wait;
-use std::test::Fail;
 use std::thread::Threads;
 use test_dumps::Bytes;
 
@@ -96,13 +94,22 @@ fn rows_of_dump<T: Threads + Wait + Sync>(
     }
 }
 
+/// The requests of the rows of the worked dump.
+fn rows_of_two_objects<T: Threads + Wait + Sync>(
+    rt: &T,
+    alloc: Global,
+) -> Option<(Option<u64>, Option<u64>)> {
+    match Bytes::dump(alloc, 4, test_dumps::TWO_OBJECTS) {
+        Ok(dump) => rows_of_dump(rt, alloc, dump.bytes.as_slice()),
+        Err(_) => None,
+    }
+}
+
 #[test]
-fn rows_or_want_of_memory(rt: HostRuntime) -> Result<(), Fail> {
-    let dump = Bytes::dump(rt.alloc(), 4, test_dumps::TWO_OBJECTS)?;
-    let requests = rows_of_dump(&rt, rt.alloc(), &dump.bytes);
+fn rows_or_want_of_memory(rt: HostRuntime) {
+    let requests = rows_of_two_objects(&rt, rt.alloc());
     // The list of lines, and a name for each of two lines.
     assert_eq!(rt; requests, Some((Some(3), Some(3))));
-    Ok(())
 }
 
 /// Whether the report of two objects is written right over this heap.
@@ -135,20 +142,21 @@ fn written_with(alloc: Global, report: &Report<Global>, alone: bool) -> Option<u
 }
 
 /// With how many requests the report of two objects is written: with all behind one of them refused, and one alone.
-fn written_in_turn(alloc: Global) -> Result<(Option<u64>, Option<u64>), AllocError> {
-    let report = two_objects(alloc)?;
-    Ok((
-        written_with(alloc, &report, false),
-        written_with(alloc, &report, true),
-    ))
+fn written_in_turn(alloc: Global) -> (Option<u64>, Option<u64>) {
+    match two_objects(alloc) {
+        Ok(report) => (
+            written_with(alloc, &report, false),
+            written_with(alloc, &report, true),
+        ),
+        Err(_) => (None, None),
+    }
 }
 
 #[test]
-fn want_of_memory_writes_nothing(rt: HostRuntime) -> Result<(), Fail> {
-    let (requests, alone) = written_in_turn(rt.alloc())?;
+fn want_of_memory_writes_nothing(rt: HostRuntime) {
+    let (requests, alone) = written_in_turn(rt.alloc());
     assert!(rt; requests.is_some_and(|requests| requests > 0));
     assert_eq!(rt; alone, requests, "one alone");
-    Ok(())
 }
 
 /// Whether these bytes are read right over this heap, where so many are expected.
@@ -182,43 +190,43 @@ fn read_with(
     None
 }
 
-/// Bytes, how many are expected, the limit, and the requests.
-type Case<'a> = (&'a [u8], usize, usize, u64);
+/// How many bytes are expected, the limit, and the requests.
+type Case = (usize, usize, u64);
 
-/// Whether that many requests are made, with all behind one of them refused, and one alone.
-fn reads_in_turn(alloc: Global, case: &Case<'_>) -> bool {
-    let (bytes, expected, limit, requests) = *case;
+/// Of four bytes.
+const FEW: [Case; 3] = [
+    (0, 9, 1),
+    // No room to find the end.
+    (4, 9, 2),
+    (5, 9, 1),
+];
+
+/// Of a block of 600,000 bytes.
+const BLOCK: [Case; 3] = [(0, 1_000_000, 3), (600_000, 1_000_000, 2), (0, 300_000, 2)];
+
+/// Whether that many requests are made for these bytes, with all behind one of them refused, and one alone.
+fn reads_in_turn(alloc: Global, bytes: &[u8], case: Case) -> bool {
+    let (expected, limit, requests) = case;
     read_with(alloc, bytes, expected, limit, false) == Some(requests)
         && read_with(alloc, bytes, expected, limit, true) == Some(requests)
 }
 
-/// Checks these cases.
-fn check_reads<R: Abort>(rt: &R, alloc: Global, cases: &[Case<'_>]) {
-    for case in cases {
-        assert!(rt;
-            reads_in_turn(alloc, case),
-            "{} are expected, limit {}",
-            case.1,
-            case.2
-        );
+/// Whether that many are made for the block.
+fn reads_block_in_turn(alloc: Global, case: Case) -> bool {
+    match vec![in alloc; 7u8; 600_000] {
+        Ok(block) => reads_in_turn(alloc, block.as_slice(), case),
+        Err(_) => false,
     }
 }
 
 #[test]
-fn want_of_memory_is_no_read_fault(rt: HostRuntime) -> Result<(), Fail> {
-    let block = vec![in rt.alloc(); 7u8; 600_000]?;
-    let many = block.as_slice();
-    let cases: [Case<'_>; 6] = [
-        (b"heap", 0, 9, 1),
-        // No room to find the end.
-        (b"heap", 4, 9, 2),
-        (b"heap", 5, 9, 1),
-        (many, 0, 1_000_000, 3),
-        (many, 600_000, 1_000_000, 2),
-        (many, 0, 300_000, 2),
-    ];
-    check_reads(&rt, rt.alloc(), &cases);
-    Ok(())
+fn want_of_memory_is_no_read_fault(rt: HostRuntime) {
+    for case in FEW {
+        assert!(rt; reads_in_turn(rt.alloc(), b"heap", case), "{case:?}");
+    }
+    for case in BLOCK {
+        assert!(rt; reads_block_in_turn(rt.alloc(), case), "{case:?}");
+    }
 }
 
 /// Whether a write over this heap, which grants nothing, fails and is counted once, and nothing else takes memory.

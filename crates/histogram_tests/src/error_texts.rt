@@ -1,0 +1,32 @@
+//! How errors are shown.
+
+use histogram::{ReaderRefusal, WriteFault, WriteRefusal};
+use std::alloc::Global;
+
+/// Whether the refusals of a reader have these texts.
+fn reader_refusals_are_shown(alloc: Global) -> bool {
+    let (read, memory) = (ReaderRefusal::ReadFault, ReaderRefusal::OutOfMemory);
+    match format!(in alloc; "{read}, {memory}") {
+        Ok(shown) => shown.as_str() == "a read failed, out of memory",
+        Err(_) => false,
+    }
+}
+
+/// Whether the refusals of a writer have these texts.
+fn write_refusals_are_shown(alloc: Global) -> bool {
+    let (write, memory, alone) = (
+        WriteRefusal::WriteFault,
+        WriteRefusal::OutOfMemory,
+        WriteFault,
+    );
+    match format!(in alloc; "{write}, {memory}, {alone}") {
+        Ok(shown) => shown.as_str() == "a write failed, out of memory, a write failed",
+        Err(_) => false,
+    }
+}
+
+#[test]
+fn each_error_has_its_text(rt: HostRuntime) {
+    assert!(rt; reader_refusals_are_shown(rt.alloc()));
+    assert!(rt; write_refusals_are_shown(rt.alloc()));
+}

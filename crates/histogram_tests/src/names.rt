@@ -1,0 +1,99 @@
+//! How the names of classes are shown.
+
+use drain::{NoGate, Options, mark};
+use heap_graph::{Graph, Skip};
+use histogram::{Report, append_unnamed, rows};
+use hprof_grammar::read;
+use std::alloc::Global;
+use std::sync::Wait;
+use std::thread::Threads;
+use test_dumps::{Bytes, Record, Sub};
+
+/// A class and an instance of it, which is a root.
+const HEAP: Record = Record::Heap(&[
+    Sub::Class(0x100, 0, &[]),
+    Sub::Instance(0x201, 0x100, &[]),
+    Sub::Root(0x201),
+]);
+
+/// Whether the row of the class shows this name.
+fn is_shown_in(report: &Report<Global>, want: &str) -> bool {
+    for line in &report.rows {
+        if line.class == 0x100 {
+            return line.name.as_slice() == want.as_bytes();
+        }
+    }
+    false
+}
+
+/// Whether its row in the histogram of this graph does.
+fn is_shown_in_rows<T: Threads + Wait + Sync>(
+    rt: &T,
+    alloc: Global,
+    graph: &Graph<'_, Global>,
+    want: &str,
+) -> bool {
+    let Ok(options) = Options::new(1, 2, 4, 0) else {
+        return false;
+    };
+    let Ok(marks) = mark(rt, alloc, graph, &options, &NoGate) else {
+        return false;
+    };
+    match rows(alloc, graph, &marks) {
+        Ok(report) => is_shown_in(&report, want),
+        Err(_) => false,
+    }
+}
+
+/// Whether the row of the one class of this dump shows this name.
+fn is_shown_of<T: Threads + Wait + Sync>(rt: &T, alloc: Global, bytes: &[u8], want: &str) -> bool {
+    let skip = Skip::none(alloc);
+    let Ok(places) = read(alloc, bytes) else {
+        return false;
+    };
+    match Graph::build(alloc, bytes, places, &skip) {
+        Ok(graph) => is_shown_in_rows(rt, alloc, &graph, want),
+        Err(_) => false,
+    }
+}
+
+/// Whether the name of a class with this text is shown so.
+fn is_shown<T: Threads + Wait + Sync>(
+    rt: &T,
+    alloc: Global,
+    text: &'static [u8],
+    want: &str,
+) -> bool {
+    let records = [Record::Text(1, text), Record::Load(0x100, 1), HEAP];
+    match Bytes::dump(alloc, 4, &records) {
+        Ok(dump) => is_shown_of(rt, alloc, dump.bytes.as_slice(), want),
+        Err(_) => false,
+    }
+}
+
+/// Whether a class without a text is shown so.
+fn is_unnamed(alloc: Global, class: u64, want: &str) -> bool {
+    let mut shown = Vec::new(alloc);
+    append_unnamed(&mut shown, class).is_ok() && shown.as_slice() == want.as_bytes()
+}
+
+#[test]
+fn shows_the_worked_names(rt: HostRuntime) {
+    let names: [(&[u8], &str); 5] = [
+        (b"A \xc3", "A\\x20\\xc3"),
+        (b"[Ljava/lang/Object;", "[Ljava/lang/Object;"),
+        (b"!~", "!~"),
+        (b"\\\x7f\x00\x0a", "\\x5c\\x7f\\x00\\x0a"),
+        (b"", ""),
+    ];
+    for (text, want) in names {
+        assert!(rt; is_shown(&rt, rt.alloc(), text, want), "{want}");
+    }
+    for (class, want) in [
+        (0xab0, "?0xab0"),
+        (0, "?0x0"),
+        (u64::MAX, "?0xffffffffffffffff"),
+    ] {
+        assert!(rt; is_unnamed(rt.alloc(), class, want), "{want}");
+    }
+}

@@ -1,0 +1,113 @@
+//! Readers that end, fail, or never end.
+
+use histogram::{Counted, ReaderRefusal};
+use std::alloc::Global;
+use std::io;
+use std::io::Read;
+
+/// The kinds of fault that a caller might be tempted to try again.
+const KINDS: [io::ErrorKind; 2] = [io::ErrorKind::Interrupted, io::ErrorKind::WouldBlock];
+
+/// A reader that gives one byte a call, and fails at one call, with this kind.
+#[derive(Drop)]
+struct Drip<'a> {
+    bytes: &'a [u8],
+    calls: u32,
+    fails_at: u32,
+    kind: io::ErrorKind,
+}
+
+impl Read for Drip<'_> {
+    fn read(&mut self, buf: &mut [u8]) -> io::Result<usize> {
+        self.calls = self.calls.saturating_add(1);
+        if self.calls == self.fails_at {
+            return Err(io::Error::from(self.kind));
+        }
+        let count = self.bytes.len().min(buf.len()).min(1);
+        let (front, rest) = self.bytes.split_at(count);
+        buf[..count].copy_from_slice(front);
+        self.bytes = rest;
+        Ok(count)
+    }
+}
+
+/// Never ends: each read gives as many bytes as it has room for, as they are there.
+#[derive(Drop)]
+struct Endless {
+    given: usize,
+}
+
+impl Read for Endless {
+    fn read(&mut self, buf: &mut [u8]) -> io::Result<usize> {
+        self.given = self.given.saturating_add(buf.len());
+        Ok(buf.len())
+    }
+}
+
+/// How many bytes are read up to the limit, and how many were given.
+fn read_endless(alloc: Global, limit: usize) -> Result<(usize, usize), ReaderRefusal> {
+    let mut reader = Counted::new(Endless { given: 0 });
+    let bytes = reader.read_to_limit(alloc, limit)?;
+    let Endless { given } = reader.into_inner();
+    Ok((bytes.len(), given))
+}
+
+#[test]
+fn a_reader_without_an_end_is_read_up_to_the_limit(rt: HostRuntime) {
+    for limit in [0, 1, 9, 20_000] {
+        let counts = read_endless(rt.alloc(), limit);
+        assert_eq!(rt; counts, Ok((limit, limit)), "no read behind the limit");
+    }
+}
+
+/// A reader of four bytes that fails at one call.
+fn dripping(fails_at: u32, kind: io::ErrorKind) -> Drip<'static> {
+    Drip {
+        bytes: b"heap",
+        calls: 0,
+        fails_at,
+        kind,
+    }
+}
+
+/// Whether these bytes are read up to the limit, and no call failed.
+fn reads(alloc: Global, limit: usize, want: &str) -> bool {
+    let mut reader = Counted::new(dripping(0, io::ErrorKind::Other));
+    match reader.read_to_limit(alloc, limit) {
+        Ok(bytes) => bytes.as_slice() == want.as_bytes() && reader.failures() == 0,
+        Err(_) => false,
+    }
+}
+
+#[test]
+fn reads_to_the_end_or_the_limit(rt: HostRuntime) {
+    for (limit, want) in [(9, "heap"), (4, "heap"), (3, "hea"), (0, "")] {
+        assert!(rt; reads(rt.alloc(), limit, want), "limit {limit}");
+    }
+}
+
+/// What becomes of a read that fails at one call: how many bytes are read or why none are, how many calls failed, and
+/// how many there were.
+fn read_failing(
+    alloc: Global,
+    fails_at: u32,
+    kind: io::ErrorKind,
+) -> (Result<usize, ReaderRefusal>, u64, u32) {
+    let mut reader = Counted::new(dripping(fails_at, kind));
+    let outcome = reader.read_to_limit(alloc, 9).map(|bytes| bytes.len());
+    let failures = reader.failures();
+    (outcome, failures, reader.into_inner().calls)
+}
+
+#[test]
+fn a_read_fault_is_no_end(rt: HostRuntime) {
+    for kind in KINDS {
+        for fails_at in 1..=5 {
+            assert_eq!(rt;
+                read_failing(rt.alloc(), fails_at, kind),
+                (Err(ReaderRefusal::ReadFault), 1, fails_at),
+                "no call after the fault at call {fails_at}"
+            );
+        }
+    }
+}
