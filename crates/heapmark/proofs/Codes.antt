@@ -1,5 +1,5 @@
 -- The codes of first faults are 1 to 14, so no other refusal is one.
-use Rattle.std.proofs.Common.{IsSome, List, inl, inr, arith, refl, subst, sym, ℕ, ⊎_elim, ◌≡◌, ◌≤◌, ◌⊎◌}
+use Rattle.std.proofs.Common.{IsSome, List, None, inl, inr, arith, refl, subst, sym, ℕ, ⊎_elim, ◌≡◌, ◌≢◌, ◌≤◌, ◌⊎◌}
 use Rattle.heap_graph.specs.LinkFault.{HasLinkFault, code_of}
 use Rattle.heap_graph.specs.declared.rule.LinkRule.{LinkRule}
 use Rattle.heap_graph.specs.declared.rule.LinkRule.TheVariants.{DuplicateObject, InstanceSize, SuperChain, TooLarge}
@@ -50,6 +50,22 @@ link_code fault = subst IsFaultCode (sym fault.code_is) (rule_code fault.rule)
 fault_code : (text : List ℕ) (code place : ℕ) → FirstFaultOf text code place → IsFaultCode code
 fault_code text code place fault = ⊎_elim form_code link_code fault
 
+-- what a run may refuse before anything is written
+abbrev pub IsKnown : Refusal → Type 0
+IsKnown refusal = IsRunRefusal refusal × (refusal.code ≤ 18)
+
+-- a refusal that is no fault of the bytes has no place
+pub known_unplaced : (code : ℕ) → 15 ≤ code → code ≤ 18 → code ≢ 17 → IsKnown (record { code = code; offset = None })
+known_unplaced code least most in_use = (
+  record {
+    least = omega (arith, least);
+    most = omega (arith, most);
+    in_use = in_use;
+    placed = (λ h. absurd (omega (arith, h, least)), λ h. cc);
+  },
+  most,
+)
+
 -- a first fault, or want of memory
 pub known_of : (text : List ℕ) (refusal : Refusal) → RefusesFirstFault text refusal ⊎ (refusal ≡ out_of_memory)
     → IsRunRefusal refusal × (refusal.code ≤ 18)
@@ -63,13 +79,5 @@ known_of text refusal (inl tells) =
       },
       omega (arith, code.1),
     )
-known_of text refusal (inr same) = let Q : Refusal → Type 0 = λ r. IsRunRefusal r × (r.code ≤ 18) in
-    subst Q (sym same) (
-      record {
-        least = omega arith;
-        most = omega arith;
-        in_use = λ h. omega (arith, h);
-        placed = (λ h. absurd (omega (arith, h)), λ h. cc);
-      },
-      omega arith,
-    )
+known_of text refusal (inr same) =
+    subst IsKnown (sym same) (known_unplaced 15 (omega arith) (omega arith) (λ h. omega (arith, h)))

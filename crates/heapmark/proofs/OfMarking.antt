@@ -2,6 +2,7 @@
 use Rattle.std.proofs.Common.{List, arith, inl, inr, refl, subst, sym, ℕ, ◌≡◌, ◌≤◌, ◌⊎◌}
 use Rattle.drain.specs.declared.marked.RunFault.{RunFault}
 use Rattle.drain.specs.declared.marked.RunFault.TheVariants.{OutOfMemory, TagSpent, WorkerRefused}
+use Rattle.heapmark.proofs.Codes.{IsKnown, known_unplaced}
 use Rattle.heapmark.specs.Answer.{IsAcceptedText, IsRunRefusal, RefusesFirstFault}
 use Rattle.heapmark.specs.RefusalCodes.{run_refusal}
 use Rattle.heapmark.specs.RunRefusals.{out_of_memory}
@@ -21,37 +22,10 @@ pub of_marking : (text : List ℕ) (refusal : Refusal) (fault : RunFault) → re
     → IsAcceptedText text → IsToldOf text refusal
 of_marking text refusal fault same accepted = subst (IsToldOf text) (sym same) (each_fault text fault accepted)
 
-abbrev IsKnown : Refusal → Type 0
-IsKnown refusal = IsRunRefusal refusal × (refusal.code ≤ 18)
-
 known_fault : (fault : RunFault) → IsKnown (run_refusal fault)
-known_fault OutOfMemory = (
-  record {
-    least = omega arith;
-    most = omega arith;
-    in_use = λ h. omega (arith, h);
-    placed = (λ h. absurd (omega (arith, h)), λ h. cc);
-  },
-  omega arith,
-)
-known_fault TagSpent = (
-  record {
-    least = omega arith;
-    most = omega arith;
-    in_use = λ h. omega (arith, h);
-    placed = (λ h. absurd (omega (arith, h)), λ h. cc);
-  },
-  omega arith,
-)
-known_fault WorkerRefused = (
-  record {
-    least = omega arith;
-    most = omega arith;
-    in_use = λ h. omega (arith, h);
-    placed = (λ h. absurd (omega (arith, h)), λ h. cc);
-  },
-  omega arith,
-)
+known_fault OutOfMemory = known_unplaced 15 (omega arith) (omega arith) (λ h. omega (arith, h))
+known_fault TagSpent = known_unplaced 16 (omega arith) (omega arith) (λ h. omega (arith, h))
+known_fault WorkerRefused = known_unplaced 18 (omega arith) (omega arith) (λ h. omega (arith, h))
 
 -- and its code is one of a run
 pub known_marking : (refusal : Refusal) (fault : RunFault) → refusal ≡ run_refusal fault
