@@ -7,10 +7,10 @@ ghost use Rattle.histogram.specs.Report.{IsReport, report_of};
 ghost use Rattle.histogram.specs.Counting.{ConsumesFewer, failures_of, inner_of, is_flushed};
 ghost use Rattle.histogram.specs.HistogramOf.{histogram_of};
 ghost use Rattle.heapmark.specs.Answer.{ConsumesBytesRead, IsAcceptedText, IsRunRefusal, IsRefusalOf};
-ghost use Rattle.heapmark.specs.Answer.{RefusesFirstFault};
+ghost use Rattle.heapmark.specs.Answer.{RefusesFirstFault, WritesReport};
 ghost use Rattle.heapmark.specs.Answer.{WritesBeginning, WritesSomeBeginning, WritesSomeReport, bytes_read};
 ghost use Rattle.heapmark.specs.Headline.{Headline};
-ghost use Rattle.heapmark.specs.RunRefusals.{HasCode, out_of_memory};
+ghost use Rattle.heapmark.specs.RunRefusals.{HasCode, out_of_memory, read_fault};
 ghost use Rattle.heapmark.specs.working.Marking.{IsOfMarking};
 
 use crate::refusal::Refusal;
@@ -98,15 +98,75 @@ where
     ensures untouched { IfErr result (λ refusal. refusal.code ≢ 20
         → Keeps (W.contents (inner_of writer.old)) (W.contents (inner_of writer.new))) }
 {
-    let bytes = match reader.read_to_limit(&alloc, MOST_BYTES) {
+    let bytes = match read_bytes(&alloc, reader) {
         Ok(bytes) => bytes,
-        Err(refusal) => return Err(Refusal::from(refusal)),
+        Err(refusal) => return Err(refusal),
     };
-    let report = match answer(rt, &alloc, bytes.as_slice(), options, skip, gate) {
+    match report_bytes(rt, &alloc, bytes.as_slice(), writer, options, skip, gate) {
+        Ok(()) => Ok(()),
+        Err(refusal) => Err(refusal),
+    }
+}
+
+/// The bytes of a run: all that the reader gives, but no more than one byte above the largest dump.
+fn read_bytes<A: Allocator, R: Read>(
+    alloc: A,
+    reader: &mut Counted<R>,
+) -> Result<Vec<u8, A>, Refusal>
+    requires { failures_of reader.old < 2 ^ 64 - 1 }
+    ensures bytes { IfOk result (λ bytes. IfSome (R.remaining (inner_of reader.old)) (λ given.
+        bytes.items ≡ bytes_read given)) }
+    ensures consumed { OnOk result
+        (ConsumesBytesRead (R.remaining (inner_of reader.old)) (R.remaining (inner_of reader.new))) }
+    ensures refusal { IfErr result (λ refusal. (refusal ≡ out_of_memory) ⊎ (refusal ≡ read_fault)) }
+    ensures below { HasCode result 19
+        → ConsumesFewer 1073741825 (R.remaining (inner_of reader.old)) (R.remaining (inner_of reader.new)) }
+    ensures within { (HasCode result 19 → ⊥)
+        → ConsumesFewer 1073741826 (R.remaining (inner_of reader.old)) (R.remaining (inner_of reader.new)) }
+    ensures fault { HasCode result 19 ↔ (failures_of reader.new ≡ failures_of reader.old + 1) }
+    ensures no_fault { (HasCode result 19 → ⊥) → failures_of reader.new ≡ failures_of reader.old }
+{
+    match reader.read_to_limit(alloc, MOST_BYTES) {
+        Ok(bytes) => Ok(bytes),
+        Err(refusal) => Err(Refusal::from(refusal)),
+    }
+}
+
+/// Writes the report of the bytes of a dump. It knows nothing of readers.
+fn report_bytes<T, A, W, B, G>(
+    rt: &T,
+    alloc: A,
+    bytes: &[u8],
+    writer: &mut Counted<W>,
+    options: &Options,
+    skip: &Skip<'_, B>,
+    gate: &G,
+) -> Result<(), Refusal>
+where
+    T: Threads + Wait + Sync,
+    A: Allocator + Copy + Send + Sync,
+    W: Write,
+    B: Allocator,
+    G: Gate,
+    requires { failures_of writer.old < 2 ^ 64 - 1 }
+    ensures written { OnOk result (WritesReport bytes.now skip.now
+        (W.contents (inner_of writer.old)) (W.contents (inner_of writer.new))) }
+    ensures flushed { OnOk result (is_flushed writer.new ≡ true) }
+    ensures refusal { IfErr result (λ refusal. RefusesFirstFault bytes.now refusal ⊎ (refusal ≡ out_of_memory)
+        ⊎ (IsAcceptedText bytes.now × (15 ≤ refusal.code))) }
+    ensures known { IfErr result (λ refusal. IsRunRefusal refusal × (refusal.code ≢ 19)) }
+    ensures fault { HasCode result 20 ↔ (failures_of writer.new ≡ failures_of writer.old + 1) }
+    ensures no_fault { (HasCode result 20 → ⊥) → failures_of writer.new ≡ failures_of writer.old }
+    ensures beginning { HasCode result 20 → WritesBeginning bytes.now skip.now
+        (W.contents (inner_of writer.old)) (W.contents (inner_of writer.new)) }
+    ensures untouched { IfErr result (λ refusal. refusal.code ≢ 20
+        → Keeps (W.contents (inner_of writer.old)) (W.contents (inner_of writer.new))) }
+{
+    let report = match answer(rt, alloc, bytes, options, skip, gate) {
         Ok(report) => report,
         Err(refusal) => return Err(refusal),
     };
-    match write_report(&alloc, &report, writer) {
+    match write_report(alloc, &report, writer) {
         Ok(()) => Ok(()),
         Err(refusal) => Err(Refusal::from(refusal)),
     }

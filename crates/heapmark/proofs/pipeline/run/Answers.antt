@@ -1,11 +1,14 @@
--- A run whose report is there refuses nothing: its bytes are accepted. What it read at 15 is within the limit by size.
-use Rattle.std.proofs.Common.{arith, rules}
-use Rattle.heapmark.proofs.Accepted.{never_refused}
+-- A run whose report is there refuses nothing, since its bytes are accepted; what it refuses is told of its bytes.
+use Rattle.std.proofs.Common.{List, rules, subst, ℕ}
+use Rattle.heapmark.proofs.Accepted.{IsTold, never_refused, refused_so}
 use Rattle.heapmark.proofs.pipeline.run.Goals as goal
 
-pub returns-in-Ok-write_report-clause-not_accepted : goal.returns-in-Ok-write_report-clause-not_accepted
-returns-in-Ok-write_report-clause-not_accepted g c =
-    search (rules, never_refused, c.in-Ok-answer.ensures.report, c.in-Ok.ensures.bytes, c.as_slice.ensures.value)
+pub returns-in-Ok-report_bytes-clause-not_accepted : goal.returns-in-Ok-report_bytes-clause-not_accepted
+returns-in-Ok-report_bytes-clause-not_accepted g c =
+    search (rules, never_refused, c.in-Ok-report_bytes.ensures.written, c.in-Ok.ensures.bytes, c.as_slice.ensures.value)
 
-pub returns-clause-within : goal.returns-clause-within
-returns-clause-within g c = λ _. (c.in-Ok.bytes.items, search (arith, c.in-Ok.ensures.size), c.in-Ok.ensures.consumed)
+pub returns-clause-not_accepted : goal.returns-clause-not_accepted
+returns-clause-not_accepted g c =
+    let refusal = c.in-Err-report_bytes.refusal in
+    refused_so (g.R.Read.remaining c.args.reader.now.inner) c.in-Ok.bytes.items refusal c.in-Ok.ensures.bytes
+    (subst (λ (t : List ℕ). IsTold t refusal) c.as_slice.ensures.value c.in-Err-report_bytes.ensures.refusal)
