@@ -26,9 +26,7 @@ ghost use Rattle.std.specs.Prelude.{◌≤◌};
 
 use crate::{Counted, Gate, NoGate, Options, Refusal, Skip, run};
 use std::alloc::{Allocator, Global};
-use std::fmt::Display;
 use std::io::{Read, Write};
-use std::process::Abort;
 use std::sync::Wait;
 use std::thread::Threads;
 
@@ -109,24 +107,21 @@ where
     (outcome, length_of(written.as_slice(), report))
 }
 
-/// Checks that a run with these options, which skips no field, answers so and writes this report, in the case of this
-/// name or number.
-fn check<T, R, N>(
+/// Whether a run with these options, which skips no field, answers so and writes this report.
+fn is_answered<T, R>(
     rt: &T,
     alloc: Global,
     options: &Options,
     reader: R,
     want: Result<(), Refusal>,
     report: &str,
-    case: N,
-)
+) -> bool
 where
-    T: Abort + Threads + Wait + Sync,
+    T: Threads + Wait + Sync,
     R: Read + Drop,
-    N: Copy + Display,
 {
     let told = answer(rt, alloc, options, &Skip::none(alloc), reader, report);
-    assert_eq!(rt; told, (want, Some(report.len())), "{case}, {options:?}");
+    told == (want, Some(report.len()))
 }
 
 /// The outcome of a refusal.

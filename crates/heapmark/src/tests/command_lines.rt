@@ -1,23 +1,20 @@
 //! Lines of words that the program takes or refuses, and what it answers to each.
 
 use super::dumps::{
-    Bytes, NINE_ROOTS_REPORT, NOTHING_REPORT, SEVEN_ROOTS_REPORT, Sample, TWO_OBJECTS_REPORT,
+    NINE_ROOTS_REPORT, NOTHING_REPORT, SEVEN_ROOTS_REPORT, Sample, TWO_OBJECTS_REPORT,
     WIDE_ARRAY_REPORT,
 };
-use super::program::{Broken, answered, file_of};
+use super::program::{Asked, Broken, answered, answered_on, answered_unheard};
 use super::texts::{
     ALMOST_AN_OPTION, ANOTHER_WORD, BUFFER_1, BUFFER_4097, BUFFERS_3, BUFFERS_65535, HELP,
     HEXADECIMAL_TAG, NO_FILE, NO_FILE_BUT_WORKERS, NO_VALUE, SKIP_TWICE, TAG_BEHIND_THE_LAST,
     UNKNOWN_OPTION, VERSION, WORKERS_0, WORKERS_65, WORKERS_TWICE,
 };
 use crate::{Counted, program};
-use std::alloc::{AllocError, Global};
 use std::env::Env;
-use std::fs;
 use std::process::Abort;
 use std::rt::Files;
 use std::sync::Wait;
-use std::test::Fail;
 use std::thread::Threads;
 
 /// Words behind the program's name, with FILE for a dump, the status that they have, and all that standard error has.
@@ -159,68 +156,37 @@ static LINES: [(&str, Sample, &str, &[Line]); 6] = [
     ),
 ];
 
-/// The words of a line behind the program's name, with this file for the word FILE.
-fn words_of<'a>(alloc: Global, line: &'a str, file: &'a str) -> Result<Vec<&'a str>, AllocError> {
-    let mut words = Vec::new(alloc);
-    words.push("heapmark")?;
-    for word in line.split_whitespace() {
-        words.push(if word == "FILE" { file } else { word })?;
-    }
-    Ok(words)
-}
-
-/// The status for these words where standard error fails.
-fn answered_unheard<T: Files + AllocGlobal + Threads + Wait + Sync>(rt: &T, words: &[&str]) -> u8 {
-    let mut out = Counted::new(Vec::new(rt.alloc()));
-    program(rt, words, &mut out, &mut Broken)
-}
-
-/// For these words the program has this status, also where standard error fails: with this report at 0, and else with
-/// nothing on the output; and with all of this text on standard error.
-fn answers<T: Abort + Files + AllocGlobal + Threads + Wait + Sync>(
-    rt: &T,
-    words: &[&str],
-    report: &str,
-    want: u8,
-    told: &str,
-) {
-    let report = if want == 0 { report } else { "" };
-    let answer = answered(rt, words, report, told);
-    assert_eq!(rt; answer, (want, true, true), "{words:?}: {told}");
-    assert_eq!(rt; answered_unheard(rt, words), want, "{words:?}: {told}");
-}
-
-/// Checks each of these lines on a file of these bytes, whose report is this one.
-fn all_answer<T: Abort + AllocGlobal + Env + Files + Threads + Wait + Sync>(
+/// For this line the program has this status on a file of this dump, also where standard error fails: with this report
+/// at 0, and else with nothing on the output; and with all of this text on standard error.
+fn check_line<T: Abort + AllocGlobal + Env + Files + Threads + Wait + Sync>(
     rt: &T,
     name: &str,
-    dump: &Bytes,
+    sample: Sample,
     report: &str,
-    lines: &[Line],
-) -> Result<(), Fail> {
-    let path = file_of(rt, name, dump)?;
-    let file = path.to_str().ok_or("the name of the file is not text")?;
-    for (line, want, told) in lines {
-        let words = words_of(rt.alloc(), line, file)?;
-        answers(rt, words.as_slice(), report, *want, told);
-    }
-    fs::remove_file(rt, path.as_path())?;
-    Ok(())
+    line: &Line,
+) {
+    let (words, want, told) = *line;
+    let report = if want == 0 { report } else { "" };
+    let answer = answered_on(rt, name, sample, words, Asked::Both(report, told));
+    assert_eq!(rt; answer, Some((want, true, true)), "{words}: {told}");
+    let unheard = answered_on(rt, name, sample, words, Asked::Unheard);
+    assert_eq!(rt; unheard, Some((want, true, true)), "{words}: {told}");
 }
 
 #[test]
-fn lines_are_answered(rt: HostRuntime) -> Result<(), Fail> {
+fn lines_are_answered(rt: HostRuntime) {
     for (name, sample, report, lines) in LINES {
-        let dump = sample.dump(rt.alloc())?;
-        all_answer(&rt, name, &dump, report, lines)?;
+        for line in lines {
+            check_line(&rt, name, sample, report, line);
+        }
     }
-    Ok(())
 }
 
 /// Not even the program's own name is there.
 #[test]
 fn no_words_are_told(rt: HostRuntime) {
-    answers(&rt, &[], "", 2, NO_FILE);
+    assert_eq!(rt; answered(&rt, &[], "", NO_FILE), (2, true, true));
+    assert_eq!(rt; answered_unheard(&rt, &[]), 2);
 }
 
 /// Words that ask for a text, and the text.

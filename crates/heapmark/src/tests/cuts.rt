@@ -1,12 +1,10 @@
 //! The dump of two objects cut at each length.
 
 use super::dumps::{NOTHING_REPORT, TWO_OBJECTS_REPORT, two_objects};
-use super::{check, least, refused, usual};
+use super::{is_answered, least, refused, usual};
 use crate::Refusal;
 use std::alloc::Global;
-use std::process::Abort;
 use std::sync::Wait;
-use std::test::Fail;
 use std::thread::Threads;
 
 /// The lengths from the first to the last, and the code and place of their refusal.
@@ -75,62 +73,95 @@ fn with_body(dump: &mut Vec<u8>, length: usize) -> &[u8] {
     front(dump.as_slice(), length.saturating_add(79))
 }
 
-/// Checks the runs on so much of the dump as this: of two workers with the least buffers, and of 1, 2 and 64 workers
+/// Whether the runs on these bytes are answered so: of two workers with the least buffers, and of 1, 2 and 64 workers
 /// with the buffers of the program.
-fn check_runs<T: Abort + Threads + Wait + Sync>(
+fn runs_are_answered<T: Threads + Wait + Sync>(
     rt: &T,
     alloc: Global,
-    cut: &[u8],
+    bytes: &[u8],
     want: Result<(), Refusal>,
     report: &str,
-) {
+) -> bool {
     for options in [least(2), usual(1), usual(2), usual(64)] {
-        check(rt, alloc, &options, cut, want, report, cut.len());
+        if !is_answered(rt, alloc, &options, bytes, want, report) {
+            return false;
+        }
     }
+    true
 }
 
-/// Checks that runs on so much of the dump as this are refused so.
-fn is_refused<T: Abort + Threads + Wait + Sync>(
+/// Whether the runs on so much of the file are refused so.
+fn file_is_refused<T: Threads + Wait + Sync>(
     rt: &T,
     alloc: Global,
-    cut: &[u8],
+    length: usize,
     code: u8,
     place: u64,
-) {
-    check_runs(rt, alloc, cut, refused(code, Some(place)), "");
+) -> bool {
+    let want = refused(code, Some(place));
+    match two_objects(alloc) {
+        Ok(dump) => runs_are_answered(rt, alloc, front(dump.bytes.as_slice(), length), want, ""),
+        Err(_) => false,
+    }
+}
+
+/// Whether the runs on the dump with so much of its heap record's body are answered so.
+fn body_is_answered<T: Threads + Wait + Sync>(
+    rt: &T,
+    alloc: Global,
+    length: usize,
+    want: Result<(), Refusal>,
+    report: &str,
+) -> bool {
+    match two_objects(alloc) {
+        Ok(mut dump) => {
+            let cut = with_body(&mut dump.bytes, length);
+            runs_are_answered(rt, alloc, cut, want, report)
+        }
+        Err(_) => false,
+    }
+}
+
+/// How many bytes the file has.
+fn file_length(alloc: Global) -> Option<usize> {
+    match two_objects(alloc) {
+        Ok(dump) => Some(dump.bytes.len()),
+        Err(_) => None,
+    }
 }
 
 #[test]
-fn a_file_that_is_cut_is_refused(rt: HostRuntime) -> Result<(), Fail> {
-    let dump = two_objects(rt.alloc())?;
-    assert_eq!(rt; dump.bytes.len(), 174);
+fn a_file_that_is_cut_is_refused(rt: HostRuntime) {
+    assert_eq!(rt; file_length(rt.alloc()), Some(174));
     for (from, to, code, place) in CUTS {
         for length in from..=to {
-            let cut = front(dump.bytes.as_slice(), length);
-            is_refused(&rt, rt.alloc(), cut, code, place);
+            assert!(rt;
+                file_is_refused(&rt, rt.alloc(), length, code, place),
+                "{length} bytes"
+            );
         }
     }
-    Ok(())
 }
 
 #[test]
-fn a_heap_record_that_is_cut_in_a_sub_record_is_refused(rt: HostRuntime) -> Result<(), Fail> {
-    let mut dump = two_objects(rt.alloc())?;
+fn a_heap_record_that_is_cut_in_a_sub_record_is_refused(rt: HostRuntime) {
     for (from, to, code, place) in BODIES {
+        let want = refused(code, Some(place));
         for length in from..=to {
-            let cut = with_body(&mut dump.bytes, length);
-            is_refused(&rt, rt.alloc(), cut, code, place);
+            assert!(rt;
+                body_is_answered(&rt, rt.alloc(), length, want, ""),
+                "{length} bytes"
+            );
         }
     }
-    Ok(())
 }
 
 #[test]
-fn a_heap_record_may_end_at_a_sub_record(rt: HostRuntime) -> Result<(), Fail> {
-    let mut dump = two_objects(rt.alloc())?;
+fn a_heap_record_may_end_at_a_sub_record(rt: HostRuntime) {
     for (length, report) in WHOLE_BODIES {
-        let cut = with_body(&mut dump.bytes, length);
-        check_runs(&rt, rt.alloc(), cut, Ok(()), report);
+        assert!(rt;
+            body_is_answered(&rt, rt.alloc(), length, Ok(()), report),
+            "{length} bytes"
+        );
     }
-    Ok(())
 }

@@ -2,14 +2,13 @@
 
 use super::rows::Reading::ByteByByte;
 use super::rows::{faults_are_found, reports_are_written};
-use std::test::Fail;
 
 #[test]
-fn one_byte_a_call_changes_no_report(rt: HostRuntime) -> Result<(), Fail> {
-    reports_are_written(&rt, rt.alloc(), ByteByByte)
+fn one_byte_a_call_changes_no_report(rt: HostRuntime) {
+    reports_are_written(&rt, rt.alloc(), ByteByByte);
 }
 
 #[test]
-fn one_byte_a_call_changes_no_refusal(rt: HostRuntime) -> Result<(), Fail> {
-    faults_are_found(&rt, rt.alloc(), ByteByByte)
+fn one_byte_a_call_changes_no_refusal(rt: HostRuntime) {
+    faults_are_found(&rt, rt.alloc(), ByteByByte);
 }

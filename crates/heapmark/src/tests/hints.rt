@@ -1,14 +1,11 @@
 //! What people are told to do about a refusal.
 
-use super::dumps::Bytes;
-use super::program::{answered, answered_to_people, file_of};
+use super::program::{Asked, told_on};
 use crate::hint::advise;
 use crate::{Arguments, Refusal};
 use std::env::Env;
-use std::fs;
 use std::rt::Files;
 use std::sync::Wait;
-use std::test::Fail;
 use std::thread::Threads;
 
 /// Whether this is told of a refusal of a file that is not there, with so many workers and buffers.
@@ -108,20 +105,16 @@ fn is_told<T: AllocGlobal + Env + Files + Threads + Wait + Sync>(
     rt: &T,
     bytes: &[u8],
     want: &str,
-) -> Result<bool, Fail> {
-    let mut content = Bytes::new(rt.alloc(), 4);
-    content.bytes.extend_from_slice(bytes)?;
-    let path = file_of(rt, "heapmark_compressed.hprof", &content)?;
-    let file = path.to_str().ok_or("the name of the file is not text")?;
-    let (words, refusal) = (["heapmark", file], "heapmark: refused 1 BadHeader at 0\n");
-    let in_one_line = answered(rt, &words, "", refusal) == (1, true, true);
-    let (status, is_unreported, length) = answered_to_people(rt, &words, refusal, want);
-    fs::remove_file(rt, path.as_path())?;
-    Ok(in_one_line && status == 1 && is_unreported && length.is_some())
+) -> bool {
+    let name = "heapmark_compressed.hprof";
+    let refusal = "heapmark: refused 1 BadHeader at 0\n";
+    let line = told_on(rt, name, bytes, "FILE", Asked::Both("", refusal));
+    let lines = told_on(rt, name, bytes, "FILE", Asked::People(refusal, want));
+    line == Some((1, true, true)) && lines == Some((1, true, true))
 }
 
 #[test]
-fn a_compressed_file_is_told(rt: HostRuntime) -> Result<(), Fail> {
+fn a_compressed_file_is_told(rt: HostRuntime) {
     let compressed = ": compressed: gunzip it first\n";
     let no_dump = " writes it\n";
     let cases: [(&[u8], &str); 5] = [
@@ -132,7 +125,6 @@ fn a_compressed_file_is_told(rt: HostRuntime) -> Result<(), Fail> {
         (b"", no_dump),
     ];
     for (bytes, want) in cases {
-        assert!(rt; is_told(&rt, bytes, want)?, "{bytes:?}: {want}");
+        assert!(rt; is_told(&rt, bytes, want), "{bytes:?}: {want}");
     }
-    Ok(())
 }

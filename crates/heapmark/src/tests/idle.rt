@@ -3,13 +3,11 @@
 
 use super::dumps::Sample::{Roots, WideArray};
 use super::dumps::{EIGHT_ROOTS_REPORT, SEVEN_ROOTS_REPORT, Sample, WIDE_ARRAY_REPORT, wide_array};
-use super::{Answered, check, length_of, run_with};
+use super::{Answered, is_answered, length_of, run_with};
 use crate::{Gate, Options, Skip};
 use std::alloc::Global;
-use std::process::Abort;
 use std::sync::Wait;
 use std::sync::atomic::{AtomicU64, Ordering};
-use std::test::Fail;
 use std::thread;
 use std::thread::Threads;
 use std::time::{Clock, Duration};
@@ -60,37 +58,54 @@ impl<C: Clock + Sync> Gate for Late<C> {
     }
 }
 
-/// The answer of a run on the array, and whether the two workers have met.
-fn run_late<T: Clock + Threads + Wait + Sync>(
+/// The answer of a run on these bytes, and whether the two workers have met.
+fn run_late_on<T: Clock + Threads + Wait + Sync>(
     rt: &T,
     alloc: Global,
-) -> Result<(Answered, bool), Fail> {
-    let options = Options::new(2, 2, 1024, 0).map_err(|_| "the options are in range")?;
-    let dump = wide_array(alloc)?;
+    options: &Options,
+    bytes: &[u8],
+) -> (Answered, bool) {
     let gate = Late {
         clock: rt,
         come: AtomicU64::new(0),
     };
     let (skip, written) = (Skip::none(alloc), Vec::new(alloc));
-    let bytes = dump.bytes.as_slice();
-    let (outcome, written) = run_with(rt, alloc, &options, &skip, &gate, bytes, written);
+    let (outcome, written) = run_with(rt, alloc, options, &skip, &gate, bytes, written);
     let length = length_of(written.as_slice(), WIDE_ARRAY_REPORT);
-    Ok(((outcome, length), gate.has_met()))
+    ((outcome, length), gate.has_met())
+}
+
+/// That of a run on the array.
+fn run_late<T: Clock + Threads + Wait + Sync>(rt: &T, alloc: Global) -> Option<(Answered, bool)> {
+    let Ok(options) = Options::new(2, 2, 1024, 0) else {
+        return None;
+    };
+    match wide_array(alloc) {
+        Ok(dump) => Some(run_late_on(rt, alloc, &options, dump.bytes.as_slice())),
+        Err(_) => None,
+    }
+}
+
+/// In how many of the runs the two workers have met, where each run writes the report.
+fn runs_that_met<T: Clock + Threads + Wait + Sync>(rt: &T, alloc: Global) -> Option<u32> {
+    let mut met: u32 = 0;
+    for _ in 0..RUNS {
+        let (told, has_met) = run_late(rt, alloc)?;
+        if told != (Ok(()), Some(WIDE_ARRAY_REPORT.len())) {
+            return None;
+        }
+        met = met.saturating_add(u32::from(has_met));
+    }
+    Some(met)
 }
 
 #[test]
-fn a_worker_stays_until_another_has_made_work(rt: HostRuntime) -> Result<(), Fail> {
-    let mut met: u32 = 0;
-    for _ in 0..RUNS {
-        let (told, has_met) = run_late(&rt, rt.alloc())?;
-        assert_eq!(rt; told, (Ok(()), Some(WIDE_ARRAY_REPORT.len())));
-        met = met.saturating_add(u32::from(has_met));
-    }
+fn a_worker_stays_until_another_has_made_work(rt: HostRuntime) {
+    let met = runs_that_met(&rt, rt.alloc());
     assert!(rt;
-        met > RUNS / 2,
-        "the second worker came in {met} runs of {RUNS}"
+        met.is_some_and(|met| met > RUNS / 2),
+        "the second worker came in {met:?} runs of {RUNS}"
     );
-    Ok(())
 }
 
 /// A dump, workers, objects in a buffer, buffers, and the report: with the least buffers some workers get no pair.
@@ -102,28 +117,41 @@ static ROWS: [(Sample, u32, u32, u32, &str); 5] = [
     (Roots(7), 1, 2, 4, SEVEN_ROOTS_REPORT),
 ];
 
-/// Checks each run on a row.
-fn check_row<T: Abort + Threads + Wait + Sync>(
+/// Whether each run on these bytes writes this report.
+fn runs_are_the_same<T: Threads + Wait + Sync>(
+    rt: &T,
+    alloc: Global,
+    options: &Options,
+    bytes: &[u8],
+    report: &str,
+) -> bool {
+    for _ in 0..RUNS_OF_MANY {
+        if !is_answered(rt, alloc, options, bytes, Ok(()), report) {
+            return false;
+        }
+    }
+    true
+}
+
+/// Whether each run on a row writes its report.
+fn row_is_the_same<T: Threads + Wait + Sync>(
     rt: &T,
     alloc: Global,
     row: &(Sample, u32, u32, u32, &str),
-) -> Result<(), Fail> {
+) -> bool {
     let (sample, workers, buffer, buffers, report) = *row;
-    let options = Options::new(workers, buffer, buffers, 0).map_err(
-        |_| "the options are in range",
-    )?;
-    let dump = sample.dump(alloc)?;
-    for run in 0..RUNS_OF_MANY {
-        let bytes = dump.bytes.as_slice();
-        check(rt, alloc, &options, bytes, Ok(()), report, run);
+    let Ok(options) = Options::new(workers, buffer, buffers, 0) else {
+        return false;
+    };
+    match sample.dump(alloc) {
+        Ok(dump) => runs_are_the_same(rt, alloc, &options, dump.bytes.as_slice(), report),
+        Err(_) => false,
     }
-    Ok(())
 }
 
 #[test]
-fn each_run_reports_the_same(rt: HostRuntime) -> Result<(), Fail> {
-    for row in &ROWS {
-        check_row(&rt, rt.alloc(), row)?;
+fn each_run_reports_the_same(rt: HostRuntime) {
+    for (number, row) in ROWS.iter().enumerate() {
+        assert!(rt; row_is_the_same(&rt, rt.alloc(), row), "row {number}");
     }
-    Ok(())
 }

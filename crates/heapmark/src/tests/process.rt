@@ -1,15 +1,15 @@
 //! The process: the words that it is given, whatever they are, and the status that it answers.
 
-use super::dumps::{Bytes, TWO_OBJECTS, TWO_OBJECTS_REPORT};
-use super::program::file_of;
+use super::dumps::{Sample, TWO_OBJECTS_REPORT};
+use super::program::{Asked, answered_on};
 use crate::{Counted, start};
+use std::alloc::{AllocError, Global};
 use std::env::{Env, FillError};
+use std::io;
 use std::io::{IsTerminal, Write};
 use std::rt::Files;
 use std::sync::Wait;
-use std::test::Fail;
 use std::thread::Threads;
-use std::{fs, io};
 
 /// The words of a command line, which may be no text.
 #[derive(Drop)]
@@ -118,8 +118,8 @@ fn each_line_has_its_status(rt: HostRuntime) {
     }
 }
 
-/// The status of the process for this line, and whether this is all that it prints on the output.
-fn reported<T: AllocGlobal + Files + Threads + Wait + Sync>(
+/// The status of the process for a line of these words, and whether this is all that it prints on the output.
+fn reported_of<T: AllocGlobal + Files + Threads + Wait + Sync>(
     rt: &T,
     words: &[&[u8]],
     is_terminal: bool,
@@ -134,44 +134,48 @@ fn reported<T: AllocGlobal + Files + Threads + Wait + Sync>(
     (status, out.into_inner().as_slice() == report.as_bytes())
 }
 
+/// The bytes of these words.
+fn bytes_of<'a>(alloc: Global, words: &[&'a str]) -> Result<Vec<&'a [u8]>, AllocError> {
+    words.iter().map(|word| word.as_bytes()).collect(alloc)
+}
+
+/// The same for words that are text.
+pub fn reported<T: AllocGlobal + Files + Threads + Wait + Sync>(
+    rt: &T,
+    words: &[&str],
+    is_terminal: bool,
+    report: &str,
+) -> (u8, bool) {
+    match bytes_of(rt.alloc(), words) {
+        Ok(words) => reported_of(rt, words.as_slice(), is_terminal, report),
+        Err(_) => (u8::MAX, false),
+    }
+}
+
+/// A line behind the program's name, its status, and what is printed on the output.
+static LINES: [(&str, u8, &str); 7] = [
+    ("FILE", 0, TWO_OBJECTS_REPORT),
+    ("FILE --workers 0", 2, ""),
+    ("FILE --buffer 1", 2, ""),
+    ("FILE --buffers 3", 2, ""),
+    ("FILE --first-tag x", 2, ""),
+    ("FILE --skip A", 1, ""),
+    (
+        "FILE --workers 1 --buffer 2 --buffers 4 --first-tag 0 --skip A",
+        1,
+        "",
+    ),
+];
+
 /// A file is reported, and each word behind it counts, whoever reads standard error.
 #[test]
-fn a_line_is_answered_to_its_end(rt: HostRuntime) -> Result<(), Fail> {
-    let dump = Bytes::dump(rt.alloc(), 4, TWO_OBJECTS)?;
-    let path = file_of(&rt, "heapmark_process.hprof", &dump)?;
-    let file = path
-        .to_str()
-        .ok_or("the name of the file is not text")?
-        .as_bytes();
-    let all: [&[u8]; 12] = [
-        b"heapmark",
-        file,
-        b"--workers",
-        b"1",
-        b"--buffer",
-        b"2",
-        b"--buffers",
-        b"4",
-        b"--first-tag",
-        b"0",
-        b"--skip",
-        b"A",
-    ];
-    let lines: [(&[&[u8]], u8, &str); 7] = [
-        (&[b"heapmark", file], 0, TWO_OBJECTS_REPORT),
-        (&[b"heapmark", file, b"--workers", b"0"], 2, ""),
-        (&[b"heapmark", file, b"--buffer", b"1"], 2, ""),
-        (&[b"heapmark", file, b"--buffers", b"3"], 2, ""),
-        (&[b"heapmark", file, b"--first-tag", b"x"], 2, ""),
-        (&[b"heapmark", file, b"--skip", b"A"], 1, ""),
-        (&all, 1, ""),
-    ];
-    for (words, want, report) in lines {
+fn a_line_is_answered_to_its_end(rt: HostRuntime) {
+    let (name, sample) = ("heapmark_process.hprof", Sample::TwoObjects);
+    for (line, want, report) in LINES {
         for is_terminal in [false, true] {
-            let told = reported(&rt, words, is_terminal, report);
-            assert_eq!(rt; told, (want, true), "{is_terminal}");
+            let asked = Asked::Process(is_terminal, report);
+            let told = answered_on(&rt, name, sample, line, asked);
+            assert_eq!(rt; told, Some((want, true, true)), "{line}, {is_terminal}");
         }
     }
-    fs::remove_file(&rt, path.as_path())?;
-    Ok(())
 }

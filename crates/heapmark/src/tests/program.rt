@@ -2,16 +2,17 @@
 
 use super::dumps::Record::Heap;
 use super::dumps::Sub::Raw;
-use super::dumps::{Bytes, Record, TWO_OBJECTS, TWO_OBJECTS_REPORT};
+use super::dumps::{Record, Sample, TWO_OBJECTS_REPORT};
+use super::process::reported;
 use crate::command::program_at_terminal;
 use crate::{Counted, program};
+use std::alloc::{AllocError, Global};
 use std::env::Env;
 use std::io::{ErrorKind, Write};
-use std::path::PathBuf;
+use std::path::{Path, PathBuf};
 use std::process::Abort;
 use std::rt::Files;
 use std::sync::Wait;
-use std::test::Fail;
 use std::thread::Threads;
 use std::{env, fs, io};
 
@@ -30,21 +31,112 @@ impl Write for Broken {
 }
 
 /// A root, and behind it a tag that no table has.
-static BAD_TAG: [Record; 1] = [Heap(&[Raw(&[0xff, 0, 0, 0, 0, 0x7a])])];
+const BAD_TAG: &[Record] = &[Heap(&[Raw(&[0xff, 0, 0, 0, 0, 0x7a])])];
 
 /// A file of these bytes.
-pub fn file_of<T: AllocGlobal + Env + Files>(
-    rt: &T,
-    name: &str,
-    dump: &Bytes,
-) -> io::Result<PathBuf> {
+fn file_of<T: AllocGlobal + Env + Files>(rt: &T, name: &str, bytes: &[u8]) -> io::Result<PathBuf> {
     let path = env::temp_dir(rt)?.join(rt.alloc(), name)?;
-    fs::write(rt, path.as_path(), dump.bytes.as_slice())?;
+    fs::write(rt, path.as_path(), bytes)?;
     Ok(path)
 }
 
+/// The words of a line behind the program's name, with this file for the word FILE.
+fn words_of<'a>(alloc: Global, line: &'a str, file: &'a str) -> Result<Vec<&'a str>, AllocError> {
+    let mut words = Vec::new(alloc);
+    words.push("heapmark")?;
+    for word in line.split_whitespace() {
+        words.push(if word == "FILE" { file } else { word })?;
+    }
+    Ok(words)
+}
+
+/// Where the program prints, and what is asked of that.
+#[derive(Clone, Copy)]
+pub enum Asked<'a> {
+    /// Whether the output is this, and standard error this.
+    Both(&'a str, &'a str),
+    /// People read standard error: whether the output is empty, and standard error begins and ends so.
+    People(&'a str, &'a str),
+    /// The output fails: whether standard error is this.
+    Unwritten(&'a str),
+    /// Standard error fails.
+    Unheard,
+    /// The process, whose standard error is a terminal or not: whether the output is this.
+    Process(bool, &'a str),
+}
+
+/// What the program answers for these words: its status, and whether output and standard error are as it is asked.
+fn told<T: Files + AllocGlobal + Threads + Wait + Sync>(
+    rt: &T,
+    words: &[&str],
+    asked: Asked<'_>,
+) -> (u8, bool, bool) {
+    match asked {
+        Asked::Both(report, refusal) => answered(rt, words, report, refusal),
+        Asked::People(begins, ends) => {
+            let (status, is_empty, length) = answered_to_people(rt, words, begins, ends);
+            (status, is_empty, length.is_some())
+        }
+        Asked::Unwritten(refusal) => {
+            let (status, is_told) = answered_unwritten(rt, words, refusal);
+            (status, true, is_told)
+        }
+        Asked::Unheard => (answered_unheard(rt, words), true, true),
+        Asked::Process(is_terminal, report) => {
+            let (status, is_reported) = reported(rt, words, is_terminal, report);
+            (status, is_reported, true)
+        }
+    }
+}
+
+/// What it answers for this line, with the name of a file for FILE.
+fn told_at<T: Files + AllocGlobal + Threads + Wait + Sync>(
+    rt: &T,
+    path: Path<'_>,
+    line: &str,
+    asked: Asked<'_>,
+) -> Option<(u8, bool, bool)> {
+    let file = path.to_str()?;
+    match words_of(rt.alloc(), line, file) {
+        Ok(words) => Some(told(rt, words.as_slice(), asked)),
+        Err(_) => None,
+    }
+}
+
+/// What it answers for this line, with the name of a file of these bytes for FILE.
+pub fn told_on<T: AllocGlobal + Env + Files + Threads + Wait + Sync>(
+    rt: &T,
+    name: &str,
+    bytes: &[u8],
+    line: &str,
+    asked: Asked<'_>,
+) -> Option<(u8, bool, bool)> {
+    let Ok(path) = file_of(rt, name, bytes) else {
+        return None;
+    };
+    let told = told_at(rt, path.as_path(), line, asked);
+    match fs::remove_file(rt, path.as_path()) {
+        Ok(()) => told,
+        Err(_) => None,
+    }
+}
+
+/// What it answers for this line, with the name of a file of this dump for FILE.
+pub fn answered_on<T: AllocGlobal + Env + Files + Threads + Wait + Sync>(
+    rt: &T,
+    name: &str,
+    sample: Sample,
+    line: &str,
+    asked: Asked<'_>,
+) -> Option<(u8, bool, bool)> {
+    match sample.dump(rt.alloc()) {
+        Ok(dump) => told_on(rt, name, dump.bytes.as_slice(), line, asked),
+        Err(_) => None,
+    }
+}
+
 /// What the program prints on both streams for these words, and its status.
-pub fn printed<T: Files + AllocGlobal + Threads + Wait + Sync>(
+fn printed<T: Files + AllocGlobal + Threads + Wait + Sync>(
     rt: &T,
     words: &[&str],
 ) -> (u8, Vec<u8>, Vec<u8>) {
@@ -83,31 +175,18 @@ pub fn answered_to_people<T: Files + AllocGlobal + Threads + Wait + Sync>(
     (status, out.into_inner().is_empty(), length)
 }
 
-/// What the program answers for a file of these records.
-fn answered_of<T: AllocGlobal + Env + Files + Threads + Wait + Sync>(
-    rt: &T,
-    name: &str,
-    records: &[Record],
-    report: &str,
-    refusal: &str,
-) -> Result<(u8, bool, bool), Fail> {
-    let path = file_of(rt, name, &Bytes::dump(rt.alloc(), 4, records)?)?;
-    let file = path.to_str().ok_or("the name of the file is not text")?;
-    let told = answered(rt, &["heapmark", file], report, refusal);
-    fs::remove_file(rt, path.as_path())?;
-    Ok(told)
-}
-
 #[test]
-fn a_file_is_reported_or_refused(rt: HostRuntime) -> Result<(), Fail> {
-    let name = "heapmark_two_objects.hprof";
-    let told = answered_of(&rt, name, TWO_OBJECTS, TWO_OBJECTS_REPORT, "")?;
-    assert_eq!(rt; told, (0, true, true), "{name}");
-    let name = "heapmark_bad_tag.hprof";
-    let refusal = "heapmark: refused 5 BadSubTag at 45\n";
-    let told = answered_of(&rt, name, &BAD_TAG, "", refusal)?;
-    assert_eq!(rt; told, (1, true, true), "{name}");
-    Ok(())
+fn a_file_is_reported_or_refused(rt: HostRuntime) {
+    let bad_tag = "heapmark: refused 5 BadSubTag at 45\n";
+    let files = [
+        (Sample::TwoObjects, 0, TWO_OBJECTS_REPORT, ""),
+        (Sample::Records(4, BAD_TAG), 1, "", bad_tag),
+    ];
+    for (sample, status, report, refusal) in files {
+        let asked = Asked::Both(report, refusal);
+        let told = answered_on(&rt, "heapmark_one_file.hprof", sample, "FILE", asked);
+        assert_eq!(rt; told, Some((status, true, true)), "{report}{refusal}");
+    }
 }
 
 /// The status for these words where the output fails, and whether this is printed on standard error.
@@ -122,16 +201,21 @@ fn answered_unwritten<T: Files + AllocGlobal + Threads + Wait + Sync>(
     (status, err.as_slice() == refusal.as_bytes())
 }
 
+/// The status for these words where standard error fails.
+pub fn answered_unheard<T: Files + AllocGlobal + Threads + Wait + Sync>(
+    rt: &T,
+    words: &[&str],
+) -> u8 {
+    let mut out = Counted::new(Vec::new(rt.alloc()));
+    program(rt, words, &mut out, &mut Broken)
+}
+
 #[test]
-fn a_report_that_is_not_written_is_refused(rt: HostRuntime) -> Result<(), Fail> {
-    let dump = Bytes::dump(rt.alloc(), 4, TWO_OBJECTS)?;
-    let path = file_of(&rt, "heapmark_not_written.hprof", &dump)?;
-    let file = path.to_str().ok_or("the name of the file is not text")?;
-    let refusal = "heapmark: refused 20 WriteFault\n";
-    let told = answered_unwritten(&rt, &["heapmark", file], refusal);
-    fs::remove_file(&rt, path.as_path())?;
-    assert_eq!(rt; told, (1, true));
-    Ok(())
+fn a_report_that_is_not_written_is_refused(rt: HostRuntime) {
+    let (name, sample) = ("heapmark_not_written.hprof", Sample::TwoObjects);
+    let asked = Asked::Unwritten("heapmark: refused 20 WriteFault\n");
+    let told = answered_on(&rt, name, sample, "FILE", asked);
+    assert_eq!(rt; told, Some((1, true, true)));
 }
 
 #[test]

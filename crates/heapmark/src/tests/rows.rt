@@ -6,7 +6,7 @@ pub mod reported;
 
 use super::dumps::{Bytes, NOTHING_REPORT, Record, Sample, TWO_OBJECTS_REPORT, WIDE_ARRAY_REPORT};
 use super::streams::Drip;
-use super::{check, least, refused, usual};
+use super::{is_answered, least, refused, usual};
 use crate::Refusal;
 use classes::CLASSES;
 use refused::REFUSED;
@@ -14,7 +14,6 @@ use reported::REPORTED;
 use std::alloc::{AllocError, Global};
 use std::process::Abort;
 use std::sync::Wait;
-use std::test::Fail;
 use std::thread::Threads;
 
 /// A line of a report: a count, bytes, and a name.
@@ -44,40 +43,83 @@ pub enum Reading {
     ByteByByte,
 }
 
-/// Checks the runs on these bytes.
-fn check_runs<T: Abort + Threads + Wait + Sync>(
+/// Whether the runs on these bytes are answered so.
+fn runs_are_answered<T: Threads + Wait + Sync>(
     rt: &T,
     alloc: Global,
     reading: Reading,
-    name: &str,
     dump: &[u8],
     want: Result<(), Refusal>,
     report: &str,
-) {
+) -> bool {
     match reading {
         Reading::Whole => {
             for workers in [1, 2, 64] {
-                check(rt, alloc, &usual(workers), dump, want, report, name);
+                if !is_answered(rt, alloc, &usual(workers), dump, want, report) {
+                    return false;
+                }
             }
+            true
         }
-        Reading::ByteByByte => check(rt, alloc, &least(2), Drip::new(dump), want, report, name),
+        Reading::ByteByByte => is_answered(rt, alloc, &least(2), Drip::new(dump), want, report),
     }
 }
 
-/// Checks each of these dumps.
-fn all_are_reported<T: Abort + Threads + Wait + Sync>(
+/// Whether the runs on these bytes write the report of these lines.
+fn lines_are_written<T: Threads + Wait + Sync>(
     rt: &T,
     alloc: Global,
     reading: Reading,
-    rows: &[Reported],
-) -> Result<(), Fail> {
-    for (name, id_size, records, lines) in rows {
-        let dump = Bytes::dump(alloc, *id_size, records)?;
-        let report = report_of(alloc, lines)?;
-        let bytes = dump.bytes.as_slice();
-        check_runs(rt, alloc, reading, name, bytes, Ok(()), report.as_str());
+    dump: &[u8],
+    lines: &[Line],
+) -> bool {
+    match report_of(alloc, lines) {
+        Ok(report) => runs_are_answered(rt, alloc, reading, dump, Ok(()), report.as_str()),
+        Err(_) => false,
     }
-    Ok(())
+}
+
+/// Whether the runs on a dump that has a report write it.
+fn is_reported<T: Threads + Wait + Sync>(
+    rt: &T,
+    alloc: Global,
+    reading: Reading,
+    row: &Reported,
+) -> bool {
+    let (_, id_size, records, lines) = *row;
+    match Bytes::dump(alloc, id_size, records) {
+        Ok(dump) => lines_are_written(rt, alloc, reading, dump.bytes.as_slice(), lines),
+        Err(_) => false,
+    }
+}
+
+/// Whether the runs on a dump with a fault find it.
+fn is_refused<T: Threads + Wait + Sync>(
+    rt: &T,
+    alloc: Global,
+    reading: Reading,
+    row: &Refused,
+) -> bool {
+    let (_, id_size, records, code, place) = *row;
+    let want = refused(code, Some(place));
+    match Bytes::dump(alloc, id_size, records) {
+        Ok(dump) => runs_are_answered(rt, alloc, reading, dump.bytes.as_slice(), want, ""),
+        Err(_) => false,
+    }
+}
+
+/// Whether the runs on a sample write this report.
+fn sample_is_reported<T: Threads + Wait + Sync>(
+    rt: &T,
+    alloc: Global,
+    reading: Reading,
+    sample: Sample,
+    report: &str,
+) -> bool {
+    match sample.dump(alloc) {
+        Ok(dump) => runs_are_answered(rt, alloc, reading, dump.bytes.as_slice(), Ok(()), report),
+        Err(_) => false,
+    }
 }
 
 /// Dumps that other tests run on too.
@@ -87,53 +129,69 @@ static SAMPLES: [(Sample, &str); 3] = [
     (Sample::WideArray, WIDE_ARRAY_REPORT),
 ];
 
+/// Checks each of these dumps.
+fn all_are_reported<T: Abort + Threads + Wait + Sync>(
+    rt: &T,
+    alloc: Global,
+    reading: Reading,
+    rows: &[Reported],
+) {
+    for row in rows {
+        assert!(rt; is_reported(rt, alloc, reading, row), "{}", row.0);
+    }
+}
+
 /// Checks each dump that has a report.
 pub fn reports_are_written<T: Abort + Threads + Wait + Sync>(
     rt: &T,
     alloc: Global,
     reading: Reading,
-) -> Result<(), Fail> {
-    all_are_reported(rt, alloc, reading, &REPORTED)?;
-    all_are_reported(rt, alloc, reading, &CLASSES)?;
+) {
+    all_are_reported(rt, alloc, reading, &REPORTED);
+    all_are_reported(rt, alloc, reading, &CLASSES);
     for (sample, report) in SAMPLES {
-        let dump = sample.dump(alloc)?;
-        let bytes = dump.bytes.as_slice();
-        check_runs(rt, alloc, reading, "a sample", bytes, Ok(()), report);
+        assert!(rt;
+            sample_is_reported(rt, alloc, reading, sample, report),
+            "a sample: {report}"
+        );
     }
-    Ok(())
 }
 
 /// Checks each dump with a fault.
-pub fn faults_are_found<T: Abort + Threads + Wait + Sync>(
-    rt: &T,
-    alloc: Global,
-    reading: Reading,
-) -> Result<(), Fail> {
-    for (name, id_size, records, code, place) in REFUSED {
-        let dump = Bytes::dump(alloc, id_size, records)?;
-        let want = refused(code, Some(place));
-        check_runs(rt, alloc, reading, name, dump.bytes.as_slice(), want, "");
+pub fn faults_are_found<T: Abort + Threads + Wait + Sync>(rt: &T, alloc: Global, reading: Reading) {
+    for row in &REFUSED {
+        assert!(rt; is_refused(rt, alloc, reading, row), "{}", row.0);
     }
-    Ok(())
 }
 
 #[test]
-fn rows_are_reported(rt: HostRuntime) -> Result<(), Fail> {
-    reports_are_written(&rt, rt.alloc(), Reading::Whole)
+fn rows_are_reported(rt: HostRuntime) {
+    reports_are_written(&rt, rt.alloc(), Reading::Whole);
 }
 
 #[test]
-fn faults_are_refused(rt: HostRuntime) -> Result<(), Fail> {
-    faults_are_found(&rt, rt.alloc(), Reading::Whole)
+fn faults_are_refused(rt: HostRuntime) {
+    faults_are_found(&rt, rt.alloc(), Reading::Whole);
+}
+
+/// The header, and a string of 2 ^ 32 - 1 bytes that begins at its end.
+fn long_string(alloc: Global) -> Result<Bytes, AllocError> {
+    let mut dump = Bytes::header(alloc, 4)?;
+    dump.raw(&[0x01, 0, 0, 0, 0, 0xff, 0xff, 0xff, 0xff])?;
+    Ok(dump)
+}
+
+/// Whether the runs on it are refused so.
+fn long_string_is_refused<T: Threads + Wait + Sync>(rt: &T, alloc: Global) -> bool {
+    let (reading, want) = (Reading::Whole, refused(3, Some(31)));
+    match long_string(alloc) {
+        Ok(dump) => runs_are_answered(rt, alloc, reading, dump.bytes.as_slice(), want, ""),
+        Err(_) => false,
+    }
 }
 
 /// A string of 2 ^ 32 - 1 bytes in a file that ends there.
 #[test]
-fn a_long_string_is_refused(rt: HostRuntime) -> Result<(), Fail> {
-    let mut dump = Bytes::header(rt.alloc(), 4)?;
-    dump.raw(&[0x01, 0, 0, 0, 0, 0xff, 0xff, 0xff, 0xff])?;
-    let (name, bytes) = ("a long string", dump.bytes.as_slice());
-    let want = refused(3, Some(31));
-    check_runs(&rt, rt.alloc(), Reading::Whole, name, bytes, want, "");
-    Ok(())
+fn a_long_string_is_refused(rt: HostRuntime) {
+    assert!(rt; long_string_is_refused(&rt, rt.alloc()));
 }

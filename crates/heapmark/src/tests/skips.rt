@@ -4,18 +4,17 @@ mod names;
 
 use super::dumps::Record::{Heap, Load, Text};
 use super::dumps::Sub::{Class, Instance, Root};
-use super::dumps::{Bytes, Record};
-use super::program::{answered, file_of};
+use super::dumps::{Bytes, Record, Sample};
+use super::program::{Asked, answered, answered_on};
 use super::rows::{Line, report_of};
 use super::{answer, usual};
 use crate::{Skip, SkipRefusal};
 use names::NAMES;
 use std::alloc::Global;
-use std::fs;
+use std::env::Env;
 use std::process::Abort;
 use std::rt::Files;
 use std::sync::Wait;
-use std::test::Fail;
 use std::thread::Threads;
 
 /// What a case shows, its records with identifiers of 4 bytes, a list, or none, and the lines of the report.
@@ -108,87 +107,114 @@ static LISTS: [Skipped; 6] = [
     ),
 ];
 
-/// Runs with 1, 2 and 64 workers on these bytes.
-fn check<T: Abort + Threads + Wait + Sync>(
+/// Whether runs with 1, 2 and 64 workers on these bytes write this report.
+fn runs_are_reported<T: Threads + Wait + Sync>(
     rt: &T,
     alloc: Global,
-    name: &str,
     dump: &[u8],
     skip: &Skip<'_, Global>,
     report: &str,
-) {
+) -> bool {
     for workers in [1, 2, 64] {
         let told = answer(rt, alloc, &usual(workers), skip, dump, report);
-        assert_eq!(rt;
-            told,
-            (Ok(()), Some(report.len())),
-            "{name}, {workers} workers"
-        );
-    }
-}
-
-/// Checks each of these cases.
-fn all_are_reported<T: Abort + Threads + Wait + Sync>(
-    rt: &T,
-    alloc: Global,
-    cases: &[Skipped],
-) -> Result<(), Fail> {
-    for (name, records, list, lines) in cases {
-        let dump = Bytes::dump(alloc, 4, records)?;
-        let report = report_of(alloc, lines)?;
-        let skip = match *list {
-            Some(text) => Skip::new(alloc, text)?,
-            None => Skip::none(alloc),
-        };
-        check(
-            rt,
-            alloc,
-            name,
-            dump.bytes.as_slice(),
-            &skip,
-            report.as_str(),
-        );
-    }
-    Ok(())
-}
-
-#[test]
-fn fields_are_skipped(rt: HostRuntime) -> Result<(), Fail> {
-    all_are_reported(&rt, rt.alloc(), &LISTS)
-}
-
-#[test]
-fn fields_are_skipped_by_both_names(rt: HostRuntime) -> Result<(), Fail> {
-    all_are_reported(&rt, rt.alloc(), &NAMES)
-}
-
-/// The program answers these words by a report of these lines.
-fn is_reported<T: Abort + Files + AllocGlobal + Threads + Wait + Sync>(
-    rt: &T,
-    words: &[&str],
-    lines: &[Line],
-) -> Result<(), Fail> {
-    let report = report_of(rt.alloc(), lines)?;
-    let told = answered(rt, words, report.as_str(), "");
-    assert_eq!(rt; told, (0, true, true), "{words:?}");
-    Ok(())
-}
-
-#[test]
-fn the_words_list_the_fields(rt: HostRuntime) -> Result<(), Fail> {
-    let alloc = rt.alloc();
-    let dump = Bytes::dump(alloc, 4, REFERENCES)?;
-    let path = file_of(&rt, "heapmark_skipped.hprof", &dump)?;
-    let file = path.to_str().ok_or("the name of the file is not text")?;
-    for (_, _, list, lines) in LISTS {
-        match list {
-            Some(list) => is_reported(&rt, &["heapmark", file, "--skip", list], lines)?,
-            None => is_reported(&rt, &["heapmark", file], lines)?,
+        if told != (Ok(()), Some(report.len())) {
+            return false;
         }
     }
-    is_reported(&rt, &["heapmark", "--skip=T.other", file], ALL)?;
-    fs::remove_file(&rt, path.as_path())?;
-    Ok(())
+    true
+}
+
+/// Whether they do where these fields are skipped, and the report is that of these lines.
+fn lines_are_written<T: Threads + Wait + Sync>(
+    rt: &T,
+    alloc: Global,
+    dump: &[u8],
+    skip: &Skip<'_, Global>,
+    lines: &[Line],
+) -> bool {
+    match report_of(alloc, lines) {
+        Ok(report) => runs_are_reported(rt, alloc, dump, skip, report.as_str()),
+        Err(_) => false,
+    }
+}
+
+/// Whether they do where the fields of this list are skipped.
+fn list_is_skipped<T: Threads + Wait + Sync>(
+    rt: &T,
+    alloc: Global,
+    dump: &[u8],
+    list: Option<&'static str>,
+    lines: &[Line],
+) -> bool {
+    let Some(text) = list else {
+        return lines_are_written(rt, alloc, dump, &Skip::none(alloc), lines);
+    };
+    match Skip::new(alloc, text) {
+        Ok(skip) => lines_are_written(rt, alloc, dump, &skip, lines),
+        Err(_) => false,
+    }
+}
+
+/// Whether the runs of a case write its report.
+fn is_skipped<T: Threads + Wait + Sync>(rt: &T, alloc: Global, case: &Skipped) -> bool {
+    let (_, records, list, lines) = *case;
+    match Bytes::dump(alloc, 4, records) {
+        Ok(dump) => list_is_skipped(rt, alloc, dump.bytes.as_slice(), list, lines),
+        Err(_) => false,
+    }
+}
+
+#[test]
+fn fields_are_skipped(rt: HostRuntime) {
+    for case in &LISTS {
+        assert!(rt; is_skipped(&rt, rt.alloc(), case), "{}", case.0);
+    }
+}
+
+#[test]
+fn fields_are_skipped_by_both_names(rt: HostRuntime) {
+    for case in &NAMES {
+        assert!(rt; is_skipped(&rt, rt.alloc(), case), "{}", case.0);
+    }
+}
+
+/// Whether the program answers this line by a report of these lines.
+fn is_reported<T: AllocGlobal + Env + Files + Threads + Wait + Sync>(
+    rt: &T,
+    line: &str,
+    lines: &[Line],
+) -> bool {
+    let (name, sample) = ("heapmark_skipped.hprof", Sample::Records(4, REFERENCES));
+    match report_of(rt.alloc(), lines) {
+        Ok(report) => {
+            let asked = Asked::Both(report.as_str(), "");
+            answered_on(rt, name, sample, line, asked) == Some((0, true, true))
+        }
+        Err(_) => false,
+    }
+}
+
+/// Whether it does for a line with this list.
+fn list_is_reported<T: AllocGlobal + Env + Files + Threads + Wait + Sync>(
+    rt: &T,
+    list: Option<&'static str>,
+    lines: &[Line],
+) -> bool {
+    let Some(list) = list else {
+        return is_reported(rt, "FILE", lines);
+    };
+    match format!(in rt.alloc(); "FILE --skip {list}") {
+        Ok(line) => is_reported(rt, line.as_str(), lines),
+        Err(_) => false,
+    }
+}
+
+#[test]
+fn the_words_list_the_fields(rt: HostRuntime) {
+    for (_, _, list, lines) in LISTS {
+        assert!(rt; list_is_reported(&rt, list, lines), "{list:?}");
+    }
+    assert!(rt; is_reported(&rt, "--skip=T.other FILE", ALL));
 }
 
 /// The program refuses these words so, with nothing written.

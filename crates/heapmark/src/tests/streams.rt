@@ -4,11 +4,10 @@ use super::dumps::Sample::{Nothing, TwoObjects};
 use super::dumps::{NOTHING_REPORT, Sample, TWO_OBJECTS_REPORT, two_objects};
 use super::{Answered, answer, least, length_of, refused, run_with, usual};
 use crate::{NoGate, Options, Skip};
-use std::alloc::{AllocError, Global};
+use std::alloc::Global;
 use std::io;
 use std::io::{ErrorKind, Read, Write};
 use std::sync::Wait;
-use std::test::Fail;
 use std::thread::Threads;
 
 /// Gives its bytes one at a call, and fails at one call alone.
@@ -114,39 +113,56 @@ fn read_failing<T: Threads + Wait + Sync>(
     alloc: Global,
     calls_left: usize,
     kind: ErrorKind,
-) -> Result<Answered, AllocError> {
-    let dump = two_objects(alloc)?;
-    let drip = Drip {
-        bytes: dump.bytes.as_slice(),
-        calls_left,
-        kind,
-    };
+) -> Option<Answered> {
     let skip = Skip::none(alloc);
-    Ok(answer(rt, alloc, &least(2), &skip, drip, TWO_OBJECTS_REPORT))
+    match two_objects(alloc) {
+        Ok(dump) => {
+            let drip = Drip {
+                bytes: dump.bytes.as_slice(),
+                calls_left,
+                kind,
+            };
+            Some(answer(rt, alloc, &least(2), &skip, drip, TWO_OBJECTS_REPORT))
+        }
+        Err(_) => None,
+    }
 }
 
 #[test]
-fn a_read_fault_is_told_and_not_tried_again(rt: HostRuntime) -> Result<(), Fail> {
+fn a_read_fault_is_told_and_not_tried_again(rt: HostRuntime) {
     for kind in [
         ErrorKind::Interrupted,
         ErrorKind::UnexpectedEof,
         ErrorKind::Other,
     ] {
         for calls_left in 0..176usize {
-            let told = read_failing(&rt, rt.alloc(), calls_left, kind)?;
+            let told = read_failing(&rt, rt.alloc(), calls_left, kind);
             // 174 reads give a byte, and one more finds the end
             let want = if calls_left < 175 {
                 (refused(19, None), Some(0))
             } else {
                 (Ok(()), Some(TWO_OBJECTS_REPORT.len()))
             };
-            assert_eq!(rt; told, want, "{calls_left} reads");
+            assert_eq!(rt; told, Some(want), "{calls_left} reads");
         }
     }
-    Ok(())
 }
 
-/// The answer of a run with these options on this dump whose report goes to this tray.
+/// The answer of a run with these options on these bytes whose report goes to this tray.
+fn written_of<T: Threads + Wait + Sync>(
+    rt: &T,
+    alloc: Global,
+    options: &Options,
+    bytes: &[u8],
+    report: &str,
+    tray: Tray,
+) -> Answered {
+    let skip = Skip::none(alloc);
+    let (outcome, tray) = run_with(rt, alloc, options, &skip, &NoGate, bytes, tray);
+    (outcome, length_of(tray.taken.as_slice(), report))
+}
+
+/// That of a run on this dump.
 fn written_to<T: Threads + Wait + Sync>(
     rt: &T,
     alloc: Global,
@@ -154,16 +170,15 @@ fn written_to<T: Threads + Wait + Sync>(
     sample: Sample,
     report: &str,
     tray: Tray,
-) -> Result<Answered, AllocError> {
-    let dump = sample.dump(alloc)?;
-    let skip = Skip::none(alloc);
-    let bytes = dump.bytes.as_slice();
-    let (outcome, tray) = run_with(rt, alloc, options, &skip, &NoGate, bytes, tray);
-    Ok((outcome, length_of(tray.taken.as_slice(), report)))
+) -> Option<Answered> {
+    match sample.dump(alloc) {
+        Ok(dump) => Some(written_of(rt, alloc, options, dump.bytes.as_slice(), report, tray)),
+        Err(_) => None,
+    }
 }
 
 #[test]
-fn a_write_fault_leaves_a_beginning(rt: HostRuntime) -> Result<(), Fail> {
+fn a_write_fault_leaves_a_beginning(rt: HostRuntime) {
     let report = TWO_OBJECTS_REPORT;
     for failure in [
         Failure::Fault(ErrorKind::Interrupted),
@@ -172,21 +187,20 @@ fn a_write_fault_leaves_a_beginning(rt: HostRuntime) -> Result<(), Fail> {
     ] {
         for writes_left in 0..32usize {
             let tray = Tray::new(rt.alloc(), 10, writes_left, failure);
-            let told = written_to(&rt, rt.alloc(), &least(2), TwoObjects, report, tray)?;
+            let told = written_to(&rt, rt.alloc(), &least(2), TwoObjects, report, tray);
             let taken = writes_left * 10;
             let want = if taken < report.len() {
                 (refused(20, None), Some(taken))
             } else {
                 (Ok(()), Some(report.len()))
             };
-            assert_eq!(rt; told, want, "{writes_left} writes");
+            assert_eq!(rt; told, Some(want), "{writes_left} writes");
         }
     }
-    Ok(())
 }
 
 #[test]
-fn a_fault_of_the_flush_is_told(rt: HostRuntime) -> Result<(), Fail> {
+fn a_fault_of_the_flush_is_told(rt: HostRuntime) {
     let tray = Tray::that_does_not_flush(rt.alloc());
     let told = written_to(
         &rt,
@@ -195,18 +209,19 @@ fn a_fault_of_the_flush_is_told(rt: HostRuntime) -> Result<(), Fail> {
         TwoObjects,
         TWO_OBJECTS_REPORT,
         tray,
-    )?;
-    assert_eq!(rt; told, (refused(20, None), Some(TWO_OBJECTS_REPORT.len())));
-    Ok(())
+    );
+    assert_eq!(rt;
+        told,
+        Some((refused(20, None), Some(TWO_OBJECTS_REPORT.len())))
+    );
 }
 
 /// The first of the lines that end each report, with nothing before them, is cut behind its count.
 #[test]
-fn a_write_fault_leaves_a_beginning_of_the_last_lines(rt: HostRuntime) -> Result<(), Fail> {
+fn a_write_fault_leaves_a_beginning_of_the_last_lines(rt: HostRuntime) {
     for options in [least(2), usual(1), usual(2), usual(64)] {
         let tray = Tray::new(rt.alloc(), 10, 1, Failure::Fault(ErrorKind::Other));
-        let told = written_to(&rt, rt.alloc(), &options, Nothing, NOTHING_REPORT, tray)?;
-        assert_eq!(rt; told, (refused(20, None), Some(10)), "{options:?}");
+        let told = written_to(&rt, rt.alloc(), &options, Nothing, NOTHING_REPORT, tray);
+        assert_eq!(rt; told, Some((refused(20, None), Some(10))), "{options:?}");
     }
-    Ok(())
 }

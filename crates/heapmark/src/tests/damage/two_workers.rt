@@ -4,11 +4,10 @@
 //! too.
 
 use super::answers::ANSWERS;
-use super::check;
+use super::files_of;
 use crate::Options;
 use std::process::Abort;
 use std::sync::Wait;
-use std::test::Fail;
 use std::thread::Threads;
 
 /// How many places of the dump a test changes.
@@ -24,124 +23,121 @@ fn two_workers() -> Options {
 }
 
 /// Checks the rows of so many places from this one on.
-fn check_from<T: Abort + AllocGlobal + Threads + Wait + Sync>(
-    rt: &T,
-    from: usize,
-) -> Result<(), Fail> {
+fn check_from<T: Abort + AllocGlobal + Threads + Wait + Sync>(rt: &T, from: usize) {
     for row in &ANSWERS {
         if from <= row.0 && row.0 - from < PLACES {
-            let _files = check(rt, rt.alloc(), &two_workers(), row)?;
+            let files = files_of(rt, rt.alloc(), &two_workers(), row);
+            assert!(rt; files.is_some(), "byte {}, {} to {}", row.0, row.1, row.2);
         }
     }
-    Ok(())
 }
 
 #[test]
-fn each_byte_from_0(rt: HostRuntime) -> Result<(), Fail> {
-    check_from(&rt, 0)
+fn each_byte_from_0(rt: HostRuntime) {
+    check_from(&rt, 0);
 }
 
 #[test]
-fn each_byte_from_8(rt: HostRuntime) -> Result<(), Fail> {
-    check_from(&rt, 8)
+fn each_byte_from_8(rt: HostRuntime) {
+    check_from(&rt, 8);
 }
 
 #[test]
-fn each_byte_from_16(rt: HostRuntime) -> Result<(), Fail> {
-    check_from(&rt, 16)
+fn each_byte_from_16(rt: HostRuntime) {
+    check_from(&rt, 16);
 }
 
 #[test]
-fn each_byte_from_24(rt: HostRuntime) -> Result<(), Fail> {
-    check_from(&rt, 24)
+fn each_byte_from_24(rt: HostRuntime) {
+    check_from(&rt, 24);
 }
 
 #[test]
-fn each_byte_from_32(rt: HostRuntime) -> Result<(), Fail> {
-    check_from(&rt, 32)
+fn each_byte_from_32(rt: HostRuntime) {
+    check_from(&rt, 32);
 }
 
 #[test]
-fn each_byte_from_40(rt: HostRuntime) -> Result<(), Fail> {
-    check_from(&rt, 40)
+fn each_byte_from_40(rt: HostRuntime) {
+    check_from(&rt, 40);
 }
 
 #[test]
-fn each_byte_from_48(rt: HostRuntime) -> Result<(), Fail> {
-    check_from(&rt, 48)
+fn each_byte_from_48(rt: HostRuntime) {
+    check_from(&rt, 48);
 }
 
 #[test]
-fn each_byte_from_56(rt: HostRuntime) -> Result<(), Fail> {
-    check_from(&rt, 56)
+fn each_byte_from_56(rt: HostRuntime) {
+    check_from(&rt, 56);
 }
 
 #[test]
-fn each_byte_from_64(rt: HostRuntime) -> Result<(), Fail> {
-    check_from(&rt, 64)
+fn each_byte_from_64(rt: HostRuntime) {
+    check_from(&rt, 64);
 }
 
 #[test]
-fn each_byte_from_72(rt: HostRuntime) -> Result<(), Fail> {
-    check_from(&rt, 72)
+fn each_byte_from_72(rt: HostRuntime) {
+    check_from(&rt, 72);
 }
 
 #[test]
-fn each_byte_from_80(rt: HostRuntime) -> Result<(), Fail> {
-    check_from(&rt, 80)
+fn each_byte_from_80(rt: HostRuntime) {
+    check_from(&rt, 80);
 }
 
 #[test]
-fn each_byte_from_88(rt: HostRuntime) -> Result<(), Fail> {
-    check_from(&rt, 88)
+fn each_byte_from_88(rt: HostRuntime) {
+    check_from(&rt, 88);
 }
 
 #[test]
-fn each_byte_from_96(rt: HostRuntime) -> Result<(), Fail> {
-    check_from(&rt, 96)
+fn each_byte_from_96(rt: HostRuntime) {
+    check_from(&rt, 96);
 }
 
 #[test]
-fn each_byte_from_104(rt: HostRuntime) -> Result<(), Fail> {
-    check_from(&rt, 104)
+fn each_byte_from_104(rt: HostRuntime) {
+    check_from(&rt, 104);
 }
 
 #[test]
-fn each_byte_from_112(rt: HostRuntime) -> Result<(), Fail> {
-    check_from(&rt, 112)
+fn each_byte_from_112(rt: HostRuntime) {
+    check_from(&rt, 112);
 }
 
 #[test]
-fn each_byte_from_120(rt: HostRuntime) -> Result<(), Fail> {
-    check_from(&rt, 120)
+fn each_byte_from_120(rt: HostRuntime) {
+    check_from(&rt, 120);
 }
 
 #[test]
-fn each_byte_from_128(rt: HostRuntime) -> Result<(), Fail> {
-    check_from(&rt, 128)
+fn each_byte_from_128(rt: HostRuntime) {
+    check_from(&rt, 128);
 }
 
 #[test]
-fn each_byte_from_136(rt: HostRuntime) -> Result<(), Fail> {
-    check_from(&rt, 136)
+fn each_byte_from_136(rt: HostRuntime) {
+    check_from(&rt, 136);
 }
 
 #[test]
-fn each_byte_from_144(rt: HostRuntime) -> Result<(), Fail> {
-    check_from(&rt, 144)
+fn each_byte_from_144(rt: HostRuntime) {
+    check_from(&rt, 144);
 }
 
 #[test]
-fn each_byte_from_152(rt: HostRuntime) -> Result<(), Fail> {
-    check_from(&rt, 152)
+fn each_byte_from_152(rt: HostRuntime) {
+    check_from(&rt, 152);
 }
 
 #[test]
-fn each_byte_from_160(rt: HostRuntime) -> Result<(), Fail> {
-    check_from(&rt, 160)
+fn each_byte_from_160(rt: HostRuntime) {
+    check_from(&rt, 160);
 }
 
 #[test]
-fn each_byte_from_168(rt: HostRuntime) -> Result<(), Fail> {
-    check_from(&rt, 168)
+fn each_byte_from_168(rt: HostRuntime) {
+    check_from(&rt, 168);
 }
