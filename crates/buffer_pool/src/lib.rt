@@ -5,7 +5,7 @@
 //! tries of one. Each call's contract says which events of `mark_core` it made, so the law of the marking holds of the
 //! pool's words between any two steps, and `close` tells what it says once all workers are joined.
 //!
-//! From `src/worked.rt` of `pool_tests`, which has the tests of this crate, proved and run:
+//! From `crates/pool_tests/src/worked.rt`, which is proved and run with the tests:
 //!
 //!     let (pool, worker) = pool_of_roots(alloc, OBJECTS, 4, 2)?;
 //!     let (mut worker, mut other) = pool.split(worker, 1);

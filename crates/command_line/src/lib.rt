@@ -3,7 +3,7 @@
 //! `arguments` hands the words to clap, and answers the file and the options, each in its range, with the defaults
 //! where none is given; or clap's error, whose text is for the user. What the list of `--skip` means is not known here.
 //!
-//! From `words.rt` of `command_line_tests`, which is proved and run:
+//! From `crates/command_line_tests/src/words.rt`, which is proved and run:
 //!
 //!     let given = arguments(rt.alloc(), &["heapmark", "app.hprof"])?;
 //!     let want = Arguments {

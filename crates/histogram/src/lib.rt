@@ -4,7 +4,7 @@
 //! three totals. `write_report` writes its text and nothing else. `Counted` stands around a reader or a writer and
 //! counts its failures, so that contracts can say which calls failed.
 //!
-//! From `reports.rt` of `histogram_tests`, which is proved and run:
+//! From `crates/histogram_tests/src/reports.rt`, which is proved and run:
 //!
 //!     let mut writer = Counted::new(Vec::new(alloc));
 //!     let is_whole = write_report(alloc, report, &mut writer).is_ok() && writer.failures() == 0;

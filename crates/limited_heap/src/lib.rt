@@ -1,7 +1,7 @@
 //! A heap for tests of want of memory: it passes requests to the allocator behind it, and refuses all of them from a
 //! given one on, or that one alone. Threads may share it.
 //!
-//! From `src/requests.rt` of `heap_tests`, which has the tests of this crate, proved and run:
+//! From `crates/heap_tests/src/requests.rt`, which is proved and run with the tests:
 //!
 //!     let heap = LimitedHeap::new(rt.alloc(), 1);
 //!     assert_eq!(rt; (heap.requests_left(), heap.refusals()), (1, 0));

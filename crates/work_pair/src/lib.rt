@@ -5,8 +5,8 @@
 //! `balance` and `publish` give objects to other workers. Each call says which moves it made (`specs/Moves.antt`), and
 //! that no object was lost or doubled.
 //!
-//! Five objects, some given to others, and all of them back; from `src/vectors.rt` of `pair_tests`, which has the tests
-//! of this crate, proved and run:
+//! Five objects, some given to others, and all of them back, proved and run with the tests, in
+//! `crates/pair_tests/src/vectors.rt`:
 //!
 //!     &[Fill(5), Balance, FullIsEmpty(false), Get(&[4, 3, 2, 1, 0])]
 //!
