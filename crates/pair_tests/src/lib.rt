@@ -1,4 +1,4 @@
-//! Tests of `work_pair`, in a crate of their own: so that crate is proved once, and not once more with its tests. They ask
+//! Tests of `work_pair`, in a crate of their own: so that crate is proved once, not twice. They ask
 //! what callers may ask. The crate has nothing to hand out.
 //!
 //! What only a run shows: the order in which objects come back, last tags, want of memory, and threads to their end.

@@ -1,4 +1,4 @@
-//! Tests of `buffer_pool`, in a crate of their own: so that crate is proved once, and not once more with its tests. They
+//! Tests of `buffer_pool`, in a crate of their own: so that crate is proved once, not twice. They
 //! ask what callers may ask. The crate has nothing to hand out.
 //!
 //! What only a run shows: that calls succeed, memory that is refused, last tags, and threads to their end. `worked` has
