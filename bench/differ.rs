@@ -1,6 +1,7 @@
 //! Looks for a dump on which two markers differ: `differ ONE OTHER SEED COUNT`.
 //!
-//! Makes so many small dumps, at random from this seed, about half of them damaged; runs both programs on each, and
+//! Makes so many small dumps, at random from this seed, about half of them damaged, a quarter each with IDs that follow
+//! one another, that rise in steps of eight, that fall, and that come in no order; runs both programs on each, and
 //! compares status, report and refusal. The first dump on which they differ stays where it tells. Built by `rustc -O`.
 
 #[path = "plain/rows/file.rs"]
@@ -30,10 +31,21 @@ impl Chance {
     }
 }
 
+/// The ID of each number below 0x1000: the number itself, or a place that eight divides, where objects rise, fall, or
+/// come in no order. That of 0 is 0.
+const ORDERS: [fn(u64) -> u64; 4] = [
+    |number| number,
+    |number| 8 * number,
+    |number| if number == 0 { 0 } else { 8 * (0x1000 - number) },
+    |number| 8 * (number * 0x9E5 % 0x1000),
+];
+
 /// A dump that grows. Classes and other objects have IDs of ranges of their own, most of the time.
 struct Maker {
     chance: Chance,
     id: usize,
+    /// The ID of each number.
+    order: fn(u64) -> u64,
     /// Of each class so far its fields' types and its superclass.
     classes: Vec<(Vec<u8>, u64)>,
     objects: u64,
@@ -52,7 +64,7 @@ impl Maker {
         }
     }
 
-    /// An ID that most likely names an object, or null.
+    /// The number of an ID that most likely names an object, or of null.
     fn reference(&mut self) -> u64 {
         match self.chance.below(20) {
             0 => 0,
@@ -81,7 +93,7 @@ impl Maker {
         let mut values = File { id: self.id, bytes: vec![] };
         for code in codes {
             values = match code {
-                2 => values.ids(&[self.reference()]),
+                2 => values.ids(&[(self.order)(self.reference())]),
                 code => values.number(self.size(*code), self.chance.0),
             };
         }
@@ -100,10 +112,10 @@ impl Maker {
             _ => 0,
         };
         let class = if self.chance.one_in(100) { self.reference() } else { 0x100 + self.classes.len() as u64 };
-        let mut heap = heap.raw(&[0x20]).ids(&[class]).number(4, 0).ids(&[superclass]);
+        let mut heap = heap.raw(&[0x20]).ids(&[(self.order)(class)]).number(4, 0).ids(&[(self.order)(superclass)]);
         for _ in 0..5 {
             let above = if self.chance.one_in(3) { self.reference() } else { 0 };
-            heap = heap.ids(&[above]);
+            heap = heap.ids(&[(self.order)(above)]);
         }
         heap = heap.number(4, self.chance.0);
         for name in [2, self.id] {
@@ -143,16 +155,16 @@ impl Maker {
                 if self.chance.one_in(100) {
                     values.pop();
                 }
-                heap.instance(object, class, &values)
+                heap.instance((self.order)(object), (self.order)(class), &values)
             }
             15..=18 if !self.classes.is_empty() => {
-                let elements: Vec<u64> = (0..self.chance.below(6)).map(|_| self.reference()).collect();
-                heap.objects(self.new_object(), self.class_id(), &elements)
+                let elements: Vec<u64> = (0..self.chance.below(6)).map(|_| (self.order)(self.reference())).collect();
+                heap.objects((self.order)(self.new_object()), (self.order)(self.class_id()), &elements)
             }
             19..=21 => {
                 let (code, count) = (self.chance.of(&CODES[3..]), self.chance.below(5));
                 let elements = vec![7; count as usize * self.size(code)];
-                heap.primitives(self.new_object(), code, count, &elements)
+                heap.primitives((self.order)(self.new_object()), code, count, &elements)
             }
             _ => {
                 let (tag, rest) = self.chance.of(&[
@@ -166,7 +178,7 @@ impl Maker {
                     (0x07, 0),
                     (0x08, 8),
                 ]);
-                heap.raw(&[tag]).ids(&[self.reference()]).raw(&vec![1; rest])
+                heap.raw(&[tag]).ids(&[(self.order)(self.reference())]).raw(&vec![1; rest])
             }
         }
     }
@@ -177,7 +189,7 @@ impl Maker {
             file.string(1 + self.chance.below(5), text.as_bytes())
         } else {
             let class = self.class_id();
-            file.load(class, 1 + self.chance.below(5))
+            file.load((self.order)(class), 1 + self.chance.below(5))
         }
     }
 
@@ -241,7 +253,8 @@ fn main() -> ExitCode {
     let mut seen = std::collections::BTreeMap::<String, u64>::new();
     for number in 0..count {
         let chance = Chance((seed * 1_000_000_007 + number + 1).wrapping_mul(0x9E37_79B9_7F4A_7C15));
-        let mut maker = Maker { chance, id: [4, 8][number as usize % 2], classes: vec![], objects: 0 };
+        let (id, order) = ([4, 8][number as usize % 2], ORDERS[number as usize / 2 % 4]);
+        let mut maker = Maker { chance, id, order, classes: vec![], objects: 0 };
         let mut bytes = maker.dump().bytes;
         while !bytes.is_empty() && maker.chance.one_in(2) {
             maker.damage(&mut bytes);

@@ -6,13 +6,15 @@
 # Writes NAME.hprof and NAME.histogram into DIR (/tmp/heapmark-bench if it is not given). The groups, all of them if
 # none is given:
 #   small      Filler with 5 MB, by each collector, live and all
-#   medium     Filler with 100 MB, by G1 and Serial, live and all
+#   medium     Filler with 100 MB, by G1, Serial, ZGC and Shenandoah, live and all
 #   large      Filler with 600 MB, by G1, live
+#   big        Filler with 300 MB, by ZGC and Shenandoah, live: these write objects in the order of their references
 #   tools      jshell, the virtual machine that it starts, and javac at work
 #   scattered  2,000,000 nodes that refer to one another at random, and a map of them
 #   random     the same with 4,000,000 nodes: 12,000,000 objects
 #   list       one list of 1,000,000 nodes, which ends in a tree of as many, and one of 4,000,000 that ends in one node
 #   map        one map of 4,000,000 entries
+#   ids        6,000,000 instances with IDs at random, made by hostile.rs: 290 MB, without a histogram
 #   odd        no compressed references, no class archive, a dump written at the end of memory
 #   refused    a dump compressed by the virtual machine, which heapmark refuses
 # Java is the one of JAVA_HOME, else that of PATH. Files that are there already are made again.
@@ -53,15 +55,23 @@ small() {
     filler 5 small-serial -XX:+UseSerialGC
     filler 5 small-parallel -XX:+UseParallelGC
     filler 5 small-z -XX:+UseZGC
+    filler 5 small-shenandoah -XX:+UseShenandoahGC
 }
 
 medium() {
     filler 100 medium-g1 -XX:+UseG1GC
     filler 100 medium-serial -XX:+UseSerialGC
+    filler 100 medium-z -XX:+UseZGC
+    filler 100 medium-shenandoah -XX:+UseShenandoahGC
 }
 
 large() {
     filler 600 large-g1 -XX:+UseG1GC
+}
+
+big() {
+    filler 300 big-z -XX:+UseZGC
+    filler 300 big-shenandoah -XX:+UseShenandoahGC
 }
 
 # shaped NAME PROGRAM WORD..
@@ -94,6 +104,13 @@ list() {
 
 map() {
     shaped map-g1-live LargeMap 4000000
+}
+
+# No machine writes such a dump, so there is no histogram of it.
+ids() {
+    rustc --edition 2024 -O -o "$room/hostile" "$top/bench/hostile.rs"
+    "$room/hostile" random_ids 6000000 > "$room/random-ids.hprof"
+    ls -l "$room/random-ids.hprof"
 }
 
 odd() {
@@ -152,10 +169,10 @@ tools() {
 
 mkdir -p "$room"
 "${java}javac" -d "$room/classes" "$top"/bench/java/*.java
-[ $# -gt 0 ] || set -- small medium large tools scattered random list map odd refused
+[ $# -gt 0 ] || set -- small medium large big tools scattered random list map ids odd refused
 for group; do
     case $group in
-        small | medium | large | tools | scattered | random | list | map | odd | refused) "$group" ;;
+        small | medium | large | big | tools | scattered | random | list | map | ids | odd | refused) "$group" ;;
         *) echo "no such group: $group" >&2; exit 2 ;;
     esac
 done

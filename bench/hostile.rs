@@ -1,5 +1,6 @@
 //! Dumps that are made to be slow to read: `hostile KIND COUNT > FILE`. Built by `rustc -O`; `hostile` alone tells the
-//! kinds, and `hostile skip` the list of fields that `named_fields` is to be read with.
+//! kinds, and `hostile skip` the list of fields that `named_fields` is to be read with. The kind `random_ids`, which it
+//! does not tell, is a dump for `dumps.sh`.
 
 #[path = "plain/rows/file.rs"]
 #[allow(dead_code)]
@@ -18,7 +19,7 @@ const INVERSE: u64 = 0xf1de_83e1_9937_733d;
 
 type Build = fn(File, u64) -> File;
 
-const KINDS: [(&str, Build); 19] = [
+const KINDS: [(&str, Build); 23] = [
     ("chain", chain),
     ("chain_upwards", chain_upwards),
     ("cycle", cycle),
@@ -31,6 +32,10 @@ const KINDS: [(&str, Build); 19] = [
     ("crowded_ids", crowded_ids),
     ("one_bucket", one_bucket),
     ("falling_ids", falling_ids),
+    ("one_page", one_page),
+    ("alternating_pages", alternating_pages),
+    ("crowded_pages", crowded_pages),
+    ("unaligned_last", unaligned_last),
     ("names", names),
     ("one_name", one_name),
     ("crowded_names", crowded_names),
@@ -39,6 +44,9 @@ const KINDS: [(&str, Build); 19] = [
     ("array_of_all", array_of_all),
     ("roots", roots),
 ];
+
+/// For `dumps.sh`: what it takes rests on the caches, and twice the size may well take more than twice the time.
+const RANDOM_IDS: (&str, Build) = ("random_ids", random_ids);
 
 fn classes_in_a_chain(heap: File, count: u64) -> File {
     (1..count).fold(heap.class(CLASS, 0, &[]), |heap, above| heap.class(CLASS + above, CLASS + above - 1, &[]))
@@ -186,6 +194,48 @@ fn falling_ids(file: File, count: u64) -> File {
     })
 }
 
+/// An ID on this page of 64 places that eight divides.
+fn on_page(page: u64, place: u64) -> u64 {
+    OBJECT + 512 * page + 8 * place
+}
+
+/// So many objects on one page, from its last place down to its first and so on again: no two are neighbours that rise.
+fn one_page(file: File, count: u64) -> File {
+    let id = |number| on_page(0, 63 - number % 64);
+    file.heap(|heap| (0..count).fold(heap, |heap, number| heap.primitives(id(number), 8, 0, &[])))
+}
+
+/// So many arrays on two pages in turn, up to the last place but one of both, and so on: no two neighbours are of one
+/// page. Each names the next, and the last place of its page, where none is.
+fn in_turn(heap: File, count: u64) -> File {
+    let page = |number: u64| number / 126 * 2 + number % 2;
+    let id = |number: u64| on_page(page(number), number % 126 / 2);
+    let class = heap.class(CLASS, 0, &[]);
+    let all = (0..count)
+        .fold(class, |heap, number| heap.objects(id(number), CLASS, &[id(number + 1), on_page(page(number), 63)]));
+    all.root(OBJECT)
+}
+
+fn alternating_pages(file: File, count: u64) -> File {
+    file.heap(|heap| in_turn(heap, count))
+}
+
+/// The same, all in one bucket of an index by their leading bits, since one ID is far away.
+fn crowded_pages(_: File, count: u64) -> File {
+    File::header(8).heap(|heap| in_turn(heap.primitives(u64::MAX - 7, 8, 0, &[]), count))
+}
+
+/// So many arrays on places that eight divides, each with a reference to the next, and behind them one object on an odd
+/// place.
+fn unaligned_last(file: File, count: u64) -> File {
+    let id = |number: u64| OBJECT + 8 * number;
+    file.heap(|heap| {
+        let class = heap.class(CLASS, 0, &[]);
+        let all = (0..count).fold(class, |heap, number| heap.objects(id(number), CLASS, &[id(number + 1)]));
+        all.primitives(id(count) + 1, 8, 0, &[]).root(OBJECT)
+    })
+}
+
 /// So many classes with a name each, and an instance each.
 fn names(file: File, count: u64) -> File {
     let strings = (0..count).fold(file, |file, number| file.string(number + 1, format!("C{number}").as_bytes()));
@@ -251,10 +301,35 @@ fn roots(file: File, count: u64) -> File {
     })
 }
 
+/// Another number below this power of two for each below it: each step can be undone.
+fn shuffled(number: u64, size: u64) -> u64 {
+    let step = |number: u64, _| {
+        let product = number.wrapping_mul(ODD) % size;
+        product ^ product >> (size.ilog2() / 2 + 1)
+    };
+    (0..3).fold(number, step)
+}
+
+/// So many instances, which refer to one another, on places that eight divides, 32 to 64 bytes for each, in no order:
+/// each names two others, by which all are reached, and a third at random.
+fn random_ids(_: File, count: u64) -> File {
+    let places = (4 * count).next_power_of_two();
+    let id = |number: u64| if number < count { OBJECT + 8 * shuffled(number, places) } else { 0 };
+    let values = |number: u64| {
+        let any = shuffled(number, places) % count;
+        [2 * number + 1, 2 * number + 2, any].map(|other| id(other).to_be_bytes()).concat()
+    };
+    File::header(8).string(1, b"Node").load(CLASS, 1).heap(|heap| {
+        let class = heap.class(CLASS, 0, &[2, 2, 2]);
+        let all = (0..count).fold(class, |heap, number| heap.instance(id(number), CLASS, &values(number)));
+        all.root(id(0))
+    })
+}
+
 fn main() -> ExitCode {
     let words: Vec<String> = std::env::args().skip(1).collect();
     if let [kind, count] = &words[..]
-        && let Some((_, build)) = KINDS.iter().find(|(name, _)| name == kind)
+        && let Some((_, build)) = KINDS.iter().chain([&RANDOM_IDS]).find(|(name, _)| name == kind)
         && let Ok(count) = count.parse()
     {
         let file = build(File::header(4), count);

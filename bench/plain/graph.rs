@@ -1,8 +1,10 @@
 //! What the parts of a dump mean to one another: its classes, their layouts, references, and the faults of its links.
 
+use crate::by_id::ById;
 use crate::dump::{Dump, Fault, Text, fault};
-use crate::index::{ById, Index};
+use crate::index::Index;
 use crate::names::Names;
+use crate::objects::Objects;
 use crate::skip::Skip;
 use crate::tally::{Rows, Visit};
 
@@ -44,10 +46,10 @@ pub struct Graph<'a, const ID: usize> {
 }
 
 impl<'a, const ID: usize> Graph<'a, ID> {
-    pub fn new(text: Text<'a, ID>, dump: Dump, index: Index, skip: &Skip) -> Result<Self, Fault> {
+    pub fn new(text: Text<'a, ID>, dump: Dump, objects: Objects, skip: &Skip) -> Result<Self, Fault> {
         let (classes, class_numbers, fields) = (vec![], ById::default(), vec![]);
-        let mut graph = Graph { text, dump, index, classes, class_numbers, fields };
-        graph.take_classes(skip);
+        let mut graph = Graph { text, dump, index: objects.index, classes, class_numbers, fields };
+        graph.take_classes(&objects.classes, skip);
         graph.link_superclasses();
         let mut path = vec![];
         for number in 0..graph.classes.len() {
@@ -69,12 +71,13 @@ impl<'a, const ID: usize> Graph<'a, ID> {
         self.index.find(id)
     }
 
-    fn take_classes(&mut self, skip: &Skip) {
+    /// Takes the class of each of these class dumps, but of one with ID 0 or with that of an earlier object.
+    fn take_classes(&mut self, dumps: &[u32], skip: &Skip) {
         let names = if skip.is_empty() { Names::default() } else { Names::of(self.text, &self.dump) };
-        for object in 0..self.len() as u32 {
+        for object in dumps.iter().copied() {
             let at = self.at(object);
             let id = self.text.id(at + 1);
-            if self.text.bytes[at] != 0x20 || id == 0 || self.find(id) != Some(object) {
+            if id == 0 || self.find(id) != Some(object) {
                 continue;
             }
             let first = self.fields.len() as u32;

@@ -8,11 +8,13 @@
 //! each object of the dump as if it were reachable. `--skip Class.field,..` passes over these fields. How long each
 //! phase took, what was read and the peak of memory go to standard error.
 
+mod by_id;
 mod dump;
 mod graph;
 mod index;
 mod mark;
 mod names;
+mod objects;
 mod report;
 #[cfg(test)]
 mod rows;
@@ -21,8 +23,8 @@ mod tally;
 
 use dump::{Fault, LIMIT, Text, identifier_size};
 use graph::Graph;
-use index::Index;
 use mark::{Heap, Table, mark, mark_all, mark_with, unmarked};
+use objects::Objects;
 use skip::Skip;
 use std::fs::File;
 use std::io::{self, Read, Write};
@@ -97,9 +99,9 @@ fn run<const ID: usize>(bytes: &[u8], skip: &Skip, options: Options, clock: &mut
     let text = Text::<ID> { bytes };
     let dump = text.parse()?;
     clock.tell("parse");
-    let index = Index::new(dump.objects.iter().map(|at| text.id(*at as usize + 1)));
+    let objects = Objects::of(text, &dump);
     clock.tell("index");
-    let graph = Graph::new(text, dump, index, skip)?;
+    let graph = Graph::new(text, dump, objects, skip)?;
     let (roots, unresolved) = graph.roots();
     clock.tell("link");
     eprintln!("objects {}", graph.len());

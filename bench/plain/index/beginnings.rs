@@ -1,0 +1,87 @@
+//! Where the runs of a page begin.
+
+use super::runs::Run;
+use std::ops::Range;
+
+/// Of so few runs the first is as good a guess as any.
+const FEW: usize = 8;
+
+/// Of so many runs at most a look-up passes one after the other.
+const MANY: usize = 64;
+
+/// So far on either side of a guess it looks where there are more.
+const REACH: usize = 32;
+
+/// A table of where the runs begin whose pages have these leading bits, less the least page.
+pub struct Beginnings {
+    least: u64,
+    shift: u32,
+    starts: Vec<u32>,
+}
+
+impl Beginnings {
+    /// Of runs in order.
+    pub fn of(runs: &[Run]) -> Beginnings {
+        let least = runs.first().map_or(0, |run| run.page);
+        let span = runs.last().map_or(0, |run| run.page - least);
+        let mut shift = 0;
+        while span >> shift > runs.len() as u64 / 2 {
+            shift += 1;
+        }
+        let mut starts = vec![runs.len() as u32; (span >> shift) as usize + 2];
+        for (place, run) in runs.iter().enumerate().rev() {
+            starts[((run.page - least) >> shift) as usize] = place as u32;
+        }
+        for slot in (1..starts.len()).rev() {
+            starts[slot - 1] = starts[slot - 1].min(starts[slot]);
+        }
+        Beginnings { least, shift, starts }
+    }
+
+    /// The place of the first of these runs that is of this page or of one above; None where there can be none of it.
+    pub fn first_from(&self, runs: &[Run], page: u64) -> Option<usize> {
+        let within = page.checked_sub(self.least)?;
+        let slot = (within >> self.shift) as usize;
+        let end = *self.starts.get(slot + 1)? as usize;
+        let mut range = self.starts[slot] as usize..end;
+        let near = range.start + self.guess(within, range.len());
+        if range.len() > MANY {
+            range = narrowed(runs, range, near, page);
+        }
+        let mut at = near.clamp(range.start, range.end);
+        while at > range.start && runs[at - 1].page >= page {
+            at -= 1;
+        }
+        while at < range.end && runs[at].page < page {
+            at += 1;
+        }
+        Some(at)
+    }
+
+    /// About where the page would stand among so many runs of one slot if they were as far from one another as they can
+    /// be. Nothing rests on it but time.
+    fn guess(&self, within: u64, count: usize) -> usize {
+        if count <= FEW {
+            return 0;
+        }
+        let low = within & !(u64::MAX << self.shift);
+        (low.wrapping_mul(count as u64) >> self.shift) as usize
+    }
+}
+
+/// At most `MANY` places where there are more, with the first run from this page on among them or behind them: those
+/// around a guess if it is a good one, else what is left after halving.
+fn narrowed(runs: &[Run], mut range: Range<usize>, near: usize, page: u64) -> Range<usize> {
+    let look = |range: Range<usize>, at: usize| match range.contains(&at) {
+        false => range,
+        true if runs[at].page < page => at + 1..range.end,
+        true => range.start..at,
+    };
+    range = look(range, near.saturating_sub(REACH));
+    range = look(range, near.saturating_add(REACH));
+    while range.len() > MANY {
+        let middle = range.start + range.len() / 2;
+        range = look(range, middle);
+    }
+    range
+}
