@@ -3,9 +3,8 @@
 //!
 //! `worked` has dumps with the graphs that they have to give, `skipped` those of which some fields are not followed,
 //! `chains` and `faults` dumps that are not linked, with the first fault of each. `graphs` asks a graph all that it
-//! tells, `walks` what is left of a walk, `memory` refuses each request in turn (`refused`). `index` holds look-ups
-//! beside a search one by one, `skips` the texts that are lists of fields, `texts` how a refusal is shown, `sizes` how
-//! large a visit is.
+//! tells, `walks` what is left of a walk, `memory` refuses each request in turn (`refused`). `skips` holds the texts
+//! that are lists of fields, `texts` how a refusal is shown, `sizes` how large a visit is.
 
 #![tactic(auto)]
 
@@ -15,8 +14,6 @@ mod chains;
 mod faults;
 #[cfg(test)]
 mod graphs;
-#[cfg(test)]
-mod index;
 #[cfg(test)]
 mod memory;
 #[cfg(test)]

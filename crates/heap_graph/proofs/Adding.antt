@@ -1,16 +1,14 @@
 -- What an addition gives: where it succeeds, and where there is room.
-use Rattle.std.specs.Prelude.{Err, Ok, OnOk, Result, length, map, ◌++◌, ◌+◌, ◌<◌, ◌≡◌, ℕ}
-use Rattle.std.proofs.Common.{List, Some, [], ap, arith, slice_get, sym, take, ◌∙◌, ◌∷◌}
-use Rattle.heap_graph.specs.working.IndexPairs.{HasAdded, Numbering}
+use Rattle.std.specs.Prelude.{Err, Ok, OnOk, Result, length, map, ◌%◌, ◌++◌, ◌+◌, ◌^◌, ◌≡◌, ◌≤◌, ℕ}
+use Rattle.std.proofs.Common.{List, Some, [], ap, arith, length-append, slice_get, sym, take, ◌∙◌, ◌∷◌}
+use Rattle.std.proofs.Math.Nat.{mod-one}
+use Rattle.std.proofs.lemmas.List.{take_all}
+use Rattle.id_index.specs.Aligned.{AlignedIds}
 use Rattle.heap_graph.proofs.EntryLaws.{map_one, take_one}
 
 pub on_ok : {X E : Type 0} {P Q : Type 0} (r : Result X E) → (P → Q) → OnOk r P → OnOk r Q
 on_ok (Ok x) f h = f h
 on_ok (Err e) f h = tt
-
-pub has_room : (builder : Numbering) (count room : ℕ) → HasAdded builder count room → count < room
-    → length builder.ids < builder.room
-has_room builder count room filled h = omega (arith, filled.count_is, filled.room_is, h)
 
 -- one more key, of the thing behind those so far
 pub keys_more : {X : Type 0} (key : X → ℕ) (xs : List X) (i id : ℕ) (x : X) (old new : List ℕ)
@@ -20,22 +18,38 @@ keys_more key xs i id x old new here pushed own before =
     pushed ∙ ap (λ (ids : List ℕ). ids ++ id ∷ []) before ∙ ap (λ (n : ℕ). map key (take i xs) ++ n ∷ []) own
     ∙ sym (map_one key (take i xs) x) ∙ ap (λ zs. map key zs) (sym (take_one xs i x here))
 
--- the builder has the keys of the first things of each list that fits, and room for those of the others
-pub record AreAdded {R X : Type 0} (Fits : R → Type 0) (things : R → List X) (key : X → ℕ) (builder : Numbering)
-    (count room : ℕ) : Type 0 where
-  pub filled : HasAdded builder count room
-  pub ids : (r : R) → Fits r → builder.ids ≡ map key (take count (things r))
+-- the builder has the keys of the first things of each list that fits
+pub record AreAdded {R X : Type 0} (Fits : R → Type 0) (things : R → List X) (key : X → ℕ) (ids : List ℕ)
+    (count : ℕ) : Type 0 where
+  pub count_is : length ids ≡ count
+  pub each : (r : R) → Fits r → ids ≡ map key (take count (things r))
 
 -- and of one thing more
-pub one_more_added : {R X : Type 0} (Fits : R → Type 0) (things : R → List X) (key : X → ℕ) (old new : Numbering)
-    (count room id : ℕ)
-    → AreAdded Fits things key old count room → length new.ids ≡ length old.ids + 1 → new.room ≡ old.room
-    → new.ids ≡ old.ids ++ id ∷ []
+pub one_more_added : {R X : Type 0} (Fits : R → Type 0) (things : R → List X) (key : X → ℕ) (old new : List ℕ)
+    (count id : ℕ)
+    → AreAdded Fits things key old count → new ≡ old ++ id ∷ []
     → ((r : R) → Fits r → (x : X) × (slice_get (things r) count ≡ Some x) × (id ≡ key x))
-    → AreAdded Fits things key new (count + 1) room
-one_more_added Fits things key old new count room id added one same pushed next = record {
-  filled = record { count_is = omega (arith, one, added.filled.count_is); room_is = same ∙ added.filled.room_is };
-  ids = λ r fits.
+    → AreAdded Fits things key new (count + 1)
+one_more_added Fits things key old new count id added pushed next = record {
+  count_is = omega (arith, ap length pushed, length-append old (id ∷ []), added.count_is);
+  each = λ r fits.
       let it = next r fits in
-      keys_more key (things r) count id it.0 old.ids new.ids it.1 pushed it.2 (added.ids r fits);
+      keys_more key (things r) count id it.0 old new it.1 pushed it.2 (added.each r fits);
 }
+
+-- behind the last thing it has all keys
+pub all_added : {R X : Type 0} (Fits : R → Type 0) (things : R → List X) (key : X → ℕ) (ids : List ℕ) (count : ℕ)
+    (r : R) → AreAdded Fits things key ids count → Fits r → length (things r) ≤ count → ids ≡ map key (things r)
+all_added Fits things key ids count r added fits all =
+    added.each r fits ∙ ap (λ zs. map key zs) (take_all count (things r) all)
+
+-- the builder takes each identifier
+pub record TakesAll (builder : AlignedIds) : Type 0 where
+  pub shift_is : builder.shift ≡ 0
+  pub low_is : builder.low ≡ 0
+
+pub takes : (builder : AlignedIds) (id : ℕ) → TakesAll builder → id % 2 ^ builder.shift ≡ builder.low
+takes builder id all = ap (λ (s : ℕ). id % 2 ^ s) all.shift_is ∙ mod-one id ∙ sym all.low_is
+
+pub still_takes : (old new : AlignedIds) → TakesAll old → new.shift ≡ old.shift → new.low ≡ old.low → TakesAll new
+still_takes old new all shift low = record { shift_is = shift ∙ all.shift_is; low_is = low ∙ all.low_is }

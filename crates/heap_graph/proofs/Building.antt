@@ -18,6 +18,8 @@ use Rattle.heap_graph.specs.Heap.{heap_of, objects}
 use Rattle.heap_graph.specs.working.HeldIds.{AreLinked, AreLinkedOf}
 use Rattle.heap_graph.specs.LinkFault.{HasLinkFault, IsFirstFault}
 use Rattle.heap_graph.specs.Linked.{IsLinked}
+use Rattle.heap_graph.specs.declared.objects.indexing.Indexed.{Indexed}
+use Rattle.heap_graph.specs.working.ClassNumbers.{AreClassNumbers, AreIndexed}
 use Rattle.heap_graph.specs.working.GraphOf.{GraphOf, GraphOf-prop}
 use Rattle.heap_graph.specs.working.GraphParts.{AreNamedOf, AreRootsOf}
 use Rattle.heap_graph.specs.working.ReadObjects.{IsReadOf}
@@ -104,15 +106,20 @@ module _ (bytes : List ℕ) (s : ℕ) (places : List ℕ) (dump : Places) (are :
         (size_is ∙ are.size_is) are.places_are placed.objects
 
     -- indexed by one view, they are the same objects to another
-    pub are_objects : (v w : Sight) (ids known : List ℕ) → v.bytes ≡ bytes → v.id_size ≡ s → w.bytes ≡ bytes
-        → w.id_size ≡ s → known ≡ places
-        → ((subs : List SubRecord) → StandInTurn (Stands v) known subs → ids ≡ map id_of subs)
-        → AreObjects w places ids (heap_of are.is.records)
-    are_objects v w ids known v_bytes v_size w_bytes w_size same indexed =
+    pub are_indexed : {A : Type 0} (v w : Sight) (i : Indexed A) (known : List ℕ) → v.bytes ≡ bytes → v.id_size ≡ s
+        → w.bytes ≡ bytes → w.id_size ≡ s → known ≡ places
+        → ((heap : List SubRecord) → StandInTurn (Stands v) known (objects heap) → AreIndexed v known heap i)
+        → AreIndexed w places (heap_of are.is.records) i
+    are_indexed v w i known v_bytes v_size w_bytes w_size same indexed =
         let here = objects (heap_of are.is.records) in
         let stand : StandInTurn (Stands v) known here =
         subst (λ (xs : List ℕ). StandInTurn (Stands v) xs here) (sym same) (objects_stand v v_bytes v_size) in
-        record { stand = objects_stand w w_bytes w_size; ids_are = indexed here stand }
+        let it = indexed (heap_of are.is.records) stand in
+        record {
+          are = record { stand = objects_stand w w_bytes w_size; ids_are = it.are.ids_are };
+          class_dumps =
+              subst (λ (xs : List ℕ). AreClassNumbers here (length xs) i.class_dumps.items) same it.class_dumps;
+        }
 
     pub few_objects : length places ≤ limit
     few_objects = omega (arith, ap length are.places_are, placed.objects.count, few_in_dump bytes dump are.is)

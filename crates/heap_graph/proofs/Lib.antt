@@ -2,12 +2,6 @@ pub mod Naming
 pub mod FollowedFields
 pub mod SkipLaws
 pub mod SkipCutting
-pub mod IndexAscending
-pub mod IndexBuckets
-pub mod IndexHalving
-pub mod IndexBearers
-pub mod IndexRepeats
-pub mod IndexNumbering
 pub mod Firsts
 pub mod Standings
 pub mod FieldLaws
@@ -23,6 +17,7 @@ pub mod InstanceLaws
 pub mod PlanLaws
 pub mod FieldsUpLaws
 pub mod TableGrowth
+pub mod ClassNumbersLaws
 pub mod Counting
 pub mod Testing
 pub mod Linking

@@ -1,13 +1,15 @@
 -- The first thing of a list that bears an identifier, over how the identifier is taken and what is asked of the thing.
 use Rattle.std.proofs.Common.{Bool, List, None, Option, Some, [], ap, arith, false, get_or, length, map, position}
-use Rattle.std.proofs.Common.{refl, slice_get, suc, sym, true, zero, ℕ, ◌<◌, ◌∙◌, ◌∷◌, ◌≡◌}
+use Rattle.std.proofs.Common.{refl, slice_get, suc, sym, true, zero, ℕ, ◌+◌, ◌<◌, ◌∙◌, ◌∷◌, ◌≡◌, ◌≤◌}
 use Rattle.std.specs.Prelude.{if◌then◌else◌, ◌==◌}
-use Rattle.std.proofs.lemmas.Bool.{eq-eqb, eqb-false, eqb-true, ne_eqb}
+use Rattle.std.specs.List.{position_or_len}
+use Rattle.std.proofs.Math.Nat.{lt_of_not-le}
+use Rattle.std.proofs.lemmas.Bool.{cond_below, eq-eqb, eqb-false, eqb-true, ne_eqb}
 use Rattle.std.proofs.lemmas.List.{get_or-map, length-map}
 use Rattle.std.proofs.lemmas.List.Quantifiers.{position-Some}
+use Rattle.std.proofs.lemmas.List.Sums.{fails_before_first}
 use Rattle.std.proofs.lemmas.Option.{get_or_from_slice_get}
 use Rattle.hprof_grammar.specs.Standing.{StandInTurn}
-use Rattle.heap_graph.proofs.IndexBearers.{absent}
 use Rattle.heap_graph.proofs.Standings.{slice_get_below}
 
 -- what is taken of the first thing whose key is the identifier
@@ -40,6 +42,18 @@ none_first key part [] id none = refl
 none_first key part (y ∷ ys) id none =
     none_first key part ys id (λ k h. none (suc k) (omega (arith, h)))
     ∙ sym (pass (key y == id) (Some (part y)) (first_of key part ys id) (ne_eqb (key y) id (none 0 (omega arith))))
+
+-- nobody bears an identifier that has no position
+absent : (ids : List ℕ) (id k : ℕ) → None ≡ position (λ x. x == id) ids → k < length ids → get_or ids k 0 ≡ id → ⊥
+absent ids id k e within =
+    let test : ℕ → Bool = λ x. x == id in
+    let place : ℕ = position_or_len test ids in
+    let late : ¬ (place + 1 ≤ length ids) = λ (le : place + 1 ≤ length ids).
+    let found : Some place ≡ position test ids =
+    cond_below place (length ids) (Some place) None (omega (arith, le)) in cc
+    in
+    eqb-false (get_or ids k 0) id (fails_before_first test ids k 0
+    (omega (arith, within, lt_of_not-le {n = place + 1} {m = length ids} late)))
 
 -- what stands in turn is found at one of the places
 pub found_below : {X : Type 0} {IsAt : ℕ → X → Type 0} (key : X → ℕ) (places ids : List ℕ) (xs : List X) (id i : ℕ)

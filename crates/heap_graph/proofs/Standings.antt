@@ -12,6 +12,7 @@ use Rattle.hprof_grammar.specs.SubRecord.SubRecord.{class_dump, instance_dump, o
 use Rattle.hprof_grammar.specs.declared.view.ObjectKind.{ObjectKind}
 use Rattle.hprof_grammar.specs.declared.view.ObjectKind.TheVariants as kinds
 use Rattle.heap_graph.specs.Heap.{as_class, class_named, number_named, object_named, objects}
+use Rattle.heap_graph.specs.working.ClassNumbers.{IsClassNumber}
 use Rattle.heap_graph.specs.working.HeldIds.{IsObjectAt}
 use Rattle.heap_graph.specs.working.PlacedObjects.{AreObjects}
 use Rattle.heap_graph.proofs.Firsts.{filter_passes, position-map}
@@ -41,6 +42,14 @@ stands_there v places heap n stand h =
 pub there : (v : Sight) (places ids : List ℕ) (heap : List SubRecord) (n : ℕ) → AreObjects v places ids heap
     → n < length places → IsThere v heap n (get_or places n 0)
 there v places ids heap n are h = stands_there v places heap n are.stand h
+
+-- the identifier that is read there, whichever heap list's objects stand in turn
+pub id_there : (v : Sight) (places : List ℕ) (n id : ℕ) → n < length places
+    → ((o : SubRecord) → Stands v (get_or places n 0) o → id ≡ id_of o)
+    → (heap : List SubRecord) → StandInTurn (Stands v) places (objects heap)
+    → (o : SubRecord) × (slice_get (objects heap) n ≡ Some o) × (id ≡ id_of o)
+id_there v places n id h read heap stand =
+    let it = stands_there v places heap n stand h in (it.object, it.is, read it.object it.stands)
 
 -- the same of a place that was read
 pub there_at : (v : Sight) (places ids : List ℕ) (heap : List SubRecord) (n at : ℕ) → AreObjects v places ids heap
@@ -92,6 +101,14 @@ pub record IsDumpBy {X : Type 0} (wrap : X → SubRecord) (o : SubRecord) : Type
 pub is_class_dump : (o : SubRecord) → object_kind o ≡ Some kinds.Class → IsDumpBy class_dump o
 is_class_dump (class_dump c) h = record { what = c; same = refl }
 is_class_dump o h = absurd (cc h)
+
+-- what stands there under the number of a class dump
+pub class_number : (v : Sight) (heap : List SubRecord) (n at : ℕ) (it : IsThere v heap n at)
+    → IsClassNumber (objects heap) n → IsDumpBy class_dump it.object
+class_number v heap n at it is = record {
+  what = is.0;
+  same = one_object heap n it.object (class_dump is.0) it.is is.1;
+}
 
 pub is_instance_dump : (o : SubRecord) → object_kind o ≡ Some kinds.Instance → IsDumpBy instance_dump o
 is_instance_dump (instance_dump i) h = record { what = i; same = refl }

@@ -67,7 +67,7 @@ class_of_number heap id n o c named e is =
     sym (class_is heap id (Some n) (not_0 heap id c named) e
     ∙ ap (λ (x : Option SubRecord). option_and_then as_class x) is) ∙ named
 
-below_next : (k n : ℕ) → k < n + 1 → (k < n) ⊎ (k ≡ n)
+pub below_next : (k n : ℕ) → k < n + 1 → (k < n) ⊎ (k ≡ n)
 below_next k n h = ⊎_elim (λ e. inr e) (⊎_elim (λ l. inl l) (λ l. absurd (omega (arith, h, l)))) (cases_order k n)
 
 -- ---- an object that is no class, or that its identifier does not name

@@ -12,7 +12,7 @@ use Rattle.heap_graph.specs.declared.rule.LinkRule.TheVariants.{UnknownClass, Ze
 use Rattle.heap_graph.specs.Heap.{objects}
 use Rattle.heap_graph.specs.LinkFault.{IsLeastFault, code_of}
 use Rattle.heap_graph.specs.Linked.{Breaks, Fails, most_objects}
-use Rattle.heap_graph.specs.working.IndexPairs.{IsFirstRepeat}
+use Rattle.id_index.specs.Repeats.{IsFirstRepeat}
 use Rattle.heap_graph.specs.working.RuleAnswers.{BreaksLate, IsLateRule, IsLeastRule}
 
 some_inj : {X : Type 0} {x y : X} → Some x ≡ Some y → x ≡ y

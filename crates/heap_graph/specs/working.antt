@@ -1,9 +1,8 @@
 -- Words that only private clauses use.
 pub mod Refinement
 pub mod Resolving
-pub mod IndexPairs
-pub mod IndexBeginnings
 pub mod PlacedObjects
+pub mod ClassNumbers
 pub mod PlacedNames
 pub mod Values
 pub mod HeldIds

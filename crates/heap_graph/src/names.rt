@@ -6,8 +6,8 @@ ghost use Rattle.hprof_grammar.specs.Record.{Record};
 ghost use Rattle.heap_graph.specs.ClassNames as named;
 ghost use Rattle.heap_graph.specs.working.PlacedNames.{AreNamesByIdOf, AreNamesOf, loaded_id, string_id};
 
-use crate::index::{Index, IndexBuilder};
 use hprof_grammar::View;
+use id_index::{IdIndex, IdIndexBuilder, LowBits};
 use std::alloc::{AllocError, Allocator};
 
 /// The strings and the loaded classes of a dump, at their places.
@@ -22,33 +22,33 @@ pub(crate) struct Names<'a, 'd> {
 #[derive(Drop)]
 pub(crate) struct NamesById<'n, 'a, A: Allocator> {
     pub(crate) names: &'n Names<'a, 'n>,
-    pub(crate) strings: Index<A>,
-    pub(crate) loaded: Index<A>,
+    pub(crate) strings: IdIndex<A>,
+    pub(crate) loaded: IdIndex<A>,
 }
 
 impl<'a, 'd> Names<'a, 'd> {
     /// The strings by their identifiers.
-    fn strings_by_id<B: Allocator + Copy>(&self, alloc: B) -> Result<Index<B>, AllocError>
+    fn strings_by_id<B: Allocator + Copy>(&self, alloc: B) -> Result<IdIndex<B>, AllocError>
         requires { (records : List Record) × AreNamesOf self.now records }
         ensures { IfOk result (λ index. (records : List Record) → AreNamesOf self.now records
             → index ≡ map string_id (filter is_string records)) }
     {
-        let mut builder = IndexBuilder::with_capacity(alloc, self.strings.len())?;
+        let mut builder = IdIndexBuilder::new(alloc, LowBits { shift: 0, low: 0 });
         for at in self.strings {
-            builder.push(self.view.string_id(*at));
+            builder.push(self.view.string_id(*at))?;
         }
         builder.finish(alloc)
     }
 
     /// The loaded classes by their identifiers.
-    fn loaded_by_id<B: Allocator + Copy>(&self, alloc: B) -> Result<Index<B>, AllocError>
+    fn loaded_by_id<B: Allocator + Copy>(&self, alloc: B) -> Result<IdIndex<B>, AllocError>
         requires { (records : List Record) × AreNamesOf self.now records }
         ensures { IfOk result (λ index. (records : List Record) → AreNamesOf self.now records
             → index ≡ map loaded_id (filter is_load records)) }
     {
-        let mut builder = IndexBuilder::with_capacity(alloc, self.loaded.len())?;
+        let mut builder = IdIndexBuilder::new(alloc, LowBits { shift: 0, low: 0 });
         for at in self.loaded {
-            builder.push(self.view.loaded_class_id(*at));
+            builder.push(self.view.loaded_class_id(*at))?;
         }
         builder.finish(alloc)
     }

@@ -4,6 +4,7 @@ mod check;
 mod class_entries;
 mod class_plans;
 pub(crate) mod class_table;
+pub(crate) mod indexing;
 mod rows;
 mod scan;
 mod unresolved;
@@ -11,11 +12,11 @@ mod unresolved;
 ghost use Rattle.hprof_grammar.specs.SubRecord.{SubRecord};
 ghost use Rattle.hprof_grammar.specs.Standing.{StandInTurn, Stands};
 ghost use Rattle.hprof_grammar.specs.Dump.{id_of};
-ghost use Rattle.std.specs.Prelude.{IfOk, List, length, map, ◌<◌, ◌^◌, ◌≡◌};
+ghost use Rattle.std.specs.Prelude.{IfOk, List, map, ◌≡◌};
 
 use crate::classes::{Classes, Fate};
-use crate::index::{Index, IndexBuilder};
 use hprof_grammar::View;
+use id_index::IdIndex;
 use std::alloc::{AllocError, Allocator};
 
 /// The places of the objects of a dump in the order of the file, their identifiers, and their classes.
@@ -23,7 +24,7 @@ use std::alloc::{AllocError, Allocator};
 pub(crate) struct Objects<'d, A: Allocator> {
     pub(crate) view: View<'d>,
     pub(crate) places: Vec<u32, A>,
-    pub(crate) index: Index<A>,
+    pub(crate) index: IdIndex<A>,
     pub(crate) classes: Classes<'d, A>,
     /// What becomes of the chain of each class.
     pub(crate) fates: Vec<Fate, A>,
@@ -44,22 +45,4 @@ pub(crate) fn read_ids<B: Allocator>(
         ids.push(view.object_id(*at))?;
     }
     Ok(ids)
-}
-
-/// The index of the objects at these places.
-pub(crate) fn index_of<B: Allocator + Copy>(
-    alloc: B,
-    view: &View<'_>,
-    places: &[u32],
-) -> Result<Index<B>, AllocError>
-    requires few { length places.now < 2 ^ 32 }
-    requires stand { (subs : List SubRecord) × StandInTurn (Stands view.now) places.now subs }
-    ensures { IfOk result (λ index. (subs : List SubRecord) → StandInTurn (Stands view.now) places.now subs
-        → index ≡ map id_of subs) }
-{
-    let mut builder = IndexBuilder::with_capacity(alloc, places.len())?;
-    for at in places {
-        builder.push(view.object_id(*at));
-    }
-    builder.finish(alloc)
 }

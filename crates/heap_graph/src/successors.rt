@@ -3,7 +3,8 @@
 ghost use Rattle.std.specs.Prelude.{length, ◌≡◌};
 
 use crate::held::HeldIds;
-use crate::index::Index;
+use crate::resolving::target;
+use id_index::IdIndex;
 use std::alloc::Allocator;
 use std::marker::Model;
 
@@ -11,7 +12,7 @@ use std::marker::Model;
 /// from the bytes, and looks each of them up.
 #[derive(Drop)]
 pub struct Successors<'g, A: Allocator> {
-    index: &'g Index<A>,
+    index: &'g IdIndex<A>,
     ids: HeldIds<'g, A>,
 }
 
@@ -30,7 +31,7 @@ impl<'g, A: Allocator> Successors<'g, A> {
     ghost use Rattle.heap_graph.specs.working.Resolving.{step_in};
 
     /// The objects that these identifiers name.
-    pub(crate) fn new(index: &'g Index<A>, ids: HeldIds<'g, A>) -> Self
+    pub(crate) fn new(index: &'g IdIndex<A>, ids: HeldIds<'g, A>) -> Self
         ensures { result ≡ map (step_in index.now) ids.entry }
     {
         Successors { index, ids }
@@ -57,7 +58,7 @@ impl<'g, A: Allocator> Iterator for Successors<'g, A> {
 
     fn next(&mut self) -> Option<u32> {
         while let Some(id) = self.ids.next() {
-            if let Some(object) = self.index.target(id) {
+            if let Some(object) = target(self.index, id) {
                 return Some(object);
             }
         }

@@ -1,8 +1,9 @@
 //! An object with its row and its bytes, and the objects that it refers to.
 
 use crate::held::HeldIds;
-use crate::index::Index;
+use crate::resolving::target;
 use crate::row::RowKey;
+use id_index::IdIndex;
 use std::alloc::Allocator;
 use std::marker::Model;
 
@@ -11,7 +12,7 @@ use std::marker::Model;
 /// up but the first of an instance or an object array, which names its class.
 #[derive(Drop)]
 pub struct Visit<'g, A: Allocator> {
-    index: &'g Index<A>,
+    index: &'g IdIndex<A>,
     ids: HeldIds<'g, A>,
     /// The object that the first of these identifiers names, where it is known without a look-up.
     first: Option<u32>,
@@ -49,7 +50,7 @@ impl<'g, A: Allocator> Visit<'g, A> {
     /// of them names, where it is known.
     #[inline(always)]
     pub(crate) fn new(
-        index: &'g Index<A>,
+        index: &'g IdIndex<A>,
         ids: HeldIds<'g, A>,
         row: RowKey,
         bytes: u64,
@@ -109,7 +110,7 @@ impl<'g, A: Allocator> Iterator for Visit<'g, A> {
             if let Some(object) = self.first.take() {
                 return Some(object);
             }
-            if let Some(object) = self.index.target(id) {
+            if let Some(object) = target(self.index, id) {
                 return Some(object);
             }
             if id != 0 {

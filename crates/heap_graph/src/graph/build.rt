@@ -17,8 +17,9 @@ ghost use Rattle.heap_graph.specs.working.ClassFates.{HaveFatesOf};
 use crate::graph::Graph;
 use crate::graph::parts::{Named, Rooted, find_roots, name_classes};
 use crate::names::Names;
+use crate::objects::Objects;
 use crate::objects::class_table::class_table;
-use crate::objects::{Objects, index_of};
+use crate::objects::indexing::index_of;
 use crate::refusal::LinkRefusal;
 use crate::skip::{Skip, SkipPair};
 use hprof_grammar::{Dump, View, dump_is_placed, stands_within};
@@ -40,13 +41,13 @@ fn read_objects<'a, A: Allocator + Copy>(
 {
     dump_is_placed();
     let view = View::new(bytes, id_size);
-    let index = index_of(alloc, &view, &places)?;
-    let classes = class_table(alloc, View::new(bytes, id_size), &places, &index)?;
+    let indexed = index_of(alloc, &view, &places)?;
+    let classes = class_table(alloc, View::new(bytes, id_size), &places, &indexed)?;
     let fates = classes.settle_all(alloc)?;
     Ok(Objects {
         view,
         places,
-        index,
+        index: indexed.index,
         classes,
         fates,
     })

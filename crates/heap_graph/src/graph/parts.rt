@@ -15,6 +15,7 @@ use crate::class_entry::ClassEntry;
 use crate::names::{Names, NamesById};
 use crate::objects::{Objects, read_ids};
 use crate::plan::Plan;
+use crate::resolving::resolve;
 use crate::skip::SkipPair;
 use std::alloc::{AllocError, Allocator};
 
@@ -64,6 +65,6 @@ pub(crate) fn find_roots<A: Allocator + Copy>(
 {
     let ids = read_ids(alloc, &objects.view, places)?;
     let mut roots = Vec::new(alloc);
-    let unresolved = objects.index.resolve(&ids, &mut roots)?;
+    let unresolved = resolve(&objects.index, &ids, &mut roots)?;
     Ok(Rooted { roots, unresolved })
 }

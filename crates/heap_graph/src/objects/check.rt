@@ -26,7 +26,7 @@ fn has_size(values: &[u8], layout: Layout) -> bool
 
 impl<'d, A: Allocator> Objects<'d, A> {
     ghost use Rattle.heap_graph.specs.Linked.{IsLinked};
-    ghost use Rattle.heap_graph.specs.working.IndexPairs.{IsFirstRepeat};
+    ghost use Rattle.id_index.specs.Repeats.{IsFirstRepeat};
     ghost use Rattle.heap_graph.specs.working.PlacedObjects.{AreOf};
     ghost use Rattle.heap_graph.specs.working.ClassFates.{HaveFatesOf};
     ghost use Rattle.heap_graph.specs.working.RuleAnswers.{IsFaultOf, IsLateRule, IsLeastRule};

@@ -10,6 +10,7 @@ ghost use Rattle.heap_graph.specs.working.PlacedNames.{AreNamesByIdOf};
 use crate::names::NamesById;
 use crate::objects::Objects;
 use crate::plan::Plan;
+use crate::resolving::target;
 use crate::skip::{ClassSkips, SkipPair};
 use std::alloc::{AllocError, Allocator};
 
@@ -39,7 +40,7 @@ impl<'d, A: Allocator> Objects<'d, A> {
             let id = self.classes.id(number as u32);
             let skips = ClassSkips::of(names, skip, id);
             let place = self.classes.entry(number as u32).place;
-            let object = self.index.target(id);
+            let object = target(&self.index, id);
             plan.push(&self.view, self.view.members(place), &skips, object)?;
         }
         Ok(plan)

@@ -1,59 +1,57 @@
 //! How the table of classes is filled from the objects.
 
-ghost use Rattle.std.specs.Prelude.{IfOk, List, OnOk, length, ◌+◌, ◌<◌, ◌^◌, ◌≡◌, ◌≤◌};
+ghost use Rattle.std.specs.Prelude.{IfOk, List, OnOk, length, ◌+◌, ◌<◌, ◌≡◌, ◌≤◌};
 ghost use Rattle.hprof_grammar.specs.Standing.{StandInTurn, Stands};
 ghost use Rattle.hprof_grammar.specs.SubRecord.{SubRecord};
 ghost use Rattle.heap_graph.specs.Heap.{objects};
+ghost use Rattle.heap_graph.specs.working.ClassNumbers.{AreClassNumbers, AreIndexed, IsClassNumber};
 ghost use Rattle.heap_graph.specs.working.ClassTable.{AreClassesAmong, AreClassesOf};
 ghost use Rattle.heap_graph.specs.working.PlacedObjects.{AreObjects};
 
 use crate::classes::{ClassHash, Classes, HashSeed};
-use crate::index::Index;
-use hprof_grammar::{ObjectKind, View};
+use crate::objects::indexing::Indexed;
+use hprof_grammar::View;
+use id_index::IdIndex;
 use std::alloc::{AllocError, Allocator};
 
-/// The hash of the classes among the objects at these places.
-fn hash_of(view: &View<'_>, places: &[u32]) -> ClassHash
-    requires { (heap : List SubRecord) × StandInTurn (Stands view.now) places.now (objects heap) }
+/// The hash of the classes that these class dumps among the objects at these places describe.
+fn hash_of(view: &View<'_>, places: &[u32], class_dumps: &[u32]) -> ClassHash
+    requires { (heap : List SubRecord) × StandInTurn (Stands view.now) places.now (objects heap)
+        × AreClassNumbers (objects heap) (length places.now) class_dumps.now }
 {
     let mut seed = HashSeed::new();
-    for at in places {
-        if view.kind(*at) == ObjectKind::Class {
-            seed.read(view.object_id(*at));
-        }
+    for number in class_dumps {
+        seed.read(view.object_id(places[*number as usize]));
     }
     seed.finish()
 }
 
-/// Adds the object of that number, if it is a class that its identifier names.
-fn add_object<A: Allocator, B: Allocator>(
+/// Adds the class dump of that number, if it describes a class that its identifier names.
+fn add_class<A: Allocator, B: Allocator>(
     classes: &mut Classes<'_, A>,
     places: &[u32],
-    index: &Index<B>,
+    index: &IdIndex<B>,
     number: usize,
 ) -> Result<(), AllocError>
     requires below { number < length places.now }
     requires heap { (heap : List SubRecord) × AreObjects classes.old.view places.now index.now heap
+        × IsClassNumber (objects heap) number
         × AreClassesAmong classes.old.view heap number classes.old.table.entries }
     ensures view { OnOk result (classes.new.view ≡ classes.old.view) }
     ensures among { OnOk result ((heap : List SubRecord) → AreObjects classes.old.view places.now index.now heap
+        → IsClassNumber (objects heap) number
         → AreClassesAmong classes.old.view heap number classes.old.table.entries
         → AreClassesAmong classes.old.view heap (number + 1) classes.new.table.entries) }
 {
     let place = places[number];
-    match classes.view.kind(place) {
-        ObjectKind::Class => {
-            let id = classes.view.object_id(place);
-            if id == 0 {
-                return Ok(());
-            }
-            if index.is_repeated(id, number) {
-                return Ok(());
-            }
-            return classes.add(id, place);
-        }
-        _ => return Ok(()),
+    let id = classes.view.object_id(place);
+    if id == 0 {
+        return Ok(());
     }
+    if index.is_repeated(id, number) {
+        return Ok(());
+    }
+    classes.add(id, place)
 }
 
 /// The table of the classes among these objects.
@@ -61,20 +59,19 @@ pub(crate) fn class_table<'d, A: Allocator + Copy, B: Allocator>(
     alloc: A,
     view: View<'d>,
     places: &[u32],
-    index: &Index<B>,
+    indexed: &Indexed<B>,
 ) -> Result<Classes<'d, A>, AllocError>
     requires low { 1 ≤ view.id_size }
-    requires few { length places.now < 2 ^ 32 }
-    requires heap { (heap : List SubRecord) × AreObjects view places.now index.now heap }
+    requires heap { (heap : List SubRecord) × AreIndexed view places.now heap indexed.now }
     ensures view { IfOk result (λ classes. classes.view ≡ view.entry) }
     ensures classes { IfOk result (λ classes. (heap : List SubRecord)
-        → AreObjects view.entry places.now index.now heap → AreClassesOf classes heap) }
+        → AreIndexed view.entry places.now heap indexed.now → AreClassesOf classes heap) }
     ensures few { IfOk result (λ classes. length classes.table.entries ≤ length places.now) }
 {
-    let hash = hash_of(&view, places);
+    let hash = hash_of(&view, places, &indexed.class_dumps);
     let mut classes = Classes::new(alloc, view, hash);
-    for number in 0..places.len() {
-        add_object(&mut classes, places, index, number)?;
+    for number in &indexed.class_dumps {
+        add_class(&mut classes, places, &indexed.index, *number as usize)?;
     }
     Ok(classes)
 }

@@ -5,6 +5,7 @@ ghost use Rattle.hprof_grammar.specs.SubRecord.{Class, Member, SubRecord};
 
 use crate::objects::Objects;
 use crate::plan::Plan;
+use crate::resolving::is_unresolved;
 use std::alloc::Allocator;
 
 impl<'d, A: Allocator> Objects<'d, A> {
@@ -24,7 +25,7 @@ impl<'d, A: Allocator> Objects<'d, A> {
     {
         let mut unresolved = 0;
         for id in self.ids_of(plan, number) {
-            if self.index.is_unresolved(id) {
+            if is_unresolved(&self.index, id) {
                 unresolved += 1;
             }
         }

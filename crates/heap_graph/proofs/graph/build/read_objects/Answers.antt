@@ -1,11 +1,11 @@
 -- At the places stand the objects of one heap, so index, table and fates, made one from another, are all of it.
 use Rattle.std.proofs.Common.{arith, subst, sym, ◌∙◌, ◌≡◌}
 use Rattle.hprof_grammar.specs.Standing.{Sight}
-use Rattle.heap_graph.specs.Heap.{heap_of, objects}
+use Rattle.heap_graph.specs.Heap.{heap_of}
 use Rattle.heap_graph.specs.working.PlacedObjects.{ArePlacesOf}
 use Rattle.heap_graph.specs.working.ClassTable.{AreClasses}
 use Rattle.heap_graph.specs.working.ClassFates.{HaveFates}
-use Rattle.heap_graph.proofs.Building.{are_objects, few_objects, objects_stand, same_sight, size_in_range}
+use Rattle.heap_graph.proofs.Building.{are_indexed, few_objects, objects_stand, same_sight, size_in_range}
 use Rattle.heap_graph.proofs.Counting.{few_placed}
 use Rattle.heap_graph.proofs.graph.build.read_objects.Goals as goal
 
@@ -28,7 +28,7 @@ index_of-requires-clause-stand g c =
       size_is = c.requires.1.size_is;
       places_are = c.deref.ensures.value ∙ c.requires.1.places_are;
     } in (
-      objects (heap_of are.is.records),
+      heap_of are.is.records,
       objects_stand _ _ _ _ are (c.dump_is_placed.ensures c.args.bytes.now c.requires.0 are.is)
           c.new-view.result c.new-view.ensures.bytes c.new-view.ensures.size,
     )
@@ -43,11 +43,6 @@ pub class_table-requires-clause-low : goal.class_table-requires-clause-low
 class_table-requires-clause-low g c =
     omega (arith, c.new.ensures.size, (size_in_range _ _ _ _ c.requires.1).0)
 
-pub class_table-requires-clause-few : goal.class_table-requires-clause-few
-class_table-requires-clause-few g c = few_placed _ _ c.requires.1.is c.deref-2.result.now
-    (c.dump_is_placed.ensures c.args.bytes.now c.requires.0 c.requires.1.is)
-    (c.deref-2.ensures.value ∙ c.requires.1.places_are)
-
 pub class_table-requires-clause-heap : goal.class_table-requires-clause-heap
 class_table-requires-clause-heap g c =
     let are : ArePlacesOf c.args.bytes.now c.args.id_size c.deref-2.result.now c.requires.0 =
@@ -57,10 +52,10 @@ class_table-requires-clause-heap g c =
       places_are = c.deref-2.ensures.value ∙ c.requires.1.places_are;
     } in (
       heap_of are.is.records,
-      are_objects _ _ _ _ are (c.dump_is_placed.ensures c.args.bytes.now c.requires.0 are.is)
-          c.new-view.result c.new.result c.in_ok-index.index c.deref.result.now c.new-view.ensures.bytes
+      are_indexed _ _ _ _ are (c.dump_is_placed.ensures c.args.bytes.now c.requires.0 are.is)
+          c.new-view.result c.new.result c.in_ok-indexed.indexed c.deref.result.now c.new-view.ensures.bytes
           c.new-view.ensures.size c.new.ensures.bytes c.new.ensures.size
-          (c.deref.ensures.value ∙ sym c.deref-2.ensures.value) c.in_ok-index.ensures,
+          (c.deref.ensures.value ∙ sym c.deref-2.ensures.value) c.in_ok-indexed.ensures,
     )
 
 pub settle_all-requires : goal.settle_all-requires
@@ -77,9 +72,9 @@ settle_all-requires g c =
       heap = (
         heap_of are.is.records,
         c.in_ok-classes.ensures.classes (heap_of are.is.records)
-            (are_objects _ _ _ _ are placed c.new-view.result c.new.result c.in_ok-index.index c.deref.result.now
+            (are_indexed _ _ _ _ are placed c.new-view.result c.new.result c.in_ok-indexed.indexed c.deref.result.now
             c.new-view.ensures.bytes c.new-view.ensures.size c.new.ensures.bytes c.new.ensures.size
-            (c.deref.ensures.value ∙ sym c.deref-2.ensures.value) c.in_ok-index.ensures),
+            (c.deref.ensures.value ∙ sym c.deref-2.ensures.value) c.in_ok-indexed.ensures),
       );
     }
 
@@ -91,9 +86,10 @@ returns-clause-objects g c = λ dump are. record {
   are = λ is.
       let of : ArePlacesOf c.args.bytes.now c.args.id_size c.args.places.items dump =
       record { is = is; size_is = are.size_is; places_are = are.places_are } in
-      are_objects _ _ _ _ of (c.dump_is_placed.ensures c.args.bytes.now dump is) c.new-view.result
-      c.new-view.result c.in_ok-index.index c.deref.result.now c.new-view.ensures.bytes c.new-view.ensures.size
-      c.new-view.ensures.bytes c.new-view.ensures.size c.deref.ensures.value c.in_ok-index.ensures;
+      let it = are_indexed _ _ _ _ of (c.dump_is_placed.ensures c.args.bytes.now dump is) c.new-view.result
+      c.new-view.result c.in_ok-indexed.indexed c.deref.result.now c.new-view.ensures.bytes c.new-view.ensures.size
+      c.new-view.ensures.bytes c.new-view.ensures.size c.deref.ensures.value c.in_ok-indexed.ensures in
+      it.are;
 }
 
 pub returns-clause-fates : goal.returns-clause-fates
@@ -108,9 +104,9 @@ returns-clause-fates g c = λ dump from.
     let entries = c.in_ok-classes.classes.table.entries in
     let classes : AreClasses c.in_ok-classes.classes.view (heap_of are.is.records) entries =
     c.in_ok-classes.ensures.classes (heap_of are.is.records)
-    (are_objects _ _ _ _ are placed c.new-view.result c.new.result c.in_ok-index.index c.deref.result.now
+    (are_indexed _ _ _ _ are placed c.new-view.result c.new.result c.in_ok-indexed.indexed c.deref.result.now
     c.new-view.ensures.bytes c.new-view.ensures.size c.new.ensures.bytes c.new.ensures.size
-    (c.deref.ensures.value ∙ sym c.deref-2.ensures.value) c.in_ok-index.ensures) in
+    (c.deref.ensures.value ∙ sym c.deref-2.ensures.value) c.in_ok-indexed.ensures) in
     subst (λ (v : Sight). HaveFates v (heap_of are.is.records) entries c.in_ok-fates.fates.items) same
     (record {
       classes = classes;

@@ -1,0 +1,10 @@
+-- The identifiers so far are resolved, and no more of them are missing than there were.
+use Rattle.std.proofs.Common.{take, ◌≤◌}
+use Rattle.heap_graph.specs.working.Resolving.{Resolves}
+use Rattle.heap_graph.proofs.resolving.resolve.Given as goal
+
+abbrev pub invariant-loop-id : goal.invariant-loop-id
+invariant-loop-id g l = record {
+  resolved : Resolves l.index (take l.id-index l.ids) l.initial.targets.items l.targets.items l.unresolved;
+  few : l.unresolved ≤ l.id-index;
+}

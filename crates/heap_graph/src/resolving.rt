@@ -1,0 +1,58 @@
+//! What identifiers name: 0 is null, and another one names the first object that bears it.
+
+ghost use Rattle.std.specs.Prelude.{IfOk, ◌≡◌};
+ghost use Rattle.heap_graph.specs.working.Resolving.{Resolves, ResolvesOne, is_unresolved_in, target_in};
+
+use id_index::IdIndex;
+use std::alloc::{AllocError, Allocator};
+
+/// The number of the object that an identifier names, none for 0.
+pub(crate) fn target<A: Allocator>(index: &IdIndex<A>, id: u64) -> Option<u32>
+    ensures { result ≡ target_in index.now id }
+{
+    if id == 0 {
+        return None;
+    }
+    index.find(id)
+}
+
+/// Whether an identifier is another than 0 and names no object.
+pub(crate) fn is_unresolved<A: Allocator>(index: &IdIndex<A>, id: u64) -> bool
+    ensures { result ≡ is_unresolved_in index.now id }
+{
+    id != 0 && index.find(id).is_none()
+}
+
+/// Appends the object that an identifier names, and says whether it is another than 0 and names none.
+fn push_target<A: Allocator, B: Allocator>(
+    index: &IdIndex<A>,
+    id: u64,
+    targets: &mut Vec<u32, B>,
+) -> Result<bool, AllocError>
+    ensures { IfOk result (λ unresolved. ResolvesOne index.now id targets.old.items targets.new.items unresolved) }
+{
+    match target(index, id) {
+        Some(number) => {
+            targets.push(number)?;
+            return Ok(false);
+        }
+        None => return Ok(id != 0),
+    }
+}
+
+/// Appends the objects that these identifiers name, and says how many other than 0 name none.
+pub(crate) fn resolve<A: Allocator, B: Allocator>(
+    index: &IdIndex<A>,
+    ids: &[u64],
+    targets: &mut Vec<u32, B>,
+) -> Result<u64, AllocError>
+    ensures { IfOk result (λ unresolved. Resolves index.now ids.now targets.old.items targets.new.items unresolved) }
+{
+    let mut unresolved = 0;
+    for id in ids {
+        if push_target(index, *id, targets)? {
+            unresolved += 1;
+        }
+    }
+    Ok(unresolved)
+}

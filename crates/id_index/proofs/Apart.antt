@@ -1,0 +1,115 @@
+-- Runs that are apart stay so in another order, and ascending runs of a page stand in the order of their objects.
+use Rattle.std.proofs.Common.{IsPermutation, IsSorted, List, ap, arith, false, inl, inr, length, refl, subst, sym, ℕ}
+use Rattle.std.proofs.Common.{◌<◌, ◌∙◌, ◌≡◌, ◌≤◌, ◌⊎◌}
+use Rattle.std.specs.Prelude.{count_ones}
+use Rattle.std.specs.Cmp.{IsStrictWeakOrder}
+use Rattle.std.specs.List.{swap}
+use Rattle.std.specs.Ordering.{is_lt}
+use Rattle.std.proofs.lemmas.Bool.{cases_eq, cases_lt}
+use Rattle.std.proofs.lemmas.Bool.Decides.{nat_tests}
+use Rattle.std.proofs.lemmas.Cmp.{nat_cmp_total, on_total, then_total}
+use Rattle.std.proofs.lemmas.List.Edits.{length-swap, swapped_from_swap}
+use Rattle.std.proofs.lemmas.List.Sorted.{IsPermutation-keeps, ranks_by, sorted_far}
+use Rattle.std.proofs.lemmas.Nat.{zero_from_ones}
+use Rattle.id_index.specs.declared.runs.Run.{Run}
+use Rattle.id_index.specs.Building.{AreApart, AreInTurn, IsApart, run_cmp}
+use Rattle.id_index.specs.Runs.{DoPagesRise, end_of, no_run, page_in, run_in}
+use Rattle.id_index.proofs.Ones.{ones_of_bit}
+
+turned : (x y : Run) → IsApart x y → IsApart y x
+turned x y (inl before) = inr before
+turned x y (inr behind) = inl behind
+
+pub apart_in_turn : (runs : List Run) → AreInTurn runs → AreApart runs
+apart_in_turn runs turn i j differ left right =
+    elim (cases_lt i j) [
+      | inl less ↦ inl (turn i j less right)
+      | inr more ↦ inr (turn j i (omega (arith, differ, more)) left)
+    ]
+
+-- where a run stood before a swap
+came_from : (runs : List Run) (a b i : ℕ) → a < length runs → b < length runs → i < length runs
+    → (k : ℕ) × (k < length runs) × (run_in (swap runs a b) i ≡ run_in runs k)
+    × (((i ≡ a) × (k ≡ b)) ⊎ (((i ≡ b) × (k ≡ a)) ⊎ ((i ≡ a → ⊥) × ((i ≡ b → ⊥) × (k ≡ i)))))
+came_from runs a b i in_a in_b in_i =
+    let moved = swapped_from_swap runs (swap runs a b) a b no_run in_a in_b refl in
+    elim (cases_eq i a) [
+      | inl first ↦ (b, in_b, ap (λ (m : ℕ). run_in (swap runs a b) m) first ∙ moved.0, inl (first, refl))
+      | inr not_first ↦ elim (cases_eq i b) [
+        | inl second ↦ (
+          a,
+          in_a,
+          ap (λ (m : ℕ). run_in (swap runs a b) m) second ∙ moved.1,
+          inr (inl (second, refl)),
+        )
+        | inr not_second ↦ (
+          i,
+          in_i,
+          moved.2 i not_first not_second,
+          inr (inr (not_first, (not_second, refl))),
+        )
+      ]
+    ]
+
+swap_apart : (runs : List Run) (a b : ℕ) → a < length runs → b < length runs → AreApart runs
+    → AreApart (swap runs a b)
+swap_apart runs a b in_a in_b apart i j differ in_i in_j =
+    let len : length (swap runs a b) ≡ length runs = length-swap runs a b in
+    let (k, in_k, at_i, from_i) = came_from runs a b i in_a in_b (omega (arith, in_i, len)) in
+    let (m, in_m, at_j, from_j) = came_from runs a b j in_a in_b (omega (arith, in_j, len)) in
+    let other : k ≡ m → ⊥ = λ e. grind (arith, from_i, from_j, e, differ) in
+    subst (λ (x : Run). IsApart x (run_in (swap runs a b) j)) (sym at_i)
+    (subst (λ (y : Run). IsApart (run_in runs k) y) (sym at_j) (apart k m other in_k in_m))
+
+pub apart_moved : (xs ys : List Run) → IsPermutation xs ys → AreApart xs → AreApart ys
+apart_moved xs ys same apart =
+    IsPermutation-keeps xs AreApart apart (λ runs a b in_a in_b it. swap_apart runs a b in_a in_b it) ys same
+
+run_order : IsStrictWeakOrder (λ (x y : Run). is_lt (run_cmp x y))
+run_order = ranks_by (then_total (then_total (on_total (λ (l : Run). l.page) nat_cmp_total)
+    (on_total (λ (l : Run). l.first) nat_cmp_total)) (on_total (λ (l : Run). l.places) nat_cmp_total)) (λ l. l)
+
+-- a run that is not before another
+abbrev pub NotAfter : Run → Run → Type 0
+NotAfter x y =
+    (x.page < y.page)
+    ⊎ ((x.page ≡ y.page) × ((x.first < y.first) ⊎ ((x.first ≡ y.first) × (x.places ≤ y.places))))
+
+not_after : (x y : Run) → is_lt (run_cmp y x) ≡ false → NotAfter x y
+not_after x y h = grind (arith, nat_tests)
+
+pub runs_rise : (runs : List Run) (i j : ℕ) → IsSorted run_cmp runs → i ≤ j → j < length runs
+    → NotAfter (run_in runs i) (run_in runs j)
+runs_rise runs i j up le below =
+    not_after (run_in runs i) (run_in runs j)
+    (sorted_far (λ x y. is_lt (run_cmp x y)) run_order runs up i j no_run le below)
+
+pub pages_rise : (runs : List Run) → IsSorted run_cmp runs → DoPagesRise runs
+pages_rise runs up i j le below = elim (runs_rise runs i j up le below) [
+  | inl less ↦ omega (arith, less)
+  | inr equal ↦ omega (arith, equal.0)
+]
+
+-- of two runs of a page that are apart the earlier one's objects come first
+first_ends : (x y : Run) → NotAfter x y → IsApart x y → x.page ≡ y.page → end_of x ≤ y.first
+first_ends x y order (inl before) same = before
+first_ends x y order (inr behind) same =
+    elim order [
+      | inl less ↦ absurd (omega (arith, less, same))
+      | inr rest ↦ elim rest.1 [
+        | inl less ↦ absurd (omega (arith, less, behind))
+        | inr equal ↦
+            let none : count_ones y.places ≡ 0 = omega (arith, behind, equal.0) in
+            let empty : y.places ≡ 0 = zero_from_ones y.places none in
+            let also : x.places ≡ 0 = omega (arith, equal.1, empty) in
+            let few : count_ones x.places ≡ 0 = ap count_ones also ∙ ones_of_bit 0 (omega arith) in
+            omega (arith, few, equal.0)
+      ]
+    ]
+
+pub ends_in_turn : (runs : List Run) (i j : ℕ) → IsSorted run_cmp runs → AreApart runs → i < j
+    → j < length runs → page_in runs i ≡ page_in runs j
+    → end_of (run_in runs i) ≤ (run_in runs j).first
+ends_in_turn runs i j up apart less below same =
+    first_ends (run_in runs i) (run_in runs j) (runs_rise runs i j up (omega (arith, less)) below)
+    (apart i j (λ e. omega (arith, e, less)) (omega (arith, less, below)) below) same

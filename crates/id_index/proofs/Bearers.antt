@@ -1,0 +1,143 @@
+-- What the first run with an identifier says of the objects' identifiers.
+use Rattle.std.proofs.Common.{Bool, refl, Contains, List, None, Option, Some, arith, false, get_or, inl, inr, length}
+use Rattle.std.proofs.Common.{ap, position, slice_get, subst, sym, take, true, ℕ, ◌%◌, ◌+◌, ◌-◌, ◌/◌, ◌<◌, ◌∙◌, ◌≡◌}
+use Rattle.std.proofs.Common.{◌≢◌, ◌≤◌, ◌⊎◌}
+use Rattle.std.specs.Prelude.{◌==◌, IsTrue, nat_lt, ◌↔◌, count_ones}
+use Rattle.std.specs.List.{position_or_len}
+use Rattle.std.proofs.lemmas.Bool.{lt-ltb, eqb-true, eqb-false, cond_above, cond_below, eq-eqb, ltb-true, ne_eqb}
+use Rattle.std.proofs.lemmas.List.{get_or-take, length-take}
+use Rattle.std.proofs.Math.Nat.{lt_of_not-le}
+use Rattle.std.proofs.lemmas.List.Quantifiers.{position-Some}
+use Rattle.std.proofs.lemmas.Grind.{get_or_default_zero}
+use Rattle.std.proofs.lemmas.List.Sums.{fails_before_first, position_or_len_is}
+use Rattle.std.proofs.lemmas.Option.{get_or_from_slice_get, slice_get-get_or, slice_get_within}
+use Rattle.id_index.specs.declared.runs.Run.{Run}
+use Rattle.id_index.specs.Runs.{AreAscending, AreFewAPage, HasBearer, IsBearerAt, IsFirstBearer, IsFirstFrom, Tell}
+use Rattle.id_index.specs.Runs.{number_in, page_in, rank, run_in}
+use Rattle.id_index.proofs.Ones.{rank_less_than_all}
+
+-- the first place that passes
+pub position_is : (p : ℕ → Bool) (xs : List ℕ) (i : ℕ) → i < length xs → ((k : ℕ) → k < i → p (get_or xs k 0) ≡ false)
+    → p (get_or xs i 0) ≡ true → Some i ≡ position p xs
+position_is p xs i below before here =
+    let e : position_or_len p xs ≡ i = position_or_len_is p xs i 0 (omega arith) before (λ _. here) in
+    subst (λ (n : ℕ). Some n ≡ position p xs) e
+    (cond_below (position_or_len p xs) (length xs) (Some (position_or_len p xs)) None (omega (arith, e, below)))
+
+pub position_none : (p : ℕ → Bool) (xs : List ℕ) → ((k : ℕ) → k < length xs → p (get_or xs k 0) ≡ false)
+    → None ≡ position p xs
+position_none p xs before =
+    let e : position_or_len p xs ≡ length xs =
+    position_or_len_is p xs (length xs) 0 (omega arith) before (λ h. absurd (omega (arith, h))) in
+    cond_above (position_or_len p xs) (length xs) (Some (position_or_len p xs)) None None (omega (arith, e)) refl
+
+-- an object before the first run's does not bear the identifier
+others : (runs : List Run) (ids : List ℕ) (id number at k : ℕ) → AreAscending runs
+    → Tell runs ids → IsBearerAt runs id number at → k < number → slice_get ids k ≡ Some id → ⊥
+others runs ids id number at k up tell it less e =
+    let (j, below, has, low) = tell.earliest id k e in
+    let mine : number ≡ (run_in runs at).first + rank (run_in runs at).places (id % 64) = it.number_is in
+    let not_before : ¬ (j < at) = λ (early : j < at). it.first j early has in
+    let not_here : ¬ (j ≡ at) = λ (e : j ≡ at).
+    let same : number_in (run_in runs j) (id % 64) ≡ number_in (run_in runs at) (id % 64) =
+    ap (λ (m : ℕ). number_in (run_in runs m) (id % 64)) e in
+    omega (arith, same, mine, low, less) in
+    let behind : at < j = omega (arith, not_before, not_here) in
+    let there : page_in runs j ≡ id / 64 = has.page in
+    let here : page_in runs at ≡ id / 64 = it.here.page in
+    let end : (run_in runs at).first + count_ones (run_in runs at).places ≤ (run_in runs j).first =
+    up.apart at j behind below (here ∙ sym there) in
+    let inside : rank (run_in runs at).places (id % 64) < count_ones (run_in runs at).places =
+    rank_less_than_all (run_in runs at).places (id % 64) it.here.set in
+    omega (arith, end, inside, mine, low, less)
+
+pub named : (runs : List Run) (ids : List ℕ) (id : ℕ) (result : Option ℕ) → AreAscending runs
+    → Tell runs ids → IsFirstBearer runs id result → result ≡ position (λ x. x == id) ids
+named runs ids id None up tell free =
+    position_none (λ x. x == id) ids (λ k h. ne_eqb (get_or ids k 0) id (λ e.
+    let (j, below, has, low) = tell.earliest id k (slice_get-get_or ids k 0 h ∙ ap Some e) in free j below has))
+named runs ids id (Some number) up tell (at, it) =
+    let e : slice_get ids number ≡ Some id =
+    subst (λ (n : ℕ). slice_get ids n ≡ Some id) (sym it.number_is) (tell.sound at id it.within it.here) in
+    position_is (λ x. x == id) ids number (slice_get_within ids number id e)
+    (λ k h. ne_eqb (get_or ids k 0) id
+    (λ same. others runs ids id number at k up tell it h
+    (slice_get-get_or ids k 0 (omega (arith, h, slice_get_within ids number id e)) ∙ ap Some same)))
+    (eq-eqb (get_or ids number 0) id (get_or_from_slice_get ids number id 0 e))
+
+-- behind a run of a greater page
+pub none_behind : (runs : List Run) (id from at : ℕ) → AreAscending runs
+    → IsFirstFrom runs (id / 64) from → from ≤ at → at < length runs
+    → ((k : ℕ) → k < at → HasBearer (run_in runs k) id → ⊥) → page_in runs at ≢ id / 64
+    → (k : ℕ) → k < length runs → HasBearer (run_in runs k) id → ⊥
+none_behind runs id from at up first after within before other k below has =
+    let page : page_in runs k ≡ id / 64 = has.page in
+    let early : ¬ (k < at) = λ (less : k < at). before k less has in
+    let low : id / 64 ≤ page_in runs at = first.above at after within in
+    let rise : page_in runs at ≤ page_in runs k = up.rise at k (omega (arith, early)) below in
+    other (omega (arith, page, low, rise))
+
+-- no run of the page stands 64 runs on
+pub none_past : (runs : List Run) (id from stop : ℕ) → AreAscending runs
+    → AreFewAPage runs → IsFirstFrom runs (id / 64) from → (length runs ≤ stop) ⊎ (from + 64 ≤ stop)
+    → ((k : ℕ) → k < stop → HasBearer (run_in runs k) id → ⊥)
+    → (k : ℕ) → k < length runs → HasBearer (run_in runs k) id → ⊥
+none_past runs id from stop up few first (inl whole) before k below has =
+    before k (omega (arith, whole, below)) has
+none_past runs id from stop up few first (inr many) before k below has =
+    let early : ¬ (k < stop) = λ (less : k < stop). before k less has in
+    let back : ℕ = k - 64 in
+    let e : back + 64 ≡ k = omega (arith, early, many) in
+    let page : page_in runs k ≡ id / 64 = has.page in
+    let low : id / 64 ≤ page_in runs back =
+    first.above back (omega (arith, early, many, e)) (omega (arith, below, e)) in
+    let rise : page_in runs back ≤ page_in runs k = up.rise back k (omega (arith, e)) below in
+    let same : page_in runs back ≡ page_in runs k = omega (arith, page, low, rise) in
+    few back (omega (arith, e, below)) (same ∙ ap (λ (m : ℕ). page_in runs m) (sym e))
+
+pub get_or_id : (ids : List ℕ) (k id : ℕ) → k < length ids → get_or ids k 0 ≡ id → get_or ids k id ≡ id
+get_or_id ids k id h e = get_or_default_zero ids k id h ∙ e
+
+-- an earlier object bears the identifier exactly where the first one that bears it is earlier
+pub earlier : (ids : List ℕ) (id number first : ℕ) → Some first ≡ position (λ x. x == id) ids
+    → IsTrue (nat_lt first number) ↔ Contains (take number ids) id
+earlier ids id number first e =
+    let it = position-Some (λ x. x == id) ids first 0 (sym e) in
+    let here : get_or ids first 0 ≡ id = eqb-true (get_or ids first 0) id it.1 in (
+      (λ less. let below : first < number = ltb-true first number less in (
+        first,
+        simp length-take (omega (arith, below, it.0)),
+        get_or-take number ids first id below
+            ∙ get_or_id ids first id it.0 here,
+      )),
+      (λ has. let below : has.0 < number = omega (arith, has.1, length-take number ids) in
+          let within : has.0 < length ids = omega (arith, has.1, length-take number ids) in
+          let there : get_or ids has.0 0 ≡ id =
+          sym (get_or_default_zero ids has.0 id within) ∙ sym (get_or-take number ids has.0 id below) ∙ has.2 in
+          let late : ¬ (has.0 < first) =
+          λ (lt : has.0 < first). eqb-false (get_or ids has.0 0) id (it.2 has.0 lt) there in
+          lt-ltb first number (omega (
+            arith,
+            below,
+            lt_of_not-le {n = has.0 + 1} {m = first} (λ le. late (omega (arith, le))),
+          ))),
+    )
+
+-- nobody bears an identifier that has no position
+pub absent : (ids : List ℕ) (id k : ℕ) → None ≡ position (λ x. x == id) ids → k < length ids → get_or ids k 0 ≡ id → ⊥
+absent ids id k e within =
+    let test : ℕ → Bool = λ x. x == id in
+    let place : ℕ = position_or_len test ids in
+    let late : ¬ (place + 1 ≤ length ids) = λ (le : place + 1 ≤ length ids).
+    let found : Some place ≡ position test ids =
+    cond_below place (length ids) (Some place) None (omega (arith, le)) in cc
+    in
+    eqb-false (get_or ids k 0) id (fails_before_first test ids k 0
+    (omega (arith, within, lt_of_not-le {n = place + 1} {m = length ids} late)))
+
+pub nowhere : (ids : List ℕ) (id number : ℕ) → None ≡ position (λ x. x == id) ids → Contains (take number ids) id → ⊥
+nowhere ids id number e has =
+    let within : has.0 < length ids = omega (arith, has.1, length-take number ids) in
+    let below : has.0 < number = omega (arith, has.1, length-take number ids) in
+    absent ids id has.0 e within (sym (get_or_default_zero ids has.0 id within)
+    ∙ sym (get_or-take number ids has.0 id below) ∙ has.2)

@@ -1,0 +1,137 @@
+-- Runs while they are made.
+use Rattle.std.proofs.Common.{List, None, Option, Some, [], ap, arith, inl, inr, length, length-append, refl, subst}
+use Rattle.std.proofs.Common.{sym, ℕ, ◌%◌, ◌*◌, ◌+◌, ◌++◌, ◌/◌, ◌<◌, ◌^◌, ◌∙◌, ◌∷◌, ◌≡◌, ◌≤◌}
+use Rattle.std.specs.Prelude.{bit_or}
+use Rattle.std.specs.Int.Bits.{or_zero_l}
+use Rattle.std.specs.Option.{option_to_list}
+use Rattle.std.proofs.Math.ListN.{get_or-append}
+use Rattle.std.proofs.Math.Seq.{get_or-append_seam}
+use Rattle.std.proofs.lemmas.Bool.{cases_eq}
+use Rattle.std.proofs.lemmas.List.{append-nil}
+use Rattle.std.proofs.lemmas.List.FromFn.{length-map-range_with_len}
+use Rattle.std.proofs.lemmas.Nat.{mod_below, pow_pos}
+use Rattle.std.proofs.lemmas.Option.{slice_get_within}
+use Rattle.id_index.specs.declared.runs.Run.{Run}
+use Rattle.id_index.specs.Building.{AreBuilt, AreBuiltUpTo, AreInTurn, AreOpen, ids_built, with_last}
+use Rattle.id_index.specs.Runs.{end_of, id_of_number, no_run, run_in, run_of}
+use Rattle.id_index.proofs.Extending.{empty_complete, empty_sound, extend_complete, extend_sound, push_length}
+use Rattle.id_index.proofs.Numbering.{given_back}
+use Rattle.id_index.proofs.Ones.{ones_of_bit, ones_set}
+
+-- ---- one more run
+
+pub in_push : (runs : List Run) (run : Run) (k : ℕ) → k < length runs → run_in (runs ++ run ∷ []) k ≡ run_in runs k
+in_push runs run k h = get_or-append runs (run ∷ []) no_run k h
+
+pub at_push : (runs : List Run) (run : Run) (k : ℕ) → k ≡ length runs → run_in (runs ++ run ∷ []) k ≡ run
+at_push runs run k e = ap (λ (m : ℕ). run_in (runs ++ run ∷ []) m) e ∙ get_or-append_seam runs run [] no_run
+
+more_in_turn : (runs : List Run) (run : Run) → AreInTurn runs
+    → ((i : ℕ) → i < length runs → end_of (run_in runs i) ≤ run.first) → AreInTurn (runs ++ run ∷ [])
+more_in_turn runs run turn before i j less within =
+    let inside : j < length runs + 1 = omega (arith, within, push_length runs run) in
+    elim (cases_eq j (length runs)) [
+      | inl last ↦
+          let left : end_of (run_in (runs ++ run ∷ []) i) ≡ end_of (run_in runs i) =
+          ap end_of (in_push runs run i (omega (arith, less, last))) in
+          let right : (run_in (runs ++ run ∷ []) j).first ≡ run.first =
+          ap (λ (l : Run). l.first) (at_push runs run j last) in
+          omega (arith, left, right, before i (omega (arith, less, last)))
+      | inr other ↦
+          let below : j < length runs = omega (arith, inside, other) in
+          let left : end_of (run_in (runs ++ run ∷ []) i) ≡ end_of (run_in runs i) =
+          ap end_of (in_push runs run i (omega (arith, less, below))) in
+          let right : (run_in (runs ++ run ∷ []) j).first ≡ (run_in runs j).first =
+          ap (λ (l : Run). l.first) (in_push runs run j below) in
+          omega (arith, left, right, turn i j less below)
+    ]
+
+more_before : (runs : List Run) (run : Run) (count : ℕ)
+    → ((i : ℕ) → i < length runs → end_of (run_in runs i) ≤ run.first) → end_of run ≡ count
+    → (i : ℕ) → i < length (runs ++ run ∷ []) → end_of (run_in (runs ++ run ∷ []) i) ≤ count
+more_before runs run count before end i within =
+    let inside : i < length runs + 1 = omega (arith, within, push_length runs run) in
+    elim (cases_eq i (length runs)) [
+      | inl last ↦ omega (arith, end, ap end_of (at_push runs run i last))
+      | inr other ↦
+          let below : i < length runs = omega (arith, inside, other) in
+          omega (arith, end, ap end_of (in_push runs run i below), before i below)
+    ]
+
+-- ---- the last run
+
+-- the last run is one of the others
+closed : (runs : List Run) (last : Run) (ids : List ℕ) → AreOpen runs last ids → AreBuilt (runs ++ last ∷ []) ids
+closed runs last ids it = record {
+  sound = it.sound;
+  complete = it.complete;
+  turn = more_in_turn runs last it.turn it.before;
+  before = more_before runs last (length ids) it.before it.end;
+}
+
+pub all_built : (runs : List Run) (last : Option Run) (ids : List ℕ) → AreBuiltUpTo runs last ids
+    → AreBuilt (with_last runs last) ids
+all_built runs None ids it = subst (λ (ls : List Run). AreBuilt ls ids) (sym (append-nil runs)) it
+all_built runs (Some last) ids it = closed runs last ids it
+
+pub gives : (runs : List Run) (last : Option Run) (ids : List ℕ) (count : ℕ) → AreBuiltUpTo runs last ids
+    → length ids ≡ count → ids ≡ ids_built runs last count
+gives runs last ids count it len =
+    let all : AreBuilt (with_last runs last) ids = all_built runs last ids it in
+    given_back (with_last runs last) ids count all.sound all.complete len
+
+pub ids_count : (runs : List Run) (last : Option Run) (count : ℕ) → length (ids_built runs last count) ≡ count
+ids_count runs last count = length-map-range_with_len (id_of_number (with_last runs last)) 0 count
+
+-- a last run in place of another
+pub as_many : (runs : List Run) (last : Option Run) (run : Run) (count : ℕ) → length (with_last runs last) ≤ count
+    → length (runs ++ run ∷ []) ≤ count + 1
+as_many runs last run count few =
+    omega (arith, few, push_length runs run, length-append runs (option_to_list last))
+
+-- ---- one more object
+
+-- a last run with nothing in it
+emptied : (runs : List Run) (ids : List ℕ) (page : ℕ) → AreBuilt runs ids
+    → AreOpen runs (run_of page (length ids) 0) ids
+emptied runs ids page it = record {
+  sound = empty_sound runs ids page (length ids) it.sound;
+  complete = empty_complete runs ids page (length ids) it.complete;
+  turn = it.turn;
+  before = it.before;
+  end = omega (arith, ones_of_bit 0 (omega arith));
+}
+
+-- an object in a place above the others of the last run
+pub placed : (runs : List Run) (ids : List ℕ) (page first word id : ℕ) → AreOpen runs (run_of page first word) ids
+    → page ≡ id / 64 → word < 2 ^ (id % 64)
+    → AreOpen runs (run_of page first (bit_or word (1 * 2 ^ (id % 64) % 2 ^ 64))) (ids ++ id ∷ [])
+placed runs ids page first word id it at above = record {
+  sound = extend_sound runs ids page first word id at above it.end it.sound;
+  complete = extend_complete runs ids page first word id at above it.end it.complete;
+  turn = it.turn;
+  before = it.before;
+  end = omega (
+    arith,
+    it.end,
+    push_length ids id,
+    ones_set word (id % 64) (mod_below id 64 (omega arith)) above,
+  );
+}
+
+-- an object in a run of its own
+pub begun : (runs : List Run) (ids : List ℕ) (count id : ℕ) → AreBuilt runs ids → count ≡ length ids
+    → AreOpen runs (run_of (id / 64) count (1 * 2 ^ (id % 64) % 2 ^ 64)) (ids ++ id ∷ [])
+begun runs ids count id it len =
+    let bit : ℕ = 1 * 2 ^ (id % 64) % 2 ^ 64 in
+    subst (λ (n : ℕ). AreOpen runs (run_of (id / 64) n bit) (ids ++ id ∷ [])) (sym len)
+    (subst (λ (w : ℕ). AreOpen runs (run_of (id / 64) (length ids) w) (ids ++ id ∷ [])) (or_zero_l bit)
+    (placed runs ids (id / 64) (length ids) 0 id (emptied runs ids (id / 64) it) refl (pow_pos (id % 64))))
+
+pub nothing : AreBuilt [] []
+nothing = record {
+  sound = λ run id has. absurd (omega (arith, has.1));
+  complete = λ id n e. absurd (omega (arith, slice_get_within [] n id e));
+  turn = λ i j less within. absurd (omega (arith, within));
+  before = λ i within. absurd (omega (arith, within));
+}

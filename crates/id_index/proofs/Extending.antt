@@ -1,0 +1,160 @@
+-- One more object: in a place above all others of the last run, or in a run of its own.
+use Rattle.std.proofs.Common.{List, Some, [], ap, arith, get_or, inl, inr, length, length-append, slice_get}
+use Rattle.std.proofs.Common.{subst, sym, ℕ, ◌%◌, ◌*◌, ◌+◌, ◌++◌, ◌/◌, ◌<◌, ◌^◌, ◌∙◌, ◌∷◌, ◌≡◌, ◌≢◌, ◌⊎◌}
+use Rattle.std.specs.Prelude.{bit_or, count_ones}
+use Rattle.std.specs.Int.{bit_at}
+use Rattle.std.proofs.Math.ListN.{get_or-append}
+use Rattle.std.proofs.Math.Seq.{get_or-append_seam}
+use Rattle.std.proofs.lemmas.Bool.{cases_eq}
+use Rattle.std.proofs.lemmas.List.Elements.{Contains-append_left, Contains-push, Contains-push_cases}
+use Rattle.std.proofs.lemmas.Nat.{mod_below}
+use Rattle.std.proofs.lemmas.Nat.Bits.{bit_at-zero}
+use Rattle.std.proofs.lemmas.Option.{get_or_from_slice_get, slice_get-get_or, slice_get_within}
+use Rattle.id_index.specs.declared.runs.Run.{Run}
+use Rattle.id_index.specs.Runs.{AreComplete, AreSound, HasBearer, number_in, run_of}
+use Rattle.id_index.proofs.Ones.{rank_at_set, rank_below_set, set_before, set_elsewhere, set_here}
+
+-- ---- a list with one more
+
+pub push_length : {X : Type 0} (xs : List X) (x : X) → length (xs ++ x ∷ []) ≡ length xs + 1
+push_length xs x = length-append xs (x ∷ [])
+
+get_kept : (xs : List ℕ) (x k y : ℕ) → slice_get xs k ≡ Some y → slice_get (xs ++ x ∷ []) k ≡ Some y
+get_kept xs x k y e =
+    let within : k < length xs = slice_get_within xs k y e in
+    slice_get-get_or (xs ++ x ∷ []) k y (omega (arith, within, push_length xs x))
+    ∙ ap Some (get_or-append xs (x ∷ []) y k within ∙ get_or_from_slice_get xs k y y e)
+
+get_last : (xs : List ℕ) (x : ℕ) → slice_get (xs ++ x ∷ []) (length xs) ≡ Some x
+get_last xs x =
+    slice_get-get_or (xs ++ x ∷ []) (length xs) 0 (omega (arith, push_length xs x))
+    ∙ ap Some (get_or-append_seam xs x [] 0)
+
+get_either : (xs : List ℕ) (x k y : ℕ) → slice_get (xs ++ x ∷ []) k ≡ Some y
+    → (slice_get xs k ≡ Some y) ⊎ ((k ≡ length xs) × (y ≡ x))
+get_either xs x k y e =
+    let within : k < length (xs ++ x ∷ []) = slice_get_within (xs ++ x ∷ []) k y e in
+    elim (cases_eq k (length xs)) [
+      | inl last ↦ inr (
+        last,
+        sym (get_or_from_slice_get (xs ++ x ∷ []) k y 0 e)
+            ∙ ap (λ (m : ℕ). get_or (xs ++ x ∷ []) m 0) last ∙ get_or-append_seam xs x [] 0,
+      )
+      | inr other ↦
+          let inside : k < length xs = omega (arith, within, other, push_length xs x) in
+          inl (slice_get-get_or xs k 0 inside
+          ∙ ap Some (sym (get_or-append xs (x ∷ []) 0 k inside) ∙ get_or_from_slice_get (xs ++ x ∷ []) k y 0 e))
+    ]
+
+-- ---- a run with nothing in it
+
+nothing_in : (page first id : ℕ) → HasBearer (run_of page first 0) id → ⊥
+nothing_in page first id has = omega (arith, has.set, bit_at-zero (id % 64))
+
+pub empty_sound : (runs : List Run) (ids : List ℕ) (page first : ℕ) → AreSound runs ids
+    → AreSound (runs ++ (run_of page first 0) ∷ []) ids
+empty_sound runs ids page first sound run id has bearer =
+    elim (Contains-push_cases runs (run_of page first 0) run has) [
+      | inl before ↦ sound run id before bearer
+      | inr same ↦ absurd (nothing_in page first id
+          (subst (λ (l : Run). HasBearer l id) (sym same) bearer))
+    ]
+
+pub empty_complete : (runs : List Run) (ids : List ℕ) (page first : ℕ) → AreComplete runs ids
+    → AreComplete (runs ++ (run_of page first 0) ∷ []) ids
+empty_complete runs ids page first complete id n e =
+    let (run, has, bearer, number) = complete id n e in
+    (run, Contains-append_left runs ((run_of page first 0) ∷ []) run has, bearer, number)
+
+-- ---- a place above all others
+
+module _ (runs : List Run) (ids : List ℕ) (page first word id : ℕ) (at : page ≡ id / 64)
+    (above : word < 2 ^ (id % 64)) (end : first + count_ones word ≡ length ids) where
+  abbrev old : Run
+  old = run_of page first word
+
+  abbrev new : Run
+  new = run_of page first (bit_or word (1 * 2 ^ (id % 64) % 2 ^ 64))
+
+  inside : id % 64 < 64
+  inside = mod_below id 64 (omega arith)
+
+  number_there : number_in new (id % 64) ≡ length ids
+  number_there = omega (arith, end, rank_at_set word (id % 64) inside above)
+
+  -- what the longer run had before
+  had : (other : ℕ) → other % 64 ≢ id % 64 → HasBearer new other
+      → HasBearer old other × (number_in new (other % 64) ≡ number_in old (other % 64))
+  had other differs has =
+      let set : bit_at word (other % 64) ≡ 1 =
+      sym (set_elsewhere word (id % 64) inside above (other % 64) differs) ∙ has.set in
+      let less : other % 64 < id % 64 = set_before word (id % 64) inside above (other % 64) set in (
+        record { page = has.page; set = set },
+        ap (λ (r : ℕ). first + r) (rank_below_set word (id % 64) inside above (other % 64) (omega (arith, less))),
+      )
+
+  has_still : (other : ℕ) → HasBearer old other
+      → HasBearer new other × (number_in new (other % 64) ≡ number_in old (other % 64))
+  has_still other has =
+      let less : other % 64 < id % 64 = set_before word (id % 64) inside above (other % 64) has.set in (
+        record {
+          page = has.page;
+          set = set_elsewhere word (id % 64) inside above (other % 64) (λ e. omega (arith, e, less)) ∙ has.set;
+        },
+        ap (λ (r : ℕ). first + r) (rank_below_set word (id % 64) inside above (other % 64) (omega (arith, less))),
+      )
+
+  told : AreSound (runs ++ old ∷ []) ids → (other : ℕ) → HasBearer new other
+      → slice_get (ids ++ id ∷ []) (number_in new (other % 64)) ≡ Some other
+  told sound other has =
+      elim (cases_eq (other % 64) (id % 64)) [
+        | inl same ↦
+            let page_is : page ≡ other / 64 = has.page in
+            let one : other ≡ id = omega (arith, same, page_is, at) in
+            let number : number_in new (other % 64) ≡ length ids =
+            ap (λ (p : ℕ). number_in new p) same ∙ number_there in
+            ap (λ (n : ℕ). slice_get (ids ++ id ∷ []) n) number ∙ get_last ids id ∙ ap Some (sym one)
+        | inr differs ↦
+            let before = had other differs has in
+            ap (λ (n : ℕ). slice_get (ids ++ id ∷ []) n) before.1
+            ∙ get_kept ids id (number_in old (other % 64)) other
+            (sound old other (Contains-push runs old) before.0)
+      ]
+
+  pub extend_sound : AreSound (runs ++ old ∷ []) ids → AreSound (runs ++ new ∷ []) (ids ++ id ∷ [])
+  extend_sound sound run other has bearer =
+      elim (Contains-push_cases runs new run has) [
+        | inl before ↦ get_kept ids id (number_in run (other % 64)) other
+            (sound run other (Contains-append_left runs (old ∷ []) run before) bearer)
+        | inr same ↦ subst
+            (λ (l : Run). slice_get (ids ++ id ∷ []) (number_in l (other % 64)) ≡ Some other) same
+            (told sound other (subst (λ (l : Run). HasBearer l other) (sym same) bearer))
+      ]
+
+  pub extend_complete : AreComplete (runs ++ old ∷ []) ids → AreComplete (runs ++ new ∷ []) (ids ++ id ∷ [])
+  extend_complete complete other n e =
+      elim (get_either ids id n other e) [
+        | inl before ↦
+            let (run, has, bearer, number) = complete other n before in
+            elim (Contains-push_cases runs old run has) [
+              | inl there ↦ (run, Contains-append_left runs (new ∷ []) run there, bearer, number)
+              | inr same ↦
+                  let mine : HasBearer old other =
+                  subst (λ (l : Run). HasBearer l other) (sym same) bearer in
+                  let still = has_still other mine in (
+                    new,
+                    Contains-push runs new,
+                    still.0,
+                    still.1 ∙ ap (λ (l : Run). number_in l (other % 64)) same ∙ number,
+                  )
+            ]
+        | inr last ↦ (
+          new,
+          Contains-push runs new,
+          record {
+            page = at ∙ ap (λ (x : ℕ). x / 64) (sym last.1);
+            set = ap (λ (x : ℕ). bit_at new.places (x % 64)) last.1 ∙ set_here word (id % 64) inside above;
+          },
+          ap (λ (x : ℕ). number_in new (x % 64)) last.1 ∙ number_there ∙ sym last.0,
+        )
+      ]

@@ -1,0 +1,37 @@
+-- What one look into ascending runs tells of all of them.
+use Rattle.std.proofs.Common.{List, arith, length, ℕ, ◌+◌, ◌<◌, ◌≤◌}
+use Rattle.id_index.specs.Beginnings.{IsAround}
+use Rattle.id_index.specs.declared.runs.Run.{Run}
+use Rattle.id_index.specs.Runs.{DoPagesRise, IsFirstFrom, page_in}
+
+module _ (runs : List Run) (up : DoPagesRise runs) (page low high at : ℕ)
+    (around : IsAround runs page low high) (after : low ≤ at) (inside : at < high) where
+  pub upper_half : page_in runs at < page → IsAround runs page (at + 1) high
+  upper_half less = record {
+    order = omega arith;
+    within = around.within;
+    before = λ k h.
+        let rise : page_in runs k ≤ page_in runs at =
+        up k at (omega (arith, h)) (omega (arith, inside, around.within)) in
+        omega (arith, rise, less);
+    behind = around.behind;
+  }
+
+  pub lower_half : page ≤ page_in runs at → IsAround runs page low at
+  lower_half more = record {
+    order = after;
+    within = omega (arith, inside, around.within);
+    before = around.before;
+    behind = λ k from h.
+        let rise : page_in runs at ≤ page_in runs k = up at k from h in omega (arith, rise, more);
+  }
+
+-- the first run in turn whose page is not smaller
+pub first_in_turn : (runs : List Run) (page at : ℕ) → DoPagesRise runs → at < length runs
+    → ((k : ℕ) → k < at → page_in runs k < page) → page ≤ page_in runs at → IsFirstFrom runs page at
+first_in_turn runs page at up inside below here = record {
+  within = omega (arith, inside);
+  below = below;
+  above = λ k from h.
+      let rise : page_in runs at ≤ page_in runs k = up at k from h in omega (arith, rise, here);
+}

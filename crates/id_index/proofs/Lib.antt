@@ -1,0 +1,13 @@
+pub mod Buckets
+pub mod Halving
+pub mod Ones
+pub mod Bearers
+pub mod Numbering
+pub mod Extending
+pub mod Built
+pub mod Apart
+pub mod Seen
+pub mod Settled
+pub mod Telling
+pub mod Repeating
+pub mod Aligning

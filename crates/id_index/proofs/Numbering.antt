@@ -1,0 +1,88 @@
+-- The identifiers that runs give back.
+use Rattle.std.proofs.Common.{Bool, List, Some, ap, arith, false, get_or, length, slice_get, subst, sym, true, ℕ}
+use Rattle.std.proofs.Common.{◌%◌, ◌/◌, ◌<◌, ◌∙◌, ◌≡◌}
+use Rattle.std.specs.Prelude.{nat_lt}
+use Rattle.std.specs.Int.{bit_at}
+use Rattle.std.specs.List.{find, position_or_len, range_with_len}
+use Rattle.std.specs.Option.{option_map_or}
+use Rattle.std.proofs.Math.Nat.{lt_of_not-le}
+use Rattle.std.proofs.lemmas.Bool.{lt-ltb, ltb-true}
+use Rattle.std.proofs.lemmas.Bool.Decides.{nat_tests}
+use Rattle.std.proofs.lemmas.List.FromFn.{fill_by_all, get_or-range_with_len, length-range_with_len}
+use Rattle.std.proofs.lemmas.List.Folds.{find_at}
+use Rattle.std.proofs.lemmas.List.Elements.{Contains-get_or}
+use Rattle.std.proofs.lemmas.List.Sums.{fails_before_first, passes_at_first}
+use Rattle.std.proofs.lemmas.Nat.{div-mul-add, mod-mul-add, mod_below}
+use Rattle.std.proofs.lemmas.Option.{get_or_from_slice_get, slice_get-get_or}
+use Rattle.id_index.specs.declared.runs.Run.{Run}
+use Rattle.id_index.specs.Runs.{AreComplete, AreSound, HasBearer, id_in, id_of_number, ids_of_runs, no_run, number_in}
+use Rattle.id_index.specs.Runs.{place_of, stands_at}
+
+passes_both : (run : Run) (n p : ℕ) → bit_at run.places p ≡ 1 → number_in run p ≡ n → stands_at run n p ≡ true
+passes_both run n p set number = grind (arith, nat_tests)
+
+both_pass : (run : Run) (n p : ℕ) → stands_at run n p ≡ true
+    → (bit_at run.places p ≡ 1) × (number_in run p ≡ n)
+both_pass run n p h = grind (arith, nat_tests)
+
+range_at : (p : ℕ) → p < 64 → get_or (range_with_len 0 64) p 0 ≡ p
+range_at p h = omega (arith, get_or-range_with_len 0 64 p 0 h)
+
+-- a run with the number has a place for it
+place_below : (run : Run) (n p : ℕ) → p < 64 → bit_at run.places p ≡ 1 → number_in run p ≡ n
+    → place_of run n < 64
+place_below run n p h set number =
+    lt_of_not-le {n = 64} {m = place_of run n} (λ le.
+    let fails : stands_at run n (get_or (range_with_len 0 64) p 0) ≡ false =
+    fails_before_first (stands_at run n) (range_with_len 0 64) p 0 (omega (arith, le, h)) in
+    let here : stands_at run n p ≡ false =
+    subst (λ (q : ℕ). stands_at run n q ≡ false) (range_at p h) fails in
+    let passes : stands_at run n p ≡ true = passes_both run n p set number in
+    absurd (cc))
+
+place_true : (run : Run) (n : ℕ) → place_of run n < 64
+    → (bit_at run.places (place_of run n) ≡ 1) × (number_in run (place_of run n) ≡ n)
+place_true run n h =
+    let inside : place_of run n < length (range_with_len 0 64) =
+    omega (arith, h, length-range_with_len 0 64) in
+    both_pass run n (place_of run n)
+    (subst (λ (q : ℕ). stands_at run n q ≡ true) (range_at (place_of run n) h)
+    (passes_at_first (stands_at run n) (range_with_len 0 64) 0 inside))
+
+number_id : (runs : List Run) (ids : List ℕ) (n : ℕ) → AreSound runs ids → AreComplete runs ids
+    → n < length ids → get_or ids n 0 ≡ id_of_number runs n
+number_id runs ids n sound complete h =
+    let test : Run → Bool = λ (run : Run). nat_lt (place_of run n) 64 in
+    let at : ℕ = position_or_len test runs in
+    let it = complete (get_or ids n 0) n (slice_get-get_or ids n 0 h) in
+    let run : Run = it.0 in
+    let passes : test run ≡ true = lt-ltb (place_of run n) 64
+    (place_below run n (get_or ids n 0 % 64) (mod_below (get_or ids n 0) 64 (omega arith)) it.2.set it.3) in
+    let inside : at < length runs =
+    lt_of_not-le {n = length runs} {m = at}
+    (λ le. let fails : test (get_or runs it.1.0 run) ≡ false = fails_before_first test runs it.1.0 run
+    (omega (arith, le, it.1.1)) in
+    let same : test (get_or runs it.1.0 run) ≡ test run = ap test it.1.2 in absurd (cc)) in
+    let found : Run = get_or runs at no_run in
+    let place : ℕ = place_of found n in
+    let below : place < 64 = ltb-true place 64 (passes_at_first test runs no_run inside) in
+    let here = place_true found n below in
+    let id : ℕ = id_in n found in
+    let page : found.page ≡ id / 64 = sym (div-mul-add found.page 64 place below) in
+    let rest : id % 64 ≡ place = mod-mul-add found.page 64 place below in
+    let has : HasBearer found id = record {
+      page = page;
+      set = subst (λ (p : ℕ). bit_at found.places p ≡ 1) (sym rest) here.0;
+    } in
+    let number : number_in found (id % 64) ≡ n = ap (λ (p : ℕ). number_in found p) rest ∙ here.1 in
+    let told : slice_get ids n ≡ Some id =
+    subst (λ (m : ℕ). slice_get ids m ≡ Some id) number
+    (sound found id (Contains-get_or runs at no_run inside) has) in
+    let read : find test runs ≡ Some found = find_at test runs ∙ slice_get-get_or runs at no_run inside in
+    get_or_from_slice_get ids n id 0 told ∙ sym (ap (λ o. option_map_or (id_in n) o 0) read)
+
+pub given_back : (runs : List Run) (ids : List ℕ) (count : ℕ) → AreSound runs ids → AreComplete runs ids
+    → length ids ≡ count → ids ≡ ids_of_runs runs count
+given_back runs ids count sound complete len =
+    fill_by_all (id_of_number runs) ids count 0 len
+    (λ k h. number_id runs ids k sound complete (omega (arith, h, len)))

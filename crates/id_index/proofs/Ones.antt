@@ -1,0 +1,156 @@
+-- How many bits of a number are set below a place.
+use Rattle.std.proofs.Common.{arith, ap, inl, inr, subst, suc, sym, zero, ℕ, ◌%◌, ◌*◌, ◌+◌, ◌-◌, ◌/◌, ◌<◌, ◌^◌}
+use Rattle.std.proofs.Common.{◌∙◌, ◌≡◌, ◌≢◌, ◌≤◌, ◌⊎◌}
+use Rattle.std.specs.Prelude.{bit_and, bit_or, count_ones}
+use Rattle.std.specs.Int.{bit_at, w64}
+use Rattle.std.proofs.Math.Nat.{div-eq_of_lt, le-max_left, lt_of_not-le}
+use Rattle.std.proofs.lemmas.Bool.{cases_lt}
+use Rattle.std.specs.Int.Bits.{or_shifted_r}
+use Rattle.std.proofs.lemmas.Nat.{and_comm, and_mask, and_or_self, le_or_l, mod-pow-add, mod_below, one_shl, ones_cat}
+use Rattle.std.proofs.lemmas.Nat.{pow_pos, shr_split}
+use Rattle.std.proofs.lemmas.Nat.Bits.{bit_at-lt, bit_at_above, bit_at_or, bit_at_set_other, bit_at_set_same}
+use Rattle.std.proofs.lemmas.Nat.Bits.{same_from_bits_below}
+use Rattle.id_index.specs.Runs.{rank}
+
+zero_or_one : (b : ℕ) → b < 2 → (b ≡ 0) ⊎ (b ≡ 1)
+zero_or_one b h = grind arith
+
+pub ones_of_bit : (b : ℕ) → b < 2 → count_ones b ≡ b
+unfolding lib.Count.ones
+ones_of_bit b h = elim (zero_or_one b h) [
+  | inl e ↦ ap count_ones e ∙ sym e
+  | inr e ↦ ap count_ones e ∙ sym e
+]
+
+-- one place more: the bit there is counted
+pub rank_more : (n k : ℕ) → rank n (k + 1) ≡ bit_at n k + rank n k
+rank_more n k =
+    let turn : k + 1 ≡ 1 + k = omega arith in
+    let e : n % 2 ^ (k + 1) ≡ bit_at n k * 2 ^ k + n % 2 ^ k =
+    ap (λ (m : ℕ). n % 2 ^ m) turn ∙ mod-pow-add n 1 k in
+    ap count_ones e ∙ ones_cat k (bit_at n k) (n % 2 ^ k) (mod_below n (2 ^ k) (pow_pos k))
+    ∙ ap (λ (b : ℕ). b + rank n k) (ones_of_bit (bit_at n k) (bit_at-lt n k))
+
+pub rank_none : (n : ℕ) → rank n 0 ≡ 0
+unfolding lib.Count.ones
+rank_none n = let e : n % 1 ≡ 0 = omega (arith, mod_below n 1 (omega arith)) in ap count_ones e
+
+-- a mask of the places below keeps what is left by a division
+pub rank_masked : (n k : ℕ) → k < 64 → count_ones (bit_and n (1 * 2 ^ k % 2 ^ 64 - 1)) ≡ rank n k
+rank_masked n k h =
+    ap (λ (m : ℕ). count_ones (bit_and n (m - 1))) (one_shl k 64 h) ∙ ap count_ones (and_mask n k)
+
+-- all bits: those below a place and those from it on
+pub ones_split : (n k : ℕ) → count_ones n ≡ count_ones (n / 2 ^ k) + rank n k
+ones_split n k =
+    ap count_ones (sym (shr_split n k)) ∙ ones_cat k (n / 2 ^ k) (n % 2 ^ k) (mod_below n (2 ^ k) (pow_pos k))
+
+pub rank_whole : (n k : ℕ) → n < 2 ^ k → rank n k ≡ count_ones n
+rank_whole n k h =
+    let none : n / 2 ^ k ≡ 0 = div-eq_of_lt h in
+    let all : count_ones n ≡ count_ones (n / 2 ^ k) + rank n k = ones_split n k in
+    let few : count_ones (n / 2 ^ k) ≡ 0 = ap count_ones none ∙ ones_of_bit 0 (omega arith) in
+    omega (arith, all, few)
+
+-- below a set bit are fewer bits than in all
+pub rank_less_than_all : (n k : ℕ) → bit_at n k ≡ 1 → rank n k < count_ones n
+rank_less_than_all n k set = omega (arith, ones_split n (k + 1), rank_more n k, set)
+
+pub rank_grows : (n i d : ℕ) → rank n i ≤ rank n (i + d)
+rank_grows n i zero = let e : i + 0 ≡ i = omega arith in subst (λ (m : ℕ). rank n i ≤ rank n m) (sym e) (omega arith)
+rank_grows n i (suc d) =
+    let e : i + suc d ≡ i + d + 1 = omega arith in
+    subst (λ (m : ℕ). rank n i ≤ rank n m) (sym e) (omega (arith, rank_grows n i d, rank_more n (i + d)))
+
+-- numbers with the same bits below a place
+pub rank_same : (a b k : ℕ) → ((i : ℕ) → i < k → bit_at a i ≡ bit_at b i) → rank a k ≡ rank b k
+rank_same a b zero same = rank_none a ∙ sym (rank_none b)
+rank_same a b (suc k) same =
+    let e : suc k ≡ k + 1 = omega arith in
+    let below : rank a k ≡ rank b k = rank_same a b k (λ i h. same i (omega (arith, h))) in
+    subst (λ (m : ℕ). rank a m ≡ rank b m) (sym e)
+    (omega (arith, below, rank_more a k, rank_more b k, same k (omega arith)))
+
+-- ---- more bits
+
+-- where each bit of one number is set in another, the other's set bits below a place are no fewer, and gain on the way
+gains : (a c i d : ℕ) → ((p : ℕ) → bit_at a p ≤ bit_at c p) → rank a (i + d) + rank c i ≤ rank c (i + d) + rank a i
+gains a c i zero all =
+    let e : i + 0 ≡ i = omega arith in
+    subst (λ (m : ℕ). rank a m + rank c i ≤ rank c m + rank a i) (sym e) (omega arith)
+gains a c i (suc d) all =
+    let e : i + suc d ≡ i + d + 1 = omega arith in
+    subst (λ (m : ℕ). rank a m + rank c i ≤ rank c m + rank a i) (sym e)
+    (omega (arith, gains a c i d all, rank_more a (i + d), rank_more c (i + d), all (i + d)))
+
+more_ones : (a c p : ℕ) → ((q : ℕ) → bit_at a q ≤ bit_at c q) → a < 2 ^ 64 → c < 2 ^ 64 → p < 64
+    → bit_at a p < bit_at c p → count_ones a < count_ones c
+more_ones a c p all fits_a fits_c inside less =
+    let begin : 0 + p ≡ p = omega arith in
+    let start : rank a p + rank c 0 ≤ rank c p + rank a 0 =
+    subst (λ (m : ℕ). rank a m + rank c 0 ≤ rank c m + rank a 0) begin (gains a c 0 p all) in
+    let e : p + 1 + (64 - (p + 1)) ≡ 64 = omega (arith, inside) in
+    let rest : rank a 64 + rank c (p + 1) ≤ rank c 64 + rank a (p + 1) =
+    subst (λ (m : ℕ). rank a m + rank c (p + 1) ≤ rank c m + rank a (p + 1)) e
+    (gains a c (p + 1) (64 - (p + 1)) all) in
+    omega (
+      arith,
+      start,
+      rest,
+      less,
+      rank_none a,
+      rank_none c,
+      rank_more a p,
+      rank_more c p,
+      rank_whole a 64 fits_a,
+      rank_whole c 64 fits_c,
+    )
+
+-- bits that are not all there yet are more bits
+pub ones_grow : (a b : ℕ) → bit_or a b < 2 ^ 64 → bit_and b a ≢ b → count_ones a < count_ones (bit_or a b)
+ones_grow a b fits some =
+    let c : ℕ = bit_or a b in
+    let fits_a : a < 2 ^ 64 = omega (arith, fits, le_or_l a b) in
+    let all : (p : ℕ) → bit_at a p ≤ bit_at c p =
+    λ p. omega (arith, bit_at_or a b p, le-max_left (bit_at a p) (bit_at b p)) in
+    elim (cases_lt (count_ones a) (count_ones c)) [
+      | inl more ↦ more
+      | inr none ↦
+          let bits : (p : ℕ) → p < 64 → bit_at a p ≡ bit_at c p =
+          λ p inside. elim (cases_lt (bit_at a p) (bit_at c p)) [
+            | inl less ↦ absurd (omega (arith, none, more_ones a c p all fits_a fits inside less))
+            | inr from ↦ omega (arith, from, all p)
+          ] in
+          let same : a ≡ c = same_from_bits_below 64 a c fits_a fits bits in
+          absurd (some (and_comm b a ∙ ap (λ (x : ℕ). bit_and x b) same ∙ and_or_self b a))
+    ]
+
+-- ---- a bit that is set above all others
+
+abbrev with_bit : ℕ → ℕ → ℕ
+with_bit n place = bit_or n (1 * 2 ^ place % 2 ^ 64)
+
+module _ (n place : ℕ) (inside : place < 64) (above : n < 2 ^ place) where
+  pub set_here : bit_at (with_bit n place) place ≡ 1
+  set_here = bit_at_set_same w64 n place inside
+
+  pub set_elsewhere : (i : ℕ) → i ≢ place → bit_at (with_bit n place) i ≡ bit_at n i
+  set_elsewhere i other = bit_at_set_other w64 n place inside i other
+
+  -- what was set stands below
+  pub set_before : (i : ℕ) → bit_at n i ≡ 1 → i < place
+  set_before i set = lt_of_not-le {n = place} {m = i} (λ le. omega (arith, bit_at_above n place i above le, set))
+
+  pub rank_below_set : (i : ℕ) → i ≤ place → rank (with_bit n place) i ≡ rank n i
+  rank_below_set i le = rank_same (with_bit n place) n i
+      (λ j less. set_elsewhere j (λ e. omega (arith, e, less, le)))
+
+  pub rank_at_set : rank (with_bit n place) place ≡ count_ones n
+  rank_at_set = rank_below_set place (omega arith) ∙ rank_whole n place above
+
+  pub ones_set : count_ones (with_bit n place) ≡ count_ones n + 1
+  ones_set =
+      let shifted : 1 * 2 ^ place % 2 ^ 64 ≡ 1 * 2 ^ place = omega (arith, one_shl place 64 inside) in
+      let sum : with_bit n place ≡ 1 * 2 ^ place + n =
+      ap (λ (m : ℕ). bit_or n m) shifted ∙ or_shifted_r 1 place n above in
+      omega (arith, ap count_ones sum ∙ ones_cat place 1 n above, ones_of_bit 1 (omega arith))

@@ -1,0 +1,89 @@
+-- What settled runs tell of the objects.
+use Rattle.std.proofs.Common.{Contains, IsPermutation, IsSorted, List, Option, Some, ap, arith, length, slice_get}
+use Rattle.std.proofs.Common.{subst, sym, take, ℕ, ◌%◌, ◌<◌, ◌^◌, ◌≡◌, ◌≤◌}
+use Rattle.std.proofs.lemmas.List.{get_or_read}
+use Rattle.std.proofs.lemmas.List.Elements.{All-from_get_or, Contains-get_or}
+use Rattle.std.proofs.lemmas.List.Sorted.{All-permutation, Contains-permutation, IsPermutation-sym, length_permutation}
+use Rattle.id_index.specs.declared.runs.Run.{Run}
+use Rattle.id_index.specs.Building.{AreBuilt, AreFewBuilt, ids_built, run_cmp, with_last}
+use Rattle.id_index.specs.Runs.{AreComplete, AreSound, HasBearer, Tell, end_of, ids_of_runs, no_run, number_in, run_in}
+use Rattle.id_index.specs.Settling.{AreSettled, AreSorted}
+use Rattle.id_index.proofs.Apart.{apart_in_turn, apart_moved}
+use Rattle.id_index.proofs.Built.{all_built, ids_count}
+use Rattle.id_index.proofs.Numbering.{given_back}
+
+-- where a run stands
+pub stands : (runs : List Run) (x : Run) → Contains runs x → (k : ℕ) × (k < length runs) × (run_in runs k ≡ x)
+stands runs x h = (h.0, h.1, sym (get_or_read runs h.0 x h.1 (sym h.2) no_run))
+
+-- ---- in another order
+
+module _ (runs ordered : List Run) (ids : List ℕ) (same : IsPermutation runs ordered) where
+  pub still_sound : AreSound runs ids → AreSound ordered ids
+  still_sound sound x id has bearer =
+      sound x id (Contains-permutation ordered runs x (IsPermutation-sym runs ordered same) has) bearer
+
+  pub still_complete : AreComplete runs ids → AreComplete ordered ids
+  still_complete complete id n e =
+      let (x, has, bearer, number) = complete id n e in
+      (x, Contains-permutation runs ordered x same has, bearer, number)
+
+  pub ordered_runs : AreBuilt runs ids → length ids < 2 ^ 32 → IsSorted run_cmp ordered → AreSorted ordered
+  ordered_runs it few up = record {
+    sorted = up;
+    apart = apart_moved runs ordered same (apart_in_turn runs it.turn);
+    few = λ k h. All-permutation (λ (l : Run). end_of l < 2 ^ 32) runs ordered same
+        (All-from_get_or (λ (l : Run). end_of l < 2 ^ 32) runs no_run
+        (λ i less. omega (arith, few, it.before i less))) k no_run h;
+  }
+
+-- ---- from the builder's runs to ascending ones
+
+module _ (runs : List Run) (last : Option Run) (count : ℕ) (all ordered : List Run)
+    (it : AreFewBuilt runs last (ids_built runs last count) count) (closed : all ≡ with_last runs last)
+    (same : IsPermutation all ordered) (up : IsSorted run_cmp ordered) where
+  abbrev ids : List ℕ
+  ids = ids_built runs last count
+
+  len : length ids ≡ count
+  len = ids_count runs last count
+
+  built : AreBuilt all ids
+  built = subst (λ (ls : List Run). AreBuilt ls ids) (sym closed) (all_built runs last ids it.built)
+
+  pub sorted_runs : AreSorted ordered
+  sorted_runs = ordered_runs all ordered ids same built (omega (arith, it.few, len)) up
+
+  pub sorted_sound : AreSound ordered ids
+  sorted_sound = still_sound all ordered ids same built.sound
+
+  pub sorted_complete : AreComplete ordered ids
+  sorted_complete = still_complete all ordered ids same built.complete
+
+  pub sorted_few : length ordered ≤ count
+  sorted_few =
+      omega (arith, length_permutation all ordered same, ap (λ (ls : List Run). length ls) closed, it.fewer)
+
+-- ---- those that are kept
+
+module _ (runs now : List Run) (kept : ℕ) (ids : List ℕ) (it : AreSettled runs now (length runs) kept)
+    (sound : AreSound runs ids) (complete : AreComplete runs ids) where
+  pub tell : Tell (take kept now) ids
+  tell = record {
+    sound = λ k id h has.
+        let (i, less, same) = it.settled.from k h in
+        subst (λ (l : Run). slice_get ids (number_in l (id % 64)) ≡ Some id) same
+        (sound (run_in runs i) id (Contains-get_or runs i no_run less)
+        (subst (λ (l : Run). HasBearer l id) (sym same) has));
+    earliest = λ id n e.
+        let (run, has, bearer, number) = complete id n e in
+        let (i, less, same) = stands runs run has in
+        let (k, h, bears, low) = it.settled.covered i id less
+        (subst (λ (l : Run). HasBearer l id) (sym same) bearer) in
+        (k, h, bears, omega (arith, low, number, ap (λ (l : Run). number_in l (id % 64)) same));
+  }
+
+  pub told : (count : ℕ) → length ids ≡ count → ids ≡ ids_of_runs now count
+  told count len =
+      given_back now ids count (still_sound runs now ids it.same sound) (still_complete runs now ids it.same complete)
+      len

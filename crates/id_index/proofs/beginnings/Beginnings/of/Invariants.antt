@@ -1,0 +1,13 @@
+-- Each bucket so far has its beginning, and the runs that were passed are in those buckets.
+use Rattle.std.proofs.Common.{length, slice_index, ◌<◌, ◌≡◌, ◌≤◌, ℕ}
+use Rattle.id_index.specs.Beginnings.{IsBeginning, bucket_of}
+use Rattle.id_index.specs.Runs.{page_in}
+use Rattle.id_index.proofs.beginnings.Beginnings.of.Given as goal
+
+abbrev pub invariant-loop-bucket : goal.invariant-loop-bucket
+invariant-loop-bucket g l = record {
+  within : l.at ≤ length l.runs;
+  passed : (k : ℕ) → k < l.at → bucket_of l.least l.shift (page_in l.runs k) < l.bucket;
+  count : length l.starts.items ≡ l.bucket;
+  each : (b : ℕ) → b < l.bucket → IsBeginning l.runs l.least l.shift b (slice_index l.starts.items b);
+}

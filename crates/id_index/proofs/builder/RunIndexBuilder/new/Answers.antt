@@ -1,0 +1,13 @@
+-- No run has no object.
+use Rattle.std.proofs.Common.{List, None, [], ap, arith, length, subst, sym}
+use Rattle.id_index.specs.declared.runs.Run.{Run}
+use Rattle.id_index.specs.Building.{AreBuilt, with_last}
+use Rattle.id_index.proofs.Built.{nothing}
+use Rattle.id_index.proofs.builder.RunIndexBuilder.new.Goals as goal
+
+pub invariant_of-result : goal.invariant_of-result
+invariant_of-result g c = record {
+  built = subst (λ (ls : List Run). AreBuilt ls []) (sym c.new.ensures.items) nothing;
+  fewer = omega (arith, ap (λ (ls : List Run). length (with_last ls None)) c.new.ensures.items);
+  few = omega arith;
+}

@@ -1,0 +1,26 @@
+-- On the way down the last run of a smaller page is met, or the low end; then the first whose page is not smaller.
+use Rattle.std.proofs.Common.{arith, ◌-◌, ◌≤◌}
+use Rattle.id_index.specs.Runs.{page_in}
+use Rattle.id_index.proofs.Halving.{first_in_turn}
+use Rattle.id_index.proofs.pages.first_from.Goals as goal
+use Rattle.id_index.proofs.pages.first_from.Goals.{else-loop-at-test, then-loop-at-test+else-runs-at}
+
+pub loop-at-2-init : goal.loop-at-2-init
+loop-at-2-init c =
+    let around = c.loop-at.invariant.0 in (
+      around,
+      c.loop-at.invariant.2,
+      elim c.loop-at-test.branch [
+        | then-loop-at-test+else-runs-at w ↦ λ k h.
+            let rise : page_in c.args.runs.now k ≤ page_in c.args.runs.now (c.loop-at.at - 1) =
+            c.requires.rise k (c.loop-at.at - 1) (omega (arith, h))
+            (omega (arith, h, c.loop-at.invariant.2, around.within)) in
+            omega (arith, rise, w.if-runs-at.false)
+        | else-loop-at-test w ↦ λ k h. around.before k (omega (arith, h, w.loop-at-test.false))
+      ],
+    )
+
+pub returns-else-runs-at-2 : goal.returns-else-runs-at-2
+returns-else-runs-at-2 c = first_in_turn c.args.runs.now c.args.page c.loop-at-2.at c.requires.rise
+    (omega (arith, c.loop-at-2-test.true, c.loop-at-2.invariant.0.within)) c.loop-at-2.invariant.2
+    (omega (arith, c.if-runs-at-2.false))

@@ -1,0 +1,13 @@
+-- One more run lowers it to the least of its repeats.
+use Rattle.id_index.proofs.Repeating.{least_more}
+use Rattle.id_index.proofs.Seen.{seen_more}
+use Rattle.id_index.proofs.repeats.least_repeat.Goals as goal
+
+pub loop-at-preserved : goal.loop-at-preserved
+loop-at-preserved c = record {
+  least = least_more c.args.runs.now c.loop-at.at c.loop-at.page c.loop-at.seen c.seen_of-before.result c.requires
+      c.loop-at-test.true c.loop-at.invariant.seen c.seen_of-before.ensures.same c.seen_of-before.ensures.other
+      c.args.count c.loop-at.least c.lowered-least.result c.loop-at.invariant.least c.lowered-least.ensures;
+  seen = seen_more c.args.runs.now c.loop-at.at c.loop-at.page c.loop-at.seen c.seen_of-before.result c.requires
+      c.loop-at-test.true c.loop-at.invariant.seen c.seen_of-before.ensures.same c.seen_of-before.ensures.other;
+}

@@ -1,0 +1,9 @@
+-- It is the least repeat among the runs before this index, and the places of the last one's page were seen.
+use Rattle.id_index.specs.Repeats.{AreSeen, IsLeastRepeat}
+use Rattle.id_index.proofs.repeats.least_repeat.Given as goal
+
+abbrev pub invariant-loop-at : goal.invariant-loop-at
+invariant-loop-at l = record {
+  least : IsLeastRepeat l.runs l.at l.count l.least;
+  seen : AreSeen l.runs l.at l.page l.seen;
+}

@@ -1,0 +1,6 @@
+pub mod Runs
+pub mod Beginnings
+pub mod Repeats
+pub mod Building
+pub mod Settling
+pub mod Aligned

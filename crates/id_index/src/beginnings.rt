@@ -1,0 +1,122 @@
+//! Where the pages of ascending runs begin, by their leading bits.
+
+ghost use Rattle.std.specs.Prelude.{IfOk, MatchOption, length, ◌+◌, ◌-◌, ◌/◌, ◌<◌, ◌≤◌, ◌^◌, ◌≡◌, ℕ};
+ghost use Rattle.id_index.specs.Beginnings.{AreBeginnings, IsAround, IsBeginning, bucket_of};
+ghost use Rattle.id_index.specs.Runs.{DoPagesRise, IsNoPage, page_in};
+
+use crate::runs::Run;
+use std::alloc::{AllocError, Allocator};
+
+/// Where in ascending runs those of each bucket begin. The bucket of a page is its distance from the least one without
+/// the lowest `shift` bits.
+#[derive(Drop)]
+pub(crate) struct Beginnings<A: Allocator> {
+    pub(crate) least: u64,
+    pub(crate) greatest: u64,
+    pub(crate) shift: u32,
+    /// Where the runs of each bucket begin, and behind the last one how many runs there are.
+    pub(crate) starts: Vec<u32, A>,
+}
+
+/// Among so many runs the first one is as good a guess as any.
+const FEW_RUNS: usize = 8;
+
+/// How many of the lowest bits of numbers up to `span` to leave out, so that fewer than `buckets` numbers are left.
+fn shift_for(span: u64, buckets: u64) -> u32
+    requires { 2 ≤ buckets }
+    ensures within { result < 64 }
+    ensures few { span / 2 ^ result < buckets }
+{
+    for shift in 0..63 {
+        if span >> shift < buckets {
+            return shift;
+        }
+    }
+    63
+}
+
+/// The least and the greatest page of ascending runs, 0 where there is none.
+fn ends_of(runs: &[Run]) -> (u64, u64)
+    requires { DoPagesRise runs.now }
+    ensures order { result.0 ≤ result.1 }
+    ensures low { (k : ℕ) → k < length runs.now → result.0 ≤ page_in runs.now k }
+    ensures high { (k : ℕ) → k < length runs.now → page_in runs.now k ≤ result.1 }
+{
+    match runs.len() {
+        0 => return (0, 0),
+        count => return (runs[0].page, runs[count - 1].page),
+    }
+}
+
+/// The first run from that one on which is not in a bucket before this one.
+fn start_of(runs: &[Run], least: u64, shift: u32, from: usize, bucket: u64) -> usize
+    requires rise { DoPagesRise runs.now }
+    requires low { (k : ℕ) → k < length runs.now → least ≤ page_in runs.now k }
+    requires shifted { shift < 64 }
+    requires within { from ≤ length runs.now }
+    requires passed { (k : ℕ) → k < from → bucket_of least shift (page_in runs.now k) < bucket }
+    ensures { IsBeginning runs.now least shift bucket result }
+{
+    for at in from..runs.len() {
+        if (runs[at].page - least) >> shift >= bucket {
+            return at;
+        }
+    }
+    runs.len()
+}
+
+impl<A: Allocator> Beginnings<A> {
+    /// Where these runs begin.
+    pub(crate) fn of(alloc: A, runs: &[Run]) -> Result<Self, AllocError>
+        requires rise { DoPagesRise runs.now }
+        requires few { length runs.now < 2 ^ 32 }
+        ensures { IfOk result (λ b. AreBeginnings runs.now b) }
+    {
+        let (least, greatest) = ends_of(runs);
+        let span = greatest - least;
+        let shift = shift_for(span, (runs.len() as u64 / 2).max(2));
+        let count = (span >> shift) + 2;
+        let mut starts = Vec::with_capacity(alloc, count as usize)?;
+        let mut at = 0;
+        for bucket in 0..count {
+            at = start_of(runs, least, shift, at, bucket);
+            starts.push(at as u32)?;
+        }
+        Ok(Beginnings {
+            least,
+            greatest,
+            shift,
+            starts,
+        })
+    }
+
+    /// Where the runs of a page's bucket begin and end, if there can be one of that page.
+    pub(crate) fn around(&self, runs: &[Run], page: u64) -> Option<(usize, usize)>
+        requires rise { DoPagesRise runs.now }
+        requires begun { AreBeginnings runs.now self.now }
+        ensures { MatchOption result (IsNoPage runs.now page) (λ range. IsAround runs.now page range.0 range.1) }
+    {
+        if page < self.least || self.greatest < page {
+            return None;
+        }
+        let bucket = ((page - self.least) >> self.shift) as usize;
+        Some((
+            self.starts[bucket] as usize,
+            self.starts[bucket + 1] as usize,
+        ))
+    }
+
+    /// About where the first run of a page stands among those of its bucket, from `begin` up to `end`: there it would
+    /// be if their pages were as far from one another as they can be. Of a few runs it is the first. Nothing rests on
+    /// it but time.
+    pub(crate) fn guess(&self, page: u64, begin: usize, end: usize) -> usize
+        requires { self.now.shift < 64 }
+    {
+        let count = end.saturating_sub(begin);
+        if count <= FEW_RUNS {
+            return begin;
+        }
+        let within = page.wrapping_sub(self.least) & !(u64::MAX << self.shift);
+        begin.saturating_add((within.wrapping_mul(count as u64) >> self.shift) as usize)
+    }
+}

@@ -1,0 +1,106 @@
+//! An index from the identifiers of the objects.
+
+ghost use Rattle.std.specs.Prelude.{IfOk, OnErr, [], length, ◌++◌, ◌+◌, ◌<◌, ◌∷◌, ◌^◌, ◌≡◌};
+ghost use Rattle.id_index.specs.Building.{with_last};
+
+use crate::beginnings::Beginnings;
+use crate::repeats::least_repeat;
+use crate::run_index::RunIndex;
+use crate::runs::{PLACES, Run};
+use crate::settling::settle;
+use crate::sorting::sort_runs;
+use std::alloc::{AllocError, Allocator};
+use std::marker::Model;
+
+/// The identifiers of objects in the order of the file, of which an index is made.
+#[derive(Drop)]
+pub(crate) struct RunIndexBuilder<A: Allocator> {
+    /// The runs but for the last one, in the order of the file.
+    runs: Vec<Run, A>,
+    /// The last run, which the next object may join. There is none before the first object.
+    last: Option<Run>,
+    /// How many objects there are.
+    count: u32,
+}
+
+impl<A: Allocator> Model for RunIndexBuilder<A> {
+    ghost use Rattle.std.specs.Prelude.{List, ℕ};
+    ghost use Rattle.id_index.specs.Building.{AreFewBuilt, ids_built};
+
+    ghost Value = { List ℕ };
+
+    ghost view = { λ b. ids_built b.runs.items b.last b.count };
+
+    ghost invariant = { λ b. AreFewBuilt b.runs.items b.last (ids_built b.runs.items b.last b.count) b.count };
+}
+
+/// Puts the last run, if there is one, behind the others.
+fn close<A: Allocator>(runs: &mut Vec<Run, A>, last: Option<Run>) -> Result<(), AllocError>
+    ensures runs { IfOk result (λ _. runs.new.items ≡ with_last runs.old.items last) }
+    ensures err { OnErr result (runs.new.items ≡ runs.old.items) }
+{
+    if let Some(run) = last {
+        runs.push(run)?;
+    }
+    Ok(())
+}
+
+impl<A: Allocator> RunIndexBuilder<A> {
+    /// No object.
+    pub(crate) fn new(alloc: A) -> Self
+        ensures { result ≡ [] }
+    {
+        RunIndexBuilder {
+            runs: Vec::new(alloc),
+            last: None,
+            count: 0,
+        }
+    }
+
+    /// Adds the next object.
+    pub(crate) fn push(&mut self, id: u64) -> Result<(), AllocError>
+        requires { length self.old + 1 < 2 ^ 32 }
+        ensures { IfOk result (λ _. self.new ≡ self.old ++ id ∷ []) }
+    {
+        let (page, bit) = (id / PLACES, 1 << (id % PLACES) as u32);
+        if let Some(run) = self.last {
+            if run.page == page && run.places < bit {
+                self.last = Some(Run {
+                    page: run.page,
+                    first: run.first,
+                    places: run.places | bit,
+                });
+                self.count += 1;
+                return Ok(());
+            }
+        }
+        close(&mut self.runs, self.last)?;
+        self.last = Some(Run {
+            page,
+            first: self.count,
+            places: bit,
+        });
+        self.count += 1;
+        Ok(())
+    }
+
+    /// The index of these objects.
+    pub(crate) fn finish(self, alloc: A) -> Result<RunIndex<A>, AllocError>
+        ensures { IfOk result (λ index. index ≡ self) }
+    {
+        let (mut runs, count) = (self.runs, self.count);
+        close(&mut runs, self.last)?;
+        runs.shrink_to_fit();
+        sort_runs(&mut runs)?;
+        let repeat = least_repeat(&runs, count);
+        let kept = settle(&mut runs);
+        let beginnings = Beginnings::of(alloc, &runs[..kept])?;
+        Ok(RunIndex {
+            runs,
+            kept,
+            beginnings,
+            count,
+            repeat,
+        })
+    }
+}

@@ -1,0 +1,143 @@
+//! The public calls: objects by their identifiers, which agree in their lowest bits. Runs are made of what stands above
+//! those bits, so that the pages of objects at multiples of eight are dense.
+
+ghost use Rattle.std.specs.Prelude.{Contains, IfOk, IsTrue, [], length, position, take};
+ghost use Rattle.std.specs.Prelude.{◌==◌, ◌≡◌, ◌↔◌, ◌%◌, ◌+◌, ◌++◌, ◌∷◌, ◌<◌, ◌^◌};
+ghost use Rattle.id_index.specs.Repeats.{IsFirstRepeat};
+
+use crate::builder::RunIndexBuilder;
+use crate::run_index::RunIndex;
+use std::alloc::{AllocError, Allocator};
+use std::marker::Model;
+
+/// The lowest bits that identifiers have in common.
+#[derive(Clone, Copy)]
+pub struct LowBits {
+    /// How many bits those are, 0 to 63.
+    pub shift: u32,
+    /// What they are, a number below 2^shift.
+    pub low: u64,
+}
+
+/// The objects by their identifiers. Objects are numbered from 0 in the order of the file, and an identifier names the
+/// first object that bears it. No look-up takes memory.
+#[derive(Drop)]
+pub struct IdIndex<A: Allocator> {
+    runs: RunIndex<A>,
+    bits: LowBits,
+}
+
+impl<A: Allocator> Model for IdIndex<A> {
+    ghost use Rattle.std.specs.Prelude.{List, ℕ, ◌<◌, ◌^◌};
+    ghost use Rattle.id_index.specs.Aligned.{whole_ids};
+
+    ghost Value = { List ℕ };
+
+    ghost view = { λ i. whole_ids i.bits.shift i.bits.low i.runs };
+
+    ghost invariant = { λ i. record {
+      shifted : i.bits.shift < 64;
+      low : i.bits.low < 2 ^ i.bits.shift;
+    } };
+}
+
+impl<A: Allocator> IdIndex<A> {
+    /// The number of the object that an identifier names, if an object bears it.
+    pub fn find(&self, id: u64) -> Option<u32>
+        ensures { result ≡ position (λ x. x == id) self.now }
+    {
+        if id % (1 << self.bits.shift) != self.bits.low {
+            return None;
+        }
+        self.runs.find(id >> self.bits.shift)
+    }
+
+    /// Whether an object before that number bears the identifier.
+    pub fn is_repeated(&self, id: u64, number: usize) -> bool
+        ensures { IsTrue result ↔ Contains (take number self.now) id }
+    {
+        match self.find(id) {
+            Some(first) => return (first as usize) < number,
+            None => return false,
+        }
+    }
+
+    /// The number of the first object whose identifier an earlier one bears, and how many objects there are where no
+    /// object bears such a one.
+    pub fn first_repeat(&self) -> usize
+        ensures { IsFirstRepeat self.now result }
+    {
+        self.runs.first_repeat()
+    }
+}
+
+/// The identifiers of objects in the order of the file, which agree in their lowest bits. An index is made of them.
+/// There are at most 2^32 - 1 objects.
+#[derive(Drop)]
+pub struct IdIndexBuilder<A: Allocator> {
+    runs: RunIndexBuilder<A>,
+    bits: LowBits,
+}
+
+impl<A: Allocator> Model for IdIndexBuilder<A> {
+    ghost use Rattle.std.specs.Prelude.{◌<◌, ◌^◌};
+    ghost use Rattle.id_index.specs.Aligned.{AlignedIds, whole_ids};
+
+    ghost Value = { AlignedIds };
+
+    ghost view = { λ b. record {
+      ids = whole_ids b.bits.shift b.bits.low b.runs;
+      shift = b.bits.shift;
+      low = b.bits.low;
+    } };
+
+    ghost invariant = { λ b. record {
+      shifted : b.bits.shift < 64;
+      low : b.bits.low < 2 ^ b.bits.shift;
+    } };
+}
+
+impl<A: Allocator> IdIndexBuilder<A> {
+    /// No object, for identifiers with those lowest bits. It takes no memory yet.
+    pub fn new(alloc: A, bits: LowBits) -> Self
+        requires shifted { bits.shift < 64 }
+        requires low { bits.low < 2 ^ bits.shift }
+        ensures ids { result.ids ≡ [] }
+        ensures shift { result.shift ≡ bits.shift }
+        ensures low { result.low ≡ bits.low }
+    {
+        IdIndexBuilder {
+            runs: RunIndexBuilder::new(alloc),
+            bits,
+        }
+    }
+
+    /// Whether an identifier has the lowest bits that all have.
+    pub fn fits(&self, id: u64) -> bool
+        ensures { IsTrue result ↔ (id % 2 ^ self.now.shift ≡ self.now.low) }
+    {
+        id % (1 << self.bits.shift) == self.bits.low
+    }
+
+    /// Adds the next object. `AllocError` where memory is refused, which only an object that begins a run asks for.
+    /// What the builder has then is not said.
+    pub fn push(&mut self, id: u64) -> Result<(), AllocError>
+        requires fits { id % 2 ^ self.old.shift ≡ self.old.low }
+        requires few { length self.old.ids + 1 < 2 ^ 32 }
+        ensures ids { IfOk result (λ _. self.new.ids ≡ self.old.ids ++ id ∷ []) }
+        ensures shift { self.new.shift ≡ self.old.shift }
+        ensures low { self.new.low ≡ self.old.low }
+    {
+        self.runs.push(id >> self.bits.shift)
+    }
+
+    /// The index of these objects. `AllocError` where memory is refused: for the last run, for sorting the runs, or for
+    /// the table in front of them, which is taken from `alloc`.
+    pub fn finish(self, alloc: A) -> Result<IdIndex<A>, AllocError>
+        ensures { IfOk result (λ index. index ≡ self.ids) }
+    {
+        let bits = self.bits;
+        let runs = self.runs.finish(alloc)?;
+        Ok(IdIndex { runs, bits })
+    }
+}

@@ -1,0 +1,38 @@
+//! The first object whose identifier an earlier one bears.
+
+ghost use Rattle.std.specs.Prelude.{length, ◌+◌, ◌<◌, ◌^◌};
+ghost use Rattle.id_index.specs.Repeats.{IsLeastRepeat, IsLowered};
+ghost use Rattle.id_index.specs.Runs.{end_of};
+ghost use Rattle.id_index.specs.Settling.{AreSorted};
+
+use crate::runs::{Run, rank_in};
+use crate::settling::seen_of;
+
+/// The least of a number and those of a run's objects in places that were seen before.
+fn lowered(least: u32, run: Run, before: u64) -> u32
+    requires { end_of run < 2 ^ 32 }
+    ensures { IsLowered run before least result }
+{
+    let again = run.places & before;
+    if again == 0 {
+        return least;
+    }
+    least.min(run.first + rank_in(run.places, again.trailing_zeros()))
+}
+
+/// The least number of an object whose identifier an earlier one bears, and how many objects there are where no object
+/// bears such a one.
+pub(crate) fn least_repeat(runs: &[Run], count: u32) -> u32
+    requires { AreSorted runs.now }
+    ensures { IsLeastRepeat runs.now (length runs.now) count result }
+{
+    let (mut page, mut seen, mut least) = (0, 0, count);
+    for at in 0..runs.len() {
+        let run = runs[at];
+        let before = seen_of(run.page, page, seen);
+        least = lowered(least, run, before);
+        seen = before | run.places;
+        page = run.page;
+    }
+    least
+}

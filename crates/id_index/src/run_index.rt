@@ -1,0 +1,62 @@
+//! The index of objects by all bits of their identifiers.
+
+ghost use Rattle.std.specs.Prelude.{position, ◌==◌, ◌≡◌};
+ghost use Rattle.id_index.specs.Repeats.{IsFirstRepeat};
+
+use crate::beginnings::Beginnings;
+use crate::look_up::first_bearer;
+use crate::runs::Run;
+use std::alloc::Allocator;
+use std::marker::Model;
+
+/// The objects by all bits of their identifiers.
+#[derive(Drop)]
+pub(crate) struct RunIndex<A: Allocator> {
+    /// The runs that say something new, in ascending order, and behind them those that do not, since earlier runs of
+    /// their pages have all their places.
+    pub(crate) runs: Vec<Run, A>,
+    /// How many runs say something new.
+    pub(crate) kept: usize,
+    pub(crate) beginnings: Beginnings<A>,
+    /// How many objects there are.
+    pub(crate) count: u32,
+    /// The number of the first object whose identifier an earlier one bears, and `count` where there is none.
+    pub(crate) repeat: u32,
+}
+
+impl<A: Allocator> Model for RunIndex<A> {
+    ghost use Rattle.std.specs.Prelude.{List, length, take, ◌≤◌, ℕ};
+    ghost use Rattle.id_index.specs.Beginnings.{AreBeginnings};
+    ghost use Rattle.id_index.specs.Repeats.{IsFirstRepeat};
+    ghost use Rattle.id_index.specs.Runs.{AreAscending, AreFewAPage, Tell, ids_of_runs};
+
+    ghost Value = { List ℕ };
+
+    ghost view = { λ i. ids_of_runs i.runs.items i.count };
+
+    ghost invariant = { λ i. record {
+      within : i.kept ≤ length i.runs.items;
+      runs : AreAscending (take i.kept i.runs.items);
+      few : AreFewAPage (take i.kept i.runs.items);
+      tell : Tell (take i.kept i.runs.items) (ids_of_runs i.runs.items i.count);
+      begun : AreBeginnings (take i.kept i.runs.items) i.beginnings;
+      repeated : IsFirstRepeat (ids_of_runs i.runs.items i.count) i.repeat;
+    } };
+}
+
+impl<A: Allocator> RunIndex<A> {
+    /// The number of the object that an identifier names.
+    pub(crate) fn find(&self, id: u64) -> Option<u32>
+        ensures { result ≡ position (λ x. x == id) self.now }
+    {
+        first_bearer(&self.runs[..self.kept], &self.beginnings, id)
+    }
+
+    /// The number of the first object whose identifier an earlier one bears, and how many objects there are where no
+    /// object bears such a one.
+    pub(crate) fn first_repeat(&self) -> usize
+        ensures { IsFirstRepeat self.now result }
+    {
+        self.repeat as usize
+    }
+}

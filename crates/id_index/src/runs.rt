@@ -1,0 +1,28 @@
+//! Runs.
+
+ghost use Rattle.std.specs.Prelude.{◌<◌, ◌≡◌};
+ghost use Rattle.id_index.specs.Runs.{rank};
+
+/// How many places a page has.
+pub(crate) const PLACES: u64 = 64;
+
+/// Neighbouring objects of one page whose numbers follow one another. Runs are ordered by page, and those of one page
+/// as their objects are.
+#[derive(Clone, Copy, PartialEq, Eq, PartialOrd, Ord)]
+pub(crate) struct Run {
+    /// The identifiers of its objects, divided by 64.
+    pub(crate) page: u64,
+    /// The number of its first object.
+    pub(crate) first: u32,
+    /// A bit for each place of the page, set where the run has an object.
+    pub(crate) places: u64,
+}
+
+/// How many places of a word are set below that one.
+#[tactic(auto, using(crate::proofs::Ones::rank_masked))]
+pub(crate) fn rank_in(places: u64, place: u32) -> u32
+    requires { place < 64 }
+    ensures { result ≡ rank places place }
+{
+    (places & ((1 << place) - 1)).count_ones()
+}

@@ -1,0 +1,58 @@
+//! Ascending runs are settled: those that say something new are told from the others.
+
+ghost use Rattle.std.specs.Prelude.{bit_or, length, take, ◌<◌, ◌^◌, ◌≡◌, ◌≤◌};
+ghost use Rattle.id_index.specs.Runs.{AreFewAPage};
+ghost use Rattle.id_index.specs.Settling.{AreSettled, AreSorted, IsTaken};
+
+use crate::runs::Run;
+use std::alloc::Allocator;
+
+/// The places that were seen of that page, where those of another page may have been seen.
+pub(crate) fn seen_of(own: u64, page: u64, seen: u64) -> u64
+    ensures same { own ≡ page → result ≡ seen }
+    ensures other { (own ≡ page → ⊥) → result ≡ 0 }
+{
+    if own == page {
+        return seen;
+    }
+    0
+}
+
+/// Moves the run at an index, with those places, behind the kept ones, which are the first so many, unless all its
+/// places were seen. How many are kept then.
+fn take_run<A: Allocator>(
+    runs: &mut Vec<Run, A>,
+    kept: usize,
+    at: usize,
+    places: u64,
+    seen: u64,
+) -> usize
+    requires order { kept ≤ at }
+    requires within { at < length runs.old.items }
+    ensures taken { IsTaken runs.old.items runs.new.items kept at places seen result }
+    ensures fits { bit_or seen places < 2 ^ 64 }
+{
+    if places & seen == places {
+        return kept;
+    }
+    runs.swap(kept, at);
+    kept + 1
+}
+
+/// Moves the runs to the back all of whose places earlier runs of the page have. How many are kept in front: these are
+/// ascending still, and no page has more of them than places.
+pub(crate) fn settle<A: Allocator>(runs: &mut Vec<Run, A>) -> usize
+    requires { AreSorted runs.old.items }
+    ensures settled { AreSettled runs.old.items runs.new.items (length runs.old.items) result }
+    ensures few { AreFewAPage (take result runs.new.items) }
+{
+    let (mut page, mut seen, mut kept) = (0, 0, 0);
+    for at in 0..runs.len() {
+        let run = runs[at];
+        let before = seen_of(run.page, page, seen);
+        kept = take_run(runs, kept, at, run.places, before);
+        seen = before | run.places;
+        page = run.page;
+    }
+    kept
+}

@@ -1,0 +1,60 @@
+//! An index of a list of identifiers, made as callers make it.
+
+ghost use Rattle.std.specs.Prelude.{IfOk, IfSome, length, ◌<◌, ◌^◌, ◌≡◌};
+
+use id_index::{IdIndex, IdIndexBuilder, LowBits};
+use std::alloc::{AllocError, Allocator};
+
+/// The lowest three bits of the first of these identifiers.
+fn first_low(ids: &[u64]) -> u64
+    ensures { result < 8 }
+{
+    match ids.first() {
+        Some(id) => return *id % 8,
+        None => return 0,
+    }
+}
+
+/// The index of objects with these identifiers, without their three lowest bits, if those are the same in all of them.
+fn aligned_index<A: Allocator + Copy>(
+    alloc: A,
+    ids: &[u64],
+    low: u64,
+) -> Result<Option<IdIndex<A>>, AllocError>
+    requires low { low < 8 }
+    requires few { length ids.now < 2 ^ 32 }
+    ensures { IfOk result (λ found. IfSome found (λ index. index ≡ ids.now)) }
+{
+    let mut builder = IdIndexBuilder::new(alloc, LowBits { shift: 3, low });
+    for id in ids {
+        if !builder.fits(*id) {
+            return Ok(None);
+        }
+        builder.push(*id)?;
+    }
+    Ok(Some(builder.finish(alloc)?))
+}
+
+/// The index of objects with these identifiers, with all their bits.
+fn whole_index<A: Allocator + Copy>(alloc: A, ids: &[u64]) -> Result<IdIndex<A>, AllocError>
+    requires few { length ids.now < 2 ^ 32 }
+    ensures { IfOk result (λ index. index ≡ ids.now) }
+{
+    let mut builder = IdIndexBuilder::new(alloc, LowBits { shift: 0, low: 0 });
+    for id in ids {
+        builder.push(*id)?;
+    }
+    builder.finish(alloc)
+}
+
+/// The index of objects with these identifiers: without their three lowest bits where those are the same in all of
+/// them, as in dumps whose objects stand at multiples of eight.
+pub fn index_of<A: Allocator + Copy>(alloc: A, ids: &[u64]) -> Result<IdIndex<A>, AllocError>
+    requires few { length ids.now < 2 ^ 32 }
+    ensures { IfOk result (λ index. index ≡ ids.now) }
+{
+    match aligned_index(alloc, ids, first_low(ids))? {
+        Some(index) => Ok(index),
+        None => whole_index(alloc, ids),
+    }
+}
