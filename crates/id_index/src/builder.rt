@@ -1,4 +1,4 @@
-//! An index from the identifiers of the objects.
+//! Runs are made one object after the other, and an index of them.
 
 ghost use Rattle.std.specs.Prelude.{IfOk, OnErr, [], length, ◌++◌, ◌+◌, ◌<◌, ◌∷◌, ◌^◌, ◌≡◌};
 ghost use Rattle.id_index.specs.Building.{with_last};

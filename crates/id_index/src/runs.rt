@@ -1,4 +1,4 @@
-//! Runs.
+//! Runs, of which an index is made, and the bits of their words.
 
 ghost use Rattle.std.specs.Prelude.{◌<◌, ◌≡◌};
 ghost use Rattle.id_index.specs.Runs.{rank};

@@ -1,4 +1,4 @@
-//! Runs are sorted.
+//! Runs are sorted, by one of two ways.
 
 ghost use Rattle.std.specs.Prelude.{IfOk, IsPermutation, IsSorted};
 ghost use Rattle.id_index.specs.Building.{run_cmp};
