@@ -116,9 +116,12 @@ impl<'a, const ID: usize> Graph<'a, ID> {
     fn link_superclasses(&mut self) {
         for number in 0..self.classes.len() {
             let id = self.text.id(self.at(self.classes[number].object) + 5 + ID);
+            if id == 0 {
+                continue;
+            }
             let class = &mut self.classes[number];
             class.superclass = self.class_numbers.get(&id).copied();
-            class.superclass_missing = id != 0 && class.superclass.is_none();
+            class.superclass_missing = class.superclass.is_none();
         }
     }
 

@@ -3,9 +3,6 @@
 use super::runs::Run;
 use std::ops::Range;
 
-/// Of so few runs the first is as good a guess as any.
-const FEW: usize = 8;
-
 /// Of so many runs at most a look-up passes one after the other.
 const MANY: usize = 64;
 
@@ -61,9 +58,6 @@ impl Beginnings {
     /// About where the page would stand among so many runs of one slot if they were as far from one another as they can
     /// be. Nothing rests on it but time.
     fn guess(&self, within: u64, count: usize) -> usize {
-        if count <= FEW {
-            return 0;
-        }
         let low = within & !(u64::MAX << self.shift);
         (low.wrapping_mul(count as u64) >> self.shift) as usize
     }

@@ -18,9 +18,6 @@ pub(crate) struct Beginnings<A: Allocator> {
     pub(crate) starts: Vec<u32, A>,
 }
 
-/// Among so many runs the first one is as good a guess as any.
-const FEW_RUNS: usize = 8;
-
 /// How many of the lowest bits of numbers up to `span` to leave out, so that fewer than `buckets` numbers are left.
 fn shift_for(span: u64, buckets: u64) -> u32
     requires { 2 ≤ buckets }
@@ -91,6 +88,8 @@ impl<A: Allocator> Beginnings<A> {
     }
 
     /// Where the runs of a page's bucket begin and end, if there can be one of that page.
+    // Inlined, as `guess` is: two numbers that a call answers go through memory, and each look-up asks for them.
+    #[inline(always)]
     pub(crate) fn around(&self, runs: &[Run], page: u64) -> Option<(usize, usize)>
         requires rise { DoPagesRise runs.now }
         requires begun { AreBeginnings runs.now self.now }
@@ -107,15 +106,12 @@ impl<A: Allocator> Beginnings<A> {
     }
 
     /// About where the first run of a page stands among those of its bucket, from `begin` up to `end`: there it would
-    /// be if their pages were as far from one another as they can be. Of a few runs it is the first. Nothing rests on
-    /// it but time.
+    /// be if their pages were as far from one another as they can be. Nothing rests on it but time.
+    #[inline(always)]
     pub(crate) fn guess(&self, page: u64, begin: usize, end: usize) -> usize
         requires { self.now.shift < 64 }
     {
         let count = end.saturating_sub(begin);
-        if count <= FEW_RUNS {
-            return begin;
-        }
         let within = page.wrapping_sub(self.least) & !(u64::MAX << self.shift);
         begin.saturating_add((within.wrapping_mul(count as u64) >> self.shift) as usize)
     }

@@ -14,6 +14,7 @@ const MANY_RUNS: usize = 64;
 
 /// The number of the object with that identifier in the first run that has it, of the runs from the first one of its
 /// page on.
+#[inline(always)]
 fn number_from(runs: &[Run], from: usize, id: u64) -> Option<u32>
     requires runs { AreAscending runs.now }
     requires few { AreFewAPage runs.now }
@@ -35,6 +36,7 @@ fn number_from(runs: &[Run], from: usize, id: u64) -> Option<u32>
 }
 
 /// The number of the object with that identifier in the first run that has it.
+#[inline(always)]
 pub(crate) fn first_bearer<A: Allocator>(
     runs: &[Run],
     beginnings: &Beginnings<A>,

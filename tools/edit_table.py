@@ -1,0 +1,70 @@
+"""The table of docs/EDITS.md: what refuses each must-fail edit, as the prover says it."""
+
+import re
+
+PAGE = "docs/EDITS.md"
+
+
+def refused_by(said):
+    """What refuses an edit, of all that the prover said of it: each function that is not proved any more, with its open
+    goals, or with what a proof written by hand says. A function that only calls such a one is left out."""
+    found = {}
+    for line in said.splitlines():
+        if "it calls `" in line or not (": error: " in line or ": no proof" in line):
+            continue
+        searched = re.match(r"fn \w+::(\S+): no proof.*`search` did not prove (.*)$", line)
+        by_hand = re.match(r"\./proofs/(\S+)/(?:Answers|Proof)\.antt:\S+ error: (?:`([\w+-]+)`)?", line)
+        if searched:
+            found.setdefault(searched[1], []).extend(f"`{it}`" for it in re.findall(r"`([\w+-]+)`", searched[2]))
+        elif by_hand:
+            found.setdefault(by_hand[1].replace("/", "::"), []).append(f"an answer to `{by_hand[2]}`" if by_hand[2] else "an answer")
+        else:
+            found.setdefault("", []).append(line[:80].replace("`", "'").replace("|", " "))
+    return found
+
+
+def row(edit, found):
+    """The line of the table for an edit that is refused so."""
+    functions = ", ".join(f"`{it}`" for it in found if it)
+    goals = [goal for function in found for goal in sorted(set(found[function]))]
+    return f"| `{edit}` | {functions} | {', '.join(dict.fromkeys(goals))} |"
+
+
+def told_by(line):
+    """What a line of the table tells, without its order and without the remark behind the last goal."""
+    cells = [re.sub(r"(?<=`): .*", "", cell) for cell in line.strip("| ").split(" | ")]
+    return [set(re.findall(r"`([^`]+)`", cell)) for cell in cells]
+
+
+def read(page):
+    """The lines of the table, by crate and edit."""
+    crate, lines = "", {}
+    for line in page.splitlines():
+        if heading := re.match(r"## `(\w+)`$", line):
+            crate = heading[1]
+        elif cell := re.match(r"\| `(\w+)` \|", line):
+            lines[crate, cell[1]] = line
+    return lines
+
+
+def compared(lines, crate, edit, found):
+    """Whether the table's line of an edit tells what the prover said; a line that does not say more than how a proof
+    ended tells nothing, and is not compared."""
+    line = lines.get((crate, edit), "")
+    return bool(line) and ("" in found or told_by(line) == told_by(row(edit, found)))
+
+
+def written(page, crate, edit, found):
+    """The page with what the prover said of an edit in its line, or with a new line at the end of the crate's table."""
+    lines, at = page.split("\n"), None
+    heading = lines.index(f"## `{crate}`")
+    for number in range(heading + 1, len(lines)):
+        if lines[number].startswith("## "):
+            break
+        if lines[number].startswith(f"| `{edit}` |"):
+            lines[number] = row(edit, found)
+            return "\n".join(lines)
+        if lines[number].startswith("|"):
+            at = number + 1
+    lines.insert(at, row(edit, found))
+    return "\n".join(lines)
