@@ -1,9 +1,10 @@
 //! The dumps that are marked, and their graphs.
 
-use heap_graph::{Graph, Skip};
+use heap_graph::{Graph, Skip, Team};
 use hprof_grammar::read;
 use std::alloc::{AllocError, Global};
 use std::test::Fail;
+use std::thread::Threads;
 
 /// Puts class 0x100, without a superclass, fields and values.
 pub(crate) fn put_class(heap: &mut Vec<u8>) -> Result<(), AllocError> {
@@ -55,11 +56,12 @@ pub(crate) fn wide_array(alloc: Global) -> Result<Vec<u8>, AllocError> {
 }
 
 /// The graph of a dump that is whole.
-pub(crate) fn graph_of<'a>(
+pub(crate) fn graph_of<'a, T: Threads + Sync>(
+    rt: &T,
     alloc: Global,
     dump: &'a [u8],
     skip: &'a Skip<'_, Global>,
 ) -> Result<Graph<'a, Global>, Fail> {
     let places = read(alloc, dump)?;
-    Ok(Graph::build(alloc, dump, places, skip)?)
+    Ok(Graph::build(&Team::new(rt, 4), alloc, dump, places, skip)?)
 }

@@ -124,7 +124,7 @@ fn marked<T: Threads + Wait + Sync, G: Gate>(
     gate: &G,
 ) -> Result<u64, Fail> {
     let skip = Skip::none(alloc);
-    let graph = graph_of(alloc, dump, &skip)?;
+    let graph = graph_of(rt, alloc, dump, &skip)?;
     Ok(marked_in(rt, alloc, &graph, options, gate)?)
 }
 

@@ -167,7 +167,7 @@ fn lead_over_array<T: Threads + Wait + Sync>(
 {
     let dump = wide_array(alloc)?;
     let skip = Skip::none(alloc);
-    let graph = graph_of(alloc, dump.as_slice(), &skip)?;
+    let graph = graph_of(rt, alloc, dump.as_slice(), &skip)?;
     let passed = AtomicU64::new(0);
     let early = AtomicU64::new(0);
     let watched = Watched {

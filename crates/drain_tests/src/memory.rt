@@ -109,7 +109,7 @@ fn array_marked_with<T: Threads + Wait + Sync>(
     let options = with_room()?;
     let dump = wide_array(alloc)?;
     let skip = Skip::none(alloc);
-    let graph = graph_of(alloc, dump.as_slice(), &skip)?;
+    let graph = graph_of(rt, alloc, dump.as_slice(), &skip)?;
     let all_behind = marked_with(rt, alloc, &graph, &options, false);
     let alone = marked_with(rt, alloc, &graph, &options, true);
     Ok((all_behind, alone))
@@ -163,7 +163,7 @@ fn array_told<T: Threads + Wait + Sync>(
     let options = with_room()?;
     let dump = wide_array(alloc)?;
     let skip = Skip::none(alloc);
-    let graph = graph_of(alloc, dump.as_slice(), &skip)?;
+    let graph = graph_of(rt, alloc, dump.as_slice(), &skip)?;
     let requests = marked_with(rt, alloc, &graph, &options, false).unwrap_or(0);
     Ok(told_with(rt, alloc, &graph, &options, requests))
 }

@@ -36,7 +36,7 @@ fn marked_where<T: Threads + Wait + Sync, G: Gate, S: StartHook>(
     let options = Options::new(workers, buffer, buffers, first_tag)?;
     let dump = wide_array(alloc)?;
     let skip = Skip::none(alloc);
-    let graph = graph_of(alloc, dump.as_slice(), &skip)?;
+    let graph = graph_of(rt, alloc, dump.as_slice(), &skip)?;
     Ok(mark_where(rt, alloc, &graph, &options, gate, hook).map(|marked| marked.len()))
 }
 

@@ -83,7 +83,7 @@ fn tells<T: Threads + Wait + Sync>(
 ) -> Result<bool, Fail> {
     let options = Options::new(workers, 2, 1024, 0)?;
     let skip = Skip::none(alloc);
-    let graph = graph_of(alloc, dump, &skip)?;
+    let graph = graph_of(rt, alloc, dump, &skip)?;
     Ok(graph_tells(rt, alloc, &graph, &options, rows, unresolved)?)
 }
 

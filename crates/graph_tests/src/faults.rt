@@ -1,10 +1,11 @@
 //! Dumps that are not linked, with the code and the place of their first fault.
 
 use crate::chains::{CHAINS, SIZES};
-use heap_graph::{Graph, LinkFault, LinkRefusal, Skip};
+use heap_graph::{Graph, LinkFault, LinkRefusal, Skip, Team};
 use hprof_grammar::read;
 use std::alloc::{AllocError, Global};
 use std::test::Fail;
+use std::thread::Threads;
 use test_dumps::Sub::{Class, Instance, Objects, Values};
 use test_dumps::{Bytes, Record, Sub, TWO_OBJECTS};
 
@@ -145,28 +146,32 @@ static CHANGES: [(usize, u8, u8, u64); 5] = [
 ];
 
 /// The code and the place of the fault that refuses the graph of a whole dump.
-fn fault_in(alloc: Global, bytes: &[u8]) -> Option<(u8, u64)> {
+fn fault_in<T: Threads + Sync>(rt: &T, alloc: Global, bytes: &[u8]) -> Option<(u8, u64)> {
     let skip = Skip::none(alloc);
     let Ok(dump) = read(alloc, bytes) else {
         return None;
     };
-    match Graph::build(alloc, bytes, dump, &skip) {
+    match Graph::build(&Team::new(rt, 4), alloc, bytes, dump, &skip) {
         Err(LinkRefusal::Fault(LinkFault { code, offset })) => Some((code, offset)),
         _ => None,
     }
 }
 
 /// The code and the place of the fault that refuses the graph of a heap dump of these sub-records.
-fn first_fault(alloc: Global, subs: &'static [Sub]) -> Result<Option<(u8, u64)>, AllocError> {
+fn first_fault<T: Threads + Sync>(
+    rt: &T,
+    alloc: Global,
+    subs: &'static [Sub],
+) -> Result<Option<(u8, u64)>, AllocError> {
     let file = Bytes::dump(alloc, 4, &[Record::Heap(subs)])?;
-    Ok(fault_in(alloc, &file.bytes))
+    Ok(fault_in(rt, alloc, &file.bytes))
 }
 
 #[test]
 fn first_faults(rt: HostRuntime) -> Result<(), Fail> {
     for table in [&IDENTIFIERS[..], &CHAINS[..], &SIZES[..]] {
         for (name, subs, code, place) in table {
-            let fault = first_fault(rt.alloc(), subs)?;
+            let fault = first_fault(&rt, rt.alloc(), subs)?;
             assert_eq!(rt; fault, Some((*code, *place)), "{name}");
         }
     }
@@ -175,19 +180,24 @@ fn first_faults(rt: HostRuntime) -> Result<(), Fail> {
 
 /// The code and the place of the fault of the dump of two instances with the byte at this place changed. None also
 /// where there is no such place.
-fn fault_of_change(alloc: Global, at: usize, byte: u8) -> Result<Option<(u8, u64)>, AllocError> {
+fn fault_of_change<T: Threads + Sync>(
+    rt: &T,
+    alloc: Global,
+    at: usize,
+    byte: u8,
+) -> Result<Option<(u8, u64)>, AllocError> {
     let mut file = Bytes::dump(alloc, 4, TWO_OBJECTS)?;
     let Some(changed) = file.bytes.get_mut(at) else {
         return Ok(None);
     };
     *changed = byte;
-    Ok(fault_in(alloc, &file.bytes))
+    Ok(fault_in(rt, alloc, &file.bytes))
 }
 
 #[test]
 fn first_faults_of_changed_bytes(rt: HostRuntime) -> Result<(), Fail> {
     for (at, byte, code, place) in &CHANGES {
-        let fault = fault_of_change(rt.alloc(), *at, *byte)?;
+        let fault = fault_of_change(&rt, rt.alloc(), *at, *byte)?;
         assert_eq!(rt; fault, Some((*code, *place)), "{byte} at {at}");
     }
     Ok(())

@@ -1,14 +1,16 @@
 //! The graphs of worked dumps.
 
 use crate::worked::{ClassRow, Object, WORKED, Worked};
-use heap_graph::{Graph, Skip, Successors, Visit};
+use heap_graph::{Graph, Skip, Successors, Team, Visit};
 use hprof_grammar::read;
 use std::alloc::{Allocator, Global};
 use std::test::Fail;
+use std::thread::Threads;
 use test_dumps::Bytes;
 
 /// The graph of a dump that is whole and linked.
-pub fn graph_of<'a>(
+pub fn graph_of<'a, T: Threads + Sync>(
+    rt: &T,
     alloc: Global,
     bytes: &'a [u8],
     skip: &'a Skip<'_, Global>,
@@ -16,7 +18,7 @@ pub fn graph_of<'a>(
     let Ok(dump) = read(alloc, bytes) else {
         return None;
     };
-    Graph::build(alloc, bytes, dump, skip).ok()
+    Graph::build(&Team::new(rt, 4), alloc, bytes, dump, skip).ok()
 }
 
 /// Whether a walk gives these objects and then none. With each of them fewer identifiers are left, and behind them

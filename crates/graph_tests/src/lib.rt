@@ -2,9 +2,9 @@
 //! ask what callers may ask. The crate has nothing to hand out.
 //!
 //! `worked` has dumps with the graphs that they have to give, `skipped` those of which some fields are not followed,
-//! `chains` and `faults` dumps that are not linked, with the first fault of each. `graphs` asks a graph all that it
-//! tells, `walks` what is left of a walk, `memory` refuses each request in turn (`refused`). `skips` holds the texts
-//! that are lists of fields, `texts` how a refusal is shown, `sizes` how large a visit is.
+//! `chains` and `faults` dumps that are not linked, with the first fault of each, `parts` large ones. `graphs` asks a
+//! graph all that it tells, `walks` what is left of a walk, `memory` refuses each request in turn (`refused`). `skips`
+//! holds the texts that are lists of fields, `texts` how a refusal is shown, `sizes` how large a visit is.
 
 #![tactic(auto)]
 
@@ -16,6 +16,8 @@ mod faults;
 mod graphs;
 #[cfg(test)]
 mod memory;
+#[cfg(test)]
+mod parts;
 #[cfg(test)]
 mod refused;
 #[cfg(test)]

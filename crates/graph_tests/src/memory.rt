@@ -6,16 +6,18 @@ use crate::refused::{Call, requests_of};
 use crate::skipped::SKIPPED;
 use crate::walks::{MANY, long_array};
 use crate::worked::{WORKED, Worked};
-use heap_graph::{Graph, LinkFault, LinkRefusal, RowKey, Skip};
+use heap_graph::{Graph, LinkFault, LinkRefusal, RowKey, Skip, Team};
 use hprof_grammar::read;
 use limited_heap::LimitedHeap;
 use std::alloc::{AllocError, Allocator, Global};
 use std::test::Fail;
+use std::thread::Threads;
 use test_dumps::Sub::{Class, Instance};
 use test_dumps::{Bytes, Record};
 
 /// Builds the graph of a dump, from places that are read with all the memory that they take.
-fn build<'a, A: Allocator + Copy>(
+fn build<'a, T: Threads + Sync, A: Allocator + Copy + Send + Sync>(
+    rt: &T,
     alloc: Global,
     heap: A,
     bytes: &'a [u8],
@@ -24,24 +26,30 @@ fn build<'a, A: Allocator + Copy>(
     let Ok(dump) = read(alloc, bytes) else {
         return None;
     };
-    Some(Graph::build(heap, bytes, dump, skip))
+    Some(Graph::build(&Team::new(rt, 4), heap, bytes, dump, skip))
 }
 
 /// How many requests it makes.
-fn requests_to_build(alloc: Global, bytes: &[u8], skip: &Skip<'_, Global>) -> u64 {
+fn requests_to_build<T: Threads + Sync>(
+    rt: &T,
+    alloc: Global,
+    bytes: &[u8],
+    skip: &Skip<'_, Global>,
+) -> u64 {
     let heap = LimitedHeap::new(alloc, u64::MAX);
-    let _built = is_built(alloc, &heap, bytes, skip);
+    let _built = is_built(rt, alloc, &heap, bytes, skip);
     u64::MAX - heap.requests_left()
 }
 
 /// Whether it is built over this heap.
-fn is_built(
+fn is_built<T: Threads + Sync>(
+    rt: &T,
     alloc: Global,
     heap: &LimitedHeap<Global>,
     bytes: &[u8],
     skip: &Skip<'_, Global>,
 ) -> bool {
-    match build(alloc, heap, bytes, skip) {
+    match build(rt, alloc, heap, bytes, skip) {
         Some(Ok(_)) => true,
         _ => false,
     }
@@ -57,8 +65,8 @@ struct Asked<'a> {
 }
 
 impl Call for Asked<'_> {
-    fn is_right(&self, heap: &LimitedHeap<Global>) -> bool {
-        match build(self.alloc, heap, self.bytes, self.skip) {
+    fn is_right<T: Threads + Sync>(&self, rt: &T, heap: &LimitedHeap<Global>) -> bool {
+        match build(rt, self.alloc, heap, self.bytes, self.skip) {
             Some(Ok(graph)) => is_worked(&graph, self.worked),
             Some(Err(refusal)) => refusal == LinkRefusal::OutOfMemory && heap.refusals() > 0,
             None => false,
@@ -68,31 +76,43 @@ impl Call for Asked<'_> {
 
 /// Whether each answer is right, and the whole one comes with the requests that it takes to build the graph: none is
 /// made to ask it, and each would be refused.
-fn is_right_in_turn(alloc: Global, bytes: &[u8], worked: &Worked, skip: &Skip<'_, Global>) -> bool {
-    let requests = requests_to_build(alloc, bytes, skip);
+fn is_right_in_turn<T: Threads + Sync>(
+    rt: &T,
+    alloc: Global,
+    bytes: &[u8],
+    worked: &Worked,
+    skip: &Skip<'_, Global>,
+) -> bool {
+    let requests = requests_to_build(rt, alloc, bytes, skip);
     let asked = Asked {
         alloc,
         bytes,
         skip,
         worked,
     };
-    requests > 0 && requests_of(alloc, &asked) == Some(requests)
+    requests > 0 && requests_of(rt, alloc, &asked) == Some(requests)
 }
 
 /// Whether they are right of a worked dump.
-fn is_right_of(
+fn is_right_of<T: Threads + Sync>(
+    rt: &T,
     alloc: Global,
     worked: &Worked,
     skip: &Skip<'_, Global>,
 ) -> Result<bool, AllocError> {
     let file = Bytes::dump(alloc, worked.id_size, worked.records)?;
-    Ok(is_right_in_turn(alloc, &file.bytes, worked, skip))
+    Ok(is_right_in_turn(rt, alloc, &file.bytes, worked, skip))
 }
 
 /// Whether they are without the fields of a list.
-fn is_right_without(alloc: Global, worked: &Worked, list: &str) -> Result<bool, AllocError> {
+fn is_right_without<T: Threads + Sync>(
+    rt: &T,
+    alloc: Global,
+    worked: &Worked,
+    list: &str,
+) -> Result<bool, AllocError> {
     match Skip::new(alloc, list) {
-        Ok(skip) => is_right_of(alloc, worked, &skip),
+        Ok(skip) => is_right_of(rt, alloc, worked, &skip),
         Err(_) => Ok(false),
     }
 }
@@ -100,7 +120,7 @@ fn is_right_without(alloc: Global, worked: &Worked, list: &str) -> Result<bool, 
 #[test]
 fn worked_graphs_or_want_of_memory(rt: HostRuntime) {
     for worked in &WORKED {
-        let right = is_right_of(rt.alloc(), worked, &Skip::none(rt.alloc()));
+        let right = is_right_of(&rt, rt.alloc(), worked, &Skip::none(rt.alloc()));
         assert_eq!(rt; right, Ok(true), "{}", worked.name);
     }
 }
@@ -108,7 +128,7 @@ fn worked_graphs_or_want_of_memory(rt: HostRuntime) {
 #[test]
 fn graphs_without_fields_or_want_of_memory(rt: HostRuntime) {
     for (list, worked) in &SKIPPED {
-        let right = is_right_without(rt.alloc(), worked, list);
+        let right = is_right_without(&rt, rt.alloc(), worked, list);
         assert_eq!(rt; right, Ok(true), "{}", worked.name);
     }
 }
@@ -137,8 +157,8 @@ struct TooShort<'a> {
 }
 
 impl Call for TooShort<'_> {
-    fn is_right(&self, heap: &LimitedHeap<Global>) -> bool {
-        match build(self.alloc, heap, self.bytes, self.skip) {
+    fn is_right<T: Threads + Sync>(&self, rt: &T, heap: &LimitedHeap<Global>) -> bool {
+        match build(rt, self.alloc, heap, self.bytes, self.skip) {
             Some(Err(refusal)) => is_too_short_or_told(refusal, heap.refusals()),
             _ => false,
         }
@@ -146,32 +166,41 @@ impl Call for TooShort<'_> {
 }
 
 /// How many requests it takes to find the fault, where each of them was refused before.
-fn requests_to_refuse(alloc: Global, bytes: &[u8], skip: &Skip<'_, Global>) -> Option<u64> {
-    requests_of(alloc, &TooShort { alloc, bytes, skip })
+fn requests_to_refuse<T: Threads + Sync>(
+    rt: &T,
+    alloc: Global,
+    bytes: &[u8],
+    skip: &Skip<'_, Global>,
+) -> Option<u64> {
+    requests_of(rt, alloc, &TooShort { alloc, bytes, skip })
 }
 
 /// How many requests it takes to find the fault of the dump of an instance that is too short.
-fn requests_to_refuse_short(alloc: Global) -> Result<Option<u64>, AllocError> {
+fn requests_to_refuse_short<T: Threads + Sync>(
+    rt: &T,
+    alloc: Global,
+) -> Result<Option<u64>, AllocError> {
     let file = Bytes::dump(alloc, 4, &TOO_SHORT)?;
-    Ok(requests_to_refuse(alloc, &file.bytes, &Skip::none(alloc)))
+    Ok(requests_to_refuse(rt, alloc, &file.bytes, &Skip::none(alloc)))
 }
 
 #[test]
 fn a_fault_or_want_of_memory(rt: HostRuntime) -> Result<(), Fail> {
-    let requests = requests_to_refuse_short(rt.alloc())?;
+    let requests = requests_to_refuse_short(&rt, rt.alloc())?;
     assert!(rt; requests.is_some_and(|requests| requests > 4));
     Ok(())
 }
 
 /// Whether the array is walked right, and its row and its bytes are told, over this heap.
-fn walks_over(
+fn walks_over<T: Threads + Sync>(
+    rt: &T,
     alloc: Global,
     heap: &LimitedHeap<Global>,
     bytes: &[u8],
     skip: &Skip<'_, Global>,
     elements: &[u32],
 ) -> bool {
-    match build(alloc, heap, bytes, skip) {
+    match build(rt, alloc, heap, bytes, skip) {
         Some(Ok(graph)) => tells(&graph, 3, &(elements, RowKey::Class(0), 400_000, 0)),
         _ => false,
     }
@@ -179,23 +208,28 @@ fn walks_over(
 
 /// Whether the array is walked right over a heap that grants just the requests that it takes to build the graph; how
 /// many it then has left and has refused.
-fn walked(alloc: Global, bytes: &[u8], elements: &[u32]) -> (bool, u64, u64) {
+fn walked<T: Threads + Sync>(
+    rt: &T,
+    alloc: Global,
+    bytes: &[u8],
+    elements: &[u32],
+) -> (bool, u64, u64) {
     let skip = Skip::none(alloc);
-    let heap = LimitedHeap::new(alloc, requests_to_build(alloc, bytes, &skip));
-    let right = walks_over(alloc, &heap, bytes, &skip, elements);
+    let heap = LimitedHeap::new(alloc, requests_to_build(rt, alloc, bytes, &skip));
+    let right = walks_over(rt, alloc, &heap, bytes, &skip, elements);
     (right, heap.requests_left(), heap.refusals())
 }
 
 /// Whether a long array is walked right over the requests that it takes to build its graph; how many are then left, and
 /// were refused.
-fn walked_long(alloc: Global) -> Result<(bool, u64, u64), AllocError> {
+fn walked_long<T: Threads + Sync>(rt: &T, alloc: Global) -> Result<(bool, u64, u64), AllocError> {
     let file = long_array(alloc)?;
     let mut elements = vec![in alloc; 2u32; MANY + 1]?;
     elements[0] = 0;
-    Ok(walked(alloc, &file.bytes, &elements))
+    Ok(walked(rt, alloc, &file.bytes, &elements))
 }
 
 #[test]
 fn walking_a_long_array_takes_no_memory(rt: HostRuntime) {
-    assert_eq!(rt; walked_long(rt.alloc()), Ok((true, 0, 0)));
+    assert_eq!(rt; walked_long(&rt, rt.alloc()), Ok((true, 0, 0)));
 }

@@ -5,6 +5,7 @@ use crate::worked::{WORKED, Worked};
 use heap_graph::{Skip, Successors};
 use std::alloc::{AllocError, Allocator, Global};
 use std::test::Fail;
+use std::thread::Threads;
 use test_dumps::Sub::{Class, Instance, Root};
 use test_dumps::{Bytes, Record, TWO_OBJECTS};
 
@@ -68,7 +69,8 @@ fn leaves<A: Allocator>(walk: Successors<'_, A>, left: &[u64]) -> bool {
 }
 
 /// Whether they are in an object of that dump.
-fn leaves_in(
+fn leaves_in<T: Threads + Sync>(
+    rt: &T,
     alloc: Global,
     worked: &Worked,
     object: u32,
@@ -76,7 +78,7 @@ fn leaves_in(
 ) -> Result<bool, AllocError> {
     let skip = Skip::none(alloc);
     let file = Bytes::dump(alloc, worked.id_size, worked.records)?;
-    match graph_of(alloc, &file.bytes, &skip) {
+    match graph_of(rt, alloc, &file.bytes, &skip) {
         Some(graph) => return Ok(object < graph.len() && leaves(graph.successors(object), left)),
         None => return Ok(false),
     }
@@ -89,7 +91,7 @@ fn identifiers_left(rt: HostRuntime) -> Result<(), Fail> {
         let mut known = false;
         for worked in &WORKED {
             if worked.name == *name {
-                known = leaves_in(alloc, worked, *object, left)?;
+                known = leaves_in(&rt, alloc, worked, *object, left)?;
             }
         }
         assert!(rt; known, "{name}, object {object}");
@@ -146,7 +148,8 @@ const SKIPS: [(&str, u64, u64); 3] = [
 ];
 
 /// Whether so many are left without the fields of a list.
-fn leaves_without(
+fn leaves_without<T: Threads + Sync>(
+    rt: &T,
     alloc: Global,
     list: &str,
     left: u64,
@@ -156,7 +159,7 @@ fn leaves_without(
     let Ok(skip) = Skip::new(alloc, list) else {
         return Ok(false);
     };
-    match graph_of(alloc, &file.bytes, &skip) {
+    match graph_of(rt, alloc, &file.bytes, &skip) {
         Some(graph) => return Ok(
             graph.len() == 5
                 && graph.successors(2).left() == left
@@ -169,7 +172,7 @@ fn leaves_without(
 #[test]
 fn fields_are_skipped(rt: HostRuntime) -> Result<(), Fail> {
     for (list, left, unresolved) in SKIPS {
-        let skipped = leaves_without(rt.alloc(), list, left, unresolved)?;
+        let skipped = leaves_without(&rt, rt.alloc(), list, left, unresolved)?;
         assert!(rt; skipped, "{list}");
     }
     Ok(())

@@ -20,6 +20,7 @@ pub mod TableGrowth
 pub mod ClassNumbersLaws
 pub mod Counting
 pub mod Testing
+pub mod Parts
 pub mod Linking
 pub mod Adding
 pub mod HeldLaws

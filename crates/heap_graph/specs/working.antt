@@ -7,6 +7,7 @@ pub mod PlacedNames
 pub mod Values
 pub mod HeldIds
 pub mod RuleAnswers
+pub mod TestedParts
 pub mod ClassList
 pub mod ClassTable
 pub mod Chains

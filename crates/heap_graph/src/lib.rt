@@ -10,7 +10,7 @@
 //!     let Ok(dump) = read(alloc, bytes) else {
 //!         return None;
 //!     };
-//!     Graph::build(alloc, bytes, dump, skip).ok()
+//!     Graph::build(&Team::new(rt, 4), alloc, bytes, dump, skip).ok()
 //!
 //! README.md beside this folder has a table of the calls; the definitions begin in `specs/ObjectGraph.antt`, and what
 //! is accepted and refused stands in `docs/FORMAT.md`.
@@ -30,6 +30,7 @@ mod row;
 mod rule;
 mod skip;
 mod successors;
+mod team;
 mod types;
 mod visit;
 
@@ -40,4 +41,5 @@ pub use row::RowKey;
 pub use rule::LinkRule;
 pub use skip::{Skip, SkipPair, SkipRefusal};
 pub use successors::Successors;
+pub use team::Team;
 pub use visit::Visit;

@@ -1,6 +1,7 @@
 //! The objects of a dump at their places.
 
 mod check;
+mod check_parts;
 mod class_entries;
 mod class_plans;
 pub(crate) mod class_table;

@@ -15,7 +15,7 @@ ghost use Rattle.heapmark.specs.working.Marking.{IsOfMarking};
 
 use crate::refusal::Refusal;
 use drain::{Gate, Options, mark};
-use heap_graph::{Graph, Skip};
+use heap_graph::{Graph, Skip, Team};
 use histogram::{Counted, Report, rows, write_report};
 use hprof_grammar::read;
 use std::alloc::Allocator;
@@ -195,7 +195,8 @@ where
         Ok(dump) => dump,
         Err(refusal) => return Err(Refusal::from(refusal)),
     };
-    let graph = match Graph::build(alloc, bytes, dump, skip) {
+    let team = Team::at_most(rt, options.workers());
+    let graph = match Graph::build(&team, alloc, bytes, dump, skip) {
         Ok(graph) => graph,
         Err(refusal) => return Err(Refusal::from(refusal)),
     };

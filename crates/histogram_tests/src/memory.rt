@@ -5,7 +5,7 @@ ghost use Rattle.drain.specs.Marks.{IsMarkingOf};
 
 use crate::reports::{TWO_OBJECTS, two_objects, writes};
 use drain::{Marked, NoGate, Options, mark};
-use heap_graph::{Graph, Skip};
+use heap_graph::{Graph, Skip, Team};
 use histogram::{Counted, OutOfMemory, ReaderRefusal, Report, WriteRefusal, rows, write_report};
 use hprof_grammar::read;
 use limited_heap::LimitedHeap;
@@ -88,7 +88,7 @@ fn rows_of_dump<T: Threads + Wait + Sync>(
     let Ok(places) = read(alloc, bytes) else {
         return None;
     };
-    match Graph::build(alloc, bytes, places, &skip) {
+    match Graph::build(&Team::new(rt, 4), alloc, bytes, places, &skip) {
         Ok(graph) => rows_in_turn(rt, alloc, &graph),
         Err(_) => None,
     }

@@ -1,7 +1,7 @@
 //! How the names of classes are shown.
 
 use drain::{NoGate, Options, mark};
-use heap_graph::{Graph, Skip};
+use heap_graph::{Graph, Skip, Team};
 use histogram::{Report, append_unnamed, rows};
 use hprof_grammar::read;
 use std::alloc::Global;
@@ -51,7 +51,7 @@ fn is_shown_of<T: Threads + Wait + Sync>(rt: &T, alloc: Global, bytes: &[u8], wa
     let Ok(places) = read(alloc, bytes) else {
         return false;
     };
-    match Graph::build(alloc, bytes, places, &skip) {
+    match Graph::build(&Team::new(rt, 4), alloc, bytes, places, &skip) {
         Ok(graph) => is_shown_in_rows(rt, alloc, &graph, want),
         Err(_) => false,
     }

@@ -1,5 +1,5 @@
 -- What the tests of one object answer.
-use Rattle.std.specs.Prelude.{List, None, Option, Some, slice_get, ℕ, ◌≡◌, ◌≤◌}
+use Rattle.std.specs.Prelude.{List, None, Option, Some, slice_get, ℕ, ◌<◌, ◌≡◌, ◌≤◌}
 use Rattle.hprof_grammar.specs.SubRecord.{SubRecord}
 use Rattle.heap_graph.specs.declared.refusal.LinkFault.{LinkFault}
 use Rattle.heap_graph.specs.declared.rule.LinkRule.{LinkRule}
@@ -27,6 +27,10 @@ IsLateRule s heap o (Some rule) = BreaksLate s heap o rule × ((other : LinkRule
 abbrev pub IsLeastRule : ℕ → List SubRecord → ℕ → Option LinkRule → Type 0
 IsLeastRule s heap n None = (rule : LinkRule) → Fails s heap n rule → ⊥
 IsLeastRule s heap n (Some rule) = IsLeastFault s heap n rule
+
+-- the objects before that number break no rule
+abbrev pub AreFine : ℕ → List SubRecord → ℕ → Type 0
+AreFine s heap to = (k : ℕ) (rule : LinkRule) → k < to → Fails s heap k rule → ⊥
 
 -- the first fault of the objects, with the place of its object
 pub record IsFaultOf (s : ℕ) (heap : List SubRecord) (places : List ℕ) (fault : LinkFault) : Type 0 where

@@ -22,9 +22,11 @@ use crate::objects::class_table::class_table;
 use crate::objects::indexing::index_of;
 use crate::refusal::LinkRefusal;
 use crate::skip::{Skip, SkipPair};
+use crate::team::Team;
 use hprof_grammar::{Dump, View, dump_is_placed, stands_within};
 use std::alloc::{AllocError, Allocator};
 use std::snapshot::Snapshot;
+use std::thread::Threads;
 
 /// The objects at these places of a dump, by their identifiers, and its classes.
 fn read_objects<'a, A: Allocator + Copy>(
@@ -110,10 +112,14 @@ impl<'a, A: Allocator + Copy> Graph<'a, A> {
         let rooted = find_roots(alloc, &objects, root_places)?;
         Ok(Graph::of(objects, named, rooted, skip))
     }
+}
 
+impl<'a, A: Allocator + Copy + Send + Sync> Graph<'a, A> {
     /// The graph of a dump that was read from these bytes, in which the fields on the list are not followed: a fault is
-    /// the first one of its links, and else only memory can be missing. To skip no field, lend it `Skip::none`.
-    pub fn build<B: Allocator, C: Allocator>(
+    /// the first one of its links, and else only memory can be missing. To skip no field, lend it `Skip::none`. The rules
+    /// of the links are tested in parts by the threads of the team, where there are many objects.
+    pub fn build<T: Threads + Sync, B: Allocator, C: Allocator>(
+        team: &Team<'_, T>,
         alloc: A,
         bytes: &'a [u8],
         dump: Dump<B>,
@@ -129,7 +135,7 @@ impl<'a, A: Allocator + Copy> Graph<'a, A> {
             Ok(objects) => objects,
             Err(_) => return Err(LinkRefusal::OutOfMemory),
         };
-        if let Err(fault) = objects.check() {
+        if let Err(fault) = objects.check(team, alloc) {
             return Err(LinkRefusal::Fault(fault));
         }
         let names = Names {

@@ -1,6 +1,6 @@
-//! The rules that the objects of a dump are tested by.
+//! The rules that an object of a dump is tested by.
 
-ghost use Rattle.std.specs.Prelude.{IfErr, IfNone, List, OnOk, false, length, true, ◌<◌, ◌≡◌, ◌≢◌, ◌≤◌};
+ghost use Rattle.std.specs.Prelude.{IfNone, List, false, length, true, ◌<◌, ◌≡◌, ◌≢◌, ◌≤◌};
 ghost use Rattle.hprof_grammar.specs.Dump.{is_object};
 ghost use Rattle.hprof_grammar.specs.Standing.{Stands};
 ghost use Rattle.hprof_grammar.specs.SubRecord.{Class, Instance, ObjectArray, SubRecord};
@@ -8,7 +8,6 @@ ghost use Rattle.hprof_grammar.specs.SubRecord.SubRecord.{class_dump, instance_d
 
 use crate::classes::{Fate, Layout};
 use crate::objects::Objects;
-use crate::refusal::LinkFault;
 use crate::rule::LinkRule;
 use hprof_grammar::ObjectKind;
 use std::alloc::Allocator;
@@ -25,11 +24,10 @@ fn has_size(values: &[u8], layout: Layout) -> bool
 }
 
 impl<'d, A: Allocator> Objects<'d, A> {
-    ghost use Rattle.heap_graph.specs.Linked.{IsLinked};
     ghost use Rattle.id_index.specs.Repeats.{IsFirstRepeat};
     ghost use Rattle.heap_graph.specs.working.PlacedObjects.{AreOf};
     ghost use Rattle.heap_graph.specs.working.ClassFates.{HaveFatesOf};
-    ghost use Rattle.heap_graph.specs.working.RuleAnswers.{IsFaultOf, IsLateRule, IsLeastRule};
+    ghost use Rattle.heap_graph.specs.working.RuleAnswers.{IsLateRule, IsLeastRule};
 
     /// The rule on superclasses, if a class dump breaks it.
     fn class_rule(&self, at: u32) -> Option<LinkRule>
@@ -106,7 +104,7 @@ impl<'d, A: Allocator> Objects<'d, A> {
 
     /// The first rule that an object breaks. `repeat` is the number of the first object that bears the identifier of an
     /// earlier one; the object is that one or stands before it.
-    fn broken_rule(&self, number: usize, repeat: usize) -> Option<LinkRule>
+    pub(super) fn broken_rule(&self, number: usize, repeat: usize) -> Option<LinkRule>
         requires below { number < length self.now.places.items }
         requires repeat { IsFirstRepeat self.now.index repeat }
         requires first { number ≤ repeat }
@@ -130,25 +128,5 @@ impl<'d, A: Allocator> Objects<'d, A> {
             return Some(LinkRule::TooLarge);
         }
         None
-    }
-
-    /// Tests each object in turn, up to the first fault.
-    pub(crate) fn check(&self) -> Result<(), LinkFault>
-        requires { (heap : List SubRecord) × AreOf self.now heap × HaveFatesOf self.now heap }
-        ensures linked { OnOk result ((heap : List SubRecord) → AreOf self.now heap → HaveFatesOf self.now heap
-            → IsLinked self.now.view.id_size heap) }
-        ensures fault { IfErr result (λ f. (heap : List SubRecord) → AreOf self.now heap → HaveFatesOf self.now heap
-            → IsFaultOf self.now.view.id_size heap self.now.places.items f) }
-    {
-        let repeat = self.index.first_repeat();
-        for number in 0..self.places.len() {
-            if let Some(rule) = self.broken_rule(number, repeat) {
-                return Err(LinkFault {
-                    code: rule.code(),
-                    offset: u64::from(self.places[number]),
-                });
-            }
-        }
-        Ok(())
     }
 }

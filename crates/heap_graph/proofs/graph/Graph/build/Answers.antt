@@ -11,7 +11,21 @@ use Rattle.heap_graph.proofs.graph.Graph.build.Goals as goal
 
 pub check-requires : goal.check-requires
 check-requires g c =
-    (heap_of c.requires.records, c.in-Ok.ensures.objects.are c.requires, c.in-Ok.ensures.fates c.requires)
+    let bounds = c.type_bounds in
+    let are = c.in-Ok.ensures.objects.are c.requires in
+    let fates = c.in-Ok.ensures.fates c.requires in (
+      bounds.send-A,
+      (
+        bounds.sync-A,
+        (
+          bounds.sync-T,
+          (
+            bounds.frees-A-Allocator,
+            (heap_of c.requires.records, are, fates),
+          ),
+        ),
+      ),
+    )
 
 pub returns-in-Err-check-clause-fault : goal.returns-in-Err-check-clause-fault
 returns-in-Err-check-clause-fault g c =

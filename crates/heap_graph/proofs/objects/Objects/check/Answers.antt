@@ -1,34 +1,63 @@
--- No object before breaks a rule, so the first that is found to break one has the first fault; else all keep them.
-use Rattle.std.proofs.Common.{Some, ap, arith, sym, ℕ, ◌∙◌}
-use Rattle.std.proofs.lemmas.Option.{slice_get-get_or}
-use Rattle.heap_graph.proofs.Standings.{number_below}
-use Rattle.heap_graph.proofs.Testing.{none_before}
+-- The first part with a fault has the first fault; else all objects keep the rules.
+use Rattle.std.proofs.Common.{Ok, ap, arith, get_or, length, min, sym, ◌*◌, ◌+◌, ◌∙◌, ◌≡◌, ◌≤◌}
+use Rattle.std.proofs.lemmas.Result.{IfErr-at_err, IfErr-weaker, IfOk-at_ok, on_ok_weaker}
+use Rattle.heap_graph.proofs.Parts.{all_linked, next_part, none_first, reaches}
 use Rattle.heap_graph.proofs.objects.Objects.check.Goals as goal
 
-pub loop-number-init : goal.loop-number-init
-loop-number-init g c = record { fine = λ heap are told k rule h f. omega (arith, h); first = omega arith }
+pub returns-then-places-lt-FEWEST_IN_PARTS-clause-linked : goal.returns-then-places-lt-FEWEST_IN_PARTS-clause-linked
+returns-then-places-lt-FEWEST_IN_PARTS-clause-linked g c =
+    on_ok_weaker c.check_part.result (λ fine heap are told. all_linked _ _ _ _ heap _ (omega arith) are
+    (fine (omega arith) heap are told (none_first _ heap))) c.check_part.ensures.fine
 
-pub returns-in-Some-clause-fault : goal.returns-in-Some-clause-fault
-returns-in-Some-clause-fault g c = λ heap are told. record {
-  number = c.loop-number.number;
-  rule = c.in-Some.rule;
-  first = record {
-    here = c.in-Some.ensures.rule heap are told;
-    first = λ before other h f. c.loop-number.invariant.fine heap are told before other h f;
-  };
-  code_is = c.code.ensures;
-  place_is = slice_get-get_or c.args.self.now.places.items c.loop-number.number c.index.result.now (omega arith)
-      ∙ ap (λ (n : ℕ). Some n) (sym (c.from.ensures ∙ c.index.ensures));
-}
+pub returns-then-places-lt-FEWEST_IN_PARTS-clause-fault : goal.returns-then-places-lt-FEWEST_IN_PARTS-clause-fault
+returns-then-places-lt-FEWEST_IN_PARTS-clause-fault g c =
+    IfErr-weaker c.check_part.result _ _ (λ f fault heap are told. fault heap are told (none_first _ heap))
+    c.check_part.ensures.fault
 
-pub loop-number-preserved : goal.loop-number-preserved
-loop-number-preserved g c = record {
-  fine = λ heap are told. none_before c.args.self.now.view.id_size heap c.loop-number.number
-      (c.loop-number.invariant.fine heap are told) (c.in_default.ensures.rule heap are told);
-  first = omega (arith, c.in_default.ensures.first);
-}
+pub returns-in_default-clause-linked : goal.returns-in_default-clause-linked
+returns-in_default-clause-linked g c =
+    on_ok_weaker c.check_part-in_default.result (λ fine heap are told. all_linked _ _ _ _ heap _ (omega arith) are
+    (fine (omega arith) heap are told (none_first _ heap))) c.check_part-in_default.ensures.fine
+
+pub returns-in_default-clause-fault : goal.returns-in_default-clause-fault
+returns-in_default-clause-fault g c =
+    IfErr-weaker c.check_part-in_default.result _ _ (λ f fault heap are told. fault heap are told (none_first _ heap))
+    c.check_part-in_default.ensures.fault
+
+pub returns-in-Err-clause-fault : goal.returns-in-Err-clause-fault
+returns-in-Err-clause-fault g c = λ heap are told.
+    let n = c.loop-answer.answer-index in
+    let o = c.args.self.now in
+    let part = (c.in-Ok.ensures.each n (Ok tt) (omega arith)).1 in
+    let within : n * c.part_of-size.result ≤ length o.places.items =
+    omega (arith, part.argument_is.in_bounds, c.as_slice-places.ensures) in
+    IfErr-at_err _ (ap (λ xs. get_or xs n (Ok tt)) (sym c.deref-answer-items.ensures.value) ∙ c.in-Err.is)
+    part.call.fault heap are told
+    (λ k rule h f. c.loop-answer.invariant.fine heap are told k rule (omega (arith, h, within)) f)
+
+pub loop-answer-preserved : goal.loop-answer-preserved
+loop-answer-preserved g c =
+    let n = c.loop-answer.answer-index in
+    let o = c.args.self.now in
+    let from = n * c.part_of-size.result in
+    let part = (c.in-Ok.ensures.each n (Ok tt) (omega arith)).1 in
+    let to = from + length part.argument.now in
+    let within : from ≤ length o.places.items =
+    omega (arith, part.argument_is.in_bounds, c.as_slice-places.ensures) in
+    let before : from ≤ c.first_repeat-repeat.result = omega (arith, within, c.loop-answer.invariant.first) in
+    let ends : min ((n + 1) * c.part_of-size.result) (length o.places.items) ≡ to =
+    omega (arith, next_part n c.part_of-size.result, part.argument_is.len, within, c.as_slice-places.ensures) in
+    let is = ap (λ xs. get_or xs n (Ok tt)) (sym c.deref-answer-items.ensures.value) ∙ c.in_default-answer.is in
+    record {
+      fine = λ heap are told k rule h f. IfOk-at_ok _ is part.call.fine before heap are told
+          (λ i other l b. c.loop-answer.invariant.fine heap are told i other (omega (arith, l, within)) b) k rule
+          (omega (arith, h, ends)) f;
+      first = let last = IfOk-at_ok _ is part.call.first before in omega (arith, ends, last);
+    }
 
 pub returns-clause-linked : goal.returns-clause-linked
-returns-clause-linked g c = λ heap are told n rule f.
-    let below = number_below _ _ _ heap n f.0 are f.1 in
-    c.loop-number.invariant.fine heap are told n rule (omega (arith, below)) f
+returns-clause-linked g c = λ heap are told.
+    let end = reaches c.loop-answer.answer-index (length c.as_slice-places.result.now) c.part_of-size.result
+    c.part_of-size.ensures (omega (arith, c.in-Ok.ensures.len, c.loop-answer-test.false)) in
+    all_linked _ _ _ _ heap _ (omega (arith, end, c.as_slice-places.ensures)) are
+    (c.loop-answer.invariant.fine heap are told)

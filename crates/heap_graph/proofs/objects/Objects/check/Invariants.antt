@@ -1,15 +1,14 @@
--- No object so far breaks a rule, and the first repeat is none of them.
-use Rattle.std.proofs.Common.{List, ℕ, ◌<◌, ◌≤◌}
+-- No object of a part whose answer was seen breaks a rule, and the first repeat is none of them.
+use Rattle.std.proofs.Common.{List, length, min, ◌*◌, ◌≤◌}
 use Rattle.hprof_grammar.specs.SubRecord.{SubRecord}
-use Rattle.heap_graph.specs.declared.rule.LinkRule.{LinkRule}
-use Rattle.heap_graph.specs.Linked.{Fails}
 use Rattle.heap_graph.specs.working.PlacedObjects.{AreOf}
 use Rattle.heap_graph.specs.working.ClassFates.{HaveFatesOf}
+use Rattle.heap_graph.specs.working.RuleAnswers.{AreFine}
 use Rattle.heap_graph.proofs.objects.Objects.check.Given as goal
 
-abbrev pub invariant-loop-number : goal.invariant-loop-number
-invariant-loop-number g l = record {
-  fine : (heap : List SubRecord) → AreOf l.self heap → HaveFatesOf l.self heap → (k : ℕ) (rule : LinkRule)
-      → k < l.number → Fails l.self.view.id_size heap k rule → ⊥;
-  first : l.number ≤ l.repeat;
+abbrev pub invariant-loop-answer : goal.invariant-loop-answer
+invariant-loop-answer g l = record {
+  fine : (heap : List SubRecord) → AreOf l.self heap → HaveFatesOf l.self heap
+      → AreFine l.self.view.id_size heap (min (l.answer-index * l.size) (length l.self.places.items));
+  first : min (l.answer-index * l.size) (length l.self.places.items) ≤ l.repeat;
 }

@@ -1,0 +1,238 @@
+//! Dumps of so many objects that the rules of their links are tested in parts: of faults in several of these the first
+//! in the order of the file is told, also where there is no memory for the parts' answers.
+
+use heap_graph::{Graph, LinkFault, LinkRefusal, Skip, Team};
+use hprof_grammar::read;
+use limited_heap::LimitedHeap;
+use std::alloc::{AllocError, Allocator, Global};
+use std::test::Fail;
+use std::thread::Threads;
+use test_dumps::Bytes;
+use test_dumps::Sub::{Class, Instance};
+
+/// How many instances there are, behind their class. For a team of four the parts end with the instances 16,499,
+/// 33,000, 49,501 and 65,999.
+const INSTANCES: u32 = 66_000;
+
+/// The identifier of the class.
+const CLASS: u32 = 0x100;
+
+/// A field of an instance of that number, and another value for it.
+#[derive(Clone, Copy)]
+enum Change {
+    Id(u32, u32),
+    Class(u32, u32),
+}
+
+/// The identifier of an instance.
+fn id_of(instance: u32) -> u32 {
+    0x1000u32.saturating_add(instance)
+}
+
+/// The place of an instance: behind the header, the head of the record, and the class.
+fn place_of(instance: u32) -> u64 {
+    83 + 17 * u64::from(instance)
+}
+
+impl Change {
+    /// The place of the field, and its value.
+    fn new_field(self) -> (u64, u32) {
+        match self {
+            Change::Id(instance, id) => (place_of(instance) + 1, id),
+            Change::Class(instance, class) => (place_of(instance) + 9, class),
+        }
+    }
+
+    /// The place of the field, and the value that it had before.
+    fn old_field(self) -> (u64, u32) {
+        match self {
+            Change::Id(instance, _) => (place_of(instance) + 1, id_of(instance)),
+            Change::Class(instance, _) => (place_of(instance) + 9, CLASS),
+        }
+    }
+}
+
+/// Puts a number at a place. None where the bytes end before.
+fn put(bytes: &mut [u8], (place, value): (u64, u32)) -> Option<()> {
+    let field = bytes.get_mut(place as usize..)?.get_mut(..4)?;
+    field.copy_from_slice(&value.to_be_bytes());
+    Some(())
+}
+
+/// A class without fields, and its instances.
+fn instances(alloc: Global) -> Result<Bytes, AllocError> {
+    let mut heap = Bytes::new(alloc, 4);
+    heap.sub(Class(u64::from(CLASS), 0, &[]))?;
+    for instance in 0..INSTANCES {
+        heap.sub(Instance(u64::from(id_of(instance)), u64::from(CLASS), &[]))?;
+    }
+    Ok(heap)
+}
+
+/// A dump of these.
+fn dump(alloc: Global) -> Result<Bytes, AllocError> {
+    let heap = instances(alloc)?;
+    let mut file = Bytes::header(alloc, 4)?;
+    file.record(0x0C, heap.bytes.as_slice())?;
+    Ok(file)
+}
+
+/// How many objects a graph has, or the code and the place of the fault. None where memory is missing.
+type Answer = Option<Result<u32, (u8, u64)>>;
+
+/// What a team of so many threads answers over this heap.
+fn answer<T: Threads + Sync, A: Allocator + Copy + Send + Sync>(
+    rt: &T,
+    alloc: Global,
+    heap: A,
+    bytes: &[u8],
+    threads: u32,
+) -> Answer {
+    let skip = Skip::none(alloc);
+    let dump = read(alloc, bytes).ok()?;
+    match Graph::build(&Team::new(rt, threads), heap, bytes, dump, &skip) {
+        Ok(graph) => Some(Ok(graph.len())),
+        Err(LinkRefusal::Fault(LinkFault { code, offset })) => Some(Err((code, offset))),
+        Err(LinkRefusal::OutOfMemory) => None,
+    }
+}
+
+/// What teams of one thread and of four answer of the dump with these changes. The dump is as before then.
+fn answers<T: Threads + Sync>(
+    rt: &T,
+    alloc: Global,
+    bytes: &mut [u8],
+    changes: &[Change],
+) -> Option<(Answer, Answer)> {
+    for change in changes {
+        put(bytes, change.new_field())?;
+    }
+    let alone = answer(rt, alloc, alloc, bytes, 1);
+    let in_parts = answer(rt, alloc, alloc, bytes, 4);
+    for change in changes {
+        put(bytes, change.old_field())?;
+    }
+    Some((alone, in_parts))
+}
+
+/// Changes, and what is answered: how many objects there are, or the code of the fault and the instance that has it.
+type Case = (&'static [Change], Result<u32, (u8, u32)>);
+
+static CASES: [Case; 9] = [
+    (&[], Ok(66_001)),
+    // The last of the first part, with a fault in each other part.
+    (
+        &[
+            Change::Class(16_499, 0x999),
+            Change::Id(16_500, 0),
+            Change::Id(33_001, 0),
+            Change::Id(49_502, 0),
+        ],
+        Err((11, 16_499)),
+    ),
+    // The first of the second part.
+    (
+        &[
+            Change::Id(16_500, 0),
+            Change::Class(33_000, 0x999),
+            Change::Class(49_502, 0x999),
+        ],
+        Err((9, 16_500)),
+    ),
+    // The last of the third part.
+    (
+        &[Change::Class(49_501, 0x999), Change::Id(65_999, 0)],
+        Err((11, 49_501)),
+    ),
+    // The last of all.
+    (&[Change::Id(65_999, 0)], Err((9, 65_999))),
+    // An identifier that an object of another part bears, with faults behind it in its part and in the next ones.
+    (
+        &[
+            Change::Id(30_000, 0x1000),
+            Change::Id(30_001, 0),
+            Change::Id(40_000, 0),
+            Change::Id(60_000, 0),
+        ],
+        Err((10, 30_000)),
+    ),
+    // One with a fault in the part before.
+    (&[Change::Id(2, 0), Change::Id(30_000, 0x1000)], Err((9, 2))),
+    // One in the last part, with a fault in the part before.
+    (
+        &[Change::Class(40_000, 0x999), Change::Id(60_001, 0xfa60)],
+        Err((11, 40_000)),
+    ),
+    // The identifier of the class, borne by the last of all.
+    (&[Change::Id(65_999, CLASS)], Err((10, 65_999))),
+];
+
+#[test]
+fn first_faults_of_parts(rt: HostRuntime) -> Result<(), Fail> {
+    let mut file = dump(rt.alloc())?;
+    for (changes, wanted) in &CASES {
+        let wanted = Some(wanted.map_err(|(code, instance)| (code, place_of(instance))));
+        let answers = answers(&rt, rt.alloc(), file.bytes.as_mut_slice(), changes);
+        assert_eq!(rt; answers, Some((wanted, wanted)), "{wanted:?}");
+    }
+    Ok(())
+}
+
+/// A class that is missing in the third part, and an identifier that is 0 in the last.
+const THIRD_AND_LAST: [Change; 2] = [Change::Class(40_000, 0x999), Change::Id(60_000, 0)];
+
+/// The dump with these.
+fn faulty_dump(alloc: Global) -> Result<Option<Bytes>, AllocError> {
+    let mut file = dump(alloc)?;
+    for change in THIRD_AND_LAST {
+        if put(file.bytes.as_mut_slice(), change.new_field()).is_none() {
+            return Ok(None);
+        }
+    }
+    Ok(Some(file))
+}
+
+/// How many requests for memory a team of four makes of the dump.
+fn requests_of<T: Threads + Sync>(rt: &T, alloc: Global, bytes: &[u8]) -> u64 {
+    let heap = LimitedHeap::new(alloc, u64::MAX);
+    let _answer = answer(rt, alloc, &heap, bytes, 4);
+    u64::MAX - heap.requests_left()
+}
+
+/// What a team of four answers where so many requests are granted, and how many are refused.
+fn answer_with<T: Threads + Sync>(
+    rt: &T,
+    alloc: Global,
+    bytes: &[u8],
+    granted: u64,
+) -> (Answer, u64) {
+    let heap = LimitedHeap::new(alloc, granted);
+    let answer = answer(rt, alloc, &heap, bytes, 4);
+    (answer, heap.refusals())
+}
+
+/// What it answers of that dump where so many of the last requests are refused, and how many are.
+fn answer_without<T: Threads + Sync>(
+    rt: &T,
+    alloc: Global,
+    last: &[u64],
+) -> Result<Vec<(Answer, u64)>, AllocError> {
+    let mut answers = Vec::new(alloc);
+    if let Some(file) = faulty_dump(alloc)? {
+        let requests = requests_of(rt, alloc, file.bytes.as_slice());
+        for last in last {
+            let granted = requests.saturating_sub(*last);
+            answers.push(answer_with(rt, alloc, file.bytes.as_slice(), granted))?;
+        }
+    }
+    Ok(answers)
+}
+
+#[test]
+fn answers_without_memory(rt: HostRuntime) -> Result<(), Fail> {
+    let fault = Some(Err((11, place_of(40_000))));
+    let answers = answer_without(&rt, rt.alloc(), &[0, 1, 4, 5, 6])?;
+    let wanted = [(fault, 0), (fault, 1), (fault, 4), (None, 1), (None, 1)];
+    assert_eq!(rt; answers.as_slice(), wanted.as_slice());
+    Ok(())
+}

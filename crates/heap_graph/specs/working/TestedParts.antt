@@ -1,0 +1,25 @@
+-- Objects that are tested part by part.
+use Rattle.std.specs.Prelude.{IfErr, List, OnOk, Result, length, ◌+◌, ◌≤◌, ℕ}
+use Rattle.hprof_grammar.specs.SubRecord.{SubRecord}
+use Rattle.heap_graph.specs.declared.objects.Objects.{Objects}
+use Rattle.heap_graph.specs.declared.refusal.LinkFault.{LinkFault}
+use Rattle.heap_graph.specs.working.ClassFates.{HaveFatesOf}
+use Rattle.id_index.specs.Repeats.{IsFirstRepeat}
+use Rattle.heap_graph.specs.working.PlacedObjects.{AreOf}
+use Rattle.heap_graph.specs.working.RuleAnswers.{AreFine, IsFaultOf}
+
+-- as many objects as the part has places stand from that number on
+pub record MayTest {A : Type 0} (o : Objects A) (repeat start : ℕ) (part : List ℕ) : Type 0 where
+  pub within : start + length part ≤ length o.places.items
+  pub repeat_is : IsFirstRepeat o.index repeat
+  pub heap : (heap : List SubRecord) × AreOf o heap × HaveFatesOf o heap
+
+-- What the test of a part says where no object before it breaks a rule: none of the part does, and the first repeat is
+-- none of them; or which fault is the first of all.
+pub record HasTested {A : Type 0} (o : Objects A) (repeat start : ℕ) (part : List ℕ)
+    (result : Result (Unit {0}) LinkFault) : Type 0 where
+  pub first : OnOk result (start ≤ repeat → start + length part ≤ repeat)
+  pub fine : OnOk result (start ≤ repeat → (heap : List SubRecord) → AreOf o heap → HaveFatesOf o heap
+      → AreFine o.view.id_size heap start → AreFine o.view.id_size heap (start + length part))
+  pub fault : IfErr result (λ f. (heap : List SubRecord) → AreOf o heap → HaveFatesOf o heap
+      → AreFine o.view.id_size heap start → IsFaultOf o.view.id_size heap o.places.items f)

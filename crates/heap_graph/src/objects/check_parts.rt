@@ -1,0 +1,79 @@
+//! The test of all objects of a dump, part by part.
+
+ghost use Rattle.std.specs.Prelude.{IfErr, List, OnOk};
+ghost use Rattle.hprof_grammar.specs.SubRecord.{SubRecord};
+ghost use Rattle.heap_graph.specs.working.TestedParts.{HasTested, MayTest};
+
+use crate::objects::Objects;
+use crate::refusal::LinkFault;
+use crate::team::Team;
+use std::alloc::Allocator;
+use std::thread;
+use std::thread::Threads;
+
+/// The fewest objects that are tested in several parts: a thread is not worth its start below.
+const FEWEST_IN_PARTS: usize = 65_536;
+
+impl<'d, A: Allocator> Objects<'d, A> {
+    /// Tests the objects of a part of the places in turn, up to the first fault: those from the number `start` on. What
+    /// it answers is said where no object before them breaks a rule. `repeat` is the number of the first object that
+    /// bears the identifier of an earlier one; where that stands before the part, nothing is tested.
+    fn check_part(&self, start: usize, part: &[u32], repeat: usize) -> Result<(), LinkFault>
+        requires { MayTest self.now repeat start part.now }
+        ensures { HasTested self.now repeat start part.now result }
+    {
+        if repeat < start {
+            return Ok(());
+        }
+        for number in start..start + part.len() {
+            if let Some(rule) = self.broken_rule(number, repeat) {
+                return Err(LinkFault {
+                    code: rule.code(),
+                    offset: u64::from(self.places[number]),
+                });
+            }
+        }
+        Ok(())
+    }
+}
+
+impl<'d, A: Allocator + Copy + Send + Sync> Objects<'d, A> {
+    ghost use Rattle.heap_graph.specs.Linked.{IsLinked};
+    ghost use Rattle.heap_graph.specs.working.PlacedObjects.{AreOf};
+    ghost use Rattle.heap_graph.specs.working.ClassFates.{HaveFatesOf};
+    ghost use Rattle.heap_graph.specs.working.RuleAnswers.{IsFaultOf};
+
+    /// Tests each object, up to the first fault in the order of the file: where there are many, in as many parts as the
+    /// team has threads, and in one part also where there is no memory for the answers of several.
+    pub(crate) fn check<T: Threads + Sync>(
+        &self,
+        team: &Team<'_, T>,
+        alloc: A,
+    ) -> Result<(), LinkFault>
+        requires { (heap : List SubRecord) × AreOf self.now heap × HaveFatesOf self.now heap }
+        ensures linked { OnOk result ((heap : List SubRecord) → AreOf self.now heap → HaveFatesOf self.now heap
+            → IsLinked self.now.view.id_size heap) }
+        ensures fault { IfErr result (λ f. (heap : List SubRecord) → AreOf self.now heap → HaveFatesOf self.now heap
+            → IsFaultOf self.now.view.id_size heap self.now.places.items f) }
+    {
+        let repeat = self.index.first_repeat();
+        let places = self.places.as_slice();
+        if places.len() < FEWEST_IN_PARTS {
+            return self.check_part(0, places, repeat);
+        }
+        let size = team.part_of(places.len());
+        let test = |start: usize, part: &[u32]| -> Result<(), LinkFault>
+            requires { MayTest self.now repeat start part.now }
+            ensures { HasTested self.entry.now repeat start part.entry.now result }
+        { self.check_part(start, part, repeat) };
+        let Ok(answers) = thread::map_chunks(team, alloc, places, size, &test) else {
+            return self.check_part(0, places, repeat);
+        };
+        for answer in &answers {
+            if let Err(fault) = answer {
+                return Err(*fault);
+            }
+        }
+        Ok(())
+    }
+}
