@@ -156,15 +156,15 @@ fn memory_refused_in_turn(rt: HostRuntime) {
 }
 
 /// How many requests a heap that grants what the file takes has left behind it, whether the dump is right, whether it
-/// has no objects once they are forgotten, and how many requests were refused.
+/// hands over its objects and has none then, and how many requests were refused.
 fn looked_at(alloc: Global) -> Result<(u64, bool, bool, u64), ReadRefusal> {
     let heap = LimitedHeap::new(alloc, requests_of_the_file(alloc));
     let mut dump = read(&heap, &FILE)?;
     let left = heap.requests_left();
     let right = is_of_the_file(&dump);
-    dump.forget_objects();
-    let forgotten = dump.objects().is_empty();
-    Ok((left, right, forgotten, heap.refusals()))
+    let objects = dump.take_objects(&heap);
+    let handed = dump.objects().is_empty() && objects.as_slice() == [79, 127, 148].as_slice();
+    Ok((left, right, handed, heap.refusals()))
 }
 
 /// What a dump tells takes no memory: it is asked while each request would be refused, and makes none. A `View` is

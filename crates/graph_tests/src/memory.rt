@@ -1,5 +1,5 @@
-//! Want of memory: of the requests of `build` each is refused in turn, with all behind it and alone. And asking a graph
-//! makes none.
+//! Want of memory: of the requests of `read` and `build` each is refused in turn, with all behind it and alone. And
+//! asking a graph makes none.
 
 use crate::graphs::{is_worked, tells};
 use crate::refused::{Call, requests_of};
@@ -15,18 +15,17 @@ use std::thread::Threads;
 use test_dumps::Sub::{Class, Instance};
 use test_dumps::{Bytes, Record};
 
-/// Builds the graph of a dump, from places that are read with all the memory that they take.
+/// Reads a dump that is whole, and builds its graph.
 fn build<'a, T: Threads + Sync, A: Allocator + Copy + Send + Sync>(
     rt: &T,
-    alloc: Global,
     heap: A,
     bytes: &'a [u8],
     skip: &'a Skip<'_, Global>,
-) -> Option<Result<Graph<'a, A>, LinkRefusal>> {
-    let Ok(dump) = read(alloc, bytes) else {
-        return None;
+) -> Result<Graph<'a, A>, LinkRefusal> {
+    let Ok(dump) = read(heap, bytes) else {
+        return Err(LinkRefusal::OutOfMemory);
     };
-    Some(Graph::build(&Team::new(rt, 4), heap, bytes, dump, skip))
+    Graph::build(&Team::new(rt, 4), heap, bytes, dump, skip)
 }
 
 /// How many requests it makes.
@@ -37,28 +36,13 @@ fn requests_to_build<T: Threads + Sync>(
     skip: &Skip<'_, Global>,
 ) -> u64 {
     let heap = LimitedHeap::new(alloc, u64::MAX);
-    let _built = is_built(rt, alloc, &heap, bytes, skip);
+    let _built = build(rt, &heap, bytes, skip);
     u64::MAX - heap.requests_left()
-}
-
-/// Whether it is built over this heap.
-fn is_built<T: Threads + Sync>(
-    rt: &T,
-    alloc: Global,
-    heap: &LimitedHeap<Global>,
-    bytes: &[u8],
-    skip: &Skip<'_, Global>,
-) -> bool {
-    match build(rt, alloc, heap, bytes, skip) {
-        Some(Ok(_)) => true,
-        _ => false,
-    }
 }
 
 /// Builds the graph of a worked dump, and asks it.
 #[derive(Drop)]
 struct Asked<'a> {
-    alloc: Global,
     bytes: &'a [u8],
     skip: &'a Skip<'a, Global>,
     worked: &'a Worked,
@@ -66,10 +50,9 @@ struct Asked<'a> {
 
 impl Call for Asked<'_> {
     fn is_right<T: Threads + Sync>(&self, rt: &T, heap: &LimitedHeap<Global>) -> bool {
-        match build(rt, self.alloc, heap, self.bytes, self.skip) {
-            Some(Ok(graph)) => is_worked(&graph, self.worked),
-            Some(Err(refusal)) => refusal == LinkRefusal::OutOfMemory && heap.refusals() > 0,
-            None => false,
+        match build(rt, heap, self.bytes, self.skip) {
+            Ok(graph) => is_worked(&graph, self.worked),
+            Err(refusal) => refusal == LinkRefusal::OutOfMemory && heap.refusals() > 0,
         }
     }
 }
@@ -85,7 +68,6 @@ fn is_right_in_turn<T: Threads + Sync>(
 ) -> bool {
     let requests = requests_to_build(rt, alloc, bytes, skip);
     let asked = Asked {
-        alloc,
         bytes,
         skip,
         worked,
@@ -151,16 +133,15 @@ fn is_too_short_or_told(refusal: LinkRefusal, refusals: u64) -> bool {
 /// Builds the graph of that dump.
 #[derive(Drop)]
 struct TooShort<'a> {
-    alloc: Global,
     bytes: &'a [u8],
     skip: &'a Skip<'a, Global>,
 }
 
 impl Call for TooShort<'_> {
     fn is_right<T: Threads + Sync>(&self, rt: &T, heap: &LimitedHeap<Global>) -> bool {
-        match build(rt, self.alloc, heap, self.bytes, self.skip) {
-            Some(Err(refusal)) => is_too_short_or_told(refusal, heap.refusals()),
-            _ => false,
+        match build(rt, heap, self.bytes, self.skip) {
+            Ok(_) => false,
+            Err(refusal) => is_too_short_or_told(refusal, heap.refusals()),
         }
     }
 }
@@ -172,7 +153,7 @@ fn requests_to_refuse<T: Threads + Sync>(
     bytes: &[u8],
     skip: &Skip<'_, Global>,
 ) -> Option<u64> {
-    requests_of(rt, alloc, &TooShort { alloc, bytes, skip })
+    requests_of(rt, alloc, &TooShort { bytes, skip })
 }
 
 /// How many requests it takes to find the fault of the dump of an instance that is too short.
@@ -194,15 +175,14 @@ fn a_fault_or_want_of_memory(rt: HostRuntime) -> Result<(), Fail> {
 /// Whether the array is walked right, and its row and its bytes are told, over this heap.
 fn walks_over<T: Threads + Sync>(
     rt: &T,
-    alloc: Global,
     heap: &LimitedHeap<Global>,
     bytes: &[u8],
     skip: &Skip<'_, Global>,
     elements: &[u32],
 ) -> bool {
-    match build(rt, alloc, heap, bytes, skip) {
-        Some(Ok(graph)) => tells(&graph, 3, &(elements, RowKey::Class(0), 400_000, 0)),
-        _ => false,
+    match build(rt, heap, bytes, skip) {
+        Ok(graph) => tells(&graph, 3, &(elements, RowKey::Class(0), 400_000, 0)),
+        Err(_) => false,
     }
 }
 
@@ -216,7 +196,7 @@ fn walked<T: Threads + Sync>(
 ) -> (bool, u64, u64) {
     let skip = Skip::none(alloc);
     let heap = LimitedHeap::new(alloc, requests_to_build(rt, alloc, bytes, &skip));
-    let right = walks_over(rt, alloc, &heap, bytes, &skip, elements);
+    let right = walks_over(rt, &heap, bytes, &skip, elements);
     (right, heap.requests_left(), heap.refusals())
 }
 

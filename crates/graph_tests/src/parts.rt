@@ -89,7 +89,7 @@ fn answer<T: Threads + Sync, A: Allocator + Copy + Send + Sync>(
     threads: u32,
 ) -> Answer {
     let skip = Skip::none(alloc);
-    let dump = read(alloc, bytes).ok()?;
+    let dump = read(heap, bytes).ok()?;
     match Graph::build(&Team::new(rt, threads), heap, bytes, dump, &skip) {
         Ok(graph) => Some(Ok(graph.len())),
         Err(LinkRefusal::Fault(LinkFault { code, offset })) => Some(Err((code, offset))),

@@ -1,6 +1,5 @@
 -- From a dump to its graph.
-use Rattle.std.proofs.lemmas.Slice.Zip.{AllZip-map}
-use Rattle.std.proofs.Common.{List, [], ap, arith, count_by, filter, length, map, map-id, refl, slice_get, subst}
+use Rattle.std.proofs.Common.{List, [], ap, arith, count_by, filter, length, map, refl, slice_get, subst}
 use Rattle.std.proofs.Common.{sym, ℕ, ◌++◌, ◌+◌, ◌∙◌, ◌≡◌, ◌≤◌}
 use Rattle.std.specs.List.{AllZip}
 use Rattle.std.specs.Prelude.{filter_map}
@@ -82,14 +81,13 @@ are_names bytes dump is v strings loaded bytes_are size_is strings_are loaded_ar
 
 -- ---- the objects at the places of a dump
 
--- a copy of the places of a dump, which has forgotten its own since then
-abbrev pub copied_places : (bytes : List ℕ) (dump now : Places) (s : ℕ) (own copy : List ℕ) → IsDumpOf bytes dump
-    → now ≡ record dump { objects = [] }
-    → s ≡ now.id_size → own ≡ dump.objects → AllZip (λ x y. y ≡ x) own copy → ArePlacesOf bytes s copy dump
-copied_places bytes dump now s own copy is forgets size_is own_are each = record {
+-- the places that a dump has handed over
+abbrev pub handed_places : (bytes : List ℕ) (dump now : Places) (s : ℕ) (handed : List ℕ) → IsDumpOf bytes dump
+    → now ≡ record dump { objects = [] } → s ≡ now.id_size → handed ≡ dump.objects → ArePlacesOf bytes s handed dump
+handed_places bytes dump now s handed is rest size_is handed_are = record {
   is = is;
-  size_is = size_is ∙ ap (λ (d : Places). d.id_size) forgets;
-  places_are = AllZip-map (λ x. x) own copy each ∙ map-id own ∙ own_are;
+  size_is = size_is ∙ ap (λ (d : Places). d.id_size) rest;
+  places_are = handed_are;
 }
 
 module _ (bytes : List ℕ) (s : ℕ) (places : List ℕ) (dump : Places) (are : ArePlacesOf bytes s places dump) where

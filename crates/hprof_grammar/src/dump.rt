@@ -7,6 +7,7 @@ use crate::flaw::ReadRefusal;
 use crate::kinds::Kind;
 use std::alloc::Allocator;
 use std::marker::Model;
+use std::mem::replace;
 
 /// What is kept of a dump: the size of its identifiers, and the places of its parts, each list in the order of the
 /// file. The place of a record or a sub-record is where its tag stands, counted in bytes from the first of the dump.
@@ -69,14 +70,6 @@ impl<A: Allocator> Dump<A> {
         &self.objects
     }
 
-    /// Gives back the memory of the objects' places: the list of them is empty from then on.
-    pub fn forget_objects(&mut self)
-        ensures { self.new ≡ record self.old { objects = [] } }
-    {
-        self.objects.clear();
-        self.objects.shrink_to_fit();
-    }
-
     /// Notes where a sub-record of this kind stands.
     pub(crate) fn note(&mut self, kind: Kind, at: u32) -> Result<(), ReadRefusal>
         ensures ok { OnOk result (self.new ≡ noted self.old kind at) }
@@ -117,5 +110,14 @@ impl<A: Allocator + Copy> Dump<A> {
             roots: Vec::new(alloc),
             objects: Vec::new(alloc),
         }
+    }
+
+    /// Hands over the places of the class, instance and array dumps: the dump's own list of them is empty from then on.
+    /// `alloc` is for that list, which takes no memory.
+    pub fn take_objects(&mut self, alloc: A) -> Vec<u32, A>
+        ensures places { result.items ≡ self.old.objects }
+        ensures rest { self.new ≡ record self.old { objects = [] } }
+    {
+        replace(&mut self.objects, Vec::new(alloc))
     }
 }

@@ -55,19 +55,18 @@ fn read_objects<'a, A: Allocator + Copy>(
     })
 }
 
-/// The objects of a dump, which gives up their places: they are kept once.
-fn take_objects<'a, A: Allocator + Copy, B: Allocator>(
+/// The objects of a dump, which hands over their places: they are kept once.
+fn take_objects<'a, A: Allocator + Copy>(
     alloc: A,
     bytes: &'a [u8],
-    dump: &mut Dump<B>,
+    dump: &mut Dump<A>,
 ) -> Result<Objects<'a, A>, AllocError>
     requires { IsDumpOf bytes.now dump.old }
     ensures objects { IfOk result (λ o. IsReadFrom o bytes.now dump.old) }
     ensures fates { IfOk result (λ o. (is : IsDumpOf bytes.now dump.old) → HaveFatesOf o (heap_of is.records)) }
     ensures rest { OnOk result (dump.new ≡ record dump.old { objects = [] }) }
 {
-    let places = dump.objects().to_vec(alloc)?;
-    dump.forget_objects();
+    let places = dump.take_objects(alloc);
     read_objects(alloc, bytes, dump.id_size(), places)
 }
 
@@ -118,12 +117,12 @@ impl<'a, A: Allocator + Copy + Send + Sync> Graph<'a, A> {
     /// The graph of a dump that was read from these bytes, in which the fields on the list are not followed: a fault is
     /// the first one of its links, and else only memory can be missing. To skip no field, lend it `Skip::none`. The rules
     /// of the links are tested in parts by the threads of the team, where there are many objects.
-    pub fn build<T: Threads + Sync, B: Allocator, C: Allocator>(
+    pub fn build<T: Threads + Sync, B: Allocator>(
         team: &Team<'_, T>,
         alloc: A,
         bytes: &'a [u8],
-        dump: Dump<B>,
-        skip: &'a Skip<'_, C>,
+        dump: Dump<A>,
+        skip: &'a Skip<'_, B>,
     ) -> Result<Graph<'a, A>, LinkRefusal>
         requires { IsDumpOf bytes.now dump }
         ensures graph { IfOk result (λ g. IsGraphOfText bytes.now skip.now g) }

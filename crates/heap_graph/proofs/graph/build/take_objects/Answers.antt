@@ -1,35 +1,32 @@
--- The places that were copied are the dump's own, so what is read at them is of the dump, which gave up its list.
+-- The places that were handed over are the dump's own, so what is read at them is of the dump.
 use Rattle.std.proofs.lemmas.Result.{IfOk-weaker}
 use Rattle.hprof_grammar.specs.Places.{IsDumpOf, Places}
 use Rattle.heap_graph.specs.Heap.{heap_of}
 use Rattle.heap_graph.specs.working.PlacedObjects.{ArePlacesOf, IsReadFrom}
 use Rattle.heap_graph.specs.working.ClassFates.{HaveFatesOf}
-use Rattle.heap_graph.proofs.Building.{copied_places}
+use Rattle.heap_graph.proofs.Building.{handed_places}
 use Rattle.heap_graph.proofs.graph.build.take_objects.Goals as goal
 
 pub read_objects-requires : goal.read_objects-requires
 read_objects-requires g c = (
   c.args.dump.now,
-  copied_places _ _ _ _ _ _ c.requires c.forget_objects.ensures c.id_size.ensures c.objects.ensures
-      c.in_ok-places.ensures.ok,
+  handed_places _ _ _ _ _ c.requires c.take_objects-places.ensures.rest c.id_size.ensures c.take_objects-places.ensures.places,
 )
 
 pub returns-clause-objects : goal.returns-clause-objects
 returns-clause-objects g c = IfOk-weaker c.read_objects.result
-    (λ o. (dump : Places) → ArePlacesOf c.args.bytes.now c.id_size.result c.in_ok-places.places.items dump
+    (λ o. (dump : Places) → ArePlacesOf c.args.bytes.now c.id_size.result c.take_objects-places.result.items dump
     → IsReadFrom o c.args.bytes.now dump)
     (λ o. IsReadFrom o c.args.bytes.now c.args.dump.now)
     (λ o read. read c.args.dump.now
-    (copied_places _ _ _ _ _ _ c.requires c.forget_objects.ensures c.id_size.ensures c.objects.ensures
-    c.in_ok-places.ensures.ok))
+    (handed_places _ _ _ _ _ c.requires c.take_objects-places.ensures.rest c.id_size.ensures c.take_objects-places.ensures.places))
     c.read_objects.ensures.objects
 
 pub returns-clause-fates : goal.returns-clause-fates
 returns-clause-fates g c = IfOk-weaker c.read_objects.result
-    (λ o. (dump : Places) (are : ArePlacesOf c.args.bytes.now c.id_size.result c.in_ok-places.places.items dump)
+    (λ o. (dump : Places) (are : ArePlacesOf c.args.bytes.now c.id_size.result c.take_objects-places.result.items dump)
     → HaveFatesOf o (heap_of are.is.records))
     (λ o. (is : IsDumpOf c.args.bytes.now c.args.dump.now) → HaveFatesOf o (heap_of is.records))
     (λ o told is. told c.args.dump.now
-    (copied_places _ _ _ _ _ _ is c.forget_objects.ensures c.id_size.ensures c.objects.ensures
-    c.in_ok-places.ensures.ok))
+    (handed_places _ _ _ _ _ is c.take_objects-places.ensures.rest c.id_size.ensures c.take_objects-places.ensures.places))
     c.read_objects.ensures.fates
