@@ -1,6 +1,6 @@
 -- Changes of a pair that its worker's stacks do not see.
 use Rattle.std.proofs.Common.{◌≡◌, ℕ, ◌+◌, List, [], ◌∷◌, ◌++◌, Option, Some, None, MatchOption, refl, sym, ap, subst}
-use Rattle.std.proofs.Common.{◌∙◌, inr, arith}
+use Rattle.std.proofs.Common.{◌∙◌, inl, inr, arith}
 use Rattle.mark_core.specs.Lists.{times, only}
 use Rattle.mark_core.proofs.Sums.{sum_of-append}
 use Rattle.buffer_pool.specs.Calls.{HeldBuffer}
@@ -73,6 +73,16 @@ local_again f s t x y z g v put got a b =
       buffers = λ i. b.buffers i ∙ a.buffers i;
       sized = λ size of. b.sized size (a.sized size of);
     }
+
+-- what a try to take an object tells, in the buffer that is the first
+pub taken_first : (f s t g : Option HeldBuffer) (o : ℕ) → (h : HeldBuffer) × (k : HeldBuffer) × (f ≡ Some h)
+    × (g ≡ Some k) × (h.items ≡ k.items ++ o ∷ []) × (k ≡ record h { items = k.items })
+    → Takes (places f s t) (places g s t) (Some o)
+taken_first f s t g o told = (
+  take_first f s t told.0 told.1 o g told.2 told.3 told.4 told.5,
+  refl,
+  inl ((told.0, told.1.items, told.2, told.4, told.3 ∙ ap Some told.5), refl),
+)
 
 -- what a second try to take an object tells, in the buffer that was the second
 pub taken_second : (f s t x y g : Option HeldBuffer) → x ≡ s → y ≡ f → items_at f ≡ [] → (r : Option ℕ)

@@ -1,6 +1,6 @@
 -- From what was done with the three places to what a call of a pair tells.
 use Rattle.std.proofs.Common.{◌≡◌, ℕ, Bool, true, false, List, [], ◌∷◌, ◌++◌, Option, Some, None, IfSome, IfNone}
-use Rattle.std.proofs.Common.{Ok, Err, refl, sym, ap, subst, ◌∙◌, inl, inr, ⊎_elim, arith}
+use Rattle.std.proofs.Common.{IfErr, OnOk, Result, Ok, Err, refl, sym, ap, subst, ◌∙◌, inl, inr, ⊎_elim, arith}
 use Rattle.std.proofs.lemmas.Bool.{false≢true}
 use Rattle.mark_core.specs.declared.which.Which.TheVariants.{Full, Empty}
 use Rattle.mark_core.specs.Lists.{times}
@@ -254,3 +254,15 @@ pub clears_told : (p : PairState) (b : Book) (q : PairState) (c : Book) (stop : 
     → (stop ≡ TagSpent) × ((u : Clears p b q c) × EndAtLastTag u.trades.moves)
 clears_told p b q c TagSpent told = (refl, told)
 clears_told p b q c OutOfMemory none = absurd none
+
+-- an object went to the end of the list, or came back with the reason
+pub if_spilled : (r : Result Unit (ℕ × Stop)) (new told : PairState) (P : PairState → Type 0) → OnOk r (new ≡ told)
+    → P told → OnOk r (P new)
+if_spilled (Ok done) new told P is holds = subst P (sym is) holds
+if_spilled (Err e) new told P is holds = tt
+
+pub if_starved : (r : Result Unit (ℕ × Stop)) (new told : PairState) (why : ℕ × Stop)
+    (P : ℕ × Stop → PairState → Type 0) → IfErr r (λ e. (e ≡ why) × (new ≡ told)) → P why told → IfErr r (λ e. P e new)
+if_starved (Ok done) new told why P is holds = tt
+if_starved (Err e) new told why P is holds =
+    subst (λ (x : ℕ × Stop). P x new) (sym is.0) (subst (λ (w : PairState). P why w) (sym is.1) holds)

@@ -25,7 +25,7 @@ impl<A: Allocator> Buffers<A> {
     ghost use Rattle.std.specs.Prelude.{◌≡◌, ◌≢◌, None, Ok, true, [], ◌∷◌, IsOk};
     ghost use Rattle.mark_core.specs.Events.{IsBusy};
     ghost use Rattle.work_pair.specs.Deals.{HasMore};
-    ghost use Rattle.work_pair.specs.PairState.{HasRoom, IsBacked, pair_items};
+    ghost use Rattle.work_pair.specs.PairState.{HasRoom, HasRoomAt, IsBacked, pair_items};
     ghost use Rattle.work_pair.specs.working.Asks.{MayTrade};
     ghost use Rattle.work_pair.specs.working.Buffers.{places_of};
     ghost use Rattle.work_pair.specs.working.Steps.{BalanceAnswers, ClearAnswers, GetAnswers, PublishAnswers};
@@ -33,6 +33,8 @@ impl<A: Allocator> Buffers<A> {
 
     /// Puts an object into the first buffer, or into the second, which is the first then, or into an empty one. False
     /// where there is none: then nothing changes but the places of the two.
+    // The first nearly always has room, and a call would cost more than putting it there.
+    #[inline(always)]
     pub(crate) fn put<R: Wait>(
         &mut self,
         rt: &R,
@@ -49,6 +51,26 @@ impl<A: Allocator> Buffers<A> {
         if put_at(&mut self.first, object) {
             return Ok(true);
         }
+        self.put_elsewhere(rt, pool, worker, object)
+    }
+
+    /// [`put`](Self::put) where the first buffer has no room.
+    // A call, so that the many that find room neither save registers for it nor clear its locals.
+    #[inline(never)]
+    fn put_elsewhere<R: Wait>(
+        &mut self,
+        rt: &R,
+        pool: &Pool<A>,
+        worker: &mut Worker<A>,
+        object: u32,
+    ) -> Result<bool, Stop>
+        requires may { MayTrade worker.old pool.now (places_of self.old) (object ∷ []) }
+        requires full { HasRoomAt self.old.first → ⊥ }
+        ensures pool { worker.new.pool ≡ worker.old.pool }
+        ensures puts { PutAnswers object (places_of self.old) worker.old.book (places_of self.new)
+            worker.new.book result }
+        ensures room { HasRoomAt self.old.second → (worker.new ≡ worker.old) × (result ≡ Ok true) }
+    {
         swap(&mut self.first, &mut self.second);
         if put_at(&mut self.first, object) {
             return Ok(true);
@@ -72,7 +94,29 @@ impl<A: Allocator> Buffers<A> {
 
     /// Takes an object from these buffers, or from those of the full stack. A buffer that was pushed there without
     /// items is passed over.
+    // The first nearly always has one, and a call would cost more than taking it.
+    #[inline(always)]
     pub(crate) fn get<R: Wait>(
+        &mut self,
+        rt: &R,
+        pool: &Pool<A>,
+        worker: &mut Worker<A>,
+    ) -> Result<Option<u32>, Stop>
+        requires { MayTrade worker.old pool.now (places_of self.old) [] }
+        ensures pool { worker.new.pool ≡ worker.old.pool }
+        ensures gets { GetAnswers (places_of self.old) worker.old.book (places_of self.new) worker.new.book result }
+        ensures own { pair_items (places_of self.old) ≢ [] → (worker.new ≡ worker.old) × IsOk result }
+    {
+        if let Some(object) = take_at(&mut self.first) {
+            return Ok(Some(object));
+        }
+        self.get_elsewhere(rt, pool, worker)
+    }
+
+    /// [`get`](Self::get), whatever the first buffer has.
+    // A call, so that the many that find an object neither save registers for it nor clear its locals.
+    #[inline(never)]
+    fn get_elsewhere<R: Wait>(
         &mut self,
         rt: &R,
         pool: &Pool<A>,

@@ -113,6 +113,8 @@ impl<A: Allocator> Pair<A> {
     /// Puts an object into the pair: into one of its buffers where that has room, and then the stacks are left alone,
     /// or into an empty one, or where none was found on the spill list. The object comes back where a last tag was
     /// loaded, or the list could not grow.
+    // For each white object, which nearly always goes into the first buffer: so that much stands at the caller.
+    #[inline]
     pub fn put<R: Wait>(
         &mut self,
         rt: &R,
@@ -139,13 +141,7 @@ impl<A: Allocator> Pair<A> {
     {
         match self.buffers.put(rt, pool, worker, object) {
             Ok(true) => Ok(()),
-            Ok(false) => match self.spill.push(object) {
-                Ok(()) => Ok(()),
-                Err(_) => {
-                    self.starved = true;
-                    Err((object, Stop::OutOfMemory))
-                }
-            },
+            Ok(false) => self.spill_over(object),
             Err(stop) => {
                 self.stopped = true;
                 Err((object, stop))
@@ -153,8 +149,27 @@ impl<A: Allocator> Pair<A> {
         }
     }
 
+    /// Puts an object at the end of the spill list. It comes back where the list could not grow.
+    // A call: how a list grows is not to stand at each caller of `put`.
+    #[inline(never)]
+    fn spill_over(&mut self, object: u32) -> Result<(), (u32, Stop)>
+        ensures spilled { OnOk result (self.new ≡ record self.old { spill = self.old.spill ++ object ∷ [] }) }
+        ensures starved { IfErr result (λ e. (e ≡ (object, OutOfMemory)) × (self.new ≡ record self.old
+            { starved = true })) }
+    {
+        match self.spill.push(object) {
+            Ok(()) => Ok(()),
+            Err(_) => {
+                self.starved = true;
+                Err((object, Stop::OutOfMemory))
+            }
+        }
+    }
+
     /// Gets the last object of the spill list, or one from the buffers, or where the pair has none from a buffer of the
     /// full stack. `None` where none is left and that stack was seen empty.
+    // For each object, which nearly always comes from the first buffer: so that much stands at the caller.
+    #[inline]
     pub fn get<R: Wait>(
         &mut self,
         rt: &R,

@@ -1,17 +1,12 @@
 -- The object comes from the first place, or from the second once the two have changed places.
-use Rattle.std.proofs.Common.{Some, ap, inl, refl, ◌∙◌}
-use Rattle.work_pair.proofs.Locals.{take_first, taken_second}
+use Rattle.std.proofs.Common.{◌∙◌}
+use Rattle.work_pair.proofs.Locals.{taken_first, taken_second}
 use Rattle.work_pair.proofs.buffers.Buffers.take.Goals as goal
 
 pub returns-in-Some : goal.returns-in-Some
 returns-in-Some g c =
     let m = c.args.self.now in
-    let told = c.in-Some.ensures in (
-      take_first m.first m.second m.third told.0 told.1 c.in-Some.object c.take_at.new.place told.2 told.3 told.4
-          told.5,
-      refl,
-      inl ((told.0, told.1.items, told.2, told.4, told.3 ∙ ap Some told.5), refl),
-    )
+    taken_first m.first m.second m.third c.take_at.new.place c.in-Some.object c.in-Some.ensures
 
 pub returns : goal.returns
 returns g c =

@@ -1,8 +1,15 @@
 -- What the buffers tell of an object that was put; where there was no buffer for it, it went to the list.
-use Rattle.std.proofs.Common.{◌∙◌, [], ◌∷◌, ap, refl}
-use Rattle.work_pair.specs.PairState.{PairState}
-use Rattle.work_pair.proofs.Pairs.{as_before, may_trade, puts, spills, starves, still_open, stops}
+use Rattle.std.proofs.Common.{◌≡◌, ℕ, true, [], ◌∷◌, ◌++◌, ap, refl}
+use Rattle.mark_core.specs.declared.which.Which.TheVariants.{Empty}
+use Rattle.work_pair.specs.Deals.{Deals, DealsOut, Puts}
+use Rattle.work_pair.specs.Moves.{FoundNone}
+use Rattle.work_pair.specs.PairState.{PairState, AreAlike, IsOpen}
+use Rattle.work_pair.specs.declared.stop.Stop.{Stop}
+use Rattle.work_pair.specs.declared.stop.Stop.TheVariants.{OutOfMemory}
+use Rattle.work_pair.specs.working.Buffers.{places_of}
+use Rattle.work_pair.proofs.Pairs.{as_before, if_spilled, if_starved, may_trade, puts, spills, starves, still_open, stops}
 use Rattle.work_pair.proofs.Renewing.{out_alone}
+use Rattle.work_pair.proofs.Spilling.{listed}
 use Rattle.work_pair.proofs.Trading.{backed_less}
 use Rattle.work_pair.proofs.pair.Pair.put.Goals as goal
 
@@ -16,35 +23,52 @@ returns-in-Ok-true-clause-put g c =
     puts c.self.inside c.self.view_is c.args.worker.now.book c.put.new.self c.put.new.worker.book c.requires.going
     c.args.object c.requires.backed c.in-Ok-true.ensures.puts c.in-Ok-true.field-0-test
 
-pub returns-in-Ok-clause-put : goal.returns-in-Ok-clause-put
-returns-in-Ok-clause-put g c =
-    spills c.self.inside c.self.view_is c.args.worker.now.book c.put.new.self c.put.new.worker.book c.requires.going
-    c.args.object c.requires.backed c.in-Ok-false.ensures.puts c.in-Ok-false.field-0-test c.push.new.self.items
-    c.in-Ok.ensures.items
+pub returns-in-Ok-false-clause-put : goal.returns-in-Ok-false-clause-put
+returns-in-Ok-false-clause-put g c =
+    let i = c.self.inside in
+    let b = c.args.worker.now.book in
+    let after = c.put.new.worker.book in
+    let object = c.args.object in
+    let items = i.spill.items ++ object ∷ [] in
+    if_spilled c.spill_over.result c.spill_over.new.self (listed (places_of c.put.new.self) items i.stopped i.starved)
+    (λ (w : PairState). Puts c.args.self.now b object w after) c.spill_over.ensures.spilled
+    (spills i c.self.view_is b c.put.new.self after c.requires.going object c.requires.backed
+    c.in-Ok-false.ensures.puts c.in-Ok-false.field-0-test items refl)
 
-pub returns-in-Err-push-clause-back : goal.returns-in-Err-push-clause-back
-returns-in-Err-push-clause-back g c =
-    let same = c.in-Err-push.ensures.items in
-    let told = starves c.self.inside c.self.view_is c.args.worker.now.book c.put.new.self c.put.new.worker.book
-    c.requires.going c.args.object c.requires.backed c.in-Ok-false.ensures.puts c.in-Ok-false.field-0-test
-    c.push.new.self.items same in
-    (refl, same ∙ ap (λ (w : PairState). w.spill) c.self.view_is, (told.0, out_alone told.0.moves told.1))
+pub returns-in-Ok-false-clause-back : goal.returns-in-Ok-false-clause-back
+returns-in-Ok-false-clause-back g c =
+    let i = c.self.inside in
+    let b = c.args.worker.now.book in
+    let after = c.put.new.worker.book in
+    let told = starves i c.self.view_is b c.put.new.self after c.requires.going c.args.object c.requires.backed
+    c.in-Ok-false.ensures.puts c.in-Ok-false.field-0-test i.spill.items refl in
+    if_starved c.spill_over.result c.spill_over.new.self
+    (listed (places_of c.put.new.self) i.spill.items i.stopped true) (c.args.object, OutOfMemory)
+    (λ (e : ℕ × Stop) (w : PairState). (e.0 ≡ c.args.object) × (w.spill ≡ c.args.self.now.spill)
+    × DealsOut c.args.self.now b w after) c.spill_over.ensures.starved
+    (refl, ap (λ (w : PairState). w.spill) c.self.view_is, (told.0, out_alone told.0.moves told.1))
 
-pub returns-in-Err-push-clause-no_memory : goal.returns-in-Err-push-clause-no_memory
-returns-in-Err-push-clause-no_memory g c starved =
+pub returns-in-Ok-false-clause-no_memory : goal.returns-in-Ok-false-clause-no_memory
+returns-in-Ok-false-clause-no_memory g c =
+    let i = c.self.inside in
     let b = c.args.worker.now.book in
     let q = c.put.new.self in
     let after = c.put.new.worker.book in
-    let items = c.push.new.self.items in
-    let same = c.in-Err-push.ensures.items in (
-      still_open c.self.inside c.self.view_is b q after c.requires.going c.args.object c.requires.backed
+    let items = i.spill.items in
+    if_starved c.spill_over.result c.spill_over.new.self (listed (places_of q) items i.stopped true)
+    (c.args.object, OutOfMemory)
+    (λ (e : ℕ × Stop) (w : PairState). e.1 ≡ OutOfMemory → IsOpen w × AreAlike c.args.self.now w × (w.starved ≡ true)
+    × ((deals : Deals c.args.self.now b [] [] w after) × (deals.moves ≡ FoundNone Empty ∷ [])))
+    c.spill_over.ensures.starved
+    (λ starved. (
+      still_open i c.self.view_is b q after c.requires.going c.args.object c.requires.backed
           c.in-Ok-false.ensures.puts c.in-Ok-false.field-0-test items,
-      as_before c.self.inside c.self.view_is b q after c.requires.going c.args.object c.requires.backed
-          c.in-Ok-false.ensures.puts c.in-Ok-false.field-0-test items same,
+      as_before i c.self.view_is b q after c.requires.going c.args.object c.requires.backed
+          c.in-Ok-false.ensures.puts c.in-Ok-false.field-0-test items refl,
       refl,
-      starves c.self.inside c.self.view_is b q after c.requires.going c.args.object c.requires.backed
-          c.in-Ok-false.ensures.puts c.in-Ok-false.field-0-test items same,
-    )
+      starves i c.self.view_is b q after c.requires.going c.args.object c.requires.backed
+          c.in-Ok-false.ensures.puts c.in-Ok-false.field-0-test items refl,
+    ))
 
 pub returns-in-Err-clause-back : goal.returns-in-Err-clause-back
 returns-in-Err-clause-back g c =

@@ -3,7 +3,7 @@ use Rattle.std.proofs.Common.{◌≡◌, ◌≢◌, [], None}
 use Rattle.work_pair.specs.PairState.{pair_items}
 use Rattle.work_pair.specs.working.Buffers.{places_of}
 use Rattle.work_pair.proofs.Getting.{RefillsBy}
-use Rattle.work_pair.proofs.buffers.Buffers.get.Given as goal
+use Rattle.work_pair.proofs.buffers.Buffers.get_elsewhere.Given as goal
 
 abbrev pub invariant-loop : goal.invariant-loop
 invariant-loop g l =
