@@ -7,7 +7,8 @@ use Rattle.work_pair.specs.PairState.{PairState, AreAlike, IsOpen}
 use Rattle.work_pair.specs.declared.stop.Stop.{Stop}
 use Rattle.work_pair.specs.declared.stop.Stop.TheVariants.{OutOfMemory}
 use Rattle.work_pair.specs.working.Buffers.{places_of}
-use Rattle.work_pair.proofs.Pairs.{as_before, if_spilled, if_starved, may_trade, puts, spills, starves, still_open, stops}
+use Rattle.work_pair.proofs.Pairs.{as_before, if_spilled, if_starved, may_trade, puts, spills, starves, still_open}
+use Rattle.work_pair.proofs.Pairs.{stops}
 use Rattle.work_pair.proofs.Renewing.{out_alone}
 use Rattle.work_pair.proofs.Spilling.{listed}
 use Rattle.work_pair.proofs.Trading.{backed_less}
