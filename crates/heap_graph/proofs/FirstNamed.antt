@@ -1,35 +1,41 @@
--- The first identifier that an instance or an object array holds is that of its class, whose object the plan has.
-use Rattle.std.proofs.Common.{Bool, List, None, Option, Some, ap, arith, length, map, sym, ℕ}
-use Rattle.std.proofs.Common.{◌<◌, ◌∙◌, ◌∷◌, ◌≡◌}
-use Rattle.std.specs.Prelude.{IfSome, slice_index, ◌==◌}
+-- The object that a class's plan has is the one that the identifier of the class names.
+use Rattle.std.proofs.Common.{Bool, List, None, Option, Some, ap, arith, cond, false, length, map, refl, subst, sym}
+use Rattle.std.proofs.Common.{true, ℕ, ◌++◌, ◌<◌, ◌∙◌, ◌∷◌, ◌≡◌}
+use Rattle.std.specs.Prelude.{IfSome, is_some, position, slice_get, slice_index, ◌==◌}
 use Rattle.std.specs.List.{position_or_len}
 use Rattle.std.proofs.lemmas.Bool.{eqb-true}
 use Rattle.std.proofs.lemmas.List.{length-map}
 use Rattle.std.proofs.lemmas.Option.{get_or_from_slice_get}
-use Rattle.hprof_grammar.specs.Record.{Record}
-use Rattle.hprof_grammar.specs.SubRecord.{Class, Member, SubRecord}
-use Rattle.hprof_grammar.specs.SubRecord.SubRecord.{class_dump, instance_dump, object_array_dump, primitive_array_dump}
-use Rattle.hprof_grammar.specs.SubRecord.SubRecord.{root}
+use Rattle.hprof_grammar.specs.SubRecord.{Class, Instance, ObjectArray, SubRecord}
+use Rattle.hprof_grammar.specs.SubRecord.SubRecord.{instance_dump, object_array_dump}
 use Rattle.heap_graph.specs.declared.plan.ClassPlan.{ClassPlan}
 use Rattle.heap_graph.specs.declared.row.RowKey.{RowKey}
 use Rattle.heap_graph.specs.declared.row.RowKey.TheVariants as keys
-use Rattle.heap_graph.specs.Fields.{declared_fields, field_ids}
-use Rattle.heap_graph.specs.Heap.{class_dumps, class_number, heap_of}
-use Rattle.heap_graph.specs.ObjectGraph.{IsGraphOf, ObjectGraph, class_count, named_in}
-use Rattle.heap_graph.specs.References.{AreIdsIn}
-use Rattle.heap_graph.specs.Rows.{row_of}
-use Rattle.heap_graph.specs.Skips.{SkipEntry}
-use Rattle.heap_graph.specs.Whole.{IsRowIn}
-use Rattle.heap_graph.specs.working.ClassPlans.{AreClassObjects, HasPlan, IsPlan, object_of_row, plan_at}
-use Rattle.heap_graph.specs.working.Resolving.{FirstNames, target_in}
-use Rattle.heap_graph.proofs.ClassTableLaws.{there_is}
+use Rattle.heap_graph.specs.Heap.{class_dumps, class_named, class_number, objects}
+use Rattle.heap_graph.specs.Linked.{IsLinked}
+use Rattle.heap_graph.specs.working.ClassPlans.{AreClassObjects, HasPlan, object_of_row, plan_at}
+use Rattle.heap_graph.specs.working.HeldIds.{with_class}
+use Rattle.heap_graph.specs.working.Resolving.{IsNamed, known_ids, target_in}
+use Rattle.heap_graph.proofs.ClassTableLaws.{found, there_is}
 use Rattle.heap_graph.proofs.EntryLaws.{same_number}
 use Rattle.heap_graph.proofs.Firsts.{IsHit, hit}
+use Rattle.heap_graph.proofs.Linking.{no_unknown, no_unknown_array}
+use Rattle.heap_graph.proofs.Wholeness.{known_if}
 
-leads_if : (all ids : List ℕ) (id : ℕ) (rest : List ℕ) (object : Option ℕ) → object ≡ target_in all id → ids ≡ id ∷ rest
-    → IfSome object (FirstNames all ids)
-leads_if all ids id rest None named is = tt
-leads_if all ids id rest (Some o) named is = (id, rest, is, sym named)
+-- the object bears the identifier, and is the first that does
+abbrev pub IsObjectOf : List ℕ → ℕ → ℕ → Type 0
+IsObjectOf all id o = (slice_index all o ≡ id) × IsNamed all o
+
+bears_if : (all : List ℕ) (id o : ℕ) (b : Bool) → cond b None (position (λ x. x == id) all) ≡ Some o
+    → slice_index all o ≡ id
+bears_if all id o true e = absurd (let wrong : None ≡ Some o = e in cc)
+bears_if all id o false e = (found all id o e).is
+
+object_if : (all : List ℕ) (id : ℕ) (object : Option ℕ) → object ≡ target_in all id → IfSome object (IsObjectOf all id)
+object_if all id None named = tt
+object_if all id (Some o) named =
+    let bears : slice_index all o ≡ id = bears_if all id o (id == 0) (sym named) in
+    (bears, ap (λ (x : ℕ). target_in all x) bears ∙ sym named)
 
 -- the identifier of the class of a number
 id_of_number : (ids : List ℕ) (id : ℕ) → position_or_len (λ x. x == id) ids < length ids
@@ -38,54 +44,57 @@ id_of_number ids id below =
     let it : IsHit (λ x. x == id) ids (position_or_len (λ x. x == id) ids) = hit (λ x. x == id) ids below in
     get_or_from_slice_get ids (position_or_len (λ x. x == id) ids) it.what 0 it.here ∙ eqb-true it.what id it.passes
 
-class_leads : (heap : List SubRecord) (all ids held : List ℕ) (id : ℕ) (rest : List ℕ) (plans : List ClassPlan)
-    → ids ≡ map (λ (c : Class). c.object) (class_dumps heap) → length plans ≡ length ids
-    → AreClassObjects all ids plans → class_number heap id < length plans → held ≡ id ∷ rest
-    → IfSome (plan_at plans (class_number heap id)).object (FirstNames all held)
-class_leads heap all ids held id rest plans are count objects below is =
-    let at : position_or_len (λ x. x == id) ids ≡ class_number heap id = same_number heap ids id are in
-    let it = there_is plans (class_number heap id) below in
-    let read : plan_at plans (class_number heap id) ≡ it.0 =
-    get_or_from_slice_get plans (class_number heap id) it.0
-    (record { start = 0; end = 0; size = 0; object = None }) it.1 in
-    let named : slice_index ids (class_number heap id) ≡ id =
-    ap (λ (n : ℕ). slice_index ids n) (sym at) ∙ id_of_number ids id (omega (arith, at, below, count)) in
-    leads_if all held id rest (plan_at plans (class_number heap id)).object
-    (ap (λ (p : ClassPlan). p.object) read ∙ objects (class_number heap id) it.0 it.1
-    ∙ ap (λ (x : ℕ). target_in all x) named) is
+module _ (heap : List SubRecord) (ids : List ℕ) (plans : List ClassPlan)
+    (are : ids ≡ map (λ (c : Class). c.object) (class_dumps heap)) (count : length plans ≡ length ids) where
+  class_object : (all : List ℕ) (id : ℕ) → AreClassObjects all ids plans → class_number heap id < length plans
+      → IfSome (plan_at plans (class_number heap id)).object (IsObjectOf all id)
+  class_object all id objects below =
+      let at : position_or_len (λ x. x == id) ids ≡ class_number heap id = same_number heap ids id are in
+      let it = there_is plans (class_number heap id) below in
+      let read : plan_at plans (class_number heap id) ≡ it.0 =
+      get_or_from_slice_get plans (class_number heap id) it.0
+      (record { start = 0; end = 0; size = 0; object = None }) it.1 in
+      let named : slice_index ids (class_number heap id) ≡ id =
+      ap (λ (n : ℕ). slice_index ids n) (sym at) ∙ id_of_number ids id (omega (arith, at, below, count)) in
+      object_if all id (plan_at plans (class_number heap id)).object
+      (ap (λ (p : ClassPlan). p.object) read ∙ objects (class_number heap id) it.0 it.1
+      ∙ ap (λ (x : ℕ). target_in all x) named)
 
-pub first_leads : (skips : Class → Member → Bool) (s : ℕ) (heap : List SubRecord) (all ids held : List ℕ)
-    (plans : List ClassPlan) (o : SubRecord)
-    → ids ≡ map (λ (c : Class). c.object) (class_dumps heap) → length plans ≡ length ids
-    → AreClassObjects all ids plans → AreIdsIn skips s heap o held → HasPlan plans (row_of heap o)
-    → IfSome (object_of_row plans (row_of heap o)) (FirstNames all held)
-first_leads skips s heap all ids held plans (root r) are count objects is has = tt
-first_leads skips s heap all ids held plans (class_dump c) are count objects is has = tt
-first_leads skips s heap all ids held plans (instance_dump i) are count objects is has =
-    class_leads heap all ids held i.class (field_ids skips s (declared_fields is.0) i.values) plans are count objects
-    has is.2
-first_leads skips s heap all ids held plans (object_array_dump a) are count objects is has =
-    class_leads heap all ids held a.class a.elements plans are count objects has is
-first_leads skips s heap all ids held plans (primitive_array_dump a) are count objects is has = tt
+  -- the object that is known of the class with that identifier, which is planned
+  pub known_class : (all : List ℕ) (id : ℕ) (row : RowKey) (known : Option ℕ) → AreClassObjects all ids plans
+      → HasPlan plans (keys.Class (class_number heap id)) → row ≡ keys.Class (class_number heap id)
+      → known ≡ object_of_row plans row → IfSome known (IsObjectOf all id)
+  known_class all id row known objects has is same =
+      subst (λ (o : Option ℕ). IfSome o (IsObjectOf all id))
+      (sym (same ∙ ap (λ (r : RowKey). object_of_row plans r) is)) (class_object all id objects has)
 
--- the class of a row that a graph has is planned
-pub row_planned : (g : ObjectGraph) (plans : List ClassPlan) (row : RowKey) → class_count g ≡ length plans
-    → IsRowIn g row → HasPlan plans row
-row_planned g plans (keys.Class n) count is = omega (arith, count, is)
-row_planned g plans (keys.Primitive t) count is = tt
-row_planned g plans keys.ClassObject count is = tt
+  planned : (id : ℕ) → (class_named heap id ≡ None → ⊥) → HasPlan plans (keys.Class (class_number heap id))
+  planned id known =
+      omega (
+        arith,
+        known_if heap id (class_named heap id) refl known,
+        count,
+        ap length are,
+        length-map (class_dumps heap) (λ (c : Class). c.object),
+      )
 
--- and as many classes are planned as it has
-pub classes_planned : (skips : Class → Member → Bool) (s : ℕ) (records : List Record) (skip : List SkipEntry)
-    (g : ObjectGraph) (all ids : List ℕ) (plans : List ClassPlan) (places : List ℕ) → IsGraphOf s records skip g → ids
-    ≡ map (λ (c : Class). c.object) (class_dumps (heap_of records))
-    → IsPlan skips s (heap_of records) all ids plans places → class_count g ≡ length plans
-classes_planned skips s records skip g all ids plans places graph are plan =
-    omega (
-      arith,
-      ap length graph.classes_are,
-      length-map (class_dumps (heap_of records)) (named_in records),
-      ap length are,
-      length-map (class_dumps (heap_of records)) (λ (c : Class). c.object),
-      plan.one_each,
-    )
+  -- the classes of instances and arrays are
+  pub instance_planned : (s n : ℕ) (i : Instance) → IsLinked s heap
+      → slice_get (objects heap) n ≡ Some (instance_dump i) → HasPlan plans (keys.Class (class_number heap i.class))
+  instance_planned s n i linked is = planned i.class (no_unknown s heap n i i.class linked is refl)
+
+  pub array_planned : (s n : ℕ) (a : ObjectArray) → IsLinked s heap
+      → slice_get (objects heap) n ≡ Some (object_array_dump a) → HasPlan plans (keys.Class (class_number heap a.class))
+  array_planned s n a linked is = planned a.class (no_unknown_array s heap n a a.class linked is refl)
+
+-- what is known is named by its identifier, and that is the one which those behind it lack
+pub known_named : (all : List ℕ) (id : ℕ) (known : Option ℕ) → IfSome known (IsObjectOf all id)
+    → IfSome known (IsNamed all)
+known_named all id None is = tt
+known_named all id (Some o) is = is.1
+
+pub known_first : (all ids : List ℕ) (id : ℕ) (known : Option ℕ) (behind : Bool) → IfSome known (IsObjectOf all id)
+    → behind ≡ is_some known → with_class behind id ids ≡ known_ids all known ++ ids
+known_first all ids id None behind is same = ap (λ (b : Bool). with_class b id ids) same
+known_first all ids id (Some o) behind is same =
+    ap (λ (b : Bool). with_class b id ids) same ∙ ap (λ (x : ℕ). x ∷ ids) (sym is.0)

@@ -15,7 +15,7 @@ use Rattle.heap_graph.specs.declared.objects.Objects.{Objects}
 use Rattle.heap_graph.specs.Fields.{declared_fields, field_ids}
 use Rattle.heap_graph.specs.References.{class_ids, constant_ids, static_ids}
 use Rattle.heap_graph.specs.working.ClassTable.{ids_of}
-use Rattle.heap_graph.specs.working.HeldIds.{AreIdsOf, IsFirstOfInstance, IsLayoutFrom}
+use Rattle.heap_graph.specs.working.HeldIds.{AreIdsOf, IsFirstOfInstance, IsLayoutFrom, with_class}
 use Rattle.heap_graph.specs.working.Values.{AreClassValues, AreIdValues, IsIdValue, values_ids}
 use Rattle.heap_graph.proofs.FieldLaws.{size_of_id_type}
 use Rattle.heap_graph.proofs.InstanceLaws.{few_fields}
@@ -164,6 +164,19 @@ array_holds skips s heap a class elements few ec ee = record {
   are = ap (λ (x : ℕ). x ∷ elements) ec ∙ ap (λ (xs : List ℕ). a.class ∷ xs) ee;
   few = omega (arith, few, ap length ee);
 }
+
+-- with that of the class in front, where they begin behind it or do not
+pub held_behind : (skips : Class → Member → Bool) (s : ℕ) (heap : List SubRecord) (o : SubRecord) (class : ℕ)
+    (ids : List ℕ) (behind : Bool) → behind ≡ true → AreIdsOf skips s heap o (class ∷ ids)
+    → AreIdsOf skips s heap o (with_class behind class ids)
+held_behind skips s heap o class ids behind is are =
+    subst (λ (b : Bool). AreIdsOf skips s heap o (with_class b class ids)) (sym is) are
+
+pub held_whole : (skips : Class → Member → Bool) (s : ℕ) (heap : List SubRecord) (o : SubRecord) (class : ℕ)
+    (ids : List ℕ) (behind : Bool) → behind ≡ false → AreIdsOf skips s heap o ids
+    → AreIdsOf skips s heap o (with_class behind class ids)
+held_whole skips s heap o class ids behind is are =
+    subst (λ (b : Bool). AreIdsOf skips s heap o (with_class b class ids)) (sym is) are
 
 pub nothing_held : (skips : Class → Member → Bool) (s : ℕ) (heap : List SubRecord) (a : PrimitiveArray)
     → AreIdsOf skips s heap (primitive_array_dump a) []

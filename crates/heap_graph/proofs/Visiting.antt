@@ -1,13 +1,13 @@
 -- A visit of an object: what it misses in all stays the same.
 use Rattle.std.proofs.Common.{Bool, List, None, Option, Some, [], ap, arith, cond, count_by, false, length, map, refl}
 use Rattle.std.proofs.Common.{subst, sym, true, ℕ, ◌+◌, ◌^◌, ◌∙◌, ◌∷◌, ◌≡◌, ◌≤◌}
-use Rattle.std.specs.Prelude.{IfSome, is_none, position, ◌==◌}
+use Rattle.std.specs.Prelude.{IfSome, is_none, position, slice_index, ◌++◌, ◌==◌}
 use Rattle.std.specs.Iterator.{YieldsFirst}
 use Rattle.std.proofs.lemmas.List.Sums.{sum_by-cons}
 use Rattle.heap_graph.specs.declared.row.RowKey.{RowKey}
 use Rattle.heap_graph.specs.Walks.{Advances, Step, Visited, is_unresolved_in, is_unresolved_step, references_left}
 use Rattle.heap_graph.specs.Walks.{step_in, target_in, unresolved_left}
-use Rattle.heap_graph.specs.working.Resolving.{FirstNames}
+use Rattle.heap_graph.specs.working.Resolving.{IsNamed, known_ids}
 use Rattle.heap_graph.proofs.Walking.{HasPassed, goes_to, goes_to_end, passed_none, passed_one, yields}
 
 -- ---- what a step misses
@@ -65,6 +65,12 @@ pub start : (row : RowKey) (bytes unresolved : ℕ) (all ids : List ℕ) → unr
 start row bytes unresolved all ids few = record
     { passed = passed_none (map (step_in all) ids); row_is = refl; bytes_is = refl; unresolved_is = refl; few = few }
 
+pub begun : (old : Visited) (row : RowKey) (bytes unresolved : ℕ) (all ids : List ℕ)
+    → visited row bytes unresolved all ids ≡ old → unresolved + length ids ≤ 2 ^ 33
+    → IsOnTheWay old row bytes unresolved all ids
+begun old row bytes unresolved all ids is few =
+    subst (λ (v : Visited). IsOnTheWay v row bytes unresolved all ids) is (start row bytes unresolved all ids few)
+
 -- one identifier is passed, and it is missed or not
 module _ (old : Visited) (row : RowKey) (bytes unresolved : ℕ) (all : List ℕ) (id : ℕ) (before after : List ℕ)
     (way : IsOnTheWay old row bytes unresolved all before) (next : before ≡ id ∷ after) where
@@ -120,20 +126,26 @@ pub gives : (old : Visited) (object : Option ℕ) (new : Visited) → Advances o
     → YieldsFirst references_left old object new × Advances old object new
 gives old object new goes = (yields old.left object new.left goes.goes, goes)
 
--- ---- the first step, where it is known what it names
+-- ---- the class, where it is known
 
-leads_to : (all ids : List ℕ) (first : Option ℕ) (o : ℕ) → IfSome first (FirstNames all ids) → first ≡ Some o
-    → FirstNames all ids o
-leads_to all ids first o h e = subst (λ (f : Option ℕ). IfSome f (FirstNames all ids)) e h
+class_if : (all : List ℕ) (class : Option ℕ) (o : ℕ) → class ≡ Some o → IfSome class (IsNamed all)
+    → Some o ≡ target_in all (slice_index all o)
+class_if all class o e named = sym (subst (λ (c : Option ℕ). IfSome c (IsNamed all)) e named)
 
-pub leads_nowhere : (all ids : List ℕ) (first : Option ℕ) → first ≡ None → IfSome first (FirstNames all ids)
-leads_nowhere all ids first e = subst (λ (f : Option ℕ). IfSome f (FirstNames all ids)) (sym e) tt
+-- it is the first object that a visit gives
+pub goes_class : (old : Visited) (row : RowKey) (bytes unresolved : ℕ) (all ids : List ℕ) (class : Option ℕ) (o : ℕ)
+    → class ≡ Some o → IfSome class (IsNamed all)
+    → IsOnTheWay old row bytes unresolved all (known_ids all class ++ ids)
+    → Advances old (Some o) (visited row bytes unresolved all ids)
+goes_class old row bytes unresolved all ids class o e named way =
+    goes_named old row bytes unresolved all (slice_index all o) (known_ids all class ++ ids) ids way
+    (ap (λ (c : Option ℕ). known_ids all c ++ ids) e) o (class_if all class o e named)
 
--- the identifier that was passed names the object
-pub known : (all : List ℕ) (id o : ℕ) (before after : List ℕ) (first : Option ℕ) → IfSome first (FirstNames all before)
-    → first ≡ Some o → before ≡ id ∷ after → Some o ≡ target_in all id
-known all id o before after first leads e is =
-    let it : FirstNames all before o = leads_to all before first o leads e in
-    let both : it.0 ∷ it.1 ≡ id ∷ after = sym it.2 ∙ is in
-    let same : it.0 ≡ id = cc in
-    sym it.3 ∙ ap (λ (x : ℕ). target_in all x) same
+-- behind it the identifiers are those that are read
+pub behind : (all ids : List ℕ) (class : Option ℕ) → class ≡ None → known_ids all class ++ ids ≡ ids
+behind all ids class none = ap (λ (c : Option ℕ). known_ids all c ++ ids) none
+
+pub next_behind : (all ids rest : List ℕ) (class : Option ℕ) (id : ℕ) → class ≡ None → ids ≡ id ∷ rest
+    → known_ids all class ++ ids ≡ id ∷ known_ids all class ++ rest
+next_behind all ids rest class id none is =
+    behind all ids class none ∙ is ∙ ap (λ (xs : List ℕ). id ∷ xs) (sym (behind all rest class none))

@@ -120,7 +120,7 @@ class_number_below heap id c named =
     (numbered id (objects heap) it.number c it.is it.id_is)
 
 -- the class of an object that has one is there
-known_if : (heap : List SubRecord) (id : ℕ) (k : Option Class) → class_named heap id ≡ k
+pub known_if : (heap : List SubRecord) (id : ℕ) (k : Option Class) → class_named heap id ≡ k
     → (class_named heap id ≡ None → ⊥) → class_number heap id < length (class_dumps heap)
 known_if heap id None e known = absurd (known e)
 known_if heap id (Some c) e known = class_number_below heap id c e

@@ -92,9 +92,8 @@ impl<'a, A: Allocator> Graph<'a, A> {
         ensures within { All (λ o. o < object_count self.now) (references_of self.now object) }
         ensures unresolved { result.unresolved + unresolved_left result.left ≡ unresolved_at self.now object }
     {
-        let (row, bytes, ids) = self.objects.scan(&self.plan, object as usize);
-        let first = self.plan.object_of_row(row);
-        Visit::new(&self.objects.index, ids, row, bytes, first)
+        let (row, bytes, class, ids) = self.objects.scan(&self.plan, object as usize);
+        Visit::new(&self.objects.index, class, ids, row, bytes)
     }
 
     /// The row of an object in the histogram.

@@ -75,8 +75,29 @@ impl<'g, A: Allocator> Iterator for HeldIds<'g, A> {
 
     ghost remaining = { item_count (λ h. h) };
 
+    // Inlined into the loop of a worker, where nearly all objects have fields, elements or nothing. More kinds here
+    // would be told apart by one indirect jump, whose target is guessed wrongly where kinds take turns.
     #[inline(always)]
     fn next(&mut self) -> Option<u64> {
+        match &mut self.rest {
+            Rest::Nothing => return None,
+            Rest::Fields(ids) => return ids.next(),
+            Rest::Elements(ids) => return ids.next(),
+            _ => {}
+        }
+        self.next_of_any()
+    }
+}
+
+impl<'g, A: Allocator> HeldIds<'g, A> {
+    ghost use Rattle.std.specs.Iterator.{YieldsFirst};
+
+    /// The next one, whatever is left.
+    // A call, so that the worker's loop has no code for the few that it is made for.
+    #[inline(never)]
+    fn next_of_any(&mut self) -> Option<u64>
+        ensures { YieldsFirst (λ h. h) self.old result self.new }
+    {
         match &mut self.rest {
             Rest::Nothing => return None,
             Rest::OfClass(ids) => return ids.next(),
@@ -107,7 +128,7 @@ impl<'d, A: Allocator> Objects<'d, A> {
     ghost use Rattle.heap_graph.specs.working.ClassPlans.{IsPlanOf};
     ghost use Rattle.heap_graph.specs.working.ClassTable.{ids_of};
     ghost use Rattle.heap_graph.specs.working.HeldIds.{AreIdsOf, AreIdsOfNumber, AreLinkedOf, IsObjectAt};
-    ghost use Rattle.heap_graph.specs.working.HeldIds.{IsFirstOfInstance};
+    ghost use Rattle.heap_graph.specs.working.HeldIds.{IsFirstOfInstance, with_class};
     ghost use Rattle.heap_graph.specs.working.ClassFates.{HaveFatesOf};
 
     /// The identifiers that a class dump holds. The two reserved ones are not followed.
@@ -146,13 +167,15 @@ impl<'d, A: Allocator> Objects<'d, A> {
         }
     }
 
-    /// The identifiers that an instance holds: its class, and then its fields, of a layout that begins at that class.
+    /// The identifiers that an instance holds: its class, unless they are to begin behind it, and then its fields, of a
+    /// layout that begins at that class.
     #[inline(always)]
     pub(crate) fn ids_of_instance<'g>(
         &'g self,
         plan: &'g Plan<A>,
         at: u32,
         first: Option<u32>,
+        behind: bool,
     ) -> HeldIds<'g, A>
         requires { (skips : Class → Member → Bool) × (heap : List SubRecord) × (n : ℕ) × (i : Instance)
             × AreLinkedOf self.now heap × HaveFatesOf self.now heap × IsPlanOf skips self.now heap plan.now
@@ -162,26 +185,36 @@ impl<'d, A: Allocator> Objects<'d, A> {
             → AreLinkedOf self.now heap → HaveFatesOf self.now heap → IsPlanOf skips self.now heap plan.now
             → IsObjectAt self.now.view heap n at (instance_dump i)
             → IsFirstOfInstance self.now.view.id_size heap (ids_of self.now.classes.table.entries) i first
-            → AreIdsOf skips self.now.view.id_size heap (instance_dump i) result }
+            → AreIdsOf skips self.now.view.id_size heap (instance_dump i) (with_class behind i.class result) }
     {
-        let values = self.view.instance_values(at);
+        let fields = FieldIds::new(self, plan, first, self.view.instance_values(at));
+        if behind {
+            return HeldIds {
+                rest: Rest::Fields(fields),
+            };
+        }
         HeldIds {
-            rest: Rest::InstanceWithClass(
-                self.view.instance_class(at),
-                FieldIds::new(self, plan, first, values),
-            ),
+            rest: Rest::InstanceWithClass(self.view.instance_class(at), fields),
         }
     }
 
-    /// The identifiers that an object array holds: its class, and then its elements.
-    fn ids_of_array(&self, at: u32) -> HeldIds<'_, A>
+    /// The identifiers that an object array holds: its class, unless they are to begin behind it, and then its
+    /// elements.
+    #[inline(always)]
+    pub(crate) fn ids_of_array(&self, at: u32, behind: bool) -> HeldIds<'_, A>
         requires { (a : ObjectArray) × Stands self.now.view at (object_array_dump a) }
         ensures { (skips : Class → Member → Bool) (heap : List SubRecord) (a : ObjectArray)
             → Stands self.now.view at (object_array_dump a)
-            → AreIdsOf skips self.now.view.id_size heap (object_array_dump a) result }
+            → AreIdsOf skips self.now.view.id_size heap (object_array_dump a) (with_class behind a.class result) }
     {
+        let elements = self.view.array_elements(at);
+        if behind {
+            return HeldIds {
+                rest: Rest::Elements(elements),
+            };
+        }
         HeldIds {
-            rest: Rest::ArrayWithClass(self.view.array_class(at), self.view.array_elements(at)),
+            rest: Rest::ArrayWithClass(self.view.array_class(at), elements),
         }
     }
 
@@ -198,9 +231,9 @@ impl<'d, A: Allocator> Objects<'d, A> {
         match self.view.kind(place) {
             ObjectKind::Class => return self.ids_of_class(place),
             ObjectKind::Instance => {
-                return self.ids_of_instance(plan, place, self.class_of(place).1);
+                return self.ids_of_instance(plan, place, self.class_of(place).1, false);
             }
-            ObjectKind::ObjectArray => return self.ids_of_array(place),
+            ObjectKind::ObjectArray => return self.ids_of_array(place, false),
             ObjectKind::PrimitiveArray => {
                 return HeldIds {
                     rest: Rest::Nothing,

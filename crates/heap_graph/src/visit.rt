@@ -8,23 +8,24 @@ use std::alloc::Allocator;
 use std::marker::Model;
 
 /// An iterator over the numbers of the objects that an object refers to. It has the object's row and bytes, and counts
-/// the identifiers other than 0 that name no object. It reads the identifiers from the bytes, and looks each of them
-/// up but the first of an instance or an object array, which names its class.
+/// the identifiers other than 0 that name no object. An instance or an object array begins with its class, which is
+/// known without a look-up; the identifiers behind it are read from the bytes, and each is looked up.
 #[derive(Drop)]
 pub struct Visit<'g, A: Allocator> {
     index: &'g IdIndex<A>,
+    /// The class, where it is known without a look-up and was not given yet.
+    class: Option<u32>,
+    /// The identifiers behind it.
     ids: HeldIds<'g, A>,
-    /// The object that the first of these identifiers names, where it is known without a look-up.
-    first: Option<u32>,
     row: RowKey,
     bytes: u64,
     unresolved: u64,
 }
 
 impl<'g, A: Allocator> Model for Visit<'g, A> {
-    ghost use Rattle.std.specs.Prelude.{IfSome, length, map, ◌+◌, ◌^◌, ◌≤◌};
+    ghost use Rattle.std.specs.Prelude.{IfSome, length, map, ◌++◌, ◌+◌, ◌^◌, ◌≤◌};
     ghost use Rattle.heap_graph.specs.Walks.{Visited, step_in};
-    ghost use Rattle.heap_graph.specs.working.Resolving.{FirstNames};
+    ghost use Rattle.heap_graph.specs.working.Resolving.{IsNamed, known_ids};
 
     ghost Value = { Visited };
 
@@ -32,39 +33,43 @@ impl<'g, A: Allocator> Model for Visit<'g, A> {
       row = v.row;
       bytes = v.bytes;
       unresolved = v.unresolved;
-      left = map (step_in v.index.now) v.ids;
+      left = map (step_in v.index.now) (known_ids v.index.now v.class ++ v.ids);
     } };
 
     ghost invariant = { λ v. record {
-      few : v.unresolved + length v.ids ≤ 2 ^ 33;
-      leads : IfSome v.first (FirstNames v.index.now v.ids);
+      few : v.unresolved + length (known_ids v.index.now v.class ++ v.ids) ≤ 2 ^ 33;
+      class : IfSome v.class (IsNamed v.index.now);
     } };
 }
 
 impl<'g, A: Allocator> Visit<'g, A> {
-    ghost use Rattle.std.specs.Prelude.{IfSome, length, map, ◌^◌, ◌≡◌, ◌≤◌};
+    ghost use Rattle.std.specs.Prelude.{IfSome, length, map, ◌++◌, ◌^◌, ◌≡◌, ◌≤◌};
     ghost use Rattle.heap_graph.specs.Walks.{step_in};
-    ghost use Rattle.heap_graph.specs.working.Resolving.{FirstNames};
+    ghost use Rattle.heap_graph.specs.working.Resolving.{IsNamed, known_ids};
 
-    /// The objects that these identifiers name, of an object with that row and so many bytes. `first` is what the first
-    /// of them names, where it is known.
+    /// The class, where it is known, and the objects that these identifiers name, of an object with that row and so
+    /// many bytes.
     #[inline(always)]
     pub(crate) fn new(
         index: &'g IdIndex<A>,
+        class: Option<u32>,
         ids: HeldIds<'g, A>,
         row: RowKey,
         bytes: u64,
-        first: Option<u32>,
     ) -> Self
-        requires few { length ids ≤ 2 ^ 33 }
-        requires leads { IfSome first (FirstNames index.now ids) }
-        ensures { result
-            ≡ record { row = row; bytes = bytes; unresolved = 0; left = map (step_in index.now) ids.entry } }
+        requires few { length (known_ids index.now class ++ ids) ≤ 2 ^ 33 }
+        requires class { IfSome class (IsNamed index.now) }
+        ensures { result ≡ record {
+          row = row;
+          bytes = bytes;
+          unresolved = 0;
+          left = map (step_in index.now) (known_ids index.now class ++ ids.entry);
+        } }
     {
         Visit {
             index,
+            class,
             ids,
-            first,
             row,
             bytes,
             unresolved: 0,
@@ -106,10 +111,11 @@ impl<'g, A: Allocator> Iterator for Visit<'g, A> {
 
     #[inline(always)]
     fn next(&mut self) -> Option<u32> {
+        if let Some(class) = self.class {
+            self.class = None;
+            return Some(class);
+        }
         while let Some(id) = self.ids.next() {
-            if let Some(object) = self.first.take() {
-                return Some(object);
-            }
             if let Some(object) = target(self.index, id) {
                 return Some(object);
             }

@@ -1,5 +1,5 @@
 -- What is known while the references of linked objects are read.
-use Rattle.std.specs.Prelude.{Bool, List, Option, Some, length, slice_get, ℕ, ◌^◌, ◌≡◌, ◌≤◌}
+use Rattle.std.specs.Prelude.{Bool, List, Option, Some, if◌then◌else◌, length, slice_get, ℕ, ◌^◌, ◌∷◌, ◌≡◌, ◌≤◌}
 use Rattle.hprof_grammar.specs.SubRecord.{Class, Instance, Member, SubRecord}
 use Rattle.hprof_grammar.specs.Dump.{limit}
 use Rattle.hprof_grammar.specs.Standing.{Sight, Stands}
@@ -35,6 +35,10 @@ pub record AreIdsOf (skips : Class → Member → Bool) (s : ℕ) (heap : List S
     (ids : List ℕ) : Type 0 where
   pub are : AreIdsIn skips s heap o ids
   pub few : length ids ≤ 2 ^ 33
+
+-- these identifiers, with that of the class in front of them where they begin behind it
+abbrev pub with_class : Bool → ℕ → List ℕ → List ℕ
+with_class behind class ids = if behind then class ∷ ids else ids
 
 -- and these those of the object of that number
 pub record AreIdsOfNumber (skips : Class → Member → Bool) (s : ℕ) (heap : List SubRecord) (n : ℕ)

@@ -1,10 +1,20 @@
 -- What identifiers name, from the identifiers of the objects in their order.
-use Rattle.std.specs.Prelude.{Bool, List, Some, count_by, filter_map, option_to_list, ℕ, ◌++◌, ◌∷◌, ◌≡◌}
+use Rattle.std.specs.Prelude.{Bool, List, None, Option, Some, [], count_by, filter_map, option_to_list, slice_index, ℕ}
+use Rattle.std.specs.Prelude.{◌++◌, ◌∷◌, ◌≡◌}
 pub use Rattle.heap_graph.specs.Walks.{is_unresolved_in, step_in, target_in}
 
 -- the first of the identifiers names that object
 abbrev pub FirstNames : List ℕ → List ℕ → ℕ → Type 0
 FirstNames all ids o = (id : ℕ) × (rest : List ℕ) × (ids ≡ id ∷ rest) × (target_in all id ≡ Some o)
+
+-- the identifier of an object that is known, where there is one
+abbrev pub known_ids : List ℕ → Option ℕ → List ℕ
+known_ids all None = []
+known_ids all (Some o) = slice_index all o ∷ []
+
+-- the object is the one that its identifier names
+abbrev pub IsNamed : List ℕ → ℕ → Type 0
+IsNamed all o = target_in all (slice_index all o) ≡ Some o
 
 -- the object that the identifier names was appended, or it is missing
 pub record ResolvesOne (all : List ℕ) (id : ℕ) (old new : List ℕ) (unresolved : Bool) : Type 0 where

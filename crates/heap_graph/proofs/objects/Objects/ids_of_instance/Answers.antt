@@ -1,40 +1,56 @@
 -- An instance holds its class and then the fields of its layout, of which there are no more than bytes of values.
-use Rattle.std.proofs.Common.{arith}
+use Rattle.std.proofs.Common.{arith, refl}
 use Rattle.hprof_grammar.proofs.BoundsLaws.{bounds}
 use Rattle.heap_graph.specs.Fields.{declared_fields}
-use Rattle.heap_graph.proofs.HeldLaws.{few_in_instance, instance_holds, layout_from}
+use Rattle.heap_graph.proofs.HeldLaws.{few_in_instance, held_behind, held_whole, instance_holds, layout_from}
 use Rattle.heap_graph.proofs.objects.Objects.ids_of_instance.Goals as goal
 
-pub new-requires-clause-size : goal.new-requires-clause-size
-new-requires-clause-size g c = c.requires.4.low
-
-pub new-requires-clause-heap : goal.new-requires-clause-heap
-new-requires-clause-heap g c =
+pub new-fields-requires-clause-heap : goal.new-fields-requires-clause-heap
+new-fields-requires-clause-heap g c =
     let first = c.requires.8 in (
       c.requires.0,
       c.requires.1,
       declared_fields first.chain,
       c.requires.5,
       c.requires.6,
-      layout_from c.args.self.now c.requires.1 c.requires.3 c.args.first c.instance_values-values.result.now first
-          (c.instance_values-values.ensures c.requires.3 c.requires.7.stands),
+      layout_from c.args.self.now c.requires.1 c.requires.3 c.args.first c.instance_values.result.now first
+          (c.instance_values.ensures c.requires.3 c.requires.7.stands),
     )
 
 pub invariant_of-result : goal.invariant_of-result
 invariant_of-result g c =
     let first = c.requires.8 in
-    let values = c.instance_values-values.ensures c.requires.3 c.requires.7.stands in
-    let fields = c.new.ensures c.requires.0 c.requires.1 (declared_fields first.chain) c.requires.5 c.requires.6
-    (layout_from c.args.self.now c.requires.1 c.requires.3 c.args.first c.instance_values-values.result.now
-    first values) in
+    let values = c.instance_values.ensures c.requires.3 c.requires.7.stands in
+    let fields = c.new-fields.ensures c.requires.0 c.requires.1 (declared_fields first.chain) c.requires.5 c.requires.6
+    (layout_from c.args.self.now c.requires.1 c.requires.3 c.args.first c.instance_values.result.now first values) in
+    let few = few_in_instance c.requires.0 _ _ _ _ _ first _ _ c.requires.4.low
+    (bounds c.requires.7.stands.is.formed).values values fields in
+    omega (arith, few)
+
+pub returns-then-behind : goal.returns-then-behind
+returns-then-behind g c = λ skips heap n i linked told plan at first.
+    let values = c.instance_values.ensures i at.stands in
+    let fields = c.new-fields.ensures skips heap (declared_fields first.chain) told plan
+    (layout_from c.args.self.now heap i c.args.first c.instance_values.result.now first values) in
+    held_behind _ _ _ _ _ _ _ c.if-behind.true
+    (instance_holds skips _ _ _ i _ first i.class _ _ linked.low (bounds at.stands.is.formed).values refl values
+    fields)
+
+pub invariant_of-result-2 : goal.invariant_of-result-2
+invariant_of-result-2 g c =
+    let first = c.requires.8 in
+    let values = c.instance_values.ensures c.requires.3 c.requires.7.stands in
+    let fields = c.new-fields.ensures c.requires.0 c.requires.1 (declared_fields first.chain) c.requires.5 c.requires.6
+    (layout_from c.args.self.now c.requires.1 c.requires.3 c.args.first c.instance_values.result.now first values) in
     let few = few_in_instance c.requires.0 _ _ _ _ _ first _ _ c.requires.4.low
     (bounds c.requires.7.stands.is.formed).values values fields in
     omega (arith, few)
 
 pub returns : goal.returns
 returns g c = λ skips heap n i linked told plan at first.
-    let values = c.instance_values-values.ensures i at.stands in
-    let fields = c.new.ensures skips heap (declared_fields first.chain) told plan
-    (layout_from c.args.self.now heap i c.args.first c.instance_values-values.result.now first values) in
-    instance_holds skips _ _ _ i _ first _ _ _ linked.low (bounds at.stands.is.formed).values
-    (c.instance_class.ensures i at.stands) values fields
+    let values = c.instance_values.ensures i at.stands in
+    let fields = c.new-fields.ensures skips heap (declared_fields first.chain) told plan
+    (layout_from c.args.self.now heap i c.args.first c.instance_values.result.now first values) in
+    held_whole _ _ _ _ _ _ _ c.if-behind.false
+    (instance_holds skips _ _ _ i _ first _ _ _ linked.low (bounds at.stands.is.formed).values
+    (c.instance_class.ensures i at.stands) values fields)
