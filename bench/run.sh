@@ -21,7 +21,7 @@ ways() {
     if [ -x "$heapmark" ]; then
         if "$heapmark" --help > /dev/null 2>&1; then echo heapmark-1 heapmark-2 heapmark-4; else echo heapmark; fi
     fi
-    echo plain plain-2 plain-4 plain-bytes plain-bytes-2 plain-bytes-4
+    echo plain plain-2 plain-4 plain-bytes plain-bytes-atomic plain-bytes-2 plain-bytes-4
 }
 
 command_of() {
@@ -30,6 +30,7 @@ command_of() {
         heapmark-*) command=("$heapmark" "$2" --workers "${1#heapmark-}" "${options[@]}") ;;
         plain) command=("$room/plain" "$2") ;;
         plain-bytes) command=("$room/plain" "$2" --references bytes) ;;
+        plain-bytes-atomic) command=("$room/plain" "$2" --references bytes --atomic) ;;
         plain-bytes-*) command=("$room/plain" "$2" --references bytes --threads "${1#plain-bytes-}") ;;
         plain-*) command=("$room/plain" "$2" --threads "${1#plain-}") ;;
     esac
@@ -76,7 +77,7 @@ row() {
 # phases DUMP: of each way of the plain marker, each phase by the run in which it took least.
 phases() {
     local way phase
-    for way in plain plain-2 plain-4 plain-bytes plain-bytes-2 plain-bytes-4; do
+    for way in plain plain-2 plain-4 plain-bytes plain-bytes-atomic plain-bytes-2 plain-bytes-4; do
         printf '| %s | %s |' "$1" "$way"
         for phase in read parse index link references mark report; do
             awk "{ printf \" %.0f |\", \$1 / 1e6 }" <<< "$(told "$way" "$phase took")"

@@ -1,12 +1,13 @@
 //! A plain marker of heap dumps: the same method and the same report as `heapmark`, with Rust's std alone and no proof.
 //!
-//! usage: `plain FILE [--threads N] [--references table|bytes] [--count reachable|all] [--skip LIST]`
+//! usage: `plain FILE [--threads N] [--atomic] [--references table|bytes] [--count reachable|all] [--skip LIST]`
 //!
 //! Written to be measured beside `heapmark`, and to agree with it to the byte. Without `--threads` one thread marks and
-//! no step is atomic. Each object is visited once, for its references and to be counted: with `--references bytes` in
-//! the dump's bytes; else in a table that is made of them beforehand, in the phase `references`. `--count all` reports
-//! each object of the dump as if it were reachable. `--skip Class.field,..` passes over these fields. How long each
-//! phase took, what was read and the peak of memory go to standard error.
+//! no step is atomic; with `--atomic` one thread claims and finishes each object by an atomic step. Each object is
+//! visited once, for its references and to be counted: with `--references bytes` in the dump's bytes; else in a table
+//! that is made of them beforehand, in the phase `references`. `--count all` reports each object of the dump as if it
+//! were reachable. `--skip Class.field,..` passes over these fields. How long each phase took, what was read and the
+//! peak of memory go to standard error.
 
 mod by_id;
 mod dump;
@@ -23,7 +24,7 @@ mod tally;
 
 use dump::{Fault, LIMIT, Text, identifier_size};
 use graph::Graph;
-use mark::{Heap, Table, mark, mark_all, mark_with, unmarked};
+use mark::{Heap, Table, mark, mark_all, mark_atomically, mark_with, unmarked};
 use objects::Objects;
 use skip::Skip;
 use std::fs::File;
@@ -51,6 +52,7 @@ const NAMES: [&str; 14] = [
 #[derive(Clone, Copy)]
 struct Options {
     threads: Option<usize>,
+    atomic: bool,
     table: bool,
     all: bool,
 }
@@ -67,11 +69,15 @@ impl Clock {
 
 /// The file, the options and the text of the list, if there is one.
 fn arguments() -> Option<(String, Options, Option<String>)> {
-    let mut options = Options { threads: None, table: true, all: false };
+    let mut options = Options { threads: None, atomic: false, table: true, all: false };
     let mut skip = None;
     let mut words = std::env::args().skip(1);
     let file = words.next()?;
     while let Some(word) = words.next() {
+        if word == "--atomic" {
+            options.atomic = true;
+            continue;
+        }
         match (word.as_str(), words.next()?.as_str()) {
             ("--threads", number) => {
                 options.threads = Some(number.parse().ok().filter(|number| (1..=64).contains(number))?)
@@ -125,6 +131,7 @@ fn histogram<const ID: usize>(
 ) -> String {
     let (marks, reachable) = match options.threads {
         _ if options.all => mark_all(heap),
+        None if options.atomic => mark_atomically(heap, roots),
         None => mark(heap, roots),
         Some(threads) => mark_with(threads, heap, roots),
     };
@@ -148,7 +155,8 @@ fn tell_peak() {
 
 fn main() -> ExitCode {
     let Some((file, options, list)) = arguments() else {
-        eprintln!("usage: plain FILE [--threads N] [--references table|bytes] [--count reachable|all] [--skip LIST]");
+        eprintln!("usage: plain FILE [--threads N] [--atomic] [--references table|bytes] [--count reachable|all]");
+        eprintln!("       [--skip LIST]");
         return ExitCode::from(2);
     };
     let Some(skip) = list.map_or(Some(Skip::default()), |list| Skip::new(&list)) else {

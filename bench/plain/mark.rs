@@ -2,7 +2,7 @@
 
 use crate::graph::Graph;
 use crate::tally::{Rows, Sum, Tally, Visit};
-use std::sync::atomic::{AtomicU8, AtomicUsize, Ordering::Relaxed};
+use std::sync::atomic::{AtomicU8, AtomicU64, AtomicUsize, Ordering::Relaxed, Ordering::SeqCst};
 use std::sync::{Condvar, Mutex};
 use std::thread;
 
@@ -96,6 +96,38 @@ pub fn mark(heap: &impl Heap, roots: &[u32]) -> (Vec<bool>, Tally) {
         tally.add(heap.visit(object, |target| claim(target, &mut stack)));
     }
     (marks, tally)
+}
+
+/// As many objects as there are marks of two bits in a word.
+const A_WORD: u32 = 32;
+
+/// So many objects that were met lately are known without a look at their marks.
+const SEEN: usize = 4096;
+
+/// As `mark`, with the atomic steps of a worker beside which others may stand: one claims an object, one finishes it.
+/// A claim is spared of an object that was met lately.
+pub fn mark_atomically(heap: &impl Heap, roots: &[u32]) -> (Vec<bool>, Tally) {
+    let words: Vec<_> = (0..heap.objects().div_ceil(A_WORD as usize)).map(|_| AtomicU64::new(0)).collect();
+    let word = |object: u32| &words[(object / A_WORD) as usize];
+    let claimed = |object: u32| 1 << (2 * (object % A_WORD));
+    let mut seen = [u32::MAX; SEEN];
+    let mut tally = Tally::new(heap.rows());
+    let mut stack = vec![];
+    let mut claim = |object: u32, stack: &mut Vec<u32>| {
+        if std::mem::replace(&mut seen[object as usize % SEEN], object) == object {
+            return;
+        }
+        if word(object).fetch_or(claimed(object), SeqCst) & claimed(object) == 0 {
+            stack.push(object);
+        }
+    };
+    roots.iter().for_each(|root| claim(*root, &mut stack));
+    while let Some(object) = stack.pop() {
+        tally.add(heap.visit(object, |target| claim(target, &mut stack)));
+        word(object).fetch_or(2 * claimed(object), SeqCst);
+    }
+    let marks = (0..heap.objects() as u32).map(|object| word(object).load(Relaxed) & claimed(object) != 0);
+    (marks.collect(), tally)
 }
 
 /// Each object as if it were reachable.
