@@ -16,6 +16,7 @@ use crate::hint::advise;
 use crate::no_report::{NoReport, Unreported};
 use crate::pipeline::run;
 use crate::refusal::Refusal;
+use crate::shown::Shown;
 use crate::status;
 use clap::error::ErrorKind;
 use command_line::{Arguments, Error, arguments};
@@ -24,7 +25,7 @@ use heap_graph::{Skip, SkipRefusal};
 use histogram::Counted;
 use std::alloc::Global;
 use std::fs::OpenFile;
-use std::io::Write;
+use std::io::{Seek, Write};
 use std::rt::Files;
 use std::sync::Wait;
 use std::thread::Threads;
@@ -182,6 +183,7 @@ fn tell<E: Write>(err: &mut E, reason: &NoReport) -> u8
 {
     match reason {
         NoReport::Refused(refusal) => refused(err, refusal),
+        NoReport::Stopped(refusal, _) => refused(err, refusal),
         NoReport::NotOpened(_) => refused(err, &Refusal::READ_FAULT),
     }
 }
@@ -190,9 +192,10 @@ fn tell<E: Write>(err: &mut E, reason: &NoReport) -> u8
 fn explain<T: Files, E: Write>(rt: &T, err: &mut E, unreported: &Unreported<'_>) {
     let Unreported { arguments, reason } = unreported;
     match reason {
-        NoReport::Refused(refusal) => advise(rt, err, arguments, refusal),
+        NoReport::Refused(refusal) => advise(rt, err, arguments, refusal, None),
+        NoReport::Stopped(refusal, length) => advise(rt, err, arguments, refusal, *length),
         NoReport::NotOpened(reason) => {
-            let file = arguments.file;
+            let file = Shown(arguments.file);
             let _ = writeln!(err, "heapmark: {file}: {reason}");
         }
     }
@@ -270,7 +273,10 @@ fn report_file<T: Files + AllocGlobal + Threads + Wait + Sync, W: Write>(
     };
     match run(rt, rt.alloc(), &mut reader, out, &options, &skip, &NoGate) {
         Ok(()) => Ok(()),
-        Err(refusal) => Err(NoReport::Refused(refusal)),
+        Err(refusal) => {
+            let length = reader.into_inner().stream_position();
+            Err(NoReport::Stopped(refusal, length.ok()))
+        }
     }
 }
 

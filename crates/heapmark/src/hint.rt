@@ -1,30 +1,42 @@
 //! What people can do about a refusal.
 
+mod beginning;
+mod records;
+
 ghost use Rattle.std.specs.Prelude.{◌≡◌, ◌+◌, ◌*◌, IsSome};
 ghost use Rattle.std.specs.Io.KnownBytes.{Keeps};
 ghost use Rattle.heapmark.specs.working.Hint.{HasHint};
 ghost use Rattle.heapmark.specs.working.NoReport.{HasTooFewBuffers};
 
 use crate::refusal::Refusal;
+use crate::shown::Shown;
+use beginning::{Beginning, Packer, Version};
 use command_line::Arguments;
+use records::record_end;
 use std::fs::OpenFile;
 use std::io::{Read, Write};
 use std::rt::Files;
-use std::{fmt, fs};
+use std::{fmt, fs, io};
 
 /// What can be done about a refusal.
 #[derive(Clone, Copy)]
 pub(crate) enum Hint<'a> {
+    /// This file has no bytes.
+    Empty(Shown<'a>),
+    /// This file ends within a dump.
+    EndsEarly(Shown<'a>),
     /// This file is compressed.
-    Compressed(&'a str),
+    Packed(Shown<'a>, Packer),
+    /// This file is a dump of another version of the format.
+    OtherVersion(Shown<'a>, Version),
     /// This file is no dump of the format.
-    NoDump(&'a str),
+    NoDump(Shown<'a>),
     /// This file has more bytes than a dump may have.
-    TooManyBytes(&'a str),
+    TooManyBytes(Shown<'a>),
     /// This file has more objects than a dump may have.
-    TooManyObjects(&'a str),
+    TooManyObjects(Shown<'a>),
     /// This file takes more memory than there is, with so many workers.
-    Memory(&'a str, u32),
+    Memory(Shown<'a>, u32),
     /// This first tag leaves too few tags.
     FirstTag(u64),
     /// One of so many workers has no thread.
@@ -38,25 +50,29 @@ pub(crate) enum Hint<'a> {
 /// The place at which a file is refused that has more bytes than a dump may have.
 const MOST_BYTES: u64 = 1_073_741_824;
 
-/// What a file begins with that gzip wrote, as a virtual machine does that compresses its dumps.
-const GZIP: [u8; 2] = [0x1f, 0x8b];
-
-/// Prints in one line what can be done about a refusal, where something can.
+/// Prints in one line what can be done about a refusal, where something can. `length` is how many bytes of the file
+/// were read, where that is known.
 pub(crate) fn advise<T: Files, E: Write>(
     rt: &T,
     err: &mut E,
     arguments: &Arguments<'_>,
     refusal: &Refusal,
+    length: Option<u64>,
 )
     ensures { (HasHint refusal.now.code → ⊥) → Keeps (E.contents err.old) (E.contents err.new) }
 {
-    if let Some(hint) = hint_of(rt, arguments, refusal) {
+    if let Some(hint) = hint_of(rt, arguments, refusal, length) {
         let _ = writeln!(err, "heapmark: {hint}");
     }
 }
 
 /// What can be done about the refusal of a run with these arguments.
-fn hint_of<'a, T: Files>(rt: &T, arguments: &Arguments<'a>, refusal: &Refusal) -> Option<Hint<'a>>
+fn hint_of<'a, T: Files>(
+    rt: &T,
+    arguments: &Arguments<'a>,
+    refusal: &Refusal,
+    length: Option<u64>,
+) -> Option<Hint<'a>>
     ensures codes { IsSome result → HasHint refusal.now.code }
     ensures buffers { refusal.now.code ≡ 21 → HasTooFewBuffers arguments.now
         → result ≡ Some (Hint.Buffers arguments.now.buffers arguments.now.workers) }
@@ -69,12 +85,15 @@ fn hint_of<'a, T: Files>(rt: &T, arguments: &Arguments<'a>, refusal: &Refusal) -
         first_tag,
         skip: _,
     } = *arguments;
+    let shown = Shown(file);
     match refusal.code {
-        1 if is_compressed(rt, file) => Some(Hint::Compressed(file)),
-        1 => Some(Hint::NoDump(file)),
-        14 if refusal.offset == Some(MOST_BYTES) => Some(Hint::TooManyBytes(file)),
-        14 => Some(Hint::TooManyObjects(file)),
-        15 => Some(Hint::Memory(file, workers)),
+        1 => Some(hint_of_beginning(rt, file)),
+        3 => Some(Hint::EndsEarly(shown)),
+        6 if is_in_last_record(rt, file, refusal.offset, length) => Some(Hint::EndsEarly(shown)),
+        8 if is_at_end(refusal.offset, length) => Some(Hint::EndsEarly(shown)),
+        14 if refusal.offset == Some(MOST_BYTES) => Some(Hint::TooManyBytes(shown)),
+        14 => Some(Hint::TooManyObjects(shown)),
+        15 => Some(Hint::Memory(shown, workers)),
         16 => Some(Hint::FirstTag(first_tag)),
         18 => Some(Hint::Threads(workers)),
         21 if u64::from(buffers) < least_buffers(workers) => Some(Hint::Buffers(buffers, workers)),
@@ -83,22 +102,54 @@ fn hint_of<'a, T: Files>(rt: &T, arguments: &Arguments<'a>, refusal: &Refusal) -
     }
 }
 
-/// Whether gzip wrote a file. The run has read it, so it is opened anew, and only where it is a plain one: the first
-/// bytes of a pipe are gone, and to open a named one would wait for its writer.
-fn is_compressed<T: Files>(rt: &T, name: &str) -> bool {
-    match fs::metadata(rt, name) {
-        Ok(metadata) if metadata.is_file() => begins_so(rt, name, &GZIP),
-        _ => false,
+/// What can be done about a file that does not begin as a dump does.
+fn hint_of_beginning<'a, T: Files>(rt: &T, name: &'a str) -> Hint<'a> {
+    let shown = Shown(name);
+    match beginning_of(rt, name) {
+        Ok(Beginning::Empty) => Hint::Empty(shown),
+        Ok(Beginning::Part) => Hint::EndsEarly(shown),
+        Ok(Beginning::Version(version)) => Hint::OtherVersion(shown, version),
+        Ok(Beginning::Packed(packer)) => Hint::Packed(shown, packer),
+        Ok(Beginning::Other) | Err(_) => Hint::NoDump(shown),
     }
 }
 
-/// Whether a file begins with these two bytes.
-fn begins_so<T: Files>(rt: &T, name: &str, want: &[u8; 2]) -> bool {
-    let Ok(mut file) = fs::open(rt, name) else {
+/// What a file is, by its first bytes.
+fn beginning_of<T: Files>(rt: &T, name: &str) -> io::Result<Beginning> {
+    let mut file = open_again(rt, name)?;
+    let mut bytes = [0; beginning::LENGTH];
+    let length = file.read(&mut bytes)?;
+    Ok(Beginning::of(&bytes[..length]))
+}
+
+/// Whether a place is known to be that where the reading of the file ended.
+fn is_at_end(place: Option<u64>, length: Option<u64>) -> bool {
+    place.is_some() && place == length
+}
+
+/// Whether this place of a file is known to stand in the record that ends where the reading did.
+fn is_in_last_record<T: Files>(
+    rt: &T,
+    name: &str,
+    place: Option<u64>,
+    length: Option<u64>,
+) -> bool {
+    let (Some(place), Some(length)) = (place, length) else {
         return false;
     };
-    let mut beginning = [0; 2];
-    file.read_exact(&mut beginning).is_ok() && beginning == *want
+    match open_again(rt, name) {
+        Ok(mut file) => record_end(&mut file, place) == Some(length),
+        Err(_) => false,
+    }
+}
+
+/// Opens a file that the run has read, only where it is a plain one: what a pipe gave is gone, and to open a named one
+/// would wait for its writer.
+fn open_again<T: Files>(rt: &T, name: &str) -> io::Result<T::File> {
+    if !fs::metadata(rt, name)?.is_file() {
+        return Err(io::Error::from(io::ErrorKind::Unsupported));
+    }
+    fs::open(rt, name)
 }
 
 /// The least number of buffers for so many workers: two for each, and two more.
@@ -111,7 +162,18 @@ fn least_buffers(workers: u32) -> u64
 impl fmt::Display for Hint<'_> {
     fn fmt<W: fmt::Write>(&self, f: &mut fmt::Formatter<W>) -> fmt::Result {
         match *self {
-            Hint::Compressed(file) => write!(f, "{file}: compressed: gunzip it first"),
+            Hint::Empty(file) => write!(f, "{file}: empty: still being written, or on a full disk"),
+            Hint::EndsEarly(file) => {
+                write!(f, "{file}: ends too early: still being written, or cut")
+            }
+            Hint::Packed(file, packer) => {
+                let unpacker = packer.unpacker();
+                write!(f, "{file}: compressed: {unpacker} it first")
+            }
+            Hint::OtherVersion(file, version) => write!(
+                f,
+                "{file}: HPROF of version {version}; what is read is 1.0.2, as `jcmd PID GC.heap_dump FILE` writes it"
+            ),
             Hint::NoDump(file) => write!(
                 f,
                 "{file}: no HPROF binary dump of version 1.0.2, as `jcmd PID GC.heap_dump FILE` writes it"

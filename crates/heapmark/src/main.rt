@@ -19,6 +19,7 @@ mod laws;
 mod no_report;
 mod pipeline;
 mod refusal;
+mod shown;
 mod status;
 
 pub use command::program;

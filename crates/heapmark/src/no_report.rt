@@ -7,8 +7,10 @@ use std::io;
 /// Why there is no report of a file.
 #[derive(Drop)]
 pub(crate) enum NoReport {
-    /// The options or the file were refused.
+    /// The options were refused.
     Refused(Refusal),
+    /// The run was refused, when so many bytes of the file were read. A pipe does not tell how many.
+    Stopped(Refusal, Option<u64>),
     /// The file could not be opened, for the system's reason.
     NotOpened(io::Error),
 }

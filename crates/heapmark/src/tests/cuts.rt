@@ -57,7 +57,8 @@ static WHOLE_BODIES: [(usize, &str); 5] = [
     (95, TWO_OBJECTS_REPORT),
 ];
 
-fn front(bytes: &[u8], length: usize) -> &[u8] {
+/// The first bytes, so many or all.
+pub fn front(bytes: &[u8], length: usize) -> &[u8] {
     &bytes[..length.min(bytes.len())]
 }
 

@@ -1,6 +1,10 @@
 //! What people are told to do about a refusal.
 
-use super::program::{Asked, told_on};
+use super::cuts::front;
+use super::dumps::Record::{Heap, Text};
+use super::dumps::Sub::{Raw, Root};
+use super::dumps::{Bytes, Record, two_objects};
+use super::program::{Asked, answered_to_people, told_on};
 use crate::hint::advise;
 use crate::{Arguments, Refusal};
 use std::env::Env;
@@ -25,21 +29,26 @@ fn is_hint<T: Files + AllocGlobal>(
         skip: None,
     };
     let mut err = Vec::new(rt.alloc());
-    advise(rt, &mut err, &arguments, &refusal);
+    advise(rt, &mut err, &arguments, &refusal, None);
     err.as_slice() == want.as_bytes()
 }
 
+/// Of a file that is not there no place is known to be at its end.
 #[test]
-fn six_codes_have_a_hint(rt: HostRuntime) {
+fn seven_codes_have_a_hint_wherever_they_are(rt: HostRuntime) {
     for code in 0..=255u8 {
         let refusal = Refusal { code, offset: None };
-        let has_hint = matches!(code, 1 | 14 | 15 | 16 | 18 | 21);
+        let has_hint = matches!(code, 1 | 3 | 14 | 15 | 16 | 18 | 21);
         assert_eq!(rt; is_hint(&rt, refusal, 4, 1024, ""), !has_hint, "{code}");
     }
 }
 
 const NO_DUMP: &str = "heapmark: /nowhere/a.hprof: \
 no HPROF binary dump of version 1.0.2, as `jcmd PID GC.heap_dump FILE` writes it
+";
+
+const ENDS_EARLY: &str = "heapmark: /nowhere/a.hprof: \
+ends too early: still being written, or cut
 ";
 
 const TOO_MANY_BYTES: &str = "heapmark: /nowhere/a.hprof: \
@@ -79,8 +88,9 @@ const FIELDS: &str = "heapmark: \
 
 #[test]
 fn each_hint_says_what_to_do(rt: HostRuntime) {
-    let cases: [(u8, Option<u64>, u32, u32, &str); 10] = [
+    let cases: [(u8, Option<u64>, u32, u32, &str); 11] = [
         (1, Some(0), 4, 1024, NO_DUMP),
+        (3, Some(31), 4, 1024, ENDS_EARLY),
         (14, Some(1_073_741_824), 4, 1024, TOO_MANY_BYTES),
         (14, Some(1_073_741_823), 4, 1024, TOO_MANY_OBJECTS),
         (15, None, 1, 1024, MEMORY),
@@ -100,31 +110,150 @@ fn each_hint_says_what_to_do(rt: HostRuntime) {
     }
 }
 
-/// Whether a file of these bytes is refused as no dump, and people are told something of it that ends so.
+/// Whether a file of these bytes has this refusal, and people are told something behind it that ends so, or nothing.
 fn is_told<T: AllocGlobal + Env + Files + Threads + Wait + Sync>(
     rt: &T,
     bytes: &[u8],
+    refusal: &str,
     want: &str,
 ) -> bool {
-    let name = "heapmark_compressed.hprof";
-    let refusal = "heapmark: refused 1 BadHeader at 0\n";
+    let name = "heapmark_hints.hprof";
     let line = told_on(rt, name, bytes, "FILE", Asked::Both("", refusal));
-    let lines = told_on(rt, name, bytes, "FILE", Asked::People(refusal, want));
+    let ends = if want.is_empty() { refusal } else { want };
+    let lines = told_on(rt, name, bytes, "FILE", Asked::People(refusal, ends));
     line == Some((1, true, true)) && lines == Some((1, true, true))
 }
 
+const EMPTY: &str = "heapmark_hints.hprof: empty: still being written, or on a full disk\n";
+
+const EARLY: &str = "heapmark_hints.hprof: ends too early: still being written, or cut\n";
+
+const NONE_OF_IT: &str = "heapmark_hints.hprof: \
+no HPROF binary dump of version 1.0.2, as `jcmd PID GC.heap_dump FILE` writes it
+";
+
+const OLDER: &str = "heapmark_hints.hprof: \
+HPROF of version 1.0.1; what is read is 1.0.2, as `jcmd PID GC.heap_dump FILE` writes it
+";
+
+const NEWER: &str = "heapmark_hints.hprof: \
+HPROF of version 1.0.3; what is read is 1.0.2, as `jcmd PID GC.heap_dump FILE` writes it
+";
+
+/// The first bytes are those of the formats' own descriptions.
 #[test]
-fn a_compressed_file_is_told(rt: HostRuntime) {
-    let compressed = ": compressed: gunzip it first\n";
-    let no_dump = " writes it\n";
-    let cases: [(&[u8], &str); 5] = [
-        (&[0x1f, 0x8b, 8, 0], compressed),
-        (&[0x1f, 0x8b], compressed),
-        (&[0x1f, 0x8a, 8, 0], no_dump),
-        (&[0x1f], no_dump),
-        (b"", no_dump),
+fn a_file_is_told_by_its_first_bytes(rt: HostRuntime) {
+    let gzipped = "heapmark_hints.hprof: compressed: gunzip it first\n";
+    let cases: [(&[u8], &str); 16] = [
+        (b"", EMPTY),
+        (b"J", EARLY),
+        (b"JAVA PROFILE 1.0.2", EARLY),
+        (b"JAVA PROFILE 1.0.1\0\0\0\0\x04", OLDER),
+        (b"JAVA PROFILE 1.0.3\0", NEWER),
+        (b"JAVA PROFILE 1.0.1", NONE_OF_IT),
+        (b"JAVA PROFILE 1.0.x\0", NONE_OF_IT),
+        (b"JAVA PROFILE 1.0.10\0", NONE_OF_IT),
+        (&[0x1f, 0x8b, 8, 0], gzipped),
+        (&[0x1f, 0x8b], gzipped),
+        (&[0x1f, 0x8a, 8, 0], NONE_OF_IT),
+        (&[0x1f], NONE_OF_IT),
+        (b"PK\x03\x04\x14\0", ": compressed: unzip it first\n"),
+        (
+            &[0x28, 0xb5, 0x2f, 0xfd, 4],
+            ": compressed: unzstd it first\n",
+        ),
+        (b"\xfd7zXZ\0\0\x04", ": compressed: unxz it first\n"),
+        (b"BZh91AY&SY", ": compressed: bunzip2 it first\n"),
     ];
     for (bytes, want) in cases {
-        assert!(rt; is_told(&rt, bytes, want), "{bytes:?}: {want}");
+        let refusal = "heapmark: refused 1 BadHeader at 0\n";
+        assert!(rt; is_told(&rt, bytes, refusal, want), "{bytes:?}: {want}");
     }
+}
+
+/// Whether the worked dump of so many bytes has this refusal, and people are told that it ends too early.
+fn cut_is_told<T: AllocGlobal + Env + Files + Threads + Wait + Sync>(
+    rt: &T,
+    length: usize,
+    refusal: &str,
+) -> bool {
+    match two_objects(rt.alloc()) {
+        Ok(dump) => is_told(rt, front(dump.bytes.as_slice(), length), refusal, EARLY),
+        Err(_) => false,
+    }
+}
+
+#[test]
+fn a_cut_file_is_told(rt: HostRuntime) {
+    let cases = [
+        (19, "heapmark: refused 3 Truncated at 0\n"),
+        (31, "heapmark: refused 8 DumpOrder at 31\n"),
+        (32, "heapmark: refused 3 Truncated at 31\n"),
+        (70, "heapmark: refused 8 DumpOrder at 70\n"),
+        (173, "heapmark: refused 3 Truncated at 70\n"),
+    ];
+    for (length, refusal) in cases {
+        assert!(rt; cut_is_told(&rt, length, refusal), "{length}: {refusal}");
+    }
+}
+
+/// Whether the dump of these records has this refusal, and people are told something behind it that ends so, or
+/// nothing.
+fn dump_is_told<T: AllocGlobal + Env + Files + Threads + Wait + Sync>(
+    rt: &T,
+    records: &[Record],
+    refusal: &str,
+    want: &str,
+) -> bool {
+    match Bytes::dump(rt.alloc(), 4, records) {
+        Ok(dump) => is_told(rt, dump.bytes.as_slice(), refusal, want),
+        Err(_) => false,
+    }
+}
+
+/// Records, their refusal, and what people are told behind it: a root that is cut in a heap dump at the end of the file
+/// or before, and two heap dumps.
+static FAULTS: [(&[Record], &str, &str); 4] = [
+    (
+        &[Heap(&[Raw(&[0xff, 0])])],
+        "heapmark: refused 6 SubTruncated at 40\n",
+        EARLY,
+    ),
+    (
+        &[Text(1, b"A"), Heap(&[Root(0x201), Raw(&[0xff, 0])])],
+        "heapmark: refused 6 SubTruncated at 59\n",
+        EARLY,
+    ),
+    (
+        &[Heap(&[Raw(&[0xff, 0])]), Text(1, b"A")],
+        "heapmark: refused 6 SubTruncated at 40\n",
+        "",
+    ),
+    (
+        &[Heap(&[]), Heap(&[])],
+        "heapmark: refused 8 DumpOrder at 40\n",
+        "",
+    ),
+];
+
+#[test]
+fn a_fault_before_the_end_is_told_apart(rt: HostRuntime) {
+    for (records, refusal, want) in FAULTS {
+        assert!(rt;
+            dump_is_told(&rt, records, refusal, want),
+            "{refusal}: {want}"
+        );
+    }
+}
+
+/// A name with control characters, and one beyond ASCII.
+#[test]
+fn a_name_is_shown_without_control_characters(rt: HostRuntime) {
+    let name = "/nowhere/\x1b[31m\u{9b}\u{e4}\n";
+    let reason = "heapmark: /nowhere/\\x1b[31m\\xc2\\x9b\u{e4}\\x0a: \
+        No such file or directory (os error 2)\n";
+    let refusal = "heapmark: refused 19 ReadFault\n";
+    let told = answered_to_people(&rt, &["heapmark", name], refusal, reason);
+    let length = refusal.len() + reason.len();
+    assert_eq!(rt; told, (1, true, Some(length)));
 }

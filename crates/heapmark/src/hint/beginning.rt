@@ -1,0 +1,117 @@
+//! What a file is that does not begin as a dump does.
+
+use std::fmt;
+
+/// What a dump begins with that is read.
+const HEADER: [u8; 19] = *b"JAVA PROFILE 1.0.2\0";
+
+/// What a dump of any version begins with.
+const FORMAT: &[u8] = b"JAVA PROFILE ";
+
+/// How many bytes tell what a file is.
+pub(super) const LENGTH: usize = HEADER.len();
+
+/// What a file is that does not begin as a dump does, by its first bytes.
+#[derive(Clone, Copy, Debug, PartialEq, Eq)]
+pub(super) enum Beginning {
+    /// There are none.
+    Empty,
+    /// They are a part of the header, and the file ends there.
+    Part,
+    /// They are those of a dump of another version.
+    Version(Version),
+    /// They are those of a file that this program made.
+    Packed(Packer),
+    /// They are any others.
+    Other,
+}
+
+/// A version of the format, by its three digits.
+#[derive(Clone, Copy, Debug, PartialEq, Eq)]
+pub(crate) struct Version(u8, u8, u8);
+
+/// A program that compresses files.
+#[derive(Clone, Copy, Debug, PartialEq, Eq)]
+pub(crate) enum Packer {
+    Gzip,
+    Zip,
+    Zstd,
+    Xz,
+    Bzip2,
+}
+
+/// What the files of each begin with. A virtual machine that compresses its dumps does as gzip.
+const MARKS: [(&[u8], Packer); 5] = [
+    (&[0x1f, 0x8b], Packer::Gzip),
+    (b"PK\x03\x04", Packer::Zip),
+    (&[0x28, 0xb5, 0x2f, 0xfd], Packer::Zstd),
+    (b"\xfd7zXZ\0", Packer::Xz),
+    (b"BZh", Packer::Bzip2),
+];
+
+impl Beginning {
+    /// What a file is, whose first bytes are these: as many as tell it, or all of them.
+    pub(super) fn of(bytes: &[u8]) -> Beginning {
+        if bytes.is_empty() {
+            return Beginning::Empty;
+        }
+        if HEADER.starts_with(bytes) {
+            return Beginning::Part;
+        }
+        if let Some(version) = Version::of(bytes) {
+            return Beginning::Version(version);
+        }
+        match Packer::of(bytes) {
+            Some(packer) => Beginning::Packed(packer),
+            None => Beginning::Other,
+        }
+    }
+}
+
+impl Version {
+    /// The version that a dump of these first bytes names.
+    fn of(bytes: &[u8]) -> Option<Version> {
+        match bytes.strip_prefix(FORMAT)? {
+            [major, b'.', minor, b'.', patch, 0] if is_numeral(&[*major, *minor, *patch]) => {
+                Some(Version(*major, *minor, *patch))
+            }
+            _ => None,
+        }
+    }
+}
+
+/// Whether these are decimal digits.
+fn is_numeral(bytes: &[u8]) -> bool {
+    bytes.iter().all(|byte| byte.is_ascii_digit())
+}
+
+impl fmt::Display for Version {
+    fn fmt<W: fmt::Write>(&self, f: &mut fmt::Formatter<W>) -> fmt::Result {
+        let Version(major, minor, patch) = *self;
+        let [major, minor, patch] = [char::from(major), char::from(minor), char::from(patch)];
+        write!(f, "{major}.{minor}.{patch}")
+    }
+}
+
+impl Packer {
+    /// The program that made a file of these first bytes.
+    fn of(bytes: &[u8]) -> Option<Packer> {
+        for (mark, packer) in MARKS {
+            if bytes.starts_with(mark) {
+                return Some(packer);
+            }
+        }
+        None
+    }
+
+    /// The command that unpacks its files.
+    pub(super) fn unpacker(self) -> &'static str {
+        match self {
+            Packer::Gzip => "gunzip",
+            Packer::Zip => "unzip",
+            Packer::Zstd => "unzstd",
+            Packer::Xz => "unxz",
+            Packer::Bzip2 => "bunzip2",
+        }
+    }
+}

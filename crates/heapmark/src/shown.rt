@@ -1,0 +1,29 @@
+//! How a file's name is shown.
+
+use std::fmt;
+
+/// A file's name as it is shown to people: each byte of a control character, which a terminal would obey, as `\x` and
+/// two hexadecimal digits, and all else as it is.
+#[derive(Clone, Copy, Debug, PartialEq, Eq)]
+pub(crate) struct Shown<'a>(pub(crate) &'a str);
+
+impl fmt::Display for Shown<'_> {
+    fn fmt<W: fmt::Write>(&self, f: &mut fmt::Formatter<W>) -> fmt::Result {
+        for c in self.0.chars() {
+            if c.is_control() {
+                escape(f, c)?;
+            } else {
+                f.write_char(c)?;
+            }
+        }
+        Ok(())
+    }
+}
+
+/// Writes each byte of a character as `\x` and two hexadecimal digits.
+fn escape<W: fmt::Write>(f: &mut fmt::Formatter<W>, c: char) -> fmt::Result {
+    for byte in c.encode_utf8(&mut [0; 4]).bytes() {
+        write!(f, "\\x{byte:02x}")?;
+    }
+    Ok(())
+}
