@@ -1,5 +1,5 @@
 -- Each record is read once: the place at which the next one begins rises.
-use Rattle.std.proofs.Common.{◌+◌, ◌-◌, ℕ}
+use Rattle.std.proofs.Common.{◌+◌, ◌-◌}
 use Rattle.heapmark.proofs.hint.records.record_end.Given as goal
 
 abbrev pub decreases-loop-end : goal.decreases-loop-end
