@@ -172,7 +172,7 @@ impl fmt::Display for Hint<'_> {
             }
             Hint::OtherVersion(file, version) => write!(
                 f,
-                "{file}: HPROF of version {version}; what is read is 1.0.2, as `jcmd PID GC.heap_dump FILE` writes it"
+                "{file}: HPROF of version {version}; only 1.0.2 is read, as `jcmd PID GC.heap_dump FILE` writes it"
             ),
             Hint::NoDump(file) => write!(
                 f,

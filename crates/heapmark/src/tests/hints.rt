@@ -133,11 +133,11 @@ no HPROF binary dump of version 1.0.2, as `jcmd PID GC.heap_dump FILE` writes it
 ";
 
 const OLDER: &str = "heapmark_hints.hprof: \
-HPROF of version 1.0.1; what is read is 1.0.2, as `jcmd PID GC.heap_dump FILE` writes it
+HPROF of version 1.0.1; only 1.0.2 is read, as `jcmd PID GC.heap_dump FILE` writes it
 ";
 
 const NEWER: &str = "heapmark_hints.hprof: \
-HPROF of version 1.0.3; what is read is 1.0.2, as `jcmd PID GC.heap_dump FILE` writes it
+HPROF of version 1.0.3; only 1.0.2 is read, as `jcmd PID GC.heap_dump FILE` writes it
 ";
 
 /// The first bytes are those of the formats' own descriptions.
