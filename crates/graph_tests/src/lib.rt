@@ -3,8 +3,9 @@
 //!
 //! `worked` has dumps with the graphs that they have to give, `skipped` those of which some fields are not followed,
 //! `chains` and `faults` dumps that are not linked, with the first fault of each, `parts` large ones. `graphs` asks a
-//! graph all that it tells, `walks` what is left of a walk, `memory` refuses each request in turn (`refused`). `skips`
-//! holds the texts that are lists of fields, `texts` how a refusal is shown, `sizes` how large a visit is.
+//! graph all that it tells, `walks` what is left of a walk, `memory` refuses each request in turn. `skips` holds
+//! the texts that are lists of fields (`refused` refuses their requests), `texts` how a refusal is shown, `sizes` how
+//! large a visit is.
 
 #![tactic(auto)]
 

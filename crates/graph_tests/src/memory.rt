@@ -2,7 +2,6 @@
 //! asking a graph makes none.
 
 use crate::graphs::{is_worked, tells};
-use crate::refused::{Call, requests_of};
 use crate::skipped::SKIPPED;
 use crate::walks::{MANY, long_array};
 use crate::worked::{WORKED, Worked};
@@ -14,6 +13,9 @@ use std::test::Fail;
 use std::thread::Threads;
 use test_dumps::Sub::{Class, Instance};
 use test_dumps::{Bytes, Record};
+
+/// More requests than any call here makes.
+const MANY_REQUESTS: u64 = 512;
 
 /// Reads a dump that is whole, and builds its graph.
 fn build<'a, T: Threads + Sync, A: Allocator + Copy + Send + Sync>(
@@ -40,21 +42,84 @@ fn requests_to_build<T: Threads + Sync>(
     u64::MAX - heap.requests_left()
 }
 
-/// Builds the graph of a worked dump, and asks it.
+/// What is to come of a dump: the worked graph, or a fault of this code at this place.
 #[derive(Drop)]
-struct Asked<'a> {
-    bytes: &'a [u8],
-    skip: &'a Skip<'a, Global>,
-    worked: &'a Worked,
+enum Wanted<'a> {
+    Graph(&'a Worked),
+    Fault(u8, u64),
 }
 
-impl Call for Asked<'_> {
-    fn is_right<T: Threads + Sync>(&self, rt: &T, heap: &LimitedHeap<Global>) -> bool {
-        match build(rt, heap, self.bytes, self.skip) {
-            Ok(graph) => is_worked(&graph, self.worked),
-            Err(refusal) => refusal == LinkRefusal::OutOfMemory && heap.refusals() > 0,
+/// Whether it is this graph.
+fn is_graph<A: Allocator>(wanted: &Wanted<'_>, graph: &Graph<'_, A>) -> bool {
+    match wanted {
+        Wanted::Graph(worked) => is_worked(graph, worked),
+        Wanted::Fault(_, _) => false,
+    }
+}
+
+/// Whether it is this refusal, or want of memory where so many requests were refused.
+fn is_refusal(wanted: &Wanted<'_>, refusal: LinkRefusal, refusals: u64) -> bool {
+    match (refusal, wanted) {
+        (LinkRefusal::Fault(LinkFault { code, offset }), Wanted::Fault(fault, place)) => {
+            (code, offset) == (*fault, *place)
+        }
+        (LinkRefusal::Fault(_), Wanted::Graph(_)) => false,
+        (LinkRefusal::OutOfMemory, _) => refusals > 0,
+    }
+}
+
+/// Whether that, or want of memory, comes over this heap.
+fn comes<T: Threads + Sync>(
+    rt: &T,
+    heap: &LimitedHeap<Global>,
+    bytes: &[u8],
+    skip: &Skip<'_, Global>,
+    wanted: &Wanted<'_>,
+) -> bool {
+    match build(rt, heap, bytes, skip) {
+        Ok(graph) => is_graph(wanted, &graph),
+        Err(refusal) => is_refusal(wanted, refusal, heap.refusals()),
+    }
+}
+
+/// With how many requests it comes, where each of them was refused before, with all behind it or alone.
+fn requests_with<T: Threads + Sync>(
+    rt: &T,
+    alloc: Global,
+    bytes: &[u8],
+    skip: &Skip<'_, Global>,
+    wanted: &Wanted<'_>,
+    alone: bool,
+) -> Option<u64> {
+    for request in 0..MANY_REQUESTS {
+        let heap = match alone {
+            true => LimitedHeap::refusing(alloc, request),
+            false => LimitedHeap::new(alloc, request),
+        };
+        if !comes(rt, &heap, bytes, skip, wanted) {
+            return None;
+        }
+        if heap.refusals() == 0 {
+            return Some(request);
         }
     }
+    None
+}
+
+/// With how many requests it comes, where that number is the same with all behind a request refused and with each
+/// alone.
+fn requests_until<T: Threads + Sync>(
+    rt: &T,
+    alloc: Global,
+    bytes: &[u8],
+    skip: &Skip<'_, Global>,
+    wanted: &Wanted<'_>,
+) -> Option<u64> {
+    let requests = requests_with(rt, alloc, bytes, skip, wanted, false);
+    if requests_with(rt, alloc, bytes, skip, wanted, true) != requests {
+        return None;
+    }
+    requests
 }
 
 /// Whether each answer is right, and the whole one comes with the requests that it takes to build the graph: none is
@@ -67,12 +132,8 @@ fn is_right_in_turn<T: Threads + Sync>(
     skip: &Skip<'_, Global>,
 ) -> bool {
     let requests = requests_to_build(rt, alloc, bytes, skip);
-    let asked = Asked {
-        bytes,
-        skip,
-        worked,
-    };
-    requests > 0 && requests_of(rt, alloc, &asked) == Some(requests)
+    let wanted = Wanted::Graph(worked);
+    requests > 0 && requests_until(rt, alloc, bytes, skip, &wanted) == Some(requests)
 }
 
 /// Whether they are right of a worked dump.
@@ -122,47 +183,14 @@ static TOO_SHORT: [Record; 1] = [Record::Heap(&[
     Instance(0x201, 0x110, &[0; 4]),
 ])];
 
-/// Whether that is its fault, or want of memory where so many requests were refused.
-fn is_too_short_or_told(refusal: LinkRefusal, refusals: u64) -> bool {
-    match refusal {
-        LinkRefusal::Fault(LinkFault { code, offset }) => (code, offset) == (13, 136),
-        LinkRefusal::OutOfMemory => refusals > 0,
-    }
-}
-
-/// Builds the graph of that dump.
-#[derive(Drop)]
-struct TooShort<'a> {
-    bytes: &'a [u8],
-    skip: &'a Skip<'a, Global>,
-}
-
-impl Call for TooShort<'_> {
-    fn is_right<T: Threads + Sync>(&self, rt: &T, heap: &LimitedHeap<Global>) -> bool {
-        match build(rt, heap, self.bytes, self.skip) {
-            Ok(_) => false,
-            Err(refusal) => is_too_short_or_told(refusal, heap.refusals()),
-        }
-    }
-}
-
-/// How many requests it takes to find the fault, where each of them was refused before.
-fn requests_to_refuse<T: Threads + Sync>(
-    rt: &T,
-    alloc: Global,
-    bytes: &[u8],
-    skip: &Skip<'_, Global>,
-) -> Option<u64> {
-    requests_of(rt, alloc, &TooShort { bytes, skip })
-}
-
 /// How many requests it takes to find the fault of the dump of an instance that is too short.
 fn requests_to_refuse_short<T: Threads + Sync>(
     rt: &T,
     alloc: Global,
 ) -> Result<Option<u64>, AllocError> {
     let file = Bytes::dump(alloc, 4, &TOO_SHORT)?;
-    Ok(requests_to_refuse(rt, alloc, &file.bytes, &Skip::none(alloc)))
+    let skip = Skip::none(alloc);
+    Ok(requests_until(rt, alloc, &file.bytes, &skip, &Wanted::Fault(13, 136)))
 }
 
 #[test]

@@ -29,25 +29,32 @@ fn id_of(instance: u32) -> u32 {
     0x1000u32.saturating_add(instance)
 }
 
-/// The place of an instance: behind the header, the head of the record, and the class.
+/// The place of the first instance: behind the header, the head of the record, and the class.
+const FIRST: u64 = 83;
+
+/// The bytes of an instance: its tag, its identifier, a serial, its class, and the length of its values.
+const LENGTH: u64 = 17;
+
+/// The place of an instance.
 fn place_of(instance: u32) -> u64 {
-    83 + 17 * u64::from(instance)
+    FIRST + LENGTH * u64::from(instance)
 }
 
 impl Change {
     /// The place of the field, and its value.
     fn new_field(self) -> (u64, u32) {
         match self {
-            Change::Id(instance, id) => (place_of(instance) + 1, id),
-            Change::Class(instance, class) => (place_of(instance) + 9, class),
+            Change::Id(instance, id) => (FIRST + 1 + LENGTH * u64::from(instance), id),
+            Change::Class(instance, class) => (FIRST + 9 + LENGTH * u64::from(instance), class),
         }
     }
 
     /// The place of the field, and the value that it had before.
     fn old_field(self) -> (u64, u32) {
+        let (place, _) = self.new_field();
         match self {
-            Change::Id(instance, _) => (place_of(instance) + 1, id_of(instance)),
-            Change::Class(instance, _) => (place_of(instance) + 9, CLASS),
+            Change::Id(instance, _) => (place, id_of(instance)),
+            Change::Class(_, _) => (place, CLASS),
         }
     }
 }

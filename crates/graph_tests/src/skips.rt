@@ -5,7 +5,6 @@ use heap_graph::{Skip, SkipRefusal};
 use limited_heap::LimitedHeap;
 use std::alloc::{AllocError, Allocator, Global};
 use std::test::Fail;
-use std::thread::Threads;
 
 /// The texts of a class and of a field.
 type Names = (&'static str, &'static str);
@@ -113,7 +112,7 @@ struct Reading<'a> {
 }
 
 impl Call for Reading<'_> {
-    fn is_right<T: Threads + Sync>(&self, _rt: &T, heap: &LimitedHeap<Global>) -> bool {
+    fn is_right(&self, heap: &LimitedHeap<Global>) -> bool {
         match Skip::new(heap, self.text) {
             Ok(skip) => skip.pairs().len() == self.entries,
             Err(refusal) => refusal == SkipRefusal::OutOfMemory && heap.refusals() > 0,
@@ -122,22 +121,14 @@ impl Call for Reading<'_> {
 }
 
 /// How many requests it takes to read it, where each of them was refused before.
-fn requests_to_read<T: Threads + Sync>(
-    rt: &T,
-    alloc: Global,
-    text: &str,
-    entries: usize,
-) -> Option<u64> {
-    requests_of(rt, alloc, &Reading { text, entries })
+fn requests_to_read(alloc: Global, text: &str, entries: usize) -> Option<u64> {
+    requests_of(alloc, &Reading { text, entries })
 }
 
 /// How many requests it takes to read a list of 64 entries, where each of them was refused before.
-fn requests_to_read_most<T: Threads + Sync>(
-    rt: &T,
-    alloc: Global,
-) -> Result<Option<u64>, AllocError> {
+fn requests_to_read_most(alloc: Global) -> Result<Option<u64>, AllocError> {
     let text = list_of(alloc, 64)?;
-    Ok(requests_to_read(rt, alloc, &text, 64))
+    Ok(requests_to_read(alloc, &text, 64))
 }
 
 #[test]
@@ -145,8 +136,8 @@ fn memory_refused_in_turn(rt: HostRuntime) -> Result<(), Fail> {
     let alloc = rt.alloc();
     // room for 4 entries, and for twice as many each time
     let requests = (
-        requests_to_read(&rt, alloc, "T.f,U.g", 2),
-        requests_to_read_most(&rt, alloc)?,
+        requests_to_read(alloc, "T.f,U.g", 2),
+        requests_to_read_most(alloc)?,
     );
     assert_eq!(rt; requests, (Some(1), Some(5)));
     Ok(())
