@@ -200,6 +200,7 @@ impl<'d, A: Allocator> Objects<'d, A> {
 
     /// The identifiers that an object array holds: its class, unless they are to begin behind it, and then its
     /// elements.
+    // Inlined, as all that makes a visit, so that a visit is written where it stays.
     #[inline(always)]
     pub(crate) fn ids_of_array(&self, at: u32, behind: bool) -> HeldIds<'_, A>
         requires { (a : ObjectArray) × Stands self.now.view at (object_array_dump a) }

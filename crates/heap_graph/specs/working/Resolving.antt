@@ -3,10 +3,6 @@ use Rattle.std.specs.Prelude.{Bool, List, None, Option, Some, [], count_by, filt
 use Rattle.std.specs.Prelude.{◌++◌, ◌∷◌, ◌≡◌}
 pub use Rattle.heap_graph.specs.Walks.{is_unresolved_in, step_in, target_in}
 
--- the first of the identifiers names that object
-abbrev pub FirstNames : List ℕ → List ℕ → ℕ → Type 0
-FirstNames all ids o = (id : ℕ) × (rest : List ℕ) × (ids ≡ id ∷ rest) × (target_in all id ≡ Some o)
-
 -- the identifier of an object that is known, where there is one
 abbrev pub known_ids : List ℕ → Option ℕ → List ℕ
 known_ids all None = []
