@@ -8,6 +8,7 @@ use std::thread::{Threads, available_parallelism};
 /// How many they are changes no answer.
 #[derive(Drop)]
 pub struct Team<'r, T> {
+    /// Never read: a value of such a type is the leave to start threads.
     rt: &'r T,
     threads: u32,
 }
