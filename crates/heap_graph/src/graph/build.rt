@@ -115,8 +115,8 @@ impl<'a, A: Allocator + Copy> Graph<'a, A> {
 
 impl<'a, A: Allocator + Copy + Send + Sync> Graph<'a, A> {
     /// The graph of a dump that was read from these bytes, in which the fields on the list are not followed: a fault is
-    /// the first one of its links, and else only memory can be missing. To skip no field, lend it `Skip::none`. The rules
-    /// of the links are tested in parts by the threads of the team, where there are many objects.
+    /// the first one of its links, and else only memory can be missing. To skip no field, lend it `Skip::none`. Where
+    /// there are many objects, the rules of the links are tested in parts, by the threads of the team.
     pub fn build<T: Threads + Sync, B: Allocator>(
         team: &Team<'_, T>,
         alloc: A,
