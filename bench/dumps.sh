@@ -9,6 +9,7 @@
 #   medium     Filler with 100 MB, by G1, Serial, ZGC and Shenandoah, live and all
 #   large      Filler with 600 MB, by G1, live
 #   big        Filler with 300 MB, by ZGC and Shenandoah, live: these write objects in the order of their references
+#   garbage    Filler with 500 MB, by G1, all: every sixth object or more is not reachable
 #   tools      jshell, the virtual machine that it starts, and javac at work
 #   scattered  2,000,000 nodes that refer to one another at random, and a map of them
 #   random     the same with 4,000,000 nodes: 12,000,000 objects
@@ -72,6 +73,12 @@ large() {
 big() {
     filler 300 big-z -XX:+UseZGC
     filler 300 big-shenandoah -XX:+UseShenandoahGC
+}
+
+garbage() {
+    started "${java}java" -cp "$room/classes" -Xmx1064m -XX:+UseG1GC Filler 500
+    moment "$PROGRAM_PID" garbage-g1-all -all
+    ended
 }
 
 # shaped NAME PROGRAM WORD..
@@ -169,10 +176,10 @@ tools() {
 
 mkdir -p "$room"
 "${java}javac" -d "$room/classes" "$top"/bench/java/*.java
-[ $# -gt 0 ] || set -- small medium large big tools scattered random list map ids odd refused
+[ $# -gt 0 ] || set -- small medium large big garbage tools scattered random list map ids odd refused
 for group; do
     case $group in
-        small | medium | large | big | tools | scattered | random | list | map | ids | odd | refused) "$group" ;;
+        small | medium | large | big | garbage | tools | scattered | random | list | map | ids | odd | refused) "$group" ;;
         *) echo "no such group: $group" >&2; exit 2 ;;
     esac
 done
