@@ -1,7 +1,7 @@
 //! The dumps that are marked, and their graphs.
 
-use heap_graph::{Graph, Skip, Team};
-use hprof_grammar::read;
+use heap_graph::{Graph, Skip};
+use hprof_grammar::{Team, read};
 use std::alloc::{AllocError, Global};
 use std::test::Fail;
 use std::thread::Threads;

@@ -1,8 +1,8 @@
 //! Dumps that are not linked, with the code and the place of their first fault.
 
 use crate::chains::{CHAINS, SIZES};
-use heap_graph::{Graph, LinkFault, LinkRefusal, Skip, Team};
-use hprof_grammar::read;
+use heap_graph::{Graph, LinkFault, LinkRefusal, Skip};
+use hprof_grammar::{Team, read};
 use std::alloc::{AllocError, Global};
 use std::test::Fail;
 use std::thread::Threads;

@@ -1,8 +1,8 @@
 //! The graphs of worked dumps.
 
 use crate::worked::{ClassRow, Object, WORKED, Worked};
-use heap_graph::{Graph, Skip, Successors, Team, Visit};
-use hprof_grammar::read;
+use heap_graph::{Graph, Skip, Successors, Visit};
+use hprof_grammar::{Team, read};
 use std::alloc::{Allocator, Global};
 use std::test::Fail;
 use std::thread::Threads;

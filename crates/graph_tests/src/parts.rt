@@ -1,8 +1,8 @@
 //! Dumps of so many objects that the rules of their links are tested in parts: of faults in several of these the first
 //! in the order of the file is told, also where there is no memory for the parts' answers.
 
-use heap_graph::{Graph, LinkFault, LinkRefusal, Skip, Team};
-use hprof_grammar::read;
+use heap_graph::{Graph, LinkFault, LinkRefusal, Skip};
+use hprof_grammar::{Team, read};
 use limited_heap::LimitedHeap;
 use std::alloc::{AllocError, Allocator, Global};
 use std::test::Fail;

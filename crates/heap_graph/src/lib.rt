@@ -30,7 +30,6 @@ mod row;
 mod rule;
 mod skip;
 mod successors;
-mod team;
 mod types;
 mod visit;
 
@@ -41,5 +40,4 @@ pub use row::RowKey;
 pub use rule::LinkRule;
 pub use skip::{Skip, SkipPair, SkipRefusal};
 pub use successors::Successors;
-pub use team::Team;
 pub use visit::Visit;

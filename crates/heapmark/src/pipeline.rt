@@ -15,9 +15,9 @@ ghost use Rattle.heapmark.specs.working.Marking.{IsOfMarking};
 
 use crate::refusal::Refusal;
 use drain::{Gate, Options, mark};
-use heap_graph::{Graph, Skip, Team};
+use heap_graph::{Graph, Skip};
 use histogram::{Counted, Report, rows, write_report};
-use hprof_grammar::read;
+use hprof_grammar::{Team, read};
 use std::alloc::Allocator;
 use std::io::{Read, Write};
 use std::sync::Wait;

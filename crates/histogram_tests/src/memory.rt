@@ -5,9 +5,9 @@ ghost use Rattle.drain.specs.Marks.{IsMarkingOf};
 
 use crate::reports::{TWO_OBJECTS, two_objects, writes};
 use drain::{Marked, NoGate, Options, mark};
-use heap_graph::{Graph, Skip, Team};
+use heap_graph::{Graph, Skip};
 use histogram::{Counted, OutOfMemory, ReaderRefusal, Report, WriteRefusal, rows, write_report};
-use hprof_grammar::read;
+use hprof_grammar::{Team, read};
 use limited_heap::LimitedHeap;
 use std::alloc::Global;
 use std::sync::Wait;

@@ -1,9 +1,9 @@
 //! How the names of classes are shown.
 
 use drain::{NoGate, Options, mark};
-use heap_graph::{Graph, Skip, Team};
+use heap_graph::{Graph, Skip};
 use histogram::{Report, append_unnamed, rows};
-use hprof_grammar::read;
+use hprof_grammar::{Team, read};
 use std::alloc::Global;
 use std::sync::Wait;
 use std::thread::Threads;

@@ -33,6 +33,7 @@ mod snapshot_order;
 mod sub_record_list;
 mod sub_records;
 mod tags;
+mod team;
 mod view;
 
 pub use dump::Dump;
@@ -41,6 +42,7 @@ pub use kinds::RootKind;
 pub use laws::{always_dump_or_fault, dump_or_fault, one_dump, one_fault, one_list_of_records};
 pub use parse::read;
 pub use placed::{dump_is_placed, stands_within};
+pub use team::Team;
 pub use view::ids::Ids;
 pub use view::members::{MemberField, Members};
 pub use view::values::{TypedValue, Values};

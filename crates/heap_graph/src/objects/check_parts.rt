@@ -6,13 +6,10 @@ ghost use Rattle.heap_graph.specs.working.TestedParts.{HasTested, MayTest};
 
 use crate::objects::Objects;
 use crate::refusal::LinkFault;
-use crate::team::Team;
+use hprof_grammar::Team;
 use std::alloc::Allocator;
 use std::thread;
 use std::thread::Threads;
-
-/// The fewest objects that are tested in several parts: a thread is not worth its start below.
-const FEWEST_IN_PARTS: usize = 65_536;
 
 impl<'d, A: Allocator> Objects<'d, A> {
     /// Tests the objects of a part of the places in turn, up to the first fault: those from the number `start` on. What
@@ -58,7 +55,7 @@ impl<'d, A: Allocator + Copy + Send + Sync> Objects<'d, A> {
     {
         let repeat = self.index.first_repeat();
         let places = self.places.as_slice();
-        if places.len() < FEWEST_IN_PARTS {
+        if !team.shares(places.len()) {
             return self.check_part(0, places, repeat);
         }
         let size = team.part_of(places.len());
