@@ -11,7 +11,7 @@ pub mod OneMarking
 pub mod Outcomes
 pub mod Pairs
 pub mod Passing
-pub mod Places
+pub mod RowTests
 pub mod Runs
 pub mod Scanning
 pub mod Sharing

@@ -7,6 +7,7 @@ use Rattle.std.proofs.lemmas.Bool.{cases_lt}
 use Rattle.std.proofs.lemmas.List.{get_or_past, length-map}
 use Rattle.mark_core.proofs.Chosen.{AreThose, IsOnce, chosen_sums}
 use Rattle.heap_graph.specs.ObjectGraph.{ObjectGraph, bytes_at, class_count, object_count, row_at}
+use Rattle.heap_graph.specs.RowNumbers.{row_number}
 use Rattle.heap_graph.specs.Whole.{IsRowIn, IsWhole, unresolved_at}
 use Rattle.heap_graph.specs.declared.row.RowKey.{RowKey}
 use Rattle.heap_graph.specs.declared.row.RowKey.TheVariants as keys
@@ -17,11 +18,12 @@ use Rattle.drain.specs.Marks.{IsMarkingOf, is_set}
 use Rattle.drain.specs.Totals.{marked_objects, of_row, total}
 use Rattle.drain.specs.declared.sum.Sum.{Sum}
 use Rattle.drain.specs.Sums.{no_object, sum_at, sum_of_row}
-use Rattle.drain.specs.working.Measures.{measure_of, row_place}
+use Rattle.drain.specs.working.Measures.{measure_of}
 use Rattle.drain.specs.working.Tallies.{IsTallyOf, sum_in}
 use Rattle.drain.proofs.Closes.{marked_where_set}
 use Rattle.drain.proofs.Passing.{passing_count, passing_sum}
-use Rattle.drain.proofs.Places.{in_or_not, none_of_row, place_within, row_there, same_place}
+use Rattle.drain.proofs.RowTests.{in_or_not, none_of_row, same_number}
+use Rattle.heap_graph.proofs.RowNumberLaws.{number_within, row_there}
 
 module _ (g : ObjectGraph) (whole : IsWhole g) (objects : List ℕ) (marks : List Bool) (rows : List Sum) (unresolved : ℕ)
     (once : IsOnce objects) (those : AreThose (λ o. slice_index_or marks o false) (object_count g) objects)
@@ -35,40 +37,40 @@ module _ (g : ObjectGraph) (whole : IsWhole g) (objects : List ℕ) (marks : Lis
   -- the objects of a row, and those at its place
   of_place :
       (row : RowKey) → IsRowIn g row
-      → filter (λ o. row_place (row_at g o) == row_place row) marked ≡ of_row g row marked
-  of_place row here = λ k. filter (λ o. sym (same_place g row (row_at g o) here (row_there g whole o)) k) marked
+      → filter (λ o. row_number (row_at g o) == row_number row) marked ≡ of_row g row marked
+  of_place row here = λ k. filter (λ o. sym (same_number g row (row_at g o) here (row_there g whole o)) k) marked
 
-  told_in : (row : RowKey) → IsRowIn g row → sum_at rows (row_place row) ≡ total g (of_row g row marked)
+  told_in : (row : RowKey) → IsRowIn g row → sum_at rows (row_number row) ≡ total g (of_row g row marked)
   told_in row here = λ k. (count k, bytes k)
     where
       place : ℕ
-      place = row_place row
+      place = row_number row
 
       is : slice_index_or rows place no_object ≡ sum_in (measure_of g) place objects
-      is = tally.right place (place_within g row here)
+      is = tally.right place (number_within g row here)
 
       count : (slice_index_or rows place no_object).count ≡ length (of_row g row marked)
       count =
           ap (λ (s : Sum). s.count) is
-          ∙ same_sum (λ o. cond (row_place (row_at g o) == place) 1 0)
-          ∙ sym (passing_count (λ o. row_place (row_at g o) == place) marked)
+          ∙ same_sum (λ o. cond (row_number (row_at g o) == place) 1 0)
+          ∙ sym (passing_count (λ o. row_number (row_at g o) == place) marked)
           ∙ ap length (of_place row here)
 
       bytes : (slice_index_or rows place no_object).bytes ≡ sum_by (bytes_at g) (of_row g row marked)
       bytes =
           ap (λ (s : Sum). s.bytes) is
-          ∙ same_sum (λ o. cond (row_place (row_at g o) == place) (bytes_at g o) 0)
-          ∙ sym (passing_sum (bytes_at g) (λ o. row_place (row_at g o) == place) marked)
+          ∙ same_sum (λ o. cond (row_number (row_at g o) == place) (bytes_at g o) 0)
+          ∙ sym (passing_sum (bytes_at g) (λ o. row_number (row_at g o) == place) marked)
           ∙ ap (sum_by (bytes_at g)) (of_place row here)
 
   -- of a row of the graph that is what stands at its place
-  told_row : (row : RowKey) → IsRowIn g row → sum_of_row rows row ≡ sum_at rows (row_place row)
+  told_row : (row : RowKey) → IsRowIn g row → sum_of_row rows row ≡ sum_at rows (row_number row)
   told_row (keys.Class n) here = refl
   told_row (keys.Primitive t) here =
       let from = le-leb 4 t here.0 in
       let up = le-leb t 11 here.1 in
-      (λ k. cond (from k && nat_le t 11) (sum_at rows (row_place (keys.Primitive t))) (0, 0))
-      ∙ (λ k. cond (up k) (sum_at rows (row_place (keys.Primitive t))) (0, 0))
+      (λ k. cond (from k && nat_le t 11) (sum_at rows (row_number (keys.Primitive t))) (0, 0))
+      ∙ (λ k. cond (up k) (sum_at rows (row_number (keys.Primitive t))) (0, 0))
   told_row keys.ClassObject here = refl
 
   none_told : (row : RowKey) → (IsRowIn g row → ⊥) → sum_of_row rows row ≡ (0, 0)

@@ -4,11 +4,12 @@ use Rattle.std.specs.Iterator.{Yields, YieldsFirst}
 use Rattle.heap_graph.specs.ObjectGraph.{ObjectGraph, bytes_at, object_count, row_at}
 use Rattle.heap_graph.specs.Whole.{IsWhole, unresolved_at}
 use Rattle.heap_graph.specs.Walks.{Advances, Visited, unresolved_left, references_left}
-use Rattle.drain.specs.working.Measures.{measure_of, row_place, scanned_in}
+use Rattle.heap_graph.specs.RowNumbers.{row_number}
+use Rattle.drain.specs.working.Measures.{measure_of, scanned_in}
 use Rattle.drain.specs.working.Scans.{IsScanOf}
 use Rattle.drain.specs.working.Tallies.{IsMeasureOf}
 use Rattle.drain.specs.working.Walk.{HasEnded}
-use Rattle.drain.proofs.Places.{place_within}
+use Rattle.heap_graph.proofs.RowNumberLaws.{number_within}
 
 -- a call of the visit
 abbrev pub visits : Visited → Option ℕ → Visited → Type 0
@@ -44,7 +45,7 @@ read_at_end g o start end row bytes unresolved ended =
     let all = two_calls start ended.1 end before (one_call ended.1 None end step) in
     let none : unresolved_left end.left ≡ 0 = ap unresolved_left step.1.goes.1 in
     record {
-      row = ap row_place (all.row ∙ row);
+      row = ap row_number (all.row ∙ row);
       bytes = all.bytes ∙ bytes;
       unresolved = omega (arith, all.unresolved, unresolved, none);
     }
@@ -53,7 +54,7 @@ read_at_end g o start end row bytes unresolved ended =
 pub measured : (g : ObjectGraph) → IsWhole g → IsMeasureOf (object_count g) (measure_of g)
 measured g whole = record {
   few_objects = whole.few_objects;
-  within = λ o below. place_within g (row_at g o) (whole.rows_within o below);
+  within = λ o below. number_within g (row_at g o) (whole.rows_within o below);
   few_bytes = whole.few_bytes;
   few_unresolved = whole.few_unresolved;
 }

@@ -1,7 +1,6 @@
 //! What a marking gives.
 
 use crate::tally::Tally;
-use crate::walked_graph::row_place;
 use buffer_pool::Marks;
 use heap_graph::RowKey;
 use std::alloc::{AllocError, Allocator};
@@ -115,7 +114,7 @@ impl<A: Allocator> Marked<A> {
     {
         match *row {
             RowKey::Primitive(code) if !(4..=11).contains(&code) => (0, 0),
-            row => self.tally.told_at(row_place(row)),
+            row => self.tally.told_at(row.number()),
         }
     }
 

@@ -1,17 +1,11 @@
 //! The graph of a heap dump, as marking walks it.
 
-ghost use Rattle.std.specs.Prelude.{◌≡◌};
-ghost use Rattle.drain.specs.working.Measures as places;
-
 use crate::measured::Measured;
 use crate::scanned::Scanned;
 use crate::walk::Walk;
 use buffer_pool::Edges;
-use heap_graph::{Graph, RowKey, Visit};
+use heap_graph::{Graph, Visit};
 use std::alloc::Allocator;
-
-/// The rows that every graph has: the eight primitive types, and the class objects.
-const FIXED_ROWS: usize = 9;
 
 /// A graph of bytes that live for `'b`, whose roots and references are walked.
 #[derive(Drop)]
@@ -35,17 +29,6 @@ impl<'a, 'b, A: Allocator> Edges for WalkedGraph<'a, 'b, A> {
     }
 }
 
-/// The place of a row in a tally: the types 4 to 11, then the class objects, then the classes by their numbers.
-pub(crate) fn row_place(row: RowKey) -> usize
-    ensures { result ≡ places.row_place row }
-{
-    match row {
-        RowKey::Class(class) => FIXED_ROWS + class as usize,
-        RowKey::Primitive(code) => usize::from(code).saturating_sub(4),
-        RowKey::ClassObject => FIXED_ROWS - 1,
-    }
-}
-
 impl<'a, 'b, A: Allocator> Measured for WalkedGraph<'a, 'b, A> {
     ghost use Rattle.drain.specs.working.Measures.{measure_of};
 
@@ -56,7 +39,7 @@ impl<'a, 'b, A: Allocator> Measured for WalkedGraph<'a, 'b, A> {
     }
 
     fn rows(&self) -> usize {
-        FIXED_ROWS + self.graph.classes() as usize
+        self.graph.row_count()
     }
 }
 
@@ -77,7 +60,7 @@ impl<'a, 'b, A: Allocator + Sync> Walk for WalkedGraph<'a, 'b, A> {
 
     fn read(visit: &Visit<'a, A>) -> Scanned {
         Scanned {
-            row: row_place(visit.row()),
+            row: visit.row().number(),
             bytes: visit.bytes(),
             unresolved: visit.unresolved(),
         }

@@ -40,5 +40,6 @@ pub mod FirstNamed
 pub mod Superclasses
 pub mod LinkedOrFault
 pub mod Wholeness
+pub mod RowNumberLaws
 pub mod Building
 pub mod GraphReading

@@ -15,6 +15,7 @@ pub mod Accepted
 pub mod LinkFault
 pub mod ObjectGraph
 pub mod Whole
+pub mod RowNumbers
 pub mod Reachable
 pub mod Refusal
 pub mod working

@@ -6,6 +6,7 @@ mod parts;
 ghost use Rattle.std.specs.Prelude.{All, ◌+◌, ◌<◌, ◌^◌, ◌≡◌, ◌≤◌, map, option_copied};
 ghost use Rattle.hprof_grammar.specs.Dump.{limit};
 ghost use Rattle.heap_graph.specs.ObjectGraph.{bytes_at, class_at, class_count, object_count, references_of, row_at};
+ghost use Rattle.heap_graph.specs.RowNumbers.{row_count};
 ghost use Rattle.heap_graph.specs.Whole.{IsRowIn, IsWhole, held_by, unresolved_at, unresolved_roots};
 ghost use Rattle.heap_graph.specs.Walks.{ids_in, unresolved_left, references_in, step_in};
 ghost use Rattle.heap_graph.specs.working.GraphOf.{GraphOf, GraphOf-prop};
@@ -13,7 +14,7 @@ ghost use Rattle.heap_graph.specs.working.GraphOf.{GraphOf, GraphOf-prop};
 use crate::class_entry::ClassEntry;
 use crate::objects::Objects;
 use crate::plan::Plan;
-use crate::row::RowKey;
+use crate::row::{FIXED_ROWS, RowKey};
 use crate::skip::SkipPair;
 use crate::successors::Successors;
 use crate::visit::Visit;
@@ -137,6 +138,14 @@ impl<'a, A: Allocator> Graph<'a, A> {
         ensures within { result ≤ object_count self.now }
     {
         self.classes.len() as u32
+    }
+
+    /// How many rows a histogram of the graph may have: those of every graph, and one for each class.
+    pub fn row_count(&self) -> usize
+        ensures value { result ≡ row_count self.now }
+        ensures within { result < 9 + 2 ^ 32 }
+    {
+        FIXED_ROWS + self.classes() as usize
     }
 
     /// The identifier of a class.

@@ -1,5 +1,11 @@
 //! The rows of the histogram.
 
+ghost use Rattle.std.specs.Prelude.{◌≡◌, ◌<◌, ◌+◌, ◌^◌};
+ghost use Rattle.heap_graph.specs.RowNumbers as numbers;
+
+/// How many rows there are beside those of classes: the eight primitive types, and the class objects.
+pub(crate) const FIXED_ROWS: usize = 9;
+
 /// The row of the histogram that an object belongs to.
 #[derive(Clone, Copy, Debug, PartialEq, Eq)]
 pub enum RowKey {
@@ -9,4 +15,32 @@ pub enum RowKey {
     Primitive(u8),
     /// That of the objects that are classes.
     ClassObject,
+}
+
+impl RowKey {
+    /// The number of a row: the types 4 to 11 first, then the class objects, then the classes by their numbers.
+    #[inline(always)] // asked of each object that is marked
+    pub fn number(self) -> usize
+        ensures { result ≡ numbers.row_number self }
+    {
+        match self {
+            RowKey::Primitive(code) => usize::from(code).saturating_sub(4),
+            RowKey::ClassObject => FIXED_ROWS - 1,
+            RowKey::Class(class) => FIXED_ROWS + class as usize,
+        }
+    }
+
+    /// The row of that number.
+    pub fn numbered(number: usize) -> RowKey
+        requires { number < 9 + 2 ^ 32 }
+        ensures { result ≡ numbers.numbered_row number }
+    {
+        if number < FIXED_ROWS - 1 {
+            RowKey::Primitive(4 + number as u8)
+        } else if number == FIXED_ROWS - 1 {
+            RowKey::ClassObject
+        } else {
+            RowKey::Class((number - FIXED_ROWS) as u32)
+        }
+    }
 }

@@ -1,9 +1,9 @@
 -- The entries of a histogram by the numbers of the rows.
-use Rattle.std.proofs.Common.{◌≡◌, ℕ, ◌+◌, ◌-◌, ◌<◌, ◌≤◌, List, [], ◌∷◌, ◌++◌, inl, inr, length, map, get_or, filter}
-use Rattle.std.proofs.Common.{nat_lt, refl, sym, ap, ◌∙◌, arith, append-nil, length-append, zero-add}
+use Rattle.std.proofs.Common.{◌≡◌, ℕ, suc, ◌+◌, ◌<◌, ◌≤◌, List, [], ◌∷◌, ◌++◌, length, map, get_or, filter}
+use Rattle.std.proofs.Common.{nat_lt, refl, sym, ap, ◌∙◌, arith, append-nil, zero-add}
 use Rattle.std.specs.List.{range_with_len}
 use Rattle.std.proofs.lemmas.Bool.{le-ltb, lt-ltb}
-use Rattle.std.proofs.lemmas.List.{get_or-append-add, get_or_append_left, map-append}
+use Rattle.std.proofs.lemmas.List.{map-append}
 use Rattle.std.proofs.lemmas.List.FromFn.{fill_by_all, filter_of_map_range_with_len_more, get_or-map-range_with_len}
 use Rattle.std.proofs.lemmas.List.FromFn.{length-map-range_with_len}
 use Rattle.std.proofs.lemmas.Simd.{map-map}
@@ -11,75 +11,40 @@ use Rattle.histogram.specs.Histogram.{Entry, all_rows, entries, entry, of_row, t
 use Rattle.heap_graph.specs.ObjectGraph.{ObjectGraph, class_count}
 use Rattle.heap_graph.specs.declared.row.RowKey.{RowKey}
 use Rattle.heap_graph.specs.declared.row.RowKey.TheVariants as keys
-use Rattle.histogram.specs.working.RowNumbers.{entries_below, numbered_row, row_count, row_entry}
-use Rattle.histogram.proofs.RowLemmas.{at_class, at_objects, at_primitive, number_kinds}
+use Rattle.heap_graph.specs.RowNumbers.{numbered_row, row_count}
+use Rattle.heap_graph.proofs.RowNumberLaws.{at_class}
+use Rattle.histogram.specs.working.RowNumbers.{entries_below, row_entry}
 
--- the row at each number: of the classes, of the primitive types, of the class objects
-module _ (g : ObjectGraph) (n : ℕ) where
-  classes : List RowKey
-  classes = map keys.Class (range_with_len 0 (class_count g))
+-- the row at each number: of the primitive types, of the class objects, of the classes
+all_rows_numbered : (g : ObjectGraph) → all_rows g ≡ map numbered_row (range_with_len 0 (row_count g))
+all_rows_numbered g = fill_by_all numbered_row (all_rows g) (row_count g) keys.ClassObject long row_at
+  where
+    classes : List RowKey
+    classes = map keys.Class (range_with_len 0 (class_count g))
 
-  primitives : List RowKey
-  primitives = map keys.Primitive (range_with_len 4 8)
+    long : length (all_rows g) ≡ row_count g
+    long = omega (arith, length-map-range_with_len keys.Class 0 (class_count g))
 
-  at_first : n < class_count g → get_or (all_rows g) n keys.ClassObject ≡ keys.Class n
-  unfolding classes primitives
-  at_first below =
-      let within : n < length classes = omega (arith, below, length-map-range_with_len keys.Class 0 (class_count g)) in
-      get_or_append_left classes (primitives ++ keys.ClassObject ∷ []) keys.ClassObject n within
-      ∙ get_or-map-range_with_len keys.Class 0 (class_count g) n n keys.ClassObject below (zero-add n)
-
-  behind : (k : ℕ) → n ≡ class_count g + k
-      → get_or (all_rows g) n keys.ClassObject ≡ get_or (primitives ++ keys.ClassObject ∷ []) k keys.ClassObject
-  unfolding classes primitives
-  behind k is =
-      let place : n ≡ length classes + k = omega (arith, is, length-map-range_with_len keys.Class 0 (class_count g)) in
-      ap (λ m. get_or (all_rows g) m keys.ClassObject) place
-      ∙ get_or-append-add classes (primitives ++ keys.ClassObject ∷ []) k keys.ClassObject
-
-  at_second : class_count g ≤ n → n < class_count g + 8
-      → get_or (all_rows g) n keys.ClassObject ≡ keys.Primitive (n - class_count g + 4)
-  unfolding primitives
-  at_second past below =
-      let k : ℕ = n - class_count g in
-      let is : n ≡ class_count g + k = omega arith in
-      let few : k < 8 = omega arith in
-      let code : 4 + k ≡ k + 4 = omega arith in
-      behind k is ∙ get_or_append_left primitives (keys.ClassObject ∷ []) keys.ClassObject k few
-      ∙ get_or-map-range_with_len keys.Primitive 4 8 k (k + 4) keys.ClassObject few code
-
-  at_last : n ≡ class_count g + 8 → get_or (all_rows g) n keys.ClassObject ≡ keys.ClassObject
-  unfolding primitives
-  at_last is = behind 8 is
-
-  pub row_at_number : n < row_count g → get_or (all_rows g) n keys.ClassObject ≡ numbered_row (class_count g) n
-  row_at_number below = elim (number_kinds (class_count g) n) [
-    | inl h ↦ at_first h ∙ sym (at_class (class_count g) n h)
-    | inr h ↦ elim h [
-      | inl k ↦ at_second k.0 k.1 ∙ sym (at_primitive (class_count g) n k.0 k.1)
-      | inr k ↦ at_last (omega (arith, k, below)) ∙ sym (at_objects (class_count g) n k)
-    ]
-  ]
-
-pub length-all_rows : (g : ObjectGraph) → length (all_rows g) ≡ row_count g
-length-all_rows g = omega (
-  arith,
-  length-append (map keys.Class (range_with_len 0 (class_count g)))
-      (map keys.Primitive (range_with_len 4 8) ++ keys.ClassObject ∷ []),
-  length-map-range_with_len keys.Class 0 (class_count g),
-)
-
-pub all_rows_numbered : (g : ObjectGraph)
-    → all_rows g ≡ map (numbered_row (class_count g)) (range_with_len 0 (row_count g))
-all_rows_numbered g = fill_by_all (numbered_row (class_count g)) (all_rows g) (row_count g) keys.ClassObject
-    (length-all_rows g) (row_at_number g)
+    row_at : (n : ℕ) → n < row_count g → get_or (all_rows g) n keys.ClassObject ≡ numbered_row n
+    row_at 0 h = refl
+    row_at 1 h = refl
+    row_at 2 h = refl
+    row_at 3 h = refl
+    row_at 4 h = refl
+    row_at 5 h = refl
+    row_at 6 h = refl
+    row_at 7 h = refl
+    row_at 8 h = refl
+    row_at (suc (suc (suc (suc (suc (suc (suc (suc (suc n))))))))) h =
+        get_or-map-range_with_len keys.Class 0 (class_count g) n n keys.ClassObject (omega (arith, h)) (zero-add n)
+        ∙ sym (at_class n)
 
 pub entries_numbered : (g : ObjectGraph) (xs : List ℕ)
     → entries g xs ≡ entries_below g xs (row_count g)
 unfolding entries
 entries_numbered g xs = ap (λ rows. filter (λ e. nat_lt 0 e.count) (map (entry g xs) rows)) (all_rows_numbered g)
     ∙ ap (filter (λ e. nat_lt 0 e.count))
-    (map-map (entry g xs) (numbered_row (class_count g)) (range_with_len 0 (row_count g)))
+    (map-map (entry g xs) numbered_row (range_with_len 0 (row_count g)))
 
 pub all_entries : (g : ObjectGraph) (xs : List ℕ) (shown : List Entry) (n : ℕ) → n ≡ row_count g
     → shown ≡ entries_below g xs n → shown ≡ entries g xs
@@ -87,18 +52,18 @@ all_entries g xs shown n all are = are ∙ ap (entries_below g xs) all ∙ sym (
 
 -- what is told of a row, and a list of lines that grows by its line
 module _ {X : Type 0} (g : ObjectGraph) (xs : List ℕ) (show : X → Entry) (lines : List X) (n count bytes : ℕ)
-    (told : (count, bytes) ≡ total g (of_row g (numbered_row (class_count g) n) xs))
+    (told : (count, bytes) ≡ total g (of_row g (numbered_row n) xs))
     (were : map show lines ≡ entries_below g xs n) where
   f : ℕ → Entry
-  f k = entry g xs (numbered_row (class_count g) k)
+  f k = entry g xs (numbered_row k)
 
-  entry_at : row_entry g (numbered_row (class_count g) n) (count, bytes) ≡ f n
+  entry_at : row_entry g (numbered_row n) (count, bytes) ≡ f n
   unfolding f
-  entry_at = ap (row_entry g (numbered_row (class_count g) n)) told
+  entry_at = ap (row_entry g (numbered_row n)) told
 
   -- one line more
   pub line_more :
-      (pushed : List X) (line : X) (row : RowKey) → 0 < count → row ≡ numbered_row (class_count g) n
+      (pushed : List X) (line : X) (row : RowKey) → 0 < count → row ≡ numbered_row n
       → show line ≡ row_entry g row (count, bytes) → pushed ≡ lines ++ line ∷ []
       → map show pushed ≡ entries_below g xs (n + 1)
   unfolding f

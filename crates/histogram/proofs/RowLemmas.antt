@@ -1,80 +1,30 @@
 -- Rows by their numbers, and the objects of the rows below a number.
-use Rattle.std.proofs.Common.{Bool, ◌≡◌, ◌≢◌, ℕ, ◌+◌, ◌-◌, ◌<◌, ◌≤◌, ◌^◌, ◌⊎◌, List, [], ◌∷◌, true, false, cond, inl}
-use Rattle.std.proofs.Common.{filter, length, nat_lt, slice_index_or, sum_by, refl, sym, ap, ◌∙◌, ⊎_elim, arith, eq-eqb}
-use Rattle.std.proofs.Common.{inr, ne_eqb}
-use Rattle.std.proofs.lemmas.Bool.{cases_lt, cases_order, le-ltb, lt-ltb}
+use Rattle.std.proofs.Common.{Bool, ◌≡◌, ◌≢◌, ℕ, ◌+◌, ◌<◌, ◌≤◌, ◌^◌, ◌⊎◌, List, [], ◌∷◌, true, false, cond}
+use Rattle.std.proofs.Common.{filter, length, nat_lt, slice_index_or, sum_by, refl, sym, ap, ◌∙◌, ⊎_elim, arith}
+use Rattle.std.proofs.lemmas.Bool.{cases_order, le-ltb, lt-ltb}
 use Rattle.std.proofs.lemmas.List.FromFn.{length-range_with_len}
 use Rattle.std.proofs.lemmas.List.Sums.{count_by-le-length, length-filter, sum_by-cons, sum_by-le}
 use Rattle.std.specs.List.{range_with_len}
 use Rattle.hprof_grammar.specs.Dump.{limit}
 use Rattle.mark_core.proofs.Chosen.{ones}
-use Rattle.heap_graph.specs.ObjectGraph.{ObjectGraph, bytes_at, class_count, object_count, row_at}
+use Rattle.heap_graph.specs.ObjectGraph.{ObjectGraph, bytes_at, object_count, row_at}
 use Rattle.heap_graph.specs.Whole.{IsRowIn, IsWhole}
 use Rattle.heap_graph.specs.declared.row.RowKey.{RowKey}
-use Rattle.heap_graph.specs.declared.row.RowKey.TheVariants as keys
 use Rattle.histogram.specs.Histogram.{marked_objects, of_row, same_row}
-use Rattle.histogram.specs.working.RowNumbers.{numbered_row, objects_below, row_count, row_number}
+use Rattle.heap_graph.specs.RowNumbers.{numbered_row, row_count, row_number}
+use Rattle.histogram.specs.working.RowNumbers.{objects_below}
 use Rattle.drain.proofs.Passing.{passing_sum}
-use Rattle.drain.proofs.Places.{row_there}
-
-pub at_class : (classes n : ℕ) → n < classes → numbered_row classes n ≡ keys.Class n
-at_class classes n h = rw (lt-ltb n classes h) refl
-
-pub at_primitive : (classes n : ℕ) → classes ≤ n → n < classes + 8
-    → numbered_row classes n ≡ keys.Primitive (n - classes + 4)
-at_primitive classes n h k = rw (le-ltb n classes h, lt-ltb n (classes + 8) k) refl
-
-pub at_objects : (classes n : ℕ) → classes + 8 ≤ n → numbered_row classes n ≡ keys.ClassObject
-at_objects classes n h =
-    let past : classes ≤ n = omega arith in
-    rw (le-ltb n classes past, le-ltb n (classes + 8) h) refl
-
--- the three kinds of numbers
-pub number_kinds : (classes n : ℕ) → (n < classes) ⊎ (((classes ≤ n) × (n < classes + 8)) ⊎ (classes + 8 ≤ n))
-number_kinds classes n = elim (cases_lt n classes)
-    [ inl h ↦ inl h | inr h ↦ elim (cases_lt n (classes + 8)) [ inl k ↦ inr (inl (h, k)) | inr k ↦ inr (inr k) ] ]
+use Rattle.heap_graph.proofs.RowNumberLaws.{number_of_its_row, number_within, row_of_its_number, row_there}
+use Rattle.drain.proofs.RowTests.{differ, same_itself}
 
 -- a row is the one of its number, and of no other
-pub row_here : (g : ObjectGraph) (row : RowKey) → IsRowIn g row
-    → same_row (numbered_row (class_count g) (row_number (class_count g) row)) row ≡ true
-row_here g (keys.Class n) h = rw (at_class (class_count g) n h) (eq-eqb n n refl)
-row_here g (keys.Primitive t) h =
-    let behind : class_count g ≤ class_count g + (t - 4) = omega arith in
-    let before : class_count g + (t - 4) < class_count g + 8 = omega arith in
-    let same : class_count g + (t - 4) - class_count g + 4 ≡ t = omega arith in
-    rw (at_primitive (class_count g) (class_count g + (t - 4)) behind before) (eq-eqb _ _ same)
-row_here g keys.ClassObject h = rw (at_objects (class_count g) (class_count g + 8) (omega arith)) refl
+row_here : (g : ObjectGraph) (row : RowKey) → IsRowIn g row → same_row (numbered_row (row_number row)) row ≡ true
+row_here g row here = ap (λ r. same_row r row) (row_of_its_number g row here) ∙ same_itself row
 
-pub row_elsewhere : (g : ObjectGraph) (row : RowKey) (n : ℕ) → IsRowIn g row → n < row_count g
-    → n ≢ row_number (class_count g) row
-    → same_row (numbered_row (class_count g) n) row ≡ false
-row_elsewhere g (keys.Class c) n h below other = elim (number_kinds (class_count g) n) [
-  | inl k ↦ rw (at_class (class_count g) n k) (ne_eqb n c other)
-  | inr k ↦ elim k [
-    | inl m ↦ rw (at_primitive (class_count g) n m.0 m.1) refl
-    | inr m ↦ rw (at_objects (class_count g) n m) refl
-  ]
-]
-row_elsewhere g (keys.Primitive t) n h below other = elim (number_kinds (class_count g) n) [
-  | inl k ↦ rw (at_class (class_count g) n k) refl
-  | inr k ↦ elim k [
-    | inl m ↦ rw (at_primitive (class_count g) n m.0 m.1)
-        (ne_eqb (n - class_count g + 4) t (λ e. other (omega (arith, e, h.0, m.0))))
-    | inr m ↦ rw (at_objects (class_count g) n m) refl
-  ]
-]
-row_elsewhere g keys.ClassObject n h below other = elim (number_kinds (class_count g) n) [
-  | inl k ↦ rw (at_class (class_count g) n k) refl
-  | inr k ↦ elim k [
-    | inl m ↦ rw (at_primitive (class_count g) n m.0 m.1) refl
-    | inr m ↦ absurd (other (omega (arith, m, below)))
-  ]
-]
-
-pub number_within : (g : ObjectGraph) (row : RowKey) → IsRowIn g row → row_number (class_count g) row < row_count g
-number_within g (keys.Class n) h = omega (arith, h)
-number_within g (keys.Primitive t) h = omega (arith, h.0, h.1)
-number_within g keys.ClassObject h = omega arith
+row_elsewhere : (g : ObjectGraph) (row : RowKey) (n : ℕ) → n < row_count g → n ≢ row_number row
+    → same_row (numbered_row n) row ≡ false
+row_elsewhere g row n below other =
+    differ (numbered_row n) row (λ e. other (sym (number_of_its_row g n below) ∙ ap row_number e))
 
 -- a test that passes where one of two others does, and no object passes both
 two_parts :
@@ -100,25 +50,25 @@ two_parts f r p q xs each =
 
 module _ (g : ObjectGraph) (whole : IsWhole g) where
   abbrev number_at : ℕ → ℕ
-  number_at o = row_number (class_count g) (row_at g o)
+  number_at o = row_number (row_at g o)
 
   -- the rows below the next number: those below this one, and this one
   next_row :
       (f : ℕ → ℕ) (n : ℕ) → n < row_count g → (o : ℕ)
       → cond (nat_lt (number_at o) (n + 1)) (f o) 0
       ≡ cond (nat_lt (number_at o) n) (f o) 0
-      + cond (same_row (numbered_row (class_count g) n) (row_at g o)) (f o) 0
+      + cond (same_row (numbered_row n) (row_at g o)) (f o) 0
   next_row f n below o = go (cases_order (number_at o) n)
     where
       here : IsRowIn g (row_at g o)
       here = row_there g whole o
 
       made : (a b c : Bool) → nat_lt (number_at o) (n + 1) ≡ a → nat_lt (number_at o) n ≡ b
-          → same_row (numbered_row (class_count g) n) (row_at g o) ≡ c
+          → same_row (numbered_row n) (row_at g o) ≡ c
           → cond a (f o) 0 ≡ cond b (f o) 0 + cond c (f o) 0
           → cond (nat_lt (number_at o) (n + 1)) (f o) 0
           ≡ cond (nat_lt (number_at o) n) (f o) 0
-          + cond (same_row (numbered_row (class_count g) n) (row_at g o)) (f o) 0
+          + cond (same_row (numbered_row n) (row_at g o)) (f o) 0
       made a b c is_a is_b is_c e =
           omega (
             arith,
@@ -131,28 +81,28 @@ module _ (g : ObjectGraph) (whole : IsWhole g) where
       go : (number_at o ≡ n) ⊎ ((number_at o < n) ⊎ (n < number_at o))
           → cond (nat_lt (number_at o) (n + 1)) (f o) 0
           ≡ cond (nat_lt (number_at o) n) (f o) 0
-          + cond (same_row (numbered_row (class_count g) n) (row_at g o)) (f o) 0
+          + cond (same_row (numbered_row n) (row_at g o)) (f o) 0
       go h = ⊎_elim
           (λ same. made true false true
           (lt-ltb (number_at o) (n + 1) (omega (arith, same))) (le-ltb (number_at o) n (omega (arith, same)))
-          (ap (λ k. same_row (numbered_row (class_count g) k) (row_at g o)) (sym same) ∙ row_here g (row_at g o) here)
+          (ap (λ k. same_row (numbered_row k) (row_at g o)) (sym same) ∙ row_here g (row_at g o) here)
           (omega arith))
           (⊎_elim
           (λ low. made true true false
           (lt-ltb (number_at o) (n + 1) (omega (arith, low))) (lt-ltb (number_at o) n low)
-          (row_elsewhere g (row_at g o) n here below (λ e. omega (arith, e, low))) (omega arith))
+          (row_elsewhere g (row_at g o) n below (λ e. omega (arith, e, low))) (omega arith))
           (λ high. made false false false
           (le-ltb (number_at o) (n + 1) (omega (arith, high))) (le-ltb (number_at o) n (omega (arith, high)))
-          (row_elsewhere g (row_at g o) n here below (λ e. omega (arith, e, high))) (omega arith)))
+          (row_elsewhere g (row_at g o) n below (λ e. omega (arith, e, high))) (omega arith)))
           h
 
   pub below_next :
       (f : ℕ → ℕ) (n : ℕ) (xs : List ℕ) → n < row_count g
       → sum_by f (objects_below g (n + 1) xs)
-      ≡ sum_by f (objects_below g n xs) + sum_by f (of_row g (numbered_row (class_count g) n) xs)
+      ≡ sum_by f (objects_below g n xs) + sum_by f (of_row g (numbered_row n) xs)
   below_next f n xs below =
       two_parts f (λ o. nat_lt (number_at o) (n + 1)) (λ o. nat_lt (number_at o) n)
-      (λ o. same_row (numbered_row (class_count g) n) (row_at g o)) xs (next_row f n below)
+      (λ o. same_row (numbered_row n) (row_at g o)) xs (next_row f n below)
 
   pub below_none : (f : ℕ → ℕ) (xs : List ℕ) → sum_by f (objects_below g 0 xs) ≡ 0
   below_none f [] = refl
@@ -171,14 +121,14 @@ module _ (g : ObjectGraph) (whole : IsWhole g) where
   pub count_next :
       (n : ℕ) (xs : List ℕ) → n < row_count g
       → length (objects_below g (n + 1) xs)
-      ≡ length (objects_below g n xs) + length (of_row g (numbered_row (class_count g) n) xs)
+      ≡ length (objects_below g n xs) + length (of_row g (numbered_row n) xs)
   count_next n xs below =
       omega (
         arith,
         below_next (λ o. 1) n xs below,
         ones (objects_below g (n + 1) xs),
         ones (objects_below g n xs),
-        ones (of_row g (numbered_row (class_count g) n) xs),
+        ones (of_row g (numbered_row n) xs),
       )
 
   pub count_none : (xs : List ℕ) → length (objects_below g 0 xs) ≡ 0

@@ -1,5 +1,5 @@
 -- The histogram of a graph with marks: how many objects each row has, and how many bytes.
-use Rattle.std.specs.Prelude.{Bool, IsPermutation, IsSorted, List, [], filter, length, map, nat_lt, sum_by, ℕ}
+use Rattle.std.specs.Prelude.{Bool, IsPermutation, IsSorted, List, filter, length, map, nat_lt, sum_by, ℕ}
 use Rattle.std.specs.Prelude.{◌++◌, ◌∷◌, ◌≡◌}
 use Rattle.std.specs.List.{range_with_len}
 use Rattle.heap_graph.specs.ObjectGraph.{ObjectGraph, bytes_at, class_count}
@@ -11,11 +11,11 @@ use Rattle.std.specs.declared.cmp.Ordering.{Ordering}
 use Rattle.heap_graph.specs.declared.row.RowKey.{RowKey}
 use Rattle.heap_graph.specs.declared.row.RowKey.TheVariants as keys
 
--- all rows: the classes by their numbers, the eight primitive types, the class objects
+-- all rows: the eight primitive types, the class objects, the classes by their numbers
 abbrev pub all_rows : ObjectGraph → List RowKey
 all_rows g =
-    map keys.Class (range_with_len 0 (class_count g))
-    ++ (map keys.Primitive (range_with_len 4 8) ++ keys.ClassObject ∷ [])
+    map keys.Primitive (range_with_len 4 8)
+    ++ keys.ClassObject ∷ map keys.Class (range_with_len 0 (class_count g))
 
 -- a row with its shown name, the identifier of its class or 0, its number of objects and their bytes together
 pub record Entry : Type 0 where

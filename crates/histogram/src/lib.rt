@@ -18,12 +18,12 @@
 mod counted;
 mod laws;
 mod names;
+mod reachable;
 mod reading;
 mod report;
 mod report_rows;
 mod report_text;
 mod report_writing;
-mod row_numbers;
 mod unmarked;
 mod write_whole;
 

@@ -9,7 +9,7 @@ ghost use Rattle.histogram.specs.working.RowNumbers.{row_entry};
 
 use crate::names::{row_class, row_name};
 use crate::report::{Line, Report};
-use crate::row_numbers::{reachable, row_count, row_of_number};
+use crate::reachable::reachable;
 use crate::unmarked::count_unmarked;
 use drain::Marked;
 use heap_graph::{Graph, RowKey};
@@ -96,8 +96,8 @@ fn lines_by_number<A: Allocator + Copy, B: Allocator, C: Allocator>(
     ensures { IfOk result (λ v. map entry_of v.items ≡ entries graph.now (marked_objects graph.now marks.now.marks)) }
 {
     let mut lines = Vec::new(alloc);
-    for number in 0..row_count(graph) {
-        let row = row_of_number(graph, number);
+    for number in 0..graph.row_count() {
+        let row = RowKey::numbered(number);
         let (count, bytes) = marks.tally(&row);
         if count > 0 {
             let line = line_of_row(alloc, graph, row, count, bytes)?;

@@ -3,7 +3,7 @@ use Rattle.std.proofs.Common.{◌≡◌, length, sum_by}
 use Rattle.heap_graph.specs.ObjectGraph.{bytes_at}
 use Rattle.histogram.specs.Histogram.{marked_objects}
 use Rattle.histogram.specs.working.RowNumbers.{objects_below}
-use Rattle.histogram.proofs.row_numbers.reachable.Given as goal
+use Rattle.histogram.proofs.reachable.reachable.Given as goal
 
 abbrev pub invariant-loop-number : goal.invariant-loop-number
 invariant-loop-number g l = record {

@@ -2,9 +2,9 @@
 use Rattle.std.proofs.Common.{ap, arith, length, sum_by, sym, ℕ, ◌+◌, ◌∙◌, ◌<◌, ◌≡◌}
 use Rattle.heap_graph.specs.ObjectGraph.{bytes_at}
 use Rattle.histogram.specs.Histogram.{marked_objects, of_row, total}
-use Rattle.histogram.specs.working.RowNumbers.{row_count}
+use Rattle.heap_graph.specs.RowNumbers.{row_count}
 use Rattle.histogram.proofs.RowLemmas.{below_all, below_next, below_none, count_next, count_none, small_part}
-use Rattle.histogram.proofs.row_numbers.reachable.Goals as goal
+use Rattle.histogram.proofs.reachable.reachable.Goals as goal
 
 pub loop-number-init : goal.loop-number-init
 loop-number-init g c =
@@ -20,10 +20,10 @@ overflow_add-count g c =
     let graph = c.args.graph.now in
     let marked = marked_objects graph c.args.marks.now.marks in
     let n = c.loop-number.number in
-    let below : n < row_count graph = omega (arith, c.loop-number-test.true, c.row_count-number-end.ensures) in
+    let below : n < row_count graph = omega (arith, c.loop-number-test.true, c.row_count-number-end.ensures.value) in
     let small = small_part graph c.len-objects.ensures.whole (n + 1) c.args.marks.now.marks in
-    let row = c.requires.tallies c.row_of_number.result in
-    let number = ap (λ r. total graph (of_row graph r marked)) c.row_of_number.ensures.value in
+    let row = c.requires.tallies c.numbered.result in
+    let number = ap (λ r. total graph (of_row graph r marked)) c.numbered.ensures in
     let is = c.tally-row_count.ensures ∙ row ∙ number in
     omega (
       arith,
@@ -38,10 +38,10 @@ overflow_add-bytes g c =
     let graph = c.args.graph.now in
     let marked = marked_objects graph c.args.marks.now.marks in
     let n = c.loop-number.number in
-    let below : n < row_count graph = omega (arith, c.loop-number-test.true, c.row_count-number-end.ensures) in
+    let below : n < row_count graph = omega (arith, c.loop-number-test.true, c.row_count-number-end.ensures.value) in
     let small = small_part graph c.len-objects.ensures.whole (n + 1) c.args.marks.now.marks in
-    let row = c.requires.tallies c.row_of_number.result in
-    let number = ap (λ r. total graph (of_row graph r marked)) c.row_of_number.ensures.value in
+    let row = c.requires.tallies c.numbered.result in
+    let number = ap (λ r. total graph (of_row graph r marked)) c.numbered.ensures in
     let is = c.tally-row_count.ensures ∙ row ∙ number in
     omega (
       arith,
@@ -56,9 +56,9 @@ loop-number-preserved g c =
     let graph = c.args.graph.now in
     let marked = marked_objects graph c.args.marks.now.marks in
     let n = c.loop-number.number in
-    let below : n < row_count graph = omega (arith, c.loop-number-test.true, c.row_count-number-end.ensures) in
-    let row = c.requires.tallies c.row_of_number.result in
-    let number = ap (λ r. total graph (of_row graph r marked)) c.row_of_number.ensures.value in
+    let below : n < row_count graph = omega (arith, c.loop-number-test.true, c.row_count-number-end.ensures.value) in
+    let row = c.requires.tallies c.numbered.result in
+    let number = ap (λ r. total graph (of_row graph r marked)) c.numbered.ensures in
     let is = c.tally-row_count.ensures ∙ row ∙ number in
     record {
       count = omega (
@@ -80,7 +80,7 @@ returns g c =
     let graph = c.args.graph.now in
     let marked = marked_objects graph c.args.marks.now.marks in
     let end : c.loop-number.number ≡ row_count graph =
-    omega (arith, c.loop-number-test.false, c.loop-number.auto.number-end, c.row_count-number-end.ensures) in
+    omega (arith, c.loop-number-test.false, c.loop-number.auto.number-end, c.row_count-number-end.ensures.value) in
     let all = below_all graph c.len-objects.ensures.whole c.loop-number.number marked end in
     let count = c.loop-number.invariant.count ∙ ap length all in
     let bytes = c.loop-number.invariant.bytes ∙ ap (sum_by (bytes_at graph)) all in
