@@ -1,11 +1,10 @@
 -- The entries of a histogram by the numbers of the rows.
-use Rattle.std.proofs.Common.{◌≡◌, ℕ, suc, ◌+◌, ◌<◌, ◌≤◌, List, [], ◌∷◌, ◌++◌, length, map, get_or, filter}
-use Rattle.std.proofs.Common.{nat_lt, refl, sym, ap, ◌∙◌, arith, append-nil, zero-add}
+use Rattle.std.proofs.Common.{◌≡◌, ℕ, suc, zero, ◌+◌, ◌<◌, ◌≤◌, List, [], ◌∷◌, ◌++◌, map, filter}
+use Rattle.std.proofs.Common.{nat_lt, refl, sym, ap, ◌∙◌, arith, append-nil}
 use Rattle.std.specs.List.{range_with_len}
 use Rattle.std.proofs.lemmas.Bool.{le-ltb, lt-ltb}
 use Rattle.std.proofs.lemmas.List.{map-append}
-use Rattle.std.proofs.lemmas.List.FromFn.{fill_by_all, filter_of_map_range_with_len_more, get_or-map-range_with_len}
-use Rattle.std.proofs.lemmas.List.FromFn.{length-map-range_with_len}
+use Rattle.std.proofs.lemmas.List.FromFn.{filter_of_map_range_with_len_more}
 use Rattle.std.proofs.lemmas.Simd.{map-map}
 use Rattle.histogram.specs.Histogram.{Entry, all_rows, entries, entry, of_row, total}
 use Rattle.heap_graph.specs.ObjectGraph.{ObjectGraph, class_count}
@@ -15,29 +14,20 @@ use Rattle.heap_graph.specs.RowNumbers.{numbered_row, row_count}
 use Rattle.heap_graph.proofs.RowNumberLaws.{at_class}
 use Rattle.histogram.specs.working.RowNumbers.{entries_below, row_entry}
 
--- the row at each number: of the primitive types, of the class objects, of the classes
+-- all rows are those of the numbers below their count
+classes_numbered : (m k n : ℕ) → m ≡ 9 + k
+    → map keys.Class (range_with_len k n) ≡ map numbered_row (range_with_len m n)
+classes_numbered m k zero e = refl
+classes_numbered m k (suc n) e =
+    let first : keys.Class k ≡ numbered_row m = sym (ap numbered_row e ∙ at_class k) in
+    λ i. first i ∷ classes_numbered (m + 1) (k + 1) n (omega (arith, e)) i
+
 all_rows_numbered : (g : ObjectGraph) → all_rows g ≡ map numbered_row (range_with_len 0 (row_count g))
-all_rows_numbered g = fill_by_all numbered_row (all_rows g) (row_count g) keys.ClassObject long row_at
-  where
-    classes : List RowKey
-    classes = map keys.Class (range_with_len 0 (class_count g))
-
-    long : length (all_rows g) ≡ row_count g
-    long = omega (arith, length-map-range_with_len keys.Class 0 (class_count g))
-
-    row_at : (n : ℕ) → n < row_count g → get_or (all_rows g) n keys.ClassObject ≡ numbered_row n
-    row_at 0 h = refl
-    row_at 1 h = refl
-    row_at 2 h = refl
-    row_at 3 h = refl
-    row_at 4 h = refl
-    row_at 5 h = refl
-    row_at 6 h = refl
-    row_at 7 h = refl
-    row_at 8 h = refl
-    row_at (suc (suc (suc (suc (suc (suc (suc (suc (suc n))))))))) h =
-        get_or-map-range_with_len keys.Class 0 (class_count g) n n keys.ClassObject (omega (arith, h)) (zero-add n)
-        ∙ sym (at_class n)
+all_rows_numbered g =
+    let count = class_count g in
+    let nine_first : row_count g ≡ suc (suc (suc (suc (suc (suc (suc (suc (suc count)))))))) = omega arith in
+    ap (λ rows. map keys.Primitive (range_with_len 4 8) ++ keys.ClassObject ∷ rows) (classes_numbered 9 0 count refl)
+    ∙ ap (λ n. map numbered_row (range_with_len 0 n)) (sym nine_first)
 
 pub entries_numbered : (g : ObjectGraph) (xs : List ℕ)
     → entries g xs ≡ entries_below g xs (row_count g)

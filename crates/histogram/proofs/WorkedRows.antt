@@ -1,5 +1,5 @@
 -- The definitions on small dumps, by computation.
-use Rattle.std.proofs.Common.{Bool, List, Some, [], codes, refl, true, false, ℕ, ◌++◌, ◌∷◌, ◌≡◌, slice_get, subst, sym}
+use Rattle.std.proofs.Common.{Bool, List, Some, [], codes, refl, true, false, ℕ, ◌++◌, ◌∷◌, ◌≡◌, reverse, slice_get, subst, sym}
 use Rattle.std.proofs.Common.{zero, suc}
 use Rattle.std.specs.Fmt.{digits}
 use Rattle.hprof_grammar.specs.FormatTables.{size_of}
@@ -79,10 +79,10 @@ two_references :
 unfolding size_of
 two_references = refl
 
--- the histogram of these marks, where the rows are in order already
+-- the histogram of these marks, where the rows are in order from the last to the first
 abbrev histogram_of : ObjectGraph → List Bool → Histogram
 histogram_of g marks = record {
-  rows = entries g (marked_objects g marks);
+  rows = reverse (entries g (marked_objects g marks));
   reachable = total g (marked_objects g marks);
   unreachable = total g (unmarked_objects g marks);
   unresolved = g.unresolved;
