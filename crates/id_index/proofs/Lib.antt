@@ -11,3 +11,4 @@ pub mod Settled
 pub mod Telling
 pub mod Repeating
 pub mod Aligning
+pub mod Joining

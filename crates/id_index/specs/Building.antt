@@ -1,11 +1,15 @@
 -- Runs while they are made, in the order of the file.
-use Rattle.std.specs.Prelude.{List, None, Option, Some, [], length, ◌++◌, ◌∷◌, ◌<◌, ◌^◌, ◌≡◌, ◌≤◌}
+use Rattle.std.specs.Prelude.{List, None, Option, Some, [], length, ◌++◌, ◌∷◌, ◌+◌, ◌<◌, ◌^◌, ◌≡◌, ◌≤◌}
 use Rattle.std.specs.Prelude.{◌⊎◌, ℕ}
 use Rattle.std.specs.Ordering.{nat_cmp, ordering_then}
 use Rattle.std.specs.declared.cmp.Ordering.{Ordering}
 use Rattle.std.specs.Option.{option_to_list}
 use Rattle.id_index.specs.declared.runs.Run.{Run}
-use Rattle.id_index.specs.Runs.{AreComplete, AreSound, end_of, ids_of_runs, run_in}
+use Rattle.id_index.specs.Runs.{AreComplete, AreSound, end_of, ids_of_runs, run_in, run_of}
+
+-- the run with the numbers of its objects raised by so many
+abbrev pub raised_by : ℕ → Run → Run
+raised_by by run = run_of run.page (run.first + by) run.places
 
 -- the objects of each run come before those of a later one
 abbrev pub AreInTurn : List Run → Type 0

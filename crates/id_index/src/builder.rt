@@ -1,7 +1,8 @@
 //! Runs are made one object after the other, and an index of them.
 
-ghost use Rattle.std.specs.Prelude.{IfOk, OnErr, [], length, ◌++◌, ◌+◌, ◌<◌, ◌∷◌, ◌^◌, ◌≡◌};
-ghost use Rattle.id_index.specs.Building.{with_last};
+ghost use Rattle.std.specs.Prelude.{IfOk, OnErr, [], length, map, ◌++◌, ◌+◌, ◌<◌, ◌∷◌, ◌^◌, ◌≡◌, ℕ};
+ghost use Rattle.id_index.specs.Building.{raised_by, with_last};
+ghost use Rattle.id_index.specs.Runs.{run_in};
 
 use crate::beginnings::Beginnings;
 use crate::repeats::least_repeat;
@@ -17,7 +18,8 @@ use std::marker::Model;
 pub(crate) struct RunIndexBuilder<A: Allocator> {
     /// The runs but for the last one, in the order of the file.
     runs: Vec<Run, A>,
-    /// The last run, which the next object may join. There is none before the first object.
+    /// The last run, which the next object may join. There is none before the first object, and none behind a list that
+    /// was appended.
     last: Option<Run>,
     /// How many objects there are.
     count: u32,
@@ -41,6 +43,27 @@ fn close<A: Allocator>(runs: &mut Vec<Run, A>, last: Option<Run>) -> Result<(), 
 {
     if let Some(run) = last {
         runs.push(run)?;
+    }
+    Ok(())
+}
+
+/// Puts runs behind the others, with the numbers of their objects raised by so many.
+fn push_raised<A: Allocator>(
+    runs: &mut Vec<Run, A>,
+    more: &[Run],
+    by: u32,
+) -> Result<(), AllocError>
+    requires { (k : ℕ) → k < length more.now → (run_in more.now k).first + by < 2 ^ 32 }
+    ensures runs { IfOk result (λ _. runs.new.items ≡ runs.old.items ++ map (raised_by by) more.now) }
+    ensures err { OnErr result (runs.new.items ≡ runs.old.items) }
+{
+    runs.reserve(more.len())?;
+    for run in more {
+        runs.push_reserved(Run {
+            page: run.page,
+            first: run.first + by,
+            places: run.places,
+        });
     }
     Ok(())
 }
@@ -81,6 +104,20 @@ impl<A: Allocator> RunIndexBuilder<A> {
             places: bit,
         });
         self.count += 1;
+        Ok(())
+    }
+
+    /// Adds the objects of another list behind these. A run that the border of the two lists cuts is left as two.
+    pub(crate) fn append(&mut self, other: Self) -> Result<(), AllocError>
+        requires { length self.old + length other < 2 ^ 32 }
+        ensures { IfOk result (λ _. self.new ≡ self.old ++ other) }
+    {
+        let (mut more, count) = (other.runs, other.count);
+        close(&mut more, other.last)?;
+        close(&mut self.runs, self.last)?;
+        self.last = None;
+        push_raised(&mut self.runs, &more, self.count)?;
+        self.count += count;
         Ok(())
     }
 

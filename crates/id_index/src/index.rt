@@ -131,6 +131,19 @@ impl<A: Allocator> IdIndexBuilder<A> {
         self.runs.push(id >> self.bits.shift)
     }
 
+    /// Adds the objects of another list behind these, which has to leave out the same lowest bits. `AllocError` where
+    /// memory is refused. What the builder has then is not said.
+    pub fn append(&mut self, other: Self) -> Result<(), AllocError>
+        requires shift { other.shift ≡ self.old.shift }
+        requires low { other.low ≡ self.old.low }
+        requires few { length self.old.ids + length other.ids < 2 ^ 32 }
+        ensures ids { IfOk result (λ _. self.new.ids ≡ self.old.ids ++ other.ids) }
+        ensures shift { self.new.shift ≡ self.old.shift }
+        ensures low { self.new.low ≡ self.old.low }
+    {
+        self.runs.append(other.runs)
+    }
+
     /// The index of these objects. `AllocError` where memory is refused: for the last run, for sorting the runs, or for
     /// the table in front of them, which is taken from `alloc`.
     pub fn finish(self, alloc: A) -> Result<IdIndex<A>, AllocError>
