@@ -11,7 +11,7 @@ use std::test::Fail;
 /// Identifiers that repeat within a run, in another run of the page and in another page, runs that overlap, pages that
 /// alternate, identifiers at both ends of 64 bits, those with other lowest bits than the first one, and those that
 /// crowd into one bucket.
-const LISTS: [&[u64]; 21] = [
+pub const LISTS: [&[u64]; 21] = [
     &[],
     &[7],
     &[0],

@@ -1,0 +1,123 @@
+//! An index of lists of identifiers that are gathered apart and joined.
+
+ghost use Rattle.std.specs.Prelude.{IfOk, IfSome, length, ◌<◌, ◌^◌, ◌≡◌, ◌≤◌};
+
+use crate::beside::answers_all;
+use crate::lists::LISTS;
+use crate::refused::{Call, requests_of};
+use id_index::{IdIndex, IdIndexBuilder, LowBits};
+use limited_heap::LimitedHeap;
+use std::alloc::{AllocError, Allocator, Global};
+
+/// These identifiers, if all have those lowest bits.
+fn gathered<A: Allocator>(
+    alloc: A,
+    ids: &[u64],
+    bits: LowBits,
+) -> Result<Option<IdIndexBuilder<A>>, AllocError>
+    requires shifted { bits.shift < 64 }
+    requires low { bits.low < 2 ^ bits.shift }
+    requires few { length ids.now < 2 ^ 32 }
+    ensures { IfOk result (λ found. IfSome found (λ builder.
+        (builder.ids ≡ ids.now) × (builder.shift ≡ bits.shift) × (builder.low ≡ bits.low))) }
+{
+    let mut builder = IdIndexBuilder::new(alloc, bits);
+    for id in ids {
+        if !builder.fits(*id) {
+            return Ok(None);
+        }
+        builder.push(*id)?;
+    }
+    Ok(Some(builder))
+}
+
+/// The index of objects with these identifiers, if all have those lowest bits. They are gathered in three lists: the
+/// first so many, up to three behind those, and the rest.
+fn joined_index<A: Allocator + Copy>(
+    alloc: A,
+    ids: &[u64],
+    bits: LowBits,
+    at: usize,
+) -> Result<Option<IdIndex<A>>, AllocError>
+    requires shifted { bits.shift < 64 }
+    requires low { bits.low < 2 ^ bits.shift }
+    requires few { length ids.now < 2 ^ 32 }
+    requires within { at ≤ length ids.now }
+    ensures { IfOk result (λ found. IfSome found (λ index. index ≡ ids.now)) }
+{
+    let (front, rest) = ids.split_at(at);
+    let (middle, back) = rest.split_at(rest.len().min(3));
+    let Some(mut builder) = gathered(alloc, front, bits)? else {
+        return Ok(None);
+    };
+    let Some(next) = gathered(alloc, middle, bits)? else {
+        return Ok(None);
+    };
+    builder.append(next)?;
+    let Some(last) = gathered(alloc, back, bits)? else {
+        return Ok(None);
+    };
+    builder.append(last)?;
+    Ok(Some(builder.finish(alloc)?))
+}
+
+/// Gathers lists and joins them.
+#[derive(Drop)]
+struct Joining<'a> {
+    ids: &'a [u64],
+    /// How many of the lowest bits are left out, at most 3.
+    shift: u32,
+    at: usize,
+}
+
+impl Joining<'_> {
+    /// The lowest bits that are left out of the first identifier.
+    fn bits(&self) -> LowBits
+        ensures shifted { result.shift < 64 }
+        ensures low { result.low < 2 ^ result.shift }
+    {
+        let shift = self.shift.min(3);
+        let first = match self.ids.first() {
+            Some(id) => *id,
+            None => 0,
+        };
+        LowBits {
+            shift,
+            low: first % (1 << shift),
+        }
+    }
+
+    /// Whether an identifier has other lowest bits than the first one.
+    fn differs(&self) -> bool {
+        let bits = self.bits();
+        self.ids
+            .iter()
+            .any(|id| *id % (1 << bits.shift) != bits.low)
+    }
+}
+
+impl Call for Joining<'_> {
+    fn is_right(&self, heap: &LimitedHeap<Global>) -> bool {
+        if self.ids.len() > 1000 || self.at > self.ids.len() {
+            return false;
+        }
+        match joined_index(heap, self.ids, self.bits(), self.at) {
+            Ok(Some(index)) => answers_all(&index, self.ids),
+            Ok(None) => self.differs(),
+            Err(AllocError) => heap.refusals() > 0,
+        }
+    }
+}
+
+/// Lists are cut at each place. Each request is refused in turn, and then the joined index is as a search one by one.
+#[test]
+fn joined_as_one_by_one_or_want_of_memory(rt: HostRuntime) {
+    for ids in LISTS {
+        for at in 0..=ids.len() {
+            for shift in [0, 3] {
+                let requests = requests_of(rt.alloc(), &Joining { ids, shift, at });
+                assert!(rt; requests.is_some(), "{} identifiers cut at {at}", ids.len());
+            }
+        }
+    }
+}
