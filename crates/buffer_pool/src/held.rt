@@ -22,7 +22,7 @@ impl<A: Allocator> Model for Held<A> {
 }
 
 impl<A: Allocator> Held<A> {
-    /// The buffer's number in its pool, below the number of buffers.
+    /// The buffer's number in its pool, below the number of buffers: all that tells two empty ones apart.
     pub fn index(&self) -> u32
         ensures { result ≡ self.now.index }
     {
@@ -36,7 +36,8 @@ impl<A: Allocator> Held<A> {
         self.buffer.len()
     }
 
-    /// Puts an object into the buffer: `Err` with the object where it is full.
+    /// Puts an object into the buffer: `Err` with the object where it is full. Then it has objects (`some`), so a fresh
+    /// buffer refuses none.
     pub fn put(&mut self, object: u32) -> Result<(), u32>
         ensures ok { OnOk result ((length self.old.items < self.old.size)
             × (self.new ≡ record self.old { items = self.old.items ++ object ∷ [] })) }

@@ -33,7 +33,7 @@ impl<A: Allocator> Worker<A> {
     ghost use Rattle.buffer_pool.specs.WorkerLog.{LeadsToBook};
 
     /// What each worker keeps, said of this one: the buffers that it holds are the pool's, and what it answers for are
-    /// objects. The call does nothing.
+    /// objects. So what is popped from full may be scanned. The call does nothing.
     pub fn stays_within(&self)
         ensures { IsWithin self.now.book.setup self.now.book.account }
     {

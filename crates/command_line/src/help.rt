@@ -1,4 +1,5 @@
-//! The texts that `--help` and `--version` show, beside what clap makes of the options.
+//! The texts that `--help` and `--version` show, beside what clap makes of the options. They are broken by hand, for
+//! 80 columns: clap as it is ported breaks no line.
 
 /// The version, and behind it the logic that it is proved with, in the words in which `rt --version` ends:
 /// `tools/statuses` sees that these are its words. The kit, with which they begin there, is not named, since machines

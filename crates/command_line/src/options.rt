@@ -85,7 +85,8 @@ fn skip<'a>(alloc: Global) -> Arg<'a>
         .help(help::SKIP)
 }
 
-/// An option with one of these values, and a default.
+/// An option with one of these values, and a default. The values are of type `u64`, which clap reads as they are
+/// written: so the text of an option spells its number.
 fn option<'a>(alloc: Global, name: &'a str, values: ValueParser<'a>, default: &'a str) -> Arg<'a>
     ensures rule { rule_of result ≡ option_rule name.entry.now values.entry default.entry.now }
     ensures local { result.global ≡ false }

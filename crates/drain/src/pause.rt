@@ -14,7 +14,8 @@ const FIRST_NAP: u64 = 50;
 const TURNS_OF_A_LENGTH: u32 = 128;
 
 /// Spins at first and then lets other threads run, so that what comes at once is seen at once. Once that has lasted
-/// (`Backoff` says when), it naps: 50 microseconds in the first turns, and 400 in the last ones.
+/// (`Backoff` says when), it naps: 50 microseconds in the first turns, and 400 in the last ones. A worker that waits in
+/// vain stays some 0.4 seconds so; with naps of 50 alone it stayed 0.13, less than some lists of nodes take.
 pub(crate) fn pause<R: Wait>(rt: &R, backoff: &Backoff, turn: u32) {
     if backoff.is_completed() {
         let doublings = (turn / TURNS_OF_A_LENGTH).min(3);

@@ -1,4 +1,7 @@
 //! Objects that a worker saw marked of late.
+//!
+//! About half of all claims are of marked objects, above all of the class that each instance names first. Such a claim
+//! changes nothing, but it writes a word that all workers write. Marks never fall, so it may be left out.
 
 ghost use Rattle.std.specs.Prelude.{◌≡◌, ◌%◌, ◌↔◌, ℕ, IsTrue, slice_set};
 ghost use Rattle.drain.specs.working.RecentlySeen.{IsNoted};

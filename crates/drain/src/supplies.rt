@@ -25,7 +25,8 @@ pub(crate) struct Supplies<A: Allocator, V: Measured> {
 }
 
 /// Takes the memory for the threads of a job, for the workers that come back from them, for the workers' tallies, and
-/// for the leader's, in this order.
+/// for the leader's, in this order. A tally that grew with the rows that its worker meets would take memory while
+/// others mark.
 pub(crate) fn supplies_of<A: Allocator + Copy, V: Measured, G, S>(
     job: &Job<'_, A, V, G, S>,
 ) -> Result<Supplies<A, V>, AllocError>

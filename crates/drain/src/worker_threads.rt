@@ -31,7 +31,7 @@ use work_pair::Stop;
 /// finished.
 #[derive(Drop)]
 pub struct Duty<A: Allocator, V> {
-    /// The worker as it began.
+    /// The worker as it began: a promise is plain data, and what comes back is known by it alone.
     pub begun: Snapshot<Worker<A>>,
     /// The graph that it works on.
     pub graph: Snapshot<V>,
@@ -228,7 +228,8 @@ pub(crate) struct Ran<A: Allocator> {
 }
 
 /// Runs the workers for a leader that has given them what it has to do. Answers the leader and its tally, and lists the
-/// workers that are through: the last thread has ended, and none was joined to the leader.
+/// workers that are through: the last thread has ended, and none was joined to the leader. The leader's pair is asked
+/// for, so that a leader that gave nothing away is refused.
 pub(crate) fn run_workers<T, A, V, G, S>(
     rt: &T,
     job: &Job<'_, A, V, G, S>,

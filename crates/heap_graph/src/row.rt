@@ -9,7 +9,8 @@ pub(crate) const FIXED_ROWS: usize = 9;
 /// The row of the histogram that an object belongs to.
 #[derive(Clone, Copy, Debug, PartialEq, Eq)]
 pub enum RowKey {
-    /// That of a class, by its number among the class dumps: the row of its instances and arrays.
+    /// That of a class, by its number among the class dumps: the row of its instances and arrays. In a linked heap the
+    /// number tells the class as its identifier does, and needs no look-up.
     Class(u32),
     /// That of the primitive arrays of a type, by its code, 4 to 11.
     Primitive(u8),

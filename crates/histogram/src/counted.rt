@@ -11,7 +11,8 @@ mod calls;
 pub struct Counted<T> {
     inner: T,
     failures: u64,
-    /// Whether a flush came behind the last write that took something.
+    /// Whether a flush came behind the last write that took something. A count of flushes would need a limit, and would
+    /// not tell one before the text from one behind it.
     is_flushed: bool,
     /// How many bytes a reader is thought to give.
     expected: usize,

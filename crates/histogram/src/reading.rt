@@ -26,7 +26,8 @@ pub enum ReaderRefusal {
 const CHUNK: usize = 262_144;
 
 impl<R: Read> Counted<R> {
-    /// Reads until a read answers 0 or `limit` bytes are there, straight into the answer.
+    /// Reads until a read answers 0 or `limit` bytes are there, straight into the answer. The limit is an argument, so
+    /// that a test can give a small one.
     ///
     /// `ReadFault`: a read failed; it is not tried again. `OutOfMemory`: the memory for the bytes was refused. Of the
     /// bytes read before a refusal it is said only how many there are at most.

@@ -22,7 +22,8 @@ const CLAIMED: u64 = 1;
 /// The bits of a finished object: both.
 const FINISHED: u64 = 3;
 
-/// Raises the mark of an object to claimed: true exactly where it was white.
+/// Raises the mark of an object to claimed: true exactly where it was white. It writes also where the object was
+/// marked: a load in front has no operand, so its play could not know which of the 32 objects is meant.
 fn raise_to_claimed<A: Allocator>(
     words: &Words<A>,
     seat: &mut Token<A>,

@@ -5,7 +5,8 @@
 pub(crate) struct Layout {
     /// Its bytes. Sizes from 2^32 on are told as 2^32: no instance has so many.
     pub(crate) size: u64,
-    /// The first class that declares fields, of the class and the classes above it.
+    /// The first class that declares fields, of the class and the classes above it: a walk over an instance's fields
+    /// begins there, so that a long chain of classes without fields costs it nothing.
     pub(crate) first: Option<u32>,
     /// The first of the classes above it that declares fields.
     pub(crate) next: Option<u32>,

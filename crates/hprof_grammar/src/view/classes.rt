@@ -121,7 +121,7 @@ impl<'a> View<'a> {
         Values::new(self.constants_from(at), self.id_size, INDEX_SIZE)
     }
 
-    /// A class's static fields: their names, types and values.
+    /// A class's static fields: their names, types and values. Each call walks the constants, which stand before them.
     pub fn statics(&self, at: u32) -> Values<'a>
         requires { (c : Class) × Stands self.now at (class_dump c) }
         ensures { (c : Class) → Stands self.now at (class_dump c) → result ≡ map of_static c.statics }
@@ -129,7 +129,8 @@ impl<'a> View<'a> {
         Values::new(self.statics_from(at), self.id_size, self.id_size)
     }
 
-    /// The instance fields that a class declares, without those of its superclasses.
+    /// The instance fields that a class declares, without those of its superclasses. Each call walks the constants and
+    /// the static fields, which stand before them.
     pub fn members(&self, at: u32) -> Members<'a>
         requires { (c : Class) × Stands self.now at (class_dump c) }
         ensures { (c : Class) → Stands self.now at (class_dump c) → result ≡ c.members }
