@@ -43,3 +43,4 @@ pub mod Wholeness
 pub mod RowNumberLaws
 pub mod Building
 pub mod GraphReading
+pub mod MetLaws

@@ -8,6 +8,7 @@ pub mod Walks
 pub mod Rows
 pub mod ClassNames
 pub mod Skips
+pub mod MetEntries
 pub mod SkipText
 pub mod SkipRefusals
 pub mod Linked

@@ -14,6 +14,7 @@ pub mod Chains
 pub mod ClassFates
 pub mod IdPlaces
 pub mod ClassSkips
+pub mod DescribedClasses
 pub mod ClassPlans
 pub mod FieldsUp
 pub mod Rests

@@ -6,6 +6,7 @@ ghost use Rattle.heap_graph.specs.Skips.{SkipEntry};
 
 mod class_skips;
 mod entry;
+mod met;
 mod refusal;
 
 pub(crate) use class_skips::ClassSkips;

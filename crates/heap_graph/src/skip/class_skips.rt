@@ -24,7 +24,7 @@ pub(crate) struct ClassSkips<'s, 'a, A: Allocator> {
 }
 
 /// A text that is not there equals nothing.
-fn is_text(text: Option<&[u8]>, name: &[u8]) -> bool
+pub(super) fn is_text(text: Option<&[u8]>, name: &[u8]) -> bool
     ensures { result ≡ skips.is_text (option_copied text.entry) name.now }
 {
     match text {

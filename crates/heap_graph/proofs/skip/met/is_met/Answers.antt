@@ -1,0 +1,10 @@
+-- Behind the last class none declares the field.
+use Rattle.std.proofs.Common.{arith, sym}
+use Rattle.std.proofs.lemmas.List.Folds.{list_any_none}
+use Rattle.heap_graph.specs.working.DescribedClasses.{declares_described}
+use Rattle.heap_graph.proofs.skip.met.is_met.Goals as goal
+
+pub returns : goal.returns
+returns g c = λ records names.
+    sym (list_any_none (declares_described records c.args.entry.now) c.args.classes.now
+    (λ i d below. c.loop-class.invariant records names i d (omega (arith, below, c.loop-class-test.false))))

@@ -1,0 +1,25 @@
+-- The names are those of the records whose classes are described, so an entry is met by one where a class declares it.
+use Rattle.std.proofs.Common.{List, Some, ap, map, sym, ◌∙◌}
+use Rattle.std.proofs.lemmas.List.{take_all}
+use Rattle.std.proofs.lemmas.Option.{slice_get-get_or}
+use Rattle.heap_graph.specs.MetEntries.{is_met}
+use Rattle.heap_graph.specs.Skips.{SkipEntry}
+use Rattle.heap_graph.proofs.MetLaws.{one_more_met}
+use Rattle.heap_graph.proofs.skip.met.met_among.Goals as goal
+
+pub loop-entry-preserved : goal.loop-entry-preserved
+loop-entry-preserved g c = λ records names stand.
+    let entries = c.args.entries.now in
+    let entry : SkipEntry = c.entry-item.result in
+    let by_id = c.in_ok-by_id.ensures records names in
+    one_more_met records entries c.loop-entry.entry-index entry c.in_ok-is_met.field-0 c.deref.result.now
+    c.loop-entry.met.items c.push.new.self.items
+    (slice_get-get_or entries c.loop-entry.entry-index entry c.loop-entry-test.true ∙ ap (λ (e : SkipEntry). Some e) (sym c.entry-item.is))
+    (c.deref.ensures.value ∙ c.in_ok-classes.ensures records by_id stand) (c.in_ok-is_met.ensures records by_id)
+    c.in_ok-push.ensures.items (c.loop-entry.invariant records names stand)
+
+pub returns : goal.returns
+returns g c = λ records names stand.
+    c.loop-entry.invariant records names stand
+    ∙ ap (λ (es : List SkipEntry). map (is_met records) es)
+    (take_all c.loop-entry.entry-index c.args.entries.now c.loop-entry-test.false)
