@@ -5,7 +5,7 @@ use Rattle.std.proofs.Common.{⊎_elim, eq-eqb, eqb-true, lt-ltb, le-ltb, pow_po
 use Rattle.std.proofs.Common.{mod-eq_of_lt, mul-le-mul_right, suc-mul, arith}
 use Rattle.std.proofs.lemmas.Bool.{cases_lt}
 use Rattle.std.proofs.lemmas.Nat.Bits.{bit_at_or, bit_at_cat_low, bit_at_cat_high, bit_at_above, bit_at-zero}
-use Rattle.std.proofs.lemmas.Nat.Bits.{shr_and_one}
+use Rattle.std.proofs.lemmas.Nat.Bits.{bit_at_ones, shr_and_one}
 use Rattle.std.specs.Int.{bit_at}
 use native.Mathlib.Decide.{ℕ_discrete}
 use Rattle.buffer_pool.specs.working.MarkBits.{cut_marks, mark_of, pair_mark}
@@ -144,3 +144,8 @@ cut_white objects f o h = go (nat_lt o objects)
     go : (b : Bool) → (if b then f o else 0) ≡ 0
     go true = h
     go false = refl
+
+-- a word of ones has finished marks
+pub finished_pair : (j : ℕ) → j < 32 → pair_mark (2 ^ 64 - 1) j ≡ 2
+finished_pair j low =
+    omega (arith, bit_at_ones 64 (2 * j) (omega (arith, low)), bit_at_ones 64 (2 * j + 1) (omega (arith, low)))

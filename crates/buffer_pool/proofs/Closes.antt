@@ -24,11 +24,11 @@ use Rattle.buffer_pool.specs.Book.{Book, counts_of}
 use Rattle.buffer_pool.specs.Closing.{IsAtTheEnd, MarksTell}
 use Rattle.buffer_pool.specs.WorkerLog.{deeds}
 use Rattle.buffer_pool.specs.working.Views.{HasSaidAll, IsViewOf}
-use Rattle.buffer_pool.specs.working.MarkBits.{mark_in, mark_of, marks_in, pair_mark}
+use Rattle.buffer_pool.specs.working.MarkBits.{mark_in, marks_in, pair_mark}
 use Rattle.buffer_pool.specs.working.Layout.{first_mark}
 use Rattle.buffer_pool.specs.working.Slots.{Reading}
 use Rattle.buffer_pool.specs.working.Table.{Rule, marking_of, view_counts}
-use Rattle.buffer_pool.proofs.Bits.{cut_object, cut_past, pair_read}
+use Rattle.buffer_pool.proofs.Bits.{cut_object, cut_past}
 use Rattle.buffer_pool.proofs.States.{stands}
 
 -- of any marking with these marks, to which a list of events led
@@ -149,19 +149,26 @@ ends_of r e id v words slots first objects place number final all none_held none
     count : length (marks_in words first objects) ≡ v.book.setup.objects
     count = omega (arith, marks_length words first objects, number, ap (λ (g : Setup). g.objects) same)
 
+-- so have the marks that contracts see
+pub marks_count :
+    (words : List ℕ) (first objects : ℕ) (marks : List ℕ) → marks_in words first objects ≡ marks
+    → length marks ≡ objects
+marks_count words first objects marks same =
+    omega (arith, ap (λ (ms : List ℕ). length ms) same, marks_length words first objects)
+
 -- a number that has a mark is an object
 pub object_below :
     (words : List ℕ) (first objects object : ℕ) (marks : List ℕ) → marks_in words first objects ≡ marks
     → object < length marks → object < objects
 object_below words first objects object marks same inside =
-    omega (arith, inside, ap (λ (ms : List ℕ). length ms) same, marks_length words first objects)
+    omega (arith, inside, marks_count words first objects marks same)
 
--- the two bits of an object, read from the words at the close
-pub pair_there :
-    (words : List ℕ) (first objects object word bits : ℕ) → object < objects
-    → get_elem? words (first + object / 32) ≡ some word → bits ≡ word / 2 ^ (2 * (object % 32)) % 4
-    → slice_index (marks_in words first objects) object ≡ mark_of (bits % 2) (bits / 2)
-pair_there words first objects object word bits below at read =
-    get_or-map-range_with_len (mark_in words first) 0 objects object object 0 below (omega arith)
-    ∙ ap (λ x. pair_mark x (object % 32)) (at_get_or words (first + object / 32) word 0 at)
-    ∙ pair_read word (object % 32) bits read
+-- the mark of an object, read from its word at the close
+pub mark_there :
+    (words : List ℕ) (first objects o place word : ℕ) → o < objects → o / 32 ≡ place
+    → get_elem? words (first + place) ≡ some word
+    → slice_index (marks_in words first objects) o ≡ pair_mark word (o % 32)
+mark_there words first objects o place word below is at =
+    get_or-map-range_with_len (mark_in words first) 0 objects o o 0 below (omega arith)
+    ∙ ap (λ q. pair_mark (slice_index words (first + q)) (o % 32)) is
+    ∙ ap (λ x. pair_mark x (o % 32)) (at_get_or words (first + place) word 0 at)

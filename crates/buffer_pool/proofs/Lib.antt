@@ -15,3 +15,4 @@ pub mod Starts
 pub mod Closes
 pub mod Tries
 pub mod Few
+pub mod Finding

@@ -1,9 +1,10 @@
 //! The marks of a pool that is closed.
 ghost use Rattle.std.specs.Prelude.{◌≡◌, ◌↔◌, ◌+◌, ◌/◌, ◌%◌, ◌<◌, ◌≤◌, length, slice_index, IsTrue};
-ghost use Rattle.std.specs.Prelude.{◌==◌, count_by};
+ghost use Rattle.std.specs.Prelude.{◌-◌, ◌==◌, ℕ, count_by, find};
+ghost use Rattle.std.specs.List.{range_with_len};
 ghost use Rattle.std.specs.Slots.{IsFull, slots_filled, slots_items, slots_len};
 ghost use Rattle.buffer_pool.specs.Closing.{IsEmptied};
-ghost use Rattle.buffer_pool.specs.working.MarkBits.{mark_of, mark_words, marks_in};
+ghost use Rattle.buffer_pool.specs.working.MarkBits.{mark_of, mark_words, marks_in, pair_mark};
 
 use crate::buffer::Buffer;
 use crate::layout::mark_place;
@@ -59,14 +60,42 @@ impl<A: Allocator> Marks<A> {
         }
     }
 
+    /// How many objects have marks.
+    fn len(&self) -> u32
+        ensures { result ≡ length self.now }
+    {
+        self.objects
+    }
+
+    /// The word that has the mark of an object.
+    fn word_of(&self, object: u32) -> u64
+        requires { object < length self.now }
+        ensures { (o : ℕ) → o / 32 ≡ object / 32 → o < length self.now
+            → slice_index self.now o ≡ pair_mark result (o % 32) }
+    {
+        self.closed.word(self.first_mark + object as usize / 32)
+    }
+
     /// The two bits of an object's mark.
     fn bits(&self, object: u32) -> u64
         requires { object < length self.now }
         ensures few { result < 4 }
         ensures mark { slice_index self.now object ≡ mark_of (result % 2) (result / 2) }
     {
-        let word = self.closed.word(self.first_mark + object as usize / 32);
-        (word >> mark_place(object)) & 3
+        (self.word_of(object) >> mark_place(object)) & 3
+    }
+
+    /// Whether a whole word of 32 marks begins with this object's, and each of them is finished.
+    fn begins_finished_word(&self, object: u32) -> bool
+        requires { object < length self.now }
+        ensures within { IsTrue result → object + 32 ≤ length self.now }
+        ensures finished { IsTrue result
+            → (o : ℕ) → object ≤ o → o < object + 32 → slice_index self.now o ≡ 2 }
+    {
+        if object % 32 != 0 {
+            return false;
+        }
+        self.len() - object >= 32 && self.word_of(object) == u64::MAX
     }
 
     /// Whether an object was claimed. A finished object was claimed, too.
@@ -83,6 +112,24 @@ impl<A: Allocator> Marks<A> {
         ensures { IsTrue result ↔ (slice_index self.now object ≡ 2) }
     {
         self.bits(object) == 3
+    }
+
+    /// The first object from this number on that was not claimed: `None` where each of them was. Of 32 objects that
+    /// were finished one word is read.
+    pub fn next_white(&self, from: u32) -> Option<u32>
+        ensures { result ≡ find (λ o. slice_index self.now o == 0) (range_with_len from (length self.now - from)) }
+    {
+        let mut object = from;
+        while object < self.len() {
+            if self.begins_finished_word(object) {
+                object += 32;
+            } else if self.is_claimed(object) {
+                object += 1;
+            } else {
+                return Some(object);
+            }
+        }
+        None
     }
 
     /// How many objects were finished: 0 up to the number of objects. One that was claimed and not finished does not

@@ -1,0 +1,10 @@
+-- There is a mark for each object.
+use Rattle.std.proofs.Common.{sym}
+use Rattle.std.specs.Slots.{slots_items}
+use Rattle.buffer_pool.proofs.Closes.{marks_count}
+use Rattle.buffer_pool.proofs.pool.marks.Marks.len.Goals as goal
+
+pub returns : goal.returns
+returns g c =
+    let m = c.self.inside in
+    sym (marks_count (slots_items m.closed.words) m.first_mark m.objects c.args.self.now c.self.view_is)
