@@ -72,7 +72,8 @@ impl<A: Allocator> Model for Marked<A> {
 }
 
 impl<A: Allocator> Marked<A> {
-    ghost use Rattle.std.specs.Prelude.{◌≡◌, ◌↔◌, IsTrue, count_by, length, map};
+    ghost use Rattle.std.specs.Prelude.{◌≡◌, ◌↔◌, ◌-◌, IsTrue, count_by, false, find, length, map, not, slice_index_or};
+    ghost use Rattle.std.specs.List.{range_with_len};
     ghost use Rattle.heap_graph.specs.Reachable.{IsMarked};
     ghost use Rattle.drain.specs.Marks.{AreFinished, MarkedObjects, is_set};
     ghost use Rattle.drain.specs.Sums.{sum_of_row};
@@ -99,6 +100,14 @@ impl<A: Allocator> Marked<A> {
         ensures { IsTrue result ↔ IsMarked self.now.marks object }
     {
         object < self.objects && self.marks.is_claimed(object)
+    }
+
+    /// The first object from this number on that is not marked: `None` where each of them is.
+    pub fn next_unmarked(&self, from: u32) -> Option<u32>
+        ensures { result ≡ find (λ o. not (slice_index_or self.now.marks o false))
+            (range_with_len from (length self.now.marks - from)) }
+    {
+        self.marks.next_white(from)
     }
 
     /// How many objects are marked.
