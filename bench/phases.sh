@@ -6,7 +6,8 @@
 # RUNS: how often for each number of workers (3); the least of each phase counts. DUMP..: those of /tmp/heapmark-bench if
 # none is given. Prints a Markdown table in milliseconds: read, until the file's end was met; build, until the first
 # worker's thread starts (parse, index, links, references, pool); mark, until the last of them ends; report, until the
-# program ends (with what the leader drains after the workers). A second table has the least, the middle and the largest
+# program ends (with what the leader drains after the workers). The workers are as many threads at once as there are
+# workers: where parsing, linking and reporting start threads these are fewer. A second table has the least, the middle and the largest
 # time of marking, what the middle of one worker is to it, and the processor time of the whole program, user and system,
 # the middle of as many runs without strace. heapmark and the variable STARTER as in bench/run.sh; the words of the
 # variable OPTIONS go to heapmark, as in OPTIONS='--buffer 64'.
@@ -19,13 +20,17 @@ traced() {
     # shellcheck disable=SC2086 # the starter and the options may be several words
     $starter strace -f --seccomp-bpf -qq -ttt -e trace=openat,read,clone3,exit,exit_group -o "$room/trace" \
         "$heapmark" "$2" --workers "$1" ${OPTIONS:-} > "$room/report"
-    awk -v dump="$2" '
+    awk -v dump="$2" -v workers="$1" '
         index($0, "\"" dump "\"") { opened = $2 }
-        opened && !started && / read\(.* = 0$/ { read = $2 }
-        / clone3\(/ && !started { started = $2 }
-        / exit\(0/ { ended = $2 }
+        opened && !groups && / read\(.* = 0$/ { read = $2 }
+        / clone3\(/ { if (!threads) began[++groups] = $2; threads++; size[groups]++ }
+        / exit\(0/ { threads--; ended[groups] = $2 }
         / exit_group\(/ { last = $2 }
-        END { print read - opened, started - read, ended - started, last - ended }' "$room/trace" >> "$room/times"
+        END {
+            for (first = groups; first > 1 && size[first] != workers; first--) {}
+            final = size[first] == workers ? first : groups
+            print read - opened, began[first] - read, ended[final] - began[first], last - ended[final]
+        }' "$room/trace" >> "$room/times"
 }
 
 # used WORKERS DUMP: one run without strace; adds its processor time, in seconds, to what is kept.
