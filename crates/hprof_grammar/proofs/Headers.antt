@@ -1,6 +1,6 @@
 -- The header of a dump: a text that has it, what is wrong with one that has not, and what the records behind it make of
 -- the text.
-use Rattle.std.proofs.Common.{Bool, List, ap, arith, drop, length, map, refl, subst, sym, false, true, ℕ, ◌++◌, ◌<◌}
+use Rattle.std.proofs.Common.{Bool, List, [], ap, arith, drop, length, map, refl, subst, sym, false, true, ℕ, ◌++◌, ◌<◌}
 use Rattle.std.proofs.Common.{◌^◌, ◌∙◌, ◌≡◌, ◌≤◌}
 use Rattle.std.specs.List.{starts_with}
 use Rattle.std.specs.Prelude.{nat_eq}
@@ -111,7 +111,7 @@ dump_read text s new head all =
         whole = whole;
         each = adds.each;
       };
-      orderly = done_is_orderly order (map tag_of adds.records) all.1 adds.order;
+      orderly = done_is_orderly order (map tag_of adds.records) all.1 (adds.order [] refl);
       places = refl;
     })
 

@@ -8,7 +8,7 @@ use Rattle.hprof_grammar.specs.Places.{Places}
 use Rattle.hprof_grammar.specs.Fault.{LongestRecords, RecordFault, RunsPastEnd, SubFault}
 use Rattle.hprof_grammar.specs.Fault.RecordFault.{bad_length, in_heap, no_snapshot, out_of_order, truncated}
 use Rattle.hprof_grammar.specs.Fault.SubFault.{short, unknown_tag, wrong_type}
-use Rattle.hprof_grammar.specs.working.Joining.{AddsRecords, FrameFault, HasRecordFault}
+use Rattle.hprof_grammar.specs.working.Joining.{AddsRecords, AddsRecordsFrom, FrameFault, HasRecordFault}
 use Rattle.hprof_grammar.specs.working.Joining.FrameFault.{wrong_heap, wrong_length, wrong_order}
 use Rattle.hprof_grammar.specs.working.SnapshotOrder.{IsAt, is_done}
 use Rattle.hprof_grammar.specs.Record.{CanGoOn, IsOrderly, IsRecord, Record, body_of, framed, record_spelling, tag_of}
@@ -17,6 +17,7 @@ use Rattle.hprof_grammar.specs.Record.Record.{heap, load_class, other, string}
 use Rattle.hprof_grammar.specs.SubRecord.{IsSubRecord, SubRecord, spelling_of}
 use Rattle.hprof_grammar.specs.FormatTables.{is_heap_tag, is_length_of}
 use Rattle.hprof_grammar.specs.declared.snapshot_order.Order.{Order}
+use Rattle.hprof_grammar.specs.declared.snapshot_order.Order.TheVariants.{Before}
 use Rattle.hprof_grammar.specs.declared.flaw.FormatFault.{FormatFault}
 use Rattle.hprof_grammar.proofs.Bytes.{IsBytes, bytes-behind}
 use Rattle.hprof_grammar.proofs.Fields.{all_split}
@@ -159,6 +160,9 @@ module _ (s at tag time : ℕ) (body after rest : List ℕ) (records : List Reco
 
 -- records have come up to this place
 module _ (bytes rest : List ℕ) (was : Order) (old new : Places) (adds : AddsRecords bytes rest was old new) where
+  come : IsAt was (map tag_of adds.records)
+  come = adds.order [] refl
+
   place_of : (at : ℕ) → at ≡ 31 + (length bytes - length rest) → 31 + length (spellings old.id_size adds.records) ≡ at
   place_of at e = omega (arith, e, ap length adds.parts, length-append (spellings old.id_size adds.records) rest)
 
@@ -169,7 +173,7 @@ module _ (bytes rest : List ℕ) (was : Order) (old new : Places) (adds : AddsRe
     records = adds.records;
     rest = rest;
     longest = longest_records old.id_size bytes adds.records rest adds.parts adds.each
-        (at_goes_on was (map tag_of adds.records) adds.order) stuck;
+        (at_goes_on was (map tag_of adds.records) come) stuck;
     wrong = rw (place_of at e) wrong;
   }
 
@@ -183,8 +187,8 @@ module _ (bytes rest : List ℕ) (was : Order) (old new : Places) (adds : AddsRe
       let here : FrameFault old.id_size at tag body was fault =
       subst (λ (s : ℕ). FrameFault s at tag body was fault) same_id_size wrong in
       fault_here at fault e (stuck_in_frame old.id_size at tag time body after rest adds.records was fault frame
-      adds.order here)
-      (fault_in_frame old.id_size at tag time body after rest adds.records was fault frame adds.order here)
+      come here)
+      (fault_in_frame old.id_size at tag time body after rest adds.records was fault frame come here)
 
   pub fault_where_cut : (at : ℕ) (fault : FormatFault) → 0 < length rest → RunsPastEnd rest
       → at ≡ 31 + (length bytes - length rest) → fault ≡ record { code = 3; offset = at }
@@ -203,17 +207,24 @@ module _ (bytes rest : List ℕ) (was : Order) (old new : Places) (adds : AddsRe
       subst (λ (x : FormatFault). HasRecordFault old.id_size bytes x) (sym f)
       (fault_here at (record { code = 8; offset = at }) place stuck
       (subst (λ (l : List ℕ). RecordFault old.id_size adds.records at l 8 at) (sym none)
-      (no_snapshot (not_done_is_not was (map tag_of adds.records) undone adds.order))))
+      (no_snapshot (not_done_is_not was (map tag_of adds.records) undone come))))
+
+-- records that begin behind the header, of which none has come, are those of the whole file
+pub from_header : {at : ℕ} {before was : Order} {bytes rest : List ℕ} {old new : Places}
+    → AddsRecordsFrom at before bytes rest was old new → at ≡ 31 → before ≡ Before → AddsRecords bytes rest was old new
+from_header {before = before} {was = was} {bytes = bytes} {rest = rest} {old = old} {new = new} adds place order =
+    subst (λ (o : Order). AddsRecordsFrom 31 o bytes rest was old new) order
+    (subst (λ (n : ℕ). AddsRecordsFrom n before bytes rest was old new) place adds)
 
 -- ---- what is left to read at a turn of the loop
 
-pub bytes_left : (bytes rest : List ℕ) (was : Order) (old new : Places) → AddsRecords bytes rest was old new
-    → IsBytes bytes → IsBytes rest
+pub bytes_left : {at : ℕ} {before : Order} (bytes rest : List ℕ) (was : Order) (old new : Places)
+    → AddsRecordsFrom at before bytes rest was old new → IsBytes bytes → IsBytes rest
 bytes_left bytes rest was old new adds h =
     bytes-behind (spellings old.id_size adds.records) rest (subst IsBytes adds.parts h)
 
-pub left_within : (bytes rest : List ℕ) (was : Order) (old new : Places) → AddsRecords bytes rest was old new
-    → length rest ≤ length bytes
+pub left_within : {at : ℕ} {before : Order} (bytes rest : List ℕ) (was : Order) (old new : Places)
+    → AddsRecordsFrom at before bytes rest was old new → length rest ≤ length bytes
 left_within bytes rest was old new adds =
     omega (arith, ap length adds.parts, length-append (spellings old.id_size adds.records) rest)
 

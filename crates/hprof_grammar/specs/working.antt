@@ -2,4 +2,5 @@
 pub mod Reading
 pub mod SnapshotOrder
 pub mod Joining
+pub mod Parts
 pub mod ClassParts

@@ -1,11 +1,11 @@
 //! A dump, as places in its bytes.
 
-ghost use Rattle.std.specs.Prelude.{[], ◌≡◌, IfErr, IfOk, OnOk};
-ghost use Rattle.hprof_grammar.specs.working.Joining.{noted, nothing_of, with_loaded, with_string};
+ghost use Rattle.std.specs.Prelude.{[], ◌++◌, ◌≡◌, IfErr, IfOk, OnOk};
+ghost use Rattle.hprof_grammar.specs.working.Joining.{noted, nothing_of, with_loaded, with_places, with_string};
 
 use crate::flaw::ReadRefusal;
 use crate::kinds::Kind;
-use std::alloc::Allocator;
+use std::alloc::{AllocError, Allocator};
 use std::marker::Model;
 use std::mem::replace;
 
@@ -95,6 +95,30 @@ impl<A: Allocator> Dump<A> {
         ensures memory { IfErr result (λ e. e ≡ ReadRefusal.OutOfMemory) }
     {
         self.loaded.push(at).map_err(|_| ReadRefusal::OutOfMemory)
+    }
+}
+
+/// Puts a list behind another, or in its place where it has nothing, which copies nothing.
+fn append<A: Allocator>(list: &mut Vec<u32, A>, more: Vec<u32, A>) -> Result<(), AllocError>
+    ensures { OnOk result (list.new.items ≡ list.old.items ++ more.items) }
+{
+    let mut more = more;
+    if list.is_empty() {
+        *list = more;
+        return Ok(());
+    }
+    list.append(&mut more)
+}
+
+impl<A: Allocator> Dump<A> {
+    /// Puts the places of records that were read by themselves behind those that are there.
+    pub(crate) fn append(&mut self, more: Dump<A>) -> Result<(), AllocError>
+        ensures { OnOk result (self.new ≡ with_places self.old more) }
+    {
+        append(&mut self.strings, more.strings)?;
+        append(&mut self.loaded, more.loaded)?;
+        append(&mut self.roots, more.roots)?;
+        append(&mut self.objects, more.objects)
     }
 }
 

@@ -18,6 +18,7 @@
 
 #![tactic(auto)]
 
+mod cuts;
 mod dump;
 mod fault_codes;
 mod flaw;
@@ -26,6 +27,7 @@ mod frame;
 mod kinds;
 mod laws;
 mod parse;
+mod parts;
 mod placed;
 mod reader;
 mod record_list;

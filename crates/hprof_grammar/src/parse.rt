@@ -10,9 +10,12 @@ use crate::dump::Dump;
 use crate::fault_codes;
 use crate::flaw::{FormatFault, ReadRefusal};
 use crate::format_tables::is_id_size;
-use crate::record_list::{FIRST_RECORD, note_records};
+use crate::parts::read_in_parts;
+use crate::record_list::{FIRST_RECORD, note_all};
+use crate::team::Team;
 use byteorder::{BigEndian, ByteOrder};
 use std::alloc::Allocator;
+use std::thread::Threads;
 
 /// The bytes of the longest dump that is read.
 const LIMIT: u32 = 1_073_741_824;
@@ -48,12 +51,22 @@ fn header_id_size(bytes: &[u8]) -> Result<u8, ReadRefusal>
 /// spell, as places in them.
 ///
 /// `Fault`: they spell none, and this is their first fault. `OutOfMemory`: a request for memory was refused.
-pub fn read<A: Allocator + Copy>(alloc: A, bytes: &[u8]) -> Result<Dump<A>, ReadRefusal>
+///
+/// A dump that the team shares is read in parts, each by a thread. Where the parts make none, for a fault of the bytes
+/// or want of memory, it is read once more by the calling thread, whose answer stands.
+pub fn read<T: Threads + Sync, A: Allocator + Copy + Send + Sync>(
+    team: &Team<'_, T>,
+    alloc: A,
+    bytes: &[u8],
+) -> Result<Dump<A>, ReadRefusal>
     ensures dump { IfOk result (λ dump. IsDumpOf bytes.now dump) }
     ensures fault { IfFault result (λ fault. FirstFault bytes.now fault.code fault.offset) }
 {
     let id_size = header_id_size(bytes)?;
+    if let Some(dump) = read_in_parts(team, alloc, bytes, id_size) {
+        return Ok(dump);
+    }
     let mut dump = Dump::new(alloc, id_size);
-    note_records(&mut dump, &bytes[FIRST_RECORD as usize..])?;
+    note_all(&mut dump, &bytes[FIRST_RECORD as usize..])?;
     Ok(dump)
 }

@@ -1,7 +1,8 @@
 //! The records of a dump, behind its header.
 
-ghost use Rattle.std.specs.Prelude.{◌≡◌, ◌+◌, ◌<◌, ◌≤◌, ◌^◌, IfOk, OnOk, ℕ, length};
-ghost use Rattle.hprof_grammar.specs.working.Joining.{AddsAll, AddsRecord, FrameFault, HasRecordFault};
+ghost use Rattle.std.specs.Prelude.{[], ◌≡◌, ◌+◌, ◌<◌, ◌≤◌, ◌^◌, IfOk, OnOk, ℕ, length};
+ghost use Rattle.hprof_grammar.specs.working.Joining.{AddsAll, AddsRecord, AddsRecordsFrom, FrameFault};
+ghost use Rattle.hprof_grammar.specs.working.Joining.{HasRecordFault};
 ghost use Rattle.hprof_grammar.specs.Refusal.{IfFault};
 
 use crate::dump::Dump;
@@ -49,23 +50,43 @@ fn note_record<A: Allocator>(
     Ok(next)
 }
 
+/// Notes the records that these bytes are, of which the first stands at a place, behind records that have made `order` of
+/// the snapshot, and answers what has come of it with them. A fault is told for the records behind the header: those of
+/// other bytes may have one that is not the first of the dump.
+pub fn note_records<A: Allocator>(
+    dump: &mut Dump<A>,
+    order: Order,
+    bytes: &[u8],
+    at: u32,
+) -> Result<Order, ReadRefusal>
+    requires low { 1 ≤ dump.old.id_size }
+    requires high { dump.old.id_size ≤ 8 }
+    requires room { at + length bytes.now < 2 ^ 32 }
+    ensures adds { IfOk result (λ reached. AddsRecordsFrom at order bytes.now [] reached dump.old dump.new) }
+    ensures fault { IfFault result (λ fault. at ≡ 31 → order ≡ Order.Before
+        → HasRecordFault dump.old.id_size bytes.now fault) }
+{
+    let mut order = order;
+    let mut reader = Reader::new(bytes);
+    while !reader.is_empty() {
+        let place = at + (bytes.len() - reader.rest.len()) as u32;
+        let Ok(frame) = next_frame(&mut reader) else {
+            return Err(ReadRefusal::Fault(FormatFault::new(fault_codes::TRUNCATED, place)));
+        };
+        order = note_record(dump, order, frame.tag, frame.body, place)?;
+    }
+    Ok(order)
+}
+
 /// Notes all records of a dump, of which the bytes behind the header are given.
-pub fn note_records<A: Allocator>(dump: &mut Dump<A>, bytes: &[u8]) -> Result<(), ReadRefusal>
+pub fn note_all<A: Allocator>(dump: &mut Dump<A>, bytes: &[u8]) -> Result<(), ReadRefusal>
     requires low { 1 ≤ dump.old.id_size }
     requires high { dump.old.id_size ≤ 8 }
     requires room { 31 + length bytes.now < 2 ^ 32 }
     ensures adds { OnOk result (AddsAll bytes.now dump.old dump.new) }
     ensures fault { IfFault result (HasRecordFault dump.old.id_size bytes.now) }
 {
-    let mut order = Order::Before;
-    let mut reader = Reader::new(bytes);
-    while !reader.is_empty() {
-        let place = FIRST_RECORD + (bytes.len() - reader.rest.len()) as u32;
-        let Ok(frame) = next_frame(&mut reader) else {
-            return Err(ReadRefusal::Fault(FormatFault::new(fault_codes::TRUNCATED, place)));
-        };
-        order = note_record(dump, order, frame.tag, frame.body, place)?;
-    }
+    let order = note_records(dump, Order::Before, bytes, FIRST_RECORD)?;
     if !order.is_done() {
         let end = FIRST_RECORD + bytes.len() as u32;
         return Err(ReadRefusal::Fault(FormatFault::new(fault_codes::DUMP_ORDER, end)));

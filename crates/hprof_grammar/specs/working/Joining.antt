@@ -3,7 +3,7 @@ use Rattle.std.specs.Prelude.{List, [], drop, false, flat_map, length, map, true
 use Rattle.std.specs.List.{AllByRecursion}
 use Rattle.hprof_grammar.specs.Record.{CanGoOn, HasParts, IsRecord, Record, body_of, subs_of, tag_of, time_of}
 use Rattle.hprof_grammar.specs.FormatTables.{is_heap_tag, is_id_size, is_length_of}
-use Rattle.hprof_grammar.specs.Dump.{header, heap_list, is_object, is_root, limit, placed, placed_subs, places_where}
+use Rattle.hprof_grammar.specs.Dump.{header, is_object, is_root, limit, placed, placed_subs, places_where}
 use Rattle.hprof_grammar.specs.Dump.{spellings}
 use Rattle.hprof_grammar.specs.Places.{Places, is_load, is_string}
 use Rattle.hprof_grammar.specs.Fault.{LongestRecords, LongestSubs, RecordFault, SubFault}
@@ -12,6 +12,7 @@ use Rattle.hprof_grammar.specs.working.SnapshotOrder.{IsAt, is_done}
 use Rattle.hprof_grammar.specs.declared.kinds.Kind.{Kind}
 use Rattle.hprof_grammar.specs.declared.kinds.Kind.TheVariants as kinds
 use Rattle.hprof_grammar.specs.declared.snapshot_order.Order.{Order}
+use Rattle.hprof_grammar.specs.declared.snapshot_order.Order.TheVariants.{Before}
 use Rattle.hprof_grammar.specs.declared.flaw.FormatFault.{FormatFault}
 
 abbrev pub nothing_of : ℕ → Places
@@ -85,23 +86,43 @@ pub data FrameFault (s at tag : ℕ) (body : List ℕ) (before : Order) (fault :
       → ((tags : List ℕ) → IsAt before tags → CanGoOn (tags ++ tag ∷ []))
       → HasSubFault s (at + 9) body fault → FrameFault s at tag body before fault
 
--- the places of these records, from place 31 on, join those that were there
-abbrev pub with_records : Places → List Record → Places
-with_records p records = record {
+-- all sub-records of records of which the first stands at a place: from place 31 on, the heap list
+abbrev pub heap_from : ℕ → ℕ → List Record → List (ℕ × SubRecord)
+heap_from s at records = flat_map (λ p. placed_subs s (p.0 + 9) (subs_of p.1)) (placed s at records)
+
+-- the places of these records, from a place on, join those that were there
+abbrev pub with_records : Places → ℕ → List Record → Places
+with_records p at records = record {
   id_size = p.id_size;
-  strings = p.strings ++ places_where is_string (placed p.id_size 31 records);
-  loaded = p.loaded ++ places_where is_load (placed p.id_size 31 records);
-  roots = p.roots ++ places_where is_root (heap_list p.id_size records);
-  objects = p.objects ++ places_where is_object (heap_list p.id_size records);
+  strings = p.strings ++ places_where is_string (placed p.id_size at records);
+  loaded = p.loaded ++ places_where is_load (placed p.id_size at records);
+  roots = p.roots ++ places_where is_root (heap_from p.id_size at records);
+  objects = p.objects ++ places_where is_object (heap_from p.id_size at records);
 }
 
--- the bytes are these records, then the rest
-pub record AddsRecords (bytes rest : List ℕ) (reached : Order) (old new : Places) : Type 0 where
+-- the places that were read by themselves join those that were there
+abbrev pub with_places : Places → Places → Places
+with_places p more = record {
+  id_size = p.id_size;
+  strings = p.strings ++ more.strings;
+  loaded = p.loaded ++ more.loaded;
+  roots = p.roots ++ more.roots;
+  objects = p.objects ++ more.objects;
+}
+
+-- the bytes that stand at a place, behind records of which some have made this of the snapshot, are these records, then
+-- the rest
+pub record AddsRecordsFrom (at : ℕ) (before : Order) (bytes rest : List ℕ) (reached : Order) (old new : Places)
+    : Type 0 where
   pub records : List Record
   pub parts : bytes ≡ spellings old.id_size records ++ rest
   pub each : AllByRecursion (IsRecord old.id_size) records
-  pub order : IsAt reached (map tag_of records)
-  pub joined : new ≡ with_records old records
+  pub order : (tags : List ℕ) → IsAt before tags → IsAt reached (tags ++ map tag_of records)
+  pub joined : new ≡ with_records old at records
+
+-- the same of the bytes behind the header
+abbrev pub AddsRecords : List ℕ → List ℕ → Order → Places → Places → Type 0
+AddsRecords = AddsRecordsFrom 31 Before
 
 -- behind the header the bytes have this fault
 pub record HasRecordFault (s : ℕ) (bytes : List ℕ) (fault : FormatFault) : Type 0 where

@@ -1,16 +1,15 @@
 -- Each turn takes a frame off the rest and joins its record. What stops it lies behind the longest list of records.
-use Rattle.std.proofs.Common.{arith, false, length, refl, sym, ◌+◌, ◌-◌, ◌<◌, ◌∙◌, ◌≡◌}
+use Rattle.std.proofs.Common.{ap, arith, length, refl, ℕ, ◌+◌, ◌-◌, ◌<◌, ◌≡◌}
 use Rattle.std.proofs.lemmas.Bool.Decides.{nat_tests}
-use Rattle.std.proofs.lemmas.List.{nil_from_length}
 use Rattle.std.proofs.lemmas.Result.{err_from_is_err_and}
 use Rattle.hprof_grammar.specs.working.Joining.{FrameFault, HasRecordFault}
-use Rattle.hprof_grammar.specs.working.SnapshotOrder.{is_done}
 use Rattle.hprof_grammar.specs.declared.snapshot_order.Order.{Order}
+use Rattle.hprof_grammar.specs.declared.snapshot_order.Order.TheVariants.{Before}
 use Rattle.hprof_grammar.proofs.Refusals.{fault_passes}
 use Rattle.hprof_grammar.proofs.Bytes.{IsBytes, in_bytes}
 use Rattle.hprof_grammar.proofs.Frames.{cut_record, frame_takes}
 use Rattle.hprof_grammar.proofs.RecordSteps.{records_step}
-use Rattle.hprof_grammar.proofs.Wholes.{bytes_left, fault_at_end, fault_in_record, fault_where_cut, frame_room}
+use Rattle.hprof_grammar.proofs.Wholes.{bytes_left, fault_in_record, fault_where_cut, frame_room, from_header}
 use Rattle.hprof_grammar.proofs.Wholes.{left_within}
 use Rattle.hprof_grammar.proofs.record_list.note_records.Goals as goal
 
@@ -23,8 +22,9 @@ returns-in_default-clause-fault g c =
     bytes_left c.args.bytes.now rest c.loop-reader.order c.args.dump.now c.loop-reader.dump adds bytes in
     let some : 0 < length c.loop-reader.reader.rest.now = grind (arith, nat_tests) in
     let cut = cut_record rest c.in_default.field-0 some left c.in_default.ensures in
-    fault_where_cut c.args.bytes.now rest c.loop-reader.order c.args.dump.now c.loop-reader.dump adds
-    (31 + (length c.args.bytes.now - length rest)) c.new.result some cut refl c.new.ensures
+    λ place order. fault_where_cut c.args.bytes.now rest c.loop-reader.order c.args.dump.now c.loop-reader.dump
+    (from_header adds place order) (c.args.at + (length c.args.bytes.now - length rest)) c.new.result some cut
+    (ap (λ (n : ℕ). n + (length c.args.bytes.now - length rest)) place) c.new.ensures
 
 pub note_record-requires-clause-room : goal.note_record-requires-clause-room
 note_record-requires-clause-room g c =
@@ -50,15 +50,17 @@ returns-in_err-order-clause-fault g c =
     let behind = c.next_frame.new.reader.rest.now in
     let adds = c.loop-reader.invariant in
     let left = bytes_left c.args.bytes.now rest c.loop-reader.order c.args.dump.now c.loop-reader.dump adds bytes in
-    let at = 31 + (length c.args.bytes.now - length rest) in
+    let at = c.args.at + (length c.args.bytes.now - length rest) in
     let frame = frame_takes rest ((c.in-Ok.frame.tag, c.in-Ok.frame.time, c.in-Ok.frame.body.now), behind) left
     c.in-Ok.ensures in
     let exit = err_from_is_err_and c.from_residual.result c.from_residual.ensures.1 in
     fault_passes Order c.from_residual.result c.in_err-order.field-0.0
     (FrameFault c.loop-reader.dump.id_size at c.in-Ok.frame.tag c.in-Ok.frame.body.now c.loop-reader.order)
-    (HasRecordFault c.args.dump.now.id_size c.args.bytes.now) exit
-    (λ fault wrong. fault_in_record c.args.bytes.now rest c.loop-reader.order c.args.dump.now c.loop-reader.dump adds
-    at c.in-Ok.frame.tag c.in-Ok.frame.time c.in-Ok.frame.body.now behind fault frame refl wrong)
+    (λ fault. c.args.at ≡ 31 → c.args.order ≡ Before
+    → HasRecordFault c.args.dump.now.id_size c.args.bytes.now fault) exit
+    (λ fault wrong place order. fault_in_record c.args.bytes.now rest c.loop-reader.order c.args.dump.now
+    c.loop-reader.dump (from_header adds place order) at c.in-Ok.frame.tag c.in-Ok.frame.time c.in-Ok.frame.body.now
+    behind fault frame (ap (λ (n : ℕ). n + (length c.args.bytes.now - length rest)) place) wrong)
     c.in_err-order.ensures.fault
 
 pub loop-reader-smaller : goal.loop-reader-smaller
@@ -88,13 +90,5 @@ loop-reader-preserved g c =
     c.in-Ok.ensures in
     records_step c.args.bytes.now rest behind c.loop-reader.order c.in_ok-order.order c.args.dump.now
     c.loop-reader.dump c.note_record.new.dump
-    (31 + (length c.args.bytes.now - length rest)) c.in-Ok.frame.tag c.in-Ok.frame.time c.in-Ok.frame.body.now adds
+    (c.args.at + (length c.args.bytes.now - length rest)) c.in-Ok.frame.tag c.in-Ok.frame.time c.in-Ok.frame.body.now adds
     frame refl (c.in_ok-order.ensures.adds c.in-Ok.frame.time)
-
-pub returns-then-not-is_done-clause-fault : goal.returns-then-not-is_done-clause-fault
-returns-then-not-is_done-clause-fault g c =
-    let none : length c.loop-reader.reader.rest.now ≡ 0 = grind (arith, nat_tests) in
-    let undone : is_done c.loop-reader.order ≡ false = sym c.is_done.ensures ∙ c.if-not-is_done.true in
-    fault_at_end c.args.bytes.now c.loop-reader.reader.rest.now c.loop-reader.order c.args.dump.now c.loop-reader.dump
-    c.loop-reader.invariant (31 + length c.args.bytes.now) c.new-then-not-is_done.result
-    (nil_from_length c.loop-reader.reader.rest.now none) undone refl c.new-then-not-is_done.ensures

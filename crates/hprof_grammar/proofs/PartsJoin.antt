@@ -1,0 +1,81 @@
+-- Parts that are joined one behind another.
+use Rattle.std.proofs.Common.{Bool, List, [], ap, arith, drop, false, length, not, refl, subst, sym, take, true, ℕ, ◌++◌, ◌+◌, ◌-◌, ◌<◌}
+use Rattle.std.proofs.Common.{◌&&◌}
+use Rattle.std.proofs.Common.{◌^◌, ◌∙◌, ◌≡◌, ◌≤◌}
+use denote.Enum.Bare.{same_true, sameb}
+use Rattle.std.proofs.Math.Dec.{eqb}
+use Rattle.std.proofs.Math.ListN.{drop_of_length-le}
+use Rattle.std.proofs.lemmas.Bool.{eqb-true}
+use Rattle.std.proofs.lemmas.List.{drop-drop, length-drop, take-append-drop}
+use Rattle.hprof_grammar.specs.Places.{Places}
+use Rattle.hprof_grammar.specs.working.Joining.{AddsAll, AddsRecords, AddsRecordsFrom, nothing_of, with_places}
+use Rattle.hprof_grammar.specs.working.Parts.{IsPart}
+use Rattle.hprof_grammar.specs.working.SnapshotOrder.{is_done}
+use Rattle.hprof_grammar.specs.declared.cuts.Seam.{Seam}
+use Rattle.hprof_grammar.specs.declared.parts.Part.{Part}
+use Rattle.hprof_grammar.specs.contracts.snapshot_order.Order.{the_type}
+use Rattle.hprof_grammar.specs.declared.snapshot_order.Order.{Order}
+use Rattle.hprof_grammar.specs.declared.snapshot_order.Order.TheVariants.{Before}
+use Rattle.hprof_grammar.proofs.RecordSteps.{read_apart, records_begin, records_join}
+
+both_hold : (x y : Bool) → not (x && y) ≡ false → (x ≡ true) × (y ≡ true)
+both_hold true true e = (refl, refl)
+both_hold true false e = absurd (cc)
+both_hold false y e = absurd (cc)
+
+-- what the test of two seams says
+pub same_seam : (a b : Seam) → not (eqb a.place b.place && sameb the_type a.order b.order) ≡ false → a ≡ b
+same_seam a b e =
+    let same = both_hold (eqb a.place b.place) (sameb the_type a.order b.order) e in
+    ap (λ (n : ℕ). record { place = n; order = a.order }) (eqb-true a.place b.place same.0)
+    ∙ ap (λ (o : Order). record { place = b.place; order = o }) (same_true the_type tt a.order b.order same.1)
+
+-- the records behind the header and up to a seam have joined
+pub record Reaches (text : List ℕ) (s : ℕ) (seam : Seam) (dump : Places) : Type 0 where
+  pub behind : 31 ≤ seam.place
+  pub fits : seam.place < 2 ^ 32
+  pub adds : AddsRecords (drop 31 text) (drop seam.place text) seam.order (nothing_of s) dump
+
+pub none_joined : (text : List ℕ) (s : ℕ) (dump : Places) → dump ≡ nothing_of s
+    → Reaches text s (record { place = 31; order = Before }) dump
+none_joined text s dump e = record {
+  behind = omega arith;
+  fits = omega arith;
+  adds = subst (λ (p : Places). AddsRecords (drop 31 text) (drop 31 text) Before (nothing_of s) p) (sym e)
+      (records_begin (drop 31 text) (nothing_of s));
+}
+
+-- a part that begins at that seam joins them
+pub part_joins : {A : Type 0} {text : List ℕ} {s : ℕ} {seam : Seam} {dump newer : Places} (part : Part A)
+    → Reaches text s seam dump → IsPart text s part → part.from ≡ seam → newer ≡ with_places dump part.dump
+    → length text < 2 ^ 32 → Reaches text s part.to newer
+part_joins {A} {text} {s} {seam} {dump} {newer} part was is begins e room =
+    let from = part.from.place in
+    let to = part.to.place in
+    let body = take (to - from) (drop from text) in
+    let here : Reaches text s part.from dump = subst (λ (x : Seam). Reaches text s x dump) (sym begins) was in
+    let size : dump.id_size ≡ s = ap (λ (p : Places). p.id_size) here.adds.joined in
+    let ends : from + (to - from) ≡ to = omega (arith, is.forward) in
+    let split : drop from text ≡ body ++ drop to text =
+    sym (take-append-drop (to - from) (drop from text)) ∙ ap (λ (l : List ℕ). body ++ l)
+    (drop-drop (to - from) from text ∙ ap (λ (n : ℕ). drop n text) ends) in
+    let apart = read_apart dump (subst
+    (λ (n : ℕ). AddsRecordsFrom from part.from.order body [] part.to.order (nothing_of n) part.dump) (sym size) is.adds)
+    split in
+    record {
+      behind = omega (arith, here.behind, is.forward);
+      fits = omega (arith, is.within, room);
+      adds = subst (λ (p : Places). AddsRecords (drop 31 text) (drop to text) part.to.order (nothing_of s) p) (sym e)
+          (records_join here.adds apart (omega
+          (arith, length-drop 31 text, length-drop from text, here.behind, is.forward, is.within)));
+    }
+
+-- where they reach the end and the snapshot has its own, they are all
+pub all_joined : {text : List ℕ} {s : ℕ} {seam : Seam} {dump : Places} → Reaches text s seam dump
+    → seam.place ≡ length text → is_done seam.order ≡ true → AddsAll (drop 31 text) (nothing_of s) dump
+all_joined {text} {s} {seam} {dump} reaches end done = (
+  seam.order,
+  done,
+  subst (λ (rest : List ℕ). AddsRecords (drop 31 text) rest seam.order (nothing_of s) dump)
+      (drop_of_length-le text (omega (arith, end))) reaches.adds,
+)

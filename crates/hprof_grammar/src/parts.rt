@@ -1,0 +1,104 @@
+//! A dump that is read in parts by threads. What a part says is tested before it is believed: whatever is odd, be it a
+//! fault of the bytes or want of memory, makes `None`, and the dump is read by one thread.
+
+ghost use Rattle.std.specs.Prelude.{All, IfSome, drop, ◌+◌, ◌<◌, ◌≡◌, ◌≤◌, ◌^◌, length};
+ghost use Rattle.hprof_grammar.specs.working.Joining.{AddsAll, HasHeader, nothing_of};
+ghost use Rattle.hprof_grammar.specs.working.Parts.{IsPart, MayBePart};
+
+use crate::cuts::{Cut, FIRST_SEAM, Seam, cut_records};
+use crate::dump::Dump;
+use crate::record_list::{FIRST_RECORD, note_records};
+use crate::team::Team;
+use std::alloc::Allocator;
+use std::thread;
+use std::thread::Threads;
+
+/// How many bytes a team takes for an object of a dump: some more than most have.
+const BYTES_OF_AN_OBJECT: usize = 64;
+
+/// What the records from one seam to another add to a dump.
+#[derive(Drop)]
+pub struct Part<A: Allocator> {
+    from: Seam,
+    to: Seam,
+    dump: Dump<A>,
+}
+
+/// Reads records by themselves.
+fn read_part<A: Allocator + Copy>(alloc: A, bytes: &[u8], id_size: u8, cut: Cut) -> Option<Part<A>>
+    requires low { 1 ≤ id_size }
+    requires high { id_size ≤ 8 }
+    ensures { IfSome result (λ part. IsPart bytes.now id_size part) }
+{
+    let records = bytes.get(cut.from.place as usize..cut.to as usize)?;
+    let mut dump = Dump::new(alloc, id_size);
+    let order = note_records(&mut dump, cut.from.order, records, cut.from.place).ok()?;
+    let to = Seam {
+        place: cut.to,
+        order,
+    };
+    Some(Part {
+        from: cut.from,
+        to,
+        dump,
+    })
+}
+
+/// The dump that the parts make where each begins at the seam where the one before ended, the first one behind the
+/// header, and the last one ends with the bytes.
+fn join_parts<A: Allocator + Copy>(
+    alloc: A,
+    bytes: &[u8],
+    id_size: u8,
+    parts: Vec<Option<Part<A>>, A>,
+) -> Option<Dump<A>>
+    requires room { length bytes.now < 2 ^ 32 }
+    requires parts { All (MayBePart bytes.now id_size) parts.items }
+    ensures { IfSome result (λ dump. AddsAll (drop 31 bytes.now) (nothing_of id_size) dump) }
+{
+    let mut dump = Dump::new(alloc, id_size);
+    let mut reached = FIRST_SEAM;
+    for part in parts {
+        let part = part?;
+        if part.from != reached {
+            return None;
+        }
+        let Ok(()) = dump.append(part.dump) else {
+            return None;
+        };
+        reached = part.to;
+    }
+    if reached.place as usize != bytes.len() || !reached.order.is_done() {
+        return None;
+    }
+    Some(dump)
+}
+
+/// Reads a dump whose header is right in as many parts as the team has threads, where the team shares work on so many
+/// objects.
+pub fn read_in_parts<T: Threads + Sync, A: Allocator + Copy + Send + Sync>(
+    team: &Team<'_, T>,
+    alloc: A,
+    bytes: &[u8],
+    id_size: u8,
+) -> Option<Dump<A>>
+    requires header { HasHeader id_size bytes.now }
+    ensures { IfSome result (λ dump. AddsAll (drop 31 bytes.now) (nothing_of id_size) dump) }
+{
+    if !team.shares(bytes.len() / BYTES_OF_AN_OBJECT) {
+        return None;
+    }
+    let records = bytes.get(FIRST_RECORD as usize..)?;
+    let cuts = cut_records(alloc, records, team.part_of(records.len()))?;
+    if cuts.len() < 2 {
+        return None;
+    }
+    let read = |cut: Cut| -> Option<Part<A>>
+        requires { (1 ≤ id_size) × (id_size ≤ 8) }
+        ensures { IfSome result (λ part. IsPart bytes.entry.now id_size part) }
+    { read_part(alloc, bytes, id_size, cut) };
+    let Ok(parts) = thread::map_vec(team, cuts, &read) else {
+        return None;
+    };
+    join_parts(alloc, bytes, id_size, parts)
+}
