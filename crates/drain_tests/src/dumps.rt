@@ -62,6 +62,7 @@ pub(crate) fn graph_of<'a, T: Threads + Sync>(
     dump: &'a [u8],
     skip: &'a Skip<'_, Global>,
 ) -> Result<Graph<'a, Global>, Fail> {
-    let places = read(alloc, dump)?;
-    Ok(Graph::build(&Team::new(rt, 4), alloc, dump, places, skip)?)
+    let team = Team::new(rt, 4);
+    let places = read(&team, alloc, dump)?;
+    Ok(Graph::build(&team, alloc, dump, places, skip)?)
 }

@@ -7,10 +7,11 @@ ghost use Rattle.hprof_grammar.specs.SubRecord.SubRecord.{object_array_dump, pri
 ghost use Rattle.hprof_grammar.specs.Standing.{HeaderStands, LoadStands, Stands, StringStands};
 
 use crate::dumps::{WITH_EIGHT, WITH_FOUR};
-use hprof_grammar::{Ids, ObjectKind, ReadRefusal, RootKind, TypedValue, Values, View, read};
+use hprof_grammar::{Ids, ObjectKind, ReadRefusal, RootKind, Team, TypedValue, Values, View, read};
 use std::alloc::Global;
 use std::process::Abort;
 use std::test::Fail;
+use std::thread::Threads;
 
 /// The numbers of a header, of a string's record and of a loaded class, in the order of the manual.
 fn record_numbers(view: &View<'_>, string: u32, loaded: u32) -> [u64; 8]
@@ -208,12 +209,13 @@ const PLACES: [(&[u8], u8, PlacesOfParts); 2] = [
 ];
 
 /// How many bytes the identifiers of a dump have, and whether these are the places of its parts.
-fn placed_so(
+fn placed_so<T: Threads + Sync>(
+    rt: &T,
     alloc: Global,
     bytes: &[u8],
     places: PlacesOfParts,
 ) -> Result<(u8, bool), ReadRefusal> {
-    let dump = read(alloc, bytes)?;
+    let dump = read(&Team::new(rt, 1), alloc, bytes)?;
     let found = [dump.strings(), dump.loaded(), dump.objects(), dump.roots()];
     Ok((dump.id_size(), found == places))
 }
@@ -222,7 +224,7 @@ fn placed_so(
 fn places(rt: HostRuntime) -> Result<(), Fail> {
     for (bytes, id_size, places) in PLACES {
         assert_eq!(rt;
-            placed_so(rt.alloc(), bytes, places)?,
+            placed_so(&rt, rt.alloc(), bytes, places)?,
             (id_size, true),
             "identifiers of {id_size} bytes"
         );

@@ -1,9 +1,10 @@
 //! Each tag and each type code, in each place that one has, and each order of the snapshot's records.
 
 use crate::worked_file::fault;
-use hprof_grammar::read;
+use hprof_grammar::{Team, read};
 use std::alloc::{AllocError, Global};
 use std::test::Fail;
+use std::thread::Threads;
 
 /// The bytes of each sub-record with its tag, with identifiers of 4 bytes and no entries.
 const SUB_RECORDS: [(u8, usize); 13] = [
@@ -77,10 +78,14 @@ fn push_record(file: &mut Vec<u8>, tag: u8, body: &[u8]) -> Result<(), AllocErro
 }
 
 /// The fault of a file with one heap dump.
-fn heap_fault(alloc: Global, body: &[u8]) -> Result<Option<(u8, u64)>, AllocError> {
+fn heap_fault<T: Threads + Sync>(
+    rt: &T,
+    alloc: Global,
+    body: &[u8],
+) -> Result<Option<(u8, u64)>, AllocError> {
     let mut file = header(alloc)?;
     push_record(&mut file, 0x0c, body)?;
-    Ok(fault(read(alloc, &file)))
+    Ok(fault(read(&Team::new(rt, 1), alloc, &file)))
 }
 
 /// So many zero bytes behind these.
@@ -93,28 +98,36 @@ fn padded(alloc: Global, first: &[u8], zeros: usize) -> Result<Vec<u8>, AllocErr
 }
 
 /// The fault of a file with records of these tags, all of them empty.
-fn order_fault(alloc: Global, tags: &[u8]) -> Result<Option<(u8, u64)>, AllocError> {
+fn order_fault<T: Threads + Sync>(
+    rt: &T,
+    alloc: Global,
+    tags: &[u8],
+) -> Result<Option<(u8, u64)>, AllocError> {
     let mut file = header(alloc)?;
     for tag in tags {
         push_record(&mut file, *tag, &[])?;
     }
-    Ok(fault(read(alloc, &file)))
+    Ok(fault(read(&Team::new(rt, 1), alloc, &file)))
 }
 
 #[test]
 fn orders_of_the_snapshot(rt: HostRuntime) -> Result<(), Fail> {
     for (tags, expected) in &ORDERS {
-        assert_eq!(rt; order_fault(rt.alloc(), tags)?, *expected, "{tags:?}");
+        assert_eq!(rt; order_fault(&rt, rt.alloc(), tags)?, *expected, "{tags:?}");
     }
     Ok(())
 }
 
 /// The fault of a file with a record of this tag and three zeros, and an empty heap dump.
-fn record_fault(alloc: Global, tag: u8) -> Result<Option<(u8, u64)>, AllocError> {
+fn record_fault<T: Threads + Sync>(
+    rt: &T,
+    alloc: Global,
+    tag: u8,
+) -> Result<Option<(u8, u64)>, AllocError> {
     let mut file = header(alloc)?;
     push_record(&mut file, tag, &[0, 0, 0])?;
     push_record(&mut file, 0x0c, &[])?;
-    Ok(fault(read(alloc, &file)))
+    Ok(fault(read(&Team::new(rt, 1), alloc, &file)))
 }
 
 #[test]
@@ -125,19 +138,25 @@ fn tags_of_records(rt: HostRuntime) -> Result<(), Fail> {
             0x0c | 0x1c => Some((5, 40)),
             _ => None,
         };
-        assert_eq!(rt; record_fault(rt.alloc(), tag)?, expected, "{tag}");
+        assert_eq!(rt; record_fault(&rt, rt.alloc(), tag)?, expected, "{tag}");
     }
     Ok(())
 }
 
 /// The fault of a file with one sub-record: its tag, and so many zeros.
-fn sub_fault(alloc: Global, tag: u8, zeros: usize) -> Result<Option<(u8, u64)>, AllocError> {
+fn sub_fault<T: Threads + Sync>(
+    rt: &T,
+    alloc: Global,
+    tag: u8,
+    zeros: usize,
+) -> Result<Option<(u8, u64)>, AllocError> {
     let body = padded(alloc, &[tag], zeros)?;
-    heap_fault(alloc, &body)
+    heap_fault(rt, alloc, &body)
 }
 
 /// The fault of a file with one sub-record, of which all bytes but the last are zeros behind its tag.
-fn ended_fault(
+fn ended_fault<T: Threads + Sync>(
+    rt: &T,
     alloc: Global,
     tag: u8,
     zeros: usize,
@@ -145,25 +164,29 @@ fn ended_fault(
 ) -> Result<Option<(u8, u64)>, AllocError> {
     let mut body = padded(alloc, &[tag], zeros)?;
     body.push(last)?;
-    heap_fault(alloc, &body)
+    heap_fault(rt, alloc, &body)
 }
 
 #[test]
 fn tags_of_sub_records(rt: HostRuntime) -> Result<(), Fail> {
     for tag in 0..=255u8 {
         let Some(size) = entry(&SUB_RECORDS, tag) else {
-            assert_eq!(rt; sub_fault(rt.alloc(), tag, 60)?, Some((5, 40)), "{tag}");
+            assert_eq!(rt;
+                sub_fault(&rt, rt.alloc(), tag, 60)?,
+                Some((5, 40)),
+                "{tag}"
+            );
             continue;
         };
         assert!(rt; size > 1);
         let last = if tag == 0x23 { 8 } else { 0 };
         assert_eq!(rt;
-            ended_fault(rt.alloc(), tag, size - 2, last)?,
+            ended_fault(&rt, rt.alloc(), tag, size - 2, last)?,
             None,
             "{tag}"
         );
         assert_eq!(rt;
-            sub_fault(rt.alloc(), tag, size - 2)?,
+            sub_fault(&rt, rt.alloc(), tag, size - 2)?,
             Some((6, 40)),
             "{tag}"
         );
@@ -184,7 +207,8 @@ const CODE_PLACES: [CodePlace; 4] = [
 
 /// The fault of a file with one sub-record that has this code at this place, and a value of so many bytes where one
 /// follows.
-fn code_fault(
+fn code_fault<T: Threads + Sync>(
+    rt: &T,
     alloc: Global,
     place: &CodePlace,
     code: u8,
@@ -196,7 +220,7 @@ fn code_fault(
     body.push(code)?;
     let value = if has_value { size } else { 0 };
     let body = padded(alloc, &body, value.saturating_add(behind))?;
-    heap_fault(alloc, &body)
+    heap_fault(rt, alloc, &body)
 }
 
 #[test]
@@ -207,7 +231,7 @@ fn type_codes(rt: HostRuntime) -> Result<(), Fail> {
             let (of, tag, _, _, _, _) = *place;
             let is_allowed = known.is_some() && (tag == 0x20 || code != 2);
             let expected = if is_allowed { None } else { Some((7, 40)) };
-            let found = code_fault(rt.alloc(), place, code, known.unwrap_or(8))?;
+            let found = code_fault(&rt, rt.alloc(), place, code, known.unwrap_or(8))?;
             assert_eq!(rt; found, expected, "{of} {code}");
         }
     }

@@ -2,8 +2,8 @@
 //! They ask what callers may ask. The crate has nothing to hand out.
 //!
 //! `worked_file` has the worked dump of 174 bytes with its places and its faults, `format_tables` each tag and type
-//! code and each order of records, `fields` each field of a dump that has one part of every kind (`dumps`), and
-//! `refusals` how a refusal is shown. `proofs/WorkedFile.antt` sees by computation that the worked dump is one by the
+//! code and each order of records, `fields` each field of a dump that has one part of every kind (`dumps`), `parts` a
+//! dump that threads read in parts, and `refusals` how a refusal is shown. `proofs/WorkedFile.antt` sees by computation that the worked dump is one by the
 //! definitions.
 
 #![tactic(auto)]
@@ -14,6 +14,8 @@ mod dumps;
 mod fields;
 #[cfg(test)]
 mod format_tables;
+#[cfg(test)]
+mod parts;
 #[cfg(test)]
 mod refusals;
 #[cfg(test)]

@@ -1,9 +1,10 @@
 //! Rows of bytes with the places or the fault that they have to give.
 
-use hprof_grammar::{Dump, FormatFault, ReadRefusal, read};
+use hprof_grammar::{Dump, FormatFault, ReadRefusal, Team, read};
 use limited_heap::LimitedHeap;
 use std::alloc::{Allocator, Global};
 use std::test::Fail;
+use std::thread::Threads;
 
 /// A class `A` with one field, two instances that refer to each other, and a root: 174 bytes.
 #[rattlefmt::skip]
@@ -61,7 +62,7 @@ where
 
 #[test]
 fn places_of_the_file(rt: HostRuntime) -> Result<(), Fail> {
-    let dump = read(rt.alloc(), &FILE)?;
+    let dump = read(&Team::new(&rt, 1), rt.alloc(), &FILE)?;
     assert_eq!(rt; dump.id_size(), 4);
     assert_eq!(rt; dump.strings(), [31].as_slice());
     assert_eq!(rt; dump.loaded(), [45].as_slice());
@@ -76,7 +77,7 @@ fn first_faults(rt: HostRuntime) -> Result<(), Fail> {
         for length in from..to + 1 {
             assert!(rt; length <= FILE.len());
             assert_eq!(rt;
-                fault(read(rt.alloc(), &FILE[..length])),
+                fault(read(&Team::new(&rt, 1), rt.alloc(), &FILE[..length])),
                 Some((code, place)),
                 "{length} bytes"
             );
@@ -87,7 +88,7 @@ fn first_faults(rt: HostRuntime) -> Result<(), Fail> {
         assert!(rt; at < file.len());
         file[at] = byte;
         assert_eq!(rt;
-            fault(read(rt.alloc(), &file)),
+            fault(read(&Team::new(&rt, 1), rt.alloc(), &file)),
             Some((code, place)),
             "{byte} at {at}"
         );
@@ -100,7 +101,8 @@ fn first_faults(rt: HostRuntime) -> Result<(), Fail> {
 fn one_snapshot(rt: HostRuntime) -> Result<(), Fail> {
     let mut file = FILE.to_vec(rt.alloc())?;
     file.extend_from_slice(&[0x0c, 0, 0, 0, 0, 0, 0, 0, 0])?;
-    assert_eq!(rt; fault(read(rt.alloc(), &file)), Some((8, 174)));
+    let team = Team::new(&rt, 1);
+    assert_eq!(rt; fault(read(&team, rt.alloc(), &file)), Some((8, 174)));
     Ok(())
 }
 
@@ -114,52 +116,71 @@ fn is_of_the_file<A: Allocator>(dump: &Dump<A>) -> bool {
 }
 
 /// Whether the file is read over this heap, or want of memory is told where the heap refused a request.
-fn is_right_or_told(heap: &LimitedHeap<Global>) -> bool {
-    match read(heap, &FILE) {
+fn is_right_or_told<T: Threads + Sync>(team: &Team<'_, T>, heap: &LimitedHeap<Global>) -> bool {
+    match read(team, heap, &FILE) {
         Ok(dump) => is_of_the_file(&dump),
         Err(refusal) => heap.refusals() > 0 && refusal == ReadRefusal::OutOfMemory,
     }
 }
 
 /// How many requests it takes to read the file where none is refused.
-fn requests_of_the_file(alloc: Global) -> u64 {
+fn requests_of_the_file<T: Threads + Sync>(team: &Team<'_, T>, alloc: Global) -> u64 {
     let heap = LimitedHeap::new(alloc, u64::MAX);
-    let _whole = is_right_or_told(&heap);
+    let _whole = is_right_or_told(team, &heap);
     u64::MAX.saturating_sub(heap.requests_left())
 }
 
 /// Whether the file is read, or want of memory told, over a heap that grants so many requests; and whether none was
 /// refused.
-fn where_the_rest_is_refused(alloc: Global, requests: u64) -> (bool, bool) {
+fn where_the_rest_is_refused<T: Threads + Sync>(
+    team: &Team<'_, T>,
+    alloc: Global,
+    requests: u64,
+) -> (bool, bool) {
     let heap = LimitedHeap::new(alloc, requests);
-    (is_right_or_told(&heap), heap.refusals() == 0)
+    (is_right_or_told(team, &heap), heap.refusals() == 0)
 }
 
 /// The same over a heap that refuses this request alone.
-fn where_one_is_refused(alloc: Global, request: u64) -> (bool, bool) {
+fn where_one_is_refused<T: Threads + Sync>(
+    team: &Team<'_, T>,
+    alloc: Global,
+    request: u64,
+) -> (bool, bool) {
     let heap = LimitedHeap::refusing(alloc, request);
-    (is_right_or_told(&heap), heap.refusals() == 0)
+    (is_right_or_told(team, &heap), heap.refusals() == 0)
 }
 
-/// Each request is refused in turn: with all behind it, and alone.
+/// Each request is refused in turn: with all behind it, and alone. With a team that shares the file it is read in parts.
 #[test]
 fn memory_refused_in_turn(rt: HostRuntime) {
-    let requests = requests_of_the_file(rt.alloc());
-    assert!(rt; requests > 0);
-    for request in 0..=requests {
-        let wanted = (true, request == requests);
-        let rest = where_the_rest_is_refused(rt.alloc(), request);
-        assert_eq!(rt; rest, wanted, "{request} and all behind it");
-        let alone = where_one_is_refused(rt.alloc(), request);
-        assert_eq!(rt; alone, wanted, "{request} alone");
+    for fewest in [u32::MAX, 0] {
+        let team = Team::sharing_from(&rt, 4, fewest);
+        let requests = requests_of_the_file(&team, rt.alloc());
+        assert!(rt; requests > 0);
+        for request in 0..=requests {
+            let wanted = (true, request == requests);
+            let rest = where_the_rest_is_refused(&team, rt.alloc(), request);
+            assert_eq!(rt;
+                rest,
+                wanted,
+                "{request} and all behind it, from {fewest} on"
+            );
+            let alone = where_one_is_refused(&team, rt.alloc(), request);
+            assert_eq!(rt; alone, wanted, "{request} alone, from {fewest} on");
+        }
     }
 }
 
 /// How many requests a heap that grants what the file takes has left behind it, whether the dump is right, whether it
 /// hands over its objects and has none then, and how many requests were refused.
-fn looked_at(alloc: Global) -> Result<(u64, bool, bool, u64), ReadRefusal> {
-    let heap = LimitedHeap::new(alloc, requests_of_the_file(alloc));
-    let mut dump = read(&heap, &FILE)?;
+fn looked_at<T: Threads + Sync>(
+    rt: &T,
+    alloc: Global,
+) -> Result<(u64, bool, bool, u64), ReadRefusal> {
+    let team = Team::new(rt, 4);
+    let heap = LimitedHeap::new(alloc, requests_of_the_file(&team, alloc));
+    let mut dump = read(&team, &heap, &FILE)?;
     let left = heap.requests_left();
     let right = is_of_the_file(&dump);
     let objects = dump.take_objects(&heap);
@@ -171,6 +192,6 @@ fn looked_at(alloc: Global) -> Result<(u64, bool, bool, u64), ReadRefusal> {
 /// handed no allocator.
 #[test]
 fn reading_fields_takes_no_memory(rt: HostRuntime) -> Result<(), Fail> {
-    assert_eq!(rt; looked_at(rt.alloc())?, (0, true, true, 0));
+    assert_eq!(rt; looked_at(&rt, rt.alloc())?, (0, true, true, 0));
     Ok(())
 }

@@ -148,10 +148,11 @@ static CHANGES: [(usize, u8, u8, u64); 5] = [
 /// The code and the place of the fault that refuses the graph of a whole dump.
 fn fault_in<T: Threads + Sync>(rt: &T, alloc: Global, bytes: &[u8]) -> Option<(u8, u64)> {
     let skip = Skip::none(alloc);
-    let Ok(dump) = read(alloc, bytes) else {
+    let team = Team::new(rt, 4);
+    let Ok(dump) = read(&team, alloc, bytes) else {
         return None;
     };
-    match Graph::build(&Team::new(rt, 4), alloc, bytes, dump, &skip) {
+    match Graph::build(&team, alloc, bytes, dump, &skip) {
         Err(LinkRefusal::Fault(LinkFault { code, offset })) => Some((code, offset)),
         _ => None,
     }

@@ -15,10 +15,11 @@ pub fn graph_of<'a, T: Threads + Sync>(
     bytes: &'a [u8],
     skip: &'a Skip<'_, Global>,
 ) -> Option<Graph<'a, Global>> {
-    let Ok(dump) = read(alloc, bytes) else {
+    let team = Team::new(rt, 4);
+    let Ok(dump) = read(&team, alloc, bytes) else {
         return None;
     };
-    Graph::build(&Team::new(rt, 4), alloc, bytes, dump, skip).ok()
+    Graph::build(&team, alloc, bytes, dump, skip).ok()
 }
 
 /// Whether a walk gives these objects and then none. With each of them fewer identifiers are left, and behind them

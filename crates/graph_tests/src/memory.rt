@@ -24,10 +24,11 @@ fn build<'a, T: Threads + Sync, A: Allocator + Copy + Send + Sync>(
     bytes: &'a [u8],
     skip: &'a Skip<'_, Global>,
 ) -> Result<Graph<'a, A>, LinkRefusal> {
-    let Ok(dump) = read(heap, bytes) else {
+    let team = Team::new(rt, 4);
+    let Ok(dump) = read(&team, heap, bytes) else {
         return Err(LinkRefusal::OutOfMemory);
     };
-    Graph::build(&Team::new(rt, 4), heap, bytes, dump, skip)
+    Graph::build(&team, heap, bytes, dump, skip)
 }
 
 /// How many requests it makes.

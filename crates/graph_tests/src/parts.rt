@@ -96,8 +96,9 @@ fn answer<T: Threads + Sync, A: Allocator + Copy + Send + Sync>(
     threads: u32,
 ) -> Answer {
     let skip = Skip::none(alloc);
-    let dump = read(heap, bytes).ok()?;
-    match Graph::build(&Team::new(rt, threads), heap, bytes, dump, &skip) {
+    let team = Team::new(rt, threads);
+    let dump = read(&team, heap, bytes).ok()?;
+    match Graph::build(&team, heap, bytes, dump, &skip) {
         Ok(graph) => Some(Ok(graph.len())),
         Err(LinkRefusal::Fault(LinkFault { code, offset })) => Some(Err((code, offset))),
         Err(LinkRefusal::OutOfMemory) => None,

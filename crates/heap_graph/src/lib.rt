@@ -7,10 +7,11 @@
 //!
 //! From `crates/graph_tests/src/graphs.rt`, which is proved and run with the tests:
 //!
-//!     let Ok(dump) = read(alloc, bytes) else {
+//!     let team = Team::new(rt, 4);
+//!     let Ok(dump) = read(&team, alloc, bytes) else {
 //!         return None;
 //!     };
-//!     Graph::build(&Team::new(rt, 4), alloc, bytes, dump, skip).ok()
+//!     Graph::build(&team, alloc, bytes, dump, skip).ok()
 //!
 //! README.md beside this folder has a table of the calls; the definitions begin in `specs/ObjectGraph.antt`, and what
 //! is accepted and refused stands in `docs/FORMAT.md`.

@@ -191,11 +191,11 @@ where
         ⊎ (IsAcceptedText bytes.now × IsOfMarking refusal)) }
     ensures known { IfErr result (λ refusal. IsRunRefusal refusal × (refusal.code ≤ 18)) }
 {
-    let dump = match read(alloc, bytes) {
+    let team = Team::at_most(rt, options.workers());
+    let dump = match read(&team, alloc, bytes) {
         Ok(dump) => dump,
         Err(refusal) => return Err(Refusal::from(refusal)),
     };
-    let team = Team::at_most(rt, options.workers());
     let graph = match Graph::build(&team, alloc, bytes, dump, skip) {
         Ok(graph) => graph,
         Err(refusal) => return Err(Refusal::from(refusal)),

@@ -85,10 +85,11 @@ fn rows_of_dump<T: Threads + Wait + Sync>(
     bytes: &[u8],
 ) -> Option<(Option<u64>, Option<u64>)> {
     let skip = Skip::none(alloc);
-    let Ok(places) = read(alloc, bytes) else {
+    let team = Team::new(rt, 4);
+    let Ok(places) = read(&team, alloc, bytes) else {
         return None;
     };
-    match Graph::build(&Team::new(rt, 4), alloc, bytes, places, &skip) {
+    match Graph::build(&team, alloc, bytes, places, &skip) {
         Ok(graph) => rows_in_turn(rt, alloc, &graph),
         Err(_) => None,
     }

@@ -48,10 +48,11 @@ fn is_shown_in_rows<T: Threads + Wait + Sync>(
 /// Whether the row of the one class of this dump shows this name.
 fn is_shown_of<T: Threads + Wait + Sync>(rt: &T, alloc: Global, bytes: &[u8], want: &str) -> bool {
     let skip = Skip::none(alloc);
-    let Ok(places) = read(alloc, bytes) else {
+    let team = Team::new(rt, 4);
+    let Ok(places) = read(&team, alloc, bytes) else {
         return false;
     };
-    match Graph::build(&Team::new(rt, 4), alloc, bytes, places, &skip) {
+    match Graph::build(&team, alloc, bytes, places, &skip) {
         Ok(graph) => is_shown_in_rows(rt, alloc, &graph, want),
         Err(_) => false,
     }

@@ -6,7 +6,7 @@
 //!
 //! From `crates/grammar_tests/src/worked_file.rt`, which is proved and run:
 //!
-//!     let dump = read(rt.alloc(), &FILE)?;
+//!     let dump = read(&Team::new(&rt, 1), rt.alloc(), &FILE)?;
 //!     assert_eq!(rt; dump.id_size(), 4);
 //!     assert_eq!(rt; dump.strings(), [31].as_slice());
 //!     assert_eq!(rt; dump.loaded(), [45].as_slice());
