@@ -5,8 +5,7 @@ use Rattle.std.proofs.lemmas.Grind.{get_or_default_zero}
 use Rattle.std.proofs.lemmas.List.{get_or-append_right, get_or_append_left, get_or_past}
 use Rattle.std.proofs.lemmas.List.Elements.{Contains-append_left, Contains-append_right}
 use Rattle.std.proofs.lemmas.Bool.{cases_lt}
-use Rattle.hprof_grammar.specs.Dump.{id_of}
-use Rattle.hprof_grammar.specs.Standing.{Sight, StandInTurn, Stands}
+use Rattle.hprof_grammar.specs.Standing.{Sight}
 use Rattle.hprof_grammar.specs.SubRecord.{Class, SubRecord}
 use Rattle.hprof_grammar.specs.SubRecord.SubRecord.{class_dump}
 use Rattle.heap_graph.specs.Heap.{as_class, objects}
@@ -14,7 +13,6 @@ use Rattle.heap_graph.specs.declared.objects.indexing.Indexed.{Indexed}
 use Rattle.heap_graph.specs.working.ClassNumbers.{AreClassNumbers, AreIndexed, IsClassNumber}
 use Rattle.heap_graph.specs.working.ClassTable.{AreClassesAmong, TableEntry}
 use Rattle.heap_graph.specs.working.PlacedObjects.{AreObjects}
-use Rattle.heap_graph.proofs.Adding.{AreAdded, all_added}
 use Rattle.heap_graph.proofs.ChainLaws.{some_none}
 use Rattle.heap_graph.proofs.PathLaws.{contains_none}
 use Rattle.heap_graph.proofs.Standings.{there}
@@ -89,21 +87,6 @@ module _ (os : List SubRecord) where
           get_or_default_zero numbers k n (omega (arith, from, has.1)),
           rises k has.0 from has.1,
         )) (cases_lt has.0 k)
-
--- behind the last object all are indexed
-pub all_indexed : {A : Type 0} (v : Sight) (places : List ℕ) (heap : List SubRecord) (i : Indexed A) (ids : List ℕ)
-    (n : ℕ) → i.index ≡ ids
-    → AreAdded (λ (h : List SubRecord). StandInTurn (Stands v) places (objects h)) objects id_of ids n
-    → ((h : List SubRecord) → StandInTurn (Stands v) places (objects h)
-    → AreClassNumbers (objects h) n i.class_dumps.items)
-    → n ≡ length places → StandInTurn (Stands v) places (objects heap) → AreIndexed v places heap i
-all_indexed v places heap i ids n made added noted end stand = record {
-  are = record {
-    stand = stand;
-    ids_are = made ∙ all_added _ objects id_of ids n heap added stand (omega (arith, end, stand.count));
-  };
-  class_dumps = subst (λ (m : ℕ). AreClassNumbers (objects heap) m i.class_dumps.items) end (noted heap stand);
-}
 
 not_class : (o : SubRecord) → ((c : Class) → o ≡ class_dump c → ⊥) → as_class o ≡ None
 not_class (class_dump c) other = absurd (other c refl)

@@ -23,6 +23,7 @@ pub mod Testing
 pub mod Parts
 pub mod Linking
 pub mod Adding
+pub mod Gathering
 pub mod HeldLaws
 pub mod Lookups
 pub mod EntryLaws

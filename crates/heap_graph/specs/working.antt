@@ -3,6 +3,7 @@ pub mod Refinement
 pub mod Resolving
 pub mod PlacedObjects
 pub mod ClassNumbers
+pub mod GatheredParts
 pub mod PlacedNames
 pub mod Values
 pub mod HeldIds

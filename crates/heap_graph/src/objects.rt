@@ -5,6 +5,7 @@ mod check_parts;
 mod class_entries;
 mod class_plans;
 pub(crate) mod class_table;
+mod gathering;
 pub(crate) mod indexing;
 mod rows;
 mod scan;

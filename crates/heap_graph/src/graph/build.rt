@@ -28,7 +28,8 @@ use std::snapshot::Snapshot;
 use std::thread::Threads;
 
 /// The objects at these places of a dump, by their identifiers, and its classes.
-fn read_objects<'a, A: Allocator + Copy>(
+fn read_objects<'a, T: Threads + Sync, A: Allocator + Copy + Send + Sync>(
+    team: &Team<'_, T>,
     alloc: A,
     bytes: &'a [u8],
     id_size: u8,
@@ -42,7 +43,7 @@ fn read_objects<'a, A: Allocator + Copy>(
 {
     dump_is_placed();
     let view = View::new(bytes, id_size);
-    let indexed = index_of(alloc, &view, &places)?;
+    let indexed = index_of(team, alloc, &view, &places)?;
     let classes = class_table(alloc, View::new(bytes, id_size), &places, &indexed)?;
     let fates = classes.settle_all(alloc)?;
     Ok(Objects {
@@ -55,7 +56,8 @@ fn read_objects<'a, A: Allocator + Copy>(
 }
 
 /// The objects of a dump, which hands over their places: they are kept once.
-fn take_objects<'a, A: Allocator + Copy>(
+fn take_objects<'a, T: Threads + Sync, A: Allocator + Copy + Send + Sync>(
+    team: &Team<'_, T>,
     alloc: A,
     bytes: &'a [u8],
     dump: &mut Dump<A>,
@@ -66,7 +68,7 @@ fn take_objects<'a, A: Allocator + Copy>(
     ensures rest { OnOk result (dump.new ≡ record dump.old { objects = [] }) }
 {
     let places = dump.take_objects(alloc);
-    read_objects(alloc, bytes, dump.id_size(), places)
+    read_objects(team, alloc, bytes, dump.id_size(), places)
 }
 
 impl<'a, A: Allocator + Copy> Graph<'a, A> {
@@ -115,7 +117,8 @@ impl<'a, A: Allocator + Copy> Graph<'a, A> {
 impl<'a, A: Allocator + Copy + Send + Sync> Graph<'a, A> {
     /// The graph of a dump that was read from these bytes, in which the fields on the list are not followed: a fault is
     /// the first one of its links, and else only memory can be missing. To skip no field, lend it `Skip::none`. Where
-    /// there are many objects, the rules of the links are tested in parts, by the threads of the team.
+    /// there are many objects, their identifiers are gathered and the rules of the links tested in parts, by the threads
+    /// of the team.
     pub fn build<T: Threads + Sync, B: Allocator>(
         team: &Team<'_, T>,
         alloc: A,
@@ -129,7 +132,7 @@ impl<'a, A: Allocator + Copy + Send + Sync> Graph<'a, A> {
     {
         dump_is_placed();
         let mut dump = dump;
-        let objects = match take_objects(alloc, bytes, &mut dump) {
+        let objects = match take_objects(team, alloc, bytes, &mut dump) {
             Ok(objects) => objects,
             Err(_) => return Err(LinkRefusal::OutOfMemory),
         };

@@ -6,13 +6,16 @@
 
 ghost use Rattle.hprof_grammar.specs.Standing.{StandInTurn, Stands};
 ghost use Rattle.hprof_grammar.specs.SubRecord.{SubRecord};
-ghost use Rattle.std.specs.Prelude.{IfOk, IfSome, List, length, ◌+◌, ◌<◌, ◌^◌, ◌≡◌};
+ghost use Rattle.std.specs.Prelude.{IfOk, List, length, ◌<◌, ◌^◌, ◌≡◌};
 ghost use Rattle.heap_graph.specs.Heap.{objects};
-ghost use Rattle.heap_graph.specs.working.ClassNumbers.{AreClassNumbers, AreIndexed};
+ghost use Rattle.heap_graph.specs.working.ClassNumbers.{AreIndexed};
+ghost use Rattle.heap_graph.specs.working.GatheredParts.{MayIndex};
 
-use hprof_grammar::{ObjectKind, View};
-use id_index::{IdIndex, IdIndexBuilder, LowBits};
+use crate::objects::gathering::{Gathered, gather};
+use hprof_grammar::{Team, View};
+use id_index::{IdIndex, LowBits};
 use std::alloc::{AllocError, Allocator};
+use std::thread::Threads;
 
 /// The objects by their identifiers, and which of them are class dumps.
 #[derive(Drop)]
@@ -37,88 +40,38 @@ fn first_bits(view: &View<'_>, places: &[u32]) -> LowBits
     }
 }
 
-/// Notes the number of an object if that is a class dump.
-fn note_class<B: Allocator>(
-    class_dumps: &mut Vec<u32, B>,
-    view: &View<'_>,
-    places: &[u32],
-    number: usize,
-) -> Result<(), AllocError>
-    requires below { number < length places.now }
-    requires few { length places.now < 2 ^ 32 }
-    requires stand { (heap : List SubRecord) × StandInTurn (Stands view.now) places.now (objects heap) }
-    ensures { IfOk result (λ _. (heap : List SubRecord) → StandInTurn (Stands view.now) places.now (objects heap)
-        → AreClassNumbers (objects heap) number class_dumps.old.items
-        → AreClassNumbers (objects heap) (number + 1) class_dumps.new.items) }
-{
-    match view.kind(places[number]) {
-        ObjectKind::Class => {
-            class_dumps.push(number as u32)?;
-            return Ok(());
-        }
-        _ => return Ok(()),
-    }
-}
+/// All bits of identifiers.
+const ALL_BITS: LowBits = LowBits { shift: 0, low: 0 };
 
-/// The objects at these places, if all their identifiers have the lowest three bits of the first.
-fn aligned_index<B: Allocator + Copy>(
-    alloc: B,
-    view: &View<'_>,
-    places: &[u32],
-) -> Result<Option<Indexed<B>>, AllocError>
-    requires few { length places.now < 2 ^ 32 }
-    requires stand { (heap : List SubRecord) × StandInTurn (Stands view.now) places.now (objects heap) }
-    ensures { IfOk result (λ found. IfSome found (λ indexed. (heap : List SubRecord)
-        → StandInTurn (Stands view.now) places.now (objects heap) → AreIndexed view.now places.now heap indexed)) }
-{
-    let mut builder = IdIndexBuilder::new(alloc, first_bits(view, places));
-    let mut class_dumps = Vec::new(alloc);
-    for (number, at) in places.iter().enumerate() {
-        let id = view.object_id(*at);
-        if !builder.fits(id) {
-            return Ok(None);
-        }
-        builder.push(id)?;
-        note_class(&mut class_dumps, view, places, number)?;
+impl<A: Allocator> Indexed<A> {
+    /// The objects that were gathered.
+    fn of(alloc: A, gathered: Gathered<A>) -> Result<Self, AllocError>
+        ensures { IfOk result (λ indexed. (indexed.index ≡ gathered.ids.ids)
+            × (indexed.class_dumps.items ≡ gathered.class_dumps.items)) }
+    {
+        Ok(Indexed {
+            index: gathered.ids.finish(alloc)?,
+            class_dumps: gathered.class_dumps,
+        })
     }
-    let index = builder.finish(alloc)?;
-    Ok(Some(Indexed { index, class_dumps }))
-}
-
-/// The objects at these places, whatever their identifiers are.
-fn whole_index<B: Allocator + Copy>(
-    alloc: B,
-    view: &View<'_>,
-    places: &[u32],
-) -> Result<Indexed<B>, AllocError>
-    requires few { length places.now < 2 ^ 32 }
-    requires stand { (heap : List SubRecord) × StandInTurn (Stands view.now) places.now (objects heap) }
-    ensures { IfOk result (λ indexed. (heap : List SubRecord)
-        → StandInTurn (Stands view.now) places.now (objects heap) → AreIndexed view.now places.now heap indexed) }
-{
-    let mut builder = IdIndexBuilder::new(alloc, LowBits { shift: 0, low: 0 });
-    let mut class_dumps = Vec::new(alloc);
-    for (number, at) in places.iter().enumerate() {
-        builder.push(view.object_id(*at))?;
-        note_class(&mut class_dumps, view, places, number)?;
-    }
-    let index = builder.finish(alloc)?;
-    Ok(Indexed { index, class_dumps })
 }
 
 /// The objects at these places, by their identifiers.
-pub(crate) fn index_of<B: Allocator + Copy>(
+pub(crate) fn index_of<T: Threads + Sync, B: Allocator + Copy + Send + Sync>(
+    team: &Team<'_, T>,
     alloc: B,
     view: &View<'_>,
     places: &[u32],
 ) -> Result<Indexed<B>, AllocError>
-    requires few { length places.now < 2 ^ 32 }
-    requires stand { (heap : List SubRecord) × StandInTurn (Stands view.now) places.now (objects heap) }
+    requires { MayIndex view.now places.now }
     ensures { IfOk result (λ indexed. (heap : List SubRecord)
         → StandInTurn (Stands view.now) places.now (objects heap) → AreIndexed view.now places.now heap indexed) }
 {
-    if let Some(indexed) = aligned_index(alloc, view, places)? {
-        return Ok(indexed);
+    if let Some(gathered) = gather(team, alloc, view, places, first_bits(view, places))? {
+        return Indexed::of(alloc, gathered);
     }
-    whole_index(alloc, view, places)
+    match gather(team, alloc, view, places, ALL_BITS)? {
+        Some(gathered) => Indexed::of(alloc, gathered),
+        None => unreachable!(),
+    }
 }

@@ -15,22 +15,34 @@ new-view-requires-clause-low g c = (size_in_range _ _ _ _ c.requires.1).0
 pub new-view-requires-clause-high : goal.new-view-requires-clause-high
 new-view-requires-clause-high g c = (size_in_range _ _ _ _ c.requires.1).1
 
-pub index_of-requires-clause-few : goal.index_of-requires-clause-few
-index_of-requires-clause-few g c = few_placed _ _ c.requires.1.is c.deref.result.now
-    (c.dump_is_placed.ensures c.args.bytes.now c.requires.0 c.requires.1.is)
-    (c.deref.ensures.value ∙ c.requires.1.places_are)
-
-pub index_of-requires-clause-stand : goal.index_of-requires-clause-stand
-index_of-requires-clause-stand g c =
+pub index_of-requires : goal.index_of-requires
+index_of-requires g c =
     let are : ArePlacesOf c.args.bytes.now c.args.id_size c.deref.result.now c.requires.0 =
     record {
       is = c.requires.1.is;
       size_is = c.requires.1.size_is;
       places_are = c.deref.ensures.value ∙ c.requires.1.places_are;
-    } in (
-      heap_of are.is.records,
-      objects_stand _ _ _ _ are (c.dump_is_placed.ensures c.args.bytes.now c.requires.0 are.is)
-          c.new-view.result c.new-view.ensures.bytes c.new-view.ensures.size,
+    } in
+    let placed = c.dump_is_placed.ensures c.args.bytes.now c.requires.0 are.is in
+    let bounds = c.type_bounds in (
+      bounds.send-A,
+      (
+        bounds.sync-T,
+        (
+          bounds.sync-A,
+          (
+            bounds.frees-A-Allocator,
+            record {
+              few = few_placed _ _ c.requires.1.is c.deref.result.now placed
+                  (c.deref.ensures.value ∙ c.requires.1.places_are);
+              stand = (
+                heap_of are.is.records,
+                objects_stand _ _ _ _ are placed c.new-view.result c.new-view.ensures.bytes c.new-view.ensures.size,
+              );
+            },
+          ),
+        ),
+      ),
     )
 
 pub new-requires-clause-low : goal.new-requires-clause-low

@@ -8,10 +8,24 @@ use Rattle.heap_graph.proofs.Building.{handed_places}
 use Rattle.heap_graph.proofs.graph.build.take_objects.Goals as goal
 
 pub read_objects-requires : goal.read_objects-requires
-read_objects-requires g c = (
-  c.args.dump.now,
-  handed_places _ _ _ _ _ c.requires c.take_objects-places.ensures.rest c.id_size.ensures c.take_objects-places.ensures.places,
-)
+read_objects-requires g c =
+    let bounds = c.type_bounds in (
+      bounds.send-A,
+      (
+        bounds.sync-T,
+        (
+          bounds.sync-A,
+          (
+            bounds.frees-A-Allocator,
+            (
+              c.args.dump.now,
+              handed_places _ _ _ _ _ c.requires c.take_objects-places.ensures.rest c.id_size.ensures
+                  c.take_objects-places.ensures.places,
+            ),
+          ),
+        ),
+      ),
+    )
 
 pub returns-clause-objects : goal.returns-clause-objects
 returns-clause-objects g c = IfOk-weaker c.read_objects.result

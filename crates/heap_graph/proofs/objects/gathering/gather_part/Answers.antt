@@ -1,0 +1,19 @@
+-- At the next place stands the next object: its identifier follows those so far, and it is noted if it is a class dump.
+use Rattle.std.proofs.Common.{arith, subst, ℕ}
+use Rattle.heap_graph.specs.working.GatheredParts.{HasGathered}
+use Rattle.heap_graph.proofs.Gathering.{one_more}
+use Rattle.heap_graph.proofs.Standings.{id_there}
+use Rattle.heap_graph.proofs.objects.gathering.gather_part.Goals as goal
+
+pub loop-number-preserved : goal.loop-number-preserved
+loop-number-preserved g c =
+    one_more _ _ _ _ _ c.args.start c.loop-number.number _ c.loop-number.invariant c.in_ok-push.ensures.ids
+    c.push.ensures.shift c.push.ensures.low
+    (id_there c.args.view.now c.args.places.now c.loop-number.number c.object_id-id.result
+    (omega (arith, c.loop-number-test.true, c.requires.within)) c.object_id-id.ensures)
+    c.in_ok-note_class.ensures
+
+pub returns : goal.returns
+returns g c =
+    subst (λ (n : ℕ). HasGathered c.args.view.now c.args.places.now c.args.bits c.args.start n c.loop-number.gathered)
+    (omega (arith, c.loop-number-test.false, c.loop-number.auto.number-end)) c.loop-number.invariant

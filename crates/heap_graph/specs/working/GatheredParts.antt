@@ -1,0 +1,53 @@
+-- What is gathered from objects part by part.
+use Rattle.std.specs.Prelude.{IfOk, List, MatchOption, Option, Result, length, map, take, ◌++◌, ◌+◌, ◌<◌, ◌^◌, ◌≡◌, ◌≢◌, ◌≤◌}
+use Rattle.std.specs.Prelude.{ℕ}
+use Rattle.std.specs.declared.alloc.AllocError.{AllocError}
+use Rattle.hprof_grammar.specs.Dump.{id_of}
+use Rattle.hprof_grammar.specs.Standing.{Sight, StandInTurn, Stands}
+use Rattle.hprof_grammar.specs.SubRecord.{SubRecord}
+use Rattle.id_index.specs.declared.index.LowBits.{LowBits}
+use Rattle.heap_graph.specs.Heap.{objects}
+use Rattle.heap_graph.specs.declared.objects.gathering.Gathered.{Gathered}
+use Rattle.heap_graph.specs.working.ClassNumbers.{AreClassNumbers}
+
+-- the objects of a heap list stand at these places
+pub record MayIndex (v : Sight) (places : List ℕ) : Type 0 where
+  pub few : length places < 2 ^ 32
+  pub stand : (heap : List SubRecord) × StandInTurn (Stands v) places (objects heap)
+
+-- and as many of them as the part has places stand from that number on
+pub record MayGather (v : Sight) (places : List ℕ) (bits : LowBits) (start : ℕ) (part : List ℕ) : Type 0 where
+  pub may : MayIndex v places
+  pub within : start + length part ≤ length places
+  pub shifted : bits.shift < 64
+  pub low : bits.low < 2 ^ bits.shift
+
+-- these are the identifiers of the first n objects, and the numbers of the class dumps among them
+pub record AreOfFirst (os : List SubRecord) (n : ℕ) (ids numbers : List ℕ) : Type 0 where
+  pub ids_are : ids ≡ map id_of (take n os)
+  pub class_dumps : AreClassNumbers os n numbers
+
+-- What was gathered from the objects from the number `start` up to another: behind what the objects before give, it is
+-- what all give up to there.
+pub record HasGathered {A : Type 0} (v : Sight) (places : List ℕ) (bits : LowBits) (start end : ℕ)
+    (g : Gathered A) : Type 0 where
+  pub many : start + length g.ids.ids ≡ end
+  pub shift : g.ids.shift ≡ bits.shift
+  pub low : g.ids.low ≡ bits.low
+  pub behind : (heap : List SubRecord) (ids numbers : List ℕ) → StandInTurn (Stands v) places (objects heap)
+      → AreOfFirst (objects heap) start ids numbers
+      → AreOfFirst (objects heap) end (ids ++ g.ids.ids) (numbers ++ g.class_dumps.items)
+
+-- what a part gives; there is nothing only where an identifier can have other lowest bits
+abbrev pub IsGathering : {A : Type 0} → Sight → List ℕ → LowBits → ℕ → List ℕ
+    → Result (Option (Gathered A)) AllocError → Type 0
+IsGathering v places bits start part result =
+    IfOk result (λ found. MatchOption found (bits.shift ≢ 0)
+    (λ g. HasGathered v places bits start (start + length part) g))
+
+-- what was gathered from two neighbouring parts, put together
+pub record AreJoined {A : Type 0} (old next new : Gathered A) : Type 0 where
+  pub ids : new.ids.ids ≡ old.ids.ids ++ next.ids.ids
+  pub shift : new.ids.shift ≡ old.ids.shift
+  pub low : new.ids.low ≡ old.ids.low
+  pub class_dumps : new.class_dumps.items ≡ old.class_dumps.items ++ next.class_dumps.items

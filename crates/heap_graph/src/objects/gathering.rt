@@ -1,0 +1,132 @@
+//! The identifiers of objects and the numbers of their class dumps are gathered from their places, part by part.
+
+ghost use Rattle.hprof_grammar.specs.Standing.{StandInTurn, Stands};
+ghost use Rattle.hprof_grammar.specs.SubRecord.{SubRecord};
+ghost use Rattle.std.specs.Prelude.{IfOk, List, [], length, ◌++◌, ◌+◌, ◌<◌, ◌^◌, ◌≡◌, ℕ};
+ghost use Rattle.heap_graph.specs.Heap.{objects};
+ghost use Rattle.heap_graph.specs.working.ClassNumbers.{AreClassNumbers};
+ghost use Rattle.heap_graph.specs.working.GatheredParts.{AreJoined, IsGathering, MayGather};
+
+use hprof_grammar::{ObjectKind, Team, View};
+use id_index::{IdIndexBuilder, LowBits};
+use std::alloc::{AllocError, Allocator};
+use std::thread;
+use std::thread::Threads;
+
+/// The identifiers of objects, and which of these are class dumps.
+#[derive(Drop)]
+pub(crate) struct Gathered<A: Allocator> {
+    pub(crate) ids: IdIndexBuilder<A>,
+    /// The numbers of the class dumps, in order.
+    pub(crate) class_dumps: Vec<u32, A>,
+}
+
+impl<A: Allocator + Copy> Gathered<A> {
+    /// No object, for identifiers with those lowest bits.
+    fn new(alloc: A, bits: LowBits) -> Self
+        requires shifted { bits.shift < 64 }
+        requires low { bits.low < 2 ^ bits.shift }
+        ensures ids { result.ids.ids ≡ [] }
+        ensures shift { result.ids.shift ≡ bits.shift }
+        ensures low { result.ids.low ≡ bits.low }
+        ensures class_dumps { result.class_dumps.items ≡ [] }
+    {
+        Gathered {
+            ids: IdIndexBuilder::new(alloc, bits),
+            class_dumps: Vec::new(alloc),
+        }
+    }
+
+    /// Adds what was gathered from the next part.
+    fn append(&mut self, next: Self) -> Result<(), AllocError>
+        requires shift { next.ids.shift ≡ self.old.ids.shift }
+        requires low { next.ids.low ≡ self.old.ids.low }
+        requires few { length self.old.ids.ids + length next.ids.ids < 2 ^ 32 }
+        ensures { IfOk result (λ _. AreJoined self.old next self.new) }
+    {
+        self.ids.append(next.ids)?;
+        let mut class_dumps = next.class_dumps;
+        self.class_dumps.append(&mut class_dumps)
+    }
+}
+
+/// Notes the number of an object if that is a class dump.
+fn note_class<B: Allocator>(
+    class_dumps: &mut Vec<u32, B>,
+    view: &View<'_>,
+    places: &[u32],
+    number: usize,
+) -> Result<(), AllocError>
+    requires below { number < length places.now }
+    requires few { length places.now < 2 ^ 32 }
+    requires stand { (heap : List SubRecord) × StandInTurn (Stands view.now) places.now (objects heap) }
+    ensures { IfOk result (λ _. (heap : List SubRecord) (before : List ℕ)
+        → StandInTurn (Stands view.now) places.now (objects heap)
+        → AreClassNumbers (objects heap) number (before ++ class_dumps.old.items)
+        → AreClassNumbers (objects heap) (number + 1) (before ++ class_dumps.new.items)) }
+{
+    match view.kind(places[number]) {
+        ObjectKind::Class => {
+            class_dumps.push(number as u32)?;
+            return Ok(());
+        }
+        _ => return Ok(()),
+    }
+}
+
+/// What the objects of a part of the places give, those from the number `start` on, if all their identifiers have those
+/// lowest bits.
+fn gather_part<B: Allocator + Copy>(
+    alloc: B,
+    view: &View<'_>,
+    places: &[u32],
+    start: usize,
+    part: &[u32],
+    bits: LowBits,
+) -> Result<Option<Gathered<B>>, AllocError>
+    requires { MayGather view.now places.now bits start part.now }
+    ensures { IsGathering view.now places.now bits start part.now result }
+{
+    let mut gathered = Gathered::new(alloc, bits);
+    for number in start..start + part.len() {
+        let id = view.object_id(places[number]);
+        if !gathered.ids.fits(id) {
+            return Ok(None);
+        }
+        gathered.ids.push(id)?;
+        note_class(&mut gathered.class_dumps, view, places, number)?;
+    }
+    Ok(Some(gathered))
+}
+
+/// What the objects at these places give, if all their identifiers have those lowest bits. Where there are many they
+/// are gathered in as many parts as the team has threads, and these are joined in order. Memory can be missing for one
+/// part beside the others, where there is enough for all in one.
+pub(crate) fn gather<T: Threads + Sync, B: Allocator + Copy + Send + Sync>(
+    team: &Team<'_, T>,
+    alloc: B,
+    view: &View<'_>,
+    places: &[u32],
+    bits: LowBits,
+) -> Result<Option<Gathered<B>>, AllocError>
+    requires { MayGather view.now places.now bits 0 places.now }
+    ensures { IsGathering view.now places.now bits 0 places.now result }
+{
+    if !team.shares(places.len()) {
+        return gather_part(alloc, view, places, 0, places, bits);
+    }
+    let size = team.part_of(places.len());
+    let gather = |start: usize, part: &[u32]| -> Result<Option<Gathered<B>>, AllocError>
+        requires { MayGather view.now places.now bits start part.now }
+        ensures { IsGathering view.entry.now places.entry.now bits start part.entry.now result }
+    { gather_part(alloc, view, places, start, part, bits) };
+    let parts = thread::map_chunks(team, alloc, places, size, &gather)?;
+    let mut all = Gathered::new(alloc, bits);
+    for part in parts {
+        match part? {
+            Some(gathered) => all.append(gathered)?,
+            None => return Ok(None),
+        }
+    }
+    Ok(Some(all))
+}
