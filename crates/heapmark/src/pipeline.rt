@@ -204,5 +204,5 @@ where
         Ok(marked) => marked,
         Err(fault) => return Err(Refusal::from(fault)),
     };
-    Ok(rows(alloc, &graph, &marked)?)
+    Ok(rows(&team, alloc, &graph, &marked)?)
 }

@@ -1,1 +1,2 @@
 pub mod RowNumbers
+pub mod Unmarked

@@ -25,6 +25,7 @@ mod report_rows;
 mod report_text;
 mod report_writing;
 mod unmarked;
+mod unmarked_numbers;
 mod write_whole;
 
 pub use counted::Counted;

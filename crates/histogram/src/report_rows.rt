@@ -13,15 +13,18 @@ use crate::reachable::reachable;
 use crate::unmarked::count_unmarked;
 use drain::Marked;
 use heap_graph::{Graph, RowKey};
+use hprof_grammar::Team;
 use mark_core::OutOfMemory;
 use std::alloc::{AllocError, Allocator};
 use std::cmp::Ordering;
+use std::thread::Threads;
 
 /// Makes the histogram of a graph and of a marking of it: a line for each row that has a marked object, in the order of
 /// the report, and the three totals.
 ///
 /// `OutOfMemory`: a request for memory was refused. It is the only error.
-pub fn rows<A: Allocator + Copy, B: Allocator, C: Allocator>(
+pub fn rows<T: Threads + Sync, A: Allocator + Copy, B: Allocator + Sync, C: Allocator>(
+    team: &Team<'_, T>,
     alloc: A,
     graph: &Graph<'_, B>,
     marks: &Marked<C>,
@@ -30,7 +33,7 @@ pub fn rows<A: Allocator + Copy, B: Allocator, C: Allocator>(
     ensures { IfOk result (λ report. IsHistogram graph.now marks.now.marks (histogram_of report)) }
 {
     let rows = lines_in_order(alloc, graph, marks)?;
-    let unmarked = count_unmarked(graph, marks);
+    let unmarked = count_unmarked(team, alloc, graph, marks);
     Ok(Report {
         rows,
         reachable: reachable(graph, marks),

@@ -1,14 +1,18 @@
 //! What is told of the objects that are not marked.
 
-ghost use Rattle.std.specs.Prelude.{◌≡◌, ◌<◌, ◌≤◌, ◌^◌};
-ghost use Rattle.hprof_grammar.specs.Dump.{limit};
-ghost use Rattle.heap_graph.specs.ObjectGraph.{bytes_at, object_count};
-ghost use Rattle.heap_graph.specs.Whole.{unresolved_at, unresolved_among};
+ghost use Rattle.std.specs.Prelude.{◌≡◌, ◌<◌, ◌+◌, ◌^◌, [], ◌∷◌, IfOk, length};
+ghost use Rattle.std.specs.Thread.{IsSync};
+ghost use Rattle.heap_graph.specs.ObjectGraph.{object_count};
+ghost use Rattle.heap_graph.specs.Whole.{unresolved_among};
 ghost use Rattle.histogram.specs.Histogram.{total, unmarked_objects};
+ghost use Rattle.histogram.specs.working.Unmarked.{AddUp, AreObjects, both, counted};
 
+use crate::unmarked_numbers::UnmarkedNumbers;
 use drain::Marked;
 use heap_graph::Graph;
-use std::alloc::Allocator;
+use hprof_grammar::Team;
+use std::alloc::{AllocError, Allocator};
+use std::thread::{Threads, join};
 
 /// What is counted of some objects.
 #[derive(Clone, Copy)]
@@ -21,38 +25,137 @@ pub(crate) struct Unmarked {
     pub(crate) unresolved: u64,
 }
 
-/// Counts the objects that are not marked, each of which is walked once.
-pub(crate) fn count_unmarked<A: Allocator, B: Allocator>(
-    graph: &Graph<'_, A>,
-    marks: &Marked<B>,
-) -> Unmarked
-    ensures total { (result.count, result.bytes) ≡ total graph.now (unmarked_objects graph.now marks.now.marks) }
-    ensures unresolved { result.unresolved ≡ unresolved_among graph.now (unmarked_objects graph.now marks.now.marks) }
-{
-    let mut left = Unmarked {
+impl Unmarked {
+    /// No object.
+    const NONE: Unmarked = Unmarked {
         count: 0,
         bytes: 0,
         unresolved: 0,
     };
-    let objects = graph.len();
-    for object in 0..objects {
-        if !marks.is_marked(object) {
-            let (bytes, unresolved) = bytes_and_unresolved(graph, object);
-            left.count += 1;
-            left.bytes += bytes;
-            left.unresolved += unresolved;
+
+    /// One object, by one walk over it.
+    fn of<A: Allocator>(graph: &Graph<'_, A>, object: u32) -> Unmarked
+        requires { object < object_count graph.now }
+        ensures { result ≡ counted graph.now (object ∷ []) }
+    {
+        let mut visit = graph.visit(object);
+        while visit.next().is_some() {}
+        Unmarked {
+            count: 1,
+            bytes: visit.bytes(),
+            unresolved: visit.unresolved(),
         }
+    }
+
+    /// These objects and others.
+    fn and(self, others: Unmarked) -> Unmarked
+        requires { AddUp self others }
+        ensures { result ≡ both self others }
+    {
+        Unmarked {
+            count: self.count + others.count,
+            bytes: self.bytes + others.bytes,
+            unresolved: self.unresolved + others.unresolved,
+        }
+    }
+}
+
+/// Counts the objects that are not marked, each of which is walked once: where there are many, a batch after the other,
+/// in as many parts as the team has threads, and one after the other also where there is no memory for a batch.
+pub(crate) fn count_unmarked<
+    T: Threads + Sync,
+    A: Allocator + Copy,
+    B: Allocator + Sync,
+    C: Allocator,
+>(team: &Team<'_, T>, alloc: A, graph: &Graph<'_, B>, marks: &Marked<C>) -> Unmarked
+    requires { length marks.now.marks ≡ object_count graph.now }
+    ensures total { (result.count, result.bytes) ≡ total graph.now (unmarked_objects graph.now marks.now.marks) }
+    ensures unresolved { result.unresolved ≡ unresolved_among graph.now (unmarked_objects graph.now marks.now.marks) }
+{
+    let unmarked = u64::from(graph.len()).saturating_sub(marks.len());
+    if team.shares(unmarked as usize) {
+        if let Ok(left) = count_in_batches(team, alloc, graph, marks) {
+            return left;
+        }
+    }
+    count_in_turn(graph, marks)
+}
+
+/// Counts the objects that are not marked, a batch after the other.
+fn count_in_batches<T: Threads + Sync, A: Allocator + Copy, B: Allocator + Sync, C: Allocator>(
+    team: &Team<'_, T>,
+    alloc: A,
+    graph: &Graph<'_, B>,
+    marks: &Marked<C>,
+) -> Result<Unmarked, AllocError>
+    requires { length marks.now.marks ≡ object_count graph.now }
+    ensures { IfOk result (λ left. left ≡ counted graph.now (unmarked_objects graph.now marks.now.marks)) }
+{
+    // A graph has few objects, so no sum overflows.
+    let _objects = graph.len();
+    let mut left = Unmarked::NONE;
+    let mut numbers = UnmarkedNumbers::of(marks);
+    while let Some(first) = numbers.next() {
+        let batch = numbers.batch_from(alloc, first)?;
+        let size = team.part_of(batch.len());
+        left = left.and(count_in_parts(team, graph, batch.as_slice(), size));
+    }
+    Ok(left)
+}
+
+/// Counts the objects that are not marked, one after the other.
+fn count_in_turn<A: Allocator, B: Allocator>(graph: &Graph<'_, A>, marks: &Marked<B>) -> Unmarked
+    requires { length marks.now.marks ≡ object_count graph.now }
+    ensures { result ≡ counted graph.now (unmarked_objects graph.now marks.now.marks) }
+{
+    // A graph has few objects, so no sum overflows.
+    let _objects = graph.len();
+    let mut left = Unmarked::NONE;
+    for object in UnmarkedNumbers::of(marks) {
+        left = left.and(Unmarked::of(graph, object));
     }
     left
 }
 
-/// The bytes of an object, and how many of its identifiers are other than 0 and name no object, by one walk over it.
-fn bytes_and_unresolved<A: Allocator>(graph: &Graph<'_, A>, object: u32) -> (u64, u64)
-    requires { object < object_count graph.now }
-    ensures value { result ≡ (bytes_at graph.now object, unresolved_at graph.now object) }
-    ensures within { (result.0 ≤ limit) × (result.1 ≤ 2 ^ 33) }
+/// Counts these objects in parts of that size: the first by a thread of its own, while this one sees to the others.
+fn count_in_parts<T: Threads + Sync, A: Allocator + Sync>(
+    team: &Team<'_, T>,
+    graph: &Graph<'_, A>,
+    numbers: &[u32],
+    size: usize,
+) -> Unmarked
+    requires size { 0 < size }
+    requires objects { AreObjects graph.now numbers.now }
+    ensures { result ≡ counted graph.now numbers.now }
 {
-    let mut visit = graph.visit(object);
-    while visit.next().is_some() {}
-    (visit.bytes(), visit.unresolved())
+    if numbers.len() <= size {
+        return count(graph, numbers);
+    }
+    // A graph has few objects, so no sum overflows.
+    let _objects = graph.len();
+    let (first, others) = numbers.split_at(size);
+    let front = move || -> Unmarked
+        requires { AreObjects graph.now first.now }
+        ensures { result ≡ counted graph.entry.now first.entry.now }
+    { count(graph, first) };
+    let back = move || -> Unmarked
+        requires { IsSync T.row × IsSync A.row × (0 < size) × AreObjects graph.now others.now }
+        ensures { result ≡ counted graph.entry.now others.entry.now }
+    { count_in_parts(team, graph, others, size) };
+    let (front, back) = join(team, front, back);
+    front.and(back)
+}
+
+/// Counts these objects.
+fn count<A: Allocator>(graph: &Graph<'_, A>, numbers: &[u32]) -> Unmarked
+    requires { AreObjects graph.now numbers.now }
+    ensures { result ≡ counted graph.now numbers.now }
+{
+    // A graph has few objects, so no sum overflows.
+    let _objects = graph.len();
+    let mut left = Unmarked::NONE;
+    for object in numbers {
+        left = left.and(Unmarked::of(graph, *object));
+    }
+    left
 }

@@ -2,7 +2,8 @@
 //! ask what callers may ask. The crate has nothing to hand out.
 //!
 //! `reading` has readers that end, fail or never end, `writing` the worked reports (`reports`) and writers that fail,
-//! `names` how names are shown, `error_texts` how errors are, and `memory` want of memory at each request.
+//! `names` how names are shown, `error_texts` how errors are, `memory` want of memory at each request, and `parts` what
+//! is counted in parts.
 
 #![tactic(auto)]
 
@@ -12,6 +13,8 @@ mod error_texts;
 mod memory;
 #[cfg(test)]
 mod names;
+#[cfg(test)]
+mod parts;
 #[cfg(test)]
 mod reading;
 #[cfg(test)]

@@ -25,7 +25,8 @@ fn heap_of(alloc: Global, request: u64, alone: bool) -> LimitedHeap<Global> {
 }
 
 /// Whether the rows are right over this heap.
-fn rows_over(
+fn rows_over<T: Threads + Sync>(
+    team: &Team<'_, T>,
     alloc: Global,
     heap: &LimitedHeap<Global>,
     graph: &Graph<'_, Global>,
@@ -33,14 +34,15 @@ fn rows_over(
 ) -> bool
     requires { IsMarkingOf graph.now marks.now }
 {
-    match rows(heap, graph, marks) {
+    match rows(team, heap, graph, marks) {
         Ok(report) => writes(alloc, &report, TWO_OBJECTS),
         Err(OutOfMemory) => heap.refusals() > 0,
     }
 }
 
 /// With how many requests the rows are there, where each of them was refused before and nothing else was answered.
-fn rows_with(
+fn rows_with<T: Threads + Sync>(
+    team: &Team<'_, T>,
     alloc: Global,
     graph: &Graph<'_, Global>,
     marks: &Marked<Global>,
@@ -50,7 +52,7 @@ fn rows_with(
 {
     for request in 0..MANY {
         let heap = heap_of(alloc, request, alone);
-        if !rows_over(alloc, &heap, graph, marks) {
+        if !rows_over(team, alloc, &heap, graph, marks) {
             return None;
         }
         if heap.refusals() == 0 {
@@ -69,10 +71,11 @@ fn rows_in_turn<T: Threads + Wait + Sync>(
     let Ok(options) = Options::new(1, 2, 4, 0) else {
         return None;
     };
+    let team = Team::new(rt, 2);
     match mark(rt, alloc, graph, &options, &NoGate) {
         Ok(marks) => Some((
-            rows_with(alloc, graph, &marks, false),
-            rows_with(alloc, graph, &marks, true),
+            rows_with(&team, alloc, graph, &marks, false),
+            rows_with(&team, alloc, graph, &marks, true),
         )),
         Err(_) => None,
     }

@@ -39,7 +39,7 @@ fn is_shown_in_rows<T: Threads + Wait + Sync>(
     let Ok(marks) = mark(rt, alloc, graph, &options, &NoGate) else {
         return false;
     };
-    match rows(alloc, graph, &marks) {
+    match rows(&Team::new(rt, 2), alloc, graph, &marks) {
         Ok(report) => is_shown_in(&report, want),
         Err(_) => false,
     }

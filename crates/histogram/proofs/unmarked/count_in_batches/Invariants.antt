@@ -1,0 +1,10 @@
+-- The objects in front of those that are still to come are counted.
+use Rattle.histogram.specs.working.Unmarked.{unmarked_from}
+use Rattle.histogram.proofs.UnmarkedLaws.{HasCounted}
+use Rattle.histogram.proofs.unmarked.count_in_batches.Given as goal
+
+abbrev pub invariant-loop-first : goal.invariant-loop-first
+invariant-loop-first g l =
+    (goal.iterator-loop-first g).can_next l.numbers
+    × (goal.iterator-loop-first g).is_finite l.numbers
+    × HasCounted l.graph (unmarked_from l.marks.marks 0) l.numbers l.left

@@ -1,0 +1,9 @@
+-- The batch and what is still to come are the first number and what was to come.
+use Rattle.std.proofs.Common.{◌≡◌, ◌≤◌, ◌++◌, ◌∷◌, length}
+use Rattle.histogram.proofs.unmarked_numbers.UnmarkedNumbers.batch_from.Given as goal
+
+abbrev pub invariant-loop-self : goal.invariant-loop-self
+invariant-loop-self g l = (l.first ∷ l.fn.self ≡ l.batch.items ++ l.self) × (length l.self ≤ length l.fn.self)
+
+abbrev pub decreases-loop-self : goal.decreases-loop-self
+decreases-loop-self g l = length l.self

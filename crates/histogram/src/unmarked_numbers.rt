@@ -1,0 +1,77 @@
+//! The numbers of the objects that are not marked, in order.
+
+ghost use Rattle.std.specs.Prelude.{◌≡◌, ◌++◌, ◌∷◌, ◌<◌, ◌≤◌, ◌^◌, IfOk, OnOk, length};
+
+use drain::Marked;
+use std::alloc::{AllocError, Allocator};
+use std::marker::Model;
+
+/// The most numbers that are taken at once: they take a megabyte.
+const MOST_AT_ONCE: usize = 262_144;
+
+/// An iterator over the numbers of the objects that are not marked.
+#[derive(Drop)]
+pub(crate) struct UnmarkedNumbers<'m, A: Allocator> {
+    marks: &'m Marked<A>,
+    /// None before this one is still to come.
+    from: u32,
+}
+
+impl<'m, A: Allocator> Model for UnmarkedNumbers<'m, A> {
+    ghost use Rattle.std.specs.Prelude.{List, length, ℕ, ◌<◌, ◌^◌};
+    ghost use Rattle.histogram.specs.working.Unmarked.{unmarked_from};
+
+    ghost Value = { List ℕ };
+
+    ghost view = { λ n. unmarked_from n.marks.now.marks n.from };
+
+    ghost invariant = { λ n. length n.marks.now.marks < 2 ^ 32 };
+}
+
+impl<'m, A: Allocator> UnmarkedNumbers<'m, A> {
+    ghost use Rattle.histogram.specs.working.Unmarked.{unmarked_from};
+
+    /// All of them.
+    pub(crate) fn of(marks: &'m Marked<A>) -> Self
+        requires { length marks.now.marks < 2 ^ 32 }
+        ensures { result ≡ unmarked_from marks.now.marks 0 }
+    {
+        UnmarkedNumbers { marks, from: 0 }
+    }
+
+    /// This number and those behind it, as many as are taken at once.
+    pub(crate) fn batch_from<B: Allocator>(
+        &mut self,
+        alloc: B,
+        first: u32,
+    ) -> Result<Vec<u32, B>, AllocError>
+        ensures numbers { IfOk result (λ batch. first ∷ self.old ≡ batch.items ++ self.new) }
+        ensures fewer { OnOk result (length self.new ≤ length self.old) }
+    {
+        let mut batch = Vec::with_capacity(alloc, MOST_AT_ONCE)?;
+        batch.push(first)?;
+        while batch.len() < MOST_AT_ONCE {
+            match self.next() {
+                Some(number) => batch.push(number)?,
+                None => break,
+            }
+        }
+        Ok(batch)
+    }
+}
+
+impl<'m, A: Allocator> Iterator for UnmarkedNumbers<'m, A> {
+    ghost use Rattle.std.specs.Iterator.{YieldsFirst, item_count};
+
+    type Item = u32;
+
+    ghost next_gives = { λ old object new. YieldsFirst (λ n. n) old object new };
+
+    ghost remaining = { item_count (λ n. n) };
+
+    fn next(&mut self) -> Option<u32> {
+        let object = self.marks.next_unmarked(self.from)?;
+        self.from = object + 1;
+        Some(object)
+    }
+}

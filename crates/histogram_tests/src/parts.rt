@@ -1,0 +1,151 @@
+//! Objects that are not marked, counted by the threads of a team: whatever their number, and where there is no memory for
+//! the numbers of the objects, the report is the same.
+
+ghost use Rattle.drain.specs.Marks.{IsMarkingOf};
+
+use crate::reports::writes;
+use drain::{Marked, NoGate, Options, mark};
+use heap_graph::{Graph, Skip};
+use histogram::{OutOfMemory, rows};
+use hprof_grammar::{Team, read};
+use limited_heap::LimitedHeap;
+use std::alloc::{AllocError, Allocator, Global};
+use std::sync::Wait;
+use std::test::Fail;
+use std::thread::Threads;
+use test_dumps::Sub::{Class, Instance, Root};
+use test_dumps::{Bytes, Record};
+
+/// How many instances there are. The class is object 0, so the first of them is object 1.
+const INSTANCES: u64 = 100;
+
+/// A team of so many threads shares out the work on so many objects, and on more.
+const TEAMS: [(u32, u32); 8] = [
+    (1, 1),
+    (2, 1),
+    (3, 1),
+    (4, 1),
+    (35, 1),
+    (64, 1),
+    (4, 36),
+    (4, 37),
+];
+
+/// 65 objects are marked, so 36 are not: 64 to 69, and 71 to 100. Of the instances the even ones miss an identifier.
+const REPORT: &str = "        64             256  A
+         1               0  <class>
+        65             256  (reachable)
+        36             144  (unreachable)
+        50               0  (unresolved)
+";
+
+/// Whether an instance is a root: with the class these are all objects of two words of marks, and one of the fourth.
+fn is_root(instance: u64) -> bool {
+    instance < 64 || instance == 70
+}
+
+/// The class, its instances and the roots.
+fn instances(alloc: Global) -> Result<Bytes, AllocError> {
+    let mut heap = Bytes::new(alloc, 4);
+    heap.sub(Class(0x100, 0, &[2]))?;
+    for instance in 1..=INSTANCES {
+        let id = 0x200 | instance;
+        let field: &[u8] = if instance % 2 == 0 {
+            &[0, 0, 9, 9]
+        } else {
+            &[0, 0, 2, 1]
+        };
+        heap.sub(Instance(id, 0x100, field))?;
+        if is_root(instance) {
+            heap.sub(Root(id))?;
+        }
+    }
+    Ok(heap)
+}
+
+/// A dump of these.
+fn dump(alloc: Global) -> Result<Bytes, AllocError> {
+    let heap = instances(alloc)?;
+    let mut file = Bytes::dump(alloc, 4, &[Record::Text(1, b"A"), Record::Load(0x100, 1)])?;
+    file.record(0x0C, heap.bytes.as_slice())?;
+    Ok(file)
+}
+
+/// Whether the rows are right with this team and over this heap.
+fn rows_of_team<T: Threads + Sync, A: Allocator + Copy>(
+    team: &Team<'_, T>,
+    alloc: Global,
+    heap: A,
+    graph: &Graph<'_, Global>,
+    marks: &Marked<Global>,
+) -> bool
+    requires { IsMarkingOf graph.now marks.now }
+{
+    match rows(team, heap, graph, marks) {
+        Ok(report) => writes(alloc, &report, REPORT),
+        Err(OutOfMemory) => false,
+    }
+}
+
+/// How many requests beside those of the lines and of their names are refused to this team, with the right rows.
+fn refused_to_team<T: Threads + Sync>(
+    team: &Team<'_, T>,
+    alloc: Global,
+    graph: &Graph<'_, Global>,
+    marks: &Marked<Global>,
+) -> Option<u64>
+    requires { IsMarkingOf graph.now marks.now }
+{
+    let heap = LimitedHeap::new(alloc, 3);
+    match rows_of_team(team, alloc, &heap, graph, marks) {
+        true => Some(heap.refusals()),
+        false => None,
+    }
+}
+
+/// Of each team, whether the rows are right, and how many requests are refused to it.
+type Answers = Vec<(bool, Option<u64>)>;
+
+fn answers_of_graph<T: Threads + Wait + Sync>(
+    rt: &T,
+    alloc: Global,
+    graph: &Graph<'_, Global>,
+) -> Result<Answers, AllocError> {
+    let mut answers = Vec::new(alloc);
+    let Ok(options) = Options::new(1, 2, 4, 0) else {
+        return Ok(answers);
+    };
+    let Ok(marks) = mark(rt, alloc, graph, &options, &NoGate) else {
+        return Ok(answers);
+    };
+    for (threads, fewest) in TEAMS {
+        let team = Team::sharing_from(rt, threads, fewest);
+        answers.push((
+            rows_of_team(&team, alloc, alloc, graph, &marks),
+            refused_to_team(&team, alloc, graph, &marks),
+        ))?;
+    }
+    Ok(answers)
+}
+
+fn answers<T: Threads + Wait + Sync>(rt: &T, alloc: Global) -> Result<Answers, AllocError> {
+    let file = dump(alloc)?;
+    let bytes = file.bytes.as_slice();
+    let skip = Skip::none(alloc);
+    let Ok(places) = read(alloc, bytes) else {
+        return Ok(Vec::new(alloc));
+    };
+    match Graph::build(&Team::new(rt, 1), alloc, bytes, places, &skip) {
+        Ok(graph) => answers_of_graph(rt, alloc, &graph),
+        Err(_) => Ok(Vec::new(alloc)),
+    }
+}
+
+#[test]
+fn counts_in_parts(rt: HostRuntime) -> Result<(), Fail> {
+    let answers = answers(&rt, rt.alloc())?;
+    // One thread takes no memory, nor do more where the objects are too few.
+    let wanted = [0, 1, 1, 1, 1, 1, 1, 0].map(|refused| (true, Some(refused)));
+    assert_eq!(rt; answers.as_slice(), wanted.as_slice());
+    Ok(())
+}
