@@ -16,6 +16,7 @@ pub mod RuleLaws
 pub mod InstanceLaws
 pub mod PlanLaws
 pub mod FieldsUpLaws
+pub mod FieldsLeft
 pub mod TableGrowth
 pub mod ClassNumbersLaws
 pub mod Counting

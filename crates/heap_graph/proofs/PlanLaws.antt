@@ -1,7 +1,6 @@
 -- What is planned for the classes: the plan grows by one class after the other, and tells the fields of each.
 use Rattle.std.proofs.Common.{Bool, List, None, Option, Some, [], ap, arith, drop, inl, inr, length, length-append}
-use Rattle.std.proofs.Common.{refl}
-use Rattle.std.proofs.Common.{slice_get}
+use Rattle.std.proofs.Common.{refl, slice_get}
 use Rattle.std.proofs.Common.{subst, suc, sym, take, zero, ⊎_elim, ℕ, ◌++◌, ◌-◌, ◌<◌, ◌∙◌, ◌∷◌, ◌≡◌, ◌≤◌, ◌⊎◌}
 use Rattle.std.specs.Prelude.{slice_index, slice_range}
 use Rattle.std.proofs.lemmas.List.{drop-append-le, length-drop, take-append-le}
@@ -20,7 +19,7 @@ use Rattle.heap_graph.specs.working.ClassTable.{AreClasses, TableEntry, ids_of}
 use Rattle.heap_graph.specs.working.IdPlaces.{id_places, size_together}
 use Rattle.heap_graph.specs.working.Resolving.{target_in}
 use Rattle.heap_graph.proofs.ChainLaws.{some_inj, some_none}
-use Rattle.heap_graph.proofs.ClassTableLaws.{IsKept, IsNumbered, numbered, same_class, there_is}
+use Rattle.heap_graph.proofs.ClassTableLaws.{IsKept, numbered, same_class, there_is}
 
 -- ---- one class more
 
@@ -38,31 +37,14 @@ last_places all more a b e f =
     ∙ ap (λ (n : ℕ). take (length more) (drop n (all ++ more))) e
     ∙ ap (λ (xs : List ℕ). take (length more) xs) (drop-append_seam all more) ∙ take-length more
 
-old_plan : (skips : Class → Member → Bool) (s : ℕ) (places more : List ℕ) (c : Class) (p : ClassPlan)
+old_plan : {skips : Class → Member → Bool} {s : ℕ} {places : List ℕ} {c : Class} {p : ClassPlan} (more : List ℕ)
     → IsClassPlan skips s places c p → IsClassPlan skips s (places ++ more) c p
-old_plan skips s places more c p is = record {
+old_plan {places = places} {p = p} more is = record {
   rising = is.rising;
   within = omega (arith, is.within, length-append places more);
   places_are = kept_places places more p.start p.end is.rising is.within ∙ is.places_are;
   size_is = is.size_is;
 }
-
-new_plan : (skips : Class → Member → Bool) (s : ℕ) (members : List Member) (test : Member → Bool) (object : Option ℕ)
-    (old new : List ClassPlan) (old_places places : List ℕ) (c : Class)
-    (adds : AddsPlan test s members object old old_places new places) → members ≡ c.members → test ≡ skips c
-    → IsClassPlan skips s (old_places ++ id_places test s 0 members) c adds.class
-new_plan skips s members test object old new old_places places c adds same tests = record {
-  rising = omega (arith, adds.start_is, end, length-append old_places (id_places test s 0 members));
-  within = omega (arith, end);
-  places_are =
-      last_places old_places (id_places test s 0 members) adds.class.start adds.class.end adds.start_is end
-      ∙ ap (λ (ms : List Member). id_places test s 0 ms) same
-      ∙ ap (λ (t : Member → Bool). id_places t s 0 c.members) tests;
-  size_is = adds.size_is ∙ ap (λ (ms : List Member). size_together s ms) same;
-}
-  where
-    end : adds.class.end ≡ length (old_places ++ id_places test s 0 members)
-    end = adds.end_is ∙ ap length adds.places_are
 
 get_more : (old : List ClassPlan) (new : ClassPlan) (k : ℕ) (p : ClassPlan) → slice_get (old ++ new ∷ []) k ≡ Some p
     → (slice_get old k ≡ Some p) ⊎ ((k ≡ length old) × (new ≡ p))
@@ -77,42 +59,59 @@ pub record IsOfClass (skips : Class → Member → Bool) (test : Member → Bool
   pub members_are : members ≡ c.members
   pub tests : test ≡ skips c
 
-pub plan_more : (skips : Class → Member → Bool) (s : ℕ) (heap : List SubRecord) (ids : List ℕ) (members : List Member)
-    (test : Member → Bool) (object : Option ℕ) (old new : List ClassPlan) (old_places places : List ℕ) (n : ℕ)
-    → length old ≡ n → AreClassPlans skips s heap ids old old_places
-    → AddsPlan test s members object old old_places new places
-    → ((c : Class) → class_named heap (slice_index ids n) ≡ Some c → IsOfClass skips test members c)
-    → AreClassPlans skips s heap ids new places
-plan_more skips s heap ids members test object old new old_places places n count each adds same = λ k p c is named.
-    subst (λ (ps : List ℕ). IsClassPlan skips s ps c p) (sym adds.places_are)
-    (⊎_elim (λ h. old_plan skips s old_places (id_places test s 0 members) c p (each k p c h named))
-    (λ e.
-    let at : k ≡ n = e.0 ∙ count in
-    let of : IsOfClass skips test members c =
-    same c (ap (λ (m : ℕ). class_named heap (slice_index ids m)) (sym at) ∙ named) in
-    subst (λ (x : ClassPlan). IsClassPlan skips s (old_places ++ id_places test s 0 members) c x) e.1
-    (new_plan skips s members test object old new old_places places c adds of.members_are of.tests))
-    (get_more old adds.class k p (sym (ap (λ (ps : List ClassPlan). slice_get ps k) adds.plans_are) ∙ is)))
+module _ {s : ℕ} {members : List Member} {test : Member → Bool} {object : Option ℕ} {old new : List ClassPlan}
+    {old_places places : List ℕ} (adds : AddsPlan test s members object old old_places new places) where
+  new_plan : {skips : Class → Member → Bool} {c : Class} → IsOfClass skips test members c
+      → IsClassPlan skips s (old_places ++ id_places test s 0 members) c adds.class
+  new_plan {c = c} of =
+      let end : adds.class.end ≡ length (old_places ++ id_places test s 0 members) =
+      adds.end_is ∙ ap length adds.places_are in
+      record {
+        rising = omega (arith, adds.start_is, end, length-append old_places (id_places test s 0 members));
+        within = omega (arith, end);
+        places_are =
+            last_places old_places (id_places test s 0 members) adds.class.start adds.class.end adds.start_is end
+            ∙ ap (id_places test s 0) of.members_are
+            ∙ ap (λ (t : Member → Bool). id_places t s 0 c.members) of.tests;
+        size_is = adds.size_is ∙ ap (size_together s) of.members_are;
+      }
 
-pub objects_more : (s : ℕ) (all ids : List ℕ) (members : List Member) (test : Member → Bool) (object : Option ℕ)
-    (old new : List ClassPlan) (old_places places : List ℕ) (n : ℕ) → length old ≡ n → AreClassObjects all ids old
-    → AddsPlan test s members object old old_places new places → object ≡ target_in all (slice_index ids n)
-    → AreClassObjects all ids new
-objects_more s all ids members test object old new old_places places n count each adds same = λ k p is.
-    ⊎_elim (λ h. each k p h)
-    (λ e.
-    ap (λ (x : ClassPlan). x.object) (sym e.1) ∙ adds.object_is ∙ same
-    ∙ ap (λ (m : ℕ). target_in all (slice_index ids m)) (sym (e.0 ∙ count)))
-    (get_more old adds.class k p (sym (ap (λ (ps : List ClassPlan). slice_get ps k) adds.plans_are) ∙ is))
+  old_or_new : (k : ℕ) (p : ClassPlan) → slice_get new k ≡ Some p
+      → (slice_get old k ≡ Some p) ⊎ ((k ≡ length old) × (adds.class ≡ p))
+  old_or_new k p is = get_more old adds.class k p (sym (ap (λ ps. slice_get ps k) adds.plans_are) ∙ is)
 
-pub no_object : (all ids : List ℕ) (plans : List ClassPlan) → plans ≡ [] → AreClassObjects all ids plans
-no_object all ids plans none = λ k p is.
-    absurd (some_none (sym is ∙ ap (λ (ps : List ClassPlan). slice_get ps k) none))
+  pub plan_more : (skips : Class → Member → Bool) (heap : List SubRecord) (ids : List ℕ) (n : ℕ) → length old ≡ n
+      → AreClassPlans skips s heap ids old old_places
+      → ((c : Class) → class_named heap (slice_index ids n) ≡ Some c → IsOfClass skips test members c)
+      → AreClassPlans skips s heap ids new places
+  plan_more skips heap ids n count each same = λ k p c is named.
+      subst (λ (ps : List ℕ). IsClassPlan skips s ps c p) (sym adds.places_are)
+      (⊎_elim (λ h. old_plan (id_places test s 0 members) (each k p c h named))
+      (λ e.
+      let there = ap (λ (m : ℕ). class_named heap (slice_index ids m)) (sym (e.0 ∙ count)) ∙ named in
+      subst (λ (x : ClassPlan). IsClassPlan skips s (old_places ++ id_places test s 0 members) c x) e.1
+      (new_plan (same c there)))
+      (old_or_new k p is))
 
-pub no_plan : (skips : Class → Member → Bool) (s : ℕ) (heap : List SubRecord) (ids : List ℕ) (plans : List ClassPlan)
-    (places : List ℕ) → plans ≡ [] → AreClassPlans skips s heap ids plans places
-no_plan skips s heap ids plans places none = λ k p c is named.
-    absurd (some_none (sym is ∙ ap (λ (ps : List ClassPlan). slice_get ps k) none))
+  pub objects_more : (all ids : List ℕ) (n : ℕ) → length old ≡ n → AreClassObjects all ids old
+      → object ≡ target_in all (slice_index ids n) → AreClassObjects all ids new
+  objects_more all ids n count each same = λ k p is.
+      ⊎_elim (λ h. each k p h)
+      (λ e.
+      ap (λ (x : ClassPlan). x.object) (sym e.1) ∙ adds.object_is ∙ same
+      ∙ ap (λ (m : ℕ). target_in all (slice_index ids m)) (sym (e.0 ∙ count)))
+      (old_or_new k p is)
+
+module _ (plans : List ClassPlan) (none : plans ≡ []) where
+  no_class : (k : ℕ) (p : ClassPlan) → slice_get plans k ≡ Some p → ⊥
+  no_class k p is = some_none (sym is ∙ ap (λ (ps : List ClassPlan). slice_get ps k) none)
+
+  pub no_object : (all ids : List ℕ) → AreClassObjects all ids plans
+  no_object all ids = λ k p is. absurd (no_class k p is)
+
+  pub no_plan : (skips : Class → Member → Bool) (s : ℕ) (heap : List SubRecord) (ids places : List ℕ)
+      → AreClassPlans skips s heap ids plans places
+  no_plan skips s heap ids places = λ k p c is named. absurd (no_class k p is)
 
 -- ---- the fields that are read are those of the class
 
@@ -121,9 +120,8 @@ pub fields_read : (v : Sight) (heap : List SubRecord) (entries : List TableEntry
     → ((c : Class) → Stands v kept.place (class_dump c) → read ≡ c.members)
     → (c : Class) → class_named heap (slice_index (ids_of entries) k) ≡ Some c → read ≡ c.members
 fields_read v heap entries k kept read are h is says c named =
-    let it : IsNumbered v heap entries k = numbered v heap entries k are h in
-    let stands : Stands v kept.place (class_dump it.holds.class) =
-    subst (λ (p : ClassPlace). Stands v p.place (class_dump it.holds.class)) (sym (is it.entry it.is))
+    let it = numbered v heap entries k are h in
+    let stands = subst (λ (p : ClassPlace). Stands v p.place (class_dump it.holds.class)) (sym (is it.entry it.is))
     it.holds.stands in
     says it.holds.class stands ∙ ap (λ (d : Class). d.members) (same_class v heap entries k c it named)
 
@@ -135,12 +133,12 @@ pub record AreOwnFields (skips : Class → Member → Bool) (s : ℕ) (plans : L
   pub places_are : id_places_of plans places k ≡ id_places (skips c) s 0 c.members
   pub size_is : (plan_at plans k).size ≡ size_together s c.members
 
-pub fields_of_class : (skips : Class → Member → Bool) (s : ℕ) (heap : List SubRecord) (all ids : List ℕ)
-    (plans : List ClassPlan) (places : List ℕ) (k : ℕ) (c : Class) → IsPlan skips s heap all ids plans places
+pub fields_of_class : {skips : Class → Member → Bool} {s : ℕ} {heap : List SubRecord} {all ids : List ℕ}
+    {plans : List ClassPlan} {places : List ℕ} → IsPlan skips s heap all ids plans places → (k : ℕ) (c : Class)
     → k < length ids → class_named heap (slice_index ids k) ≡ Some c → AreOwnFields skips s plans places c k
-fields_of_class skips s heap all ids plans places k c plan below named =
+fields_of_class {plans = plans} {places = places} plan k c below named =
     let it = there_is plans k (omega (arith, below, plan.one_each)) in
-    let says : IsClassPlan skips s places c it.0 = plan.each k it.0 c it.1 named in
+    let says = plan.each k it.0 c it.1 named in
     let is : plan_at plans k ≡ it.0 =
     get_or_from_slice_get plans k it.0 (record { start = 0; end = 0; size = 0; object = None }) it.1 in
     record {

@@ -49,11 +49,12 @@ loop-number-init g c = record {
   count = ap length c.in_ok-with_capacity.ensures.items;
   each = λ records told names.
       let o = c.args.self.now in
-      no_plan (is_skipped records c.args.skip.now) o.view.id_size (heap_of records) (ids_of o.classes.table.entries)
-      c.in_ok-with_capacity.field-0.items c.new.result.items c.in_ok-with_capacity.ensures.items;
+      no_plan c.in_ok-with_capacity.field-0.items c.in_ok-with_capacity.ensures.items
+      (is_skipped records c.args.skip.now) o.view.id_size (heap_of records) (ids_of o.classes.table.entries)
+      c.new.result.items;
   objects =
-      no_object c.args.self.now.index (ids_of c.args.self.now.classes.table.entries)
-      c.in_ok-with_capacity.field-0.items c.in_ok-with_capacity.ensures.items;
+      no_object c.in_ok-with_capacity.field-0.items c.in_ok-with_capacity.ensures.items c.args.self.now.index
+      (ids_of c.args.self.now.classes.table.entries);
 }
 
 pub loop-number-preserved : goal.loop-number-preserved
@@ -72,10 +73,9 @@ loop-number-preserved g c =
             length-append c.loop-number.plan.classes.items (adds.class ∷ []),
           );
       each = λ records told are.
-          plan_more (is_skipped records skip) o.view.id_size (heap_of records) (ids_of o.classes.table.entries) _
-          (is_skipped_in records skip id) _ c.loop-number.plan.classes.items _ c.loop-number.plan.places.items _
-          c.loop-number.number c.loop-number.invariant.count (c.loop-number.invariant.each records told are)
-          (c.in_ok-push.ensures (is_skipped_in records skip id) (c.of-skips.ensures records are))
+          plan_more (c.in_ok-push.ensures (is_skipped_in records skip id) (c.of-skips.ensures records are))
+          (is_skipped records skip) (heap_of records) (ids_of o.classes.table.entries) c.loop-number.number
+          c.loop-number.invariant.count (c.loop-number.invariant.each records told are)
           (λ d named. record {
             members_are = fields_read
                 o.view (heap_of records) o.classes.table.entries c.loop-number.number c.entry-place.result
@@ -85,9 +85,8 @@ loop-number-preserved g c =
                 same_test records skip (ids_of o.classes.table.entries) c.loop-number.number id d c.id-id.ensures named;
           });
       objects =
-          objects_more o.view.id_size o.index (ids_of o.classes.table.entries) _ (is_skipped_in names.0 skip id) _
-          c.loop-number.plan.classes.items _ c.loop-number.plan.places.items _ c.loop-number.number
-          c.loop-number.invariant.count c.loop-number.invariant.objects adds
+          objects_more adds o.index (ids_of o.classes.table.entries) c.loop-number.number
+          c.loop-number.invariant.count c.loop-number.invariant.objects
           (c.target-object.ensures ∙ ap (λ (i : ℕ). target_in o.index i) c.id-id.ensures);
     }
 

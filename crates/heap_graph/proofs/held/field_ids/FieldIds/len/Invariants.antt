@@ -1,6 +1,6 @@
 -- Those counted, with those of the classes that are still above, are all that are left.
 use Rattle.std.proofs.Common.{length}
-use Rattle.heap_graph.proofs.FieldsUpLaws.{IsCounted, steps_up}
+use Rattle.heap_graph.proofs.FieldsLeft.{IsCounted, steps_up}
 use Rattle.heap_graph.proofs.held.field_ids.FieldIds.len.Given as goal
 
 abbrev pub invariant-loop-above : goal.invariant-loop-above

@@ -1,6 +1,6 @@
 -- Those that are left are those of the call: going up a class gives none away.
 use Rattle.std.proofs.Common.{length}
-use Rattle.heap_graph.proofs.FieldsUpLaws.{IsLeft}
+use Rattle.heap_graph.proofs.FieldsLeft.{IsLeft}
 use Rattle.heap_graph.proofs.held.field_ids.FieldIdsIterator.next.Given as goal
 
 abbrev pub invariant-loop-place : goal.invariant-loop-place
