@@ -1,10 +1,11 @@
 -- One step of a climb, and of the way back.
-use Rattle.std.proofs.Common.{Contains, List, [], arith, inl, inr, length, set, subst, ⊎_elim, ℕ, ◌++◌, ◌<◌, ◌∷◌, ◌≡◌}
-use Rattle.std.proofs.Common.{◌⊎◌}
+use Rattle.std.proofs.Common.{Contains, List, [], arith, inl, inr, length, set, subst, sym, ⊎_elim, ℕ, ◌++◌, ◌<◌, ◌∷◌}
+use Rattle.std.proofs.Common.{◌≡◌, ◌⊎◌}
 use Rattle.std.specs.Prelude.{slice_index}
-use Rattle.std.proofs.lemmas.List.Elements.{Contains-append_cases}
+use Rattle.std.proofs.lemmas.List.Elements.{Contains-append_left, Contains-push_cases}
 use Rattle.hprof_grammar.specs.Standing.{Sight}
 use Rattle.hprof_grammar.specs.SubRecord.{SubRecord}
+use Rattle.heap_graph.specs.declared.classes.chains.Step.{Step}
 use Rattle.heap_graph.specs.declared.classes.chains.Step.TheVariants as steps
 use Rattle.heap_graph.specs.declared.classes.fate.Fate.{Fate}
 use Rattle.heap_graph.specs.declared.classes.fate.Fate.TheVariants as fates
@@ -12,85 +13,80 @@ use Rattle.heap_graph.specs.working.Chains.{AreFates, IsClimb, IsFate, IsKnown, 
 use Rattle.heap_graph.specs.working.Chains.{IsUnder}
 use Rattle.heap_graph.specs.working.ClassTable.{AreClasses, TableEntry, ids_of}
 use Rattle.heap_graph.proofs.ClassTableLaws.{numbered, same_count, under}
-use Rattle.heap_graph.proofs.FateLaws.{climb_on, fates_off, fates_on, set_here, stay_known, top_off, top_under}
-use Rattle.heap_graph.proofs.PathLaws.{contains_cases, contains_none, path_on}
+use Rattle.heap_graph.proofs.FateLaws.{fates_off, fates_on, known_set, stay_known}
+use Rattle.heap_graph.proofs.PathLaws.{path_end, path_off, path_on}
 
-pub class_under : (v : Sight) (heap : List SubRecord) (entries : List TableEntry) (k : ℕ) → AreClasses v heap entries
-    → k < length (ids_of entries) → (super : ℕ) × IsUnder heap (ids_of entries) k super
-class_under v heap entries k are h =
-    let below : k < length entries = omega (arith, h, same_count entries) in
-    let it = numbered v heap entries k are below in
-    (it.holds.class.super, under v heap entries k it below)
+module _ (v : Sight) (heap : List SubRecord) (entries : List TableEntry) (first : ℕ) (path : List ℕ)
+    (known : List Fate) (at : ℕ) where
+  -- what is found above the class, when it has come onto the path
+  abbrev Finds : Step → Type 0
+  Finds step = (super : ℕ) → AreFates v.id_size heap (ids_of entries) (path ++ at ∷ []) (set known at fates.OnPath)
+      → IsUnder heap (ids_of entries) at super → IsPath heap (ids_of entries) (path ++ at ∷ []) super
+      → IsStep v.id_size heap (ids_of entries) (set known at fates.OnPath) super step
 
-pub climb_step : (v : Sight) (heap : List SubRecord) (entries : List TableEntry) (first : ℕ) (path : List ℕ)
-    (known : List Fate) (at next : ℕ) → AreClasses v heap entries → IsClimb v.id_size heap (ids_of entries) first path
-    known at
-    → ((super : ℕ) → AreFates v.id_size heap (ids_of entries) (path ++ at ∷ []) (set known at fates.OnPath)
-    → IsUnder heap (ids_of entries) at super → IsPath heap (ids_of entries) (path ++ at ∷ []) super
-    → IsStep v.id_size heap (ids_of entries) (set known at fates.OnPath) super (steps.Up next))
-    → IsClimb v.id_size heap (ids_of entries) first (path ++ at ∷ []) (set known at fates.OnPath) next
-climb_step v heap entries first path known at next are climb says =
-    let u = class_under v heap entries at are climb.below in
-    let step : IsStep v.id_size heap (ids_of entries) (set known at fates.OnPath) u.0 (steps.Up next) =
-    says u.0 (fates_on v.id_size heap (ids_of entries) path known at climb.fates_are climb.below) u.1
-    (path_on heap (ids_of entries) path at u.0 climb.path_is u.1) in
-    climb_on v.id_size heap (ids_of entries) first path known at next u.0 climb u.1 step.0 step.1 step.2
+  module _ (are : AreClasses v heap entries) (climb : IsClimb v.id_size heap (ids_of entries) first path known at) where
+    class_under : (super : ℕ) × IsUnder heap (ids_of entries) at super
+    class_under =
+        let below : at < length entries = omega (arith, climb.below, same_count entries) in
+        let it = numbered v heap entries at are below in
+        (it.holds.class.super, under v heap entries at it below)
 
-pub climb_end : (v : Sight) (heap : List SubRecord) (entries : List TableEntry) (first : ℕ) (path : List ℕ)
-    (known : List Fate) (at : ℕ) (fate : Fate) → AreClasses v heap entries → IsClimb v.id_size heap (ids_of entries)
-    first path known at
-    → ((super : ℕ) → AreFates v.id_size heap (ids_of entries) (path ++ at ∷ []) (set known at fates.OnPath)
-    → IsUnder heap (ids_of entries) at super → IsPath heap (ids_of entries) (path ++ at ∷ []) super
-    → IsStep v.id_size heap (ids_of entries) (set known at fates.OnPath) super (steps.End fate))
-    → AreFates v.id_size heap (ids_of entries) (path ++ at ∷ []) (set known at fates.OnPath)
-    × IsTop v.id_size heap (ids_of entries) (path ++ at ∷ []) fate × Contains (path ++ at ∷ []) first
-climb_end v heap entries first path known at fate are climb says =
-    let u = class_under v heap entries at are climb.below in
-    let on : AreFates v.id_size heap (ids_of entries) (path ++ at ∷ []) (set known at fates.OnPath) =
-    fates_on v.id_size heap (ids_of entries) path known at climb.fates_are climb.below in
-    let p : IsPath heap (ids_of entries) (path ++ at ∷ []) u.0 =
-    path_on heap (ids_of entries) path at u.0 climb.path_is u.1 in
-    let step : IsStep v.id_size heap (ids_of entries) (set known at fates.OnPath) u.0 (steps.End fate) =
-    says u.0 on u.1 p in
-    (on, record { super = u.0; path_is = p; fate_is = step.0; settled = step.1 }, climb.from)
+    on : AreFates v.id_size heap (ids_of entries) (path ++ at ∷ []) (set known at fates.OnPath)
+    on = fates_on at climb.fates_are climb.below
+
+    pub climb_step : (next : ℕ) → Finds (steps.Up next)
+        → IsClimb v.id_size heap (ids_of entries) first (path ++ at ∷ []) (set known at fates.OnPath) next
+    climb_step next finds =
+        let u = class_under in
+        let p = path_on heap (ids_of entries) path at u.0 climb.path_is u.1 in
+        let step = finds u.0 on u.1 p in
+        record {
+          fates_are = on;
+          path_is = subst (IsPath heap (ids_of entries) (path ++ at ∷ [])) (sym step.1) p;
+          below = step.0;
+          unknown = step.2;
+          from = Contains-append_left (path ++ at ∷ []) (next ∷ []) first climb.from;
+        }
+
+    pub climb_end : (fate : Fate) → Finds (steps.End fate)
+        → AreFates v.id_size heap (ids_of entries) (path ++ at ∷ []) (set known at fates.OnPath)
+        × IsTop v.id_size heap (ids_of entries) (path ++ at ∷ []) fate × Contains (path ++ at ∷ []) first
+    climb_end fate finds =
+        let u = class_under in
+        let p = path_on heap (ids_of entries) path at u.0 climb.path_is u.1 in
+        let step = finds u.0 on u.1 p in
+        (on, record { super = u.0; path_is = p; fate_is = step.0; settled = step.1 }, climb.from)
 
 -- ---- on the way back
 
-pub last_under : (s : ℕ) (heap : List SubRecord) (ids path rest : List ℕ) (k : ℕ) (above : Fate)
-    → path ≡ rest ++ k ∷ [] → IsTop s heap ids path above → (super : ℕ) × IsUnder heap ids k super
-    × IsFate s heap ids super above
-last_under s heap ids path rest k above e top =
-    let t : IsTop s heap ids (rest ++ k ∷ []) above = subst (λ (p : List ℕ). IsTop s heap ids p above) e top in
-    (t.super, top_under s heap ids rest k above t, t.fate_is)
+module _ {s : ℕ} {heap : List SubRecord} {ids path : List ℕ} {above : Fate} (rest : List ℕ) (k : ℕ)
+    (e : path ≡ rest ++ k ∷ []) (top : IsTop s heap ids path above) where
+  to_top : IsPath heap ids (rest ++ k ∷ []) top.super
+  to_top = subst (λ (p : List ℕ). IsPath heap ids p top.super) e top.path_is
 
-pub back_fates : (s : ℕ) (heap : List SubRecord) (ids path rest : List ℕ) (known : List Fate) (k : ℕ) (above f : Fate)
-    → path ≡ rest ++ k ∷ [] → AreFates s heap ids path known → (top : IsTop s heap ids path above)
-    → ((super : ℕ) → IsUnder heap ids k super → IsFate s heap ids super above
-    → IsFate s heap ids (slice_index ids k) f) → (IsSettled above → IsSettled f)
-    → AreFates s heap ids rest (set known k f)
-back_fates s heap ids path rest known k above f e are top up settles =
-    let u = last_under s heap ids path rest k above e top in
-    fates_off s heap ids rest known k f (subst (λ (p : List ℕ). AreFates s heap ids p known) e are) u.1.below
-    (up u.0 u.1 u.2) (settles top.settled)
+  pub last_under : (super : ℕ) × IsUnder heap ids k super × IsFate s heap ids super above
+  last_under = (top.super, path_end heap ids rest k top.super to_top, top.fate_is)
 
-pub back_top : (s : ℕ) (heap : List SubRecord) (ids path rest : List ℕ) (k : ℕ) (above f : Fate)
-    → path ≡ rest ++ k ∷ [] → (top : IsTop s heap ids path above)
-    → ((super : ℕ) → IsUnder heap ids k super → IsFate s heap ids super above
-    → IsFate s heap ids (slice_index ids k) f) → (IsSettled above → IsSettled f)
-    → IsTop s heap ids rest f
-back_top s heap ids path rest k above f e top up settles =
-    let u = last_under s heap ids path rest k above e top in
-    top_off s heap ids rest k above f (subst (λ (p : List ℕ). IsTop s heap ids p above) e top) (up u.0 u.1 u.2)
-    (settles top.settled)
+  module _ (f : Fate) (up : (super : ℕ) → IsUnder heap ids k super → IsFate s heap ids super above
+      → IsFate s heap ids (slice_index ids k) f) (settles : IsSettled above → IsSettled f) where
+    pub back_fates : (known : List Fate) → AreFates s heap ids path known → AreFates s heap ids rest (set known k f)
+    back_fates known are =
+        let u = last_under in
+        fates_off rest k f (subst (λ (p : List ℕ). AreFates s heap ids p known) e are) u.1.below (up u.0 u.1 u.2)
+        (settles top.settled)
+
+    pub back_top : IsTop s heap ids rest f
+    back_top = record {
+      super = slice_index ids k;
+      path_is = path_off heap ids rest k top.super to_top;
+      fate_is = up last_under.0 last_under.1 last_under.2;
+      settled = settles top.settled;
+    }
 
 pub back_known : (path rest : List ℕ) (known : List Fate) (k j : ℕ) (f : Fate) → path ≡ rest ++ k ∷ []
     → k < length known → IsSettled f → Contains path j ⊎ IsKnown known j → Contains rest j ⊎ IsKnown (set known k f) j
-back_known path rest known k j f e h settled it =
-    ⊎_elim
-    (λ c. ⊎_elim (λ d. inl d)
-    (λ d. ⊎_elim (λ same. inr (subst (λ (n : ℕ). IsKnown (set known k f) n) same
-    (record { fate = f; is = set_here known k f h; settled = settled }))) (λ n. absurd (contains_none j n))
-    (contains_cases k [] j d))
-    (Contains-append_cases rest (k ∷ []) j (subst (λ (p : List ℕ). Contains p j) e c)))
+back_known path rest known k j f e h settled it = ⊎_elim
+    (λ c. ⊎_elim inl (λ same. inr (subst (IsKnown (set known k f)) same (known_set known k f h settled)))
+    (Contains-push_cases rest k j (subst (λ (p : List ℕ). Contains p j) e c)))
     (λ d. inr (stay_known known k f h settled j d))
     it

@@ -7,26 +7,6 @@ use Rattle.hprof_grammar.specs.SubRecord.{Class, SubRecord}
 use Rattle.heap_graph.specs.Layout.{IsLine, NeverEnds}
 use Rattle.heap_graph.specs.working.Chains.{IsPath, IsUnder}
 
-pub path_on : (heap : List SubRecord) (ids path : List ℕ) (k super : ℕ) → IsPath heap ids path (slice_index ids k)
-    → IsUnder heap ids k super → IsPath heap ids (path ++ k ∷ []) super
-path_on heap ids [] k super p u = u
-path_on heap ids (a ∷ []) k super p u = (p, u)
-path_on heap ids (a ∷ b ∷ path) k super p u = (p.0, path_on heap ids (b ∷ path) k super p.1 u)
-
-pub path_off : (heap : List SubRecord) (ids path : List ℕ) (k super : ℕ) → IsPath heap ids (path ++ k ∷ []) super
-    → IsPath heap ids path (slice_index ids k)
-path_off heap ids [] k super p = tt
-path_off heap ids (a ∷ []) k super p = p.0
-path_off heap ids (a ∷ b ∷ path) k super p = (p.0, path_off heap ids (b ∷ path) k super p.1)
-
-pub path_end : (heap : List SubRecord) (ids path : List ℕ) (k super : ℕ) → IsPath heap ids (path ++ k ∷ []) super
-    → IsUnder heap ids k super
-path_end heap ids [] k super p = p
-path_end heap ids (a ∷ []) k super p = p.1
-path_end heap ids (a ∷ b ∷ path) k super p = path_end heap ids (b ∷ path) k super p.1
-
--- ---- what a path contains
-
 contains_at : (a : ℕ) (path : List ℕ) (k i : ℕ) → i < length (a ∷ path) → slice_index_or (a ∷ path) i k ≡ k
     → (a ≡ k) ⊎ Contains path k
 contains_at a path k zero h e = inl e
@@ -44,59 +24,68 @@ contains_first a path = (0, omega arith, refl)
 pub contains_rest : (a : ℕ) (path : List ℕ) (k : ℕ) → Contains path k → Contains (a ∷ path) k
 contains_rest a path k c = Contains-append_right (a ∷ []) path k c
 
-pub contains_last : (path : List ℕ) (a : ℕ) → Contains (path ++ a ∷ []) a
-contains_last path a = Contains-append_right path (a ∷ []) a (contains_first a [])
+module _ (heap : List SubRecord) (ids : List ℕ) where
+  pub path_on : (path : List ℕ) (k super : ℕ) → IsPath heap ids path (slice_index ids k) → IsUnder heap ids k super
+      → IsPath heap ids (path ++ k ∷ []) super
+  path_on [] k super p u = u
+  path_on (a ∷ []) k super p u = (p, u)
+  path_on (a ∷ b ∷ path) k super p u = (p.0, path_on (b ∷ path) k super p.1 u)
 
--- ---- a path that comes back to itself never ends
+  pub path_off : (path : List ℕ) (k super : ℕ) → IsPath heap ids (path ++ k ∷ []) super
+      → IsPath heap ids path (slice_index ids k)
+  path_off [] k super p = tt
+  path_off (a ∷ []) k super p = p.0
+  path_off (a ∷ b ∷ path) k super p = (p.0, path_off (b ∷ path) k super p.1)
 
--- above the class stands the superclass identifier at the end of the path, or another class of it
-record LeadsOn (heap : List SubRecord) (ids path : List ℕ) (super k : ℕ) : Type 0 where
-  above : ℕ
-  under : IsUnder heap ids k above
-  is : (above ≡ super) ⊎ ((m : ℕ) × Contains path m × (above ≡ slice_index ids m))
+  pub path_end : (path : List ℕ) (k super : ℕ) → IsPath heap ids (path ++ k ∷ []) super → IsUnder heap ids k super
+  path_end [] k super p = p
+  path_end (a ∷ []) k super p = p.1
+  path_end (a ∷ b ∷ path) k super p = path_end (b ∷ path) k super p.1
 
-leads_further : (heap : List SubRecord) (ids path : List ℕ) (super a k : ℕ) → LeadsOn heap ids path super k
-    → LeadsOn heap ids (a ∷ path) super k
-leads_further heap ids path super a k l = record {
-  above = l.above;
-  under = l.under;
-  is = ⊎_elim (λ e. inl e) (λ m. inr (m.0, contains_rest a path m.0 m.1, m.2)) l.is;
-}
+  -- ---- a path that comes back to itself never ends
 
-leads_on : (heap : List SubRecord) (ids path : List ℕ) (super : ℕ) → IsPath heap ids path super → (k : ℕ)
-    → Contains path k → LeadsOn heap ids path super k
-leads_on heap ids [] super p k c = absurd (contains_none k c)
-leads_on heap ids (a ∷ []) super p k c =
-    ⊎_elim (λ e. record { above = super; under = subst (λ (n : ℕ). IsUnder heap ids n super) e p; is = inl refl })
-    (λ h. absurd (contains_none k h)) (contains_cases a [] k c)
-leads_on heap ids (a ∷ b ∷ path) super p k c =
-    ⊎_elim (λ e. record {
-      above = slice_index ids b;
-      under = subst (λ (n : ℕ). IsUnder heap ids n (slice_index ids b)) e p.0;
-      is =
-          inr (b, contains_rest a (b ∷ path) b (contains_first b path), refl);
-    })
-    (λ h. leads_further heap ids (b ∷ path) super a k (leads_on heap ids (b ∷ path) super p.1 k h))
-    (contains_cases a (b ∷ path) k c)
+  -- above the class stands the superclass identifier at the end of the path, or another class of it
+  record LeadsOn (path : List ℕ) (super k : ℕ) : Type 0 where
+    above : ℕ
+    under : IsUnder heap ids k above
+    is : (above ≡ super) ⊎ ((m : ℕ) × Contains path m × (above ≡ slice_index ids m))
 
-around : (heap : List SubRecord) (ids path : List ℕ) (super again : ℕ) → IsPath heap ids path super
-    → Contains path again → super ≡ slice_index ids again → (n k : ℕ) → Contains path k
-    → (classes : List Class) × (length classes ≡ n) × IsLine heap (slice_index ids k) classes
-around heap ids path super again p c e zero k h = ([], refl, tt)
-around heap ids path super again p c e (suc n) k h =
-    let on : LeadsOn heap ids path super k = leads_on heap ids path super p k h in
-    let next : (m : ℕ) × Contains path m × (on.above ≡ slice_index ids m) =
-    ⊎_elim (λ s. (again, c, s ∙ e)) (λ m. m) on.is in
-    let line : (classes : List Class) × (length classes ≡ n) × IsLine heap (slice_index ids next.0) classes =
-    around heap ids path super again p c e n next.0 next.1 in
-    let id_is : slice_index ids next.0 ≡ on.under.class.super = sym next.2 ∙ sym on.under.super_is in (
-      on.under.class ∷ line.0,
-      omega (arith, line.1),
-      (on.under.named, subst (λ (id : ℕ). IsLine heap id line.0) id_is line.2),
-    )
+  leads_on : (path : List ℕ) (super : ℕ) → IsPath heap ids path super → (k : ℕ) → Contains path k
+      → LeadsOn path super k
+  leads_on [] super p k c = absurd (contains_none k c)
+  leads_on (a ∷ []) super p k c = ⊎_elim
+      (λ e. record { above = super; under = subst (λ (n : ℕ). IsUnder heap ids n super) e p; is = inl refl })
+      (λ h. absurd (contains_none k h)) (contains_cases a [] k c)
+  leads_on (a ∷ b ∷ path) super p k c = ⊎_elim
+      (λ e. record {
+        above = slice_index ids b;
+        under = subst (λ (n : ℕ). IsUnder heap ids n (slice_index ids b)) e p.0;
+        is = inr (b, contains_rest a (b ∷ path) b (contains_first b path), refl);
+      })
+      (λ h.
+      let l = leads_on (b ∷ path) super p.1 k h in
+      record {
+        above = l.above;
+        under = l.under;
+        is = ⊎_elim inl (λ m. inr (m.0, contains_rest a (b ∷ path) m.0 m.1, m.2)) l.is;
+      })
+      (contains_cases a (b ∷ path) k c)
 
-pub never_around : (heap : List SubRecord) (ids path : List ℕ) (super again : ℕ) → IsPath heap ids path super
-    → Contains path again → super ≡ slice_index ids again → NeverEnds heap super
-never_around heap ids path super again p c e n =
-    let line = around heap ids path super again p c e n again c in
-    (line.0, line.1, subst (λ (id : ℕ). IsLine heap id line.0) (sym e) line.2)
+  module _ (path : List ℕ) (super again : ℕ) (p : IsPath heap ids path super) (c : Contains path again)
+      (e : super ≡ slice_index ids again) where
+    around : (n k : ℕ) → Contains path k
+        → (classes : List Class) × (length classes ≡ n) × IsLine heap (slice_index ids k) classes
+    around zero k h = ([], refl, tt)
+    around (suc n) k h =
+        let on = leads_on path super p k h in
+        let next : (m : ℕ) × Contains path m × (on.above ≡ slice_index ids m) =
+        ⊎_elim (λ s. (again, c, s ∙ e)) (λ m. m) on.is in
+        let line = around n next.0 next.1 in (
+          on.under.class ∷ line.0,
+          omega (arith, line.1),
+          (on.under.named, subst (λ (id : ℕ). IsLine heap id line.0) (sym next.2 ∙ sym on.under.super_is) line.2),
+        )
+
+    pub never_around : NeverEnds heap super
+    never_around n =
+        let line = around n again c in (line.0, line.1, subst (λ (id : ℕ). IsLine heap id line.0) (sym e) line.2)

@@ -25,7 +25,7 @@ up-preserved g c = record {
       subst (λ (p : List ℕ). IsClimb s heap ids c.args.first p known c.in-Up.next)
       (sym c.in_ok-push.ensures.items)
       (climb_step c.args.self.now.view heap c.args.self.now.table.entries c.args.first c.up.path.items c.up.known
-      c.up.at c.in-Up.next are (c.up.invariant.climbs heap are start)
+      c.up.at are (c.up.invariant.climbs heap are start) c.in-Up.next
       (λ super known under path. c.in-Up.ensures heap (c.up.path.items ++ c.up.at ∷ []) super are known under path));
 }
 
@@ -44,7 +44,7 @@ returns-in-End-clause-top g c = λ heap are start.
     (λ (p : List ℕ). AreFates s heap ids p known × IsTop s heap ids p c.in-End.fate × Contains p c.args.first)
     (sym c.in_ok-push.ensures.items)
     (climb_end c.args.self.now.view heap c.args.self.now.table.entries c.args.first c.up.path.items c.up.known c.up.at
-    c.in-End.fate are (c.up.invariant.climbs heap are start)
+    are (c.up.invariant.climbs heap are start) c.in-End.fate
     (λ super known under path. c.in-End.ensures heap (c.up.path.items ++ c.up.at ∷ []) super are known under path))
 
 pub next_step-requires-clause-each : goal.next_step-requires-clause-each

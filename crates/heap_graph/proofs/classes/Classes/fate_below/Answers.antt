@@ -20,7 +20,7 @@ layout_below-requires-clause-heap g c =
       c.requires.heap.3.class,
       fate.0,
       c.requires.heap.2,
-      chain_at heap ids c.args.number super fate.0 c.requires.heap.3 fate.1,
+      chain_at c.requires.heap.3 fate.0 fate.1,
       fate.2,
     )
 
@@ -33,11 +33,9 @@ returns-in-Whole-clause-fate g c = λ heap super are under told.
       under.class ∷ fate.0,
       (under.named, subst (λ (id : ℕ). IsChain heap id fate.0) (sym under.super_is) fate.1),
       c.layout_below.ensures heap under.class fate.0 are
-          (chain_at heap ids c.args.number super fate.0 under fate.1) fate.2,
+          (chain_at under fate.0 fate.1) fate.2,
     )
 
 pub returns-in_default-clause-fate : goal.returns-in_default-clause-fate
 returns-in_default-clause-fate g c =
-    λ heap super are under told.
-    let ids = ids_of c.args.self.now.table.entries in
-    fate_up c.args.self.now.view.id_size heap ids c.args.number super c.args.above c.in_default.not-Whole under told
+    λ heap super are under told. fate_up under c.args.self.now.view.id_size c.args.above c.in_default.not-Whole told

@@ -34,12 +34,12 @@ pub returns-in-OnPath : goal.returns-in-OnPath
 returns-in-OnPath g c = λ heap path super are known under path_is.
     let is = c.in-Class.ensures heap super are under in
     let below : c.in-Class.next < length c.args.known.now = omega (arith, is.0, known.one_each) in
-    (comes_back _ _ _ _ _ _ _ known path_is is.1 (read_fate _ _ _ below c.in-OnPath.is), tt)
+    (comes_back _ known path_is is.1 (read_fate _ _ _ below c.in-OnPath.is), tt)
 
 pub returns-in_default : goal.returns-in_default
 returns-in_default g c = λ heap path super are known under path_is.
     let is = c.in-Class.ensures heap super are under in
     let below : c.in-Class.next < length c.args.known.now = omega (arith, is.0, known.one_each) in (
-      fate_above _ _ _ _ _ _ _ _ known is.1 (read_fate _ _ _ below refl),
+      fate_above _ _ known is.1 (read_fate _ _ _ below refl),
       settled_fate _ c.in_default.not-Unknown c.in_default.not-OnPath,
     )

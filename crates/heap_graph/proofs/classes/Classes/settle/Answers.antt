@@ -8,27 +8,27 @@ use Rattle.heap_graph.proofs.classes.Classes.settle.Goals as goal
 pub climb-requires-clause-heap : goal.climb-requires-clause-heap
 climb-requires-clause-heap g c =
     let heap = c.requires.heap in
-    let climb = first_climb _ _ c.args.self.now.table.entries _ _ _ c.requires.path heap.2 c.requires.below
+    let climb = first_climb c.args.self.now.table.entries _ _ c.requires.path heap.2 c.requires.below
     c.in-Unknown.is in
     (heap.0, heap.1, climb)
 
 pub unwind-requires : goal.unwind-requires
 unwind-requires g c =
     let heap = c.requires.heap in
-    let it = c.in_ok-fate-in-Unknown.ensures.top heap.0 heap.1 (first_climb _ _ c.args.self.now.table.entries _ _ _
+    let it = c.in_ok-fate-in-Unknown.ensures.top heap.0 heap.1 (first_climb c.args.self.now.table.entries _ _
     c.requires.path heap.2 c.requires.below c.in-Unknown.is) in
     record { heap = (heap.0, heap.1, it.0, it.1) }
 
 pub returns-in-Unknown-clause-known : goal.returns-in-Unknown-clause-known
 returns-in-Unknown-clause-known g c =
     let heap = c.requires.heap in
-    let it = c.in_ok-fate-in-Unknown.ensures.top heap.0 heap.1 (first_climb _ _ c.args.self.now.table.entries _ _ _
+    let it = c.in_ok-fate-in-Unknown.ensures.top heap.0 heap.1 (first_climb c.args.self.now.table.entries _ _
     c.requires.path heap.2 c.requires.below c.in-Unknown.is) in
     c.unwind.ensures.known c.args.first it.2
 
 pub returns-in-Unknown-clause-fates : goal.returns-in-Unknown-clause-fates
 returns-in-Unknown-clause-fates g c = λ heap are known.
-    let it = c.in_ok-fate-in-Unknown.ensures.top heap are (first_climb _ _ c.args.self.now.table.entries _ _ _
+    let it = c.in_ok-fate-in-Unknown.ensures.top heap are (first_climb c.args.self.now.table.entries _ _
     c.requires.path known c.requires.below c.in-Unknown.is) in
     c.unwind.ensures.fates heap are it.0 it.1
 

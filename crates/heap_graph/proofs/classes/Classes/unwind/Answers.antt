@@ -9,19 +9,19 @@ use Rattle.heap_graph.proofs.classes.Classes.unwind.Goals as goal
 pub fate_below-fate-requires-clause-below : goal.fate_below-fate-requires-clause-below
 fate_below-fate-requires-clause-below g c =
     let top = c.loop-number.invariant.top c.requires.heap.0 c.requires.heap.1 c.requires.heap.2 c.requires.heap.3 in
-    let u = last_under _ _ _ _ _ _ _ c.in-Some.ensures.items top in
+    let u = last_under _ _ c.in-Some.ensures.items top in
     omega (arith, u.1.below, same_count c.args.self.now.table.entries)
 
 pub fate_below-fate-requires-clause-heap : goal.fate_below-fate-requires-clause-heap
 fate_below-fate-requires-clause-heap g c =
     let top = c.loop-number.invariant.top c.requires.heap.0 c.requires.heap.1 c.requires.heap.2 c.requires.heap.3 in
-    let u = last_under _ _ _ _ _ _ _ c.in-Some.ensures.items top in
+    let u = last_under _ _ c.in-Some.ensures.items top in
     (c.requires.heap.0, u.0, c.requires.heap.1, u.1, u.2)
 
 pub bounds-known-number : goal.bounds-known-number
 bounds-known-number g c =
     let top = c.loop-number.invariant.top c.requires.heap.0 c.requires.heap.1 c.requires.heap.2 c.requires.heap.3 in
-    let u = last_under _ _ _ _ _ _ _ c.in-Some.ensures.items top in
+    let u = last_under _ _ c.in-Some.ensures.items top in
     let fates = c.loop-number.invariant.fates c.requires.heap.0 c.requires.heap.1 c.requires.heap.2 c.requires.heap.3 in
     omega (arith, u.1.below, fates.one_each)
 
@@ -30,20 +30,19 @@ loop-number-preserved g c =
     let top₀ = c.loop-number.invariant.top c.requires.heap.0 c.requires.heap.1 c.requires.heap.2 c.requires.heap.3 in
     let fates₀ =
     c.loop-number.invariant.fates c.requires.heap.0 c.requires.heap.1 c.requires.heap.2 c.requires.heap.3 in
-    let under₀ = last_under _ _ _ _ _ _ _ c.in-Some.ensures.items top₀ in
+    let under₀ = last_under _ _ c.in-Some.ensures.items top₀ in
     let below : c.in-Some.number < length c.loop-number.known = omega (arith, under₀.1.below, fates₀.one_each) in
     let settled = c.fate_below-fate.ensures.settled top₀.settled in
     record {
       stays = λ k it. stay_known _ _ _ below settled k (c.loop-number.invariant.stays k it);
       settled = λ k h.
           back_known _ _ _ _ k _ c.in-Some.ensures.items below settled (c.loop-number.invariant.settled k h);
-      fates = λ heap are known top. back_fates _ _ _ _ _ _ _ _ _ c.in-Some.ensures.items
-          (c.loop-number.invariant.fates heap are known top) (c.loop-number.invariant.top heap are known top)
+      fates = λ heap are known top. back_fates _ _ c.in-Some.ensures.items
+          (c.loop-number.invariant.top heap are known top) _
           (λ super under fate. c.fate_below-fate.ensures.fate heap super are under fate)
-          c.fate_below-fate.ensures.settled;
-      top = λ heap are known top. back_top _ _ _ _ _ _ _ _ c.in-Some.ensures.items
-          (c.loop-number.invariant.top heap are known top)
-          (λ super under fate. c.fate_below-fate.ensures.fate heap super are under fate)
+          c.fate_below-fate.ensures.settled _ (c.loop-number.invariant.fates heap are known top);
+      top = λ heap are known top. back_top _ _ c.in-Some.ensures.items (c.loop-number.invariant.top heap are known top)
+          _ (λ super under fate. c.fate_below-fate.ensures.fate heap super are under fate)
           c.fate_below-fate.ensures.settled;
     }
 
