@@ -90,7 +90,7 @@ module _ (s : ℕ) (heap : List SubRecord) where
 
   own_told : (n : ℕ) (o : SubRecord) → IsOwn heap n o → (rule : Option LinkRule) → IsLateRule s heap o rule
       → LeastTold s heap n
-  own_told n o own (Some rule) late = (Some rule, late_fails s heap n o rule own late)
+  own_told n o own (Some rule) late = (Some rule, late_fails s heap n o own rule late)
   own_told n o own None late =
       ⊎_elim (λ few. (None, fine_object s heap n o own late few))
       (λ many. (Some TooLarge, large_fails s heap n o own late many)) (cases_lt n most_objects)

@@ -14,9 +14,9 @@ returns-then-id-eq0-clause-rule g c = λ heap are told.
 pub returns-then-number-repeat-clause-rule : goal.returns-then-number-repeat-clause-rule
 returns-then-number-repeat-clause-rule g c = λ heap are told.
     let it = there_at _ _ _ _ _ _ are c.requires.below c.index-place.ensures in
-    repeated_object c.args.self.now.view.id_size heap c.args.self.now.index c.args.number c.object_id-id.result
-    c.args.repeat it.object it.is are.ids_are (c.object_id-id.ensures it.object it.stands) c.if-id-eq0.false
-    c.requires.repeat c.if-number-repeat.true
+    repeated_object heap c.args.self.now.index c.args.number c.object_id-id.result c.args.repeat it.object it.is
+    are.ids_are (c.object_id-id.ensures it.object it.stands) c.if-id-eq0.false c.requires.repeat
+    c.args.self.now.view.id_size c.if-number-repeat.true
 
 pub late_rule-requires-clause-object : goal.late_rule-requires-clause-object
 late_rule-requires-clause-object g c =
@@ -28,7 +28,7 @@ returns-in-Some-clause-rule g c = λ heap are told.
     let it = there_at _ _ _ _ _ _ are c.requires.below c.index-place.ensures in
     let own = own_object _ _ _ _ c.args.repeat _ it.is are.ids_are (c.object_id-id.ensures it.object it.stands)
     c.if-id-eq0.false c.requires.repeat (omega arith) in
-    late_fails c.args.self.now.view.id_size heap c.args.number it.object c.in-Some.rule own
+    late_fails c.args.self.now.view.id_size heap c.args.number it.object own c.in-Some.rule
     (c.in-Some.ensures heap it.object told it.stands it.describes)
 
 pub returns-then-number-ge-MOST_OBJECTS-clause-rule : goal.returns-then-number-ge-MOST_OBJECTS-clause-rule

@@ -20,15 +20,15 @@ overflow_add-unresolved g c =
 
 pub loop-id-preserved-then-is_unresolved : goal.loop-id-preserved-then-is_unresolved
 loop-id-preserved-then-is_unresolved g c = λ skips heap linked told plan.
-    one_unresolved _ _ _ _ _ _ _ _ _ (c.loop-id.invariant skips heap linked told plan) c.in-Some.ensures.steps
+    one_unresolved _ _ _ _ _ _ _ (c.loop-id.invariant skips heap linked told plan) _ _ c.in-Some.ensures.steps
     (sym c.is_unresolved.ensures ∙ c.if-is_unresolved.true)
 
 pub loop-id-preserved : goal.loop-id-preserved
 loop-id-preserved g c = λ skips heap linked told plan.
-    one_named _ _ _ _ _ _ _ _ _ (c.loop-id.invariant skips heap linked told plan) c.in-Some.ensures.steps
+    one_named _ _ _ _ _ _ _ (c.loop-id.invariant skips heap linked told plan) _ _ c.in-Some.ensures.steps
     (sym c.is_unresolved.ensures ∙ c.if-is_unresolved.false)
 
 pub returns : goal.returns
 returns g c = λ skips heap linked told plan.
-    all_counted _ _ _ _ _ _ _ linked.are.ids_are (c.loop-id.invariant skips heap linked told plan)
+    all_counted _ _ _ _ _ _ _ (c.loop-id.invariant skips heap linked told plan) linked.are.ids_are
     c.in-None.ensures.steps.0
