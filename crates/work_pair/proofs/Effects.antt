@@ -1,6 +1,6 @@
 -- What moves do to the book of the worker that makes them.
 use Rattle.std.proofs.Common.{◌≡◌, ℕ, ◌+◌, ◌<◌, ◌≤◌, Bool, true, false, ◌&&◌, ◌||◌, List, [], ◌∷◌, ◌++◌, Option}
-use Rattle.std.proofs.Common.{is_some, is_none, if◌then◌else◌, refl, sym, ap, subst, ◌∙◌, inl, inr, ⊎_elim, arith}
+use Rattle.std.proofs.Common.{is_some, is_none, if◌then◌else◌, refl, sym, ap, ◌∙◌, inl, inr, ⊎_elim, arith}
 use Rattle.tagged_index.specs.Head.{Head}
 use Rattle.mark_core.specs.declared.which.Which.{Which}
 use Rattle.mark_core.specs.declared.which.Which.TheVariants.{Full, Empty}
@@ -40,7 +40,7 @@ module _ (q : Which) (h : HeldBuffer) (old new b : Book) (l : IsLook old b) wher
   -- a buffer was popped after a look
   pop_effect : new ≡ popped h.index h.items b → IsEffect old new [] h.items [] (h.index ∷ [])
   pop_effect is =
-      subst (λ (c : Book). IsEffect old c [] h.items [] (h.index ∷ [])) (sym is)
+      rw is
       (record {
         kept = grind arith;
         charge = λ o. omega (arith, sum_of-append (only o) b.account.charge h.items, ap (times o) l.charge);
@@ -55,7 +55,7 @@ module _ (q : Which) (h : HeldBuffer) (old new b : Book) (l : IsLook old b) wher
   push_effect is there part =
       let here : 0 < times h.index b.account.held = omega (arith, there, ap (times h.index) l.held) in
       let among : IsPart h.items b.account.charge = λ x. omega (arith, part x, ap (times x) l.charge) in
-      subst (λ (c : Book). IsEffect old c h.items [] (h.index ∷ []) []) (sym is)
+      rw is
       (record {
         kept = grind arith;
         charge = λ o. omega (arith, times-without h.items b.account.charge among o, ap (times o) l.charge);
@@ -65,8 +65,7 @@ module _ (q : Which) (h : HeldBuffer) (old new b : Book) (l : IsLook old b) wher
       })
 
 looked : (q : Which) (head : Head) (old mid new : Book) → IsLook old mid → new ≡ loaded q head mid → IsLook old new
-looked q head old mid new l is =
-    subst (λ (c : Book). IsLook old c) (sym is) (look_again old mid (loaded q head mid) l (look_head q head mid))
+looked q head old mid new l is = rw is (look_again old mid (loaded q head mid) l (look_head q head mid))
 
 -- a look that ended a call
 pub ended_look : (q : Which) (old new : Book) → Moved (Ended q) old new → IsLook old new
@@ -105,8 +104,7 @@ effect_again a b c g₀ t₀ gn₀ tn₀ g₁ t₁ gn₁ tn₁ s t =
 
 pub moves_effect : (moves : List Move) (old new : Book) → Moves old moves new
     → IsEffect old new (pushed_items moves) (popped_items moves) (pushed_numbers moves) (popped_numbers moves)
-moves_effect [] old new same =
-    subst (λ (c : Book). IsEffect old c [] [] [] []) (sym same) (look_effect old old (look_at_all old))
+moves_effect [] old new same = rw same (look_effect old old (look_at_all old))
 moves_effect (move ∷ moves) old new p =
     effect_again old p.0 new (given_items move) (taken_items move) (given_number move) (taken_number move)
     (pushed_items moves) (popped_items moves) (pushed_numbers moves) (popped_numbers moves)

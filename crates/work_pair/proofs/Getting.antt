@@ -1,22 +1,24 @@
 -- One turn of a call that gets an object: a look into the pair, and a pop from the full stack.
 use Rattle.std.proofs.Common.{false, ◌≡◌, ℕ, List, [], ◌∷◌, ◌++◌, Option, Some, None, Ok, Err, refl, ap, ◌∙◌, arith}
+use Rattle.std.proofs.lemmas.Bool.{false≢true}
 use Rattle.std.proofs.lemmas.List.{append-nil}
 use Rattle.mark_core.specs.declared.which.Which.TheVariants.{Full}
 use Rattle.mark_core.specs.Events.{IsBusy}
+use Rattle.atomic_table.specs.Seated.{TableId}
 use Rattle.buffer_pool.specs.Book.{Book}
-use Rattle.buffer_pool.specs.Calls.{HeldBuffer}
+use Rattle.buffer_pool.specs.Calls.{HeldBuffer, Holder}
 use Rattle.work_pair.specs.Deals.{Refills}
 use Rattle.work_pair.specs.Moves.{Move, Ended, FoundNone, Took, shelving_of}
-use Rattle.work_pair.specs.PairState.{PairState, items_at, pair_items, AreOfSize, IsBacked}
+use Rattle.work_pair.specs.PairState.{PairState, items_at, pair_items, IsBacked}
 use Rattle.work_pair.specs.declared.stop.Stop.{Stop}
 use Rattle.work_pair.specs.declared.stop.Stop.TheVariants.{TagSpent, OutOfMemory}
 use Rattle.work_pair.specs.declared.buffers.Buffers.{Buffers}
-use Rattle.work_pair.specs.working.Asks.{IsBackedAt}
+use Rattle.work_pair.specs.working.Asks.{IsBackedAt, MayRenew}
 use Rattle.work_pair.specs.working.Buffers.{places_of}
-use Rattle.work_pair.specs.working.Steps.{Ends, GetAnswers, PopsOne, PutsOut, Takes, Trades, places}
-use Rattle.work_pair.proofs.Effects.{busy_after, found_none, found_none_closes, found_none_tells, moves_effect}
-use Rattle.work_pair.proofs.Renewing.{put_out_done, put_out_stopped, still_backed, still_busy, took_size}
-use Rattle.work_pair.proofs.Trading.{backed_after, ended_at, end_on, first_backed, first_renewed}
+use Rattle.work_pair.specs.working.Steps.{Ends, GetAnswers, PopsOne, PutsOut, Renews, Takes, Trades, places}
+use Rattle.work_pair.proofs.Effects.{found_none, found_none_closes, found_none_tells, moves_effect}
+use Rattle.work_pair.proofs.Renewing.{put_out_done, put_out_stopped, still_backed, still_busy}
+use Rattle.work_pair.proofs.Trading.{backed_after, busy_then, ended_at, end_on, first_backed, first_renewed}
 use Rattle.work_pair.proofs.Trading.{found_none_at, on_and_on, sized_after, still}
 
 -- buffers were popped from full so far, since the pair had no item
@@ -31,46 +33,30 @@ all_taken p q took vacant =
     ap (λ (xs : List ℕ). xs ++ items_at p.second ++ items_at p.third) took.2.0
     ∙ ap (λ (xs : List ℕ). xs ++ items_at p.third) took.2.1 ∙ ap items_at vacant
 
-module _ {A : Type 0} (old : PairState) (b₀ : Book) (backed : IsBacked old [] b₀) (p : Buffers A) (b : Book)
+module _ {A : Type 0} {old : PairState} {b₀ : Book} (backed : IsBacked old [] b₀) (p : Buffers A) {b : Book}
     (so_far : Trades old b₀ [] [] (places_of p) b) (vacant : p.third ≡ None) where
-  pub now_sized : AreOfSize b.setup.size (places_of p)
-  now_sized = sized_after old b₀ [] [] (places_of p) b so_far
-
-  -- the worker is not idle yet
-  pub now_busy : IsBusy b₀.account → IsBusy b.account
-  now_busy = busy_after so_far.moves b₀ b so_far.books
-
   -- an object was found
   pub got : (popped : List HeldBuffer) → Refills popped old so_far.moves (places_of p) → (q : Buffers A) (o : ℕ)
       → Takes (places_of p) (places_of q) (Some o) → GetAnswers old b₀ (places_of q) b (Ok (Some o))
   got popped refills q o took = (
-    on_and_on old b₀ (places_of p) b [] (o ∷ []) (places_of q) b so_far
-        (still (places_of p) b [] (o ∷ []) (places_of q) took.0 now_sized),
+    on_and_on so_far (still took.0 (sized_after so_far)),
     took.1 ∙ vacant,
     (popped, places_of p, so_far.moves, [], refl, refills, (refl, took.2)),
   )
 
   module _ (q : Buffers A) (took : Takes (places_of p) (places_of q) None) where
-    abbrev pub looked : Trades old b₀ [] [] (places_of q) b
-    looked = on_and_on old b₀ (places_of p) b [] [] (places_of q) b so_far
-        (still (places_of p) b [] [] (places_of q) took.0 now_sized)
+    abbrev looked : Trades old b₀ [] [] (places_of q) b
+    looked = on_and_on so_far (still took.0 (sized_after so_far))
 
     still_vacant : q.third ≡ None
     still_vacant = took.1 ∙ vacant
-
-    sized_here : AreOfSize b.setup.size (places_of q)
-    sized_here = sized_after old b₀ [] [] (places_of q) b looked
-
-    backed_here : IsBacked (places_of q) [] b
-    backed_here = backed_after old b₀ [] [] (places_of q) b backed looked
 
     -- none was left, there and on the full stack
     pub none_got : (popped : List HeldBuffer) → Refills popped old so_far.moves (places_of p) → (c : Book)
         → PopsOne Full b c (Ok None) → GetAnswers old b₀ (places_of q) c (Ok None)
     none_got popped refills c moved =
         let e = moves_effect looked.moves b₀ b looked.books in (
-          on_and_on old b₀ (places_of q) b [] [] (places_of q) c looked
-              (found_none_at (places_of q) Full b c moved sized_here),
+          on_and_on looked (found_none_at Full moved (sized_after looked)),
           still_vacant,
           ap (λ (xs : List ℕ). xs ++ items_at q.second ++ items_at q.third) (ap items_at took.2.2 ∙ took.2.1)
               ∙ ap (λ (xs : List ℕ). xs ++ items_at q.third) (ap items_at took.2.3 ∙ took.2.0)
@@ -92,36 +78,42 @@ module _ {A : Type 0} (old : PairState) (b₀ : Book) (backed : IsBacked old [] 
     pub pop_stopped : (c : Book) (stop : Stop) → PopsOne Full b c (Err stop) → Ends old b₀ (places_of q) c stop
     pop_stopped c OutOfMemory none = absurd none
     pop_stopped c TagSpent moved = (
-      on_and_on old b₀ (places_of q) b [] [] (places_of q) c looked
-          (ended_at (places_of q) Full b c moved sized_here),
+      on_and_on looked (ended_at Full moved (sized_after looked)),
       end_on looked.moves (Ended Full ∷ []) ([], Full, refl),
     )
 
     -- a buffer was popped, and takes the place of the first
     module _ (h : HeldBuffer) (mid : Book) (took_next : PopsOne Full b mid (Ok (Some h))) where
-      pub backed_at_first : IsBackedAt q.first mid
-      backed_at_first = still_backed q.first Full h b mid took_next q.first h (λ o. refl) refl
-          (first_backed (places_of q) [] b backed_here) sized_here.first
+      backed_here : IsBackedAt q.first b
+      backed_here = first_backed (backed_after backed looked)
 
-      pub busy_here : IsBusy b₀.account → IsBusy mid.account
-      busy_here busy = still_busy Full h b mid took_next (now_busy busy)
+      pub may_put_out : (w : Holder) (pool : TableId) → w.pool ≡ pool → w.book ≡ mid → IsBusy b₀.account
+          → MayRenew w pool q.first q.third
+      may_put_out w pool same book busy =
+          record {
+            same = same;
+            vacant = still_vacant;
+            backed = rw book (still_backed false Full h mid backed_here took_next (λ half. absurd (false≢true half)));
+            busy = rw book (still_busy Full h b mid took_next (busy_then so_far busy));
+          }
 
       module _ (n third : Option HeldBuffer) (c : Book) where
+        abbrev put_back : Renews q.first b n third c → Trades old b₀ [] [] (places n q.second third) c
+        put_back r = on_and_on looked (first_renewed still_vacant r (sized_after looked).second)
+
         pub turned : (popped : List HeldBuffer) → Refills popped old so_far.moves (places_of p) → (done : Unit)
             → PutsOut q.first h mid n third c (Ok done)
             → RefillsBy old b₀ (places n q.second third) c × (third ≡ None)
         turned popped refills done out =
-            let told =
-            put_out_done q.first Full h b mid took_next q.first h (λ o. refl) refl b.setup.size refl sized_here.first
-            (took_size Full h b mid took_next) c n third false refl refl done (λ some. some) out in
+            let told = put_out_done false Full h mid backed_here took_next (λ half. absurd (false≢true half)) n third c
+            done out in
             let k = told.4.0 in
             let moves : so_far.moves ++ [] ++ told.0.moves ≡ so_far.moves ++ Took Full k ∷ shelving_of p.second =
             ap (λ (ms : List Move). ms ++ told.0.moves) (append-nil so_far.moves)
             ∙ ap (λ (ms : List Move). so_far.moves ++ ms)
             (told.4.1 ∙ ap (λ (x : Option HeldBuffer). Took Full k ∷ shelving_of x) took.2.2) in (
               (
-                on_and_on old b₀ (places_of q) b [] [] (places n q.second third) c looked
-                    (first_renewed q.first q.second q.third n third b c still_vacant told.0 sized_here.second),
+                put_back told.0,
                 k ∷ popped,
                 (places_of p, so_far.moves, refills, took.2.0, took.2.1, moves, told.4.2, took.2.3),
               ),
@@ -132,10 +124,6 @@ module _ {A : Type 0} (old : PairState) (b₀ : Book) (backed : IsBacked old [] 
             → Ends old b₀ (places n q.second third) c stop
         put_stopped OutOfMemory none = absurd none
         put_stopped TagSpent out =
-            let told =
-            put_out_stopped q.first Full h b mid took_next q.first h (λ o. refl) refl b.setup.size refl sized_here.first
-            (took_size Full h b mid took_next) c n third false TagSpent out in
-            let r = first_renewed q.first q.second q.third n third b c still_vacant told.0 sized_here.second in (
-              on_and_on old b₀ (places_of q) b [] [] (places n q.second third) c looked r,
-              end_on looked.moves r.moves told.1,
-            )
+            let told = put_out_stopped false Full h mid backed_here took_next (λ half. absurd (false≢true half)) n third
+            c TagSpent out in
+            (put_back told.0, end_on looked.moves told.0.moves told.1)

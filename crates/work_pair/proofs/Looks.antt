@@ -1,5 +1,5 @@
 -- What loads and failed exchanges leave as it was.
-use Rattle.std.proofs.Common.{◌≡◌, ℕ, ◌≤◌, false, Option, sym, subst, arith}
+use Rattle.std.proofs.Common.{◌≡◌, ℕ, ◌≤◌, false, Option, arith}
 use Rattle.tagged_index.specs.Head.{Head}
 use Rattle.mark_core.specs.declared.which.Which.{Which}
 use Rattle.mark_core.specs.declared.which.Which.TheVariants.{Full, Empty}
@@ -49,11 +49,11 @@ lost_pops q old new (no_pop b) = look_at_all b
 lost_pops q old new (more_pops first mid last rest lost) =
     let b = link_loaded q lost.2 (loaded q lost.0 mid) in
     let one = look_again mid b (failed b) (look_top q lost.0 lost.2 mid) (look_failed b) in
-    look_again first mid last (lost_pops q first mid rest) (subst (λ (c : Book). IsLook mid c) (sym lost.5) one)
+    look_again first mid last (lost_pops q first mid rest) (rw lost.5 one)
 
 pub lost_pushes : (q : Which) (h : HeldBuffer) (old new : Book) → LostPushes q h old new → IsLook old new
 lost_pushes q h old new (no_push b) = look_at_all b
 lost_pushes q h old new (more_pushes first mid last rest lost) =
     let b = loaded q lost.0 mid in
     let one = look_again mid b (failed b) (look_head q lost.0 mid) (look_failed b) in
-    look_again first mid last (lost_pushes q h first mid rest) (subst (λ (c : Book). IsLook mid c) (sym lost.3) one)
+    look_again first mid last (lost_pushes q h first mid rest) (rw lost.3 one)

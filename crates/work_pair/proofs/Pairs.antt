@@ -21,7 +21,7 @@ use Rattle.work_pair.specs.working.Buffers.{places_of}
 use Rattle.work_pair.specs.working.Steps.{BalanceAnswers, Clears, ClearAnswers, Ends, EndsOut, FindsNone, GetAnswers}
 use Rattle.work_pair.specs.working.Steps.{PublishAnswers, PutAnswers, Trades}
 use Rattle.work_pair.proofs.Renewing.{out_alone}
-use Rattle.work_pair.proofs.Spilling.{beside, dealt_listed, given_up, listed, listed_sum, spilled, unspilled}
+use Rattle.work_pair.proofs.Spilling.{beside, dealt_listed, listed, listed_sum, spilled, unspilled}
 use Rattle.work_pair.proofs.Trading.{backed_less, untouched}
 
 -- a pair as a contract sees it
@@ -54,7 +54,7 @@ module _ {A : Type 0} {v : PairState} (i : Inside A) (is : seen_as i ≡ v) wher
 
   -- what the buffers are asked
   pub inner : (put : List ℕ) (b : Book) → IsBacked v put b → IsBacked (places_of i.buffers) put b
-  inner put b backed = beside (places_of i.buffers) i.spill.items put i.stopped i.starved b refl (seen put b backed)
+  inner put b backed = beside refl (seen put b backed)
 
   pub may_trade : (w : Holder) (pool : TableId) (put : List ℕ) → w.pool ≡ pool → IsOpen v → IsBacked v put w.book
       → IsBusy w.book.account → MayTrade w pool (places_of i.buffers) put
@@ -77,10 +77,9 @@ module _ {A : Type 0} {v : PairState} (i : Inside A) (is : seen_as i ≡ v) wher
   pub takes_last : (m : List ℕ) (o : ℕ) → i.spill.items ≡ m ++ o ∷ [] → IsOpen v → (b : Book) → IsBacked v [] b
       → Deals v b [] (o ∷ []) (listed (places_of i.buffers) m i.stopped i.starved) b
   takes_last m o l_is going b backed =
-      let u = untouched (places_of i.buffers) b (inner [] b backed).sized in
+      let u : Trades (places_of i.buffers) b [] [] (places_of i.buffers) b = untouched (inner [] b backed).sized in
       subst (λ (w : PairState). Deals w b [] (o ∷ []) (listed (places_of i.buffers) m i.stopped i.starved) b) is
-      (dealt_listed (places_of i.buffers) (places_of i.buffers) i.spill.items m [] [] [] (o ∷ []) i.stopped i.starved
-      i.stopped i.starved b b refl refl (λ x. omega (arith, unspilled m o x, ap (times x) l_is)) (seen [] b backed) u
+      (dealt_listed refl refl (λ x. omega (arith, unspilled m o x, ap (times x) l_is)) (seen [] b backed) u
       (not_ended going u.moves))
 
   module _ (b : Book) (q : Buffers A) (c : Book) where
@@ -89,8 +88,7 @@ module _ {A : Type 0} {v : PairState} (i : Inside A) (is : seen_as i ≡ v) wher
         → (u : Trades (places_of i.buffers) b put got (places_of q) c) → (now ≡ true → EndAtLastTag u.moves)
         → Deals (seen_as i) b put got (listed (places_of q) m now starving) c
     trades m m_is now starving put got backed =
-        dealt_listed (places_of i.buffers) (places_of q) i.spill.items m put got put got i.stopped i.starved now
-        starving b c refl refl (λ o. omega (arith, ap (times o) m_is)) (seen put b backed)
+        dealt_listed refl refl (λ o. omega (arith, ap (times o) m_is)) (seen put b backed)
 
     -- an object was put
     module _ (going : IsOpen v) (object : ℕ) (backed : IsBacked v (object ∷ []) b) {done : Bool}
@@ -117,9 +115,7 @@ module _ {A : Type 0} {v : PairState} (i : Inside A) (is : seen_as i ≡ v) wher
         pub spills : m ≡ i.spill.items ++ object ∷ [] → Puts v b object (listed (places_of q) m i.stopped i.starved) c
         spills m_is =
             subst (λ (w : PairState). Puts w b object (listed (places_of q) m i.stopped i.starved) c) is (
-              dealt_listed (places_of i.buffers) (places_of q) i.spill.items m [] [] (object ∷ []) [] i.stopped
-                  i.starved i.stopped i.starved b c refl refl
-                  (λ o. omega (arith, spilled i.spill.items object o, ap (times o) m_is))
+              dealt_listed refl refl (λ o. omega (arith, spilled i.spill.items object o, ap (times o) m_is))
                   (seen (object ∷ []) b backed) none.0 (not_ended going none.0.moves),
               inr (m_is, none.2),
               out_alone none.0.moves none.2,
@@ -226,14 +222,16 @@ module _ {A : Type 0} {v : PairState} (i : Inside A) (is : seen_as i ≡ v) wher
             told.3,
           )
 
+  -- the pair is backed without its list as well
+  given_up : (b : Book) → IsBacked v [] b → IsBacked (listed (places_of i.buffers) [] i.stopped i.starved) [] b
+  given_up b backed = beside {p = listed (places_of i.buffers) [] i.stopped i.starved} refl (seen [] b backed)
+
   -- the buffers were given back one after the other
   pub shelves : (b : Book) → IsBacked v [] b → (c : Book) (done : Unit)
       → ClearAnswers (places_of i.buffers) b empty_pair c (Ok done) → ShelvesAll v b c
   shelves b backed c done told =
       subst (λ (w : PairState). ShelvesAll w b c) is (
-        dealt_listed (places_of i.buffers) empty_pair [] [] [] [] [] [] i.stopped i.starved false false b c refl refl
-            (λ o. refl) (given_up (places_of i.buffers) i.spill.items i.stopped i.starved b (seen [] b backed))
-            told.0.trades (λ stopped. absurd (false≢true stopped)),
+        dealt_listed refl refl (λ o. refl) (given_up b backed) told.0.trades (λ stopped. absurd (false≢true stopped)),
         told.1,
       )
 
@@ -243,9 +241,7 @@ module _ {A : Type 0} {v : PairState} (i : Inside A) (is : seen_as i ≡ v) wher
       → (now ≡ true → EndAtLastTag cleared.trades.moves) → Disposes v b (listed q m now starving) c
   disposes b backed q c bare now starving m m_is cleared ends =
       subst (λ (w : PairState). Disposes w b (listed q m now starving) c) is (
-        dealt_listed (places_of i.buffers) q [] m [] [] [] [] i.stopped i.starved now starving b c refl bare
-            (λ o. omega (arith, ap (times o) m_is))
-            (given_up (places_of i.buffers) i.spill.items i.stopped i.starved b (seen [] b backed)) cleared.trades ends,
+        dealt_listed refl bare (λ o. omega (arith, ap (times o) m_is)) (given_up b backed) cleared.trades ends,
         cleared.quiet,
         cleared.out,
       )

@@ -1,7 +1,7 @@
 -- What was done with one place.
 use Rattle.std.proofs.Common.{◌≡◌, ◌≢◌, ℕ, ◌+◌, Bool, true, false, Contains, List, [], ◌∷◌, ◌++◌, Option, Some, None}
 use Rattle.std.proofs.Common.{Ok, Err, refl, sym, ap, subst, ◌∙◌, inl, inr, ⊎_elim, arith, length, ◌-◌, ◌/◌}
-use Rattle.std.proofs.lemmas.List.{append-nil, take-append-drop}
+use Rattle.std.proofs.lemmas.List.{append-nil, length-take, take-append-drop}
 use Rattle.atomic_table.specs.Seated.{TableId}
 use Rattle.mark_core.specs.declared.which.Which.{Which}
 use Rattle.mark_core.specs.declared.which.Which.TheVariants.{Full, Empty}
@@ -23,7 +23,7 @@ use Rattle.work_pair.specs.working.Steps.{IsFull, Leaves, PopsOne, PublishesAt, 
 use Rattle.work_pair.specs.working.Steps.{next_of, pushed_part}
 use Rattle.work_pair.proofs.Looks.{lost_pops}
 use Rattle.work_pair.proofs.Effects.{busy_after, found_none, move_effect}
-use Rattle.work_pair.proofs.Trading.{IsIdle}
+use Rattle.work_pair.proofs.Trading.{IsIdle, none_in, none_told}
 
 -- a buffer goes on full only with items, and with items it goes there
 filled_shelf : (h : HeldBuffer) → IsFilled (Gave (shelf_of h.items) h)
@@ -42,20 +42,6 @@ shelf_full h some = go h.items refl
 
 shelf_quiet : (h : HeldBuffer) → h.items ≡ [] → IsOnFull (Gave (shelf_of h.items) h) → ⊥
 shelf_quiet h none = subst (λ (items : List ℕ). IsOnFull (Gave (shelf_of items) h) → ⊥) (sym none) (λ x. x)
-
--- the lower part and the upper half together are what stood at the place
-pub halves_share : (old place : Option HeldBuffer) (h upper : HeldBuffer) → place ≡ pushed_part true old
-    → upper ≡ next_of true old h → (o : ℕ) → times o (items_at place) + times o upper.items ≡ times o (items_at old)
-halves_share None place h upper low high o =
-    omega (arith, ap (λ (p : Option HeldBuffer). times o (items_at p)) low, ap (λ (k : HeldBuffer). times o k.items) high)
-halves_share (Some k) place h upper low high o =
-    omega (
-      arith,
-      ap (λ (p : Option HeldBuffer). times o (items_at p)) low,
-      ap (λ (m : HeldBuffer). times o m.items) high,
-      sum_of-append (only o) (lower_part k.items) (upper_half k.items),
-      ap (times o) (take-append-drop (length k.items - length k.items / 2) k.items),
-    )
 
 -- the push of the buffer at a place: it gives that buffer and takes none, and is on full where there are items
 record IsPushOf (place : Option HeldBuffer) (moves : List Move) : Type 0 where
@@ -102,26 +88,25 @@ from_full Full h took = tt
 from_full Empty h none = absurd none
 
 -- nothing was done with a place that may be renewed
-module _ (w : Holder) (pool : TableId) (place third : Option HeldBuffer) (may : MayRenew w pool place third) where
+module _ {w : Holder} {pool : TableId} {place third : Option HeldBuffer} (may : MayRenew w pool place third) where
   left_sized : IsOfSize w.book.setup.size third
-  left_sized = subst (IsOfSize w.book.setup.size) (sym may.vacant) tt
+  left_sized = rw may.vacant tt
 
-  pub publish_nothing : items_at place ≡ [] → PublishesAt w.book.setup.size place w.book place third w.book (Ok tt)
+  pub publish_nothing : items_at place ≡ [] → PublishesAt place w.book place third w.book (Ok tt)
   publish_nothing none =
-      let r : Renews w.book.setup.size place w.book place third w.book =
+      let r : Renews place w.book place third w.book =
       record {
         moves = [];
         books = refl;
-        items = λ o. omega (arith, ap (λ (p : Option HeldBuffer). times o (items_at p)) may.vacant);
-        buffers = λ i. omega (arith, ap (λ (p : Option HeldBuffer). times i (buffer_number p)) may.vacant);
+        items = λ o. omega (arith, none_told may.vacant items_at o refl);
+        buffers = λ i. omega (arith, none_told may.vacant buffer_number i refl);
         filled = tt;
         sized = may.backed.sized;
         left_sized = left_sized;
       } in (r, may.vacant, inr none, λ pop. pop, inl (refl, none, refl))
 
-  module _ (c : Book) (half : Bool) where
-    abbrev unchanged : (move : Move) → Moved move w.book c → IsIdle move
-        → Renews w.book.setup.size place w.book place third c
+  module _ (half : Bool) (c : Book) where
+    abbrev unchanged : (move : Move) → Moved move w.book c → IsIdle move → Renews place w.book place third c
     unchanged move moved idle =
         record {
           moves = move ∷ [];
@@ -129,20 +114,20 @@ module _ (w : Holder) (pool : TableId) (place third : Option HeldBuffer) (may : 
           items = λ o. omega (
             arith,
             ap (λ (xs : List ℕ). times o (xs ++ [])) idle.0,
-            ap (λ (p : Option HeldBuffer). times o (items_at p)) may.vacant,
+            none_told may.vacant items_at o refl,
           );
           buffers = λ i. omega (
             arith,
             ap (λ (xs : List ℕ). times i (xs ++ [])) idle.1,
-            ap (λ (p : Option HeldBuffer). times i (buffer_number p)) may.vacant,
+            none_told may.vacant buffer_number i refl,
           );
           filled = (idle.2, tt);
           sized = may.backed.sized;
           left_sized = left_sized;
         }
 
-    pub found_nothing : Moved (FoundNone Empty) w.book c
-        → RenewAnswers half Empty w.book.setup.size place w.book place third c (Ok false)
+    pub found_nothing : PopsOne Empty w.book c (Ok None)
+        → RenewAnswers half Empty place w.book place third c (Ok false)
     found_nothing moved = (
       unchanged (FoundNone Empty) moved (refl, refl, tt),
       may.vacant,
@@ -152,34 +137,86 @@ module _ (w : Holder) (pool : TableId) (place third : Option HeldBuffer) (may : 
     )
 
     pub stopped_at_once : (stop : Stop) → PopsOne Empty w.book c (Err stop)
-        → RenewAnswers half Empty w.book.setup.size place w.book place third c (Err stop)
+        → RenewAnswers half Empty place w.book place third c (Err stop)
     stopped_at_once TagSpent moved =
         (unchanged (Ended Empty) moved (refl, refl, tt), ([], Empty, refl), λ pop. ⊎_elim (λ x. x) (λ x. x) pop)
     stopped_at_once OutOfMemory none = absurd none
 
--- the buffer h was popped, and its items and those at the place before are those of the place now and of the next one
-module _ (old : Option HeldBuffer) (q : Which) (h : HeldBuffer) (b mid : Book) (took : Moved (Took q h) b mid)
-    (place : Option HeldBuffer) (next : HeldBuffer)
-    (shared : (o : ℕ) → times o (items_at place) + times o next.items ≡ times o (items_at old) + times o h.items)
-    (number : buffer_number place ≡ buffer_number old) where
+-- what is pushed of a buffer and what stands there next are what stood there and what was popped
+parts_share : (half : Bool) (old : Option HeldBuffer) (h : HeldBuffer) → (half ≡ true → h.items ≡ []) → (o : ℕ)
+    → times o (items_at (pushed_part half old)) + times o (next_of half old h).items
+    ≡ times o (items_at old) + times o h.items
+parts_share false old h bare o = refl
+parts_share true None h bare o = omega (arith, ap (times o) (bare refl))
+parts_share true (Some k) h bare o =
+    omega (
+      arith,
+      sum_of-append (only o) (lower_part k.items) (upper_half k.items),
+      ap (times o) (take-append-drop (length k.items - length k.items / 2) k.items),
+      ap (times o) (bare refl),
+    )
+
+part_number : (half : Bool) (old : Option HeldBuffer) → buffer_number (pushed_part half old) ≡ buffer_number old
+part_number false old = refl
+part_number true None = refl
+part_number true (Some k) = refl
+
+part_sized : (half : Bool) (size : ℕ) (old : Option HeldBuffer) → IsOfSize size old
+    → IsOfSize size (pushed_part half old)
+part_sized false size old sized = sized
+part_sized true size None sized = tt
+part_sized true size (Some k) sized = sized
+
+part_some : (half : Bool) (old : Option HeldBuffer) → items_at old ≢ [] → items_at (pushed_part half old) ≢ []
+part_some false old some = some
+part_some true None some = some
+part_some true (Some k) some =
+    let count = length k.items - length k.items / 2 in
+    λ none. some (none_in k.items (omega (arith, ap length none, length-take count k.items)))
+
+next_number : (half : Bool) (old : Option HeldBuffer) (h : HeldBuffer) → (next_of half old h).index ≡ h.index
+next_number false old h = refl
+next_number true old h = refl
+
+next_size : (half : Bool) (old : Option HeldBuffer) (h : HeldBuffer) → (next_of half old h).size ≡ h.size
+next_size false old h = refl
+next_size true old h = refl
+
+-- after a pop its worker is not idle still, and the buffer is of the pool's size
+module _ (q : Which) (h : HeldBuffer) (b mid : Book) (took : Moved (Took q h) b mid) where
+  pub still_busy : IsBusy b.account → IsBusy mid.account
+  still_busy = busy_after (Took q h ∷ []) b mid (mid, took, refl)
+
+  pub took_size : h.size ≡ b.setup.size
+  took_size = took.2.4 ∙ ap (λ (e : Setup). e.size) (lost_pops q b took.0 took.1).setup
+
+-- the buffer h was popped, and the one at a place is to be pushed, or its lower part
+module _ (half : Bool) (q : Which) (h : HeldBuffer) (mid : Book) {old : Option HeldBuffer} {b : Book}
+    (backed : IsBackedAt old b) (took : Moved (Took q h) b mid) (bare : half ≡ true → q ≡ Empty) where
+  shared : (o : ℕ) → times o (items_at (pushed_part half old)) + times o (next_of half old h).items
+      ≡ times o (items_at old) + times o h.items
+  shared = parts_share half old h (λ is. took.2.6 (bare is))
+
   -- what the pop leaves of what the place needs
-  pub still_backed : IsBackedAt old b → IsOfSize b.setup.size place → IsBackedAt place mid
-  still_backed backed sized =
+  pub still_backed : IsBackedAt (pushed_part half old) mid
+  still_backed =
       let e = move_effect (Took q h) b mid took in
       record {
-        held = λ i. omega (arith, backed.held i, e.held i, ap (times i) number);
+        held = λ i. omega (arith, backed.held i, e.held i, ap (times i) (part_number half old));
         charged = λ o. omega (arith, backed.charged o, e.charge o, shared o);
-        sized = subst (λ (s : Setup). IsOfSize s.size place) (sym e.setup) sized;
+        sized = rw e.setup (part_sized half b.setup.size old backed.sized);
       }
 
-  module _ (size : ℕ) (index : next.index ≡ h.index) (place_sized : IsOfSize size place) (next_sized : next.size ≡ size)
-      (c : Book) (new third : Option HeldBuffer) where
-    pub put_out_done : (half : Bool) → place ≡ pushed_part half old → next ≡ next_of half old h → (done : Unit)
-        → ((items_at old ≢ []) → (items_at place ≢ [])) → PutsOut place next mid new third c (Ok done)
-        → RenewAnswers half q size old b new third c (Ok true)
-    put_out_done half place_is next_is done more out =
+  next_sized : IsOfSize b.setup.size (Some (next_of half old h))
+  next_sized = next_size half old h ∙ took_size q h b mid took
+
+  module _ (new third : Option HeldBuffer) (c : Book) where
+    pub put_out_done : (done : Unit) → PutsOut (pushed_part half old) (next_of half old h) mid new third c (Ok done)
+        → RenewAnswers half q old b new third c (Ok true)
+    put_out_done done out =
+        let place = pushed_part half old in
         let push = shelving place in
-        let r : Renews size old b (Some next) None c =
+        let r : Renews old b (Some (next_of half old h)) None c =
         record {
           moves = Took q h ∷ shelving_of place;
           books = (mid, took, shelved place mid c out.2);
@@ -192,8 +229,8 @@ module _ (old : Option HeldBuffer) (q : Which) (h : HeldBuffer) (b mid : Book) (
           );
           buffers = λ i. omega (
             arith,
-            ap (times i) number,
-            ap (λ (n : ℕ). times i (n ∷ [])) index,
+            ap (times i) (part_number half old),
+            ap (λ (n : ℕ). times i (n ∷ [])) (next_number half old h),
             ap (times i) push.number,
             ap (λ (xs : List ℕ). times i (h.index ∷ xs)) push.no_number,
           );
@@ -201,61 +238,47 @@ module _ (old : Option HeldBuffer) (q : Which) (h : HeldBuffer) (b mid : Book) (
           sized = next_sized;
           left_sized = tt;
         } in
-        subst (λ (n : Option HeldBuffer). RenewAnswers half q size old b n third c (Ok true)) (sym out.0)
-        (subst (λ (t : Option HeldBuffer). RenewAnswers half q size old b (Some next) t c (Ok true)) (sym out.1) (
+        rw (out.0, out.1) (
           r,
           refl,
-          λ some. inr (push.full (more some)),
+          λ some. inr (push.full (part_some half old some)),
           λ pop. ⊎_elim (from_full q h) (λ rest. absurd (push.out rest)) pop,
-          (
-            h,
-            ap (λ (x : Option HeldBuffer). Took q h ∷ shelving_of x) place_is,
-            ap Some next_is,
-            took.2.6,
-          ),
-        ))
+          (h, refl, refl, took.2.6),
+        )
 
-    pub put_out_stopped : (half : Bool) (stop : Stop) → PutsOut place next mid new third c (Err stop)
-        → RenewAnswers half q size old b new third c (Err stop)
-    put_out_stopped half OutOfMemory none = absurd none
-    put_out_stopped half TagSpent out =
-        let r : Renews size old b place (Some next) c =
+    pub put_out_stopped : (stop : Stop)
+        → PutsOut (pushed_part half old) (next_of half old h) mid new third c (Err stop)
+        → RenewAnswers half q old b new third c (Err stop)
+    put_out_stopped OutOfMemory none = absurd none
+    put_out_stopped TagSpent out =
+        let r : Renews old b (pushed_part half old) (Some (next_of half old h)) c =
         record {
           moves = Took q h ∷ Ended out.2.0 ∷ [];
           books = (mid, took, (c, out.2.1, refl));
           items = λ o. omega (arith, shared o, sum_of-append (only o) h.items []);
-          buffers = λ i. omega (arith, ap (times i) number, ap (λ (n : ℕ). times i (n ∷ [])) index);
+          buffers = λ i. omega (
+            arith,
+            ap (times i) (part_number half old),
+            ap (λ (n : ℕ). times i (n ∷ [])) (next_number half old h),
+          );
           filled = (tt, (tt, tt));
-          sized = place_sized;
+          sized = part_sized half b.setup.size old backed.sized;
           left_sized = next_sized;
         } in
-        subst (λ (n : Option HeldBuffer). RenewAnswers half q size old b n third c (Err TagSpent)) (sym out.0)
-        (subst (λ (t : Option HeldBuffer). RenewAnswers half q size old b place t c (Err TagSpent)) (sym out.1) (
+        rw (out.0, out.1) (
           r,
           (Took q h ∷ [], out.2.0, refl),
           λ pop. ⊎_elim (from_full q h) (λ rest. ⊎_elim (λ x. absurd x) (λ x. absurd x) rest) pop,
-        ))
+        )
 
 -- a look for an empty buffer pops nothing from full
 pub out_alone : (ms : List Move) → ms ≡ FoundNone Empty ∷ [] → HasPopFromFull ms → ⊥
 out_alone ms is pop = ⊎_elim (λ x. x) (λ x. x) (subst HasPopFromFull is pop)
 
--- after a pop its worker is not idle still, and the buffer is of the pool's size
-module _ (q : Which) (h : HeldBuffer) (b mid : Book) (took : Moved (Took q h) b mid) where
-  pub still_busy : IsBusy b.account → IsBusy mid.account
-  still_busy = busy_after (Took q h ∷ []) b mid (mid, took, refl)
-
-  pub took_size : h.size ≡ b.setup.size
-  took_size = took.2.4 ∙ ap (λ (e : Setup). e.size) (lost_pops q b took.0 took.1).setup
-
--- a buffer of the empty stack has no items
-pub took_bare : (h : HeldBuffer) (b mid : Book) → Moved (Took Empty h) b mid → h.items ≡ []
-took_bare h b mid took = took.2.6 refl
-
 -- the buffer that stands at a place is held, its items are in the charge, and it is of the pool's size
-pub stands : (place : Option HeldBuffer) (h : HeldBuffer) (b : Book) → place ≡ Some h → IsBackedAt place b
+pub stands : {place : Option HeldBuffer} {h : HeldBuffer} {b : Book} → place ≡ Some h → IsBackedAt place b
     → Contains b.account.held h.index × IsPart h.items b.account.charge × (h.size ≡ b.setup.size)
-stands place h b is backed =
+stands {h} {b} is backed =
     let at = subst (λ (p : Option HeldBuffer). IsBackedAt p b) is backed in (
       times_stands b.account.held h.index (omega (arith, at.held h.index, only-same h.index h.index refl)),
       at.charged,
@@ -263,11 +286,11 @@ stands place h b is backed =
     )
 
 -- the buffer at a place was pushed
-pub cleared : (size : ℕ) (f : Option HeldBuffer) (b c : Book) → Leaves f b c → (r : Renews size f b None None c)
+pub cleared : (f : Option HeldBuffer) (b c : Book) → Leaves f b c → (r : Renews f b None None c)
     × (items_at f ≡ [] → HasPushOnFull r.moves → ⊥) × (HasPopFromFull r.moves → ⊥) × (r.moves ≡ shelving_of f)
-cleared size f b c left =
+cleared f b c left =
     let push = shelving f in
-    let r : Renews size f b None None c =
+    let r : Renews f b None None c =
     record {
       moves = shelving_of f;
       books = shelved f b c left;

@@ -1,5 +1,5 @@
 -- Pairs with a spill list, from what was done with their buffers.
-use Rattle.std.proofs.Common.{◌≡◌, ℕ, ◌+◌, ◌≤◌, Bool, true, List, [], ◌∷◌, ◌++◌, length, refl, ap, arith}
+use Rattle.std.proofs.Common.{◌≡◌, ℕ, ◌+◌, Bool, true, List, [], ◌∷◌, ◌++◌, ap, arith}
 use Rattle.mark_core.specs.Lists.{times, only}
 use Rattle.mark_core.proofs.Sums.{sum_of-append}
 use Rattle.buffer_pool.specs.Book.{Book}
@@ -21,9 +21,9 @@ listed_sum o p l was hungry bare =
     omega (arith, items_sum o p, items_sum o (listed p l was hungry), ap (times o) bare)
 
 -- the buffers alone are backed as well
-pub beside : (p : PairState) (l put : List ℕ) (was hungry : Bool) (b : Book) → p.spill ≡ []
+pub beside : {p : PairState} {l put : List ℕ} {was hungry : Bool} {b : Book} → p.spill ≡ []
     → IsBacked (listed p l was hungry) put b → IsBacked p put b
-beside p l put was hungry b bare backed =
+beside {p} {l} {put} {was} {hungry} bare backed =
     record {
       held = backed.held;
       charged = λ x. omega (
@@ -36,20 +36,15 @@ beside p l put was hungry b bare backed =
       sized = record { first = backed.sized.first; second = backed.sized.second; third = backed.sized.third };
     }
 
--- so is the pair once its list was given up
-pub given_up : (p : PairState) (l : List ℕ) (was hungry : Bool) (b : Book) → IsBacked (listed p l was hungry) [] b
-    → IsBacked (listed p [] was hungry) [] b
-given_up p l was hungry b backed = beside (listed p [] was hungry) l [] was hungry b refl backed
-
 -- a trade of the buffers, told of the pair, whose list may have taken in what was put, or given what was got
-abbrev pub dealt_listed : (p q : PairState) (l m took gave put got : List ℕ) (was hungry now starving : Bool)
-    (b c : Book) → p.spill ≡ [] → q.spill ≡ []
+abbrev pub dealt_listed : {p q : PairState} {l m took gave put got : List ℕ} {was hungry now starving : Bool}
+    {b c : Book} → p.spill ≡ [] → q.spill ≡ []
     → ((o : ℕ) → times o m + times o got + times o took ≡ times o l + times o put + times o gave)
     → IsBacked (listed p l was hungry) put b → (u : Trades p b took gave q c) → (now ≡ true → EndAtLastTag u.moves)
     → Deals (listed p l was hungry) b put got (listed q m now starving) c
-dealt_listed p q l m took gave put got was hungry now starving b c p_bare q_bare even backed u ends =
+dealt_listed {p} {q} {l} {m} {put} {got} {was} {hungry} {now} {starving} {b} {c} p_bare q_bare even backed u ends =
     let e = moves_effect u.moves b c u.books in
-    let sized = sized_after p b took gave q c u in
+    let sized = sized_after u in
     record {
       moves = u.moves;
       books = u.books;
@@ -94,8 +89,3 @@ spilled l object o = omega (arith, sum_of-append (only o) l (object ∷ []))
 pub unspilled : (rest : List ℕ) (object o : ℕ)
     → times o rest + times o (object ∷ []) + times o [] ≡ times o (rest ++ object ∷ []) + times o [] + times o []
 unspilled rest object o = omega (arith, sum_of-append (only o) rest (object ∷ []))
-
--- a list without length is empty
-pub none_in : (xs : List ℕ) → length xs ≤ 0 → xs ≡ []
-none_in [] short = refl
-none_in (x ∷ xs) short = absurd (omega (arith, short))

@@ -1,8 +1,9 @@
 -- Trades put together: local changes of a pair, and what was done with one of its places.
-use Rattle.std.proofs.Common.{◌≡◌, ◌⊎◌, ℕ, ◌+◌, ◌≤◌, List, [], ◌∷◌, ◌++◌, append_assoc, Option, None, refl, sym}
+use Rattle.std.proofs.Common.{◌≡◌, ◌⊎◌, ℕ, ◌+◌, ◌≤◌, List, [], ◌∷◌, ◌++◌, append_assoc, length, Option, None, refl, sym}
 use Rattle.std.proofs.Common.{ap, subst, ◌∙◌, inl, inr, ⊎_elim, arith}
 use Rattle.mark_core.specs.declared.which.Which.{Which}
-use Rattle.mark_core.specs.Lists.{times, only, IsPart}
+use Rattle.mark_core.specs.Events.{IsBusy}
+use Rattle.mark_core.specs.Lists.{times, only}
 use Rattle.mark_core.specs.World.{Setup}
 use Rattle.mark_core.proofs.Sums.{sum_of-append}
 use Rattle.buffer_pool.specs.Book.{Book}
@@ -14,7 +15,12 @@ use Rattle.work_pair.specs.PairState.{PairState, buffered_items, items_at, buffe
 use Rattle.work_pair.specs.PairState.{IsOfSize, AreOfSize, IsBacked}
 use Rattle.work_pair.specs.working.Asks.{IsBackedAt}
 use Rattle.work_pair.specs.working.Steps.{IsLocal, Renews, Trades, places}
-use Rattle.work_pair.proofs.Effects.{moves_effect}
+use Rattle.work_pair.proofs.Effects.{busy_after, moves_effect}
+
+-- a list without length is empty
+pub none_in : (xs : List ℕ) → length xs ≤ 0 → xs ≡ []
+none_in [] short = refl
+none_in (x ∷ xs) short = absurd (omega (arith, short))
 
 -- how often a number is among what is told of each of the three places: of its items, say
 abbrev pub in_places : (Option HeldBuffer → List ℕ) → ℕ → PairState → ℕ
@@ -88,9 +94,9 @@ pub pushed_numbers_on : (i : ℕ) (ms ns : List Move)
 pushed_numbers_on = counted_on given_number pushed_numbers refl (λ m ms. refl)
 
 -- a pair that its worker did not use
-abbrev pub still : (old : PairState) (b : Book) (put got : List ℕ) (new : PairState) → IsLocal old new put got
+abbrev pub still : {old new : PairState} {put got : List ℕ} {b : Book} → IsLocal old new put got
     → AreOfSize b.setup.size old → Trades old b put got new b
-still old b put got new l sized =
+still {b} l sized =
     record {
       moves = [];
       books = refl;
@@ -101,23 +107,38 @@ still old b put got new l sized =
     }
 
 -- nothing was done
-abbrev pub untouched : (p : PairState) (b : Book) → AreOfSize b.setup.size p → Trades p b [] [] p b
-untouched p b sized =
-    still p b [] [] p (record { items = λ o. omega arith; buffers = λ i. refl; sized = λ size of. of }) sized
+abbrev pub untouched : {p : PairState} {b : Book} → AreOfSize b.setup.size p → Trades p b [] [] p b
+untouched sized = still (record { items = λ o. omega arith; buffers = λ i. refl; sized = λ size of. of }) sized
 
-pub same_setup : (ms : List Move) (b c : Book) → Moves b ms c → c.setup ≡ b.setup
-same_setup ms b c m = (moves_effect ms b c m).setup
+module _ {old new : PairState} {b c : Book} {put got : List ℕ} where
+  pub sized_after : Trades old b put got new c → AreOfSize c.setup.size new
+  sized_after t = rw (moves_effect t.moves b c t.books).setup t.sized
 
-pub sized_after : (old : PairState) (b : Book) (put got : List ℕ) (new : PairState) (c : Book)
-    → Trades old b put got new c
-    → AreOfSize c.setup.size new
-sized_after old b put got new c t =
-    subst (λ (e : Setup). AreOfSize e.size new) (sym (same_setup t.moves b c t.books)) t.sized
+  -- a worker that is not idle stays so
+  pub busy_then : Trades old b put got new c → IsBusy b.account → IsBusy c.account
+  busy_then t = busy_after t.moves b c t.books
+
+  -- one that backs a pair still does, and has what was got besides
+  pub backed_after : IsBacked old put b → Trades old b put got new c → IsBacked new got c
+  backed_after backed t =
+      let e = moves_effect t.moves b c t.books in
+      record {
+        held = λ x. omega (arith, backed.held x, t.buffers x, e.held x);
+        charged = λ x. omega (
+          arith,
+          backed.charged x,
+          t.items x,
+          e.charge x,
+          sum_of-append (only x) (pair_items old) put,
+          sum_of-append (only x) (pair_items new) got,
+        );
+        sized = sized_after t;
+      }
 
 -- trades one after the other
-abbrev pub on_and_on : (old : PairState) (b : Book) (mid : PairState) (c : Book) (put got : List ℕ) (new : PairState)
-    (d : Book) → Trades old b [] [] mid c → Trades mid c put got new d → Trades old b put got new d
-on_and_on old b mid c put got new d s t =
+abbrev pub on_and_on : {old mid new : PairState} {b c d : Book} {put got : List ℕ} → Trades old b [] [] mid c
+    → Trades mid c put got new d → Trades old b put got new d
+on_and_on {new} {b} {c} {d} s t =
     record {
       moves = s.moves ++ t.moves;
       books = moves_on s.moves t.moves b c d s.books t.books;
@@ -136,15 +157,16 @@ on_and_on old b mid c put got new d s t =
         pushed_numbers_on i s.moves t.moves,
       );
       filled = filled_on s.moves t.moves s.filled t.filled;
-      sized = subst (λ (e : Setup). AreOfSize e.size new) (same_setup s.moves b c s.books) t.sized;
+      sized =
+          subst (λ (e : Setup). AreOfSize e.size new) (moves_effect s.moves b c s.books).setup t.sized;
     }
 
 -- what was done with one place is what was done with the pair, if all else that is told of the places is the same
-abbrev renewed : (p q : PairState) (f g third : Option HeldBuffer) (b c : Book) → q.spill ≡ p.spill
+abbrev renewed : (p q : PairState) {f g third : Option HeldBuffer} {b c : Book} → q.spill ≡ p.spill
     → ((told : Option HeldBuffer → List ℕ) (x : ℕ) → told None ≡ []
     → in_places told x q + times x (told f) ≡ in_places told x p + times x (told g) + times x (told third))
-    → Renews b.setup.size f b g third c → AreOfSize b.setup.size q → Trades p b [] [] q c
-renewed p q f g third b c spill even r sized =
+    → Renews f b g third c → AreOfSize b.setup.size q → Trades p b [] [] q c
+renewed p q spill even r sized =
     record {
       moves = r.moves;
       books = r.books;
@@ -162,28 +184,46 @@ renewed p q f g third b c spill even r sized =
     }
 
 -- nothing is told of a place that is vacant
-pub vacant_told : (told : Option HeldBuffer → List ℕ) (x : ℕ) (t : Option HeldBuffer) → t ≡ None → told None ≡ []
+pub none_told : {t : Option HeldBuffer} → t ≡ None → (told : Option HeldBuffer → List ℕ) (x : ℕ) → told None ≡ []
     → times x (told t) ≡ 0
-vacant_told told x t vacant none = ap (λ (p : Option HeldBuffer). times x (told p)) vacant ∙ ap (times x) none
+none_told vacant told x none = ap (λ (p : Option HeldBuffer). times x (told p)) vacant ∙ ap (times x) none
 
 -- a buffer was left over from the first place, or from the second, and the third was vacant
-module _ (f s t g third : Option HeldBuffer) (b c : Book) (vacant : t ≡ None) where
-  abbrev pub first_renewed : Renews b.setup.size f b g third c → IsOfSize b.setup.size s
+module _ {f s t g third : Option HeldBuffer} {b c : Book} (vacant : t ≡ None) where
+  abbrev pub first_renewed : Renews f b g third c → IsOfSize b.setup.size s
       → Trades (places f s t) b [] [] (places g s third) c
   first_renewed r sized =
-      renewed (places f s t) (places g s third) f g third b c refl
-      (λ told x none. omega (arith, vacant_told told x t vacant none)) r
+      renewed (places f s t) (places g s third) refl (λ told x none. omega (arith, none_told vacant told x none)) r
       (record { first = r.sized; second = sized; third = r.left_sized })
 
-  abbrev pub second_renewed : Renews b.setup.size s b g third c → IsOfSize b.setup.size f
+  abbrev pub second_renewed : Renews s b g third c → IsOfSize b.setup.size f
       → Trades (places f s t) b [] [] (places f g third) c
   second_renewed r sized =
-      renewed (places f s t) (places f g third) s g third b c refl
-      (λ told x none. omega (arith, vacant_told told x t vacant none)) r
+      renewed (places f s t) (places f g third) refl (λ told x none. omega (arith, none_told vacant told x none)) r
       (record { first = sized; second = r.sized; third = r.left_sized })
 
+-- what was done with one place while the others stayed
+module _ {f s t g : Option HeldBuffer} {b c : Book} where
+  abbrev pub at_first : Renews f b g None c → AreOfSize b.setup.size (places f s t)
+      → Trades (places f s t) b [] [] (places g s t) c
+  at_first r sized =
+      renewed (places f s t) (places g s t) refl (λ told x none. omega (arith, ap (times x) none)) r
+      (record { first = r.sized; second = sized.second; third = sized.third })
+
+  abbrev pub at_second : Renews s b g None c → AreOfSize b.setup.size (places f s t)
+      → Trades (places f s t) b [] [] (places f g t) c
+  at_second r sized =
+      renewed (places f s t) (places f g t) refl (λ told x none. omega (arith, ap (times x) none)) r
+      (record { first = sized.first; second = r.sized; third = sized.third })
+
+  abbrev pub at_third : Renews t b g None c → AreOfSize b.setup.size (places f s t)
+      → Trades (places f s t) b [] [] (places f s g) c
+  at_third r sized =
+      renewed (places f s t) (places f s g) refl (λ told x none. omega (arith, ap (times x) none)) r
+      (record { first = sized.first; second = sized.second; third = r.sized })
+
 -- a worker that backs a pair backs each of its buffers
-module _ (p : PairState) (besides : List ℕ) (b : Book) (backed : IsBacked p besides b) where
+module _ {p : PairState} {besides : List ℕ} {b : Book} (backed : IsBacked p besides b) where
   at_place : (h : Option HeldBuffer)
       → ((told : Option HeldBuffer → List ℕ) (x : ℕ) → times x (told h) ≤ in_places told x p)
       → IsOfSize b.setup.size h → IsBackedAt h b
@@ -209,73 +249,27 @@ module _ (p : PairState) (besides : List ℕ) (b : Book) (backed : IsBacked p be
   pub third_backed : IsBackedAt p.third b
   third_backed = at_place p.third (λ told x. omega arith) backed.sized.third
 
--- it still does after a trade, and has what was got besides
-pub backed_after : (old : PairState) (b : Book) (put got : List ℕ) (new : PairState) (c : Book) → IsBacked old put b
-    → Trades old b put got new c → IsBacked new got c
-backed_after old b put got new c backed t =
-    let e = moves_effect t.moves b c t.books in
-    record {
-      held = λ x. omega (arith, backed.held x, t.buffers x, e.held x);
-      charged = λ x. omega (
-        arith,
-        backed.charged x,
-        t.items x,
-        e.charge x,
-        sum_of-append (only x) (pair_items old) put,
-        sum_of-append (only x) (pair_items new) got,
-      );
-      sized = sized_after old b put got new c t;
-    }
-
--- and where it has more than it is asked for
-pub backed_part : (p : PairState) (more less : List ℕ) (b : Book) → IsPart less more → IsBacked p more b
-    → IsBacked p less b
-backed_part p more less b part backed =
+-- and the buffers alone
+pub backed_less : (p : PairState) (besides : List ℕ) (b : Book) → IsBacked p besides b → IsBacked p [] b
+backed_less p besides b backed =
     record {
       held = backed.held;
       charged = λ x. omega (
         arith,
         backed.charged x,
-        part x,
-        sum_of-append (only x) (pair_items p) more,
-        sum_of-append (only x) (pair_items p) less,
+        sum_of-append (only x) (pair_items p) besides,
+        sum_of-append (only x) (pair_items p) [],
       );
       sized = backed.sized;
     }
-
-pub backed_less : (p : PairState) (besides : List ℕ) (b : Book) → IsBacked p besides b → IsBacked p [] b
-backed_less p besides b = backed_part p besides [] b (λ x. omega arith)
-
--- what was done with one place while the others stayed
-module _ (f s t g : Option HeldBuffer) (b c : Book) where
-  abbrev pub at_first : Renews b.setup.size f b g None c → AreOfSize b.setup.size (places f s t)
-      → Trades (places f s t) b [] [] (places g s t) c
-  at_first r sized =
-      renewed (places f s t) (places g s t) f g None b c refl
-      (λ told x none. omega (arith, ap (times x) none)) r
-      (record { first = r.sized; second = sized.second; third = sized.third })
-
-  abbrev pub at_second : Renews b.setup.size s b g None c → AreOfSize b.setup.size (places f s t)
-      → Trades (places f s t) b [] [] (places f g t) c
-  at_second r sized =
-      renewed (places f s t) (places f g t) s g None b c refl
-      (λ told x none. omega (arith, ap (times x) none)) r
-      (record { first = sized.first; second = r.sized; third = sized.third })
-
-  abbrev pub at_third : Renews b.setup.size t b g None c → AreOfSize b.setup.size (places f s t)
-      → Trades (places f s t) b [] [] (places f s g) c
-  at_third r sized =
-      renewed (places f s t) (places f s g) t g None b c refl
-      (λ told x none. omega (arith, ap (times x) none)) r
-      (record { first = sized.first; second = sized.second; third = r.sized })
 
 -- a move that neither takes nor gives a buffer
 abbrev pub IsIdle : Move → Type 0
 IsIdle move = (given_items move ≡ taken_items move) × (given_number move ≡ taken_number move) × IsFilled move
 
-abbrev looks : (p : PairState) (move : Move) (b c : Book) → Moved move b c → IsIdle move → AreOfSize b.setup.size p
+abbrev looks : {p : PairState} {b c : Book} (move : Move) → Moved move b c → IsIdle move → AreOfSize b.setup.size p
     → Trades p b [] [] p c
-looks p move b c moved idle sized =
+looks {c} move moved idle sized =
     record {
       moves = move ∷ [];
       books = (c, moved, refl);
@@ -286,10 +280,9 @@ looks p move b c moved idle sized =
     }
 
 -- a stack was seen empty, or at its last tag
-abbrev pub found_none_at : (p : PairState) (q : Which) (b c : Book) → Moved (FoundNone q) b c → AreOfSize b.setup.size p
-    → Trades p b [] [] p c
-found_none_at p q b c moved = looks p (FoundNone q) b c moved (refl, refl, tt)
+module _ {p : PairState} {b c : Book} (q : Which) where
+  abbrev pub found_none_at : Moved (FoundNone q) b c → AreOfSize b.setup.size p → Trades p b [] [] p c
+  found_none_at moved = looks (FoundNone q) moved (refl, refl, tt)
 
-abbrev pub ended_at : (p : PairState) (q : Which) (b c : Book) → Moved (Ended q) b c → AreOfSize b.setup.size p
-    → Trades p b [] [] p c
-ended_at p q b c moved = looks p (Ended q) b c moved (refl, refl, tt)
+  abbrev pub ended_at : Moved (Ended q) b c → AreOfSize b.setup.size p → Trades p b [] [] p c
+  ended_at moved = looks (Ended q) moved (refl, refl, tt)

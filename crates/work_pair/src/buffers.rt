@@ -22,14 +22,14 @@ pub(crate) struct Buffers<A: Allocator> {
 }
 
 impl<A: Allocator> Buffers<A> {
-    ghost use Rattle.std.specs.Prelude.{◌≡◌, ◌≢◌, None, Ok, true, [], ◌∷◌, IsOk};
+    ghost use Rattle.std.specs.Prelude.{◌≡◌, ◌≢◌, None, [], ◌∷◌, IsOk};
     ghost use Rattle.mark_core.specs.Events.{IsBusy};
     ghost use Rattle.work_pair.specs.Deals.{HasMore};
     ghost use Rattle.work_pair.specs.PairState.{HasRoom, HasRoomAt, IsBacked, pair_items};
     ghost use Rattle.work_pair.specs.working.Asks.{MayTrade};
     ghost use Rattle.work_pair.specs.working.Buffers.{places_of};
-    ghost use Rattle.work_pair.specs.working.Steps.{BalanceAnswers, ClearAnswers, GetAnswers, PublishAnswers};
-    ghost use Rattle.work_pair.specs.working.Steps.{PutAnswers, Takes};
+    ghost use Rattle.work_pair.specs.working.Steps.{BalanceAnswers, ClearAnswers, GetsObject, PublishAnswers};
+    ghost use Rattle.work_pair.specs.working.Steps.{PutsObject, Takes};
 
     /// Puts an object into the first buffer, or into the second, which is the first then, or into an empty one. False
     /// where there is none: then nothing changes but the places of the two.
@@ -43,10 +43,8 @@ impl<A: Allocator> Buffers<A> {
         object: u32,
     ) -> Result<bool, Stop>
         requires { MayTrade worker.old pool.now (places_of self.old) (object ∷ []) }
-        ensures pool { worker.new.pool ≡ worker.old.pool }
-        ensures puts { PutAnswers object (places_of self.old) worker.old.book (places_of self.new)
-            worker.new.book result }
-        ensures room { HasRoom (places_of self.old) → (worker.new ≡ worker.old) × (result ≡ Ok true) }
+        ensures { PutsObject (HasRoom (places_of self.old)) object (places_of self.old) worker.old (places_of self.new)
+            worker.new result }
     {
         if put_at(&mut self.first, object) {
             return Ok(true);
@@ -66,10 +64,8 @@ impl<A: Allocator> Buffers<A> {
     ) -> Result<bool, Stop>
         requires may { MayTrade worker.old pool.now (places_of self.old) (object ∷ []) }
         requires full { HasRoomAt self.old.first → ⊥ }
-        ensures pool { worker.new.pool ≡ worker.old.pool }
-        ensures puts { PutAnswers object (places_of self.old) worker.old.book (places_of self.new)
-            worker.new.book result }
-        ensures room { HasRoomAt self.old.second → (worker.new ≡ worker.old) × (result ≡ Ok true) }
+        ensures { PutsObject (HasRoomAt self.old.second) object (places_of self.old) worker.old (places_of self.new)
+            worker.new result }
     {
         swap(&mut self.first, &mut self.second);
         if put_at(&mut self.first, object) {
@@ -103,9 +99,7 @@ impl<A: Allocator> Buffers<A> {
         worker: &mut Worker<A>,
     ) -> Result<Option<u32>, Stop>
         requires { MayTrade worker.old pool.now (places_of self.old) [] }
-        ensures pool { worker.new.pool ≡ worker.old.pool }
-        ensures gets { GetAnswers (places_of self.old) worker.old.book (places_of self.new) worker.new.book result }
-        ensures own { pair_items (places_of self.old) ≢ [] → (worker.new ≡ worker.old) × IsOk result }
+        ensures { GetsObject (places_of self.old) worker.old (places_of self.new) worker.new result }
     {
         if let Some(object) = take_at(&mut self.first) {
             return Ok(Some(object));
@@ -123,9 +117,7 @@ impl<A: Allocator> Buffers<A> {
         worker: &mut Worker<A>,
     ) -> Result<Option<u32>, Stop>
         requires { MayTrade worker.old pool.now (places_of self.old) [] }
-        ensures pool { worker.new.pool ≡ worker.old.pool }
-        ensures gets { GetAnswers (places_of self.old) worker.old.book (places_of self.new) worker.new.book result }
-        ensures own { pair_items (places_of self.old) ≢ [] → (worker.new ≡ worker.old) × IsOk result }
+        ensures { GetsObject (places_of self.old) worker.old (places_of self.new) worker.new result }
     {
         for _ in rt.forever() {
             if let Some(object) = self.take() {

@@ -1,11 +1,11 @@
 //! A place for a buffer in a pair. It is vacant in a bare pair, and once a call was stopped.
-ghost use Rattle.std.specs.Prelude.{◌≡◌, ◌≢◌, ◌↔◌, ◌<◌, ℕ, [], ◌∷◌, ◌++◌, Some, None, IsTrue, IfOk, length};
+ghost use Rattle.std.specs.Prelude.{◌≡◌, ◌≢◌, ◌↔◌, ◌<◌, ℕ, [], ◌∷◌, ◌++◌, Some, None, IsTrue, length};
 ghost use Rattle.std.specs.Prelude.{true, false, IsOk, MatchOption};
 ghost use Rattle.std.specs.Bool.{OnTrue, OnFalse};
 ghost use Rattle.mark_core.specs.Events.{IsBusy};
 ghost use Rattle.mark_core.specs.declared.which.Which.TheVariants.{Empty};
 ghost use Rattle.buffer_pool.specs.Calls.{HeldBuffer};
-ghost use Rattle.work_pair.specs.PairState.{items_at, buffer_number, count_at, HasRoomAt, IsOfSize};
+ghost use Rattle.work_pair.specs.PairState.{items_at, count_at, HasRoomAt, IsOfSize};
 ghost use Rattle.work_pair.specs.working.Asks.{IsBackedAt, MayRenew};
 ghost use Rattle.work_pair.specs.working.Steps.{ClearsAt, PublishesAt, PutsOut, RenewAnswers, next_of};
 ghost use Rattle.work_pair.specs.working.Steps.{pushed_part};
@@ -67,12 +67,8 @@ pub(crate) fn take_at<A: Allocator>(place: &mut Option<Held<A>>) -> Option<u32>
 fn split_at<A: Allocator>(place: &mut Option<Held<A>>, upper: &mut Held<A>)
     requires empty { upper.old.items ≡ [] }
     requires room { IsOfSize upper.old.size place.old }
-    ensures some { items_at place.old ≢ [] → items_at place.new ≢ [] }
-    ensures number { buffer_number place.new ≡ buffer_number place.old }
-    ensures sized { (size : ℕ) → IsOfSize size place.old → IsOfSize size place.new }
     ensures lower { place.new ≡ pushed_part true place.old }
-    ensures all_upper { upper.new ≡ next_of true place.old upper.old }
-    ensures upper { (upper.new.index ≡ upper.old.index) × (upper.new.size ≡ upper.old.size) }
+    ensures upper { upper.new ≡ next_of true place.old upper.old }
 {
     if let Some(held) = place {
         held.split_upper_into(upper);
@@ -141,9 +137,7 @@ pub(crate) fn renew<R: Wait, A: Allocator>(
 ) -> Result<bool, Stop>
     requires { MayRenew worker.old pool.now place.old third.old }
     ensures pool { worker.new.pool ≡ worker.old.pool }
-    ensures renews { RenewAnswers false Empty worker.old.book.setup.size place.old worker.old.book place.new third.new
-        worker.new.book result }
-    ensures bare { IfOk result (λ done. OnTrue done ((h : HeldBuffer) × (place.new ≡ Some h) × (h.items ≡ []))) }
+    ensures renews { RenewAnswers false Empty place.old worker.old.book place.new third.new worker.new.book result }
 {
     let Some(next) = pop_one(rt, pool, worker, Which::Empty)? else {
         return Ok(false);
@@ -163,8 +157,7 @@ pub(crate) fn halve<R: Wait, A: Allocator>(
 ) -> Result<bool, Stop>
     requires { MayRenew worker.old pool.now place.old third.old }
     ensures pool { worker.new.pool ≡ worker.old.pool }
-    ensures renews { RenewAnswers true Empty worker.old.book.setup.size place.old worker.old.book place.new third.new
-        worker.new.book result }
+    ensures renews { RenewAnswers true Empty place.old worker.old.book place.new third.new worker.new.book result }
 {
     let Some(mut upper) = pop_one(rt, pool, worker, Which::Empty)? else {
         return Ok(false);
@@ -184,8 +177,7 @@ pub(crate) fn publish_at<R: Wait, A: Allocator>(
 ) -> Result<(), Stop>
     requires { MayRenew worker.old pool.now place.old third.old }
     ensures pool { worker.new.pool ≡ worker.old.pool }
-    ensures publishes { PublishesAt worker.old.book.setup.size place.old worker.old.book place.new third.new
-        worker.new.book result }
+    ensures publishes { PublishesAt place.old worker.old.book place.new third.new worker.new.book result }
     ensures none { items_at place.old ≡ [] → (place.new ≡ place.old) × (third.new ≡ third.old)
         × (worker.new ≡ worker.old) × IsOk result }
 {

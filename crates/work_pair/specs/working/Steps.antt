@@ -1,19 +1,18 @@
 -- What the parts of a call of a pair tell.
 use Rattle.std.specs.Prelude.{◌≡◌, ◌≢◌, ◌⊎◌, ℕ, ◌+◌, false, Bool, true, List, [], ◌∷◌, ◌++◌, Option, Some, None, Result}
-use Rattle.std.specs.Prelude.{Ok, Err}
+use Rattle.std.specs.Prelude.{IsOk, Ok, Err}
 use Rattle.mark_core.specs.declared.which.Which.{Which}
 use Rattle.mark_core.specs.declared.which.Which.TheVariants.{Full, Empty}
 use Rattle.mark_core.specs.Lists.{times}
 use Rattle.buffer_pool.specs.Book.{Book}
-use Rattle.buffer_pool.specs.Calls.{HeldBuffer}
+use Rattle.buffer_pool.specs.Calls.{HeldBuffer, Holder}
 use Rattle.work_pair.specs.Deals.{FillsNext, FindsNoOwn, GetsBy, Gives, HasMore, Publishes, PublishesPlace}
 use Rattle.work_pair.specs.Deals.{TakesOwn, lower_part, upper_half}
 use Rattle.work_pair.specs.Moves.{Move, Took, Gave, FoundNone, Ended, Moved, Moves, popped_items, popped_numbers}
 use Rattle.work_pair.specs.Moves.{pushed_items, pushed_numbers, AreFilled, HasPushOnFull, HasPopFromFull, EndAtLastTag}
 use Rattle.work_pair.specs.Moves.{WasSeenEmpty, shelf_of, shelving_of}
 use Rattle.work_pair.specs.PairState.{PairState, items_at, buffer_number, pair_items, numbers_of, empty_pair, IsOfSize}
-use Rattle.work_pair.specs.PairState.{AreOfSize}
-use Rattle.work_pair.specs.PairState.{AreAlike, HasRoom}
+use Rattle.work_pair.specs.PairState.{AreAlike, AreOfSize, HasRoom}
 use Rattle.work_pair.specs.declared.stop.Stop.{Stop}
 use Rattle.work_pair.specs.declared.stop.Stop.TheVariants.{TagSpent, OutOfMemory}
 
@@ -66,7 +65,7 @@ Takes old new (Some object) =
 Takes old new None = IsLocal old new [] [] × (new.third ≡ old.third) × FindsNoOwn old new
 
 -- what was done with one place: its buffer before, the buffer there after, and the one left over
-pub record Renews (size : ℕ) (old : Option HeldBuffer) (before : Book) (new third : Option HeldBuffer) (after : Book)
+pub record Renews (old : Option HeldBuffer) (before : Book) (new third : Option HeldBuffer) (after : Book)
     : Type 0 where
   pub moves : List Move
   pub books : Moves before moves after
@@ -75,8 +74,8 @@ pub record Renews (size : ℕ) (old : Option HeldBuffer) (before : Book) (new th
   pub buffers : (i : ℕ) → times i (buffer_number new) + times i (buffer_number third) + times i (pushed_numbers moves)
       ≡ times i (buffer_number old) + times i (popped_numbers moves)
   pub filled : AreFilled moves
-  pub sized : IsOfSize size new
-  pub left_sized : IsOfSize size third
+  pub sized : IsOfSize before.setup.size new
+  pub left_sized : IsOfSize before.setup.size third
 
 -- the stack that the buffer was popped from is the full one
 abbrev pub IsFull : Which → Type 0
@@ -99,26 +98,26 @@ Replaces half q old moves new =
     (h : HeldBuffer) × (moves ≡ Took q h ∷ shelving_of (pushed_part half old)) × (new ≡ Some (next_of half old h))
     × (q ≡ Empty → h.items ≡ [])
 
-abbrev pub RenewAnswers : Bool → Which → ℕ → Option HeldBuffer → Book → Option HeldBuffer → Option HeldBuffer → Book
+abbrev pub RenewAnswers : Bool → Which → Option HeldBuffer → Book → Option HeldBuffer → Option HeldBuffer → Book
     → Result Bool Stop → Type 0
-RenewAnswers half q size old before new third after (Ok true) = (r : Renews size old before new third after)
+RenewAnswers half q old before new third after (Ok true) = (r : Renews old before new third after)
     × (third ≡ None) × ((items_at old ≢ []) → HasPushOnFull r.moves) × (HasPopFromFull r.moves → IsFull q)
     × Replaces half q old r.moves new
-RenewAnswers half q size old before new third after (Ok false) = (r : Renews size old before new third after)
+RenewAnswers half q old before new third after (Ok false) = (r : Renews old before new third after)
     × (third ≡ None) × (new ≡ old) × WasSeenEmpty Empty before after × (r.moves ≡ FoundNone Empty ∷ [])
-RenewAnswers half q size old before new third after (Err TagSpent) = (r : Renews size old before new third after)
+RenewAnswers half q old before new third after (Err TagSpent) = (r : Renews old before new third after)
     × EndAtLastTag r.moves × (HasPopFromFull r.moves → IsFull q)
-RenewAnswers half q size old before new third after (Err OutOfMemory) = ⊥
+RenewAnswers half q old before new third after (Err OutOfMemory) = ⊥
 
 -- a place whose buffer has items was renewed
-abbrev pub PublishesAt : ℕ → Option HeldBuffer → Book → Option HeldBuffer → Option HeldBuffer → Book
+abbrev pub PublishesAt : Option HeldBuffer → Book → Option HeldBuffer → Option HeldBuffer → Book
     → Result Unit Stop → Type 0
-PublishesAt size old before new third after (Ok done) = (r : Renews size old before new third after)
+PublishesAt old before new third after (Ok done) = (r : Renews old before new third after)
     × (third ≡ None) × (WasSeenEmpty Empty before after ⊎ (items_at new ≡ [])) × (HasPopFromFull r.moves → ⊥)
     × PublishesPlace old r.moves new
-PublishesAt size old before new third after (Err TagSpent) = (r : Renews size old before new third after)
+PublishesAt old before new third after (Err TagSpent) = (r : Renews old before new third after)
     × EndAtLastTag r.moves × (HasPopFromFull r.moves → ⊥)
-PublishesAt size old before new third after (Err OutOfMemory) = ⊥
+PublishesAt old before new third after (Err OutOfMemory) = ⊥
 
 -- what was done with all three places
 pub record Trades (old : PairState) (before : Book) (put got : List ℕ) (new : PairState) (after : Book) : Type 0 where
@@ -162,6 +161,20 @@ GetAnswers old before new after (Ok None) =
     × WasSeenEmpty Full before after × (after.account.open_push ≡ false) × (after.account.found ≡ true)
     × GetsBy old t.moves None new
 GetAnswers old before new after (Err stop) = Ends old before new after stop
+
+-- a put into the buffers, told with the worker, which did nothing where there was room
+pub record PutsObject (there_is_room : Type 0) (object : ℕ) (old : PairState) (before : Holder) (new : PairState)
+    (after : Holder) (result : Result Bool Stop) : Type 0 where
+  pub pool : after.pool ≡ before.pool
+  pub puts : PutAnswers object old before.book new after.book result
+  pub room : there_is_room → (after ≡ before) × (result ≡ Ok true)
+
+-- a get from them; where they had an object the worker did nothing
+pub record GetsObject (old : PairState) (before : Holder) (new : PairState) (after : Holder)
+    (result : Result (Option ℕ) Stop) : Type 0 where
+  pub pool : after.pool ≡ before.pool
+  pub gets : GetAnswers old before.book new after.book result
+  pub own : pair_items old ≢ [] → (after ≡ before) × IsOk result
 
 abbrev pub BalanceAnswers : PairState → Book → PairState → Book → Result Unit Stop → Type 0
 BalanceAnswers old before new after (Ok done) =

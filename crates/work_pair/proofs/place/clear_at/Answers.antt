@@ -7,7 +7,7 @@ use Rattle.work_pair.proofs.place.clear_at.Goals as goal
 pub shelve-requires : goal.shelve-requires
 shelve-requires g c =
     let stood = sym c.take.ensures.value ∙ c.in-Some.is in
-    let held = stands c.args.place.now c.in-Some.held c.args.worker.now.book stood c.requires.backed in
+    let held = stands stood c.requires.backed in
     record {
       pool = c.requires.pool;
       held = held.0;

@@ -3,20 +3,18 @@ use Rattle.std.proofs.Common.{◌≤◌, length, arith}
 use Rattle.work_pair.specs.PairState.{items_at}
 use Rattle.work_pair.proofs.Calls.{publish_renewed, some_items}
 use Rattle.work_pair.proofs.Renewing.{publish_nothing}
-use Rattle.work_pair.proofs.Spilling.{none_in}
+use Rattle.work_pair.proofs.Trading.{none_in}
 use Rattle.work_pair.proofs.place.publish_at.Goals as goal
 
 pub returns-then-len_at-eq0-clause-publishes : goal.returns-then-len_at-eq0-clause-publishes
 returns-then-len_at-eq0-clause-publishes g c =
     let place = c.args.place.now in
     let none : length (items_at place) ≤ 0 = omega (arith, c.if-len_at-eq0.true, c.len_at.ensures) in
-    publish_nothing c.args.worker.now c.args.pool.now place c.args.third.now c.requires (none_in (items_at place) none)
+    publish_nothing c.requires (none_in (items_at place) none)
 
 pub returns-in-Ok-clause-publishes : goal.returns-in-Ok-clause-publishes
 returns-in-Ok-clause-publishes g c =
-    let b = c.args.worker.now.book in
     let n = c.renew.new in
     let place = c.args.place.now in
-    publish_renewed b.setup.size place b n.place n.third n.worker.book c.in-Ok.field-0
-    (some_items (items_at place) (omega (arith, c.if-len_at-eq0.false, c.len_at.ensures)))
-    c.in-Ok.ensures.renews c.in-Ok.ensures.bare
+    publish_renewed place c.args.worker.now.book n.place n.third n.worker.book c.in-Ok.field-0
+    (some_items (items_at place) (omega (arith, c.if-len_at-eq0.false, c.len_at.ensures))) c.in-Ok.ensures.renews

@@ -5,8 +5,7 @@ use Rattle.work_pair.proofs.place.put_out.Goals as goal
 
 pub shelve-requires : goal.shelve-requires
 shelve-requires g c =
-    let held = stands c.args.place.now c.in-Some.held c.args.worker.now.book
-    (sym c.replace.ensures.value ∙ c.in-Some.is) c.requires.backed in
+    let held = stands (sym c.replace.ensures.value ∙ c.in-Some.is) c.requires.backed in
     record {
       pool = c.requires.same;
       held = held.0;

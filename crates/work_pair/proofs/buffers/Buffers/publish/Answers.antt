@@ -1,48 +1,34 @@
 -- The first place is renewed where it has objects, then the second, which the book still backs.
-use Rattle.std.proofs.Common.{[], ◌∙◌}
+use Rattle.std.proofs.Common.{refl, ◌∙◌}
 use Rattle.std.proofs.lemmas.Result.{err_from_is_err_and}
-use Rattle.work_pair.specs.working.Buffers.{places_of}
 use Rattle.work_pair.specs.working.Steps.{places}
-use Rattle.work_pair.proofs.Calls.{both_published, may_renew_first, none_at, publish_stopped, published_backed}
-use Rattle.work_pair.proofs.Calls.{published_busy}
+use Rattle.work_pair.proofs.Calls.{both_published, may_publish_second, may_renew_first, none_at, publish_stopped}
 use Rattle.work_pair.proofs.buffers.Buffers.publish.Goals as goal
 
 pub publish_at-requires : goal.publish_at-requires
-publish_at-requires g c =
-    may_renew_first (places_of c.args.self.now) c.args.worker.now c.args.pool.now [] c.requires
+publish_at-requires g c = may_renew_first c.requires
 
 pub returns-in_err-publish_at-clause-publishes : goal.returns-in_err-publish_at-clause-publishes
 returns-in_err-publish_at-clause-publishes g c =
-    let m = c.args.self.now in
+    let one = c.publish_at.new in
     let p = err_from_is_err_and c.from_residual.result c.from_residual.ensures.1 in
     rw (p.1, p.2)
-    (publish_stopped m.first m.second m.third c.publish_at.new.place c.publish_at.new.third c.args.worker.now.book
-    c.publish_at.new.worker.book c.requires.third c.requires.backed.sized c.in_err-publish_at.field-0.0
+    (publish_stopped c.requires one.place one.third one.worker.book c.in_err-publish_at.field-0.0
     c.in_err-publish_at.ensures.publishes)
 
 pub publish_at-requires-2 : goal.publish_at-requires-2
 publish_at-requires-2 g c =
-    let m = c.args.self.now in
-    let n = c.publish_at.new in
-    let b = c.args.worker.now.book in
-    let told = c.in_ok-publish_at.ensures.publishes in
-    record {
-      same = c.publish_at.ensures.pool ∙ c.requires.same;
-      vacant = told.1;
-      backed = published_backed m.first m.second m.third n.place n.third b n.worker.book c.requires.third
-          c.requires.backed.sized c.in_ok-publish_at.field-0 told c.requires.backed;
-      busy = published_busy m.first m.second m.third n.place n.third b n.worker.book c.requires.third
-          c.requires.backed.sized c.in_ok-publish_at.field-0 told c.requires.busy;
-    }
+    let one = c.publish_at.new in
+    may_publish_second c.requires one.place one.third one.worker.book c.in_ok-publish_at.field-0
+    c.in_ok-publish_at.ensures.publishes one.worker c.publish_at.ensures.pool refl
 
 pub returns-clause-publishes : goal.returns-clause-publishes
 returns-clause-publishes g c =
-    let m = c.args.self.now in
     let one = c.publish_at.new in
     let two = c.publish_at-2.new in
-    both_published m.first m.second m.third one.place one.third c.args.worker.now.book one.worker.book c.requires.third
-    c.requires.backed.sized c.in_ok-publish_at.field-0 c.in_ok-publish_at.ensures.publishes two.place two.third
-    two.worker.book c.publish_at-2.result c.publish_at-2.ensures.publishes
+    both_published c.requires one.place one.third one.worker.book c.in_ok-publish_at.field-0
+    c.in_ok-publish_at.ensures.publishes two.place two.third two.worker.book c.publish_at-2.result
+    c.publish_at-2.ensures.publishes
 
 pub returns-clause-nothing : goal.returns-clause-nothing
 returns-clause-nothing g c none =

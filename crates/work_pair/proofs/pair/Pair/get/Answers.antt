@@ -4,7 +4,7 @@ use Rattle.std.proofs.lemmas.List.{append-nil}
 use Rattle.work_pair.specs.PairState.{PairState}
 use Rattle.work_pair.proofs.Calls.{none_last}
 use Rattle.work_pair.proofs.Pairs.{get_stops, gets_told, got_told, may_trade, none_told, takes_last}
-use Rattle.work_pair.proofs.Spilling.{none_in}
+use Rattle.work_pair.proofs.Trading.{none_in}
 use Rattle.work_pair.proofs.pair.Pair.get.Goals as goal
 
 pub get-requires : goal.get-requires

@@ -1,10 +1,7 @@
 -- Two buffers that were popped are the pair. A single one is pushed back, and then the worker has what it had.
-use Rattle.std.proofs.Common.{Ok, None, Option, Some, sym, subst, ◌∙◌}
+use Rattle.std.proofs.Common.{Ok, None, Some, ◌∙◌}
 use Rattle.std.proofs.lemmas.Result.{err_from_is_err_and}
 use Rattle.mark_core.specs.declared.which.Which.TheVariants.{Empty}
-use Rattle.buffer_pool.specs.Calls.{HeldBuffer}
-use Rattle.work_pair.specs.PairState.{PairState, IsNew, empty_pair}
-use Rattle.work_pair.specs.Deals.{DealsQuietly, OpensTwo}
 use Rattle.work_pair.specs.working.Steps.{PopsOne}
 use Rattle.work_pair.proofs.Opening.{back_backed, back_busy, back_stopped, both_taken, first_missing, first_stopped}
 use Rattle.work_pair.proofs.Opening.{first_unfound, gave_back, given_back, one_busy, opens_two, second_stopped}
@@ -15,23 +12,17 @@ use Rattle.work_pair.proofs.pair.Pair.open.Goals as goal
 -- what the first pop told, and what the second
 missing_first :
     (g : given.Over) (c : In_default g) → PopsOne Empty c.args.worker.now.book c.pop_one.new.worker.book (Ok None)
-missing_first g c =
-    subst (λ (r : Option HeldBuffer). PopsOne Empty c.args.worker.now.book c.pop_one.new.worker.book (Ok r))
-    c.in_default.is c.in_ok-first.ensures.pops
+missing_first g c = rw c.in_default.is at c.in_ok-first.ensures.pops
 
 took_first :
     (g : given.Over) (c : In-Some g)
     → PopsOne Empty c.args.worker.now.book c.pop_one.new.worker.book (Ok (Some c.in-Some.first))
-took_first g c =
-    subst (λ (r : Option HeldBuffer). PopsOne Empty c.args.worker.now.book c.pop_one.new.worker.book (Ok r))
-    c.in-Some.is c.in_ok-first.ensures.pops
+took_first g c = rw c.in-Some.is at c.in_ok-first.ensures.pops
 
 missing_second :
     (g : given.Over) (c : In_default-2 g)
     → PopsOne Empty c.pop_one.new.worker.book c.pop_one-2.new.worker.book (Ok None)
-missing_second g c =
-    subst (λ (r : Option HeldBuffer). PopsOne Empty c.pop_one.new.worker.book c.pop_one-2.new.worker.book (Ok r))
-    c.in_default-2.is c.in_ok-second.ensures.pops
+missing_second g c = rw c.in_default-2.is at c.in_ok-second.ensures.pops
 
 pub returns-in_err-first-clause-spent : goal.returns-in_err-first-clause-spent
 returns-in_err-first-clause-spent g c =
@@ -64,23 +55,17 @@ returns-in_err-second-clause-spent g c =
 
 pub returns-in-Some-2-clause-opened : goal.returns-in-Some-2-clause-opened
 returns-in-Some-2-clause-opened g c =
-    let b = c.args.worker.now.book in
-    let mid = c.pop_one.new.worker.book in
-    let last = c.pop_one-2.new.worker.book in
-    subst (λ (p : PairState). IsNew p × DealsQuietly empty_pair b p last) (sym c.of.ensures)
-    (both_taken b c.in-Some.first mid (took_first g (goal.at.returns-in-Some-2-clause-opened g c).In-Some)
-    c.in-Some-2.second last
-    (subst (λ (r : Option HeldBuffer). PopsOne Empty mid last (Ok r)) c.in-Some-2.is c.in_ok-second.ensures.pops))
+    rw c.of.ensures
+    (both_taken c.args.worker.now.book c.in-Some.first c.pop_one.new.worker.book
+    (took_first g (goal.at.returns-in-Some-2-clause-opened g c).In-Some) c.in-Some-2.second c.pop_one-2.new.worker.book
+    (rw c.in-Some-2.is at c.in_ok-second.ensures.pops))
 
 pub returns-in-Some-2-clause-two : goal.returns-in-Some-2-clause-two
 returns-in-Some-2-clause-two g c =
-    let b = c.args.worker.now.book in
-    let mid = c.pop_one.new.worker.book in
-    let last = c.pop_one-2.new.worker.book in
-    subst (λ (p : PairState). OpensTwo b p last) (sym c.of.ensures)
-    (opens_two b c.in-Some.first mid (took_first g (goal.at.returns-in-Some-2-clause-two g c).In-Some)
-    c.in-Some-2.second last
-    (subst (λ (r : Option HeldBuffer). PopsOne Empty mid last (Ok r)) c.in-Some-2.is c.in_ok-second.ensures.pops))
+    rw c.of.ensures
+    (opens_two c.args.worker.now.book c.in-Some.first c.pop_one.new.worker.book
+    (took_first g (goal.at.returns-in-Some-2-clause-two g c).In-Some) c.in-Some-2.second c.pop_one-2.new.worker.book
+    (rw c.in-Some-2.is at c.in_ok-second.ensures.pops))
 
 pub clear_at-requires : goal.clear_at-requires
 clear_at-requires g c =
