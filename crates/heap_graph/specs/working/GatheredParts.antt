@@ -1,6 +1,6 @@
 -- What is gathered from objects part by part.
-use Rattle.std.specs.Prelude.{IfOk, List, MatchOption, Option, Result, length, map, take, ◌++◌, ◌+◌, ◌<◌, ◌^◌, ◌≡◌, ◌≢◌, ◌≤◌}
-use Rattle.std.specs.Prelude.{ℕ}
+use Rattle.std.specs.Prelude.{IfOk, List, MatchOption, Option, Result, length, map, take, ◌++◌, ◌+◌, ◌<◌, ◌^◌, ◌≡◌}
+use Rattle.std.specs.Prelude.{◌≢◌, ◌≤◌, ℕ}
 use Rattle.std.specs.declared.alloc.AllocError.{AllocError}
 use Rattle.hprof_grammar.specs.Dump.{id_of}
 use Rattle.hprof_grammar.specs.Standing.{Sight, StandInTurn, Stands}

@@ -99,10 +99,9 @@ fn gather_part<B: Allocator + Copy>(
     Ok(Some(gathered))
 }
 
-/// What the objects at these places give, if all their identifiers have those lowest bits. Where there are many they
-/// are gathered in as many parts as the team has threads, and these are joined in order. Memory can be missing for one
-/// part beside the others, where there is enough for all in one.
-pub(crate) fn gather<T: Threads + Sync, B: Allocator + Copy + Send + Sync>(
+/// What the objects at these places give, if all their identifiers have those lowest bits. They are gathered in as many
+/// parts as the team has threads, and these are joined in order.
+fn gather_in_parts<T: Threads + Sync, B: Allocator + Copy + Send + Sync>(
     team: &Team<'_, T>,
     alloc: B,
     view: &View<'_>,
@@ -112,9 +111,6 @@ pub(crate) fn gather<T: Threads + Sync, B: Allocator + Copy + Send + Sync>(
     requires { MayGather view.now places.now bits 0 places.now }
     ensures { IsGathering view.now places.now bits 0 places.now result }
 {
-    if !team.shares(places.len()) {
-        return gather_part(alloc, view, places, 0, places, bits);
-    }
     let size = team.part_of(places.len());
     let gather = |start: usize, part: &[u32]| -> Result<Option<Gathered<B>>, AllocError>
         requires { MayGather view.now places.now bits start part.now }
@@ -129,4 +125,24 @@ pub(crate) fn gather<T: Threads + Sync, B: Allocator + Copy + Send + Sync>(
         }
     }
     Ok(Some(all))
+}
+
+/// What the objects at these places give, if all their identifiers have those lowest bits: where there are many they
+/// are gathered in parts, and in one part also where there is no memory for several.
+pub(crate) fn gather<T: Threads + Sync, B: Allocator + Copy + Send + Sync>(
+    team: &Team<'_, T>,
+    alloc: B,
+    view: &View<'_>,
+    places: &[u32],
+    bits: LowBits,
+) -> Result<Option<Gathered<B>>, AllocError>
+    requires { MayGather view.now places.now bits 0 places.now }
+    ensures { IsGathering view.now places.now bits 0 places.now result }
+{
+    if team.shares(places.len()) {
+        if let Ok(gathered) = gather_in_parts(team, alloc, view, places, bits) {
+            return Ok(gathered);
+        }
+    }
+    gather_part(alloc, view, places, 0, places, bits)
 }

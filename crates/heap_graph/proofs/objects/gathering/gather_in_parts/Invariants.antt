@@ -3,7 +3,7 @@ use Rattle.std.proofs.Common.{length, min, ℕ, ◌%◌, ◌*◌, ◌+◌, ◌/�
 use Rattle.std.specs.Vec.Iter.{into_iter_items, into_iter_len}
 use Rattle.heap_graph.specs.working.GatheredParts.{HasGathered}
 use Rattle.heap_graph.proofs.Gathering.{AreLeft}
-use Rattle.heap_graph.proofs.objects.gathering.gather.Given as goal
+use Rattle.heap_graph.proofs.objects.gathering.gather_in_parts.Given as goal
 
 abbrev pub invariant-loop-part : goal.invariant-loop-part
 invariant-loop-part g l =
