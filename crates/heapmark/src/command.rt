@@ -296,6 +296,6 @@ fn open<T: Files>(rt: &T, name: &str) -> io::Result<Counted<T::File>>
 
 /// How many bytes room is wanted for, for a file of this size: one more, so that the last read finds the end. The file
 /// may change.
-fn expected_size(size: u64) -> usize {
+pub(crate) fn expected_size(size: u64) -> usize {
     usize::try_from(size).unwrap_or(0).saturating_add(1)
 }

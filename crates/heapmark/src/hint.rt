@@ -9,14 +9,14 @@ ghost use Rattle.heapmark.specs.working.Hint.{HasHint};
 ghost use Rattle.heapmark.specs.working.NoReport.{HasTooFewBuffers};
 
 use crate::refusal::Refusal;
+use crate::reopened::open_again;
 use crate::shown::Shown;
 use beginning::{Beginning, Packer, Version};
 use command_line::Arguments;
 use records::record_end;
-use std::fs::OpenFile;
 use std::io::{Read, Write};
 use std::rt::Files;
-use std::{fmt, fs, io};
+use std::{fmt, io};
 
 /// What can be done about a refusal.
 #[derive(Clone, Copy)]
@@ -141,15 +141,6 @@ fn is_in_last_record<T: Files>(
         Ok(mut file) => record_end(&mut file, place) == Some(length),
         Err(_) => false,
     }
-}
-
-/// Opens a file that the run has read, only where it is a plain one: what a pipe gave is gone, and to open a named one
-/// would wait for its writer.
-fn open_again<T: Files>(rt: &T, name: &str) -> io::Result<T::File> {
-    if !fs::metadata(rt, name)?.is_file() {
-        return Err(io::Error::from(io::ErrorKind::Unsupported));
-    }
-    fs::open(rt, name)
 }
 
 /// The least number of buffers for so many workers: two for each, and two more.

@@ -2,7 +2,8 @@
 //!
 //! `run`, in `pipeline.rt`, is all that is promised: it reads the bytes, builds the graph, marks it, and writes the
 //! report, or answers why it does not. `program`, in `command.rt`, gives it the file and the options of the words, and
-//! makes the exit status of its answer; `main` is one line over `start`, below.
+//! makes the exit status of its answer; `main` is one line over `process`, below, which is `start` and, at a terminal, a
+//! look at the fields that were not to be followed.
 //!
 //! The headline stands in `specs/Headline.antt`, the refusals in `specs/RunRefusals.antt`; README.md at the top says
 //! both in words, and `docs/ARCHITECTURE.md` where everything else is.
@@ -19,8 +20,10 @@ mod laws;
 mod no_report;
 mod pipeline;
 mod refusal;
+mod reopened;
 mod shown;
 mod status;
+mod unmet_skips;
 
 pub use command::program;
 pub use command_line::{Arguments, arguments};
@@ -42,10 +45,38 @@ use std::rt::{Env, Files};
 use std::sync::Wait;
 use std::thread::Threads;
 use std::{env, io};
+use unmet_skips::tell_unmet_skips;
 
 fn main(rt: HostRuntime) -> ExitCode {
     let mut out = Counted::new(rt.stdout());
-    ExitCode::from(start(&rt, &rt, &mut out, &mut rt.stderr()))
+    ExitCode::from(process(&rt, &rt, &mut out, &mut rt.stderr()))
+}
+
+/// All that the process does, and its exit status: that of `start`. Behind a report, where people read standard error,
+/// they are told of fields to be skipped that the dump does not have; so no clause is promised here.
+fn process<T, V, W, E>(rt: &T, line: &V, out: &mut Counted<W>, err: &mut E) -> u8
+where
+    T: Files + AllocGlobal + Threads + Wait + Sync,
+    V: Env,
+    W: Write,
+    E: Write + IsTerminal,
+    requires { failures_of out.old < 2 ^ 64 - 1 }
+{
+    let status = start(rt, line, out, err);
+    if status == status::DONE && err.is_terminal() {
+        look_again(rt, line, err);
+    }
+    status
+}
+
+/// Tells what is to be told behind a report. Where the words cannot be read once more, that is nothing.
+fn look_again<T: Files + AllocGlobal, V: Env, E: Write>(rt: &T, line: &V, err: &mut E) {
+    let Ok(args) = args_of(line, rt.alloc()) else {
+        return;
+    };
+    if let Ok(words) = words_of(&args, rt.alloc()) {
+        tell_unmet_skips(rt, words.as_slice(), err);
+    }
 }
 
 /// Hands the words of the command line to the program, and answers the exit status. No contract knows these words, so
@@ -75,11 +106,7 @@ where
         Err(fault) if fault.kind() == ErrorKind::InvalidData => return refuse_bytes(err),
         Err(_) => return refused(err, &Refusal::OUT_OF_MEMORY),
     };
-    let words: Result<Vec<&str>, AllocError> = args
-        .iter()
-        .map(|arg| arg.as_str())
-        .collect(rt.alloc());
-    match words {
+    match words_of(&args, rt.alloc()) {
         Ok(words) if err.is_terminal() => program_at_terminal(rt, words.as_slice(), out, err),
         Ok(words) => program(rt, words.as_slice(), out, err),
         Err(_) => refused(err, &Refusal::OUT_OF_MEMORY),
@@ -89,4 +116,9 @@ where
 /// The words of the command line, as text: `InvalidData` where one is not, and else a fault is want of memory.
 fn args_of<V: Env>(line: &V, alloc: Global) -> io::Result<Vec<String>> {
     Ok(env::args(&(line, alloc))?.collect(alloc)?)
+}
+
+/// The words that these texts are.
+fn words_of(args: &[String], alloc: Global) -> Result<Vec<&str>, AllocError> {
+    args.iter().map(|arg| arg.as_str()).collect(alloc)
 }

@@ -109,7 +109,7 @@ where
 }
 
 /// The bytes of a run: all that the reader gives, but no more than one byte above the largest dump.
-fn read_bytes<A: Allocator, R: Read>(
+pub(crate) fn read_bytes<A: Allocator, R: Read>(
     alloc: A,
     reader: &mut Counted<R>,
 ) -> Result<Vec<u8, A>, Refusal>

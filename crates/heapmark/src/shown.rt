@@ -1,9 +1,9 @@
-//! How a file's name is shown.
+//! How a word of the command line is shown.
 
 use std::fmt;
 
-/// A file's name as it is shown to people: each byte of a control character, which a terminal would obey, as `\x` and
-/// two hexadecimal digits, and all else as it is.
+/// A file's name, or another word, as it is shown to people: each byte of a control character, which a terminal would
+/// obey, as `\x` and two hexadecimal digits, and all else as it is.
 #[derive(Clone, Copy, Debug, PartialEq, Eq)]
 pub(crate) struct Shown<'a>(pub(crate) &'a str);
 

@@ -2,7 +2,7 @@
 
 use super::dumps::{Sample, TWO_OBJECTS_REPORT};
 use super::program::{Asked, answered_on};
-use crate::{Counted, start};
+use crate::{Counted, process, start};
 use std::alloc::{AllocError, Global};
 use std::env::{Env, FillError};
 use std::io;
@@ -150,6 +150,31 @@ pub fn reported<T: AllocGlobal + Files + Threads + Wait + Sync>(
         Ok(words) => reported_of(rt, words.as_slice(), is_terminal, report),
         Err(_) => (u8::MAX, false),
     }
+}
+
+/// The status of the whole process for words that are text, and whether this is all that it prints on the output, and
+/// this on standard error.
+pub fn processed<T: AllocGlobal + Files + Threads + Wait + Sync>(
+    rt: &T,
+    words: &[&str],
+    is_terminal: bool,
+    report: &str,
+    told: &str,
+) -> (u8, bool, bool) {
+    let mut out = Counted::new(Vec::new(rt.alloc()));
+    let mut err = Screen {
+        shown: Vec::new(rt.alloc()),
+        is_terminal,
+    };
+    let Ok(words) = bytes_of(rt.alloc(), words) else {
+        return (u8::MAX, false, false);
+    };
+    let line = Words {
+        words: words.as_slice(),
+    };
+    let status = process(rt, &line, &mut out, &mut err);
+    let is_reported = out.into_inner().as_slice() == report.as_bytes();
+    (status, is_reported, err.shown.as_slice() == told.as_bytes())
 }
 
 /// A line behind the program's name, its status, and what is printed on the output.

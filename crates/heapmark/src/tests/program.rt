@@ -3,7 +3,7 @@
 use super::dumps::Record::Heap;
 use super::dumps::Sub::Raw;
 use super::dumps::{Record, Sample, TWO_OBJECTS_REPORT};
-use super::process::reported;
+use super::process::{processed, reported};
 use crate::command::program_at_terminal;
 use crate::{Counted, program};
 use std::alloc::{AllocError, Global};
@@ -63,6 +63,8 @@ pub enum Asked<'a> {
     Unheard,
     /// The process, whose standard error is a terminal or not: whether the output is this.
     Process(bool, &'a str),
+    /// The process with what it tells behind a report: whether the output is this, and standard error this.
+    Whole(bool, &'a str, &'a str),
 }
 
 /// What the program answers for these words: its status, and whether output and standard error are as it is asked.
@@ -86,6 +88,13 @@ fn told<T: Files + AllocGlobal + Threads + Wait + Sync>(
             let (status, is_reported) = reported(rt, words, is_terminal, report);
             (status, is_reported, true)
         }
+        Asked::Whole(is_terminal, report, lines) => processed(
+            rt,
+            words,
+            is_terminal,
+            report,
+            lines,
+        ),
     }
 }
 

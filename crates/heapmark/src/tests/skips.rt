@@ -1,6 +1,7 @@
 //! Fields that are not followed, with 1, 2 and 64 workers, and texts that list no fields.
 
 mod names;
+mod unmet;
 
 use super::dumps::Record::{Heap, Load, Text};
 use super::dumps::Sub::{Class, Instance, Root};

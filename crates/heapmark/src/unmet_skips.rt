@@ -1,0 +1,64 @@
+//! What people are told of entries of `--skip` that name no field of the dump.
+//!
+//! Such an entry changes neither the report nor the status, so it is told behind the report, where people read standard
+//! error, and nowhere else. The file is read once more for it. No clause speaks of these lines: those of `start` end
+//! with the report.
+
+use crate::command::expected_size;
+use crate::pipeline::read_bytes;
+use crate::reopened::open_again;
+use crate::shown::Shown;
+use command_line::arguments;
+use heap_graph::Skip;
+use histogram::Counted;
+use hprof_grammar::read;
+use std::fs::OpenFile;
+use std::io::Write;
+use std::rt::Files;
+
+/// Prints a line for each entry of the words' list whose field no class of the dump declares. Where the list, the file
+/// or the dump cannot be read nothing is told, as where there is no list.
+pub(crate) fn tell_unmet_skips<T: Files + AllocGlobal, E: Write>(
+    rt: &T,
+    words: &[&str],
+    err: &mut E,
+) {
+    let Ok(arguments) = arguments(rt.alloc(), words) else {
+        return;
+    };
+    let Some(list) = arguments.skip else {
+        return;
+    };
+    if let Some(met) = met_in_file(rt, arguments.file, list) {
+        tell_unmet(err, list, &met);
+    }
+}
+
+/// Of each entry of a list, whether it names a field of the dump in this file, where that can be known.
+fn met_in_file<T: Files + AllocGlobal>(rt: &T, file: &str, list: &str) -> Option<Vec<bool>> {
+    let skip = Skip::new(rt.alloc(), list).ok()?;
+    let bytes = bytes_again(rt, file)?;
+    let dump = read(rt.alloc(), bytes.as_slice()).ok()?;
+    skip.met(rt.alloc(), bytes.as_slice(), &dump).ok()
+}
+
+/// The bytes of a file that the run has read.
+fn bytes_again<T: Files + AllocGlobal>(rt: &T, file: &str) -> Option<Vec<u8>> {
+    let file = open_again(rt, file).ok()?;
+    let size = file.metadata().ok()?.len();
+    let mut reader = Counted::of_size(file, expected_size(size));
+    read_bytes(rt.alloc(), &mut reader).ok()
+}
+
+/// Prints a line for each entry of a list that is not met. Entries have commas between, and none within.
+fn tell_unmet<E: Write>(err: &mut E, list: &str, met: &[bool]) {
+    for (entry, is_met) in list.split(',').zip(met) {
+        if !*is_met {
+            let entry = Shown(entry);
+            let _ = writeln!(
+                err,
+                "heapmark: --skip {entry}: no class of the dump declares this field"
+            );
+        }
+    }
+}
