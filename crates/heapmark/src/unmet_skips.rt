@@ -11,14 +11,15 @@ use crate::shown::Shown;
 use command_line::arguments;
 use heap_graph::Skip;
 use histogram::Counted;
-use hprof_grammar::read;
+use hprof_grammar::{Team, read};
 use std::fs::OpenFile;
 use std::io::Write;
 use std::rt::Files;
+use std::thread::Threads;
 
 /// Prints a line for each entry of the words' list whose field no class of the dump declares. Where the list, the file
 /// or the dump cannot be read nothing is told, as where there is no list.
-pub(crate) fn tell_unmet_skips<T: Files + AllocGlobal, E: Write>(
+pub(crate) fn tell_unmet_skips<T: Files + AllocGlobal + Threads + Sync, E: Write>(
     rt: &T,
     words: &[&str],
     err: &mut E,
@@ -35,10 +36,14 @@ pub(crate) fn tell_unmet_skips<T: Files + AllocGlobal, E: Write>(
 }
 
 /// Of each entry of a list, whether it names a field of the dump in this file, where that can be known.
-fn met_in_file<T: Files + AllocGlobal>(rt: &T, file: &str, list: &str) -> Option<Vec<bool>> {
+fn met_in_file<T: Files + AllocGlobal + Threads + Sync>(
+    rt: &T,
+    file: &str,
+    list: &str,
+) -> Option<Vec<bool>> {
     let skip = Skip::new(rt.alloc(), list).ok()?;
     let bytes = bytes_again(rt, file)?;
-    let dump = read(rt.alloc(), bytes.as_slice()).ok()?;
+    let dump = read(&Team::new(rt, 1), rt.alloc(), bytes.as_slice()).ok()?;
     skip.met(rt.alloc(), bytes.as_slice(), &dump).ok()
 }
 
