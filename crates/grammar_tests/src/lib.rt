@@ -3,8 +3,8 @@
 //!
 //! `worked_file` has the worked dump of 174 bytes with its places and its faults, `format_tables` each tag and type
 //! code and each order of records, `fields` each field of a dump that has one part of every kind (`dumps`), `parts` a
-//! dump that threads read in parts, and `refusals` how a refusal is shown. `proofs/WorkedFile.antt` sees by computation that the worked dump is one by the
-//! definitions.
+//! dump that threads read in parts, and `refusals` how a refusal is shown. `proofs/WorkedFile.antt` sees by computation
+//! that the worked dump is one by the definitions.
 
 #![tactic(auto)]
 

@@ -151,7 +151,7 @@ fn where_one_is_refused<T: Threads + Sync>(
     (is_right_or_told(team, &heap), heap.refusals() == 0)
 }
 
-/// Each request is refused in turn: with all behind it, and alone. With a team that shares the file it is read in parts.
+/// Each request is refused in turn: with all behind it, and alone. A team that shares the file reads it in parts.
 #[test]
 fn memory_refused_in_turn(rt: HostRuntime) {
     for fewest in [u32::MAX, 0] {

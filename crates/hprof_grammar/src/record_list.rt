@@ -50,9 +50,9 @@ fn note_record<A: Allocator>(
     Ok(next)
 }
 
-/// Notes the records that these bytes are, of which the first stands at a place, behind records that have made `order` of
-/// the snapshot, and answers what has come of it with them. A fault is told for the records behind the header: those of
-/// other bytes may have one that is not the first of the dump.
+/// Notes the records that these bytes are, of which the first stands at a place, behind records with which `order` has
+/// come of the snapshot, and answers what has come of it with them too. A fault is said to be the first where they are
+/// those behind the header.
 pub fn note_records<A: Allocator>(
     dump: &mut Dump<A>,
     order: Order,

@@ -7,8 +7,10 @@ use Rattle.hprof_grammar.proofs.cuts.behind_record.Goals as goal
 
 pub returns : goal.returns
 returns c =
-    let text = c.args.bytes.now in
+    let rest = c.new-reader.result.rest.now in
     let behind = c.next_frame.new.reader.rest.now in
-    let frame = frame_takes c.new-reader.result.rest.now ((c.in-Ok.frame.tag, c.in-Ok.frame.time, c.in-Ok.frame.body.now), behind)
-    (subst IsBytes (sym c.new-reader.ensures) (in_bytes text c.type_inv.bytes)) c.in-Ok.ensures in
-    omega (arith, frame_room _ c.in-Ok.frame.tag c.in-Ok.frame.time c.in-Ok.frame.body.now behind frame, ap length c.new-reader.ensures)
+    let found = c.in-Ok.frame in
+    let bytes = subst IsBytes (sym c.new-reader.ensures) (in_bytes c.args.bytes.now c.type_inv.bytes) in
+    let frame = frame_takes rest ((found.tag, found.time, found.body.now), behind) bytes c.in-Ok.ensures in
+    let room = frame_room rest found.tag found.time found.body.now behind frame in
+    omega (arith, room, ap length c.new-reader.ensures)

@@ -90,5 +90,5 @@ loop-reader-preserved g c =
     c.in-Ok.ensures in
     records_step c.args.bytes.now rest behind c.loop-reader.order c.in_ok-order.order c.args.dump.now
     c.loop-reader.dump c.note_record.new.dump
-    (c.args.at + (length c.args.bytes.now - length rest)) c.in-Ok.frame.tag c.in-Ok.frame.time c.in-Ok.frame.body.now adds
-    frame refl (c.in_ok-order.ensures.adds c.in-Ok.frame.time)
+    (c.args.at + (length c.args.bytes.now - length rest)) c.in-Ok.frame.tag c.in-Ok.frame.time c.in-Ok.frame.body.now
+    adds frame refl (c.in_ok-order.ensures.adds c.in-Ok.frame.time)
