@@ -17,7 +17,7 @@ pub(crate) const FILE: &str = "\
 A heap dump of at most 1 GiB and 16,777,216 objects (HPROF binary,
 JAVA PROFILE 1.0.2), as `jcmd PID GC.heap_dump FILE` writes it";
 
-pub(crate) const WORKERS: &str = "Threads that mark, 1 to 64";
+pub(crate) const WORKERS: &str = "Threads, 1 to 64";
 
 pub(crate) const BUFFER: &str = "Objects in one work buffer, 2 to 4096";
 

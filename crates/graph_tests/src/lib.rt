@@ -4,8 +4,8 @@
 //! `worked` has dumps with the graphs that they have to give, `skipped` those of which some fields are not followed,
 //! `chains` and `faults` dumps that are not linked, with the first fault of each, `parts` large ones. `graphs` asks a
 //! graph all that it tells, `walks` what is left of a walk, `memory` refuses each request in turn. `skips` holds
-//! the texts that are lists of fields (`refused` refuses their requests), `texts` how a refusal is shown, `sizes` how
-//! large a visit is.
+//! the texts that are lists of fields, `met` which of their entries a dump meets (`refused` refuses the requests of
+//! both), `texts` how a refusal is shown, `sizes` how large a visit is.
 
 #![tactic(auto)]
 
@@ -17,6 +17,8 @@ mod faults;
 mod graphs;
 #[cfg(test)]
 mod memory;
+#[cfg(test)]
+mod met;
 #[cfg(test)]
 mod parts;
 #[cfg(test)]

@@ -13,7 +13,7 @@ Arguments:
           JAVA PROFILE 1.0.2), as `jcmd PID GC.heap_dump FILE` writes it
 
 Options:
-      --workers <N>    Threads that mark, 1 to 64 [default: 4]
+      --workers <N>    Threads, 1 to 64 [default: 4]
       --buffer <N>     Objects in one work buffer, 2 to 4096 [default: 256]
       --buffers <N>    Work buffers, 4 to 65534, and at least two for each
                        worker and two more [default: 1024]

@@ -1,0 +1,120 @@
+//! Which entries of a list name a field of a dump, and that each request for memory may be refused.
+
+use crate::refused::{Call, requests_of};
+use heap_graph::Skip;
+use hprof_grammar::read;
+use limited_heap::LimitedHeap;
+use std::alloc::Global;
+use test_dumps::Record::{Heap, Load, Text};
+use test_dumps::Sub::{Instance, Named, Root, Static};
+use test_dumps::{Bytes, Record};
+
+/// A class `S` and below it two of the name `T`; a class `V` with a static field `f`; a class that is loaded again as
+/// `U`, with a second string for its field's name; one that is not loaded; and one whose string is missing.
+const CLASSES: &[Record] = &[
+    Text(1, b"S"),
+    Text(2, b"f"),
+    Text(3, b"T"),
+    Text(4, b"count"),
+    Text(5, b"next"),
+    Text(6, b"V"),
+    Text(7, b"W"),
+    Text(8, b"U"),
+    Text(5, b"last"),
+    Load(0x100, 1),
+    Load(0x110, 3),
+    Load(0x120, 3),
+    Load(0x130, 6),
+    Load(0x140, 7),
+    Load(0x140, 8),
+    Load(0x160, 99),
+    Heap(&[
+        Named(0x100, 0, &[(2, 2)]),
+        Named(0x110, 0x100, &[(4, 10)]),
+        Instance(0x201, 0x110, &[0, 0, 0, 7, 0, 0, 2, 1]),
+        Named(0x120, 0x100, &[(99, 2), (5, 2)]),
+        Static(0x130, 2, &[0, 0, 0, 0]),
+        Named(0x140, 0, &[(5, 2)]),
+        Named(0x150, 0, &[(2, 2)]),
+        Named(0x160, 0, &[(2, 2)]),
+        Root(0x201),
+    ]),
+];
+
+/// Lists, and which of their entries are met.
+static LISTS: [(&str, &[bool]); 7] = [
+    ("S.f", &[true]),
+    ("S.f,T.count,T.next", &[true, true, true]),
+    ("T.f,T.count,S.count", &[false, true, false]),
+    ("V.f,W.next,W.last,U.next", &[false, true, false, false]),
+    (
+        "X.f,S.g,S.ff,SS.f,s.f",
+        &[false, false, false, false, false],
+    ),
+    ("f.S,T.T,f.f", &[false, false, false]),
+    ("T.count,T.f,T.count", &[true, false, true]),
+];
+
+/// Whether these entries are met by the dump of these bytes.
+fn is_met(alloc: Global, bytes: &[u8], list: &str, want: &[bool]) -> bool {
+    let (Ok(skip), Ok(dump)) = (Skip::new(alloc, list), read(alloc, bytes)) else {
+        return false;
+    };
+    match skip.met(alloc, bytes, &dump) {
+        Ok(met) => met.as_slice() == want,
+        Err(_) => false,
+    }
+}
+
+/// Whether they are met by these classes.
+fn is_met_by_classes(alloc: Global, list: &str, want: &[bool]) -> bool {
+    match Bytes::dump(alloc, 4, CLASSES) {
+        Ok(dump) => is_met(alloc, dump.bytes.as_slice(), list, want),
+        Err(_) => false,
+    }
+}
+
+#[test]
+fn entries_are_met(rt: HostRuntime) {
+    for (list, want) in &LISTS {
+        assert!(rt; is_met_by_classes(rt.alloc(), list, want), "{list}");
+    }
+}
+
+/// Reads a dump, and asks which entries of a list it meets.
+#[derive(Drop)]
+struct Asking<'a> {
+    skip: &'a Skip<'a, Global>,
+    bytes: &'a [u8],
+    want: &'a [bool],
+}
+
+impl Call for Asking<'_> {
+    fn is_right(&self, heap: &LimitedHeap<Global>) -> bool {
+        let Ok(dump) = read(heap, self.bytes) else {
+            return heap.refusals() > 0;
+        };
+        match self.skip.met(heap, self.bytes, &dump) {
+            Ok(met) => met.as_slice() == self.want,
+            Err(_) => heap.refusals() > 0,
+        }
+    }
+}
+
+/// How many requests that takes of the classes, where each of them was refused before.
+fn requests_to_ask(alloc: Global, list: &str, want: &[bool]) -> Option<u64> {
+    let skip = Skip::new(alloc, list).ok()?;
+    let dump = Bytes::dump(alloc, 4, CLASSES).ok()?;
+    let asking = Asking {
+        skip: &skip,
+        bytes: dump.bytes.as_slice(),
+        want,
+    };
+    requests_of(alloc, &asking)
+}
+
+#[test]
+fn memory_refused_while_entries_are_met(rt: HostRuntime) {
+    let requests = requests_to_ask(rt.alloc(), "T.count,T.f", &[true, false]);
+    assert!(rt; requests.is_some());
+}
