@@ -2,11 +2,11 @@
 use Rattle.std.proofs.Common.{◌≡◌, ◌≢◌, ◌⊎◌, ◌↔◌, ℕ, suc, ◌+◌, ◌-◌, ◌*◌, ◌/◌, ◌%◌, ◌^◌, ◌<◌, ◌≤◌, ◌==◌, max, IsTrue}
 use Rattle.std.proofs.Common.{Bool, true, false, nat_lt, if◌then◌else◌, bit_and, bit_or, ap, sym, refl, ◌∙◌, inl, inr}
 use Rattle.std.proofs.Common.{⊎_elim, eq-eqb, eqb-true, lt-ltb, le-ltb, pow_pos, pow_mono, pow-add, shr-shr}
-use Rattle.std.proofs.Common.{mod-eq_of_lt, mul-le-mul_right, suc-mul, arith}
+use Rattle.std.proofs.Common.{mod-eq_of_lt, mul-le-mul_right, suc-mul, w64, arith}
 use Rattle.std.proofs.lemmas.Bool.{cases_lt}
 use Rattle.std.proofs.lemmas.Nat.Bits.{bit_at_or, bit_at_cat_low, bit_at_cat_high, bit_at_above, bit_at-zero}
-use Rattle.std.proofs.lemmas.Nat.Bits.{bit_at_ones, shr_and_one}
-use Rattle.std.specs.Int.{bit_at}
+use Rattle.std.proofs.lemmas.Nat.Bits.{bit_at-lt, bit_at_not, shr_and_one}
+use Rattle.std.specs.Int.{bit_at, bit_not}
 use native.Mathlib.Decide.{ℕ_discrete}
 use Rattle.buffer_pool.specs.working.MarkBits.{cut_marks, mark_of, pair_mark}
 
@@ -145,7 +145,58 @@ cut_white objects f o h = go (nat_lt o objects)
     go true = h
     go false = refl
 
--- a word of ones has finished marks
-pub finished_pair : (j : ℕ) → j < 32 → pair_mark (2 ^ 64 - 1) j ≡ 2
-finished_pair j low =
-    omega (arith, bit_at_ones 64 (2 * j) (omega (arith, low)), bit_at_ones 64 (2 * j + 1) (omega (arith, low)))
+-- the bits of a word that are not set, from a pair on
+abbrev pub unset_from : ℕ → ℕ → ℕ
+unset_from w j = bit_not w64 w / 2 ^ (2 * j)
+
+module _ (w j : ℕ) where
+  unset_bit : (i : ℕ) → bit_at (unset_from w j) i ≡ bit_at (bit_not w64 w) (2 * j + i)
+  unset_bit i = ap (λ x. x % 2) (shr-shr (bit_not w64 w) (2 * j) i)
+
+  pub unset_below : (i : ℕ) → bit_at (unset_from w j) i ≡ 1 → 2 * j + i < 64
+  unset_below i is = ⊎_elim
+      (λ below. below)
+      (λ past.
+      let none = bit_at_above (bit_not w64 w) 64 (2 * j + i) (omega arith) past in
+      absurd (omega (arith, is, unset_bit i, none)))
+      (cases_lt (2 * j + i) 64)
+
+module _ (w j : ℕ) (fits : w < 2 ^ 64) where
+  unset_in_word : (i : ℕ) → 2 * j + i < 64 → bit_at (unset_from w j) i ≡ 1 - bit_at w (2 * j + i)
+  unset_in_word i below = unset_bit w j i ∙ bit_at_not w64 w (2 * j + i) fits below
+
+  -- a pair of which both bits are set is finished, and one of which a bit is not set is not
+  pub pair_finished :
+      (k : ℕ) → j ≤ k → k < 32 → bit_at (unset_from w j) (2 * (k - j)) ≡ 0
+      → bit_at (unset_from w j) (2 * (k - j) + 1) ≡ 0 → pair_mark w k ≡ 2
+  pair_finished k from below low high =
+      let a : 2 * j + 2 * (k - j) ≡ 2 * k = omega (arith, from) in
+      let b : 2 * j + (2 * (k - j) + 1) ≡ 2 * k + 1 = omega (arith, from) in
+      let unset_low = unset_in_word (2 * (k - j)) (omega (arith, from, below)) in
+      let unset_high = unset_in_word (2 * (k - j) + 1) (omega (arith, from, below)) in
+      let one_low : bit_at w (2 * k) ≡ 1 =
+      omega (arith, low, unset_low, ap (bit_at w) a, bit_at-lt w (2 * k))
+      in
+      let one_high : bit_at w (2 * k + 1) ≡ 1 =
+      omega (arith, high, unset_high, ap (bit_at w) b, bit_at-lt w (2 * k + 1))
+      in
+      omega (arith, one_low, one_high)
+
+  pub pair_unfinished : (i : ℕ) → bit_at (unset_from w j) i ≡ 1 → pair_mark w (j + i / 2) ≢ 2
+  pair_unfinished i is two = ⊎_elim even odd (cases_lt (i % 2) 1)
+    where
+      k : ℕ
+      k = j + i / 2
+
+      none : bit_at w (2 * j + i) ≡ 0
+      none = omega (arith, is, unset_in_word i (unset_below w j i is))
+
+      even : i % 2 < 1 → ⊥
+      even h =
+          let e : 2 * j + i ≡ 2 * k = omega (arith, h) in
+          omega (arith, two, none, ap (bit_at w) e, bit_at-lt w (2 * k + 1))
+
+      odd : 1 ≤ i % 2 → ⊥
+      odd h =
+          let e : 2 * j + i ≡ 2 * k + 1 = omega (arith, h) in
+          omega (arith, two, none, ap (bit_at w) e, bit_at-lt w (2 * k))

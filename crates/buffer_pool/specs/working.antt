@@ -1,6 +1,7 @@
 pub mod Views
 pub mod Codes
 pub mod MarkBits
+pub mod Unfinished
 pub mod Layout
 pub mod Slots
 pub mod Table

@@ -107,7 +107,7 @@ impl<A: Allocator> Marked<A> {
         ensures { result ≡ find (λ o. not (slice_index_or self.now.marks o false))
             (range_with_len from (length self.now.marks - from)) }
     {
-        self.marks.next_white(from)
+        self.marks.next_unfinished(from)
     }
 
     /// How many objects are marked.

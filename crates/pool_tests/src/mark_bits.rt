@@ -61,7 +61,10 @@ fn claim_and_finish<R: Abort, A: Allocator>(
 
 /// The words of marks as objects 0, 31 and 32 are claimed, the first two of them finished at once: word 0 after each of
 /// these four, and words 0, 1 and 2 at the end. And how many are finished then.
-type Words = ([Option<u64>; 4], [Option<u64>; 3], u64);
+type Words = ([Option<u64>; 4], [Option<u64>; 3], Told);
+
+/// How many objects are finished, and which is the first that is not: of all, and from object 31 on.
+type Told = (u64, [Option<u32>; 2]);
 
 fn words_of_33<R: Abort>(rt: &R, alloc: Global) -> Result<Words, PoolFault> {
     let (pool, mut worker) = pool_of_roots(alloc, OBJECTS, BUFFERS, 2)?;
@@ -74,13 +77,16 @@ fn words_of_33<R: Abort>(rt: &R, alloc: Global) -> Result<Words, PoolFault> {
     Ok((
         [first.0, first.1, last.0, last.1],
         words,
-        marks.finished_len(),
+        (
+            marks.finished_len(),
+            [marks.next_unfinished(0), marks.next_unfinished(31)],
+        ),
     ))
 }
 
 #[test]
 fn bits_of_33_objects(rt: HostRuntime) -> Result<(), Fail> {
-    let (word_0, words, finished) = words_of_33(&rt, rt.alloc())?;
+    let (word_0, words, told) = words_of_33(&rt, rt.alloc())?;
     assert_eq!(rt;
         word_0,
         [
@@ -91,7 +97,7 @@ fn bits_of_33_objects(rt: HostRuntime) -> Result<(), Fail> {
         ]
     );
     assert_eq!(rt; words, [Some(13_835_058_055_282_163_715), Some(1), None]);
-    assert_eq!(rt; finished, 3);
+    assert_eq!(rt; told, (3, [Some(1), None]));
     Ok(())
 }
 

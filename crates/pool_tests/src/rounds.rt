@@ -233,5 +233,6 @@ fn four_threads(rt: HostRuntime) -> Result<(), Fail> {
         assert!(rt; marks.is_finished(object), "object {object}");
     }
     assert_eq!(rt; marks.finished_len(), u64::from(OBJECTS));
+    assert_eq!(rt; marks.next_unfinished(0), None);
     Ok(())
 }

@@ -33,8 +33,12 @@ fn told<A: Allocator>(marks: &Marks<A>) -> Told
     (first, marks.finished_len())
 }
 
-/// Objects 0 and 1 are finished, 2 and 3 lie on the full stack, and 4 is white.
-fn marks_of_each_kind<R: Abort>(rt: &R, alloc: Global) -> Result<Told, PoolFault> {
+/// Objects 0 and 1 are finished, 2 and 3 lie on the full stack, and 4 is white. And the first that is not finished, of
+/// all and from object 3 on.
+fn marks_of_each_kind<R: Abort>(
+    rt: &R,
+    alloc: Global,
+) -> Result<(Told, [Option<u32>; 2]), PoolFault> {
     let (pool, worker) = pool_of_roots(alloc, OBJECTS, 4, 2)?;
     let (mut worker, mut other) = pool.split(worker, 1);
     fill_buffer(rt, &pool, &mut worker, 0, 2);
@@ -42,7 +46,8 @@ fn marks_of_each_kind<R: Abort>(rt: &R, alloc: Global) -> Result<Told, PoolFault
     fill_buffer(rt, &pool, &mut worker, 2, 4);
     let worker = pool.join(worker, other);
     let marks = pool.close(worker);
-    Ok(told(&marks))
+    let next = [marks.next_unfinished(0), marks.next_unfinished(3)];
+    Ok((told(&marks), next))
 }
 
 /// Of two workers the one that does something.
@@ -151,9 +156,10 @@ static RUNS: [Run; 3] = [
 
 #[test]
 fn marks_of_one_run(rt: HostRuntime) -> Result<(), Fail> {
-    let (marks, finished) = marks_of_each_kind(&rt, rt.alloc())?;
+    let ((marks, finished), next) = marks_of_each_kind(&rt, rt.alloc())?;
     assert_eq!(rt; marks, [FINISHED, FINISHED, CLAIMED, CLAIMED, WHITE]);
     assert_eq!(rt; finished, 2);
+    assert_eq!(rt; next, [Some(2), Some(3)]);
     Ok(())
 }
 

@@ -1,10 +1,11 @@
 //! The marks of a pool that is closed.
 ghost use Rattle.std.specs.Prelude.{◌≡◌, ◌↔◌, ◌+◌, ◌/◌, ◌%◌, ◌<◌, ◌≤◌, length, slice_index, IsTrue};
-ghost use Rattle.std.specs.Prelude.{◌-◌, ◌==◌, ℕ, count_by, find};
+ghost use Rattle.std.specs.Prelude.{◌-◌, ◌==◌, ℕ, IfNone, IfSome, count_by, find, not};
 ghost use Rattle.std.specs.List.{range_with_len};
 ghost use Rattle.std.specs.Slots.{IsFull, slots_filled, slots_items, slots_len};
 ghost use Rattle.buffer_pool.specs.Closing.{IsEmptied};
 ghost use Rattle.buffer_pool.specs.working.MarkBits.{mark_of, mark_words, marks_in, pair_mark};
+ghost use Rattle.buffer_pool.specs.working.Unfinished.{AreFinishedBelow, IsFirstUnfinished};
 
 use crate::buffer::Buffer;
 use crate::layout::mark_place;
@@ -85,17 +86,18 @@ impl<A: Allocator> Marks<A> {
         (self.word_of(object) >> mark_place(object)) & 3
     }
 
-    /// Whether a whole word of 32 marks begins with this object's, and each of them is finished.
-    fn begins_finished_word(&self, object: u32) -> bool
+    /// The first object from this one on, of those that share its word, whose mark in it is not finished: it may stand
+    /// behind the last object.
+    fn first_unfinished_of_word(&self, object: u32) -> Option<u32>
         requires { object < length self.now }
-        ensures within { IsTrue result → object + 32 ≤ length self.now }
-        ensures finished { IsTrue result
-            → (o : ℕ) → object ≤ o → o < object + 32 → slice_index self.now o ≡ 2 }
+        ensures found { IfSome result (λ found. IsFirstUnfinished self.now object found) }
+        ensures none { IfNone result (AreFinishedBelow self.now object (object - object % 32 + 32)) }
     {
-        if object % 32 != 0 {
-            return false;
+        let unfinished = !self.word_of(object) >> mark_place(object);
+        if unfinished == 0 {
+            return None;
         }
-        self.len() - object >= 32 && self.word_of(object) == u64::MAX
+        Some(object + unfinished.trailing_zeros() / 2)
     }
 
     /// Whether an object was claimed. A finished object was claimed, too.
@@ -114,19 +116,19 @@ impl<A: Allocator> Marks<A> {
         self.bits(object) == 3
     }
 
-    /// The first object from this number on that was not claimed: `None` where each of them was. Of 32 objects that
-    /// were finished one word is read.
-    pub fn next_white(&self, from: u32) -> Option<u32>
-        ensures { result ≡ find (λ o. slice_index self.now o == 0) (range_with_len from (length self.now - from)) }
+    /// The first object from this number on that was not finished: `None` where each of them was. A word of 32 marks
+    /// is looked at as a whole.
+    pub fn next_unfinished(&self, from: u32) -> Option<u32>
+        ensures { result ≡ find (λ o. not (slice_index self.now o == 2))
+            (range_with_len from (length self.now - from)) }
     {
+        let objects = self.len();
         let mut object = from;
-        while object < self.len() {
-            if self.begins_finished_word(object) {
-                object += 32;
-            } else if self.is_claimed(object) {
-                object += 1;
-            } else {
-                return Some(object);
+        while object < objects {
+            match self.first_unfinished_of_word(object) {
+                Some(found) if found < objects => return Some(found),
+                Some(_) => return None,
+                None => object = (object - object % 32).saturating_add(32),
             }
         }
         None
