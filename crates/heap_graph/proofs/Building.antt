@@ -1,38 +1,14 @@
 -- From a dump to its graph.
-use Rattle.std.proofs.Common.{List, [], ap, arith, count_by, filter, length, map, refl, slice_get, subst}
-use Rattle.std.proofs.Common.{sym, ℕ, ◌++◌, ◌+◌, ◌∙◌, ◌≡◌, ◌≤◌}
-use Rattle.std.specs.List.{AllZip}
-use Rattle.std.specs.Prelude.{filter_map}
-use Rattle.hprof_grammar.specs.Dump.{id_of, limit}
-use Rattle.hprof_grammar.specs.Places.{IsDumpOf, Places, is_load, is_string}
-use Rattle.hprof_grammar.specs.Record.{Record}
-use Rattle.hprof_grammar.specs.Standing.{IsPlaced, RecordStandsAt, Sight, StandInTurn, Stands}
-use Rattle.hprof_grammar.specs.Standing.{SubRecordStandsAt}
-use Rattle.hprof_grammar.specs.SubRecord.{SubRecord, spelling_of}
-use Rattle.heap_graph.specs.declared.class_entry.ClassEntry.{ClassEntry}
-use Rattle.heap_graph.specs.declared.objects.Objects.{Objects}
-use Rattle.heap_graph.specs.declared.plan.Plan.{Plan}
-use Rattle.heap_graph.specs.declared.refusal.LinkFault.{LinkFault}
-use Rattle.heap_graph.specs.Heap.{heap_of, objects}
-use Rattle.heap_graph.specs.working.HeldIds.{AreLinked, AreLinkedOf}
-use Rattle.heap_graph.specs.LinkFault.{HasLinkFault, IsFirstFault}
-use Rattle.heap_graph.specs.Linked.{IsLinked}
-use Rattle.heap_graph.specs.declared.objects.indexing.Indexed.{Indexed}
-use Rattle.heap_graph.specs.working.ClassNumbers.{AreClassNumbers, AreIndexed}
-use Rattle.heap_graph.specs.working.GraphOf.{GraphOf, GraphOf-prop}
-use Rattle.heap_graph.specs.working.GraphParts.{AreNamedOf, AreRootsOf}
-use Rattle.heap_graph.specs.working.ReadObjects.{IsReadOf}
-use Rattle.heap_graph.specs.working.Resolving.{Resolves, target_in}
-use Rattle.heap_graph.specs.working.PlacedNames.{AreNames}
-use Rattle.heap_graph.specs.ObjectGraph.{IsGraphOf, IsGraphOfText, ObjectGraph, named_classes, unresolved_in}
-use Rattle.heap_graph.specs.working.PlacedObjects.{AreObjects, ArePlacesOf}
-use Rattle.heap_graph.specs.References.{AreIdLists, is_unresolved, targets}
-use Rattle.heap_graph.specs.Roots.{root_ids, root_objects}
-use Rattle.heap_graph.specs.Rows.{bytes_of, row_of}
-use Rattle.heap_graph.specs.Skips.{SkipEntry, is_skipped}
-use Rattle.heap_graph.specs.working.Refinement.{StandFor}
-use Rattle.heap_graph.specs.working.RuleAnswers.{IsFaultOf}
-use Rattle.heap_graph.specs.working.ClassFates.{HaveFatesOf}
+use Rattle.heap_graph.proofs.Words.{AllZip, AreClassNumbers, AreIdLists, AreIndexed, AreLinked, AreLinkedOf, AreNamedOf}
+use Rattle.heap_graph.proofs.Words.{AreNames, AreObjects, ArePlacesOf, AreRootsOf, ClassEntry, GraphOf, GraphOf-prop}
+use Rattle.heap_graph.proofs.Words.{HasLinkFault, HaveFatesOf, Indexed, IsDumpOf, IsFaultOf, IsFirstFault, IsGraphOf}
+use Rattle.heap_graph.proofs.Words.{IsGraphOfText, IsLinked, IsPlaced, IsReadOf, LinkFault, List, ObjectGraph, Objects}
+use Rattle.heap_graph.proofs.Words.{Places, Plan, Record, RecordStandsAt, Resolves, Sight, SkipEntry, StandFor}
+use Rattle.heap_graph.proofs.Words.{StandInTurn, Stands, SubRecord, SubRecordStandsAt, [], ap, arith, bytes_of}
+use Rattle.heap_graph.proofs.Words.{count_by, filter, filter_map, heap_of, id_of, is_load, is_skipped, is_string}
+use Rattle.heap_graph.proofs.Words.{is_unresolved, length, limit, map, named_classes, objects, refl, root_ids}
+use Rattle.heap_graph.proofs.Words.{root_objects, row_of, slice_get, spelling_of, subst, sym, target_in, targets}
+use Rattle.heap_graph.proofs.Words.{unresolved_in, ℕ, ◌++◌, ◌+◌, ◌∙◌, ◌≡◌, ◌≤◌}
 use Rattle.heap_graph.proofs.Counting.{few_in_dump, few_of_records}
 use Rattle.heap_graph.proofs.HeldLists.{are_lists, held_lists}
 use Rattle.heap_graph.proofs.UnresolvedLaws.{few_held, roots_unresolved}
@@ -54,30 +30,47 @@ seen_by IsAt v bytes s places known things bytes_are size_is places_are stand =
 pub same_sight : (v w : Sight) → v.bytes ≡ w.bytes → v.id_size ≡ w.id_size → v ≡ w
 same_sight v w e f = λ i. record { bytes = e i; id_size = f i }
 
-pub are_linked : (bytes : List ℕ) (dump : Places) (is : IsDumpOf bytes dump) (v : Sight) (places ids : List ℕ)
-    → v.bytes ≡ bytes → v.id_size ≡ dump.id_size → AreObjects v places ids (heap_of is.records)
-    → IsLinked v.id_size (heap_of is.records) → AreLinked v places ids (heap_of is.records)
-are_linked bytes dump is v places ids bytes_are size_is are linked =
-    let range = id_size_range dump.id_size is.spells.id_size in
-    record {
-      are = are;
-      low = omega (arith, size_is, range.0);
-      high = omega (arith, size_is, range.1);
-      short = omega (arith, ap length bytes_are, is.spells.size);
-      linked = linked;
-    }
+module _ (bytes : List ℕ) (dump : Places) (is : IsDumpOf bytes dump) where
+  pub are_linked : (v : Sight) (places ids : List ℕ) → v.bytes ≡ bytes → v.id_size ≡ dump.id_size
+      → AreObjects v places ids (heap_of is.records) → IsLinked v.id_size (heap_of is.records)
+      → AreLinked v places ids (heap_of is.records)
+  are_linked v places ids bytes_are size_is are linked =
+      let range = id_size_range dump.id_size is.spells.id_size in
+      record {
+        are = are;
+        low = omega (arith, size_is, range.0);
+        high = omega (arith, size_is, range.1);
+        short = omega (arith, ap length bytes_are, is.spells.size);
+        linked = linked;
+      }
 
-pub are_names : (bytes : List ℕ) (dump : Places) (is : IsDumpOf bytes dump) (v : Sight) (strings loaded : List ℕ)
-    → v.bytes ≡ bytes → v.id_size ≡ dump.id_size → strings ≡ dump.strings → loaded ≡ dump.loaded
-    → IsPlaced bytes dump is.records → AreNames v strings loaded is.records
-are_names bytes dump is v strings loaded bytes_are size_is strings_are loaded_are placed = record {
-  few_strings = omega (arith, ap length strings_are, placed.strings.count, few_of_records is_string bytes dump is);
-  few_loaded = omega (arith, ap length loaded_are, placed.loaded.count, few_of_records is_load bytes dump is);
-  string_each = seen_by RecordStandsAt v bytes dump.id_size strings dump.strings
-      (filter is_string is.records) bytes_are size_is strings_are placed.strings;
-  loaded_each = seen_by RecordStandsAt v bytes dump.id_size loaded dump.loaded
-      (filter is_load is.records) bytes_are size_is loaded_are placed.loaded;
-}
+  pub are_names : (v : Sight) (strings loaded : List ℕ) → v.bytes ≡ bytes → v.id_size ≡ dump.id_size
+      → strings ≡ dump.strings → loaded ≡ dump.loaded → IsPlaced bytes dump is.records
+      → AreNames v strings loaded is.records
+  are_names v strings loaded bytes_are size_is strings_are loaded_are placed = record {
+    few_strings = omega (arith, ap length strings_are, placed.strings.count, few_of_records is_string bytes dump is);
+    few_loaded = omega (arith, ap length loaded_are, placed.loaded.count, few_of_records is_load bytes dump is);
+    string_each = seen_by RecordStandsAt v bytes dump.id_size strings dump.strings
+        (filter is_string is.records) bytes_are size_is strings_are placed.strings;
+    loaded_each = seen_by RecordStandsAt v bytes dump.id_size loaded dump.loaded
+        (filter is_load is.records) bytes_are size_is loaded_are placed.loaded;
+  }
+
+  pub has_fault : (s : ℕ) (places : List ℕ) (fault : LinkFault) → s ≡ dump.id_size → places ≡ dump.objects
+      → IsFaultOf s (heap_of is.records) places fault → HasLinkFault bytes fault.code fault.offset
+  has_fault s places fault size_is places_are f =
+      let same = places_are ∙ ap (λ (d : Places). d.objects) is.places in
+      record {
+        id_size = dump.id_size;
+        records = is.records;
+        spells = is.spells;
+        orderly = is.orderly;
+        number = f.number;
+        rule = f.rule;
+        first = subst (λ (n : ℕ). IsFirstFault n (heap_of is.records) f.number f.rule) size_is f.first;
+        code_is = f.code_is;
+        place_is = sym (ap (λ (ps : List ℕ). slice_get ps f.number) same) ∙ f.place_is;
+      }
 
 -- ---- the objects at the places of a dump
 
@@ -110,8 +103,7 @@ module _ (bytes : List ℕ) (s : ℕ) (places : List ℕ) (dump : Places) (are :
         → AreIndexed w places (heap_of are.is.records) i
     are_indexed v w i known v_bytes v_size w_bytes w_size same indexed =
         let here = objects (heap_of are.is.records) in
-        let stand : StandInTurn (Stands v) known here =
-        subst (λ (xs : List ℕ). StandInTurn (Stands v) xs here) (sym same) (objects_stand v v_bytes v_size) in
+        let stand = subst (λ (xs : List ℕ). StandInTurn (Stands v) xs here) (sym same) (objects_stand v v_bytes v_size) in
         let it = indexed (heap_of are.is.records) stand in
         record {
           are = record { stand = objects_stand w w_bytes w_size; ids_are = it.are.ids_are };
@@ -122,24 +114,6 @@ module _ (bytes : List ℕ) (s : ℕ) (places : List ℕ) (dump : Places) (are :
     pub few_objects : length places ≤ limit
     few_objects = omega (arith, ap length are.places_are, placed.objects.count, few_in_dump bytes dump are.is)
 
--- ---- the fault
-
-pub has_fault : (bytes : List ℕ) (dump : Places) (is : IsDumpOf bytes dump) (s : ℕ) (places : List ℕ)
-    (fault : LinkFault) → s ≡ dump.id_size → places ≡ dump.objects → IsFaultOf s (heap_of is.records) places fault
-    → HasLinkFault bytes fault.code fault.offset
-has_fault bytes dump is s places fault size_is places_are f = record {
-  id_size = dump.id_size;
-  records = is.records;
-  spells = is.spells;
-  orderly = is.orderly;
-  number = f.number;
-  rule = f.rule;
-  first = subst (λ (n : ℕ). IsFirstFault n (heap_of is.records) f.number f.rule) size_is f.first;
-  code_is = f.code_is;
-  place_is = sym (ap (λ (ps : List ℕ). slice_get ps f.number) (places_are ∙ ap (λ (d : Places). d.objects) is.places))
-      ∙ f.place_is;
-}
-
 -- ---- the graph
 
 pub roots_resolved : (heap : List SubRecord) (ids wanted old new : List ℕ) (unresolved : ℕ)
@@ -147,9 +121,9 @@ pub roots_resolved : (heap : List SubRecord) (ids wanted old new : List ℕ) (un
     → AreRootsOf heap new unresolved
 roots_resolved heap ids wanted old new unresolved ids_are none wanted_are r = record {
   roots_are = r.appended ∙ ap (λ (xs : List ℕ). xs ++ filter_map (target_in ids) wanted) none
-      ∙ same_targets heap ids wanted ids_are ∙ ap (λ (ws : List ℕ). targets heap ws) wanted_are;
-  unresolved_is = r.counted ∙ same_unresolved heap ids wanted ids_are
-      ∙ ap (λ (ws : List ℕ). count_by (is_unresolved heap) ws) wanted_are;
+      ∙ same_targets heap ids wanted ids_are ∙ ap (targets heap) wanted_are;
+  unresolved_is =
+      r.counted ∙ same_unresolved heap ids wanted ids_are ∙ ap (count_by (is_unresolved heap)) wanted_are;
 }
 
 -- the graph, with the identifiers that the objects hold
@@ -166,35 +140,6 @@ graph_with s records held = record {
   unresolved = unresolved_in (heap_of records) held;
 }
 
-pub graph_is : (s : ℕ) (records : List Record) (skip : List SkipEntry) (held : List (List ℕ))
-    → AreIdLists (is_skipped records skip) s (heap_of records) held
-    → IsGraphOf s records skip (graph_with s records held)
-graph_is s records skip held are = record {
-  ids_are = refl;
-  held_are = are;
-  references_are = refl;
-  root_names_are = refl;
-  roots_are = refl;
-  rows_are = refl;
-  bytes_are = refl;
-  classes_are = refl;
-  unresolved_is = refl;
-}
-
-pub text_graph : (bytes : List ℕ) (dump : Places) (is : IsDumpOf bytes dump) (s : ℕ) (skip : List SkipEntry)
-    (g : ObjectGraph) → s ≡ dump.id_size → IsLinked s (heap_of is.records) → IsGraphOf s is.records skip g
-    → IsGraphOfText bytes skip g
-text_graph bytes dump is s skip g size_is linked graph = record {
-  id_size = dump.id_size;
-  records = is.records;
-  accepted = record {
-    spells = is.spells;
-    orderly = is.orderly;
-    linked = subst (λ (n : ℕ). IsLinked n (heap_of is.records)) size_is linked;
-  };
-  graph = subst (λ (n : ℕ). IsGraphOf n is.records skip g) size_is graph;
-}
-
 -- the lists of identifiers of the objects, and the graph with them
 abbrev pub lists_of : {A : Type 0} (o : Objects A) (records : List Record) (skip : List SkipEntry)
     → AreLinkedOf o (heap_of records) → HaveFatesOf o (heap_of records) → List (List ℕ)
@@ -203,10 +148,18 @@ lists_of o records skip linked told = (held_lists (is_skipped records skip) o (h
 pub graph_made : {A : Type 0} (o : Objects A) (records : List Record) (skip : List SkipEntry)
     (linked : AreLinkedOf o (heap_of records)) (told : HaveFatesOf o (heap_of records))
     → IsGraphOf o.view.id_size records skip (graph_with o.view.id_size records (lists_of o records skip linked told))
-graph_made o records skip linked told =
-    graph_is o.view.id_size records skip (lists_of o records skip linked told)
-    (are_lists (is_skipped records skip) o.view.id_size (heap_of records)
-    (held_lists (is_skipped records skip) o (heap_of records) linked told))
+graph_made o records skip linked told = record {
+  ids_are = refl;
+  held_are = are_lists (is_skipped records skip) o.view.id_size (heap_of records)
+      (held_lists (is_skipped records skip) o (heap_of records) linked told);
+  references_are = refl;
+  root_names_are = refl;
+  roots_are = refl;
+  rows_are = refl;
+  bytes_are = refl;
+  classes_are = refl;
+  unresolved_is = refl;
+}
 
 pub stand_for : {A : Type 0} (o : Objects A) (plan : Plan A) (records : List Record) (roots : List ℕ)
     (classes : List ClassEntry) (unresolved : ℕ) (skip : List SkipEntry)
@@ -217,8 +170,8 @@ pub stand_for : {A : Type 0} (o : Objects A) (plan : Plan A) (records : List Rec
     → StandFor o plan roots classes unresolved skip
     (graph_with o.view.id_size records (lists_of o records skip linked told))
 stand_for o plan records roots classes unresolved skip within few_roots linked told named found =
-    let g : ObjectGraph = graph_with o.view.id_size records (lists_of o records skip linked told) in
-    let graph : IsGraphOf o.view.id_size records skip g = graph_made o records skip linked told in
+    let g = graph_with o.view.id_size records (lists_of o records skip linked told) in
+    let graph = graph_made o records skip linked told in
     record {
       records = records;
       linked = linked;
@@ -227,11 +180,10 @@ stand_for o plan records roots classes unresolved skip within few_roots linked t
       graph = graph;
       whole =
           is_whole o.view o.places.items o.index records skip g linked within
-          (few_held (is_skipped records skip) o.view.id_size (heap_of records)
-          (held_lists (is_skipped records skip) o (heap_of records) linked told)) few_roots graph;
+          (few_held (held_lists (is_skipped records skip) o (heap_of records) linked told)) few_roots graph;
       roots_are = sym found.roots_are;
       classes_are = sym named.classes_are;
-      unresolved_is = roots_unresolved o.view.id_size records skip g graph ∙ sym found.unresolved_is;
+      unresolved_is = roots_unresolved graph ∙ sym found.unresolved_is;
     }
 
 -- the graph of the objects that were read
@@ -244,10 +196,15 @@ pub text_graph_made : {A : Type 0} (o : Objects A) (text : List ℕ) (dump : Pla
     (skip : List SkipEntry) (read : IsReadOf text dump is o)
     → IsGraphOfText o.view.bytes skip (graph_read o text dump is skip read)
 text_graph_made o text dump is skip read =
-    let g : ObjectGraph = graph_read o text dump is skip read in
-    subst (λ (bytes : List ℕ). IsGraphOfText bytes skip g) (sym read.bytes_are)
-    (text_graph text dump is o.view.id_size skip g read.size_is read.linked.linked
-    (graph_made o is.records skip read.linked read.fates))
+    let g = graph_read o text dump is skip read in
+    let linked = subst (λ (n : ℕ). IsLinked n (heap_of is.records)) read.size_is read.linked.linked in
+    subst (λ (bytes : List ℕ). IsGraphOfText bytes skip g) (sym read.bytes_are) (record {
+      id_size = dump.id_size;
+      records = is.records;
+      accepted = record { spells = is.spells; orderly = is.orderly; linked = linked };
+      graph = subst (λ (n : ℕ). IsGraphOf n is.records skip g) read.size_is
+          (graph_made o is.records skip read.linked read.fates);
+    })
 
 -- a text and a list have one graph, so what holds of one holds of each
 pub given_graph : (text : List ℕ) (skip : List SkipEntry) (P : ObjectGraph → Type 0) (g : ObjectGraph)

@@ -1,10 +1,6 @@
 -- How chains of superclasses end: each in one way.
-use Rattle.std.proofs.Common.{List, None, Some, [], ap, arith, length, refl, subst, suc, sym, zero, ℕ, ◌<◌, ◌∙◌, ◌∷◌}
-use Rattle.std.proofs.Common.{◌≡◌}
-use Rattle.hprof_grammar.specs.SubRecord.{Class, SubRecord}
-use Rattle.heap_graph.specs.Heap.{class_named}
-use Rattle.heap_graph.specs.Layout.{IsChain, IsLine, NeverEnds}
-use Rattle.heap_graph.specs.working.Chains.{IsCut}
+use Rattle.heap_graph.proofs.Words.{Class, IsChain, IsCut, IsLine, List, NeverEnds, None, Some, SubRecord, [], ap}
+use Rattle.heap_graph.proofs.Words.{arith, class_named, length, refl, subst, suc, sym, zero, ℕ, ◌<◌, ◌∙◌, ◌∷◌, ◌≡◌}
 
 pub some_inj : {X : Type 0} {x y : X} → Some x ≡ Some y → x ≡ y
 some_inj {X} {x} {y} e = cc

@@ -1,17 +1,10 @@
 -- One step of a climb, and of the way back.
-use Rattle.std.proofs.Common.{Contains, List, [], arith, inl, inr, length, set, subst, sym, ⊎_elim, ℕ, ◌++◌, ◌<◌, ◌∷◌}
-use Rattle.std.proofs.Common.{◌≡◌, ◌⊎◌}
-use Rattle.std.specs.Prelude.{slice_index}
-use Rattle.std.proofs.lemmas.List.Elements.{Contains-append_left, Contains-push_cases}
-use Rattle.hprof_grammar.specs.Standing.{Sight}
-use Rattle.hprof_grammar.specs.SubRecord.{SubRecord}
-use Rattle.heap_graph.specs.declared.classes.chains.Step.{Step}
+use Rattle.heap_graph.proofs.Words.{AreClasses, AreFates, Contains, Contains-append_left, Contains-push_cases, Fate}
+use Rattle.heap_graph.proofs.Words.{IsClimb, IsFate, IsKnown, IsPath, IsSettled, IsStep, IsTop, IsUnder, List, Sight}
+use Rattle.heap_graph.proofs.Words.{Step, SubRecord, TableEntry, [], arith, ids_of, inl, inr, length, set, slice_index}
+use Rattle.heap_graph.proofs.Words.{subst, sym, ℕ, ⊎_elim, ◌++◌, ◌<◌, ◌∷◌, ◌≡◌, ◌⊎◌}
 use Rattle.heap_graph.specs.declared.classes.chains.Step.TheVariants as steps
-use Rattle.heap_graph.specs.declared.classes.fate.Fate.{Fate}
 use Rattle.heap_graph.specs.declared.classes.fate.Fate.TheVariants as fates
-use Rattle.heap_graph.specs.working.Chains.{AreFates, IsClimb, IsFate, IsKnown, IsPath, IsSettled, IsStep, IsTop}
-use Rattle.heap_graph.specs.working.Chains.{IsUnder}
-use Rattle.heap_graph.specs.working.ClassTable.{AreClasses, TableEntry, ids_of}
 use Rattle.heap_graph.proofs.ClassTableLaws.{numbered, same_count, under}
 use Rattle.heap_graph.proofs.FateLaws.{fates_off, fates_on, known_set, stay_known}
 use Rattle.heap_graph.proofs.PathLaws.{path_end, path_off, path_on}

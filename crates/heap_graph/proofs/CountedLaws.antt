@@ -1,13 +1,7 @@
 -- How many of the identifiers that an object holds name no object.
-use Rattle.std.proofs.Common.{Bool, List, [], add-zero, ap, arith, cond, count_by, false, map, true, ℕ, ◌+◌, ◌^◌, ◌∙◌, ◌∷◌}
-use Rattle.std.proofs.Common.{◌≡◌, ◌≤◌}
-use Rattle.std.proofs.lemmas.List.Sums.{count_by-le-length, sum_by-cons}
-use Rattle.hprof_grammar.specs.Dump.{id_of}
-use Rattle.hprof_grammar.specs.SubRecord.{Class, Member, SubRecord}
-use Rattle.heap_graph.specs.Heap.{objects}
-use Rattle.heap_graph.specs.working.CountedIds.{AreCountedOf}
-use Rattle.heap_graph.specs.working.HeldIds.{AreIdsOfNumber}
-use Rattle.heap_graph.specs.working.Resolving.{is_unresolved_in}
+use Rattle.heap_graph.proofs.Words.{AreCountedOf, AreIdsOfNumber, Bool, Class, List, Member, SubRecord, [], add-zero}
+use Rattle.heap_graph.proofs.Words.{ap, arith, cond, count_by, count_by-le-length, false, id_of, is_unresolved_in, map}
+use Rattle.heap_graph.proofs.Words.{objects, sum_by-cons, true, ℕ, ◌+◌, ◌^◌, ◌∙◌, ◌∷◌, ◌≡◌, ◌≤◌}
 use Rattle.heap_graph.proofs.Targets.{same_unresolved}
 
 -- ---- the identifiers of one object, one after the other

@@ -1,17 +1,9 @@
 -- A dump has fewer objects than bytes, and fewer roots, strings and loaded classes.
-use Rattle.std.proofs.Common.{Bool, List, [], ap, arith, filter, flat_map, length, length-append, ℕ, ◌++◌, ◌<◌, ◌^◌}
-use Rattle.std.proofs.Common.{◌∷◌, ◌≡◌, ◌≤◌}
-use Rattle.std.proofs.lemmas.List.{length-map}
-use Rattle.std.proofs.lemmas.List.Sums.{count_by-le-length, length-filter}
-use Rattle.byteorder.specs.Endian.{big_bytes}
-use Rattle.hprof_grammar.specs.Dump.{header, is_object, is_root, limit, spellings}
-use Rattle.hprof_grammar.specs.Places.{IsDumpOf, Places}
-use Rattle.hprof_grammar.specs.Record.{Record, body_of, record_spelling, subs_of, time_of}
-use Rattle.hprof_grammar.specs.Record.Record.{heap, load_class, other, string}
-use Rattle.hprof_grammar.specs.Standing.{IsPlaced}
-use Rattle.hprof_grammar.specs.SubRecord.{SubRecord, spelling_of}
-use Rattle.heap_graph.specs.Heap.{heap_of, id_of, objects}
-use Rattle.heap_graph.specs.Roots.{root_ids}
+use Rattle.heap_graph.proofs.Words.{Bool, IsDumpOf, IsPlaced, List, Places, Record, SubRecord, [], ap, arith, big_bytes}
+use Rattle.heap_graph.proofs.Words.{body_of, count_by-le-length, filter, flat_map, header, heap, heap_of, id_of}
+use Rattle.heap_graph.proofs.Words.{is_object, is_root, length, length-append, length-filter, length-map, limit}
+use Rattle.heap_graph.proofs.Words.{load_class, objects, other, record_spelling, root_ids, spelling_of, spellings}
+use Rattle.heap_graph.proofs.Words.{string, subs_of, time_of, ℕ, ◌++◌, ◌<◌, ◌^◌, ◌∷◌, ◌≡◌, ◌≤◌}
 
 few_subs : (s : ℕ) (subs : List SubRecord) → length subs ≤ length (flat_map (spelling_of s) subs)
 few_subs s [] = omega arith

@@ -1,21 +1,12 @@
 -- What is known of chains, while a path of classes is followed.
-use Rattle.std.proofs.Common.{Contains, List, None, Some, [], ap, arith, cond, count_by, get_or, length, refl, set}
-use Rattle.std.proofs.Common.{slice_get, subst, suc, sym, zero, ⊎_elim, ℕ, ◌++◌, ◌<◌, ◌∙◌, ◌∷◌, ◌≡◌}
-use Rattle.std.specs.Prelude.{slice_index}
-use Rattle.std.proofs.Math.ListN.{length-set}
-use Rattle.std.proofs.lemmas.Bool.{cases_eq}
-use Rattle.std.proofs.lemmas.List.{get_or-set_same}
-use Rattle.std.proofs.lemmas.List.Elements.{Contains-append_left, Contains-push, Contains-push_cases}
-use Rattle.std.proofs.lemmas.List.Sums.{sum_by-set}
-use Rattle.std.proofs.lemmas.Option.{get_or_from_slice_get, slice_get-get_or, slice_get_within}
-use Rattle.hprof_grammar.specs.SubRecord.{Class, SubRecord}
-use Rattle.heap_graph.specs.declared.classes.fate.Fate.{Fate}
+use Rattle.heap_graph.proofs.Words.{AreFates, Class, Contains, Contains-append_left, Contains-push, Contains-push_cases}
+use Rattle.heap_graph.proofs.Words.{DoesStay, Fate, IsChain, IsChainAt, IsClimb, IsCut, IsFate, IsKnown, IsPath}
+use Rattle.heap_graph.proofs.Words.{IsSettled, IsUnder, Layout, List, NeverEnds, None, Some, SubRecord, TableEntry, []}
+use Rattle.heap_graph.proofs.Words.{ap, arith, cases_eq, cond, count_by, get_or, get_or-set_same, get_or_from_slice_get}
+use Rattle.heap_graph.proofs.Words.{ids_of, is_unknown, length, length-set, refl, set, slice_get, slice_get-get_or}
+use Rattle.heap_graph.proofs.Words.{slice_get_within, slice_index, subst, suc, sum_by-set, sym, zero, ℕ, ⊎_elim, ◌++◌}
+use Rattle.heap_graph.proofs.Words.{◌<◌, ◌∙◌, ◌∷◌, ◌≡◌}
 use Rattle.heap_graph.specs.declared.classes.fate.Fate.TheVariants as fates
-use Rattle.heap_graph.specs.Layout.{IsChain, NeverEnds}
-use Rattle.heap_graph.specs.declared.classes.fate.Layout.{Layout}
-use Rattle.heap_graph.specs.working.Chains.{AreFates, DoesStay, IsChainAt, IsClimb, IsCut, IsFate, IsKnown, IsPath}
-use Rattle.heap_graph.specs.working.Chains.{IsSettled, IsUnder, is_unknown}
-use Rattle.heap_graph.specs.working.ClassTable.{TableEntry, ids_of}
 use Rattle.heap_graph.proofs.ChainLaws.{never_below, some_inj}
 use Rattle.heap_graph.proofs.ClassTableLaws.{same_count}
 use Rattle.heap_graph.proofs.PathLaws.{never_around}

@@ -1,20 +1,10 @@
 -- The identifiers in the fields of an instance, and the sizes of fields.
-use Rattle.std.proofs.Common.{Bool, List, [], append_assoc, ap, arith, drop, false, flat_map, length, not, refl, sym}
-use Rattle.std.proofs.Common.{take, true, ℕ}
-use Rattle.std.proofs.Common.{◌&&◌, ◌++◌, ◌∙◌, ◌∷◌, ◌≡◌, ◌≤◌}
-use Rattle.std.specs.Prelude.{if◌then◌else◌, ◌==◌}
-use Rattle.std.specs.List.{AllByRecursion}
-use Rattle.std.proofs.lemmas.Bool.Decides.{nat_tests}
-use Rattle.std.proofs.lemmas.List.{drop-drop}
-use Rattle.std.proofs.lemmas.List.Sums.{sum_by-cons}
-use Rattle.byteorder.specs.Endian.{big_number}
-use Rattle.hprof_grammar.specs.Spelling.{AreAllowed, IsAllowed}
-use Rattle.hprof_grammar.specs.Spelling.Field.{number}
-use Rattle.hprof_grammar.specs.SubRecord.{Class, Member, class_fields, constant_fields, member_fields, static_fields}
+use Rattle.heap_graph.proofs.Words.{AllByRecursion, AreAllowed, Bool, Class, InMember, IsAllowed, List, Member, [], ap}
+use Rattle.heap_graph.proofs.Words.{append_assoc, arith, big_number, class_fields, constant_fields, drop, drop-drop}
+use Rattle.heap_graph.proofs.Words.{false, field_ids, flat_map, if◌then◌else◌, length, member_fields, nat_tests, not}
+use Rattle.heap_graph.proofs.Words.{number, refl, size_of_fields, size_together, static_fields, sum_by-cons, sym, take}
+use Rattle.heap_graph.proofs.Words.{true, ℕ, ◌&&◌, ◌++◌, ◌==◌, ◌∙◌, ◌∷◌, ◌≡◌, ◌≤◌}
 use Rattle.hprof_grammar.specs.FormatTables.{is_type_at, size_of}
-use Rattle.hprof_grammar.specs.declared.kinds.TypePlace.TheVariants.{InMember}
-use Rattle.heap_graph.specs.Fields.{field_ids}
-use Rattle.heap_graph.specs.working.IdPlaces.{size_of_fields, size_together}
 
 -- a value of type 2 is an identifier
 pub size_of_id : (s : ℕ) → size_of s 2 ≡ s

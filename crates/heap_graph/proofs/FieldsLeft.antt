@@ -1,15 +1,9 @@
 -- What is left of the identifiers of an instance, while they are given away one after the other, and how many are left.
-use Rattle.std.proofs.Common.{List, None, Option, Some, [], ap, arith, drop, length, refl, slice_get, subst, suc, sym}
-use Rattle.std.proofs.Common.{take, zero, ℕ, ◌++◌, ◌+◌, ◌-◌, ◌<◌, ◌∙◌, ◌∷◌, ◌≡◌, ◌≤◌}
-use Rattle.std.proofs.lemmas.List.{drop-take, length-append, length-drop, length-map, length-take}
-use Rattle.byteorder.specs.Endian.{big_number}
-use Rattle.byteorder.specs.Numbers.{big_from-take}
-use Rattle.heap_graph.specs.declared.classes.fate.Fate.{Fate}
-use Rattle.heap_graph.specs.declared.plan.ClassPlan.{ClassPlan}
-use Rattle.heap_graph.specs.working.ClassPlans.{id_places_of, plan_at}
-use Rattle.heap_graph.specs.working.FieldsUp.{AreUp, HasFields, HaveFields, StandInside, Up, Up-prop, ids_up}
-use Rattle.heap_graph.specs.working.FieldsUp.{next_above}
-use Rattle.heap_graph.specs.working.IdPlaces.{ids_at}
+use Rattle.heap_graph.proofs.Words.{AreUp, ClassPlan, Fate, HasFields, HaveFields, List, None, Option, Some}
+use Rattle.heap_graph.proofs.Words.{StandInside, Up, Up-prop, [], ap, arith, big_from-take, big_number, drop, drop-take}
+use Rattle.heap_graph.proofs.Words.{id_places_of, ids_at, ids_up, length, length-append, length-drop, length-map}
+use Rattle.heap_graph.proofs.Words.{length-take, next_above, plan_at, refl, slice_get, subst, suc, sym, take, zero, ℕ}
+use Rattle.heap_graph.proofs.Words.{◌++◌, ◌+◌, ◌-◌, ◌<◌, ◌∙◌, ◌∷◌, ◌≡◌, ◌≤◌}
 
 pub nothing_stands : (s : ℕ) (values : List ℕ) → StandInside s [] 0 values
 nothing_stands s values = record

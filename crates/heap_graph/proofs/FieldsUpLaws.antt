@@ -1,28 +1,14 @@
 -- The identifiers in the fields of an instance, up the classes that declare fields.
-use Rattle.std.proofs.Common.{Bool, List, None, Option, Some, [], ap, arith, drop, false, length, map, not, refl}
-use Rattle.std.proofs.Common.{slice_get, subst}
-use Rattle.std.proofs.Common.{suc, sym, take, true, zero, ℕ, ◌&&◌, ◌++◌, ◌+◌, ◌<◌, ◌∙◌, ◌∷◌, ◌≡◌, ◌≤◌}
-use Rattle.std.specs.Prelude.{if◌then◌else◌, slice_index, slice_index_or, ◌==◌}
-use Rattle.std.proofs.lemmas.Bool.{eqb-true}
-use Rattle.std.proofs.lemmas.List.{drop-drop, length-append, length-drop, map-append}
-use Rattle.std.proofs.lemmas.List.Sums.{sum_by-append, sum_by-cons}
-use Rattle.std.proofs.lemmas.Option.{get_or_from_slice_get}
-use Rattle.byteorder.specs.Endian.{big_number}
-use Rattle.byteorder.specs.Numbers.{big_from-take}
-use Rattle.hprof_grammar.specs.Standing.{Sight}
-use Rattle.hprof_grammar.specs.SubRecord.{Class, Member, SubRecord}
-use Rattle.hprof_grammar.specs.FormatTables.{size_of}
-use Rattle.heap_graph.specs.declared.classes.fate.Fate.{Fate}
+use Rattle.heap_graph.proofs.Words.{AreUp, BeginsAt, Bool, Class, ClassPlan, Fate, HaveFates, HaveFields, IsChain}
+use Rattle.heap_graph.proofs.Words.{IsFate, IsFirst, IsPlan, IsSettled, List, Member, None, Option, Sight, Some}
+use Rattle.heap_graph.proofs.Words.{StandInside, SubRecord, TableEntry, Up, [], ap, arith, big_from-take, big_number}
+use Rattle.heap_graph.proofs.Words.{declared_fields, drop, drop-drop, eqb-true, false, field_ids, get_or_from_slice_get}
+use Rattle.heap_graph.proofs.Words.{id_places, id_places_of, ids_at, ids_of, ids_up, if◌then◌else◌, length}
+use Rattle.heap_graph.proofs.Words.{length-append, length-drop, map, map-append, next_above, next_in, not, own_fields}
+use Rattle.heap_graph.proofs.Words.{plan_at, refl, size_of, size_of_fields, size_together, slice_get, slice_index}
+use Rattle.heap_graph.proofs.Words.{slice_index_or, subst, suc, sum_by-append, sum_by-cons, sym, tail, take, true, zero}
+use Rattle.heap_graph.proofs.Words.{ℕ, ◌&&◌, ◌++◌, ◌+◌, ◌<◌, ◌==◌, ◌∙◌, ◌∷◌, ◌≡◌, ◌≤◌}
 use Rattle.heap_graph.specs.declared.classes.fate.Fate.TheVariants as fates
-use Rattle.heap_graph.specs.declared.plan.ClassPlan.{ClassPlan}
-use Rattle.heap_graph.specs.Fields.{declared_fields, field_ids, own_fields}
-use Rattle.heap_graph.specs.Layout.{IsChain}
-use Rattle.heap_graph.specs.working.Chains.{BeginsAt, IsFate, IsFirst, IsSettled, tail}
-use Rattle.heap_graph.specs.working.ClassPlans.{IsPlan, id_places_of, plan_at}
-use Rattle.heap_graph.specs.working.ClassTable.{TableEntry, ids_of}
-use Rattle.heap_graph.specs.working.FieldsUp.{AreUp, HaveFields, StandInside, Up, ids_up, next_above, next_in}
-use Rattle.heap_graph.specs.working.IdPlaces.{id_places, ids_at, size_of_fields, size_together}
-use Rattle.heap_graph.specs.working.ClassFates.{HaveFates}
 use Rattle.heap_graph.proofs.ChainLaws.{chain_ends, cut_is_no_chain, one_chain}
 use Rattle.heap_graph.proofs.FieldLaws.{ids_of_both, of_id_type, size_of_id_type}
 use Rattle.heap_graph.proofs.LayoutLaws.{own_fields_size}

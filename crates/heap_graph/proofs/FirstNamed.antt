@@ -1,24 +1,15 @@
 -- The object that a class's plan has is the one that the identifier of the class names.
-use Rattle.std.proofs.Common.{Bool, List, None, Option, Some, ap, arith, cond, false, length, map, refl, subst, sym}
-use Rattle.std.proofs.Common.{true, ℕ, ◌++◌, ◌<◌, ◌∙◌, ◌∷◌, ◌≡◌}
-use Rattle.std.specs.Prelude.{IfSome, is_some, position, slice_get, slice_index, ◌==◌}
-use Rattle.std.specs.List.{position_or_len}
-use Rattle.std.proofs.lemmas.Bool.{eqb-true}
-use Rattle.std.proofs.lemmas.List.{length-map}
-use Rattle.std.proofs.lemmas.Option.{get_or_from_slice_get}
-use Rattle.hprof_grammar.specs.SubRecord.{Class, Instance, ObjectArray, SubRecord}
-use Rattle.hprof_grammar.specs.SubRecord.SubRecord.{instance_dump, object_array_dump}
-use Rattle.heap_graph.specs.declared.plan.ClassPlan.{ClassPlan}
-use Rattle.heap_graph.specs.declared.row.RowKey.{RowKey}
+use Rattle.heap_graph.proofs.Words.{AreClassObjects, Bool, Class, ClassPlan, HasPlan, IfSome, Instance, IsLinked}
+use Rattle.heap_graph.proofs.Words.{IsNamed, List, None, ObjectArray, Option, RowKey, Some, SubRecord, ap, arith}
+use Rattle.heap_graph.proofs.Words.{class_dumps, class_named, class_number, cond, eqb-true, false}
+use Rattle.heap_graph.proofs.Words.{get_or_from_slice_get, instance_dump, is_some, known_ids, length, length-map, map}
+use Rattle.heap_graph.proofs.Words.{object_array_dump, object_of_row, objects, plan_at, position, position_or_len, refl}
+use Rattle.heap_graph.proofs.Words.{slice_get, slice_index, subst, sym, target_in, true, with_class, ℕ, ◌++◌, ◌<◌, ◌==◌}
+use Rattle.heap_graph.proofs.Words.{◌∙◌, ◌∷◌, ◌≡◌}
 use Rattle.heap_graph.specs.declared.row.RowKey.TheVariants as keys
-use Rattle.heap_graph.specs.Heap.{class_dumps, class_named, class_number, objects}
-use Rattle.heap_graph.specs.Linked.{IsLinked}
-use Rattle.heap_graph.specs.working.ClassPlans.{AreClassObjects, HasPlan, object_of_row, plan_at}
-use Rattle.heap_graph.specs.working.HeldIds.{with_class}
-use Rattle.heap_graph.specs.working.Resolving.{IsNamed, known_ids, target_in}
 use Rattle.heap_graph.proofs.ClassTableLaws.{found, there_is}
 use Rattle.heap_graph.proofs.EntryLaws.{same_number}
-use Rattle.heap_graph.proofs.Firsts.{IsHit, hit}
+use Rattle.heap_graph.proofs.Firsts.{hit}
 use Rattle.heap_graph.proofs.Linking.{no_unknown, no_unknown_array}
 use Rattle.heap_graph.proofs.Wholeness.{known_if}
 
@@ -35,13 +26,13 @@ object_if : (all : List ℕ) (id : ℕ) (object : Option ℕ) → object ≡ tar
 object_if all id None named = tt
 object_if all id (Some o) named =
     let bears : slice_index all o ≡ id = bears_if all id o (id == 0) (sym named) in
-    (bears, ap (λ (x : ℕ). target_in all x) bears ∙ sym named)
+    (bears, ap (target_in all) bears ∙ sym named)
 
 -- the identifier of the class of a number
 id_of_number : (ids : List ℕ) (id : ℕ) → position_or_len (λ x. x == id) ids < length ids
     → slice_index ids (position_or_len (λ x. x == id) ids) ≡ id
 id_of_number ids id below =
-    let it : IsHit (λ x. x == id) ids (position_or_len (λ x. x == id) ids) = hit (λ x. x == id) ids below in
+    let it = hit (λ x. x == id) ids below in
     get_or_from_slice_get ids (position_or_len (λ x. x == id) ids) it.what 0 it.here ∙ eqb-true it.what id it.passes
 
 module _ (heap : List SubRecord) (ids : List ℕ) (plans : List ClassPlan)
@@ -49,16 +40,14 @@ module _ (heap : List SubRecord) (ids : List ℕ) (plans : List ClassPlan)
   class_object : (all : List ℕ) (id : ℕ) → AreClassObjects all ids plans → class_number heap id < length plans
       → IfSome (plan_at plans (class_number heap id)).object (IsObjectOf all id)
   class_object all id objects below =
-      let at : position_or_len (λ x. x == id) ids ≡ class_number heap id = same_number heap ids id are in
+      let at = same_number heap ids id are in
       let it = there_is plans (class_number heap id) below in
-      let read : plan_at plans (class_number heap id) ≡ it.0 =
-      get_or_from_slice_get plans (class_number heap id) it.0
+      let read = get_or_from_slice_get plans (class_number heap id) it.0
       (record { start = 0; end = 0; size = 0; object = None }) it.1 in
-      let named : slice_index ids (class_number heap id) ≡ id =
-      ap (λ (n : ℕ). slice_index ids n) (sym at) ∙ id_of_number ids id (omega (arith, at, below, count)) in
+      let named = ap (slice_index ids) (sym at) ∙ id_of_number ids id (omega (arith, at, below, count)) in
       object_if all id (plan_at plans (class_number heap id)).object
       (ap (λ (p : ClassPlan). p.object) read ∙ objects (class_number heap id) it.0 it.1
-      ∙ ap (λ (x : ℕ). target_in all x) named)
+      ∙ ap (target_in all) named)
 
   -- the object that is known of the class with that identifier, which is planned
   pub known_class : (all : List ℕ) (id : ℕ) (row : RowKey) (known : Option ℕ) → AreClassObjects all ids plans

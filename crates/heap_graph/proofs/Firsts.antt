@@ -1,10 +1,15 @@
 -- The first place in a list that passes a test.
-use Rattle.std.proofs.Common.{Bool, List, None, Option, Some, [], ap, arith, cond, false, filter, length, map, not}
-use Rattle.std.proofs.Common.{refl, slice_get, suc, subst, sym, true, zero, ℕ, ◌+◌, ◌<◌, ◌∙◌, ◌∷◌, ◌≡◌, ◌≤◌}
-use Rattle.std.specs.Prelude.{nat_lt, position}
-use Rattle.std.specs.List.{position_or_len}
-use Rattle.std.proofs.lemmas.Bool.{ltb-false, ltb-true}
-use Rattle.std.proofs.lemmas.List.{length-map}
+use Rattle.heap_graph.proofs.Words.{All-get_or, Bool, List, None, Option, Some, [], ap, arith, cond, cond_some, false}
+use Rattle.heap_graph.proofs.Words.{filter, get_or_from_slice_get, length, length-map, length-prefix_len, length-take}
+use Rattle.heap_graph.proofs.Words.{ltb-false, ltb-true, map, nat_lt, not, passes_at_first, position, position_or_len}
+use Rattle.heap_graph.proofs.Words.{refl, slice_get, slice_get_within, subst, suc, sym, true, zero, ℕ, ◌+◌, ◌<◌, ◌∙◌}
+use Rattle.heap_graph.proofs.Words.{◌∷◌, ◌≡◌, ◌≤◌}
+use Rattle.std.proofs.lemmas.List.Elements.{filter_passes as all_pass}
+
+pub slice_get_of : {X : Type 0} (xs : List X) (n : ℕ) → n < length xs → (x : X) × (slice_get xs n ≡ Some x)
+slice_get_of [] n h = absurd (omega (arith, h))
+slice_get_of (x ∷ xs) zero h = (x, refl)
+slice_get_of (x ∷ xs) (suc n) h = slice_get_of xs n (omega (arith, h))
 
 pub position_or_len-map : {X Y : Type 0} (f : X → Y) (p : Y → Bool) (xs : List X)
     → position_or_len p (map f xs) ≡ position_or_len (λ x. p (f x)) xs
@@ -26,71 +31,34 @@ pub record IsHit {X : Type 0} (p : X → Bool) (xs : List X) (n : ℕ) : Type 0 
   pub passes : p what ≡ true
   pub below : n < length xs
 
-hit_later : {X : Type 0} (p : X → Bool) (x : X) (xs : List X) (n m : ℕ) → suc n ≡ m → IsHit p xs n → IsHit p (x ∷ xs) m
-hit_later p x xs n m e h = record {
-  what = h.what;
-  here = subst (λ (k : ℕ). slice_get (x ∷ xs) k ≡ Some h.what) e h.here;
-  passes = h.passes;
-  below = omega (arith, h.below);
-}
-
-hit_first : {X : Type 0} (p : X → Bool) (x : X) (xs : List X) (b : Bool) → p x ≡ b
-    → cond (not b) (1 + position_or_len p xs) 0 < length (x ∷ xs)
-    → (position_or_len p xs < length xs → IsHit p xs (position_or_len p xs))
-    → IsHit p (x ∷ xs) (cond (not b) (1 + position_or_len p xs) 0)
-hit_first p x xs true e h later = record { what = x; here = refl; passes = e; below = h }
-hit_first p x xs false e h later =
-    hit_later p x xs (position_or_len p xs) (1 + position_or_len p xs) (omega arith) (later (omega (arith, h)))
-
 pub hit : {X : Type 0} (p : X → Bool) (xs : List X) → position_or_len p xs < length xs
     → IsHit p xs (position_or_len p xs)
-hit p [] h = absurd (omega (arith, h))
-hit p (x ∷ xs) h = hit_first p x xs (p x) refl h (hit p xs)
-
-position_hit_if : {X : Type 0} (p : X → Bool) (xs : List X) (n : ℕ) (b : Bool)
-    → nat_lt (position_or_len p xs) (length xs) ≡ b → cond b (Some (position_or_len p xs)) None ≡ Some n → IsHit p xs n
-position_hit_if p xs n true e h =
-    let same : position_or_len p xs ≡ n = cc in
-    subst (λ (k : ℕ). IsHit p xs k) same (hit p xs (ltb-true (position_or_len p xs) (length xs) e))
-position_hit_if p xs n false e h = absurd (let wrong : None ≡ Some n = h in cc)
+hit p xs h =
+    let it = slice_get_of xs (position_or_len p xs) h in
+    let read = get_or_from_slice_get xs (position_or_len p xs) it.0 it.0 it.1 in
+    record { what = it.0; here = it.1; passes = ap p (sym read) ∙ passes_at_first p xs it.0 h; below = h }
 
 pub position_hit : {X : Type 0} (p : X → Bool) (xs : List X) (n : ℕ) → position p xs ≡ Some n → IsHit p xs n
-position_hit p xs n h = position_hit_if p xs n (nat_lt (position_or_len p xs) (length xs)) refl h
-
-filter_passes_if : {X : Type 0} (p : X → Bool) (y : X) (ys : List X) (n : ℕ) (x : X) (b : Bool) → p y ≡ b
-    → slice_get (cond b (y ∷ filter p ys) (filter p ys)) n ≡ Some x
-    → ((k : ℕ) (z : X) → slice_get (filter p ys) k ≡ Some z → p z ≡ true) → p x ≡ true
-filter_passes_if p y ys zero x true e h later = let same : y ≡ x = cc in subst (λ z. p z ≡ true) same e
-filter_passes_if p y ys (suc n) x true e h later = later n x h
-filter_passes_if p y ys n x false e h later = later n x h
+position_hit p xs n h =
+    let it = cond_some (nat_lt (position_or_len p xs) (length xs)) (position_or_len p xs) n h in
+    subst (IsHit p xs) it.1 (hit p xs (ltb-true (position_or_len p xs) (length xs) it.0))
 
 -- a filter keeps only what passes
 pub filter_passes : {X : Type 0} (p : X → Bool) (xs : List X) (n : ℕ) (x : X) → slice_get (filter p xs) n ≡ Some x
     → p x ≡ true
-filter_passes p [] n x h = absurd (let wrong : None ≡ Some x = h in cc)
-filter_passes p (y ∷ ys) n x h = filter_passes_if p y ys n x (p y) refl h (λ k z e. filter_passes p ys k z e)
-
-le_length_if : (b : Bool) (n len : ℕ) → n ≤ len → cond b (1 + n) 0 ≤ 1 + len
-le_length_if true n len h = omega (arith, h)
-le_length_if false n len h = omega arith
-
-le_length : {X : Type 0} (p : X → Bool) (xs : List X) → position_or_len p xs ≤ length xs
-le_length p [] = omega arith
-le_length p (x ∷ xs) =
-    let h = le_length_if (not (p x)) (position_or_len p xs) (length xs) (le_length p xs) in omega (arith, h)
-
-some_if : (n len found : ℕ) (b : Bool) → nat_lt n len ≡ b → cond b (Some n) None ≡ Some found → n ≡ found
-some_if n len found true e h = let same : Some n ≡ Some found = h in cc
-some_if n len found false e h = absurd (let wrong : None ≡ Some found = h in cc)
+filter_passes p xs n x h =
+    ap p (sym (get_or_from_slice_get (filter p xs) n x x h))
+    ∙ All-get_or (λ y. p y ≡ true) (filter p xs) n x (slice_get_within (filter p xs) n x h) (all_pass p xs)
 
 none_if : (n len : ℕ) (b : Bool) → nat_lt n len ≡ b → n ≤ len → cond b (Some n) None ≡ None → len ≡ n
 none_if n len true e h k = absurd (let wrong : Some n ≡ None = k in cc)
 none_if n len false e h k = omega (arith, h, ltb-false n len e)
 
 pub position_at : {X : Type 0} (p : X → Bool) (xs : List X) (n : ℕ) → Some n ≡ position p xs → n ≡ position_or_len p xs
-position_at p xs n h =
-    sym (some_if (position_or_len p xs) (length xs) n (nat_lt (position_or_len p xs) (length xs)) refl (sym h))
+position_at p xs n h = sym (cond_some (nat_lt (position_or_len p xs) (length xs)) (position_or_len p xs) n (sym h)).1
 
 pub position_past : {X : Type 0} (p : X → Bool) (xs : List X) → None ≡ position p xs → length xs ≡ position_or_len p xs
 position_past p xs h =
-    none_if (position_or_len p xs) (length xs) (nat_lt (position_or_len p xs) (length xs)) refl (le_length p xs) (sym h)
+    let within : position_or_len p xs ≤ length xs =
+    omega (arith, length-prefix_len (λ x. not (p x)) xs, length-take (position_or_len p xs) xs) in
+    none_if (position_or_len p xs) (length xs) (nat_lt (position_or_len p xs) (length xs)) refl within (sym h)

@@ -35,9 +35,9 @@ module _ {A : Type 0} {o : Objects A} {plan : Plan A} {roots : List ℕ} {classe
       → slice_get (objects heap) n ≡ Some x → row ≡ row_of heap x)
       → row ≡ row_at g n
   row_read row below read =
-      let it = one_of _ _ _ _ n stand.graph below in
-      read (heap_of stand.records) it.object stand.linked stand.fates it.is
-      ∙ sym (row_here _ _ _ _ _ _ stand.graph it.is)
+      let it = one_of stand.graph n below in
+      read (heap_of stand.records) it.0 stand.linked stand.fates it.1
+      ∙ sym (row_here stand.graph n it.0 it.1)
 
   pub row_within : (row : RowKey) → n < object_count g → row ≡ row_at g n → IsRowIn g row
   row_within row below e = subst (λ (r : RowKey). IsRowIn g r) (sym e) (stand.whole.rows_within n below)
@@ -47,8 +47,8 @@ module _ {A : Type 0} {o : Objects A} {plan : Plan A} {roots : List ℕ} {classe
       → bytes ≡ bytes_of o.view.id_size x)
       → bytes ≡ bytes_at g n
   bytes_read bytes below read =
-      let it = one_of _ _ _ _ n stand.graph below in
-      read (heap_of stand.records) it.object stand.linked.are it.is ∙ sym (bytes_here _ _ _ _ _ _ stand.graph it.is)
+      let it = one_of stand.graph n below in
+      read (heap_of stand.records) it.0 stand.linked.are it.1 ∙ sym (bytes_here stand.graph n it.0 it.1)
 
   -- the identifiers that it holds, and the steps over them
   module _ (ids : List ℕ)
@@ -58,7 +58,7 @@ module _ {A : Type 0} {o : Objects A} {plan : Plan A} {roots : List ℕ} {classe
     held_read = read _ (heap_of stand.records) stand.linked stand.fates stand.planned
 
     pub ids_read : ids ≡ held_by g n
-    ids_read = held_here _ _ _ _ _ _ ids stand.graph held_read.is held_read.are.are
+    ids_read = held_here stand.graph n _ held_read.is ids held_read.are.are
 
     pub steps_read : map (step_in o.index) ids ≡ map (step_in g.ids) (held_by g n)
     steps_read =
@@ -69,4 +69,4 @@ module _ {A : Type 0} {o : Objects A} {plan : Plan A} {roots : List ℕ} {classe
     references_read =
         let held = held_read in
         targets_of_steps o.index ids ∙ same_targets (heap_of stand.records) o.index ids stand.linked.are.ids_are
-        ∙ references_here _ _ _ _ _ _ ids stand.graph held.is held.are.are
+        ∙ references_here stand.graph n _ held.is ids held.are.are

@@ -2,6 +2,7 @@
 use Rattle.std.proofs.Common.{Bool, List, None, Option, Some, [], arith, get_or, length, refl, slice_get, subst, suc}
 use Rattle.std.proofs.Common.{sym, zero, ℕ, ◌<◌, ◌∙◌, ◌∷◌, ◌≡◌, ◌≤◌}
 use Rattle.std.specs.Prelude.{position, ◌==◌}
+use Rattle.std.proofs.lemmas.Option.{slice_get_within as slice_get_below}
 use Rattle.hprof_grammar.specs.Standing.{Sight, Stands}
 use Rattle.hprof_grammar.specs.SubRecord.{Class, Instance, Member, SubRecord}
 use Rattle.hprof_grammar.specs.SubRecord.SubRecord.{class_dump, instance_dump, object_array_dump, primitive_array_dump}
@@ -23,7 +24,7 @@ use Rattle.heap_graph.proofs.HeldLaws.{array_holds, class_holds, instance_holds,
 use Rattle.heap_graph.proofs.InstanceLaws.{linked_whole, right_size}
 use Rattle.heap_graph.proofs.Linking.{no_unknown}
 use Rattle.heap_graph.proofs.RuleLaws.{IsFateFound, fate_found}
-use Rattle.heap_graph.proofs.Standings.{IsThere, one_object, slice_get_below, there}
+use Rattle.heap_graph.proofs.Standings.{IsThere, one_object, there}
 
 -- ---- the layout of an instance begins at some class
 

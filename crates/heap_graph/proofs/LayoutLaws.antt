@@ -1,12 +1,8 @@
 -- The layout of a class, from that of its superclass.
-use Rattle.std.proofs.Common.{List, None, Option, Some, [], ap, arith, map, min, refl, sym, ℕ, ◌++◌, ◌+◌, ◌∙◌, ◌∷◌, ◌≡◌}
-use Rattle.std.proofs.lemmas.List.Sums.{sum_by-append, sum_by-cons}
-use Rattle.hprof_grammar.specs.SubRecord.{Class, Member, SubRecord}
-use Rattle.hprof_grammar.specs.FormatTables.{size_of}
-use Rattle.heap_graph.specs.Fields.{declared_fields, own_fields}
-use Rattle.heap_graph.specs.Layout.{layout, layout_size}
-use Rattle.heap_graph.specs.working.Chains.{IsChainAt, IsFirst, most_size}
-use Rattle.heap_graph.specs.working.IdPlaces.{size_of_fields, size_together}
+use Rattle.heap_graph.proofs.Words.{Class, IsChainAt, IsFirst, List, Member, None, Option, Some, SubRecord, [], ap}
+use Rattle.heap_graph.proofs.Words.{arith, declared_fields, layout, layout_size, map, min, most_size, own_fields, refl}
+use Rattle.heap_graph.proofs.Words.{size_of, size_of_fields, size_together, sum_by-append, sum_by-cons, sym, ℕ, ◌++◌}
+use Rattle.heap_graph.proofs.Words.{◌+◌, ◌∙◌, ◌∷◌, ◌≡◌}
 
 -- ---- the sizes of fields, each told with its class
 

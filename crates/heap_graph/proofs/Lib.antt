@@ -1,3 +1,4 @@
+pub mod Words
 pub mod Naming
 pub mod FollowedFields
 pub mod SkipLaws

@@ -1,31 +1,19 @@
 -- Where the form of a text has no fault, the text is accepted or has a first fault of its links: each rule is kept or
 -- broken by each object, so the first object that breaks one is found by going through them.
-use Rattle.std.proofs.Common.{Contains, List, None, Option, Some, [], ap, arith, inl, inr, length, map, refl, slice_get}
-use Rattle.std.proofs.Common.{subst, suc, take, zero, ⊎_elim, ℕ, ◌+◌, ◌<◌, ◌∙◌, ◌∷◌, ◌≡◌, ◌≤◌, ◌⊎◌}
-use Rattle.std.proofs.lemmas.Bool.{cases_eq, cases_lt}
-use Rattle.hprof_grammar.specs.Dump.{Spells, heap_list, is_object}
-use Rattle.hprof_grammar.specs.Places.{places_of}
-use Rattle.hprof_grammar.specs.Dump.{places_where}
-use Rattle.hprof_grammar.specs.Record.{IsOrderly, Record, tag_of}
-use Rattle.hprof_grammar.specs.Standing.{IsPlaced}
-use Rattle.hprof_grammar.specs.SubRecord.{Class, Instance, ObjectArray, SubRecord}
-use Rattle.hprof_grammar.specs.SubRecord.SubRecord.{class_dump, instance_dump, object_array_dump}
-use Rattle.hprof_grammar.specs.SubRecord.SubRecord.{primitive_array_dump, root}
-use Rattle.heap_graph.specs.declared.rule.LinkRule.{LinkRule}
-use Rattle.heap_graph.specs.declared.rule.LinkRule.TheVariants.{DuplicateObject, InstanceSize, SuperChain, TooLarge}
-use Rattle.heap_graph.specs.declared.rule.LinkRule.TheVariants.{UnknownClass, ZeroObject}
-use Rattle.heap_graph.specs.Heap.{class_named, heap_of, id_of, objects}
-use Rattle.heap_graph.specs.Layout.{IsChain, layout_size}
-use Rattle.heap_graph.specs.LinkFault.{HasLinkFault, IsFirstFault, code_of}
-use Rattle.heap_graph.specs.Accepted.{IsAccepted}
-use Rattle.heap_graph.specs.Linked.{Fails, most_objects}
-use Rattle.heap_graph.specs.working.RuleAnswers.{IsLateRule, IsLeastRule}
-use Rattle.heap_graph.proofs.Answering.{slice_get_of}
+use Rattle.heap_graph.proofs.Words.{Class, Contains, DuplicateObject, Fails, HasLinkFault, Instance, InstanceSize}
+use Rattle.heap_graph.proofs.Words.{IsAccepted, IsChain, IsFirstFault, IsLateRule, IsLeastRule, IsOrderly, IsPlaced}
+use Rattle.heap_graph.proofs.Words.{LinkRule, List, None, ObjectArray, Option, Record, Some, Spells, SubRecord}
+use Rattle.heap_graph.proofs.Words.{SuperChain, TooLarge, UnknownClass, ZeroObject, [], ap, arith, cases_eq, cases_lt}
+use Rattle.heap_graph.proofs.Words.{class_dump, class_named, code_of, heap_list, heap_of, id_of, inl, inr}
+use Rattle.heap_graph.proofs.Words.{instance_dump, is_object, layout_size, length, map, most_objects, object_array_dump}
+use Rattle.heap_graph.proofs.Words.{objects, places_of, places_where, primitive_array_dump, refl, root, slice_get}
+use Rattle.heap_graph.proofs.Words.{slice_get_within, subst, suc, tag_of, take, zero, ℕ, ⊎_elim, ◌+◌, ◌<◌, ◌∙◌, ◌∷◌}
+use Rattle.heap_graph.proofs.Words.{◌≡◌, ◌≤◌, ◌⊎◌}
+use Rattle.heap_graph.proofs.Firsts.{slice_get_of}
 use Rattle.heap_graph.proofs.ChainLaws.{chain_ends, cut_is_no_chain, one_chain}
 use Rattle.heap_graph.proofs.PathLaws.{contains_cases, contains_first, contains_none, contains_rest}
 use Rattle.heap_graph.proofs.RuleLaws.{array_fine, array_unknown, class_bad, class_fine, instance_fine}
 use Rattle.heap_graph.proofs.RuleLaws.{instance_unknown, instance_wrong, none_late}
-use Rattle.heap_graph.proofs.Standings.{slice_get_below}
 use Rattle.heap_graph.proofs.Superclasses.{Comes, comes_to, super_told}
 use Rattle.heap_graph.proofs.Testing.{IsOwn, duplicate_fails, fine_object, large_fails, late_fails, none_before}
 use Rattle.heap_graph.proofs.Testing.{zero_fails}
@@ -125,7 +113,7 @@ pub linked_or_fault : (text : List ℕ) (s : ℕ) (records : List Record) → Sp
 linked_or_fault text s records spells orderly placed =
     let heap = heap_of records in
     let below : (n : ℕ) (o : SubRecord) → slice_get (objects heap) n ≡ Some o → n < length (objects heap) =
-    slice_get_below (objects heap) in
+    slice_get_within (objects heap) in
     ⊎_elim (λ none. inl (record {
       spells = spells;
       orderly = orderly;

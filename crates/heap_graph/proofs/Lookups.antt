@@ -1,29 +1,14 @@
 -- The first thing of a list that bears an identifier, over how the identifier is taken and what is asked of the thing.
-use Rattle.std.proofs.Common.{Bool, List, None, Option, Some, [], ap, arith, false, get_or, length, map, position}
-use Rattle.std.proofs.Common.{refl, slice_get, suc, sym, true, zero, ℕ, ◌+◌, ◌<◌, ◌∙◌, ◌∷◌, ◌≡◌, ◌≤◌}
-use Rattle.std.specs.Prelude.{if◌then◌else◌, ◌==◌}
-use Rattle.std.specs.List.{position_or_len}
-use Rattle.std.proofs.Math.Nat.{lt_of_not-le}
-use Rattle.std.proofs.lemmas.Bool.{cond_below, eq-eqb, eqb-false, eqb-true, ne_eqb}
-use Rattle.std.proofs.lemmas.List.{get_or-map, length-map}
-use Rattle.std.proofs.lemmas.List.Quantifiers.{position-Some}
-use Rattle.std.proofs.lemmas.List.Sums.{fails_before_first}
-use Rattle.std.proofs.lemmas.Option.{get_or_from_slice_get}
-use Rattle.hprof_grammar.specs.Standing.{StandInTurn}
-use Rattle.heap_graph.proofs.Standings.{slice_get_below}
+use Rattle.heap_graph.proofs.Words.{Bool, List, None, Option, Some, StandInTurn, [], ap, arith, cond-false, cond-true}
+use Rattle.heap_graph.proofs.Words.{cond_below, eq-eqb, eqb-false, eqb-true, fails_before_first, false, get_or}
+use Rattle.heap_graph.proofs.Words.{get_or-map, get_or_from_slice_get, if◌then◌else◌, length, length-map, lt_of_not-le}
+use Rattle.heap_graph.proofs.Words.{map, ne_eqb, position, position-Some, position_or_len, refl, slice_get}
+use Rattle.heap_graph.proofs.Words.{slice_get_within, suc, sym, true, zero, ℕ, ◌+◌, ◌<◌, ◌==◌, ◌∙◌, ◌∷◌, ◌≡◌, ◌≤◌}
 
 -- what is taken of the first thing whose key is the identifier
 abbrev pub first_of : {X Y : Type 0} → (X → ℕ) → (X → Y) → List X → ℕ → Option Y
 first_of key part [] id = None
 first_of key part (x ∷ xs) id = if key x == id then Some (part x) else first_of key part xs id
-
-pick : {X : Type 0} (b : Bool) (x y : X) → b ≡ true → (if b then x else y) ≡ x
-pick true x y e = refl
-pick false x y e = absurd (cc e)
-
-pass : {X : Type 0} (b : Bool) (x y : X) → b ≡ false → (if b then x else y) ≡ y
-pass true x y e = absurd (cc e)
-pass false x y e = refl
 
 first_at : {X Y : Type 0} (key : X → ℕ) (part : X → Y) (xs : List X) (id i : ℕ) (x : X) → slice_get xs i ≡ Some x
     → key x ≡ id → ((k : ℕ) → k < i → get_or (map key xs) k 0 ≡ id → ⊥) → Some (part x) ≡ first_of key part xs id
@@ -31,17 +16,17 @@ first_at key part [] id i x here same before = absurd (let wrong : None ≡ Some
 first_at key part (y ∷ ys) id zero x here same before =
     let it : y ≡ x = cc in
     ap (λ z. Some (part z)) (sym it)
-    ∙ sym (pick (key y == id) (Some (part y)) (first_of key part ys id) (eq-eqb (key y) id (ap key it ∙ same)))
+    ∙ sym (cond-true (key y == id) (Some (part y)) (first_of key part ys id) (eq-eqb (key y) id (ap key it ∙ same)))
 first_at key part (y ∷ ys) id (suc i) x here same before =
     first_at key part ys id i x here same (λ k h. before (suc k) (omega (arith, h)))
-    ∙ sym (pass (key y == id) (Some (part y)) (first_of key part ys id) (ne_eqb (key y) id (before 0 (omega arith))))
+    ∙ sym (cond-false (key y == id) (Some (part y)) (first_of key part ys id) (ne_eqb (key y) id (before 0 (omega arith))))
 
 none_first : {X Y : Type 0} (key : X → ℕ) (part : X → Y) (xs : List X) (id : ℕ)
     → ((k : ℕ) → k < length xs → get_or (map key xs) k 0 ≡ id → ⊥) → None ≡ first_of key part xs id
 none_first key part [] id none = refl
 none_first key part (y ∷ ys) id none =
     none_first key part ys id (λ k h. none (suc k) (omega (arith, h)))
-    ∙ sym (pass (key y == id) (Some (part y)) (first_of key part ys id) (ne_eqb (key y) id (none 0 (omega arith))))
+    ∙ sym (cond-false (key y == id) (Some (part y)) (first_of key part ys id) (ne_eqb (key y) id (none 0 (omega arith))))
 
 -- nobody bears an identifier that has no position
 absent : (ids : List ℕ) (id k : ℕ) → None ≡ position (λ x. x == id) ids → k < length ids → get_or ids k 0 ≡ id → ⊥
@@ -68,7 +53,7 @@ pub found : {X Y : Type 0} (key : X → ℕ) (part : X → Y) (ids : List ℕ) (
 found key part ids xs id i x here are e =
     let at = position-Some (λ x. x == id) ids i 0 (sym e) in
     let bears : get_or ids i 0 ≡ key x =
-    ap (λ ns. get_or ns i 0) are ∙ get_or-map key xs i x 0 (slice_get_below xs i x here)
+    ap (λ ns. get_or ns i 0) are ∙ get_or-map key xs i x 0 (slice_get_within xs i x here)
     ∙ ap key (get_or_from_slice_get xs i x x here) in
     first_at key part xs id i x here (sym bears ∙ eqb-true (get_or ids i 0) id at.1)
     (λ k h same. eqb-false (get_or ids k 0) id (at.2 k h) (ap (λ ns. get_or ns k 0) are ∙ same))

@@ -1,14 +1,8 @@
 -- Strings and loaded classes are two kinds of records: each stands in turn, and the first one of an identifier counts.
-use Rattle.std.proofs.Common.{List, Option, Some, [], ap, filter, get_or, length, refl, slice_get, true, ℕ}
-use Rattle.std.proofs.Common.{◌<◌, ◌∷◌, ◌≡◌}
-use Rattle.std.specs.Prelude.{if◌then◌else◌, ◌==◌}
-use Rattle.std.proofs.lemmas.Option.{slice_get-get_or}
-use Rattle.hprof_grammar.specs.Places.{is_load, is_string}
-use Rattle.hprof_grammar.specs.Record.{Record}
-use Rattle.hprof_grammar.specs.Record.Record.{load_class, string}
-use Rattle.hprof_grammar.specs.Standing.{RecordStands, Sight}
-use Rattle.heap_graph.specs.ClassNames.{name_of, string_named}
-use Rattle.heap_graph.specs.working.PlacedNames.{AreNames, loaded_id, string_id}
+use Rattle.heap_graph.proofs.Words.{AreNames, List, Option, Record, RecordStands, Sight, Some, [], ap, filter, get_or}
+use Rattle.heap_graph.proofs.Words.{if◌then◌else◌, is_load, is_string, length, load_class, loaded_id, name_of, refl}
+use Rattle.heap_graph.proofs.Words.{slice_get, slice_get-get_or, string, string_id, string_named, true, ℕ, ◌<◌, ◌==◌}
+use Rattle.heap_graph.proofs.Words.{◌∷◌, ◌≡◌}
 use Rattle.heap_graph.proofs.Firsts.{filter_passes}
 use Rattle.heap_graph.proofs.Lookups.{first_of}
 

@@ -1,11 +1,7 @@
 -- Paths of classes that stand below one another.
-use Rattle.std.proofs.Common.{Contains, List, [], arith, inl, inr, length, refl, subst, suc, sym, zero, ⊎_elim, ℕ, ◌++◌}
-use Rattle.std.proofs.Common.{◌<◌, ◌∙◌, ◌∷◌, ◌≡◌, ◌⊎◌}
-use Rattle.std.specs.Prelude.{slice_index, slice_index_or}
-use Rattle.std.proofs.lemmas.List.Elements.{Contains-append_right}
-use Rattle.hprof_grammar.specs.SubRecord.{Class, SubRecord}
-use Rattle.heap_graph.specs.Layout.{IsLine, NeverEnds}
-use Rattle.heap_graph.specs.working.Chains.{IsPath, IsUnder}
+use Rattle.heap_graph.proofs.Words.{Class, Contains, Contains-append_right, IsLine, IsPath, IsUnder, List, NeverEnds}
+use Rattle.heap_graph.proofs.Words.{SubRecord, [], arith, inl, inr, length, refl, slice_index, slice_index_or, subst}
+use Rattle.heap_graph.proofs.Words.{suc, sym, zero, ℕ, ⊎_elim, ◌++◌, ◌<◌, ◌∙◌, ◌∷◌, ◌≡◌, ◌⊎◌}
 
 contains_at : (a : ℕ) (path : List ℕ) (k i : ℕ) → i < length (a ∷ path) → slice_index_or (a ∷ path) i k ≡ k
     → (a ≡ k) ⊎ Contains path k

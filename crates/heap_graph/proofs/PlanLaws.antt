@@ -1,23 +1,11 @@
 -- What is planned for the classes: the plan grows by one class after the other, and tells the fields of each.
-use Rattle.std.proofs.Common.{Bool, List, None, Option, Some, [], ap, arith, drop, inl, inr, length, length-append}
-use Rattle.std.proofs.Common.{refl, slice_get}
-use Rattle.std.proofs.Common.{subst, suc, sym, take, zero, ⊎_elim, ℕ, ◌++◌, ◌-◌, ◌<◌, ◌∙◌, ◌∷◌, ◌≡◌, ◌≤◌, ◌⊎◌}
-use Rattle.std.specs.Prelude.{slice_index, slice_range}
-use Rattle.std.proofs.lemmas.List.{drop-append-le, length-drop, take-append-le}
-use Rattle.std.proofs.lemmas.Option.{get_or_from_slice_get}
-use Rattle.std.proofs.Math.Seq.{drop-append_seam, take-length}
-use Rattle.hprof_grammar.specs.Standing.{Sight, Stands}
-use Rattle.hprof_grammar.specs.SubRecord.{Class, Member, SubRecord}
-use Rattle.hprof_grammar.specs.SubRecord.SubRecord.{class_dump}
-use Rattle.heap_graph.specs.declared.classes.ClassPlace.{ClassPlace}
-use Rattle.heap_graph.specs.declared.plan.ClassPlan.{ClassPlan}
-use Rattle.heap_graph.specs.Heap.{class_named}
-use Rattle.heap_graph.specs.working.ClassPlans.{AddsPlan, AreClassObjects, AreClassPlans, HasIdPlaces, IsClassPlan}
-use Rattle.heap_graph.specs.working.ClassPlans.{IsPlan}
-use Rattle.heap_graph.specs.working.ClassPlans.{id_places_of, plan_at}
-use Rattle.heap_graph.specs.working.ClassTable.{AreClasses, TableEntry, ids_of}
-use Rattle.heap_graph.specs.working.IdPlaces.{id_places, size_together}
-use Rattle.heap_graph.specs.working.Resolving.{target_in}
+use Rattle.heap_graph.proofs.Words.{AddsPlan, AreClassObjects, AreClassPlans, AreClasses, Bool, Class, ClassPlace}
+use Rattle.heap_graph.proofs.Words.{ClassPlan, HasIdPlaces, IsClassPlan, IsPlan, List, Member, None, Option, Sight}
+use Rattle.heap_graph.proofs.Words.{Some, Stands, SubRecord, TableEntry, [], ap, arith, class_dump, class_named, drop}
+use Rattle.heap_graph.proofs.Words.{drop-append-le, drop-append_seam, get_or_from_slice_get, id_places, id_places_of}
+use Rattle.heap_graph.proofs.Words.{ids_of, inl, inr, length, length-append, length-drop, plan_at, refl, size_together}
+use Rattle.heap_graph.proofs.Words.{slice_get, slice_index, slice_range, subst, suc, sym, take, take-append-le}
+use Rattle.heap_graph.proofs.Words.{take-length, target_in, zero, ℕ, ⊎_elim, ◌++◌, ◌-◌, ◌<◌, ◌∙◌, ◌∷◌, ◌≡◌, ◌≤◌, ◌⊎◌}
 use Rattle.heap_graph.proofs.ChainLaws.{some_inj, some_none}
 use Rattle.heap_graph.proofs.ClassTableLaws.{IsKept, numbered, same_class, there_is}
 

@@ -1,23 +1,12 @@
 -- An object's bytes stand in its spelling.
-use Rattle.std.proofs.Common.{List, [], append-nil, ap, arith, flat_map, length, length-append, map, sum_by, true, ℕ}
-use Rattle.std.proofs.Common.{◌*◌, ◌++◌, ◌+◌, ◌∙◌, ◌∷◌, ◌≡◌, ◌≤◌}
-use Rattle.std.specs.List.{AllByRecursion}
-use Rattle.std.proofs.lemmas.Bool.Decides.{nat_tests}
-use Rattle.std.proofs.lemmas.Grind.{flat_map-append}
-use Rattle.std.proofs.lemmas.List.Sums.{sum_by-cons}
-use Rattle.byteorder.specs.Numbers.{length-bytes_high_first}
-use Rattle.hprof_grammar.specs.Spelling.{Field, spelled}
-use Rattle.hprof_grammar.specs.Spelling.Field.{number, raw, type_code}
+use Rattle.heap_graph.proofs.Words.{AllByRecursion, Field, InArray, InStatic, IsStatic, IsSubRecord, List, Static}
+use Rattle.heap_graph.proofs.Words.{SubRecord, [], ap, append-nil, arith, bounds, bytes_of, class_dump, constant_fields}
+use Rattle.heap_graph.proofs.Words.{flat_map, flat_map-append, instance_dump, length, length-append}
+use Rattle.heap_graph.proofs.Words.{length-bytes_high_first, map, member_fields, nat_tests, number, object_array_dump}
+use Rattle.heap_graph.proofs.Words.{primitive_array_dump, raw, root, size_of, spelled, spelling_of, static_fields}
+use Rattle.heap_graph.proofs.Words.{sum_by, sum_by-cons, true, type_code, ℕ, ◌*◌, ◌++◌, ◌+◌, ◌∙◌, ◌∷◌, ◌≡◌, ◌≤◌}
 use Rattle.hprof_grammar.specs.Spelling as spelling
-use Rattle.hprof_grammar.specs.Bounds.{IsStatic}
-use Rattle.hprof_grammar.specs.SubRecord.{IsSubRecord, Static, SubRecord, constant_fields, member_fields, spelling_of}
-use Rattle.hprof_grammar.specs.SubRecord.{static_fields}
-use Rattle.hprof_grammar.specs.SubRecord.SubRecord.{class_dump, instance_dump, object_array_dump, primitive_array_dump}
-use Rattle.hprof_grammar.specs.SubRecord.SubRecord.{root}
-use Rattle.hprof_grammar.specs.FormatTables.{is_id_size, is_type_at, size_of}
-use Rattle.hprof_grammar.specs.declared.kinds.TypePlace.TheVariants.{InArray, InStatic}
-use Rattle.hprof_grammar.proofs.BoundsLaws.{bounds}
-use Rattle.heap_graph.specs.Rows.{bytes_of}
+use Rattle.hprof_grammar.specs.FormatTables.{is_id_size, is_type_at}
 
 -- ---- two facts of the tables
 
@@ -53,13 +42,9 @@ numbers_width s (v ∷ vs) = omega (
 )
 
 static_width : (s : ℕ) (f : Static) → IsStatic s f → size_of s f.type ≤ length (spelled (static_fields s f))
-static_width s f is = omega (
-  arith,
-  is.value,
-  raw_width f.value,
-  behind_field (type_code InStatic f.type) (raw f.value ∷ []),
-  behind_field (number s f.name) (type_code InStatic f.type ∷ raw f.value ∷ []),
-)
+static_width s f is =
+    let front : List Field = number s f.name ∷ type_code InStatic f.type ∷ [] in
+    omega (arith, is.value, raw_width f.value, joined front (raw f.value ∷ []))
 
 statics_width : (s : ℕ) (fs : List Static) → AllByRecursion (IsStatic s) fs
     → sum_by (λ f. size_of s f.type) fs ≤ length (spelled (flat_map (static_fields s) fs))
@@ -89,33 +74,14 @@ bytes_width s (class_dump c) is =
       joined front (middle ++ back),
     )
 bytes_width s (instance_dump i) is =
-    omega (
-      arith,
-      raw_width i.values,
-      behind_field (number 4 (length i.values)) (raw i.values ∷ []),
-      behind_field (number s i.class) (number 4 (length i.values) ∷ raw i.values ∷ []),
-      behind_field (number 4 i.stack) (number s i.class ∷ number 4 (length i.values) ∷ raw i.values ∷ []),
-      behind_field (number s i.object)
-          (number 4 i.stack ∷ number s i.class ∷ number 4 (length i.values) ∷ raw i.values ∷ []),
-    )
+    let front : List Field =
+    number s i.object ∷ number 4 i.stack ∷ number s i.class ∷ number 4 (length i.values) ∷ [] in
+    omega (arith, raw_width i.values, joined front (raw i.values ∷ []))
 bytes_width s (object_array_dump a) is =
-    omega (
-      arith,
-      numbers_width s a.elements,
-      behind_field (number s a.class) (map (number s) a.elements),
-      behind_field (number 4 (length a.elements)) (number s a.class ∷ map (number s) a.elements),
-      behind_field (number 4 a.stack) (number 4 (length a.elements) ∷ number s a.class ∷ map (number s) a.elements),
-      behind_field (number s a.object)
-          (number 4 a.stack ∷ number 4 (length a.elements) ∷ number s a.class ∷ map (number s) a.elements),
-    )
+    let front : List Field =
+    number s a.object ∷ number 4 a.stack ∷ number 4 (length a.elements) ∷ number s a.class ∷ [] in
+    omega (arith, numbers_width s a.elements, joined front (map (number s) a.elements))
 bytes_width s (primitive_array_dump a) is =
-    omega (
-      arith,
-      is.formed.sizes,
-      raw_width a.values,
-      behind_field (type_code InArray a.type) (raw a.values ∷ []),
-      behind_field (number 4 a.count) (type_code InArray a.type ∷ raw a.values ∷ []),
-      behind_field (number 4 a.stack) (number 4 a.count ∷ type_code InArray a.type ∷ raw a.values ∷ []),
-      behind_field (number s a.object)
-          (number 4 a.stack ∷ number 4 a.count ∷ type_code InArray a.type ∷ raw a.values ∷ []),
-    )
+    let front : List Field =
+    number s a.object ∷ number 4 a.stack ∷ number 4 a.count ∷ type_code InArray a.type ∷ [] in
+    omega (arith, is.formed.sizes, raw_width a.values, joined front (raw a.values ∷ []))

@@ -1,26 +1,13 @@
 -- Objects that stand at their places.
-use Rattle.std.proofs.Common.{Bool, List, None, Option, Some, [], ap, arith, cond, false, get_or, length, refl}
-use Rattle.std.proofs.Common.{slice_get, subst, suc, sym, true, zero, ℕ, ◌<◌, ◌∙◌, ◌∷◌, ◌≡◌}
-use Rattle.std.specs.Prelude.{option_and_then, position, ◌==◌}
-use Rattle.std.proofs.lemmas.List.{length-map}
-use Rattle.std.proofs.lemmas.Option.{slice_get-get_or}
-use Rattle.hprof_grammar.specs.Dump.{id_of, is_object}
-use Rattle.hprof_grammar.specs.ObjectKinds.{object_kind}
-use Rattle.hprof_grammar.specs.Standing.{Sight, StandInTurn, Stands}
-use Rattle.hprof_grammar.specs.SubRecord.{SubRecord}
-use Rattle.hprof_grammar.specs.SubRecord.SubRecord.{class_dump, instance_dump, object_array_dump, primitive_array_dump}
-use Rattle.hprof_grammar.specs.declared.view.ObjectKind.{ObjectKind}
+use Rattle.heap_graph.proofs.Words.{AreObjects, Bool, IsClassNumber, IsObjectAt, List, None, ObjectKind, Option, Sight}
+use Rattle.heap_graph.proofs.Words.{Some, StandInTurn, Stands, SubRecord, [], ap, arith, as_class, class_dump}
+use Rattle.heap_graph.proofs.Words.{class_named, cond, false, get_or, id_of, instance_dump, is_object, length}
+use Rattle.heap_graph.proofs.Words.{length-map, number_named, object_array_dump, object_kind, object_named, objects}
+use Rattle.heap_graph.proofs.Words.{option_and_then, position, primitive_array_dump, refl, slice_get, slice_get-get_or}
+use Rattle.heap_graph.proofs.Words.{slice_get_read, slice_get_within, subst, suc, sym, true, zero, ℕ, ◌<◌, ◌==◌, ◌∙◌}
+use Rattle.heap_graph.proofs.Words.{◌∷◌, ◌≡◌}
 use Rattle.hprof_grammar.specs.declared.view.ObjectKind.TheVariants as kinds
-use Rattle.heap_graph.specs.Heap.{as_class, class_named, number_named, object_named, objects}
-use Rattle.heap_graph.specs.working.ClassNumbers.{IsClassNumber}
-use Rattle.heap_graph.specs.working.HeldIds.{IsObjectAt}
-use Rattle.heap_graph.specs.working.PlacedObjects.{AreObjects}
 use Rattle.heap_graph.proofs.Firsts.{filter_passes, position-map}
-
-pub slice_get_below : {X : Type 0} (xs : List X) (n : ℕ) (x : X) → slice_get xs n ≡ Some x → n < length xs
-slice_get_below [] n x h = absurd (let wrong : None ≡ Some x = h in cc)
-slice_get_below (y ∷ ys) zero x h = omega arith
-slice_get_below (y ∷ ys) (suc n) x h = omega (arith, slice_get_below ys n x h)
 
 -- the object of that number, and that it stands at its place
 pub record IsThere (v : Sight) (heap : List SubRecord) (n at : ℕ) : Type 0 where
@@ -29,19 +16,11 @@ pub record IsThere (v : Sight) (heap : List SubRecord) (n at : ℕ) : Type 0 whe
   pub stands : Stands v at object
   pub describes : is_object object ≡ true
 
-pub same_count : (v : Sight) (places ids : List ℕ) (heap : List SubRecord) → AreObjects v places ids heap
-    → length ids ≡ length places
-same_count v places ids heap are = ap length are.ids_are ∙ length-map (objects heap) id_of ∙ sym are.stand.count
-
 pub stands_there : (v : Sight) (places : List ℕ) (heap : List SubRecord) (n : ℕ)
     → StandInTurn (Stands v) places (objects heap) → n < length places → IsThere v heap n (get_or places n 0)
 stands_there v places heap n stand h =
     let it = stand.each n (get_or places n 0) (slice_get-get_or places n 0 h) in
     record { object = it.0; is = it.1; stands = it.2; describes = filter_passes is_object heap n it.0 it.1 }
-
-pub there : (v : Sight) (places ids : List ℕ) (heap : List SubRecord) (n : ℕ) → AreObjects v places ids heap
-    → n < length places → IsThere v heap n (get_or places n 0)
-there v places ids heap n are h = stands_there v places heap n are.stand h
 
 -- the identifier that is read there, whichever heap list's objects stand in turn
 pub id_there : (v : Sight) (places : List ℕ) (n id : ℕ) → n < length places
@@ -51,12 +30,28 @@ pub id_there : (v : Sight) (places : List ℕ) (n id : ℕ) → n < length place
 id_there v places n id h read heap stand =
     let it = stands_there v places heap n stand h in (it.object, it.is, read it.object it.stands)
 
--- the same of a place that was read
-pub there_at : (v : Sight) (places ids : List ℕ) (heap : List SubRecord) (n at : ℕ) → AreObjects v places ids heap
-    → n < length places → at ≡ get_or places n at → IsThere v heap n at
-there_at v places ids heap n at are h read =
-    let it = are.stand.each n at (slice_get-get_or places n at h ∙ ap (λ (m : ℕ). Some m) (sym read)) in
-    record { object = it.0; is = it.1; stands = it.2; describes = filter_passes is_object heap n it.0 it.1 }
+module _ (v : Sight) (places ids : List ℕ) (heap : List SubRecord) where
+  pub same_count : AreObjects v places ids heap → length ids ≡ length places
+  same_count are = ap length are.ids_are ∙ length-map (objects heap) id_of ∙ sym are.stand.count
+
+  pub there : (n : ℕ) → AreObjects v places ids heap → n < length places → IsThere v heap n (get_or places n 0)
+  there n are h = stands_there v places heap n are.stand h
+
+  -- the same of a place that was read
+  pub there_at : (n at : ℕ) → AreObjects v places ids heap → n < length places → at ≡ get_or places n at
+      → IsThere v heap n at
+  there_at n at are h read =
+      let it = are.stand.each n at (slice_get_read places (length places) n at refl h read) in
+      record { object = it.0; is = it.1; stands = it.2; describes = filter_passes is_object heap n it.0 it.1 }
+
+  -- an identifier names what the index finds
+  pub number_is : (id : ℕ) → AreObjects v places ids heap → number_named heap id ≡ position (λ x. x == id) ids
+  number_is id are = sym (ap (position (λ x. x == id)) are.ids_are ∙ position-map id_of (λ x. x == id) (objects heap))
+
+  -- the number of an object is below the number of places
+  pub number_below : (n : ℕ) (o : SubRecord) → AreObjects v places ids heap → slice_get (objects heap) n ≡ Some o
+      → n < length places
+  number_below n o are h = omega (arith, are.stand.count, slice_get_within (objects heap) n o h)
 
 -- a number has one object, and what is told of it is told of one
 pub one_object : (heap : List SubRecord) (n : ℕ) (o x : SubRecord) → slice_get (objects heap) n ≡ Some o
@@ -66,13 +61,6 @@ one_object heap n o x e f = let both : Some o ≡ Some x = sym e ∙ f in cc
 pub told_of_one : {Y : Type 0} (f : SubRecord → Y) (heap : List SubRecord) (n : ℕ) (o x : SubRecord)
     → slice_get (objects heap) n ≡ Some o → slice_get (objects heap) n ≡ Some x → f o ≡ f x
 told_of_one f heap n o x e is = ap f (one_object heap n o x e is)
-
--- an identifier names what the index finds
-pub number_is : (v : Sight) (places ids : List ℕ) (heap : List SubRecord) (id : ℕ) → AreObjects v places ids heap
-    → number_named heap id ≡ position (λ x. x == id) ids
-number_is v places ids heap id are =
-    sym (ap (λ (xs : List ℕ). position (λ x. x == id) xs) are.ids_are
-    ∙ position-map id_of (λ x. x == id) (objects heap))
 
 class_if : (heap : List SubRecord) (id : ℕ) (b : Bool) (o : Option ℕ) → (id == 0) ≡ b → b ≡ false
     → number_named heap id ≡ o → class_named heap id ≡ option_and_then as_class
@@ -86,11 +74,6 @@ class_if heap id false o e f named =
 pub class_is : (heap : List SubRecord) (id : ℕ) (o : Option ℕ) → (id == 0) ≡ false → number_named heap id ≡ o
     → class_named heap id ≡ option_and_then as_class (option_and_then (λ n. slice_get (objects heap) n) o)
 class_is heap id o e named = class_if heap id false o e refl named
-
--- the number of an object is below the number of places
-pub number_below : (v : Sight) (places ids : List ℕ) (heap : List SubRecord) (n : ℕ) (o : SubRecord)
-    → AreObjects v places ids heap → slice_get (objects heap) n ≡ Some o → n < length places
-number_below v places ids heap n o are h = omega (arith, are.stand.count, slice_get_below (objects heap) n o h)
 
 -- ---- the object of that number, by the kind that is read at its place
 
@@ -137,14 +120,9 @@ IsReadAs {X = X} wrap kind = (v : Sight) (places ids : List ℕ) (heap : List Su
 read_as : {X : Type 0} (wrap : X → SubRecord) (kind : ObjectKind)
     → ((o : SubRecord) → object_kind o ≡ Some kind → IsDumpBy wrap o) → IsReadAs wrap kind
 read_as wrap kind is v places ids heap n at are h here read =
-    let it : IsThere v heap n at = there_at v places ids heap n at are h here in
-    let dump : IsDumpBy wrap it.object = is it.object (read it.object it.stands it.describes) in (
-      dump.what,
-      record {
-        is = it.is ∙ ap (λ (x : SubRecord). Some x) dump.same;
-        stands = subst (λ (x : SubRecord). Stands v at x) dump.same it.stands;
-      },
-    )
+    let it = there_at v places ids heap n at are h here in
+    let dump = is it.object (read it.object it.stands it.describes) in
+    (dump.what, record { is = it.is ∙ ap Some dump.same; stands = subst (Stands v at) dump.same it.stands })
 
 pub class_at : IsReadAs class_dump kinds.Class
 class_at = read_as class_dump kinds.Class is_class_dump

@@ -1,23 +1,16 @@
 -- What becomes of the superclasses of a class, for every heap list: they end, or they never do. Each step up takes one
 -- identifier away from those that were not passed yet, so a walk comes to its end, or to a class that it has passed.
-use Rattle.std.proofs.Common.{Bool, Contains, List, None, Option, Some, [], arith, cond, false, filter, inl, inr}
-use Rattle.std.proofs.Common.{length, map, not, refl, subst, suc, sym, true, zero, ⊎_elim, ℕ}
-use Rattle.std.proofs.Common.{◌<◌, ◌∙◌, ◌∷◌, ◌≡◌, ◌≤◌, ◌⊎◌}
-use Rattle.std.specs.Prelude.{◌==◌}
-use Rattle.std.proofs.lemmas.Bool.{cases_eq, eqb-false, eqb-true}
-use Rattle.std.proofs.lemmas.List.{length-map}
-use Rattle.hprof_grammar.specs.SubRecord.{Class, SubRecord}
-use Rattle.hprof_grammar.specs.SubRecord.SubRecord.{class_dump}
-use Rattle.heap_graph.specs.Heap.{class_named, id_of, objects}
-use Rattle.heap_graph.specs.Layout.{IsChain, IsLine, NeverEnds}
-use Rattle.heap_graph.specs.SuperRule.{IsBadSuper}
-use Rattle.heap_graph.specs.working.Chains.{IsCut}
+use Rattle.heap_graph.proofs.Words.{Bool, Class, Contains, IsBadSuper, IsChain, IsCut, IsLine, List, NeverEnds, None}
+use Rattle.heap_graph.proofs.Words.{Option, Some, SubRecord, [], ap, arith, cases_eq, class_dump, class_named, cond}
+use Rattle.heap_graph.proofs.Words.{eq-eqb, eqb-true, false, filter, get_or, get_or-le-sum_by, id_of, inl, inr, length}
+use Rattle.heap_graph.proofs.Words.{length-filter, length-filter_both, length-map, map, not, objects, refl}
+use Rattle.heap_graph.proofs.Words.{slice_get_within, subst, suc, sym, true, zero, ℕ, ⊎_elim, ◌<◌, ◌==◌, ◌∙◌, ◌∷◌, ◌≡◌}
+use Rattle.heap_graph.proofs.Words.{◌≤◌, ◌⊎◌}
 use Rattle.heap_graph.proofs.Answering.{here_is}
 use Rattle.heap_graph.proofs.ChainLaws.{chain_ends, cut_ends, cut_is_no_chain, never_below}
-use Rattle.heap_graph.proofs.Linking.{IsClassThere, class_there}
+use Rattle.heap_graph.proofs.Linking.{class_there}
 use Rattle.heap_graph.proofs.PathLaws.{contains_cases, contains_first, contains_none, contains_rest}
 use Rattle.heap_graph.proofs.RuleLaws.{fine_super}
-use Rattle.heap_graph.proofs.Standings.{slice_get_below}
 
 -- ---- a list without a number
 
@@ -36,26 +29,17 @@ kept x y [] c = absurd (contains_none y c)
 kept x y (z ∷ zs) c =
     kept_if x y z (but x zs) (z == x) refl (⊎_elim inl (λ h. inr (kept x y zs h)) (contains_cases z zs y c))
 
-fewer_if : (x z : ℕ) (left zs : List ℕ) (b : Bool) → (z == x) ≡ b → length left ≤ length zs
-    → (z ≡ x) ⊎ (length left < length zs) → length (cond (not b) (z ∷ left) left) < length (z ∷ zs)
-fewer_if x z left zs true e most h = omega (arith, most)
-fewer_if x z left zs false e most (inl h) = absurd (eqb-false z x e h)
-fewer_if x z left zs false e most (inr h) = omega (arith, h)
-
-no_more_if : (z : ℕ) (left zs : List ℕ) (b : Bool) → length left ≤ length zs
-    → length (cond b (z ∷ left) left) ≤ length (z ∷ zs)
-no_more_if z left zs true h = omega (arith, h)
-no_more_if z left zs false h = omega (arith, h)
-
-no_more : (x : ℕ) (xs : List ℕ) → length (but x xs) ≤ length xs
-no_more x [] = omega arith
-no_more x (z ∷ zs) = no_more_if z (but x zs) zs (not (z == x)) (no_more x zs)
-
 fewer : (x : ℕ) (xs : List ℕ) → Contains xs x → length (but x xs) < length xs
-fewer x [] c = absurd (contains_none x c)
-fewer x (z ∷ zs) c =
-    fewer_if x z (but x zs) zs (z == x) refl (no_more x zs)
-    (⊎_elim inl (λ h. inr (fewer x zs h)) (contains_cases z zs x c))
+fewer x xs c =
+    let one : cond {A = ℕ} (get_or xs c.0 x == x) 1 0 ≡ 1 =
+    ap (λ (b : Bool). cond {A = ℕ} b 1 0) (eq-eqb (get_or xs c.0 x) x c.2) in
+    omega (
+      arith,
+      length-filter_both (λ y. y == x) (λ y. not (y == x)) (λ y. refl) xs,
+      length-filter (λ y. y == x) xs,
+      get_or-le-sum_by (λ y. cond {A = ℕ} (y == x) 1 0) xs c.0 x c.1,
+      one,
+    )
 
 -- ---- a walk up the superclasses
 
@@ -133,8 +117,8 @@ module _ (heap : List SubRecord) where
 
   bears : (id : ℕ) (c : Class) → class_named heap id ≡ Some c → Contains (map id_of (objects heap)) id
   bears id c named =
-      let it : IsClassThere heap id c = class_there heap id c named in
-      let below = slice_get_below (objects heap) it.number (class_dump c) it.is in (
+      let it = class_there heap id c named in
+      let below = slice_get_within (objects heap) it.number (class_dump c) it.is in (
         it.number,
         omega (arith, length-map (objects heap) id_of, below),
         here_is id_of (objects heap) it.number (class_dump c) id it.is ∙ it.id_is,

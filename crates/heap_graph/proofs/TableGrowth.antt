@@ -8,6 +8,7 @@ use Rattle.std.proofs.lemmas.Bool.{cases_order, eq-eqb, eqb-true, lt-ltb, ne_eqb
 use Rattle.std.proofs.lemmas.List.{map-append, take_all}
 use Rattle.std.proofs.lemmas.List.Elements.{Contains-append_cases, Contains-append_left, Contains-append_right}
 use Rattle.std.proofs.lemmas.List.Elements.{filter_map-append}
+use Rattle.std.proofs.lemmas.Option.{slice_get_within as slice_get_below}
 use Rattle.hprof_grammar.specs.Standing.{Sight, Stands}
 use Rattle.hprof_grammar.specs.Dump.{id_of}
 use Rattle.hprof_grammar.specs.SubRecord.{Class, SubRecord}
@@ -22,7 +23,7 @@ use Rattle.heap_graph.proofs.ChainLaws.{some_inj, some_none}
 use Rattle.heap_graph.proofs.EntryLaws.{take_one}
 use Rattle.heap_graph.proofs.Firsts.{IsHit, position_at, position_hit}
 use Rattle.heap_graph.proofs.PathLaws.{contains_cases, contains_none}
-use Rattle.heap_graph.proofs.Standings.{class_is, number_is, slice_get_below}
+use Rattle.heap_graph.proofs.Standings.{class_is, number_is}
 use Rattle.heap_graph.proofs.Wholeness.{same_classes}
 
 -- ---- the first that bears an identifier

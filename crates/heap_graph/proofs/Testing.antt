@@ -1,19 +1,9 @@
 -- What the tests of one object show.
-use Rattle.std.proofs.Common.{Contains, List, None, Option, Some, ap, arith, map, slice_get, subst, sym, take, ⊎_elim}
-use Rattle.std.proofs.Common.{ℕ, ◌+◌, ◌∙◌, ◌<◌, ◌≡◌, ◌≤◌}
-use Rattle.std.specs.Option.{option_map}
-use Rattle.std.proofs.lemmas.Bool.{cases_order}
-use Rattle.std.proofs.lemmas.Option.{same_Some, slice_get-map}
-use Rattle.hprof_grammar.specs.Dump.{id_of}
-use Rattle.hprof_grammar.specs.SubRecord.{SubRecord}
-use Rattle.heap_graph.specs.declared.rule.LinkRule.{LinkRule}
-use Rattle.heap_graph.specs.declared.rule.LinkRule.TheVariants.{DuplicateObject, InstanceSize, SuperChain, TooLarge}
-use Rattle.heap_graph.specs.declared.rule.LinkRule.TheVariants.{UnknownClass, ZeroObject}
-use Rattle.heap_graph.specs.Heap.{objects}
-use Rattle.heap_graph.specs.LinkFault.{IsLeastFault, code_of}
-use Rattle.heap_graph.specs.Linked.{Breaks, Fails, most_objects}
-use Rattle.id_index.specs.Repeats.{IsFirstRepeat}
-use Rattle.heap_graph.specs.working.RuleAnswers.{BreaksLate, IsLateRule, IsLeastRule}
+use Rattle.heap_graph.proofs.Words.{Breaks, BreaksLate, Contains, DuplicateObject, Fails, InstanceSize, IsFirstRepeat}
+use Rattle.heap_graph.proofs.Words.{IsLateRule, IsLeastFault, IsLeastRule, LinkRule, List, None, Option, Some}
+use Rattle.heap_graph.proofs.Words.{SubRecord, SuperChain, TooLarge, UnknownClass, ZeroObject, ap, arith, cases_order}
+use Rattle.heap_graph.proofs.Words.{code_of, id_of, map, most_objects, objects, option_map, same_Some, slice_get}
+use Rattle.heap_graph.proofs.Words.{slice_get-map, subst, sym, take, ℕ, ⊎_elim, ◌+◌, ◌<◌, ◌∙◌, ◌≡◌, ◌≤◌}
 
 code_range : (rule : LinkRule) → (9 ≤ code_of rule) × (code_of rule ≤ 14)
 code_range ZeroObject = (omega arith, omega arith)

@@ -1,21 +1,10 @@
 -- What each object misses, and what the roots miss, make up the number of the histogram.
-use Rattle.std.proofs.Common.{Bool, List, [], ap, arith, cond, count_by, get_or, length, refl, suc, sum_by, sym, zero}
-use Rattle.std.proofs.Common.{⊎_elim, ℕ, ◌+◌, ◌^◌, ◌∙◌, ◌∷◌, ◌≡◌, ◌≤◌}
-use Rattle.std.specs.List.{concat, range_with_len}
-use Rattle.std.proofs.lemmas.Bool.{cases_lt}
-use Rattle.std.proofs.lemmas.List.{get_or_past}
-use Rattle.std.proofs.lemmas.List.Sums.{sum_by-append, sum_by-cons}
-use Rattle.std.proofs.lemmas.Option.{slice_get-get_or}
-use Rattle.hprof_grammar.specs.Record.{Record}
-use Rattle.hprof_grammar.specs.SubRecord.{Class, Member, SubRecord}
-use Rattle.heap_graph.specs.Heap.{heap_of, objects}
-use Rattle.heap_graph.specs.ObjectGraph.{IsGraphOf, ObjectGraph, object_count}
-use Rattle.heap_graph.specs.Whole.{unresolved_among, unresolved_roots}
-use Rattle.heap_graph.specs.References.{is_unresolved}
-use Rattle.heap_graph.specs.Roots.{root_ids}
-use Rattle.heap_graph.specs.Skips.{SkipEntry}
-use Rattle.heap_graph.specs.Walks.{is_unresolved_in}
-use Rattle.heap_graph.proofs.Answering.{slice_get_of}
+use Rattle.heap_graph.proofs.Words.{Bool, Class, IsGraphOf, List, Member, ObjectGraph, Record, SkipEntry, SubRecord, []}
+use Rattle.heap_graph.proofs.Words.{ap, arith, cases_lt, concat, cond, count_by, get_or, get_or_past, heap_of}
+use Rattle.heap_graph.proofs.Words.{is_unresolved, is_unresolved_in, length, object_count, objects, range_with_len}
+use Rattle.heap_graph.proofs.Words.{refl, root_ids, slice_get-get_or, suc, sum_by, sum_by-append, sum_by-cons, sym}
+use Rattle.heap_graph.proofs.Words.{unresolved_among, unresolved_roots, zero, ℕ, ⊎_elim, ◌+◌, ◌^◌, ◌∙◌, ◌∷◌, ◌≡◌, ◌≤◌}
+use Rattle.heap_graph.proofs.Firsts.{slice_get_of}
 use Rattle.heap_graph.proofs.HeldLists.{HoldLists}
 use Rattle.heap_graph.proofs.Targets.{same_unresolved}
 
@@ -29,8 +18,7 @@ count-concat p (ids ∷ lists) =
       arith,
       sum_by-append (λ x. cond (p x) 1 0) ids (concat lists),
       count-concat p lists,
-      sum_by-cons
-          (λ (xs : List ℕ). count_by p xs) ids lists,
+      sum_by-cons (count_by p) ids lists,
     )
 
 sum-later : (f : ℕ → ℕ) (a n : ℕ) → sum_by f (range_with_len (a + 1) n) ≡ sum_by (λ o. f (suc o)) (range_with_len a n)
@@ -42,8 +30,7 @@ sum-later f a (suc n) =
       sum_by-cons f (a + 1) (range_with_len (a + 1 + 1) n),
       sum-later f (a + 1) n,
       ap f next,
-      sum_by-cons
-          (λ o. f (suc o)) a (range_with_len (a + 1) n),
+      sum_by-cons (λ o. f (suc o)) a (range_with_len (a + 1) n),
     )
 
 pub sum-by_number : (f : List ℕ → ℕ) (lists : List (List ℕ))
@@ -54,49 +41,43 @@ sum-by_number f (ids ∷ lists) =
       arith,
       sum_by-cons f ids lists,
       sum-by_number f lists,
-      sum-later (λ o. f (get_or (ids ∷ lists) o [])) 0
-          (length lists),
+      sum-later (λ o. f (get_or (ids ∷ lists) o [])) 0 (length lists),
       sum_by-cons (λ o. f (get_or (ids ∷ lists) o [])) 0 (range_with_len (0 + 1) (length lists)),
     )
 
 -- ---- both parts
 
-pub roots_unresolved : (s : ℕ) (records : List Record) (skip : List SkipEntry) (g : ObjectGraph)
-    → IsGraphOf s records skip g
-    → unresolved_roots g ≡ count_by (is_unresolved (heap_of records)) (root_ids (heap_of records))
-roots_unresolved s records skip g graph =
-    same_unresolved (heap_of records) g.ids g.root_names graph.ids_are ∙ ap
-    (λ (ids : List ℕ). count_by (is_unresolved (heap_of records)) ids) graph.root_names_are
+module _ {s : ℕ} {records : List Record} {skip : List SkipEntry} {g : ObjectGraph}
+    (graph : IsGraphOf s records skip g) where
+  pub roots_unresolved : unresolved_roots g ≡ count_by (is_unresolved (heap_of records)) (root_ids (heap_of records))
+  roots_unresolved =
+      same_unresolved (heap_of records) g.ids g.root_names graph.ids_are
+      ∙ ap (count_by (is_unresolved (heap_of records))) graph.root_names_are
 
-objects_unresolved : (s : ℕ) (records : List Record) (skip : List SkipEntry) (g : ObjectGraph)
-    → IsGraphOf s records skip g
-    → count_by (is_unresolved (heap_of records)) (concat g.held) ≡ unresolved_among g (range_with_len 0 (length g.held))
-objects_unresolved s records skip g graph =
-    sym (same_unresolved (heap_of records) g.ids (concat g.held) graph.ids_are)
-    ∙ count-concat (is_unresolved_in g.ids) g.held
-    ∙ sum-by_number (λ (ids : List ℕ). count_by (is_unresolved_in g.ids) ids) g.held
+  objects_unresolved : count_by (is_unresolved (heap_of records)) (concat g.held)
+      ≡ unresolved_among g (range_with_len 0 (length g.held))
+  objects_unresolved =
+      sym (same_unresolved (heap_of records) g.ids (concat g.held) graph.ids_are)
+      ∙ count-concat (is_unresolved_in g.ids) g.held ∙ sum-by_number (count_by (is_unresolved_in g.ids)) g.held
 
-pub parts_unresolved : (s : ℕ) (records : List Record) (skip : List SkipEntry) (g : ObjectGraph)
-    → IsGraphOf s records skip g
-    → length g.held ≡ object_count g
-    → g.unresolved ≡ unresolved_among g (range_with_len 0 (object_count g)) + unresolved_roots g
-parts_unresolved s records skip g graph each =
-    omega (
-      arith,
-      graph.unresolved_is,
-      sum_by-append (λ x. cond (is_unresolved (heap_of records) x) 1 0) (concat g.held)
-          (root_ids (heap_of records)),
-      objects_unresolved s records skip g graph,
-      ap
-          (λ (n : ℕ). unresolved_among g (range_with_len 0 n)) each,
-      roots_unresolved s records skip g graph,
-    )
+  pub parts_unresolved : length g.held ≡ object_count g
+      → g.unresolved ≡ unresolved_among g (range_with_len 0 (object_count g)) + unresolved_roots g
+  parts_unresolved each =
+      let heap = heap_of records in
+      omega (
+        arith,
+        graph.unresolved_is,
+        sum_by-append (λ x. cond (is_unresolved heap x) 1 0) (concat g.held) (root_ids heap),
+        objects_unresolved,
+        ap (λ (n : ℕ). unresolved_among g (range_with_len 0 n)) each,
+        roots_unresolved,
+      )
 
 -- ---- no list is too long
 
-pub few_held : (skips : Class → Member → Bool) (s : ℕ) (heap : List SubRecord) (held : HoldLists skips s heap) (n : ℕ)
+pub few_held : {skips : Class → Member → Bool} {s : ℕ} {heap : List SubRecord} (held : HoldLists skips s heap) (n : ℕ)
     → length (get_or held.lists n []) ≤ 2 ^ 33
-few_held skips s heap held n = ⊎_elim
+few_held {heap = heap} held n = ⊎_elim
     (λ l.
     let object = slice_get_of (objects heap) n (omega (arith, l, held.one_each)) in
     (held.each n object.0 (get_or held.lists n []) object.1 (slice_get-get_or held.lists n [] l)).few)

@@ -1,39 +1,21 @@
 -- The graph of a linked heap list is whole.
-use Rattle.std.proofs.Common.{All, Bool, List, None, Option, Some, [], ap, arith, cond, false, get_or, length, map, not}
-use Rattle.std.proofs.Common.{refl, slice_get, subst, suc, sym, true, zero, ⊎_elim, ℕ, ◌+◌, ◌<◌, ◌∙◌, ◌∷◌, ◌≡◌, ◌≤◌}
-use Rattle.std.proofs.Common.{◌^◌}
-use Rattle.std.specs.Prelude.{filter_map, ◌==◌}
-use Rattle.std.specs.List.{cons_option, position_or_len}
-use Rattle.std.proofs.lemmas.Bool.{cases_lt, eq-eqb}
-use Rattle.std.proofs.lemmas.List.{get_or_past, length-map}
-use Rattle.std.proofs.lemmas.List.Elements.{All-cons}
-use Rattle.std.proofs.lemmas.List.Sums.{count_by-le-length}
-use Rattle.std.proofs.lemmas.Option.{slice_get-get_or}
-use Rattle.hprof_grammar.specs.Dump.{id_of, is_object, limit}
-use Rattle.hprof_grammar.specs.Record.{Record}
-use Rattle.hprof_grammar.specs.Standing.{Sight, Stands}
-use Rattle.hprof_grammar.specs.SubRecord.{Class, IsSubRecord, SubRecord, spelling_of}
-use Rattle.hprof_grammar.specs.SubRecord.SubRecord.{class_dump, instance_dump, object_array_dump, primitive_array_dump}
-use Rattle.hprof_grammar.specs.SubRecord.SubRecord.{root}
-use Rattle.heap_graph.specs.declared.row.RowKey.{RowKey}
-use Rattle.heap_graph.specs.declared.rule.LinkRule.TheVariants.{TooLarge, UnknownClass}
-use Rattle.heap_graph.specs.Heap.{as_class, class_dumps, class_named, class_number, heap_of, number_named, objects}
-use Rattle.heap_graph.specs.working.HeldIds.{AreLinked}
-use Rattle.heap_graph.specs.Linked.{IsLinked, most_objects}
-use Rattle.heap_graph.specs.ObjectGraph.{IsGraphOf, ObjectGraph, bytes_at, class_count, named_in, object_count}
-use Rattle.heap_graph.specs.ObjectGraph.{references_of}
-use Rattle.heap_graph.specs.Whole.{IsRowIn, IsWhole, held_by}
-use Rattle.heap_graph.specs.References.{target_of, targets}
-use Rattle.heap_graph.specs.Roots.{root_ids}
-use Rattle.heap_graph.specs.Rows.{bytes_of, row_of}
-use Rattle.heap_graph.specs.Skips.{SkipEntry}
-use Rattle.heap_graph.specs.Walks.{is_unresolved_in}
+use Rattle.heap_graph.proofs.Words.{All, All-cons, AreLinked, Bool, Class, IsGraphOf, IsLinked, IsRowIn, IsSubRecord}
+use Rattle.heap_graph.proofs.Words.{IsWhole, List, None, ObjectGraph, Option, Record, RowKey, Sight, SkipEntry, Some}
+use Rattle.heap_graph.proofs.Words.{Stands, SubRecord, TooLarge, UnknownClass, [], ap, arith, as_class, bytes_at}
+use Rattle.heap_graph.proofs.Words.{bytes_of, cases_lt, class_count, class_dump, class_dumps, class_named, class_number}
+use Rattle.heap_graph.proofs.Words.{cond, cons_option, count_by-le-length, eq-eqb, fails_before_first, false}
+use Rattle.heap_graph.proofs.Words.{filter_map, get_or, get_or_from_slice_get, get_or_past, heap_of, held_by, id_of}
+use Rattle.heap_graph.proofs.Words.{instance_dump, is_object, is_unresolved_in, length, length-map, limit, map}
+use Rattle.heap_graph.proofs.Words.{most_objects, named_in, not, number_named, object_array_dump, object_count, objects}
+use Rattle.heap_graph.proofs.Words.{position_or_len, primitive_array_dump, references_of, refl, root, root_ids, row_of}
+use Rattle.heap_graph.proofs.Words.{slice_get, slice_get-get_or, slice_get_within, spelling_of, subst, suc, sym}
+use Rattle.heap_graph.proofs.Words.{target_of, targets, true, zero, ℕ, ⊎_elim, ◌+◌, ◌<◌, ◌==◌, ◌^◌, ◌∙◌, ◌∷◌, ◌≡◌, ◌≤◌}
 use Rattle.heap_graph.proofs.Answering.{bytes_here, count_of, row_here}
 use Rattle.heap_graph.proofs.Firsts.{position_hit}
-use Rattle.heap_graph.proofs.Linking.{IsClassThere, class_there}
+use Rattle.heap_graph.proofs.Linking.{class_there}
 use Rattle.heap_graph.proofs.UnresolvedLaws.{parts_unresolved}
 use Rattle.heap_graph.proofs.Sizes.{array_type_range, bytes_width}
-use Rattle.heap_graph.proofs.Standings.{IsThere, there}
+use Rattle.heap_graph.proofs.Standings.{there}
 
 -- ---- what is named is there
 
@@ -80,44 +62,37 @@ few_classes (o ∷ os) =
     let h = few_kept (as_class o) (filter_map as_class os) (length os) (few_classes os) in omega (arith, h)
 
 -- a class among the objects has a number
-found_if : {X : Type 0} (p : X → Bool) (x : X) (xs : List X) (b : Bool) → position_or_len p xs < length xs
-    → cond b (1 + position_or_len p xs) 0 < 1 + length xs
-found_if p x xs true h = omega (arith, h)
-found_if p x xs false h = omega arith
+found_at : {X : Type 0} (p : X → Bool) (xs : List X) (n : ℕ) (x : X) → slice_get xs n ≡ Some x → p x ≡ true
+    → position_or_len p xs < length xs
+found_at p xs n x is passes = ⊎_elim (λ l. l)
+    (λ l.
+    let before : n < position_or_len p xs = omega (arith, l, slice_get_within xs n x is) in
+    let no : p x ≡ false = ap p (sym (get_or_from_slice_get xs n x x is)) ∙ fails_before_first p xs n x before in
+    absurd cc)
+    (cases_lt (position_or_len p xs) (length xs))
 
-found_here : {X : Type 0} (p : X → Bool) (x : X) (xs : List X) → p x ≡ true
-    → position_or_len p (x ∷ xs) < length (x ∷ xs)
-found_here p x xs e =
-    let zero_is : position_or_len p (x ∷ xs) ≡ 0 = ap (λ b. cond (not b) (1 + position_or_len p xs) 0) e in
-    omega (arith, zero_is)
+kept_if : (k : Option Class) (cs : List Class) (n : ℕ) (c : Class) → slice_get cs n ≡ Some c
+    → (m : ℕ) × (slice_get (cons_option k cs) m ≡ Some c)
+kept_if None cs n c is = (n, is)
+kept_if (Some d) cs n c is = (suc n, is)
 
-found_later : {X : Type 0} (p : X → Bool) (x : X) (xs : List X) → position_or_len p xs < length xs
-    → position_or_len p (x ∷ xs) < length (x ∷ xs)
-found_later p x xs h = let k = found_if p x xs (not (p x)) h in omega (arith, k)
-
-numbered_if : (id : ℕ) (o : SubRecord) (os : List SubRecord) (k : Option Class)
-    → position_or_len (λ c. c.object == id) (filter_map as_class os) < length (filter_map as_class os)
-    → position_or_len (λ c. c.object == id) (cons_option k (filter_map as_class os))
-    < length (cons_option k (filter_map as_class os))
-numbered_if id o os None h = h
-numbered_if id o os (Some d) h = found_later (λ (c : Class). c.object == id) d (filter_map as_class os) h
-
-numbered : (id : ℕ) (os : List SubRecord) (n : ℕ) (c : Class) → slice_get os n ≡ Some (class_dump c) → c.object ≡ id
-    → position_or_len (λ c. c.object == id) (filter_map as_class os) < length (filter_map as_class os)
-numbered id [] n c h e = absurd (let wrong : None ≡ Some (class_dump c) = h in cc)
-numbered id (o ∷ os) zero c h e =
+kept : (os : List SubRecord) (n : ℕ) (c : Class) → slice_get os n ≡ Some (class_dump c)
+    → (k : ℕ) × (slice_get (filter_map as_class os) k ≡ Some c)
+kept [] n c h = absurd (let wrong : None ≡ Some (class_dump c) = h in cc)
+kept (o ∷ os) zero c h =
     let same : class_dump c ≡ o = (let both : Some o ≡ Some (class_dump c) = h in cc) in
-    subst (λ (x : SubRecord). position_or_len (λ c. c.object == id) (filter_map as_class (x ∷ os))
-    < length (filter_map as_class (x ∷ os))) same
-    (found_here (λ (d : Class). d.object == id) c (filter_map as_class os) (eq-eqb c.object id e))
-numbered id (o ∷ os) (suc n) c h e = numbered_if id o os (as_class o) (numbered id os n c h e)
+    (0, ap (λ (x : SubRecord). slice_get (filter_map as_class (x ∷ os)) 0) (sym same))
+kept (o ∷ os) (suc n) c h =
+    let k = kept os n c h in kept_if (as_class o) (filter_map as_class os) k.0 c k.1
 
 pub class_number_below : (heap : List SubRecord) (id : ℕ) (c : Class) → class_named heap id ≡ Some c
     → class_number heap id < length (class_dumps heap)
 class_number_below heap id c named =
-    let it : IsClassThere heap id c = class_there heap id c named in
+    let it = class_there heap id c named in
+    let at = kept (objects heap) it.number c it.is in
     subst (λ (cs : List Class). position_or_len (λ d. d.object == id) cs < length cs) (same_classes heap)
-    (numbered id (objects heap) it.number c it.is it.id_is)
+    (found_at (λ (d : Class). d.object == id) (filter_map as_class (objects heap)) at.0 c at.1
+    (eq-eqb c.object id it.id_is))
 
 -- the class of an object that has one is there
 pub known_if : (heap : List SubRecord) (id : ℕ) (k : Option Class) → class_named heap id ≡ k
@@ -131,19 +106,11 @@ row_there : (s : ℕ) (heap : List SubRecord) (n : ℕ) (o : SubRecord) (g : Obj
 row_there s heap n (root r) g e linked is sub = tt
 row_there s heap n (class_dump c) g e linked is sub = tt
 row_there s heap n (instance_dump i) g e linked is sub =
-    omega (
-      arith,
-      e,
-      known_if heap i.class (class_named heap i.class) refl
-          (λ none. linked n UnknownClass (instance_dump i, is, none)),
-    )
+    let known = λ (none : class_named heap i.class ≡ None). linked n UnknownClass (instance_dump i, is, none) in
+    omega (arith, e, known_if heap i.class (class_named heap i.class) refl known)
 row_there s heap n (object_array_dump a) g e linked is sub =
-    omega (
-      arith,
-      e,
-      known_if heap a.class (class_named heap a.class) refl
-          (λ none. linked n UnknownClass (object_array_dump a, is, none)),
-    )
+    let known = λ (none : class_named heap a.class ≡ None). linked n UnknownClass (object_array_dump a, is, none) in
+    omega (arith, e, known_if heap a.class (class_named heap a.class) refl known)
 row_there s heap n (primitive_array_dump a) g e linked is sub = array_type_range a.type sub.allowed.1.1.1.0
 
 -- ---- the whole graph
@@ -186,7 +153,7 @@ pub is_whole : (v : Sight) (places ids : List ℕ) (records : List Record) (skip
     records skip g → IsWhole g
 is_whole v places ids records skip g linked within few few_roots graph =
     let heap : List SubRecord = heap_of records in
-    let count : object_count g ≡ length (objects heap) = count_of v.id_size records skip g graph in
+    let count : object_count g ≡ length (objects heap) = count_of graph in
     let class_total : class_count g ≡ length (class_dumps heap) =
     ap length graph.classes_are ∙ length-map (class_dumps heap) (named_in records) in
     record {
@@ -202,17 +169,15 @@ is_whole v places ids records skip g linked within few few_roots graph =
           (subst (λ (xs : List (List ℕ)). All (λ t. t < length (objects heap)) (get_or xs o []))
           (sym graph.references_are) (refs_within heap g.held o));
       rows_within = λ o h.
-          let it : IsThere v heap o (get_or places o 0) =
-          there v places ids heap o linked.are (omega (arith, h, count, linked.are.stand.count)) in
-          subst (λ (r : RowKey). IsRowIn g r) (sym (row_here v.id_size records skip g o it.object graph it.is))
+          let it = there v places ids heap o linked.are (omega (arith, h, count, linked.are.stand.count)) in
+          subst (λ (r : RowKey). IsRowIn g r) (sym (row_here graph o it.object it.is))
           (row_there v.id_size heap o it.object g class_total linked.linked it.is it.stands.is);
       few_bytes = λ o. ⊎_elim
           (λ l.
-          let it : IsThere v heap o (get_or places o 0) =
-          there v places ids heap o linked.are (omega (arith, l, linked.are.stand.count)) in
+          let it = there v places ids heap o linked.are (omega (arith, l, linked.are.stand.count)) in
           omega (
             arith,
-            bytes_here v.id_size records skip g o it.object graph it.is,
+            bytes_here graph o it.object it.is,
             bytes_width v.id_size it.object it.stands.is,
             within (get_or places o 0) it.object it.stands,
             linked.short,
@@ -223,12 +188,11 @@ is_whole v places ids records skip g linked within few few_roots graph =
           omega (arith, none))
           (cases_lt o (length (objects heap)));
       few_unresolved = λ o. omega (arith, count_by-le-length (is_unresolved_in g.ids) (held_by g o), few o);
-      few_unresolved_roots =
-          omega (
-            arith,
-            count_by-le-length (is_unresolved_in g.ids) g.root_names,
-            ap length graph.root_names_are,
-            few_roots,
-          );
-      both_parts = parts_unresolved v.id_size records skip g graph (graph.held_are.one_each ∙ sym count);
+      few_unresolved_roots = omega (
+        arith,
+        count_by-le-length (is_unresolved_in g.ids) g.root_names,
+        ap length graph.root_names_are,
+        few_roots,
+      );
+      both_parts = parts_unresolved graph (graph.held_are.one_each ∙ sym count);
     }

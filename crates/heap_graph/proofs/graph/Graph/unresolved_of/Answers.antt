@@ -14,7 +14,7 @@ returns-clause-value g c =
     let it = c.unresolved_of.ensures _ (heap_of stand.records) stand.linked stand.fates stand.planned in
     it.counted ∙ sym (same_unresolved (heap_of stand.records) ids it.ids stand.graph.ids_are)
     ∙ ap (λ (held : List ℕ). count_by (is_unresolved_in ids) held)
-    (held_here _ _ _ _ _ _ it.ids stand.graph it.is it.are)
+    (held_here stand.graph _ _ it.is it.ids it.are)
 
 pub returns-clause-within : goal.returns-clause-within
 returns-clause-within g c =
