@@ -49,20 +49,20 @@ by_rule i q moves r told = (
 
 -- a pair that a contract sees as v
 module _ {A : Type 0} {v : PairState} (i : Inside A) (is : seen_as i ≡ v) where
-  seen : (put : List ℕ) (b : Book) → IsBacked v put b → IsBacked (seen_as i) put b
-  seen put b backed = subst (λ (w : PairState). IsBacked w put b) (sym is) backed
+  seen : {put : List ℕ} {b : Book} → IsBacked v put b → IsBacked (seen_as i) put b
+  seen backed = rw is backed
 
   -- what the buffers are asked
-  pub inner : (put : List ℕ) (b : Book) → IsBacked v put b → IsBacked (places_of i.buffers) put b
-  inner put b backed = beside refl (seen put b backed)
+  pub inner : {put : List ℕ} {b : Book} → IsBacked v put b → IsBacked (places_of i.buffers) put b
+  inner backed = beside refl (seen backed)
 
-  pub may_trade : (w : Holder) (pool : TableId) (put : List ℕ) → w.pool ≡ pool → IsOpen v → IsBacked v put w.book
+  pub may_trade : {w : Holder} {pool : TableId} {put : List ℕ} → w.pool ≡ pool → IsOpen v → IsBacked v put w.book
       → IsBusy w.book.account → MayTrade w pool (places_of i.buffers) put
-  may_trade w pool put same going backed busy =
+  may_trade same going backed busy =
       record {
         same = same;
         third = ap (λ (k : PairState). k.third) is ∙ going.third;
-        backed = inner put w.book backed;
+        backed = inner backed;
         busy = busy;
       }
 
@@ -77,18 +77,16 @@ module _ {A : Type 0} {v : PairState} (i : Inside A) (is : seen_as i ≡ v) wher
   pub takes_last : (m : List ℕ) (o : ℕ) → i.spill.items ≡ m ++ o ∷ [] → IsOpen v → (b : Book) → IsBacked v [] b
       → Deals v b [] (o ∷ []) (listed (places_of i.buffers) m i.stopped i.starved) b
   takes_last m o l_is going b backed =
-      let u : Trades (places_of i.buffers) b [] [] (places_of i.buffers) b = untouched (inner [] b backed).sized in
-      subst (λ (w : PairState). Deals w b [] (o ∷ []) (listed (places_of i.buffers) m i.stopped i.starved) b) is
-      (dealt_listed refl refl (λ x. omega (arith, unspilled m o x, ap (times x) l_is)) (seen [] b backed) u
+      let u : Trades (places_of i.buffers) b [] [] (places_of i.buffers) b = untouched (inner backed).sized in
+      rw (← is) (dealt_listed refl refl (λ x. omega (arith, unspilled m o x, ap (times x) l_is)) (seen backed) u
       (not_ended going u.moves))
 
   module _ (b : Book) (q : Buffers A) (c : Book) where
     -- the buffers were traded, and the list stayed
-    abbrev trades : (m : List ℕ) → m ≡ i.spill.items → (now starving : Bool) (put got : List ℕ) → IsBacked v put b
+    abbrev trades : {m put got : List ℕ} {now starving : Bool} → m ≡ i.spill.items → IsBacked v put b
         → (u : Trades (places_of i.buffers) b put got (places_of q) c) → (now ≡ true → EndAtLastTag u.moves)
         → Deals (seen_as i) b put got (listed (places_of q) m now starving) c
-    trades m m_is now starving put got backed =
-        dealt_listed refl refl (λ o. omega (arith, ap (times o) m_is)) (seen put b backed)
+    trades m_is backed = dealt_listed refl refl (λ o. omega (arith, ap (times o) m_is)) (seen backed)
 
     -- an object was put
     module _ (going : IsOpen v) (object : ℕ) (backed : IsBacked v (object ∷ []) b) {done : Bool}
@@ -100,8 +98,8 @@ module _ {A : Type 0} {v : PairState} (i : Inside A) (is : seen_as i ≡ v) wher
       pub puts : done ≡ true → Puts v b object (listed (places_of q) i.spill.items i.stopped i.starved) c
       puts done_is =
           let a = answered true done_is in
-          subst (λ (w : PairState). Puts w b object (listed (places_of q) i.spill.items i.stopped i.starved) c) is (
-            trades i.spill.items refl i.stopped i.starved (object ∷ []) [] backed a.0 (not_ended going a.0.moves),
+          rw (← is) (
+            trades refl backed a.0 (not_ended going a.0.moves),
             inl refl,
             a.2,
             ⊎_elim (λ room. inl room) (λ fills. inr (inr fills)) a.3,
@@ -114,9 +112,9 @@ module _ {A : Type 0} {v : PairState} (i : Inside A) (is : seen_as i ≡ v) wher
 
         pub spills : m ≡ i.spill.items ++ object ∷ [] → Puts v b object (listed (places_of q) m i.stopped i.starved) c
         spills m_is =
-            subst (λ (w : PairState). Puts w b object (listed (places_of q) m i.stopped i.starved) c) is (
+            rw (← is) (
               dealt_listed refl refl (λ o. omega (arith, spilled i.spill.items object o, ap (times o) m_is))
-                  (seen (object ∷ []) b backed) none.0 (not_ended going none.0.moves),
+                  (seen backed) none.0 (not_ended going none.0.moves),
               inr (m_is, none.2),
               out_alone none.0.moves none.2,
               inr (inl none.2),
@@ -125,10 +123,8 @@ module _ {A : Type 0} {v : PairState} (i : Inside A) (is : seen_as i ≡ v) wher
         pub starves : m ≡ i.spill.items → (deals : Deals v b [] [] (listed (places_of q) m i.stopped true) c)
             × (deals.moves ≡ FoundNone Empty ∷ [])
         starves m_is =
-            subst (λ (w : PairState). (deals : Deals w b [] [] (listed (places_of q) m i.stopped true) c)
-            × (deals.moves ≡ FoundNone Empty ∷ [])) is (
-              trades m m_is i.stopped true [] [] (backed_less v (object ∷ []) b backed) none.0
-                  (not_ended going none.0.moves),
+            rw (← is) (
+              trades m_is (backed_less v (object ∷ []) b backed) none.0 (not_ended going none.0.moves),
               none.2,
             )
 
@@ -137,8 +133,7 @@ module _ {A : Type 0} {v : PairState} (i : Inside A) (is : seen_as i ≡ v) wher
 
         pub as_before : m ≡ i.spill.items → AreAlike v (listed (places_of q) m i.stopped true)
         as_before m_is =
-            subst (λ (w : PairState). AreAlike w (listed (places_of q) m i.stopped true)) is
-            (record {
+            rw (← is) (record {
               items = λ o. omega (
                 arith,
                 none.3.items o,
@@ -155,8 +150,8 @@ module _ {A : Type 0} {v : PairState} (i : Inside A) (is : seen_as i ≡ v) wher
         pub balances : BalanceAnswers (places_of i.buffers) b (places_of q) c (Ok done)
             → Balances v b (listed (places_of q) i.spill.items i.stopped i.starved) c
         balances told =
-            subst (λ (w : PairState). Balances w b (listed (places_of q) i.spill.items i.stopped i.starved) c) is (
-              trades i.spill.items refl i.stopped i.starved [] [] backed told.0 (not_ended going told.0.moves),
+            rw (← is) (
+              trades refl backed told.0 (not_ended going told.0.moves),
               told.2,
               told.3,
               told.4,
@@ -165,8 +160,7 @@ module _ {A : Type 0} {v : PairState} (i : Inside A) (is : seen_as i ≡ v) wher
         pub publishes : PublishAnswers (places_of i.buffers) b (places_of q) c (Ok done)
             → PublishesBoth v b (listed (places_of q) i.spill.items i.stopped i.starved) c
         publishes told =
-            subst (λ (w : PairState). PublishesBoth w b (listed (places_of q) i.spill.items i.stopped i.starved) c) is
-            (trades i.spill.items refl i.stopped i.starved [] [] backed told.0 (not_ended going told.0.moves), told.4)
+            rw (← is) (trades refl backed told.0 (not_ended going told.0.moves), told.4)
 
       -- a call was stopped that popped nothing from full
       pub stops : (stop : Stop) → EndsOut (places_of i.buffers) b (places_of q) c stop
@@ -174,41 +168,38 @@ module _ {A : Type 0} {v : PairState} (i : Inside A) (is : seen_as i ≡ v) wher
       stops TagSpent told = (
         refl,
         refl,
-        subst (λ (w : PairState). DealsOut w b (listed (places_of q) i.spill.items true i.starved) c) is
-            (trades i.spill.items refl true i.starved [] [] backed told.0 (λ stopped. told.1), told.2),
+        rw (← is) (trades refl backed told.0 (λ stopped. told.1), told.2),
       )
       stops OutOfMemory none = absurd none
 
       -- an object was to be got from the buffers, and the list stayed
       module _ (m : List ℕ) (m_is : m ≡ i.spill.items) where
-        gets : (now : Bool) (got : List ℕ) (u : Trades (places_of i.buffers) b [] got (places_of q) c)
+        gets : {now : Bool} {got : List ℕ} (u : Trades (places_of i.buffers) b [] got (places_of q) c)
             → (now ≡ true → EndAtLastTag u.moves) → Deals v b [] got (listed (places_of q) m now i.starved) c
-        gets now got u ends =
-            subst (λ (w : PairState). Deals w b [] got (listed (places_of q) m now i.starved) c) is
-            (trades m m_is now i.starved [] got backed u ends)
+        gets u ends = rw (← is) (trades m_is backed u ends)
 
         pub get_stops : (stop : Stop) → Ends (places_of i.buffers) b (places_of q) c stop
             → (stop ≡ TagSpent) × (true ≡ true) × Deals v b [] [] (listed (places_of q) m true i.starved) c
-        get_stops TagSpent told = (refl, refl, gets true [] told.0 (λ stopped. told.1))
+        get_stops TagSpent told = (refl, refl, gets told.0 (λ stopped. told.1))
         get_stops OutOfMemory none = absurd none
 
         module _ (going : IsOpen v) where
           pub got_told : (r : Option ℕ) → GetAnswers (places_of i.buffers) b (places_of q) c (Ok r)
               → IfSome r (λ o. Deals v b [] (o ∷ []) (listed (places_of q) m i.stopped i.starved) c)
-          got_told (Some o) told = gets i.stopped (o ∷ []) told.0 (not_ended going told.0.moves)
+          got_told (Some o) told = gets told.0 (not_ended going told.0.moves)
           got_told None told = tt
 
           -- by the rule, which knows of no list
           pub gets_told : (r : Option ℕ) → GetAnswers (places_of i.buffers) b (places_of q) c (Ok r)
               → Gets v b r (listed (places_of q) m i.stopped i.starved) c
           gets_told (Some o) told =
-              subst (λ (w : PairState). Gets w b (Some o) (listed (places_of q) m i.stopped i.starved) c) is (
-                trades m m_is i.stopped i.starved [] (o ∷ []) backed told.0 (not_ended going told.0.moves),
+              rw (← is) (
+                trades m_is backed told.0 (not_ended going told.0.moves),
                 by_rule i (places_of q) told.0.moves (Some o) told.2,
               )
           gets_told None told =
-              subst (λ (w : PairState). Gets w b None (listed (places_of q) m i.stopped i.starved) c) is (
-                trades m m_is i.stopped i.starved [] [] backed told.0 (not_ended going told.0.moves),
+              rw (← is) (
+                trades m_is backed told.0 (not_ended going told.0.moves),
                 by_rule i (places_of q) told.0.moves None told.6,
               )
 
@@ -217,20 +208,20 @@ module _ {A : Type 0} {v : PairState} (i : Inside A) (is : seen_as i ≡ v) wher
               × (pair_items (listed (places_of q) m i.stopped i.starved) ≡ []) × WasSeenEmpty Full b c)
           none_told empty (Some o) told = tt
           none_told empty None told = (
-            gets i.stopped [] told.0 (not_ended going told.0.moves),
+            gets told.0 (not_ended going told.0.moves),
             ap (λ (k : List ℕ). k ++ buffered_items (places_of q)) empty ∙ told.2,
             told.3,
           )
 
   -- the pair is backed without its list as well
   given_up : (b : Book) → IsBacked v [] b → IsBacked (listed (places_of i.buffers) [] i.stopped i.starved) [] b
-  given_up b backed = beside {p = listed (places_of i.buffers) [] i.stopped i.starved} refl (seen [] b backed)
+  given_up b backed = beside {p = listed (places_of i.buffers) [] i.stopped i.starved} refl (seen backed)
 
   -- the buffers were given back one after the other
   pub shelves : (b : Book) → IsBacked v [] b → (c : Book) (done : Unit)
       → ClearAnswers (places_of i.buffers) b empty_pair c (Ok done) → ShelvesAll v b c
   shelves b backed c done told =
-      subst (λ (w : PairState). ShelvesAll w b c) is (
+      rw (← is) (
         dealt_listed refl refl (λ o. refl) (given_up b backed) told.0.trades (λ stopped. absurd (false≢true stopped)),
         told.1,
       )
@@ -240,7 +231,7 @@ module _ {A : Type 0} {v : PairState} (i : Inside A) (is : seen_as i ≡ v) wher
       (m : List ℕ) → m ≡ [] → (cleared : Clears (places_of i.buffers) b q c)
       → (now ≡ true → EndAtLastTag cleared.trades.moves) → Disposes v b (listed q m now starving) c
   disposes b backed q c bare now starving m m_is cleared ends =
-      subst (λ (w : PairState). Disposes w b (listed q m now starving) c) is (
+      rw (← is) (
         dealt_listed refl bare (λ o. omega (arith, ap (times o) m_is)) (given_up b backed) cleared.trades ends,
         cleared.quiet,
         cleared.out,

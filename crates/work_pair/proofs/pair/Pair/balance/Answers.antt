@@ -1,5 +1,5 @@
 -- What the buffers tell of a balance, told of the pair; its list stays.
-use Rattle.std.proofs.Common.{◌∙◌, [], ap, refl, subst}
+use Rattle.std.proofs.Common.{◌∙◌, ap, refl, subst}
 use Rattle.work_pair.specs.Deals.{HasMore}
 use Rattle.work_pair.specs.PairState.{PairState}
 use Rattle.work_pair.proofs.Pairs.{balances, may_trade, stops}
@@ -8,8 +8,7 @@ use Rattle.work_pair.proofs.pair.Pair.balance.Goals as goal
 
 pub balance-requires : goal.balance-requires
 balance-requires g c =
-    may_trade c.self.inside c.self.view_is c.args.worker.now c.args.pool.now [] c.requires.pool c.requires.going
-    c.requires.backed c.requires.busy
+    may_trade c.self.inside c.self.view_is c.requires.pool c.requires.going c.requires.backed c.requires.busy
 
 pub returns-in-Ok-clause-balances : goal.returns-in-Ok-clause-balances
 returns-in-Ok-clause-balances g c =

@@ -9,7 +9,7 @@ use Rattle.work_pair.proofs.pair.Pair.dispose.Goals as goal
 
 pub clear-requires-clause-backed : goal.clear-requires-clause-backed
 clear-requires-clause-backed g c =
-    inner c.self.inside c.self.view_is [] c.args.worker.now.book c.requires.backed
+    inner c.self.inside c.self.view_is c.requires.backed
 
 pub clear-requires-clause-busy : goal.clear-requires-clause-busy
 clear-requires-clause-busy g c some =

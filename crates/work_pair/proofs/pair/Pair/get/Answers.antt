@@ -9,8 +9,7 @@ use Rattle.work_pair.proofs.pair.Pair.get.Goals as goal
 
 pub get-requires : goal.get-requires
 get-requires g c =
-    may_trade c.self.inside c.self.view_is c.args.worker.now c.args.pool.now [] c.requires.pool c.requires.going
-    c.requires.backed c.requires.busy
+    may_trade c.self.inside c.self.view_is c.requires.pool c.requires.going c.requires.backed c.requires.busy
 
 pub returns-in-Some-clause-got : goal.returns-in-Some-clause-got
 returns-in-Some-clause-got g c =

@@ -1,12 +1,10 @@
 -- What the buffers tell of a publishing, told of the pair; its list stays.
-use Rattle.std.proofs.Common.{[]}
 use Rattle.work_pair.proofs.Pairs.{may_trade, publishes, stops}
 use Rattle.work_pair.proofs.pair.Pair.publish.Goals as goal
 
 pub publish-requires : goal.publish-requires
 publish-requires g c =
-    may_trade c.self.inside c.self.view_is c.args.worker.now c.args.pool.now [] c.requires.pool c.requires.going
-    c.requires.backed c.requires.busy
+    may_trade c.self.inside c.self.view_is c.requires.pool c.requires.going c.requires.backed c.requires.busy
 
 pub returns-in-Ok-clause-published : goal.returns-in-Ok-clause-published
 returns-in-Ok-clause-published g c =

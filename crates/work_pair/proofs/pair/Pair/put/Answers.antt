@@ -16,8 +16,7 @@ use Rattle.work_pair.proofs.pair.Pair.put.Goals as goal
 
 pub put-requires : goal.put-requires
 put-requires g c =
-    may_trade c.self.inside c.self.view_is c.args.worker.now c.args.pool.now (c.args.object ∷ []) c.requires.pool
-    c.requires.going c.requires.backed c.requires.busy
+    may_trade c.self.inside c.self.view_is c.requires.pool c.requires.going c.requires.backed c.requires.busy
 
 pub returns-in-Ok-true-clause-put : goal.returns-in-Ok-true-clause-put
 returns-in-Ok-true-clause-put g c =
