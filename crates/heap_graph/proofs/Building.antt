@@ -1,6 +1,6 @@
 -- From a dump to its graph.
-use Rattle.heap_graph.proofs.Words.{AllZip, AreClassNumbers, AreIdLists, AreIndexed, AreLinked, AreLinkedOf, AreNamedOf}
-use Rattle.heap_graph.proofs.Words.{AreNames, AreObjects, ArePlacesOf, AreRootsOf, ClassEntry, GraphOf, GraphOf-prop}
+use Rattle.heap_graph.proofs.Words.{AreClassNumbers, AreIndexed, AreLinked, AreLinkedOf, AreNamedOf, AreNames}
+use Rattle.heap_graph.proofs.Words.{AreObjects, ArePlacesOf, AreRootsOf, ClassEntry, GraphOf, GraphOf-prop}
 use Rattle.heap_graph.proofs.Words.{HasLinkFault, HaveFatesOf, Indexed, IsDumpOf, IsFaultOf, IsFirstFault, IsGraphOf}
 use Rattle.heap_graph.proofs.Words.{IsGraphOfText, IsLinked, IsPlaced, IsReadOf, LinkFault, List, ObjectGraph, Objects}
 use Rattle.heap_graph.proofs.Words.{Places, Plan, Record, RecordStandsAt, Resolves, Sight, SkipEntry, StandFor}
@@ -48,8 +48,8 @@ module _ (bytes : List ℕ) (dump : Places) (is : IsDumpOf bytes dump) where
       → strings ≡ dump.strings → loaded ≡ dump.loaded → IsPlaced bytes dump is.records
       → AreNames v strings loaded is.records
   are_names v strings loaded bytes_are size_is strings_are loaded_are placed = record {
-    few_strings = omega (arith, ap length strings_are, placed.strings.count, few_of_records is_string bytes dump is);
-    few_loaded = omega (arith, ap length loaded_are, placed.loaded.count, few_of_records is_load bytes dump is);
+    few_strings = omega (arith, ap length strings_are, placed.strings.count, few_of_records bytes dump is is_string);
+    few_loaded = omega (arith, ap length loaded_are, placed.loaded.count, few_of_records bytes dump is is_load);
     string_each = seen_by RecordStandsAt v bytes dump.id_size strings dump.strings
         (filter is_string is.records) bytes_are size_is strings_are placed.strings;
     loaded_each = seen_by RecordStandsAt v bytes dump.id_size loaded dump.loaded

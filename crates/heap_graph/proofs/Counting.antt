@@ -36,39 +36,29 @@ in_records s (r ∷ rs) = omega (
 few_kept : {X : Type 0} (p : X → Bool) (xs : List X) → length (filter p xs) ≤ length xs
 few_kept p xs = omega (arith, length-filter p xs, count_by-le-length p xs)
 
-short_spellings : (text : List ℕ) (dump : Places) (is : IsDumpOf text dump)
-    → length (spellings dump.id_size is.records) ≤ limit
-short_spellings text dump is =
-    let parts = length-append (header dump.id_size is.spells.time) (spellings dump.id_size is.records) in
-    omega (arith, is.spells.size, ap length is.spells.whole, parts)
-
-few_in_heap : (text : List ℕ) (dump : Places) (is : IsDumpOf text dump) → length (heap_of is.records) ≤ limit
-few_in_heap text dump is = omega (arith, in_records dump.id_size is.records, short_spellings text dump is)
-
 few_records : (s : ℕ) (rs : List Record) → length rs ≤ length (spellings s rs)
 few_records s [] = omega arith
 few_records s (r ∷ rs) = omega (arith, few_records s rs, length-append (record_spelling s r) (spellings s rs))
 
-pub few_of_records : (p : Record → Bool) (text : List ℕ) (dump : Places) (is : IsDumpOf text dump)
-    → length (filter p is.records) ≤ limit
-few_of_records p text dump is =
-    omega (arith, few_kept p is.records, few_records dump.id_size is.records, short_spellings text dump is)
+module _ (text : List ℕ) (dump : Places) (is : IsDumpOf text dump) where
+  short_spellings : length (spellings dump.id_size is.records) ≤ limit
+  short_spellings =
+      let parts = length-append (header dump.id_size is.spells.time) (spellings dump.id_size is.records) in
+      omega (arith, is.spells.size, ap length is.spells.whole, parts)
 
-pub few_in_dump : (text : List ℕ) (dump : Places) (is : IsDumpOf text dump)
-    → length (objects (heap_of is.records)) ≤ limit
-few_in_dump text dump is = omega (arith, few_kept is_object (heap_of is.records), few_in_heap text dump is)
+  few_in_heap : length (heap_of is.records) ≤ limit
+  few_in_heap = omega (arith, in_records dump.id_size is.records, short_spellings)
 
-pub few_placed : (text : List ℕ) (dump : Places) (is : IsDumpOf text dump) (places : List ℕ)
-    → IsPlaced text dump is.records → places ≡ dump.objects → length places < 2 ^ 32
-few_placed text dump is places placed same =
-    omega (arith, ap length same, placed.objects.count, few_in_dump text dump is)
+  pub few_of_records : (p : Record → Bool) → length (filter p is.records) ≤ limit
+  few_of_records p = omega (arith, few_kept p is.records, few_records dump.id_size is.records, short_spellings)
 
-pub few_roots_in_dump : (text : List ℕ) (dump : Places) (is : IsDumpOf text dump)
-    → length (root_ids (heap_of is.records)) ≤ limit
-few_roots_in_dump text dump is =
-    omega (
-      arith,
-      length-map (filter is_root (heap_of is.records)) id_of,
-      few_kept is_root (heap_of is.records),
-      few_in_heap text dump is,
-    )
+  pub few_in_dump : length (objects (heap_of is.records)) ≤ limit
+  few_in_dump = omega (arith, few_kept is_object (heap_of is.records), few_in_heap)
+
+  pub few_placed : (places : List ℕ) → IsPlaced text dump is.records → places ≡ dump.objects → length places < 2 ^ 32
+  few_placed places placed same = omega (arith, ap length same, placed.objects.count, few_in_dump)
+
+  pub few_roots_in_dump : length (root_ids (heap_of is.records)) ≤ limit
+  few_roots_in_dump =
+      let roots = length-map (filter is_root (heap_of is.records)) id_of in
+      omega (arith, roots, few_kept is_root (heap_of is.records), few_in_heap)

@@ -1,14 +1,15 @@
 -- What is known of chains, while a path of classes is followed.
 use Rattle.heap_graph.proofs.Words.{AreFates, Class, Contains, Contains-append_left, Contains-push, Contains-push_cases}
 use Rattle.heap_graph.proofs.Words.{DoesStay, Fate, IsChain, IsChainAt, IsClimb, IsCut, IsFate, IsKnown, IsPath}
-use Rattle.heap_graph.proofs.Words.{IsSettled, IsUnder, Layout, List, NeverEnds, None, Some, SubRecord, TableEntry, []}
-use Rattle.heap_graph.proofs.Words.{ap, arith, cases_eq, cond, count_by, get_or, get_or-set_same, get_or_from_slice_get}
+use Rattle.heap_graph.proofs.Words.{IsSettled, IsUnder, Layout, List, NeverEnds, Some, SubRecord, TableEntry, [], ap}
+use Rattle.heap_graph.proofs.Words.{arith, cases_eq, cond, count_by, get_or, get_or-set_same, get_or_from_slice_get}
 use Rattle.heap_graph.proofs.Words.{ids_of, is_unknown, length, length-set, refl, set, slice_get, slice_get-get_or}
 use Rattle.heap_graph.proofs.Words.{slice_get_within, slice_index, subst, suc, sum_by-set, sym, zero, ℕ, ⊎_elim, ◌++◌}
 use Rattle.heap_graph.proofs.Words.{◌<◌, ◌∙◌, ◌∷◌, ◌≡◌}
 use Rattle.heap_graph.specs.declared.classes.fate.Fate.TheVariants as fates
 use Rattle.heap_graph.proofs.ChainLaws.{never_below, some_inj}
 use Rattle.heap_graph.proofs.ClassTableLaws.{same_count}
+use Rattle.heap_graph.proofs.Firsts.{slice_get_push}
 use Rattle.heap_graph.proofs.PathLaws.{never_around}
 
 -- ---- one entry is written
@@ -156,12 +157,5 @@ known_here known k f is a b = record { fate = f; is = is; settled = settled_fate
 pub unknown_more : (known new : List Fate) (f : Fate) → new ≡ known ++ f ∷ [] → f ≡ fates.Unknown
     → ((k : ℕ) (x : Fate) → slice_get known k ≡ Some x → x ≡ fates.Unknown) → (k : ℕ) (x : Fate)
     → slice_get new k ≡ Some x → x ≡ fates.Unknown
-unknown_more known new f e unknown each k x is =
-    more known each k x (sym (ap (λ (xs : List Fate). slice_get xs k) e) ∙ is)
-  where
-    more : (xs : List Fate) → ((k : ℕ) (x : Fate) → slice_get xs k ≡ Some x → x ≡ fates.Unknown) → (k : ℕ) (x : Fate)
-        → slice_get (xs ++ f ∷ []) k ≡ Some x → x ≡ fates.Unknown
-    more [] each zero x is = sym (some_inj is) ∙ unknown
-    more [] each (suc k) x is = absurd (let wrong : None ≡ Some x = is in cc)
-    more (y ∷ ys) each zero x is = each zero x is
-    more (y ∷ ys) each (suc k) x is = more ys (λ j z h. each (suc j) z h) k x is
+unknown_more known new f e unknown each k x is = ⊎_elim (each k x) (λ h. sym h.1 ∙ unknown)
+    (slice_get_push known f k x (sym (ap (λ (xs : List Fate). slice_get xs k) e) ∙ is))

@@ -6,8 +6,8 @@ use Rattle.heap_graph.proofs.Words.{declared_fields, drop, drop-drop, eqb-true, 
 use Rattle.heap_graph.proofs.Words.{id_places, id_places_of, ids_at, ids_of, ids_up, if◌then◌else◌, length}
 use Rattle.heap_graph.proofs.Words.{length-append, length-drop, map, map-append, next_above, next_in, not, own_fields}
 use Rattle.heap_graph.proofs.Words.{plan_at, refl, size_of, size_of_fields, size_together, slice_get, slice_index}
-use Rattle.heap_graph.proofs.Words.{slice_index_or, subst, suc, sum_by-append, sum_by-cons, sym, tail, take, true, zero}
-use Rattle.heap_graph.proofs.Words.{ℕ, ◌&&◌, ◌++◌, ◌+◌, ◌<◌, ◌==◌, ◌∙◌, ◌∷◌, ◌≡◌, ◌≤◌}
+use Rattle.heap_graph.proofs.Words.{subst, suc, sum_by-append, sum_by-cons, sym, tail, take, true, zero, ℕ, ◌&&◌, ◌++◌}
+use Rattle.heap_graph.proofs.Words.{◌+◌, ◌<◌, ◌==◌, ◌∙◌, ◌∷◌, ◌≡◌, ◌≤◌}
 use Rattle.heap_graph.specs.declared.classes.fate.Fate.TheVariants as fates
 use Rattle.heap_graph.proofs.ChainLaws.{chain_ends, cut_is_no_chain, one_chain}
 use Rattle.heap_graph.proofs.FieldLaws.{ids_of_both, of_id_type, size_of_id_type}

@@ -1,15 +1,23 @@
 -- The first place in a list that passes a test.
 use Rattle.heap_graph.proofs.Words.{All-get_or, Bool, List, None, Option, Some, [], ap, arith, cond, cond_some, false}
-use Rattle.heap_graph.proofs.Words.{filter, get_or_from_slice_get, length, length-map, length-prefix_len, length-take}
-use Rattle.heap_graph.proofs.Words.{ltb-false, ltb-true, map, nat_lt, not, passes_at_first, position, position_or_len}
-use Rattle.heap_graph.proofs.Words.{refl, slice_get, slice_get_within, subst, suc, sym, true, zero, ℕ, ◌+◌, ◌<◌, ◌∙◌}
-use Rattle.heap_graph.proofs.Words.{◌∷◌, ◌≡◌, ◌≤◌}
+use Rattle.heap_graph.proofs.Words.{filter, get_or_from_slice_get, inl, inr, length, length-map, length-prefix_len}
+use Rattle.heap_graph.proofs.Words.{length-take, ltb-false, ltb-true, map, nat_lt, none-some, not, passes_at_first}
+use Rattle.heap_graph.proofs.Words.{position, position_or_len, refl, same_Some, slice_get, slice_get_within, subst, suc}
+use Rattle.heap_graph.proofs.Words.{sym, true, zero, ℕ, ⊎_elim, ◌++◌, ◌+◌, ◌<◌, ◌∙◌, ◌∷◌, ◌≡◌, ◌≤◌, ◌⊎◌}
 use Rattle.std.proofs.lemmas.List.Elements.{filter_passes as all_pass}
 
 pub slice_get_of : {X : Type 0} (xs : List X) (n : ℕ) → n < length xs → (x : X) × (slice_get xs n ≡ Some x)
 slice_get_of [] n h = absurd (omega (arith, h))
 slice_get_of (x ∷ xs) zero h = (x, refl)
 slice_get_of (x ∷ xs) (suc n) h = slice_get_of xs n (omega (arith, h))
+
+-- an element of a list with one more behind it
+pub slice_get_push : {X : Type 0} (xs : List X) (y : X) (k : ℕ) (x : X) → slice_get (xs ++ y ∷ []) k ≡ Some x
+    → (slice_get xs k ≡ Some x) ⊎ ((k ≡ length xs) × (y ≡ x))
+slice_get_push [] y zero x is = inr (refl, same_Some y x is)
+slice_get_push [] y (suc k) x is = absurd (none-some x is)
+slice_get_push (z ∷ zs) y zero x is = inl is
+slice_get_push (z ∷ zs) y (suc k) x is = ⊎_elim inl (λ e. inr (omega (arith, e.0), e.1)) (slice_get_push zs y k x is)
 
 pub position_or_len-map : {X Y : Type 0} (f : X → Y) (p : Y → Bool) (xs : List X)
     → position_or_len p (map f xs) ≡ position_or_len (λ x. p (f x)) xs

@@ -1,9 +1,9 @@
 -- The first thing of a list that bears an identifier, over how the identifier is taken and what is asked of the thing.
 use Rattle.heap_graph.proofs.Words.{Bool, List, None, Option, Some, StandInTurn, [], ap, arith, cond-false, cond-true}
-use Rattle.heap_graph.proofs.Words.{cond_below, eq-eqb, eqb-false, eqb-true, fails_before_first, false, get_or}
-use Rattle.heap_graph.proofs.Words.{get_or-map, get_or_from_slice_get, if◌then◌else◌, length, length-map, lt_of_not-le}
-use Rattle.heap_graph.proofs.Words.{map, ne_eqb, position, position-Some, position_or_len, refl, slice_get}
-use Rattle.heap_graph.proofs.Words.{slice_get_within, suc, sym, true, zero, ℕ, ◌+◌, ◌<◌, ◌==◌, ◌∙◌, ◌∷◌, ◌≡◌, ◌≤◌}
+use Rattle.heap_graph.proofs.Words.{cond_below, eq-eqb, eqb-false, eqb-true, fails_before_first, get_or, get_or-map}
+use Rattle.heap_graph.proofs.Words.{get_or_from_slice_get, if◌then◌else◌, length, length-map, lt_of_not-le, map, ne_eqb}
+use Rattle.heap_graph.proofs.Words.{position, position-Some, position_or_len, refl, slice_get, slice_get_within, suc}
+use Rattle.heap_graph.proofs.Words.{sym, zero, ℕ, ◌+◌, ◌<◌, ◌==◌, ◌∙◌, ◌∷◌, ◌≡◌, ◌≤◌}
 
 -- what is taken of the first thing whose key is the identifier
 abbrev pub first_of : {X Y : Type 0} → (X → ℕ) → (X → Y) → List X → ℕ → Option Y

@@ -3,10 +3,11 @@ use Rattle.heap_graph.proofs.Words.{AddsPlan, AreClassObjects, AreClassPlans, Ar
 use Rattle.heap_graph.proofs.Words.{ClassPlan, HasIdPlaces, IsClassPlan, IsPlan, List, Member, None, Option, Sight}
 use Rattle.heap_graph.proofs.Words.{Some, Stands, SubRecord, TableEntry, [], ap, arith, class_dump, class_named, drop}
 use Rattle.heap_graph.proofs.Words.{drop-append-le, drop-append_seam, get_or_from_slice_get, id_places, id_places_of}
-use Rattle.heap_graph.proofs.Words.{ids_of, inl, inr, length, length-append, length-drop, plan_at, refl, size_together}
-use Rattle.heap_graph.proofs.Words.{slice_get, slice_index, slice_range, subst, suc, sym, take, take-append-le}
-use Rattle.heap_graph.proofs.Words.{take-length, target_in, zero, ℕ, ⊎_elim, ◌++◌, ◌-◌, ◌<◌, ◌∙◌, ◌∷◌, ◌≡◌, ◌≤◌, ◌⊎◌}
-use Rattle.heap_graph.proofs.ChainLaws.{some_inj, some_none}
+use Rattle.heap_graph.proofs.Words.{ids_of, length, length-append, length-drop, plan_at, size_together, slice_get}
+use Rattle.heap_graph.proofs.Words.{slice_index, slice_range, subst, sym, take, take-append-le, take-length, target_in}
+use Rattle.heap_graph.proofs.Words.{ℕ, ⊎_elim, ◌++◌, ◌-◌, ◌<◌, ◌∙◌, ◌≡◌, ◌≤◌, ◌⊎◌}
+use Rattle.heap_graph.proofs.ChainLaws.{some_none}
+use Rattle.heap_graph.proofs.Firsts.{slice_get_push}
 use Rattle.heap_graph.proofs.ClassTableLaws.{IsKept, numbered, same_class, there_is}
 
 -- ---- one class more
@@ -34,13 +35,6 @@ old_plan {places = places} {p = p} more is = record {
   size_is = is.size_is;
 }
 
-get_more : (old : List ClassPlan) (new : ClassPlan) (k : ℕ) (p : ClassPlan) → slice_get (old ++ new ∷ []) k ≡ Some p
-    → (slice_get old k ≡ Some p) ⊎ ((k ≡ length old) × (new ≡ p))
-get_more [] new zero p is = inr (refl, some_inj is)
-get_more [] new (suc k) p is = absurd (some_none (sym is))
-get_more (x ∷ xs) new zero p is = inl is
-get_more (x ∷ xs) new (suc k) p is = ⊎_elim inl (λ e. inr (omega (arith, e.0), e.1)) (get_more xs new k p is)
-
 -- what was added is the plan of that class
 pub record IsOfClass (skips : Class → Member → Bool) (test : Member → Bool) (members : List Member)
     (c : Class) : Type 0 where
@@ -66,7 +60,7 @@ module _ {s : ℕ} {members : List Member} {test : Member → Bool} {object : Op
 
   old_or_new : (k : ℕ) (p : ClassPlan) → slice_get new k ≡ Some p
       → (slice_get old k ≡ Some p) ⊎ ((k ≡ length old) × (adds.class ≡ p))
-  old_or_new k p is = get_more old adds.class k p (sym (ap (λ ps. slice_get ps k) adds.plans_are) ∙ is)
+  old_or_new k p is = slice_get_push old adds.class k p (sym (ap (λ ps. slice_get ps k) adds.plans_are) ∙ is)
 
   pub plan_more : (skips : Class → Member → Bool) (heap : List SubRecord) (ids : List ℕ) (n : ℕ) → length old ≡ n
       → AreClassPlans skips s heap ids old old_places

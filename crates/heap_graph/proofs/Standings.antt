@@ -1,11 +1,10 @@
 -- Objects that stand at their places.
 use Rattle.heap_graph.proofs.Words.{AreObjects, Bool, IsClassNumber, IsObjectAt, List, None, ObjectKind, Option, Sight}
-use Rattle.heap_graph.proofs.Words.{Some, StandInTurn, Stands, SubRecord, [], ap, arith, as_class, class_dump}
-use Rattle.heap_graph.proofs.Words.{class_named, cond, false, get_or, id_of, instance_dump, is_object, length}
-use Rattle.heap_graph.proofs.Words.{length-map, number_named, object_array_dump, object_kind, object_named, objects}
+use Rattle.heap_graph.proofs.Words.{Some, StandInTurn, Stands, SubRecord, ap, arith, as_class, class_dump, class_named}
+use Rattle.heap_graph.proofs.Words.{cond, false, get_or, id_of, instance_dump, is_object, length, length-map}
+use Rattle.heap_graph.proofs.Words.{number_named, object_array_dump, object_kind, object_named, objects}
 use Rattle.heap_graph.proofs.Words.{option_and_then, position, primitive_array_dump, refl, slice_get, slice_get-get_or}
-use Rattle.heap_graph.proofs.Words.{slice_get_read, slice_get_within, subst, suc, sym, true, zero, ℕ, ◌<◌, ◌==◌, ◌∙◌}
-use Rattle.heap_graph.proofs.Words.{◌∷◌, ◌≡◌}
+use Rattle.heap_graph.proofs.Words.{slice_get_read, slice_get_within, subst, sym, true, ℕ, ◌<◌, ◌==◌, ◌∙◌, ◌≡◌}
 use Rattle.hprof_grammar.specs.declared.view.ObjectKind.TheVariants as kinds
 use Rattle.heap_graph.proofs.Firsts.{filter_passes, position-map}
 

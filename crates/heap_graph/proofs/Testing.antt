@@ -1,9 +1,9 @@
 -- What the tests of one object show.
 use Rattle.heap_graph.proofs.Words.{Breaks, BreaksLate, Contains, DuplicateObject, Fails, InstanceSize, IsFirstRepeat}
-use Rattle.heap_graph.proofs.Words.{IsLateRule, IsLeastFault, IsLeastRule, LinkRule, List, None, Option, Some}
-use Rattle.heap_graph.proofs.Words.{SubRecord, SuperChain, TooLarge, UnknownClass, ZeroObject, ap, arith, cases_order}
-use Rattle.heap_graph.proofs.Words.{code_of, id_of, map, most_objects, objects, option_map, same_Some, slice_get}
-use Rattle.heap_graph.proofs.Words.{slice_get-map, subst, sym, take, ℕ, ⊎_elim, ◌+◌, ◌<◌, ◌∙◌, ◌≡◌, ◌≤◌}
+use Rattle.heap_graph.proofs.Words.{IsLateRule, IsLeastFault, IsLeastRule, LinkRule, List, None, Some, SubRecord}
+use Rattle.heap_graph.proofs.Words.{SuperChain, TooLarge, UnknownClass, ZeroObject, ap, arith, cases_order, code_of}
+use Rattle.heap_graph.proofs.Words.{id_of, map, most_objects, objects, option_map, same_Some, slice_get, slice_get-map}
+use Rattle.heap_graph.proofs.Words.{subst, sym, take, ℕ, ⊎_elim, ◌+◌, ◌<◌, ◌∙◌, ◌≡◌, ◌≤◌}
 
 code_range : (rule : LinkRule) → (9 ≤ code_of rule) × (code_of rule ≤ 14)
 code_range ZeroObject = (omega arith, omega arith)

@@ -6,7 +6,7 @@ use Rattle.heap_graph.proofs.Words.{bytes_of, cases_lt, class_count, class_dump,
 use Rattle.heap_graph.proofs.Words.{cond, cons_option, count_by-le-length, eq-eqb, fails_before_first, false}
 use Rattle.heap_graph.proofs.Words.{filter_map, get_or, get_or_from_slice_get, get_or_past, heap_of, held_by, id_of}
 use Rattle.heap_graph.proofs.Words.{instance_dump, is_object, is_unresolved_in, length, length-map, limit, map}
-use Rattle.heap_graph.proofs.Words.{most_objects, named_in, not, number_named, object_array_dump, object_count, objects}
+use Rattle.heap_graph.proofs.Words.{most_objects, named_in, number_named, object_array_dump, object_count, objects}
 use Rattle.heap_graph.proofs.Words.{position_or_len, primitive_array_dump, references_of, refl, root, root_ids, row_of}
 use Rattle.heap_graph.proofs.Words.{slice_get, slice_get-get_or, slice_get_within, spelling_of, subst, suc, sym}
 use Rattle.heap_graph.proofs.Words.{target_of, targets, true, zero, ℕ, ⊎_elim, ◌+◌, ◌<◌, ◌==◌, ◌^◌, ◌∙◌, ◌∷◌, ◌≡◌, ◌≤◌}

@@ -1,11 +1,11 @@
 -- The words and the lemmas of libraries that the lemmas of this crate speak with, in one place.
 pub use Rattle.std.proofs.Common.{All, Bool, Contains, List, None, Option, Some, [], add-zero, ap, append-nil}
 pub use Rattle.std.proofs.Common.{append_assoc, arith, cond, count_by, drop, false, filter, flat_map, get_or, inl, inr}
-pub use Rattle.std.proofs.Common.{length, length-append, map, min, not, position, refl, set, slice_get, subst, suc}
-pub use Rattle.std.proofs.Common.{sum_by, sym, take, true, zero, ℕ, ⊎_elim, ◌&&◌, ◌*◌, ◌++◌, ◌+◌, ◌-◌, ◌<◌, ◌^◌, ◌∙◌}
-pub use Rattle.std.proofs.Common.{◌∷◌, ◌≡◌, ◌≤◌, ◌⊎◌}
+pub use Rattle.std.proofs.Common.{length, length-append, map, min, not, position, refl, rules, set, slice_get, subst}
+pub use Rattle.std.proofs.Common.{suc, sum_by, sym, take, true, zero, ℕ, ⊎_elim, ◌&&◌, ◌*◌, ◌++◌, ◌+◌, ◌-◌, ◌<◌, ◌^◌}
+pub use Rattle.std.proofs.Common.{◌∙◌, ◌∷◌, ◌≡◌, ◌≤◌, ◌⊎◌}
 pub use Rattle.std.proofs.Math.ListN.{length-set}
-pub use Rattle.std.proofs.Math.Nat.{lt_of_not-le}
+pub use Rattle.std.proofs.Math.Nat.{lt_of_not-le, mul-le-mul_left}
 pub use Rattle.std.proofs.Math.Seq.{drop-append_seam, take-length}
 pub use Rattle.std.proofs.lemmas.Bool.{cases_eq, cases_lt, cases_order, cond-false, cond-true, cond_below, eq-eqb}
 pub use Rattle.std.proofs.lemmas.Bool.{eqb-false, eqb-true, ltb-false, ltb-true, ne_eqb}
@@ -20,8 +20,9 @@ pub use Rattle.std.proofs.lemmas.List.Folds.{length-prefix_len}
 pub use Rattle.std.proofs.lemmas.List.Quantifiers.{position-Some}
 pub use Rattle.std.proofs.lemmas.List.Sums.{count_by-le-length, fails_before_first, get_or-le-sum_by, length-filter}
 pub use Rattle.std.proofs.lemmas.List.Sums.{passes_at_first, sum_by-append, sum_by-cons, sum_by-set}
-pub use Rattle.std.proofs.lemmas.Option.{cond_some, get_or_from_slice_get, same_Some, slice_get-get_or, slice_get-map}
-pub use Rattle.std.proofs.lemmas.Option.{slice_get_read, slice_get_within}
+pub use Rattle.std.proofs.lemmas.Option.{cond_some, get_or_from_slice_get, none-some, same_Some, slice_get-get_or}
+pub use Rattle.std.proofs.lemmas.Option.{slice_get-map, slice_get_read, slice_get_within}
+pub use Rattle.std.proofs.lemmas.Result.{IfOk-weaker}
 pub use Rattle.std.specs.List.{AllByRecursion, AllZip, concat, cons_option, position_or_len, range_with_len}
 pub use Rattle.std.specs.Option.{option_map}
 pub use Rattle.std.specs.Prelude.{IfSome, filter_map, if◌then◌else◌, is_some, nat_lt, option_and_then, slice_index}
@@ -37,6 +38,7 @@ pub use Rattle.hprof_grammar.specs.ObjectKinds.{object_kind}
 pub use Rattle.hprof_grammar.specs.Places.{IsDumpOf, Places, is_load, is_string, places_of}
 pub use Rattle.hprof_grammar.specs.Record.{IsOrderly, Record, body_of, record_spelling, subs_of, tag_of, time_of}
 pub use Rattle.hprof_grammar.specs.Record.Record.{heap, load_class, other, string}
+pub use Rattle.hprof_grammar.specs.Series.{LabelledValue, of_static}
 pub use Rattle.hprof_grammar.specs.Spelling.{AreAllowed, Field, IsAllowed, spelled}
 pub use Rattle.hprof_grammar.specs.Spelling.Field.{number, raw, type_code}
 pub use Rattle.hprof_grammar.specs.Standing.{IsPlaced, RecordStands, RecordStandsAt, Sight, StandInTurn, Stands}
@@ -79,14 +81,15 @@ pub use Rattle.heap_graph.specs.declared.row.RowKey.{RowKey}
 pub use Rattle.heap_graph.specs.declared.rule.LinkRule.{LinkRule}
 pub use Rattle.heap_graph.specs.declared.rule.LinkRule.TheVariants.{DuplicateObject, InstanceSize, SuperChain, TooLarge}
 pub use Rattle.heap_graph.specs.declared.rule.LinkRule.TheVariants.{UnknownClass, ZeroObject}
-pub use Rattle.heap_graph.specs.working.Chains.{AreFates, BeginsAt, DoesStay, IsChainAt, IsClimb, IsCut, IsFate}
-pub use Rattle.heap_graph.specs.working.Chains.{IsFirst, IsKnown, IsPath, IsSettled, IsStep, IsTop, IsUnder, is_unknown}
-pub use Rattle.heap_graph.specs.working.Chains.{most_size, tail}
+pub use Rattle.heap_graph.specs.working.Chains.{AreFates, AreFatesOf, BeginsAt, DoesStay, IsChainAt, IsClimb, IsClimbOf}
+pub use Rattle.heap_graph.specs.working.Chains.{IsCut, IsFate, IsFirst, IsKnown, IsPath, IsSettled, IsStep, IsTop}
+pub use Rattle.heap_graph.specs.working.Chains.{IsUnder, is_unknown, most_size, tail}
 pub use Rattle.heap_graph.specs.working.ClassFates.{HaveFates, HaveFatesOf}
 pub use Rattle.heap_graph.specs.working.ClassNumbers.{AreClassNumbers, AreIndexed, IsClassNumber}
 pub use Rattle.heap_graph.specs.working.ClassPlans.{AddsPlan, AreClassObjects, AreClassPlans, HasIdPlaces, HasPlan}
-pub use Rattle.heap_graph.specs.working.ClassPlans.{IsClassPlan, IsPlan, id_places_of, object_of_row, plan_at}
-pub use Rattle.heap_graph.specs.working.ClassTable.{AreClasses, TableEntry, ids_of}
+pub use Rattle.heap_graph.specs.working.ClassPlans.{IsClassPlan, IsPlan, IsPlanOf, id_places_of, object_of_row, plan_at}
+pub use Rattle.heap_graph.specs.working.ClassSkips.{is_skipped_in}
+pub use Rattle.heap_graph.specs.working.ClassTable.{AreClasses, AreClassesOf, TableEntry, entry_at, ids_of}
 pub use Rattle.heap_graph.specs.working.CountedIds.{AreCountedOf}
 pub use Rattle.heap_graph.specs.working.FieldsUp.{AreUp, HasFields, HaveFields, StandInside, Up, Up-prop, ids_up}
 pub use Rattle.heap_graph.specs.working.FieldsUp.{next_above, next_in}
@@ -95,8 +98,8 @@ pub use Rattle.heap_graph.specs.working.GraphParts.{AreNamedOf, AreRootsOf}
 pub use Rattle.heap_graph.specs.working.HeldIds.{AreIdsOfNumber, AreLinked, AreLinkedOf, IsObjectAt, with_class}
 pub use Rattle.heap_graph.specs.working.IdPlaces.{id_places, ids_at, size_of_fields, size_together}
 pub use Rattle.heap_graph.specs.working.OneGraph.{one_ids}
-pub use Rattle.heap_graph.specs.working.PlacedNames.{AreNames, loaded_id, string_id}
-pub use Rattle.heap_graph.specs.working.PlacedObjects.{AreObjects, ArePlacesOf}
+pub use Rattle.heap_graph.specs.working.PlacedNames.{AreNames, AreNamesByIdOf, AreNamesOf, loaded_id, string_id}
+pub use Rattle.heap_graph.specs.working.PlacedObjects.{AreObjects, ArePlacesOf, IsReadFrom}
 pub use Rattle.heap_graph.specs.working.ReadObjects.{IsReadOf}
 pub use Rattle.heap_graph.specs.working.Refinement.{StandFor}
 pub use Rattle.heap_graph.specs.working.Resolving.{IsNamed, Resolves, known_ids, target_in}

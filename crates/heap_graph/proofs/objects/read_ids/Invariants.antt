@@ -1,8 +1,5 @@
 -- The identifiers so far are those of the first sub-records.
-use Rattle.std.proofs.Common.{List, map, take, ◌≡◌}
-use Rattle.hprof_grammar.specs.Standing.{StandInTurn, Stands}
-use Rattle.hprof_grammar.specs.Dump.{id_of}
-use Rattle.hprof_grammar.specs.SubRecord.{SubRecord}
+use Rattle.heap_graph.proofs.Words.{List, StandInTurn, Stands, SubRecord, id_of, map, take, ◌≡◌}
 use Rattle.heap_graph.proofs.objects.read_ids.Given as goal
 
 abbrev pub invariant-loop-at : goal.invariant-loop-at

@@ -1,8 +1,5 @@
 -- The dump at the place has the fields that are read, so the bytes of these are those of the class.
-use Rattle.std.proofs.Common.{List, ap, arith, length, refl, ◌<◌, ◌^◌, ◌∙◌}
-use Rattle.hprof_grammar.specs.SubRecord.{Member}
-use Rattle.hprof_grammar.proofs.BoundsLaws.{bounds}
-use Rattle.heap_graph.specs.working.IdPlaces.{size_together}
+use Rattle.heap_graph.proofs.Words.{List, Member, ap, arith, bounds, length, refl, size_together, ◌<◌, ◌^◌, ◌∙◌}
 use Rattle.heap_graph.proofs.classes.Classes.add.Goals as goal
 
 pub bytes_of_fields-size-requires : goal.bytes_of_fields-size-requires

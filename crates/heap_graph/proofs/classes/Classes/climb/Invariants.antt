@@ -1,8 +1,5 @@
 -- What was known is known, and the climb from the first class has come to this one.
-use Rattle.std.proofs.Common.{List, count_by}
-use Rattle.hprof_grammar.specs.SubRecord.{SubRecord}
-use Rattle.heap_graph.specs.working.ClassTable.{AreClassesOf}
-use Rattle.heap_graph.specs.working.Chains.{DoesStay, IsClimbOf, is_unknown}
+use Rattle.heap_graph.proofs.Words.{AreClassesOf, DoesStay, IsClimbOf, List, SubRecord, count_by, is_unknown}
 use Rattle.heap_graph.proofs.classes.Classes.climb.Given as goal
 
 abbrev pub invariant-up : goal.invariant-up

@@ -1,10 +1,6 @@
 -- Below a whole layout comes that of the class; a chain that is cut or endless above is so from the class on.
-use Rattle.std.proofs.Common.{subst, sym, ◌∷◌, ℕ}
-use Rattle.heap_graph.specs.declared.classes.fate.Fate.{Fate}
+use Rattle.heap_graph.proofs.Words.{Fate, IsChain, IsFate, ids_of, subst, sym, ℕ, ◌∷◌}
 use Rattle.heap_graph.specs.declared.classes.fate.Fate.TheVariants as fates
-use Rattle.heap_graph.specs.Layout.{IsChain}
-use Rattle.heap_graph.specs.working.Chains.{IsFate}
-use Rattle.heap_graph.specs.working.ClassTable.{ids_of}
 use Rattle.heap_graph.proofs.FateLaws.{chain_at, fate_up}
 use Rattle.heap_graph.proofs.classes.Classes.fate_below.Goals as goal
 

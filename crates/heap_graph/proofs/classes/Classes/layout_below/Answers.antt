@@ -1,10 +1,6 @@
 -- The bytes of the class and those above are bounded, so the sum fits; to cut it at each step is to cut it once.
-use Rattle.std.proofs.Common.{ap, arith, min, sym, ◌+◌, ◌<◌, ◌^◌, ◌∙◌, ◌≡◌, ℕ}
-use Rattle.heap_graph.specs.Layout.{layout_size}
-use Rattle.heap_graph.specs.declared.classes.ClassPlace.{ClassPlace}
-use Rattle.heap_graph.specs.working.Chains.{most_size}
-use Rattle.heap_graph.specs.working.ClassTable.{entry_at}
-use Rattle.heap_graph.specs.working.IdPlaces.{size_together}
+use Rattle.heap_graph.proofs.Words.{ClassPlace, ap, arith, entry_at, layout_size, min, most_size, size_together, sym, ℕ}
+use Rattle.heap_graph.proofs.Words.{◌+◌, ◌<◌, ◌^◌, ◌∙◌, ◌≡◌}
 use Rattle.heap_graph.proofs.ClassTableLaws.{few_bytes, read_entry, size_of_class}
 use Rattle.heap_graph.proofs.LayoutLaws.{size_more, size_told}
 use Rattle.heap_graph.proofs.classes.Classes.layout_below.Goals as goal

@@ -1,8 +1,5 @@
 -- The path is empty, what is said of fates is so, and each class so far is known.
-use Rattle.std.proofs.Common.{List, [], ℕ, ◌<◌, ◌≡◌}
-use Rattle.hprof_grammar.specs.SubRecord.{SubRecord}
-use Rattle.heap_graph.specs.working.ClassTable.{AreClassesOf}
-use Rattle.heap_graph.specs.working.Chains.{AreFatesOf, IsKnown}
+use Rattle.heap_graph.proofs.Words.{AreClassesOf, AreFatesOf, IsKnown, List, SubRecord, [], ℕ, ◌<◌, ◌≡◌}
 use Rattle.heap_graph.proofs.classes.Classes.settle_all.Given as goal
 
 abbrev pub invariant-loop-number : goal.invariant-loop-number

@@ -1,11 +1,6 @@
 -- The places are those of the dump, so what the tests say of the objects there is said of the dump's heap.
-use Rattle.std.proofs.Common.{[], ap, filter, ◌∙◌, ◌≡◌}
-use Rattle.hprof_grammar.specs.Places.{Places}
-use Rattle.hprof_grammar.specs.Dump.{is_root}
-use Rattle.hprof_grammar.specs.Standing.{IsPlaced}
-use Rattle.heap_graph.specs.Heap.{heap_of}
-use Rattle.heap_graph.specs.working.ReadObjects.{IsReadOf}
-use Rattle.hprof_grammar.specs.Standing.{SubRecordStandsAt}
+use Rattle.heap_graph.proofs.Words.{IsPlaced, IsReadOf, Places, SubRecordStandsAt, [], ap, filter, heap_of, is_root}
+use Rattle.heap_graph.proofs.Words.{◌∙◌, ◌≡◌}
 use Rattle.heap_graph.proofs.Building.{are_linked, are_names, has_fault, seen_by}
 use Rattle.heap_graph.proofs.graph.Graph.build.Goals as goal
 

@@ -1,9 +1,5 @@
 -- The graph of linked objects: the lists of their identifiers are there by a lemma, without a call that reads them.
-use Rattle.std.proofs.Common.{List, rules, subst, sym, ◌≡◌}
-use Rattle.heap_graph.specs.ObjectGraph.{IsGraphOfText}
-use Rattle.heap_graph.specs.Skips.{SkipEntry}
-use Rattle.heap_graph.specs.working.GraphParts.{AreNamedOf}
-use Rattle.heap_graph.specs.working.Refinement.{StandFor}
+use Rattle.heap_graph.proofs.Words.{AreNamedOf, IsGraphOfText, List, SkipEntry, StandFor, rules, subst, sym, ◌≡◌}
 use Rattle.heap_graph.proofs.Building.{given_graph, graph_read, stand_for, text_graph_made}
 use Rattle.heap_graph.proofs.Counting.{few_roots_in_dump}
 use Rattle.heap_graph.proofs.graph.Graph.of.Goals as goal

@@ -1,8 +1,5 @@
 -- The builder takes each identifier, and has those of the loaded classes so far.
-use Rattle.std.proofs.Common.{List, filter}
-use Rattle.hprof_grammar.specs.Places.{is_load}
-use Rattle.hprof_grammar.specs.Record.{Record}
-use Rattle.heap_graph.specs.working.PlacedNames.{AreNamesOf, loaded_id}
+use Rattle.heap_graph.proofs.Words.{AreNamesOf, List, Record, filter, is_load, loaded_id}
 use Rattle.heap_graph.proofs.Adding.{AreAdded, TakesAll}
 use Rattle.heap_graph.proofs.names.Names.loaded_by_id.Given as goal
 

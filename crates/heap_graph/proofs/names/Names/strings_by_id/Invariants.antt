@@ -1,8 +1,5 @@
 -- The builder takes each identifier, and has those of the strings so far.
-use Rattle.std.proofs.Common.{List, filter}
-use Rattle.hprof_grammar.specs.Places.{is_string}
-use Rattle.hprof_grammar.specs.Record.{Record}
-use Rattle.heap_graph.specs.working.PlacedNames.{AreNamesOf, string_id}
+use Rattle.heap_graph.proofs.Words.{AreNamesOf, List, Record, filter, is_string, string_id}
 use Rattle.heap_graph.proofs.Adding.{AreAdded, TakesAll}
 use Rattle.heap_graph.proofs.names.Names.strings_by_id.Given as goal
 

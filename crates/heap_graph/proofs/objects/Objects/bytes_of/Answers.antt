@@ -1,11 +1,6 @@
 -- The object at the place is of the kind that was read there; its form bounds its parts, so nothing overflows.
-use Rattle.std.proofs.Common.{List, ap, arith, length, sum_by, ◌*◌, ◌<◌, ◌^◌, ◌∙◌, ◌≤◌, ℕ}
-use Rattle.std.proofs.Math.Nat.{mul-le-mul_left}
-use Rattle.std.proofs.lemmas.List.{length-map}
-use Rattle.hprof_grammar.specs.Series.{LabelledValue, of_static}
-use Rattle.hprof_grammar.specs.FormatTables.{size_of}
-use Rattle.hprof_grammar.proofs.BoundsLaws.{bounds}
-use Rattle.heap_graph.specs.Rows.{bytes_of}
+use Rattle.heap_graph.proofs.Words.{LabelledValue, List, ap, arith, bounds, bytes_of, length, length-map}
+use Rattle.heap_graph.proofs.Words.{mul-le-mul_left, of_static, size_of, sum_by, ℕ, ◌*◌, ◌<◌, ◌^◌, ◌∙◌, ◌≤◌}
 use Rattle.heap_graph.proofs.EntryLaws.{static_bytes}
 use Rattle.heap_graph.proofs.FieldLaws.{size_of_id}
 use Rattle.heap_graph.proofs.Standings.{array_at, class_at, instance_at, primitives_at, there_at, told_of_one}

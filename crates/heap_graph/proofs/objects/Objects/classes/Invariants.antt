@@ -1,8 +1,5 @@
 -- The classes so far are the first ones of the table, each with the text that names it.
-use Rattle.std.proofs.Common.{List}
-use Rattle.hprof_grammar.specs.Record.{Record}
-use Rattle.heap_graph.specs.working.ClassTable.{ids_of}
-use Rattle.heap_graph.specs.working.PlacedNames.{AreNamesByIdOf}
+use Rattle.heap_graph.proofs.Words.{AreNamesByIdOf, List, Record, ids_of}
 use Rattle.heap_graph.proofs.ClassLaws.{AreNamed}
 use Rattle.heap_graph.proofs.objects.Objects.classes.Given as goal
 

@@ -1,9 +1,5 @@
 -- The object at the place is of the kind that was read there, so the rules of that kind are those that it is tested by.
-use Rattle.std.proofs.Common.{subst, sym}
-use Rattle.hprof_grammar.specs.SubRecord.{SubRecord}
-use Rattle.hprof_grammar.specs.SubRecord.SubRecord.{class_dump, instance_dump}
-use Rattle.hprof_grammar.specs.Standing.{Stands}
-use Rattle.heap_graph.specs.working.RuleAnswers.{IsLateRule}
+use Rattle.heap_graph.proofs.Words.{IsLateRule, Stands, SubRecord, class_dump, instance_dump, subst, sym}
 use Rattle.heap_graph.proofs.Standings.{IsDumpBy, is_class_dump, is_instance_dump}
 use Rattle.heap_graph.proofs.objects.Objects.late_rule.Goals as goal
 

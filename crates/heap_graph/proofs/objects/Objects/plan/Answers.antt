@@ -1,15 +1,7 @@
 -- The class of each number stands at its place, so the fields that are read there are those that are planned.
-use Rattle.std.proofs.Common.{List, Some, [], ap, arith, length, length-append, sym, ℕ, ◌<◌, ◌^◌, ◌∙◌, ◌∷◌}
-use Rattle.std.proofs.Common.{◌≡◌}
-use Rattle.std.specs.Prelude.{slice_index}
-use Rattle.hprof_grammar.proofs.BoundsLaws.{bounds}
-use Rattle.hprof_grammar.specs.Record.{Record}
-use Rattle.hprof_grammar.specs.SubRecord.{Class}
-use Rattle.heap_graph.specs.Heap.{class_named, heap_of}
-use Rattle.heap_graph.specs.Skips.{SkipEntry, is_skipped}
-use Rattle.heap_graph.specs.working.ClassSkips.{is_skipped_in}
-use Rattle.heap_graph.specs.working.ClassTable.{ids_of}
-use Rattle.heap_graph.specs.working.Resolving.{target_in}
+use Rattle.heap_graph.proofs.Words.{Class, List, Record, SkipEntry, Some, [], ap, arith, bounds, class_named, heap_of}
+use Rattle.heap_graph.proofs.Words.{ids_of, is_skipped, is_skipped_in, length, length-append, slice_index, sym}
+use Rattle.heap_graph.proofs.Words.{target_in, ℕ, ◌<◌, ◌^◌, ◌∙◌, ◌∷◌, ◌≡◌}
 use Rattle.heap_graph.proofs.ClassTableLaws.{same_count, stands_at}
 use Rattle.heap_graph.proofs.Linking.{IsClassThere, class_there}
 use Rattle.heap_graph.proofs.PlanLaws.{fields_read, no_object, no_plan, objects_more, plan_more}

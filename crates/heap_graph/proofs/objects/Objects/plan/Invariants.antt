@@ -1,12 +1,6 @@
 -- The classes so far are planned.
-use Rattle.std.proofs.Common.{List, length, ◌≡◌}
-use Rattle.hprof_grammar.specs.Record.{Record}
-use Rattle.heap_graph.specs.Heap.{heap_of}
-use Rattle.heap_graph.specs.Skips.{is_skipped}
-use Rattle.heap_graph.specs.working.ClassPlans.{AreClassObjects, AreClassPlans}
-use Rattle.heap_graph.specs.working.ClassTable.{ids_of}
-use Rattle.heap_graph.specs.working.PlacedNames.{AreNamesByIdOf}
-use Rattle.heap_graph.specs.working.ClassFates.{HaveFatesOf}
+use Rattle.heap_graph.proofs.Words.{AreClassObjects, AreClassPlans, AreNamesByIdOf, HaveFatesOf, List, Record, heap_of}
+use Rattle.heap_graph.proofs.Words.{ids_of, is_skipped, length, ◌≡◌}
 use Rattle.heap_graph.proofs.objects.Objects.plan.Given as goal
 
 abbrev pub invariant-loop-number : goal.invariant-loop-number

@@ -1,9 +1,5 @@
 -- Those counted, with the missing ones among the identifiers that are left, are all the missing ones.
-use Rattle.std.proofs.Common.{Bool, List}
-use Rattle.hprof_grammar.specs.SubRecord.{Class, Member, SubRecord}
-use Rattle.heap_graph.specs.working.ClassPlans.{IsPlanOf}
-use Rattle.heap_graph.specs.working.HeldIds.{AreLinkedOf}
-use Rattle.heap_graph.specs.working.ClassFates.{HaveFatesOf}
+use Rattle.heap_graph.proofs.Words.{AreLinkedOf, Bool, Class, HaveFatesOf, IsPlanOf, List, Member, SubRecord}
 use Rattle.heap_graph.proofs.CountedLaws.{AreCountedTo}
 use Rattle.heap_graph.proofs.objects.Objects.unresolved_of.Given as goal
 
