@@ -2,8 +2,8 @@
 //!
 //! `run`, in `pipeline.rt`, is all that is promised: it reads the bytes, builds the graph, marks it, and writes the
 //! report, or answers why it does not. `program`, in `command.rt`, gives it the file and the options of the words, and
-//! makes the exit status of its answer; `main` is one line over `process`, below, which is `start` and, at a terminal, a
-//! look at the fields that were not to be followed.
+//! makes the exit status of its answer; `main` is one line over `process`, below: that is `start`, and at a
+//! terminal a look at the fields that were not to be followed.
 //!
 //! The headline stands in `specs/Headline.antt`, the refusals in `specs/RunRefusals.antt`; README.md at the top says
 //! both in words, and `docs/ARCHITECTURE.md` where everything else is.
@@ -53,7 +53,7 @@ fn main(rt: HostRuntime) -> ExitCode {
 }
 
 /// All that the process does, and its exit status: that of `start`. Behind a report, where people read standard error,
-/// they are told of fields to be skipped that the dump does not have; so no clause is promised here.
+/// they are told of fields to be skipped that the dump does not have, so of standard error no clause speaks.
 fn process<T, V, W, E>(rt: &T, line: &V, out: &mut Counted<W>, err: &mut E) -> u8
 where
     T: Files + AllocGlobal + Threads + Wait + Sync,
@@ -61,6 +61,13 @@ where
     W: Write,
     E: Write + IsTerminal,
     requires { failures_of out.old < 2 ^ 64 - 1 }
+    ensures status { result ≤ 2 }
+    ensures untouched { result ≡ 2 → Keeps (W.contents (inner_of out.old)) (W.contents (inner_of out.new)) }
+    ensures unwritten { result ≡ 1 → failures_of out.new ≡ failures_of out.old
+        → Keeps (W.contents (inner_of out.old)) (W.contents (inner_of out.new)) }
+    ensures beginning { result ≡ 1 → failures_of out.new ≡ failures_of out.old + 1
+        → WritesBeginningForSome (W.contents (inner_of out.old)) (W.contents (inner_of out.new)) }
+    ensures failures { failures_of out.new ≤ failures_of out.old + 1 }
 {
     let status = start(rt, line, out, err);
     if status == status::DONE && err.is_terminal() {
