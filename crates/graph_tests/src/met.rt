@@ -81,40 +81,41 @@ fn entries_are_met(rt: HostRuntime) {
     }
 }
 
-/// Reads a dump, and asks which entries of a list it meets.
+/// Reads a list and a dump, and asks which entries the dump meets.
 #[derive(Drop)]
 struct Asking<'a> {
-    skip: &'a Skip<'a, Global>,
+    list: &'a str,
     bytes: &'a [u8],
     want: &'a [bool],
 }
 
 impl Call for Asking<'_> {
     fn is_right(&self, heap: &LimitedHeap<Global>) -> bool {
-        let Ok(dump) = read(heap, self.bytes) else {
+        let (Ok(skip), Ok(dump)) = (Skip::new(heap, self.list), read(heap, self.bytes)) else {
             return heap.refusals() > 0;
         };
-        match self.skip.met(heap, self.bytes, &dump) {
+        match skip.met(heap, self.bytes, &dump) {
             Ok(met) => met.as_slice() == self.want,
             Err(_) => heap.refusals() > 0,
         }
     }
 }
 
-/// How many requests that takes of the classes, where each of them was refused before.
-fn requests_to_ask(alloc: Global, list: &str, want: &[bool]) -> Option<u64> {
-    let skip = Skip::new(alloc, list).ok()?;
-    let dump = Bytes::dump(alloc, 4, CLASSES).ok()?;
-    let asking = Asking {
-        skip: &skip,
-        bytes: dump.bytes.as_slice(),
-        want,
-    };
-    requests_of(alloc, &asking)
+/// How many requests that takes, where each of them was refused before.
+fn requests_to_ask(alloc: Global, list: &str, bytes: &[u8], want: &[bool]) -> Option<u64> {
+    requests_of(alloc, &Asking { list, bytes, want })
+}
+
+/// How many it takes of the classes.
+fn requests_to_ask_classes(alloc: Global, list: &str, want: &[bool]) -> Option<u64> {
+    match Bytes::dump(alloc, 4, CLASSES) {
+        Ok(dump) => requests_to_ask(alloc, list, dump.bytes.as_slice(), want),
+        Err(_) => None,
+    }
 }
 
 #[test]
 fn memory_refused_while_entries_are_met(rt: HostRuntime) {
-    let requests = requests_to_ask(rt.alloc(), "T.count,T.f", &[true, false]);
+    let requests = requests_to_ask_classes(rt.alloc(), "T.count,T.f", &[true, false]);
     assert!(rt; requests.is_some());
 }
