@@ -1,6 +1,6 @@
 -- The objects of one list behind those of another.
-use Rattle.std.proofs.Common.{Contains, List, None, Option, Some, ap, arith, get_or, inl, inr, length, length-append, map}
-use Rattle.std.proofs.Common.{slice_get, subst, sym, ℕ, ◌%◌, ◌+◌, ◌++◌, ◌-◌, ◌<◌, ◌^◌, ◌∙◌, ◌≡◌, ◌≤◌}
+use Rattle.std.proofs.Common.{Contains, List, None, Option, Some, ap, arith, get_or, inl, inr, length, length-append}
+use Rattle.std.proofs.Common.{map, slice_get, subst, sym, ℕ, ◌%◌, ◌+◌, ◌++◌, ◌-◌, ◌<◌, ◌^◌, ◌∙◌, ◌≡◌, ◌≤◌}
 use Rattle.std.proofs.lemmas.Bool.{cases_lt}
 use Rattle.std.proofs.lemmas.List.{append-nil, get_or-append-add, get_or-map, get_or_append_left, length-map}
 use Rattle.std.proofs.lemmas.List.Elements.{Contains-append_cases, Contains-append_left, Contains-append_right}
@@ -123,7 +123,8 @@ module _ (xs ys : List Run) (ids more : List ℕ) where
               | inl below ↦ omega (arith, first.before i below, ap end_of (in_first i below), right)
               | inr behind ↦ omega (
                 arith,
-                second (i - length xs) (j - length xs) (omega (arith, less, behind)) (omega (arith, within, many, from)),
+                second (i - length xs) (j - length xs) (omega (arith, less, behind))
+                    (omega (arith, within, many, from)),
                 ap end_of (in_second i behind (omega (arith, less, within))),
                 right,
               )
@@ -167,6 +168,17 @@ all_few runs last count it = record {
 module _ (xs ys : List Run) (last next : Option Run) (count many : ℕ)
     (it : AreFewBuilt xs last (ids_built xs last count) count)
     (other : AreFewBuilt ys next (ids_built ys next many) many) where
+  pub few_both : (ids more : List ℕ) → ids_built xs last count ≡ ids → ids_built ys next many ≡ more
+      → length ids + length more < 2 ^ 32 → count + many < 2 ^ 32
+  few_both ids more are are_more few = omega (
+    arith,
+    few,
+    ap (λ (ns : List ℕ). length ns) are,
+    ap (λ (ns : List ℕ). length ns) are_more,
+    ids_count xs last count,
+    ids_count ys next many,
+  )
+
   -- no number is too great to be raised
   pub may_raise : count + many < 2 ^ 32 → (k : ℕ) → k < length (with_last ys next)
       → (run_in (with_last ys next) k).first + count < 2 ^ 32
@@ -176,6 +188,13 @@ module _ (xs ys : List Run) (last next : Option Run) (count many : ℕ)
 
   abbrev both : List Run
   both = with_last xs last ++ map (raised_by count) (with_last ys next)
+
+  -- what `push_raised` leaves
+  pub both_runs : (runs front more : List Run) → runs ≡ front ++ map (raised_by count) more
+      → front ≡ with_last xs last → more ≡ with_last ys next → runs ≡ both
+  both_runs runs front more are closed closed_more =
+      are ∙ ap (λ (ls : List Run). ls ++ map (raised_by count) more) closed
+      ∙ ap (λ (ls : List Run). with_last xs last ++ map (raised_by count) ls) closed_more
 
   all_both : AreBuilt both (ids_built xs last count ++ ids_built ys next many)
   all_both =
