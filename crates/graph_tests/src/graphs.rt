@@ -24,7 +24,7 @@ pub fn graph_of<'a, T: Threads + Sync>(
 
 /// Whether a walk gives these objects and then none. With each of them fewer identifiers are left, and behind them
 /// none.
-fn gives<A: Allocator>(walk: Successors<'_, A>, objects: &[u32]) -> bool {
+pub fn gives<A: Allocator>(walk: Successors<'_, A>, objects: &[u32]) -> bool {
     let mut walk = walk;
     for object in objects {
         let left = walk.left();

@@ -1,0 +1,183 @@
+//! Dumps of few objects, of which also a part of one object is gathered by a thread of its own: their identifiers
+//! ascend, descend or stand in no order, in each place one has other lowest bits than the others, and classes stand in
+//! each part. Each object that is no class refers to all objects, so each identifier is looked up.
+
+use crate::graphs::gives;
+use heap_graph::{Graph, Skip};
+use hprof_grammar::{Team, read};
+use limited_heap::LimitedHeap;
+use std::alloc::{AllocError, Allocator, Global};
+use std::test::Fail;
+use std::thread::Threads;
+use test_dumps::Bytes;
+use test_dumps::Sub::Class;
+
+/// How many objects there are at most.
+const MOST: u32 = 9;
+
+/// Each third object is a class, the first one among them. The others are arrays.
+const CLASSES_EACH: u32 = 3;
+
+/// The order of identifiers: the first of sixteen, and how far each is from the one before it, round and round.
+type Order = (u32, u32);
+
+/// They ascend, descend, and do neither.
+const ORDERS: [Order; 3] = [(0, 1), (15, 15), (3, 5)];
+
+/// The identifiers of so many objects. The one of that number has other lowest bits than the others.
+fn ids_of(alloc: Global, order: Order, count: u32, odd: u32) -> Result<Vec<u32>, AllocError> {
+    let mut ids = Vec::new(alloc);
+    for number in 0..count {
+        let place = order.0.wrapping_add(order.1.wrapping_mul(number)) % 16;
+        ids.push(0x1000 + 8 * place + 4 * u32::from(number == odd))?;
+    }
+    Ok(ids)
+}
+
+/// How many there are.
+fn count_of(ids: &[u32]) -> u32 {
+    u32::try_from(ids.len()).unwrap_or(u32::MAX)
+}
+
+/// An array of that class with elements that name all objects.
+fn put_array(heap: &mut Bytes, id: u32, class: u32, ids: &[u32]) -> Result<(), AllocError> {
+    heap.bytes.push(0x22)?;
+    for field in [id, 0, count_of(ids), class] {
+        heap.bytes.extend_from_slice(&field.to_be_bytes())?;
+    }
+    for id in ids {
+        heap.bytes.extend_from_slice(&id.to_be_bytes())?;
+    }
+    Ok(())
+}
+
+/// A dump of objects with these identifiers.
+fn dump(alloc: Global, ids: &[u32]) -> Result<Bytes, AllocError> {
+    let class = ids.first().copied().unwrap_or(0);
+    let mut heap = Bytes::new(alloc, 4);
+    for (number, id) in ids.iter().enumerate() {
+        if number % CLASSES_EACH as usize == 0 {
+            heap.sub(Class(u64::from(*id), 0, &[]))?;
+        } else {
+            put_array(&mut heap, *id, class, ids)?;
+        }
+    }
+    let mut file = Bytes::header(alloc, 4)?;
+    file.record(0x0C, heap.bytes.as_slice())?;
+    Ok(file)
+}
+
+/// What each array refers to: its class, and all objects in order.
+fn references_of(alloc: Global, count: u32) -> Result<Vec<u32>, AllocError> {
+    let mut references = Vec::new(alloc);
+    references.push(0)?;
+    for object in 0..count {
+        references.push(object)?;
+    }
+    Ok(references)
+}
+
+/// Whether it has these objects, and each array refers to all.
+fn tells_objects<A: Allocator>(graph: &Graph<'_, A>, ids: &[u32], references: &[u32]) -> bool {
+    for object in 0..graph.len() {
+        let wanted = match object % CLASSES_EACH {
+            0 => &[],
+            _ => references,
+        };
+        if !gives(graph.successors(object), wanted) {
+            return false;
+        }
+    }
+    graph.len() as usize == ids.len()
+}
+
+/// Whether it has the classes among these.
+fn tells_classes<A: Allocator>(graph: &Graph<'_, A>, ids: &[u32]) -> bool {
+    for class in 0..graph.classes() {
+        let id = ids.get(class as usize * CLASSES_EACH as usize);
+        if Some(graph.class_id(class)) != id.map(|id| u64::from(*id)) {
+            return false;
+        }
+    }
+    graph.classes() as usize == ids.len().div_ceil(CLASSES_EACH as usize)
+}
+
+/// Whether the graph that a team of so many threads makes of the dump is right. None where memory is missing.
+fn is_right<T: Threads + Sync, A: Allocator + Copy + Send + Sync>(
+    rt: &T,
+    alloc: Global,
+    heap: A,
+    ids: &[u32],
+    threads: u32,
+) -> Option<bool> {
+    let file = dump(alloc, ids).ok()?;
+    let references = references_of(alloc, count_of(ids)).ok()?;
+    let bytes = file.bytes.as_slice();
+    let skip = Skip::none(alloc);
+    let team = Team::sharing_from(rt, threads, 1);
+    let dump = read(heap, bytes).ok()?;
+    let graph = Graph::build(&team, heap, bytes, dump, &skip).ok()?;
+    Some(tells_objects(&graph, ids, references.as_slice()) && tells_classes(&graph, ids))
+}
+
+/// Whether teams of one thread, two and four make the right graph.
+fn all_are_right<T: Threads + Sync>(rt: &T, alloc: Global, ids: &[u32]) -> bool {
+    for threads in [1, 2, 4] {
+        if is_right(rt, alloc, alloc, ids, threads) != Some(true) {
+            return false;
+        }
+    }
+    true
+}
+
+#[test]
+fn graphs_of_parts(rt: HostRuntime) -> Result<(), Fail> {
+    for order in ORDERS {
+        for count in 1..=MOST {
+            for odd in 0..=count {
+                let ids = ids_of(rt.alloc(), order, count, odd)?;
+                let right = all_are_right(&rt, rt.alloc(), ids.as_slice());
+                assert!(rt;
+                    right,
+                    "{count} identifiers in order {order:?}, number {odd} differs"
+                );
+            }
+        }
+    }
+    Ok(())
+}
+
+/// Whether a team of four makes the right graph where so many requests for memory are granted, or memory is missing
+/// since one was refused.
+fn is_right_or_refused<T: Threads + Sync>(
+    rt: &T,
+    alloc: Global,
+    ids: &[u32],
+    granted: u64,
+) -> bool {
+    let heap = LimitedHeap::new(alloc, granted);
+    match is_right(rt, alloc, &heap, ids, 4) {
+        Some(right) => right,
+        None => heap.refusals() > 0,
+    }
+}
+
+/// More requests than a dump of nine objects takes.
+const MANY: u64 = 100;
+
+#[test]
+fn parts_or_want_of_memory(rt: HostRuntime) -> Result<(), Fail> {
+    for odd in [4, MOST] {
+        let ids = ids_of(rt.alloc(), (3, 5), MOST, odd)?;
+        for granted in 0..MANY {
+            let right = is_right_or_refused(&rt, rt.alloc(), ids.as_slice(), granted);
+            assert!(rt;
+                right,
+                "{granted} requests are granted, number {odd} differs"
+            );
+        }
+        let all = is_right_or_refused(&rt, rt.alloc(), ids.as_slice(), u64::MAX);
+        assert!(rt; all, "all requests are granted");
+    }
+    Ok(())
+}
