@@ -161,30 +161,29 @@ graph_made o records skip linked told = record {
   unresolved_is = refl;
 }
 
-pub stand_for : {A : Type 0} (o : Objects A) (plan : Plan A) (records : List Record) (roots : List ℕ)
-    (classes : List ClassEntry) (unresolved : ℕ) (skip : List SkipEntry)
-    → ((at : ℕ) (sub : SubRecord) → Stands o.view at sub
-    → at + length (spelling_of o.view.id_size sub) ≤ length o.view.bytes) → length (root_ids (heap_of records)) ≤ limit
-    → (linked : AreLinkedOf o (heap_of records)) → (told : HaveFatesOf o (heap_of records))
-    → AreNamedOf records skip o plan classes → AreRootsOf (heap_of records) roots unresolved
-    → StandFor o plan roots classes unresolved skip
-    (graph_with o.view.id_size records (lists_of o records skip linked told))
-stand_for o plan records roots classes unresolved skip within few_roots linked told named found =
-    let g = graph_with o.view.id_size records (lists_of o records skip linked told) in
-    let graph = graph_made o records skip linked told in
-    record {
-      records = records;
-      linked = linked;
-      fates = told;
-      planned = named.planned;
-      graph = graph;
-      whole =
-          is_whole o.view o.places.items o.index records skip g linked within
-          (few_held (held_lists (is_skipped records skip) o (heap_of records) linked told)) few_roots graph;
-      roots_are = sym found.roots_are;
-      classes_are = sym named.classes_are;
-      unresolved_is = roots_unresolved graph ∙ sym found.unresolved_is;
-    }
+module _ {A : Type 0} (o : Objects A) (plan : Plan A) (records : List Record) (roots : List ℕ)
+    (classes : List ClassEntry) (unresolved : ℕ) (skip : List SkipEntry) where
+  pub stand_for : ((at : ℕ) (sub : SubRecord) → Stands o.view at sub
+      → at + length (spelling_of o.view.id_size sub) ≤ length o.view.bytes) → length (root_ids (heap_of records)) ≤ limit
+      → (linked : AreLinkedOf o (heap_of records)) → (told : HaveFatesOf o (heap_of records))
+      → AreNamedOf records skip o plan classes → AreRootsOf (heap_of records) roots unresolved
+      → StandFor o plan roots classes unresolved skip
+      (graph_with o.view.id_size records (lists_of o records skip linked told))
+  stand_for within few_roots linked told named found =
+      let g = graph_with o.view.id_size records (lists_of o records skip linked told) in
+      let graph = graph_made o records skip linked told in
+      let held = held_lists (is_skipped records skip) o (heap_of records) linked told in
+      record {
+        records = records;
+        linked = linked;
+        fates = told;
+        planned = named.planned;
+        graph = graph;
+        whole = is_whole o.view o.places.items o.index records skip g linked within (few_held held) few_roots graph;
+        roots_are = sym found.roots_are;
+        classes_are = sym named.classes_are;
+        unresolved_is = roots_unresolved graph ∙ sym found.unresolved_is;
+      }
 
 -- the graph of the objects that were read
 abbrev pub graph_read : {A : Type 0} (o : Objects A) (text : List ℕ) (dump : Places) (is : IsDumpOf text dump)

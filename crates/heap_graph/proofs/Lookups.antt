@@ -10,24 +10,6 @@ abbrev pub first_of : {X Y : Type 0} → (X → ℕ) → (X → Y) → List X �
 first_of key part [] id = None
 first_of key part (x ∷ xs) id = if key x == id then Some (part x) else first_of key part xs id
 
-first_at : {X Y : Type 0} (key : X → ℕ) (part : X → Y) (xs : List X) (id i : ℕ) (x : X) → slice_get xs i ≡ Some x
-    → key x ≡ id → ((k : ℕ) → k < i → get_or (map key xs) k 0 ≡ id → ⊥) → Some (part x) ≡ first_of key part xs id
-first_at key part [] id i x here same before = absurd (let wrong : None ≡ Some x = here in cc)
-first_at key part (y ∷ ys) id zero x here same before =
-    let it : y ≡ x = cc in
-    ap (λ z. Some (part z)) (sym it)
-    ∙ sym (cond-true (key y == id) (Some (part y)) (first_of key part ys id) (eq-eqb (key y) id (ap key it ∙ same)))
-first_at key part (y ∷ ys) id (suc i) x here same before =
-    first_at key part ys id i x here same (λ k h. before (suc k) (omega (arith, h)))
-    ∙ sym (cond-false (key y == id) (Some (part y)) (first_of key part ys id) (ne_eqb (key y) id (before 0 (omega arith))))
-
-none_first : {X Y : Type 0} (key : X → ℕ) (part : X → Y) (xs : List X) (id : ℕ)
-    → ((k : ℕ) → k < length xs → get_or (map key xs) k 0 ≡ id → ⊥) → None ≡ first_of key part xs id
-none_first key part [] id none = refl
-none_first key part (y ∷ ys) id none =
-    none_first key part ys id (λ k h. none (suc k) (omega (arith, h)))
-    ∙ sym (cond-false (key y == id) (Some (part y)) (first_of key part ys id) (ne_eqb (key y) id (none 0 (omega arith))))
-
 -- nobody bears an identifier that has no position
 absent : (ids : List ℕ) (id k : ℕ) → None ≡ position (λ x. x == id) ids → k < length ids → get_or ids k 0 ≡ id → ⊥
 absent ids id k e within =
@@ -47,19 +29,39 @@ found_below key places ids xs id i stand are e =
     let it = position-Some (λ x. x == id) ids i 0 (sym e) in
     omega (arith, it.0, stand.count, ap length are, length-map xs key)
 
-pub found : {X Y : Type 0} (key : X → ℕ) (part : X → Y) (ids : List ℕ) (xs : List X) (id i : ℕ) (x : X)
-    → slice_get xs i ≡ Some x → ids ≡ map key xs → Some i ≡ position (λ x. x == id) ids
-    → Some (part x) ≡ first_of key part xs id
-found key part ids xs id i x here are e =
-    let at = position-Some (λ x. x == id) ids i 0 (sym e) in
-    let bears : get_or ids i 0 ≡ key x =
-    ap (λ ns. get_or ns i 0) are ∙ get_or-map key xs i x 0 (slice_get_within xs i x here)
-    ∙ ap key (get_or_from_slice_get xs i x x here) in
-    first_at key part xs id i x here (sym bears ∙ eqb-true (get_or ids i 0) id at.1)
-    (λ k h same. eqb-false (get_or ids k 0) id (at.2 k h) (ap (λ ns. get_or ns k 0) are ∙ same))
+module _ {X Y : Type 0} (key : X → ℕ) (part : X → Y) where
+  first_at : (xs : List X) (id i : ℕ) (x : X) → slice_get xs i ≡ Some x → key x ≡ id
+      → ((k : ℕ) → k < i → get_or (map key xs) k 0 ≡ id → ⊥) → Some (part x) ≡ first_of key part xs id
+  first_at [] id i x here same before = absurd (let wrong : None ≡ Some x = here in cc)
+  first_at (y ∷ ys) id zero x here same before =
+      let it : y ≡ x = cc in
+      ap (λ z. Some (part z)) (sym it)
+      ∙ sym (cond-true (key y == id) (Some (part y)) (first_of key part ys id) (eq-eqb (key y) id (ap key it ∙ same)))
+  first_at (y ∷ ys) id (suc i) x here same before =
+      let other = ne_eqb (key y) id (before 0 (omega arith)) in
+      first_at ys id i x here same (λ k h. before (suc k) (omega (arith, h)))
+      ∙ sym (cond-false (key y == id) (Some (part y)) (first_of key part ys id) other)
 
-pub missing : {X Y : Type 0} (key : X → ℕ) (part : X → Y) (ids : List ℕ) (xs : List X) (id : ℕ)
-    → ids ≡ map key xs → None ≡ position (λ x. x == id) ids → None ≡ first_of key part xs id
-missing key part ids xs id are e =
-    none_first key part xs id (λ k h same. absent ids id k e (omega (arith, h, ap length are, length-map xs key))
-    (ap (λ ns. get_or ns k 0) are ∙ same))
+  none_first : (xs : List X) (id : ℕ) → ((k : ℕ) → k < length xs → get_or (map key xs) k 0 ≡ id → ⊥)
+      → None ≡ first_of key part xs id
+  none_first [] id none = refl
+  none_first (y ∷ ys) id none =
+      let other = ne_eqb (key y) id (none 0 (omega arith)) in
+      none_first ys id (λ k h. none (suc k) (omega (arith, h)))
+      ∙ sym (cond-false (key y == id) (Some (part y)) (first_of key part ys id) other)
+
+  pub found : (ids : List ℕ) (xs : List X) (id i : ℕ) (x : X) → slice_get xs i ≡ Some x → ids ≡ map key xs
+      → Some i ≡ position (λ x. x == id) ids → Some (part x) ≡ first_of key part xs id
+  found ids xs id i x here are e =
+      let at = position-Some (λ x. x == id) ids i 0 (sym e) in
+      let bears : get_or ids i 0 ≡ key x =
+      ap (λ ns. get_or ns i 0) are ∙ get_or-map key xs i x 0 (slice_get_within xs i x here)
+      ∙ ap key (get_or_from_slice_get xs i x x here) in
+      first_at xs id i x here (sym bears ∙ eqb-true (get_or ids i 0) id at.1)
+      (λ k h same. eqb-false (get_or ids k 0) id (at.2 k h) (ap (λ ns. get_or ns k 0) are ∙ same))
+
+  pub missing : (ids : List ℕ) (xs : List X) (id : ℕ) → ids ≡ map key xs → None ≡ position (λ x. x == id) ids
+      → None ≡ first_of key part xs id
+  missing ids xs id are e =
+      none_first xs id (λ k h same. absent ids id k e (omega (arith, h, ap length are, length-map xs key))
+      (ap (λ ns. get_or ns k 0) are ∙ same))

@@ -115,19 +115,20 @@ pub record AreOwnFields (skips : Class → Member → Bool) (s : ℕ) (plans : L
   pub places_are : id_places_of plans places k ≡ id_places (skips c) s 0 c.members
   pub size_is : (plan_at plans k).size ≡ size_together s c.members
 
-pub fields_of_class : {skips : Class → Member → Bool} {s : ℕ} {heap : List SubRecord} {all ids : List ℕ}
-    {plans : List ClassPlan} {places : List ℕ} → IsPlan skips s heap all ids plans places → (k : ℕ) (c : Class)
-    → k < length ids → class_named heap (slice_index ids k) ≡ Some c → AreOwnFields skips s plans places c k
-fields_of_class {plans = plans} {places = places} plan k c below named =
-    let it = there_is plans k (omega (arith, below, plan.one_each)) in
-    let says = plan.each k it.0 c it.1 named in
-    let is : plan_at plans k ≡ it.0 =
-    get_or_from_slice_get plans k it.0 (record { start = 0; end = 0; size = 0; object = None }) it.1 in
-    record {
-      has = record {
-        rising = subst (λ (p : ClassPlan). p.start ≤ p.end) (sym is) says.rising;
-        within = subst (λ (p : ClassPlan). p.end ≤ length places) (sym is) says.within;
-      };
-      places_are = ap (λ (p : ClassPlan). slice_range places p.start p.end) is ∙ says.places_are;
-      size_is = ap (λ (p : ClassPlan). p.size) is ∙ says.size_is;
-    }
+module _ {skips : Class → Member → Bool} {s : ℕ} {heap : List SubRecord} {all ids : List ℕ} {plans : List ClassPlan}
+    {places : List ℕ} (plan : IsPlan skips s heap all ids plans places) where
+  pub fields_of_class : (k : ℕ) (c : Class) → k < length ids → class_named heap (slice_index ids k) ≡ Some c
+      → AreOwnFields skips s plans places c k
+  fields_of_class k c below named =
+      let it = there_is plans k (omega (arith, below, plan.one_each)) in
+      let says = plan.each k it.0 c it.1 named in
+      let is : plan_at plans k ≡ it.0 =
+      get_or_from_slice_get plans k it.0 (record { start = 0; end = 0; size = 0; object = None }) it.1 in
+      record {
+        has = record {
+          rising = subst (λ (p : ClassPlan). p.start ≤ p.end) (sym is) says.rising;
+          within = subst (λ (p : ClassPlan). p.end ≤ length places) (sym is) says.within;
+        };
+        places_are = ap (λ (p : ClassPlan). slice_range places p.start p.end) is ∙ says.places_are;
+        size_is = ap (λ (p : ClassPlan). p.size) is ∙ says.size_is;
+      }
