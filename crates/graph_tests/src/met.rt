@@ -2,9 +2,10 @@
 
 use crate::refused::{Call, requests_of};
 use heap_graph::Skip;
-use hprof_grammar::read;
+use hprof_grammar::{Team, read};
 use limited_heap::LimitedHeap;
 use std::alloc::Global;
+use std::thread::Threads;
 use test_dumps::Record::{Heap, Load, Text};
 use test_dumps::Sub::{Instance, Named, Root, Static};
 use test_dumps::{Bytes, Record};
@@ -56,8 +57,15 @@ static LISTS: [(&str, &[bool]); 7] = [
 ];
 
 /// Whether these entries are met by the dump of these bytes.
-fn is_met(alloc: Global, bytes: &[u8], list: &str, want: &[bool]) -> bool {
-    let (Ok(skip), Ok(dump)) = (Skip::new(alloc, list), read(alloc, bytes)) else {
+fn is_met<T: Threads + Sync>(
+    rt: &T,
+    alloc: Global,
+    bytes: &[u8],
+    list: &str,
+    want: &[bool],
+) -> bool {
+    let team = Team::new(rt, 4);
+    let (Ok(skip), Ok(dump)) = (Skip::new(alloc, list), read(&team, alloc, bytes)) else {
         return false;
     };
     match skip.met(alloc, bytes, &dump) {
@@ -67,9 +75,9 @@ fn is_met(alloc: Global, bytes: &[u8], list: &str, want: &[bool]) -> bool {
 }
 
 /// Whether they are met by these classes.
-fn is_met_by_classes(alloc: Global, list: &str, want: &[bool]) -> bool {
+fn is_met_by_classes<T: Threads + Sync>(rt: &T, alloc: Global, list: &str, want: &[bool]) -> bool {
     match Bytes::dump(alloc, 4, CLASSES) {
-        Ok(dump) => is_met(alloc, dump.bytes.as_slice(), list, want),
+        Ok(dump) => is_met(rt, alloc, dump.bytes.as_slice(), list, want),
         Err(_) => false,
     }
 }
@@ -77,21 +85,24 @@ fn is_met_by_classes(alloc: Global, list: &str, want: &[bool]) -> bool {
 #[test]
 fn entries_are_met(rt: HostRuntime) {
     for (list, want) in &LISTS {
-        assert!(rt; is_met_by_classes(rt.alloc(), list, want), "{list}");
+        assert!(rt; is_met_by_classes(&rt, rt.alloc(), list, want), "{list}");
     }
 }
 
 /// Reads a list and a dump, and asks which entries the dump meets.
 #[derive(Drop)]
-struct Asking<'a> {
+struct Asking<'a, T> {
+    rt: &'a T,
     list: &'a str,
     bytes: &'a [u8],
     want: &'a [bool],
 }
 
-impl Call for Asking<'_> {
+impl<T: Threads + Sync> Call for Asking<'_, T> {
     fn is_right(&self, heap: &LimitedHeap<Global>) -> bool {
-        let (Ok(skip), Ok(dump)) = (Skip::new(heap, self.list), read(heap, self.bytes)) else {
+        let team = Team::new(self.rt, 4);
+        let (Ok(skip), Ok(dump)) = (Skip::new(heap, self.list), read(&team, heap, self.bytes))
+        else {
             return heap.refusals() > 0;
         };
         match skip.met(heap, self.bytes, &dump) {
@@ -102,20 +113,39 @@ impl Call for Asking<'_> {
 }
 
 /// How many requests that takes, where each of them was refused before.
-fn requests_to_ask(alloc: Global, list: &str, bytes: &[u8], want: &[bool]) -> Option<u64> {
-    requests_of(alloc, &Asking { list, bytes, want })
+fn requests_to_ask<T: Threads + Sync>(
+    rt: &T,
+    alloc: Global,
+    list: &str,
+    bytes: &[u8],
+    want: &[bool],
+) -> Option<u64> {
+    requests_of(
+        alloc,
+        &Asking {
+            rt,
+            list,
+            bytes,
+            want,
+        },
+    )
 }
 
 /// How many it takes of the classes.
-fn requests_to_ask_classes(alloc: Global, list: &str, want: &[bool]) -> Option<u64> {
+fn requests_to_ask_classes<T: Threads + Sync>(
+    rt: &T,
+    alloc: Global,
+    list: &str,
+    want: &[bool],
+) -> Option<u64> {
     match Bytes::dump(alloc, 4, CLASSES) {
-        Ok(dump) => requests_to_ask(alloc, list, dump.bytes.as_slice(), want),
+        Ok(dump) => requests_to_ask(rt, alloc, list, dump.bytes.as_slice(), want),
         Err(_) => None,
     }
 }
 
 #[test]
 fn memory_refused_while_entries_are_met(rt: HostRuntime) {
-    let requests = requests_to_ask_classes(rt.alloc(), "T.count,T.f", &[true, false]);
+    let requests = requests_to_ask_classes(&rt, rt.alloc(), "T.count,T.f", &[true, false]);
     assert!(rt; requests.is_some());
 }

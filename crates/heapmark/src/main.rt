@@ -77,11 +77,12 @@ where
 }
 
 /// Tells what is to be told behind a report. Where the words cannot be read once more, that is nothing.
-fn look_again<T: Files + AllocGlobal + Threads + Sync, V: Env, E: Write>(
-    rt: &T,
-    line: &V,
-    err: &mut E,
-) {
+fn look_again<T, V, E>(rt: &T, line: &V, err: &mut E)
+where
+    T: Files + AllocGlobal + Threads + Sync,
+    V: Env,
+    E: Write,
+{
     let Ok(args) = args_of(line, rt.alloc()) else {
         return;
     };

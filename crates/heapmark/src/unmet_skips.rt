@@ -8,7 +8,7 @@ use crate::command::expected_size;
 use crate::pipeline::read_bytes;
 use crate::reopened::open_again;
 use crate::shown::Shown;
-use command_line::arguments;
+use command_line::{Arguments, arguments};
 use heap_graph::Skip;
 use histogram::Counted;
 use hprof_grammar::{Team, read};
@@ -30,20 +30,21 @@ pub(crate) fn tell_unmet_skips<T: Files + AllocGlobal + Threads + Sync, E: Write
     let Some(list) = arguments.skip else {
         return;
     };
-    if let Some(met) = met_in_file(rt, arguments.file, list) {
+    if let Some(met) = met_in_file(rt, &arguments, list) {
         tell_unmet(err, list, &met);
     }
 }
 
-/// Of each entry of a list, whether it names a field of the dump in this file, where that can be known.
+/// Of each entry of a list, whether it names a field of the dump in the words' file, where that can be known.
 fn met_in_file<T: Files + AllocGlobal + Threads + Sync>(
     rt: &T,
-    file: &str,
+    arguments: &Arguments<'_>,
     list: &str,
 ) -> Option<Vec<bool>> {
     let skip = Skip::new(rt.alloc(), list).ok()?;
-    let bytes = bytes_again(rt, file)?;
-    let dump = read(&Team::new(rt, 1), rt.alloc(), bytes.as_slice()).ok()?;
+    let bytes = bytes_again(rt, arguments.file)?;
+    let team = Team::at_most(rt, arguments.workers);
+    let dump = read(&team, rt.alloc(), bytes.as_slice()).ok()?;
     skip.met(rt.alloc(), bytes.as_slice(), &dump).ok()
 }
 
