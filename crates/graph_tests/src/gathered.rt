@@ -115,7 +115,7 @@ fn is_right<T: Threads + Sync, A: Allocator + Copy + Send + Sync>(
     let bytes = file.bytes.as_slice();
     let skip = Skip::none(alloc);
     let team = Team::sharing_from(rt, threads, 1);
-    let dump = read(heap, bytes).ok()?;
+    let dump = read(&team, heap, bytes).ok()?;
     let graph = Graph::build(&team, heap, bytes, dump, &skip).ok()?;
     Some(tells_objects(&graph, ids, references.as_slice()) && tells_classes(&graph, ids))
 }

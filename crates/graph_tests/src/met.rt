@@ -1,6 +1,5 @@
 //! Which entries of a list name a field of a dump, and that each request for memory may be refused.
 
-use crate::refused::{Call, requests_of};
 use heap_graph::Skip;
 use hprof_grammar::{Team, read};
 use limited_heap::LimitedHeap;
@@ -9,6 +8,9 @@ use std::thread::Threads;
 use test_dumps::Record::{Heap, Load, Text};
 use test_dumps::Sub::{Instance, Named, Root, Static};
 use test_dumps::{Bytes, Record};
+
+/// More requests than any call here makes.
+const MANY: u64 = 512;
 
 /// A class `S` and below it two of the name `T`; a class `V` with a static field `f`; a class that is loaded again as
 /// `U`, with a second string for its field's name; one that is not loaded; and one whose string is missing.
@@ -89,63 +91,52 @@ fn entries_are_met(rt: HostRuntime) {
     }
 }
 
-/// Reads a list and a dump, and asks which entries the dump meets.
-#[derive(Drop)]
-struct Asking<'a, T> {
-    rt: &'a T,
-    list: &'a str,
-    bytes: &'a [u8],
-    want: &'a [bool],
+/// Whether the list and the dump, read over this heap, answer that, or want of memory where a request was refused.
+fn is_answered<T: Threads + Sync>(
+    rt: &T,
+    heap: &LimitedHeap<Global>,
+    bytes: &[u8],
+    list: &str,
+    want: &[bool],
+) -> bool {
+    let team = Team::new(rt, 4);
+    let (Ok(skip), Ok(dump)) = (Skip::new(heap, list), read(&team, heap, bytes)) else {
+        return heap.refusals() > 0;
+    };
+    match skip.met(heap, bytes, &dump) {
+        Ok(met) => met.as_slice() == want,
+        Err(_) => heap.refusals() > 0,
+    }
 }
 
-impl<T: Threads + Sync> Call for Asking<'_, T> {
-    fn is_right(&self, heap: &LimitedHeap<Global>) -> bool {
-        let team = Team::new(self.rt, 4);
-        let (Ok(skip), Ok(dump)) = (Skip::new(heap, self.list), read(&team, heap, self.bytes))
-        else {
-            return heap.refusals() > 0;
+/// With how many requests they answer, where each of them was refused before, with all behind it or alone.
+fn requests_to_answer<T: Threads + Sync>(
+    rt: &T,
+    alloc: Global,
+    list: &str,
+    want: &[bool],
+    alone: bool,
+) -> Option<u64> {
+    let dump = Bytes::dump(alloc, 4, CLASSES).ok()?;
+    for request in 0..MANY {
+        let heap = match alone {
+            true => LimitedHeap::refusing(alloc, request),
+            false => LimitedHeap::new(alloc, request),
         };
-        match skip.met(heap, self.bytes, &dump) {
-            Ok(met) => met.as_slice() == self.want,
-            Err(_) => heap.refusals() > 0,
+        if !is_answered(rt, &heap, dump.bytes.as_slice(), list, want) {
+            return None;
+        }
+        if heap.refusals() == 0 {
+            return Some(request);
         }
     }
-}
-
-/// How many requests that takes, where each of them was refused before.
-fn requests_to_ask<T: Threads + Sync>(
-    rt: &T,
-    alloc: Global,
-    list: &str,
-    bytes: &[u8],
-    want: &[bool],
-) -> Option<u64> {
-    requests_of(
-        alloc,
-        &Asking {
-            rt,
-            list,
-            bytes,
-            want,
-        },
-    )
-}
-
-/// How many it takes of the classes.
-fn requests_to_ask_classes<T: Threads + Sync>(
-    rt: &T,
-    alloc: Global,
-    list: &str,
-    want: &[bool],
-) -> Option<u64> {
-    match Bytes::dump(alloc, 4, CLASSES) {
-        Ok(dump) => requests_to_ask(rt, alloc, list, dump.bytes.as_slice(), want),
-        Err(_) => None,
-    }
+    None
 }
 
 #[test]
 fn memory_refused_while_entries_are_met(rt: HostRuntime) {
-    let requests = requests_to_ask_classes(&rt, rt.alloc(), "T.count,T.f", &[true, false]);
-    assert!(rt; requests.is_some());
+    for alone in [false, true] {
+        let requests = requests_to_answer(&rt, rt.alloc(), "T.count,T.f", &[true, false], alone);
+        assert!(rt; requests.is_some(), "alone: {alone}");
+    }
 }

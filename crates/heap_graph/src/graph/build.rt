@@ -117,8 +117,8 @@ impl<'a, A: Allocator + Copy> Graph<'a, A> {
 impl<'a, A: Allocator + Copy + Send + Sync> Graph<'a, A> {
     /// The graph of a dump that was read from these bytes, in which the fields on the list are not followed: a fault is
     /// the first one of its links, and else only memory can be missing. To skip no field, lend it `Skip::none`. Where
-    /// there are many objects, their identifiers are gathered and the rules of the links tested in parts, by the threads
-    /// of the team.
+    /// there are many objects, the threads of the team gather their identifiers and test the rules of the links in
+    /// parts.
     pub fn build<T: Threads + Sync, B: Allocator>(
         team: &Team<'_, T>,
         alloc: A,

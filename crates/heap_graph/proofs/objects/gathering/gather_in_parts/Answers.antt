@@ -10,11 +10,12 @@ loop-part-init g c =
     let v = c.args.view.now in
     let places = c.args.places.now in
     let size = c.part_of-size.result in
+    let parts = c.in_ok-parts.ensures in
     let given = c.into_iter-part-iterator.ensures.into_iter_gives in (
       0,
-      omega (arith, c.in_ok-parts.ensures.len, given.1),
+      omega (arith, parts.len, given.1),
       all_left v places c.args.bits size _ _ _ given.0 (λ k d below.
-          let it = (c.in_ok-parts.ensures.each k d (omega (arith, below, given.1, c.in_ok-parts.parts.ok))).1 in record {
+          let it = (parts.each k d (omega (arith, below, given.1, c.in_ok-parts.parts.ok))).1 in record {
             part = it.argument.now;
             within = it.argument_is.in_bounds;
             long = it.argument_is.len;
