@@ -1,13 +1,12 @@
 -- A visit of an object: what it misses in all stays the same.
 use Rattle.std.proofs.Common.{Bool, List, None, Option, Some, [], ap, arith, cond, count_by, false, length, map, refl}
 use Rattle.std.proofs.Common.{subst, sym, true, ℕ, ◌+◌, ◌^◌, ◌∙◌, ◌∷◌, ◌≡◌, ◌≤◌}
-use Rattle.std.specs.Prelude.{IfSome, is_none, position, slice_index, ◌++◌, ◌==◌}
+use Rattle.std.specs.Prelude.{is_none, position, ◌==◌}
 use Rattle.std.specs.Iterator.{YieldsFirst}
 use Rattle.std.proofs.lemmas.List.Sums.{sum_by-cons}
 use Rattle.heap_graph.specs.declared.row.RowKey.{RowKey}
 use Rattle.heap_graph.specs.Walks.{Advances, Step, Visited, is_unresolved_in, is_unresolved_step, references_left}
 use Rattle.heap_graph.specs.Walks.{step_in, target_in, unresolved_left}
-use Rattle.heap_graph.specs.working.Resolving.{IsNamed, known_ids}
 use Rattle.heap_graph.proofs.Walking.{HasPassed, goes_to, goes_to_end, passed_none, passed_one, yields}
 
 -- ---- what a step misses
@@ -125,27 +124,3 @@ goes_end old row bytes unresolved all before after h e f = record {
 pub gives : (old : Visited) (object : Option ℕ) (new : Visited) → Advances old object new
     → YieldsFirst references_left old object new × Advances old object new
 gives old object new goes = (yields old.left object new.left goes.goes, goes)
-
--- ---- the class, where it is known
-
-class_if : (all : List ℕ) (class : Option ℕ) (o : ℕ) → class ≡ Some o → IfSome class (IsNamed all)
-    → Some o ≡ target_in all (slice_index all o)
-class_if all class o e named = sym (subst (λ (c : Option ℕ). IfSome c (IsNamed all)) e named)
-
--- it is the first object that a visit gives
-pub goes_class : (old : Visited) (row : RowKey) (bytes unresolved : ℕ) (all ids : List ℕ) (class : Option ℕ) (o : ℕ)
-    → class ≡ Some o → IfSome class (IsNamed all)
-    → IsOnTheWay old row bytes unresolved all (known_ids all class ++ ids)
-    → Advances old (Some o) (visited row bytes unresolved all ids)
-goes_class old row bytes unresolved all ids class o e named way =
-    goes_named old row bytes unresolved all (slice_index all o) (known_ids all class ++ ids) ids way
-    (ap (λ (c : Option ℕ). known_ids all c ++ ids) e) o (class_if all class o e named)
-
--- behind it the identifiers are those that are read
-pub behind : (all ids : List ℕ) (class : Option ℕ) → class ≡ None → known_ids all class ++ ids ≡ ids
-behind all ids class none = ap (λ (c : Option ℕ). known_ids all c ++ ids) none
-
-pub next_behind : (all ids rest : List ℕ) (class : Option ℕ) (id : ℕ) → class ≡ None → ids ≡ id ∷ rest
-    → known_ids all class ++ ids ≡ id ∷ known_ids all class ++ rest
-next_behind all ids rest class id none is =
-    behind all ids class none ∙ is ∙ ap (λ (xs : List ℕ). id ∷ xs) (sym (behind all rest class none))

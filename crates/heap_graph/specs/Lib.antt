@@ -5,6 +5,7 @@ pub mod Fields
 pub mod References
 pub mod Roots
 pub mod Walks
+pub mod ByKind
 pub mod Rows
 pub mod ClassNames
 pub mod Skips

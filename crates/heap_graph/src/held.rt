@@ -4,7 +4,7 @@ mod class_ids;
 mod field_ids;
 
 pub(crate) use self::class_ids::ClassIds;
-pub(crate) use self::field_ids::FieldIds;
+pub use self::field_ids::FieldIds;
 use crate::classes::Fate;
 use crate::objects::Objects;
 use crate::plan::Plan;
@@ -33,8 +33,8 @@ pub(crate) enum Rest<'g, A: Allocator> {
 
 /// The identifiers that are left of those that an object holds.
 #[derive(Drop)]
-pub(crate) struct HeldIds<'g, A: Allocator> {
-    rest: Rest<'g, A>,
+pub struct HeldIds<'g, A: Allocator> {
+    pub(crate) rest: Rest<'g, A>,
 }
 
 impl<'g, A: Allocator> Model for HeldIds<'g, A> {
@@ -132,6 +132,7 @@ impl<'d, A: Allocator> Objects<'d, A> {
     ghost use Rattle.heap_graph.specs.working.ClassFates.{HaveFatesOf};
 
     /// The identifiers that a class dump holds. The two reserved ones are not followed.
+    #[inline(always)]
     fn ids_of_class(&self, at: u32) -> HeldIds<'_, A>
         requires size { (1 ≤ self.now.view.id_size) × (self.now.view.id_size ≤ 8) }
         requires dump { (c : Class) × Stands self.now.view at (class_dump c) }
@@ -220,6 +221,7 @@ impl<'d, A: Allocator> Objects<'d, A> {
     }
 
     /// The identifiers that an object holds.
+    #[inline(always)]
     pub(crate) fn ids_of<'g>(&'g self, plan: &'g Plan<A>, number: usize) -> HeldIds<'g, A>
         requires below { number < length self.now.places.items }
         requires heap { (skips : Class → Member → Bool) × (heap : List SubRecord) × AreLinkedOf self.now heap

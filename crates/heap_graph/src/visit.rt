@@ -1,7 +1,9 @@
 //! An object with its row and its bytes, and the objects that it refers to.
 
-use crate::held::HeldIds;
-use crate::resolving::target;
+ghost use Rattle.heap_graph.specs.ByKind.{AreByKind};
+
+use crate::held::{HeldIds, Rest};
+use crate::named::{Named, NamedElements, NamedFields, NamedIds, NamedNone, NoIds};
 use crate::row::RowKey;
 use id_index::IdIndex;
 use std::alloc::Allocator;
@@ -15,31 +17,39 @@ pub struct Visit<'g, A: Allocator> {
     index: &'g IdIndex<A>,
     /// The class, where it is known without a look-up and was not given yet.
     class: Option<u32>,
-    /// The identifiers behind it.
-    ids: HeldIds<'g, A>,
-    row: RowKey,
-    bytes: u64,
-    unresolved: u64,
+    /// What the identifiers behind it name.
+    rest: NamedIds<'g, A>,
+}
+
+/// The class of an object, where it is known without a look-up, and the objects that the identifiers behind it name, by
+/// where these identifiers stand: a loop over one of them asks this once.
+#[derive(Drop)]
+pub enum ByKind<'g, A: Allocator> {
+    /// Nowhere.
+    Nothing(Option<u32>, NamedNone<'g, A>),
+    /// In the fields of an instance.
+    Fields(Option<u32>, NamedFields<'g, A>),
+    /// In the elements of an array.
+    Elements(Option<u32>, NamedElements<'g, A>),
+    /// Not told: a visit gives them.
+    Any,
 }
 
 impl<'g, A: Allocator> Model for Visit<'g, A> {
-    ghost use Rattle.std.specs.Prelude.{IfSome, length, map, ◌++◌, ◌+◌, ◌^◌, ◌≤◌};
+    ghost use Rattle.std.specs.Prelude.{IfSome, map, ◌++◌};
     ghost use Rattle.heap_graph.specs.Walks.{Visited, step_in};
     ghost use Rattle.heap_graph.specs.working.Resolving.{IsNamed, known_ids};
 
     ghost Value = { Visited };
 
     ghost view = { λ v. record {
-      row = v.row;
-      bytes = v.bytes;
-      unresolved = v.unresolved;
-      left = map (step_in v.index.now) (known_ids v.index.now v.class ++ v.ids);
+      row = v.rest.row;
+      bytes = v.rest.bytes;
+      unresolved = v.rest.unresolved;
+      left = map (step_in v.index.now) (known_ids v.index.now v.class) ++ v.rest.left;
     } };
 
-    ghost invariant = { λ v. record {
-      few : v.unresolved + length (known_ids v.index.now v.class ++ v.ids) ≤ 2 ^ 33;
-      class : IfSome v.class (IsNamed v.index.now);
-    } };
+    ghost invariant = { λ v. IfSome v.class (IsNamed v.index.now) };
 }
 
 impl<'g, A: Allocator> Visit<'g, A> {
@@ -69,10 +79,13 @@ impl<'g, A: Allocator> Visit<'g, A> {
         Visit {
             index,
             class,
-            ids,
-            row,
-            bytes,
-            unresolved: 0,
+            rest: Named {
+                index,
+                ids,
+                row,
+                bytes,
+                unresolved: 0,
+            },
         }
     }
 
@@ -80,14 +93,14 @@ impl<'g, A: Allocator> Visit<'g, A> {
     pub fn row(&self) -> RowKey
         ensures { result ≡ self.now.row }
     {
-        self.row
+        self.rest.row()
     }
 
     /// The bytes of the object.
     pub fn bytes(&self) -> u64
         ensures { result ≡ self.now.bytes }
     {
-        self.bytes
+        self.rest.bytes()
     }
 
     /// How many of the identifiers that were passed are other than 0 and name no object: behind the last object, how
@@ -95,7 +108,55 @@ impl<'g, A: Allocator> Visit<'g, A> {
     pub fn unresolved(&self) -> u64
         ensures { result ≡ self.now.unresolved }
     {
-        self.unresolved
+        self.rest.unresolved()
+    }
+
+    /// The class and what the identifiers behind it name, by where they stand.
+    #[inline(always)]
+    pub fn by_kind(self) -> ByKind<'g, A>
+        ensures { AreByKind self.entry result }
+    {
+        let Visit { class, rest, .. } = self;
+        let Named {
+            index,
+            ids,
+            row,
+            bytes,
+            unresolved,
+        } = rest;
+        match ids.rest {
+            Rest::Nothing => ByKind::Nothing(
+                class,
+                Named {
+                    index,
+                    ids: NoIds {},
+                    row,
+                    bytes,
+                    unresolved,
+                },
+            ),
+            Rest::Fields(ids) => ByKind::Fields(
+                class,
+                Named {
+                    index,
+                    ids,
+                    row,
+                    bytes,
+                    unresolved,
+                },
+            ),
+            Rest::Elements(ids) => ByKind::Elements(
+                class,
+                Named {
+                    index,
+                    ids,
+                    row,
+                    bytes,
+                    unresolved,
+                },
+            ),
+            _ => ByKind::Any,
+        }
     }
 }
 
@@ -115,14 +176,6 @@ impl<'g, A: Allocator> Iterator for Visit<'g, A> {
             self.class = None;
             return Some(class);
         }
-        while let Some(id) = self.ids.next() {
-            if let Some(object) = target(self.index, id) {
-                return Some(object);
-            }
-            if id != 0 {
-                self.unresolved += 1;
-            }
-        }
-        None
+        self.rest.next()
     }
 }

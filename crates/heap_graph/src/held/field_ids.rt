@@ -12,7 +12,7 @@ use std::marker::Model;
 /// The identifiers that are left in the fields of an instance: those of a class, and then those of the classes above
 /// it that declare fields.
 #[derive(Drop)]
-pub(crate) struct FieldIds<'g, A: Allocator> {
+pub struct FieldIds<'g, A: Allocator> {
     objects: &'g Objects<'g, A>,
     plan: &'g Plan<A>,
     /// Where those of the class stand in the values.

@@ -14,6 +14,7 @@ use hprof_grammar::{ObjectKind, Values, View};
 use std::alloc::Allocator;
 
 /// The bytes of these values together.
+#[inline(never)]
 fn bytes_together(view: &View<'_>, values: Values<'_>) -> u64
     requires { length values < 2 ^ 16 }
     ensures { result ≡ sum_by (λ v. tables.size_of view.now.id_size v.type) values.entry }
@@ -31,6 +32,7 @@ impl<'d, A: Allocator> Objects<'d, A> {
     ghost use Rattle.heap_graph.specs.working.ClassFates.{HaveFatesOf};
 
     /// The row of the instances or the arrays of a class. The class is there.
+    #[inline(always)]
     fn class_row(&self, id: u64) -> RowKey
         requires { (heap : List SubRecord) × AreLinkedOf self.now heap × HaveFatesOf self.now heap
             × (class_named heap id ≢ None) }
@@ -44,6 +46,7 @@ impl<'d, A: Allocator> Objects<'d, A> {
     }
 
     /// The row of an object.
+    #[inline(always)]
     pub(crate) fn row_of(&self, number: usize) -> RowKey
         requires below { number < length self.now.places.items }
         requires heap { (heap : List SubRecord) × AreLinkedOf self.now heap × HaveFatesOf self.now heap }
@@ -60,6 +63,7 @@ impl<'d, A: Allocator> Objects<'d, A> {
     }
 
     /// The bytes of an object.
+    #[inline(always)]
     pub(crate) fn bytes_of(&self, number: usize) -> u64
         requires below { number < length self.now.places.items }
         requires heap { (heap : List SubRecord) × AreOf self.now heap }

@@ -1,0 +1,152 @@
+//! The objects that identifiers name, one after the other, of an object with its row and its bytes.
+
+use crate::held::{FieldIds, HeldIds};
+use crate::resolving::target;
+use crate::row::RowKey;
+use hprof_grammar::Ids;
+use id_index::IdIndex;
+use std::alloc::Allocator;
+use std::marker::Model;
+
+/// What gives identifiers one after the other.
+pub trait IdSource: Drop {
+    ghost use Rattle.std.specs.Prelude.{List, ℕ};
+    ghost use Rattle.std.specs.Iterator.{YieldsFirst};
+
+    /// Those that are left.
+    ghost ids: { Self → List ℕ };
+
+    /// The next one.
+    fn next_id(&mut self) -> Option<u64>
+        ensures { YieldsFirst ids self.old result self.new };
+}
+
+/// No identifiers.
+#[derive(Drop)]
+pub struct NoIds {}
+
+impl IdSource for NoIds {
+    ghost use Rattle.std.specs.Prelude.{[]};
+
+    ghost ids = { λ _. [] };
+
+    #[inline(always)]
+    fn next_id(&mut self) -> Option<u64> {
+        None
+    }
+}
+
+impl<'g, A: Allocator> IdSource for FieldIds<'g, A> {
+    ghost ids = { λ f. f };
+
+    #[inline(always)]
+    fn next_id(&mut self) -> Option<u64> {
+        self.next()
+    }
+}
+
+impl<'g> IdSource for Ids<'g> {
+    ghost ids = { λ e. e };
+
+    #[inline(always)]
+    fn next_id(&mut self) -> Option<u64> {
+        self.next()
+    }
+}
+
+impl<'g, A: Allocator> IdSource for HeldIds<'g, A> {
+    ghost ids = { λ h. h };
+
+    #[inline(always)]
+    fn next_id(&mut self) -> Option<u64> {
+        self.next()
+    }
+}
+
+/// An iterator over the numbers of the objects that identifiers name, of an object with that row and so many bytes. It
+/// counts the identifiers other than 0 that name no object.
+#[derive(Drop)]
+pub struct Named<'g, A: Allocator, I: IdSource> {
+    pub(crate) index: &'g IdIndex<A>,
+    pub(crate) ids: I,
+    pub(crate) row: RowKey,
+    pub(crate) bytes: u64,
+    pub(crate) unresolved: u64,
+}
+
+impl<'g, A: Allocator, I: IdSource> Model for Named<'g, A, I> {
+    ghost use Rattle.std.specs.Prelude.{length, map, ◌+◌, ◌^◌, ◌≤◌};
+    ghost use Rattle.heap_graph.specs.Walks.{Visited, step_in};
+
+    ghost Value = { Visited };
+
+    ghost view = { λ v. record {
+      row = v.row;
+      bytes = v.bytes;
+      unresolved = v.unresolved;
+      left = map (step_in v.index.now) (I.ids v.ids);
+    } };
+
+    ghost invariant = { λ v. v.unresolved + length (I.ids v.ids) ≤ 2 ^ 33 };
+}
+
+impl<'g, A: Allocator, I: IdSource> Named<'g, A, I> {
+    ghost use Rattle.std.specs.Prelude.{◌≡◌};
+
+    /// The row of the object in the histogram.
+    pub fn row(&self) -> RowKey
+        ensures { result ≡ self.now.row }
+    {
+        self.row
+    }
+
+    /// The bytes of the object.
+    pub fn bytes(&self) -> u64
+        ensures { result ≡ self.now.bytes }
+    {
+        self.bytes
+    }
+
+    /// How many of the identifiers that were passed are other than 0 and name no object.
+    pub fn unresolved(&self) -> u64
+        ensures { result ≡ self.now.unresolved }
+    {
+        self.unresolved
+    }
+}
+
+impl<'g, A: Allocator, I: IdSource> Iterator for Named<'g, A, I> {
+    ghost use Rattle.std.specs.Iterator.{YieldsFirst, item_count};
+    ghost use Rattle.heap_graph.specs.Walks.{Advances, references_left};
+
+    type Item = u32;
+
+    ghost next_gives = { λ old object new. YieldsFirst references_left old object new × Advances old object new };
+
+    ghost remaining = { item_count references_left };
+
+    #[inline(always)]
+    fn next(&mut self) -> Option<u32> {
+        while let Some(id) = self.ids.next_id() {
+            if let Some(object) = target(self.index, id) {
+                return Some(object);
+            }
+            if id != 0 {
+                self.unresolved += 1;
+            }
+        }
+        None
+    }
+}
+
+/// Of no identifiers.
+pub type NamedNone<'g, A> = Named<'g, A, NoIds>;
+
+/// Of those in the fields of an instance.
+pub type NamedFields<'g, A> = Named<'g, A, FieldIds<'g, A>>;
+
+/// Of those in the elements of an array.
+pub type NamedElements<'g, A> = Named<'g, A, Ids<'g>>;
+
+/// Of those that an object of any kind holds.
+pub type NamedIds<'g, A> = Named<'g, A, HeldIds<'g, A>>;
