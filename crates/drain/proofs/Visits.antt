@@ -1,14 +1,18 @@
 -- A visit keeps what it tells of its object: behind the last object that it gave that is what is read of it.
-use Rattle.std.proofs.Common.{◌≡◌, ◌+◌, [], ◌∷◌, ap, arith, List, None, Option, refl, Some, subst, ◌∙◌, ℕ}
-use Rattle.std.specs.Iterator.{Yields, YieldsFirst}
-use Rattle.heap_graph.specs.ObjectGraph.{ObjectGraph, bytes_at, object_count, row_at}
+use Rattle.std.proofs.Common.{◌≡◌, ◌+◌, ◌<◌, ◌↔◌, [], ◌∷◌, All, ap, arith, Contains, length, List, None, Option, refl}
+use Rattle.std.proofs.Common.{Some, subst, sym, ◌∙◌, ℕ}
+use Rattle.std.specs.Iterator.{Yields, YieldsFirst, item_count}
+use Rattle.std.proofs.lemmas.Iterator.Consumers.{YieldsList-from_shown}
+use Rattle.heap_graph.specs.ByKind.{IsBehind}
+use Rattle.heap_graph.specs.ObjectGraph.{ObjectGraph, bytes_at, object_count, references_of, row_at}
 use Rattle.heap_graph.specs.Whole.{IsWhole, unresolved_at}
 use Rattle.heap_graph.specs.Walks.{Advances, Visited, unresolved_left, references_left}
 use Rattle.heap_graph.specs.RowNumbers.{row_number}
 use Rattle.drain.specs.working.Measures.{measure_of, scanned_in}
-use Rattle.drain.specs.working.Scans.{IsScanOf}
-use Rattle.drain.specs.working.Tallies.{IsMeasureOf}
-use Rattle.drain.specs.working.Walk.{HasEnded}
+use Rattle.drain.specs.working.Tallies.{IsMeasureOf, Measure}
+use Rattle.drain.specs.working.Pairs.{pairs_of}
+use Rattle.drain.specs.working.Walk.{IsGiven, IsVisitOf}
+use Rattle.drain.proofs.Pairs.{pair_is_reference}
 use Rattle.heap_graph.proofs.RowNumberLaws.{number_within}
 
 -- a call of the visit
@@ -35,20 +39,48 @@ all_calls [] start last same =
 all_calls (o ∷ given) start last run =
     two_calls start run.0 last (one_call start (Some o) run.0 run.1) (all_calls given run.0 last run.2)
 
-pub read_at_end :
-    (g : ObjectGraph) (o : ℕ) (start end : Visited) → start.row ≡ row_at g o → start.bytes ≡ bytes_at g o
-    → start.unresolved + unresolved_left start.left ≡ unresolved_at g o → HasEnded visits start end
-    → IsScanOf (measure_of g) o (scanned_in end)
-read_at_end g o start end row bytes unresolved ended =
-    let step = ended.3 in
-    let before = all_calls ended.0 start ended.1 ended.2 in
-    let all = two_calls start ended.1 end before (one_call ended.1 None end step) in
-    let none : unresolved_left end.left ≡ 0 = ap unresolved_left step.1.goes.1 in
-    record {
-      row = ap row_number (all.row ∙ row);
-      bytes = all.bytes ∙ bytes;
-      unresolved = omega (arith, all.unresolved, unresolved, none);
-    }
+-- behind the class of an object, where that is known, stands the rest of its references, and at their end it is told
+-- what is read of it
+pub are_given :
+    (refers : ℕ → Type 0) (count : ℕ) (m : Measure) (o : ℕ) (whole : Visited) (class : Option ℕ) (rest : Visited)
+    → IsVisitOf refers count m o whole → IsBehind whole class rest
+    → IsGiven (λ _. Unit {0}) visits (item_count references_left) scanned_in refers m o class rest
+are_given refers count m o whole class rest is behind = record {
+  can = tt;
+  objects = references_left rest;
+  gives = (YieldsList-from_shown visits (λ (x : ℕ). x) references_left (λ s t p. ap length p.0.0) (λ s x t p. p.0)
+      rest).runs;
+  finite = tt;
+  exact = subst (λ (xs : List ℕ). (x : ℕ) → Contains xs x ↔ refers x) behind.references_are is.exact;
+  ends = λ end ended.
+      let step = ended.3 in
+      let before = all_calls ended.0 rest ended.1 ended.2 in
+      let all = two_calls rest ended.1 end before (one_call ended.1 None end step) in
+      let none : unresolved_left end.left ≡ 0 = ap unresolved_left step.1.goes.1 in
+      record {
+        row = ap row_number (all.row ∙ behind.row_is) ∙ is.row;
+        bytes = all.bytes ∙ behind.bytes_is ∙ is.bytes;
+        unresolved = omega (arith, all.unresolved, behind.unresolved_is, is.unresolved, none);
+      };
+}
+
+-- a visit is what is behind no class
+pub behind_none : (v : Visited) → IsBehind v None v
+behind_none v = record { row_is = refl; bytes_is = refl; references_are = refl; unresolved_is = refl }
+
+-- a visit of an object in a graph
+pub is_visit : (g : ObjectGraph) (o : ℕ) (v : Visited) → references_left v ≡ references_of g o → v.row ≡ row_at g o
+    → v.bytes ≡ bytes_at g o → v.unresolved + unresolved_left v.left ≡ unresolved_at g o
+    → All (λ x. x < object_count g) (references_of g o)
+    → IsVisitOf (λ x. Contains (pairs_of g) (o, x)) (object_count g) (measure_of g) o v
+is_visit g o v value row bytes unresolved within = record {
+  exact = subst (λ (xs : List ℕ). (x : ℕ) → Contains xs x ↔ Contains (pairs_of g) (o, x)) (sym value)
+      (pair_is_reference g o);
+  within = subst (All (λ x. x < object_count g)) (sym value) within;
+  row = ap row_number row;
+  bytes = bytes;
+  unresolved = unresolved;
+}
 
 -- a graph measures its objects
 pub measured : (g : ObjectGraph) → IsWhole g → IsMeasureOf (object_count g) (measure_of g)

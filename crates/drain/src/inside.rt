@@ -8,6 +8,6 @@ pub use crate::start_hook::{StartHook, StartsAll};
 pub use crate::sum::Sum;
 pub use crate::tallied::Tallied;
 pub use crate::tally::Tally;
-pub use crate::walk::Walk;
+pub use crate::walk::{Reads, Walk};
 pub use crate::walked_graph::WalkedGraph;
 pub use crate::worker_threads::{Duty, Started, join_all};

@@ -1,10 +1,13 @@
 //! The graph of a heap dump, as marking walks it.
 
+ghost use Rattle.std.specs.Prelude.{◌≡◌};
+ghost use Rattle.heap_graph.specs.RowNumbers as numbers;
+
 use crate::measured::Measured;
 use crate::scanned::Scanned;
-use crate::walk::Walk;
+use crate::walk::{Reads, Walk};
 use buffer_pool::Edges;
-use heap_graph::{Graph, Visit};
+use heap_graph::{Graph, IdSource, Named, RowKey, Visit};
 use std::alloc::Allocator;
 
 /// A graph of bytes that live for `'b`, whose roots and references are walked.
@@ -43,26 +46,48 @@ impl<'a, 'b, A: Allocator> Measured for WalkedGraph<'a, 'b, A> {
     }
 }
 
-impl<'a, 'b, A: Allocator + Sync> Walk for WalkedGraph<'a, 'b, A> {
+/// What a tally takes in of an object: its row, its size, and how many of its identifiers name no object.
+#[inline(always)]
+fn scanned(row: RowKey, bytes: u64, unresolved: u64) -> Scanned
+    ensures { result ≡ record { row = numbers.row_number row; bytes = bytes; unresolved = unresolved } }
+{
+    Scanned {
+        row: row.number(),
+        bytes,
+        unresolved,
+    }
+}
+
+impl<'a, A: Allocator + Sync> Reads for Visit<'a, A> {
     ghost use Rattle.drain.specs.working.Measures.{scanned_in};
 
-    type Visit = Visit<'a, A>;
+    ghost read_so_far = { scanned_in };
+
+    fn read(&self) -> Scanned {
+        scanned(self.row(), self.bytes(), self.unresolved())
+    }
+}
+
+impl<'a, A: Allocator + Sync, I: IdSource + Send> Reads for Named<'a, A, I> {
+    ghost use Rattle.drain.specs.working.Measures.{scanned_in};
 
     ghost read_so_far = { scanned_in };
+
+    fn read(&self) -> Scanned {
+        scanned(self.row(), self.bytes(), self.unresolved())
+    }
+}
+
+impl<'a, 'b, A: Allocator + Sync> Walk for WalkedGraph<'a, 'b, A> {
+    type Alloc = A;
 
     fn roots(&self) -> &[u32] {
         self.graph.roots()
     }
 
-    fn visit(&self, object: u32) -> Visit<'a, A> {
+    // Inlined, so that where a worker's loop begins it is known of what kind the object is.
+    #[inline(always)]
+    fn visit(&self, object: u32) -> Visit<'_, A> {
         self.graph.visit(object)
-    }
-
-    fn read(visit: &Visit<'a, A>) -> Scanned {
-        Scanned {
-            row: visit.row().number(),
-            bytes: visit.bytes(),
-            unresolved: visit.unresolved(),
-        }
     }
 }

@@ -7,7 +7,7 @@ ghost use Rattle.drain.specs.working.AtWork.{IsFree};
 use crate::dumps::{graph_of, wide_array};
 use buffer_pool::{Edges, Pool, Worker};
 use drain::Gate;
-use drain::inside::{Job, Measured, Scanned, StartsAll, Walk, WalkedGraph, lead};
+use drain::inside::{Job, Measured, StartsAll, Walk, WalkedGraph, lead};
 use heap_graph::{Skip, Visit};
 use std::alloc::Global;
 use std::sync::Wait;
@@ -55,26 +55,18 @@ impl Measured for Watched<'_, '_> {
     }
 }
 
-impl<'a, 'b> Walk for Watched<'a, 'b> {
-    ghost use Rattle.drain.specs.working.Measures.{scanned_in};
-
-    type Visit = Visit<'a, Global>;
-
-    ghost read_so_far = { scanned_in };
+impl Walk for Watched<'_, '_> {
+    type Alloc = Global;
 
     fn roots(&self) -> &[u32] {
         self.walked.roots()
     }
 
-    fn visit(&self, object: u32) -> Visit<'a, Global> {
+    fn visit(&self, object: u32) -> Visit<'_, Global> {
         if self.passed.load(Ordering::SeqCst) & (1 << (object % 64)) == 0 {
             self.early.fetch_add(1, Ordering::SeqCst);
         }
         self.walked.visit(object)
-    }
-
-    fn read(visit: &Visit<'a, Global>) -> Scanned {
-        <WalkedGraph<'a, 'b, Global> as Walk>::read(visit)
     }
 }
 

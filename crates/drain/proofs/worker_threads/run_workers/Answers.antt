@@ -1,7 +1,4 @@
 -- What the closure asks is what the call asks, and what may be sent to threads.
-use mir.Syntax.{of_param}
-use denote.Exit.{unseen}
-use denote.Param.Send.{Quiet-if}
 use Rattle.drain.proofs.Scanning.{same_tally}
 use Rattle.drain.proofs.worker_threads.run_workers.Goals as goal
 
@@ -23,16 +20,14 @@ scoped-requires g c = record {
         },
         (
           sent.send-A,
-          record {
-            owned = sent.send-V-Visit.owned;
-            leaving = λ k. Quiet-if (k (of_param 5)) unseen unseen (λ x w. tt) (λ x w. tt);
-          },
           record { shared = sent.sync-T.shared },
           sent.sync-A,
           record { shared = sent.sync-V.shared },
           record { shared = sent.sync-G.shared },
           record { shared = sent.sync-S.shared },
+          record { shared = sent.sync-V-Alloc.shared },
           sent.frees-A-Allocator,
+          sent.frees-V-Alloc-Allocator,
         ),
       );
 }

@@ -1,17 +1,22 @@
 -- What the object refers to may be claimed since it is at hand, and it is finished once all of that was seen.
-use Rattle.std.proofs.Common.{[], ◌∷◌, ◌++◌, ◌∙◌, ℕ, List, Contains, ap, rules, subst}
+use Rattle.std.proofs.Common.{[], ◌∷◌, ◌++◌, ◌∙◌, ℕ, List, Contains, ap, rules, subst, sym}
+use Rattle.std.proofs.lemmas.List.Elements.{Contains-append_left, Contains-append_right}
+use Rattle.std.specs.Prelude.{option_to_list}
 use Rattle.mark_core.specs.World.{Setup}
 use Rattle.buffer_pool.specs.Book.{Book}
-use Rattle.drain.proofs.AtHand.{all_claimable, may_finish, scanned, works, works_on_again}
+use Rattle.drain.proofs.AtHand.{all_claimable, may_finish, more_claimed, scanned, works, works_on_again}
 use Rattle.drain.proofs.paired_worker.PairedWorker.claim_and_finish.Goals as goal
 
 pub returns : goal.returns
 returns g c =
     let o = c.args.object in
     let old = c.args.self.now.worker in
+    let first = c.claim_known.new.self in
     let mid = c.claim_all.new.self in
     let end = c.finish.new.worker in
-    let are = c.in_ok-claim_all.ensures.claimed c.requires.exact.0 c.requires.exact.1 in
+    let given = c.requires.exact.0 in
+    let are = more_claimed (option_to_list c.args.class) given c.args.self.now.pair first.pair mid.pair old first.worker
+    mid.worker c.in_ok-claim_known.ensures.claimed (c.in_ok-claim_all.ensures.claimed given c.requires.exact.1) in
     let at_work = are.at_work (o ∷ []) c.requires.at_work in
     let done = scanned o mid.pair mid.worker at_work end c.finish.ensures.pool c.finish.ensures.event in
     let one_more = ap (λ (b : Book). b.account.finished) c.finish.ensures.event in
@@ -23,23 +28,40 @@ returns g c =
       seen = search rules;
     }
 
+pub claim_known-requires-clause-may : goal.claim_known-requires-clause-may
+claim_known-requires-clause-may g c =
+    let o = c.args.object in
+    let exact = c.requires.exact in (
+      o ∷ [],
+      c.requires.at_work,
+      all_claimable o (option_to_list c.args.class) c.args.self.now.worker.book.setup
+          (λ s h. (exact.2 s).0 (Contains-append_left (option_to_list c.args.class) exact.0 s h)),
+    )
+
 pub claim_all-requires-clause-may : goal.claim_all-requires-clause-may
 claim_all-requires-clause-may g c =
     let o = c.args.object in
-    let exact = c.requires.exact in (
+    let exact = c.requires.exact in
+    let first = c.in_ok-claim_known.ensures.claimed in
+    let pairs = ap (λ (e : Setup). e.pairs) first.goes_on.came.setup in (
       exact.0,
       o ∷ [],
       exact.1,
-      c.requires.at_work,
-      all_claimable o exact.0 c.args.self.now.worker.book.setup (λ s h. (exact.2 s).0 h),
+      first.at_work (o ∷ []) c.requires.at_work,
+      all_claimable o exact.0 c.claim_known.new.self.worker.book.setup
+          (λ s h. subst (λ (ps : List (ℕ × ℕ)). Contains ps (o, s)) (sym pairs)
+          ((exact.2 s).0 (Contains-append_right (option_to_list c.args.class) exact.0 s h))),
     )
 
 pub finish-requires-clause-can : goal.finish-requires-clause-can
 finish-requires-clause-can g c =
     let o = c.args.object in
+    let first = c.claim_known.new.self in
     let mid = c.claim_all.new.self in
     let exact = c.requires.exact in
-    let are = c.in_ok-claim_all.ensures.claimed exact.0 exact.1 in
+    let are = more_claimed (option_to_list c.args.class) exact.0 c.args.self.now.pair first.pair mid.pair
+    c.args.self.now.worker first.worker mid.worker c.in_ok-claim_known.ensures.claimed
+    (c.in_ok-claim_all.ensures.claimed exact.0 exact.1) in
     let pairs = ap (λ (e : Setup). e.pairs) are.goes_on.came.setup in
     may_finish o mid.pair mid.worker (are.at_work (o ∷ []) c.requires.at_work)
     (λ s h. are.saw s ((exact.2 s).1 (subst (λ (ps : List (ℕ × ℕ)). Contains ps (o, s)) pairs h)))

@@ -6,5 +6,5 @@ scope-requires g c =
     let may = c.requires.1.1.1.1.1.1 in
     let sent = may.1 in (
       sent.0,
-      (sent.1, (sent.2, (sent.3, (sent.4, (sent.5, (sent.6, (sent.7, may.0))))))),
+      (sent.1, (sent.2, (sent.3, (sent.4, (sent.5, (sent.6, (sent.7, (sent.8, may.0)))))))),
     )
