@@ -7,6 +7,16 @@ use Rattle.buffer_pool.specs.Book.{Book}
 use Rattle.drain.proofs.AtHand.{all_claimable, may_finish, more_claimed, scanned, works, works_on_again}
 use Rattle.drain.proofs.paired_worker.PairedWorker.claim_and_finish.Goals as goal
 
+pub claim_known-requires-clause-may : goal.claim_known-requires-clause-may
+claim_known-requires-clause-may g c =
+    let o = c.args.object in
+    let exact = c.requires.exact in (
+      o ∷ [],
+      c.requires.at_work,
+      all_claimable o (option_to_list c.args.class) c.args.self.now.worker.book.setup
+          (λ s h. (exact.2 s).0 (Contains-append_left (option_to_list c.args.class) exact.0 s h)),
+    )
+
 pub returns : goal.returns
 returns g c =
     let o = c.args.object in
@@ -27,16 +37,6 @@ returns g c =
       ended = c.in_ok-claim_all.ensures.ended;
       seen = search rules;
     }
-
-pub claim_known-requires-clause-may : goal.claim_known-requires-clause-may
-claim_known-requires-clause-may g c =
-    let o = c.args.object in
-    let exact = c.requires.exact in (
-      o ∷ [],
-      c.requires.at_work,
-      all_claimable o (option_to_list c.args.class) c.args.self.now.worker.book.setup
-          (λ s h. (exact.2 s).0 (Contains-append_left (option_to_list c.args.class) exact.0 s h)),
-    )
 
 pub claim_all-requires-clause-may : goal.claim_all-requires-clause-may
 claim_all-requires-clause-may g c =
