@@ -132,10 +132,11 @@ fn answers<T: Threads + Wait + Sync>(rt: &T, alloc: Global) -> Result<Answers, A
     let file = dump(alloc)?;
     let bytes = file.bytes.as_slice();
     let skip = Skip::none(alloc);
-    let Ok(places) = read(alloc, bytes) else {
+    let team = Team::new(rt, 1);
+    let Ok(places) = read(&team, alloc, bytes) else {
         return Ok(Vec::new(alloc));
     };
-    match Graph::build(&Team::new(rt, 1), alloc, bytes, places, &skip) {
+    match Graph::build(&team, alloc, bytes, places, &skip) {
         Ok(graph) => answers_of_graph(rt, alloc, &graph),
         Err(_) => Ok(Vec::new(alloc)),
     }
