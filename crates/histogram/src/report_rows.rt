@@ -8,8 +8,8 @@ ghost use Rattle.histogram.specs.HistogramOf.{entry_of, histogram_of};
 ghost use Rattle.histogram.specs.working.RowNumbers.{row_entry};
 
 use crate::names::{row_class, row_name};
-use crate::report::{Line, Report};
 use crate::reachable::reachable;
+use crate::report::{Line, Report};
 use crate::unmarked::count_unmarked;
 use drain::Marked;
 use heap_graph::{Graph, RowKey};
