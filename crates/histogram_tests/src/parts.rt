@@ -1,5 +1,5 @@
-//! Objects that are not marked, counted by the threads of a team: whatever their number, and where there is no memory for
-//! the numbers of the objects, the report is the same.
+//! Objects that are not marked, counted by the threads of a team: whatever their number, and where there is no memory
+//! for the numbers of the objects, the report is the same.
 
 ghost use Rattle.drain.specs.Marks.{IsMarkingOf};
 
