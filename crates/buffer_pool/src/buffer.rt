@@ -27,6 +27,7 @@ impl<A: Allocator> Buffer<A> {
     pub(crate) fn len(&self) -> u32
         ensures { result ≡ vec_len self.now.items }
     {
+        // Read for its range alone: there are at most so many items, so their number fits.
         let _most = self.size;
         self.items.len() as u32
     }

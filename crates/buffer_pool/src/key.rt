@@ -23,6 +23,7 @@ impl Named {
     pub(crate) fn of<E: Edges>(edges: &E) -> Named
         ensures { (result.roots ≡ E.roots edges.now) × (result.pairs ≡ E.pairs edges.now) }
     {
+        // Only its clauses are wanted: the value has no bytes.
         let _ = edges;
         Named {
             marker: PhantomData,

@@ -37,6 +37,7 @@ impl<A: Allocator> Worker<A> {
     pub fn stays_within(&self)
         ensures { IsWithin self.now.book.setup self.now.book.account }
     {
+        // Read so that what the seat keeps is known here.
         let _seat = &self.seat;
     }
 
@@ -46,6 +47,7 @@ impl<A: Allocator> Worker<A> {
         ensures once { (o : ℕ) → times o self.now.book.account.finished ≤ 1 }
         ensures few { length self.now.book.account.finished ≤ self.now.book.setup.objects }
     {
+        // Read so that what the seat keeps is known here.
         let _seat = &self.seat;
     }
 
@@ -56,6 +58,7 @@ impl<A: Allocator> Worker<A> {
     pub fn keeps_its_story(&self)
         ensures { LeadsToBook self.now.log self.now.book }
     {
+        // Read so that what the seat keeps is known here.
         let _seat = &self.seat;
     }
 }

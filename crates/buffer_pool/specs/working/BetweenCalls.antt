@@ -1,12 +1,16 @@
 -- What ties a table to its setup, and what a worker is known to have.
-use Rattle.std.specs.Prelude.{◌≡◌, ℕ, ◌+◌, ◌<◌, ◌≤◌, [], Option, All}
+use Rattle.std.specs.Prelude.{◌≡◌, ◌+◌, ◌<◌, ◌≤◌, [], Option, All}
 use Rattle.atomic_table.specs.Table.{Me}
 use Rattle.atomic_table.specs.Seated.{TableId}
+use Rattle.atomic_table.specs.declared.shared.Seat.{Seat}
+use Rattle.atomic_table.specs.declared.shared.Shared.{Shared}
 use Rattle.mark_core.specs.World.{Setup}
+use Rattle.buffer_pool.specs.declared.key.Key.{Key}
 use Rattle.buffer_pool.specs.declared.seat_view.SeatView.{SeatView}
 use Rattle.buffer_pool.specs.Ranges.{IsWithin}
 use Rattle.buffer_pool.specs.WorkerLog.{LeadsToBook}
 use Rattle.buffer_pool.specs.working.MarkBits.{mark_words}
+use Rattle.buffer_pool.specs.working.Setups.{setup_of}
 use Rattle.buffer_pool.specs.working.Slots.{Carries}
 use Rattle.buffer_pool.specs.working.Views.{HasSaidAll}
 
@@ -29,10 +33,16 @@ pub record IsSound {B : Type 0} (t : TableId) (m : Me (Option B) SeatView) : Typ
   pub settled : HasSaidAll m.0
   pub story : LeadsToBook m.0.log m.0.book
 
+-- a seat of this table, which is laid for the setup of its key
+pub record SitsAt
+    {B P : Type 0} (words : Shared (Option B) SeatView Key P) (seat : Seat (Option B) SeatView) : Type 0 where
+  pub same : seat.table_id ≡ words.table_id
+  pub laid : IsLaid words.table_id (setup_of words.key)
+
 -- a seat keeps its table and its number
-pub record IsSameSeat (old_table new_table : TableId) (old_id new_id : ℕ) : Type 0 where
-  pub table : new_table ≡ old_table
-  pub number : new_id ≡ old_id
+pub record IsSameSeat {B : Type 0} (old new : Seat (Option B) SeatView) : Type 0 where
+  pub table : new.table_id ≡ old.table_id
+  pub number : new.id ≡ old.id
 
 -- nothing is out
 pub record IsBare {B : Type 0} (m : Me (Option B) SeatView) : Type 0 where

@@ -4,9 +4,8 @@ ghost use Rattle.mark_core.specs.Events.{CanClaim, CanFinish, IsBusy};
 ghost use Rattle.mark_core.specs.Events as events;
 ghost use Rattle.mark_core.specs.Lists.{times};
 ghost use Rattle.buffer_pool.specs.Book.{claimed, finished};
-ghost use Rattle.buffer_pool.specs.working.BetweenCalls.{IsLaid, IsSound};
+ghost use Rattle.buffer_pool.specs.working.BetweenCalls.{IsSound, SitsAt};
 ghost use Rattle.buffer_pool.specs.working.Plays.{RestsWith};
-ghost use Rattle.buffer_pool.specs.working.Setups.{setup_of};
 ghost use Rattle.buffer_pool.specs.WorkerLog.{Did};
 
 use crate::layout::{mark_place, mark_word, pair_bits};
@@ -30,8 +29,8 @@ fn raise_to_claimed<A: Allocator>(
     buffers: u32,
     object: u32,
 ) -> bool
-    requires table { (seat.old.table_id ≡ words.now.table_id) × IsLaid words.now.table_id (setup_of words.now.key)
-        × (buffers ≡ words.now.key.buffers) }
+    requires table { SitsAt words.now seat.old }
+    requires buffers { buffers ≡ words.now.key.buffers }
     requires sound { IsSound seat.old.table_id seat.old.me }
     requires can { CanClaim seat.old.me.0.book.setup object seat.old.me.0.book.account }
     requires busy { IsBusy seat.old.me.0.book.account }
@@ -51,8 +50,8 @@ fn raise_to_claimed<A: Allocator>(
 
 /// Raises the mark of an object to finished.
 fn raise_to_finished<A: Allocator>(words: &Words<A>, seat: &mut Token<A>, buffers: u32, object: u32)
-    requires table { (seat.old.table_id ≡ words.now.table_id) × IsLaid words.now.table_id (setup_of words.now.key)
-        × (buffers ≡ words.now.key.buffers) }
+    requires table { SitsAt words.now seat.old }
+    requires buffers { buffers ≡ words.now.key.buffers }
     requires sound { IsSound seat.old.table_id seat.old.me }
     requires can { CanFinish seat.old.me.0.book.setup object seat.old.me.0.book.account }
     ensures same { seat.new.table_id ≡ seat.old.table_id }

@@ -11,10 +11,9 @@ ghost use mathlib.Core.Option.{none};
 ghost use Rattle.buffer_pool.specs.working.Buffers.{buffer_reading};
 ghost use Rattle.buffer_pool.specs.Book.{link_loaded, loaded};
 ghost use Rattle.buffer_pool.specs.Calls.{MayPush};
-ghost use Rattle.buffer_pool.specs.working.BetweenCalls.{IsBare, IsLaid, IsSound};
+ghost use Rattle.buffer_pool.specs.working.BetweenCalls.{IsBare, IsSameSeat, IsSound, SitsAt};
 ghost use Rattle.buffer_pool.specs.working.Plays.{CanPut, HasKept, HasMissed, HasPushed, HasTaken, StoryLeads, SeatDid};
 ghost use Rattle.buffer_pool.specs.working.Plays.{RestsWith, top_put};
-ghost use Rattle.buffer_pool.specs.working.Setups.{setup_of};
 ghost use Rattle.buffer_pool.specs.working.Views.{HasSaidAll, logged};
 
 use crate::buffer::Buffer;
@@ -34,9 +33,9 @@ pub(crate) fn load_head<A: Allocator>(
     seat: &mut Token<A>,
     which: Which,
 ) -> HeadWord
-    requires table { (seat.old.table_id ≡ words.now.table_id) × IsLaid words.now.table_id (setup_of words.now.key) }
+    requires table { SitsAt words.now seat.old }
     requires sound { IsSound seat.old.table_id seat.old.me }
-    ensures same { (seat.new.table_id ≡ seat.old.table_id) × (seat.new.id ≡ seat.old.id) }
+    ensures same { IsSameSeat seat.old seat.new }
     ensures sound { IsSound seat.new.table_id seat.new.me }
     ensures rests { RestsWith seat.old.me (loaded which result seat.old.me.0.book) (Load which ∷ []) seat.new.me }
     ensures within { (i : ℕ) → result.index ≡ Some i → i < seat.old.me.0.book.setup.buffers }
@@ -51,11 +50,11 @@ pub(crate) fn load_link<A: Allocator>(
     which: Which,
     index: u32,
 ) -> Option<u32>
-    requires table { (seat.old.table_id ≡ words.now.table_id) × IsLaid words.now.table_id (setup_of words.now.key) }
+    requires table { SitsAt words.now seat.old }
     requires sound { IsSound seat.old.table_id seat.old.me × IsBare seat.old.me }
     requires looked { (h : Head) × ((look_of seat.old.me.0.book.account which).head ≡ Some h)
         × (h.index ≡ Some index) × (index < seat.old.me.0.book.setup.buffers) }
-    ensures same { (seat.new.table_id ≡ seat.old.table_id) × (seat.new.id ≡ seat.old.id) }
+    ensures same { IsSameSeat seat.old seat.new }
     ensures rests { RestsWith seat.old.me (link_loaded which result seat.old.me.0.book) (LoadLink which ∷ [])
         seat.new.me }
     ensures within { ForSome result (λ i. i < seat.old.me.0.book.setup.buffers) }
@@ -81,14 +80,14 @@ pub(crate) fn take_top<A: Allocator>(
     next: HeadWord,
     index: u32,
 ) -> Option<Buffer<A>>
-    requires table { (seat.old.table_id ≡ words.now.table_id) × IsLaid words.now.table_id (setup_of words.now.key) }
+    requires table { SitsAt words.now seat.old }
     requires sound { IsSound seat.old.table_id seat.old.me × IsBare seat.old.me }
     requires popping { CanPop head (look_of seat.old.me.0.book.account which) }
     requires busy { IsBusy seat.old.me.0.book.account }
     requires index { head.index ≡ Some index }
     requires next { (l : Option ℕ) × ((look_of seat.old.me.0.book.account which).link ≡ Some l)
         × (next ≡ after head l) }
-    ensures same { (seat.new.table_id ≡ seat.old.table_id) × (seat.new.id ≡ seat.old.id) }
+    ensures same { IsSameSeat seat.old seat.new }
     ensures takes { MatchOption result (HasMissed which seat.old.me seat.new.me)
         (λ b. HasTaken buffer_reading which index None seat.old.me seat.new.me b) }
 {
@@ -119,11 +118,11 @@ pub(crate) fn store_link<A: Allocator>(
     head: HeadWord,
     index: u32,
 )
-    requires table { (seat.old.table_id ≡ words.now.table_id) × IsLaid words.now.table_id (setup_of words.now.key) }
+    requires table { SitsAt words.now seat.old }
     requires sound { IsSound seat.old.table_id seat.old.me × IsBare seat.old.me }
     requires held { Contains seat.old.me.0.book.account.held index }
     requires within { (i : ℕ) → head.index ≡ Some i → i < seat.old.me.0.book.setup.buffers }
-    ensures same { (seat.new.table_id ≡ seat.old.table_id) × (seat.new.id ≡ seat.old.id) }
+    ensures same { IsSameSeat seat.old seat.new }
     ensures takes_out { seat.new.me
         ≡ (
           record (logged seat.new.me.0.log seat.old.me.0) { out = suc index; out_link = low_of head.index },
@@ -143,9 +142,9 @@ fn exchange_for_buffer<A: Allocator>(
     old: u64,
     new: u64,
 ) -> u64
-    requires table { (seat.old.table_id ≡ words.now.table_id) × IsLaid words.now.table_id (setup_of words.now.key) }
+    requires table { SitsAt words.now seat.old }
     requires put { (i : ℕ) × (b : _) × CanPut buffer_reading which seat.old.me old new i b }
-    ensures same { (seat.new.table_id ≡ seat.old.table_id) × (seat.new.id ≡ seat.old.id) }
+    ensures same { IsSameSeat seat.old seat.new }
     ensures exchanges { top_put buffer_reading which (step words.now.table_id.slots 0 old new none) seat.old.me
         result seat.new.me }
 {
@@ -165,14 +164,14 @@ pub(crate) fn put_top<A: Allocator>(
     next: HeadWord,
     held: Held<A>,
 ) -> Result<(), Held<A>>
-    requires table { (seat.old.table_id ≡ words.now.table_id) × IsLaid words.now.table_id (setup_of words.now.key) }
+    requires table { SitsAt words.now seat.old }
     requires stored { (seat.old.me.1 ≡ (held.index, None) ∷ []) × (seat.old.me.0.out ≡ suc held.index)
         × (seat.old.me.0.out_link ≡ low_of head.index) × (0 < seat.old.me.0.book.account.share) }
     requires settled { HasSaidAll seat.old.me.0 }
     requires loaded { ((look_of seat.old.me.0.book.account which).head ≡ Some head) × (head.tag < last_tag) }
     requires next { next ≡ after head (Some held.index) }
     requires may { MayPush which held seat.old.me.0.book }
-    ensures same { (seat.new.table_id ≡ seat.old.table_id) × (seat.new.id ≡ seat.old.id) }
+    ensures same { IsSameSeat seat.old seat.new }
     ensures puts { MatchResult result (λ _. HasPushed which held.index held.items seat.old.me seat.new.me)
         (λ back. (back ≡ held) × HasKept which ((held.index, None) ∷ []) seat.old.me seat.new.me) }
 {

@@ -3,9 +3,8 @@ ghost use Rattle.std.specs.Prelude.{◌≡◌, ◌↔◌, ℕ, [], ◌∷◌, Is
 ghost use Rattle.mark_core.specs.Events.{CanIdle, CanWake, IdleDown, IdleUp, LoadIdle};
 ghost use Rattle.buffer_pool.specs.Book.{idle_loaded, idled, woken};
 ghost use Rattle.buffer_pool.specs.Calls.{Shows};
-ghost use Rattle.buffer_pool.specs.working.BetweenCalls.{IsLaid, IsSound};
+ghost use Rattle.buffer_pool.specs.working.BetweenCalls.{IsSound, SitsAt};
 ghost use Rattle.buffer_pool.specs.working.Plays.{RestsWith};
-ghost use Rattle.buffer_pool.specs.working.Setups.{setup_of};
 ghost use Rattle.buffer_pool.specs.WorkerLog.{Did};
 
 use crate::layout::IDLE;
@@ -17,7 +16,7 @@ use std::alloc::Allocator;
 
 /// Adds one to the idle word.
 fn add_idle<A: Allocator>(words: &Words<A>, seat: &mut Token<A>)
-    requires table { (seat.old.table_id ≡ words.now.table_id) × IsLaid words.now.table_id (setup_of words.now.key) }
+    requires table { SitsAt words.now seat.old }
     requires sound { IsSound seat.old.table_id seat.old.me }
     requires may { CanIdle seat.old.me.0.book.account }
     ensures same { seat.new.table_id ≡ seat.old.table_id }
@@ -29,7 +28,7 @@ fn add_idle<A: Allocator>(words: &Words<A>, seat: &mut Token<A>)
 
 /// Takes one from the idle word.
 fn take_idle<A: Allocator>(words: &Words<A>, seat: &mut Token<A>)
-    requires table { (seat.old.table_id ≡ words.now.table_id) × IsLaid words.now.table_id (setup_of words.now.key) }
+    requires table { SitsAt words.now seat.old }
     requires sound { IsSound seat.old.table_id seat.old.me }
     requires may { CanWake seat.old.me.0.book.account }
     ensures same { seat.new.table_id ≡ seat.old.table_id }
@@ -41,7 +40,7 @@ fn take_idle<A: Allocator>(words: &Words<A>, seat: &mut Token<A>)
 
 /// Loads the idle word.
 fn load_idle<A: Allocator>(words: &Words<A>, seat: &mut Token<A>) -> u64
-    requires table { (seat.old.table_id ≡ words.now.table_id) × IsLaid words.now.table_id (setup_of words.now.key) }
+    requires table { SitsAt words.now seat.old }
     requires sound { IsSound seat.old.table_id seat.old.me }
     ensures same { seat.new.table_id ≡ seat.old.table_id }
     ensures sound { IsSound seat.new.table_id seat.new.me }

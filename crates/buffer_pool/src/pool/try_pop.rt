@@ -2,8 +2,7 @@
 ghost use Rattle.std.specs.Prelude.{◌≡◌};
 ghost use Rattle.mark_core.specs.Events.{IsBusy};
 ghost use Rattle.buffer_pool.specs.Calls.{TriesPop};
-ghost use Rattle.buffer_pool.specs.working.BetweenCalls.{IsLaid, IsSound};
-ghost use Rattle.buffer_pool.specs.working.Setups.{setup_of};
+ghost use Rattle.buffer_pool.specs.working.BetweenCalls.{IsSound, SitsAt};
 ghost use Rattle.buffer_pool.specs.Steps.{try_pop_steps};
 ghost use Rattle.buffer_pool.specs.WorkerLog.{Did};
 
@@ -24,7 +23,7 @@ pub(crate) fn try_pop<A: Allocator>(
     seat: &mut Token<A>,
     which: Which,
 ) -> TryPopped<Held<A>>
-    requires table { (seat.old.table_id ≡ words.now.table_id) × IsLaid words.now.table_id (setup_of words.now.key) }
+    requires table { SitsAt words.now seat.old }
     requires sound { IsSound seat.old.table_id seat.old.me }
     requires busy { IsBusy seat.old.me.0.book.account }
     ensures same { seat.new.table_id ≡ seat.old.table_id }

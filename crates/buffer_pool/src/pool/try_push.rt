@@ -1,8 +1,7 @@
 //! One try of a push, as its steps in order.
 ghost use Rattle.std.specs.Prelude.{◌≡◌, ℕ, Option};
 ghost use Rattle.buffer_pool.specs.Calls.{MayPush, TriesPush};
-ghost use Rattle.buffer_pool.specs.working.BetweenCalls.{IsLaid, IsSound};
-ghost use Rattle.buffer_pool.specs.working.Setups.{setup_of};
+ghost use Rattle.buffer_pool.specs.working.BetweenCalls.{IsSound, SitsAt};
 ghost use Rattle.buffer_pool.specs.Steps.{try_push_steps};
 ghost use Rattle.buffer_pool.specs.WorkerLog.{Did};
 
@@ -22,7 +21,7 @@ pub(crate) fn try_push<A: Allocator>(
     which: Which,
     held: Held<A>,
 ) -> TryPushed<Held<A>>
-    requires table { (seat.old.table_id ≡ words.now.table_id) × IsLaid words.now.table_id (setup_of words.now.key) }
+    requires table { SitsAt words.now seat.old }
     requires sound { IsSound seat.old.table_id seat.old.me }
     requires may { MayPush which held seat.old.me.0.book }
     ensures same { seat.new.table_id ≡ seat.old.table_id }

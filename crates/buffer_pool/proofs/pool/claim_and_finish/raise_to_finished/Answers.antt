@@ -16,8 +16,8 @@ own :
     → c.mark_word.result ≡ mark_word c.args.seat.now.me.0.book.setup c.args.object
 own g c =
     own_word c.args.seat.now.table_id c.args.words.now.table_id (setup_of c.args.words.now.key)
-    c.args.seat.now.me.0.book.setup c.requires.table.0 c.requires.table.1 c.requires.sound.laid c.args.buffers
-    c.args.object c.mark_word.result c.requires.table.2 c.mark_word.ensures
+    c.args.seat.now.me.0.book.setup c.requires.table.same c.requires.table.laid c.requires.sound.laid c.args.buffers
+    c.args.object c.mark_word.result c.requires.buffers c.mark_word.ensures
 
 pub fetch_or-requires : goal.fetch_or-requires
 fetch_or-requires g c =
@@ -29,8 +29,8 @@ fetch_or-requires g c =
     let table = c.requires.table in
     let sound = c.requires.sound in
     let below = sound.within.charge object c.requires.can.0 in
-    sets_pair c.args.seat.now.table_id z e me.0.book.setup table.0 table.1 sound.laid c.args.buffers object
-    c.mark_word.result table.2 c.mark_word.ensures buffer_reading id me 3 c.pair_bits.result c.pair_bits.ensures
+    sets_pair c.args.seat.now.table_id z e me.0.book.setup table.same table.laid sound.laid c.args.buffers object
+    c.mark_word.result c.requires.buffers c.mark_word.ensures buffer_reading id me 3 c.pair_bits.result c.pair_bits.ensures
     below finish_made
     (finishes buffer_reading e z.slots id me object sound.carries sound.share sound.settled c.requires.can
     below)

@@ -13,13 +13,13 @@ pub compare_exchange-requires : goal.compare_exchange-requires
 compare_exchange-requires g c =
     may_put buffer_reading (setup_of c.args.words.now.key) c.args.words.now.table_id c.args.seat.now.id
     c.args.seat.now.table_id c.args.seat.now.me c.args.which Full c.args.old c.args.new c.head_word-word.result
-    c.requires.table.0 c.requires.table.1 c.head_word-word.ensures c.requires.put c.in-Full.is
+    c.requires.table.same c.requires.table.laid c.head_word-word.ensures c.requires.put c.in-Full.is
 
 pub compare_exchange-requires-in-Empty : goal.compare_exchange-requires-in-Empty
 compare_exchange-requires-in-Empty g c =
     may_put buffer_reading (setup_of c.args.words.now.key) c.args.words.now.table_id c.args.seat.now.id
     c.args.seat.now.table_id c.args.seat.now.me c.args.which Empty c.args.old c.args.new c.head_word-word.result
-    c.requires.table.0 c.requires.table.1 c.head_word-word.ensures c.requires.put c.in-Empty.is
+    c.requires.table.same c.requires.table.laid c.head_word-word.ensures c.requires.put c.in-Empty.is
 
 pub returns-in-Full-clause-exchanges : goal.returns-in-Full-clause-exchanges
 returns-in-Full-clause-exchanges g c =

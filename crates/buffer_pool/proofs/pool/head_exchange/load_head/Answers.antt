@@ -20,8 +20,8 @@ load-requires g c =
     let e = setup_of c.args.words.now.key in
     let me = c.args.seat.now.me in
     let small = head_below c.args.which in (
-      c.requires.table.0,
-      omega (arith, c.head_word.ensures, small, c.requires.table.1.words),
+      c.requires.table.same,
+      omega (arith, c.head_word.ensures, small, c.requires.table.laid.words),
       subst (λ x. Allows (Rule buffer_reading e) z.slots c.args.seat.now.id me x (λ n. n)
           (head_seen (step z.slots x 0 0 none) me)) (sym c.head_word.ensures)
           (sees_head buffer_reading e z.slots c.args.seat.now.id me c.args.which c.requires.sound.carries
@@ -36,7 +36,7 @@ returns g c =
     let rests = subst (λ (h : Head). RestsWith me (loaded q h me.0.book) (Load q ∷ []) c.load.new.seat.me)
     (sym c.from_word.ensures) seen.0 in
     record {
-      same = (c.load.ensures.0, c.load.ensures.1);
+      same = record { table = c.load.ensures.0; number = c.load.ensures.1 };
       sound =
           sound_after (sound_loaded c.args.seat.now.table_id me c.requires.sound q c.from_word.result)
           c.load.ensures.0 rests;

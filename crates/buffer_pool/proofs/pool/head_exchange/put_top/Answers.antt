@@ -66,7 +66,7 @@ exchange-requires-2 g c =
     let carried = still_carried c.exchange.new.seat.me c.exchange_for_buffer.new.seat.me i b (λ k. (back.0 k).1)
     (λ k. (at k).1) in (
       stays c.args.words.now.table_id c.args.seat.now.table_id c.exchange.new.seat.table_id
-          c.exchange_for_buffer.new.seat.table_id c.requires.table.0 c.exchange.ensures.0
-          c.exchange_for_buffer.ensures.same.0,
+          c.exchange_for_buffer.new.seat.table_id c.requires.table.same c.exchange.ensures.0
+          c.exchange_for_buffer.ensures.same.table,
       (Some b, carried),
     )

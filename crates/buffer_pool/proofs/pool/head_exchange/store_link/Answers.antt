@@ -17,13 +17,13 @@ store-requires g c =
     let z = c.args.words.now.table_id in
     let e = setup_of c.args.words.now.key in
     let me = c.args.seat.now.me in
-    let slots : c.args.seat.now.table_id.slots ≡ z.slots = ap (λ (t : TableId). t.slots) c.requires.table.0 in
+    let slots : c.args.seat.now.table_id.slots ≡ z.slots = ap (λ (t : TableId). t.slots) c.requires.table.same in
     let same : me.0.book.setup.buffers ≡ e.buffers =
-    omega (arith, slots, c.requires.table.1.slots, c.requires.sound.0.laid.slots) in
+    omega (arith, slots, c.requires.table.laid.slots, c.requires.sound.0.laid.slots) in
     let below = c.requires.sound.0.within.held c.args.index c.requires.held in
     let low = low_small c.args.head.index me.0.book.setup.buffers c.requires.within in (
-      c.requires.table.0,
-      omega (arith, below, same, c.requires.table.1.words),
+      c.requires.table.same,
+      omega (arith, below, same, c.requires.table.laid.words),
       stores buffer_reading e z.slots c.args.seat.now.id me c.args.index c.link_to.result c.requires.sound.0.carries
           c.requires.sound.0.share c.requires.sound.0.settled
           (stands_times me.0.book.account.held c.args.index c.requires.held)

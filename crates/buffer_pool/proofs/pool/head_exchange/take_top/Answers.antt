@@ -21,8 +21,8 @@ compare_exchange-requires g c =
     let small = head_below q in
     let spelled = c.word-word.ensures.spelled in
     let next = c.requires.next in (
-      c.requires.table.0,
-      omega (arith, c.head_word.ensures, small, c.requires.table.1.words),
+      c.requires.table.same,
+      omega (arith, c.head_word.ensures, small, c.requires.table.laid.words),
       subst (λ x. Allows (Rule buffer_reading e) z.slots c.args.seat.now.id me x
           (λ n. either (n == c.word-word.result) c.word.result n)
           (top_taken buffer_reading (step z.slots x c.word-word.result c.word.result none) me))
@@ -40,6 +40,6 @@ exchange-requires g c =
     let told = (c.compare_exchange.ensures.2 c.args.which c.head_word.ensures).0 c.if-compare_exchange-word.false
     c.args.index (ap (λ n. (head_of n).index) c.if-compare_exchange-word.false
     ∙ ap (λ (h : Head). h.index) c.word-word.ensures.spelled ∙ c.requires.index) in (
-      c.compare_exchange.ensures.0 ∙ c.requires.table.0,
+      c.compare_exchange.ensures.0 ∙ c.requires.table.same,
       (Some told.0, told.1.slots ∙ ap (λ xs. (c.args.index, Some told.0) ∷ rest xs) (sym told.1.slots)),
     )

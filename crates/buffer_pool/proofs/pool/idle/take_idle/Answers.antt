@@ -12,8 +12,8 @@ fetch_sub-requires g c =
     let z = c.args.words.now.table_id in
     let me = c.args.seat.now.me in
     let sound = c.requires.sound in (
-      c.requires.table.0,
-      omega (arith, c.requires.table.1.words),
+      c.requires.table.same,
+      omega (arith, c.requires.table.laid.words),
       comes_back buffer_reading (setup_of c.args.words.now.key) z.slots c.args.seat.now.id me sound.carries sound.share
           sound.settled c.requires.may,
     )

@@ -28,7 +28,7 @@ linked :
 linked g c =
     let one = c.load_head-head.new.seat in
     sound_after (sound_linked one.table_id one.me c.load_head-head.ensures.sound c.args.which c.load_link-link.result)
-    c.load_link-link.ensures.same.0 c.load_link-link.ensures.rests
+    c.load_link-link.ensures.same.table c.load_link-link.ensures.rests
 
 pub take_top-requires-clause-sound : goal.take_top-requires-clause-sound
 take_top-requires-clause-sound g c = (
@@ -51,14 +51,14 @@ returns-in-Some-take_top-clause-sound g c =
     (c.load_head-head.ensures.within c.in-Some.index (sym c.in-Some.ensures.same)) in
     sound_as {n = three.me}
     (sound_popped two.table_id two.me second three.me c.in-Some.index b.items.items below taken.ours.objects
-    taken.slots taken.out taken.book taken.settled) c.take_top.ensures.same.0 refl taken.story
+    taken.slots taken.out taken.book taken.settled) c.take_top.ensures.same.table refl taken.story
 
 pub returns-in-None-clause-sound : goal.returns-in-None-clause-sound
 returns-in-None-clause-sound g c =
     let second = linked g (goal.at.returns-in-None-clause-sound g c).After-load_link-link in
     let two = c.load_link-link.new.seat in
     sound_after (sound_looked two.table_id two.me second (failed two.me.0.book) refl refl refl refl)
-    c.take_top.ensures.same.0 c.in-None.ensures.takes
+    c.take_top.ensures.same.table c.in-None.ensures.takes
 
 pub returns-in-Some-take_top-clause-did : goal.returns-in-Some-take_top-clause-did
 returns-in-Some-take_top-clause-did g c =

@@ -50,7 +50,7 @@ stored g c =
     let low = low_of c.load_head-head.result.index in
     sound_as {n = linked one.me two.me.0.log index low}
     (sound_stored one.table_id one.me c.load_head-head.ensures.sound two.me.0.log index low)
-    c.store_link.ensures.same.0 c.store_link.ensures.takes_out c.store_link.ensures.story
+    c.store_link.ensures.same.table c.store_link.ensures.takes_out c.store_link.ensures.story
 
 pub returns-in-Ok-clause-sound : goal.returns-in-Ok-clause-sound
 returns-in-Ok-clause-sound g c =
@@ -69,7 +69,7 @@ returns-in-Ok-clause-sound g c =
     let mine = subst (λ xs. 0 < times h.index xs) (sym held)
     (stands_times me.0.book.account.held h.index c.requires.may.held) in
     let part = subst (λ xs. IsPart h.items xs) (sym charge) c.requires.may.charged in
-    sound_after (sound_pushed two.table_id two.me second q h.index h.items mine part) c.put_top.ensures.same.0
+    sound_after (sound_pushed two.table_id two.me second q h.index h.items mine part) c.put_top.ensures.same.table
     c.in-Ok.ensures.puts
 
 pub returns-in-Err-clause-sound : goal.returns-in-Err-clause-sound
@@ -81,7 +81,7 @@ returns-in-Err-clause-sound g c =
     let missed = c.in-Err.ensures.puts.1 in
     let out : two.me.0.out ≡ suc c.args.held.index = (λ k. (c.store_link.ensures.takes_out k).0.out) ∙ ap suc index in
     sound_as {n = kept two.me three.me.0.log c.args.held.index}
-    (sound_missed two.table_id two.me second three.me.0.log c.args.held.index 0 out) c.put_top.ensures.same.0 missed.0
+    (sound_missed two.table_id two.me second three.me.0.log c.args.held.index 0 out) c.put_top.ensures.same.table missed.0
     missed.2
 
 -- the link that was stored is the loaded head's
