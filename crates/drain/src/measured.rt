@@ -15,7 +15,7 @@ pub trait Measured: Edges {
 
     /// What each graph keeps, said of this one: its objects are few, each has a row, and its numbers are small. The
     /// call does nothing.
-    fn is_measured(&self)
+    fn recall_measure(&self)
         ensures { IsMeasureOf (Self.count self.now) (measure self.now) };
 
     /// How many rows a tally has.

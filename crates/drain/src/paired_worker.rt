@@ -1,19 +1,16 @@
-//! A worker at its pair: it claims objects, puts those that were white into its pair, and scans these and what others
-//! gave to the full stack.
+//! A worker at its pair: it claims objects, puts those that were white into its pair, gives some of these to others, and
+//! gets the next of its own or of what others gave to the full stack.
 
-use crate::gate::Gate;
-use crate::job::Job;
 use crate::recently_seen::RecentlySeen;
-use crate::tally::Tally;
-use crate::walk::{Reads, Walk};
 use buffer_pool::{Pool, Which, Worker};
-use heap_graph::ByKind;
 use std::alloc::Allocator;
 use std::sync::Wait;
 use work_pair::{Pair, Stop};
 
+mod draining;
 mod idle_turns;
 mod leading;
+mod scanning;
 
 /// A worker and its two buffers.
 #[derive(Drop)]
@@ -23,20 +20,18 @@ pub(crate) struct PairedWorker<A: Allocator> {
 }
 
 impl<A: Allocator> PairedWorker<A> {
-    ghost use Rattle.std.specs.Prelude.{◌≡◌, ◌<◌, ◌↔◌, ◌⊎◌, ◌∷◌, ◌++◌, [], ℕ, All, Contains, IfErr, IfNone, IfOk};
-    ghost use Rattle.std.specs.Prelude.{IfSome, IsTrue, List, OnOk, false, length, option_to_list};
+    ghost use Rattle.std.specs.Prelude.{◌≡◌, ◌<◌, ◌↔◌, ◌⊎◌, ◌∷◌, [], ℕ, All, IfErr, IfNone, IfOk};
+    ghost use Rattle.std.specs.Prelude.{IfSome, IsTrue, List, OnOk, length};
     ghost use Rattle.mark_core.specs.Events.{IsBusy};
     ghost use Rattle.mark_core.specs.declared.which.Which.TheVariants.{Empty};
     ghost use Rattle.work_pair.specs.Moves.{WasSeenEmpty};
     ghost use Rattle.work_pair.specs.PairState.{buffered_items};
     ghost use Rattle.std.specs.Iterator.{AlwaysYields, IsFinite};
-    ghost use Rattle.drain.specs.working.AtWork.{AreClaimed, CameFrom, GoesOn, HasAtHand, HasNoneLeft, IsAtWork};
-    ghost use Rattle.drain.specs.working.AtWork.{IsFree, IsSetupOf, IsThrough, MayClaim, WorksOn};
-    ghost use Rattle.drain.specs.working.Idle.{IsAwake};
+    ghost use Rattle.drain.specs.working.AtWork.{AreClaimed, GoesOn, HasAtHand, HasNoneLeft, IsAtWork};
+    ghost use Rattle.drain.specs.working.AtWork.{IsFree, IsThrough, MayClaim};
     ghost use Rattle.drain.specs.working.RecentlySeen.{HasSeenAll, IsNoted};
     ghost use Rattle.drain.specs.working.Sharing.{GivesSome, PutsAgain, SharesWork, Unspills};
-    ghost use Rattle.drain.specs.working.Tallying.{HasTallied};
-    ghost use Rattle.drain.specs.working.Walk.{HasEnded, IsGiven};
+    ghost use Rattle.drain.specs.working.Walk.{HasEnded};
 
     /// A pair for a worker that has none yet. `None` where there were not two empty buffers.
     pub(crate) fn open<R: Wait>(
@@ -251,270 +246,6 @@ impl<A: Allocator> PairedWorker<A> {
         };
         self.worker.stays_within();
         Ok(Some(object))
-    }
-
-    /// Claims an object that may be known, unless it was lately seen.
-    fn claim_known<R: Wait>(
-        &mut self,
-        rt: &R,
-        pool: &Pool<A>,
-        seen: &mut RecentlySeen,
-        known: Option<u32>,
-    ) -> Result<(), Stop>
-        requires pool { self.old.worker.pool ≡ pool.now }
-        requires may { (besides : List ℕ) × IsAtWork self.old.pair besides self.old.worker
-            × All (MayClaim self.old.worker.book.setup besides) (option_to_list known) }
-        requires seen { HasSeenAll seen.old self.old.worker }
-        ensures claimed { OnOk result (AreClaimed (option_to_list known) self.old.pair self.old.worker
-            self.new.pair self.new.worker) }
-        ensures seen { OnOk result (HasSeenAll seen.new self.new.worker) }
-    {
-        match known {
-            Some(object) => self.claim_unless_seen(rt, pool, seen, object),
-            None => Ok(()),
-        }
-    }
-
-    /// Claims what the object at hand refers to, its class first where that is known, and then finishes it.
-    fn claim_and_finish<R: Wait, I: Iterator<Item = u32> + Drop>(
-        &mut self,
-        rt: &R,
-        pool: &Pool<A>,
-        seen: &mut RecentlySeen,
-        object: u32,
-        class: Option<u32>,
-        successors: &mut I,
-    ) -> Result<(), Stop>
-        requires pool { self.old.worker.pool ≡ pool.now }
-        requires at_work { IsAtWork self.old.pair (object ∷ []) self.old.worker }
-        requires can { I.can_next successors.old }
-        requires ends { IsFinite (I.remaining successors.old) }
-        requires exact { (given : List ℕ) × AlwaysYields I.next_gives (λ o. o) successors.old given
-            × ((o : ℕ) → Contains (option_to_list class ++ given) o
-            ↔ Contains self.old.worker.book.setup.pairs (object, o)) }
-        requires seen { HasSeenAll seen.old self.old.worker }
-        ensures goes_on { OnOk result (WorksOn self.old.worker self.new.worker) }
-        ensures at_work { OnOk result (IsAtWork self.new.pair [] self.new.worker) }
-        ensures finished { OnOk result (self.new.worker.book.account.finished
-            ≡ self.old.worker.book.account.finished ++ object ∷ []) }
-        ensures ended { OnOk result (HasEnded I.next_gives successors.old successors.new) }
-        ensures seen { OnOk result (HasSeenAll seen.new self.new.worker) }
-    {
-        self.claim_known(rt, pool, seen, class)?;
-        self.claim_all(rt, pool, seen, successors)?;
-        pool.finish(&mut self.worker, object);
-        Ok(())
-    }
-
-    /// Scans the object at hand, whose references are given: claims these, finishes it, and adds it to the tally.
-    // Inlined, so that there is a loop of its own for references of each kind.
-    #[inline(always)]
-    fn scan<R: Wait, V: Walk, G: Gate, S, I: Reads>(
-        &mut self,
-        rt: &R,
-        job: &Job<'_, A, V, G, S>,
-        object: u32,
-        given: (Option<u32>, I),
-        seen: &mut RecentlySeen,
-        tally: &mut Tally<A>,
-    ) -> Result<(), Stop>
-        requires pool { self.old.worker.pool ≡ job.now.pool.now }
-        requires setup { IsSetupOf (V.count job.now.graph.now) (V.roots job.now.graph.now)
-            (V.pairs job.now.graph.now) self.old.worker.book.setup }
-        requires at_work { IsAtWork self.old.pair (object ∷ []) self.old.worker }
-        requires below { object < V.count job.now.graph.now }
-        requires given { IsGiven I.can_next I.next_gives I.remaining I.read_so_far
-            (λ next. Contains (V.pairs job.now.graph.now) (object, next)) (V.measure job.now.graph.now) object
-            given.0 given.1 }
-        requires seen { HasSeenAll seen.old self.old.worker }
-        requires tally { HasTallied (V.measure job.now.graph.now) self.old.worker tally.old }
-        ensures goes_on { OnOk result (WorksOn self.old.worker self.new.worker) }
-        ensures at_work { OnOk result (IsAtWork self.new.pair [] self.new.worker) }
-        ensures tally { OnOk result (HasTallied (V.measure job.now.graph.now) self.new.worker tally.new) }
-        ensures seen { OnOk result (HasSeenAll seen.new self.new.worker) }
-    {
-        let (class, mut rest) = given;
-        self.claim_and_finish(rt, job.pool, seen, object, class, &mut rest)?;
-        self.worker.has_finished_few();
-        job.graph.is_measured();
-        tally.add(rest.read());
-        Ok(())
-    }
-
-    /// Scans the object at hand, wherever its references stand.
-    // A call, so that the worker's loop has no locals for the few that it is made for.
-    #[inline(never)]
-    fn scan_any<R: Wait, V: Walk, G: Gate, S>(
-        &mut self,
-        rt: &R,
-        job: &Job<'_, A, V, G, S>,
-        object: u32,
-        seen: &mut RecentlySeen,
-        tally: &mut Tally<A>,
-    ) -> Result<(), Stop>
-        requires pool { self.old.worker.pool ≡ job.now.pool.now }
-        requires setup { IsSetupOf (V.count job.now.graph.now) (V.roots job.now.graph.now)
-            (V.pairs job.now.graph.now) self.old.worker.book.setup }
-        requires at_work { IsAtWork self.old.pair (object ∷ []) self.old.worker }
-        requires below { object < V.count job.now.graph.now }
-        requires seen { HasSeenAll seen.old self.old.worker }
-        requires tally { HasTallied (V.measure job.now.graph.now) self.old.worker tally.old }
-        ensures goes_on { OnOk result (WorksOn self.old.worker self.new.worker) }
-        ensures at_work { OnOk result (IsAtWork self.new.pair [] self.new.worker) }
-        ensures tally { OnOk result (HasTallied (V.measure job.now.graph.now) self.new.worker tally.new) }
-        ensures seen { OnOk result (HasSeenAll seen.new self.new.worker) }
-    {
-        let visit = job.graph.visit(object);
-        self.scan(rt, job, object, (None, visit), seen, tally)
-    }
-
-    /// Scans the object at hand.
-    #[inline(always)]
-    fn scan_one<R: Wait, V: Walk, G: Gate, S>(
-        &mut self,
-        rt: &R,
-        job: &Job<'_, A, V, G, S>,
-        object: u32,
-        seen: &mut RecentlySeen,
-        tally: &mut Tally<A>,
-    ) -> Result<(), Stop>
-        requires pool { self.old.worker.pool ≡ job.now.pool.now }
-        requires setup { IsSetupOf (V.count job.now.graph.now) (V.roots job.now.graph.now)
-            (V.pairs job.now.graph.now) self.old.worker.book.setup }
-        requires at_work { IsAtWork self.old.pair (object ∷ []) self.old.worker }
-        requires below { object < V.count job.now.graph.now }
-        requires seen { HasSeenAll seen.old self.old.worker }
-        requires tally { HasTallied (V.measure job.now.graph.now) self.old.worker tally.old }
-        ensures goes_on { OnOk result (WorksOn self.old.worker self.new.worker) }
-        ensures at_work { OnOk result (IsAtWork self.new.pair [] self.new.worker) }
-        ensures tally { OnOk result (HasTallied (V.measure job.now.graph.now) self.new.worker tally.new) }
-        ensures seen { OnOk result (HasSeenAll seen.new self.new.worker) }
-    {
-        match job.graph.visit(object).by_kind() {
-            ByKind::Nothing(class, rest) => self.scan(rt, job, object, (class, rest), seen, tally),
-            ByKind::Fields(class, rest) => self.scan(rt, job, object, (class, rest), seen, tally),
-            ByKind::Elements(class, rest) => self.scan(rt, job, object, (class, rest), seen, tally),
-            ByKind::Any => self.scan_any(rt, job, object, seen, tally),
-        }
-    }
-
-    /// Scans an object of the pair, or of the full stack: claims what it refers to, finishes it, and adds it to the
-    /// tally. False where none is left.
-    fn scan_next<R: Wait, V: Walk, G: Gate, S>(
-        &mut self,
-        rt: &R,
-        job: &Job<'_, A, V, G, S>,
-        number: u32,
-        seen: &mut RecentlySeen,
-        tally: &mut Tally<A>,
-    ) -> Result<bool, Stop>
-        requires pool { self.old.worker.pool ≡ job.now.pool.now }
-        requires setup { IsSetupOf (V.count job.now.graph.now) (V.roots job.now.graph.now)
-            (V.pairs job.now.graph.now) self.old.worker.book.setup }
-        requires at_work { IsAtWork self.old.pair [] self.old.worker }
-        requires seen { HasSeenAll seen.old self.old.worker }
-        requires tally { HasTallied (V.measure job.now.graph.now) self.old.worker tally.old }
-        ensures goes_on { OnOk result (WorksOn self.old.worker self.new.worker) }
-        ensures at_work { OnOk result (IsAtWork self.new.pair [] self.new.worker) }
-        ensures tally { OnOk result (HasTallied (V.measure job.now.graph.now) self.new.worker tally.new) }
-        ensures seen { OnOk result (HasSeenAll seen.new self.new.worker) }
-        ensures none { IfOk result (λ more. more ≡ false → HasNoneLeft self.new.pair self.new.worker) }
-    {
-        let Some(object) = self.next_object(rt, job.pool)? else {
-            return Ok(false);
-        };
-        job.gate.before_scan(number, object);
-        self.scan_one(rt, job, object, seen, tally)?;
-        Ok(true)
-    }
-
-    /// Scans an object, and gives to others what it has too much of; where none is left it waits for others. False
-    /// where it leaves: then it is idle still.
-    fn turn<R: Wait, V: Walk, G: Gate, S>(
-        &mut self,
-        rt: &R,
-        job: &Job<'_, A, V, G, S>,
-        number: u32,
-        seen: &mut RecentlySeen,
-        tally: &mut Tally<A>,
-    ) -> Result<bool, Stop>
-        requires pool { self.old.worker.pool ≡ job.now.pool.now }
-        requires setup { IsSetupOf (V.count job.now.graph.now) (V.roots job.now.graph.now)
-            (V.pairs job.now.graph.now) self.old.worker.book.setup }
-        requires hand { HasAtHand self.old.pair [] self.old.worker }
-        requires awake { IsAwake self.old.worker }
-        requires seen { HasSeenAll seen.old self.old.worker }
-        requires tally { HasTallied (V.measure job.now.graph.now) self.old.worker tally.old }
-        ensures came { OnOk result (CameFrom self.old.worker self.new.worker) }
-        ensures hand { OnOk result (HasAtHand self.new.pair [] self.new.worker) }
-        ensures seen { OnOk result (HasSeenAll seen.new self.new.worker) }
-        ensures tally { OnOk result (HasTallied (V.measure job.now.graph.now) self.new.worker tally.new) }
-        ensures awake { IfOk result (λ more. IsTrue more → IsAwake self.new.worker) }
-        ensures none { IfOk result (λ more. more ≡ false → HasNoneLeft self.new.pair self.new.worker) }
-    {
-        let scanned = self.scan_next(rt, job, number, seen, tally)?;
-        if scanned {
-            self.share(rt, job.pool)?;
-            return Ok(true);
-        }
-        Ok(self.finds_more(rt, job.pool, job.workers))
-    }
-
-    /// Scans until no object is left, and stays until all are idle or it waited long enough. Each time before it looks
-    /// for an object it gives to others what it has too much of, but where it was idle: then it has nothing.
-    pub(crate) fn work_off<R: Wait, V: Walk, G: Gate, S>(
-        &mut self,
-        rt: &R,
-        job: &Job<'_, A, V, G, S>,
-        number: u32,
-        tally: &mut Tally<A>,
-    ) -> Result<(), Stop>
-        requires pool { self.old.worker.pool ≡ job.now.pool.now }
-        requires setup { IsSetupOf (V.count job.now.graph.now) (V.roots job.now.graph.now)
-            (V.pairs job.now.graph.now) self.old.worker.book.setup }
-        requires at_work { IsAtWork self.old.pair [] self.old.worker }
-        requires awake { IsAwake self.old.worker }
-        requires tally { HasTallied (V.measure job.now.graph.now) self.old.worker tally.old }
-        ensures came { OnOk result (CameFrom self.old.worker self.new.worker) }
-        ensures hand { OnOk result (HasAtHand self.new.pair [] self.new.worker) }
-        ensures tally { OnOk result (HasTallied (V.measure job.now.graph.now) self.new.worker tally.new) }
-        ensures none { OnOk result (HasNoneLeft self.new.pair self.new.worker) }
-    {
-        let mut seen = RecentlySeen::new();
-        self.share(rt, job.pool)?;
-        for _ in rt.forever() {
-            if !self.turn(rt, job, number, &mut seen, tally)? {
-                return Ok(());
-            }
-        }
-        unreachable!()
-    }
-
-    /// Scans until no object is left.
-    pub(crate) fn drain<R: Wait, V: Walk, G: Gate, S>(
-        &mut self,
-        rt: &R,
-        job: &Job<'_, A, V, G, S>,
-        number: u32,
-        tally: &mut Tally<A>,
-    ) -> Result<(), Stop>
-        requires pool { self.old.worker.pool ≡ job.now.pool.now }
-        requires setup { IsSetupOf (V.count job.now.graph.now) (V.roots job.now.graph.now)
-            (V.pairs job.now.graph.now) self.old.worker.book.setup }
-        requires at_work { IsAtWork self.old.pair [] self.old.worker }
-        requires tally { HasTallied (V.measure job.now.graph.now) self.old.worker tally.old }
-        ensures goes_on { OnOk result (WorksOn self.old.worker self.new.worker) }
-        ensures at_work { OnOk result (IsAtWork self.new.pair [] self.new.worker) }
-        ensures tally { OnOk result (HasTallied (V.measure job.now.graph.now) self.new.worker tally.new) }
-        ensures none { OnOk result (HasNoneLeft self.new.pair self.new.worker) }
-    {
-        let mut seen = RecentlySeen::new();
-        for _ in rt.forever() {
-            if !self.scan_next(rt, job, number, &mut seen, tally)? {
-                return Ok(());
-            }
-        }
-        unreachable!()
     }
 
     /// Gives the buffers of a pair without items back, and answers its worker.

@@ -98,6 +98,6 @@ pub(crate) fn gather<R: Wait, A: Allocator, V: Walk, G: Gate, S>(
         back,
     } = ran;
     let drained = paired.end(rt, job, tally)?;
-    job.graph.is_measured();
+    job.graph.recall_measure();
     Ok(join_shares(job.graph, job.pool, drained, back))
 }

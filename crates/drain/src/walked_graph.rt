@@ -37,7 +37,7 @@ impl<'a, 'b, A: Allocator> Measured for WalkedGraph<'a, 'b, A> {
 
     ghost measure = { λ l. measure_of l.graph.now };
 
-    fn is_measured(&self) {
+    fn recall_measure(&self) {
         let _objects = self.graph.len();
     }
 

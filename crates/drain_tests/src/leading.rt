@@ -46,8 +46,8 @@ impl Measured for Watched<'_, '_> {
 
     ghost measure = { λ w. measure_of w.walked.graph.now };
 
-    fn is_measured(&self) {
-        self.walked.is_measured();
+    fn recall_measure(&self) {
+        self.walked.recall_measure();
     }
 
     fn rows(&self) -> usize {

@@ -40,7 +40,7 @@ impl Measured for Nothing {
 
     ghost measure = { λ _. record { rows = 1; row = λ _. 0; bytes = λ _. 0; unresolved = λ _. 0 } };
 
-    fn is_measured(&self) {}
+    fn recall_measure(&self) {}
 
     fn rows(&self) -> usize {
         1
@@ -69,7 +69,7 @@ fn answer<'s, E, V: Measured + Sync>(
         ensures { IfOk result (λ t. IsThrough begun.worker t.worker
             × HasTallied (V.measure graph.entry.now) t.worker t.tally) }
     {
-        graph.is_measured();
+        graph.recall_measure();
         match stop {
             None => Ok(begun),
             Some(stop) => Err(stop),

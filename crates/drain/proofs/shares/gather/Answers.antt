@@ -32,5 +32,5 @@ pub join_shares-requires-clause-measure : goal.join_shares-requires-clause-measu
 join_shares-requires-clause-measure g c =
     let m = g.V.Measured.measure c.args.job.now.graph.now in
     let objects = ap (λ (e : Setup). e.objects) c.in_ok-drained.ensures.through.0.setup ∙ c.requires.setup.objects in
-    let had = subst (λ (n : ℕ). IsMeasureOf n m) (sym objects) c.is_measured.ensures in
+    let had = subst (λ (n : ℕ). IsMeasureOf n m) (sym objects) c.recall_measure.ensures in
     search (rules, had)
