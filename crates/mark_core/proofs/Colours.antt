@@ -32,6 +32,16 @@ module _ (e : Setup) (mark : ℕ → ℕ) (slots : List (Option (List ℕ))) (ac
   linear o = tells_sums (mark o) (stacked_times o slots + charged_times o accounts) (finished_times o accounts)
       (c.colours o)
 
+  -- an object in the charge of an account is claimed
+  pub charged : (w : ℕ) (a : Account) → StandsAt accounts w a → (o : ℕ) → 0 < times o a.charge → (mark o ≡ 1)
+      × (stacked_times o slots ≡ 0) × (charged_times o accounts ≡ 1) × (finished_times o accounts ≡ 0)
+  charged w a is o h =
+      let t = linear o in
+      let l = term_le (λ (x : Account). times o x.charge) accounts w a is in
+      (omega arith, omega arith, omega arith, omega arith)
+
+module _ {e : Setup} {mark : ℕ → ℕ} {slots : List (Option (List ℕ))} {accounts : List Account}
+    (c : IsColoured e mark slots accounts) where
   -- other slots and accounts, in which each object stands as often as before
   pub coloured_recount :
       (slots' : List (Option (List ℕ))) (accounts' : List Account)
@@ -45,8 +55,10 @@ module _ (e : Setup) (mark : ℕ → ℕ) (slots : List (Option (List ℕ))) (ac
     where
       colours : (o : ℕ)
           → HasColour (mark o) (stacked_times o slots' + charged_times o accounts') (finished_times o accounts')
-      colours o = let t = linear o in sums_tell (mark o) (stacked_times o slots' + charged_times o accounts')
-          (finished_times o accounts') (omega (arith, working o, done o)) (omega (arith, working o, done o))
+      colours o =
+          let t = linear e mark slots accounts c o in
+          sums_tell (mark o) (stacked_times o slots' + charged_times o accounts') (finished_times o accounts')
+          (omega (arith, working o, done o)) (omega (arith, working o, done o))
 
   -- a mark is written: what is told of that object is told anew, no mark falls, and the object is reachable
   pub coloured_put :
@@ -79,7 +91,7 @@ module _ (e : Setup) (mark : ℕ → ℕ) (slots : List (Option (List ℕ))) (ac
           (subst (λ z. HasColour x (stacked_times z slots + charged_times z accounts') (finished_times z accounts'))
           (sym p) here)
       colours y (no n) =
-          let t = linear y in
+          let t = linear e mark slots accounts c y in
           let s = others y n in
           let m = put_else o y x mark n in
           sums_tell (put o x mark y) (stacked_times y slots + charged_times y accounts') (finished_times y accounts')
@@ -112,16 +124,10 @@ module _ (e : Setup) (mark : ℕ → ℕ) (slots : List (Option (List ℕ))) (ac
               absurd (omega (arith, none.1))
 
   module _ (w : ℕ) (a : Account) (is : StandsAt accounts w a) where
-    -- an object in the charge is claimed
-    pub charged : (o : ℕ) → 0 < times o a.charge → (mark o ≡ 1) × (stacked_times o slots ≡ 0)
-        × (charged_times o accounts ≡ 1) × (finished_times o accounts ≡ 0)
-    charged o h =
-        let t = linear o in
-        let l = term_le (λ (x : Account). times o x.charge) accounts w a is in
-        (omega arith, omega arith, omega arith, omega arith)
-
     pub reachable_next : (p o : ℕ) → Contains a.charge p → Contains e.pairs (p, o) → IsReachableIn e o
-    reachable_next p o mine pair = let r = c.reachable p (omega (arith, charged p (stands_times a.charge p mine))) in
+    reachable_next p o mine pair =
+        let once = charged e mark slots accounts c w a is p (stands_times a.charge p mine) in
+        let r = c.reachable p (omega (arith, once)) in
         (p ∷ r.0, (pair, r.1))
 
     saw_set : (b : Account) → ((o : ℕ) → Contains b.seen o → 1 ≤ mark o) → (v : ℕ) (x : Account)

@@ -53,23 +53,7 @@ head_kept m w a IdleUp q other = refl
 head_kept m w a IdleDown q other = refl
 head_kept m w a LoadIdle q other = refl
 
--- what an account loaded of a stack, after it did something else
-look_claim : (q : Which) (o found : ℕ) (a : Account) → (look_of (after_claim o found a) q).head ≡ (look_of a q).head
-look_claim Full o found a = refl
-look_claim Empty o found a = refl
-
-look_finish : (q : Which) (o : ℕ) (a : Account) → (look_of (after_finish o a) q).head ≡ (look_of a q).head
-look_finish Full o a = refl
-look_finish Empty o a = refl
-
-look_split : (q : Which) (units : ℕ) (a : Account) → (look_of (after_split units a) q).head ≡ (look_of a q).head
-look_split Full units a = refl
-look_split Empty units a = refl
-
-look_join : (q : Which) (a b : Account) → (look_of (after_join a b) q).head ≡ (look_of a q).head
-look_join Full a b = refl
-look_join Empty a b = refl
-
+-- what an account loaded of a stack, after it loaded a head of another
 look_load :
     (p q : Which) (h : Head) (a : Account) → (p ≡ q → ⊥) → (look_of (after_load p h a) q).head ≡ (look_of a q).head
 look_load Full Full h a other = absurd (other refl)
@@ -77,34 +61,12 @@ look_load Full Empty h a other = refl
 look_load Empty Full h a other = refl
 look_load Empty Empty h a other = absurd (other refl)
 
-look_link : (p q : Which) (l : Option ℕ) (a : Account) → (look_of (after_load_link p l a) q).head ≡ (look_of a q).head
-look_link Full Full l a = refl
-look_link Full Empty l a = refl
-look_link Empty Full l a = refl
-look_link Empty Empty l a = refl
-
-look_pop :
-    (q : Which) (i : ℕ) (items : List ℕ) (a : Account) → (look_of (after_pop i items a) q).head ≡ (look_of a q).head
-look_pop Full i items a = refl
-look_pop Empty i items a = refl
-
-look_push :
-    (p q : Which) (i : ℕ) (items : List ℕ) (a : Account)
-    → (look_of (after_push p i items a) q).head ≡ (look_of a q).head
-look_push p Full i items a = refl
-look_push p Empty i items a = refl
-
-look_up : (q : Which) (a : Account) → (look_of (after_idle_up a) q).head ≡ (look_of a q).head
-look_up Full a = refl
-look_up Empty a = refl
-
-look_down : (q : Which) (a : Account) → (look_of (after_idle_down a) q).head ≡ (look_of a q).head
-look_down Full a = refl
-look_down Empty a = refl
-
-look_idle : (q : Which) (n : ℕ) (a : Account) → (look_of (after_load_idle n a) q).head ≡ (look_of a q).head
-look_idle Full n a = refl
-look_idle Empty n a = refl
+-- and where it has loaded the same heads of both
+same_look :
+    (q : Which) (a b : Account) → b.full.head ≡ a.full.head → b.empty.head ≡ a.empty.head
+    → (look_of b q).head ≡ (look_of a q).head
+same_look Full a b full empty = full
+same_look Empty a b full empty = empty
 
 module _ (m : Marking) (w : ℕ) (a : Account) (at : StandsAt m.accounts w a) (q : Which) where
   -- its own account after its event: there, and what it loaded of this stack is as it was
@@ -116,33 +78,40 @@ module _ (m : Marking) (w : ℕ) (a : Account) (at : StandsAt m.accounts w a) (q
       → (b' : Account) × StandsAt (set m.accounts w b) w b' × ((look_of b' q).head ≡ (look_of a q).head)
   still_set b same = (b, set_here m.accounts w b a at, same)
 
+  still_both :
+      (b : Account) → b.full.head ≡ a.full.head → b.empty.head ≡ a.empty.head
+      → (b' : Account) × StandsAt (set m.accounts w b) w b' × ((look_of b' q).head ≡ (look_of a q).head)
+  still_both b full empty = still_set b (same_look q a b full empty)
+
   popped_still : (p : Which) (x : Option ℕ) (y : Option (Option ℕ)) → Still (stack_popped m w a p x y)
   popped_still p None y = (a, at, refl)
   popped_still p (Some i) None = (a, at, refl)
   popped_still p (Some i) (Some l) =
-      let items = items_of (slice_index_or m.slots i None) in still_set (after_pop i items a) (look_pop q i items a)
+      still_both (after_pop i (items_of (slice_index_or m.slots i None)) a) refl refl
 
   own_still : (e : Setup) (kind : Kind) → Allows e m w a kind → (kind ≡ Load q → ⊥) → Still (effect m w a kind)
-  own_still e (Claim o) can other = still_set (after_claim o (m.mark o) a) (look_claim q o (m.mark o) a)
-  own_still e (Finish o) can other = still_set (after_finish o a) (look_finish q o a)
+  own_still e (Claim o) can other = still_both (after_claim o (m.mark o) a) refl refl
+  own_still e (Finish o) can other = still_both (after_finish o a) refl refl
   own_still e (Split units) can other =
-      let here = still_set (after_split units a) (look_split q units a) in
+      let here = still_both (after_split units a) refl refl in
       (here.0, at_longer (set m.accounts w (after_split units a)) (part units ∷ []) w here.0 here.1, here.2)
   own_still e (Join v) can other =
       let both = after_join a (account_at m.accounts v) in
-      let here = still_set both (look_join q a (account_at m.accounts v)) in
+      let here = still_both both refl refl in
       (here.0, set_else (set m.accounts w both) v w no_share (λ same. can.0 (sym same)) ∙ here.1, here.2)
   own_still e (Load p) can other =
       still_set (after_load p (m.head p) a) (look_load p q (m.head p) a (λ same. other (ap Load same)))
-  own_still e (LoadLink p) can other =
-      let link = last_link m.link (look_of a p).head in still_set (after_load_link p link a) (look_link p q link a)
+  own_still e (LoadLink Full) can other =
+      still_both (after_load_link Full (last_link m.link a.full.head) a) refl refl
+  own_still e (LoadLink Empty) can other =
+      still_both (after_load_link Empty (last_link m.link a.empty.head) a) refl refl
   own_still e (StoreLink i l) can other = (a, at, refl)
   own_still e (Pop p) can other = popped_still p (m.head p).index (look_of a p).link
-  own_still e (Push p i items) can other = still_set (after_push p i items a) (look_push p q i items a)
+  own_still e (Push p i items) can other = still_both (after_push p i items a) refl refl
   own_still e (Fail p) can other = (a, at, refl)
-  own_still e IdleUp can other = still_set (after_idle_up a) (look_up q a)
-  own_still e IdleDown can other = still_set (after_idle_down a) (look_down q a)
-  own_still e LoadIdle can other = still_set (after_load_idle m.idle a) (look_idle q m.idle a)
+  own_still e IdleUp can other = still_both (after_idle_up a) refl refl
+  own_still e IdleDown can other = still_both (after_idle_down a) refl refl
+  own_still e LoadIdle can other = still_both (after_load_idle m.idle a) refl refl
 
   -- it after another's event: as it was, or taken in
   abbrev Left : Marking → Type 0

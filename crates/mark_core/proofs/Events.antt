@@ -17,7 +17,7 @@ use Rattle.mark_core.proofs.Places.{at_set, put_else, put_one}
 use Rattle.mark_core.proofs.Sums.{sum_of-set, sum_of-append, only-same, only-other, stands_push, stands_times}
 use Rattle.mark_core.proofs.Sums.{times-remove_one}
 use Rattle.mark_core.proofs.Chains.{chain_none, recent_loaded, recent_linked}
-use Rattle.mark_core.proofs.Ownership.{popped_sum, pushed_sum, owned_links, owned_part, stacked_below, held_apart}
+use Rattle.mark_core.proofs.Ownership.{popped_sum, pushed_sum, owned_links, owned_part, held_apart}
 use Rattle.mark_core.proofs.Ownership.{place_one, owned_set, owned_same, owned_pop, owned_push, owned_join}
 use Rattle.mark_core.proofs.Shelves.{shelved_set}
 use Rattle.mark_core.proofs.Colours.{linear, sums_tell, charged, reachable_next, coloured_same, coloured_put}
@@ -34,19 +34,6 @@ charge_marked o found a n = ap (λ t. cond t (a.charge ++ o ∷ []) a.charge) (n
 and_some : (x : Bool) (n : Option ℕ) (i : ℕ) → n ≡ Some i → x ≡ true → (x && is_some n) ≡ true
 and_some x n i e t = cc
 
--- the law reads the links of buffers alone
-pub relink_keeps : (e : Setup) (m : Marking) → Law e m → (new : ℕ → Option ℕ)
-    → ((b : ℕ) → b < e.buffers → new b ≡ m.link b) → Law e (record m { link = new })
-relink_keeps e m law new same =
-    record {
-      stack = law.stack;
-      owned = owned_links e.buffers m.head m.link m.accounts law.stack law.owned new
-          (λ q b h. same b (stacked_below e.buffers m.head m.link m.accounts law.stack law.owned q b h));
-      shelved = law.shelved;
-      coloured = law.coloured;
-      shared = law.shared;
-    }
-
 module _ (e : Setup) (m : Marking) (law : Law e m) (w : ℕ) (a : Account) (is : StandsAt m.accounts w a)
     (there : 0 < a.share) where
   -- what the account knows of the stacks changes, and nothing else
@@ -58,9 +45,9 @@ module _ (e : Setup) (m : Marking) (law : Law e m) (w : ℕ) (a : Account) (is :
   looks_keep b recent share held charge seen finished push =
       record {
         stack = law.stack;
-        owned = owned_set e.buffers m.head m.link m.accounts law.stack law.owned w a is b recent held push;
+        owned = owned_set law.owned w a is b recent held push;
         shelved = law.shelved;
-        coloured = coloured_same e m.mark m.slots m.accounts law.coloured w a is b charge finished seen;
+        coloured = coloured_same law.coloured w a is b charge finished seen;
         shared = shared_set m.accounts law.shared w a is there b share;
       }
 
@@ -82,38 +69,34 @@ module _ (e : Setup) (m : Marking) (law : Law e m) (w : ℕ) (a : Account) (is :
       recent Full = law.owned.recent Full w a is
       recent Empty = recent_loaded m.link (m.head Empty)
 
+  -- the link of the buffer i, where the last head that the account loaded of this stack has it on top
+  link_recent : (q : Which) (h : Head) (i : ℕ) → (look_of a q).head ≡ Some h → h.index ≡ Some i
+      → IsRecent m.link (m.head q) (record { head = (look_of a q).head; link = Some (m.link i) })
+  link_recent q h i last top =
+      let old = rw last at (law.owned.recent q w a is) in
+      rw last (recent_linked m.link (m.head q) h i (look_of a q).link top old)
+
   pub load_link_keeps : (q : Which) (h : Head) (i : ℕ) → (look_of a q).head ≡ Some h → h.index ≡ Some i
       → Law e (record m { accounts = set m.accounts w (after_load_link q (m.link i) a) })
   load_link_keeps Full h i last top = looks_keep (after_load_link Full (m.link i) a) recent refl refl refl refl refl
       (λ t. inr t)
     where
-      old : IsRecent m.link (m.head Full) (record { head = Some h; link = a.full.link })
-      old = subst (λ x. IsRecent m.link (m.head Full) (record { head = x; link = a.full.link })) last
-          (law.owned.recent Full w a is)
-
       recent : (p : Which) → IsRecent m.link (m.head p) (look_of (after_load_link Full (m.link i) a) p)
-      recent Full = subst (λ x. IsRecent m.link (m.head Full) (record { head = x; link = Some (m.link i) }))
-          (sym last) (recent_linked m.link (m.head Full) h i a.full.link top old)
+      recent Full = link_recent Full h i last top
       recent Empty = law.owned.recent Empty w a is
   load_link_keeps Empty h i last top = looks_keep (after_load_link Empty (m.link i) a) recent refl refl refl refl refl
       (λ t. inr t)
     where
-      old : IsRecent m.link (m.head Empty) (record { head = Some h; link = a.empty.link })
-      old = subst (λ x. IsRecent m.link (m.head Empty) (record { head = x; link = a.empty.link })) last
-          (law.owned.recent Empty w a is)
-
       recent : (p : Which) → IsRecent m.link (m.head p) (look_of (after_load_link Empty (m.link i) a) p)
       recent Full = law.owned.recent Full w a is
-      recent Empty = subst (λ x. IsRecent m.link (m.head Empty) (record { head = x; link = Some (m.link i) }))
-          (sym last) (recent_linked m.link (m.head Empty) h i a.empty.link top old)
+      recent Empty = link_recent Empty h i last top
 
   -- no stacked buffer is held, so a store at a held one changes no stack
   pub store_keeps : (i : ℕ) (l : Option ℕ) → 0 < times i a.held → Law e (record m { link = put i l m.link })
   store_keeps i l mine =
       record {
         stack = law.stack;
-        owned = owned_links e.buffers m.head m.link m.accounts law.stack law.owned (put i l m.link)
-            (λ q b h. put_else i b l m.link (other q b h));
+        owned = owned_links law.owned (put i l m.link) (λ q b h. put_else i b l m.link (other q b h));
         shelved = law.shelved;
         coloured = law.coloured;
         shared = law.shared;
@@ -144,14 +127,14 @@ module _ (e : Setup) (m : Marking) (law : Law e m) (w : ℕ) (a : Account) (is :
         owned = taken.2;
         shelved = shelved_set e.buffers m.slots law.stack new i (Some items) None law.shelved at others
             (λ p h. absurd (omega (arith, gone p))) (λ h. absurd (omega (arith, gone Empty))) (λ f g. refl);
-        coloured = coloured_pop e m.mark m.slots m.accounts law.coloured w a is i items at;
+        coloured = coloured_pop law.coloured w a is i items at;
         shared = shared_set m.accounts law.shared w a is there (after_pop i items a) refl;
       }
     where
       taken : (rest : List ℕ) × (law.stack q ≡ i ∷ rest)
           × IsOwned e.buffers (put_which q (after (m.head q) l) m.head) m.link
           (set m.accounts w (after_pop i items a)) (put_which q rest law.stack)
-      taken = owned_pop e.buffers m.head m.link m.accounts law.stack law.owned w a is q i l items hit top next
+      taken = owned_pop law.owned w a is q i l items hit top next
 
       new : Which → List ℕ
       new = put_which q taken.0 law.stack
@@ -160,19 +143,17 @@ module _ (e : Setup) (m : Marking) (law : Law e m) (w : ℕ) (a : Account) (is :
       others p b n = put_one (λ r xs. times b xs ≡ times b (law.stack r)) q taken.0 law.stack
           (omega (arith, ap (times b) taken.1, only-other b i (λ s. n (sym s)))) (λ r. refl) p
 
+      none_left : times i (new Full) + times i (new Empty) ≡ 0
+      none_left = omega (
+        arith,
+        popped_sum q i taken.0 law.stack taken.1 i,
+        only-same i i refl,
+        place_one e.buffers m.head m.link m.accounts law.stack law.owned i,
+      )
+
       gone : (p : Which) → times i (new p) ≡ 0
-      gone Full = omega (
-        arith,
-        popped_sum q i taken.0 law.stack taken.1 i,
-        only-same i i refl,
-        place_one e.buffers m.head m.link m.accounts law.stack law.owned i,
-      )
-      gone Empty = omega (
-        arith,
-        popped_sum q i taken.0 law.stack taken.1 i,
-        only-same i i refl,
-        place_one e.buffers m.head m.link m.accounts law.stack law.owned i,
-      )
+      gone Full = omega (arith, none_left)
+      gone Empty = omega (arith, none_left)
 
   pub push_keeps :
       (q : Which) (i : ℕ) (items : List ℕ) → 0 < times i a.held → m.link i ≡ (m.head q).index → IsPart items a.charge
@@ -185,11 +166,11 @@ module _ (e : Setup) (m : Marking) (law : Law e m) (w : ℕ) (a : Account) (is :
   push_keeps q i items mine leads some none =
       record {
         stack = new;
-        owned = owned_push e.buffers m.head m.link m.accounts law.stack law.owned w a is q i items mine leads;
+        owned = owned_push law.owned w a is q i items mine leads;
         shelved = shelved_set e.buffers m.slots law.stack new i None (Some items) law.shelved at others
             (λ p h. (items, refl)) (bare q none)
             (λ f g. absurd (omega (arith, pushed_sum q i law.stack i, only-same i i refl)));
-        coloured = coloured_push e m.mark m.slots m.accounts law.coloured w a is q i items at some;
+        coloured = coloured_push law.coloured w a is q i items at some;
         shared = shared_set m.accounts law.shared w a is there (after_push q i items a) refl;
       }
     where
@@ -219,9 +200,9 @@ module _ (e : Setup) (m : Marking) (law : Law e m) (w : ℕ) (a : Account) (is :
   claim_keeps o reach =
       record {
         stack = law.stack;
-        owned = owned_same e.buffers m.head m.link m.accounts law.stack law.owned w a is b refl refl refl refl;
+        owned = owned_same law.owned w a is b refl refl refl refl;
         shelved = law.shelved;
-        coloured = coloured_put e m.mark m.slots m.accounts law.coloured o (max (m.mark o) 1) (set m.accounts w b)
+        coloured = coloured_put law.coloured o (max (m.mark o) 1) (set m.accounts w b)
             (omega arith) (omega arith) (here (ℕ_discrete (m.mark o) 0))
             (others (ℕ_discrete (m.mark o) 0)) next reach saw;
         shared = shared_set m.accounts law.shared w a is there b refl;
@@ -280,16 +261,16 @@ module _ (e : Setup) (m : Marking) (law : Law e m) (w : ℕ) (a : Account) (is :
   -- an account may claim what is reachable alone
   pub can_claim : (o : ℕ) → CanClaim e o a → IsReachableIn e o
   can_claim o (inl root) = ([], root)
-  can_claim o (inr p) = reachable_next e m.mark m.slots m.accounts law.coloured w a is p.0 o p.1 p.2
+  can_claim o (inr p) = reachable_next law.coloured w a is p.0 o p.1 p.2
 
   pub finish_keeps : (o : ℕ) → CanFinish e o a
       → Law e (record m { mark = put o 2 m.mark; accounts = set m.accounts w (after_finish o a) })
   finish_keeps o can =
       record {
         stack = law.stack;
-        owned = owned_same e.buffers m.head m.link m.accounts law.stack law.owned w a is b refl refl refl refl;
+        owned = owned_same law.owned w a is b refl refl refl refl;
         shelved = law.shelved;
-        coloured = coloured_put e m.mark m.slots m.accounts law.coloured o 2 (set m.accounts w b) (omega arith)
+        coloured = coloured_put law.coloured o 2 (set m.accounts w b) (omega arith)
             (omega (arith, was)) here others next (law.coloured.reachable o (omega (arith, was))) saw;
         shared = shared_set m.accounts law.shared w a is there b refl;
       }
@@ -346,12 +327,9 @@ module _ (e : Setup) (m : Marking) (law : Law e m) (w : ℕ) (a : Account) (is :
   split_keeps units some less =
       record {
         stack = law.stack;
-        owned =
-            owned_part e.buffers m.head m.link (set m.accounts w b) law.stack
-            (owned_same e.buffers m.head m.link m.accounts law.stack law.owned w a is b refl refl refl refl) units;
+        owned = owned_part (owned_same law.owned w a is b refl refl refl refl) units;
         shelved = law.shelved;
-        coloured = coloured_part e m.mark m.slots (set m.accounts w b)
-            (coloured_same e m.mark m.slots m.accounts law.coloured w a is b refl refl refl) units;
+        coloured = coloured_part (coloured_same law.coloured w a is b refl refl refl) units;
         shared = shared_split m.accounts law.shared w a is there units some less;
       }
     where
@@ -363,8 +341,8 @@ module _ (e : Setup) (m : Marking) (law : Law e m) (w : ℕ) (a : Account) (is :
   join_keeps v b apart at =
       record {
         stack = law.stack;
-        owned = owned_join e.buffers m.head m.link m.accounts law.stack law.owned w a is v b apart at;
+        owned = owned_join law.owned w a is v b apart at;
         shelved = law.shelved;
-        coloured = coloured_join e m.mark m.slots m.accounts law.coloured w a is v b apart at;
+        coloured = coloured_join law.coloured w a is v b apart at;
         shared = shared_join m.accounts law.shared w a is there v b apart at;
       }

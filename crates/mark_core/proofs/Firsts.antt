@@ -11,12 +11,11 @@ use Rattle.mark_core.specs.declared.which.Which.{Which}
 use Rattle.mark_core.specs.declared.which.Which.TheVariants.{Full, Empty}
 use Rattle.mark_core.specs.Lists.{StandsAt}
 use Rattle.mark_core.specs.Account.{Account, look_of, part, no_share, after_claim, after_finish, after_split}
-use Rattle.mark_core.specs.Account.{after_join, after_load, after_load_link, after_push, after_idle_up, after_idle_down}
+use Rattle.mark_core.specs.Account.{after_join, after_load, after_push, after_idle_up, after_idle_down}
 use Rattle.mark_core.specs.Account.{after_load_idle}
 use Rattle.mark_core.specs.World.{Setup, Marking, account_at}
 use Rattle.mark_core.specs.Events.{Kind, Claim, Finish, Split, Join, Load, LoadLink, StoreLink, Pop, Push, Fail, IdleUp}
 use Rattle.mark_core.specs.Events.{IdleDown, LoadIdle, Event, Allows, IsPossible, effect, happens, stack_popped}
-use Rattle.mark_core.specs.Events.{last_link}
 use Rattle.mark_core.specs.Shares.{whole}
 use Rattle.mark_core.specs.Runs.{Run, first_heads, opening}
 use Rattle.mark_core.specs.Counts.{Counts, LeadTo, add_counts, all_counted, count_failure, count_load, count_load_idle}
@@ -82,10 +81,8 @@ module _ (S : Which → Head → Type 0) where
   effect_knows m w a (Load Empty) all own heads =
       set_all Knows m.accounts w (after_load Empty (m.head Empty) a) all
       (own.0, (λ h e. loaded_one Empty (m.head Empty) h (heads Empty) e))
-  effect_knows m w a (LoadLink Full) all own heads =
-      set_all Knows m.accounts w (after_load_link Full (last_link m.link a.full.head) a) all own
-  effect_knows m w a (LoadLink Empty) all own heads =
-      set_all Knows m.accounts w (after_load_link Empty (last_link m.link a.empty.head) a) all own
+  effect_knows m w a (LoadLink Full) all own heads = set_all Knows m.accounts w _ all own
+  effect_knows m w a (LoadLink Empty) all own heads = set_all Knows m.accounts w _ all own
   effect_knows m w a (StoreLink i l) all own heads = all
   effect_knows m w a (Pop q) all own heads = popped_knows m w a q (m.head q).index (look_of a q).link all own
   effect_knows m w a (Push q i items) all own heads = set_all Knows m.accounts w (after_push q i items a) all own
@@ -100,11 +97,6 @@ module _ (S : Which → Head → Type 0) where
       subst (λ x. OfEach Knows (effect m event.worker x event.kind).accounts)
       (sym (at_get_or m.accounts event.worker can.0 no_share can.1.0))
       (effect_knows m event.worker can.0 event.kind all (all event.worker can.0 can.1.0) heads)
-
--- a head that the stack has now, it had
-had_now : (m : Marking) (events : List Event) (q : Which) → HadHead m events q (m.head q)
-had_now m [] q = refl
-had_now m (event ∷ events) q = inl refl
 
 run_knows :
     (S : Which → Head → Type 0) (e : Setup) (events : List Event) (first last : Marking)
@@ -203,18 +195,14 @@ module _ (C : Type 0) where
   effect_pushed m w a (Load Full) all own others push =
       set_all Pushed m.accounts w (after_load Full (m.head Full) a) all
       (λ h. own (and_left a.open_push (is_some (m.head Full).index) h))
-  effect_pushed m w a (Load Empty) all own others push =
-      set_all Pushed m.accounts w (after_load Empty (m.head Empty) a) all own
-  effect_pushed m w a (LoadLink Full) all own others push =
-      set_all Pushed m.accounts w (after_load_link Full (last_link m.link a.full.head) a) all own
-  effect_pushed m w a (LoadLink Empty) all own others push =
-      set_all Pushed m.accounts w (after_load_link Empty (last_link m.link a.empty.head) a) all own
+  effect_pushed m w a (Load Empty) all own others push = set_all Pushed m.accounts w _ all own
+  effect_pushed m w a (LoadLink Full) all own others push = set_all Pushed m.accounts w _ all own
+  effect_pushed m w a (LoadLink Empty) all own others push = set_all Pushed m.accounts w _ all own
   effect_pushed m w a (StoreLink i l) all own others push = all
   effect_pushed m w a (Pop q) all own others push = popped_pushed m w a q (m.head q).index (look_of a q).link all own
   effect_pushed m w a (Push Full i items) all own others push =
       set_all Pushed m.accounts w (after_push Full i items a) all (λ h. push i items refl)
-  effect_pushed m w a (Push Empty i items) all own others push =
-      set_all Pushed m.accounts w (after_push Empty i items a) all own
+  effect_pushed m w a (Push Empty i items) all own others push = set_all Pushed m.accounts w _ all own
   effect_pushed m w a (Fail q) all own others push = all
   effect_pushed m w a IdleUp all own others push = set_all Pushed m.accounts w (after_idle_up a) all own
   effect_pushed m w a IdleDown all own others push = set_all Pushed m.accounts w (after_idle_down a) all own

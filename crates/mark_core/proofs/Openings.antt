@@ -74,7 +74,7 @@ in_replicate (suc n) zero x y e = some-injective x y e
 in_replicate (suc n) (suc i) x y e = in_replicate n i x y e
 
 -- the one account of an opening marking
-alone : (w : ℕ) (a x : Account) → StandsAt (a ∷ []) w x → a ≡ x
+pub alone : (w : ℕ) (a x : Account) → StandsAt (a ∷ []) w x → a ≡ x
 alone zero a x e = some-injective a x e
 alone (suc w) a x e = absurd (some-ne-none x (sym e))
 

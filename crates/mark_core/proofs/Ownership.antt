@@ -1,6 +1,6 @@
 -- What each event leaves of the ownership of the buffers.
 use Rattle.std.proofs.Common.{◌≡◌, ◌≢◌, ◌⊎◌, ℕ, ◌+◌, ◌<◌, ◌≤◌, Bool, true, false, ◌||◌, nat_lt, List, [], ◌∷◌, ◌++◌}
-use Rattle.std.proofs.Common.{Option, Some, set, ap, sym, refl, subst, ◌∙◌, inl, inr, lt-ltb, le-ltb, lt_of_not-le}
+use Rattle.std.proofs.Common.{Option, Some, set, ap, sym, refl, subst, ◌∙◌, inl, inr, le-ltb, lt_of_not-le}
 use Rattle.std.proofs.Common.{arith}
 use native.Mathlib.Decide.{dec_le, ℕ_discrete}
 use Rattle.tagged_index.specs.Head.{Head, after}
@@ -22,9 +22,6 @@ counted_below b n h = go (dec_le n b)
     go : Dec (n ≤ b) → b < n
     go (yes p) = let e = ap one_where (le-ltb b n p) in absurd (omega arith)
     go (no p) = lt_of_not-le p
-
-pub below_counted : (b n : ℕ) → b < n → one_where (nat_lt b n) ≡ 1
-below_counted b n h = ap one_where (lt-ltb b n h)
 
 pub counted_once : (t : Bool) → one_where t ≤ 1
 counted_once true = omega arith
@@ -93,6 +90,16 @@ module _ (buffers : ℕ) (head : Which → Head) (link : ℕ → Option ℕ) (ac
   stacked_below Full b h = place_below b (omega arith)
   stacked_below Empty b h = place_below b (omega arith)
 
+  -- a held buffer is a buffer, and on no stack
+  pub held_apart : (w : ℕ) (a : Account) → StandsAt accounts w a → (i : ℕ) → 0 < times i a.held
+      → (i < buffers) × (times i (stack Full) ≡ 0) × (times i (stack Empty) ≡ 0)
+  held_apart w a is i h =
+      let t = term_le (λ (x : Account). times i x.held) accounts w a is in
+      let p = place_one i in
+      (place_below i (omega arith), omega arith, omega arith)
+
+module _ {buffers : ℕ} {head : Which → Head} {link : ℕ → Option ℕ} {accounts : List Account} {stack : Which → List ℕ}
+    (o : IsOwned buffers head link accounts stack) where
   -- other links of buffers that are not stacked change nothing
   pub owned_links : (new : ℕ → Option ℕ) → ((q : Which) (b : ℕ) → 0 < times b (stack q) → new b ≡ link b)
       → IsOwned buffers head new accounts stack
@@ -100,8 +107,8 @@ module _ (buffers : ℕ) (head : Which → Head) (link : ℕ → Option ℕ) (ac
       record {
         chain = λ q. chain_links link new (head q).index (stack q) (same q) (o.chain q);
         once = o.once;
-        recent = λ q v x at. recent_links link new (head q) (look_of x q) (λ i e. same q i (top_stands q i e))
-            (o.recent q v x at);
+        recent = λ q v x at. recent_links link new (head q) (look_of x q)
+            (λ i e. same q i (top_stands buffers head link accounts stack o q i e)) (o.recent q v x at);
         owed = o.owed;
       }
 
@@ -130,14 +137,6 @@ module _ (buffers : ℕ) (head : Which → Head) (link : ℕ → Option ℕ) (ac
       owed (inr p) = inr (p.0, p.1, at_longer accounts (part units ∷ []) p.0 p.1 p.2, p.3)
 
   module _ (w : ℕ) (a : Account) (is : StandsAt accounts w a) where
-    -- a held buffer is a buffer, and on no stack
-    pub held_apart : (i : ℕ) → 0 < times i a.held → (i < buffers) × (times i (stack Full) ≡ 0)
-        × (times i (stack Empty) ≡ 0)
-    held_apart i h =
-        let t = term_le (λ (x : Account). times i x.held) accounts w a is in
-        let p = place_one i in
-        (place_below i (omega arith), omega arith, omega arith)
-
     recent_set : (b : Account) → ((q : Which) → IsRecent link (head q) (look_of b q))
         → (q : Which) (v : ℕ) (x : Account) → StandsAt (set accounts w b) v x → IsRecent link (head q) (look_of x q)
     recent_set b new q v x at = go (at_set accounts w v b x at)

@@ -21,6 +21,7 @@ use Rattle.mark_core.specs.Quiet.{HasGivenUnits, QuietIsDone}
 use Rattle.mark_core.proofs.Places.{at_below, at_get_or, at_one, at_set, at_push, set_here, set_else}
 use Rattle.mark_core.proofs.Sums.{sum_of-set, sum_of-append, term_le}
 use Rattle.mark_core.proofs.Chains.{chain_none}
+use Rattle.mark_core.proofs.Openings.{alone}
 use Rattle.mark_core.proofs.Runs.{runs_keep_law}
 
 -- an account that was not joined has a share. It is not idle, or it has one unit, answers for nothing, and has found
@@ -98,7 +99,7 @@ module _
       (omega (arith, r.0, share), ⊎_elim (λ z. inl (idle ∙ z)) (λ o. absurd (not o.2)) r.1)
 
 module _
-    (idle : ℕ) (top : Option ℕ) (accounts : List Account) (s : IsHushed idle top accounts)
+    {idle : ℕ} {top : Option ℕ} {accounts : List Account} (s : IsHushed idle top accounts)
     (w : ℕ) (a : Account) (is : StandsAt accounts w a) where
   same_here : (k : ℕ) (x : Account) → k ≡ w → StandsAt accounts k x → x ≡ a
   same_here k x e at = at_one accounts w x a (subst (λ v. StandsAt accounts v x) e at) is
@@ -318,7 +319,7 @@ module _ (e : Setup) (m : Marking) (s : Hushed m) (w : ℕ) (a : Account) (there
   keep :
       (b : Account) → b.idle ≡ a.idle → IsResting b → b.joined ≡ a.joined → b.parted ≡ a.parted → b.pushed ≡ a.pushed
       → b.found ≡ a.found → IsHushed m.idle (m.head Full).index (set m.accounts w b)
-  keep = hushed_keep m.idle (m.head Full).index m.accounts s w a there.0
+  keep = hushed_keep s w a there.0
 
   -- it changes in its idle number, or the full head does; what is noted of it stays
   change :
@@ -326,18 +327,17 @@ module _ (e : Setup) (m : Marking) (s : Hushed m) (w : ℕ) (a : Account) (there
       → b.joined ≡ a.joined → b.parted ≡ a.parted → (HaveFound (set m.accounts w b) → top ≡ None)
       → IsHushed idle top (set m.accounts w b)
   change b idle top counted rests joined parted =
-      hushed_put m.idle (m.head Full).index m.accounts s w a there.0 b idle top counted rests (λ h. sym joined ∙ h)
-      (λ h. parted ∙ h)
+      hushed_put s w a there.0 b idle top counted rests (λ h. sym joined ∙ h) (λ h. parted ∙ h)
 
   same_count : (b : Account) → b.idle ≡ a.idle → m.idle ≡ idle_sum (set m.accounts w b) % 2 ^ 64
-  same_count = counted_same m.idle (m.head Full).index m.accounts s w a there.0
+  same_count = counted_same s w a there.0
 
   -- where nothing new is found, the full stack is empty as before
   still_empty :
       (b : Account) → b.joined ≡ a.joined → b.pushed ≡ a.pushed → (b.found ≡ true → a.found ≡ true)
       → HaveFound (set m.accounts w b) → (m.head Full).index ≡ None
   still_empty b joined pushed found h =
-      let back = found_back m.idle (m.head Full).index m.accounts s w a there.0 b in
+      let back = found_back s w a there.0 b in
       s.emptied (back (λ p. sym joined ∙ p) (λ p. sym pushed ∙ p) found h)
 
   load_hushed : (q : Which) → Hushed (effect m w a (Load q))
@@ -382,8 +382,7 @@ module _ (e : Setup) (m : Marking) (s : Hushed m) (w : ℕ) (a : Account) (there
       → Hushed (effect m w a (Push q i items))
   push_hushed Full i items bare busy =
       let b = after_push Full i items a in
-      hushed_push m.idle (m.head Full).index m.accounts s w a there.0 b (Some i) refl
-      (busy_rest a b rest refl refl refl (busy refl)) refl refl refl refl
+      hushed_push s w a there.0 b (Some i) refl (busy_rest a b rest refl refl refl (busy refl)) refl refl refl refl
   push_hushed Empty i items bare busy = keep (after_push Empty i items a) refl resting refl refl refl refl
     where
       resting : IsResting (after_push Empty i items a)
@@ -399,12 +398,12 @@ module _ (e : Setup) (m : Marking) (s : Hushed m) (w : ℕ) (a : Account) (there
   effect_hushed (Finish o) can =
       let b = after_finish o a in
       keep b refl (charged_rest a b rest refl refl refl o can.0) refl refl refl refl
-  effect_hushed (Split units) can = hushed_split m.idle (m.head Full).index m.accounts s w a there.0 units can.0 can.1
+  effect_hushed (Split units) can = hushed_split s w a there.0 units can.0 can.1
   effect_hushed (Join v) can =
       let After : Account → Type 0 =
       λ x. IsHushed m.idle (m.head Full).index (set (set m.accounts w (after_join a x)) v no_share) in
       subst After (sym (at_get_or m.accounts v can.1.0 no_share can.1.1.0))
-      (hushed_join m.idle (m.head Full).index m.accounts s w a there.0 v can.1.0 can.0 can.1.1.0)
+      (hushed_join s w a there.0 v can.1.0 can.0 can.1.1.0)
   effect_hushed (Load q) can = load_hushed q
   effect_hushed (LoadLink q) can = link_hushed q (last_link m.link (look_of a q).head)
   effect_hushed (StoreLink i l) can = s
@@ -448,10 +447,6 @@ run_hushed :
 run_hushed e [] first last s run = subst Hushed (sym run) s
 run_hushed e (event ∷ events) first last s run =
     run_hushed e events (happens first event) last (happens_hushed e first event s run.0) run.1
-
-alone : (w : ℕ) (a x : Account) → StandsAt (a ∷ []) w x → a ≡ x
-alone zero a x e = some-injective a x e
-alone (suc w) a x e = absurd (some-ne-none x (sym e))
 
 opening_hushed : (e : Setup) (tag : ℕ) → Hushed (opening e tag)
 opening_hushed e tag =

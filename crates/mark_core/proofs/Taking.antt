@@ -42,9 +42,6 @@ pub record Takes (all old rest left : List ℕ) : Type 0 where
   pub onward : IsPart all old → IsPart rest left
   pub back : IsPart rest left → IsPart all old
 
-pub takes_begin : (all old : List ℕ) → Takes all old all old
-takes_begin all old = record { same = refl; onward = λ p. p; back = λ p. p }
-
 module _ (all old left : List ℕ) (i : ℕ) (inside : i < length all) (t : Takes all old (drop i all) left) where
   next : drop i all ≡ get_or all i 0 ∷ drop (i + 1) all
   next = rw (add-one, drop-cons all i 0)
@@ -65,6 +62,3 @@ module _ (all old left : List ℕ) (i : ℕ) (inside : i < length all) (t : Take
       let x = get_or all i 0 in
       let s : Takes all old (x ∷ drop (i + 1) all) left = subst (λ rest. Takes all old rest left) next t in
       away (times_stands left x (omega (arith, s.onward p x, only-same x x refl)))
-
-pub takes_end : (all old left : List ℕ) → Takes all old [] left → IsPart all old × (left ≡ without all old)
-takes_end all old left t = (t.back (λ v. omega arith), t.same)

@@ -1,5 +1,5 @@
 -- The account that is looked up is the one that the tables have at this number.
-use Rattle.std.proofs.Common.{◌≡◌, ◌<◌, ap, sym, subst, ◌∙◌}
+use Rattle.std.proofs.Common.{◌<◌, ap, sym, subst, ◌∙◌}
 use Rattle.mark_core.specs.Account.{Account}
 use Rattle.mark_core.specs.StepCall.{Listing}
 use Rattle.mark_core.proofs.Looked.{is_of}

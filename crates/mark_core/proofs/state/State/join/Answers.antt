@@ -14,27 +14,20 @@ pub returns-then-not-is_there-clause-done : goal.returns-then-not-is_there-claus
 returns-then-not-is_there-clause-done g c =
     λ can. false_is_not_true (c.if-not-is_there.ensures.1 (is_there _ _ can.1.0 can.1.1))
 
-pub join-requires-clause-shares : goal.join-requires-clause-shares
-join-requires-clause-shares g c =
+pub join-requires : goal.join-requires
+join-requires g c =
     let lawful = subst IsLawful (sym c.self.view_is) c.requires.lawful in
     let there = rw (← c.self.view_is) at c.requires.there in
     let found = rw (← c.self.view_is) at (c.if-not-is_there.ensures.0 refl) in
     let mine = read_past c.self.inside.accounts.items c.args.other c.args.w _ _
     (λ e. c.if-place-w.false (sym e)) c.index_mut-2.ensures.value in
-    rw c.replace-other.ensures.value
-    (shares_within _ lawful c.args.w c.index_mut-2.result.now there mine c.args.other c.index_mut.result.now
-    c.if-place-w.false found.0 c.index_mut.ensures.value)
-
-pub join-requires-clause-idles : goal.join-requires-clause-idles
-join-requires-clause-idles g c =
-    let lawful = subst IsLawful (sym c.self.view_is) c.requires.lawful in
-    let there = rw (← c.self.view_is) at c.requires.there in
-    let found = rw (← c.self.view_is) at (c.if-not-is_there.ensures.0 refl) in
-    let mine = read_past c.self.inside.accounts.items c.args.other c.args.w _ _
-    (λ e. c.if-place-w.false (sym e)) c.index_mut-2.ensures.value in
-    rw c.replace-other.ensures.value
-    (idles_within _ lawful c.args.w c.index_mut-2.result.now there mine c.args.other c.index_mut.result.now
-    c.if-place-w.false found.0 c.index_mut.ensures.value)
+    let taken = c.replace-other.ensures.value in
+    record {
+      shares = rw taken (shares_within _ lawful c.args.w c.index_mut-2.result.now there mine c.args.other
+          c.index_mut.result.now c.if-place-w.false found.0 c.index_mut.ensures.value);
+      idles = rw taken (idles_within _ lawful c.args.w c.index_mut-2.result.now there mine c.args.other
+          c.index_mut.result.now c.if-place-w.false found.0 c.index_mut.ensures.value);
+    }
 
 pub returns-clause-done : goal.returns-clause-done
 returns-clause-done g c =
