@@ -1,8 +1,7 @@
 //! Which word of the table is what: two heads, the idle word, a link for each buffer, and words of marks, in which each
-//! object has two bits.
+//! object has two bits (`mark_bits.rt`).
 
-ghost use Rattle.std.specs.Prelude.{◌≡◌, ◌+◌, ◌*◌, ◌/◌, ◌%◌, ◌<◌, ◌≤◌};
-ghost use Rattle.buffer_pool.specs.working.MarkBits.{mark_words, pair_bits};
+ghost use Rattle.std.specs.Prelude.{◌≡◌, ◌+◌, ◌/◌};
 ghost use Rattle.buffer_pool.specs.working.Layout.{head_word, link_word};
 
 use mark_core::Which;
@@ -30,33 +29,9 @@ pub fn head_word(which: Which) -> usize
     }
 }
 
-/// How many words the marks of so many objects take: 32 objects to a word.
-pub(crate) fn mark_words(objects: u32) -> usize
-    ensures { result ≡ mark_words objects }
-{
-    (objects as usize + 31) / 32
-}
-
 /// The word of an object's mark, behind the links of so many buffers.
 pub fn mark_word(buffers: u32, object: u32) -> usize
     ensures { result ≡ 32 + buffers + object / 32 }
 {
     FIRST_LINK + buffers as usize + object as usize / 32
-}
-
-/// Where the two bits of an object begin in its word.
-pub(crate) fn mark_place(object: u32) -> u32
-    ensures value { result ≡ 2 * (object % 32) }
-    ensures small { result < 63 }
-{
-    2 * (object % 32)
-}
-
-/// These two bits, shifted to the place of an object in its word.
-#[tactic(auto, using(crate::proofs::Bits::bits_fit))]
-pub(crate) fn pair_bits(bits: u64, object: u32) -> u64
-    requires { bits < 4 }
-    ensures { result ≡ pair_bits bits object }
-{
-    bits << mark_place(object)
 }

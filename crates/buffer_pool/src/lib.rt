@@ -23,6 +23,7 @@ mod buffer;
 mod held;
 mod key;
 pub mod layout;
+mod mark_bits;
 mod plays;
 mod pool;
 mod rules;
@@ -33,8 +34,8 @@ pub use answers::{Popped, TryPopped, TryPushed};
 pub use held::Held;
 pub use mark_core::{Edges, Which};
 pub use pool::Pool;
+pub use pool::closed_marks::Marks;
 pub use pool::limits::{
     LEAST_BUFFERS, LEAST_SIZE, MOST_BUFFERS, MOST_OBJECTS, MOST_SIZE, PoolFault,
 };
-pub use pool::marks::Marks;
 pub use worker::Worker;

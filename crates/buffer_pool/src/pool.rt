@@ -10,10 +10,10 @@ ghost use Rattle.buffer_pool.specs.WorkerLog.{first_log};
 
 mod claim_and_finish;
 mod close;
+pub(crate) mod closed_marks;
 mod head_exchange;
 mod idle;
 pub(crate) mod limits;
-pub(crate) mod marks;
 mod next_head;
 mod opening;
 mod peek;

@@ -36,7 +36,8 @@ pub use Rattle.hprof_grammar.specs.Dump.{Spells, header, heap_list, is_object, i
 pub use Rattle.hprof_grammar.specs.FormatTables.{size_of}
 pub use Rattle.hprof_grammar.specs.ObjectKinds.{object_kind}
 pub use Rattle.hprof_grammar.specs.Places.{IsDumpOf, Places, is_load, is_string, places_of}
-pub use Rattle.hprof_grammar.specs.Record.{IsOrderly, Record, body_of, record_spelling, subs_of, tag_of, time_of}
+pub use Rattle.hprof_grammar.specs.Record.{Record, body_of, record_spelling, subs_of, tag_of, time_of}
+pub use Rattle.hprof_grammar.specs.Snapshot.{IsOrderly}
 pub use Rattle.hprof_grammar.specs.Record.Record.{heap, load_class, other, string}
 pub use Rattle.hprof_grammar.specs.Series.{LabelledValue, of_static}
 pub use Rattle.hprof_grammar.specs.Spelling.{AreAllowed, Field, IsAllowed, spelled}

@@ -2,7 +2,8 @@
 use Rattle.std.specs.Prelude.{List, map, ℕ}
 use Rattle.heap_graph.specs.Linked.{IsLinked}
 use Rattle.heap_graph.specs.Heap.{heap_of}
-use Rattle.hprof_grammar.specs.Record.{IsOrderly, Record, tag_of}
+use Rattle.hprof_grammar.specs.Record.{Record, tag_of}
+use Rattle.hprof_grammar.specs.Snapshot.{IsOrderly}
 use Rattle.hprof_grammar.specs.Dump.{Spells}
 
 -- A text is accepted where it spells a dump with an orderly list of records and a linked heap list.

@@ -2,7 +2,8 @@
 use Rattle.std.specs.Prelude.{List, Some, map, slice_get, ℕ, ◌<◌, ◌≡◌, ◌≤◌}
 use Rattle.heap_graph.specs.Heap.{heap_of}
 use Rattle.heap_graph.specs.Linked.{Fails}
-use Rattle.hprof_grammar.specs.Record.{IsOrderly, Record, tag_of}
+use Rattle.hprof_grammar.specs.Record.{Record, tag_of}
+use Rattle.hprof_grammar.specs.Snapshot.{IsOrderly}
 use Rattle.hprof_grammar.specs.Dump.{Spells, heap_list, is_object}
 use Rattle.hprof_grammar.specs.Dump.{places_where}
 use Rattle.hprof_grammar.specs.SubRecord.{SubRecord}

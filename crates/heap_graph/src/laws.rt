@@ -3,7 +3,8 @@
 
 ghost use Rattle.std.specs.Prelude.{List, [], map, ℕ, ◌∷◌, ◌≡◌, ◌⊎◌};
 ghost use Rattle.hprof_grammar.specs.Dump.{Spells};
-ghost use Rattle.hprof_grammar.specs.Record.{IsOrderly, Record, tag_of};
+ghost use Rattle.hprof_grammar.specs.Record.{Record, tag_of};
+ghost use Rattle.hprof_grammar.specs.Snapshot.{IsOrderly};
 ghost use Rattle.hprof_grammar.specs.SubRecord.{Class, Instance};
 ghost use Rattle.heap_graph.specs.Fields.{all_field_ids};
 ghost use Rattle.heap_graph.specs.Layout.{layout};

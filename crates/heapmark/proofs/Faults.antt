@@ -12,7 +12,8 @@ use Rattle.hprof_grammar.specs.Dump.{Spells, heap_list, is_object, places_where}
 use Rattle.hprof_grammar.specs.Places.{IsDumpOf, Places, places_of}
 use Rattle.hprof_grammar.specs.Laws.{HasFirstFault, SpellsDump}
 use Rattle.hprof_grammar.specs.Fault.{FirstFault}
-use Rattle.hprof_grammar.specs.Record.{IsOrderly, Record, tag_of}
+use Rattle.hprof_grammar.specs.Record.{Record, tag_of}
+use Rattle.hprof_grammar.specs.Snapshot.{IsOrderly}
 use Rattle.hprof_grammar.specs.SubRecord.{SubRecord}
 
 abbrev pub NoFault : Type 0

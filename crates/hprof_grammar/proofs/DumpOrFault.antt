@@ -19,7 +19,8 @@ use Rattle.hprof_grammar.specs.working.Reading.{behind, flaw_code, frame_at, sub
 use Rattle.hprof_grammar.specs.Record.{framed}
 use Rattle.hprof_grammar.specs.SubRecord.{SubRecord, spelling_of}
 use Rattle.hprof_grammar.specs.Kinds.{sub_kind}
-use Rattle.hprof_grammar.specs.FormatTables.{is_heap_tag, is_id_size, is_length_of, is_snapshot_tag}
+use Rattle.hprof_grammar.specs.FormatTables.{is_heap_tag, is_id_size, is_length_of}
+use Rattle.hprof_grammar.specs.Snapshot.{is_snapshot_tag}
 use Rattle.hprof_grammar.specs.declared.flaw.Flaw.{Flaw}
 use Rattle.hprof_grammar.specs.declared.flaw.FormatFault.{FormatFault}
 use Rattle.hprof_grammar.specs.declared.snapshot_order.Order.{Order}

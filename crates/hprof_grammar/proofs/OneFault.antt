@@ -9,7 +9,8 @@ use Rattle.hprof_grammar.specs.Places.{IsDumpOf, Places}
 use Rattle.hprof_grammar.specs.Fault.{FirstFault, HasMagic, LongestRecords, LongestSubs, RecordFault, SubFault}
 use Rattle.hprof_grammar.specs.Fault.FirstFault.{bad_header, bad_id_size, in_records, short_header, too_large}
 use Rattle.hprof_grammar.specs.Fault.RecordFault.{bad_length, in_heap, no_snapshot, out_of_order, truncated}
-use Rattle.hprof_grammar.specs.Record.{CanGoOn, IsOrderly, IsRecord, Record, body_of, framed, record_spelling, tag_of}
+use Rattle.hprof_grammar.specs.Record.{IsRecord, Record, body_of, framed, record_spelling, tag_of}
+use Rattle.hprof_grammar.specs.Snapshot.{CanGoOn, IsOrderly}
 use Rattle.hprof_grammar.specs.Record.{time_of}
 use Rattle.hprof_grammar.specs.SubRecord.{SubRecord, spelling_of}
 use Rattle.hprof_grammar.specs.FormatTables.{is_id_size, is_length_of}

@@ -3,8 +3,7 @@ use Rattle.std.proofs.Common.{Bool, List, [], add-one, ap, append_assoc, arith, 
 use Rattle.std.proofs.Common.{subst, suc, sym, true, zero, ℕ, ◌++◌, ◌∙◌, ◌∷◌, ◌≡◌, ◌≢◌}
 use Rattle.std.proofs.lemmas.List.{append-nil, replicate_more}
 use Rattle.std.proofs.lemmas.List.Elements.{filter-append}
-use Rattle.hprof_grammar.specs.Record.{CanGoOn, IsOrderly, snapshot_tags}
-use Rattle.hprof_grammar.specs.FormatTables.{IsSnapshot, is_snapshot_tag}
+use Rattle.hprof_grammar.specs.Snapshot.{CanGoOn, IsOrderly, IsSnapshot, is_snapshot_tag, snapshot_tags}
 use Rattle.hprof_grammar.specs.working.SnapshotOrder.{IsAt, is_done}
 use Rattle.hprof_grammar.specs.declared.snapshot_order.Order.{Order}
 use Rattle.hprof_grammar.specs.declared.snapshot_order.Order.TheVariants.{Before, Ended, Segments, Whole}

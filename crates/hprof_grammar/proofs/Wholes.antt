@@ -11,7 +11,8 @@ use Rattle.hprof_grammar.specs.Fault.SubFault.{short, unknown_tag, wrong_type}
 use Rattle.hprof_grammar.specs.working.Joining.{AddsRecords, AddsRecordsFrom, FrameFault, HasRecordFault}
 use Rattle.hprof_grammar.specs.working.Joining.FrameFault.{wrong_heap, wrong_length, wrong_order}
 use Rattle.hprof_grammar.specs.working.SnapshotOrder.{IsAt, is_done}
-use Rattle.hprof_grammar.specs.Record.{CanGoOn, IsOrderly, IsRecord, Record, body_of, framed, record_spelling, tag_of}
+use Rattle.hprof_grammar.specs.Record.{IsRecord, Record, body_of, framed, record_spelling, tag_of}
+use Rattle.hprof_grammar.specs.Snapshot.{CanGoOn, IsOrderly}
 use Rattle.hprof_grammar.specs.Record.{time_of}
 use Rattle.hprof_grammar.specs.Record.Record.{heap, load_class, other, string}
 use Rattle.hprof_grammar.specs.SubRecord.{IsSubRecord, SubRecord, spelling_of}

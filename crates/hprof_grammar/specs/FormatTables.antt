@@ -1,7 +1,7 @@
 -- The format's tables: which numbers are allowed where, and what sizes they stand for. No proof opens one of these
 -- words but a few lemmas of two lines, so that the accepted part of the format is settled here alone.
-use Rattle.std.specs.Prelude.{Bool, List, [], if◌then◌else◌, nat_le, replicate, suc, true, ℕ, ◌&&◌, ◌*◌, ◌++◌, ◌+◌}
-use Rattle.std.specs.Prelude.{◌==◌, ◌||◌, ◌∷◌, ◌≡◌, ◌⊎◌}
+use Rattle.std.specs.Prelude.{Bool, if◌then◌else◌, nat_le, true, ℕ, ◌&&◌, ◌*◌, ◌+◌}
+use Rattle.std.specs.Prelude.{◌==◌, ◌||◌}
 use Rattle.hprof_grammar.specs.declared.kinds.TypePlace.{TypePlace}
 use Rattle.hprof_grammar.specs.declared.kinds.TypePlace.TheVariants.{InArray}
 
@@ -45,11 +45,3 @@ is_length_of s tag n =
 -- HEAP DUMP and HEAP DUMP SEGMENT
 abbrev pub is_heap_tag : ℕ → Bool
 is_heap_tag tag = (tag == 0x0C) || (tag == 0x1C)
-
--- the tags of the records that make a snapshot: those, and HEAP DUMP END
-abbrev pub is_snapshot_tag : ℕ → Bool
-is_snapshot_tag tag = (tag == 0x0C) || (tag == 0x1C) || (tag == 0x2C)
-
--- The tags of a snapshot's records: one heap dump, or one or more segments and then one end.
-abbrev pub IsSnapshot : List ℕ → Type 0
-IsSnapshot tags = (tags ≡ 0x0C ∷ []) ⊎ ((n : ℕ) × (tags ≡ replicate (suc n) 0x1C ++ 0x2C ∷ []))

@@ -1,4 +1,5 @@
 pub mod FormatTables
+pub mod Snapshot
 pub mod Spelling
 pub mod SubRecord
 pub mod Bounds

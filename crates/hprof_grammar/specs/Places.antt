@@ -1,6 +1,7 @@
 -- What is kept of a dump: the places of its parts.
 use Rattle.std.specs.Prelude.{Bool, List, false, map, true, ℕ, ◌≡◌}
-use Rattle.hprof_grammar.specs.Record.{IsOrderly, Record, tag_of}
+use Rattle.hprof_grammar.specs.Record.{Record, tag_of}
+use Rattle.hprof_grammar.specs.Snapshot.{IsOrderly}
 use Rattle.hprof_grammar.specs.Record.Record.{load_class, string}
 use Rattle.hprof_grammar.specs.Dump.{Spells, heap_list, is_object, is_root, placed, places_where}
 

@@ -1,8 +1,8 @@
 -- The records of a file, behind its header: a tag, a time, a length, and a body of so many bytes.
-use Rattle.std.specs.Prelude.{List, [], false, filter, flat_map, length, true, ℕ, ◌++◌, ◌<◌, ◌^◌, ◌∷◌, ◌≡◌}
+use Rattle.std.specs.Prelude.{List, [], false, flat_map, length, true, ℕ, ◌++◌, ◌<◌, ◌^◌, ◌∷◌, ◌≡◌}
 use Rattle.std.specs.List.{AllByRecursion}
 use Rattle.byteorder.specs.Endian.{big_bytes}
-use Rattle.hprof_grammar.specs.FormatTables.{IsSnapshot, is_heap_tag, is_length_of, is_snapshot_tag}
+use Rattle.hprof_grammar.specs.FormatTables.{is_heap_tag, is_length_of}
 use Rattle.hprof_grammar.specs.SubRecord.{IsSubRecord, SubRecord, spelling_of}
 
 pub data Record : Type 0 where
@@ -64,15 +64,3 @@ pub record IsRecord (s : ℕ) (r : Record) : Type 0 where
   pub time : time_of r < 256 ^ 4
   pub length_fits : length (body_of s r) < 256 ^ 4
   pub length_allowed : is_length_of s (tag_of r) (length (body_of s r)) ≡ true
-
--- The tags that make the snapshot, in their order; the rule speaks of these alone.
-abbrev pub snapshot_tags : List ℕ → List ℕ
-snapshot_tags tags = filter is_snapshot_tag tags
-
--- The records keep the snapshot rule.
-abbrev pub IsOrderly : List ℕ → Type 0
-IsOrderly tags = IsSnapshot (snapshot_tags tags)
-
--- more records can make it so
-abbrev pub CanGoOn : List ℕ → Type 0
-CanGoOn tags = (more : List ℕ) × IsOrderly (tags ++ more)

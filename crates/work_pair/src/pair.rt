@@ -10,6 +10,8 @@ use std::alloc::Allocator;
 use std::marker::Model;
 use std::sync::Wait;
 
+mod spill_list;
+
 /// Two buffers of a worker. Objects are put into and got from the first, and the two change places; full buffers go to
 /// the pool's full stack and come from there, empty ones to and from the empty stack. An object for which there is no
 /// empty buffer goes to the pair's spill list, which grows by 4 bytes an object and doubles where it has to.
@@ -145,23 +147,6 @@ impl<A: Allocator> Pair<A> {
             Err(stop) => {
                 self.stopped = true;
                 Err((object, stop))
-            }
-        }
-    }
-
-    /// Puts an object at the end of the spill list. It comes back where the list could not grow.
-    // A call: how a list grows is not to stand at each caller of `put`.
-    #[inline(never)]
-    fn spill_over(&mut self, object: u32) -> Result<(), (u32, Stop)>
-        ensures spilled { OnOk result (self.new ≡ record self.old { spill = self.old.spill ++ object ∷ [] }) }
-        ensures starved { IfErr result (λ e. (e ≡ (object, OutOfMemory)) × (self.new ≡ record self.old
-            { starved = true })) }
-    {
-        match self.spill.push(object) {
-            Ok(()) => Ok(()),
-            Err(_) => {
-                self.starved = true;
-                Err((object, Stop::OutOfMemory))
             }
         }
     }
@@ -336,12 +321,5 @@ impl<A: Allocator> Pair<A> {
             third,
         } = self.buffers;
         (first, second, third)
-    }
-
-    /// How many objects the spill list has.
-    pub fn spilled(&self) -> usize
-        ensures { result ≡ length self.now.spill }
-    {
-        self.spill.len()
     }
 }

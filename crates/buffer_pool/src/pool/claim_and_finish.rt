@@ -8,18 +8,13 @@ ghost use Rattle.buffer_pool.specs.working.BetweenCalls.{IsSound, SitsAt};
 ghost use Rattle.buffer_pool.specs.working.Plays.{RestsWith};
 ghost use Rattle.buffer_pool.specs.WorkerLog.{Did};
 
-use crate::layout::{mark_place, mark_word, pair_bits};
+use crate::layout::mark_word;
+use crate::mark_bits::{CLAIMED, FINISHED, mark_place, pair_bits};
 use crate::plays::{Claim, Finish};
 use crate::pool::Pool;
 use crate::rules::{Token, Words};
 use crate::worker::Worker;
 use std::alloc::Allocator;
-
-/// The bits of a claimed object: the low one of its two. A white object has none.
-const CLAIMED: u64 = 1;
-
-/// The bits of a finished object: both.
-const FINISHED: u64 = 3;
 
 /// Raises the mark of an object to claimed: true exactly where it was white. It writes also where the object was
 /// marked: a load in front has no operand, so its play could not know which of the 32 objects is meant.

@@ -5,7 +5,7 @@ ghost use Rattle.buffer_pool.specs.Closing.{IsAtTheEnd, MarksTell};
 
 use crate::layout::mark_word;
 use crate::pool::Pool;
-use crate::pool::marks::Marks;
+use crate::pool::closed_marks::Marks;
 use crate::pool::slots::empty_slots;
 use crate::worker::Worker;
 use std::alloc::Allocator;

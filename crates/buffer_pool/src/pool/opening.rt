@@ -3,7 +3,8 @@ ghost use Rattle.std.specs.Prelude.{◌+◌, ◌<◌, ◌≤◌, IfOk};
 ghost use Rattle.buffer_pool.specs.working.Opening.{HasFirstWords};
 ghost use Rattle.buffer_pool.specs.working.MarkBits.{mark_words};
 
-use crate::layout::{FIRST_LINK, head_word, mark_words};
+use crate::layout::{FIRST_LINK, head_word};
+use crate::mark_bits::mark_words;
 use mark_core::Which;
 use std::alloc::{AllocError, Allocator};
 use tagged_index::HeadWord;

@@ -1,6 +1,6 @@
 -- What the order of the snapshot's records stands for.
 use Rattle.std.specs.Prelude.{Bool, List, None, Option, Some, [], false, replicate, suc, true, ℕ, ◌++◌, ◌∷◌, ◌≡◌}
-use Rattle.hprof_grammar.specs.Record.{CanGoOn, snapshot_tags}
+use Rattle.hprof_grammar.specs.Snapshot.{CanGoOn, snapshot_tags}
 use Rattle.hprof_grammar.specs.declared.snapshot_order.Order.{Order}
 use Rattle.hprof_grammar.specs.declared.snapshot_order.Order.TheVariants.{Before, Ended, Segments, Whole}
 

@@ -1,8 +1,7 @@
 -- Behind segments a dump breaks the order and a segment goes on; behind a whole snapshot no tag of a snapshot may come.
 use Rattle.std.proofs.Common.{[], inl, inr, refl, subst, sym, true, ℕ, ◌++◌, ◌∷◌, ◌≡◌, ◌⊎◌}
 use Rattle.hprof_grammar.specs.working.SnapshotOrder.{IsAt, is_done}
-use Rattle.hprof_grammar.specs.Record.{CanGoOn}
-use Rattle.hprof_grammar.specs.FormatTables.{is_snapshot_tag}
+use Rattle.hprof_grammar.specs.Snapshot.{CanGoOn, is_snapshot_tag}
 use Rattle.hprof_grammar.specs.declared.snapshot_order.Order.{Order}
 use Rattle.hprof_grammar.specs.declared.snapshot_order.Order.TheVariants.{Ended, Segments, Whole}
 use Rattle.hprof_grammar.proofs.SnapshotOrderLaws.{next_segment, no_dump_in_segments, no_more}

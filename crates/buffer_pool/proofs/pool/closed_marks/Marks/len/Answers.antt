@@ -2,7 +2,7 @@
 use Rattle.std.proofs.Common.{sym}
 use Rattle.std.specs.Slots.{slots_items}
 use Rattle.buffer_pool.proofs.Closes.{marks_count}
-use Rattle.buffer_pool.proofs.pool.marks.Marks.len.Goals as goal
+use Rattle.buffer_pool.proofs.pool.closed_marks.Marks.len.Goals as goal
 
 pub returns : goal.returns
 returns g c =

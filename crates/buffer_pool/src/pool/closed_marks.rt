@@ -8,7 +8,7 @@ ghost use Rattle.buffer_pool.specs.working.MarkBits.{mark_of, mark_words, marks_
 ghost use Rattle.buffer_pool.specs.working.Unfinished.{AreFinishedBelow, IsFirstUnfinished};
 
 use crate::buffer::Buffer;
-use crate::layout::mark_place;
+use crate::mark_bits::mark_place;
 use atomic_table::Closed;
 use std::alloc::Allocator;
 use std::marker::Model;

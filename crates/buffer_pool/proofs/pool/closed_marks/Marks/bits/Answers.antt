@@ -2,7 +2,7 @@
 use Rattle.std.proofs.Common.{◌≡◌, ℕ, ◌*◌, ◌/◌, ◌%◌, ◌^◌, bit_and, ap, refl, ◌∙◌}
 use Rattle.std.proofs.lemmas.Nat.{and_mask}
 use Rattle.buffer_pool.proofs.Bits.{pair_read}
-use Rattle.buffer_pool.proofs.pool.marks.Marks.bits.Goals as goal
+use Rattle.buffer_pool.proofs.pool.closed_marks.Marks.bits.Goals as goal
 
 pub returns-clause-mark : goal.returns-clause-mark
 returns-clause-mark g c =

@@ -1,7 +1,7 @@
 -- The first object that is not finished is the first from the object in hand on.
 use Rattle.std.proofs.Common.{◌≡◌, ◌-◌, ◌==◌, length, not, slice_index}
 use Rattle.buffer_pool.proofs.Finding.{first_from}
-use Rattle.buffer_pool.proofs.pool.marks.Marks.next_unfinished.Given as goal
+use Rattle.buffer_pool.proofs.pool.closed_marks.Marks.next_unfinished.Given as goal
 
 abbrev pub decreases-loop-object : goal.decreases-loop-object
 decreases-loop-object g l = length l.self - l.object

@@ -2,7 +2,7 @@
 use Rattle.std.proofs.Common.{◌/◌, ap, sym, ◌∙◌, arith, List, ℕ, slice_index}
 use Rattle.std.specs.Slots.{slots_items, slots_small}
 use Rattle.buffer_pool.proofs.Closes.{mark_there, object_below}
-use Rattle.buffer_pool.proofs.pool.marks.Marks.word_of.Goals as goal
+use Rattle.buffer_pool.proofs.pool.closed_marks.Marks.word_of.Goals as goal
 
 pub overflow_add-self-inside : goal.overflow_add-self-inside
 overflow_add-self-inside g c =

@@ -2,7 +2,7 @@
 use Rattle.std.proofs.Common.{◌≡◌, ◌≢◌, ◌<◌, ◌≤◌, ◌==◌, ◌∙◌, ℕ, Bool, List, true, false, length, not, slice_index}
 use Rattle.std.proofs.Common.{ap, sym, arith, eq-eqb, ne_eqb}
 use Rattle.buffer_pool.proofs.Finding.{finds, finds_none, skips_to}
-use Rattle.buffer_pool.proofs.pool.marks.Marks.next_unfinished.Goals as goal
+use Rattle.buffer_pool.proofs.pool.closed_marks.Marks.next_unfinished.Goals as goal
 
 -- whether an object is not finished
 abbrev unfinished : List ℕ → ℕ → Bool

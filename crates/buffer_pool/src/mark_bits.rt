@@ -1,0 +1,34 @@
+//! The two bits of an object's mark, 32 objects to a word.
+
+ghost use Rattle.std.specs.Prelude.{◌≡◌, ◌*◌, ◌%◌, ◌<◌};
+ghost use Rattle.buffer_pool.specs.working.MarkBits.{mark_words, pair_bits};
+
+/// The bits of a claimed object: the low one of its two. A white object has none.
+pub(crate) const CLAIMED: u64 = 1;
+
+/// The bits of a finished object: both.
+pub(crate) const FINISHED: u64 = 3;
+
+/// How many words the marks of so many objects take: 32 objects to a word.
+pub(crate) fn mark_words(objects: u32) -> usize
+    ensures { result ≡ mark_words objects }
+{
+    (objects as usize + 31) / 32
+}
+
+/// Where the two bits of an object begin in its word.
+pub(crate) fn mark_place(object: u32) -> u32
+    ensures value { result ≡ 2 * (object % 32) }
+    ensures small { result < 63 }
+{
+    2 * (object % 32)
+}
+
+/// These two bits, shifted to the place of an object in its word.
+#[tactic(auto, using(crate::proofs::Bits::bits_fit))]
+pub(crate) fn pair_bits(bits: u64, object: u32) -> u64
+    requires { bits < 4 }
+    ensures { result ≡ pair_bits bits object }
+{
+    bits << mark_place(object)
+}

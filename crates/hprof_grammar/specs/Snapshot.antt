@@ -1,0 +1,22 @@
+-- The rule of one snapshot: which records make it, and in what order they may stand.
+use Rattle.std.specs.Prelude.{Bool, List, [], filter, replicate, suc, ℕ, ◌++◌, ◌==◌, ◌||◌, ◌∷◌, ◌≡◌, ◌⊎◌}
+
+-- the tags of the records that make a snapshot: those, and HEAP DUMP END
+abbrev pub is_snapshot_tag : ℕ → Bool
+is_snapshot_tag tag = (tag == 0x0C) || (tag == 0x1C) || (tag == 0x2C)
+
+-- The tags of a snapshot's records: one heap dump, or one or more segments and then one end.
+abbrev pub IsSnapshot : List ℕ → Type 0
+IsSnapshot tags = (tags ≡ 0x0C ∷ []) ⊎ ((n : ℕ) × (tags ≡ replicate (suc n) 0x1C ++ 0x2C ∷ []))
+
+-- The tags that make the snapshot, in their order; the rule speaks of these alone.
+abbrev pub snapshot_tags : List ℕ → List ℕ
+snapshot_tags tags = filter is_snapshot_tag tags
+
+-- The records keep the snapshot rule.
+abbrev pub IsOrderly : List ℕ → Type 0
+IsOrderly tags = IsSnapshot (snapshot_tags tags)
+
+-- more records can make it so
+abbrev pub CanGoOn : List ℕ → Type 0
+CanGoOn tags = (more : List ℕ) × IsOrderly (tags ++ more)
