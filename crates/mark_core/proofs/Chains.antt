@@ -1,9 +1,11 @@
 -- The list that the links give from an index on.
-use Rattle.std.proofs.Common.{◌≡◌, ◌⊎◌, ℕ, ◌<◌, List, [], ◌∷◌, Option, Some, None, ap, sym, refl, subst, ◌∙◌, inl, inr}
+use Rattle.std.proofs.Common.{◌≡◌, ℕ, ◌<◌, List, [], ◌∷◌, Option, Some, None, ap, sym, refl, subst, ◌∙◌, inl, inr, ⊎_elim}
 use Rattle.std.proofs.Common.{arith}
 use Rattle.tagged_index.specs.Head.{Head, after}
+use Rattle.mark_core.specs.declared.which.Which.{Which}
+use Rattle.mark_core.specs.declared.which.Which.TheVariants.{Full, Empty}
 use Rattle.mark_core.specs.Lists.{times}
-use Rattle.mark_core.specs.Account.{Look, blank}
+use Rattle.mark_core.specs.Account.{Account, Look, blank, look_of}
 use Rattle.mark_core.specs.Ownership.{Chain, IsRecent}
 use Rattle.mark_core.proofs.Sums.{only-same}
 
@@ -46,8 +48,14 @@ pub chain_more : (link : ℕ → Option ℕ) (n : Option ℕ) (xs : List ℕ) (i
 chain_more link n xs i c e = (refl, subst (λ m. Chain link m xs) (sym e) c)
 
 -- nothing was loaded
-pub recent_blank : (link : ℕ → Option ℕ) (now : Head) → IsRecent link now blank
+recent_blank : (link : ℕ → Option ℕ) (now : Head) → IsRecent link now blank
 recent_blank link now h e = let f : ⊥ = cc in absurd f
+
+-- an account that loaded nothing of either stack
+pub recent_bare : (link : ℕ → Option ℕ) (head : Which → Head) (x : Account) → x.full ≡ blank → x.empty ≡ blank
+    → (q : Which) → IsRecent link (head q) (look_of x q)
+recent_bare link head x full empty Full = rw full (recent_blank link (head Full))
+recent_bare link head x full empty Empty = rw empty (recent_blank link (head Empty))
 
 -- the head itself was loaded
 pub recent_loaded : (link : ℕ → Option ℕ) (now : Head) → IsRecent link now (record { head = Some now; link = None })
@@ -57,53 +65,27 @@ recent_loaded link now h e = inr ((let s : now ≡ h = cc in s), (λ i l n k. le
 pub recent_linked : (link : ℕ → Option ℕ) (now g : Head) (i : ℕ) (old : Option (Option ℕ)) → g.index ≡ Some i
     → IsRecent link now (record { head = Some g; link = old })
     → IsRecent link now (record { head = Some g; link = Some (link i) })
-recent_linked link now g i old top r h e = go (r h e)
-  where
-    go : (h.tag < now.tag) ⊎ ((now ≡ h) × ((j : ℕ) (l : Option ℕ) → h.index ≡ Some j → old ≡ Some l → link j ≡ l))
-        → (h.tag < now.tag)
-        ⊎ ((now ≡ h) × ((j : ℕ) (l : Option ℕ) → h.index ≡ Some j → Some (link i) ≡ Some l → link j ≡ l))
-    go (inl p) = inl p
-    go (inr p) = inr (
+recent_linked link now g i old top r h e =
+    ⊎_elim inl (λ p. inr (
       p.0,
       (λ j l n k. let s : g ≡ h = cc in let t : g.index ≡ h.index = ap (λ (x : Head). x.index) s
           in let u : i ≡ j = cc in let v : link i ≡ l = cc in sym (ap link u) ∙ v),
-    )
+    )) (r h e)
 
 -- after the head changed, whatever was loaded is outdated by its tag
 pub recent_after : (link : ℕ → Option ℕ) (now : Head) (look : Look) (i : Option ℕ) → IsRecent link now look
     → IsRecent link (after now i) look
-recent_after link now look i r h e = go (r h e)
-  where
-    go : (h.tag < now.tag)
-        ⊎ ((now ≡ h) × ((j : ℕ) (l : Option ℕ) → h.index ≡ Some j → look.link ≡ Some l → link j ≡ l))
-        → (h.tag < (after now i).tag)
-        ⊎ ((after now i ≡ h) × ((j : ℕ) (l : Option ℕ) → h.index ≡ Some j → look.link ≡ Some l → link j ≡ l))
-    go (inl p) = inl (omega arith)
-    go (inr p) = let t : now.tag ≡ h.tag = ap (λ (x : Head). x.tag) p.0 in inl (omega arith)
+recent_after link now look i r h e =
+    ⊎_elim (λ p. inl (omega arith))
+    (λ p. let t : now.tag ≡ h.tag = ap (λ (x : Head). x.tag) p.0 in inl (omega arith)) (r h e)
 
 -- other links change nothing that was loaded
 pub recent_links : (link new : ℕ → Option ℕ) (now : Head) (look : Look)
     → ((i : ℕ) → now.index ≡ Some i → new i ≡ link i) → IsRecent link now look → IsRecent new now look
-recent_links link new now look same r h e = go (r h e)
-  where
-    go : (h.tag < now.tag)
-        ⊎ ((now ≡ h) × ((j : ℕ) (l : Option ℕ) → h.index ≡ Some j → look.link ≡ Some l → link j ≡ l))
-        → (h.tag < now.tag)
-        ⊎ ((now ≡ h) × ((j : ℕ) (l : Option ℕ) → h.index ≡ Some j → look.link ≡ Some l → new j ≡ l))
-    go (inl p) = inl p
-    go (inr p) = inr (
-      p.0,
-      (λ j l n k. let t : now.index ≡ h.index = ap (λ (x : Head). x.index) p.0 in
-          same j (t ∙ n) ∙ p.1 j l n k),
-    )
+recent_links link new now look same r h e =
+    ⊎_elim inl (λ p. inr (p.0, (λ j l n k. same j (ap (λ (x : Head). x.index) p.0 ∙ n) ∙ p.1 j l n k))) (r h e)
 
 -- the link that was loaded of the head that stands is the one that stands
 pub recent_link : (link : ℕ → Option ℕ) (now : Head) (look : Look) (i : ℕ) (l : Option ℕ) → IsRecent link now look
     → look.head ≡ Some now → now.index ≡ Some i → look.link ≡ Some l → link i ≡ l
-recent_link link now look i l r e n k = go (r now e)
-  where
-    go : (now.tag < now.tag)
-        ⊎ ((now ≡ now) × ((j : ℕ) (m : Option ℕ) → now.index ≡ Some j → look.link ≡ Some m → link j ≡ m))
-        → link i ≡ l
-    go (inl p) = absurd (omega arith)
-    go (inr p) = p.1 i l n k
+recent_link link now look i l r e n k = ⊎_elim (λ p. absurd (omega arith)) (λ p. p.1 i l n k) (r now e)

@@ -1,19 +1,20 @@
 -- What an event leaves of the two lists, of the tags and of the marks.
-use Rattle.std.proofs.Common.{◌≡◌, ◌≢◌, ◌⊎◌, ℕ, ◌+◌, List, ◌∷◌, Option, Some, None, ap, sym, refl, subst, ◌∙◌, inl, inr}
+use Rattle.std.proofs.Common.{◌≡◌, ◌≢◌, ◌⊎◌, ℕ, ◌+◌, List, ◌∷◌, Option, Some, ap, sym, refl, subst, ◌∙◌, inl, inr}
 use Rattle.std.proofs.Common.{◌<◌, ◌≤◌, max, arith}
 use native.Mathlib.Decide.{ℕ_discrete}
 use Rattle.tagged_index.specs.Head.{Head, after}
 use Rattle.mark_core.specs.declared.which.Which.{Which}
 use Rattle.mark_core.specs.declared.which.Which.TheVariants.{Full, Empty}
 use Rattle.mark_core.specs.Lists.{times}
-use Rattle.mark_core.specs.Account.{Account, look_of, no_share}
+use Rattle.mark_core.specs.Account.{Account, look_of}
 use Rattle.mark_core.specs.World.{Setup, Marking, account_at, IsThere, put, put_which}
-use Rattle.mark_core.specs.Events.{Kind, Claim, Finish, Split, Join, Load, LoadLink, StoreLink, Pop, Push, Fail, IdleUp}
-use Rattle.mark_core.specs.Events.{IdleDown, LoadIdle, Allows, effect, stack_popped}
+use Rattle.mark_core.specs.Events.{Kind, Claim, Finish, StoreLink, Pop, Push}
+use Rattle.mark_core.specs.Events.{Allows, effect, stack_popped}
 use Rattle.mark_core.specs.Ownership.{Chain}
 use Rattle.mark_core.specs.Law.{Law}
 use Rattle.mark_core.specs.Runs.{IsListOf, Changes, StacksChange, TagsRise, PopsFindLinks, MarksRise}
-use Rattle.mark_core.proofs.Places.{at_get_or, put_here, put_else, put_one}
+use Rattle.mark_core.proofs.Places.{put_here, put_else, put_one}
+use Rattle.mark_core.proofs.Happens.{happens_as, pops_as}
 use Rattle.mark_core.proofs.Sums.{stands_times}
 use Rattle.mark_core.proofs.Chains.{chain_one, chain_links, chain_rest, chain_more, recent_link}
 use Rattle.mark_core.proofs.Ownership.{held_apart}
@@ -26,12 +27,10 @@ exchanged :
     → (p ≡ q → new ≡ list) × (p ≢ q → new ≡ old)
 exchanged link head Full Full h old new list c d n =
     ((λ e. chain_one link h.index new list n d), (λ k. absurd (k refl)))
-exchanged link head Full Empty h old new list c d n =
-    ((λ e. let f : ⊥ = cc in absurd f), (λ k. chain_one link (head Empty).index new old n c))
-exchanged link head Empty Full h old new list c d n =
-    ((λ e. let f : ⊥ = cc in absurd f), (λ k. chain_one link (head Full).index new old n c))
 exchanged link head Empty Empty h old new list c d n =
     ((λ e. chain_one link h.index new list n d), (λ k. absurd (k refl)))
+exchanged link head p q h old new list c d n =
+    ((λ e. let f : ⊥ = cc in absurd f), (λ k. chain_one link (head q).index new old n c))
 
 module _ (e : Setup) (m : Marking) (law : Law e m) (w : ℕ) (a : Account) (there : IsThere m.accounts w a) where
   -- after a pop: the rest of the stack, whose list this was
@@ -99,28 +98,17 @@ module _ (e : Setup) (m : Marking) (law : Law e m) (w : ℕ) (a : Account) (ther
 
   pub effect_changes : (kind : Kind) → Allows e m w a kind → (q : Which) (old new : List ℕ) → IsListOf m q old
       → IsListOf (effect m w a kind) q new → Changes q kind old new
-  effect_changes (Claim o) can q old new c n = chain_one m.link (m.head q).index new old n c
-  effect_changes (Finish o) can q old new c n = chain_one m.link (m.head q).index new old n c
-  effect_changes (Split units) can q old new c n = chain_one m.link (m.head q).index new old n c
-  effect_changes (Join v) can q old new c n = chain_one m.link (m.head q).index new old n c
-  effect_changes (Load p) can q old new c n = chain_one m.link (m.head q).index new old n c
-  effect_changes (LoadLink p) can q old new c n = chain_one m.link (m.head q).index new old n c
   effect_changes (StoreLink i l) can q old new c n = store_leaves q i l (stands_times a.held i can) old new c n
   effect_changes (Pop p) can q old new c n =
       pop_takes p q can.0.1.0 can.0.2.0 can.0.0.0 can.0.1.1 can.0.2.1 old new c
-      (subst (λ k. IsListOf (stack_popped m w a p (Some can.0.1.0) k) q new) can.0.2.1
-      (subst (λ x. IsListOf (stack_popped m w a p x (look_of a p).link) q new) can.0.1.1 n))
+      (subst (λ n. IsListOf n q new) (pops_as m w a p can.0) n)
   effect_changes (Push p i items) can q old new c n = push_puts p q i can.2 old new c n
-  effect_changes (Fail p) can q old new c n = chain_one m.link (m.head q).index new old n c
-  effect_changes IdleUp can q old new c n = chain_one m.link (m.head q).index new old n c
-  effect_changes IdleDown can q old new c n = chain_one m.link (m.head q).index new old n c
-  effect_changes LoadIdle can q old new c n = chain_one m.link (m.head q).index new old n c
+  effect_changes _ can q old new c n = chain_one m.link (m.head q).index new old n c
 
 pub stacks_change : StacksChange
 stacks_change e m event law can q old new c n =
     effect_changes e m law event.worker can.0 can.1 event.kind can.2 q old new c
-    (subst (λ x. IsListOf (effect m event.worker x event.kind) q new)
-    (at_get_or m.accounts event.worker can.0 no_share can.1.0) n)
+    (subst (λ n. IsListOf n q new) (happens_as e m event can) n)
 
 -- the head that an exchange writes has the next tag
 tag_after : (m : Marking) (p q : Which) (i : Option ℕ) → (put_which p (after (m.head p) i) m.head q ≡ m.head q)
@@ -130,25 +118,14 @@ tag_after m p q i = put_one (λ r h. (h ≡ m.head r) ⊎ (h.tag ≡ (m.head r).
 
 effect_rises : (m : Marking) (w : ℕ) (a : Account) (kind : Kind) (q : Which) → ((effect m w a kind).head q ≡ m.head q)
     ⊎ (((effect m w a kind).head q).tag ≡ (m.head q).tag + 1)
-effect_rises m w a (Claim o) q = inl refl
-effect_rises m w a (Finish o) q = inl refl
-effect_rises m w a (Split units) q = inl refl
-effect_rises m w a (Join v) q = inl refl
-effect_rises m w a (Load p) q = inl refl
-effect_rises m w a (LoadLink p) q = inl refl
-effect_rises m w a (StoreLink i l) q = inl refl
 effect_rises m w a (Pop p) q = go (m.head p).index (look_of a p).link
   where
     go : (x : Option ℕ) (k : Option (Option ℕ)) → ((stack_popped m w a p x k).head q ≡ m.head q)
         ⊎ (((stack_popped m w a p x k).head q).tag ≡ (m.head q).tag + 1)
     go (Some i) (Some l) = tag_after m p q l
-    go (Some i) None = inl refl
-    go None k = inl refl
+    go _ _ = inl refl
 effect_rises m w a (Push p i items) q = tag_after m p q (Some i)
-effect_rises m w a (Fail p) q = inl refl
-effect_rises m w a IdleUp q = inl refl
-effect_rises m w a IdleDown q = inl refl
-effect_rises m w a LoadIdle q = inl refl
+effect_rises m w a _ q = inl refl
 
 pub tags_rise : TagsRise
 tags_rise m event q = effect_rises m event.worker (account_at m.accounts event.worker) event.kind q
@@ -171,25 +148,14 @@ effect_marks e m law w a there (Claim p) can o = put_rises m.mark p (max (m.mark
 effect_marks e m law w a there (Finish p) can o =
     let was = charged e m.mark m.slots m.accounts law.coloured w a there.0 p (stands_times a.charge p can.0) in
     put_rises m.mark p 2 (omega (arith, was.0)) o
-effect_marks e m law w a there (Split units) can o = omega arith
-effect_marks e m law w a there (Join v) can o = omega arith
-effect_marks e m law w a there (Load p) can o = omega arith
-effect_marks e m law w a there (LoadLink p) can o = omega arith
-effect_marks e m law w a there (StoreLink i l) can o = omega arith
 effect_marks e m law w a there (Pop p) can o = go (m.head p).index (look_of a p).link
   where
     go : (x : Option ℕ) (k : Option (Option ℕ)) → m.mark o ≤ (stack_popped m w a p x k).mark o
     go (Some i) (Some l) = omega arith
-    go (Some i) None = omega arith
-    go None k = omega arith
-effect_marks e m law w a there (Push p i items) can o = omega arith
-effect_marks e m law w a there (Fail p) can o = omega arith
-effect_marks e m law w a there IdleUp can o = omega arith
-effect_marks e m law w a there IdleDown can o = omega arith
-effect_marks e m law w a there LoadIdle can o = omega arith
+    go _ _ = omega arith
+effect_marks e m law w a there _ can o = omega arith
 
 pub marks_rise : MarksRise
 marks_rise e m event law can o =
-    subst (λ x. m.mark o ≤ (effect m event.worker x event.kind).mark o)
-    (sym (at_get_or m.accounts event.worker can.0 no_share can.1.0))
+    subst (λ n. m.mark o ≤ n.mark o) (sym (happens_as e m event can))
     (effect_marks e m law event.worker can.0 can.1 event.kind can.2 o)

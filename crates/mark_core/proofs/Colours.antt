@@ -7,7 +7,7 @@ use Rattle.mark_core.specs.Lists.{StandsAt, times, only, IsPart}
 use Rattle.mark_core.specs.Account.{Account, part, no_share, after_join, after_pop, after_push}
 use Rattle.mark_core.specs.World.{Setup, items_of, put}
 use Rattle.mark_core.specs.Colours.{IsColoured, HasColour, IsReachableIn, stacked_times, charged_times, finished_times}
-use Rattle.mark_core.proofs.Places.{at_set, at_push, set_else, put_here, put_else}
+use Rattle.mark_core.proofs.Places.{OfEach, set_all, push_all, set_else, put_here, put_else}
 use Rattle.mark_core.proofs.Sums.{sum_of-set, sum_of-append, term_le, times-without, stands_append, stands_times}
 
 -- the three cases in linear form, and back
@@ -40,6 +40,10 @@ module _ (e : Setup) (mark : ℕ → ℕ) (slots : List (Option (List ℕ))) (ac
       let l = term_le (λ (x : Account). times o x.charge) accounts w a is in
       (omega arith, omega arith, omega arith, omega arith)
 
+-- what the account saw is marked
+abbrev HasSeen : (ℕ → ℕ) → Account → Type 0
+HasSeen mark a = (o : ℕ) → Contains a.seen o → 1 ≤ mark o
+
 module _ {e : Setup} {mark : ℕ → ℕ} {slots : List (Option (List ℕ))} {accounts : List Account}
     (c : IsColoured e mark slots accounts) where
   -- other slots and accounts, in which each object stands as often as before
@@ -48,8 +52,7 @@ module _ {e : Setup} {mark : ℕ → ℕ} {slots : List (Option (List ℕ))} {ac
       → ((o : ℕ) → stacked_times o slots' + charged_times o accounts'
       ≡ stacked_times o slots + charged_times o accounts)
       → ((o : ℕ) → finished_times o accounts' ≡ finished_times o accounts)
-      → ((w : ℕ) (a : Account) → StandsAt accounts' w a → (o : ℕ) → Contains a.seen o → 1 ≤ mark o)
-      → IsColoured e mark slots' accounts'
+      → OfEach (HasSeen mark) accounts' → IsColoured e mark slots' accounts'
   coloured_recount slots' accounts' working done saw =
       record { colours = colours; closed = c.closed; reachable = c.reachable; saw = saw }
     where
@@ -112,16 +115,7 @@ module _ {e : Setup} {mark : ℕ → ℕ} {slots : List (Option (List ℕ))} {ac
       coloured_recount slots (accounts ++ part units ∷ [])
       (λ o. omega (arith, sum_of-append (λ (x : Account). times o x.charge) accounts (part units ∷ [])))
       (λ o. omega (arith, sum_of-append (λ (x : Account). times o x.finished) accounts (part units ∷ [])))
-      saw
-    where
-      saw : (v : ℕ) (x : Account) → StandsAt (accounts ++ part units ∷ []) v x → (o : ℕ) → Contains x.seen o
-          → 1 ≤ mark o
-      saw v x at o k = go (at_push accounts (part units) x v at)
-        where
-          go : StandsAt accounts v x ⊎ (part units ≡ x) → 1 ≤ mark o
-          go (inl p) = c.saw v x p o k
-          go (inr p) = let none : Contains [] o = subst (λ (y : Account). Contains y.seen o) (sym p) k in
-              absurd (omega (arith, none.1))
+      (push_all (HasSeen mark) accounts (part units) c.saw (λ o k. absurd (omega (arith, k.1))))
 
   module _ (w : ℕ) (a : Account) (is : StandsAt accounts w a) where
     pub reachable_next : (p o : ℕ) → Contains a.charge p → Contains e.pairs (p, o) → IsReachableIn e o
@@ -130,17 +124,9 @@ module _ {e : Setup} {mark : ℕ → ℕ} {slots : List (Option (List ℕ))} {ac
         let r = c.reachable p (omega (arith, once)) in
         (p ∷ r.0, (pair, r.1))
 
-    saw_set : (b : Account) → ((o : ℕ) → Contains b.seen o → 1 ≤ mark o) → (v : ℕ) (x : Account)
-        → StandsAt (set accounts w b) v x → (o : ℕ) → Contains x.seen o → 1 ≤ mark o
-    saw_set b new v x at o k = go (at_set accounts w v b x at)
-      where
-        go : ((v ≡ w) × (b ≡ x)) ⊎ ((v ≢ w) × StandsAt accounts v x) → 1 ≤ mark o
-        go (inl p) = new o (subst (λ (y : Account). Contains y.seen o) (sym p.1) k)
-        go (inr p) = c.saw v x p.1 o k
-
-    keeps_seen : (b : Account) → b.seen ≡ a.seen → (v : ℕ) (x : Account) → StandsAt (set accounts w b) v x → (o : ℕ)
-        → Contains x.seen o → 1 ≤ mark o
-    keeps_seen b same = saw_set b (λ o k. c.saw w a is o (subst (λ xs. Contains xs o) same k))
+    keeps_seen : (b : Account) → b.seen ≡ a.seen → OfEach (HasSeen mark) (set accounts w b)
+    keeps_seen b same =
+        set_all (HasSeen mark) accounts w b c.saw (λ o k. c.saw w a is o (subst (λ xs. Contains xs o) same k))
 
     -- the account changes in nothing that the colours read
     pub coloured_same : (b : Account) → b.charge ≡ a.charge → b.finished ≡ a.finished → b.seen ≡ a.seen
@@ -210,14 +196,9 @@ module _ {e : Setup} {mark : ℕ → ℕ} {slots : List (Option (List ℕ))} {ac
         still : StandsAt (set accounts w both) v b
         still = set_else accounts w v both apart ∙ at
 
-        mine : (o : ℕ) → Contains (a.seen ++ b.seen) o → 1 ≤ mark o
+        mine : HasSeen mark both
         mine o k = ⊎_elim (c.saw w a is o) (c.saw v b at o) (stands_append a.seen b.seen o k)
 
-        saw : (u : ℕ) (x : Account) → StandsAt (set (set accounts w both) v no_share) u x → (o : ℕ)
-            → Contains x.seen o → 1 ≤ mark o
-        saw u x s o k = go (at_set (set accounts w both) v u no_share x s)
-          where
-            go : ((u ≡ v) × (no_share ≡ x)) ⊎ ((u ≢ v) × StandsAt (set accounts w both) u x) → 1 ≤ mark o
-            go (inl p) = let none : Contains [] o = subst (λ (y : Account). Contains y.seen o) (sym p.1) k in
-                absurd (omega (arith, none.1))
-            go (inr p) = saw_set both mine u x p.1 o k
+        saw : OfEach (HasSeen mark) (set (set accounts w both) v no_share)
+        saw = set_all (HasSeen mark) (set accounts w both) v no_share (set_all (HasSeen mark) accounts w both c.saw mine)
+            (λ o k. absurd (omega (arith, k.1)))

@@ -1,22 +1,21 @@
 -- Between a load and a failed exchange of one worker another one exchanged that head: else the head is the one loaded,
 -- or the worker was taken in.
-use Rattle.std.proofs.Common.{◌≡◌, ◌≢◌, ◌⊎◌, ℕ, suc, List, [], ◌∷◌, ◌++◌, Option, Some, None, set, slice_index_or, ap}
+use Rattle.std.proofs.Common.{◌≡◌, ◌≢◌, ◌⊎◌, ℕ, suc, List, [], ◌∷◌, ◌++◌, Option, Some, set, ap}
 use Rattle.std.proofs.Common.{sym, refl, subst, ◌∙◌, inl, inr, ⊎_elim, arith}
 use native.Mathlib.Decide.{ℕ_discrete}
 use Rattle.tagged_index.specs.Head.{Head, after}
 use Rattle.mark_core.specs.declared.which.Which.{Which}
 use Rattle.mark_core.specs.declared.which.Which.TheVariants.{Full, Empty}
 use Rattle.mark_core.specs.Lists.{StandsAt}
-use Rattle.mark_core.specs.Account.{Account, look_of, part, no_share, after_claim, after_finish, after_split}
-use Rattle.mark_core.specs.Account.{after_join, after_load, after_load_link, after_pop, after_push, after_idle_up}
-use Rattle.mark_core.specs.Account.{after_idle_down, after_load_idle}
-use Rattle.mark_core.specs.World.{Setup, Marking, account_at, items_of, put_which}
-use Rattle.mark_core.specs.Events.{Kind, Claim, Finish, Split, Join, Load, LoadLink, StoreLink, Pop, Push, Fail, IdleUp}
-use Rattle.mark_core.specs.Events.{IdleDown, LoadIdle, Event, Allows, IsPossible, effect, happens, stack_popped}
-use Rattle.mark_core.specs.Events.{last_link}
+use Rattle.mark_core.specs.Account.{Account, look_of, part, no_share, after_split}
+use Rattle.mark_core.specs.Account.{after_join, after_load}
+use Rattle.mark_core.specs.World.{Setup, Marking, account_at, put_which}
+use Rattle.mark_core.specs.Events.{Kind, Split, Join, Load, LoadLink, StoreLink, Pop, Push, Fail}
+use Rattle.mark_core.specs.Events.{Event, Allows, IsPossible, effect, happens, stack_popped}
 use Rattle.mark_core.specs.Runs.{Run}
 use Rattle.mark_core.specs.Conclusions.{Exchanges, LossesAreContested}
-use Rattle.mark_core.proofs.Places.{at_get_or, at_longer, at_one, set_else, set_here}
+use Rattle.mark_core.proofs.Places.{at_longer, at_one, set_else, set_here}
+use Rattle.mark_core.proofs.Happens.{happens_as}
 
 -- the account has loaded the head that the stack has, or it was taken in
 abbrev Knows : Which → ℕ → Marking → Type 0
@@ -25,41 +24,28 @@ Knows q w m = (a : Account) × StandsAt m.accounts w a × ((a.share ≡ 0) ⊎ (
 -- a head beside the one that is exchanged
 head_beside : (p q : Which) (x : Head) (f : Which → Head) → (p ≡ q → ⊥) → put_which p x f q ≡ f q
 head_beside Full Full x f other = absurd (other refl)
-head_beside Full Empty x f other = refl
-head_beside Empty Full x f other = refl
 head_beside Empty Empty x f other = absurd (other refl)
+head_beside _ _ x f other = refl
 
 popped_head :
     (m : Marking) (w : ℕ) (a : Account) (p q : Which) (x : Option ℕ) (y : Option (Option ℕ)) → (p ≡ q → ⊥)
     → (stack_popped m w a p x y).head q ≡ m.head q
-popped_head m w a p q None y other = refl
-popped_head m w a p q (Some i) None other = refl
 popped_head m w a p q (Some i) (Some l) other = head_beside p q (after (m.head p) l) m.head other
+popped_head m w a p q _ _ other = refl
 
 head_kept :
     (m : Marking) (w : ℕ) (a : Account) (kind : Kind) (q : Which) → (Exchanges q kind → ⊥)
     → (effect m w a kind).head q ≡ m.head q
-head_kept m w a (Claim o) q other = refl
-head_kept m w a (Finish o) q other = refl
-head_kept m w a (Split units) q other = refl
-head_kept m w a (Join v) q other = refl
-head_kept m w a (Load p) q other = refl
-head_kept m w a (LoadLink p) q other = refl
-head_kept m w a (StoreLink i l) q other = refl
 head_kept m w a (Pop p) q other = popped_head m w a p q (m.head p).index (look_of a p).link other
 head_kept m w a (Push p i items) q other = head_beside p q (after (m.head p) (Some i)) m.head other
-head_kept m w a (Fail p) q other = refl
-head_kept m w a IdleUp q other = refl
-head_kept m w a IdleDown q other = refl
-head_kept m w a LoadIdle q other = refl
+head_kept m w a _ q other = refl
 
 -- what an account loaded of a stack, after it loaded a head of another
 look_load :
     (p q : Which) (h : Head) (a : Account) → (p ≡ q → ⊥) → (look_of (after_load p h a) q).head ≡ (look_of a q).head
 look_load Full Full h a other = absurd (other refl)
-look_load Full Empty h a other = refl
-look_load Empty Full h a other = refl
 look_load Empty Empty h a other = absurd (other refl)
+look_load _ _ h a other = refl
 
 -- and where it has loaded the same heads of both
 same_look :
@@ -84,14 +70,10 @@ module _ (m : Marking) (w : ℕ) (a : Account) (at : StandsAt m.accounts w a) (q
   still_both b full empty = still_set b (same_look q a b full empty)
 
   popped_still : (p : Which) (x : Option ℕ) (y : Option (Option ℕ)) → Still (stack_popped m w a p x y)
-  popped_still p None y = (a, at, refl)
-  popped_still p (Some i) None = (a, at, refl)
-  popped_still p (Some i) (Some l) =
-      still_both (after_pop i (items_of (slice_index_or m.slots i None)) a) refl refl
+  popped_still p (Some i) (Some l) = still_both _ refl refl
+  popped_still p _ _ = (a, at, refl)
 
   own_still : (e : Setup) (kind : Kind) → Allows e m w a kind → (kind ≡ Load q → ⊥) → Still (effect m w a kind)
-  own_still e (Claim o) can other = still_both (after_claim o (m.mark o) a) refl refl
-  own_still e (Finish o) can other = still_both (after_finish o a) refl refl
   own_still e (Split units) can other =
       let here = still_both (after_split units a) refl refl in
       (here.0, at_longer (set m.accounts w (after_split units a)) (part units ∷ []) w here.0 here.1, here.2)
@@ -101,17 +83,11 @@ module _ (m : Marking) (w : ℕ) (a : Account) (at : StandsAt m.accounts w a) (q
       (here.0, set_else (set m.accounts w both) v w no_share (λ same. can.0 (sym same)) ∙ here.1, here.2)
   own_still e (Load p) can other =
       still_set (after_load p (m.head p) a) (look_load p q (m.head p) a (λ same. other (ap Load same)))
-  own_still e (LoadLink Full) can other =
-      still_both (after_load_link Full (last_link m.link a.full.head) a) refl refl
-  own_still e (LoadLink Empty) can other =
-      still_both (after_load_link Empty (last_link m.link a.empty.head) a) refl refl
+  own_still e (LoadLink Full) can other = still_both _ refl refl
   own_still e (StoreLink i l) can other = (a, at, refl)
   own_still e (Pop p) can other = popped_still p (m.head p).index (look_of a p).link
-  own_still e (Push p i items) can other = still_both (after_push p i items a) refl refl
   own_still e (Fail p) can other = (a, at, refl)
-  own_still e IdleUp can other = still_both (after_idle_up a) refl refl
-  own_still e IdleDown can other = still_both (after_idle_down a) refl refl
-  own_still e LoadIdle can other = still_both (after_load_idle m.idle a) refl refl
+  own_still e _ can other = still_both _ refl refl
 
   -- it after another's event: as it was, or taken in
   abbrev Left : Marking → Type 0
@@ -123,9 +99,8 @@ module _ (m : Marking) (w : ℕ) (a : Account) (at : StandsAt m.accounts w a) (q
   popped_left :
       (u : ℕ) (b : Account) → w ≢ u → (p : Which) (x : Option ℕ) (y : Option (Option ℕ))
       → Left (stack_popped m u b p x y)
-  popped_left u b apart p None y = inl at
-  popped_left u b apart p (Some i) None = inl at
   popped_left u b apart p (Some i) (Some l) = inl (beside u _ apart)
+  popped_left u b apart p _ _ = inl at
 
   join_left :
       (u v : ℕ) (b : Account) → w ≢ u → Dec (w ≡ v)
@@ -136,42 +111,23 @@ module _ (m : Marking) (w : ℕ) (a : Account) (at : StandsAt m.accounts w a) (q
   join_left u v b apart (no other) = inl (set_else (set m.accounts u b) v w no_share other ∙ beside u b apart)
 
   others_left : (u : ℕ) (b : Account) (kind : Kind) → w ≢ u → Left (effect m u b kind)
-  others_left u b (Claim o) apart = inl (beside u (after_claim o (m.mark o) b) apart)
-  others_left u b (Finish o) apart = inl (beside u (after_finish o b) apart)
   others_left u b (Split units) apart =
-      inl (at_longer (set m.accounts u (after_split units b)) (part units ∷ []) w a
-      (beside u (after_split units b) apart))
+      inl (at_longer (set m.accounts u (after_split units b)) (part units ∷ []) w a (beside u _ apart))
   others_left u b (Join v) apart = join_left u v (after_join b (account_at m.accounts v)) apart (ℕ_discrete w v)
-  others_left u b (Load p) apart = inl (beside u (after_load p (m.head p) b) apart)
-  others_left u b (LoadLink p) apart = inl (beside u (after_load_link p (last_link m.link (look_of b p).head) b) apart)
   others_left u b (StoreLink i l) apart = inl at
   others_left u b (Pop p) apart = popped_left u b apart p (m.head p).index (look_of b p).link
-  others_left u b (Push p i items) apart = inl (beside u (after_push p i items b) apart)
   others_left u b (Fail p) apart = inl at
-  others_left u b IdleUp apart = inl (beside u (after_idle_up b) apart)
-  others_left u b IdleDown apart = inl (beside u (after_idle_down b) apart)
-  others_left u b LoadIdle apart = inl (beside u (after_load_idle m.idle b) apart)
+  others_left u b _ apart = inl (beside u _ apart)
 
 dec_which : (p q : Which) → Dec (p ≡ q)
 dec_which Full Full = yes refl
-dec_which Full Empty = no (λ e. cc)
-dec_which Empty Full = no (λ e. cc)
 dec_which Empty Empty = yes refl
+dec_which _ _ = no (λ e. cc)
 
 dec_exchanges : (q : Which) (kind : Kind) → Dec (Exchanges q kind)
-dec_exchanges q (Claim o) = no (λ h. h)
-dec_exchanges q (Finish o) = no (λ h. h)
-dec_exchanges q (Split units) = no (λ h. h)
-dec_exchanges q (Join v) = no (λ h. h)
-dec_exchanges q (Load p) = no (λ h. h)
-dec_exchanges q (LoadLink p) = no (λ h. h)
-dec_exchanges q (StoreLink i l) = no (λ h. h)
 dec_exchanges q (Pop p) = dec_which p q
 dec_exchanges q (Push p i items) = dec_which p q
-dec_exchanges q (Fail p) = no (λ h. h)
-dec_exchanges q IdleUp = no (λ h. h)
-dec_exchanges q IdleDown = no (λ h. h)
-dec_exchanges q LoadIdle = no (λ h. h)
+dec_exchanges q _ = no (λ h. h)
 
 module _ (e : Setup) (q : Which) where
   -- after an event that exchanges another head or none, and is no load by this worker
@@ -191,7 +147,7 @@ module _ (e : Setup) (q : Which) where
         inr (still.2 ∙ look ∙ ap {B = Option Head} Some
             (sym (head_kept m w can.0 event.kind q leaves))),
       ) in
-      subst (λ x. Knows q w (effect m w x event.kind)) (sym (at_get_or m.accounts w can.0 no_share can.1.0)) after_it
+      subst (Knows q w) (sym (happens_as e m event can)) after_it
 
   others_know :
       (w : ℕ) (m : Marking) (event : Event) → w ≢ event.worker → (Exchanges q event.kind → ⊥) → Knows q w m

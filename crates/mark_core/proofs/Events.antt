@@ -1,6 +1,6 @@
 -- Each event keeps the law. A lemma speaks of one marking after one write, so it serves each way to lay a marking out.
 use Rattle.std.proofs.Common.{◌≡◌, ◌≢◌, ◌⊎◌, ℕ, ◌+◌, ◌<◌, ◌≤◌, max, Bool, true, ◌&&◌, List, [], ◌∷◌, ◌++◌, Option, Some}
-use Rattle.std.proofs.Common.{None, is_some, cond, Contains, set, ap, sym, refl, subst, inl, inr, eq-eqb, ne_eqb, arith}
+use Rattle.std.proofs.Common.{None, is_some, cond, Contains, set, ap, sym, refl, inl, inr, ⊎_elim, eq-eqb, ne_eqb, arith}
 use native.Mathlib.Decide.{ℕ_discrete}
 use Rattle.tagged_index.specs.Head.{Head, after}
 use Rattle.mark_core.specs.declared.which.Which.{Which}
@@ -13,7 +13,7 @@ use Rattle.mark_core.specs.Events.{CanClaim, CanFinish}
 use Rattle.mark_core.specs.Ownership.{IsRecent, IsOwned}
 use Rattle.mark_core.specs.Colours.{HasColour, IsReachableIn, stacked_times, charged_times, finished_times}
 use Rattle.mark_core.specs.Law.{Law}
-use Rattle.mark_core.proofs.Places.{at_set, put_else, put_one}
+use Rattle.mark_core.proofs.Places.{set_all, put_else, put_one}
 use Rattle.mark_core.proofs.Sums.{sum_of-set, sum_of-append, only-same, only-other, stands_push, stands_times}
 use Rattle.mark_core.proofs.Sums.{times-remove_one}
 use Rattle.mark_core.proofs.Chains.{chain_none, recent_loaded, recent_linked}
@@ -248,15 +248,9 @@ module _ (e : Setup) (m : Marking) (law : Law e m) (w : ℕ) (a : Account) (is :
 
       saw : (v : ℕ) (x : Account) → StandsAt (set m.accounts w b) v x → (y : ℕ) → Contains x.seen y → (1 ≤ m.mark y)
           ⊎ (y ≡ o)
-      saw v x at y k = go (at_set m.accounts w v b x at)
-        where
-          mine : Contains a.seen y ⊎ (o ≡ y) → (1 ≤ m.mark y) ⊎ (y ≡ o)
-          mine (inl p) = inl (law.coloured.saw w a is y p)
-          mine (inr p) = inr (sym p)
-
-          go : ((v ≡ w) × (b ≡ x)) ⊎ ((v ≢ w) × StandsAt m.accounts v x) → (1 ≤ m.mark y) ⊎ (y ≡ o)
-          go (inl p) = mine (stands_push a.seen o y (subst (λ (z : Account). Contains z.seen y) (sym p.1) k))
-          go (inr p) = inl (law.coloured.saw v x p.1 y k)
+      saw = set_all (λ (x : Account). (y : ℕ) → Contains x.seen y → (1 ≤ m.mark y) ⊎ (y ≡ o)) m.accounts w b
+          (λ v x at y k. inl (law.coloured.saw v x at y k))
+          (λ y k. ⊎_elim (λ p. inl (law.coloured.saw w a is y p)) (λ p. inr (sym p)) (stands_push a.seen o y k))
 
   -- an account may claim what is reachable alone
   pub can_claim : (o : ℕ) → CanClaim e o a → IsReachableIn e o
@@ -316,11 +310,8 @@ module _ (e : Setup) (m : Marking) (law : Law e m) (w : ℕ) (a : Account) (is :
 
       saw : (v : ℕ) (x : Account) → StandsAt (set m.accounts w b) v x → (y : ℕ) → Contains x.seen y → (1 ≤ m.mark y)
           ⊎ (y ≡ o)
-      saw v x at y k = go (at_set m.accounts w v b x at)
-        where
-          go : ((v ≡ w) × (b ≡ x)) ⊎ ((v ≢ w) × StandsAt m.accounts v x) → (1 ≤ m.mark y) ⊎ (y ≡ o)
-          go (inl p) = inl (law.coloured.saw w a is y (subst (λ (z : Account). Contains z.seen y) (sym p.1) k))
-          go (inr p) = inl (law.coloured.saw v x p.1 y k)
+      saw = set_all (λ (x : Account). (y : ℕ) → Contains x.seen y → (1 ≤ m.mark y) ⊎ (y ≡ o)) m.accounts w b
+          (λ v x at y k. inl (law.coloured.saw v x at y k)) (λ y k. inl (law.coloured.saw w a is y k))
 
   pub split_keeps : (units : ℕ) → 0 < units → units < a.share
       → Law e (record m { accounts = set m.accounts w (after_split units a) ++ part units ∷ [] })

@@ -1,41 +1,30 @@
 -- Heads in a run: which heads accounts have loaded, and that a failed exchange and an open push are found only where a
 -- head has changed.
-use Rattle.std.proofs.Common.{◌≡◌, ◌⊎◌, ℕ, zero, suc, ◌<◌, ◌≤◌, Bool, true, false, ◌&&◌, ◌||◌, is_some, List, [], ◌∷◌}
-use Rattle.std.proofs.Common.{◌++◌, Option, Some, None, set, slice_index_or, ap, sym, refl, subst, ◌∙◌, inl, inr}
+use Rattle.std.proofs.Common.{◌≡◌, ◌⊎◌, ℕ, zero, suc, ◌<◌, ◌≤◌, Bool, true, false, ◌&&◌, is_some, List, [], ◌∷◌}
+use Rattle.std.proofs.Common.{Option, Some, None, slice_index_or, ap, sym, refl, subst, ◌∙◌, inl, inr}
 use Rattle.std.proofs.Common.{⊎_elim, arith}
-use Rattle.std.proofs.lemmas.Bool.{false≢true}
-use mathlib.Core.Option.{some-ne-none}
+use Rattle.std.proofs.lemmas.Bool.{false≢true, or_cases}
 use native.Mathlib.Decide.{dec_le}
 use Rattle.tagged_index.specs.Head.{Head}
 use Rattle.mark_core.specs.declared.which.Which.{Which}
 use Rattle.mark_core.specs.declared.which.Which.TheVariants.{Full, Empty}
 use Rattle.mark_core.specs.Lists.{StandsAt}
-use Rattle.mark_core.specs.Account.{Account, look_of, part, no_share, after_claim, after_finish, after_split}
-use Rattle.mark_core.specs.Account.{after_join, after_load, after_push, after_idle_up, after_idle_down}
-use Rattle.mark_core.specs.Account.{after_load_idle}
+use Rattle.mark_core.specs.Account.{Account, look_of, part, no_share}
 use Rattle.mark_core.specs.World.{Setup, Marking, account_at}
-use Rattle.mark_core.specs.Events.{Kind, Claim, Finish, Split, Join, Load, LoadLink, StoreLink, Pop, Push, Fail, IdleUp}
-use Rattle.mark_core.specs.Events.{IdleDown, LoadIdle, Event, Allows, IsPossible, effect, happens, stack_popped}
+use Rattle.mark_core.specs.Events.{Kind, Split, Join, Load, LoadLink, StoreLink, Pop, Push, Fail}
+use Rattle.mark_core.specs.Events.{LoadIdle, Event, Allows, IsPossible, effect, happens, stack_popped}
 use Rattle.mark_core.specs.Shares.{whole}
 use Rattle.mark_core.specs.Runs.{Run, first_heads, opening}
-use Rattle.mark_core.specs.Counts.{Counts, LeadTo, add_counts, all_counted, count_failure, count_load, count_load_idle}
+use Rattle.mark_core.specs.Counts.{Counts, LeadTo, add_counts, all_counted, count_load}
 use Rattle.mark_core.specs.Counts.{counted, counts_at, no_counts}
 use Rattle.mark_core.specs.Conclusions.{FirstTagsAreFirst, HadHead, HasChanged, LoadedHeadsWere, PushesFollowChanges}
-use Rattle.mark_core.proofs.Places.{at_get_or, at_push, at_set}
+use Rattle.mark_core.proofs.Places.{OfEach, set_all, push_all, one_all}
+use Rattle.mark_core.proofs.Happens.{happens_as}
 use Rattle.mark_core.proofs.Changes.{tags_rise}
 
--- what holds of each element of a list, after one was written or put at the end
+-- what holds of each element of a list and of the default
 module _ {X : Type 0} (P : X → Type 0) where
-  abbrev OfEach : List X → Type 0
-  OfEach xs = (k : ℕ) (x : X) → StandsAt xs k x → P x
-
-  set_all : (xs : List X) (w : ℕ) (y : X) → OfEach xs → P y → OfEach (set xs w y)
-  set_all xs w y all here k x at = ⊎_elim (λ t. subst P t.1 here) (λ t. all k x t.1) (at_set xs w k y x at)
-
-  push_all : (xs : List X) (y : X) → OfEach xs → P y → OfEach (xs ++ y ∷ [])
-  push_all xs y all here k x at = ⊎_elim (λ t. all k x t) (λ t. subst P t here) (at_push xs y x k at)
-
-  or_default : (xs : List X) (k : ℕ) (d : X) → OfEach xs → P d → P (slice_index_or xs k d)
+  or_default : (xs : List X) (k : ℕ) (d : X) → OfEach P xs → P d → P (slice_index_or xs k d)
   or_default [] k d all none = none
   or_default (x ∷ xs) zero d all none = all 0 x refl
   or_default (x ∷ xs) (suc k) d all none = or_default xs k d (λ j y at. all (suc j) y at) none
@@ -60,42 +49,30 @@ module _ (S : Which → Head → Type 0) where
 
   popped_knows : (m : Marking) (w : ℕ) (a : Account) (q : Which) (x : Option ℕ) (y : Option (Option ℕ))
       → OfEach Knows m.accounts → Knows a → OfEach Knows (stack_popped m w a q x y).accounts
-  popped_knows m w a q None y all own = all
-  popped_knows m w a q (Some i) None all own = all
   popped_knows m w a q (Some i) (Some l) all own = set_all Knows m.accounts w _ all own
+  popped_knows m w a q _ _ all own = all
 
   -- after an event: what they knew before, and the heads as they were
   effect_knows : (m : Marking) (w : ℕ) (a : Account) (kind : Kind) → OfEach Knows m.accounts → Knows a
       → ((q : Which) → S q (m.head q)) → OfEach Knows (effect m w a kind).accounts
-  effect_knows m w a (Claim o) all own heads = set_all Knows m.accounts w (after_claim o (m.mark o) a) all own
-  effect_knows m w a (Finish o) all own heads = set_all Knows m.accounts w (after_finish o a) all own
   effect_knows m w a (Split units) all own heads =
-      push_all Knows (set m.accounts w (after_split units a)) (part units)
-      (set_all Knows m.accounts w (after_split units a) all own) (knows_nothing units)
+      push_all Knows _ (part units) (set_all Knows m.accounts w _ all own) (knows_nothing units)
   effect_knows m w a (Join v) all own heads =
-      set_all Knows (set m.accounts w (after_join a (account_at m.accounts v))) v no_share
-      (set_all Knows m.accounts w (after_join a (account_at m.accounts v)) all own) (knows_nothing 0)
+      set_all Knows _ v no_share (set_all Knows m.accounts w _ all own) (knows_nothing 0)
   effect_knows m w a (Load Full) all own heads =
-      set_all Knows m.accounts w (after_load Full (m.head Full) a) all
-      ((λ h e. loaded_one Full (m.head Full) h (heads Full) e), own.1)
+      set_all Knows m.accounts w _ all ((λ h e. loaded_one Full (m.head Full) h (heads Full) e), own.1)
   effect_knows m w a (Load Empty) all own heads =
-      set_all Knows m.accounts w (after_load Empty (m.head Empty) a) all
-      (own.0, (λ h e. loaded_one Empty (m.head Empty) h (heads Empty) e))
+      set_all Knows m.accounts w _ all (own.0, (λ h e. loaded_one Empty (m.head Empty) h (heads Empty) e))
   effect_knows m w a (LoadLink Full) all own heads = set_all Knows m.accounts w _ all own
-  effect_knows m w a (LoadLink Empty) all own heads = set_all Knows m.accounts w _ all own
   effect_knows m w a (StoreLink i l) all own heads = all
   effect_knows m w a (Pop q) all own heads = popped_knows m w a q (m.head q).index (look_of a q).link all own
-  effect_knows m w a (Push q i items) all own heads = set_all Knows m.accounts w (after_push q i items a) all own
   effect_knows m w a (Fail q) all own heads = all
-  effect_knows m w a IdleUp all own heads = set_all Knows m.accounts w (after_idle_up a) all own
-  effect_knows m w a IdleDown all own heads = set_all Knows m.accounts w (after_idle_down a) all own
-  effect_knows m w a LoadIdle all own heads = set_all Knows m.accounts w (after_load_idle m.idle a) all own
+  effect_knows m w a _ all own heads = set_all Knows m.accounts w _ all own
 
   happens_knows : (e : Setup) (m : Marking) (event : Event) → IsPossible e m event → OfEach Knows m.accounts
       → ((q : Which) → S q (m.head q)) → OfEach Knows (happens m event).accounts
   happens_knows e m event can all heads =
-      subst (λ x. OfEach Knows (effect m event.worker x event.kind).accounts)
-      (sym (at_get_or m.accounts event.worker can.0 no_share can.1.0))
+      subst (λ (n : Marking). OfEach Knows n.accounts) (sym (happens_as e m event can))
       (effect_knows m event.worker can.0 event.kind all (all event.worker can.0 can.1.0) heads)
 
 run_knows :
@@ -109,8 +86,7 @@ run_knows S e (event ∷ events) first last had run all =
 
 -- at the opening nothing was loaded
 opening_knows : (S : Which → Head → Type 0) (e : Setup) → OfEach (Knows S) (opening e e.first_tag).accounts
-opening_knows S e = push_all (Knows S) [] (part whole) (λ k x at. absurd (some-ne-none x (sym at)))
-    (knows_nothing S whole)
+opening_knows S e = one_all (Knows S) (part whole) (knows_nothing S whole)
 
 pub loaded_heads_were : LoadedHeadsWere
 loaded_heads_were e events m run w a q h at last =
@@ -132,15 +108,13 @@ module _ (C : Type 0) where
   counted_fails : (m : Marking) (counts : List Counts) (w : ℕ) (kind : Kind) → OfEach Failed counts
       → ((q : Which) → kind ≡ Fail q → C) → OfEach Failed (counted m counts w kind)
   counted_fails m counts w (Load q) all fail =
-      set_all Failed counts w (count_load q (m.head q) (counts_at counts w)) all
-      (load_fails_not q (m.head q) (counts_at counts w) (at_fails counts w all))
-  counted_fails m counts w (Fail q) all fail =
-      set_all Failed counts w (count_failure (counts_at counts w)) all (λ h. fail q refl)
+      set_all Failed counts w _ all (load_fails_not q (m.head q) (counts_at counts w) (at_fails counts w all))
+  counted_fails m counts w (Fail q) all fail = set_all Failed counts w _ all (λ h. fail q refl)
   counted_fails m counts w (Split units) all fail =
       push_all Failed counts no_counts all (λ h. absurd (omega (arith, h)))
   counted_fails m counts w (Join v) all fail =
-      set_all Failed (set counts w (add_counts (counts_at counts w) (counts_at counts v))) v no_counts
-      (set_all Failed counts w (add_counts (counts_at counts w) (counts_at counts v)) all
+      set_all Failed _ v no_counts
+      (set_all Failed counts w _ all
       (both (counts_at counts w) (counts_at counts v) (at_fails counts w all) (at_fails counts v all)))
       (λ h. absurd (omega (arith, h)))
     where
@@ -150,16 +124,8 @@ module _ (C : Type 0) where
           go : Dec (1 ≤ a.failures) → C
           go (yes some) = first some
           go (no none) = second (omega (arith, h, none))
-  counted_fails m counts w (Claim o) all fail = all
-  counted_fails m counts w (Finish o) all fail = all
-  counted_fails m counts w (LoadLink q) all fail = all
-  counted_fails m counts w (StoreLink i l) all fail = all
-  counted_fails m counts w (Pop q) all fail = all
-  counted_fails m counts w (Push q i items) all fail = all
-  counted_fails m counts w IdleUp all fail = all
-  counted_fails m counts w IdleDown all fail = all
-  counted_fails m counts w LoadIdle all fail =
-      set_all Failed counts w (count_load_idle (counts_at counts w)) all (at_fails counts w all)
+  counted_fails m counts w LoadIdle all fail = set_all Failed counts w _ all (at_fails counts w all)
+  counted_fails m counts w _ all fail = all
 
   -- open pushes, after an event: those of before, or one on full
   abbrev Pushed : Account → Type 0
@@ -169,44 +135,30 @@ module _ (C : Type 0) where
   and_left true b h = refl
   and_left false b h = h
 
-  or_cases : (a b : Bool) → a || b ≡ true → (a ≡ true → C) → (b ≡ true → C) → C
-  or_cases true b h first second = first refl
-  or_cases false b h first second = second h
-
   popped_pushed : (m : Marking) (w : ℕ) (a : Account) (q : Which) (x : Option ℕ) (y : Option (Option ℕ))
       → OfEach Pushed m.accounts → Pushed a → OfEach Pushed (stack_popped m w a q x y).accounts
-  popped_pushed m w a q None y all own = all
-  popped_pushed m w a q (Some i) None all own = all
   popped_pushed m w a q (Some i) (Some l) all own = set_all Pushed m.accounts w _ all own
+  popped_pushed m w a q _ _ all own = all
 
   effect_pushed :
       (m : Marking) (w : ℕ) (a : Account) (kind : Kind) → OfEach Pushed m.accounts → Pushed a
       → ((v : ℕ) → Pushed (account_at m.accounts v)) → ((i : ℕ) (items : List ℕ) → kind ≡ Push Full i items → C)
       → OfEach Pushed (effect m w a kind).accounts
-  effect_pushed m w a (Claim o) all own others push = set_all Pushed m.accounts w (after_claim o (m.mark o) a) all own
-  effect_pushed m w a (Finish o) all own others push = set_all Pushed m.accounts w (after_finish o a) all own
   effect_pushed m w a (Split units) all own others push =
-      push_all Pushed (set m.accounts w (after_split units a)) (part units)
-      (set_all Pushed m.accounts w (after_split units a) all own) (λ h. absurd (false≢true h))
+      push_all Pushed _ (part units) (set_all Pushed m.accounts w _ all own) (λ h. absurd (false≢true h))
   effect_pushed m w a (Join v) all own others push =
-      set_all Pushed (set m.accounts w (after_join a (account_at m.accounts v))) v no_share
-      (set_all Pushed m.accounts w (after_join a (account_at m.accounts v)) all
-      (λ h. or_cases a.open_push (account_at m.accounts v).open_push h own (others v))) (λ h. absurd (false≢true h))
+      set_all Pushed _ v no_share
+      (set_all Pushed m.accounts w _ all (λ h. ⊎_elim own (others v) (or_cases a.open_push _ h)))
+      (λ h. absurd (false≢true h))
   effect_pushed m w a (Load Full) all own others push =
-      set_all Pushed m.accounts w (after_load Full (m.head Full) a) all
-      (λ h. own (and_left a.open_push (is_some (m.head Full).index) h))
-  effect_pushed m w a (Load Empty) all own others push = set_all Pushed m.accounts w _ all own
+      set_all Pushed m.accounts w _ all (λ h. own (and_left a.open_push (is_some (m.head Full).index) h))
   effect_pushed m w a (LoadLink Full) all own others push = set_all Pushed m.accounts w _ all own
-  effect_pushed m w a (LoadLink Empty) all own others push = set_all Pushed m.accounts w _ all own
   effect_pushed m w a (StoreLink i l) all own others push = all
   effect_pushed m w a (Pop q) all own others push = popped_pushed m w a q (m.head q).index (look_of a q).link all own
   effect_pushed m w a (Push Full i items) all own others push =
-      set_all Pushed m.accounts w (after_push Full i items a) all (λ h. push i items refl)
-  effect_pushed m w a (Push Empty i items) all own others push = set_all Pushed m.accounts w _ all own
+      set_all Pushed m.accounts w _ all (λ h. push i items refl)
   effect_pushed m w a (Fail q) all own others push = all
-  effect_pushed m w a IdleUp all own others push = set_all Pushed m.accounts w (after_idle_up a) all own
-  effect_pushed m w a IdleDown all own others push = set_all Pushed m.accounts w (after_idle_down a) all own
-  effect_pushed m w a LoadIdle all own others push = set_all Pushed m.accounts w (after_load_idle m.idle a) all own
+  effect_pushed m w a _ all own others push = set_all Pushed m.accounts w _ all own
 
 -- a head of the stack q: its tag is at least the first, and with the first tag it is the first head
 abbrev IsFirstOr : Setup → Which → Head → Type 0
@@ -312,10 +264,8 @@ firsts_open e =
     record {
       heads = heads;
       looks = opening_knows (WasSeen e (opening e e.first_tag)) e;
-      failures = push_all (Failed (SomeChanged e (opening e e.first_tag))) [] no_counts
-          (λ k c at. absurd (some-ne-none c (sym at))) (λ h. absurd (omega (arith, h)));
-      pushes = push_all (Pushed (HasChanged e (opening e e.first_tag) Full)) [] (part whole)
-          (λ k a at. absurd (some-ne-none a (sym at))) (λ h. absurd (false≢true h));
+      failures = one_all (Failed _) no_counts (λ h. absurd (omega (arith, h)));
+      pushes = one_all (Pushed _) (part whole) (λ h. absurd (false≢true h));
     }
   where
     heads : (q : Which) → IsFirstOr e q (first_heads e.first_tag q)

@@ -1,4 +1,5 @@
 pub mod Places
+pub mod Happens
 pub mod Sums
 pub mod Chains
 pub mod Ownership

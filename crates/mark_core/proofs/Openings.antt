@@ -12,12 +12,13 @@ use Rattle.mark_core.specs.Account.{Account, look_of, part}
 use Rattle.mark_core.specs.World.{Setup, items_of}
 use Rattle.mark_core.specs.Ownership.{Chain, IsOwned, IsShelved, IsRecent}
 use Rattle.mark_core.specs.Colours.{IsColoured, stacked_times}
-use Rattle.mark_core.specs.Shares.{IsShared, whole}
+use Rattle.mark_core.specs.Shares.{IsShared, HasNothing, whole}
 use Rattle.mark_core.specs.Law.{Law}
 use Rattle.mark_core.specs.Runs.{first_heads, first_link, opening}
 use Rattle.mark_core.specs.Conclusions.{first_length}
+use Rattle.mark_core.proofs.Places.{OfEach, one_all}
 use Rattle.mark_core.proofs.Sums.{sum_of-nothing, only-same, only-other}
-use Rattle.mark_core.proofs.Chains.{recent_blank}
+use Rattle.mark_core.proofs.Chains.{recent_bare}
 
 -- n numbers from k on
 abbrev numbers : ℕ → ℕ → List ℕ
@@ -73,11 +74,6 @@ in_replicate zero i x y e = absurd (some-ne-none y (sym e))
 in_replicate (suc n) zero x y e = some-injective x y e
 in_replicate (suc n) (suc i) x y e = in_replicate n i x y e
 
--- the one account of an opening marking
-pub alone : (w : ℕ) (a x : Account) → StandsAt (a ∷ []) w x → a ≡ x
-alone zero a x e = some-injective a x e
-alone (suc w) a x e = absurd (some-ne-none x (sym e))
-
 module _ (e : Setup) (tag : ℕ) (some_buffer : 0 < e.buffers) where
   first_stack : Which → List ℕ
   first_stack Full = []
@@ -99,14 +95,10 @@ module _ (e : Setup) (tag : ℕ) (some_buffer : 0 < e.buffers) where
           (ap (λ t. if t then Some 0 else None) (lt-ltb 0 e.buffers some_buffer))
           (chain_numbers e.buffers e.buffers 0 (omega arith))
 
-      blank : (q : Which) → IsRecent (first_link e.buffers) (first_heads tag q) (look_of (part whole) q)
-      blank Full = recent_blank (first_link e.buffers) (first_heads tag Full)
-      blank Empty = recent_blank (first_link e.buffers) (first_heads tag Empty)
-
-      recent : (q : Which) (w : ℕ) (a : Account) → StandsAt (part whole ∷ []) w a
-          → IsRecent (first_link e.buffers) (first_heads tag q) (look_of a q)
-      recent q w a at = subst (λ x. IsRecent (first_link e.buffers) (first_heads tag q) (look_of x q))
-          (alone w (part whole) a at) (blank q)
+      recent : (q : Which) → OfEach (λ a. IsRecent (first_link e.buffers) (first_heads tag q) (look_of a q))
+          (part whole ∷ [])
+      recent q = one_all (λ a. IsRecent (first_link e.buffers) (first_heads tag q) (look_of a q)) (part whole)
+          (recent_bare (first_link e.buffers) (first_heads tag) (part whole) refl refl q)
 
   first_shelved : IsShelved e.buffers (replicate e.buffers (Some [])) first_stack
   unfolding first_stack
@@ -138,9 +130,9 @@ module _ (e : Setup) (tag : ℕ) (some_buffer : 0 < e.buffers) where
         colours = λ o. inl (refl, omega (arith, bare o), refl);
         closed = λ o s two pair. absurd (omega arith);
         reachable = λ o one. absurd (omega arith);
-        saw = λ w a at o k. let none : Contains [] o =
-            subst (λ (x : Account). Contains x.seen o) (sym (alone w (part whole) a at)) k in
-            absurd (omega (arith, none.1));
+        saw =
+            one_all (λ (a : Account). (o : ℕ) → Contains a.seen o → 1 ≤ 0) (part whole)
+            (λ o k. absurd (omega (arith, k.1)));
       }
     where
       bare : (o : ℕ) → stacked_times o (replicate e.buffers (Some [])) ≡ 0
@@ -150,8 +142,7 @@ module _ (e : Setup) (tag : ℕ) (some_buffer : 0 < e.buffers) where
   first_shared : IsShared (part whole ∷ [])
   first_shared = record {
     sum = omega arith;
-    no_share = λ w a at none. let t : whole ≡ a.share = ap (λ (x : Account). x.share) (alone w (part whole) a at) in
-        absurd (omega arith);
+    no_share = one_all (λ (a : Account). a.share ≡ 0 → HasNothing a) (part whole) (λ none. absurd (omega arith));
   }
 
   pub opening_keeps : Law e (opening e tag)

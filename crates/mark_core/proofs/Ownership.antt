@@ -1,7 +1,8 @@
 -- What each event leaves of the ownership of the buffers.
-use Rattle.std.proofs.Common.{◌≡◌, ◌≢◌, ◌⊎◌, ℕ, ◌+◌, ◌<◌, ◌≤◌, Bool, true, false, ◌||◌, nat_lt, List, [], ◌∷◌, ◌++◌}
-use Rattle.std.proofs.Common.{Option, Some, set, ap, sym, refl, subst, ◌∙◌, inl, inr, le-ltb, lt_of_not-le}
+use Rattle.std.proofs.Common.{◌≡◌, ◌≢◌, ◌⊎◌, ℕ, ◌+◌, ◌<◌, ◌≤◌, Bool, true, false, nat_lt, List, [], ◌∷◌, ◌++◌}
+use Rattle.std.proofs.Common.{Option, Some, set, ap, sym, refl, subst, ◌∙◌, inl, inr, ⊎_elim, le-ltb, lt_of_not-le}
 use Rattle.std.proofs.Common.{arith}
+use Rattle.std.proofs.lemmas.Bool.{or_left, or_right}
 use native.Mathlib.Decide.{dec_le, ℕ_discrete}
 use Rattle.tagged_index.specs.Head.{Head, after}
 use Rattle.mark_core.specs.declared.which.Which.{Which}
@@ -10,9 +11,9 @@ use Rattle.mark_core.specs.Lists.{StandsAt, times, one_where, only}
 use Rattle.mark_core.specs.Account.{Account, look_of, part, no_share, after_pop, after_push, after_join}
 use Rattle.mark_core.specs.World.{put_which}
 use Rattle.mark_core.specs.Ownership.{Chain, IsRecent, IsOwned, HasOpenPush, held_times}
-use Rattle.mark_core.proofs.Places.{at_set, at_push, at_longer, at_one, set_here, set_else, put_one, put_two}
+use Rattle.mark_core.proofs.Places.{OfEach, set_all, push_all, at_longer, at_one, set_here, set_else, put_one, put_two}
 use Rattle.mark_core.proofs.Sums.{sum_of-set, sum_of-append, term_le, times-remove_one, only-same}
-use Rattle.mark_core.proofs.Chains.{chain_links, chain_rest, chain_more, recent_blank, recent_after, recent_links}
+use Rattle.mark_core.proofs.Chains.{chain_links, chain_rest, chain_more, recent_bare, recent_after, recent_links}
 use Rattle.mark_core.proofs.Chains.{recent_link}
 
 -- a number counted among the buffers is below their number
@@ -31,25 +32,22 @@ pub same_looks : (a b : Account) → b.full ≡ a.full → b.empty ≡ a.empty �
 same_looks a b f g Full = f
 same_looks a b f g Empty = g
 
-or_first : (x y : Bool) → x ≡ true → (x || y) ≡ true
-or_first true y e = refl
-or_first false y e = let f : ⊥ = cc in absurd f
-
-or_second : (x y : Bool) → y ≡ true → (x || y) ≡ true
-or_second true y e = refl
-or_second false y e = e
+-- where an account changes, an open push is its own or stays
+open_else : (accounts : List Account) (w : ℕ) (a b : Account) → StandsAt accounts w a → HasOpenPush accounts
+    → (a.open_push ≡ true) ⊎ HasOpenPush (set accounts w b)
+open_else accounts w a b is o = go (ℕ_discrete o.0 w)
+  where
+    go : Dec (o.0 ≡ w) → (a.open_push ≡ true) ⊎ HasOpenPush (set accounts w b)
+    go (yes e) =
+        let s : o.1 ≡ a = at_one accounts w o.1 a (subst (λ v. StandsAt accounts v o.1) e o.2) is in
+        inl (sym (ap (λ (x : Account). x.open_push) s) ∙ o.3)
+    go (no n) = inr (o.0, o.1, set_else accounts w o.0 b n ∙ o.2, o.3)
 
 -- an open push stays where the account that changes keeps its own
 pub open_set : (accounts : List Account) (w : ℕ) (a b : Account) → StandsAt accounts w a
     → (a.open_push ≡ true → b.open_push ≡ true) → HasOpenPush accounts → HasOpenPush (set accounts w b)
-open_set accounts w a b is keep o = go (ℕ_discrete o.0 w)
-  where
-    go : Dec (o.0 ≡ w) → HasOpenPush (set accounts w b)
-    go (yes e) =
-        let s : o.1 ≡ a = at_one accounts w o.1 a (subst (λ v. StandsAt accounts v o.1) e o.2) is in
-        let t : o.1.open_push ≡ a.open_push = ap (λ (x : Account). x.open_push) s in
-        (w, b, set_here accounts w b a is, keep (sym t ∙ o.3))
-    go (no n) = (o.0, o.1, set_else accounts w o.0 b n ∙ o.2, o.3)
+open_set accounts w a b is keep o =
+    ⊎_elim (λ t. (w, b, set_here accounts w b a is, keep t)) (λ p. p) (open_else accounts w a b is o)
 
 -- what a pop and a push leave of how often a buffer is stacked
 pub popped_sum : (q : Which) (i : ℕ) (rest : List ℕ) (stack : Which → List ℕ) → stack q ≡ i ∷ rest → (b : ℕ)
@@ -122,15 +120,8 @@ module _ {buffers : ℕ} {head : Which → Head} {link : ℕ → Option ℕ} {ac
 
       recent : (q : Which) (v : ℕ) (x : Account) → StandsAt (accounts ++ part units ∷ []) v x
           → IsRecent link (head q) (look_of x q)
-      recent q v x at = go (at_push accounts (part units) x v at)
-        where
-          blank : (p : Which) → IsRecent link (head p) (look_of (part units) p)
-          blank Full = recent_blank link (head Full)
-          blank Empty = recent_blank link (head Empty)
-
-          go : StandsAt accounts v x ⊎ (part units ≡ x) → IsRecent link (head q) (look_of x q)
-          go (inl p) = o.recent q v x p
-          go (inr p) = subst (λ y. IsRecent link (head q) (look_of y q)) p (blank q)
+      recent q = push_all (λ x. IsRecent link (head q) (look_of x q)) accounts (part units) (o.recent q)
+          (recent_bare link head (part units) refl refl q)
 
       owed : (stack Full ≡ []) ⊎ HasOpenPush accounts → (stack Full ≡ []) ⊎ HasOpenPush (accounts ++ part units ∷ [])
       owed (inl p) = inl p
@@ -139,16 +130,21 @@ module _ {buffers : ℕ} {head : Which → Head} {link : ℕ → Option ℕ} {ac
   module _ (w : ℕ) (a : Account) (is : StandsAt accounts w a) where
     recent_set : (b : Account) → ((q : Which) → IsRecent link (head q) (look_of b q))
         → (q : Which) (v : ℕ) (x : Account) → StandsAt (set accounts w b) v x → IsRecent link (head q) (look_of x q)
-    recent_set b new q v x at = go (at_set accounts w v b x at)
-      where
-        go : ((v ≡ w) × (b ≡ x)) ⊎ ((v ≢ w) × StandsAt accounts v x) → IsRecent link (head q) (look_of x q)
-        go (inl p) = subst (λ y. IsRecent link (head q) (look_of y q)) p.1 (new q)
-        go (inr p) = o.recent q v x p.1
+    recent_set b new q = set_all (λ x. IsRecent link (head q) (look_of x q)) accounts w b (o.recent q) (new q)
 
     -- what the account loaded stays
     keeps_looks : (b : Account) → b.full ≡ a.full → b.empty ≡ a.empty → (q : Which)
         → IsRecent link (head q) (look_of b q)
     keeps_looks b f g q = subst (λ l. IsRecent link (head q) l) (sym (same_looks a b f g q)) (o.recent q w a is)
+
+    -- the head of a stack changes, so what was loaded of it is outdated
+    recent_turned :
+        (b : Account) → b.full ≡ a.full → b.empty ≡ a.empty → (q : Which) (l : Option ℕ) (p : Which)
+        → OfEach (λ x. IsRecent link (put_which q (after (head q) l) head p) (look_of x p)) (set accounts w b)
+    recent_turned b f g q l =
+        let now = recent_set b (keeps_looks b f g) in
+        put_one (λ p (h : Head). OfEach (λ x. IsRecent link h (look_of x p)) (set accounts w b)) q (after (head q) l) head
+        (λ v x at. recent_after link (head q) (look_of x q) l (now q v x at)) now
 
     -- the account changes, and holds the same buffers
     pub owned_set :
@@ -164,18 +160,9 @@ module _ {buffers : ℕ} {head : Which → Head} {link : ℕ → Option ℕ} {ac
 
         owed : (stack Full ≡ []) ⊎ HasOpenPush accounts → (stack Full ≡ []) ⊎ HasOpenPush (set accounts w b)
         owed (inl p) = inl p
-        owed (inr p) = go (ℕ_discrete p.0 w)
-          where
-            here : (stack Full ≡ []) ⊎ (b.open_push ≡ true) → (stack Full ≡ []) ⊎ HasOpenPush (set accounts w b)
-            here (inl e) = inl e
-            here (inr e) = inr (w, b, set_here accounts w b a is, e)
-
-            go : Dec (p.0 ≡ w) → (stack Full ≡ []) ⊎ HasOpenPush (set accounts w b)
-            go (yes e) =
-                let s : p.1 ≡ a = at_one accounts w p.1 a (subst (λ v. StandsAt accounts v p.1) e p.2) is in
-                let t : p.1.open_push ≡ a.open_push = ap (λ (x : Account). x.open_push) s in
-                here (push (sym t ∙ p.3))
-            go (no n) = inr (p.0, p.1, set_else accounts w p.0 b n ∙ p.2, p.3)
+        owed (inr p) =
+            ⊎_elim (λ t. ⊎_elim inl (λ e. inr (w, b, set_here accounts w b a is, e)) (push t)) inr
+            (open_else accounts w a b is p)
 
     -- the account changes in nothing that ownership reads
     pub owned_same : (b : Account) → b.full ≡ a.full → b.empty ≡ a.empty → b.held ≡ a.held → b.open_push ≡ a.open_push
@@ -189,7 +176,7 @@ module _ {buffers : ℕ} {head : Which → Head} {link : ℕ → Option ℕ} {ac
         → (rest : List ℕ) × (stack q ≡ i ∷ rest) × IsOwned buffers (put_which q (after (head q) l) head) link
         (set accounts w (after_pop i items a)) (put_which q rest stack)
     owned_pop q i l items hit top next =
-        (rest, r.1, record { chain = chain; once = once; recent = recent; owed = owed o.owed })
+        (rest, r.1, record { chain = chain; once = once; recent = recent_turned b refl refl q l; owed = owed o.owed })
       where
         r : (xs : List ℕ) × (stack q ≡ i ∷ xs) × Chain link (link i) xs
         r = chain_rest link (head q).index (stack q) i (o.chain q) top
@@ -217,14 +204,6 @@ module _ {buffers : ℕ} {head : Which → Head} {link : ℕ → Option ℕ} {ac
           sum_of-append (only x) a.held (i ∷ []),
         )
 
-        recent : (p : Which) (v : ℕ) (x : Account) → StandsAt (set accounts w b) v x
-            → IsRecent link (put_which q (after (head q) l) head p) (look_of x p)
-        recent =
-            put_one (λ p (h : Head). (v : ℕ) (x : Account) → StandsAt (set accounts w b) v x
-            → IsRecent link h (look_of x p)) q (after (head q) l) head
-            (λ v x at. recent_after link (head q) (look_of x q) l (recent_set b (keeps_looks b refl refl) q v x at))
-            (recent_set b (keeps_looks b refl refl))
-
         owed : (stack Full ≡ []) ⊎ HasOpenPush accounts → (put_which q rest stack Full ≡ [])
             ⊎ HasOpenPush (set accounts w b)
         owed (inl p) = inl (popped_nothing q i rest stack r.1 p)
@@ -235,7 +214,8 @@ module _ {buffers : ℕ} {head : Which → Head} {link : ℕ → Option ℕ} {ac
         (q : Which) (i : ℕ) (items : List ℕ) → 0 < times i a.held → link i ≡ (head q).index
         → IsOwned buffers (put_which q (after (head q) (Some i)) head) link (set accounts w (after_push q i items a))
         (put_which q (i ∷ stack q) stack)
-    owned_push q i items mine leads = record { chain = chain; once = once; recent = recent; owed = owed q o.owed }
+    owned_push q i items mine leads =
+        record { chain = chain; once = once; recent = recent_turned b refl refl q (Some i); owed = owed q o.owed }
       where
         b : Account
         b = after_push q i items a
@@ -254,15 +234,6 @@ module _ {buffers : ℕ} {head : Which → Head} {link : ℕ → Option ℕ} {ac
           sum_of-set (λ (y : Account). times x y.held) accounts w a b is,
           times-remove_one x i a.held mine,
         )
-
-        recent : (p : Which) (v : ℕ) (x : Account) → StandsAt (set accounts w b) v x
-            → IsRecent link (put_which q (after (head q) (Some i)) head p) (look_of x p)
-        recent =
-            put_one (λ p (h : Head). (v : ℕ) (x : Account) → StandsAt (set accounts w b) v x
-            → IsRecent link h (look_of x p)) q (after (head q) (Some i)) head
-            (λ v x at. recent_after link (head q) (look_of x q) (Some i)
-            (recent_set b (keeps_looks b refl refl) q v x at))
-            (recent_set b (keeps_looks b refl refl))
 
         owed : (p : Which) → (stack Full ≡ []) ⊎ HasOpenPush accounts → (put_which p (i ∷ stack p) stack Full ≡ [])
             ⊎ HasOpenPush (set accounts w (after_push p i items a))
@@ -292,40 +263,16 @@ module _ {buffers : ℕ} {head : Which → Head} {link : ℕ → Option ℕ} {ac
               sum_of-append (only x) a.held b.held,
             )
 
-        recent : (q : Which) (u : ℕ) (x : Account) → StandsAt (set (set accounts w both) v no_share) u x
-            → IsRecent link (head q) (look_of x q)
-        recent q u x e = go (at_set (set accounts w both) v u no_share x e)
-          where
-            blank : (p : Which) → IsRecent link (head p) (look_of no_share p)
-            blank Full = recent_blank link (head Full)
-            blank Empty = recent_blank link (head Empty)
+        recent : (q : Which) → OfEach (λ x. IsRecent link (head q) (look_of x q)) (set (set accounts w both) v no_share)
+        recent q = set_all (λ x. IsRecent link (head q) (look_of x q)) (set accounts w both) v no_share
+            (recent_set both (keeps_looks both refl refl) q) (recent_bare link head no_share refl refl q)
 
-            go : ((u ≡ v) × (no_share ≡ x)) ⊎ ((u ≢ v) × StandsAt (set accounts w both) u x)
-                → IsRecent link (head q) (look_of x q)
-            go (inl p) = subst (λ y. IsRecent link (head q) (look_of y q)) p.1 (blank q)
-            go (inr p) = recent_set both (keeps_looks both refl refl) q u x p.1
-
-        first : Account → Account → StandsAt (set (set accounts w both) v no_share) w both
-        first x y = set_else (set accounts w both) v w no_share (λ e. apart (sym e)) ∙ set_here accounts w both a is
+        first : StandsAt (set (set accounts w both) v no_share) w both
+        first = set_else (set accounts w both) v w no_share (λ e. apart (sym e)) ∙ set_here accounts w both a is
 
         owed : (stack Full ≡ []) ⊎ HasOpenPush accounts → (stack Full ≡ [])
             ⊎ HasOpenPush (set (set accounts w both) v no_share)
         owed (inl p) = inl p
-        owed (inr p) = go (ℕ_discrete p.0 w) (ℕ_discrete p.0 v)
-          where
-            go : Dec (p.0 ≡ w) → Dec (p.0 ≡ v) → (stack Full ≡ []) ⊎ HasOpenPush (set (set accounts w both) v no_share)
-            go (yes e) d =
-                let s : p.1 ≡ a = at_one accounts w p.1 a (subst (λ u. StandsAt accounts u p.1) e p.2) is in
-                let t : p.1.open_push ≡ a.open_push = ap (λ (x : Account). x.open_push) s in
-                inr (w, both, first a a, or_first a.open_push b.open_push (sym t ∙ p.3))
-            go (no n) (yes e) =
-                let s : p.1 ≡ b = at_one accounts v p.1 b (subst (λ u. StandsAt accounts u p.1) e p.2) at in
-                let t : p.1.open_push ≡ b.open_push = ap (λ (x : Account). x.open_push) s in
-                inr (w, both, first a a, or_second a.open_push b.open_push (sym t ∙ p.3))
-            go (no n) (no k) = inr (
-              p.0,
-              p.1,
-              set_else (set accounts w both) v p.0 no_share k
-                  ∙ (set_else accounts w p.0 both n ∙ p.2),
-              p.3,
-            )
+        owed (inr p) = ⊎_elim (λ t. inr (w, both, first, or_left a.open_push b.open_push t))
+            (λ k. ⊎_elim (λ t. inr (w, both, first, or_right a.open_push b.open_push t)) inr
+            (open_else (set accounts w both) v b no_share still k)) (open_else accounts w a both is p)

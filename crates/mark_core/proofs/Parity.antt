@@ -1,17 +1,17 @@
 -- Tag and length of a stack in a run.
-use Rattle.std.proofs.Common.{◌≡◌, ◌≢◌, ℕ, ◌+◌, ◌*◌, List, [], ◌∷◌, length, Option, Some, ap, sym, refl, subst, ◌∙◌}
+use Rattle.std.proofs.Common.{◌≡◌, ◌≢◌, ℕ, ◌+◌, ◌*◌, List, [], ◌∷◌, length, Option, Some, ap, sym, refl, subst}
 use Rattle.std.proofs.Common.{arith}
 use Rattle.tagged_index.specs.Head.{Head, after}
 use Rattle.mark_core.specs.declared.which.Which.{Which}
 use Rattle.mark_core.specs.declared.which.Which.TheVariants.{Full, Empty}
-use Rattle.mark_core.specs.Account.{Account, look_of, no_share}
+use Rattle.mark_core.specs.Account.{Account}
 use Rattle.mark_core.specs.World.{Setup, Marking, IsThere, put_which}
-use Rattle.mark_core.specs.Events.{Kind, Claim, Finish, Split, Join, Load, LoadLink, StoreLink, Pop, Push, Fail, IdleUp}
-use Rattle.mark_core.specs.Events.{IdleDown, LoadIdle, Event, Allows, IsPossible, effect, happens, stack_popped}
+use Rattle.mark_core.specs.Events.{Kind, Pop, Push}
+use Rattle.mark_core.specs.Events.{Event, Allows, IsPossible, effect, happens}
 use Rattle.mark_core.specs.Law.{Law}
 use Rattle.mark_core.specs.Runs.{Changes, IsListOf, Run, opening}
 use Rattle.mark_core.specs.Conclusions.{TagsKeepParity, one_stack, push_count, pushes_among}
-use Rattle.mark_core.proofs.Places.{at_get_or}
+use Rattle.mark_core.proofs.Happens.{happens_as, pops_as}
 use Rattle.mark_core.proofs.Chains.{chain_one}
 use Rattle.mark_core.proofs.Changes.{effect_changes}
 use Rattle.mark_core.proofs.Runs.{happens_keeps}
@@ -55,38 +55,22 @@ module _ (e : Setup) (m : Marking) (law : Law e m) (w : ℕ) (a : Account) (ther
   effect_parity :
       (kind : Kind) → Allows e m w a kind → (q : Which) (old new : List ℕ) → Changes q kind old new
       → Keeps m (effect m w a kind) kind q old new
-  effect_parity (Claim o) can q old new c = same_list m q old new c
-  effect_parity (Finish o) can q old new c = same_list m q old new c
-  effect_parity (Split units) can q old new c = same_list m q old new c
-  effect_parity (Join v) can q old new c = same_list m q old new c
-  effect_parity (Load p) can q old new c = same_list m q old new c
-  effect_parity (LoadLink p) can q old new c = same_list m q old new c
-  effect_parity (StoreLink i l) can q old new c = same_list m q old new c
   effect_parity (Pop p) can q old new c =
-      let i = can.0.1.0 in
-      let l = can.0.2.0 in
-      let first : stack_popped m w a p (m.head p).index (look_of a p).link
-      ≡ stack_popped m w a p (Some i) (look_of a p).link =
-      ap (λ x. stack_popped m w a p x (look_of a p).link) can.0.1.1 in
-      let second : stack_popped m w a p (Some i) (look_of a p).link ≡ stack_popped m w a p (Some i) (Some l) =
-      ap (λ x. stack_popped m w a p (Some i) x) can.0.2.1 in
-      omega (arith, ap (λ (n : Marking). (n.head q).tag) (first ∙ second), pop_parity m.head p q l old new c)
+      let popped = ap (λ (n : Marking). (n.head q).tag) (pops_as m w a p can.0) in
+      omega (arith, popped, pop_parity m.head p q can.0.2.0 old new c)
   effect_parity (Push p i items) can q old new c = push_parity m.head p q i old new c
-  effect_parity (Fail p) can q old new c = same_list m q old new c
-  effect_parity IdleUp can q old new c = same_list m q old new c
-  effect_parity IdleDown can q old new c = same_list m q old new c
-  effect_parity LoadIdle can q old new c = same_list m q old new c
+  effect_parity _ can q old new c = same_list m q old new c
 
 happens_parity :
     (e : Setup) (m : Marking) (event : Event) → Law e m → IsPossible e m event → (q : Which) (old new : List ℕ)
     → IsListOf m q old → IsListOf (happens m event) q new
     → Keeps m (happens m event) event.kind q old new
 happens_parity e m event law can q old new c n =
-    let same = at_get_or m.accounts event.worker can.0 no_share can.1.0 in
-    let after_it = subst (λ x. IsListOf (effect m event.worker x event.kind) q new) same n in
-    subst (λ x. Keeps m (effect m event.worker x event.kind) event.kind q old new) (sym same)
+    let same = happens_as e m event can in
+    subst (λ n. Keeps m n event.kind q old new) (sym same)
     (effect_parity e m law event.worker can.0 can.1 event.kind can.2 q old new
-    (effect_changes e m law event.worker can.0 can.1 event.kind can.2 q old new c after_it))
+    (effect_changes e m law event.worker can.0 can.1 event.kind can.2 q old new c
+    (subst (λ n. IsListOf n q new) same n)))
 
 run_parity :
     (e : Setup) (events : List Event) (first last : Marking) → Law e first → Run e first events last

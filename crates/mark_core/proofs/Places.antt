@@ -1,7 +1,8 @@
 -- Lists by place, and functions with one value put in.
 use Rattle.std.proofs.Common.{◌≡◌, ◌≢◌, ◌⊎◌, ℕ, zero, suc, ◌<◌, List, [], ◌∷◌, ◌++◌, length, get_or, set, cond, ap, sym}
-use Rattle.std.proofs.Common.{refl, inl, inr, ⊎_elim, eq-eqb, ne_eqb, arith}
+use Rattle.std.proofs.Common.{refl, subst, ◌∙◌, inl, inr, ⊎_elim, eq-eqb, ne_eqb, arith}
 use mathlib.Core.Option.{some-injective, some-ne-none}
+use native.Mathlib.Decide.{ℕ_discrete}
 use lib.ListN.{get_elem?}
 use Rattle.mark_core.specs.declared.which.Which.{Which}
 use Rattle.mark_core.specs.declared.which.Which.TheVariants.{Full, Empty}
@@ -30,13 +31,6 @@ module _ {X : Type 0} where
   set_else (x ∷ xs) zero (suc j) a n = refl
   set_else (x ∷ xs) (suc i) zero a n = refl
   set_else (x ∷ xs) (suc i) (suc j) a n = set_else xs i j a (λ e. n (ap suc e))
-
-  -- what stands at j in a list with one element more
-  pub at_push : (l : List X) (a b : X) (j : ℕ) → StandsAt (l ++ a ∷ []) j b → StandsAt l j b ⊎ (a ≡ b)
-  at_push [] a b zero e = inr (some-injective a b e)
-  at_push [] a b (suc j) e = absurd (some-ne-none b (sym e))
-  at_push (x ∷ xs) a b zero e = inl e
-  at_push (x ∷ xs) a b (suc j) e = at_push xs a b j e
 
   pub at_longer : (l m : List X) (i : ℕ) (a : X) → StandsAt l i a → StandsAt (l ++ m) i a
   at_longer [] m i a e = absurd (some-ne-none a (sym e))
@@ -69,6 +63,48 @@ module _ {X : Type 0} where
   put_one C Full x f here each Empty = each Empty
   put_one C Empty x f here each Full = each Full
   put_one C Empty x f here each Empty = here
+
+-- what holds of each element of a list, by its place, after one was written or put at the end
+pub set_at :
+    {X : Type 0} (P : ℕ → X → Type 0) (xs : List X) (w : ℕ) (y : X)
+    → ((k : ℕ) (x : X) → k ≢ w → StandsAt xs k x → P k x) → P w y → (k : ℕ) (x : X) → StandsAt (set xs w y) k x → P k x
+set_at P xs w y all here k x at =
+    ⊎_elim (λ t. subst (P k) t.1 (subst (λ j. P j y) (sym t.0) here)) (λ t. all k x t.0 t.1) (at_set xs w k y x at)
+
+pub push_at :
+    {X : Type 0} (P : ℕ → X → Type 0) (xs : List X) (y : X) → ((k : ℕ) (x : X) → StandsAt xs k x → P k x)
+    → P (length xs) y → (k : ℕ) (x : X) → StandsAt (xs ++ y ∷ []) k x → P k x
+push_at P [] y all here zero x at = subst (P 0) (some-injective y x at) here
+push_at P [] y all here (suc k) x at = absurd (some-ne-none x (sym at))
+push_at P (z ∷ xs) y all here zero x at = all 0 x at
+push_at P (z ∷ xs) y all here (suc k) x at =
+    push_at (λ j. P (suc j)) xs y (λ j b is. all (suc j) b is) here k x at
+
+-- the same of what says nothing of places
+module _ {X : Type 0} (P : X → Type 0) where
+  abbrev pub OfEach : List X → Type 0
+  OfEach xs = (k : ℕ) (x : X) → StandsAt xs k x → P x
+
+  pub set_all : (xs : List X) (w : ℕ) (y : X) → OfEach xs → P y → OfEach (set xs w y)
+  set_all xs w y all = set_at (λ k. P) xs w y (λ k x n at. all k x at)
+
+  pub push_all : (xs : List X) (y : X) → OfEach xs → P y → OfEach (xs ++ y ∷ [])
+  push_all = push_at (λ k. P)
+
+  pub one_all : (x : X) → P x → OfEach (x ∷ [])
+  one_all x here = push_all [] x (λ k y at. absurd (some-ne-none y (sym at))) here
+
+-- what holds of each element after one was written held before, if it did of that one
+pub set_back :
+    {X : Type 0} (P : ℕ → X → Type 0) (xs : List X) (w : ℕ) (a b : X) → StandsAt xs w a
+    → ((k : ℕ) (x : X) → StandsAt (set xs w b) k x → P k x) → (P w b → P w a) → (k : ℕ) (x : X) → StandsAt xs k x → P k x
+set_back P xs w a b is all own k x at = go (ℕ_discrete k w)
+  where
+    go : Dec (k ≡ w) → P k x
+    go (yes e) =
+        let same : x ≡ a = at_one xs w x a (subst (λ j. StandsAt xs j x) e at) is in
+        subst (P k) (sym same) (subst (λ j. P j a) (sym e) (own (all w b (set_here xs w b a is))))
+    go (no n) = all k x (set_else xs w k b n ∙ at)
 
 -- the same of two functions
 pub put_two : {X Y : Type 0} (C : X → Y → Type 0) (q : Which) (x : X) (y : Y) (f : Which → X) (g : Which → Y) → C x y

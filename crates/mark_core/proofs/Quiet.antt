@@ -2,26 +2,27 @@
 use Rattle.std.proofs.Common.{◌≡◌, ◌≢◌, ◌⊎◌, ℕ, zero, suc, ◌+◌, ◌-◌, ◌%◌, ◌^◌, ◌<◌, ◌≤◌, Bool, true, false, ◌||◌}
 use Rattle.std.proofs.Common.{is_none, List, [], ◌∷◌, ◌++◌, length, length-set, Option, Some, None, Contains, set}
 use Rattle.std.proofs.Common.{slice_index_or, ap, sym, refl, subst, ◌∙◌, inl, inr, ⊎_elim, arith}
-use Rattle.std.proofs.lemmas.Bool.{false≢true}
+use Rattle.std.proofs.lemmas.Bool.{false≢true, or_left, or_parts}
 use mathlib.Core.Option.{some-injective, some-ne-none}
 use native.Mathlib.Decide.{ℕ_discrete}
 use Rattle.mark_core.specs.declared.which.Which.{Which}
 use Rattle.mark_core.specs.declared.which.Which.TheVariants.{Full, Empty}
 use Rattle.mark_core.specs.Lists.{StandsAt, sum_of, without}
-use Rattle.mark_core.specs.Account.{Account, look_of, part, no_share, after_claim, after_finish, after_split}
-use Rattle.mark_core.specs.Account.{after_join, after_load, after_load_link, after_pop, after_push, after_idle_up}
-use Rattle.mark_core.specs.Account.{after_idle_down, after_load_idle}
+use Rattle.mark_core.specs.Account.{Account, part, no_share, after_claim, after_finish, after_split}
+use Rattle.mark_core.specs.Account.{after_join, after_load, after_pop, after_push, after_idle_up}
+use Rattle.mark_core.specs.Account.{after_idle_down}
 use Rattle.mark_core.specs.World.{Setup, Marking, items_of, IsThere}
 use Rattle.mark_core.specs.Events.{Kind, Claim, Finish, Split, Join, Load, LoadLink, StoreLink, Pop, Push, Fail, IdleUp}
-use Rattle.mark_core.specs.Events.{IdleDown, LoadIdle, Event, IsBusy, Allows, IsPossible, effect, happens, stack_popped}
-use Rattle.mark_core.specs.Events.{last_link, word_up, word_down}
+use Rattle.mark_core.specs.Events.{IdleDown, Event, IsBusy, Allows, IsPossible, effect, happens, stack_popped}
+use Rattle.mark_core.specs.Events.{word_up, word_down}
 use Rattle.mark_core.specs.Shares.{whole}
-use Rattle.mark_core.specs.Runs.{Run, IsRun, opening}
+use Rattle.mark_core.specs.Runs.{IsRun, opening}
 use Rattle.mark_core.specs.Quiet.{HasGivenUnits, QuietIsDone}
-use Rattle.mark_core.proofs.Places.{at_below, at_get_or, at_one, at_set, at_push, set_here, set_else}
+use Rattle.mark_core.proofs.Places.{at_below, at_get_or, set_here, set_else, set_all, push_all}
+use Rattle.mark_core.proofs.Places.{set_at, push_at, set_back, one_all}
+use Rattle.mark_core.proofs.Happens.{happens_as, pops_as, along}
 use Rattle.mark_core.proofs.Sums.{sum_of-set, sum_of-append, term_le}
 use Rattle.mark_core.proofs.Chains.{chain_none}
-use Rattle.mark_core.proofs.Openings.{alone}
 use Rattle.mark_core.proofs.Runs.{runs_keep_law}
 
 -- an account that was not joined has a share. It is not idle, or it has one unit, answers for nothing, and has found
@@ -35,9 +36,13 @@ IsResting a =
 -- and each other one has found the full stack empty
 pub record HaveFound (accounts : List Account) : Type 0 where
   pub apart : (k : ℕ) (a : Account) → StandsAt accounts k a → a.joined ≡ false
-  pub opening : (a : Account) → StandsAt accounts 0 a → a.pushed ≡ false
+  pub opening : (k : ℕ) (a : Account) → StandsAt accounts k a → k ≡ 0 → a.pushed ≡ false
   pub another : 1 < length accounts
-  pub others : (k : ℕ) (a : Account) → 0 < k → StandsAt accounts k a → a.found ≡ true
+  pub others : (k : ℕ) (a : Account) → StandsAt accounts k a → 0 < k → a.found ≡ true
+
+-- the opening account gave units away where there is another
+abbrev pub HasParted : ℕ → ℕ → Account → Type 0
+HasParted many k a = k ≡ 0 → 1 < many → a.joined ≡ false → a.parted ≡ true
 
 abbrev pub idle_sum : List Account → ℕ
 idle_sum accounts = sum_of (λ a. a.idle) accounts
@@ -46,25 +51,12 @@ idle_sum accounts = sum_of (λ a. a.idle) accounts
 pub record IsHushed (idle : ℕ) (top : Option ℕ) (accounts : List Account) : Type 0 where
   pub counted : idle ≡ idle_sum accounts % 2 ^ 64
   pub resting : (k : ℕ) (a : Account) → StandsAt accounts k a → IsResting a
-  pub parted : (a : Account) → 1 < length accounts → StandsAt accounts 0 a → a.joined ≡ false → a.parted ≡ true
+  pub parted : (k : ℕ) (a : Account) → StandsAt accounts k a → HasParted (length accounts) k a
   pub emptied : HaveFound accounts → top ≡ None
-
-in_front : {X : Type 0} (xs ys : List X) (i : ℕ) (x : X) → i < length xs → StandsAt (xs ++ ys) i x → StandsAt xs i x
-in_front [] ys i x h at = absurd (omega arith)
-in_front (y ∷ xs) ys zero x h at = at
-in_front (y ∷ xs) ys (suc i) x h at = in_front xs ys i x (omega arith) at
 
 at_end : {X : Type 0} (xs : List X) (y : X) → StandsAt (xs ++ y ∷ []) (length xs) y
 at_end [] y = refl
 at_end (x ∷ xs) y = at_end xs y
-
-or_true : (x y : Bool) → x ≡ true → x || y ≡ true
-or_true true y e = refl
-or_true false y e = absurd (false≢true e)
-
-or_both : (x y : Bool) → y ≡ true → x || y ≡ false → ⊥
-or_both true y p q = false≢true (sym q)
-or_both false y p q = false≢true (sym q ∙ p)
 
 or_none : (x : Bool) (n : Option ℕ) (i : ℕ) → n ≡ Some i → x || is_none n ≡ true → x ≡ true
 or_none true n i some t = refl
@@ -101,21 +93,12 @@ module _
 module _
     {idle : ℕ} {top : Option ℕ} {accounts : List Account} (s : IsHushed idle top accounts)
     (w : ℕ) (a : Account) (is : StandsAt accounts w a) where
-  same_here : (k : ℕ) (x : Account) → k ≡ w → StandsAt accounts k x → x ≡ a
-  same_here k x e at = at_one accounts w x a (subst (λ v. StandsAt accounts v x) e at) is
-
   module _ (b : Account) where
     abbrev now : List Account
     now = set accounts w b
 
     here : StandsAt now w b
     here = set_here accounts w b a is
-
-    first_here : 0 ≡ w → StandsAt now 0 b
-    first_here e = subst (λ v. StandsAt now v b) (sym e) here
-
-    first_was : 0 ≡ w → StandsAt accounts 0 a
-    first_was e = subst (λ v. StandsAt accounts v a) (sym e) is
 
     more_than_one : 1 < length now → 1 < length accounts
     more_than_one more = omega (arith, more, length-set accounts w b)
@@ -126,25 +109,11 @@ module _
         → (b.found ≡ true → a.found ≡ true) → HaveFound now → HaveFound accounts
     found_back joined pushed found h =
         record {
-          apart = λ k x at. apart k x at (ℕ_discrete k w);
-          opening = λ x at. opening x at (ℕ_discrete 0 w);
+          apart = set_back (λ k x. x.joined ≡ false) accounts w a b is h.apart joined;
+          opening = set_back (λ k x. k ≡ 0 → x.pushed ≡ false) accounts w a b is h.opening (λ was e. pushed (was e));
           another = more_than_one h.another;
-          others = λ k x later at. others k x later at (ℕ_discrete k w);
+          others = set_back (λ k x. 0 < k → x.found ≡ true) accounts w a b is h.others (λ was later. found (was later));
         }
-      where
-        apart : (k : ℕ) (x : Account) → StandsAt accounts k x → Dec (k ≡ w) → x.joined ≡ false
-        apart k x at (yes e) = ap (λ (y : Account). y.joined) (same_here k x e at) ∙ joined (h.apart w b here)
-        apart k x at (no n) = h.apart k x (set_else accounts w k b n ∙ at)
-
-        opening : (x : Account) → StandsAt accounts 0 x → Dec (0 ≡ w) → x.pushed ≡ false
-        opening x at (yes e) =
-            ap (λ (y : Account). y.pushed) (same_here 0 x e at) ∙ pushed (h.opening b (first_here e))
-        opening x at (no n) = h.opening x (set_else accounts w 0 b n ∙ at)
-
-        others : (k : ℕ) (x : Account) → 0 < k → StandsAt accounts k x → Dec (k ≡ w) → x.found ≡ true
-        others k x later at (yes e) =
-            ap (λ (y : Account). y.found) (same_here k x e at) ∙ found (h.others w b (omega (arith, later, e)) here)
-        others k x later at (no n) = h.others k x later (set_else accounts w k b n ∙ at)
 
     -- the account changes
     hushed_put :
@@ -154,21 +123,13 @@ module _
     hushed_put idle' top' counted rest joined parted emptied =
         record {
           counted = counted;
-          resting =
-              λ k x at.
-              ⊎_elim (λ t. subst IsResting t.1 rest) (λ t. s.resting k x t.1) (at_set accounts w k b x at);
-          parted = λ x more at. given x more at (ℕ_discrete 0 w);
+          resting = set_all IsResting accounts w b s.resting rest;
+          parted =
+              set_at (HasParted (length now)) accounts w b
+              (λ k x n at e more alone. s.parted k x at e (more_than_one more) alone)
+              (λ e more alone. parted (s.parted w a is e (more_than_one more) (joined alone)));
           emptied = emptied;
         }
-      where
-        given :
-            (x : Account) → 1 < length now → StandsAt now 0 x → Dec (0 ≡ w) → x.joined ≡ false → x.parted ≡ true
-        given x more at (yes e) alone =
-            let t : x ≡ b = at_one now w x b (subst (λ v. StandsAt now v x) e at) here in
-            let apart : b.joined ≡ false = sym (ap (λ (y : Account). y.joined) t) ∙ alone in
-            let before : a.parted ≡ true = s.parted a (more_than_one more) (first_was e) (joined apart) in
-            ap (λ (y : Account). y.parted) t ∙ parted before
-        given x more at (no n) alone = s.parted x (more_than_one more) (sym (set_else accounts w 0 b n) ∙ at) alone
 
     counted_same : b.idle ≡ a.idle → idle ≡ idle_sum now % 2 ^ 64
     counted_same same =
@@ -196,9 +157,9 @@ module _
         not_found : HaveFound now → Dec (0 ≡ w) → ⊥
         not_found h (yes e) =
             let apart : a.joined ≡ false = sym joined ∙ h.apart w b here in
-            let gave : a.parted ≡ true = s.parted a (more_than_one h.another) (first_was e) apart in
-            or_both a.pushed a.parted gave (sym pushed ∙ h.opening b (first_here e))
-        not_found h (no n) = false≢true (sym found ∙ h.others w b (omega (arith, n)) here)
+            let gave : a.parted ≡ true = s.parted w a is (sym e) (more_than_one h.another) apart in
+            false≢true (sym (or_parts a.pushed a.parted (sym pushed ∙ h.opening w b here (sym e))).1 ∙ gave)
+        not_found h (no n) = false≢true (sym found ∙ h.others w b here (omega (arith, n)))
 
   -- units go to a new account, which has found nothing
   hushed_split :
@@ -207,9 +168,13 @@ module _
   hushed_split units least less =
       record {
         counted = counted_same b refl ∙ ap (λ n. n % 2 ^ 64) sums;
-        resting = resting;
-        parted = given;
-        emptied = λ h. absurd (false≢true (h.others (length fewer) (part units) long (at_end fewer (part units))));
+        resting =
+            push_all IsResting fewer (part units) (set_all IsResting accounts w b s.resting rest)
+            (λ alone. (least, inl refl));
+        parted =
+            push_at (HasParted _) fewer (part units) (set_at (HasParted _) accounts w b before (λ e more alone. refl))
+            (λ e. absurd (omega (arith, e, long)));
+        emptied = λ h. absurd (false≢true (h.others (length fewer) (part units) (at_end fewer (part units)) long));
       }
     where
       b : Account
@@ -229,26 +194,9 @@ module _
           let r = s.resting w a is alone in
           (omega (arith, less), ⊎_elim inl (λ o. absurd (omega (arith, o.1, least, less))) r.1)
 
-      resting : (k : ℕ) (x : Account) → StandsAt (fewer ++ part units ∷ []) k x → IsResting x
-      resting k x at =
-          ⊎_elim (λ t. ⊎_elim (λ u. subst IsResting u.1 rest) (λ u. s.resting k x u.1) (at_set accounts w k b x t))
-          (λ t. subst IsResting t (λ alone. (least, inl refl))) (at_push fewer (part units) x k at)
-
-      given :
-          (x : Account) → 1 < length (fewer ++ part units ∷ []) → StandsAt (fewer ++ part units ∷ []) 0 x
-          → x.joined ≡ false → x.parted ≡ true
-      given x more at alone = go (ℕ_discrete 0 w)
-        where
-          old : StandsAt fewer 0 x
-          old = in_front fewer (part units ∷ []) 0 x long at
-
-          go : Dec (0 ≡ w) → x.parted ≡ true
-          go (yes e) =
-              let same : x ≡ b = at_one fewer w x b (subst (λ v. StandsAt fewer v x) e old) (here b) in
-              ap (λ (y : Account). y.parted) same
-          go (no n) =
-              let more_before : 1 < length accounts = omega (arith, at_below accounts w a is, n) in
-              s.parted x more_before (sym (set_else accounts w 0 b n) ∙ old) alone
+      before :
+          (k : ℕ) (x : Account) → k ≢ w → StandsAt accounts k x → HasParted (length (fewer ++ part units ∷ [])) k x
+      before k x n at e more alone = s.parted k x at e (omega (arith, at_below accounts w a is, n, e)) alone
 
   -- two accounts are put together, and both are noted as joined
   hushed_join :
@@ -257,9 +205,13 @@ module _
   hushed_join v b apart at =
       record {
         counted = s.counted ∙ ap (λ n. n % 2 ^ 64) sums;
-        resting = resting;
-        parted = given;
-        emptied = λ h. absurd (false≢true (sym (h.apart v no_share (set_here first v no_share b still))));
+        resting =
+            set_all IsResting first v no_share (set_all IsResting accounts w both s.resting taken) taken;
+        parted =
+            set_at (HasParted _) first v no_share
+            (λ k x n. set_at (HasParted _) accounts w both before (λ e more. taken) k x)
+            (λ e more. taken);
+        emptied = λ h. taken (h.apart v no_share (set_here first v no_share b still));
       }
     where
       both : Account
@@ -279,23 +231,12 @@ module _
           let idle_of : Account → ℕ = λ (x : Account). x.idle in
           omega (arith, sum_of-set idle_of accounts w a both is, sum_of-set idle_of first v b no_share still)
 
-      -- each account after the join is one that was joined, or one of before
-      from : (k : ℕ) (x : Account) → StandsAt second k x → (x.joined ≡ true) ⊎ StandsAt accounts k x
-      from k x e =
-          ⊎_elim (λ t. inl (sym (ap (λ (y : Account). y.joined) t.1)))
-          (λ t.
-          ⊎_elim (λ u. inl (sym (ap (λ (y : Account). y.joined) u.1))) (λ u. inr u.1) (at_set accounts w k both x t.1))
-          (at_set first v k no_share x e)
+      taken : {A : Type 0} → true ≡ false → A
+      taken alone = absurd (false≢true (sym alone))
 
-      resting : (k : ℕ) (x : Account) → StandsAt second k x → IsResting x
-      resting k x e alone =
-          ⊎_elim (λ j. absurd (false≢true (sym alone ∙ j))) (λ before. s.resting k x before alone) (from k x e)
-
-      given : (x : Account) → 1 < length second → StandsAt second 0 x → x.joined ≡ false → x.parted ≡ true
-      given x more e alone =
-          let more_before : 1 < length accounts =
-          omega (arith, more, length-set first v no_share, length-set accounts w both) in
-          ⊎_elim (λ j. absurd (false≢true (sym alone ∙ j))) (λ before. s.parted x more_before before alone) (from 0 x e)
+      before : (k : ℕ) (x : Account) → k ≢ w → StandsAt accounts k x → HasParted (length second) k x
+      before k x n at e more alone =
+          s.parted k x at e (omega (arith, more, length-set first v no_share, length-set accounts w both)) alone
 
 -- what is known between two events
 abbrev pub Hushed : Marking → Type 0
@@ -340,9 +281,17 @@ module _ (e : Setup) (m : Marking) (s : Hushed m) (w : ℕ) (a : Account) (there
       let back = found_back s w a there.0 b in
       s.emptied (back (λ p. sym joined ∙ p) (λ p. sym pushed ∙ p) found h)
 
-  load_hushed : (q : Which) → Hushed (effect m w a (Load q))
-  load_hushed Full =
-      let rests = same_rest a b rest refl refl refl refl (or_true a.found (is_none (m.head Full).index)) in
+  -- it changes in what it loaded alone
+  keep_all :
+      (b : Account) → b.share ≡ a.share → b.idle ≡ a.idle → b.joined ≡ a.joined → b.charge ≡ a.charge
+      → b.found ≡ a.found → b.parted ≡ a.parted → b.pushed ≡ a.pushed
+      → IsHushed m.idle (m.head Full).index (set m.accounts w b)
+  keep_all b share idle joined charge found parted pushed =
+      keep b idle (same_rest a b rest share idle joined charge (λ h. found ∙ h)) joined parted pushed found
+
+  load_hushed : Hushed (effect m w a (Load Full))
+  load_hushed =
+      let rests = same_rest a b rest refl refl refl refl (or_left a.found (is_none (m.head Full).index)) in
       change b m.idle (m.head Full).index (same_count b refl) rests refl refl (emptied (m.head Full).index refl)
     where
       b : Account
@@ -352,18 +301,6 @@ module _ (e : Setup) (m : Marking) (s : Hushed m) (w : ℕ) (a : Account) (there
           (n : Option ℕ) → (m.head Full).index ≡ n → HaveFound (set m.accounts w b) → (m.head Full).index ≡ None
       emptied None none h = none
       emptied (Some i) top h = still_empty b refl refl (or_none a.found (m.head Full).index i top) h
-  load_hushed Empty =
-      let b = after_load Empty (m.head Empty) a in
-      keep b refl (same_rest a b rest refl refl refl refl (λ h. h)) refl refl refl refl
-
-  link_hushed :
-      (q : Which) (l : Option ℕ) → IsHushed m.idle (m.head Full).index (set m.accounts w (after_load_link q l a))
-  link_hushed Full l =
-      let b = after_load_link Full l a in
-      keep b refl (same_rest a b rest refl refl refl refl (λ h. h)) refl refl refl refl
-  link_hushed Empty l =
-      let b = after_load_link Empty l a in
-      keep b refl (same_rest a b rest refl refl refl refl (λ h. h)) refl refl refl refl
 
   pop_hushed :
       (q : Which) (i : ℕ) (l : Option ℕ) → (m.head q).index ≡ Some i → IsBusy a
@@ -404,14 +341,11 @@ module _ (e : Setup) (m : Marking) (s : Hushed m) (w : ℕ) (a : Account) (there
       λ x. IsHushed m.idle (m.head Full).index (set (set m.accounts w (after_join a x)) v no_share) in
       subst After (sym (at_get_or m.accounts v can.1.0 no_share can.1.1.0))
       (hushed_join s w a there.0 v can.1.0 can.0 can.1.1.0)
-  effect_hushed (Load q) can = load_hushed q
-  effect_hushed (LoadLink q) can = link_hushed q (last_link m.link (look_of a q).head)
+  effect_hushed (Load Full) can = load_hushed
+  effect_hushed (LoadLink Full) can = keep_all _ refl refl refl refl refl refl refl
   effect_hushed (StoreLink i l) can = s
   effect_hushed (Pop q) can =
-      let i = can.0.1.0 in
-      let hushed = pop_hushed q i can.0.2.0 can.0.1.1 can.1 in
-      subst (λ n. Hushed (stack_popped m w a q n (look_of a q).link)) (sym can.0.1.1)
-      (subst (λ k. Hushed (stack_popped m w a q (Some i) k)) (sym can.0.2.1) hushed)
+      subst Hushed (sym (pops_as m w a q can.0)) (pop_hushed q can.0.1.0 can.0.2.0 can.0.1.1 can.1)
   effect_hushed (Push q i items) can = push_hushed q i items can.1.3 can.3
   effect_hushed (Fail q) can = s
   effect_hushed IdleUp can =
@@ -432,35 +366,25 @@ module _ (e : Setup) (m : Marking) (s : Hushed m) (w : ℕ) (a : Account) (there
       (down_counted m.idle sum (idle_sum (set m.accounts w b)) s.counted less)
       (λ alone. (there.1, inl (omega (arith, can.1)))) refl refl
       (still_empty b refl refl (λ p. p))
-  effect_hushed LoadIdle can =
-      let b = after_load_idle m.idle a in
-      keep b refl (same_rest a b rest refl refl refl refl (λ h. h)) refl refl refl refl
+  effect_hushed _ can = keep_all _ refl refl refl refl refl refl refl
 
 happens_hushed : (e : Setup) (m : Marking) (event : Event) → Hushed m → IsPossible e m event → Hushed (happens m event)
 happens_hushed e m event s can =
-    let here = at_get_or m.accounts event.worker can.0 no_share can.1.0 in
-    subst (λ x. Hushed (effect m event.worker x event.kind)) (sym here)
-    (effect_hushed e m s event.worker can.0 can.1 event.kind can.2)
-
-run_hushed :
-    (e : Setup) (events : List Event) (first last : Marking) → Hushed first → Run e first events last → Hushed last
-run_hushed e [] first last s run = subst Hushed (sym run) s
-run_hushed e (event ∷ events) first last s run =
-    run_hushed e events (happens first event) last (happens_hushed e first event s run.0) run.1
+    subst Hushed (sym (happens_as e m event can)) (effect_hushed e m s event.worker can.0 can.1 event.kind can.2)
 
 opening_hushed : (e : Setup) (tag : ℕ) → Hushed (opening e tag)
 opening_hushed e tag =
     record {
       counted = omega arith;
-      resting = λ k x at. subst IsResting (alone k (part whole) x at) (λ apart. (omega arith, inl refl));
-      parted = λ x more at apart. absurd (omega (arith, more));
+      resting = one_all IsResting (part whole) (λ apart. (omega arith, inl refl));
+      parted = λ k x at e more apart. absurd (omega (arith, more));
       emptied = λ h. refl;
     }
 
 pub run_is_hushed : (e : Setup) (m : Marking) → IsRun e m → Hushed m
 run_is_hushed e m run =
     let opens = run.2 in
-    run_hushed e run.1 run.0 m (subst Hushed (sym opens.2) (opening_hushed e opens.0)) run.3
+    along e Hushed (happens_hushed e) run.1 run.0 m (subst Hushed (sym opens.2) (opening_hushed e opens.0)) run.3
 
 -- Accounts of which none was joined have idle numbers up to their shares; where the sums are equal, so are the parts
 abbrev AllApart : List Account → Type 0
@@ -499,7 +423,8 @@ quiet_list :
     → ((a : Account) → StandsAt accounts 0 a → HasGivenUnits n a)
     → (top ≡ None) × ((k : ℕ) (a : Account) → 0 < k → StandsAt accounts k a → a.charge ≡ [])
 quiet_list idle n top [] s sum least word apart opening = absurd (omega (arith, sum))
-quiet_list idle n top (a ∷ cs) s sum least word apart opening = (s.emptied found, charges)
+quiet_list idle n top (a ∷ cs) s sum least word apart opening =
+    (s.emptied found, λ k b later at. (others k b at later).0)
   where
     o : HasGivenUnits n a
     o = opening a refl
@@ -515,28 +440,21 @@ quiet_list idle n top (a ∷ cs) s sum least word apart opening = (s.emptied fou
     even : idle_sum cs ≡ share_sum cs
     even = omega (arith, s.counted, word, none, o.units, sum, sum_le cs all)
 
-    each : (k : ℕ) (b : Account) → StandsAt cs k b → (b.charge ≡ []) × (b.found ≡ true)
-    each = all_idle cs all even
-
     longer : (bs : List Account) → 0 < share_sum bs → 1 < suc (length bs)
     longer [] h = absurd (omega arith)
     longer (b ∷ bs) h = omega arith
 
-    others : (k : ℕ) (b : Account) → 0 < k → StandsAt (a ∷ cs) k b → b.found ≡ true
-    others zero b later at = absurd (omega arith)
-    others (suc k) b later at = (each k b at).1
-
-    charges : (k : ℕ) (b : Account) → 0 < k → StandsAt (a ∷ cs) k b → b.charge ≡ []
-    charges zero b later at = absurd (omega arith)
-    charges (suc k) b later at = (each k b at).0
+    others : (k : ℕ) (b : Account) → StandsAt (a ∷ cs) k b → 0 < k → (b.charge ≡ []) × (b.found ≡ true)
+    others zero b at later = absurd (omega arith)
+    others (suc k) b at later = all_idle cs all even k b at
 
     found : HaveFound (a ∷ cs)
     found =
         record {
           apart = apart;
-          opening = λ b at. (opening b at).pushed;
+          opening = λ k b at e. (opening b (subst (λ j. StandsAt (a ∷ cs) j b) e at)).pushed;
           another = longer cs (omega (arith, least, o.units, sum));
-          others = others;
+          others = λ k b at later. (others k b at later).1;
         }
 
 pub quiet_is_done : QuietIsDone

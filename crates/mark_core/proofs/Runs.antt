@@ -1,18 +1,19 @@
 -- Every run from an opening marking keeps the law.
-use Rattle.std.proofs.Common.{◌≡◌, ℕ, List, [], ◌∷◌, Some, None, slice_set, slice_index_or, ap, sym, refl, subst, ◌∙◌}
+use Rattle.std.proofs.Common.{◌≡◌, ℕ, Some, None, slice_set, slice_index_or, ap, sym, refl, subst, ◌∙◌}
 use Rattle.std.proofs.Common.{inr}
 use Rattle.mark_core.specs.Lists.{StandsAt}
 use Rattle.mark_core.specs.Account.{Account, look_of, no_share, after_join, after_load_link, after_idle_up}
 use Rattle.mark_core.specs.Account.{after_idle_down, after_load_idle}
 use Rattle.mark_core.specs.World.{Setup, Marking, items_of, IsThere}
 use Rattle.mark_core.specs.Events.{Kind, Claim, Finish, Split, Join, Load, LoadLink, StoreLink, Pop, Push, Fail, IdleUp}
-use Rattle.mark_core.specs.Events.{IdleDown, LoadIdle, Event, Allows, effect, happens, stack_popped, last_link}
+use Rattle.mark_core.specs.Events.{IdleDown, LoadIdle, Allows, effect, last_link}
 use Rattle.mark_core.specs.Events.{link_from}
 use Rattle.mark_core.specs.Events.{word_up, word_down}
 use Rattle.mark_core.specs.Ownership.{IsRecent}
 use Rattle.mark_core.specs.Law.{Law}
-use Rattle.mark_core.specs.Runs.{Run, RunsKeepLaw, EventsKeepLaw}
+use Rattle.mark_core.specs.Runs.{RunsKeepLaw, EventsKeepLaw}
 use Rattle.mark_core.proofs.Places.{at_get_or}
+use Rattle.mark_core.proofs.Happens.{happens_as, pops_as, along}
 use Rattle.mark_core.proofs.Sums.{stands_times}
 use Rattle.mark_core.proofs.Ownership.{same_looks, top_stands}
 use Rattle.mark_core.proofs.Events.{load_keeps, load_link_keeps, looks_keep, store_keeps, pop_keeps, push_keeps}
@@ -63,10 +64,9 @@ effect_keeps e m law w a there (Pop q) can =
     (top_stands e.buffers m.head m.link m.accounts law.stack law.owned q i can.0.1.1) in
     let here : items_of (slice_index_or m.slots i None) ≡ slot.0 =
     ap items_of (at_get_or m.slots i (Some slot.0) None slot.1) in
-    subst (λ n. Law e (stack_popped m w a q n (look_of a q).link)) (sym can.0.1.1)
-    (subst (λ k. Law e (stack_popped m w a q (Some i) k)) (sym can.0.2.1)
+    subst (Law e) (sym (pops_as m w a q can.0))
     (pop_keeps e m law w a there.0 there.1 q i l (items_of (slice_index_or m.slots i None)) can.0.0.0 can.0.1.1
-    can.0.2.1 (subst (λ xs. StandsAt m.slots i (Some xs)) (sym here) slot.1)))
+    can.0.2.1 (subst (λ xs. StandsAt m.slots i (Some xs)) (sym here) slot.1))
 effect_keeps e m law w a there (Push q i items) can =
     push_keeps e m law w a there.0 there.1 q i items (stands_times a.held i can.1.0) can.2 can.1.1 can.1.3
 effect_keeps e m law w a there (Fail q) can = law
@@ -80,16 +80,9 @@ effect_keeps e m law w a there LoadIdle can =
 -- each possible event keeps the law
 pub happens_keeps : EventsKeepLaw
 happens_keeps e m event law can =
-    subst (λ x. Law e (effect m event.worker x event.kind))
-    (sym (at_get_or m.accounts event.worker can.0 no_share can.1.0))
-    (effect_keeps e m law event.worker can.0 can.1 event.kind can.2)
-
-run_keeps : (e : Setup) (events : List Event) (first last : Marking) → Law e first → Run e first events last
-    → Law e last
-run_keeps e [] first last law run = subst (Law e) (sym run) law
-run_keeps e (event ∷ events) first last law run =
-    run_keeps e events (happens first event) last (happens_keeps e first event law run.0) run.1
+    subst (Law e) (sym (happens_as e m event can)) (effect_keeps e m law event.worker can.0 can.1 event.kind can.2)
 
 pub runs_keep_law : RunsKeepLaw
 runs_keep_law e m run =
-    run_keeps e run.1 run.0 m (let opens = run.2 in subst (Law e) (sym opens.2) (opening_keeps e opens.0 opens.1)) run.3
+    let opens = run.2 in
+    along e (Law e) (happens_keeps e) run.1 run.0 m (subst (Law e) (sym opens.2) (opening_keeps e opens.0 opens.1)) run.3

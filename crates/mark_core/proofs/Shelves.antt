@@ -19,31 +19,31 @@ pub shelved_set :
 shelved_set buffers slots stack new i was x s at others stacked bare away =
     record { places = length-set slots i x ∙ s.places; stacked = in_slots; bare = in_bare; away = in_away }
   where
-    here : (b : ℕ) (y : Option (List ℕ)) → b ≡ i → x ≡ y → StandsAt (set slots i x) b y
-    here b y e f = subst (λ j. StandsAt (set slots i x) j y) (sym e)
-        (subst (λ z. StandsAt (set slots i x) i z) f (set_here slots i x was at))
-
-    else : (b : ℕ) (y : Option (List ℕ)) → b ≢ i → StandsAt slots b y → StandsAt (set slots i x) b y
-    else b y n e = set_else slots i b x n ∙ e
+    -- what stands at b then
+    stands : (b : ℕ) (y : Option (List ℕ)) → (b ≡ i → x ≡ y) → (b ≢ i → StandsAt slots b y) → StandsAt (set slots i x) b y
+    stands b y mine others = go (ℕ_discrete b i)
+      where
+        go : Dec (b ≡ i) → StandsAt (set slots i x) b y
+        go (yes e) = subst (λ j. StandsAt (set slots i x) j y) (sym e)
+            (subst (λ z. StandsAt (set slots i x) i z) (mine e) (set_here slots i x was at))
+        go (no n) = set_else slots i b x n ∙ others n
 
     in_slots : (p : Which) (b : ℕ) → 0 < times b (new p) → (items : List ℕ) × StandsAt (set slots i x) b (Some items)
     in_slots p b h = go (ℕ_discrete b i)
       where
         go : Dec (b ≡ i) → (items : List ℕ) × StandsAt (set slots i x) b (Some items)
-        go (yes e) = let t = stacked p (subst (λ j. 0 < times j (new p)) e h) in (t.0, here b (Some t.0) e t.1)
-        go (no n) = let t = s.stacked p b (omega (arith, others p b n)) in (t.0, else b (Some t.0) n t.1)
+        go (yes e) =
+            let t = stacked p (subst (λ j. 0 < times j (new p)) e h) in
+            (t.0, stands b (Some t.0) (λ _. t.1) (λ n. absurd (n e)))
+        go (no n) =
+            let t = s.stacked p b (omega (arith, others p b n)) in
+            (t.0, stands b (Some t.0) (λ e. absurd (n e)) (λ _. t.1))
 
     in_bare : (b : ℕ) → 0 < times b (new Empty) → StandsAt (set slots i x) b (Some [])
-    in_bare b h = go (ℕ_discrete b i)
-      where
-        go : Dec (b ≡ i) → StandsAt (set slots i x) b (Some [])
-        go (yes e) = here b (Some []) e (bare (subst (λ j. 0 < times j (new Empty)) e h))
-        go (no n) = else b (Some []) n (s.bare b (omega (arith, others Empty b n)))
+    in_bare b h = stands b (Some []) (λ e. bare (subst (λ j. 0 < times j (new Empty)) e h))
+        (λ n. s.bare b (omega (arith, others Empty b n)))
 
     in_away : (b : ℕ) → b < buffers → times b (new Full) ≡ 0 → times b (new Empty) ≡ 0 → StandsAt (set slots i x) b None
-    in_away b l f g = go (ℕ_discrete b i)
-      where
-        go : Dec (b ≡ i) → StandsAt (set slots i x) b None
-        go (yes e) = here b None e (away (subst (λ j. times j (new Full) ≡ 0) e f)
-            (subst (λ j. times j (new Empty) ≡ 0) e g))
-        go (no n) = else b None n (s.away b l (omega (arith, others Full b n)) (omega (arith, others Empty b n)))
+    in_away b l f g = stands b None
+        (λ e. away (subst (λ j. times j (new Full) ≡ 0) e f) (subst (λ j. times j (new Empty) ≡ 0) e g))
+        (λ n. s.away b l (omega (arith, others Full b n)) (omega (arith, others Empty b n)))

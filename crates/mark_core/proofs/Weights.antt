@@ -1,19 +1,18 @@
 -- The accounts that were made bound the idle numbers: each event keeps it so.
-use Rattle.std.proofs.Common.{◌≡◌, ◌≢◌, ℕ, ◌+◌, ◌<◌, ◌≤◌, List, [], ◌∷◌, ◌++◌, length, length-set, Option, Some, None}
-use Rattle.std.proofs.Common.{set, slice_index_or, sym, refl, subst, ◌∙◌, arith}
+use Rattle.std.proofs.Common.{◌≡◌, ◌≢◌, ℕ, ◌+◌, ◌<◌, ◌≤◌, List, [], ◌∷◌, ◌++◌, length, length-set, Option, Some}
+use Rattle.std.proofs.Common.{set, sym, refl, subst, ◌∙◌, arith}
 use Rattle.std.proofs.lemmas.List.{length-append}
 use Rattle.mark_core.specs.declared.which.Which.{Which}
-use Rattle.mark_core.specs.declared.which.Which.TheVariants.{Full, Empty}
+use Rattle.mark_core.specs.declared.which.Which.TheVariants.{Full}
 use Rattle.mark_core.specs.Lists.{StandsAt, sum_of}
-use Rattle.mark_core.specs.Account.{Account, look_of, part, no_share, after_claim, after_finish, after_split}
-use Rattle.mark_core.specs.Account.{after_join, after_load, after_load_link, after_pop, after_push, after_idle_up}
-use Rattle.mark_core.specs.Account.{after_idle_down, after_load_idle}
-use Rattle.mark_core.specs.World.{Setup, Marking, items_of, IsThere}
-use Rattle.mark_core.specs.Events.{Kind, Claim, Finish, Split, Join, Load, LoadLink, StoreLink, Pop, Push, Fail, IdleUp}
-use Rattle.mark_core.specs.Events.{IdleDown, LoadIdle, Event, Allows, IsPossible, effect, happens, stack_popped}
-use Rattle.mark_core.specs.Events.{last_link}
+use Rattle.mark_core.specs.Account.{Account, look_of, part, no_share, after_split}
+use Rattle.mark_core.specs.Account.{after_join}
+use Rattle.mark_core.specs.World.{Setup, Marking, IsThere}
+use Rattle.mark_core.specs.Events.{Kind, Split, Join, Load, LoadLink, StoreLink, Pop, Fail, IdleUp}
+use Rattle.mark_core.specs.Events.{IdleDown, Event, Allows, IsPossible, effect, happens, stack_popped}
 use Rattle.mark_core.specs.StepCall.{HasNumber, weight}
 use Rattle.mark_core.proofs.Places.{at_get_or, set_else}
+use Rattle.mark_core.proofs.Happens.{happens_as}
 use Rattle.mark_core.proofs.Sums.{sum_of-set, sum_of-append}
 
 -- each account has a number, and the idle numbers are no more than the accounts
@@ -88,37 +87,30 @@ module _
   put = numbered_set m.accounts n w a there.0
 
   popped_numbered : (q : Which) (x : Option ℕ) (y : Option (Option ℕ)) → AreNumbered (stack_popped m w a q x y).accounts
-  popped_numbered q None y = n
-  popped_numbered q (Some i) None = n
-  popped_numbered q (Some i) (Some l) = put (after_pop i (items_of (slice_index_or m.slots i None)) a) refl
+  popped_numbered q (Some i) (Some l) = put _ refl
+  popped_numbered q _ _ = n
 
   effect_numbered :
       (kind : Kind) → Allows e m w a kind → HasNumber kind m.accounts → AreNumbered (effect m w a kind).accounts
-  effect_numbered (Claim o) can room = put (after_claim o (m.mark o) a) refl
-  effect_numbered (Finish o) can room = put (after_finish o a) refl
   effect_numbered (Split units) can room = numbered_split m.accounts n w a there.0 units can.0 can.1 room
   effect_numbered (Join v) can room =
       let here = at_get_or m.accounts v can.1.0 no_share can.1.1.0 in
       subst (λ x. AreNumbered (set (set m.accounts w (after_join a x)) v no_share)) (sym here)
       (numbered_join m.accounts n w a there.0 v can.1.0 can.0 can.1.1.0)
-  effect_numbered (Load Full) can room = put (after_load Full (m.head Full) a) refl
-  effect_numbered (Load Empty) can room = put (after_load Empty (m.head Empty) a) refl
-  effect_numbered (LoadLink Full) can room = put (after_load_link Full (last_link m.link a.full.head) a) refl
-  effect_numbered (LoadLink Empty) can room = put (after_load_link Empty (last_link m.link a.empty.head) a) refl
+  effect_numbered (Load Full) can room = put _ refl
+  effect_numbered (LoadLink Full) can room = put _ refl
   effect_numbered (StoreLink i l) can room = n
   effect_numbered (Pop q) can room = popped_numbered q (m.head q).index (look_of a q).link
-  effect_numbered (Push q i items) can room = put (after_push q i items a) refl
   effect_numbered (Fail q) can room = n
-  effect_numbered IdleUp can room = put (after_idle_up a) (omega (arith, can.0, can.1))
-  effect_numbered IdleDown can room = put (after_idle_down a) (omega (arith, can.0, can.1))
-  effect_numbered LoadIdle can room = put (after_load_idle m.idle a) refl
+  effect_numbered IdleUp can room = put _ (omega (arith, can.0, can.1))
+  effect_numbered IdleDown can room = put _ (omega (arith, can.0, can.1))
+  effect_numbered _ can room = put _ refl
 
 pub happens_numbered :
     (e : Setup) (m : Marking) (event : Event) → AreNumbered m.accounts → IsPossible e m event
     → HasNumber event.kind m.accounts → AreNumbered (happens m event).accounts
 happens_numbered e m event n can room =
-    let here = at_get_or m.accounts event.worker can.0 no_share can.1.0 in
-    subst (λ x. AreNumbered (effect m event.worker x event.kind).accounts) (sym here)
+    subst (λ (n : Marking). AreNumbered n.accounts) (sym (happens_as e m event can))
     (effect_numbered e m n event.worker can.0 can.1 event.kind can.2 room)
 
 -- an opening account counts for one

@@ -1,0 +1,31 @@
+-- What an event does, said of the account that takes part in it, and what holds along a run.
+use Rattle.std.proofs.Common.{◌≡◌, ℕ, List, [], ◌∷◌, Some, ap, sym, subst, ◌∙◌}
+use Rattle.mark_core.specs.declared.which.Which.{Which}
+use Rattle.mark_core.specs.Account.{Account, look_of, no_share}
+use Rattle.mark_core.specs.World.{Setup, Marking}
+use Rattle.mark_core.specs.Events.{Pop, Event, CanPop, IsPossible, effect, happens, stack_popped}
+use Rattle.mark_core.specs.Runs.{Run}
+use Rattle.mark_core.proofs.Places.{at_get_or}
+
+-- the account that is there does it
+pub happens_as :
+    (e : Setup) (m : Marking) (event : Event) (can : IsPossible e m event)
+    → happens m event ≡ effect m event.worker can.0 event.kind
+happens_as e m event can =
+    ap (λ x. effect m event.worker x event.kind) (at_get_or m.accounts event.worker can.0 no_share can.1.0)
+
+-- a pop that is possible takes the buffer that the head names, and the link that was loaded goes into the head
+pub pops_as :
+    (m : Marking) (w : ℕ) (a : Account) (q : Which) (can : CanPop (m.head q) (look_of a q))
+    → effect m w a (Pop q) ≡ stack_popped m w a q (Some can.1.0) (Some can.2.0)
+pops_as m w a q can =
+    ap (λ n. stack_popped m w a q n (look_of a q).link) can.1.1 ∙ ap (stack_popped m w a q (Some can.1.0)) can.2.1
+
+-- what each possible event keeps, each run keeps
+pub along :
+    (e : Setup) (P : Marking → Type 0)
+    → ((m : Marking) (event : Event) → P m → IsPossible e m event → P (happens m event))
+    → (events : List Event) (first last : Marking) → P first → Run e first events last → P last
+along e P keep [] first last here run = subst P (sym run) here
+along e P keep (event ∷ events) first last here run =
+    along e P keep events (happens first event) last (keep first event here run.0) run.1
