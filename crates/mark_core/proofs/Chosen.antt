@@ -1,15 +1,14 @@
 -- A list without repeats has the sums of the numbers below a bound that pass the test for standing in it.
-use Rattle.std.proofs.Common.{◌≡◌, ◌≢◌, ◌⊎◌, ◌↔◌, ℕ, zero, suc, ◌+◌, ◌<◌, ◌≤◌, Bool, true, false, cond, nat_lt, arith}
-use Rattle.std.proofs.Common.{List, [], ◌∷◌, ◌++◌, Contains, filter, length, sum_by, ap, sym, refl, ◌∙◌, ⊎_elim}
+use Rattle.std.proofs.Common.{◌≡◌, ◌⊎◌, ◌↔◌, ℕ, zero, suc, ◌+◌, ◌<◌, ◌≤◌, Bool, true, false, cond, nat_lt, arith}
+use Rattle.std.proofs.Common.{List, [], ◌∷◌, Contains, filter, length, sum_by, ap, sym, refl, ◌∙◌, ⊎_elim}
 use Rattle.std.proofs.Common.{lt-ltb, le-ltb}
 use Rattle.std.specs.List.{range_with_len}
 use Rattle.std.proofs.lemmas.Bool.{cases_lt, cases_order}
 use Rattle.std.proofs.lemmas.List.FromFn.{length-range_with_len}
 use Rattle.std.proofs.lemmas.List.Sums.{count_by-le-length, length-filter, sum_by-cons}
-use native.Mathlib.Decide.{ℕ_discrete}
 use Rattle.mark_core.specs.Lists.{one_where, only, times}
 use Rattle.mark_core.proofs.SameObjects.{same_sums}
-use Rattle.mark_core.proofs.Sums.{only-same, only-other, stands_times, times_stands, sum_of-append}
+use Rattle.mark_core.proofs.Sums.{only-same, only-other, stands_times, times_stands}
 
 -- each number at most once
 abbrev pub IsOnce : List ℕ → Type 0
@@ -27,83 +26,50 @@ AreThose p n objects = (o : ℕ) → ((p o ≡ true) × (o < n)) ↔ Contains ob
 times-passing : (p : ℕ → Bool) (o : ℕ) (xs : List ℕ) → times o (filter p xs) ≡ cond (p o) (times o xs) 0
 times-passing p o xs = go xs
   where
-    either : (b : Bool) → ◌≡◌ {A = ℕ} (cond b 0 0) 0
-    either true = refl
-    either false = refl
+    none : (b : Bool) → ◌≡◌ {A = ℕ} 0 (cond b 0 0)
+    none true = refl
+    none false = refl
 
-    no_less : (k : ℕ) → 0 + k ≡ k
-    no_less k = omega arith
-
-    more : (rest : List ℕ) (x : ℕ) → x ≢ o → cond (p o) (times o rest) 0 ≡ cond (p o) (times o (x ∷ rest)) 0
-    more rest x n =
-        ap (λ k. cond (p o) k 0) (sym (no_less (times o rest)) ∙ ap (λ k. k + times o rest) (sym (only-other o x n)))
-
-    here : (x : ℕ) (rest : List ℕ) (b : Bool) → p x ≡ b → x ≡ o → times o (filter p rest) ≡ cond (p o) (times o rest) 0
-        → times o (cond b (x ∷ filter p rest) (filter p rest)) ≡ cond (p o) (times o (x ∷ rest)) 0
-    here x rest true e same ih =
-        let is : p o ≡ true = ap p (sym same) ∙ e in
-        omega (arith, ih, ap (λ b. cond b (times o rest) 0) is, ap (λ b. cond b (times o (x ∷ rest)) 0) is)
-    here x rest false e same ih =
-        let is : p o ≡ false = ap p (sym same) ∙ e in
-        omega (arith, ih, ap (λ b. cond b (times o rest) 0) is, ap (λ b. cond b (times o (x ∷ rest)) 0) is)
-
-    else : (x : ℕ) (rest : List ℕ) (b : Bool) → x ≢ o → times o (filter p rest) ≡ cond (p o) (times o rest) 0
-        → times o (cond b (x ∷ filter p rest) (filter p rest)) ≡ cond (p o) (times o (x ∷ rest)) 0
-    else x rest true n ih =
-        let left = times o (filter p rest) in
-        ap (λ k. k + left) (only-other o x n) ∙ no_less left ∙ ih ∙ more rest x n
-    else x rest false n ih = ih ∙ more rest x n
-
-    one :
-        (x : ℕ) (rest : List ℕ) → Dec (x ≡ o) → times o (filter p rest) ≡ cond (p o) (times o rest) 0
-        → times o (filter p (x ∷ rest)) ≡ cond (p o) (times o (x ∷ rest)) 0
-    one x rest (yes same) ih = here x rest (p x) refl same ih
-    one x rest (no n) ih = else x rest (p x) n ih
+    more :
+        (b c : Bool) (x : ℕ) (rest kept : List ℕ) → (x ≡ o → c ≡ b) → times o kept ≡ cond b (times o rest) 0
+        → times o (cond c (x ∷ kept) kept) ≡ cond b (times o (x ∷ rest)) 0
+    more true true x rest kept same ih = omega (arith, ih)
+    more false false x rest kept same ih = ih
+    more true false x rest kept same ih = omega (arith, ih, only-other o x (λ e. let f = same e in cc))
+    more false true x rest kept same ih = omega (arith, ih, only-other o x (λ e. let f = same e in cc))
 
     go : (ys : List ℕ) → times o (filter p ys) ≡ cond (p o) (times o ys) 0
-    go [] = sym (either (p o))
-    go (y ∷ ys) = one y ys (ℕ_discrete y o) (go ys)
+    go [] = none (p o)
+    go (y ∷ ys) = more (p o) (p y) y ys (filter p ys) (ap p) (go ys)
 
-pub range_suc : (a n : ℕ) → range_with_len a (suc n) ≡ range_with_len a n ++ (a + n) ∷ []
-range_suc a zero = let e : a ≡ a + 0 = omega arith in ap (λ x. x ∷ []) e
-range_suc a (suc n) =
-    let e : (a + 1) + n ≡ a + suc n = omega arith in
-    ap (λ xs. a ∷ xs) (range_suc (a + 1) n ∙ ap (λ m. range_with_len (a + 1) n ++ m ∷ []) e)
-
--- each number below n stands there once
-times-range : (o n : ℕ) → times o (range_with_len 0 n) ≡ one_where (nat_lt o n)
-times-range o zero = sym (ap one_where (le-ltb o 0 (omega arith)))
-times-range o (suc n) = go (times-range o n) (cases_order o n)
+-- each number from a to below a + n stands there once
+one_more : (o a : ℕ) → only o a + one_where (nat_lt o a) ≡ one_where (nat_lt o (a + 1))
+one_more o a = ⊎_elim
+    (λ same. omega (arith, only-same o a (sym same), past a (omega (arith, same)), below (omega (arith, same))))
+    (⊎_elim
+    (λ low. omega (arith, only-other o a (λ e. omega (arith, e, low)), ap one_where (lt-ltb o a low), below (omega (arith, low))))
+    (λ high. omega (arith, only-other o a (λ e. omega (arith, e, high)), past a (omega (arith, high)), past (a + 1) (omega (arith, high)))))
+    (cases_order o a)
   where
-    more : times o (range_with_len 0 (suc n)) ≡ times o (range_with_len 0 n) + only o n
-    more =
-        let last : 0 + n ≡ n = omega arith in
-        ap (times o) (range_suc 0 n ∙ ap (λ m. range_with_len 0 n ++ m ∷ []) last)
-        ∙ sum_of-append (only o) (range_with_len 0 n) (n ∷ []) ∙ omega arith
-
-    below : (m : ℕ) → o < m → one_where (nat_lt o m) ≡ 1
-    below m low = ap one_where (lt-ltb o m low)
+    below : o < a + 1 → one_where (nat_lt o (a + 1)) ≡ 1
+    below low = ap one_where (lt-ltb o (a + 1) low)
 
     past : (m : ℕ) → m ≤ o → one_where (nat_lt o m) ≡ 0
     past m high = ap one_where (le-ltb o m high)
 
-    go :
-        times o (range_with_len 0 n) ≡ one_where (nat_lt o n) → (o ≡ n) ⊎ ((o < n) ⊎ (n < o))
-        → times o (range_with_len 0 (suc n)) ≡ one_where (nat_lt o (suc n))
-    go before h = ⊎_elim
-        (λ same.
-        let was = past n (omega (arith, same)) in
-        let now = below (suc n) (omega (arith, same)) in
-        omega (arith, more, before, was, only-same o n (sym same), now))
-        (⊎_elim
-        (λ low.
-        let now = below (suc n) (omega (arith, low)) in
-        omega (arith, more, before, below n low, only-other o n (λ e. omega (arith, e, low)), now))
-        (λ high.
-        let was = past n (omega (arith, high)) in
-        let now = past (suc n) (omega (arith, high)) in
-        omega (arith, more, before, was, only-other o n (λ e. omega (arith, e, high)), now)))
-        h
+times-range_from : (o a n : ℕ)
+    → times o (range_with_len a n) + one_where (nat_lt o a) ≡ one_where (nat_lt o (a + n))
+times-range_from o a zero = let e : a ≡ a + 0 = omega arith in omega (arith, ap (λ k. one_where (nat_lt o k)) e)
+times-range_from o a (suc n) =
+    let e : (a + 1) + n ≡ a + suc n = omega arith in
+    omega (arith, times-range_from o (a + 1) n, one_more o a, ap (λ k. one_where (nat_lt o k)) e)
+
+-- each number below n stands there once
+pub times-range : (o n : ℕ) → times o (range_with_len 0 n) ≡ one_where (nat_lt o n)
+times-range o n =
+    let e : 0 + n ≡ n = omega arith in
+    let none : one_where (nat_lt o 0) ≡ 0 = ap one_where (le-ltb o 0 (omega arith)) in
+    omega (arith, times-range_from o 0 n, ap (λ k. one_where (nat_lt o k)) e)
 
 pub chosen_sums :
     (p : ℕ → Bool) (n : ℕ) (objects : List ℕ) → IsOnce objects → AreThose p n objects

@@ -1,24 +1,27 @@
--- Each event keeps the law. A lemma speaks of one marking after one write, so it serves each way to lay a marking out.
+-- Each event keeps the law: what an account may do, one lemma each, and all of it.
 use Rattle.std.proofs.Common.{◌≡◌, ◌≢◌, ◌⊎◌, ℕ, ◌+◌, ◌<◌, ◌≤◌, max, Bool, true, ◌&&◌, List, [], ◌∷◌, ◌++◌, Option, Some}
-use Rattle.std.proofs.Common.{None, is_some, cond, Contains, set, ap, sym, refl, inl, inr, ⊎_elim, eq-eqb, ne_eqb, arith}
+use Rattle.std.proofs.Common.{None, is_some, cond, Contains, set, ap, sym, refl, subst}
+use Rattle.std.proofs.Common.{◌∙◌, slice_index_or, inl, inr, ⊎_elim, eq-eqb, ne_eqb, arith}
 use native.Mathlib.Decide.{ℕ_discrete}
 use Rattle.tagged_index.specs.Head.{Head, after}
 use Rattle.mark_core.specs.declared.which.Which.{Which}
 use Rattle.mark_core.specs.declared.which.Which.TheVariants.{Full, Empty}
 use Rattle.mark_core.specs.Lists.{StandsAt, times, only, IsPart}
-use Rattle.mark_core.specs.Account.{Account, look_of, part, no_share, after_claim, after_finish, after_split}
-use Rattle.mark_core.specs.Account.{after_join, after_load, after_load_link, after_pop, after_push}
-use Rattle.mark_core.specs.World.{Setup, Marking, put, put_which}
-use Rattle.mark_core.specs.Events.{CanClaim, CanFinish}
+use Rattle.mark_core.specs.Account.{Account, look_of, no_share, after_claim, after_finish, after_split}
+use Rattle.mark_core.specs.Account.{after_join, after_load_link, after_pop, after_push}
+use Rattle.mark_core.specs.World.{Setup, Marking, items_of, put, put_which}
+use Rattle.mark_core.specs.Events.{Kind, Claim, Finish, Split, Join, Load, LoadLink, StoreLink, Pop, Push, Fail}
+use Rattle.mark_core.specs.Events.{CanClaim, CanFinish, Allows, effect, stack_popped, last_link, link_from}
 use Rattle.mark_core.specs.Ownership.{IsRecent, IsOwned}
 use Rattle.mark_core.specs.Colours.{HasColour, IsReachableIn, stacked_times, charged_times, finished_times}
 use Rattle.mark_core.specs.Law.{Law}
-use Rattle.mark_core.proofs.Places.{set_all, put_else, put_one}
+use Rattle.mark_core.proofs.Places.{at_get_or, set_all, put_else, put_one}
+use Rattle.mark_core.proofs.Happens.{pops_as}
 use Rattle.mark_core.proofs.Sums.{sum_of-set, sum_of-append, only-same, only-other, stands_push, stands_times}
 use Rattle.mark_core.proofs.Sums.{times-remove_one}
 use Rattle.mark_core.proofs.Chains.{chain_none, recent_loaded, recent_linked}
 use Rattle.mark_core.proofs.Ownership.{popped_sum, pushed_sum, owned_links, owned_part, held_apart}
-use Rattle.mark_core.proofs.Ownership.{place_one, owned_set, owned_same, owned_pop, owned_push, owned_join}
+use Rattle.mark_core.proofs.Ownership.{place_one, top_stands, owned_set, owned_same, owned_pop, owned_push, owned_join}
 use Rattle.mark_core.proofs.Shelves.{shelved_set}
 use Rattle.mark_core.proofs.Colours.{linear, sums_tell, charged, reachable_next, coloured_same, coloured_put}
 use Rattle.mark_core.proofs.Colours.{coloured_part, coloured_pop, coloured_push, coloured_join}
@@ -36,13 +39,13 @@ and_some x n i e t = cc
 
 module _ (e : Setup) (m : Marking) (law : Law e m) (w : ℕ) (a : Account) (is : StandsAt m.accounts w a)
     (there : 0 < a.share) where
-  -- what the account knows of the stacks changes, and nothing else
-  pub looks_keep :
-      (b : Account) → ((q : Which) → IsRecent m.link (m.head q) (look_of b q)) → b.share ≡ a.share → b.held ≡ a.held
-      → b.charge ≡ a.charge → b.seen ≡ a.seen → b.finished ≡ a.finished
+  -- what the account knows of the stacks changes, and the idle word, which the law does not read
+  looks_keep :
+      (b : Account) (word : ℕ) → IsRecent m.link (m.head Full) b.full → IsRecent m.link (m.head Empty) b.empty
+      → b.share ≡ a.share → b.held ≡ a.held → b.charge ≡ a.charge → b.seen ≡ a.seen → b.finished ≡ a.finished
       → (a.open_push ≡ true → (law.stack Full ≡ []) ⊎ (b.open_push ≡ true))
-      → Law e (record m { accounts = set m.accounts w b })
-  looks_keep b recent share held charge seen finished push =
+      → Law e (record m { idle = word; accounts = set m.accounts w b })
+  looks_keep b word full empty share held charge seen finished push =
       record {
         stack = law.stack;
         owned = owned_set law.owned w a is b recent held push;
@@ -50,24 +53,30 @@ module _ (e : Setup) (m : Marking) (law : Law e m) (w : ℕ) (a : Account) (is :
         coloured = coloured_same law.coloured w a is b charge finished seen;
         shared = shared_set m.accounts law.shared w a is there b share;
       }
-
-  pub load_keeps : (q : Which) → Law e (record m { accounts = set m.accounts w (after_load q (m.head q) a) })
-  load_keeps Full = looks_keep (after_load Full (m.head Full) a) recent refl refl refl refl refl
-      (push (m.head Full).index refl)
     where
-      recent : (p : Which) → IsRecent m.link (m.head p) (look_of (after_load Full (m.head Full) a) p)
-      recent Full = recent_loaded m.link (m.head Full)
-      recent Empty = law.owned.recent Empty w a is
+      recent : (q : Which) → IsRecent m.link (m.head q) (look_of b q)
+      recent Full = full
+      recent Empty = empty
 
+  -- it knows of the stacks what it knew
+  notes_keep :
+      (b : Account) (word : ℕ) → b.full ≡ a.full → b.empty ≡ a.empty → b.share ≡ a.share → b.held ≡ a.held
+      → b.charge ≡ a.charge → b.seen ≡ a.seen → b.finished ≡ a.finished → b.open_push ≡ a.open_push
+      → Law e (record m { idle = word; accounts = set m.accounts w b })
+  notes_keep b word full empty share held charge seen finished push =
+      looks_keep b word (rw full (law.owned.recent Full w a is)) (rw empty (law.owned.recent Empty w a is)) share held
+      charge seen finished (λ t. inr (push ∙ t))
+
+  load_keeps : (q : Which) → Law e (effect m w a (Load q))
+  load_keeps Full = looks_keep _ m.idle (recent_loaded m.link (m.head Full)) (law.owned.recent Empty w a is)
+      refl refl refl refl refl (push (m.head Full).index refl)
+    where
       push : (n : Option ℕ) → (m.head Full).index ≡ n → a.open_push ≡ true → (law.stack Full ≡ [])
           ⊎ ((a.open_push && is_some (m.head Full).index) ≡ true)
       push None none t = inl (chain_none m.link (m.head Full).index (law.stack Full) (law.owned.chain Full) none)
       push (Some i) top t = inr (and_some a.open_push (m.head Full).index i top t)
-  load_keeps Empty = looks_keep (after_load Empty (m.head Empty) a) recent refl refl refl refl refl (λ t. inr t)
-    where
-      recent : (p : Which) → IsRecent m.link (m.head p) (look_of (after_load Empty (m.head Empty) a) p)
-      recent Full = law.owned.recent Full w a is
-      recent Empty = recent_loaded m.link (m.head Empty)
+  load_keeps Empty = looks_keep _ m.idle (law.owned.recent Full w a is) (recent_loaded m.link (m.head Empty))
+      refl refl refl refl refl inr
 
   -- the link of the buffer i, where the last head that the account loaded of this stack has it on top
   link_recent : (q : Which) (h : Head) (i : ℕ) → (look_of a q).head ≡ Some h → h.index ≡ Some i
@@ -76,23 +85,16 @@ module _ (e : Setup) (m : Marking) (law : Law e m) (w : ℕ) (a : Account) (is :
       let old = rw last at (law.owned.recent q w a is) in
       rw last (recent_linked m.link (m.head q) h i (look_of a q).link top old)
 
-  pub load_link_keeps : (q : Which) (h : Head) (i : ℕ) → (look_of a q).head ≡ Some h → h.index ≡ Some i
+  load_link_keeps :
+      (q : Which) (h : Head) (i : ℕ) → (look_of a q).head ≡ Some h → h.index ≡ Some i
       → Law e (record m { accounts = set m.accounts w (after_load_link q (m.link i) a) })
-  load_link_keeps Full h i last top = looks_keep (after_load_link Full (m.link i) a) recent refl refl refl refl refl
-      (λ t. inr t)
-    where
-      recent : (p : Which) → IsRecent m.link (m.head p) (look_of (after_load_link Full (m.link i) a) p)
-      recent Full = link_recent Full h i last top
-      recent Empty = law.owned.recent Empty w a is
-  load_link_keeps Empty h i last top = looks_keep (after_load_link Empty (m.link i) a) recent refl refl refl refl refl
-      (λ t. inr t)
-    where
-      recent : (p : Which) → IsRecent m.link (m.head p) (look_of (after_load_link Empty (m.link i) a) p)
-      recent Full = law.owned.recent Full w a is
-      recent Empty = link_recent Empty h i last top
+  load_link_keeps Full h i last top = looks_keep _ m.idle (link_recent Full h i last top) (law.owned.recent Empty w a is)
+      refl refl refl refl refl inr
+  load_link_keeps Empty h i last top = looks_keep _ m.idle (law.owned.recent Full w a is) (link_recent Empty h i last top)
+      refl refl refl refl refl inr
 
   -- no stacked buffer is held, so a store at a held one changes no stack
-  pub store_keeps : (i : ℕ) (l : Option ℕ) → 0 < times i a.held → Law e (record m { link = put i l m.link })
+  store_keeps : (i : ℕ) (l : Option ℕ) → 0 < times i a.held → Law e (effect m w a (StoreLink i l))
   store_keeps i l mine =
       record {
         stack = law.stack;
@@ -113,15 +115,10 @@ module _ (e : Setup) (m : Marking) (law : Law e m) (w : ℕ) (a : Account) (is :
       other q b h s = let t : times b (law.stack q) ≡ times i (law.stack q) = ap (λ j. times j (law.stack q)) s in
           absurd (omega (arith, on_no q))
 
-  pub pop_keeps :
-      (q : Which) (i : ℕ) (l : Option ℕ) (items : List ℕ) → (look_of a q).head ≡ Some (m.head q)
-      → (m.head q).index ≡ Some i → (look_of a q).link ≡ Some l → StandsAt m.slots i (Some items)
-      → Law e (record m {
-        head = put_which q (after (m.head q) l) m.head;
-        slots = set m.slots i None;
-        accounts = set m.accounts w (after_pop i items a);
-      })
-  pop_keeps q i l items hit top next at =
+  pop_keeps :
+      (q : Which) (i : ℕ) (l : Option ℕ) → (look_of a q).head ≡ Some (m.head q) → (m.head q).index ≡ Some i
+      → (look_of a q).link ≡ Some l → Law e (stack_popped m w a q (Some i) (Some l))
+  pop_keeps q i l hit top next =
       record {
         stack = new;
         owned = taken.2;
@@ -131,6 +128,16 @@ module _ (e : Setup) (m : Marking) (law : Law e m) (w : ℕ) (a : Account) (is :
         shared = shared_set m.accounts law.shared w a is there (after_pop i items a) refl;
       }
     where
+      items : List ℕ
+      items = items_of (slice_index_or m.slots i None)
+
+      at : StandsAt m.slots i (Some items)
+      at =
+          let slot =
+          law.shelved.stacked q i (top_stands e.buffers m.head m.link m.accounts law.stack law.owned q i top) in
+          let here : items ≡ slot.0 = ap items_of (at_get_or m.slots i (Some slot.0) None slot.1) in
+          subst (λ xs. StandsAt m.slots i (Some xs)) (sym here) slot.1
+
       taken : (rest : List ℕ) × (law.stack q ≡ i ∷ rest)
           × IsOwned e.buffers (put_which q (after (m.head q) l) m.head) m.link
           (set m.accounts w (after_pop i items a)) (put_which q rest law.stack)
@@ -155,14 +162,9 @@ module _ (e : Setup) (m : Marking) (law : Law e m) (w : ℕ) (a : Account) (is :
       gone Full = omega (arith, none_left)
       gone Empty = omega (arith, none_left)
 
-  pub push_keeps :
+  push_keeps :
       (q : Which) (i : ℕ) (items : List ℕ) → 0 < times i a.held → m.link i ≡ (m.head q).index → IsPart items a.charge
-      → (q ≡ Empty → items ≡ [])
-      → Law e (record m {
-        head = put_which q (after (m.head q) (Some i)) m.head;
-        slots = set m.slots i (Some items);
-        accounts = set m.accounts w (after_push q i items a);
-      })
+      → (q ≡ Empty → items ≡ []) → Law e (effect m w a (Push q i items))
   push_keeps q i items mine leads some none =
       record {
         stack = new;
@@ -192,11 +194,7 @@ module _ (e : Setup) (m : Marking) (law : Law e m) (w : ℕ) (a : Account) (is :
       bare Full bare_of h = absurd (omega (arith, apart.2))
       bare Empty bare_of h = ap {B = Option (List ℕ)} Some (bare_of refl)
 
-  pub claim_keeps : (o : ℕ) → IsReachableIn e o
-      → Law e (record m {
-        mark = put o (max (m.mark o) 1) m.mark;
-        accounts = set m.accounts w (after_claim o (m.mark o) a);
-      })
+  claim_keeps : (o : ℕ) → IsReachableIn e o → Law e (effect m w a (Claim o))
   claim_keeps o reach =
       record {
         stack = law.stack;
@@ -253,12 +251,11 @@ module _ (e : Setup) (m : Marking) (law : Law e m) (w : ℕ) (a : Account) (is :
           (λ y k. ⊎_elim (λ p. inl (law.coloured.saw w a is y p)) (λ p. inr (sym p)) (stands_push a.seen o y k))
 
   -- an account may claim what is reachable alone
-  pub can_claim : (o : ℕ) → CanClaim e o a → IsReachableIn e o
+  can_claim : (o : ℕ) → CanClaim e o a → IsReachableIn e o
   can_claim o (inl root) = ([], root)
   can_claim o (inr p) = reachable_next law.coloured w a is p.0 o p.1 p.2
 
-  pub finish_keeps : (o : ℕ) → CanFinish e o a
-      → Law e (record m { mark = put o 2 m.mark; accounts = set m.accounts w (after_finish o a) })
+  finish_keeps : (o : ℕ) → CanFinish e o a → Law e (effect m w a (Finish o))
   finish_keeps o can =
       record {
         stack = law.stack;
@@ -313,8 +310,7 @@ module _ (e : Setup) (m : Marking) (law : Law e m) (w : ℕ) (a : Account) (is :
       saw = set_all (λ (x : Account). (y : ℕ) → Contains x.seen y → (1 ≤ m.mark y) ⊎ (y ≡ o)) m.accounts w b
           (λ v x at y k. inl (law.coloured.saw v x at y k)) (λ y k. inl (law.coloured.saw w a is y k))
 
-  pub split_keeps : (units : ℕ) → 0 < units → units < a.share
-      → Law e (record m { accounts = set m.accounts w (after_split units a) ++ part units ∷ [] })
+  split_keeps : (units : ℕ) → 0 < units → units < a.share → Law e (effect m w a (Split units))
   split_keeps units some less =
       record {
         stack = law.stack;
@@ -327,7 +323,7 @@ module _ (e : Setup) (m : Marking) (law : Law e m) (w : ℕ) (a : Account) (is :
       b : Account
       b = after_split units a
 
-  pub join_keeps : (v : ℕ) (b : Account) → v ≢ w → StandsAt m.accounts v b
+  join_keeps : (v : ℕ) (b : Account) → v ≢ w → StandsAt m.accounts v b
       → Law e (record m { accounts = set (set m.accounts w (after_join a b)) v no_share })
   join_keeps v b apart at =
       record {
@@ -337,3 +333,24 @@ module _ (e : Setup) (m : Marking) (law : Law e m) (w : ℕ) (a : Account) (is :
         coloured = coloured_join law.coloured w a is v b apart at;
         shared = shared_join m.accounts law.shared w a is there v b apart at;
       }
+
+  -- whatever it may do keeps the law
+  pub effect_keeps : (kind : Kind) → Allows e m w a kind → Law e (effect m w a kind)
+  effect_keeps (Claim o) can = claim_keeps o (can_claim o can.0)
+  effect_keeps (Finish o) can = finish_keeps o can
+  effect_keeps (Split units) can = split_keeps units can.0 can.1
+  effect_keeps (Join v) can =
+      subst (λ x. Law e (record m { accounts = set (set m.accounts w (after_join a x)) v no_share }))
+      (sym (at_get_or m.accounts v can.1.0 no_share can.1.1.0)) (join_keeps v can.1.0 can.0 can.1.1.0)
+  effect_keeps (Load q) can = load_keeps q
+  effect_keeps (LoadLink q) can =
+      let last : last_link m.link (look_of a q).head ≡ m.link can.1 = ap (last_link m.link) can.2
+      ∙ ap (link_from m.link) can.3 in
+      subst (λ l. Law e (record m { accounts = set m.accounts w (after_load_link q l a) })) (sym last)
+      (load_link_keeps q can.0 can.1 can.2 can.3)
+  effect_keeps (StoreLink i l) can = store_keeps i l (stands_times a.held i can)
+  effect_keeps (Pop q) can =
+      subst (Law e) (sym (pops_as m w a q can.0)) (pop_keeps q can.0.1.0 can.0.2.0 can.0.0.0 can.0.1.1 can.0.2.1)
+  effect_keeps (Push q i items) can = push_keeps q i items (stands_times a.held i can.1.0) can.2 can.1.1 can.1.3
+  effect_keeps (Fail q) can = law
+  effect_keeps _ can = notes_keep _ _ refl refl refl refl refl refl refl refl

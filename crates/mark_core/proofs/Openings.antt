@@ -1,10 +1,11 @@
 -- The law holds of an opening marking.
-use Rattle.std.proofs.Common.{◌≡◌, ◌⊎◌, ℕ, zero, suc, ◌+◌, ◌<◌, ◌≤◌, nat_lt, List, [], ◌∷◌, Option, Some, None}
-use Rattle.std.proofs.Common.{Contains, if◌then◌else◌, length, replicate, ap, sym, refl, subst, inl, inr, lt-ltb}
+use Rattle.std.proofs.Common.{◌≡◌, ℕ, zero, suc, ◌+◌, ◌<◌, ◌≤◌, nat_lt, List, [], ◌∷◌, Option, Some, None}
+use Rattle.std.proofs.Common.{Contains, if◌then◌else◌, length, replicate, ap, sym, refl, subst, inl, lt-ltb}
 use Rattle.std.proofs.Common.{le-ltb, arith}
 use mathlib.Core.Option.{some-injective, some-ne-none}
-use native.Mathlib.Decide.{dec_le, ℕ_discrete}
 use lib.ListN.{length-replicate}
+use Rattle.std.specs.List.{range_with_len}
+use Rattle.std.proofs.lemmas.List.FromFn.{length-range_with_len}
 use Rattle.mark_core.specs.declared.which.Which.{Which}
 use Rattle.mark_core.specs.declared.which.Which.TheVariants.{Full, Empty}
 use Rattle.mark_core.specs.Lists.{StandsAt, times, one_where}
@@ -17,51 +18,20 @@ use Rattle.mark_core.specs.Law.{Law}
 use Rattle.mark_core.specs.Runs.{first_heads, first_link, opening}
 use Rattle.mark_core.specs.Conclusions.{first_length}
 use Rattle.mark_core.proofs.Places.{OfEach, one_all}
-use Rattle.mark_core.proofs.Sums.{sum_of-nothing, only-same, only-other}
+use Rattle.mark_core.proofs.Sums.{sum_of-nothing}
 use Rattle.mark_core.proofs.Chains.{recent_bare}
-
--- n numbers from k on
-abbrev numbers : ℕ → ℕ → List ℕ
-numbers k zero = []
-numbers k (suc n) = k ∷ numbers (suc k) n
-
-numbers_none : (n k b : ℕ) → (b < k) ⊎ (k + n ≤ b) → times b (numbers k n) ≡ 0
-numbers_none zero k b h = refl
-numbers_none (suc n) k b (inl h) =
-    omega (arith, only-other b k (λ e. omega arith), numbers_none n (suc k) b (inl (omega arith)))
-numbers_none (suc n) k b (inr h) =
-    omega (arith, only-other b k (λ e. omega arith), numbers_none n (suc k) b (inr (omega arith)))
-
-numbers_once : (n k b : ℕ) → k ≤ b → b < k + n → times b (numbers k n) ≡ 1
-numbers_once zero k b low high = absurd (omega arith)
-numbers_once (suc n) k b low high = go (ℕ_discrete k b) (numbers_once n (suc k) b)
-  where
-    go : Dec (k ≡ b) → (suc k ≤ b → b < suc k + n → times b (numbers (suc k) n) ≡ 1) → times b (numbers k (suc n)) ≡ 1
-    go (yes e) rest = omega (arith, only-same b k e, numbers_none n (suc k) b (inl (omega arith)))
-    go (no d) rest = omega (arith, only-other b k d, rest (omega arith) (omega arith))
-
-numbers_counted : (n b : ℕ) → times b (numbers 0 n) ≡ one_where (nat_lt b n)
-numbers_counted n b = go (dec_le n b)
-  where
-    go : Dec (n ≤ b) → times b (numbers 0 n) ≡ one_where (nat_lt b n)
-    go (yes h) = omega (arith, numbers_none n 0 b (inr (omega arith)), ap one_where (le-ltb b n h))
-    go (no d) = omega (arith, numbers_once n 0 b (omega arith) (omega arith), ap one_where (lt-ltb b n (omega arith)))
-
-numbers_length : (n k : ℕ) → length (numbers k n) ≡ n
-numbers_length zero k = refl
-numbers_length (suc n) k = ap suc (numbers_length n (suc k))
+use Rattle.mark_core.proofs.Ownership.{counted_below}
+use Rattle.mark_core.proofs.Chosen.{times-range}
 
 -- the number k, while it is below the buffers
 abbrev below : ℕ → ℕ → Option ℕ
 below buffers k = if nat_lt k buffers then Some k else None
 
-chain_numbers : (buffers n k : ℕ) → k + n ≡ buffers → Chain (first_link buffers) (below buffers k) (numbers k n)
+chain_numbers : (buffers n k : ℕ) → k + n ≡ buffers → Chain (first_link buffers) (below buffers k) (range_with_len k n)
 chain_numbers buffers zero k e = ap (λ t. if t then Some k else None) (le-ltb k buffers (omega arith))
 chain_numbers buffers (suc n) k e = (
   ap (λ t. if t then Some k else None) (lt-ltb k buffers (omega arith)),
-  (let s : suc k ≡ k + 1 = omega arith in
-      subst (λ j. Chain (first_link buffers) (below buffers j) (numbers (suc k) n)) s
-      (chain_numbers buffers n (suc k) (omega arith))),
+  chain_numbers buffers n (k + 1) (omega arith),
 )
 
 at_replicate : {X : Type 0} (n i : ℕ) (x : X) → i < n → StandsAt (replicate n x) i x
@@ -77,13 +47,13 @@ in_replicate (suc n) (suc i) x y e = in_replicate n i x y e
 module _ (e : Setup) (tag : ℕ) (some_buffer : 0 < e.buffers) where
   first_stack : Which → List ℕ
   first_stack Full = []
-  first_stack Empty = numbers 0 e.buffers
+  first_stack Empty = range_with_len 0 e.buffers
 
   first_owned : IsOwned e.buffers (first_heads tag) (first_link e.buffers) (part whole ∷ []) first_stack
   unfolding first_stack
   first_owned = record {
     chain = chain;
-    once = λ b. omega (arith, numbers_counted e.buffers b);
+    once = λ b. omega (arith, times-range b e.buffers);
     recent = recent;
     owed = inl refl;
   }
@@ -91,7 +61,7 @@ module _ (e : Setup) (tag : ℕ) (some_buffer : 0 < e.buffers) where
       chain : (q : Which) → Chain (first_link e.buffers) (first_heads tag q).index (first_stack q)
       chain Full = refl
       chain Empty =
-          subst (λ n. Chain (first_link e.buffers) n (numbers 0 e.buffers))
+          subst (λ n. Chain (first_link e.buffers) n (range_with_len 0 e.buffers))
           (ap (λ t. if t then Some 0 else None) (lt-ltb 0 e.buffers some_buffer))
           (chain_numbers e.buffers e.buffers 0 (omega arith))
 
@@ -104,16 +74,9 @@ module _ (e : Setup) (tag : ℕ) (some_buffer : 0 < e.buffers) where
   unfolding first_stack
   first_shelved = record { places = length-replicate e.buffers (Some []); stacked = stacked; bare = bare; away = away }
     where
-      inside : (b : ℕ) → 0 < times b (numbers 0 e.buffers) → b < e.buffers
-      inside b h = go (dec_le e.buffers b)
-        where
-          go : Dec (e.buffers ≤ b) → b < e.buffers
-          go (yes l) = absurd (omega (arith, numbers_none e.buffers 0 b (inr (omega arith))))
-          go (no d) = omega arith
-
       bare : (b : ℕ) → 0 < times b (first_stack Empty)
           → StandsAt {X = Option (List ℕ)} (replicate e.buffers (Some [])) b (Some [])
-      bare b h = at_replicate e.buffers b (Some []) (inside b h)
+      bare b h = at_replicate e.buffers b (Some []) (counted_below b e.buffers (omega (arith, times-range b e.buffers)))
 
       stacked : (q : Which) (b : ℕ) → 0 < times b (first_stack q) → (items : List ℕ)
           × StandsAt {X = Option (List ℕ)} (replicate e.buffers (Some [])) b (Some items)
@@ -122,7 +85,7 @@ module _ (e : Setup) (tag : ℕ) (some_buffer : 0 < e.buffers) where
 
       away : (b : ℕ) → b < e.buffers → times b (first_stack Full) ≡ 0 → times b (first_stack Empty) ≡ 0
           → StandsAt {X = Option (List ℕ)} (replicate e.buffers (Some [])) b None
-      away b l f g = absurd (omega (arith, numbers_once e.buffers 0 b (omega arith) (omega arith)))
+      away b l f g = absurd (omega (arith, times-range b e.buffers, ap one_where (lt-ltb b e.buffers l)))
 
   first_coloured : IsColoured e (λ o. 0) (replicate e.buffers (Some [])) (part whole ∷ [])
   first_coloured =
@@ -158,4 +121,4 @@ module _ (e : Setup) (tag : ℕ) (some_buffer : 0 < e.buffers) where
   pub opening_length : (q : Which) → length (opening_keeps.stack q) ≡ first_length e q
   unfolding first_stack opening_keeps
   opening_length Full = refl
-  opening_length Empty = numbers_length e.buffers 0
+  opening_length Empty = length-range_with_len 0 e.buffers

@@ -10,9 +10,8 @@ use Rattle.mark_core.specs.declared.which.Which.TheVariants.{Full, Empty}
 use Rattle.mark_core.specs.Lists.{IsPart}
 use Rattle.mark_core.specs.Account.{Account, Look, look_of, no_share, after_claim, after_finish, after_join, after_pop}
 use Rattle.mark_core.specs.Account.{after_push}
-use Rattle.mark_core.specs.World.{Marking, items_of, account_at, put, put_which}
-use Rattle.mark_core.specs.Events.{Claim, Finish, Join, StoreLink, Pop, Push, stack_popped, IsBusy, CanClaim, CanFinish}
-use Rattle.mark_core.specs.Events.{CanPop}
+use Rattle.mark_core.specs.World.{items_of, account_at, put, put_which}
+use Rattle.mark_core.specs.Events.{Claim, Finish, Join, StoreLink, Pop, Push, IsBusy, CanClaim, CanFinish}
 use Rattle.mark_core.specs.StepCall.{Listing, IsLawful, Does, Tries, heads_of, with_head, exchanged, marking_of}
 use Rattle.mark_core.specs.StepCall.{IsReadyToPush}
 use Rattle.std.specs.Bool.{OnTrue}
@@ -39,9 +38,8 @@ heads_turned l q h = λ t p. at q p t
   where
     at : (q p : Which) → heads_of (with_head l q h) p ≡ put_which q h (heads_of l) p
     at Full Full = refl
-    at Full Empty = refl
-    at Empty Full = refl
     at Empty Empty = refl
+    at _ _ = refl
 
 pub marking_headed : (l : Listing) (q : Which) (h : Head)
     → marking_of (with_head l q h) ≡ record (marking_of l) { head = put_which q h (heads_of l) }
@@ -96,34 +94,22 @@ module _ (s : Listing) (w : ℕ) (a b c : Account) (there : w < length s.account
       → Does s w (Claim o) (record s { marks = marks; accounts = set s.accounts w c })
   does_claim o f marks inside can found raised new =
       let mark : ℕ = get_or s.marks o 0 in
-      let written : marks ≡ set s.marks o (max mark 1) = raised ∙ ap (λ x. set s.marks o (max x 1)) found in
-      let last : c ≡ after_claim o mark (account_at s.accounts w) = new ∙ ap (λ x. after_claim o x b) found
-      ∙ ap (after_claim o mark) same_b in
+      let written : marks ≡ set s.marks o (max mark 1) = rw found at raised in
       record {
-        allowed = subst (λ (x : Account). CanClaim s.setup o x × IsBusy x) same_a can;
-        marking =
-            ap (λ (ms : List ℕ). record (marking_of s) { mark = λ j. get_or ms j 0; accounts = set s.accounts w c })
-            written
-            ∙ ap (λ f. record (marking_of s) { mark = f; accounts = set s.accounts w c })
-            (put_in s.marks o (max mark 1) 0 inside)
-            ∙ ap (λ x. record (marking_of s)
-            { mark = put o (max mark 1) (λ j. get_or s.marks j 0); accounts = set s.accounts w x }) last;
+        allowed = rw (← same_a) can;
+        marking = rw (new, found, same_b, written, put_in s.marks o (max mark 1) 0 inside);
         setup = refl;
         links = refl;
         slots = refl;
-        marks = ap (λ (ms : List ℕ). length ms) written ∙ length-set s.marks o (max mark 1);
+        marks = rw written (length-set s.marks o (max mark 1));
       }
 
   pub does_finish : (o : ℕ) → o < length s.marks → CanFinish s.setup o a → c ≡ after_finish o b
       → Does s w (Finish o) (record s { marks = set s.marks o 2; accounts = set s.accounts w c })
   does_finish o inside can new =
       record {
-        allowed = subst (CanFinish s.setup o) same_a can;
-        marking =
-            ap (λ f. record (marking_of s) { mark = f; accounts = set s.accounts w c }) (put_in s.marks o 2 0 inside)
-            ∙ ap (λ x. record (marking_of s)
-            { mark = put o 2 (λ j. get_or s.marks j 0); accounts = set s.accounts w x })
-            (new ∙ ap (after_finish o) same_b);
+        allowed = rw (← same_a) can;
+        marking = rw (new, same_b, put_in s.marks o 2 0 inside);
         setup = refl;
         links = refl;
         slots = refl;
@@ -134,8 +120,8 @@ module _ (s : Listing) (w : ℕ) (a b c : Account) (there : w < length s.account
       → Does s w (StoreLink i l) (record s { links = set s.links i l })
   does_store i l inside held =
       record {
-        allowed = subst (λ (x : Account). Contains x.held i) same_a held;
-        marking = ap (λ f. record (marking_of s) { link = f }) (put_in s.links i l None inside);
+        allowed = rw (← same_a) held;
+        marking = rw (put_in s.links i l None inside);
         setup = refl;
         links = length-set s.links i l;
         slots = refl;
@@ -149,35 +135,14 @@ module _ (s : Listing) (w : ℕ) (a b c : Account) (there : w < length s.account
       → emptied ≡ None → c ≡ after_pop i (items_of slot) b
       → Does s w (Pop q) (with_head (record s { slots = set s.slots i emptied; accounts = set s.accounts w c }) q h)
   does_pop q i l inside told low h next slot emptied read gone new =
-      let now : Head = heads_of s q in
       let here : Account = account_at s.accounts w in
-      let m : Marking = marking_of s in
       let tables : Listing = record s { slots = set s.slots i emptied; accounts = set s.accounts w c } in
       let same = tables_headed tables q h in
       let found : slot ≡ get_or s.slots i None = read ∙ get_or_default s.slots i slot None inside in
-      let last : c ≡ after_pop i (items_of (get_or s.slots i None)) here =
-      new ∙ ap (λ x. after_pop i (items_of x) b) found
-      ∙ ap (after_pop i (items_of (get_or s.slots i None))) same_b in
-      let linked_here : (look_of here q).link ≡ Some l =
-      subst (λ (x : Account). (look_of x q).link ≡ Some l) same_a told.link in
-      let can : CanPop now (look_of a q) = ((told.shows, low), (i, told.top), (l, told.link)) in
+      let linked_here : (look_of here q).link ≡ Some l = rw (← same_a) told.link in
       record {
-        allowed = subst (λ (x : Account). CanPop now (look_of x q) × IsBusy x) same_a (can, told.busy);
-        marking =
-            marking_headed tables q h
-            ∙ ap (λ x. record (marking_of tables) { head = put_which q x (heads_of s) }) next
-            ∙ ap (λ x. record m {
-              head = put_which q (after now l) (heads_of s);
-              slots = set s.slots i x;
-              accounts = set s.accounts w c;
-            }) gone
-            ∙ ap (λ x. record m {
-              head = put_which q (after now l) (heads_of s);
-              slots = set s.slots i None;
-              accounts = set s.accounts w x;
-            }) last
-            ∙ sym (ap (λ n. stack_popped m w here q n (look_of here q).link) told.top
-            ∙ ap (stack_popped m w here q (Some i)) linked_here);
+        allowed = rw (← same_a) (((told.shows, low), (i, told.top), (l, told.link)), told.busy);
+        marking = rw (marking_headed tables q h, next, gone, new, found, same_b, told.top, linked_here);
         setup = same.setup;
         links = same.links;
         slots = same.slots ∙ length-set s.slots i emptied;
@@ -191,22 +156,12 @@ module _ (s : Listing) (w : ℕ) (a b c : Account) (there : w < length s.account
       → Does s w (Push q i items) (with_head
       (record s { slots = set s.slots i (Some items); accounts = set s.accounts w c }) q h)
   does_push q i items may low part h next new =
-      let now : Head = heads_of s q in
-      let m : Marking = marking_of s in
       let tables : Listing = record s { slots = set s.slots i (Some items); accounts = set s.accounts w c } in
       let same = tables_headed tables q h in
-      let part_here = subst (λ (x : Account). IsPart items x.charge) same_b part in
+      let part_here = rw same_b at part in
       record {
         allowed = ((may.head, low), (may.held, part_here, may.fits, may.bare), may.link, may.busy);
-        marking =
-            marking_headed tables q h
-            ∙ ap (λ x. record (marking_of tables) { head = put_which q x (heads_of s) }) next
-            ∙ ap (λ x. record m {
-              head = put_which q (after now (Some i)) (heads_of s);
-              slots = set s.slots i (Some items);
-              accounts = set s.accounts w x;
-            })
-            (new ∙ ap (after_push q i items) same_b);
+        marking = rw (marking_headed tables q h, next, new, same_b);
         setup = same.setup;
         links = same.links;
         slots = same.slots ∙ length-set s.slots i (Some items);
@@ -245,16 +200,10 @@ module _ (s : Listing) (w : ℕ) (a b c : Account) (there : w < length s.account
       → c ≡ after_join b d
       → Does s w (Join v) (record s { accounts = set (set s.accounts v e) w c })
   does_join v d e other inside read there bare new =
-      let m : Marking = marking_of s in
       let same_d : d ≡ account_at s.accounts v = account_here s.accounts v d inside read in
-      let last : c ≡ after_join (account_at s.accounts w) (account_at s.accounts v) =
-      new ∙ ap (λ x. after_join x d) same_b ∙ ap (after_join (account_at s.accounts w)) same_d in
       record {
         allowed = (other, (d, (stands_here s.accounts v d inside read, there)));
-        marking =
-            ap (λ x. record m { accounts = x }) (set_comm s.accounts v w e c other)
-            ∙ ap (λ x. record m { accounts = set (set s.accounts w c) v x }) bare
-            ∙ ap (λ x. record m { accounts = set (set s.accounts w x) v no_share }) last;
+        marking = rw (set_comm s.accounts v w e c other, bare, new, same_b, same_d);
         setup = refl;
         links = refl;
         slots = refl;
@@ -273,12 +222,12 @@ may_push s w a inside is q i items look now looked loaded shows held fits bare l
     let head : (look_of a q).head ≡ Some (heads_of s q) = sym (ap (λ (l : Look). l.head) looked) ∙ shows
     ∙ ap Some loaded in
     record {
-      head = subst (λ (x : Account). (look_of x q).head ≡ Some (heads_of s q)) here head;
-      held = subst (λ (x : Account). Contains x.held i) here held;
+      head = rw (← here) head;
+      held = rw (← here) held;
       fits = fits;
       bare = bare;
       link = link ∙ ap (λ (h : Head). h.index) loaded;
-      busy = subst (λ (x : Account). q ≡ Full → IsBusy x) here busy;
+      busy = rw (← here) busy;
     }
 
 -- a buffer that may be pushed is one that a head can hold
