@@ -8,7 +8,7 @@ use native.Mathlib.Decide.{ℕ_discrete}
 use Rattle.mark_core.specs.declared.which.Which.{Which}
 use Rattle.mark_core.specs.declared.which.Which.TheVariants.{Full, Empty}
 use Rattle.mark_core.specs.Lists.{StandsAt, sum_of, without}
-use Rattle.mark_core.specs.Account.{Account, part, no_share, after_claim, after_finish, after_split}
+use Rattle.mark_core.specs.Account.{Account, part, no_share, after_finish, after_split}
 use Rattle.mark_core.specs.Account.{after_join, after_load, after_pop, after_push, after_idle_up}
 use Rattle.mark_core.specs.Account.{after_idle_down}
 use Rattle.mark_core.specs.World.{Setup, Marking, items_of, IsThere}
@@ -90,154 +90,6 @@ module _
       λ none. let inside : Contains [] x = subst (λ xs. Contains xs x) none here in omega (arith, inside.1) in
       (omega (arith, r.0, share), ⊎_elim (λ z. inl (idle ∙ z)) (λ o. absurd (not o.2)) r.1)
 
-module _
-    {idle : ℕ} {top : Option ℕ} {accounts : List Account} (s : IsHushed idle top accounts)
-    (w : ℕ) (a : Account) (is : StandsAt accounts w a) where
-  module _ (b : Account) where
-    abbrev now : List Account
-    now = set accounts w b
-
-    here : StandsAt now w b
-    here = set_here accounts w b a is
-
-    more_than_one : 1 < length now → 1 < length accounts
-    more_than_one more = omega (arith, more, length-set accounts w b)
-
-    -- what is found after the account changed was found before
-    found_back :
-        (b.joined ≡ false → a.joined ≡ false) → (b.pushed ≡ false → a.pushed ≡ false)
-        → (b.found ≡ true → a.found ≡ true) → HaveFound now → HaveFound accounts
-    found_back joined pushed found h =
-        record {
-          apart = set_back (λ k x. x.joined ≡ false) accounts w a b is h.apart joined;
-          opening = set_back (λ k x. k ≡ 0 → x.pushed ≡ false) accounts w a b is h.opening (λ was e. pushed (was e));
-          another = more_than_one h.another;
-          others = set_back (λ k x. 0 < k → x.found ≡ true) accounts w a b is h.others (λ was later. found (was later));
-        }
-
-    -- the account changes
-    hushed_put :
-        (idle' : ℕ) (top' : Option ℕ) → idle' ≡ idle_sum now % 2 ^ 64 → IsResting b
-        → (b.joined ≡ false → a.joined ≡ false) → (a.parted ≡ true → b.parted ≡ true) → (HaveFound now → top' ≡ None)
-        → IsHushed idle' top' now
-    hushed_put idle' top' counted rest joined parted emptied =
-        record {
-          counted = counted;
-          resting = set_all IsResting accounts w b s.resting rest;
-          parted =
-              set_at (HasParted (length now)) accounts w b
-              (λ k x n at e more alone. s.parted k x at e (more_than_one more) alone)
-              (λ e more alone. parted (s.parted w a is e (more_than_one more) (joined alone)));
-          emptied = emptied;
-        }
-
-    counted_same : b.idle ≡ a.idle → idle ≡ idle_sum now % 2 ^ 64
-    counted_same same =
-        let sums : idle_sum accounts ≡ idle_sum now =
-        omega (arith, same, sum_of-set (λ (x : Account). x.idle) accounts w a b is) in
-        s.counted ∙ ap (λ n. n % 2 ^ 64) sums
-
-    -- it changes in nothing that others may find
-    hushed_keep :
-        b.idle ≡ a.idle → IsResting b → b.joined ≡ a.joined → b.parted ≡ a.parted → b.pushed ≡ a.pushed
-        → b.found ≡ a.found → IsHushed idle top now
-    hushed_keep same rest joined parted pushed found =
-        let back : HaveFound now → HaveFound accounts =
-        found_back (λ p. sym joined ∙ p) (λ p. sym pushed ∙ p) (λ p. sym found ∙ p) in
-        hushed_put idle top (counted_same same) rest (λ h. sym joined ∙ h) (λ h. parted ∙ h) (λ h. s.emptied (back h))
-
-    -- a push on full ends what was found
-    hushed_push :
-        (top' : Option ℕ) → b.idle ≡ a.idle → IsResting b → b.joined ≡ a.joined → b.parted ≡ a.parted
-        → b.pushed ≡ (a.pushed || a.parted) → b.found ≡ false → IsHushed idle top' now
-    hushed_push top' same rest joined parted pushed found =
-        let none : HaveFound now → top' ≡ None = λ h. absurd (not_found h (ℕ_discrete 0 w)) in
-        hushed_put idle top' (counted_same same) rest (λ h. sym joined ∙ h) (λ h. parted ∙ h) none
-      where
-        not_found : HaveFound now → Dec (0 ≡ w) → ⊥
-        not_found h (yes e) =
-            let apart : a.joined ≡ false = sym joined ∙ h.apart w b here in
-            let gave : a.parted ≡ true = s.parted w a is (sym e) (more_than_one h.another) apart in
-            false≢true (sym (or_parts a.pushed a.parted (sym pushed ∙ h.opening w b here (sym e))).1 ∙ gave)
-        not_found h (no n) = false≢true (sym found ∙ h.others w b here (omega (arith, n)))
-
-  -- units go to a new account, which has found nothing
-  hushed_split :
-      (units : ℕ) → 0 < units → units < a.share
-      → IsHushed idle top (set accounts w (after_split units a) ++ part units ∷ [])
-  hushed_split units least less =
-      record {
-        counted = counted_same b refl ∙ ap (λ n. n % 2 ^ 64) sums;
-        resting =
-            push_all IsResting fewer (part units) (set_all IsResting accounts w b s.resting rest)
-            (λ alone. (least, inl refl));
-        parted =
-            push_at (HasParted _) fewer (part units) (set_at (HasParted _) accounts w b before (λ e more alone. refl))
-            (λ e. absurd (omega (arith, e, long)));
-        emptied = λ h. absurd (false≢true (h.others (length fewer) (part units) (at_end fewer (part units)) long));
-      }
-    where
-      b : Account
-      b = after_split units a
-
-      fewer : List Account
-      fewer = set accounts w b
-
-      long : 0 < length fewer
-      long = omega (arith, at_below accounts w a is, length-set accounts w b)
-
-      sums : idle_sum fewer ≡ idle_sum (fewer ++ part units ∷ [])
-      sums = omega (arith, sum_of-append (λ (x : Account). x.idle) fewer (part units ∷ []))
-
-      rest : IsResting b
-      rest alone =
-          let r = s.resting w a is alone in
-          (omega (arith, less), ⊎_elim inl (λ o. absurd (omega (arith, o.1, least, less))) r.1)
-
-      before :
-          (k : ℕ) (x : Account) → k ≢ w → StandsAt accounts k x → HasParted (length (fewer ++ part units ∷ [])) k x
-      before k x n at e more alone = s.parted k x at e (omega (arith, at_below accounts w a is, n, e)) alone
-
-  -- two accounts are put together, and both are noted as joined
-  hushed_join :
-      (v : ℕ) (b : Account) → v ≢ w → StandsAt accounts v b
-      → IsHushed idle top (set (set accounts w (after_join a b)) v no_share)
-  hushed_join v b apart at =
-      record {
-        counted = s.counted ∙ ap (λ n. n % 2 ^ 64) sums;
-        resting =
-            set_all IsResting first v no_share (set_all IsResting accounts w both s.resting taken) taken;
-        parted =
-            set_at (HasParted _) first v no_share
-            (λ k x n. set_at (HasParted _) accounts w both before (λ e more. taken) k x)
-            (λ e more. taken);
-        emptied = λ h. taken (h.apart v no_share (set_here first v no_share b still));
-      }
-    where
-      both : Account
-      both = after_join a b
-
-      first : List Account
-      first = set accounts w both
-
-      second : List Account
-      second = set first v no_share
-
-      still : StandsAt first v b
-      still = set_else accounts w v both apart ∙ at
-
-      sums : idle_sum accounts ≡ idle_sum second
-      sums =
-          let idle_of : Account → ℕ = λ (x : Account). x.idle in
-          omega (arith, sum_of-set idle_of accounts w a both is, sum_of-set idle_of first v b no_share still)
-
-      taken : {A : Type 0} → true ≡ false → A
-      taken alone = absurd (false≢true (sym alone))
-
-      before : (k : ℕ) (x : Account) → k ≢ w → StandsAt accounts k x → HasParted (length second) k x
-      before k x n at e more alone =
-          s.parted k x at e (omega (arith, more, length-set first v no_share, length-set accounts w both)) alone
-
 -- what is known between two events
 abbrev pub Hushed : Marking → Type 0
 Hushed m = IsHushed m.idle (m.head Full).index m.accounts
@@ -253,33 +105,71 @@ module _ (e : Setup) (m : Marking) (s : Hushed m) (w : ℕ) (a : Account) (there
   rest : IsResting a
   rest = s.resting w a there.0
 
-  idle_le : a.idle ≤ idle_sum m.accounts
-  idle_le = term_le (λ (x : Account). x.idle) m.accounts w a there.0
+  -- the account changes, and is joined where it was
+  module _ (b : Account) (joined : b.joined ≡ a.joined) where
+    abbrev now : List Account
+    now = set m.accounts w b
 
-  -- the account changes in nothing that others may find
-  keep :
-      (b : Account) → b.idle ≡ a.idle → IsResting b → b.joined ≡ a.joined → b.parted ≡ a.parted → b.pushed ≡ a.pushed
-      → b.found ≡ a.found → IsHushed m.idle (m.head Full).index (set m.accounts w b)
-  keep = hushed_keep s w a there.0
+    here : StandsAt now w b
+    here = set_here m.accounts w b a there.0
 
-  -- it changes in its idle number, or the full head does; what is noted of it stays
-  change :
-      (b : Account) (idle : ℕ) (top : Option ℕ) → idle ≡ idle_sum (set m.accounts w b) % 2 ^ 64 → IsResting b
-      → b.joined ≡ a.joined → b.parted ≡ a.parted → (HaveFound (set m.accounts w b) → top ≡ None)
-      → IsHushed idle top (set m.accounts w b)
-  change b idle top counted rests joined parted =
-      hushed_put s w a there.0 b idle top counted rests (λ h. sym joined ∙ h) (λ h. parted ∙ h)
+    more_than_one : 1 < length now → 1 < length m.accounts
+    more_than_one more = omega (arith, more, length-set m.accounts w b)
 
-  same_count : (b : Account) → b.idle ≡ a.idle → m.idle ≡ idle_sum (set m.accounts w b) % 2 ^ 64
-  same_count = counted_same s w a there.0
+    -- what is found then was found before, where it has found nothing new: so the full stack is empty as before
+    still_empty : b.pushed ≡ a.pushed → (b.found ≡ true → a.found ≡ true) → HaveFound now → (m.head Full).index ≡ None
+    still_empty pushed found h =
+        s.emptied (record {
+          apart = set_back (λ k x. x.joined ≡ false) m.accounts w a b there.0 h.apart (λ p. sym joined ∙ p);
+          opening =
+              set_back (λ k x. k ≡ 0 → x.pushed ≡ false) m.accounts w a b there.0 h.opening
+              (λ was e. sym pushed ∙ was e);
+          another = more_than_one h.another;
+          others =
+              set_back (λ k x. 0 < k → x.found ≡ true) m.accounts w a b there.0 h.others (λ was later. found (was later));
+        })
 
-  -- where nothing new is found, the full stack is empty as before
-  still_empty :
-      (b : Account) → b.joined ≡ a.joined → b.pushed ≡ a.pushed → (b.found ≡ true → a.found ≡ true)
-      → HaveFound (set m.accounts w b) → (m.head Full).index ≡ None
-  still_empty b joined pushed found h =
-      let back = found_back s w a there.0 b in
-      s.emptied (back (λ p. sym joined ∙ p) (λ p. sym pushed ∙ p) found h)
+    -- its idle number changes, or the full head does; what is noted of it stays
+    change :
+        (idle : ℕ) (top : Option ℕ) → idle ≡ idle_sum now % 2 ^ 64 → IsResting b → b.parted ≡ a.parted
+        → (HaveFound now → top ≡ None) → IsHushed idle top now
+    change idle top counted rests parted emptied =
+        record {
+          counted = counted;
+          resting = set_all IsResting m.accounts w b s.resting rests;
+          parted =
+              set_at (HasParted (length now)) m.accounts w b
+              (λ k x n at e more alone. s.parted k x at e (more_than_one more) alone)
+              (λ e more alone. parted ∙ s.parted w a there.0 e (more_than_one more) (sym joined ∙ alone));
+          emptied = emptied;
+        }
+
+    same_count : b.idle ≡ a.idle → m.idle ≡ idle_sum now % 2 ^ 64
+    same_count same =
+        let sums : idle_sum m.accounts ≡ idle_sum now =
+        omega (arith, same, sum_of-set (λ (x : Account). x.idle) m.accounts w a b there.0) in
+        s.counted ∙ ap (λ n. n % 2 ^ 64) sums
+
+    -- it changes in nothing that others may find
+    keep :
+        b.idle ≡ a.idle → IsResting b → b.parted ≡ a.parted → b.pushed ≡ a.pushed → b.found ≡ a.found
+        → IsHushed m.idle (m.head Full).index now
+    keep same rests parted pushed found =
+        change m.idle (m.head Full).index (same_count same) rests parted (still_empty pushed (λ p. sym found ∙ p))
+
+    -- a push on full ends what was found
+    push_full :
+        (top : Option ℕ) → b.idle ≡ a.idle → IsResting b → b.parted ≡ a.parted → b.pushed ≡ (a.pushed || a.parted)
+        → b.found ≡ false → IsHushed m.idle top now
+    push_full top same rests parted pushed found =
+        change m.idle top (same_count same) rests parted (λ h. absurd (not_found h (ℕ_discrete 0 w)))
+      where
+        not_found : HaveFound now → Dec (0 ≡ w) → ⊥
+        not_found h (yes e) =
+            let apart : a.joined ≡ false = sym joined ∙ h.apart w b here in
+            let gave : a.parted ≡ true = s.parted w a there.0 (sym e) (more_than_one h.another) apart in
+            false≢true (sym (or_parts a.pushed a.parted (sym pushed ∙ h.opening w b here (sym e))).1 ∙ gave)
+        not_found h (no n) = false≢true (sym found ∙ h.others w b here (omega (arith, n)))
 
   -- it changes in what it loaded alone
   keep_all :
@@ -287,12 +177,93 @@ module _ (e : Setup) (m : Marking) (s : Hushed m) (w : ℕ) (a : Account) (there
       → b.found ≡ a.found → b.parted ≡ a.parted → b.pushed ≡ a.pushed
       → IsHushed m.idle (m.head Full).index (set m.accounts w b)
   keep_all b share idle joined charge found parted pushed =
-      keep b idle (same_rest a b rest share idle joined charge (λ h. found ∙ h)) joined parted pushed found
+      keep b joined idle (same_rest a b rest share idle joined charge (λ h. found ∙ h)) parted pushed found
+
+  -- it is not idle, and changes in nothing that others may find
+  keep_busy :
+      (b : Account) → IsBusy a → b.share ≡ a.share → b.idle ≡ a.idle → b.joined ≡ a.joined → b.parted ≡ a.parted
+      → b.pushed ≡ a.pushed → b.found ≡ a.found → IsHushed m.idle (m.head Full).index (set m.accounts w b)
+  keep_busy b busy share idle joined = keep b joined idle (busy_rest a b rest share idle joined busy)
+
+  -- units go to a new account, which has found nothing
+  split_hushed : (units : ℕ) → 0 < units → units < a.share → Hushed (effect m w a (Split units))
+  split_hushed units least less =
+      record {
+        counted = same_count b refl refl ∙ ap (λ n. n % 2 ^ 64) sums;
+        resting =
+            push_all IsResting fewer (part units) (set_all IsResting m.accounts w b s.resting rests)
+            (λ alone. (least, inl refl));
+        parted =
+            push_at (HasParted _) fewer (part units) (set_at (HasParted _) m.accounts w b before (λ e more alone. refl))
+            (λ e. absurd (omega (arith, e, long)));
+        emptied = λ h. absurd (false≢true (h.others (length fewer) (part units) (at_end fewer (part units)) long));
+      }
+    where
+      b : Account
+      b = after_split units a
+
+      fewer : List Account
+      fewer = set m.accounts w b
+
+      long : 0 < length fewer
+      long = omega (arith, at_below m.accounts w a there.0, length-set m.accounts w b)
+
+      sums : idle_sum fewer ≡ idle_sum (fewer ++ part units ∷ [])
+      sums = omega (arith, sum_of-append (λ (x : Account). x.idle) fewer (part units ∷ []))
+
+      rests : IsResting b
+      rests alone =
+          (omega (arith, less), ⊎_elim inl (λ o. absurd (omega (arith, o.1, least, less))) (rest alone).1)
+
+      before :
+          (k : ℕ) (x : Account) → k ≢ w → StandsAt m.accounts k x → HasParted (length (fewer ++ part units ∷ [])) k x
+      before k x n at e more alone = s.parted k x at e (omega (arith, at_below m.accounts w a there.0, n, e)) alone
+
+  -- two accounts are put together, and both are noted as joined
+  join_hushed :
+      (v : ℕ) (b : Account) → v ≢ w → StandsAt m.accounts v b
+      → IsHushed m.idle (m.head Full).index (set (set m.accounts w (after_join a b)) v no_share)
+  join_hushed v b apart at =
+      record {
+        counted = s.counted ∙ ap (λ n. n % 2 ^ 64) sums;
+        resting =
+            set_all IsResting first v no_share (set_all IsResting m.accounts w both s.resting taken) taken;
+        parted =
+            set_at (HasParted _) first v no_share
+            (λ k x n. set_at (HasParted _) m.accounts w both before (λ e more. taken) k x)
+            (λ e more. taken);
+        emptied = λ h. taken (h.apart v no_share (set_here first v no_share b still));
+      }
+    where
+      both : Account
+      both = after_join a b
+
+      first : List Account
+      first = set m.accounts w both
+
+      second : List Account
+      second = set first v no_share
+
+      still : StandsAt first v b
+      still = set_else m.accounts w v both apart ∙ at
+
+      sums : idle_sum m.accounts ≡ idle_sum second
+      sums =
+          let idle_of : Account → ℕ = λ (x : Account). x.idle in
+          omega (arith, sum_of-set idle_of m.accounts w a both there.0, sum_of-set idle_of first v b no_share still)
+
+      taken : {A : Type 0} → true ≡ false → A
+      taken alone = absurd (false≢true (sym alone))
+
+      before : (k : ℕ) (x : Account) → k ≢ w → StandsAt m.accounts k x → HasParted (length second) k x
+      before k x n at e more alone =
+          s.parted k x at e (omega (arith, more, length-set first v no_share, length-set m.accounts w both)) alone
 
   load_hushed : Hushed (effect m w a (Load Full))
   load_hushed =
-      let rests = same_rest a b rest refl refl refl refl (or_left a.found (is_none (m.head Full).index)) in
-      change b m.idle (m.head Full).index (same_count b refl) rests refl refl (emptied (m.head Full).index refl)
+      change b refl m.idle (m.head Full).index (same_count b refl refl)
+      (same_rest a b rest refl refl refl refl (or_left a.found (is_none (m.head Full).index))) refl
+      (emptied (m.head Full).index refl)
     where
       b : Account
       b = after_load Full (m.head Full) a
@@ -309,18 +280,16 @@ module _ (e : Setup) (m : Marking) (s : Hushed m) (w : ℕ) (a : Account) (there
       let b = after_pop i (items_of (slice_index_or m.slots i None)) a in
       let emptied : HaveFound (set m.accounts w b) → l ≡ None =
       λ h. let none = still_empty b refl refl (λ p. p) h in let f : ⊥ = cc in absurd f in
-      change b m.idle l (same_count b refl) (busy_rest a b rest refl refl refl busy) refl refl emptied
-  pop_hushed Empty i l top busy =
-      let b = after_pop i (items_of (slice_index_or m.slots i None)) a in
-      keep b refl (busy_rest a b rest refl refl refl busy) refl refl refl refl
+      change b refl m.idle l (same_count b refl refl) (busy_rest a b rest refl refl refl busy) refl emptied
+  pop_hushed Empty i l top busy = keep_busy _ busy refl refl refl refl refl refl
 
   push_hushed :
       (q : Which) (i : ℕ) (items : List ℕ) → (q ≡ Empty → items ≡ []) → (q ≡ Full → IsBusy a)
       → Hushed (effect m w a (Push q i items))
   push_hushed Full i items bare busy =
       let b = after_push Full i items a in
-      hushed_push s w a there.0 b (Some i) refl (busy_rest a b rest refl refl refl (busy refl)) refl refl refl refl
-  push_hushed Empty i items bare busy = keep (after_push Empty i items a) refl resting refl refl refl refl
+      push_full b refl (Some i) refl (busy_rest a b rest refl refl refl (busy refl)) refl refl refl
+  push_hushed Empty i items bare busy = keep (after_push Empty i items a) refl refl resting refl refl refl
     where
       resting : IsResting (after_push Empty i items a)
       resting alone =
@@ -329,18 +298,15 @@ module _ (e : Setup) (m : Marking) (s : Hushed m) (w : ℕ) (a : Account) (there
           (r.0, ⊎_elim inl (λ o. inr (o.0, o.1, ap (λ xs. without xs a.charge) none ∙ o.2, o.3)) r.1)
 
   effect_hushed : (kind : Kind) → Allows e m w a kind → Hushed (effect m w a kind)
-  effect_hushed (Claim o) can =
-      let b = after_claim o (m.mark o) a in
-      keep b refl (busy_rest a b rest refl refl refl can.1) refl refl refl refl
+  effect_hushed (Claim o) can = keep_busy _ can.1 refl refl refl refl refl refl
   effect_hushed (Finish o) can =
       let b = after_finish o a in
-      keep b refl (charged_rest a b rest refl refl refl o can.0) refl refl refl refl
-  effect_hushed (Split units) can = hushed_split s w a there.0 units can.0 can.1
+      keep b refl refl (charged_rest a b rest refl refl refl o can.0) refl refl refl
+  effect_hushed (Split units) can = split_hushed units can.0 can.1
   effect_hushed (Join v) can =
       let After : Account → Type 0 =
       λ x. IsHushed m.idle (m.head Full).index (set (set m.accounts w (after_join a x)) v no_share) in
-      subst After (sym (at_get_or m.accounts v can.1.0 no_share can.1.1.0))
-      (hushed_join s w a there.0 v can.1.0 can.0 can.1.1.0)
+      subst After (sym (at_get_or m.accounts v can.1.0 no_share can.1.1.0)) (join_hushed v can.1.0 can.0 can.1.1.0)
   effect_hushed (Load Full) can = load_hushed
   effect_hushed (LoadLink Full) can = keep_all _ refl refl refl refl refl refl refl
   effect_hushed (StoreLink i l) can = s
@@ -353,18 +319,19 @@ module _ (e : Setup) (m : Marking) (s : Hushed m) (w : ℕ) (a : Account) (there
       let sum = idle_sum m.accounts in
       let more : idle_sum (set m.accounts w b) ≡ sum + 1 =
       omega (arith, sum_of-set (λ (x : Account). x.idle) m.accounts w a b there.0) in
-      change b (word_up m.idle) (m.head Full).index
+      change b refl (word_up m.idle) (m.head Full).index
       (up_counted m.idle sum (idle_sum (set m.accounts w b)) s.counted more)
-      (λ alone. (there.1, inr (omega (arith, can.1), can.0, can.2, can.3))) refl refl
+      (λ alone. (there.1, inr (omega (arith, can.1), can.0, can.2, can.3))) refl
       (still_empty b refl refl (λ p. p))
   effect_hushed IdleDown can =
       let b = after_idle_down a in
       let sum = idle_sum m.accounts in
+      let most = term_le (λ (x : Account). x.idle) m.accounts w a there.0 in
       let less : idle_sum (set m.accounts w b) + 1 ≡ sum =
-      omega (arith, sum_of-set (λ (x : Account). x.idle) m.accounts w a b there.0, can.1, idle_le) in
-      change b (word_down m.idle) (m.head Full).index
+      omega (arith, sum_of-set (λ (x : Account). x.idle) m.accounts w a b there.0, can.1, most) in
+      change b refl (word_down m.idle) (m.head Full).index
       (down_counted m.idle sum (idle_sum (set m.accounts w b)) s.counted less)
-      (λ alone. (there.1, inl (omega (arith, can.1)))) refl refl
+      (λ alone. (there.1, inl (omega (arith, can.1)))) refl
       (still_empty b refl refl (λ p. p))
   effect_hushed _ can = keep_all _ refl refl refl refl refl refl refl
 
