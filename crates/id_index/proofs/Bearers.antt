@@ -2,7 +2,8 @@
 use Rattle.std.proofs.Common.{Bool, refl, Contains, List, None, Option, Some, arith, false, get_or, inl, inr, length}
 use Rattle.std.proofs.Common.{ap, position, slice_get, subst, sym, take, true, ℕ, ◌%◌, ◌+◌, ◌-◌, ◌/◌, ◌<◌, ◌∙◌, ◌≡◌}
 use Rattle.std.proofs.Common.{◌≢◌, ◌≤◌, ◌⊎◌}
-use Rattle.std.specs.Prelude.{◌==◌, IsTrue, nat_lt, ◌↔◌, count_ones}
+use Rattle.std.specs.Prelude.{◌==◌, IfSome, IsTrue, MatchOption, nat_lt, ◌↔◌, count_ones}
+use Rattle.std.specs.Int.{bit_at}
 use Rattle.std.specs.List.{position_or_len}
 use Rattle.std.proofs.lemmas.Bool.{lt-ltb, eqb-true, eqb-false, cond_above, cond_below, eq-eqb, ltb-true, ne_eqb}
 use Rattle.std.proofs.lemmas.List.{get_or-take, length-take}
@@ -13,7 +14,7 @@ use Rattle.std.proofs.lemmas.List.Sums.{fails_before_first, position_or_len_is}
 use Rattle.std.proofs.lemmas.Option.{get_or_from_slice_get, slice_get-get_or, slice_get_within}
 use Rattle.id_index.specs.declared.runs.Run.{Run}
 use Rattle.id_index.specs.Runs.{AreAscending, AreFewAPage, HasBearer, IsBearerAt, IsFirstBearer, IsFirstFrom, Tell}
-use Rattle.id_index.specs.Runs.{number_in, page_in, rank, run_in}
+use Rattle.id_index.specs.Runs.{IsNumberAt, number_in, page_in, rank, run_in}
 use Rattle.id_index.proofs.Ones.{rank_less_than_all}
 
 -- the first place that passes
@@ -64,6 +65,19 @@ named runs ids id (Some number) up tell (at, it) =
     (λ same. others runs ids id number at k up tell it h
     (slice_get-get_or ids k 0 (omega (arith, h, slice_get_within ids number id e)) ∙ ap Some same)))
     (eq-eqb (get_or ids number 0) id (get_or_from_slice_get ids number id 0 e))
+
+-- the first run of its page has the identifiers that it tells of before all other runs
+pub bearer_at : (runs : List Run) (id at : ℕ) → at < length runs → page_in runs at ≡ id / 64
+    → ((k : ℕ) → k < at → page_in runs k < id / 64) → (result : Option ℕ)
+    → MatchOption result (bit_at (run_in runs at).places (id % 64) ≢ 1) (λ n. IsNumberAt (run_in runs at) (id % 64) n)
+    → IfSome result (λ n. IsBearerAt runs id n at)
+bearer_at runs id at within page below None none = tt
+bearer_at runs id at within page below (Some n) it = record {
+  within = within;
+  here = record { page = page; set = it.set };
+  number_is = it.number_is;
+  first = λ k less has. let other : page_in runs k < id / 64 = below k less in omega (arith, other, has.page);
+}
 
 -- behind a run of a greater page
 pub none_behind : (runs : List Run) (id from at : ℕ) → AreAscending runs

@@ -3,11 +3,11 @@ use Rattle.std.proofs.Common.{arith, ap, inl, inr, subst, suc, sym, zero, ℕ, �
 use Rattle.std.proofs.Common.{◌∙◌, ◌≡◌, ◌≢◌, ◌≤◌, ◌⊎◌}
 use Rattle.std.specs.Prelude.{bit_and, bit_or, count_ones}
 use Rattle.std.specs.Int.{bit_at, w64}
-use Rattle.std.proofs.Math.Nat.{div-eq_of_lt, le-max_left, lt_of_not-le}
+use Rattle.std.proofs.Math.Nat.{div-eq_of_lt, le-max_left, lt_of_not-le, mul-mod_left}
 use Rattle.std.proofs.lemmas.Bool.{cases_lt}
 use Rattle.std.specs.Int.Bits.{or_shifted_r}
 use Rattle.std.proofs.lemmas.Nat.{and_comm, and_mask, and_or_self, le_or_l, mod-pow-add, mod_below, one_shl, ones_cat}
-use Rattle.std.proofs.lemmas.Nat.{pow_pos, shr_split}
+use Rattle.std.proofs.lemmas.Nat.{pow-add, pow_pos, shl-shr, shl_below, shr_split}
 use Rattle.std.proofs.lemmas.Nat.Bits.{bit_at-lt, bit_at_above, bit_at_or, bit_at_set_other, bit_at_set_same}
 use Rattle.std.proofs.lemmas.Nat.Bits.{same_from_bits_below}
 use Rattle.id_index.specs.Runs.{rank}
@@ -70,6 +70,50 @@ rank_same a b (suc k) same =
     let below : rank a k ≡ rank b k = rank_same a b k (λ i h. same i (omega (arith, h))) in
     subst (λ (m : ℕ). rank a m ≡ rank b m) (sym e)
     (omega (arith, below, rank_more a k, rank_more b k, same k (omega arith)))
+
+-- ---- a word that is moved up until the bit of a place is the highest
+
+module _ (n place up : ℕ) (whole : place + 1 + up ≡ 64) where
+  -- the bits up to the place are left
+  moved : n * 2 ^ up % 2 ^ 64 ≡ n % 2 ^ (place + 1) * 2 ^ up
+  moved =
+      let kept : n * 2 ^ up % 2 ^ 64 ≡ n * 2 ^ up / 2 ^ up % 2 ^ (place + 1) * 2 ^ up + n * 2 ^ up % 2 ^ up =
+      subst (λ (k : ℕ). n * 2 ^ up % 2 ^ k ≡ n * 2 ^ up / 2 ^ up % 2 ^ (place + 1) * 2 ^ up + n * 2 ^ up % 2 ^ up) whole
+      (mod-pow-add (n * 2 ^ up) (place + 1) up) in
+      kept ∙ rw (shl-shr n up) (omega (arith, mul-mod_left n (2 ^ up)))
+
+  pub ones_moved : count_ones (n * 2 ^ up % 2 ^ 64) ≡ bit_at n place + rank n place
+  ones_moved =
+      let cat : count_ones (n % 2 ^ (place + 1) * 2 ^ up + 0) ≡ rank n (place + 1) + count_ones 0 =
+      ones_cat up (n % 2 ^ (place + 1)) 0 (pow_pos up) in
+      let same : count_ones (n * 2 ^ up % 2 ^ 64) ≡ count_ones (n % 2 ^ (place + 1) * 2 ^ up + 0) =
+      ap count_ones (omega (arith, moved)) in
+      omega (arith, same, cat, ones_of_bit 0 (omega arith), rank_more n place)
+
+  -- the highest bit, and what is below it
+  parts : (n * 2 ^ up % 2 ^ 64 ≡ bit_at n place * 2 ^ 63 + n % 2 ^ place * 2 ^ up) × (n % 2 ^ place * 2 ^ up < 2 ^ 63)
+  parts =
+      let turn : place + 1 ≡ 1 + place = omega arith in
+      let bits : n % 2 ^ (place + 1) ≡ bit_at n place * 2 ^ place + n % 2 ^ place =
+      rw turn (mod-pow-add n 1 place) in
+      let below : place + up ≡ 63 = omega (arith, whole) in
+      let high : 2 ^ place * 2 ^ up ≡ 2 ^ 63 = rw below at (sym (pow-add 2 place up)) in
+      let low : n % 2 ^ place * 2 ^ up < 2 ^ 63 =
+      rw below at (shl_below (n % 2 ^ place) place up (mod_below n (2 ^ place) (pow_pos place))) in
+      (moved ∙ rw bits (grind (arith, high)), low)
+
+module _ (n place : ℕ) (inside : place < 64) where
+  whole : place + 1 + (63 - place) ≡ 64
+  whole = omega (arith, inside)
+
+  pub ones_up_to : count_ones (n * 2 ^ (63 - place) % 2 ^ 64) ≡ bit_at n place + rank n place
+  ones_up_to = ones_moved n place (63 - place) whole
+
+  pub top_bit : 2 ^ 63 ≤ n * 2 ^ (63 - place) % 2 ^ 64 → bit_at n place ≡ 1
+  top_bit h = let it = parts n place (63 - place) whole in omega (arith, it.0, it.1, h, bit_at-lt n place)
+
+  pub top_bit_not : n * 2 ^ (63 - place) % 2 ^ 64 < 2 ^ 63 → bit_at n place ≢ 1
+  top_bit_not h = λ set. let it = parts n place (63 - place) whole in omega (arith, it.0, h, set)
 
 -- ---- more bits
 

@@ -18,8 +18,9 @@ pub record IsBeginning (runs : List Run) (least shift bucket at : ℕ) : Type 0 
 pub record AreBeginnings {A : Type 0} (runs : List Run) (b : Beginnings A) : Type 0 where
   pub shifted : b.shift < 64
   pub low : (k : ℕ) → k < length runs → b.least ≤ page_in runs k
-  pub high : (k : ℕ) → k < length runs → page_in runs k ≤ b.greatest
-  pub count : length b.starts.items ≡ bucket_of b.least b.shift b.greatest + 2
+  pub high : (k : ℕ) → k < length runs → page_in runs k ≤ b.least + b.span
+  pub fits : b.least + b.span < 2 ^ 64
+  pub count : length b.starts.items ≡ b.span / 2 ^ b.shift + 2
   pub few : length b.starts.items ≤ length runs / 2 + 3
   pub each : (bucket : ℕ) → bucket < length b.starts.items →
       IsBeginning runs b.least b.shift bucket (slice_index b.starts.items bucket)

@@ -19,6 +19,11 @@ number_in run place = run.first + rank run.places place
 abbrev pub end_of : Run → ℕ
 end_of run = run.first + count_ones run.places
 
+-- the run has an object at that place, of that number
+pub record IsNumberAt (run : Run) (place number : ℕ) : Type 0 where
+  pub set : bit_at run.places place ≡ 1
+  pub number_is : number ≡ number_in run place
+
 -- the run has an object with that identifier
 pub record HasBearer (run : Run) (id : ℕ) : Type 0 where
   pub page : run.page ≡ id / 64

@@ -12,8 +12,11 @@ use std::alloc::{AllocError, Allocator};
 #[derive(Drop)]
 pub(crate) struct Beginnings<A: Allocator> {
     pub(crate) least: u64,
-    pub(crate) greatest: u64,
+    /// How far the greatest page is from the least one.
+    pub(crate) span: u64,
     pub(crate) shift: u32,
+    /// The lowest `shift` bits, set: what a guess keeps of a distance.
+    pub(crate) mask: u64,
     /// Where the runs of each bucket begin, and behind the last one how many runs there are.
     pub(crate) starts: Vec<u32, A>,
 }
@@ -81,8 +84,9 @@ impl<A: Allocator> Beginnings<A> {
         }
         Ok(Beginnings {
             least,
-            greatest,
+            span,
             shift,
+            mask: (1 << shift) - 1,
             starts,
         })
     }
@@ -95,10 +99,12 @@ impl<A: Allocator> Beginnings<A> {
         requires begun { AreBeginnings runs.now self.now }
         ensures { MatchOption result (IsNoPage runs.now page) (λ range. IsAround runs.now page range.0 range.1) }
     {
-        if page < self.least || self.greatest < page {
+        // A page below the least one is further from it than any, since the distance wraps.
+        let distance = page.wrapping_sub(self.least);
+        if distance > self.span {
             return None;
         }
-        let bucket = ((page - self.least) >> self.shift) as usize;
+        let bucket = (distance >> self.shift) as usize;
         Some((
             self.starts[bucket] as usize,
             self.starts[bucket + 1] as usize,
@@ -106,13 +112,15 @@ impl<A: Allocator> Beginnings<A> {
     }
 
     /// About where the first run of a page stands among those of its bucket, from `begin` up to `end`: there it would
-    /// be if their pages were as far from one another as they can be. Nothing rests on it but time.
+    /// be if their pages were as far from one another as they can be. It may be anywhere, where the product wraps:
+    /// nothing rests on it but time.
     #[inline(always)]
     pub(crate) fn guess(&self, page: u64, begin: usize, end: usize) -> usize
-        requires { self.now.shift < 64 }
+        requires shifted { self.now.shift < 64 }
+        requires order { begin ≤ end }
     {
-        let count = end.saturating_sub(begin);
-        let within = page.wrapping_sub(self.least) & !(u64::MAX << self.shift);
-        begin.saturating_add((within.wrapping_mul(count as u64) >> self.shift) as usize)
+        let within = page.wrapping_sub(self.least) & self.mask;
+        let passed = within.wrapping_mul((end - begin) as u64) >> self.shift;
+        begin.wrapping_add(passed as usize)
     }
 }

@@ -1,20 +1,52 @@
 //! Look-ups in ascending runs.
 
-ghost use Rattle.std.specs.Prelude.{◌%◌, ◌+◌, ◌/◌, ◌<◌, ◌≡◌, ◌≤◌, ◌^◌, length};
-ghost use Rattle.id_index.specs.Beginnings.{AreBeginnings};
-ghost use Rattle.id_index.specs.Runs.{AreAscending, AreFewAPage, IsFirstBearer, IsFirstFrom};
+ghost use Rattle.std.specs.Prelude.{IfSome, MatchOption, ◌/◌, ◌<◌, ◌≢◌, ◌^◌};
+ghost use Rattle.std.specs.Int.{bit_at};
+ghost use Rattle.id_index.specs.Beginnings.{AreBeginnings, IsAround};
+ghost use Rattle.id_index.specs.Runs.{AreAscending, AreFewAPage, IsBearerAt, IsFirstBearer, IsFirstFrom, IsNumberAt};
+ghost use Rattle.id_index.specs.Runs.{end_of};
 
 use crate::beginnings::Beginnings;
 use crate::pages::first_from;
-use crate::runs::{PLACES, Run, rank_in};
+use crate::runs::{PLACES, Run};
 use std::alloc::Allocator;
 
 /// How many runs a page has at most: each has a place that none before it has.
 const MANY_RUNS: usize = 64;
 
+/// The number of the object at a place of a run, if the run has one there.
+#[inline(always)]
+fn number_at_place(run: Run, place: u32) -> Option<u32>
+    requires place { place < 64 }
+    requires few { end_of run < 2 ^ 32 }
+    ensures { MatchOption result (bit_at run.places place ≢ 1) (λ number. IsNumberAt run place number) }
+{
+    // The bits up to the place, with its own as the highest: if that is set, they are one more than those below it.
+    let up_to = run.places << (63 - place);
+    if up_to < 1 << 63 {
+        return None;
+    }
+    Some(run.first + (up_to.count_ones() - 1))
+}
+
+/// The number of the object with that identifier, if the run at an index has it and is the first one of its page.
+#[inline(always)]
+fn number_at(runs: &[Run], at: usize, id: u64) -> Option<u32>
+    requires { AreAscending runs.now }
+    ensures { IfSome result (λ number. IsBearerAt runs.now id number at) }
+{
+    let page = id / PLACES;
+    if at >= runs.len() || runs[at].page != page {
+        return None;
+    }
+    if at > 0 && runs[at - 1].page >= page {
+        return None;
+    }
+    number_at_place(runs[at], (id % PLACES) as u32)
+}
+
 /// The number of the object with that identifier in the first run that has it, of the runs from the first one of its
 /// page on.
-#[inline(always)]
 fn number_from(runs: &[Run], from: usize, id: u64) -> Option<u32>
     requires runs { AreAscending runs.now }
     requires few { AreFewAPage runs.now }
@@ -28,11 +60,25 @@ fn number_from(runs: &[Run], from: usize, id: u64) -> Option<u32>
         if run.page != page {
             return None;
         }
-        if (run.places >> place) % 2 == 1 {
-            return Some(run.first + rank_in(run.places, place));
+        if let Some(number) = number_at_place(run, place) {
+            return Some(number);
         }
     }
     None
+}
+
+/// The number of the object with that identifier in the first run that has it, where that run is not at the guess. It
+/// stands between two ends.
+// Not inlined, so that nearly all look-ups are one straight line.
+#[inline(never)]
+fn searched(runs: &[Run], begin: usize, end: usize, near: usize, id: u64) -> Option<u32>
+    requires runs { AreAscending runs.now }
+    requires few { AreFewAPage runs.now }
+    requires around { IsAround runs.now (id / 64) begin end }
+    ensures { IsFirstBearer runs.now id result }
+{
+    let from = first_from(runs, begin, end, near, id / PLACES);
+    number_from(runs, from, id)
 }
 
 /// The number of the object with that identifier in the first run that has it.
@@ -53,6 +99,8 @@ pub(crate) fn first_bearer<A: Allocator>(
         None => return None,
     };
     let near = beginnings.guess(page, begin, end);
-    let from = first_from(runs, begin, end, near, page);
-    number_from(runs, from, id)
+    match number_at(runs, near, id) {
+        Some(number) => Some(number),
+        None => searched(runs, begin, end, near, id),
+    }
 }

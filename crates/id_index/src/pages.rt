@@ -50,7 +50,6 @@ fn narrowed(runs: &[Run], begin: usize, end: usize, near: usize, page: u64) -> (
 
 /// Where the first of ascending runs stands whose page is not below that one, if it stands between two ends or at the
 /// second. It is looked for from a guess on: any guess gives the same run, a good one gives it sooner.
-#[inline(always)]
 pub(crate) fn first_from(runs: &[Run], begin: usize, end: usize, near: usize, page: u64) -> usize
     requires rise { DoPagesRise runs.now }
     requires around { IsAround runs.now page begin end }
@@ -60,7 +59,7 @@ pub(crate) fn first_from(runs: &[Run], begin: usize, end: usize, near: usize, pa
     if end - begin > MANY_RUNS {
         (low, high) = narrowed(runs, begin, end, near, page);
     }
-    let mut at = near.max(low).min(high);
+    let mut at = near.min(high);
     while at > low && runs[at - 1].page >= page {
         at -= 1;
     }

@@ -1,25 +1,13 @@
 -- Pages rise, so behind a run of another page no run is of this one; and a run's numbers fit 32 bits.
-use Rattle.std.proofs.Common.{arith, inl, inr, length, ◌%◌, ◌<◌, ◌^◌}
-use Rattle.std.specs.Prelude.{count_ones}
+use Rattle.std.proofs.Common.{arith, inl, inr, length}
 use Rattle.std.proofs.lemmas.Bool.{cases_lt}
-use Rattle.id_index.specs.declared.runs.Run.{Run}
-use Rattle.id_index.specs.Runs.{end_of, rank, run_in}
 use Rattle.id_index.proofs.Bearers.{none_behind, none_past}
-use Rattle.id_index.proofs.Ones.{rank_less_than_all}
 use Rattle.id_index.proofs.look_up.number_from.Goals as goal
 
 pub returns-then-run-page : goal.returns-then-run-page
 returns-then-run-page c =
     none_behind c.args.runs.now c.args.id c.args.from c.loop-at.at c.requires.runs c.requires.from
     c.loop-at.auto.at (omega arith) c.loop-at.invariant c.if-run-page.true
-
-pub overflow_add-result : goal.overflow_add-result
-overflow_add-result c =
-    let run : Run = run_in c.args.runs.now c.loop-at.at in
-    let end : end_of run < 2 ^ 32 = c.requires.runs.few c.loop-at.at (omega arith) in
-    let inside : rank run.places (c.args.id % 64) < count_ones run.places =
-    rank_less_than_all run.places (c.args.id % 64) c.if-run-place-eq1.true in
-    omega (arith, end, inside)
 
 pub returns : goal.returns
 returns c =
