@@ -25,10 +25,12 @@ pub struct LowBits {
 pub struct IdIndex<A: Allocator> {
     runs: RunIndex<A>,
     bits: LowBits,
+    /// The lowest `bits.shift` bits, set: made once, not for each look-up.
+    mask: u64,
 }
 
 impl<A: Allocator> Model for IdIndex<A> {
-    ghost use Rattle.std.specs.Prelude.{List, ℕ, ◌<◌, ◌^◌};
+    ghost use Rattle.std.specs.Prelude.{List, ℕ, ◌-◌, ◌<◌, ◌^◌, ◌≡◌};
     ghost use Rattle.id_index.specs.Aligned.{whole_ids};
 
     ghost Value = { List ℕ };
@@ -38,6 +40,7 @@ impl<A: Allocator> Model for IdIndex<A> {
     ghost invariant = { λ i. record {
       shifted : i.bits.shift < 64;
       low : i.bits.low < 2 ^ i.bits.shift;
+      mask : i.mask ≡ 2 ^ i.bits.shift - 1;
     } };
 }
 
@@ -46,7 +49,7 @@ impl<A: Allocator> IdIndex<A> {
     pub fn find(&self, id: u64) -> Option<u32>
         ensures { result ≡ position (λ x. x == id) self.now }
     {
-        if id % (1 << self.bits.shift) != self.bits.low {
+        if id & self.mask != self.bits.low {
             return None;
         }
         self.runs.find(id >> self.bits.shift)
@@ -151,6 +154,7 @@ impl<A: Allocator> IdIndexBuilder<A> {
     {
         let bits = self.bits;
         let runs = self.runs.finish(alloc)?;
-        Ok(IdIndex { runs, bits })
+        let mask = (1 << bits.shift) - 1;
+        Ok(IdIndex { runs, bits, mask })
     }
 }
