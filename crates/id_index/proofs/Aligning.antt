@@ -3,14 +3,23 @@ use Rattle.std.proofs.Common.{Contains, List, None, Option, Some, ap, arith, get
 use Rattle.std.proofs.Common.{slice_get, sym, take, ℕ, ◌%◌, ◌*◌, ◌+◌, ◌/◌, ◌<◌, ◌^◌, ◌∙◌, ◌≡◌, ◌≢◌}
 use Rattle.std.specs.Prelude.{◌==◌}
 use Rattle.std.proofs.lemmas.Bool.{eq-eqb, eqb-false, eqb-true, ne_eqb}
-use Rattle.std.proofs.lemmas.Grind.{get_or_default_zero}
-use Rattle.std.proofs.lemmas.List.{get_or-map, get_or-take, length-map, length-take}
+use Rattle.std.proofs.lemmas.Grind.{common_steps}
+use Rattle.std.proofs.lemmas.List.{get_or-map, length-map, length-take}
 use Rattle.std.proofs.lemmas.List.Quantifiers.{position-Some}
 use Rattle.std.proofs.lemmas.Nat.{div-add-mod', div-mul-add, mod-mul-add}
-use Rattle.std.proofs.lemmas.Option.{get_or_from_slice_get, slice_get-get_or, slice_get_within}
+use Rattle.std.proofs.lemmas.Option.{gets, get_or_from_slice_get, slice_get-get_or, slice_get_within}
 use Rattle.id_index.specs.Aligned.{whole_id, whole_ids}
 use Rattle.id_index.specs.Repeats.{IsFirstRepeat}
-use Rattle.id_index.proofs.Bearers.{absent, get_or_id, position_is, position_none}
+use Rattle.id_index.proofs.Bearers.{absent, position_is, position_none}
+
+-- an earlier bearer, as a place
+before_in : (ids : List ℕ) (number id : ℕ) → Contains (take number ids) id
+    → (k : ℕ) × (k < number) × (slice_get ids k ≡ Some id)
+before_in ids number id has = (has.0, omega (arith, has.1, length-take number ids), grind (arith, common_steps, gets, has.1, has.2))
+
+in_before : (ids : List ℕ) (number id k : ℕ) → k < number → slice_get ids k ≡ Some id
+    → Contains (take number ids) id
+in_before ids number id k below e = (k, grind (arith, common_steps, gets), grind (arith, common_steps, gets))
 
 module _ (shift low : ℕ) (fits : low < 2 ^ shift) where
   -- the identifier at a place
@@ -70,25 +79,6 @@ module _ (shift low : ℕ) (fits : low < 2 ^ shift) where
       let high : get_or highs k 0 ≡ id / 2 ^ shift =
       sym (high_of (get_or highs k 0)) ∙ ap (λ (x : ℕ). x / 2 ^ shift) is in
       (slice_get-get_or highs k 0 within ∙ ap Some high, ap (whole_id shift low) (sym high) ∙ is)
-
-  -- an earlier bearer, as a place
-  before_in : (ids : List ℕ) (number id : ℕ) → Contains (take number ids) id
-      → (k : ℕ) × (k < number) × (slice_get ids k ≡ Some id)
-  before_in ids number id has =
-      let under : has.0 < number = omega (arith, has.1, length-take number ids) in
-      let within : has.0 < length ids = omega (arith, has.1, length-take number ids) in
-      let there : get_or ids has.0 0 ≡ id =
-      sym (get_or_default_zero ids has.0 id within) ∙ sym (get_or-take number ids has.0 id under) ∙ has.2 in
-      (has.0, under, slice_get-get_or ids has.0 0 within ∙ ap Some there)
-
-  in_before : (ids : List ℕ) (number id k : ℕ) → k < number → slice_get ids k ≡ Some id
-      → Contains (take number ids) id
-  in_before ids number id k below e =
-      let within : k < length ids = slice_get_within ids k id e in (
-        k,
-        simp length-take (omega (arith, below, within)),
-        get_or-take number ids k id below ∙ get_or_id ids k id within (get_or_from_slice_get ids k id 0 e),
-      )
 
   pub repeats : (highs : List ℕ) (number : ℕ) → IsFirstRepeat highs number
       → IsFirstRepeat (whole_ids shift low highs) number

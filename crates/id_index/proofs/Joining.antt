@@ -1,11 +1,12 @@
 -- The objects of one list behind those of another.
-use Rattle.std.proofs.Common.{Contains, List, None, Option, Some, ap, arith, get_or, inl, inr, length, length-append}
+use Rattle.std.proofs.Common.{Contains, List, None, Option, Some, ap, arith, inl, inr, length, length-append}
 use Rattle.std.proofs.Common.{map, slice_get, subst, sym, ℕ, ◌%◌, ◌+◌, ◌++◌, ◌-◌, ◌<◌, ◌^◌, ◌∙◌, ◌≡◌, ◌≤◌}
 use Rattle.std.proofs.lemmas.Bool.{cases_lt}
+use Rattle.std.proofs.lemmas.Grind.{common_steps}
 use Rattle.std.proofs.lemmas.List.{append-nil, get_or-append-add, get_or-map, get_or_append_left, length-map}
 use Rattle.std.proofs.lemmas.List.Elements.{Contains-append_cases, Contains-append_left, Contains-append_right}
 use Rattle.std.proofs.lemmas.List.Elements.{Contains-get_or}
-use Rattle.std.proofs.lemmas.Option.{get_or_from_slice_get, slice_get-get_or, slice_get_within}
+use Rattle.std.proofs.lemmas.Option.{gets}
 use Rattle.id_index.specs.declared.runs.Run.{Run}
 use Rattle.id_index.specs.Building.{AreBuilt, AreFewBuilt, AreInTurn, ids_built, raised_by, with_last}
 use Rattle.id_index.specs.Runs.{AreComplete, AreSound, HasBearer, end_of, ids_of_runs, no_run, number_in, run_in}
@@ -14,32 +15,19 @@ use Rattle.id_index.proofs.Built.{all_built, gives, ids_count}
 -- ---- one list behind another
 
 get_first : (xs ys : List ℕ) (k x : ℕ) → slice_get xs k ≡ Some x → slice_get (xs ++ ys) k ≡ Some x
-get_first xs ys k x e =
-    let within : k < length xs = slice_get_within xs k x e in
-    slice_get-get_or (xs ++ ys) k x (omega (arith, within, length-append xs ys))
-    ∙ ap Some (get_or_append_left xs ys x k within ∙ get_or_from_slice_get xs k x x e)
+get_first xs ys k x e = grind (arith, common_steps, gets)
 
 get_second : (xs ys : List ℕ) (k x : ℕ) → slice_get ys k ≡ Some x → slice_get (xs ++ ys) (length xs + k) ≡ Some x
-get_second xs ys k x e =
-    let within : k < length ys = slice_get_within ys k x e in
-    slice_get-get_or (xs ++ ys) (length xs + k) x (omega (arith, within, length-append xs ys))
-    ∙ ap Some (get_or-append-add xs ys k x ∙ get_or_from_slice_get ys k x x e)
+get_second xs ys k x e = grind (arith, common_steps, gets)
 
 -- what stands in the first list
 from_first : (xs ys : List ℕ) (k x : ℕ) → k < length xs → slice_get (xs ++ ys) k ≡ Some x → slice_get xs k ≡ Some x
-from_first xs ys k x h e =
-    slice_get-get_or xs k x h
-    ∙ ap Some (sym (get_or_append_left xs ys x k h) ∙ get_or_from_slice_get (xs ++ ys) k x x e)
+from_first xs ys k x h e = grind (arith, common_steps, gets)
 
 -- or in the second one
 from_second : (xs ys : List ℕ) (k x : ℕ) → length xs ≤ k → slice_get (xs ++ ys) k ≡ Some x
     → slice_get ys (k - length xs) ≡ Some x
-from_second xs ys k x h e =
-    let at : length xs + (k - length xs) ≡ k = omega (arith, h) in
-    let within : k < length (xs ++ ys) = slice_get_within (xs ++ ys) k x e in
-    slice_get-get_or ys (k - length xs) x (omega (arith, h, within, length-append xs ys))
-    ∙ ap Some (sym (get_or-append-add xs ys (k - length xs) x) ∙ ap (λ (n : ℕ). get_or (xs ++ ys) n x) at
-    ∙ get_or_from_slice_get (xs ++ ys) k x x e)
+from_second xs ys k x h e = grind (arith, common_steps, gets)
 
 -- ---- the runs of the second list, raised by how many objects the first one has
 
