@@ -45,6 +45,7 @@ pub use laws::{always_dump_or_fault, dump_or_fault, one_dump, one_fault, one_lis
 pub use parse::read;
 pub use placed::{dump_is_placed, stands_within};
 pub use team::Team;
+pub use view::identifiers::number_at;
 pub use view::ids::Ids;
 pub use view::members::{MemberField, Members};
 pub use view::values::{TypedValue, Values};

@@ -1,11 +1,12 @@
 //! The fields of a dump's parts, read at the places of the parts.
 //!
 //! Each reader takes a place of a `Dump` and needs that such a part stands there, as `dump_is_placed` says of all
-//! places of a dump. Only `View::identifier_at` reads in bytes that it is given, and needs room. No reader takes
-//! memory.
+//! places of a dump. Only `View::identifier_at` and `number_at` read in bytes that they are given, and need room. No
+//! reader takes memory.
 
 mod arrays;
 mod classes;
+pub mod identifiers;
 pub mod ids;
 mod instances;
 pub mod members;
@@ -15,7 +16,7 @@ pub mod values;
 
 ghost use Rattle.std.specs.Prelude.{Some, true, ◌+◌, ◌≡◌, ◌≤◌, drop, length, take};
 ghost use Rattle.byteorder.specs.Endian.{big_number};
-ghost use Rattle.hprof_grammar.specs.Dump.{id_of, is_object};
+ghost use Rattle.hprof_grammar.specs.Dump.{is_object};
 ghost use Rattle.hprof_grammar.specs.SubRecord.{SubRecord};
 ghost use Rattle.hprof_grammar.specs.FormatTables as tables;
 ghost use Rattle.hprof_grammar.specs.Standing.{Stands, stack_of};
@@ -105,22 +106,6 @@ impl<'a> View<'a> {
         }
     }
 
-    /// The first identifier of the sub-record at a place: the object that a root names, or that a dump describes.
-    pub fn object_id(&self, at: u32) -> u64
-        requires { (sub : SubRecord) × Stands self.now at sub }
-        ensures { (sub : SubRecord) → Stands self.now at sub → result ≡ id_of sub }
-    {
-        number_at(self.bytes, at as usize + OBJECT, self.id_size as usize)
-    }
-
-    /// The identifier at a place of these bytes, such as the values of an instance.
-    pub fn identifier_at(&self, bytes: &[u8], at: usize) -> u64
-        requires room { at + self.now.id_size ≤ length bytes.now }
-        ensures { result ≡ big_number self.now.id_size (drop at bytes.now) }
-    {
-        number_at(bytes, at, self.id_size as usize)
-    }
-
     /// The serial number of the stack trace in the dump of an object.
     pub fn stack_trace(&self, at: u32) -> u32
         requires { (sub : SubRecord) × Stands self.now at sub × (is_object sub ≡ true) }
@@ -128,23 +113,6 @@ impl<'a> View<'a> {
     {
         let size = self.id_size as usize;
         u32_at(self.bytes, at as usize + STACK_TRACE + size)
-    }
-}
-
-/// The big-endian number of `width` bytes at a place. Each width that a field has is read at a width that is known
-/// here.
-fn number_at(bytes: &[u8], at: usize, width: usize) -> u64
-    requires low { 1 ≤ width }
-    requires high { width ≤ 8 }
-    requires room { at + width ≤ length bytes.now }
-    ensures { result ≡ big_number width (drop at bytes.now) }
-{
-    let (_, behind) = bytes.split_at(at);
-    match width {
-        2 => u64::from(BigEndian::read_u16(behind)),
-        4 => u64::from(BigEndian::read_u32(behind)),
-        8 => BigEndian::read_u64(behind),
-        _ => BigEndian::read_uint(behind, width),
     }
 }
 

@@ -5,8 +5,9 @@ ghost use Rattle.hprof_grammar.specs.SubRecord.{ObjectArray, PrimitiveArray};
 ghost use Rattle.hprof_grammar.specs.SubRecord.SubRecord.{object_array_dump, primitive_array_dump};
 ghost use Rattle.hprof_grammar.specs.Standing.{Stands};
 
+use crate::view::identifiers::number_at;
 use crate::view::ids::Ids;
-use crate::view::{BEHIND_STACK_TRACE, View, bytes_at, number_at, u32_at};
+use crate::view::{BEHIND_STACK_TRACE, View, bytes_at, u32_at};
 
 /// Where the fields of array dumps stand, each but for the identifiers before it.
 const COUNT: usize = BEHIND_STACK_TRACE;

@@ -8,10 +8,11 @@ ghost use Rattle.hprof_grammar.specs.Series.{of_constant, of_static};
 ghost use Rattle.hprof_grammar.specs.working.ClassParts.{IsPartOf, ids_behind_stack};
 ghost use Rattle.hprof_grammar.specs.working.ClassParts.{fields_from_constants, fields_from_statics};
 
+use crate::view::identifiers::number_at;
 use crate::view::ids::Ids;
 use crate::view::members::Members;
 use crate::view::values::{Values, skip_values};
-use crate::view::{BEHIND_STACK_TRACE, View, bytes_from, number_at, u32_at};
+use crate::view::{BEHIND_STACK_TRACE, View, bytes_from, u32_at};
 
 /// Where the fields of a class dump stand, each but for the identifiers before it.
 const FIRST_ID: usize = BEHIND_STACK_TRACE;

@@ -3,7 +3,7 @@
 ghost use Rattle.std.specs.Prelude.{◌*◌, ◌+◌, ◌≡◌, ◌≤◌, ◌↔◌, [], IsTrue, drop, length};
 ghost use Rattle.hprof_grammar.specs.Series.{numbers_in};
 
-use crate::view::number_at;
+use crate::view::identifiers::number_at;
 use std::marker::Model;
 
 /// Identifiers that stand one after the other in a dump: those that are left to read.

@@ -5,7 +5,8 @@ ghost use Rattle.hprof_grammar.specs.SubRecord.{Instance};
 ghost use Rattle.hprof_grammar.specs.SubRecord.SubRecord.{instance_dump};
 ghost use Rattle.hprof_grammar.specs.Standing.{Stands};
 
-use crate::view::{BEHIND_STACK_TRACE, View, bytes_at, number_at, u32_at};
+use crate::view::identifiers::number_at;
+use crate::view::{BEHIND_STACK_TRACE, View, bytes_at, u32_at};
 
 /// Where the fields of an instance dump stand, each but for the identifiers before it.
 const CLASS: usize = BEHIND_STACK_TRACE;

@@ -3,7 +3,7 @@
 ghost use Rattle.std.specs.Prelude.{◌*◌, ◌+◌, ◌≡◌, ◌≤◌, ◌↔◌, [], IsTrue, drop, length};
 ghost use Rattle.hprof_grammar.specs.Series.{count_in, members_in};
 
-use crate::view::number_at;
+use crate::view::identifiers::number_at;
 use crate::view::values::split_count;
 use std::marker::Model;
 

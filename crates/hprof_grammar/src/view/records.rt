@@ -4,7 +4,8 @@ ghost use Rattle.std.specs.Prelude.{List, length, ℕ, ◌≡◌};
 ghost use Rattle.hprof_grammar.specs.Record.{Record, body_of, time_of};
 ghost use Rattle.hprof_grammar.specs.Standing.{HeaderStands, LoadStands, RecordStands, StringStands};
 
-use crate::view::{View, bytes_at, number_at, u32_at};
+use crate::view::identifiers::number_at;
+use crate::view::{View, bytes_at, u32_at};
 
 /// Where the two words of the header's time stand in the bytes of a dump.
 const HEADER_TIME: usize = 23;

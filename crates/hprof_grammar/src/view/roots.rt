@@ -9,7 +9,8 @@ ghost use Rattle.hprof_grammar.specs.SubRecord.SubRecord.{root};
 
 use crate::format_tables::kind_of;
 use crate::kinds::{Kind, RootKind};
-use crate::view::{OBJECT, View, number_at, u32_at};
+use crate::view::identifiers::number_at;
+use crate::view::{OBJECT, View, u32_at};
 
 /// Where the fields of a root behind its object stand, each but for the identifier of the object. A kind of root
 /// has the reference, or the thread and behind it the frame or the stack trace, or none of them.

@@ -5,7 +5,8 @@ ghost use Rattle.hprof_grammar.specs.Series.{HasCountedValues, behind_counted_va
 ghost use Rattle.hprof_grammar.specs.Series.{value_end, value_in};
 
 use crate::format_tables::size_of;
-use crate::view::{bytes_at, number_at};
+use crate::view::bytes_at;
+use crate::view::identifiers::number_at;
 use byteorder::{BigEndian, ByteOrder};
 use std::marker::Model;
 
