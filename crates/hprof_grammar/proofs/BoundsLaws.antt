@@ -2,7 +2,7 @@
 use Rattle.std.proofs.Common.{List, [], flat_map, length, map, true, ℕ, ◌<◌, ◌^◌, ◌∷◌, ◌≡◌}
 use Rattle.std.specs.List.{AllByRecursion}
 use Rattle.hprof_grammar.specs.Bounds.{HasBounds, IsClass, IsConstant, IsMember, IsOrigin, IsStatic}
-use Rattle.hprof_grammar.specs.Spelling.{Fits}
+use Rattle.hprof_grammar.specs.Spelling.{Field, Fits}
 use Rattle.hprof_grammar.specs.Spelling.Field.{number}
 use Rattle.hprof_grammar.specs.SubRecord.{Class, Constant, HasSizes, IsFormed, Member, RootOrigin, Static, SubRecord}
 use Rattle.hprof_grammar.specs.SubRecord.{class_fields, constant_fields, fields_of, member_fields, origin_fields}
@@ -14,7 +14,7 @@ use Rattle.hprof_grammar.specs.SubRecord.SubRecord.{primitive_array_dump, root}
 use Rattle.hprof_grammar.specs.FormatTables.{is_sub_tag, size_of}
 use Rattle.hprof_grammar.specs.working.ClassParts.{counted_fields, fields_from_constants, fields_from_members}
 use Rattle.hprof_grammar.specs.working.ClassParts.{fields_from_statics}
-use Rattle.hprof_grammar.proofs.Fields.{all_join, all_split}
+use Rattle.hprof_grammar.proofs.Fields.{all_join, all_split, ◌&◌}
 
 -- ---- from the fields to the bounds
 
@@ -93,30 +93,23 @@ bounds {s} {sub} formed = bounds_of s sub formed.numbers formed.sizes
 
 -- ---- from the bounds to the fields
 
-constants_fit : (s : ℕ) (ks : List Constant) → AllByRecursion (IsConstant s) ks
-    → AllByRecursion Fits (flat_map constant_fields ks)
-constants_fit s [] bound = tt
-constants_fit s (k ∷ ks) bound = (bound.0.index, (tt, (tt, constants_fit s ks bound.1)))
+-- the fields of each thing in a list
+each_fit : {X : Type 0} (fields : X → List Field) (Is : X → Type 0)
+    → ((x : X) → Is x → AllByRecursion Fits (fields x)) → (xs : List X) → AllByRecursion Is xs
+    → AllByRecursion Fits (flat_map fields xs)
+each_fit fields Is fit [] all = tt
+each_fit fields Is fit (x ∷ xs) all =
+    all_join Fits (fields x) (flat_map fields xs) (fit x all.0) (each_fit fields Is fit xs all.1)
 
 constants_sized : (s : ℕ) (ks : List Constant) → AllByRecursion (IsConstant s) ks
     → AllByRecursion (λ k. length k.value ≡ size_of s k.type) ks
 constants_sized s [] bound = tt
 constants_sized s (k ∷ ks) bound = (bound.0.value, constants_sized s ks bound.1)
 
-statics_fit : (s : ℕ) (fs : List Static) → AllByRecursion (IsStatic s) fs
-    → AllByRecursion Fits (flat_map (static_fields s) fs)
-statics_fit s [] bound = tt
-statics_fit s (f ∷ fs) bound = (bound.0.name, (tt, (tt, statics_fit s fs bound.1)))
-
 statics_sized : (s : ℕ) (fs : List Static) → AllByRecursion (IsStatic s) fs
     → AllByRecursion (λ f. length f.value ≡ size_of s f.type) fs
 statics_sized s [] bound = tt
 statics_sized s (f ∷ fs) bound = (bound.0.value, statics_sized s fs bound.1)
-
-members_fit : (s : ℕ) (ms : List Member) → AllByRecursion (IsMember s) ms
-    → AllByRecursion Fits (flat_map (member_fields s) ms)
-members_fit s [] bound = tt
-members_fit s (m ∷ ms) bound = (bound.0, (tt, members_fit s ms bound.1))
 
 elements_fit : (s : ℕ) (es : List ℕ) → AllByRecursion (λ e. e < 256 ^ s) es → AllByRecursion Fits (map (number s) es)
 elements_fit s [] bound = tt
@@ -125,34 +118,15 @@ elements_fit s (e ∷ es) bound = (bound.0, elements_fit s es bound.1)
 counted_parts_fit : (s : ℕ) (c : Class) → IsClass s c → AllByRecursion Fits (fields_from_constants s c)
 counted_parts_fit s c bound =
     all_join Fits (counted_fields constant_fields c.constants) (fields_from_statics s c)
-    (bound.constant_count, constants_fit s c.constants bound.constants)
+    (bound.constant_count
+    & each_fit constant_fields (IsConstant s) (λ k h. h.index & tt & tt & tt) c.constants bound.constants)
     (all_join Fits (counted_fields (static_fields s) c.statics) (fields_from_members s c)
-    (bound.static_count, statics_fit s c.statics bound.statics)
-    (bound.member_count, members_fit s c.members bound.members))
+    (bound.static_count & each_fit (static_fields s) (IsStatic s) (λ f h. h.name & tt & tt & tt) c.statics bound.statics)
+    (bound.member_count & each_fit (member_fields s) (IsMember s) (λ m h. h & tt & tt) c.members bound.members))
 
 class_fit : (s : ℕ) (c : Class) → IsClass s c → AllByRecursion Fits (class_fields s c)
-class_fit s c bound = (
-  bound.object,
-  (
-    bound.stack,
-    (
-      bound.super,
-      (
-        bound.loader,
-        (
-          bound.signers,
-          (
-            bound.domain,
-            (
-              bound.reserved,
-              (bound.reserved_too, (bound.instance_size, counted_parts_fit s c bound)),
-            ),
-          ),
-        ),
-      ),
-    ),
-  ),
-)
+class_fit s c bound = bound.object & bound.stack & bound.super & bound.loader & bound.signers & bound.domain
+    & bound.reserved & bound.reserved_too & bound.instance_size & counted_parts_fit s c bound
 
 origin_fit : (s : ℕ) (origin : RootOrigin) → IsOrigin s origin → AllByRecursion Fits (origin_fields s origin)
 origin_fit s unknown bound = tt

@@ -89,6 +89,13 @@ module _ {A B : Type 0} {W : A → Type 0} {F : A → List Field} {r : List ℕ 
     fails_again = pair_fails_again;
   }
 
+infixr 4 ◌⨾◌
+-- where the second does not depend on the first
+pub ◌⨾◌ : {A B : Type 0} {W : A → Type 0} {F : A → List Field} {r : List ℕ → Result (A × List ℕ) Flaw} {V : B → Type 0}
+    {G : B → List Field} {q : List ℕ → Result (B × List ℕ) Flaw} → IsFormat W F r → IsFormat V G q
+    → IsFormat (λ (p : A × B). W p.0 × V p.1) (λ p. F p.0 ++ G p.1) (then_at r (λ _. q))
+first ⨾ second = pair_format first (λ _. second)
+
 -- ---- n of one kind
 
 module _ {A : Type 0} {W : A → Type 0} {F : A → List Field} {r : List ℕ → Result (A × List ℕ) Flaw}

@@ -1,8 +1,8 @@
 -- Reading one thing after the other, a known number of times: what is left to read at each turn, and numbers that are
 -- passed at once.
-use Rattle.std.proofs.Common.{Bool, Err, List, Ok, Result, arith, ap, drop, false, length, nat_lt, refl, suc, true}
+use Rattle.std.proofs.Common.{Err, List, Ok, Result, arith, ap, drop, inl, inr, length, refl, suc}
 use Rattle.std.proofs.Common.{zero, ℕ, ◌*◌, ◌+◌, ◌-◌, ◌<◌, ◌∙◌, ◌∷◌, ◌≡◌, ◌≤◌}
-use Rattle.std.proofs.lemmas.Bool.Decides.{nat_tests}
+use Rattle.std.proofs.lemmas.Bool.{cases_lt, le-ltb, lt-ltb}
 use Rattle.std.proofs.lemmas.List.{drop-drop, length-drop}
 use Rattle.hprof_grammar.specs.working.Reading.{behind, list_at, number_at, raw_at, ◌>>=◌}
 use Rattle.hprof_grammar.specs.declared.flaw.Flaw.{Flaw}
@@ -56,10 +56,10 @@ pub ruleset turns = (list_step, list_stops, list_ends)
 
 -- a number that has room, and one that is cut
 number_passes : (w : ℕ) (bytes : List ℕ) → w ≤ length bytes → behind (number_at w bytes) ≡ Ok (drop w bytes)
-number_passes w bytes room = let here : nat_lt (length bytes) w ≡ false = grind (arith, nat_tests) in rw here refl
+number_passes w bytes room = rw (le-ltb (length bytes) w room) refl
 
 number_is_cut : (w : ℕ) (bytes : List ℕ) → length bytes < w → behind (number_at w bytes) ≡ Err Short
-number_is_cut w bytes cut = let here : nat_lt (length bytes) w ≡ true = grind (arith, nat_tests) in rw here refl
+number_is_cut w bytes cut = rw (lt-ltb (length bytes) w cut) refl
 
 -- where the first number has room, the others are read behind it
 number_then : (w n : ℕ) (bytes : List ℕ) → w ≤ length bytes
@@ -81,24 +81,16 @@ numbers_pass w (suc n) bytes room =
 -- they have none: the first of them that is cut
 numbers_are_cut : (w n : ℕ) (bytes : List ℕ) → length bytes < n * w → behind (list_at (number_at w) n bytes) ≡ Err Short
 numbers_are_cut w zero bytes cut = let no : ⊥ = omega (arith, cut) in absurd no
-numbers_are_cut w (suc n) bytes cut = by (nat_lt (length bytes) w) refl (numbers_are_cut w n (drop w bytes))
-  where
-    by : (t : Bool) → nat_lt (length bytes) w ≡ t
-        → (length (drop w bytes) < n * w → behind (list_at (number_at w) n (drop w bytes)) ≡ Err Short)
-        → behind (list_at (number_at w) (suc n) bytes) ≡ Err Short
-    by true e more =
-        let here : length bytes < w = grind (arith, nat_tests) in
-        first_fails (number_at w) n (number_at w bytes) Short (number_is_cut w bytes here)
-    by false e more =
-        let here : w ≤ length bytes = grind (arith, nat_tests) in
-        number_then w n bytes here ∙ more (omega (arith, length-drop w bytes))
+numbers_are_cut w (suc n) bytes cut = elim (cases_lt (length bytes) w) [
+  | inl short ↦ first_fails (number_at w) n (number_at w bytes) Short (number_is_cut w bytes short)
+  | inr room ↦ number_then w n bytes room
+      ∙ numbers_are_cut w n (drop w bytes) (omega (arith, length-drop w bytes))
+]
 
 -- numbers are passed as bytes are
 pub numbers_are_bytes : (w n : ℕ) (bytes : List ℕ)
     → behind (list_at (number_at w) n bytes) ≡ behind (raw_at (n * w) bytes)
-numbers_are_bytes w n bytes = by (nat_lt (length bytes) (n * w)) refl
-  where
-    by : (t : Bool) → nat_lt (length bytes) (n * w) ≡ t
-        → behind (list_at (number_at w) n bytes) ≡ behind (raw_at (n * w) bytes)
-    by true e = let cut : length bytes < n * w = grind (arith, nat_tests) in rw e (numbers_are_cut w n bytes cut)
-    by false e = let room : n * w ≤ length bytes = grind (arith, nat_tests) in rw e (numbers_pass w n bytes room)
+numbers_are_bytes w n bytes = elim (cases_lt (length bytes) (n * w)) [
+  | inl cut ↦ rw (lt-ltb (length bytes) (n * w) cut) (numbers_are_cut w n bytes cut)
+  | inr room ↦ rw (le-ltb (length bytes) (n * w) room) (numbers_pass w n bytes room)
+]

@@ -10,6 +10,11 @@ use Rattle.hprof_grammar.specs.FormatTables.{is_type_at}
 use Rattle.hprof_grammar.specs.declared.flaw.Flaw.{Flaw}
 use Rattle.hprof_grammar.specs.declared.flaw.Flaw.TheVariants.{Short, UnknownTag, WrongType}
 
+infixr 4 ◌&◌
+-- a pair, and of many things one pair in the other
+abbrev pub ◌&◌ : {A B : Type 0} → A → B → A × B
+a & b = (a, b)
+
 pub all_join : {A : Type 0} (P : A → Type 0) (xs ys : List A) → AllByRecursion P xs → AllByRecursion P ys
     → AllByRecursion P (xs ++ ys)
 all_join P [] ys h k = k

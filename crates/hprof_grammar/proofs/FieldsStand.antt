@@ -25,10 +25,6 @@ object_first : (s : ℕ) (sub : SubRecord) → fields_of s sub ≡ number s (id_
 object_first s (root r) = refl
 object_first s sub = refl
 
-pub object_id : {v w : Sight} {at : ℕ} {sub : SubRecord} → w ≡ v → Stands v at sub
-    → NumberAt w.bytes (at + 1) w.id_size (id_of sub)
-object_id {v} {w} {at} {sub} e h = number_in [] _ (in_sight e h) (object_first w.id_size sub) (omega arith)
-
 -- the stack trace stands behind the object
 record StackField (s : ℕ) (sub : SubRecord) : Type 0 where
   stack : ℕ
@@ -48,92 +44,79 @@ pub record StackAt (bytes : List ℕ) (at : ℕ) (sub : SubRecord) : Type 0 wher
   pub is : stack_of sub ≡ Some stack
   pub there : NumberAt bytes at 4 stack
 
+pub object_id : {v w : Sight} {at : ℕ} {sub : SubRecord} → w ≡ v → Stands v at sub
+    → NumberAt w.bytes (at + 1) w.id_size (id_of sub)
+object_id {w = w} {sub = sub} e h = number_in [] _ (in_sight e h) (object_first w.id_size sub) (omega arith)
+
 pub stack_trace : {v w : Sight} {at : ℕ} {sub : SubRecord} → w ≡ v → is_object sub ≡ true → Stands v at sub
     → StackAt w.bytes (at + 1 + w.id_size) sub
-stack_trace {v} {w} {at} {sub} e is h =
+stack_trace {w = w} {sub = sub} e is h =
     let field = stack_field w.id_size sub is in
     let there = number_in (number w.id_size (id_of sub) ∷ []) _ (in_sight e h) field.fields_are (omega arith) in
     record { stack = field.stack; is = field.is; there = there }
 
 -- ---- instances
 
-pub instance_class : {v w : Sight} {at : ℕ} {i : Instance} → w ≡ v → Stands v at (instance_dump i)
-    → NumberAt w.bytes (at + 5 + w.id_size) w.id_size i.class
-instance_class {w = w} {i = i} e h =
-    number_in (number w.id_size i.object ∷ number 4 i.stack ∷ []) _ (in_sight e h) refl (omega arith)
+module _ {v w : Sight} {at : ℕ} {i : Instance} (e : w ≡ v) (h : Stands v at (instance_dump i)) where
+  abbrev instance_front : List Field
+  instance_front = number w.id_size i.object ∷ number 4 i.stack ∷ number w.id_size i.class ∷ []
 
-pub instance_count : {v w : Sight} {at : ℕ} {i : Instance} → w ≡ v → Stands v at (instance_dump i)
-    → NumberAt w.bytes (at + 5 + 2 * w.id_size) 4 (length i.values)
-instance_count {w = w} {i = i} e h =
-    let s = w.id_size in
-    number_in (number s i.object ∷ number 4 i.stack ∷ number s i.class ∷ []) _ (in_sight e h) refl (omega arith)
+  pub instance_class : NumberAt w.bytes (at + 5 + w.id_size) w.id_size i.class
+  instance_class = number_in (take 2 instance_front) _ (in_sight e h) refl (omega arith)
 
-pub instance_values : {v w : Sight} {at : ℕ} {i : Instance} → w ≡ v → Stands v at (instance_dump i)
-    → Spell w.bytes (at + 9 + 2 * w.id_size) i.values
-instance_values {w = w} {at = at} {i = i} e h =
-    let s = w.id_size in
-    let front = number s i.object ∷ number 4 i.stack ∷ number s i.class ∷ number 4 (length i.values) ∷ [] in
-    first_stands w.bytes (at + 9 + 2 * s) i.values []
-    (fields_in front (raw i.values ∷ []) (in_sight e h) refl (omega arith))
+  pub instance_count : NumberAt w.bytes (at + 5 + 2 * w.id_size) 4 (length i.values)
+  instance_count = number_in instance_front _ (in_sight e h) refl (omega arith)
+
+  pub instance_values : Spell w.bytes (at + 9 + 2 * w.id_size) i.values
+  instance_values = first_stands w.bytes (at + 9 + 2 * w.id_size) i.values []
+      (fields_in (instance_front ++ number 4 (length i.values) ∷ []) (raw i.values ∷ []) (in_sight e h) refl
+      (omega arith))
 
 -- ---- object arrays
 
-pub array_count : {v w : Sight} {at : ℕ} {a : ObjectArray} → w ≡ v → Stands v at (object_array_dump a)
-    → NumberAt w.bytes (at + 5 + w.id_size) 4 (length a.elements)
-array_count {w = w} {a = a} e h =
-    number_in (number w.id_size a.object ∷ number 4 a.stack ∷ []) _ (in_sight e h) refl (omega arith)
+module _ {v w : Sight} {at : ℕ} {a : ObjectArray} (e : w ≡ v) (h : Stands v at (object_array_dump a)) where
+  abbrev array_front : List Field
+  array_front = number w.id_size a.object ∷ number 4 a.stack ∷ number 4 (length a.elements)
+      ∷ number w.id_size a.class ∷ []
 
-pub array_class : {v w : Sight} {at : ℕ} {a : ObjectArray} → w ≡ v → Stands v at (object_array_dump a)
-    → NumberAt w.bytes (at + 9 + w.id_size) w.id_size a.class
-array_class {w = w} {a = a} e h =
-    let front = number w.id_size a.object ∷ number 4 a.stack ∷ number 4 (length a.elements) ∷ [] in
-    number_in front _ (in_sight e h) refl (omega arith)
+  pub array_count : NumberAt w.bytes (at + 5 + w.id_size) 4 (length a.elements)
+  array_count = number_in (take 2 array_front) _ (in_sight e h) refl (omega arith)
 
-array_elements_stand : {v w : Sight} {at : ℕ} {a : ObjectArray} → w ≡ v → Stands v at (object_array_dump a)
-    → Spell w.bytes (at + 9 + 2 * w.id_size) (spelled (map (number w.id_size) a.elements))
-array_elements_stand {w = w} {a = a} e h =
-    let s = w.id_size in
-    let front = number s a.object ∷ number 4 a.stack ∷ number 4 (length a.elements) ∷ number s a.class ∷ [] in
-    fields_in front (map (number s) a.elements) (in_sight e h) refl (omega arith)
+  pub array_class : NumberAt w.bytes (at + 9 + w.id_size) w.id_size a.class
+  array_class = number_in (take 3 array_front) _ (in_sight e h) refl (omega arith)
 
-pub array_room : {v w : Sight} {at : ℕ} {a : ObjectArray} → w ≡ v → Stands v at (object_array_dump a)
-    → at + 9 + 2 * w.id_size + length a.elements * w.id_size ≤ length w.bytes
-array_room {w = w} {a = a} e h = omega (
-  arith,
-  (array_elements_stand e h).inside,
-  length-spelled (map (number w.id_size) a.elements),
-  widths-numbers w.id_size a.elements,
-)
+  array_elements_stand : Spell w.bytes (at + 9 + 2 * w.id_size) (spelled (map (number w.id_size) a.elements))
+  array_elements_stand = fields_in array_front (map (number w.id_size) a.elements) (in_sight e h) refl (omega arith)
 
-pub array_elements : {v w : Sight} {at : ℕ} {a : ObjectArray} → w ≡ v → Stands v at (object_array_dump a)
-    → numbers_in w.id_size (length a.elements) (drop (at + 9 + 2 * w.id_size) w.bytes) ≡ a.elements
-array_elements {w = w} {a = a} e h =
-    let there = array_elements_stand e h in
-    ap (numbers_in w.id_size (length a.elements)) there.bytes_are ∙ numbers_again w.id_size a.elements there.rest
-    (bounds (in_sight e h).is.formed).elements
+  pub array_room : at + 9 + 2 * w.id_size + length a.elements * w.id_size ≤ length w.bytes
+  array_room = omega (
+    arith,
+    array_elements_stand.inside,
+    length-spelled (map (number w.id_size) a.elements),
+    widths-numbers w.id_size a.elements,
+  )
+
+  pub array_elements : numbers_in w.id_size (length a.elements) (drop (at + 9 + 2 * w.id_size) w.bytes) ≡ a.elements
+  array_elements =
+      ap (numbers_in w.id_size (length a.elements)) array_elements_stand.bytes_are
+      ∙ numbers_again w.id_size a.elements array_elements_stand.rest (bounds (in_sight e h).is.formed).elements
 
 -- ---- primitive arrays
 
-pub element_count : {v w : Sight} {at : ℕ} {a : PrimitiveArray} → w ≡ v → Stands v at (primitive_array_dump a)
-    → NumberAt w.bytes (at + 5 + w.id_size) 4 a.count
-element_count {w = w} {a = a} e h =
-    number_in (number w.id_size a.object ∷ number 4 a.stack ∷ []) _ (in_sight e h) refl (omega arith)
+module _ {v w : Sight} {at : ℕ} {a : PrimitiveArray} (e : w ≡ v) (h : Stands v at (primitive_array_dump a)) where
+  abbrev packed_front : List Field
+  packed_front = number w.id_size a.object ∷ number 4 a.stack ∷ number 4 a.count ∷ type_code InArray a.type ∷ []
 
-pub element_type : {v w : Sight} {at : ℕ} {a : PrimitiveArray} → w ≡ v → Stands v at (primitive_array_dump a)
-    → ByteAt w.bytes (at + 9 + w.id_size) a.type
-element_type {w = w} {at = at} {a = a} e h =
-    let s = w.id_size in
-    let front = number s a.object ∷ number 4 a.stack ∷ number 4 a.count ∷ [] in
-    byte_read w.bytes (at + 9 + s) a.type (spelled (raw a.values ∷ []))
-    (fields_in front (drop 3 (primitive_array_fields s a)) (in_sight e h) refl (omega arith))
+  pub element_count : NumberAt w.bytes (at + 5 + w.id_size) 4 a.count
+  element_count = number_in (take 2 packed_front) _ (in_sight e h) refl (omega arith)
 
-pub packed_elements : {v w : Sight} {at : ℕ} {a : PrimitiveArray} → w ≡ v → Stands v at (primitive_array_dump a)
-    → Spell w.bytes (at + 10 + w.id_size) a.values
-packed_elements {w = w} {at = at} {a = a} e h =
-    let s = w.id_size in
-    let front = number s a.object ∷ number 4 a.stack ∷ number 4 a.count ∷ type_code InArray a.type ∷ [] in
-    first_stands w.bytes (at + 10 + s) a.values []
-    (fields_in front (raw a.values ∷ []) (in_sight e h) refl (omega arith))
+  pub element_type : ByteAt w.bytes (at + 9 + w.id_size) a.type
+  element_type = byte_read w.bytes (at + 9 + w.id_size) a.type (spelled (raw a.values ∷ []))
+      (fields_in (take 3 packed_front) (drop 3 (primitive_array_fields w.id_size a)) (in_sight e h) refl (omega arith))
+
+  pub packed_elements : Spell w.bytes (at + 10 + w.id_size) a.values
+  packed_elements = first_stands w.bytes (at + 10 + w.id_size) a.values []
+      (fields_in packed_front (raw a.values ∷ []) (in_sight e h) refl (omega arith))
 
 -- how many bytes they are, as the view says it
 pub packed_size : {v : Sight} {at : ℕ} {a : PrimitiveArray} → Stands v at (primitive_array_dump a)
@@ -161,31 +144,26 @@ pub class_id : {v w : Sight} {at : ℕ} {c : Class} (n : ℕ) → w ≡ v → n 
     → NumberAt w.bytes (at + 5 + w.id_size + n * w.id_size) w.id_size (slice_index (ids_behind_stack c) n)
 class_id n e below h = class_id_stands n below (in_sight e h)
 
-leading_ids_stand : {v w : Sight} {at : ℕ} {c : Class} → w ≡ v → Stands v at (class_dump c)
-    → Spell w.bytes (at + 5 + w.id_size) (spelled (map (number w.id_size) (take 4 (ids_behind_stack c))))
-leading_ids_stand {w = w} {at = at} {c = c} e h =
-    let s = w.id_size in
-    let place = at + 5 + s in
-    let ids = map (number s) (take 4 (ids_behind_stack c)) in
-    let more = drop 6 (class_fields s c) in
-    let there : Spell w.bytes place (spelled (ids ++ more)) =
-    fields_in (before_id s c 0) (ids ++ more) (in_sight e h) refl (omega arith) in
-    first_stands w.bytes place (spelled ids) (spelled more) (rw spelled-append at there)
+module _ {v w : Sight} {at : ℕ} {c : Class} (e : w ≡ v) (h : Stands v at (class_dump c)) where
+  abbrev leading : List ℕ
+  leading = take 4 (ids_behind_stack c)
 
-pub leading_ids_room : {v w : Sight} {at : ℕ} {c : Class} → w ≡ v → Stands v at (class_dump c)
-    → at + 5 + w.id_size + 4 * w.id_size ≤ length w.bytes
-leading_ids_room {w = w} {c = c} e h =
-    omega (arith, (leading_ids_stand e h).inside, length-spelled (map (number w.id_size) (take 4 (ids_behind_stack c))))
+  leading_ids_stand : Spell w.bytes (at + 5 + w.id_size) (spelled (map (number w.id_size) leading))
+  leading_ids_stand =
+      let ids = map (number w.id_size) leading in
+      let more = drop 6 (class_fields w.id_size c) in
+      let there : Spell w.bytes (at + 5 + w.id_size) (spelled (ids ++ more)) =
+      fields_in (before_id w.id_size c 0) (ids ++ more) (in_sight e h) refl (omega arith) in
+      first_stands w.bytes (at + 5 + w.id_size) (spelled ids) (spelled more) (rw spelled-append at there)
 
-pub leading_ids : {v w : Sight} {at : ℕ} {c : Class} → w ≡ v → Stands v at (class_dump c)
-    → numbers_in w.id_size 4 (drop (at + 5 + w.id_size) w.bytes) ≡ c.super ∷ c.loader ∷ c.signers ∷ c.domain ∷ []
-leading_ids {w = w} {c = c} e h =
-    let there = leading_ids_stand e h in
-    let is = bounds (in_sight e h).is.formed in
-    ap (numbers_in w.id_size 4) there.bytes_are
-    ∙ numbers_again w.id_size (take 4 (ids_behind_stack c)) there.rest
-    (is.super, (is.loader, (is.signers, (is.domain, tt))))
+  pub leading_ids_room : at + 5 + w.id_size + 4 * w.id_size ≤ length w.bytes
+  leading_ids_room = omega (arith, leading_ids_stand.inside, length-spelled (map (number w.id_size) leading))
 
-pub instance_size : {v w : Sight} {at : ℕ} {c : Class} → w ≡ v → Stands v at (class_dump c)
-    → NumberAt w.bytes (at + 5 + 7 * w.id_size) 4 c.instance_size
-instance_size {w = w} {c = c} e h = number_in (before_id w.id_size c 6) _ (in_sight e h) refl (omega arith)
+  pub leading_ids : numbers_in w.id_size 4 (drop (at + 5 + w.id_size) w.bytes) ≡ leading
+  leading_ids =
+      let is = bounds (in_sight e h).is.formed in
+      ap (numbers_in w.id_size 4) leading_ids_stand.bytes_are
+      ∙ numbers_again w.id_size leading leading_ids_stand.rest (is.super, (is.loader, (is.signers, (is.domain, tt))))
+
+  pub instance_size : NumberAt w.bytes (at + 5 + 7 * w.id_size) 4 c.instance_size
+  instance_size = number_in (before_id w.id_size c 6) _ (in_sight e h) refl (omega arith)

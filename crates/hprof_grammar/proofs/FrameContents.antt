@@ -23,32 +23,15 @@ pub record IsPlacedFrame (tag : ℕ) (body : List ℕ) (was next : Order) (old :
   pub length_allowed : is_length_of old.id_size tag (length body) ≡ true
   pub order : (tags : List ℕ) → IsAt was tags → IsAt next (tags ++ tag ∷ [])
 
-pub placed_frame : (tag : ℕ) (body : List ℕ) (was next : Order) (old : Places) (s : ℕ) (allowed : Bool)
+pub placed_frame : {tag : ℕ} {body : List ℕ} {was next : Order} {old : Places} {s : ℕ} {allowed : Bool}
     → ((k : ℕ) → Fits w8 (slice_index body k)) → s ≡ old.id_size
     → allowed ≡ is_length_of s tag (length body) → allowed ≡ true
     → ((tags : List ℕ) → IsAt was tags → IsAt next (tags ++ tag ∷ [])) → IsPlacedFrame tag body was next old
-placed_frame tag body was next old s allowed bytes size test passed order = record {
+placed_frame {tag} {body} bytes size test passed order = record {
   bytes = in_bytes body bytes;
   length_allowed = subst (λ (n : ℕ). is_length_of n tag (length body) ≡ true) size (sym test ∙ passed);
   order = order;
 }
-
-pub string_framed : (at tag time : ℕ) (body : List ℕ) (was next : Order) (old new : Places) → tag ≡ 0x01
-    → IsPlacedFrame tag body was next old → new ≡ with_string old at → AddsRecord at tag time body was next old new
-string_framed at tag time body was next old new e frame noted =
-    let room : old.id_size ≤ length body =
-    string_length old.id_size (length body)
-    (subst (λ (n : ℕ). is_length_of old.id_size n (length body) ≡ true) e frame.length_allowed) in
-    record {
-      is = string time (big_number old.id_size body) (drop old.id_size body);
-      tag_is = sym e;
-      time_is = refl;
-      body_is = sym (number_parts old.id_size body frame.bytes room);
-      parts = number-lt old.id_size body frame.bytes;
-      length_allowed = frame.length_allowed;
-      order = frame.order;
-      joined = noted ∙ rw (append-nil old.loaded, append-nil old.roots, append-nil old.objects) refl;
-    }
 
 -- a body of four numbers
 four_numbers : (s : ℕ) (body : List ℕ) → IsBytes body → length body ≡ 8 + 2 * s
@@ -74,60 +57,81 @@ four_numbers s body h e =
     ∙ ap (λ (l : List ℕ). big_bytes s (big_number s three) ++ l) last
     ∙ append-nil (big_bytes s (big_number s three))))))
 
-pub load_framed : (at tag time : ℕ) (body : List ℕ) (was next : Order) (old new : Places) → tag ≡ 0x02
-    → IsPlacedFrame tag body was next old → new ≡ with_loaded old at → AddsRecord at tag time body was next old new
-load_framed at tag time body was next old new e frame noted =
-    let s = old.id_size in
-    let size : length body ≡ 8 + 2 * s =
-    load_length s (length body) (subst (λ (n : ℕ). is_length_of s n (length body) ≡ true) e frame.length_allowed) in
-    let one_bytes : IsBytes (drop 4 body) = bytes-drop 4 body frame.bytes in
-    let two_bytes : IsBytes (drop s (drop 4 body)) = bytes-drop s (drop 4 body) one_bytes in
-    record {
-      is = load_class time (big_number 4 body) (big_number s (drop 4 body)) (big_number 4 (drop s (drop 4 body)))
-          (big_number s (drop 4 (drop s (drop 4 body))));
-      tag_is = sym e;
-      time_is = refl;
-      body_is = four_numbers s body frame.bytes size;
-      parts = (
-        number-lt 4 body frame.bytes,
-        number-lt s (drop 4 body) one_bytes,
-        number-lt 4 (drop s (drop 4 body)) two_bytes,
-        number-lt s (drop 4 (drop s (drop 4 body))) (bytes-drop 4 (drop s (drop 4 body)) two_bytes),
-      );
-      length_allowed = frame.length_allowed;
-      order = frame.order;
-      joined = noted ∙ rw (append-nil old.strings, append-nil old.roots, append-nil old.objects) refl;
-    }
+-- ---- what its tag says stands in such a frame
 
-pub heap_framed : (at tag time : ℕ) (body : List ℕ) (was next : Order) (old new : Places)
-    → IsPlacedFrame tag body was next old → is_heap_tag tag ≡ true → AddsSubs (at + 9) body [] old new
-    → AddsRecord at tag time body was next old new
-heap_framed at tag time body was next old new frame is_heap adds = record {
-  is = heap tag time adds.subs;
-  tag_is = refl;
-  time_is = refl;
-  body_is = sym (adds.parts ∙ append-nil _);
-  parts = (is_heap, adds.each);
-  length_allowed = frame.length_allowed;
-  order = frame.order;
-  joined = adds.joined ∙ rw (append-nil old.strings, append-nil old.loaded) refl;
-}
+module _ {at tag time : ℕ} {body : List ℕ} {was next : Order} {old : Places}
+    (frame : IsPlacedFrame tag body was next old) where
+  pub string_framed : {new : Places} → tag ≡ 0x01 → new ≡ with_string old at
+      → AddsRecord at tag time body was next old new
+  string_framed e noted =
+      let s = old.id_size in
+      let room : s ≤ length body =
+      string_length s (length body) (subst (λ (n : ℕ). is_length_of s n (length body) ≡ true) e frame.length_allowed) in
+      record {
+        is = string time (big_number s body) (drop s body);
+        tag_is = sym e;
+        time_is = refl;
+        body_is = sym (number_parts s body frame.bytes room);
+        parts = number-lt s body frame.bytes;
+        length_allowed = frame.length_allowed;
+        order = frame.order;
+        joined = noted ∙ rw (append-nil old.loaded, append-nil old.roots, append-nil old.objects) refl;
+      }
 
-pub heap_broken : (at tag : ℕ) (body : List ℕ) (was next : Order) (old : Places) (fault : FormatFault)
+  pub load_framed : {new : Places} → tag ≡ 0x02 → new ≡ with_loaded old at
+      → AddsRecord at tag time body was next old new
+  load_framed e noted =
+      let s = old.id_size in
+      let size : length body ≡ 8 + 2 * s =
+      load_length s (length body) (subst (λ (n : ℕ). is_length_of s n (length body) ≡ true) e frame.length_allowed) in
+      let one = drop 4 body in
+      let two = drop s one in
+      let three = drop 4 two in
+      let one_bytes : IsBytes one = bytes-drop 4 body frame.bytes in
+      let two_bytes : IsBytes two = bytes-drop s one one_bytes in
+      record {
+        is = load_class time (big_number 4 body) (big_number s one) (big_number 4 two) (big_number s three);
+        tag_is = sym e;
+        time_is = refl;
+        body_is = four_numbers s body frame.bytes size;
+        parts = (
+          number-lt 4 body frame.bytes,
+          number-lt s one one_bytes,
+          number-lt 4 two two_bytes,
+          number-lt s three (bytes-drop 4 two two_bytes),
+        );
+        length_allowed = frame.length_allowed;
+        order = frame.order;
+        joined = noted ∙ rw (append-nil old.strings, append-nil old.roots, append-nil old.objects) refl;
+      }
+
+  pub heap_framed : {new : Places} → is_heap_tag tag ≡ true → AddsSubs (at + 9) body [] old new
+      → AddsRecord at tag time body was next old new
+  heap_framed is_heap adds = record {
+    is = heap tag time adds.subs;
+    tag_is = refl;
+    time_is = refl;
+    body_is = sym (adds.parts ∙ append-nil _);
+    parts = (is_heap, adds.each);
+    length_allowed = frame.length_allowed;
+    order = frame.order;
+    joined = adds.joined ∙ rw (append-nil old.strings, append-nil old.loaded) refl;
+  }
+
+  pub other_framed : IsOther tag → AddsRecord at tag time body was next old old
+  other_framed is_other = record {
+    is = other tag time body;
+    tag_is = refl;
+    time_is = refl;
+    body_is = refl;
+    parts = is_other;
+    length_allowed = frame.length_allowed;
+    order = frame.order;
+    joined = rw (append-nil old.strings, append-nil old.loaded, append-nil old.roots, append-nil old.objects) refl;
+  }
+
+pub heap_broken : {at tag : ℕ} {body : List ℕ} {was next : Order} {old : Places} {fault : FormatFault}
     → IsPlacedFrame tag body was next old → is_heap_tag tag ≡ true → HasSubFault old.id_size (at + 9) body fault
     → FrameFault old.id_size at tag body was fault
-heap_broken at tag body was next old fault frame is_heap bad =
+heap_broken {tag = tag} {next = next} frame is_heap bad =
     wrong_heap is_heap frame.length_allowed (λ tags h. at_goes_on next (tags ++ tag ∷ []) (frame.order tags h)) bad
-
-pub other_framed : (at tag time : ℕ) (body : List ℕ) (was next : Order) (old : Places)
-    → IsPlacedFrame tag body was next old → IsOther tag → AddsRecord at tag time body was next old old
-other_framed at tag time body was next old frame is_other = record {
-  is = other tag time body;
-  tag_is = refl;
-  time_is = refl;
-  body_is = refl;
-  parts = is_other;
-  length_allowed = frame.length_allowed;
-  order = frame.order;
-  joined = rw (append-nil old.strings, append-nil old.loaded, append-nil old.roots, append-nil old.objects) refl;
-}

@@ -58,11 +58,11 @@ taken_as bytes x z e t =
     let same : x ≡ z = cc in
     subst (λ (y : (ℕ × ℕ × List ℕ) × List ℕ). FrameTaken bytes y.0.0 y.0.1 y.0.2 y.1) same t
 
-pub frame_takes : (bytes : List ℕ) (z : (ℕ × ℕ × List ℕ) × List ℕ) → IsBytes bytes → frame_at bytes ≡ Ok z
+pub frame_takes : {bytes : List ℕ} {z : (ℕ × ℕ × List ℕ) × List ℕ} → IsBytes bytes → frame_at bytes ≡ Ok z
     → FrameTaken bytes z.0.0 z.0.1 z.0.2 z.1
 unfolding frame_at
-frame_takes [] z h e = absurd (cc)
-frame_takes (tag ∷ bytes) z h e =
+frame_takes {bytes = []} h e = absurd (cc)
+frame_takes {bytes = tag ∷ bytes} {z} h e =
     let p = bind_ok (then_at (number_at 4) (λ _. block_at) bytes)
     (λ (x : (ℕ × List ℕ) × List ℕ). Ok ((tag, x.0.0, x.0.1), x.1)) z e in
     let t = behind_tag.takes bytes p.0 (bytes-tail tag bytes h) p.1 in
@@ -73,13 +73,6 @@ frame_takes (tag ∷ bytes) z h e =
       bytes_are = ap (λ (back : List ℕ). tag ∷ back) t.bytes_are
           ∙ frame_spelled tag p.0.0.0 p.0.0.1 p.0.1;
     })
-
-pub frame_again : (tag time : ℕ) (body rest : List ℕ) → time < 256 ^ 4 → length body < 256 ^ 4
-    → frame_at (framed tag time body ++ rest) ≡ Ok ((tag, time, body), rest)
-unfolding frame_at
-frame_again tag time body rest t h =
-    ap frame_at (sym (frame_spelled tag time body rest))
-    ∙ rw (behind_tag.again (time, body) rest (t, h) (tt, (tt, (tt, tt)))) refl
 
 -- no field of a frame is a type code
 no_types : (a b c d : ℕ) (text : List ℕ) (front : List Field) (place : TypePlace) (code : ℕ) (more : List Field)
@@ -119,21 +112,15 @@ runs_past tag rest p Short room b =
       not_whole = omega (arith, length-append s.missing (spelled s.more), s.not_whole);
     }
 
-frame_fails : (tag : ℕ) (rest : List ℕ) (flaw : Flaw) → IsBytes (tag ∷ rest) → frame_at (tag ∷ rest) ≡ Err flaw
-    → RunsPastEnd (tag ∷ rest)
+-- where bytes are left and no frame is read, the record runs past the end
+pub cut_record : {rest : List ℕ} {flaw : Flaw} → 0 < length rest → IsBytes rest → frame_at rest ≡ Err flaw
+    → RunsPastEnd rest
 unfolding frame_at
-frame_fails tag rest flaw h e =
+cut_record {rest = []} some h e = absurd (omega (arith, some))
+cut_record {rest = tag ∷ rest} {flaw} some h e =
     elim (bind_err (then_at (number_at 4) (λ _. block_at) rest)
     (λ (x : (ℕ × List ℕ) × List ℕ). Ok ((tag, x.0.0, x.0.1), x.1)) flaw e) [
-      | inl f ↦
-          let b = behind_tag.fails rest flaw (bytes-tail tag rest h) f in
-          runs_past tag rest b.0 flaw b.1 b.2
+      | inl f ↦ let b = behind_tag.fails rest flaw (bytes-tail tag rest h) f in runs_past tag rest b.0 flaw b.1 b.2
       | inr a ↦ absurd (let k : ◌≡◌ {A = Result ((ℕ × ℕ × List ℕ) × List ℕ) Flaw} (Ok ((tag, a.0.0.0, a.0.0.1), a.0.1))
           (Err flaw) = a.2 in cc)
     ]
-
--- where bytes are left and no frame is read, the record runs past the end
-pub cut_record : (rest : List ℕ) (flaw : Flaw) → 0 < length rest → IsBytes rest → frame_at rest ≡ Err flaw
-    → RunsPastEnd rest
-cut_record [] flaw some h e = absurd (omega (arith, some))
-cut_record (tag ∷ rest) flaw some h e = frame_fails tag rest flaw h e

@@ -6,14 +6,14 @@ use Rattle.std.proofs.lemmas.List.{append-nil, length-append}
 use Rattle.byteorder.specs.Endian.{big_bytes}
 use Rattle.hprof_grammar.specs.Dump.{header, magic, spellings}
 use Rattle.hprof_grammar.specs.Places.{IsDumpOf, Places}
-use Rattle.hprof_grammar.specs.Fault.{FirstFault, HasMagic, LongestRecords, LongestSubs, RecordFault, SubFault}
+use Rattle.hprof_grammar.specs.Fault.{FirstFault, HasMagic, LongestRecords, RecordFault, SubFault}
 use Rattle.hprof_grammar.specs.Fault.FirstFault.{bad_header, bad_id_size, in_records, short_header, too_large}
 use Rattle.hprof_grammar.specs.Fault.RecordFault.{bad_length, in_heap, no_snapshot, out_of_order, truncated}
 use Rattle.hprof_grammar.specs.Record.{IsRecord, Record, body_of, framed, record_spelling, tag_of}
 use Rattle.hprof_grammar.specs.Snapshot.{CanGoOn, IsOrderly}
 use Rattle.hprof_grammar.specs.Record.{time_of}
 use Rattle.hprof_grammar.specs.SubRecord.{SubRecord, spelling_of}
-use Rattle.hprof_grammar.specs.FormatTables.{is_id_size, is_length_of}
+use Rattle.hprof_grammar.specs.FormatTables.{is_id_size}
 use Rattle.hprof_grammar.proofs.FrameBeginnings.{cut_or_whole, header_parts, length-framed, length-header, same_frame}
 use Rattle.hprof_grammar.proofs.FrameBeginnings.{same_header, same_size}
 use Rattle.hprof_grammar.proofs.Fronts.{longest_front, same_fronts}
@@ -25,106 +25,75 @@ use Rattle.hprof_grammar.proofs.TableLaws.{heap_length, is_id_size-lt}
 -- ---- what is wrong behind the records
 
 -- two faults have the same code and the same place
-abbrev pub Agree : ℕ → ℕ → ℕ → ℕ → Type 0
+abbrev Agree : ℕ → ℕ → ℕ → ℕ → Type 0
 Agree code place code_too place_too = (code ≡ code_too) × (place ≡ place_too)
 
 -- no frame stands at the end
 no_frame : (tag time : ℕ) (body after : List ℕ) → [] ≡ framed tag time body ++ after → ⊥
 no_frame tag time body after e = omega (arith, ap length e, length-framed tag time body after)
 
--- no length is allowed and refused
-length_both : (s tag : ℕ) (body : List ℕ) (tag_too : ℕ) (body_too : List ℕ) → tag ≡ tag_too → body ≡ body_too
-    → is_length_of s tag (length body) ≡ false → is_length_of s tag_too (length body_too) ≡ true → ⊥
-length_both s tag body tag_too body_too tags bodies h k =
-    let both : true ≡ false = sym k ∙ ap (λ (t : ℕ). is_length_of s t (length body_too)) (sym tags)
-    ∙ ap (λ (b : List ℕ). is_length_of s tag (length b)) (sym bodies) ∙ h in
-    cc
-
-module _ (s : ℕ) (records : List Record) (at : ℕ) where
-  one_record_fault : (rest rest_too : List ℕ) (code place code_too place_too : ℕ) → rest ≡ rest_too
+-- one place has one fault
+module _ {s : ℕ} {records : List Record} {at : ℕ} where
+  agree : {rest rest_too : List ℕ} {code place code_too place_too : ℕ} → rest ≡ rest_too
       → RecordFault s records at rest code place → RecordFault s records at rest_too code_too place_too
       → Agree code place code_too place_too
-  one_record_fault rest rest_too code place code_too place_too e (no_snapshot h) (no_snapshot k) = (refl, refl)
-  one_record_fault rest rest_too code place code_too place_too e (no_snapshot h) (truncated _ some cut) =
-      absurd (omega (arith, some, ap length e))
-  one_record_fault rest rest_too code place code_too place_too e (no_snapshot h)
-      (bad_length tag time body after fits wrong) = absurd (no_frame tag time body after e)
-  one_record_fault rest rest_too code place code_too place_too e (no_snapshot h)
-      (out_of_order tag time body after fits right no_more) = absurd (no_frame tag time body after e)
-  one_record_fault rest rest_too code place code_too place_too e (no_snapshot h)
-      (in_heap tag time body after subs left c fits is goes longest wrong) = absurd (no_frame tag time body after e)
-  one_record_fault rest rest_too code place code_too place_too e (truncated _ some cut) (no_snapshot k) =
-      absurd (omega (arith, some, ap length e))
-  one_record_fault rest rest_too code place code_too place_too e (truncated _ some cut)
-      (truncated _ some_too cut_too) = (refl, refl)
-  one_record_fault rest rest_too code place code_too place_too e (truncated _ some cut)
-      (bad_length tag time body after fits wrong) = absurd (cut_or_whole rest tag time body after fits e cut)
-  one_record_fault rest rest_too code place code_too place_too e (truncated _ some cut)
-      (out_of_order tag time body after fits right no_more) = absurd (cut_or_whole rest tag time body after fits e cut)
-  one_record_fault rest rest_too code place code_too place_too e (truncated _ some cut)
-      (in_heap tag time body after subs left c fits is goes longest wrong) =
+  agree e (no_snapshot h) (no_snapshot k) = (refl, refl)
+  agree e (no_snapshot h) (truncated _ some cut) = absurd (omega (arith, some, ap length e))
+  agree e (no_snapshot h) (bad_length tag time body after _ _) = absurd (no_frame tag time body after e)
+  agree e (no_snapshot h) (out_of_order tag time body after _ _ _) = absurd (no_frame tag time body after e)
+  agree e (no_snapshot h) (in_heap tag time body after _ _ _ _ _ _ _ _) = absurd (no_frame tag time body after e)
+  agree e (truncated _ some cut) (no_snapshot k) = absurd (omega (arith, some, ap length e))
+  agree e (truncated _ some cut) (truncated _ some_too cut_too) = (refl, refl)
+  agree e (truncated rest some cut) (bad_length tag time body after fits _) =
       absurd (cut_or_whole rest tag time body after fits e cut)
-  one_record_fault rest rest_too code place code_too place_too e (bad_length tag time body after fits wrong)
-      (no_snapshot k) = absurd (no_frame tag time body after (sym e))
-  one_record_fault rest rest_too code place code_too place_too e (bad_length tag time body after fits wrong)
-      (truncated _ some cut) = absurd (cut_or_whole rest_too tag time body after fits (sym e) cut)
-  one_record_fault rest rest_too code place code_too place_too e (bad_length tag time body after fits wrong)
-      (bad_length u v body_too more fits_too wrong_too) = (refl, refl)
-  one_record_fault rest rest_too code place code_too place_too e (bad_length tag time body after fits wrong)
-      (out_of_order u v body_too more fits_too right no_more) =
-      let f = same_frame tag time body after u v body_too more fits fits_too e in
-      absurd (length_both s tag body u body_too f.tags f.bodies wrong right)
-  one_record_fault rest rest_too code place code_too place_too e (bad_length tag time body after fits wrong)
-      (in_heap u v body_too more subs left c fits_too is goes longest wrong_too) =
-      let f = same_frame tag time body after u v body_too more fits fits_too e in
-      absurd (length_both s tag body u body_too f.tags f.bodies wrong (heap_length s u (length body_too) is))
-  one_record_fault rest rest_too code place code_too place_too e (out_of_order tag time body after fits right no_more)
-      (no_snapshot k) = absurd (no_frame tag time body after (sym e))
-  one_record_fault rest rest_too code place code_too place_too e (out_of_order tag time body after fits right no_more)
-      (truncated _ some cut) = absurd (cut_or_whole rest_too tag time body after fits (sym e) cut)
-  one_record_fault rest rest_too code place code_too place_too e (out_of_order tag time body after fits right no_more)
-      (bad_length u v body_too more fits_too wrong) =
-      let f = same_frame tag time body after u v body_too more fits fits_too e in
-      absurd (length_both s u body_too tag body (sym f.tags) (sym f.bodies) wrong right)
-  one_record_fault rest rest_too code place code_too place_too e (out_of_order tag time body after fits right no_more)
-      (out_of_order u v body_too more fits_too right_too no_more_too) = (refl, refl)
-  one_record_fault rest rest_too code place code_too place_too e (out_of_order tag time body after fits right no_more)
-      (in_heap u v body_too more subs left c fits_too is goes longest wrong) =
-      let f = same_frame tag time body after u v body_too more fits fits_too e in
+  agree e (truncated rest some cut) (out_of_order tag time body after fits _ _) =
+      absurd (cut_or_whole rest tag time body after fits e cut)
+  agree e (truncated rest some cut) (in_heap tag time body after _ _ _ fits _ _ _ _) =
+      absurd (cut_or_whole rest tag time body after fits e cut)
+  agree e (bad_length tag time body after fits wrong) (no_snapshot k) = absurd (no_frame tag time body after (sym e))
+  agree e (bad_length tag time body after fits wrong) (truncated rest some cut) =
+      absurd (cut_or_whole rest tag time body after fits (sym e) cut)
+  agree e (bad_length tag time body after fits wrong) (bad_length _ _ _ _ _ _) = (refl, refl)
+  agree e (bad_length tag time body after fits wrong) (out_of_order u v other more fits_too right no_more) =
+      let f = same_frame tag time body after u v other more fits fits_too e in
+      absurd (cc)
+  agree e (bad_length tag time body after fits wrong) (in_heap u v other more _ _ _ fits_too is _ _ _) =
+      let f = same_frame tag time body after u v other more fits fits_too e in
+      absurd (cc (heap_length s u (length other) is))
+  agree e (out_of_order tag time body after _ _ _) (no_snapshot k) = absurd (no_frame tag time body after (sym e))
+  agree e (out_of_order tag time body after fits right no_more) (truncated rest some cut) =
+      absurd (cut_or_whole rest tag time body after fits (sym e) cut)
+  agree e (out_of_order tag time body after fits right no_more) (bad_length u v other more fits_too wrong) =
+      let f = same_frame tag time body after u v other more fits fits_too e in
+      absurd (cc)
+  agree e (out_of_order _ _ _ _ _ _ _) (out_of_order _ _ _ _ _ _ _) = (refl, refl)
+  agree e (out_of_order tag time body after fits right no_more) (in_heap u v other more _ _ _ fits_too is goes _ _) =
+      let f = same_frame tag time body after u v other more fits fits_too e in
       absurd (no_more (subst (λ (t : ℕ). CanGoOn (map tag_of records ++ t ∷ [])) (sym f.tags) goes))
-  one_record_fault rest rest_too code place code_too place_too e
-      (in_heap tag time body after subs left c fits is goes longest wrong) (no_snapshot k) =
+  agree e (in_heap tag time body after _ _ _ _ _ _ _ _) (no_snapshot k) =
       absurd (no_frame tag time body after (sym e))
-  one_record_fault rest rest_too code place code_too place_too e
-      (in_heap tag time body after subs left c fits is goes longest wrong) (truncated _ some cut) =
-      absurd (cut_or_whole rest_too tag time body after fits (sym e) cut)
-  one_record_fault rest rest_too code place code_too place_too e
-      (in_heap tag time body after subs left c fits is goes longest wrong)
-      (bad_length u v body_too more fits_too wrong_too) =
-      let f = same_frame tag time body after u v body_too more fits fits_too e in
-      absurd (length_both s u body_too tag body (sym f.tags) (sym f.bodies) wrong_too
-      (heap_length s tag (length body) is))
-  one_record_fault rest rest_too code place code_too place_too e
-      (in_heap tag time body after subs left c fits is goes longest wrong)
-      (out_of_order u v body_too more fits_too right no_more) =
-      let f = same_frame tag time body after u v body_too more fits fits_too e in
+  agree e (in_heap tag time body after _ _ _ fits _ _ _ _) (truncated rest some cut) =
+      absurd (cut_or_whole rest tag time body after fits (sym e) cut)
+  agree e (in_heap tag time body after _ _ _ fits is _ _ _) (bad_length u v other more fits_too wrong) =
+      let f = same_frame tag time body after u v other more fits fits_too e in
+      absurd (cc (heap_length s tag (length body) is))
+  agree e (in_heap tag time body after _ _ _ fits is goes _ _) (out_of_order u v other more fits_too right no_more) =
+      let f = same_frame tag time body after u v other more fits fits_too e in
       absurd (no_more (subst (λ (t : ℕ). CanGoOn (map tag_of records ++ t ∷ [])) f.tags goes))
-  one_record_fault rest rest_too code place code_too place_too e
-      (in_heap tag time body after subs left c fits is goes longest wrong)
-      (in_heap u v body_too more subs_too left_too c_too fits_too is_too goes_too longest_too wrong_too) =
-      let f = same_frame tag time body after u v body_too more fits fits_too e in
-      let same = one_longest_subs s body_too subs subs_too left left_too
-      (subst (λ (b : List ℕ). LongestSubs s b subs left) f.bodies longest) longest_too in (
-        one_sub_fault s left_too c c_too (subst (λ (l : List ℕ). SubFault s l c) same.1 wrong) wrong_too,
+  agree e (in_heap tag time body after subs left code fits is goes longest wrong)
+      (in_heap u v other more subs_too left_too code_too fits_too is_too goes_too longest_too wrong_too) =
+      let f = same_frame tag time body after u v other more fits fits_too e in
+      let same = one_longest_subs (rw f.bodies at longest) longest_too in (
+        one_sub_fault s left_too code code_too (subst (λ (l : List ℕ). SubFault s l code) same.1 wrong) wrong_too,
         ap (λ (x : List SubRecord). at + 9 + length (flat_map (spelling_of s) x)) same.0,
       )
 
 -- ---- the longest list of whole records
 
-one_longest_records : (s : ℕ) (body : List ℕ) (records records_too : List Record) (rest rest_too : List ℕ)
-    → LongestRecords s body records rest → LongestRecords s body records_too rest_too → (records ≡ records_too)
-    × (rest ≡ rest_too)
-one_longest_records s body records records_too rest rest_too h k =
+one_longest_records : {s : ℕ} {body : List ℕ} {records records_too : List Record} {rest rest_too : List ℕ}
+    → LongestRecords s body records rest → LongestRecords s body records_too rest_too
+    → (records ≡ records_too) × (rest ≡ rest_too)
+one_longest_records {s} {records = records} {records_too} {rest} {rest_too} h k =
     let most : length records_too ≤ length records = h.longest records_too rest_too k.parts k.each k.goes_on in
     let most_too : length records ≤ length records_too = k.longest records rest h.parts h.each h.goes_on in
     same_fronts (record_spelling s) (IsRecord s) (records_determined s) records records_too rest rest_too
@@ -144,16 +113,13 @@ whole_is_longest s records each orderly = record {
 }
 
 -- behind a whole list nothing is wrong
-no_fault_behind : (s at : ℕ) (records : List Record) (rest : List ℕ) (code place : ℕ) → rest ≡ []
+no_fault_behind : {s at : ℕ} {records : List Record} {rest : List ℕ} {code place : ℕ} → rest ≡ []
     → IsOrderly (map tag_of records) → RecordFault s records at rest code place → ⊥
-no_fault_behind s at records rest code place e orderly (no_snapshot h) = h orderly
-no_fault_behind s at records rest code place e orderly (truncated _ some cut) = omega (arith, some, ap length e)
-no_fault_behind s at records rest code place e orderly (bad_length tag time body after fits wrong) =
-    no_frame tag time body after (sym e)
-no_fault_behind s at records rest code place e orderly (out_of_order tag time body after fits right no_more) =
-    no_frame tag time body after (sym e)
-no_fault_behind s at records rest code place e orderly
-    (in_heap tag time body after subs left c fits is goes longest wrong) = no_frame tag time body after (sym e)
+no_fault_behind e orderly (no_snapshot h) = h orderly
+no_fault_behind e orderly (truncated _ some cut) = omega (arith, some, ap length e)
+no_fault_behind e orderly (bad_length tag time body after _ _) = no_frame tag time body after (sym e)
+no_fault_behind e orderly (out_of_order tag time body after _ _ _) = no_frame tag time body after (sym e)
+no_fault_behind e orderly (in_heap tag time body after _ _ _ _ _ _ _ _) = no_frame tag time body after (sym e)
 
 -- ---- the header
 
@@ -175,75 +141,50 @@ bad_size_there s s_too time text rest body fits wrong e right k =
 
 -- ---- the laws
 
--- two faults behind the header agree
-records_agree : (text : List ℕ) (s time s_too time_too : ℕ) (body body_too : List ℕ)
-    (records records_too : List Record) (rest rest_too : List ℕ) (code place code_too place_too : ℕ)
-    → is_id_size s ≡ true → is_id_size s_too ≡ true → text ≡ header s time ++ body
-    → text ≡ header s_too time_too ++ body_too → LongestRecords s body records rest
-    → LongestRecords s_too body_too records_too rest_too
-    → RecordFault s records (31 + length (spellings s records)) rest code place
-    → RecordFault s_too records_too (31 + length (spellings s_too records_too)) rest_too code_too place_too
-    → Agree code place code_too place_too
-records_agree text s time s_too time_too body body_too records records_too rest rest_too code place code_too place_too
-    size size_too e k longest longest_too wrong wrong_too =
-    let head = same_header s time s_too time_too body body_too size size_too (sym e ∙ k) in
-    let longest_here : LongestRecords s_too body_too records rest =
-    subst (λ (n : ℕ). LongestRecords n body_too records rest) head.0
-    (subst (λ (b : List ℕ). LongestRecords s b records rest) head.1 longest) in
-    let same = one_longest_records s_too body_too records records_too rest rest_too longest_here longest_too in
-    let wrong_here = subst (λ (n : ℕ). RecordFault n records (31 + length (spellings n records)) rest code place)
-    head.0 wrong in
-    one_record_fault s_too records_too (31 + length (spellings s_too records_too)) rest rest_too code place code_too
-    place_too same.1
-    (subst (λ (l : List Record). RecordFault s_too l (31 + length (spellings s_too l)) rest code place) same.0
-    wrong_here) wrong_too
-
 pub one_fault : (text : List ℕ) (code place other_code other_place : ℕ) → FirstFault text code place
     → FirstFault text other_code other_place → (code ≡ other_code) × (place ≡ other_place)
 one_fault text c p d q (too_large long) (too_large long_too) = (refl, refl)
 one_fault text c p d q (too_large long) (bad_header size none) = absurd (omega arith)
 one_fault text c p d q (too_large long) (short_header has small) = absurd (omega arith)
-one_fault text c p d q (too_large long) (bad_id_size s rest size room fits e wrong) = absurd (omega arith)
-one_fault text c p d q (too_large long) (in_records s time body records rest code place size is e longest wrong) =
-    absurd (omega arith)
+one_fault text c p d q (too_large long) (bad_id_size _ _ size _ _ _ _) = absurd (omega arith)
+one_fault text c p d q (too_large long) (in_records _ _ _ _ _ _ _ size _ _ _ _) = absurd (omega arith)
 one_fault text c p d q (bad_header size none) (too_large long) = absurd (omega arith)
 one_fault text c p d q (bad_header size none) (bad_header size_too none_too) = (refl, refl)
 one_fault text c p d q (bad_header size none) (short_header has small) = absurd (none has)
-one_fault text c p d q (bad_header size none) (bad_id_size s rest size_too room fits e wrong) =
-    absurd (none (big_bytes 4 s ++ rest, e))
-one_fault text c p d q (bad_header size none)
-    (in_records s time body records rest code place size_too is e longest wrong) =
+one_fault text c p d q (bad_header size none) (bad_id_size s rest _ _ _ e _) = absurd (none (big_bytes 4 s ++ rest, e))
+one_fault text c p d q (bad_header size none) (in_records s time body _ _ _ _ _ _ e _ _) =
     absurd (none (header_has_magic s time text body e))
 one_fault text c p d q (short_header has small) (too_large long) = absurd (omega arith)
 one_fault text c p d q (short_header has small) (bad_header size none) = absurd (none has)
 one_fault text c p d q (short_header has small) (short_header has_too small_too) = (refl, refl)
-one_fault text c p d q (short_header has small) (bad_id_size s rest size room fits e wrong) = absurd (omega arith)
-one_fault text c p d q (short_header has small)
-    (in_records s time body records rest code place size is e longest wrong) =
+one_fault text c p d q (short_header has small) (bad_id_size _ _ _ room _ _ _) = absurd (omega arith)
+one_fault text c p d q (short_header has small) (in_records s time body _ _ _ _ _ _ e _ _) =
     absurd (header_whole s time text body e small)
-one_fault text c p d q (bad_id_size s rest size room fits e wrong) (too_large long) = absurd (omega arith)
-one_fault text c p d q (bad_id_size s rest size room fits e wrong) (bad_header size_too none) =
-    absurd (none (big_bytes 4 s ++ rest, e))
-one_fault text c p d q (bad_id_size s rest size room fits e wrong) (short_header has small) = absurd (omega arith)
-one_fault text c p d q (bad_id_size s rest size room fits e wrong)
-    (bad_id_size s_too rest_too size_too room_too fits_too e_too wrong_too) = (refl, refl)
-one_fault text c p d q (bad_id_size s rest size room fits e wrong)
-    (in_records s_too time body records left code place size_too is k longest wrong_too) =
+one_fault text c p d q (bad_id_size _ _ size _ _ _ _) (too_large long) = absurd (omega arith)
+one_fault text c p d q (bad_id_size s rest _ _ _ e _) (bad_header size none) = absurd (none (big_bytes 4 s ++ rest, e))
+one_fault text c p d q (bad_id_size _ _ _ room _ _ _) (short_header has small) = absurd (omega arith)
+one_fault text c p d q (bad_id_size _ _ _ _ _ _ _) (bad_id_size _ _ _ _ _ _ _) = (refl, refl)
+one_fault text c p d q (bad_id_size s rest _ _ fits e wrong) (in_records s_too time body _ _ _ _ _ is k _ _) =
     absurd (bad_size_there s s_too time text rest body fits wrong e is k)
-one_fault text c p d q (in_records s time body records rest code place size is e longest wrong) (too_large long) =
-    absurd (omega arith)
-one_fault text c p d q (in_records s time body records rest code place size is e longest wrong)
-    (bad_header size_too none) = absurd (none (header_has_magic s time text body e))
-one_fault text c p d q (in_records s time body records rest code place size is e longest wrong)
-    (short_header has small) = absurd (header_whole s time text body e small)
-one_fault text c p d q (in_records s time body records rest code place size is e longest wrong)
-    (bad_id_size s_too left size_too room fits k wrong_too) =
-    absurd (bad_size_there s_too s time text left body fits wrong_too k is e)
-one_fault text c p d q (in_records s time body records rest code place size is e longest wrong)
-    (in_records s_too time_too body_too records_too rest_too code_too place_too size_too is_too k longest_too
-    wrong_too) =
-    records_agree text s time s_too time_too body body_too records records_too rest rest_too code place code_too
-    place_too is is_too e k longest longest_too wrong wrong_too
+one_fault text c p d q (in_records _ _ _ _ _ _ _ size _ _ _ _) (too_large long) = absurd (omega arith)
+one_fault text c p d q (in_records s time body _ _ _ _ _ _ e _ _) (bad_header size none) =
+    absurd (none (header_has_magic s time text body e))
+one_fault text c p d q (in_records s time body _ _ _ _ _ _ e _ _) (short_header has small) =
+    absurd (header_whole s time text body e small)
+one_fault text c p d q (in_records s time body _ _ _ _ _ is e _ _) (bad_id_size s_too left _ _ fits k wrong) =
+    absurd (bad_size_there s_too s time text left body fits wrong k is e)
+one_fault text c p d q (in_records s time body records rest code place _ is e longest wrong)
+    (in_records s_too time_too body_too records_too rest_too code_too place_too _ is_too k longest_too wrong_too) =
+    let head = same_header s time s_too time_too body body_too is is_too (sym e ∙ k) in
+    let longest_here : LongestRecords s_too body_too records rest =
+    subst (λ (n : ℕ). LongestRecords n body_too records rest) head.0
+    (subst (λ (b : List ℕ). LongestRecords s b records rest) head.1 longest) in
+    let same = one_longest_records longest_here longest_too in
+    let wrong_here = subst (λ (n : ℕ). RecordFault n records (31 + length (spellings n records)) rest code place)
+    head.0 wrong in
+    agree same.1
+    (subst (λ (l : List Record). RecordFault s_too l (31 + length (spellings s_too l)) rest code place) same.0
+    wrong_here) wrong_too
 
 pub dump_or_fault : (text : List ℕ) (dump : Places) (code place : ℕ) → IsDumpOf text dump → FirstFault text code place
     → ⊥
@@ -261,6 +202,5 @@ dump_or_fault text dump c p d (in_records s time body records rest code place si
     let longest_here : LongestRecords dump.id_size (spellings dump.id_size d.records) records rest =
     subst (λ (n : ℕ). LongestRecords n (spellings dump.id_size d.records) records rest) head.0
     (subst (λ (b : List ℕ). LongestRecords s b records rest) head.1 longest) in
-    let same = one_longest_records dump.id_size (spellings dump.id_size d.records) records d.records rest
-    [] longest_here (whole_is_longest dump.id_size d.records d.spells.each d.orderly) in
-    no_fault_behind s (31 + length (spellings s records)) records rest code place same.1 (rw (same.0) d.orderly) wrong
+    let same = one_longest_records longest_here (whole_is_longest dump.id_size d.records d.spells.each d.orderly) in
+    no_fault_behind same.1 (rw (same.0) d.orderly) wrong

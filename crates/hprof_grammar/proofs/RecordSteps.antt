@@ -1,29 +1,21 @@
 -- The loop over the records: before it, and at each turn. Records that were read by themselves join those before them.
-use Rattle.std.proofs.Common.{Bool, List, [], ap, append_assoc, arith, filter, length, map, refl, subst, sym, ℕ}
-use Rattle.std.proofs.Common.{◌++◌, ◌+◌, ◌-◌, ◌<◌, ◌^◌, ◌∙◌, ◌∷◌, ◌≡◌}
-use Rattle.std.specs.List.{AllByRecursion, flat_map}
+use Rattle.std.proofs.Common.{List, [], ap, append_assoc, arith, length, map, refl, subst, sym, ℕ}
+use Rattle.std.proofs.Common.{◌++◌, ◌+◌, ◌-◌, ◌∙◌, ◌∷◌, ◌≡◌}
+use Rattle.std.specs.List.{AllByRecursion}
 use Rattle.std.proofs.lemmas.List.{append-nil, length-append, map-append}
 use Rattle.std.proofs.lemmas.List.Elements.{filter-append}
 use Rattle.std.proofs.lemmas.Grind.{flat_map-append}
-use Rattle.hprof_grammar.specs.Dump.{is_object, is_root, placed, placed_subs, places_where, spellings}
-use Rattle.hprof_grammar.specs.Places.{Places, is_load, is_string}
-use Rattle.hprof_grammar.specs.working.Joining.{AddsRecord, AddsRecordsFrom, heap_from, with_places, with_record}
+use Rattle.hprof_grammar.specs.Dump.{placed, placed_subs, spellings}
+use Rattle.hprof_grammar.specs.Places.{Places}
+use Rattle.hprof_grammar.specs.working.Joining.{AddsRecord, AddsRecordsFrom, with_places, with_record}
 use Rattle.hprof_grammar.specs.working.Joining.{nothing_of, with_records}
 use Rattle.hprof_grammar.specs.working.SnapshotOrder.{IsAt}
-use Rattle.hprof_grammar.specs.Record.{IsRecord, Record, body_of, framed, record_spelling, subs_of, tag_of}
-use Rattle.hprof_grammar.specs.Record.{time_of}
-use Rattle.hprof_grammar.specs.SubRecord.{SubRecord}
-use Rattle.hprof_grammar.specs.FormatTables.{is_length_of}
+use Rattle.hprof_grammar.specs.Record.{IsRecord, Record, framed, record_spelling, subs_of, tag_of}
 use Rattle.hprof_grammar.specs.declared.snapshot_order.Order.{Order}
 use Rattle.hprof_grammar.proofs.Fields.{all_join}
 use Rattle.hprof_grammar.proofs.Frames.{FrameTaken}
 
 -- ---- places join
-
-places_join : {X : Type 0} (is : X → Bool) (xs ys : List (ℕ × X))
-    → places_where is (xs ++ ys) ≡ places_where is xs ++ places_where is ys
-places_join is xs ys = ap (map (λ p. p.0)) (filter-append (λ p. is p.1) xs ys)
-    ∙ map-append (λ p. p.0) (filter (λ p. is p.1) xs) (filter (λ p. is p.1) ys)
 
 placed_join : (s at : ℕ) (xs ys : List Record)
     → placed s at (xs ++ ys) ≡ placed s at xs ++ placed s (at + length (spellings s xs)) ys
@@ -35,34 +27,11 @@ placed_join s at (q ∷ xs) ys =
     ap (λ (l : List (ℕ × Record)). (at, q) ∷ l) (placed_join s (at + length (record_spelling s q)) xs ys
     ∙ ap (λ (n : ℕ). placed s (at + length (record_spelling s q)) xs ++ placed s n ys) e)
 
-abbrev subs_placed : ℕ → ℕ × Record → List (ℕ × SubRecord)
-subs_placed s p = placed_subs s (p.0 + 9) (subs_of p.1)
-
 -- the places of the records that stand behind these
 joined_places : (p : Places) (at : ℕ) (xs ys : List Record) (place : ℕ) → place ≡ at + length (spellings p.id_size xs)
     → with_records p at (xs ++ ys) ≡ with_records (with_records p at xs) place ys
 joined_places p at xs ys place e =
-    let s = p.id_size in
-    let all : placed s at (xs ++ ys) ≡ placed s at xs ++ placed s place ys =
-    placed_join s at xs ys ∙ ap (λ (n : ℕ). placed s at xs ++ placed s n ys) (sym e) in
-    let heaps : heap_from s at (xs ++ ys) ≡ heap_from s at xs ++ heap_from s place ys =
-    ap (flat_map (subs_placed s)) all ∙ flat_map-append (subs_placed s) (placed s at xs) (placed s place ys) in
-    let strings = ap (places_where is_string) all ∙ places_join is_string (placed s at xs) (placed s place ys) in
-    let loaded = ap (places_where is_load) all ∙ places_join is_load (placed s at xs) (placed s place ys) in
-    let roots = ap (places_where is_root) heaps ∙ places_join is_root (heap_from s at xs) (heap_from s place ys) in
-    let objects = ap (places_where is_object) heaps
-    ∙ places_join is_object (heap_from s at xs) (heap_from s place ys) in
-    rw (
-      strings,
-      loaded,
-      roots,
-      objects,
-      ← append_assoc p.strings (places_where is_string (placed s at xs)) (places_where is_string (placed s place ys)),
-      ← append_assoc p.loaded (places_where is_load (placed s at xs)) (places_where is_load (placed s place ys)),
-      ← append_assoc p.roots (places_where is_root (heap_from s at xs)) (places_where is_root (heap_from s place ys)),
-      ← append_assoc p.objects (places_where is_object (heap_from s at xs))
-          (places_where is_object (heap_from s place ys)),
-    ) refl
+    rw e (simp (placed_join, flat_map-append, filter-append, map-append, append_assoc))
 
 -- one record adds what a list of one record does
 one_alone : (p : Places) (at : ℕ) (r : Record) → with_records p at (r ∷ []) ≡ with_record p at r
@@ -95,9 +64,7 @@ records_join {at} {place} {next = next} {rest = rest} {left = left} {old = old} 
     omega (arith, e, ap length adds.parts, length-append (spellings s xs) rest) in
     record {
       records = xs ++ ys;
-      parts = adds.parts ∙ ap (λ (l : List ℕ). spellings s xs ++ l) behind
-          ∙ sym (append_assoc (spellings s xs) (spellings s ys) left)
-          ∙ ap (λ (l : List ℕ). l ++ left) (sym (flat_map-append (record_spelling s) xs ys));
+      parts = adds.parts ∙ ap (λ (l : List ℕ). spellings s xs ++ l) behind ∙ simp (flat_map-append, append_assoc);
       each = all_join (IsRecord s) xs ys adds.each (subst (λ (n : ℕ). AllByRecursion (IsRecord n) ys) size more.each);
       order = λ tags come.
           subst (IsAt next) (append_assoc tags (map tag_of xs) (map tag_of ys)
@@ -108,20 +75,17 @@ records_join {at} {place} {next = next} {rest = rest} {left = left} {old = old} 
     }
 
 -- a record whose frame stands here is a list of one record
-one_record : (rest left : List ℕ) (was next : Order) (old new : Places) (at tag time : ℕ) (body : List ℕ)
+pub one_record : {rest left body : List ℕ} {was next : Order} {old new : Places} {at tag time : ℕ}
     → FrameTaken rest tag time body left → AddsRecord at tag time body was next old new
     → AddsRecordsFrom at was rest left next old new
-one_record rest left was next old new at tag time body frame one =
+one_record {rest} {left} {body} {next = next} {old = old} {at = at} {tag} {time} frame one =
     let s = old.id_size in
-    let spelled : record_spelling s one.is ≡ framed tag time body =
-    ap (λ (t : ℕ). framed t (time_of one.is) (body_of s one.is)) one.tag_is
-    ∙ ap (λ (t : ℕ). framed tag t (body_of s one.is)) one.time_is ∙ ap (framed tag time) one.body_is in
+    let spelled : record_spelling s one.is ≡ framed tag time body = rw (one.tag_is, one.time_is, one.body_is) refl in
     let is_record : IsRecord s one.is = record {
       parts = one.parts;
-      time = subst (λ (t : ℕ). t < 256 ^ 4) (sym one.time_is) frame.time_fits;
-      length_fits = subst (λ (b : List ℕ). length b < 256 ^ 4) (sym one.body_is) frame.length_fits;
-      length_allowed = ap (λ (t : ℕ). is_length_of s t (length (body_of s one.is))) one.tag_is
-          ∙ ap (λ (b : List ℕ). is_length_of s tag (length b)) one.body_is ∙ one.length_allowed;
+      time = rw one.time_is frame.time_fits;
+      length_fits = rw one.body_is frame.length_fits;
+      length_allowed = rw (one.tag_is, one.body_is) one.length_allowed;
     } in
     record {
       records = one.is ∷ [];
@@ -131,14 +95,6 @@ one_record rest left was next old new at tag time body frame one =
       order = λ tags come. subst (λ (t : ℕ). IsAt next (tags ++ t ∷ [])) (sym one.tag_is) (one.order tags come);
       joined = one.joined ∙ sym (one_alone old at one.is);
     }
-
--- and joins those that have come
-pub records_step : {start : ℕ} {before : Order} (bytes rest left : List ℕ) (was next : Order) (old new newer : Places)
-    (at tag time : ℕ) (body : List ℕ) → AddsRecordsFrom start before bytes rest was old new
-    → FrameTaken rest tag time body left → at ≡ start + (length bytes - length rest)
-    → AddsRecord at tag time body was next new newer → AddsRecordsFrom start before bytes left next old newer
-records_step bytes rest left was next old new newer at tag time body adds frame e one =
-    records_join adds (one_record rest left was next new newer at tag time body frame one) e
 
 -- ---- records that were read by themselves
 

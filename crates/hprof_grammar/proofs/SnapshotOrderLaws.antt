@@ -25,9 +25,6 @@ row_no_end c d (suc n) zero ys nd e = nd (cc)
 row_no_end c d (suc n) (suc m) ys nd e = let tails : replicate n c ≡ replicate m c ++ d ∷ ys = cc in
     row_no_end c d n m ys nd tails
 
-no_start : (a b : ℕ) (xs ys : List ℕ) → a ≢ b → a ∷ xs ≡ b ∷ ys → ⊥
-no_start a b xs ys ne e = ne (cc)
-
 end_is_no_segment : ◌≢◌ {A = ℕ} 0x2C 0x1C
 end_is_no_segment = λ e. omega (arith, e)
 
@@ -36,9 +33,6 @@ end_is_no_dump = λ e. omega (arith, e)
 
 dump_is_no_segment : ◌≢◌ {A = ℕ} 0x0C 0x1C
 dump_is_no_segment = λ e. omega (arith, e)
-
-segment_is_no_dump : ◌≢◌ {A = ℕ} 0x1C 0x0C
-segment_is_no_dump = λ e. omega (arith, e)
 
 -- ---- one more record
 
@@ -80,23 +74,22 @@ segments_end tags h = (h.0, comes tags 0x2C refl ∙ ap (λ (front : List ℕ). 
 -- a heap dump, and more
 after_whole : (tag : ℕ) (more : List ℕ) → IsSnapshot (0x0C ∷ tag ∷ more) → ⊥
 after_whole tag more (inl e) = cc
-after_whole tag more (inr (n, e)) = no_start 0x0C 0x1C (tag ∷ more) (replicate n 0x1C ++ 0x2C ∷ []) dump_is_no_segment e
+after_whole tag more (inr (n, e)) = dump_is_no_segment (cc)
 
 -- an end without segments
 end_first : (more : List ℕ) → IsSnapshot (0x2C ∷ more) → ⊥
-end_first more (inl e) = no_start 0x2C 0x0C more [] end_is_no_dump e
-end_first more (inr (n, e)) = no_start 0x2C 0x1C more (replicate n 0x1C ++ 0x2C ∷ []) end_is_no_segment e
+end_first more (inl e) = end_is_no_dump (cc)
+end_first more (inr (n, e)) = end_is_no_segment (cc)
 
 -- segments, and a heap dump
 dump_in_segments : (n : ℕ) (more : List ℕ) → IsSnapshot (replicate (suc n) 0x1C ++ 0x0C ∷ more) → ⊥
-dump_in_segments n more (inl e) = no_start 0x1C 0x0C (replicate n 0x1C ++ 0x0C ∷ more) [] segment_is_no_dump e
+dump_in_segments n more (inl e) = dump_is_no_segment (cc)
 dump_in_segments n more (inr (m, e)) =
     end_is_no_dump (sym (row_end 0x1C 0x0C 0x2C (suc n) (suc m) more [] dump_is_no_segment end_is_no_segment e).0)
 
 -- segments and their end, and more
 after_end : (n tag : ℕ) (more : List ℕ) → IsSnapshot ((replicate (suc n) 0x1C ++ 0x2C ∷ []) ++ tag ∷ more) → ⊥
-after_end n tag more (inl e) =
-    no_start 0x1C 0x0C ((replicate n 0x1C ++ 0x2C ∷ []) ++ tag ∷ more) [] segment_is_no_dump e
+after_end n tag more (inl e) = dump_is_no_segment (cc)
 after_end n tag more (inr (m, e)) =
     let joined = sym (append_assoc (replicate (suc n) 0x1C) (0x2C ∷ []) (tag ∷ more)) ∙ e in
     let none : tag ∷ more ≡ [] = (row_end 0x1C 0x2C 0x2C (suc n) (suc m) (tag ∷ more)
@@ -152,7 +145,7 @@ nothing_is_none (inl e) = cc
 nothing_is_none (inr (n, e)) = cc
 
 segments_are_none : (n : ℕ) → IsSnapshot (replicate (suc n) 0x1C) → ⊥
-segments_are_none n (inl e) = no_start 0x1C 0x0C (replicate n 0x1C) [] segment_is_no_dump e
+segments_are_none n (inl e) = dump_is_no_segment (cc)
 segments_are_none n (inr (m, e)) = row_no_end 0x1C 0x2C (suc n) (suc m) [] end_is_no_segment e
 
 pub not_done_is_not : (order : Order) (tags : List ℕ) → is_done order ≡ false → IsAt order tags → IsOrderly tags → ⊥

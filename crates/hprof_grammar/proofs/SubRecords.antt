@@ -1,5 +1,5 @@
 -- Sub-records: what is read was spelled, what is spelled is read, and a flaw shows the fault.
-use Rattle.std.proofs.Common.{Err, List, None, Ok, Option, Result, Some, [], ap, false, inl, inr, refl, subst, sym, ℕ}
+use Rattle.std.proofs.Common.{Err, List, None, Ok, Option, Result, Some, [], ap, arith, false, inl, inr, length, refl, subst, sym, ℕ}
 use Rattle.std.proofs.Common.{◌++◌, ◌<◌, ◌^◌, ◌∙◌, ◌∷◌, ◌≡◌}
 use Rattle.hprof_grammar.specs.Fault.{SubFault}
 use Rattle.hprof_grammar.specs.Fault.SubFault.{short, unknown_tag, wrong_type}
@@ -250,10 +250,11 @@ kind_fault s tag (Some kind) rest flaw k h e =
     break_fault s tag rest flaw ((body_read s tag kind k).fails rest flaw h e)
 
 -- a flaw shows the fault
-pub sub_fails : (s tag : ℕ) (rest : List ℕ) (flaw : Flaw) → IsBytes (tag ∷ rest)
-    → sub_record_at s (tag ∷ rest) ≡ Err flaw → SubFault s (tag ∷ rest) (flaw_code flaw)
+pub sub_fails : (s : ℕ) (bytes : List ℕ) (flaw : Flaw) → 0 < length bytes → IsBytes bytes
+    → sub_record_at s bytes ≡ Err flaw → SubFault s bytes (flaw_code flaw)
 unfolding sub_record_at
-sub_fails s tag rest flaw h e = kind_fault s tag (kind_of tag) rest flaw refl (bytes-tail tag rest h) e
+sub_fails s [] flaw some h e = absurd (omega arith)
+sub_fails s (tag ∷ rest) flaw some h e = kind_fault s tag (kind_of tag) rest flaw refl (bytes-tail tag rest h) e
 
 -- ---- a fault shows the flaw
 

@@ -5,7 +5,7 @@ use Rattle.std.specs.List.{AllByRecursion, flat_map}
 use Rattle.std.proofs.lemmas.List.{append-nil, length-append, map-append}
 use Rattle.hprof_grammar.specs.Dump.{spellings}
 use Rattle.hprof_grammar.specs.Places.{Places}
-use Rattle.hprof_grammar.specs.Fault.{LongestRecords, RecordFault, RunsPastEnd, SubFault}
+use Rattle.hprof_grammar.specs.Fault.{RecordFault, RunsPastEnd, SubFault}
 use Rattle.hprof_grammar.specs.Fault.RecordFault.{bad_length, in_heap, no_snapshot, out_of_order, truncated}
 use Rattle.hprof_grammar.specs.Fault.SubFault.{short, unknown_tag, wrong_type}
 use Rattle.hprof_grammar.specs.working.Joining.{AddsRecords, AddsRecordsFrom, FrameFault, HasRecordFault}
@@ -39,7 +39,7 @@ goes_on_front : (tags more : List ℕ) → CanGoOn (tags ++ more) → CanGoOn ta
 goes_on_front tags more h = (more ++ h.0, subst IsOrderly (append_assoc tags more h.0) h.1)
 
 -- no record stands here with which the list can go on
-abbrev pub IsStuck : ℕ → List Record → List ℕ → Type 0
+abbrev IsStuck : ℕ → List Record → List ℕ → Type 0
 IsStuck s records rest = (z : Record) (left : List ℕ) → IsRecord s z → rest ≡ record_spelling s z ++ left
     → CanGoOn (map tag_of records ++ tag_of z ∷ []) → ⊥
 
@@ -63,24 +63,13 @@ no_longer s records others rest left h k stuck go e =
           (q ∙ append_assoc (record_spelling s z) (spellings s zs) left)
           (goes_on_front (tags_of records ++ tag_of z ∷ []) (tags_of zs) (subst CanGoOn tags go)))
 
-pub longest_records : (s : ℕ) (bytes : List ℕ) (records : List Record) (rest : List ℕ)
-    → bytes ≡ spellings s records ++ rest → AllByRecursion (IsRecord s) records → CanGoOn (map tag_of records)
-    → IsStuck s records rest
-    → LongestRecords s bytes records rest
-longest_records s bytes records rest parts each goes stuck = record {
-  parts = parts;
-  each = each;
-  goes_on = goes;
-  longest = λ others left e h go. no_longer s records others rest left each h stuck go (sym parts ∙ e);
-}
-
 -- ---- where the list is stuck
 
-pub stuck_at_end : (s : ℕ) (records : List Record) → IsStuck s records []
+stuck_at_end : (s : ℕ) (records : List Record) → IsStuck s records []
 stuck_at_end s records z left is e go =
     omega (arith, ap length e, length-framed (tag_of z) (time_of z) (body_of s z) left)
 
-pub stuck_where_cut : (s : ℕ) (records : List Record) (rest : List ℕ) → RunsPastEnd rest → IsStuck s records rest
+stuck_where_cut : (s : ℕ) (records : List Record) (rest : List ℕ) → RunsPastEnd rest → IsStuck s records rest
 stuck_where_cut s records rest cut z left is e go =
     cut_or_whole rest (tag_of z) (time_of z) (body_of s z) left is.length_fits e cut
 
@@ -120,7 +109,7 @@ heap_body s (load_class time serial class stack name) is h = absurd (cc)
 heap_body s (heap tag time subs) is h = (subs, is.parts.1, refl)
 heap_body s (other tag time body) is h = absurd (let no_heap = is.parts.2 in cc)
 
-module _ (s at tag time : ℕ) (body after rest : List ℕ) (records : List Record) (was : Order) (fault : FormatFault)
+module _ {s at tag time : ℕ} {body after rest : List ℕ} {fault : FormatFault} (records : List Record) (was : Order)
     (frame : FrameTaken rest tag time body after) (comes : IsAt was (map tag_of records)) where
   -- a fault in a frame leaves no whole record there with which the list can go on
   stuck_in_frame : FrameFault s at tag body was fault → IsStuck s records rest
@@ -160,75 +149,67 @@ module _ (s at tag time : ℕ) (body after rest : List ℕ) (records : List Reco
 -- ---- the loop over the records: its faults
 
 -- records have come up to this place
-module _ (bytes rest : List ℕ) (was : Order) (old new : Places) (adds : AddsRecords bytes rest was old new) where
+module _ {bytes rest : List ℕ} {was : Order} {old new : Places} (adds : AddsRecords bytes rest was old new) where
   come : IsAt was (map tag_of adds.records)
   come = adds.order [] refl
 
-  place_of : (at : ℕ) → at ≡ 31 + (length bytes - length rest) → 31 + length (spellings old.id_size adds.records) ≡ at
-  place_of at e = omega (arith, e, ap length adds.parts, length-append (spellings old.id_size adds.records) rest)
-
-  fault_here : (at : ℕ) (fault : FormatFault) → at ≡ 31 + (length bytes - length rest)
+  fault_here : {at : ℕ} {fault : FormatFault} → at ≡ 31 + (length bytes - length rest)
       → IsStuck old.id_size adds.records rest → RecordFault old.id_size adds.records at rest fault.code fault.offset
       → HasRecordFault old.id_size bytes fault
-  fault_here at fault e stuck wrong = record {
-    records = adds.records;
-    rest = rest;
-    longest = longest_records old.id_size bytes adds.records rest adds.parts adds.each
-        (at_goes_on was (map tag_of adds.records) come) stuck;
-    wrong = rw (place_of at e) wrong;
-  }
+  fault_here {at} e stuck wrong =
+      let s = old.id_size in
+      let place : 31 + length (spellings s adds.records) ≡ at =
+      omega (arith, e, ap length adds.parts, length-append (spellings s adds.records) rest) in
+      record {
+        records = adds.records;
+        rest = rest;
+        longest = record {
+          parts = adds.parts;
+          each = adds.each;
+          goes_on = at_goes_on was (map tag_of adds.records) come;
+          longest = λ others left f h go. no_longer s adds.records others rest left adds.each h stuck go
+              (sym adds.parts ∙ f);
+        };
+        wrong = rw place wrong;
+      }
 
-  pub same_id_size : new.id_size ≡ old.id_size
-  same_id_size = ap (λ (p : Places). p.id_size) adds.joined
-
-  pub fault_in_record : (at tag time : ℕ) (body after : List ℕ) (fault : FormatFault)
+  pub fault_in_record : {at tag time : ℕ} {body after : List ℕ} {fault : FormatFault}
       → FrameTaken rest tag time body after → at ≡ 31 + (length bytes - length rest)
       → FrameFault new.id_size at tag body was fault → HasRecordFault old.id_size bytes fault
-  fault_in_record at tag time body after fault frame e wrong =
+  fault_in_record {at} {tag} {body = body} {fault = fault} frame e wrong =
       let here : FrameFault old.id_size at tag body was fault =
-      subst (λ (s : ℕ). FrameFault s at tag body was fault) same_id_size wrong in
-      fault_here at fault e (stuck_in_frame old.id_size at tag time body after rest adds.records was fault frame
-      come here)
-      (fault_in_frame old.id_size at tag time body after rest adds.records was fault frame come here)
+      subst (λ (s : ℕ). FrameFault s at tag body was fault) (ap (λ (p : Places). p.id_size) adds.joined) wrong in
+      fault_here e (stuck_in_frame adds.records was frame come here)
+      (fault_in_frame adds.records was frame come here)
 
-  pub fault_where_cut : (at : ℕ) (fault : FormatFault) → 0 < length rest → RunsPastEnd rest
+  pub fault_where_cut : {at : ℕ} {fault : FormatFault} → 0 < length rest → RunsPastEnd rest
       → at ≡ 31 + (length bytes - length rest) → fault ≡ record { code = 3; offset = at }
       → HasRecordFault old.id_size bytes fault
-  fault_where_cut at fault some cut e f =
-      subst (λ (x : FormatFault). HasRecordFault old.id_size bytes x) (sym f)
-      (fault_here at (record { code = 3; offset = at }) e (stuck_where_cut old.id_size adds.records rest cut)
-      (truncated rest some cut))
+  fault_where_cut some cut e f =
+      rw f (fault_here e (stuck_where_cut old.id_size adds.records rest cut) (truncated rest some cut))
 
-  pub fault_at_end : (at : ℕ) (fault : FormatFault) → rest ≡ [] → is_done was ≡ false → at ≡ 31 + length bytes
-      → fault ≡ record { code = 8; offset = at } → HasRecordFault old.id_size bytes fault
-  fault_at_end at fault none undone e f =
-      let place : at ≡ 31 + (length bytes - length rest) = omega (arith, e, ap length none) in
-      let stuck : IsStuck old.id_size adds.records rest =
-      subst (IsStuck old.id_size adds.records) (sym none) (stuck_at_end old.id_size adds.records) in
-      subst (λ (x : FormatFault). HasRecordFault old.id_size bytes x) (sym f)
-      (fault_here at (record { code = 8; offset = at }) place stuck
-      (subst (λ (l : List ℕ). RecordFault old.id_size adds.records at l 8 at) (sym none)
-      (no_snapshot (not_done_is_not was (map tag_of adds.records) undone come))))
-
--- records that begin behind the header, of which none has come, are those of the whole file
-pub from_header : {at : ℕ} {before was : Order} {bytes rest : List ℕ} {old new : Places}
-    → AddsRecordsFrom at before bytes rest was old new → at ≡ 31 → before ≡ Before → AddsRecords bytes rest was old new
-from_header {before = before} {was = was} {bytes = bytes} {rest = rest} {old = old} {new = new} adds place order =
-    subst (λ (o : Order). AddsRecordsFrom 31 o bytes rest was old new) order
-    (subst (λ (n : ℕ). AddsRecordsFrom n before bytes rest was old new) place adds)
+pub fault_at_end : {bytes : List ℕ} {was : Order} {old new : Places} {fault : FormatFault}
+    → AddsRecords bytes [] was old new → is_done was ≡ false → fault ≡ record { code = 8; offset = 31 + length bytes }
+    → HasRecordFault old.id_size bytes fault
+fault_at_end {was = was} {old} adds undone f =
+    rw f (fault_here adds (omega arith) (stuck_at_end old.id_size adds.records)
+    (no_snapshot (not_done_is_not was (map tag_of adds.records) undone (come adds))))
 
 -- ---- what is left to read at a turn of the loop
 
-pub bytes_left : {at : ℕ} {before : Order} (bytes rest : List ℕ) (was : Order) (old new : Places)
-    → AddsRecordsFrom at before bytes rest was old new → IsBytes bytes → IsBytes rest
-bytes_left bytes rest was old new adds h =
-    bytes-behind (spellings old.id_size adds.records) rest (subst IsBytes adds.parts h)
+module _ {at : ℕ} {before was : Order} {bytes rest : List ℕ} {old new : Places}
+    (adds : AddsRecordsFrom at before bytes rest was old new) where
+  -- records that begin behind the header, of which none has come, are those of the whole file
+  pub from_header : at ≡ 31 → before ≡ Before → AddsRecords bytes rest was old new
+  from_header place order = subst (λ (o : Order). AddsRecordsFrom 31 o bytes rest was old new) order
+      (subst (λ (n : ℕ). AddsRecordsFrom n before bytes rest was old new) place adds)
 
-pub left_within : {at : ℕ} {before : Order} (bytes rest : List ℕ) (was : Order) (old new : Places)
-    → AddsRecordsFrom at before bytes rest was old new → length rest ≤ length bytes
-left_within bytes rest was old new adds =
-    omega (arith, ap length adds.parts, length-append (spellings old.id_size adds.records) rest)
+  pub bytes_left : IsBytes bytes → IsBytes rest
+  bytes_left h = bytes-behind (spellings old.id_size adds.records) rest (subst IsBytes adds.parts h)
 
-pub frame_room : (rest : List ℕ) (tag time : ℕ) (body left : List ℕ) → FrameTaken rest tag time body left
+  pub left_within : length rest ≤ length bytes
+  left_within = omega (arith, ap length adds.parts, length-append (spellings old.id_size adds.records) rest)
+
+pub frame_room : {rest : List ℕ} {tag time : ℕ} {body left : List ℕ} → FrameTaken rest tag time body left
     → length rest ≡ 9 + (length body + length left)
-frame_room rest tag time body left frame = ap length frame.bytes_are ∙ length-framed tag time body left
+frame_room {tag = tag} {time} {body} {left} frame = ap length frame.bytes_are ∙ length-framed tag time body left

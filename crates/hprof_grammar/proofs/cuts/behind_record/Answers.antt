@@ -7,10 +7,6 @@ use Rattle.hprof_grammar.proofs.cuts.behind_record.Goals as goal
 
 pub returns : goal.returns
 returns c =
-    let rest = c.new-reader.result.rest.now in
-    let behind = c.next_frame.new.reader.rest.now in
-    let found = c.in-Ok.frame in
     let bytes = subst IsBytes (sym c.new-reader.ensures) (in_bytes c.args.bytes.now c.type_inv.bytes) in
-    let frame = frame_takes rest ((found.tag, found.time, found.body.now), behind) bytes c.in-Ok.ensures in
-    let room = frame_room rest found.tag found.time found.body.now behind frame in
-    omega (arith, room, ap length c.new-reader.ensures)
+    let frame = frame_takes bytes c.in-Ok.ensures in
+    omega (arith, frame_room frame, ap length c.new-reader.ensures)

@@ -6,89 +6,51 @@ use Rattle.hprof_grammar.specs.working.Joining.{FrameFault, HasRecordFault}
 use Rattle.hprof_grammar.specs.declared.snapshot_order.Order.{Order}
 use Rattle.hprof_grammar.specs.declared.snapshot_order.Order.TheVariants.{Before}
 use Rattle.hprof_grammar.proofs.Refusals.{fault_passes}
-use Rattle.hprof_grammar.proofs.Bytes.{IsBytes, in_bytes}
+use Rattle.hprof_grammar.proofs.Bytes.{in_bytes}
 use Rattle.hprof_grammar.proofs.Frames.{cut_record, frame_takes}
-use Rattle.hprof_grammar.proofs.RecordSteps.{records_step}
+use Rattle.hprof_grammar.proofs.RecordSteps.{one_record, records_join}
 use Rattle.hprof_grammar.proofs.Wholes.{bytes_left, fault_in_record, fault_where_cut, frame_room, from_header}
 use Rattle.hprof_grammar.proofs.Wholes.{left_within}
 use Rattle.hprof_grammar.proofs.record_list.note_records.Goals as goal
 
 pub returns-in_default-clause-fault : goal.returns-in_default-clause-fault
 returns-in_default-clause-fault g c =
-    let bytes : IsBytes c.args.bytes.now = in_bytes c.args.bytes.now c.type_inv.bytes in
-    let rest = c.loop-reader.reader.rest.now in
     let adds = c.loop-reader.invariant in
-    let left : IsBytes c.loop-reader.reader.rest.now =
-    bytes_left c.args.bytes.now rest c.loop-reader.order c.args.dump.now c.loop-reader.dump adds bytes in
+    let left = bytes_left adds (in_bytes c.args.bytes.now c.type_inv.bytes) in
     let some : 0 < length c.loop-reader.reader.rest.now = grind (arith, nat_tests) in
-    let cut = cut_record rest c.in_default.field-0 some left c.in_default.ensures in
-    λ place order. fault_where_cut c.args.bytes.now rest c.loop-reader.order c.args.dump.now c.loop-reader.dump
-    (from_header adds place order) (c.args.at + (length c.args.bytes.now - length rest)) c.new.result some cut
-    (ap (λ (n : ℕ). n + (length c.args.bytes.now - length rest)) place) c.new.ensures
+    let size = length c.args.bytes.now - length c.loop-reader.reader.rest.now in
+    λ place order. fault_where_cut (from_header adds place order) some (cut_record some left c.in_default.ensures)
+    (ap (λ (n : ℕ). n + size) place) c.new.ensures
 
 pub note_record-requires-clause-room : goal.note_record-requires-clause-room
 note_record-requires-clause-room g c =
-    let bytes : IsBytes c.args.bytes.now = in_bytes c.args.bytes.now c.type_inv.bytes in
-    let rest = c.loop-reader.reader.rest.now in
     let adds = c.loop-reader.invariant in
-    let left = bytes_left c.args.bytes.now rest c.loop-reader.order c.args.dump.now c.loop-reader.dump adds bytes in
-    let frame = frame_takes rest (
-      (c.in-Ok.frame.tag, c.in-Ok.frame.time, c.in-Ok.frame.body.now),
-      c.next_frame.new.reader.rest.now,
-    ) left c.in-Ok.ensures in
-    omega (
-      arith,
-      frame_room rest c.in-Ok.frame.tag c.in-Ok.frame.time c.in-Ok.frame.body.now
-          c.next_frame.new.reader.rest.now frame,
-      left_within c.args.bytes.now rest c.loop-reader.order c.args.dump.now c.loop-reader.dump adds,
-    )
+    let left = bytes_left adds (in_bytes c.args.bytes.now c.type_inv.bytes) in
+    omega (arith, frame_room (frame_takes left c.in-Ok.ensures), left_within adds)
 
 pub returns-in_err-order-clause-fault : goal.returns-in_err-order-clause-fault
 returns-in_err-order-clause-fault g c =
-    let bytes : IsBytes c.args.bytes.now = in_bytes c.args.bytes.now c.type_inv.bytes in
-    let rest = c.loop-reader.reader.rest.now in
-    let behind = c.next_frame.new.reader.rest.now in
     let adds = c.loop-reader.invariant in
-    let left = bytes_left c.args.bytes.now rest c.loop-reader.order c.args.dump.now c.loop-reader.dump adds bytes in
-    let at = c.args.at + (length c.args.bytes.now - length rest) in
-    let frame = frame_takes rest ((c.in-Ok.frame.tag, c.in-Ok.frame.time, c.in-Ok.frame.body.now), behind) left
-    c.in-Ok.ensures in
+    let left = bytes_left adds (in_bytes c.args.bytes.now c.type_inv.bytes) in
+    let size = length c.args.bytes.now - length c.loop-reader.reader.rest.now in
+    let frame = frame_takes left c.in-Ok.ensures in
     let exit = err_from_is_err_and c.from_residual.result c.from_residual.ensures.1 in
     fault_passes Order c.from_residual.result c.in_err-order.field-0.0
-    (FrameFault c.loop-reader.dump.id_size at c.in-Ok.frame.tag c.in-Ok.frame.body.now c.loop-reader.order)
+    (FrameFault c.loop-reader.dump.id_size (c.args.at + size) c.in-Ok.frame.tag c.in-Ok.frame.body.now
+    c.loop-reader.order)
     (λ fault. c.args.at ≡ 31 → c.args.order ≡ Before
     → HasRecordFault c.args.dump.now.id_size c.args.bytes.now fault) exit
-    (λ fault wrong place order. fault_in_record c.args.bytes.now rest c.loop-reader.order c.args.dump.now
-    c.loop-reader.dump (from_header adds place order) at c.in-Ok.frame.tag c.in-Ok.frame.time c.in-Ok.frame.body.now
-    behind fault frame (ap (λ (n : ℕ). n + (length c.args.bytes.now - length rest)) place) wrong)
+    (λ fault wrong place order. fault_in_record (from_header adds place order) frame (ap (λ (n : ℕ). n + size) place)
+    wrong)
     c.in_err-order.ensures.fault
 
 pub loop-reader-smaller : goal.loop-reader-smaller
 loop-reader-smaller g c =
-    let bytes : IsBytes c.args.bytes.now = in_bytes c.args.bytes.now c.type_inv.bytes in
-    let rest = c.loop-reader.reader.rest.now in
-    let left = bytes_left c.args.bytes.now rest c.loop-reader.order c.args.dump.now c.loop-reader.dump
-    c.loop-reader.invariant bytes in
-    let frame = frame_takes rest (
-      (c.in-Ok.frame.tag, c.in-Ok.frame.time, c.in-Ok.frame.body.now),
-      c.next_frame.new.reader.rest.now,
-    ) left c.in-Ok.ensures in
-    omega (
-      arith,
-      frame_room rest c.in-Ok.frame.tag c.in-Ok.frame.time c.in-Ok.frame.body.now
-          c.next_frame.new.reader.rest.now frame,
-    )
+    let left = bytes_left c.loop-reader.invariant (in_bytes c.args.bytes.now c.type_inv.bytes) in
+    omega (arith, frame_room (frame_takes left c.in-Ok.ensures))
 
 pub loop-reader-preserved : goal.loop-reader-preserved
 loop-reader-preserved g c =
-    let bytes : IsBytes c.args.bytes.now = in_bytes c.args.bytes.now c.type_inv.bytes in
-    let rest = c.loop-reader.reader.rest.now in
-    let behind = c.next_frame.new.reader.rest.now in
-    let adds = c.loop-reader.invariant in
-    let left = bytes_left c.args.bytes.now rest c.loop-reader.order c.args.dump.now c.loop-reader.dump adds bytes in
-    let frame = frame_takes rest ((c.in-Ok.frame.tag, c.in-Ok.frame.time, c.in-Ok.frame.body.now), behind) left
-    c.in-Ok.ensures in
-    records_step c.args.bytes.now rest behind c.loop-reader.order c.in_ok-order.order c.args.dump.now
-    c.loop-reader.dump c.note_record.new.dump
-    (c.args.at + (length c.args.bytes.now - length rest)) c.in-Ok.frame.tag c.in-Ok.frame.time c.in-Ok.frame.body.now
-    adds frame refl (c.in_ok-order.ensures.adds c.in-Ok.frame.time)
+    let left = bytes_left c.loop-reader.invariant (in_bytes c.args.bytes.now c.type_inv.bytes) in
+    let one = one_record (frame_takes left c.in-Ok.ensures) (c.in_ok-order.ensures.adds c.in-Ok.frame.time) in
+    records_join c.loop-reader.invariant one refl
