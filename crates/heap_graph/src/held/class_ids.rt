@@ -2,12 +2,10 @@
 
 ghost use Rattle.std.specs.Prelude.{length, ◌<◌, ◌^◌, ◌≡◌, ◌≤◌};
 ghost use Rattle.std.specs.Iterator.{YieldsFirst};
-ghost use Rattle.byteorder.specs.Endian.{big_number};
 ghost use Rattle.heap_graph.specs.working.Values.{AreClassValues, values_ids};
 
 use crate::types::OBJECT_TYPE;
-use byteorder::{BigEndian, ByteOrder};
-use hprof_grammar::{Ids, Values, View};
+use hprof_grammar::{Ids, Values, View, number_at};
 use std::marker::Model;
 
 /// The identifiers that are left of a class.
@@ -34,19 +32,6 @@ impl<'g> Model for ClassIds<'g> {
     } };
 }
 
-/// The identifier that these bytes are.
-fn identifier(bytes: &[u8]) -> u64
-    requires low { 1 ≤ length bytes.now }
-    requires high { length bytes.now ≤ 8 }
-    ensures { result ≡ big_number (length bytes.now) bytes.now }
-{
-    match bytes.len() {
-        4 => return u64::from(BigEndian::read_u32(bytes)),
-        8 => return BigEndian::read_u64(bytes),
-        width => return BigEndian::read_uint(bytes, width),
-    }
-}
-
 /// The next identifier among these values: the next value of type 2.
 fn next_id(values: &mut Values<'_>) -> Option<u64>
     requires { AreClassValues values.old }
@@ -55,7 +40,7 @@ fn next_id(values: &mut Values<'_>) -> Option<u64>
 {
     while let Some(value) = values.next() {
         if value.type_code == OBJECT_TYPE {
-            return Some(identifier(value.value));
+            return Some(number_at(value.value, 0, value.value.len()));
         }
     }
     None
