@@ -117,7 +117,7 @@ ends_of r e id v words slots first objects place number final all none_held none
     mine = told.number done.named
 
     own : StandsAt last.accounts v.log.number v.book.account
-    own = subst (λ n. StandsAt last.accounts n v.book.account) (sym mine) (stands r e final.0 rule id v final.1.1)
+    own = subst (λ n. StandsAt last.accounts n v.book.account) (sym mine) (stands rule id v final.1.1)
 
     own_counts : StandsAt each v.log.number (counts_of v.book)
     own_counts =

@@ -1,32 +1,27 @@
 -- What the workers did, in stretches of a story; and each view is told of one event more.
-use Rattle.std.proofs.Common.{◌≡◌, ◌≢◌, ℕ, ◌<◌, if◌then◌else◌, true, List, [], ◌∷◌, ◌++◌, length, Option, Some, None}
+use Rattle.std.proofs.Common.{◌≡◌, ◌≢◌, ℕ, ◌<◌, ◌==◌, Bool, if◌then◌else◌, true, false, List, [], ◌∷◌, ◌++◌, length, Option, Some, None}
 use Rattle.std.proofs.Common.{set, ap, sym, refl, subst, ◌∙◌, ⊎_elim, eq-eqb, ne_eqb, length-append, arith}
 use Rattle.std.proofs.lemmas.Bool.{false≢true}
 use Rattle.std.proofs.lemmas.List.{append_assoc, append-nil}
 use mathlib.Core.Option.{some}
-use native.Mathlib.Decide.{ℕ_discrete}
 use lib.ListN.{get_elem?}
 use Rattle.mark_core.specs.Events.{Event, Kind, Join}
 use Rattle.buffer_pool.specs.declared.seat_view.SeatView.{SeatView}
-use Rattle.buffer_pool.specs.Book.{Book}
 use Rattle.buffer_pool.specs.WorkerLog.{Log, Did, LeadsToBook, deeds}
-use Rattle.buffer_pool.specs.working.Views.{AreViewsOf, IsTakenIn, IsViewOf}
+use Rattle.buffer_pool.specs.working.Slots.{free}
+use Rattle.buffer_pool.specs.working.Views.{AreViewsOf, IsTakenIn, IsViewOf, logged}
 use Rattle.atomic_table.proofs.Lists.{at_set}
 
 -- of two stretches
 pub deeds_on : (w : ℕ) (xs ys : List Event) → deeds w (xs ++ ys) ≡ deeds w xs ++ deeds w ys
 deeds_on w [] ys = refl
-deeds_on w (x ∷ xs) ys = go (ℕ_discrete x.worker w) (deeds_on w xs ys)
+deeds_on w (x ∷ xs) ys = go (x.worker == w) (deeds_on w xs ys)
   where
-    go : Dec (x.worker ≡ w) → deeds w (xs ++ ys) ≡ deeds w xs ++ deeds w ys
-        → deeds w (x ∷ xs ++ ys) ≡ deeds w (x ∷ xs) ++ deeds w ys
-    go (yes own) later =
-        ap (λ t. if t then x.kind ∷ deeds w (xs ++ ys) else deeds w (xs ++ ys)) (eq-eqb x.worker w own)
-        ∙ ap (λ ks. x.kind ∷ ks) later
-        ∙ sym (ap (λ t. (if t then x.kind ∷ deeds w xs else deeds w xs) ++ deeds w ys) (eq-eqb x.worker w own))
-    go (no other) later =
-        ap (λ t. if t then x.kind ∷ deeds w (xs ++ ys) else deeds w (xs ++ ys)) (ne_eqb x.worker w other) ∙ later
-        ∙ sym (ap (λ t. (if t then x.kind ∷ deeds w xs else deeds w xs) ++ deeds w ys) (ne_eqb x.worker w other))
+    go : (own : Bool) → deeds w (xs ++ ys) ≡ deeds w xs ++ deeds w ys
+        → (if own then x.kind ∷ deeds w (xs ++ ys) else deeds w (xs ++ ys))
+        ≡ (if own then x.kind ∷ deeds w xs else deeds w xs) ++ deeds w ys
+    go true later = ap (λ ks. x.kind ∷ ks) later
+    go false later = later
 
 -- of one event
 pub one_deed : (w : ℕ) (event : Event) → event.worker ≡ w → deeds w (event ∷ []) ≡ event.kind ∷ []
@@ -56,9 +51,12 @@ did_three a b c d x y z first second third =
 pub did_nothing : (a : Log) → Did a [] a
 did_nothing a = ([], ap (λ xs. record a { story = xs }) (sym (append-nil a.story)), refl)
 
--- of a log that is known by another name
-pub did_from : (a b c : Log) (ks : List Kind) → b ≡ a → Did b ks c → Did a ks c
-did_from a b c ks same did = subst (λ (x : Log). Did x ks c) same did
+-- a story and one event more, and the log of a worker that knows all of a story
+abbrev pub and_then : List Event → ℕ → Kind → List Event
+and_then events w kind = events ++ record { worker = w; kind = kind } ∷ []
+
+abbrev pub log_of : ℕ → List Event → Log
+log_of w events = record { number = w; story = events }
 
 none_some : (n : ℕ) → ◌≡◌ {A = Option ℕ} None (Some n) → ⊥
 none_some n e = cc
@@ -121,28 +119,23 @@ module _ (events : List Event) (w : ℕ) (v : SeatView) (told : IsViewOf events 
         ended = λ n. ended;
       }
 
-  -- a view with the same log
-  pub told_same :
-      (u : SeatView) → u.log ≡ v.log → u.unsaid ≡ v.unsaid → u.taken ≡ v.taken → u.named ≡ v.named → u.from ≡ v.from
-      → u.book ≡ v.book → IsViewOf events w u
-  told_same u log unsaid taken named from book =
+  -- its slot went home
+  pub told_free : IsViewOf events w (free v)
+  told_free =
       record {
-        number = λ n. ap (λ (x : Log). x.number) log ∙ told.number (sym named ∙ n);
+        number = told.number;
         since = told.since;
-        goes_on = told.goes_on ∙ ap (λ (x : Log). x.story ++ told.since) (sym log);
-        unsaid = told.unsaid ∙ sym unsaid;
-        taken = (told.taken.0, told.taken.1 ∙ ap (λ xs. xs ++ told.taken.0) (sym taken));
-        fresh = λ new. told.fresh (sym named ∙ new);
-        leads =
-            λ n none. subst (λ (b : Book). LeadsToBook u.log b) (sym book)
-            (subst (λ (l : Log). LeadsToBook l v.book) (sym log) (told.leads (sym named ∙ n) (sym unsaid ∙ none)));
-        apart = λ n is. told.apart n (sym from ∙ is);
-        ended = λ known n is. subst (IsTakenIn events n) (sym taken) (told.ended (sym named ∙ known) n (sym from ∙ is));
+        goes_on = told.goes_on;
+        unsaid = told.unsaid;
+        taken = told.taken;
+        fresh = told.fresh;
+        leads = told.leads;
+        apart = told.apart;
+        ended = told.ended;
       }
 
   -- what it may tell when its log has the events up to now, and more: its noted deeds, and those among the more
-  pub did_now : v.named ≡ true → (more : List Event)
-      → Did v.log (v.unsaid ++ deeds w more) (record { number = w; story = events ++ more })
+  did_now : v.named ≡ true → (more : List Event) → Did v.log (v.unsaid ++ deeds w more) (log_of w (events ++ more))
   did_now known more = (
     told.since ++ more,
     (λ k. record {
@@ -154,36 +147,32 @@ module _ (events : List Event) (w : ℕ) (v : SeatView) (told : IsViewOf events 
   )
 
   -- it has one event of its own to tell, or none
-  pub did_one : v.named ≡ true → v.unsaid ≡ [] → (event : Event) → event.worker ≡ w
-      → Did v.log (event.kind ∷ []) (record { number = w; story = events ++ event ∷ [] })
-  did_one known none_left event own =
+  pub did_one : v.named ≡ true → v.unsaid ≡ [] → (kind : Kind)
+      → Did v.log (kind ∷ []) (log_of w (and_then events w kind))
+  did_one known none_left kind =
+      let event : Event = record { worker = w; kind = kind } in
       let all = did_now known (event ∷ []) in
-      (all.0, all.1, all.2 ∙ (λ k. none_left k ++ one_deed w event own k))
+      (all.0, all.1, all.2 ∙ (λ k. none_left k ++ one_deed w event refl k))
 
-  pub did_none : v.named ≡ true → Did v.log v.unsaid (record { number = w; story = events })
+  pub did_none : v.named ≡ true → Did v.log v.unsaid (log_of w events)
   did_none known =
-      let all = did_now known [] in (
-        all.0,
-        ap (λ xs. record { number = w; story = xs }) (sym (append-nil events)) ∙ all.1,
-        all.2
-            ∙ append-nil v.unsaid,
-      )
+      let all = did_now known [] in
+      (all.0, ap (log_of w) (sym (append-nil events)) ∙ all.1, all.2 ∙ append-nil v.unsaid)
 
 -- a view whose log has all events
-pub told_now :
-    (events : List Event) (w : ℕ) (v : SeatView) → v.log ≡ record { number = w; story = events } → v.unsaid ≡ []
-    → v.taken ≡ [] → v.named ≡ true → v.from ≡ None → LeadsToBook v.log v.book → IsViewOf events w v
-told_now events w v log unsaid taken named from leads =
+pub told_now : (events : List Event) (w : ℕ) (v : SeatView) → LeadsToBook (log_of w events) v.book
+    → IsViewOf events w (logged (log_of w events) v)
+told_now events w v leads =
     record {
-      number = λ n. ap (λ (x : Log). x.number) log;
+      number = λ n. refl;
       since = [];
-      goes_on = sym (ap (λ (x : Log). x.story ++ []) log ∙ append-nil events);
-      unsaid = sym unsaid;
-      taken = (events, ap (λ xs. xs ++ events) (sym taken));
-      fresh = λ new. absurd (false≢true (sym new ∙ named));
+      goes_on = sym (append-nil events);
+      unsaid = refl;
+      taken = (events, refl);
+      fresh = λ new. absurd (false≢true (sym new));
       leads = λ n none. leads;
-      apart = λ n is. absurd (none_some n (sym from ∙ is));
-      ended = λ known n is. absurd (none_some n (sym from ∙ is));
+      apart = λ n is. absurd (none_some n is);
+      ended = λ known n is. absurd (none_some n is);
     }
 
 -- all views after one of them changed
@@ -199,40 +188,18 @@ told_set events views w v others own k u at there =
     (λ t. others k u t.0 t.1 there)
     (at_set views w k v u at)
 
-module _ (events : List Event) (views : List SeatView) (told : AreViewsOf events views) (id : ℕ) (v : SeatView)
-    (is : get_elem? views id ≡ some v) (there : 0 < v.book.account.share) where
+-- the view of one worker changes
+module _ (events : List Event) (views : List SeatView) (told : AreViewsOf events views) (w : ℕ) (u : SeatView) where
   -- an event of the worker happened, and its log has it
-  pub told_step :
-      (kind : Kind) (w : SeatView)
-      → w.log ≡ record { number = id; story = events ++ record { worker = id; kind = kind } ∷ [] } → w.unsaid ≡ []
-      → w.taken ≡ [] → w.named ≡ true → w.from ≡ None → LeadsToBook w.log w.book
-      → AreViewsOf (events ++ record { worker = id; kind = kind } ∷ []) (set views id w)
-  told_step kind w log unsaid taken named from leads =
-      told_set (events ++ event ∷ []) views id w
-      (λ k u other at share. told_theirs events k u (told k u at share) event (λ same. other (sym same)))
-      (λ share. told_now (events ++ event ∷ []) id w log unsaid taken named from leads)
-    where
-      event : Event
-      event = record { worker = id; kind = kind }
+  pub told_step : (kind : Kind) → LeadsToBook (log_of w (and_then events w kind)) u.book
+      → AreViewsOf (and_then events w kind) (set views w (logged (log_of w (and_then events w kind)) u))
+  told_step kind leads =
+      told_set (and_then events w kind) views w (logged (log_of w (and_then events w kind)) u)
+      (λ k x other at share. told_theirs events k x (told k x at share) (record { worker = w; kind = kind })
+      (λ same. other (sym same))) (λ share. told_now (and_then events w kind) w u leads)
 
   -- nothing happened, and the worker's log is up to date
-  pub told_seen :
-      (w : SeatView) → w.log ≡ record { number = id; story = events } → w.unsaid ≡ [] → w.taken ≡ [] → w.named ≡ true
-      → w.from ≡ None → LeadsToBook w.log w.book → AreViewsOf events (set views id w)
-  told_seen w log unsaid taken named from leads =
-      told_set events views id w (λ k u other at share. told k u at share)
-      (λ share. told_now events id w log unsaid taken named from leads)
-
-  -- nothing happened, and the worker's log is as it was
-  pub told_kept :
-      (w : SeatView) → w.log ≡ v.log → w.unsaid ≡ v.unsaid → w.taken ≡ v.taken → w.named ≡ v.named → w.from ≡ v.from
-      → w.book ≡ v.book → AreViewsOf events (set views id w)
-  told_kept w log unsaid taken named from book =
-      told_set events views id w (λ k u other at share. told k u at share)
-      (λ share. told_same events id v (told id v is there) w log unsaid taken named from book)
-
-  -- what the worker may tell of its event
-  pub did_step : v.named ≡ true → v.unsaid ≡ [] → (kind : Kind)
-      → Did v.log (kind ∷ []) (record { number = id; story = events ++ record { worker = id; kind = kind } ∷ [] })
-  did_step known none_left kind =
-      did_one events id v (told id v is there) known none_left (record { worker = id; kind = kind }) refl
+  pub told_seen : LeadsToBook (log_of w events) u.book → AreViewsOf events (set views w (logged (log_of w events) u))
+  told_seen leads =
+      told_set events views w (logged (log_of w events) u) (λ k x other at share. told k x at share)
+      (λ share. told_now events w u leads)

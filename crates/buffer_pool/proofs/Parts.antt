@@ -12,33 +12,33 @@ use Rattle.mark_core.specs.Lists.{times, only}
 use Rattle.mark_core.specs.Account.{Account, part, no_share, after_join}
 use Rattle.mark_core.specs.World.{Setup, Marking, account_at}
 use Rattle.mark_core.specs.Runs.{AreApart, HasEachOnce, opening}
-use Rattle.mark_core.specs.Events.{Event, Split, Join, effect}
+use Rattle.mark_core.specs.Events.{Event, Split, Join}
 use Rattle.mark_core.specs.Counts.{Counts, add_counts, counts_at, no_counts}
 use Rattle.mark_core.proofs.Sums.{sum_of-append}
 use Rattle.mark_core.proofs.Places.{at_get_or}
 use Rattle.buffer_pool.specs.declared.seat_view.SeatView.{SeatView}
-use Rattle.buffer_pool.specs.Book.{joined, new_book, parted}
+use Rattle.buffer_pool.specs.Book.{Book, joined, new_book, parted}
 use Rattle.buffer_pool.specs.Ranges.{IsWithin}
 use Rattle.buffer_pool.specs.working.BetweenCalls.{IsLaid, IsSound}
 use Rattle.buffer_pool.specs.WorkerLog.{Log, Did, EndsStory, IsNewcomer, LeadsToBook, deeds}
-use Rattle.buffer_pool.specs.working.Views.{logged}
+use Rattle.buffer_pool.specs.working.Views.{HasSaidAll, logged}
 use Rattle.buffer_pool.specs.working.Plays.{IsUpToDate}
 use Rattle.buffer_pool.specs.working.Setups.{kept_part, given_part, joined_view, no_share_view}
 use Rattle.buffer_pool.specs.working.Slots.{Reading, Carries, IsTied, Rests, free}
 use Rattle.buffer_pool.specs.working.Table.{Reached, Rule, account_of, marking_of, view_counts}
-use Rattle.buffer_pool.proofs.States.{agrees, stands, accounts_set, counts_set, counts_same, happened}
-use Rattle.buffer_pool.proofs.Loads.{nothing_out}
+use Rattle.buffer_pool.proofs.States.{Seated, nothing_out, stands, own_setup, accounts_set, counts_set, counts_same}
+use Rattle.buffer_pool.proofs.States.{happened_told}
 use Rattle.std.proofs.lemmas.List.{append_assoc, length-map}
 use Rattle.buffer_pool.proofs.Deeds.{deeds_on, did_on}
 use Rattle.buffer_pool.proofs.Newcomers.{nothing_done, told_join, told_split}
 
 -- what the rule says of one view
-pub record Suits {B : Type 0} (e : Setup) (s : State (Option B) SeatView) (v : SeatView) : Type 0 where
+record Suits {B : Type 0} (e : Setup) (s : State (Option B) SeatView) (v : SeatView) : Type 0 where
   pub tied : IsTied s.words v
   pub rests : Rests s.homes v
   pub same_setup : 0 < v.book.account.share → v.book.setup ≡ e
 
-module _ {B : Type 0} (r : Reading B) (e : Setup) (s : State (Option B) SeatView) (rule : Rule r e s) where
+module _ {B : Type 0} {r : Reading B} {e : Setup} {s : State (Option B) SeatView} (rule : Rule r e s) where
   suits : (k : ℕ) (u : SeatView) → get_elem? s.views k ≡ some u → Suits e s u
   suits k u at = record { tied = rule.tied k u at; rests = rule.rests k u at; same_setup = rule.same_setup k u at }
 
@@ -60,71 +60,68 @@ module _ {B : Type 0} (r : Reading B) (e : Setup) (s : State (Option B) SeatView
         reached = reached;
       }
 
+  -- a view that holds nothing suits
+  holds_nothing : (u : SeatView) → u.out ≡ 0 → u.book.account.held ≡ [] → (0 < u.book.account.share → u.book.setup ≡ e)
+      → Suits e s u
+  holds_nothing u out held setup =
+      record {
+        tied = λ i o. absurd (nothing_out u.out out i o);
+        rests = λ i mine o. absurd (omega (arith, mine, ap (times i) held));
+        same_setup = setup;
+      }
+
 module _ {B : Type 0} (r : Reading B) (e : Setup) (id : ℕ) (v : SeatView) where
   pub splits : 0 < v.aside → v.aside < v.book.account.share → v.named ≡ true
       → Splits (Rule r e) id v (kept_part v) (given_part v)
-  splits some_units less known s rule is = with_views r e s rule views all reached
+  splits some_units less known s rule is = with_views rule views all reached
     where
-      m : Marking
-      m = marking_of r e s
-
-      a : Account
-      a = v.book.account
+      at : Seated r e s id v
+      at = record { rule = rule; is = is; there = omega (arith, less) }
 
       views : List SeatView
       views = set s.views id (kept_part v) ++ given_part v ∷ []
 
-      there : 0 < a.share
-      there = omega (arith, less)
-
       own : Suits e s v
-      own = suits r e s rule id v is
+      own = suits rule id v is
 
       kept : Suits e s (kept_part v)
-      kept = record { tied = own.tied; rests = own.rests; same_setup = λ h. own.same_setup there }
-
-      given : Suits e s (given_part v)
-      given = record {
-        tied = λ i out. absurd (nothing_out 0 refl i out);
-        rests = λ i mine out. absurd (omega (arith, mine));
-        same_setup = λ h. own.same_setup there;
-      }
+      kept = record { tied = own.tied; rests = own.rests; same_setup = λ h. own_setup at }
 
       all : (k : ℕ) (u : SeatView) → get_elem? views k ≡ some u → Suits e s u
-      all k u at =
-          ⊎_elim (λ t. ⊎_elim (λ x. subst (Suits e s) x.1 kept) (λ x. suits r e s rule k u x.1)
-          (at_set s.views id k (kept_part v) u t)) (λ same. subst (Suits e s) same given)
-          (at_snoc (set s.views id (kept_part v)) (given_part v) u k at)
-
-      t : State (Option B) SeatView
-      t = record { words = s.words; homes = s.homes; views = views }
+      all k u here =
+          ⊎_elim (λ t. ⊎_elim (λ x. subst (Suits e s) x.1 kept) (λ x. suits rule k u x.1)
+          (at_set s.views id k (kept_part v) u t))
+          (λ same. subst (Suits e s) same (holds_nothing rule (given_part v) refl refl (λ h. own_setup at)))
+          (at_snoc (set s.views id (kept_part v)) (given_part v) u k here)
 
       -- the new number is nobody's so far
       nobody : deeds (length s.views) rule.reached.events ≡ []
       nobody =
-          nothing_done e rule.reached.events (opening e e.first_tag) m (length s.views) rule.reached.led.run
-          (omega (arith, length-map s.views account_of))
+          nothing_done e rule.reached.events (opening e e.first_tag) (marking_of r e s) (length s.views)
+          rule.reached.led.run (omega (arith, length-map s.views account_of))
 
-      reached : Reached r e t
+      accounts : map account_of views ≡ set (map account_of s.views) id (kept_part v).book.account ++ part v.aside ∷ []
+      accounts = map-append account_of (set s.views id (kept_part v)) (given_part v ∷ [])
+          ∙ ap (λ (xs : List Account). xs ++ part v.aside ∷ []) (accounts_set s.views id (kept_part v))
+
+      reached : Reached r e (record { words = s.words; homes = s.homes; views = views })
       reached =
-          happened r e s rule id v is (Split v.aside) there (some_units, less) t
-          (agrees (marking_of r e t) (effect m id a (Split v.aside)) (λ q. refl) (λ i. refl) (λ o. refl) refl refl
-          (map-append account_of (set s.views id (kept_part v)) (given_part v ∷ [])
-          ∙ ap (λ (xs : List Account). xs ++ part v.aside ∷ []) (accounts_set s.views id (kept_part v))))
+          happened_told at (Split v.aside) (some_units, less)
+          (record { words = s.words; homes = s.homes; views = views })
+          (λ k. record (marking_of r e s) { accounts = accounts k })
           (map-append view_counts (set s.views id (kept_part v)) (given_part v ∷ [])
-          ∙ ap (λ (xs : List Counts). xs ++ no_counts ∷ []) (counts_same r e s rule id v is (kept_part v) refl))
-          (λ x counts accounts each led. told_split rule.reached.events s.views rule.reached.views id v is there known
-          nobody)
+          ∙ ap (λ (xs : List Counts). xs ++ no_counts ∷ []) (counts_same at (kept_part v) refl))
+          (told_split rule.reached.events s.views rule.reached.views id v is at.there known nobody)
 
   module _ (other : ℕ) (w : SeatView) where
     pub joins :
         w.out ≡ 0 → 0 < v.book.account.share → v.named ≡ true → 0 < w.book.account.share → w.named ≡ true
         → w.unsaid ≡ [] → Joins (Rule r e) id v other w (joined_view v w) no_share_view
     joins bare there known theirs_there theirs_known theirs_said s rule is apart after =
-        with_views r e s rule views all reached
+        with_views rule views all reached
       where
-        m : Marking
-        m = marking_of r e s
+        at : Seated r e s id v
+        at = record { rule = rule; is = is; there = there }
 
         both : SeatView
         both = joined_view v w
@@ -132,21 +129,19 @@ module _ {B : Type 0} (r : Reading B) (e : Setup) (id : ℕ) (v : SeatView) wher
         views : List SeatView
         views = set (set s.views id both) other no_share_view
 
-        at : get_elem? s.views other ≡ some w
-        at = sym (set_else s.views id other both apart) ∙ after
+        other_is : get_elem? s.views other ≡ some w
+        other_is = sym (set_else s.views id other both apart) ∙ after
 
         own : Suits e s v
-        own = suits r e s rule id v is
-
-        theirs : Suits e s w
-        theirs = suits r e s rule other w at
+        own = suits rule id v is
 
         rests : Rests s.homes both
         rests i mine out = go (dec_le 1 (times i v.book.account.held))
           where
             go : Dec (1 ≤ times i v.book.account.held) → get_elem? s.homes i ≡ some (some None)
             go (yes h) = own.rests i h out
-            go (no h) = theirs.rests i (omega (arith, sum_of-append (only i) v.book.account.held w.book.account.held))
+            go (no h) = rule.rests other w other_is i
+                (omega (arith, sum_of-append (only i) v.book.account.held w.book.account.held))
                 (nothing_out w.out bare i)
 
         together : Suits e s both
@@ -161,28 +156,28 @@ module _ {B : Type 0} (r : Reading B) (e : Setup) (id : ℕ) (v : SeatView) wher
                 (own.tied i out).1,
               );
               rests = rests;
-              same_setup = λ h. own.same_setup there;
+              same_setup = λ h. own_setup at;
             }
-
-        gone : Suits e s no_share_view
-        gone = record {
-          tied = λ i out. absurd (nothing_out 0 refl i out);
-          rests = λ i mine out. absurd (omega (arith, mine));
-          same_setup = λ h. absurd (omega (arith, h));
-        }
 
         all : (k : ℕ) (u : SeatView) → get_elem? views k ≡ some u → Suits e s u
         all k u stood =
-            ⊎_elim (λ t. subst (Suits e s) t.1 gone)
-            (λ t. ⊎_elim (λ x. subst (Suits e s) x.1 together) (λ x. suits r e s rule k u x.1)
+            ⊎_elim (λ t. subst (Suits e s) t.1
+            (holds_nothing rule no_share_view refl refl (λ h. absurd (omega (arith, h)))))
+            (λ t. ⊎_elim (λ x. subst (Suits e s) x.1 together) (λ x. suits rule k u x.1)
             (at_set s.views id k both u t.1))
             (at_set (set s.views id both) other k no_share_view u stood)
 
-        t : State (Option B) SeatView
-        t = record { words = s.words; homes = s.homes; views = views }
+        m : Marking
+        m = marking_of r e s
 
         account : account_at m.accounts other ≡ w.book.account
-        account = at_get_or m.accounts other w.book.account no_share (stands r e s rule other w at)
+        account = at_get_or m.accounts other w.book.account no_share (stands rule other w other_is)
+
+        accounts : map account_of views
+            ≡ set (set m.accounts id (after_join v.book.account (account_at m.accounts other))) other no_share
+        accounts = accounts_set (set s.views id both) other no_share_view
+            ∙ ap (λ (xs : List Account). set xs other no_share) (accounts_set s.views id both)
+            ∙ ap (λ a. set (set m.accounts id (after_join v.book.account a)) other no_share) (sym account)
 
         counts : List Counts
         counts = map view_counts s.views
@@ -191,164 +186,117 @@ module _ {B : Type 0} (r : Reading B) (e : Setup) (id : ℕ) (v : SeatView) wher
         first = at_get_or counts id (view_counts v) no_counts (at_map view_counts s.views id v is)
 
         second : counts_at counts other ≡ view_counts w
-        second = at_get_or counts other (view_counts w) no_counts (at_map view_counts s.views other w at)
+        second = at_get_or counts other (view_counts w) no_counts (at_map view_counts s.views other w other_is)
 
         added : map view_counts views ≡ set (set counts id (add_counts (view_counts v) (view_counts w))) other no_counts
         added = counts_set (set s.views id both) other no_share_view
             ∙ ap (λ (xs : List Counts). set xs other no_counts) (counts_set s.views id both)
 
-        reached : Reached r e t
+        reached : Reached r e (record { words = s.words; homes = s.homes; views = views })
         reached =
-            happened r e s rule id v is (Join other) there
-            (apart, (w.book.account, (stands r e s rule other w at, theirs_there))) t
-            (agrees (marking_of r e t) (effect m id v.book.account (Join other)) (λ q. refl) (λ i. refl)
-            (λ o. refl) refl refl
-            (accounts_set (set s.views id both) other no_share_view
-            ∙ ap (λ (xs : List Account). set xs other no_share) (accounts_set s.views id both)
-            ∙ ap (λ a. set (set m.accounts id (after_join v.book.account a)) other no_share) (sym account)))
+            happened_told at (Join other) (apart, (w.book.account, (stands rule other w other_is, theirs_there)))
+            (record { words = s.words; homes = s.homes; views = views }) (λ k. record m { accounts = accounts k })
             (added ∙ (λ k. set (set counts id (add_counts (sym first k) (sym second k))) other no_counts))
-            (λ x ns accounts each led. told_join rule.reached.events s.views rule.reached.views id v is there known
-            other w apart at theirs_there theirs_known theirs_said)
+            (told_join rule.reached.events s.views rule.reached.views id v is there known other w apart other_is
+            theirs_there theirs_known theirs_said)
+
+-- what holds of a seat holds of it under another name
+moved : {B : Type 0} {m n : Me (Option B) SeatView} (P : Me (Option B) SeatView → Type 0) → n ≡ m → P m → P n
+moved {B} P same = subst {A = Me (Option B) SeatView} P (sym {A = Me (Option B) SeatView} same)
 
 -- the units of a split are as they were noted, and the worker knows its number
 pub noted_units :
     {B : Type 0} (m n : Me (Option B) SeatView) (log : Log) (units : ℕ)
     → n ≡ (record (logged log (free m.0)) { aside = units }, []) → 0 < units → units < m.0.book.account.share
     → (0 < n.0.aside) × (n.0.aside < n.0.book.account.share) × (n.0.named ≡ true)
-noted_units {B} m n log units is some_units less =
-    subst {A = Me (Option B) SeatView} (λ x. (0 < x.0.aside) × (x.0.aside < x.0.book.account.share)
-    × (x.0.named ≡ true)) (sym {A = Me (Option B) SeatView} is) (some_units, less, refl)
+noted_units m n log units is some_units less =
+    moved (λ x. (0 < x.0.aside) × (x.0.aside < x.0.book.account.share) × (x.0.named ≡ true)) is
+    (some_units, less, refl)
 
--- a seat whose log is up to date, over what it was before: sound where that was, but for its log
-module _ {B : Type 0} (t u : TableId) (m n : Me (Option B) SeatView) (table : u ≡ t)
-    (same : n ≡ (logged n.0.log (free m.0), [])) where
-  pub sound_now :
-      IsLaid t m.0.book.setup → 0 < m.0.book.account.share → IsWithin m.0.book.setup m.0.book.account
-      → LeadsToBook n.0.log n.0.book → IsSound u n
-  sound_now laid share within story =
-      subst (λ x. IsSound x n) (sym table) (subst {A = Me (Option B) SeatView} (IsSound t)
-      (sym {A = Me (Option B) SeatView} same) here)
-    where
-      here : IsSound {B = B} t (logged n.0.log (free m.0), [])
-      here =
-          record {
-            laid = laid;
-            share = share;
-            carries = refl;
-            within = record { held = within.held; charge = within.charge };
-            settled = record { named = refl; unsaid = refl };
-            story = subst {A = Me (Option B) SeatView}
-                (λ x. LeadsToBook n.0.log x.0.book) same story;
-          }
-
-  pub book_now : n.0.book ≡ m.0.book
-  book_now = ap (λ (x : Me (Option B) SeatView). x.0.book) same
+-- a seat whose log is up to date, over what it was before: it is sound and has the book that it had
+sound_now :
+    {B : Type 0} (t u : TableId) (m n : Me (Option B) SeatView) (b : Book) → u ≡ t
+    → n ≡ (logged n.0.log (free m.0), []) → m.0.book ≡ b → IsLaid t b.setup → 0 < b.account.share
+    → IsWithin b.setup b.account → LeadsToBook n.0.log n.0.book → IsSound u n × (n.0.book ≡ b)
+sound_now {B} t u m n b table same was laid share within story = (
+  subst (λ x. IsSound x n) (sym table) (record {
+    laid = subst (λ (k : Book). IsLaid t k.setup) (sym is) laid;
+    share = subst (λ (k : Book). 0 < k.account.share) (sym is) share;
+    carries = moved Carries same refl;
+    within = subst (λ (k : Book). IsWithin k.setup k.account) (sym is) within;
+    settled = moved (λ x. HasSaidAll x.0) same (record { named = refl; unsaid = refl });
+    story = story;
+  }),
+  is,
+)
+  where
+    is : n.0.book ≡ b
+    is = ap (λ (x : Me (Option B) SeatView). x.0.book) same ∙ was
 
 -- A split: the units were noted (two), the views were cut (kept and given), and each has its log up to date (now)
 module _ {B : Type 0} (t u : TableId) (m two : Me (Option B) SeatView) (units : ℕ) (table : u ≡ t) (log : Log)
     (sound : IsSound t m)
     (aside : two ≡ (record (logged log (free m.0)) { aside = units }, [])) (did : Did m.0.log [] log) where
-  pub keeps_part :
-      (kept now : Me (Option B) SeatView) → kept ≡ (kept_part two.0, two.1) → IsUpToDate kept now
-      → units < m.0.book.account.share
-      → (IsSound u now × (now.0.book ≡ parted units m.0.book)) × Did m.0.log (Split units ∷ []) now.0.log
-  keeps_part kept now cut told less = (
-    (
-      sound_now t u kept now table told.same laid share within told.story,
-      book_now t u kept now table told.same
-          ∙ ap (λ (x : Me (Option B) SeatView). x.0.book) is,
-    ),
-    did_on m.0.log log now.0.log [] (Split units ∷ []) did second,
-  )
-    where
-      is : kept ≡ (kept_part (record (logged log (free m.0)) { aside = units }), [])
-      is = cut ∙ ap (λ (x : Me (Option B) SeatView). (kept_part x.0, x.1)) aside
+  abbrev noted : SeatView
+  noted = record (logged log (free m.0)) { aside = units }
 
-      laid : IsLaid t kept.0.book.setup
-      laid = subst {A = Me (Option B) SeatView} (λ x. IsLaid t x.0.book.setup)
-          (sym {A = Me (Option B) SeatView} is) sound.laid
+  kept_is : (kept : Me (Option B) SeatView) → kept ≡ (kept_part two.0, two.1) → kept ≡ (kept_part noted, [])
+  kept_is kept cut = cut ∙ ap (λ (x : Me (Option B) SeatView). (kept_part x.0, x.1)) aside
 
-      share : 0 < kept.0.book.account.share
-      share = subst {A = Me (Option B) SeatView} (λ x. 0 < x.0.book.account.share)
-          (sym {A = Me (Option B) SeatView} is) (omega (arith, less))
-
-      within : IsWithin kept.0.book.setup kept.0.book.account
-      within =
-          subst {A = Me (Option B) SeatView} (λ x. IsWithin x.0.book.setup x.0.book.account)
-          (sym {A = Me (Option B) SeatView} is) (record { held = sound.within.held; charge = sound.within.charge })
-
-      second : Did log (Split units ∷ []) now.0.log
-      second =
-          subst {A = Me (Option B) SeatView} (λ x. Did x.0.log x.0.unsaid now.0.log) is
-          (told.did (subst {A = Me (Option B) SeatView} (λ x. x.0.named ≡ true)
-          (sym {A = Me (Option B) SeatView} is) refl))
+  given_is : (given : Me (Option B) SeatView) → given ≡ (given_part two.0, []) → given ≡ (given_part noted, [])
+  given_is given cut = cut ∙ ap (λ (x : Me (Option B) SeatView). (given_part x.0, [])) aside
 
   -- what the loads after the cut ask
   pub kept_may : (kept : Me (Option B) SeatView) → kept ≡ (kept_part two.0, two.1) → units < m.0.book.account.share
       → Carries kept × (0 < kept.0.book.account.share)
-  kept_may kept cut less =
-      let is : kept ≡ (kept_part (record (logged log (free m.0)) { aside = units }), []) =
-      cut ∙ ap (λ (x : Me (Option B) SeatView). (kept_part x.0, x.1)) aside in
-      subst {A = Me (Option B) SeatView} (λ x. Carries x × (0 < x.0.book.account.share))
-      (sym {A = Me (Option B) SeatView} is) (refl, omega (arith, less))
+  kept_may kept cut less = moved (λ x. Carries x × (0 < x.0.book.account.share)) (kept_is kept cut)
+      (refl, omega (arith, less))
 
   pub given_may : (given : Me (Option B) SeatView) → given ≡ (given_part two.0, []) → 0 < units → Carries given
       × (0 < given.0.book.account.share)
-  given_may given cut some_units =
-      let is : given ≡ (given_part (record (logged log (free m.0)) { aside = units }), []) =
-      cut ∙ ap (λ (x : Me (Option B) SeatView). (given_part x.0, [])) aside in
-      subst {A = Me (Option B) SeatView} (λ x. Carries x × (0 < x.0.book.account.share))
-      (sym {A = Me (Option B) SeatView} is) (refl, some_units)
+  given_may given cut some_units = moved (λ x. Carries x × (0 < x.0.book.account.share)) (given_is given cut)
+      (refl, some_units)
+
+  pub keeps_part :
+      (kept now : Me (Option B) SeatView) → kept ≡ (kept_part two.0, two.1) → IsUpToDate kept now
+      → units < m.0.book.account.share
+      → (IsSound u now × (now.0.book ≡ parted units m.0.book)) × Did m.0.log (Split units ∷ []) now.0.log
+  keeps_part kept now cut told less =
+      let is = kept_is kept cut in
+      let second : Did log (Split units ∷ []) now.0.log =
+      subst {A = Me (Option B) SeatView} (λ x. x.0.named ≡ true → Did x.0.log x.0.unsaid now.0.log) is told.did refl in (
+        sound_now t u kept now (parted units m.0.book) table told.same
+            (ap (λ (x : Me (Option B) SeatView). x.0.book) is) sound.laid (omega (arith, less))
+            (record { held = sound.within.held; charge = sound.within.charge }) told.story,
+        did_on m.0.log log now.0.log [] (Split units ∷ []) did second,
+      )
 
   pub has_part :
       (given now : Me (Option B) SeatView) → given ≡ (given_part two.0, []) → IsUpToDate given now → 0 < units
       → (IsSound u now × (now.0.book ≡ new_book m.0.book.setup units)) × IsNewcomer m.0.log now.0.log
       × (m.0.log.number ≢ now.0.log.number)
   has_part given now cut told some_units = (
+    sound_now t u given now (new_book m.0.book.setup units) table told.same
+        (ap (λ (x : Me (Option B) SeatView). x.0.book) is) sound.laid some_units
+        (record { held = λ i k. absurd (omega (arith, k.1)); charge = λ o k. absurd (omega (arith, k.1)) }) told.story,
     (
-      sound_now t u given now table told.same laid share within told.story,
-      book_now t u given now table told.same
-          ∙ ap (λ (x : Me (Option B) SeatView). x.0.book) is,
+      (
+        did.0 ++ first.0,
+        first.1 ∙ ap (λ (x : Log). x.story ++ first.0) did.1 ∙ append_assoc m.0.log.story did.0 first.0,
+      ),
+      subst {A = Me (Option B) SeatView} (λ x. x.0.named ≡ false → deeds now.0.log.number now.0.log.story ≡ []) is
+          told.fresh refl,
     ),
-    (knows, fresh),
-    other,
+    told.apart m.0.log.number (ap (λ (x : Me (Option B) SeatView). x.0.from) is ∙ ap (λ (x : Log). Some x.number) did.1),
   )
     where
-      is : given ≡ (given_part (record (logged log (free m.0)) { aside = units }), [])
-      is = cut ∙ ap (λ (x : Me (Option B) SeatView). (given_part x.0, [])) aside
-
-      laid : IsLaid t given.0.book.setup
-      laid = subst {A = Me (Option B) SeatView} (λ x. IsLaid t x.0.book.setup)
-          (sym {A = Me (Option B) SeatView} is) sound.laid
-
-      share : 0 < given.0.book.account.share
-      share = subst {A = Me (Option B) SeatView} (λ x. 0 < x.0.book.account.share)
-          (sym {A = Me (Option B) SeatView} is) some_units
-
-      within : IsWithin given.0.book.setup given.0.book.account
-      within =
-          subst {A = Me (Option B) SeatView} (λ x. IsWithin x.0.book.setup x.0.book.account)
-          (sym {A = Me (Option B) SeatView} is)
-          (record { held = λ i k. absurd (omega (arith, k.1)); charge = λ o k. absurd (omega (arith, k.1)) })
+      is : given ≡ (given_part noted, [])
+      is = given_is given cut
 
       -- the story of the first at the split is a beginning, and what it was before is a beginning of that
-      knows : (more : List Event) × (now.0.log.story ≡ m.0.log.story ++ more)
-      knows =
-          let first : (more : List Event) × (now.0.log.story ≡ log.story ++ more) =
-          subst {A = Me (Option B) SeatView} (λ x. (more : List Event) × (now.0.log.story ≡ x.0.taken ++ more)) is
-          told.knows in (
-            did.0 ++ first.0,
-            first.1 ∙ ap (λ (x : Log). x.story ++ first.0) did.1 ∙ append_assoc m.0.log.story did.0 first.0,
-          )
-
-      other : m.0.log.number ≢ now.0.log.number
-      other =
-          told.apart m.0.log.number (ap (λ (x : Me (Option B) SeatView). x.0.from) is ∙ ap (λ (x : Log). Some x.number)
-          did.1)
-
-      fresh : deeds now.0.log.number now.0.log.story ≡ []
-      fresh = told.fresh (subst {A = Me (Option B) SeatView} (λ x. x.0.named ≡ false)
-          (sym {A = Me (Option B) SeatView} is) refl)
+      first : (more : List Event) × (now.0.log.story ≡ log.story ++ more)
+      first = subst {A = Me (Option B) SeatView} (λ x. (more : List Event) × (now.0.log.story ≡ x.0.taken ++ more)) is
+          told.knows
 
 -- A join: the other's log was brought up to date (freed), the two were joined (both), and then its own (now)
 module _ {B : Type 0} (t u : TableId) (m o freed both now : Me (Option B) SeatView) (table : u ≡ t)
@@ -357,9 +305,6 @@ module _ {B : Type 0} (t u : TableId) (m o freed both now : Me (Option B) SeatVi
   is : both ≡ (joined_view m.0 (logged freed.0.log (free o.0)), m.1)
   is = joint ∙ ap (λ (x : Me (Option B) SeatView). (joined_view m.0 x.0, m.1)) other.same
 
-  at : (P : Me (Option B) SeatView → Type 0) → P (joined_view m.0 (logged freed.0.log (free o.0)), m.1) → P both
-  at P here = subst {A = Me (Option B) SeatView} P (sym {A = Me (Option B) SeatView} is) here
-
   theirs : Did o.0.log [] freed.0.log
   theirs = let did = other.did second.settled.named in (did.0, did.1, did.2 ∙ second.settled.unsaid)
 
@@ -367,12 +312,10 @@ module _ {B : Type 0} (t u : TableId) (m o freed both now : Me (Option B) SeatVi
   number = ap (λ (x : Log). x.number) theirs.1
 
   has_both : IsSound u now × (now.0.book ≡ joined m.0.book o.0.book)
-  has_both = (
-    sound_now t u both now table told.same (at (λ x. IsLaid t x.0.book.setup) first.laid)
-        (at (λ x. 0 < x.0.book.account.share) (omega (arith, first.share)))
-        told.within told.story,
-    book_now t u both now table told.same ∙ ap (λ (x : Me (Option B) SeatView). x.0.book) is,
-  )
+  has_both =
+      let book : both.0.book ≡ joined m.0.book o.0.book = ap (λ (x : Me (Option B) SeatView). x.0.book) is in
+      sound_now t u both now (joined m.0.book o.0.book) table told.same book first.laid (omega (arith, first.share))
+      (subst (λ (b : Book). IsWithin b.setup b.account) book told.within) told.story
 
   did_join : Did m.0.log (Join o.0.log.number ∷ []) now.0.log
   did_join =
@@ -382,11 +325,10 @@ module _ {B : Type 0} (t u : TableId) (m o freed both now : Me (Option B) SeatVi
 
   ends_other : EndsStory o.0.log now.0.log.story
   ends_other =
-      let named : both.0.named ≡ true = ap (λ (x : Me (Option B) SeatView). x.0.named) is ∙ first.settled.named in
-      let from : both.0.from ≡ Some freed.0.log.number = ap (λ (x : Me (Option B) SeatView). x.0.from) is in
-      let after =
-      subst {A = Me (Option B) SeatView} (λ x. EndsStory (record { number = freed.0.log.number; story = x.0.taken })
-      now.0.log.story) is (told.ended named freed.0.log.number from) in (
+      let ended =
+      subst {A = Me (Option B) SeatView} (λ x. x.0.named ≡ true → (n : ℕ) → x.0.from ≡ Some n
+      → EndsStory (record { number = n; story = x.0.taken }) now.0.log.story) is told.ended in
+      let after = ended first.settled.named freed.0.log.number refl in (
         theirs.0 ++ after.0,
         after.1 ∙ ap (λ (x : Log). x.story ++ after.0) theirs.1 ∙ append_assoc o.0.log.story theirs.0 after.0,
         deeds_on o.0.log.number theirs.0 after.0 ∙ ap (λ ks. ks ++ deeds o.0.log.number after.0) theirs.2
@@ -402,8 +344,7 @@ module _ {B : Type 0} (t u : TableId) (m o freed both now : Me (Option B) SeatVi
 -- its slot is where it was
 pub carries_joined : {B : Type 0} (m o n : Me (Option B) SeatView) → n ≡ (joined_view m.0 o.0, m.1)
     → Carries m → Carries n
-carries_joined {B} m o n is carries =
-    subst {A = Me (Option B) SeatView} Carries (sym {A = Me (Option B) SeatView} is) carries
+carries_joined m o n is carries = moved Carries is carries
 
 -- where the two together have each thing once, they have nothing in common
 pub apart_by : (a b : Account) → HasEachOnce (after_join a b) → AreApart a b

@@ -1,9 +1,10 @@
 -- The words and slots that a pool is made of meet the rule.
 use Rattle.std.proofs.Common.{◌≡◌, ℕ, zero, suc, ◌+◌, ◌%◌, ◌<◌, ◌≤◌, if◌then◌else◌, List, [], ◌∷◌, ◌++◌, length, map}
-use Rattle.std.proofs.Common.{replicate, Option, Some, None, All, set, slice_index, ap, sym, refl, subst, ◌∙◌}
+use Rattle.std.proofs.Common.{replicate, Option, Some, None, All, set, slice_index, ap, sym, refl, subst, ◌∙◌, ⊎_elim}
 use Rattle.std.proofs.Common.{length-set, lt-ltb, le-ltb, arith}
 use Rattle.std.proofs.lemmas.List.{get_or-set_same, get_or-set_other, length-replicate, length-map}
 use Rattle.std.proofs.lemmas.List.Elements.{All-append}
+use Rattle.std.proofs.lemmas.Bool.{cases_lt}
 use mathlib.Core.Option.{some, some-injective, some-ne-none}
 use native.Mathlib.Decide.{dec_le}
 use lib.ListN.{get_elem?}
@@ -29,8 +30,7 @@ use Rattle.buffer_pool.specs.working.Layout.{first_mark, head_word, link_word, m
 use Rattle.buffer_pool.specs.working.Slots.{Reading, IsTied, Rests, slot_of}
 use Rattle.buffer_pool.specs.working.Table.{Rule, cut, marking_of, marks_of}
 use Rattle.buffer_pool.proofs.Bits.{cut_white, white_pair}
-use Rattle.buffer_pool.proofs.States.{agrees, cut_below}
-use Rattle.buffer_pool.proofs.Loads.{nothing_out}
+use Rattle.buffer_pool.proofs.States.{agrees, cut_below, cut_past, nothing_out}
 use Rattle.buffer_pool.proofs.Deeds.{told_now}
 use Rattle.buffer_pool.specs.working.Views.{IsViewOf}
 use Rattle.buffer_pool.proofs.Words.{head_below}
@@ -123,14 +123,11 @@ module _ {B : Type 0} (r : Reading B) (size : ℕ) where
       sym (ap r.size one) ∙ t.3
   slots_sized (s ∷ ss) (suc i) b all at = slots_sized ss i b (λ k d low. all (suc k) d (omega (arith, low))) at
 
--- the one view
-one_view : (w : ℕ) (v u : SeatView) → get_elem? (v ∷ []) w ≡ some u → v ≡ u
-one_view zero v u at = some-injective v u at
-one_view (suc w) v u at = absurd (some-ne-none u (sym at))
-
-one_told : (w : ℕ) (v u : SeatView) → get_elem? (v ∷ []) w ≡ some u → IsViewOf [] 0 v → IsViewOf [] w u
-one_told zero v u at told = subst (IsViewOf [] 0) (some-injective v u at) told
-one_told (suc w) v u at told = absurd (some-ne-none u (sym at))
+-- what holds of the one view holds of each
+only_one : (P : ℕ → SeatView → Type 0) (v : SeatView) → P 0 v → (w : ℕ) (u : SeatView) → get_elem? (v ∷ []) w ≡ some u
+    → P w u
+only_one P v here zero u at = subst (P 0) (some-injective v u at) here
+only_one P v here (suc w) u at = absurd (some-ne-none u (sym at))
 
 -- the empty story leads to the first book
 first_story : (e : Setup) → LeadsToBook first_log (new_book e whole)
@@ -147,20 +144,16 @@ starts {B} r e words slots some_buffer first count all =
       slot_count = length-map slots some ∙ count;
       sized = λ i b at. slots_sized r e.size slots i b all at;
       linked = linked;
-      tied = λ w v at. subst (IsTied words) (one_view w (first_view e) v at)
-          (λ i out. absurd (nothing_out 0 refl i out));
-      rests = λ w v at. subst (Rests (map some slots)) (one_view w (first_view e) v at)
-          (λ i mine out. absurd (omega (arith, mine)));
-      same_setup = λ w v at. subst (λ (x : SeatView). 0 < x.book.account.share → x.book.setup ≡ e)
-          (one_view w (first_view e) v at) (λ h. refl);
+      tied = only_one (λ w v. IsTied words v) (first_view e) (λ i out. absurd (nothing_out 0 refl i out));
+      rests = only_one (λ w v. Rests (map some slots) v) (first_view e) (λ i mine out. absurd (omega (arith, mine)));
+      same_setup = only_one (λ w v. 0 < v.book.account.share → v.book.setup ≡ e) (first_view e) (λ h. refl);
       some_buffer = some_buffer;
       reached =
           record {
             events = [];
             led = record { run = opened; counts = refl };
-            views =
-                λ w v at there. one_told w (first_view e) v at (told_now [] 0 (first_view e) refl refl refl refl refl
-                (first_story e));
+            views = λ w v at there. only_one (IsViewOf []) (first_view e) (told_now [] 0 (first_view e) (first_story e))
+                w v at;
           };
     }
   where
@@ -185,15 +178,13 @@ starts {B} r e words slots some_buffer first count all =
 
     -- past the buffers both have no link
     links : (i : ℕ) → cut e.buffers (λ k. index_of (slice_index words (link_word k))) i ≡ first_link e.buffers i
-    links i = go (dec_le e.buffers i)
+    links i = ⊎_elim (λ low. cut_below e.buffers link i low ∙ linked_first i low)
+        (λ past. cut_past e.buffers link i past
+        ∙ sym (ap (λ t. if t then Some (i + 1) else None) (le-ltb (i + 1) e.buffers (omega (arith, past)))))
+        (cases_lt i e.buffers)
       where
-        go : Dec (e.buffers ≤ i)
-            → cut e.buffers (λ k. index_of (slice_index words (link_word k))) i ≡ first_link e.buffers i
-        go (no below) = cut_below e.buffers (λ k. index_of (slice_index words (link_word k))) i (omega (arith, below))
-            ∙ linked_first i (omega (arith, below))
-        go (yes past) =
-            ap (λ t. if t then index_of (slice_index words (link_word i)) else None) (le-ltb i e.buffers past)
-            ∙ sym (ap (λ t. if t then Some (i + 1) else None) (le-ltb (i + 1) e.buffers (omega (arith, past))))
+        link : ℕ → Option ℕ
+        link k = index_of (slice_index words (link_word k))
 
     white : (o : ℕ) → marks_of e words o ≡ 0
     white o =

@@ -16,26 +16,19 @@ own :
     (g : given.Over) (c : goal.After-mark_place g)
     → c.mark_word.result ≡ mark_word c.args.seat.now.me.0.book.setup c.args.object
 own g c =
-    own_word c.args.seat.now.table_id c.args.words.now.table_id (setup_of c.args.words.now.key)
-    c.args.seat.now.me.0.book.setup c.requires.table.same c.requires.table.laid c.requires.sound.laid c.args.buffers
-    c.args.object c.mark_word.result c.requires.buffers c.mark_word.ensures
+    own_word c.requires.table c.requires.sound c.args.buffers c.args.object c.mark_word.result c.requires.buffers
+    c.mark_word.ensures
 
 pub fetch_or-word-requires : goal.fetch_or-word-requires
 fetch_or-word-requires g c =
-    let z = c.args.words.now.table_id in
-    let e = setup_of c.args.words.now.key in
-    let me = c.args.seat.now.me in
-    let id = c.args.seat.now.id in
-    let object = c.args.object in
-    let table = c.requires.table in
+    let seat = c.args.seat.now in
     let sound = c.requires.sound in
-    let below =
-    claimable_within c.args.seat.now.table_id me.0.book.setup me.0.book.account object sound.laid c.requires.can in
-    sets_pair c.args.seat.now.table_id z e me.0.book.setup table.same table.laid sound.laid c.args.buffers object
-    c.mark_word.result c.requires.buffers c.mark_word.ensures buffer_reading id me 1 c.pair_bits.result c.pair_bits.ensures
-    below claim_made
-    (claims buffer_reading e z.slots id me object sound.carries sound.share sound.settled c.requires.can
-    c.requires.busy below)
+    let book = seat.me.0.book in
+    let below = claimable_within seat.table_id book.setup book.account c.args.object sound.laid c.requires.can in
+    sets_pair c.requires.table sound c.args.buffers c.args.object c.mark_word.result c.requires.buffers
+    c.mark_word.ensures buffer_reading 1 c.pair_bits.result c.pair_bits.ensures below claim_made
+    (claims buffer_reading (setup_of c.args.words.now.key) c.args.words.now.table_id.slots seat.id seat.me sound
+    c.args.object c.requires.can c.requires.busy below)
 
 pub returns-clause-sound : goal.returns-clause-sound
 returns-clause-sound g c =

@@ -15,25 +15,18 @@ own :
     (g : given.Over) (c : goal.After-fetch_or g)
     → c.mark_word.result ≡ mark_word c.args.seat.now.me.0.book.setup c.args.object
 own g c =
-    own_word c.args.seat.now.table_id c.args.words.now.table_id (setup_of c.args.words.now.key)
-    c.args.seat.now.me.0.book.setup c.requires.table.same c.requires.table.laid c.requires.sound.laid c.args.buffers
-    c.args.object c.mark_word.result c.requires.buffers c.mark_word.ensures
+    own_word c.requires.table c.requires.sound c.args.buffers c.args.object c.mark_word.result c.requires.buffers
+    c.mark_word.ensures
 
 pub fetch_or-requires : goal.fetch_or-requires
 fetch_or-requires g c =
-    let z = c.args.words.now.table_id in
-    let e = setup_of c.args.words.now.key in
-    let me = c.args.seat.now.me in
-    let id = c.args.seat.now.id in
-    let object = c.args.object in
-    let table = c.requires.table in
+    let seat = c.args.seat.now in
     let sound = c.requires.sound in
-    let below = sound.within.charge object c.requires.can.0 in
-    sets_pair c.args.seat.now.table_id z e me.0.book.setup table.same table.laid sound.laid c.args.buffers object
-    c.mark_word.result c.requires.buffers c.mark_word.ensures buffer_reading id me 3 c.pair_bits.result c.pair_bits.ensures
-    below finish_made
-    (finishes buffer_reading e z.slots id me object sound.carries sound.share sound.settled c.requires.can
-    below)
+    let below = sound.within.charge c.args.object c.requires.can.0 in
+    sets_pair c.requires.table sound c.args.buffers c.args.object c.mark_word.result c.requires.buffers
+    c.mark_word.ensures buffer_reading 3 c.pair_bits.result c.pair_bits.ensures below finish_made
+    (finishes buffer_reading (setup_of c.args.words.now.key) c.args.words.now.table_id.slots seat.id seat.me sound
+    c.args.object c.requires.can below)
 
 pub returns-clause-sound : goal.returns-clause-sound
 returns-clause-sound g c =

@@ -5,21 +5,18 @@ use Rattle.atomic_table.specs.Table.{step}
 use Rattle.mark_core.specs.declared.which.Which.TheVariants.{Full, Empty}
 use Rattle.buffer_pool.specs.working.Buffers.{buffer_reading}
 use Rattle.buffer_pool.specs.working.Plays.{top_put}
-use Rattle.buffer_pool.specs.working.Setups.{setup_of}
 use Rattle.buffer_pool.proofs.Pushes.{may_put}
 use Rattle.buffer_pool.proofs.pool.head_exchange.exchange_for_buffer.Goals as goal
 
 pub compare_exchange-requires : goal.compare_exchange-requires
 compare_exchange-requires g c =
-    may_put buffer_reading (setup_of c.args.words.now.key) c.args.words.now.table_id c.args.seat.now.id
-    c.args.seat.now.table_id c.args.seat.now.me c.args.which Full c.args.old c.args.new c.head_word-word.result
-    c.requires.table.same c.requires.table.laid c.head_word-word.ensures c.requires.put c.in-Full.is
+    may_put buffer_reading c.requires.table c.args.which Full c.args.old c.args.new c.head_word-word.result
+    c.head_word-word.ensures c.requires.put c.in-Full.is
 
 pub compare_exchange-requires-in-Empty : goal.compare_exchange-requires-in-Empty
 compare_exchange-requires-in-Empty g c =
-    may_put buffer_reading (setup_of c.args.words.now.key) c.args.words.now.table_id c.args.seat.now.id
-    c.args.seat.now.table_id c.args.seat.now.me c.args.which Empty c.args.old c.args.new c.head_word-word.result
-    c.requires.table.same c.requires.table.laid c.head_word-word.ensures c.requires.put c.in-Empty.is
+    may_put buffer_reading c.requires.table c.args.which Empty c.args.old c.args.new c.head_word-word.result
+    c.head_word-word.ensures c.requires.put c.in-Empty.is
 
 pub returns-in-Full-clause-exchanges : goal.returns-in-Full-clause-exchanges
 returns-in-Full-clause-exchanges g c =

@@ -24,8 +24,7 @@ load-requires g c =
       omega (arith, c.head_word.ensures, small, c.requires.table.laid.words),
       subst (λ x. Allows (Rule buffer_reading e) z.slots c.args.seat.now.id me x (λ n. n)
           (head_seen (step z.slots x 0 0 none) me)) (sym c.head_word.ensures)
-          (sees_head buffer_reading e z.slots c.args.seat.now.id me c.args.which c.requires.sound.carries
-          c.requires.sound.share c.requires.sound.settled),
+          (sees_head buffer_reading e z.slots c.args.seat.now.id me c.requires.sound c.args.which),
     )
 
 pub returns : goal.returns

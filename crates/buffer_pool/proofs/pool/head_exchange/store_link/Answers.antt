@@ -24,8 +24,7 @@ store-requires g c =
     let low = low_small c.args.head.index me.0.book.setup.buffers c.requires.within in (
       c.requires.table.same,
       omega (arith, below, same, c.requires.table.laid.words),
-      stores buffer_reading e z.slots c.args.seat.now.id me c.args.index c.link_to.result c.requires.sound.0.carries
-          c.requires.sound.0.share c.requires.sound.0.settled
+      stores buffer_reading e z.slots c.args.seat.now.id me c.requires.sound.0 c.args.index c.link_to.result
           (stands_times me.0.book.account.held c.args.index c.requires.held)
           (omega (arith, low, same, c.link_to.ensures)),
     )

@@ -1,8 +1,10 @@
 -- The exchange pops or has failed, and the slot that it took has the buffer.
-use Rattle.std.proofs.Common.{◌==◌, ◌<◌, ◌∷◌, sym, subst, ap, ◌∙◌, Option, Some, arith}
+use Rattle.std.proofs.Common.{◌==◌, ◌∷◌, sym, subst, ap, ◌∙◌, Some, arith}
 use mathlib.Core.Option.{none}
 use prog.Atomic.{either}
-use Rattle.tagged_index.specs.Head.{Head, head_of, after, last_tag}
+use Rattle.tagged_index.specs.Head.{Head, head_of, after}
+use Rattle.mark_core.specs.Account.{look_of}
+use Rattle.mark_core.specs.Events.{CanPop}
 use Rattle.atomic_table.specs.Table.{Allows, step, rest}
 use Rattle.buffer_pool.specs.working.Buffers.{buffer_reading}
 use Rattle.buffer_pool.specs.working.Plays.{top_taken}
@@ -27,12 +29,11 @@ compare_exchange-requires g c =
           (λ n. either (n == c.word-word.result) c.word.result n)
           (top_taken buffer_reading (step z.slots x c.word-word.result c.word.result none) me))
           (sym c.head_word.ensures)
-          (pops buffer_reading e z.slots c.args.seat.now.id me q c.word-word.result c.word.result c.args.index next.0
-          c.requires.sound.0.carries c.requires.sound.0.share c.requires.sound.0.settled
-          (c.requires.popping.0.0 ∙ ap {B = Option Head} Some (sym spelled))
-          (subst (λ (h : Head). h.tag < last_tag) (sym spelled) c.requires.popping.0.1)
+          (pops buffer_reading e z.slots c.args.seat.now.id me c.requires.sound.0 q c.word-word.result c.word.result
+          c.args.index next.0
+          (subst (λ h. CanPop h (look_of me.0.book.account q)) (sym spelled) c.requires.popping) c.requires.busy
           (ap (λ (h : Head). h.index) spelled ∙ c.requires.index) next.1
-          (c.word.ensures.spelled ∙ next.2 ∙ ap (λ (h : Head). after h next.0) (sym spelled)) c.requires.busy),
+          (c.word.ensures.spelled ∙ next.2 ∙ ap (λ (h : Head). after h next.0) (sym spelled))),
     )
 
 pub exchange-requires : goal.exchange-requires

@@ -1,22 +1,13 @@
 -- The step keeps the rule, and is the event.
-use Rattle.std.proofs.Common.{refl, arith}
+use Rattle.std.proofs.Common.{refl}
 use Rattle.buffer_pool.specs.Book.{idle_loaded}
 use Rattle.buffer_pool.specs.working.Buffers.{buffer_reading}
-use Rattle.buffer_pool.specs.working.Setups.{setup_of}
 use Rattle.buffer_pool.proofs.Idles.{sees_idle}
 use Rattle.buffer_pool.proofs.Sound.{sound_after, sound_looked}
 use Rattle.buffer_pool.proofs.pool.idle.load_idle.Goals as goal
 
 pub load-requires : goal.load-requires
-load-requires g c =
-    let z = c.args.words.now.table_id in
-    let me = c.args.seat.now.me in
-    let sound = c.requires.sound in (
-      c.requires.table.same,
-      omega (arith, c.requires.table.laid.words),
-      sees_idle buffer_reading (setup_of c.args.words.now.key) z.slots c.args.seat.now.id me sound.carries sound.share
-          sound.settled,
-    )
+load-requires g c = sees_idle buffer_reading c.requires.table c.requires.sound
 
 pub returns-clause-sound : goal.returns-clause-sound
 returns-clause-sound g c =

@@ -20,7 +20,7 @@ compare_exchange-requires g c = (
   c.requires.table,
   omega (arith, c.requires.sound.laid.words, ap (λ (t : TableId). t.words) c.requires.table),
   sets_aside buffer_reading (setup_of c.args.words.now.key) c.args.words.now.table_id.slots c.args.seat.now.id
-      c.args.seat.now.me 0 c.args.units c.requires.sound.carries c.requires.sound.share c.requires.sound.settled,
+      c.args.seat.now.me c.requires.sound 0 c.args.units,
 )
 
 pub split_seat-other-requires : goal.split_seat-other-requires

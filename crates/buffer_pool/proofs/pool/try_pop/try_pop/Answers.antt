@@ -2,7 +2,7 @@
 use Rattle.std.proofs.Common.{◌≡◌, ◌<◌, refl, sym, subst, ◌∙◌}
 use Rattle.mark_core.specs.World.{Setup}
 use Rattle.buffer_pool.specs.Book.{failed}
-use Rattle.buffer_pool.proofs.Loads.{setup_loaded}
+use Rattle.buffer_pool.proofs.Loads.{is_loaded}
 use Rattle.mark_core.specs.Events.{Load, LoadLink, Pop, Fail}
 use Rattle.buffer_pool.proofs.Deeds.{did_three}
 use Rattle.buffer_pool.proofs.Sound.{bare_rested, sound_after, sound_as, sound_linked, sound_looked, sound_popped}
@@ -46,7 +46,7 @@ returns-in-Some-take_top-clause-sound g c =
     let taken = c.in-Some-take_top.ensures.takes in
     let setup : two.me.0.book.setup ≡ me.0.book.setup = (λ k. (c.load_link-link.ensures.rests.same k).0.book.setup)
     ∙ (λ k. (c.load_head-head.ensures.rests.same k).0.book.setup)
-    ∙ setup_loaded c.args.which c.load_head-head.result me.0.book in
+    ∙ (is_loaded c.args.which c.load_head-head.result me.0.book).setup in
     let below = subst (λ (e : Setup). c.in-Some.index < e.buffers) (sym setup)
     (c.load_head-head.ensures.within c.in-Some.index (sym c.in-Some.ensures.same)) in
     sound_as {n = three.me}

@@ -8,7 +8,7 @@ use Rattle.mark_core.proofs.Sums.{stands_times}
 use Rattle.buffer_pool.specs.Book.{failed}
 use Rattle.buffer_pool.specs.Calls.{HeldBuffer}
 use Rattle.buffer_pool.specs.working.Views.{logged}
-use Rattle.buffer_pool.proofs.Loads.{held_loaded, charge_loaded}
+use Rattle.buffer_pool.proofs.Loads.{is_loaded}
 use Rattle.mark_core.specs.Events as events
 use Rattle.mark_core.specs.Events.{Kind}
 use Rattle.buffer_pool.specs.WorkerLog.{Did, Log}
@@ -62,10 +62,10 @@ returns-in-Ok-clause-sound g c =
     let two = c.store_link.new.seat in
     let held : two.me.0.book.account.held ≡ me.0.book.account.held =
     (λ k. (c.store_link.ensures.takes_out k).0.book.account.held)
-    ∙ (λ k. (c.load_head-head.ensures.rests.same k).0.book.account.held) ∙ held_loaded q head me.0.book in
+    ∙ (λ k. (c.load_head-head.ensures.rests.same k).0.book.account.held) ∙ (is_loaded q head me.0.book).held in
     let charge : two.me.0.book.account.charge ≡ me.0.book.account.charge =
     (λ k. (c.store_link.ensures.takes_out k).0.book.account.charge)
-    ∙ (λ k. (c.load_head-head.ensures.rests.same k).0.book.account.charge) ∙ charge_loaded q head me.0.book in
+    ∙ (λ k. (c.load_head-head.ensures.rests.same k).0.book.account.charge) ∙ (is_loaded q head me.0.book).charge in
     let mine = subst (λ xs. 0 < times h.index xs) (sym held)
     (stands_times me.0.book.account.held h.index c.requires.may.held) in
     let part = subst (λ xs. IsPart h.items xs) (sym charge) c.requires.may.charged in
