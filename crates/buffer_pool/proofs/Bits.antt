@@ -3,12 +3,9 @@ use Rattle.std.proofs.Common.{◌≡◌, ◌≢◌, ◌⊎◌, ◌↔◌, ℕ, s
 use Rattle.std.proofs.Common.{Bool, true, false, nat_lt, if◌then◌else◌, bit_and, bit_or, ap, sym, refl, ◌∙◌, inl, inr}
 use Rattle.std.proofs.Common.{⊎_elim, eq-eqb, eqb-true, lt-ltb, le-ltb, pow_pos, pow_mono, pow-add, shr-shr}
 use Rattle.std.proofs.Common.{mod-eq_of_lt, mul-le-mul_right, suc-mul, w64, arith}
-use Rattle.std.proofs.lemmas.Bool.{cases_lt}
-use Rattle.std.proofs.lemmas.Nat.Bits.{bit_at_or, bit_at_cat_low, bit_at_cat_high, bit_at_above, bit_at-zero}
-use Rattle.std.proofs.lemmas.Nat.Bits.{bit_at-lt, bit_at_not, shr_and_one}
+use Rattle.buffer_pool.proofs.Terms.{cases_lt, bit_at_or, bit_at_cat_low, bit_at_cat_high, bit_at_above, bit_at-zero}
+use Rattle.buffer_pool.proofs.Terms.{bit_at-lt, bit_at_not, shr_and_one, ℕ_discrete, cut_marks, mark_of, pair_mark}
 use Rattle.std.specs.Int.{bit_at, bit_not}
-use native.Mathlib.Decide.{ℕ_discrete}
-use Rattle.buffer_pool.specs.working.MarkBits.{cut_marks, mark_of, pair_mark}
 
 no_more : (x : ℕ) → x ≡ x + 0
 no_more x = omega arith

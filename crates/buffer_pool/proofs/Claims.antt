@@ -1,36 +1,18 @@
 -- Claims and finishes keep the rule, and are the events of those names.
 use Rattle.std.proofs.Common.{◌≡◌, ℕ, ◌+◌, ◌/◌, ◌%◌, ◌<◌, ◌≤◌, max, bit_or, [], ◌∷◌, map, List, Option, set}
 use Rattle.std.proofs.Common.{slice_index, ap, sym, refl, subst, subst₂, ◌∙◌, ⊎_elim, length-set, arith}
-use Rattle.std.proofs.lemmas.List.Elements.{All-contains}
+use Rattle.buffer_pool.proofs.Terms.{All-contains, none, TableId, State, Me, Step, Allows, step, keeps, head_of}
+use Rattle.buffer_pool.proofs.Terms.{index_of, Account, after_claim, Setup, Marking, put, Kind, Claim, Finish, CanClaim}
+use Rattle.buffer_pool.proofs.Terms.{CanFinish, IsBusy, effect, counted, linear, SeatView, claimed, finished, RestsWith}
+use Rattle.buffer_pool.proofs.Terms.{claim_made, finish_made, IsLaid, IsSound, SitsAt, setup_of, Key, Seat, Shared}
+use Rattle.buffer_pool.proofs.Terms.{mark_in, pair_bits, pair_mark, first_mark, link_word, mark_word, Reading, free}
+use Rattle.buffer_pool.proofs.Terms.{Rule, marking_of, view_counts, logged, has_each_once}
 use Rattle.std.specs.Int.{bit_at}
-use mathlib.Core.Option.{none}
-use Rattle.atomic_table.specs.Seated.{TableId}
-use Rattle.atomic_table.specs.Table.{State, Me, Step, Allows, step, keeps}
-use Rattle.tagged_index.specs.Head.{head_of, index_of}
-use Rattle.mark_core.specs.Account.{Account, after_claim}
-use Rattle.mark_core.specs.World.{Setup, Marking, put}
-use Rattle.mark_core.specs.Events.{Kind, Claim, Finish, CanClaim, CanFinish, IsBusy, effect}
 use Rattle.mark_core.specs.Events as may
-use Rattle.mark_core.specs.Counts.{counted}
-use Rattle.mark_core.proofs.Colours.{linear}
-use Rattle.buffer_pool.specs.declared.seat_view.SeatView.{SeatView}
-use Rattle.buffer_pool.specs.Book.{claimed, finished}
-use Rattle.buffer_pool.specs.working.Plays.{RestsWith, claim_made, finish_made}
-use Rattle.buffer_pool.specs.working.BetweenCalls.{IsLaid, IsSound, SitsAt}
-use Rattle.buffer_pool.specs.working.Setups.{setup_of}
-use Rattle.buffer_pool.specs.declared.key.Key.{Key}
-use Rattle.atomic_table.specs.declared.shared.Seat.{Seat}
-use Rattle.atomic_table.specs.declared.shared.Shared.{Shared}
-use Rattle.buffer_pool.specs.working.MarkBits.{mark_in, pair_bits, pair_mark}
-use Rattle.buffer_pool.specs.working.Layout.{first_mark, link_word, mark_word}
-use Rattle.buffer_pool.specs.working.Slots.{Reading, free}
-use Rattle.buffer_pool.specs.working.Table.{Rule, marking_of, view_counts}
 use Rattle.buffer_pool.proofs.Bits.{cut_object, mark_claimed, mark_finished, one_pair}
 use Rattle.buffer_pool.proofs.States.{Seated, left, agrees, lawful, cut_same, accounts_set, counts_same, rests_after}
 use Rattle.buffer_pool.proofs.States.{log_after, own_setup, seat_has, stands, freed}
-use Rattle.buffer_pool.specs.working.Views.{logged}
 use Rattle.buffer_pool.proofs.Loads.{noted}
-use Rattle.mark_core.proofs.Closing.{has_each_once}
 use Rattle.buffer_pool.proofs.Words.{head_beside_mark, idle_beside_mark, link_beside_mark, marks_after, raised}
 use Rattle.buffer_pool.proofs.Words.{raised_words}
 
@@ -103,8 +85,8 @@ module _ {B : Type 0} (r : Reading B) (e : Setup) (slots id : ℕ) (me : Me (Opt
       λ k. record m { mark = put o (max (seen k) 1) m.mark; accounts = set m.accounts id (after_claim o (seen k) a) } in
       let words = raised_words e s.words o 1 in
       let rule : Rule r e (left s words s.homes id (logged (log_after at (Claim o)) u)) =
-      marked at refl o 1 (max found 1) u (Claim o) (omega arith) below (mark_claimed n (o % 32) known) refl refl refl refl
-      (subst (λ (g : Setup). CanClaim g o a) (own_setup at) can, busy) is_effect refl in (
+      marked at refl o 1 (max found 1) u (Claim o) (omega arith) below (mark_claimed n (o % 32) known) refl refl refl
+      refl (subst (λ (g : Setup). CanClaim g o a) (own_setup at) can, busy) is_effect refl in (
         logged (log_after at (Claim o)) u,
         keeps,
         tt,

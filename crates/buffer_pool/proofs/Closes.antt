@@ -1,33 +1,11 @@
 -- What holds of the last state of a pool that is closed.
 use Rattle.std.proofs.Common.{◌≡◌, ℕ, ◌+◌, ◌/◌, ◌%◌, ◌<◌, ◌≤◌, false, List, [], length, map, Contains, Option}
 use Rattle.std.proofs.Common.{slice_index, ap, sym, subst, ◌∙◌, ⊎_elim, arith}
-use Rattle.std.proofs.lemmas.Bool.{cases_lt}
-use Rattle.std.proofs.lemmas.List.{get_or_past}
-use Rattle.std.proofs.lemmas.List.FromFn.{get_or-map-range_with_len, length-map-range_with_len}
-use mathlib.Core.Option.{some}
-use lib.ListN.{get_elem?}
-use Rattle.mark_core.proofs.Places.{at_get_or}
-use Rattle.atomic_table.specs.Table.{Final, Seen}
-use Rattle.atomic_table.proofs.Lists.{at_map}
-use Rattle.mark_core.specs.declared.which.Which.TheVariants.{Full}
-use Rattle.mark_core.specs.Lists.{StandsAt, times}
-use Rattle.mark_core.specs.World.{Setup, Marking}
-use Rattle.mark_core.specs.Counts.{Counts, LeadTo}
-use Rattle.mark_core.specs.Law.{Law}
-use Rattle.mark_core.specs.Shares.{whole}
-use Rattle.mark_core.specs.Runs.{IsClosed, LiesIn}
-use Rattle.mark_core.proofs.Colours.{linear}
-use Rattle.mark_core.proofs.Closing.{closes}
-use Rattle.mark_core.proofs.Counting.{lawful_where}
-use Rattle.buffer_pool.specs.declared.seat_view.SeatView.{SeatView}
-use Rattle.buffer_pool.specs.Book.{Book, counts_of}
-use Rattle.buffer_pool.specs.Closing.{IsAtTheEnd, MarksTell}
-use Rattle.buffer_pool.specs.WorkerLog.{deeds}
-use Rattle.buffer_pool.specs.working.Views.{HasSaidAll, IsViewOf}
-use Rattle.buffer_pool.specs.working.MarkBits.{mark_in, marks_in, pair_mark}
-use Rattle.buffer_pool.specs.working.Layout.{first_mark}
-use Rattle.buffer_pool.specs.working.Slots.{Reading}
-use Rattle.buffer_pool.specs.working.Table.{Rule, marking_of, view_counts}
+use Rattle.buffer_pool.proofs.Terms.{cases_lt, get_or_past, get_or-map-range_with_len, length-map-range_with_len, some}
+use Rattle.buffer_pool.proofs.Terms.{get_elem?, at_get_or, Final, Seen, at_map, Full, StandsAt, times, Setup, Marking}
+use Rattle.buffer_pool.proofs.Terms.{Counts, LeadTo, Law, whole, IsClosed, LiesIn, linear, closes, lawful_where}
+use Rattle.buffer_pool.proofs.Terms.{SeatView, Book, counts_of, IsAtTheEnd, MarksTell, deeds, HasSaidAll, IsViewOf}
+use Rattle.buffer_pool.proofs.Terms.{mark_in, marks_in, pair_mark, first_mark, Reading, Rule, marking_of, view_counts}
 use Rattle.buffer_pool.proofs.Bits.{cut_object, cut_past}
 use Rattle.buffer_pool.proofs.States.{stands}
 

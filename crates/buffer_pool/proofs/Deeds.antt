@@ -1,16 +1,10 @@
 -- What the workers did, in stretches of a story; and each view is told of one event more.
-use Rattle.std.proofs.Common.{◌≡◌, ◌≢◌, ℕ, ◌<◌, ◌==◌, Bool, if◌then◌else◌, true, false, List, [], ◌∷◌, ◌++◌, length, Option, Some, None}
-use Rattle.std.proofs.Common.{set, ap, sym, refl, subst, ◌∙◌, ⊎_elim, eq-eqb, ne_eqb, length-append, arith}
-use Rattle.std.proofs.lemmas.Bool.{false≢true}
-use Rattle.std.proofs.lemmas.List.{append_assoc, append-nil}
-use mathlib.Core.Option.{some}
-use lib.ListN.{get_elem?}
-use Rattle.mark_core.specs.Events.{Event, Kind, Join}
-use Rattle.buffer_pool.specs.declared.seat_view.SeatView.{SeatView}
-use Rattle.buffer_pool.specs.WorkerLog.{Log, Did, LeadsToBook, deeds}
-use Rattle.buffer_pool.specs.working.Slots.{free}
-use Rattle.buffer_pool.specs.working.Views.{AreViewsOf, IsTakenIn, IsViewOf, logged}
-use Rattle.atomic_table.proofs.Lists.{at_set}
+use Rattle.std.proofs.Common.{◌≡◌, ◌≢◌, ℕ, ◌<◌, ◌==◌, Bool, if◌then◌else◌, true, false, List, [], ◌∷◌, ◌++◌, length}
+use Rattle.std.proofs.Common.{Option, Some, None, set, ap, sym, refl, subst, ◌∙◌, ⊎_elim, eq-eqb, ne_eqb, length-append}
+use Rattle.std.proofs.Common.{arith}
+use Rattle.buffer_pool.proofs.Terms.{false≢true, append_assoc, append-nil, some, get_elem?, Event, Kind, Join, SeatView}
+use Rattle.buffer_pool.proofs.Terms.{Log, Did, LeadsToBook, deeds, free, AreViewsOf, IsTakenIn, IsViewOf, logged}
+use Rattle.buffer_pool.proofs.Terms.{at_set}
 
 -- of two stretches
 pub deeds_on : (w : ℕ) (xs ys : List Event) → deeds w (xs ++ ys) ≡ deeds w xs ++ deeds w ys

@@ -1,18 +1,8 @@
 -- A worker's story leads to a lawful marking. Of its finished objects each can be reached, so it is an object, and none
 -- was finished twice: so they are no more than there are, and their number is small.
 use Rattle.std.proofs.Common.{◌≡◌, ℕ, ◌<◌, ◌≤◌, [], ◌∷◌, length, arith}
-use Rattle.std.proofs.lemmas.List.Elements.{All-contains}
-use Rattle.atomic_table.specs.Seated.{TableId}
-use Rattle.mark_core.specs.Colours.{IsReachableIn}
-use Rattle.mark_core.specs.Law.{Law}
-use Rattle.mark_core.specs.World.{Setup}
-use Rattle.mark_core.specs.Lists.{times}
-use Rattle.mark_core.proofs.Closing.{has_each_once}
-use Rattle.mark_core.proofs.Counting.{lawful_where}
-use Rattle.mark_core.proofs.Finished.{finished_few}
-use Rattle.buffer_pool.specs.Book.{Book}
-use Rattle.buffer_pool.specs.WorkerLog.{LeadsToBook, Log}
-use Rattle.buffer_pool.specs.working.BetweenCalls.{IsLaid}
+use Rattle.buffer_pool.proofs.Terms.{All-contains, TableId, IsReachableIn, Law, Setup, times, has_each_once}
+use Rattle.buffer_pool.proofs.Terms.{lawful_where, finished_few, Book, LeadsToBook, Log, IsLaid}
 
 -- what a path of references leads to is an object
 reached_within : (t : TableId) (e : Setup) → IsLaid t e → (o : ℕ) → IsReachableIn e o → o < e.objects

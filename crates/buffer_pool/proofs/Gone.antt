@@ -1,20 +1,11 @@
 -- An account that was taken in does nothing any more.
 use Rattle.std.proofs.Common.{◌≡◌, ◌≢◌, ℕ, zero, suc, List, [], ◌∷◌, ◌++◌, Option, Some, None, set, ap, sym, refl}
 use Rattle.std.proofs.Common.{subst, ◌∙◌, ne_eqb, cond, arith}
-use Rattle.std.proofs.lemmas.List.{append_assoc}
-use mathlib.Core.Option.{some-ne-none}
-use native.Mathlib.Decide.{ℕ_discrete}
-use Rattle.atomic_table.proofs.Lists.{set_here, set_else}
-use Rattle.mark_core.specs.declared.which.Which.{Which}
-use Rattle.mark_core.specs.Lists.{StandsAt}
-use Rattle.mark_core.specs.Account.{Account, look_of, part, no_share, after_split, after_join}
-use Rattle.mark_core.specs.World.{Setup, Marking, account_at, IsThere}
-use Rattle.mark_core.specs.Events.{Event, Kind, Claim, Finish, Split, Join, Load, LoadLink, StoreLink, Pop, Push, Fail}
-use Rattle.mark_core.specs.Events.{IdleUp, IdleDown, LoadIdle, effect, happens, stack_popped}
-use Rattle.mark_core.specs.Runs.{Run}
-use Rattle.mark_core.proofs.Places.{at_below, at_one}
-use Rattle.buffer_pool.specs.WorkerLog.{EndsStory, deeds}
-use Rattle.buffer_pool.specs.working.Views.{IsTakenIn}
+use Rattle.buffer_pool.proofs.Terms.{append_assoc, some-ne-none, ℕ_discrete, set_here, set_else, Which, StandsAt}
+use Rattle.buffer_pool.proofs.Terms.{Account, look_of, part, no_share, after_split, after_join, Setup, Marking}
+use Rattle.buffer_pool.proofs.Terms.{account_at, IsThere, Event, Kind, Claim, Finish, Split, Join, Load, LoadLink}
+use Rattle.buffer_pool.proofs.Terms.{StoreLink, Pop, Push, Fail, IdleUp, IdleDown, LoadIdle, effect, happens}
+use Rattle.buffer_pool.proofs.Terms.{stack_popped, Run, at_below, at_one, EndsStory, deeds, IsTakenIn}
 use Rattle.buffer_pool.proofs.Deeds.{deeds_on}
 
 -- an account without a share

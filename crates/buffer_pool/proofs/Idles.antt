@@ -1,27 +1,13 @@
 -- Going idle, coming back and looking at the idle word keep the rule, and are the events of those names.
-use Rattle.std.proofs.Common.{◌≡◌, ℕ, ◌<◌, nat_lt, if◌then◌else◌, [], ◌∷◌, map, length-set, List, Option, None, set, slice_index, ap}
-use Rattle.std.proofs.Common.{sym, refl, subst, ◌∙◌, arith}
-use mathlib.Core.Option.{none}
-use Rattle.atomic_table.specs.Table.{State, Me, Allows, step, keeps}
-use Rattle.tagged_index.specs.Head.{head_of, index_of}
-use Rattle.mark_core.specs.World.{Setup, Marking}
-use Rattle.mark_core.specs.Events.{Kind, IdleUp, IdleDown, LoadIdle, CanIdle, CanWake, effect, word_up, word_down}
+use Rattle.std.proofs.Common.{◌≡◌, ℕ, ◌<◌, nat_lt, if◌then◌else◌, [], ◌∷◌, map, length-set, List, Option, None, set}
+use Rattle.std.proofs.Common.{slice_index, ap, sym, refl, subst, ◌∙◌, arith}
+use Rattle.buffer_pool.proofs.Terms.{none, State, Me, Allows, step, keeps, head_of, index_of, Setup, Marking, Kind}
+use Rattle.buffer_pool.proofs.Terms.{IdleUp, IdleDown, LoadIdle, CanIdle, CanWake, effect, word_up, word_down, Counts}
+use Rattle.buffer_pool.proofs.Terms.{counted, count_load_idle, SeatView, Book, counts_of, idled, woken, idle_loaded}
+use Rattle.buffer_pool.proofs.Terms.{Shows, RestsWith, went_idle, came_back, idle_seen, idle_word, Reading, free, Rule}
+use Rattle.buffer_pool.proofs.Terms.{marking_of, view_counts, logged, IsSound, SitsAt, setup_of, Key, Seat, Shared}
+use Rattle.buffer_pool.proofs.Terms.{TableId}
 use Rattle.mark_core.specs.Events as may
-use Rattle.mark_core.specs.Counts.{Counts, counted, count_load_idle}
-use Rattle.buffer_pool.specs.declared.seat_view.SeatView.{SeatView}
-use Rattle.buffer_pool.specs.Book.{Book, counts_of, idled, woken, idle_loaded}
-use Rattle.buffer_pool.specs.Calls.{Shows}
-use Rattle.buffer_pool.specs.working.Plays.{RestsWith, went_idle, came_back, idle_seen}
-use Rattle.buffer_pool.specs.working.Layout.{idle_word}
-use Rattle.buffer_pool.specs.working.Slots.{Reading, free}
-use Rattle.buffer_pool.specs.working.Table.{Rule, marking_of, view_counts}
-use Rattle.buffer_pool.specs.working.Views.{logged}
-use Rattle.buffer_pool.specs.working.BetweenCalls.{IsSound, SitsAt}
-use Rattle.buffer_pool.specs.working.Setups.{setup_of}
-use Rattle.buffer_pool.specs.declared.key.Key.{Key}
-use Rattle.atomic_table.specs.declared.shared.Seat.{Seat}
-use Rattle.atomic_table.specs.declared.shared.Shared.{Shared}
-use Rattle.atomic_table.specs.Seated.{TableId}
 use Rattle.buffer_pool.proofs.States.{left, agrees, accounts_set, counts_same, counts_changed, happened_led}
 use Rattle.buffer_pool.proofs.States.{written_again, own_setup, rests_after, log_after, freed}
 use Rattle.buffer_pool.proofs.Loads.{noted}
@@ -52,8 +38,8 @@ idle_changes {B} r e slots id me sound kind f b share held setup counts can is_e
     (marks_beside_idle e s.words x) refl (idle_here e s.words x (omega (arith, at.rule.word_count)))
     (accounts_set s.views id w) in
     let rule : Rule r e t =
-    noted at refl kind (can m) words u (length-set s.words idle_word x) (λ i h. link_beside_idle e s.words x i) refl held
-    setup (changed ∙ sym (is_effect m)) (counts_same at w counts ∙ sym (is_counted m (map view_counts s.views))) in
+    noted at refl kind (can m) words u (length-set s.words idle_word x) (λ i h. link_beside_idle e s.words x i) refl
+    held setup (changed ∙ sym (is_effect m)) (counts_same at w counts ∙ sym (is_counted m (map view_counts s.views))) in
     (w, keeps, tt, rule, rests_after me at sound.settled kind b words (omega (arith, share, at.there)) rule))
 
 -- so the idle word may be changed and loaded

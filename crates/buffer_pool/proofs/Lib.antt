@@ -1,3 +1,4 @@
+pub mod Terms
 pub mod Deeds
 pub mod Newcomers
 pub mod Gone

@@ -1,39 +1,15 @@
 -- Loads keep the rule, and tell what was loaded. So do the steps that change nothing.
-use Rattle.std.proofs.Common.{◌≡◌, ℕ, ◌+◌, ◌<◌, ◌≤◌, ◌==◌, List, [], ◌∷◌, length, map, Option, Some}
-use Rattle.std.proofs.Common.{set, slice_index, slice_set, ap, sym, refl, subst, ◌∙◌, arith}
-use mathlib.Core.Option.{none}
-use prog.Atomic.{either}
-use Rattle.atomic_table.specs.Seated.{TableId}
-use Rattle.atomic_table.specs.Table.{State, Me, Allows, step, keeps}
-use Rattle.atomic_table.proofs.Lists.{exchanged}
-use Rattle.tagged_index.specs.Head.{Head, head_of, index_of}
-use Rattle.mark_core.specs.declared.which.Which.{Which}
-use Rattle.mark_core.specs.declared.which.Which.TheVariants.{Full, Empty}
-use Rattle.mark_core.specs.Lists.{times}
-use Rattle.mark_core.specs.Account.{look_of, after_load, after_load_link}
-use Rattle.mark_core.specs.World.{Setup}
-use Rattle.mark_core.specs.Runs.{opening}
-use Rattle.mark_core.specs.Events.{Kind, Load, LoadLink, effect, last_link, link_from}
-use Rattle.mark_core.specs.Counts.{count_load, counted}
+use Rattle.std.proofs.Common.{◌≡◌, ℕ, ◌+◌, ◌<◌, ◌≤◌, ◌==◌, List, [], ◌∷◌, length, map, Option, Some, set, slice_index}
+use Rattle.std.proofs.Common.{slice_set, ap, sym, refl, subst, ◌∙◌, arith}
+use Rattle.buffer_pool.proofs.Terms.{none, either, TableId, State, Me, Allows, step, keeps, exchanged, Head, head_of}
+use Rattle.buffer_pool.proofs.Terms.{index_of, Which, Full, Empty, times, look_of, after_load, after_load_link, Setup}
+use Rattle.buffer_pool.proofs.Terms.{opening, Kind, Load, LoadLink, effect, last_link, link_from, count_load, counted}
+use Rattle.buffer_pool.proofs.Terms.{has_each_once, SeatView, Book, counts_of, loaded, link_loaded, RestsWith}
+use Rattle.buffer_pool.proofs.Terms.{head_seen, link_seen, set_aside, settled, IsSound, SitsAt, setup_of, Key, Seat}
+use Rattle.buffer_pool.proofs.Terms.{Shared, logged, charged, stands_times, IsWithin, mark_in, first_mark, head_word}
+use Rattle.buffer_pool.proofs.Terms.{link_word, Reading, Carries, free, Reached, Rule, marking_of, view_counts}
 use Rattle.mark_core.specs.Events as may
-use Rattle.mark_core.proofs.Closing.{has_each_once}
-use Rattle.buffer_pool.specs.declared.seat_view.SeatView.{SeatView}
-use Rattle.buffer_pool.specs.Book.{Book, counts_of, loaded, link_loaded}
-use Rattle.buffer_pool.specs.working.Plays.{RestsWith, head_seen, link_seen, set_aside, settled}
-use Rattle.buffer_pool.specs.working.BetweenCalls.{IsSound, SitsAt}
-use Rattle.buffer_pool.specs.working.Setups.{setup_of}
-use Rattle.buffer_pool.specs.declared.key.Key.{Key}
-use Rattle.atomic_table.specs.declared.shared.Seat.{Seat}
-use Rattle.atomic_table.specs.declared.shared.Shared.{Shared}
-use Rattle.buffer_pool.specs.working.Views.{logged}
-use Rattle.mark_core.proofs.Colours.{charged}
-use Rattle.mark_core.proofs.Sums.{stands_times}
-use Rattle.buffer_pool.specs.Ranges.{IsWithin}
-use Rattle.buffer_pool.specs.working.MarkBits.{mark_in}
 use Rattle.buffer_pool.proofs.Bits.{marked_object}
-use Rattle.buffer_pool.specs.working.Layout.{first_mark, head_word, link_word}
-use Rattle.buffer_pool.specs.working.Slots.{Reading, Carries, free}
-use Rattle.buffer_pool.specs.working.Table.{Reached, Rule, marking_of, view_counts}
 use Rattle.buffer_pool.proofs.States.{Seated, left, lawful, cut_below, stands, changed, accounts_set, counts_same}
 use Rattle.buffer_pool.proofs.States.{counts_changed, happened, only_seen, story_now, rests_after, log_after, log_now}
 use Rattle.buffer_pool.proofs.States.{nothing_out, written_again, own_setup, told, on_top, held_below, freed}

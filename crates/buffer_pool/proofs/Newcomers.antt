@@ -2,21 +2,12 @@
 use Rattle.std.proofs.Common.{◌≡◌, ◌≢◌, ◌⊎◌, ℕ, zero, suc, ◌<◌, ◌≤◌, true, List, [], ◌∷◌, ◌++◌, length, Option, Some}
 use Rattle.std.proofs.Common.{None, set, ap, sym, refl, subst, ◌∙◌, inl, inr, ⊎_elim, length-set, length-append, ne_eqb}
 use Rattle.std.proofs.Common.{cond, arith}
-use Rattle.std.proofs.lemmas.Bool.{false≢true}
-use Rattle.std.proofs.lemmas.List.{append_assoc}
-use mathlib.Core.Option.{some, some-injective, some-ne-none}
-use lib.ListN.{get_elem?}
-use Rattle.mark_core.specs.declared.which.Which.{Which}
-use Rattle.mark_core.specs.Account.{Account, look_of, part, no_share, after_split, after_join}
-use Rattle.mark_core.specs.World.{Setup, Marking, account_at}
-use Rattle.mark_core.specs.Events.{Event, Kind, Claim, Finish, Split, Join, Load, LoadLink, StoreLink, Pop, Push, Fail}
-use Rattle.mark_core.specs.Events.{IdleUp, IdleDown, LoadIdle, effect, happens, stack_popped}
-use Rattle.mark_core.specs.Runs.{Run}
-use Rattle.mark_core.proofs.Places.{at_below}
-use Rattle.buffer_pool.specs.declared.seat_view.SeatView.{SeatView}
-use Rattle.buffer_pool.specs.WorkerLog.{deeds}
-use Rattle.buffer_pool.specs.working.Views.{AreViewsOf, IsTakenIn, IsViewOf}
-use Rattle.buffer_pool.specs.working.Setups.{kept_part, given_part, joined_view, no_share_view}
+use Rattle.buffer_pool.proofs.Terms.{false≢true, append_assoc, some, some-injective, some-ne-none, get_elem?, Which}
+use Rattle.buffer_pool.proofs.Terms.{Account, look_of, part, no_share, after_split, after_join, Setup, Marking}
+use Rattle.buffer_pool.proofs.Terms.{account_at, Event, Kind, Claim, Finish, Split, Join, Load, LoadLink, StoreLink}
+use Rattle.buffer_pool.proofs.Terms.{Pop, Push, Fail, IdleUp, IdleDown, LoadIdle, effect, happens, stack_popped, Run}
+use Rattle.buffer_pool.proofs.Terms.{at_below, SeatView, deeds, AreViewsOf, IsTakenIn, IsViewOf, kept_part, given_part}
+use Rattle.buffer_pool.proofs.Terms.{joined_view, no_share_view}
 use Rattle.buffer_pool.proofs.Deeds.{deeds_on, no_deed, taken_on, told_mine, told_theirs, told_set}
 
 same_some : (a b : ℕ) → Some a ≡ Some b → a ≡ b

@@ -1,34 +1,16 @@
 -- A split of a worker, and a join of two, keep the rule.
 use Rattle.std.proofs.Common.{◌≡◌, ◌≢◌, ℕ, ◌<◌, ◌≤◌, true, false, length, List, [], ◌∷◌, ◌++◌, map, Option, Some, None}
 use Rattle.std.proofs.Common.{set, ap, sym, refl, subst, ◌∙◌, ⊎_elim, arith}
-use Rattle.std.proofs.lemmas.List.{map-append}
-use mathlib.Core.Option.{some}
-use native.Mathlib.Decide.{dec_le}
-use lib.ListN.{get_elem?}
-use Rattle.atomic_table.specs.Table.{Me, State, Splits, Joins}
-use Rattle.atomic_table.specs.Seated.{TableId}
-use Rattle.atomic_table.proofs.Lists.{at_map, at_set, at_snoc, set_else}
-use Rattle.mark_core.specs.Lists.{times, only}
-use Rattle.mark_core.specs.Account.{Account, part, no_share, after_join}
-use Rattle.mark_core.specs.World.{Setup, Marking, account_at}
-use Rattle.mark_core.specs.Runs.{AreApart, HasEachOnce, opening}
-use Rattle.mark_core.specs.Events.{Event, Split, Join}
-use Rattle.mark_core.specs.Counts.{Counts, add_counts, counts_at, no_counts}
-use Rattle.mark_core.proofs.Sums.{sum_of-append}
-use Rattle.mark_core.proofs.Places.{at_get_or}
-use Rattle.buffer_pool.specs.declared.seat_view.SeatView.{SeatView}
-use Rattle.buffer_pool.specs.Book.{Book, joined, new_book, parted}
-use Rattle.buffer_pool.specs.Ranges.{IsWithin}
-use Rattle.buffer_pool.specs.working.BetweenCalls.{IsLaid, IsSound}
-use Rattle.buffer_pool.specs.WorkerLog.{Log, Did, EndsStory, IsNewcomer, LeadsToBook, deeds}
-use Rattle.buffer_pool.specs.working.Views.{HasSaidAll, logged}
-use Rattle.buffer_pool.specs.working.Plays.{IsUpToDate}
-use Rattle.buffer_pool.specs.working.Setups.{kept_part, given_part, joined_view, no_share_view}
-use Rattle.buffer_pool.specs.working.Slots.{Reading, Carries, IsTied, Rests, free}
-use Rattle.buffer_pool.specs.working.Table.{Reached, Rule, account_of, marking_of, view_counts}
+use Rattle.buffer_pool.proofs.Terms.{map-append, some, dec_le, get_elem?, Me, State, Splits, Joins, TableId, at_map}
+use Rattle.buffer_pool.proofs.Terms.{at_set, at_snoc, set_else, times, only, Account, part, no_share, after_join, Setup}
+use Rattle.buffer_pool.proofs.Terms.{Marking, account_at, AreApart, HasEachOnce, opening, Event, Split, Join, Counts}
+use Rattle.buffer_pool.proofs.Terms.{add_counts, counts_at, no_counts, sum_of-append, at_get_or, SeatView, Book, joined}
+use Rattle.buffer_pool.proofs.Terms.{new_book, parted, IsWithin, IsLaid, IsSound, Log, Did, EndsStory, IsNewcomer}
+use Rattle.buffer_pool.proofs.Terms.{LeadsToBook, deeds, HasSaidAll, logged, IsUpToDate, kept_part, given_part}
+use Rattle.buffer_pool.proofs.Terms.{joined_view, no_share_view, Reading, Carries, IsTied, Rests, free, Reached, Rule}
+use Rattle.buffer_pool.proofs.Terms.{account_of, marking_of, view_counts, append_assoc, length-map}
 use Rattle.buffer_pool.proofs.States.{Seated, nothing_out, stands, own_setup, accounts_set, counts_set, counts_same}
 use Rattle.buffer_pool.proofs.States.{happened_told}
-use Rattle.std.proofs.lemmas.List.{append_assoc, length-map}
 use Rattle.buffer_pool.proofs.Deeds.{deeds_on, did_on}
 use Rattle.buffer_pool.proofs.Newcomers.{nothing_done, told_join, told_split}
 
@@ -264,7 +246,8 @@ module _ {B : Type 0} (t u : TableId) (m two : Me (Option B) SeatView) (units : 
   keeps_part kept now cut told less =
       let is = kept_is kept cut in
       let second : Did log (Split units ∷ []) now.0.log =
-      subst {A = Me (Option B) SeatView} (λ x. x.0.named ≡ true → Did x.0.log x.0.unsaid now.0.log) is told.did refl in (
+      subst {A = Me (Option B) SeatView} (λ x. x.0.named ≡ true → Did x.0.log x.0.unsaid now.0.log) is told.did refl
+      in (
         sound_now t u kept now (parted units m.0.book) table told.same
             (ap (λ (x : Me (Option B) SeatView). x.0.book) is) sound.laid (omega (arith, less))
             (record { held = sound.within.held; charge = sound.within.charge }) told.story,
@@ -287,7 +270,8 @@ module _ {B : Type 0} (t u : TableId) (m two : Me (Option B) SeatView) (units : 
       subst {A = Me (Option B) SeatView} (λ x. x.0.named ≡ false → deeds now.0.log.number now.0.log.story ≡ []) is
           told.fresh refl,
     ),
-    told.apart m.0.log.number (ap (λ (x : Me (Option B) SeatView). x.0.from) is ∙ ap (λ (x : Log). Some x.number) did.1),
+    told.apart m.0.log.number
+        (ap (λ (x : Me (Option B) SeatView). x.0.from) is ∙ ap (λ (x : Log). Some x.number) did.1),
   )
     where
       is : given ≡ (given_part noted, [])

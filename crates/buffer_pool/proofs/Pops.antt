@@ -1,41 +1,21 @@
 -- An exchange of a head for the link of its buffer keeps the rule: it pops, or it has failed.
-use Rattle.std.proofs.Common.{◌≡◌, ◌≢◌, ℕ, zero, suc, ◌<◌, ◌==◌, List, [], ◌∷◌, ◌++◌, map, Option, Some, None}
-use Rattle.std.proofs.Common.{set, slice_index, slice_set, ap, sym, refl, subst, ◌∙◌, Contains}
-use Rattle.std.proofs.Common.{length-set, arith}
-use mathlib.Core.Option.{none, some, some-ne-none}
+use Rattle.std.proofs.Common.{◌≡◌, ◌≢◌, ℕ, zero, suc, ◌<◌, ◌==◌, List, [], ◌∷◌, ◌++◌, map, Option, Some, None, set}
+use Rattle.std.proofs.Common.{slice_index, slice_set, ap, sym, refl, subst, ◌∙◌, Contains, length-set, arith}
+use Rattle.buffer_pool.proofs.Terms.{none, some, some-ne-none, ℕ_discrete, get_elem?, either, State, Me, Act, Allows}
+use Rattle.buffer_pool.proofs.Terms.{Valid, step, stepped, carried_after, keeps, takes, at_map, set_else, Head, head_of}
+use Rattle.buffer_pool.proofs.Terms.{after, Which, Empty, StandsAt, times, only, look_of, after_pop, Setup, Marking}
+use Rattle.buffer_pool.proofs.Terms.{items_of, put_which, CanPop, Pop, Fail, IsBusy, effect}
+use Rattle.buffer_pool.proofs.Terms.{stack_popped as popped_event, count_failure, linear, stands_times, sum_of-append}
+use Rattle.buffer_pool.proofs.Terms.{term_le, only-same, only-other, SeatView, popped, failed, HasMissed, HasTaken}
+use Rattle.buffer_pool.proofs.Terms.{IsOurs, top_taken, mark_in, first_mark, head_word, link_word, Reading, IsTied}
+use Rattle.buffer_pool.proofs.Terms.{Rests, free, slot_of, Reached, Rule, marking_of, TableId, IsSound, logged, at_one}
+use Rattle.buffer_pool.proofs.Terms.{at_get_or}
 use mathlib.Core.Option as maybe
-use native.Mathlib.Decide.{ℕ_discrete}
-use lib.ListN.{get_elem?}
-use prog.Atomic.{either}
-use Rattle.atomic_table.specs.Table.{State, Me, Act, Allows, Valid, step, stepped, carried_after, keeps, takes}
-use Rattle.atomic_table.proofs.Lists.{at_map, set_else}
-use Rattle.tagged_index.specs.Head.{Head, head_of, after}
-use Rattle.mark_core.specs.declared.which.Which.{Which}
-use Rattle.mark_core.specs.declared.which.Which.TheVariants.{Empty}
-use Rattle.mark_core.specs.Lists.{StandsAt, times, only}
-use Rattle.mark_core.specs.Account.{look_of, after_pop}
-use Rattle.mark_core.specs.World.{Setup, Marking, items_of, put_which}
-use Rattle.mark_core.specs.Events.{CanPop, Pop, Fail, IsBusy, effect}
-use Rattle.mark_core.specs.Events.{stack_popped as popped_event}
-use Rattle.mark_core.specs.Counts.{count_failure}
-use Rattle.mark_core.proofs.Colours.{linear}
-use Rattle.mark_core.proofs.Sums.{stands_times, sum_of-append, term_le, only-same, only-other}
-use Rattle.buffer_pool.specs.declared.seat_view.SeatView.{SeatView}
-use Rattle.buffer_pool.specs.Book.{popped, failed}
-use Rattle.buffer_pool.specs.working.Plays.{HasMissed, HasTaken, IsOurs, top_taken}
-use Rattle.buffer_pool.specs.working.MarkBits.{mark_in}
-use Rattle.buffer_pool.specs.working.Layout.{first_mark, head_word, link_word}
-use Rattle.buffer_pool.specs.working.Slots.{Reading, IsTied, Rests, free, slot_of}
-use Rattle.buffer_pool.specs.working.Table.{Reached, Rule, marking_of}
 use Rattle.buffer_pool.proofs.Bits.{marked_object}
 use Rattle.buffer_pool.proofs.States.{Seated, left, agrees, lawful, changed, accounts_set, accounts_same, counts_same}
 use Rattle.buffer_pool.proofs.States.{counts_changed, slots_set, sized_set, happened, story_now, rests_after, log_after}
 use Rattle.buffer_pool.proofs.States.{nothing_out, written_again, own_setup, told, on_top, stacked_free, freed}
 use Rattle.buffer_pool.proofs.Deeds.{did_one}
-use Rattle.atomic_table.specs.Seated.{TableId}
-use Rattle.buffer_pool.specs.working.BetweenCalls.{IsSound}
-use Rattle.buffer_pool.specs.working.Views.{logged}
-use Rattle.mark_core.proofs.Places.{at_one, at_get_or}
 use Rattle.buffer_pool.proofs.Loads.{noticed, same_head}
 use Rattle.buffer_pool.proofs.Words.{one_head, exchange_hit, exchange_miss, link_beside_head, links_beside_head}
 use Rattle.buffer_pool.proofs.Words.{marks_beside_head, heads_after, idle_beside_head}

@@ -1,49 +1,26 @@
 -- A store of a held buffer's link, and an exchange of a head for that buffer, keep the rule: the second pushes, or it
 -- has failed.
 use Rattle.std.proofs.Common.{◌≡◌, ◌≢◌, ℕ, suc, ◌+◌, ◌<◌, ◌≤◌, ◌==◌, nat_lt, if◌then◌else◌, List, [], ◌∷◌, length}
-use Rattle.std.proofs.Common.{Option, Some, None, get_or, set, slice_index, slice_set, ap, sym, refl, subst, subst₂, ◌∙◌}
-use Rattle.std.proofs.Common.{length-set, arith}
-use mathlib.Core.Option.{none, some}
+use Rattle.std.proofs.Common.{Option, Some, None, get_or, set, slice_index, slice_set, ap, sym, refl, subst, subst₂}
+use Rattle.std.proofs.Common.{◌∙◌, length-set, arith}
+use Rattle.buffer_pool.proofs.Terms.{none, some, ℕ_discrete, get_elem?, either, TableId, State, Me, Act, Allows, Valid}
+use Rattle.buffer_pool.proofs.Terms.{rest, step, stepped, carried_after, keeps, takes, gives, set_else, set_again}
+use Rattle.buffer_pool.proofs.Terms.{head_of, index_of, low_of, after, Which, Full, Empty, times, remove_one, IsPart}
+use Rattle.buffer_pool.proofs.Terms.{look_of, Setup, Marking, put, CanExchange, StoreLink, Push, Fail, IsBusy, effect}
+use Rattle.buffer_pool.proofs.Terms.{times-remove_one, times_stands, only-same, only-other, SeatView, Book, pushed}
+use Rattle.buffer_pool.proofs.Terms.{failed, CanPut, HasPushed, rested, link_stored, top_put, Did, LeadsToBook, IsSound}
+use Rattle.buffer_pool.proofs.Terms.{SitsAt, setup_of, Key, Seat, Shared, logged, head_word, link_word, Reading, IsTied}
+use Rattle.buffer_pool.proofs.Terms.{Rests, free, Reached, Rule, marking_of, has_each_once}
 use mathlib.Core.Option as maybe
-use native.Mathlib.Decide.{ℕ_discrete}
-use lib.ListN.{get_elem?}
-use prog.Atomic.{either}
-use Rattle.atomic_table.specs.Seated.{TableId}
-use Rattle.atomic_table.specs.Table.{State, Me, Act, Allows, Valid, rest, step, stepped, carried_after, keeps, takes}
-use Rattle.atomic_table.specs.Table.{gives}
-use Rattle.atomic_table.proofs.Lists.{set_else, set_again}
-use Rattle.tagged_index.specs.Head.{head_of, index_of, low_of, after}
-use Rattle.mark_core.specs.declared.which.Which.{Which}
-use Rattle.mark_core.specs.declared.which.Which.TheVariants.{Full, Empty}
-use Rattle.mark_core.specs.Lists.{times, remove_one, IsPart}
-use Rattle.mark_core.specs.Account.{look_of}
-use Rattle.mark_core.specs.World.{Setup, Marking, put}
-use Rattle.mark_core.specs.Events.{CanExchange, StoreLink, Push, Fail, IsBusy, effect}
-use Rattle.mark_core.proofs.Sums.{times-remove_one, times_stands, only-same, only-other}
-use Rattle.buffer_pool.specs.declared.seat_view.SeatView.{SeatView}
-use Rattle.buffer_pool.specs.Book.{Book, pushed, failed}
-use Rattle.buffer_pool.specs.working.Plays.{CanPut, HasPushed, rested, link_stored, top_put}
-use Rattle.buffer_pool.specs.WorkerLog.{Did, LeadsToBook}
-use Rattle.buffer_pool.specs.working.BetweenCalls.{IsSound, SitsAt}
-use Rattle.buffer_pool.specs.working.Setups.{setup_of}
-use Rattle.buffer_pool.specs.declared.key.Key.{Key}
-use Rattle.atomic_table.specs.declared.shared.Seat.{Seat}
-use Rattle.atomic_table.specs.declared.shared.Shared.{Shared}
-use Rattle.buffer_pool.specs.working.Views.{logged}
-use Rattle.buffer_pool.specs.working.Layout.{head_word, link_word}
-use Rattle.buffer_pool.specs.working.Slots.{Reading, IsTied, Rests, free}
-use Rattle.buffer_pool.specs.working.Table.{Reached, Rule, marking_of}
 use Rattle.buffer_pool.proofs.States.{Seated, left, agrees, lawful, cut_below, cut_put, changed, accounts_set}
 use Rattle.buffer_pool.proofs.States.{accounts_same, counts_same, slots_set, sized_set, happened, story_now, log_after}
 use Rattle.buffer_pool.proofs.States.{nothing_out, written_again, own_setup, told, stands, held_alone, held_below}
 use Rattle.buffer_pool.proofs.States.{held_away, freed}
 use Rattle.buffer_pool.proofs.Deeds.{did_one}
 use Rattle.buffer_pool.proofs.Pops.{missed_reached}
-use Rattle.mark_core.proofs.Closing.{has_each_once}
 use Rattle.buffer_pool.proofs.Words.{one_head, exchange_hit, exchange_miss, link_beside_head, links_beside_head}
-use Rattle.buffer_pool.proofs.Words.{marks_beside_head, heads_after, idle_beside_head, idle_beside_link}
-use Rattle.buffer_pool.proofs.Words.{head_below, head_beside_link, link_beside_link, link_here, marks_beside_link}
-use Rattle.buffer_pool.proofs.Words.{links_after}
+use Rattle.buffer_pool.proofs.Words.{marks_beside_head, heads_after, idle_beside_head, idle_beside_link, head_below}
+use Rattle.buffer_pool.proofs.Words.{head_beside_link, link_beside_link, link_here, marks_beside_link, links_after}
 
 -- the link word to an index of a buffer is at most the number of buffers
 pub low_small : (index : Option ℕ) (buffers : ℕ) → ((i : ℕ) → index ≡ Some i → i < buffers) → low_of index ≤ buffers
@@ -187,7 +164,8 @@ module _
     pushed_rule x can next leads part none_empty size fits busy =
         changed at words homes w (length-set s.words (head_word q) x) (length-set s.homes i (some (Some b)))
         (λ j h. omega (arith, link_beside_head e s.words q x j, at.rule.linked j h))
-        (sized_set at.rule i (some (Some b)) (λ c h. let f : Some b ≡ Some c = maybe.some-injective (Some b) (Some c) h in
+        (sized_set at.rule i (some (Some b)) (λ c h.
+        let f : Some b ≡ Some c = maybe.some-injective (Some b) (Some c) h in
         let same : b ≡ c = cc in subst (λ (y : B). r.size y ≡ e.size) same right))
         (λ j o. absurd (nothing_out 0 refl j o)) rests (λ k u other is. (
           (λ j o. let t = at.rule.tied k u is j o in (t.0, link_beside_head e s.words q x j ∙ t.1)),

@@ -1,24 +1,11 @@
 -- What a seat keeps between two calls is kept by each step.
 use Rattle.std.proofs.Common.{◌≡◌, ◌==◌, Bool, true, false, if◌then◌else◌, ℕ, suc, ◌<◌, List, [], ◌∷◌, ◌++◌, Option}
 use Rattle.std.proofs.Common.{None, Contains, sym, ap, refl, subst, ⊎_elim, arith}
-use Rattle.atomic_table.specs.Table.{Me}
-use Rattle.atomic_table.specs.Seated.{TableId}
-use Rattle.tagged_index.specs.Head.{Head}
-use Rattle.mark_core.specs.declared.which.Which.{Which}
-use Rattle.mark_core.specs.declared.which.Which.TheVariants.{Full, Empty}
-use Rattle.mark_core.specs.Lists.{times, remove_one, without, IsPart}
-use Rattle.mark_core.specs.World.{Setup}
-use Rattle.mark_core.specs.Events.{Kind}
-use Rattle.mark_core.proofs.Sums.{stands_times, times_stands, stands_push, stands_append, times-remove_one}
-use Rattle.mark_core.proofs.Sums.{times-without}
-use Rattle.buffer_pool.specs.declared.seat_view.SeatView.{SeatView}
-use Rattle.buffer_pool.specs.Book.{Book, loaded, link_loaded, failed, popped, pushed, claimed, finished}
-use Rattle.buffer_pool.specs.Ranges.{IsWithin}
-use Rattle.buffer_pool.specs.working.BetweenCalls.{IsBare, IsLaid, IsSound}
-use Rattle.buffer_pool.specs.working.Plays.{RestsWith, rested}
-use Rattle.buffer_pool.specs.WorkerLog.{Log, LeadsToBook}
-use Rattle.buffer_pool.specs.working.Views.{HasSaidAll, logged}
-use Rattle.buffer_pool.specs.working.Slots.{slots_of}
+use Rattle.buffer_pool.proofs.Terms.{Me, TableId, Head, Which, Full, Empty, times, remove_one, without, IsPart, Setup}
+use Rattle.buffer_pool.proofs.Terms.{Kind, stands_times, times_stands, stands_push, stands_append, times-remove_one}
+use Rattle.buffer_pool.proofs.Terms.{times-without, SeatView, Book, loaded, link_loaded, failed, popped, pushed}
+use Rattle.buffer_pool.proofs.Terms.{claimed, finished, IsWithin, IsBare, IsLaid, IsSound, RestsWith, rested, Log}
+use Rattle.buffer_pool.proofs.Terms.{LeadsToBook, HasSaidAll, logged, slots_of}
 
 -- what is in a list is below a bound, and so it is with one more that is below it, and with one removed
 below_push : (xs : List ℕ) (x n : ℕ) → ((y : ℕ) → Contains xs y → y < n) → x < n → (y : ℕ) → Contains (xs ++ x ∷ []) y

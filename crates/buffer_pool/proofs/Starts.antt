@@ -2,37 +2,18 @@
 use Rattle.std.proofs.Common.{◌≡◌, ℕ, zero, suc, ◌+◌, ◌%◌, ◌<◌, ◌≤◌, if◌then◌else◌, List, [], ◌∷◌, ◌++◌, length, map}
 use Rattle.std.proofs.Common.{replicate, Option, Some, None, All, set, slice_index, ap, sym, refl, subst, ◌∙◌, ⊎_elim}
 use Rattle.std.proofs.Common.{length-set, lt-ltb, le-ltb, arith}
-use Rattle.std.proofs.lemmas.List.{get_or-set_same, get_or-set_other, length-replicate, length-map}
-use Rattle.std.proofs.lemmas.List.Elements.{All-append}
-use Rattle.std.proofs.lemmas.Bool.{cases_lt}
-use mathlib.Core.Option.{some, some-injective, some-ne-none}
-use native.Mathlib.Decide.{dec_le}
-use lib.ListN.{get_elem?}
+use Rattle.buffer_pool.proofs.Terms.{get_or-set_same, get_or-set_other, length-replicate, length-map, All-append}
+use Rattle.buffer_pool.proofs.Terms.{cases_lt, some, some-injective, some-ne-none, dec_le, get_elem?, TableId, head_of}
+use Rattle.buffer_pool.proofs.Terms.{index_of, Which, Full, Empty, Setup, first_heads, first_link, SeatView, no_counts}
+use Rattle.buffer_pool.proofs.Terms.{whole, new_book, LeadsToBook, first_log, IsInside, IsLaid, IsSound, first_view}
+use Rattle.buffer_pool.proofs.Terms.{HasFirstWords, IsFirstSlot, mark_in, mark_words, pair_mark, first_mark, head_word}
+use Rattle.buffer_pool.proofs.Terms.{link_word, mark_word, Reading, IsTied, Rests, slot_of, Rule, cut, marking_of}
+use Rattle.buffer_pool.proofs.Terms.{marks_of, IsViewOf}
 use Rattle.atomic_table.specs.Table.{opening}
-use Rattle.atomic_table.specs.Seated.{TableId}
-use Rattle.tagged_index.specs.Head.{head_of, index_of}
-use Rattle.mark_core.specs.declared.which.Which.{Which}
-use Rattle.mark_core.specs.declared.which.Which.TheVariants.{Full, Empty}
-use Rattle.mark_core.specs.World.{Setup}
-use Rattle.mark_core.specs.Runs.{first_heads, first_link}
 use Rattle.mark_core.specs.Runs as runs
-use Rattle.buffer_pool.specs.declared.seat_view.SeatView.{SeatView}
-use Rattle.mark_core.specs.Counts.{no_counts}
-use Rattle.mark_core.specs.Shares.{whole}
-use Rattle.buffer_pool.specs.Book.{new_book}
-use Rattle.buffer_pool.specs.WorkerLog.{LeadsToBook, first_log}
-use Rattle.buffer_pool.specs.Ranges.{IsInside}
-use Rattle.buffer_pool.specs.working.BetweenCalls.{IsLaid, IsSound}
-use Rattle.buffer_pool.specs.working.Setups.{first_view}
-use Rattle.buffer_pool.specs.working.Opening.{HasFirstWords, IsFirstSlot}
-use Rattle.buffer_pool.specs.working.MarkBits.{mark_in, mark_words, pair_mark}
-use Rattle.buffer_pool.specs.working.Layout.{first_mark, head_word, link_word, mark_word}
-use Rattle.buffer_pool.specs.working.Slots.{Reading, IsTied, Rests, slot_of}
-use Rattle.buffer_pool.specs.working.Table.{Rule, cut, marking_of, marks_of}
 use Rattle.buffer_pool.proofs.Bits.{cut_white, white_pair}
 use Rattle.buffer_pool.proofs.States.{agrees, cut_below, cut_past, nothing_out}
 use Rattle.buffer_pool.proofs.Deeds.{told_now}
-use Rattle.buffer_pool.specs.working.Views.{IsViewOf}
 use Rattle.buffer_pool.proofs.Words.{head_below}
 
 zeros : (n i : ℕ) → slice_index (replicate n 0) i ≡ 0

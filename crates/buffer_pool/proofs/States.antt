@@ -1,39 +1,20 @@
 -- Markings that agree, the list of events that goes on by one, and the rule of a table after one seat's view changed.
-use Rattle.std.proofs.Common.{◌≡◌, ◌≢◌, ℕ, zero, suc, ◌+◌, ◌<◌, ◌≤◌, nat_lt, if◌then◌else◌, List, [], ◌∷◌}
-use Rattle.std.proofs.Common.{length, map, Option, Some, None, set, slice_index, slice_set, ap, subst₂, sym, refl, subst, ◌∙◌, ⊎_elim}
-use Rattle.std.proofs.Common.{length-set, lt-ltb, le-ltb, arith}
-use Rattle.std.proofs.lemmas.List.{map-set, set-set, set-get_or}
-use Rattle.std.proofs.lemmas.Bool.{cases_lt}
-use mathlib.Core.Option.{none, some, some-injective, some-ne-none}
-use native.Mathlib.Decide.{ℕ_discrete}
-use lib.ListN.{get_elem?}
+use Rattle.std.proofs.Common.{◌≡◌, ◌≢◌, ℕ, zero, suc, ◌+◌, ◌<◌, ◌≤◌, nat_lt, if◌then◌else◌, List, [], ◌∷◌, length, map}
+use Rattle.std.proofs.Common.{Option, Some, None, set, slice_index, slice_set, ap, subst₂, sym, refl, subst, ◌∙◌}
+use Rattle.std.proofs.Common.{⊎_elim, length-set, lt-ltb, le-ltb, arith}
+use Rattle.buffer_pool.proofs.Terms.{map-set, set-set, set-get_or, cases_lt, none, some, some-injective, some-ne-none}
+use Rattle.buffer_pool.proofs.Terms.{ℕ_discrete, get_elem?, State, Me, Act, Allows, Valid, put_back, stepped}
+use Rattle.buffer_pool.proofs.Terms.{carried_after, gives, chain, at_map, at_set, set_here, set_else, set_again, Which}
+use Rattle.buffer_pool.proofs.Terms.{StandsAt, times, Account, no_share, Setup, Marking, put, Event, Kind, effect, Full}
+use Rattle.buffer_pool.proofs.Terms.{Empty, head_of, Counts, LeadTo, counted, counts_at, no_counts, Law, held_times}
+use Rattle.buffer_pool.proofs.Terms.{at_below, at_get_or, put_here, put_else, lawful_where, leads_on, terms_le}
+use Rattle.buffer_pool.proofs.Terms.{held_apart, place_one, stacked_below, top_stands, SeatView, AreViewsOf, HasSaidAll}
+use Rattle.buffer_pool.proofs.Terms.{IsViewOf, logged, RestsWith, Book, counts_of, Log, LeadsToBook, head_word}
+use Rattle.buffer_pool.proofs.Terms.{link_word, Reading, IsTied, Rests, Carries, free, slot_of, slots_of, Reached, Rule}
+use Rattle.buffer_pool.proofs.Terms.{account_of, cut, marking_of, view_counts}
 use mathlib.Core.Option as maybe
-use Rattle.atomic_table.specs.Table.{State, Me, Act, Allows, Valid, put_back, stepped, carried_after, gives, chain}
-use Rattle.atomic_table.proofs.Lists.{at_map, at_set, set_here, set_else, set_again}
-use Rattle.mark_core.specs.declared.which.Which.{Which}
-use Rattle.mark_core.specs.Lists.{StandsAt, times}
-use Rattle.mark_core.specs.Account.{Account, no_share}
-use Rattle.mark_core.specs.World.{Setup, Marking, put}
-use Rattle.mark_core.specs.Events.{Event, Kind, effect}
-use Rattle.mark_core.specs.declared.which.Which.TheVariants.{Full, Empty}
-use Rattle.tagged_index.specs.Head.{head_of}
 use Rattle.mark_core.specs.Events as may
-use Rattle.mark_core.specs.Counts.{Counts, LeadTo, counted, counts_at, no_counts}
-use Rattle.mark_core.specs.Law.{Law}
-use Rattle.mark_core.specs.Ownership.{held_times}
-use Rattle.mark_core.proofs.Places.{at_below, at_get_or, put_here, put_else}
-use Rattle.mark_core.proofs.Counting.{lawful_where, leads_on}
-use Rattle.mark_core.proofs.Sums.{terms_le}
-use Rattle.mark_core.proofs.Ownership.{held_apart, place_one, stacked_below, top_stands}
-use Rattle.buffer_pool.specs.declared.seat_view.SeatView.{SeatView}
 use Rattle.buffer_pool.proofs.Deeds.{and_then, log_of, told_free, told_set, told_seen, told_step, did_one}
-use Rattle.buffer_pool.specs.working.Views.{AreViewsOf, HasSaidAll, IsViewOf, logged}
-use Rattle.buffer_pool.specs.working.Plays.{RestsWith}
-use Rattle.buffer_pool.specs.Book.{Book, counts_of}
-use Rattle.buffer_pool.specs.WorkerLog.{Log, LeadsToBook}
-use Rattle.buffer_pool.specs.working.Layout.{head_word, link_word}
-use Rattle.buffer_pool.specs.working.Slots.{Reading, IsTied, Rests, Carries, free, slot_of, slots_of}
-use Rattle.buffer_pool.specs.working.Table.{Reached, Rule, account_of, cut, marking_of, view_counts}
 
 -- what a step leaves: these words and homes, and the seat's view is w
 abbrev pub left : {B : Type 0} → State (Option B) SeatView → List ℕ → List (maybe.Option (Option B)) → ℕ → SeatView
@@ -96,7 +77,8 @@ pub nothing_out : (n : ℕ) → n ≡ 0 → (i : ℕ) → n ≡ suc i → ⊥
 nothing_out n z i s = omega (arith, z, s)
 
 -- a word written again leaves the rule as it is
-pub written_again : {B : Type 0} {r : Reading B} {e : Setup} (s : State (Option B) SeatView) (id word : ℕ) (w : SeatView)
+pub written_again :
+    {B : Type 0} {r : Reading B} {e : Setup} (s : State (Option B) SeatView) (id word : ℕ) (w : SeatView)
     → Rule r e (left s s.words s.homes id w)
     → Rule r e (left s (slice_set s.words word (slice_index s.words word)) s.homes id w)
 written_again {r = r} {e = e} s id word w rule =
@@ -246,7 +228,8 @@ module _
       let here = subst (λ vs. get_elem? vs id ≡ some w) (sym views) (seat_has w) in (
         marking_of r e t,
         map view_counts t.views,
-        subst (λ (f : Setup). LeadTo f story (marking_of r e t) (map view_counts t.views)) (sym (setup ∙ own_setup)) led,
+        subst (λ (f : Setup). LeadTo f story (marking_of r e t) (map view_counts t.views))
+            (sym (setup ∙ own_setup)) led,
         at_map account_of t.views id w here,
         at_map view_counts t.views id w here,
       )

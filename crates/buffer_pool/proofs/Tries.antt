@@ -1,17 +1,11 @@
 -- A try that was lost may be made again.
 use Rattle.std.proofs.Common.{◌≡◌, ◌∙◌, ℕ, ◌++◌, Option, sym, subst}
-use Rattle.tagged_index.specs.Head.{Head}
-use Rattle.mark_core.specs.declared.which.Which.{Which}
-use Rattle.mark_core.specs.declared.which.Which.TheVariants.{Full, Empty}
-use Rattle.buffer_pool.specs.Book.{Book, loaded, link_loaded, failed}
-use Rattle.buffer_pool.specs.Calls.{Holder, HeldBuffer, MayPush, TriesPop, TriesPush}
-use Rattle.buffer_pool.specs.Steps.{lost_pops, try_pop_steps}
-use Rattle.buffer_pool.specs.WorkerLog.{Did, Log}
+use Rattle.buffer_pool.proofs.Terms.{Head, Which, Full, Empty, Book, loaded, link_loaded, failed, Holder, HeldBuffer}
+use Rattle.buffer_pool.proofs.Terms.{MayPush, TriesPop, TriesPush, lost_pops, try_pop_steps, Did, Log, TryPopped}
+use Rattle.buffer_pool.proofs.Terms.{IsBusy}
 use Rattle.buffer_pool.proofs.Deeds.{did_on}
-use Rattle.buffer_pool.specs.declared.answers.TryPopped.{TryPopped}
 use Rattle.buffer_pool.specs.declared.answers.TryPopped.TheVariants as try_pop
 use Rattle.buffer_pool.specs.declared.answers.TryPushed.TheVariants as try_push
-use Rattle.mark_core.specs.Events.{IsBusy}
 
 may_loaded : (q : Which) (h : HeldBuffer) (head : Head) (b : Book) → MayPush q h b
     → MayPush q h (failed (loaded q head b))

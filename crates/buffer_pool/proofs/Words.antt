@@ -1,18 +1,10 @@
 -- The words of a table after one of them changed.
 use Rattle.std.proofs.Common.{◌≡◌, ◌≢◌, ℕ, ◌+◌, ◌/◌, ◌%◌, ◌<◌, ◌≤◌, ◌==◌, bit_or, nat_lt, if◌then◌else◌, List, length}
 use Rattle.std.proofs.Common.{None, set, slice_index, ap, sym, ◌∙◌, eq-eqb, ne_eqb, arith}
-use Rattle.std.proofs.lemmas.List.{get_or-set_same, get_or-set_other}
-use native.Mathlib.Decide.{ℕ_discrete}
-use prog.Atomic.{either}
-use Rattle.tagged_index.specs.Head.{Head, head_of, index_of, word_of}
-use Rattle.tagged_index.specs.Words.{restored}
-use Rattle.mark_core.specs.declared.which.Which.{Which}
-use Rattle.mark_core.specs.declared.which.Which.TheVariants.{Full, Empty}
-use Rattle.mark_core.specs.World.{Setup, put, put_which}
-use Rattle.mark_core.proofs.Places.{put_here, put_else}
-use Rattle.buffer_pool.specs.working.MarkBits.{mark_in, pair_bits, pair_mark}
-use Rattle.buffer_pool.specs.working.Layout.{first_mark, head_word, link_word, mark_word}
-use Rattle.buffer_pool.specs.working.Table.{cut, marks_of}
+use Rattle.buffer_pool.proofs.Terms.{get_or-set_same, get_or-set_other, ℕ_discrete, either, Head, head_of, index_of}
+use Rattle.buffer_pool.proofs.Terms.{word_of, restored, Which, Full, Empty, Setup, put, put_which, put_here, put_else}
+use Rattle.buffer_pool.proofs.Terms.{mark_in, pair_bits, pair_mark, first_mark, head_word, link_word, mark_word, cut}
+use Rattle.buffer_pool.proofs.Terms.{marks_of}
 use Rattle.buffer_pool.proofs.Bits.{cut_object, mark_beside}
 
 -- a head has one word

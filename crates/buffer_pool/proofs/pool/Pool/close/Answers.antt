@@ -2,14 +2,8 @@
 -- since it has each finished object once.
 use Rattle.std.proofs.Common.{◌≡◌, ◌==◌, ◌∙◌, ℕ, ◌+◌, List, ap, arith, count_by, subst, sym}
 use Rattle.std.specs.Slots.{IsFull, slots_items}
-use Rattle.mark_core.proofs.Finished.{finished_counted}
-use Rattle.buffer_pool.specs.working.Buffers.{buffer_reading}
-use Rattle.buffer_pool.specs.Book.{Book}
-use Rattle.buffer_pool.specs.Calls.{Holder}
-use Rattle.buffer_pool.specs.Closing.{IsAtTheEnd, MarksTell}
-use Rattle.buffer_pool.specs.WorkerLog.{Log}
-use Rattle.buffer_pool.specs.working.MarkBits.{marks_in}
-use Rattle.buffer_pool.specs.working.Setups.{setup_of}
+use Rattle.buffer_pool.proofs.Terms.{finished_counted, buffer_reading, Book, Holder, IsAtTheEnd, MarksTell, Log}
+use Rattle.buffer_pool.proofs.Terms.{marks_in, setup_of}
 use Rattle.buffer_pool.proofs.Closes.{ends_of}
 use Rattle.buffer_pool.proofs.pool.Pool.close.Given as given
 use Rattle.buffer_pool.proofs.pool.Pool.close.Goals.{After-empty_slots}

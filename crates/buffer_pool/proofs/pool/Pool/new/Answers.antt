@@ -1,16 +1,8 @@
 -- The words and buffers are those of an opening, and the first worker finished nothing. The first tag is named nowhere
 -- here: that it is the one asked for is what the clause has to find.
 use Rattle.std.proofs.Common.{ℕ, ◌+◌, ◌<◌, All, Option, length, ap, subst, sym, arith}
-use Rattle.atomic_table.specs.Table.{Me}
-use Rattle.buffer_pool.specs.declared.buffer.Buffer.{Buffer}
-use Rattle.buffer_pool.specs.declared.seat_view.SeatView.{SeatView}
-use Rattle.buffer_pool.specs.working.Buffers.{buffer_reading}
-use Rattle.buffer_pool.specs.working.Setups.{setup_of}
-use Rattle.buffer_pool.specs.working.Opening.{HasFirstWords}
-use Rattle.buffer_pool.specs.Ranges.{IsInside}
-use Rattle.buffer_pool.specs.working.MarkBits.{mark_words}
-use Rattle.buffer_pool.specs.working.BetweenCalls.{IsLaid, IsSound}
-use Rattle.buffer_pool.specs.declared.key.Key.{Key}
+use Rattle.buffer_pool.proofs.Terms.{Me, Buffer, SeatView, buffer_reading, setup_of, HasFirstWords, IsInside}
+use Rattle.buffer_pool.proofs.Terms.{mark_words, IsLaid, IsSound, Key}
 use Rattle.buffer_pool.proofs.Starts.{starts, laid_first, sound_first}
 use Rattle.buffer_pool.proofs.pool.Pool.new.Given as given
 use Rattle.buffer_pool.proofs.pool.Pool.new.Goals as goal

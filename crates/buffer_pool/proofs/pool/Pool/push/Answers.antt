@@ -1,9 +1,7 @@
 -- A try that was lost goes with those before it, and may be made again.
 use Rattle.std.proofs.Common.{◌≡◌, ℕ, [], ◌∷◌, ap, refl, subst, ◌∙◌}
 use Rattle.mark_core.specs.Events as events
-use Rattle.buffer_pool.specs.Calls.{HeldBuffer, TriesPush}
-use Rattle.buffer_pool.specs.Steps.{lost_pushes, try_push_steps}
-use Rattle.buffer_pool.specs.WorkerLog.{Did}
+use Rattle.buffer_pool.proofs.Terms.{HeldBuffer, TriesPush, lost_pushes, try_push_steps, Did}
 use Rattle.buffer_pool.specs.Calls.LostPushes.{none, more}
 use Rattle.buffer_pool.specs.declared.answers.TryPushed.TheVariants as try_push
 use Rattle.buffer_pool.proofs.Deeds.{did_nothing, did_on}

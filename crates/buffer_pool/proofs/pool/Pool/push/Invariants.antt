@@ -1,8 +1,6 @@
 -- So far the tries were lost, the buffer came back, and the worker did those tries alone.
 use Rattle.std.proofs.Common.{◌≡◌, ℕ, List, Option}
-use Rattle.buffer_pool.specs.Calls.{LostPushes, MayPush}
-use Rattle.buffer_pool.specs.Steps.{lost_pushes}
-use Rattle.buffer_pool.specs.WorkerLog.{Did}
+use Rattle.buffer_pool.proofs.Terms.{LostPushes, MayPush, lost_pushes, Did}
 use Rattle.buffer_pool.proofs.pool.Pool.push.Given as goal
 
 abbrev pub invariant-loop : goal.invariant-loop

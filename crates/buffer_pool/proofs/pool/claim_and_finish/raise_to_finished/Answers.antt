@@ -1,10 +1,6 @@
 -- The step keeps the rule, and is the event.
 use Rattle.std.proofs.Common.{◌≡◌}
-use Rattle.mark_core.proofs.Sums.{stands_times}
-use Rattle.buffer_pool.specs.working.Buffers.{buffer_reading}
-use Rattle.buffer_pool.specs.working.Plays.{finish_made}
-use Rattle.buffer_pool.specs.working.Setups.{setup_of}
-use Rattle.buffer_pool.specs.working.Layout.{mark_word}
+use Rattle.buffer_pool.proofs.Terms.{stands_times, buffer_reading, finish_made, setup_of, mark_word}
 use Rattle.buffer_pool.proofs.Claims.{finishes, own_word, sets_pair}
 use Rattle.buffer_pool.proofs.Sound.{sound_after, sound_finished}
 use Rattle.buffer_pool.proofs.pool.claim_and_finish.raise_to_finished.Given as given

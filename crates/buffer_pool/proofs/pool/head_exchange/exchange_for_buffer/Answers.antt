@@ -1,10 +1,6 @@
 -- The exchange pushes or has failed.
 use Rattle.std.proofs.Common.{sym, subst}
-use mathlib.Core.Option.{none}
-use Rattle.atomic_table.specs.Table.{step}
-use Rattle.mark_core.specs.declared.which.Which.TheVariants.{Full, Empty}
-use Rattle.buffer_pool.specs.working.Buffers.{buffer_reading}
-use Rattle.buffer_pool.specs.working.Plays.{top_put}
+use Rattle.buffer_pool.proofs.Terms.{none, step, Full, Empty, buffer_reading, top_put}
 use Rattle.buffer_pool.proofs.Pushes.{may_put}
 use Rattle.buffer_pool.proofs.pool.head_exchange.exchange_for_buffer.Goals as goal
 

@@ -1,14 +1,7 @@
 -- A load of a head keeps the rule, and tells the head.
 use Rattle.std.proofs.Common.{◌≡◌, ℕ, ◌<◌, [], ◌∷◌, sym, subst, Some, arith}
-use mathlib.Core.Option.{none}
-use Rattle.tagged_index.specs.Head.{Head}
-use Rattle.mark_core.specs.Events.{Load}
-use Rattle.atomic_table.specs.Table.{Allows, step}
-use Rattle.buffer_pool.specs.working.Buffers.{buffer_reading}
-use Rattle.buffer_pool.specs.working.Plays.{RestsWith, head_seen}
-use Rattle.buffer_pool.specs.Book.{loaded}
-use Rattle.buffer_pool.specs.working.Setups.{setup_of}
-use Rattle.buffer_pool.specs.working.Table.{Rule}
+use Rattle.buffer_pool.proofs.Terms.{none, Head, Load, Allows, step, buffer_reading, RestsWith, head_seen, loaded}
+use Rattle.buffer_pool.proofs.Terms.{setup_of, Rule}
 use Rattle.buffer_pool.proofs.Loads.{sees_head}
 use Rattle.buffer_pool.proofs.Sound.{sound_after, sound_loaded}
 use Rattle.buffer_pool.proofs.Words.{head_below}

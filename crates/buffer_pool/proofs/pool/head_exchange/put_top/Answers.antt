@@ -1,12 +1,7 @@
 -- The slot carries the buffer into the exchange, and out of it where it failed.
 use Rattle.std.proofs.Common.{◌≡◌, suc, ◌<◌, arith, sym, subst, ap, ◌∙◌, Option, Some, Contains, refl}
-use Rattle.tagged_index.specs.Head.{Head, index_of, after, last_tag}
-use Rattle.tagged_index.specs.Words.{index_of-low_of}
-use Rattle.mark_core.proofs.Sums.{stands_times}
-use Rattle.buffer_pool.specs.working.Buffers.{buffer_reading}
-use Rattle.mark_core.specs.Lists.{IsPart}
-use Rattle.buffer_pool.specs.Calls.{HeldBuffer}
-use Rattle.buffer_pool.specs.working.Plays.{CanPut}
+use Rattle.buffer_pool.proofs.Terms.{Head, index_of, after, last_tag, index_of-low_of, stands_times, buffer_reading}
+use Rattle.buffer_pool.proofs.Terms.{IsPart, HeldBuffer, CanPut}
 use Rattle.buffer_pool.proofs.Pushes.{carried_with, stays, still_carried, told_of}
 use Rattle.buffer_pool.proofs.pool.head_exchange.put_top.Goals as goal
 

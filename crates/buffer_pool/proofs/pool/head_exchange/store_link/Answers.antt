@@ -1,14 +1,7 @@
 -- The store keeps the rule, and the buffer's slot comes out.
-use Rattle.tagged_index.specs.Head.{index_of}
-use Rattle.tagged_index.specs.Words.{index_of-low_of}
-use Rattle.mark_core.specs.Events.{StoreLink}
-use Rattle.buffer_pool.specs.WorkerLog.{Did}
-use Rattle.buffer_pool.specs.working.Views.{logged}
+use Rattle.buffer_pool.proofs.Terms.{index_of, index_of-low_of, StoreLink, Did, logged, stands_times, TableId}
+use Rattle.buffer_pool.proofs.Terms.{buffer_reading, setup_of}
 use Rattle.std.proofs.Common.{◌≡◌, subst, suc, [], ◌∷◌, ap, ◌∙◌, None, refl, arith}
-use Rattle.mark_core.proofs.Sums.{stands_times}
-use Rattle.atomic_table.specs.Seated.{TableId}
-use Rattle.buffer_pool.specs.working.Buffers.{buffer_reading}
-use Rattle.buffer_pool.specs.working.Setups.{setup_of}
 use Rattle.buffer_pool.proofs.Pushes.{stores, low_small}
 use Rattle.buffer_pool.proofs.pool.head_exchange.store_link.Goals as goal
 

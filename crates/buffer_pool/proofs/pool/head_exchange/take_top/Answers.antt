@@ -1,15 +1,7 @@
 -- The exchange pops or has failed, and the slot that it took has the buffer.
 use Rattle.std.proofs.Common.{◌==◌, ◌∷◌, sym, subst, ap, ◌∙◌, Some, arith}
-use mathlib.Core.Option.{none}
-use prog.Atomic.{either}
-use Rattle.tagged_index.specs.Head.{Head, head_of, after}
-use Rattle.mark_core.specs.Account.{look_of}
-use Rattle.mark_core.specs.Events.{CanPop}
-use Rattle.atomic_table.specs.Table.{Allows, step, rest}
-use Rattle.buffer_pool.specs.working.Buffers.{buffer_reading}
-use Rattle.buffer_pool.specs.working.Plays.{top_taken}
-use Rattle.buffer_pool.specs.working.Setups.{setup_of}
-use Rattle.buffer_pool.specs.working.Table.{Rule}
+use Rattle.buffer_pool.proofs.Terms.{none, either, Head, head_of, after, look_of, CanPop, Allows, step, rest}
+use Rattle.buffer_pool.proofs.Terms.{buffer_reading, top_taken, setup_of, Rule}
 use Rattle.buffer_pool.proofs.Pops.{pops}
 use Rattle.buffer_pool.proofs.Words.{head_below}
 use Rattle.buffer_pool.proofs.pool.head_exchange.take_top.Goals as goal

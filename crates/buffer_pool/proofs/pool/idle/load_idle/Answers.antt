@@ -1,7 +1,6 @@
 -- The step keeps the rule, and is the event.
 use Rattle.std.proofs.Common.{refl}
-use Rattle.buffer_pool.specs.Book.{idle_loaded}
-use Rattle.buffer_pool.specs.working.Buffers.{buffer_reading}
+use Rattle.buffer_pool.proofs.Terms.{idle_loaded, buffer_reading}
 use Rattle.buffer_pool.proofs.Idles.{sees_idle}
 use Rattle.buffer_pool.proofs.Sound.{sound_after, sound_looked}
 use Rattle.buffer_pool.proofs.pool.idle.load_idle.Goals as goal

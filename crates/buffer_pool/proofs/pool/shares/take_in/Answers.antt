@@ -1,16 +1,8 @@
 -- The other seat is settled before it is joined, and the joined one after: its book is that of both, each object once.
 use Rattle.std.proofs.Common.{◌∙◌, ap, subst, sym, Option, arith}
-use Rattle.atomic_table.specs.Table.{Me}
-use Rattle.atomic_table.specs.Seated.{TableId}
-use Rattle.buffer_pool.specs.declared.buffer.Buffer.{Buffer}
-use Rattle.buffer_pool.specs.declared.seat_view.SeatView.{SeatView}
-use Rattle.buffer_pool.specs.working.Buffers.{buffer_reading}
-use Rattle.buffer_pool.specs.working.Setups.{setup_of}
-use Rattle.buffer_pool.specs.working.BetweenCalls.{IsSound}
+use Rattle.buffer_pool.proofs.Terms.{Me, TableId, Buffer, SeatView, buffer_reading, setup_of, IsSound, times}
+use Rattle.buffer_pool.proofs.Terms.{after_join, AreApart, HasEachOnce}
 use Rattle.buffer_pool.proofs.Loads.{settles}
-use Rattle.mark_core.specs.Lists.{times}
-use Rattle.mark_core.specs.Account.{after_join}
-use Rattle.mark_core.specs.Runs.{AreApart, HasEachOnce}
 use Rattle.buffer_pool.proofs.Parts.{apart_by, carries_joined, has_joined, joins}
 use Rattle.buffer_pool.proofs.pool.shares.take_in.Given as given
 use Rattle.buffer_pool.proofs.pool.shares.take_in.Goals as goal

@@ -1,12 +1,9 @@
 -- What the seat keeps is kept at each step and at each end.
 use Rattle.std.proofs.Common.{◌≡◌, ◌<◌, refl, sym, subst, ◌∙◌}
-use Rattle.mark_core.specs.World.{Setup}
-use Rattle.buffer_pool.specs.Book.{failed}
+use Rattle.buffer_pool.proofs.Terms.{Setup, failed, Load, LoadLink, Pop, Fail, IsSound}
 use Rattle.buffer_pool.proofs.Loads.{is_loaded}
-use Rattle.mark_core.specs.Events.{Load, LoadLink, Pop, Fail}
 use Rattle.buffer_pool.proofs.Deeds.{did_three}
 use Rattle.buffer_pool.proofs.Sound.{bare_rested, sound_after, sound_as, sound_linked, sound_looked, sound_popped}
-use Rattle.buffer_pool.specs.working.BetweenCalls.{IsSound}
 use Rattle.buffer_pool.proofs.pool.try_pop.try_pop.Given as given
 use Rattle.buffer_pool.proofs.pool.try_pop.try_pop.Goals.{After-load_link-link}
 use Rattle.buffer_pool.proofs.pool.try_pop.try_pop.Goals as goal

@@ -1,20 +1,11 @@
 -- What the seat keeps is kept at each step and at each end.
 use Rattle.std.proofs.Common.{◌≡◌, ℕ, suc, ◌<◌, [], ◌∷◌, Option, None, sym, subst, ◌∙◌, ap, arith}
-use Rattle.atomic_table.specs.Table.{Me}
-use Rattle.buffer_pool.specs.declared.seat_view.SeatView.{SeatView}
-use Rattle.tagged_index.specs.Head.{low_of}
-use Rattle.mark_core.specs.Lists.{times, IsPart}
-use Rattle.mark_core.proofs.Sums.{stands_times}
-use Rattle.buffer_pool.specs.Book.{failed}
-use Rattle.buffer_pool.specs.Calls.{HeldBuffer}
-use Rattle.buffer_pool.specs.working.Views.{logged}
+use Rattle.buffer_pool.proofs.Terms.{Me, SeatView, low_of, times, IsPart, stands_times, failed, HeldBuffer, logged}
+use Rattle.buffer_pool.proofs.Terms.{Kind, Did, Log, IsSound}
 use Rattle.buffer_pool.proofs.Loads.{is_loaded}
 use Rattle.mark_core.specs.Events as events
-use Rattle.mark_core.specs.Events.{Kind}
-use Rattle.buffer_pool.specs.WorkerLog.{Did, Log}
 use Rattle.buffer_pool.proofs.Deeds.{did_three}
 use Rattle.buffer_pool.proofs.Sound.{bare_rested, sound_after, sound_as, sound_missed, sound_pushed, sound_stored}
-use Rattle.buffer_pool.specs.working.BetweenCalls.{IsSound}
 use Rattle.buffer_pool.proofs.pool.try_push.try_push.Given as given
 use Rattle.buffer_pool.proofs.pool.try_push.try_push.Goals.{After-store_link}
 use Rattle.buffer_pool.proofs.pool.try_push.try_push.Goals as goal
@@ -81,8 +72,8 @@ returns-in-Err-clause-sound g c =
     let missed = c.in-Err.ensures.puts.1 in
     let out : two.me.0.out ≡ suc c.args.held.index = (λ k. (c.store_link.ensures.takes_out k).0.out) ∙ ap suc index in
     sound_as {n = kept two.me three.me.0.log c.args.held.index}
-    (sound_missed two.table_id two.me second three.me.0.log c.args.held.index 0 out) c.put_top.ensures.same.table missed.0
-    missed.2
+    (sound_missed two.table_id two.me second three.me.0.log c.args.held.index 0 out) c.put_top.ensures.same.table
+    missed.0 missed.2
 
 -- the link that was stored is the loaded head's
 did_put :

@@ -1,8 +1,7 @@
 -- A seat that is sound has a story that leads to its book, and lies in a pool whose roots and references are of
 -- objects.
 use Rattle.std.proofs.Common.{length, subst, ℕ, ◌≤◌}
-use Rattle.mark_core.specs.Lists.{times}
-use Rattle.buffer_pool.specs.Calls.{Holder}
+use Rattle.buffer_pool.proofs.Terms.{times, Holder}
 use Rattle.buffer_pool.proofs.Few.{few_finished, once_finished}
 use Rattle.buffer_pool.proofs.worker.Worker.has_finished_few.Goals as goal
 
