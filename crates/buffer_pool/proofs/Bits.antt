@@ -1,8 +1,8 @@
 -- Pairs of bits of a word, and what setting one pair leaves.
 use Rattle.std.proofs.Common.{◌≡◌, ◌≢◌, ◌⊎◌, ◌↔◌, ℕ, suc, ◌+◌, ◌-◌, ◌*◌, ◌/◌, ◌%◌, ◌^◌, ◌<◌, ◌≤◌, ◌==◌, max, IsTrue}
-use Rattle.std.proofs.Common.{Bool, true, false, nat_lt, if◌then◌else◌, bit_and, bit_or, ap, sym, refl, ◌∙◌, inl, inr}
-use Rattle.std.proofs.Common.{⊎_elim, eq-eqb, eqb-true, lt-ltb, le-ltb, pow_pos, pow_mono, pow-add, shr-shr}
-use Rattle.std.proofs.Common.{mod-eq_of_lt, mul-le-mul_right, suc-mul, w64, arith}
+use Rattle.std.proofs.Common.{if◌then◌else◌, bit_and, bit_or, ap, sym, ◌∙◌, inl, inr, ⊎_elim, eq-eqb, eqb-true, lt-ltb}
+use Rattle.std.proofs.Common.{le-ltb, pow_pos, pow_mono, pow-add, shr-shr, mod-eq_of_lt, mul-le-mul_right, suc-mul, w64}
+use Rattle.std.proofs.Common.{arith}
 use Rattle.buffer_pool.proofs.Terms.{cases_lt, bit_at_or, bit_at_cat_low, bit_at_cat_high, bit_at_above, bit_at-zero}
 use Rattle.buffer_pool.proofs.Terms.{bit_at-lt, bit_at_not, shr_and_one, ℕ_discrete, cut_marks, mark_of, pair_mark}
 use Rattle.std.specs.Int.{bit_at, bit_not}
@@ -32,11 +32,9 @@ moved_high c j =
 abbrev Beside : ℕ → ℕ → Type 0
 Beside j k = (k < 2 * j) ⊎ (2 * j + 2 ≤ k)
 
-beside_low : (i j : ℕ) → i ≢ j → Beside j (2 * i)
-beside_low i j other = ⊎_elim (λ l. inl (omega (arith, l))) (λ l. inr (omega (arith, l, other))) (cases_lt i j)
-
-beside_high : (i j : ℕ) → i ≢ j → Beside j (2 * i + 1)
-beside_high i j other = ⊎_elim (λ l. inl (omega (arith, l))) (λ l. inr (omega (arith, l, other))) (cases_lt i j)
+beside : (i j k : ℕ) → i ≢ j → k / 2 ≡ i → Beside j k
+beside i j k other half =
+    ⊎_elim (λ l. inl (omega (arith, l, half))) (λ l. inr (omega (arith, l, other, half))) (cases_lt i j)
 
 moved_beside : (c j k : ℕ) → c < 4 → Beside j k → bit_at (c * 2 ^ (2 * j)) k ≡ 0
 moved_beside c j k small (inl low) = moved_below c (2 * j) k low
@@ -57,8 +55,8 @@ module _ (n c j : ℕ) where
   -- the mark at another pair
   pub mark_beside : (i : ℕ) → c < 4 → i ≢ j → pair_mark (bit_or n (c * 2 ^ (2 * j))) i ≡ pair_mark n i
   mark_beside i small other =
-      λ t. mark_of (set_beside (2 * i) small (beside_low i j other) t)
-      (set_beside (2 * i + 1) small (beside_high i j other) t)
+      λ t. mark_of (set_beside (2 * i) small (beside i j (2 * i) other (omega arith)) t)
+      (set_beside (2 * i + 1) small (beside i j (2 * i + 1) other (omega arith)) t)
 
 -- setting the low bit is a claim, setting both is a finish
 pub mark_claimed : (n j : ℕ) → pair_mark n j ≤ 2 → pair_mark (bit_or n (1 * 2 ^ (2 * j))) j ≡ max (pair_mark n j) 1
@@ -75,7 +73,7 @@ one_pair c i j small odd same = go (ℕ_discrete i j)
     go (yes e) = e
     go (no n) =
         let here : bit_at (c * 2 ^ (2 * i)) (2 * i) ≡ 1 = moved_low c i ∙ odd in
-        let there = moved_beside c j (2 * i) small (beside_low i j n) in
+        let there = moved_beside c j (2 * i) small (beside i j (2 * i) n (omega arith)) in
         absurd (omega (arith, here, ap (λ x. bit_at x (2 * i)) same, there))
 
 -- the low bit, moved down, tells whether a mark other than 3 is white
@@ -136,11 +134,8 @@ pub white_pair : (j : ℕ) → pair_mark 0 j ≡ 0
 white_pair j = omega (arith, bit_at-zero (2 * j), bit_at-zero (2 * j + 1))
 
 pub cut_white : (objects : ℕ) (f : ℕ → ℕ) (o : ℕ) → f o ≡ 0 → cut_marks objects f o ≡ 0
-cut_white objects f o h = go (nat_lt o objects)
-  where
-    go : (b : Bool) → (if b then f o else 0) ≡ 0
-    go true = h
-    go false = refl
+cut_white objects f o h =
+    ⊎_elim (λ below. cut_object objects f o below ∙ h) (cut_past objects f o) (cases_lt o objects)
 
 -- the bits of a word that are not set, from a pair on
 abbrev pub unset_from : ℕ → ℕ → ℕ

@@ -1,64 +1,40 @@
 -- An account that was taken in does nothing any more.
-use Rattle.std.proofs.Common.{◌≡◌, ◌≢◌, ℕ, zero, suc, List, [], ◌∷◌, ◌++◌, Option, Some, None, set, ap, sym, refl}
-use Rattle.std.proofs.Common.{subst, ◌∙◌, ne_eqb, cond, arith}
-use Rattle.buffer_pool.proofs.Terms.{append_assoc, some-ne-none, ℕ_discrete, set_here, set_else, Which, StandsAt}
-use Rattle.buffer_pool.proofs.Terms.{Account, look_of, part, no_share, after_split, after_join, Setup, Marking}
-use Rattle.buffer_pool.proofs.Terms.{account_at, IsThere, Event, Kind, Claim, Finish, Split, Join, Load, LoadLink}
-use Rattle.buffer_pool.proofs.Terms.{StoreLink, Pop, Push, Fail, IdleUp, IdleDown, LoadIdle, effect, happens}
-use Rattle.buffer_pool.proofs.Terms.{stack_popped, Run, at_below, at_one, EndsStory, deeds, IsTakenIn}
+use Rattle.std.proofs.Common.{◌≡◌, ◌≢◌, ℕ, List, [], ◌∷◌, ◌++◌, set, ap, sym, refl, subst, ◌∙◌, ne_eqb, cond, arith}
+use Rattle.buffer_pool.proofs.Terms.{append_assoc, ℕ_discrete, at_longer, set_here, set_else, StandsAt, Account, part}
+use Rattle.buffer_pool.proofs.Terms.{no_share, after_join, Setup, Marking, account_at, IsThere, Event, Kind, Join}
+use Rattle.buffer_pool.proofs.Terms.{effect, happens, Run, at_below, at_one, EndsStory, deeds, IsTakenIn}
+use Rattle.buffer_pool.proofs.Effects.{effect_by}
 use Rattle.buffer_pool.proofs.Deeds.{deeds_on}
 
 -- an account without a share
 abbrev IsGone : List Account → ℕ → Type 0
 IsGone accounts n = (a : Account) × StandsAt accounts n a × (a.share ≡ 0)
 
--- one account more
-stays : (xs : List Account) (x : Account) (n : ℕ) (a : Account) → StandsAt xs n a → StandsAt (xs ++ x ∷ []) n a
-stays [] x n a at = absurd (some-ne-none a (sym at))
-stays (y ∷ ys) x zero a at = at
-stays (y ∷ ys) x (suc n) a at = stays ys x n a at
-
--- another account changed
+-- other accounts change
 gone_beside :
     (accounts : List Account) (n w : ℕ) (b : Account) → IsGone accounts n → n ≢ w → IsGone (set accounts w b) n
 gone_beside accounts n w b gone other = (gone.0, set_else accounts w n b other ∙ gone.1, gone.2)
 
-popped_gone :
-    (m : Marking) (n w : ℕ) (a : Account) (q : Which) (index : Option ℕ) (link : Option (Option ℕ))
-    → IsGone m.accounts n → n ≢ w → IsGone (stack_popped m w a q index link).accounts n
-popped_gone m n w a q None link gone other = gone
-popped_gone m n w a q (Some i) None gone other = gone
-popped_gone m n w a q (Some i) (Some l) gone other = (gone.0, set_else m.accounts w n _ other ∙ gone.1, gone.2)
-
-joined_gone :
-    (accounts : List Account) (n w v : ℕ) (b : Account) → IsGone accounts n → n ≢ w → Dec (n ≡ v)
-    → IsGone (set (set accounts w b) v no_share) n
-joined_gone accounts n w v b gone other (no differ) =
-    gone_beside (set accounts w b) n v no_share (gone_beside accounts n w b gone other) differ
-joined_gone accounts n w v b gone other (yes same) =
-    let there = gone_beside accounts n w b gone other in
-    subst (λ k. IsGone (set (set accounts w b) k no_share) n) same
-    (no_share, set_here (set accounts w b) n no_share (at_below (set accounts w b) n there.0 there.1), refl)
+-- it may be taken in again
+gone_emptied : (accounts : List Account) (n v : ℕ) → IsGone accounts n → IsGone (set accounts v no_share) n
+gone_emptied accounts n v gone = go (ℕ_discrete n v)
+  where
+    go : Dec (n ≡ v) → IsGone (set accounts v no_share) n
+    go (no other) = gone_beside accounts n v no_share gone other
+    go (yes same) = subst (λ k. IsGone (set accounts k no_share) n) same
+        (no_share, set_here accounts n no_share (at_below accounts n gone.0 gone.1), refl)
 
 effect_gone :
     (m : Marking) (n w : ℕ) (a : Account) (kind : Kind) → IsGone m.accounts n → n ≢ w
     → IsGone (effect m w a kind).accounts n
-effect_gone m n w a (Claim o) gone other = (gone.0, set_else m.accounts w n _ other ∙ gone.1, gone.2)
-effect_gone m n w a (Finish o) gone other = (gone.0, set_else m.accounts w n _ other ∙ gone.1, gone.2)
-effect_gone m n w a (Split units) gone other =
-    let there = gone_beside m.accounts n w (after_split units a) gone other in
-    (there.0, stays (set m.accounts w (after_split units a)) (part units) n there.0 there.1, there.2)
-effect_gone m n w a (Join v) gone other =
-    joined_gone m.accounts n w v (after_join a (account_at m.accounts v)) gone other (ℕ_discrete n v)
-effect_gone m n w a (Load q) gone other = (gone.0, set_else m.accounts w n _ other ∙ gone.1, gone.2)
-effect_gone m n w a (LoadLink q) gone other = (gone.0, set_else m.accounts w n _ other ∙ gone.1, gone.2)
-effect_gone m n w a (StoreLink i l) gone other = gone
-effect_gone m n w a (Pop q) gone other = popped_gone m n w a q (m.head q).index (look_of a q).link gone other
-effect_gone m n w a (Push q i items) gone other = (gone.0, set_else m.accounts w n _ other ∙ gone.1, gone.2)
-effect_gone m n w a (Fail q) gone other = gone
-effect_gone m n w a IdleUp gone other = (gone.0, set_else m.accounts w n _ other ∙ gone.1, gone.2)
-effect_gone m n w a IdleDown gone other = (gone.0, set_else m.accounts w n _ other ∙ gone.1, gone.2)
-effect_gone m n w a LoadIdle gone other = (gone.0, set_else m.accounts w n _ other ∙ gone.1, gone.2)
+effect_gone m n w a kind gone other =
+    let beside = λ (b : Account). gone_beside m.accounts n w b gone other in
+    effect_by (λ xs. IsGone xs n) m w a gone beside
+    (λ b units. (
+      (beside b).0,
+      at_longer (set m.accounts w b) (part units ∷ []) n (beside b).0 (beside b).1,
+      (beside b).2,
+    )) (λ b v. gone_emptied (set m.accounts w b) n v (beside b)) kind
 
 -- so it is not the one that does something
 not_gone : (accounts : List Account) (n w : ℕ) (a : Account) → IsThere accounts w a → IsGone accounts n → n ≢ w

@@ -1,4 +1,5 @@
 pub mod Terms
+pub mod Effects
 pub mod Deeds
 pub mod Newcomers
 pub mod Gone

@@ -1,50 +1,23 @@
 -- A number that no account has yet did nothing, so the new worker of a split did nothing.
-use Rattle.std.proofs.Common.{◌≡◌, ◌≢◌, ◌⊎◌, ℕ, zero, suc, ◌<◌, ◌≤◌, true, List, [], ◌∷◌, ◌++◌, length, Option, Some}
-use Rattle.std.proofs.Common.{None, set, ap, sym, refl, subst, ◌∙◌, inl, inr, ⊎_elim, length-set, length-append, ne_eqb}
-use Rattle.std.proofs.Common.{cond, arith}
-use Rattle.buffer_pool.proofs.Terms.{false≢true, append_assoc, some, some-injective, some-ne-none, get_elem?, Which}
-use Rattle.buffer_pool.proofs.Terms.{Account, look_of, part, no_share, after_split, after_join, Setup, Marking}
-use Rattle.buffer_pool.proofs.Terms.{account_at, Event, Kind, Claim, Finish, Split, Join, Load, LoadLink, StoreLink}
-use Rattle.buffer_pool.proofs.Terms.{Pop, Push, Fail, IdleUp, IdleDown, LoadIdle, effect, happens, stack_popped, Run}
-use Rattle.buffer_pool.proofs.Terms.{at_below, SeatView, deeds, AreViewsOf, IsTakenIn, IsViewOf, kept_part, given_part}
-use Rattle.buffer_pool.proofs.Terms.{joined_view, no_share_view}
+use Rattle.std.proofs.Common.{◌≡◌, ◌≢◌, ◌⊎◌, ℕ, zero, suc, ◌<◌, ◌≤◌, true, List, [], ◌∷◌, ◌++◌, length, Some, set, ap}
+use Rattle.std.proofs.Common.{sym, refl, subst, ◌∙◌, inl, inr, ⊎_elim, length-set, length-append, ne_eqb, cond, arith}
+use Rattle.buffer_pool.proofs.Terms.{false≢true, append_assoc, some, some-injective, some-ne-none, get_elem?, Account}
+use Rattle.buffer_pool.proofs.Terms.{part, no_share, Setup, Marking, account_at, Event, Kind, Split, Join, effect}
+use Rattle.buffer_pool.proofs.Terms.{happens, Run, at_below, SeatView, deeds, AreViewsOf, IsTakenIn, IsViewOf}
+use Rattle.buffer_pool.proofs.Terms.{kept_part, given_part, joined_view, no_share_view}
+use Rattle.buffer_pool.proofs.Effects.{effect_by}
 use Rattle.buffer_pool.proofs.Deeds.{deeds_on, no_deed, taken_on, told_mine, told_theirs, told_set}
 
 same_some : (a b : ℕ) → Some a ≡ Some b → a ≡ b
 same_some a b e = cc
 
 -- accounts never become fewer
-popped_long : (m : Marking) (w : ℕ) (a : Account) (q : Which) (index : Option ℕ) (link : Option (Option ℕ))
-    → length m.accounts ≤ length (stack_popped m w a q index link).accounts
-popped_long m w a q None link = omega arith
-popped_long m w a q (Some i) None = omega arith
-popped_long m w a q (Some i) (Some l) = omega (arith, length-set m.accounts w)
-
 effect_long : (m : Marking) (w : ℕ) (a : Account) (kind : Kind)
     → length m.accounts ≤ length (effect m w a kind).accounts
-effect_long m w a (Claim o) = omega (arith, length-set m.accounts w)
-effect_long m w a (Finish o) = omega (arith, length-set m.accounts w)
-effect_long m w a (Split units) =
-    omega (
-      arith,
-      length-set m.accounts w (after_split units a),
-      length-append (set m.accounts w (after_split units a)) (part units ∷ []),
-    )
-effect_long m w a (Join v) =
-    omega (
-      arith,
-      length-set m.accounts w (after_join a (account_at m.accounts v)),
-      length-set (set m.accounts w (after_join a (account_at m.accounts v))) v no_share,
-    )
-effect_long m w a (Load q) = omega (arith, length-set m.accounts w)
-effect_long m w a (LoadLink q) = omega (arith, length-set m.accounts w)
-effect_long m w a (StoreLink i l) = omega arith
-effect_long m w a (Pop q) = popped_long m w a q (m.head q).index (look_of a q).link
-effect_long m w a (Push q i items) = omega (arith, length-set m.accounts w)
-effect_long m w a (Fail q) = omega arith
-effect_long m w a IdleUp = omega (arith, length-set m.accounts w)
-effect_long m w a IdleDown = omega (arith, length-set m.accounts w)
-effect_long m w a LoadIdle = omega (arith, length-set m.accounts w)
+effect_long m w a =
+    effect_by (λ xs. length m.accounts ≤ length xs) m w a (omega arith) (λ b. omega (arith, length-set m.accounts w b))
+    (λ b units. omega (arith, length-set m.accounts w b, length-append (set m.accounts w b) (part units ∷ [])))
+    (λ b v. omega (arith, length-set m.accounts w b, length-set (set m.accounts w b) v no_share))
 
 run_long : (e : Setup) (events : List Event) (first last : Marking) → Run e first events last
     → length first.accounts ≤ length last.accounts

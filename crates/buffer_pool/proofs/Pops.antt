@@ -14,7 +14,8 @@ use mathlib.Core.Option as maybe
 use Rattle.buffer_pool.proofs.Bits.{marked_object}
 use Rattle.buffer_pool.proofs.States.{Seated, left, agrees, lawful, changed, accounts_set, accounts_same, counts_same}
 use Rattle.buffer_pool.proofs.States.{counts_changed, slots_set, sized_set, happened, story_now, rests_after, log_after}
-use Rattle.buffer_pool.proofs.States.{nothing_out, written_again, own_setup, told, on_top, stacked_free, freed}
+use Rattle.buffer_pool.proofs.States.{nothing_out, said_all, written_again, own_setup, told, on_top, stacked_free}
+use Rattle.buffer_pool.proofs.States.{freed}
 use Rattle.buffer_pool.proofs.Deeds.{did_one}
 use Rattle.buffer_pool.proofs.Loads.{noticed, same_head}
 use Rattle.buffer_pool.proofs.Words.{one_head, exchange_hit, exchange_miss, link_beside_head, links_beside_head}
@@ -204,7 +205,7 @@ module _ {B : Type 0} (r : Reading B) (e : Setup) (slots id : ℕ) (me : Me (Opt
                       book = ap (λ x. popped x (r.items b) me.0.book) k;
                       ours = ours;
                       bare = bare_on_empty at.rule i b home.1 q top';
-                      settled = record { named = refl; unsaid = refl };
+                      settled = said_all w.log w;
                       did = did_one at.rule.reached.events id v (told at) sound.settled.named sound.settled.unsaid
                           (Pop q);
                       story = story_now at (set s.words (head_word q) new) (set s.homes i none) w.log w rule at.there;

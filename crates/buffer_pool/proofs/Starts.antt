@@ -1,9 +1,9 @@
 -- The words and slots that a pool is made of meet the rule.
-use Rattle.std.proofs.Common.{◌≡◌, ℕ, zero, suc, ◌+◌, ◌%◌, ◌<◌, ◌≤◌, if◌then◌else◌, List, [], ◌∷◌, ◌++◌, length, map}
-use Rattle.std.proofs.Common.{replicate, Option, Some, None, All, set, slice_index, ap, sym, refl, subst, ◌∙◌, ⊎_elim}
-use Rattle.std.proofs.Common.{length-set, lt-ltb, le-ltb, arith}
+use Rattle.std.proofs.Common.{◌≡◌, ◌≢◌, ℕ, zero, suc, ◌+◌, ◌%◌, ◌<◌, ◌≤◌, if◌then◌else◌, List, [], ◌∷◌, ◌++◌, length}
+use Rattle.std.proofs.Common.{map, replicate, Option, Some, None, All, set, slice_index, ap, sym, refl, subst, ◌∙◌}
+use Rattle.std.proofs.Common.{⊎_elim, length-set, lt-ltb, le-ltb, arith}
 use Rattle.buffer_pool.proofs.Terms.{get_or-set_same, get_or-set_other, length-replicate, length-map, All-append}
-use Rattle.buffer_pool.proofs.Terms.{cases_lt, some, some-injective, some-ne-none, dec_le, get_elem?, TableId, head_of}
+use Rattle.buffer_pool.proofs.Terms.{cases_lt, some, some-injective, some-ne-none, get_elem?, TableId, head_of}
 use Rattle.buffer_pool.proofs.Terms.{index_of, Which, Full, Empty, Setup, first_heads, first_link, SeatView, no_counts}
 use Rattle.buffer_pool.proofs.Terms.{whole, new_book, LeadsToBook, first_log, IsInside, IsLaid, IsSound, first_view}
 use Rattle.buffer_pool.proofs.Terms.{HasFirstWords, IsFirstSlot, mark_in, mark_words, pair_mark, first_mark, head_word}
@@ -29,9 +29,9 @@ heads_alone count tag x y long full empty =
     record {
       word_count = length-set bare 16 y ∙ long_as;
       heads = heads;
-      idle = idle;
+      idle = elsewhere 8 (λ f. omega (arith, f)) (λ f. omega (arith, f));
       links = λ i low. absurd (omega (arith, low));
-      rest = rest;
+      rest = λ k far. elsewhere k (λ f. omega (arith, f, far)) (λ f. omega (arith, f, far));
     }
   where
     bare : List ℕ
@@ -45,13 +45,9 @@ heads_alone count tag x y long full empty =
         ∙ get_or-set_same (replicate count 0) 0 x 0 (omega (arith, long, length-replicate {A = ℕ} count 0))) ∙ full
     heads Empty = ap head_of (get_or-set_same bare 16 y 0 (omega (arith, long, long_as))) ∙ empty
 
-    idle : slice_index (set bare 16 y) 8 ≡ 0
-    idle = get_or-set_other bare 16 8 y 0 (λ f. omega (arith, f))
-        ∙ get_or-set_other (replicate count 0) 0 8 x 0 (λ f. omega (arith, f)) ∙ zeros count 8
-
-    rest : (k : ℕ) → 31 + 1 ≤ k → slice_index (set bare 16 y) k ≡ 0
-    rest k far = get_or-set_other bare 16 k y 0 (λ f. omega (arith, f, far))
-        ∙ get_or-set_other (replicate count 0) 0 k x 0 (λ f. omega (arith, f, far)) ∙ zeros count k
+    elsewhere : (k : ℕ) → k ≢ 0 → k ≢ 16 → slice_index (set bare 16 y) k ≡ 0
+    elsewhere k full empty = get_or-set_other bare 16 k y 0 (λ f. empty (omega (arith, f)))
+        ∙ get_or-set_other (replicate count 0) 0 k x 0 (λ f. full (omega (arith, f))) ∙ zeros count k
 
 -- one more link is laid
 pub link_laid : (count tag next at x : ℕ) (words : List ℕ) → HasFirstWords count tag next words → 0 < next
@@ -59,29 +55,18 @@ pub link_laid : (count tag next at x : ℕ) (words : List ℕ) → HasFirstWords
 link_laid count tag next at x words first some_link place inside value =
     record {
       word_count = length-set words at x ∙ first.word_count;
-      heads = heads;
+      heads = λ q. ap head_of (get_or-set_other words at (head_word q) x 0 (λ f. omega (arith, f, head_below q)))
+          ∙ first.heads q;
       idle = get_or-set_other words at 8 x 0 (λ f. omega (arith, f, place)) ∙ first.idle;
-      links = links;
-      rest = rest;
+      links = λ i low. ⊎_elim (λ earlier. get_or-set_other words at (link_word i) x 0 (λ f. omega (arith, f, earlier))
+          ∙ first.links i earlier) (λ last. here i (omega (arith, last, low)) (omega (arith, last, low)))
+          (cases_lt (i + 1) next);
+      rest = λ k far. get_or-set_other words at k x 0 (λ f. omega (arith, f, far)) ∙ first.rest k (omega (arith, far));
     }
   where
-    heads : (q : Which) → head_of (slice_index (set words at x) (head_word q)) ≡ first_heads tag q
-    heads q = ap head_of (get_or-set_other words at (head_word q) x 0 (λ f. omega (arith, f, head_below q)))
-        ∙ first.heads q
-
-    links : (i : ℕ) → i + 1 < next + 1 → slice_index (set words at x) (link_word i) ≡ i + 2
-    links i low = go (dec_le next (i + 1))
-      where
-        go : Dec (next ≤ i + 1) → slice_index (set words at x) (link_word i) ≡ i + 2
-        go (yes last) =
-            let here : at ≡ 32 + i = omega (arith, last, low) in
-            subst (λ k. slice_index (set words at x) k ≡ i + 2) here
-            (get_or-set_same words at x 0 (omega (arith, first.word_count, inside)) ∙ omega (arith, last, low))
-        go (no earlier) = get_or-set_other words at (link_word i) x 0 (λ f. omega (arith, f, earlier))
-            ∙ first.links i (omega (arith, earlier))
-
-    rest : (k : ℕ) → 31 + (next + 1) ≤ k → slice_index (set words at x) k ≡ 0
-    rest k far = get_or-set_other words at k x 0 (λ f. omega (arith, f, far)) ∙ first.rest k (omega (arith, far))
+    here : (i : ℕ) → at ≡ 32 + i → x ≡ i + 2 → slice_index (set words at x) (link_word i) ≡ i + 2
+    here i same value = subst (λ k. slice_index (set words at x) k ≡ i + 2) same
+        (get_or-set_same words at x 0 (omega (arith, first.word_count, inside)) ∙ value)
 
 -- slots of new buffers are those of an opening marking
 module _ {B : Type 0} (r : Reading B) (size : ℕ) where
@@ -139,23 +124,17 @@ starts {B} r e words slots some_buffer first count all =
     }
   where
     linked : (i : ℕ) → i < e.buffers → slice_index words (link_word i) ≤ e.buffers
-    linked i low = go (dec_le e.buffers (i + 1))
-      where
-        go : Dec (e.buffers ≤ i + 1) → slice_index words (link_word i) ≤ e.buffers
-        go (yes last) = omega (arith, first.rest (link_word i) (omega (arith, last)))
-        go (no earlier) = omega (arith, earlier, first.links i (omega (arith, earlier)))
+    linked i low = ⊎_elim (λ earlier. omega (arith, earlier, first.links i earlier))
+        (λ last. omega (arith, first.rest (link_word i) (omega (arith, last)))) (cases_lt (i + 1) e.buffers)
 
     linked_first : (i : ℕ) → i < e.buffers → index_of (slice_index words (link_word i)) ≡ first_link e.buffers i
-    linked_first i low = go (dec_le e.buffers (i + 1))
-      where
-        go : Dec (e.buffers ≤ i + 1) → index_of (slice_index words (link_word i)) ≡ first_link e.buffers i
-        go (yes last) = ap index_of (first.rest (link_word i) (omega (arith, last)))
-            ∙ sym (ap (λ t. if t then Some (i + 1) else None) (le-ltb (i + 1) e.buffers last))
-        go (no earlier) =
-            let two : slice_index words (link_word i) ≡ suc (i + 1) =
-            omega (arith, first.links i (omega (arith, earlier))) in
-            ap index_of two ∙ sym (ap (λ t. if t then Some (i + 1) else None)
-            (lt-ltb (i + 1) e.buffers (omega (arith, earlier))))
+    linked_first i low = ⊎_elim
+        (λ earlier.
+        let two : slice_index words (link_word i) ≡ suc (i + 1) = omega (arith, first.links i earlier) in
+        ap index_of two ∙ sym (ap (λ t. if t then Some (i + 1) else None) (lt-ltb (i + 1) e.buffers earlier)))
+        (λ last. ap index_of (first.rest (link_word i) (omega (arith, last)))
+        ∙ sym (ap (λ t. if t then Some (i + 1) else None) (le-ltb (i + 1) e.buffers last)))
+        (cases_lt (i + 1) e.buffers)
 
     -- past the buffers both have no link
     links : (i : ℕ) → cut e.buffers (λ k. index_of (slice_index words (link_word k))) i ≡ first_link e.buffers i

@@ -2,16 +2,15 @@
 use Rattle.std.proofs.Common.{◌≡◌, ◌≢◌, ℕ, zero, suc, ◌+◌, ◌<◌, ◌≤◌, nat_lt, if◌then◌else◌, List, [], ◌∷◌, length, map}
 use Rattle.std.proofs.Common.{Option, Some, None, set, slice_index, slice_set, ap, subst₂, sym, refl, subst, ◌∙◌}
 use Rattle.std.proofs.Common.{⊎_elim, length-set, lt-ltb, le-ltb, arith}
-use Rattle.buffer_pool.proofs.Terms.{map-set, set-set, set-get_or, cases_lt, none, some, some-injective, some-ne-none}
-use Rattle.buffer_pool.proofs.Terms.{ℕ_discrete, get_elem?, State, Me, Act, Allows, Valid, put_back, stepped}
-use Rattle.buffer_pool.proofs.Terms.{carried_after, gives, chain, at_map, at_set, set_here, set_else, set_again, Which}
-use Rattle.buffer_pool.proofs.Terms.{StandsAt, times, Account, no_share, Setup, Marking, put, Event, Kind, effect, Full}
-use Rattle.buffer_pool.proofs.Terms.{Empty, head_of, Counts, LeadTo, counted, counts_at, no_counts, Law, held_times}
-use Rattle.buffer_pool.proofs.Terms.{at_below, at_get_or, put_here, put_else, lawful_where, leads_on, terms_le}
-use Rattle.buffer_pool.proofs.Terms.{held_apart, place_one, stacked_below, top_stands, SeatView, AreViewsOf, HasSaidAll}
-use Rattle.buffer_pool.proofs.Terms.{IsViewOf, logged, RestsWith, Book, counts_of, Log, LeadsToBook, head_word}
-use Rattle.buffer_pool.proofs.Terms.{link_word, Reading, IsTied, Rests, Carries, free, slot_of, slots_of, Reached, Rule}
-use Rattle.buffer_pool.proofs.Terms.{account_of, cut, marking_of, view_counts}
+use Rattle.buffer_pool.proofs.Terms.{map-set, set-set, set-get_or, cases_lt, some, ℕ_discrete, get_elem?, State, Me}
+use Rattle.buffer_pool.proofs.Terms.{Act, Allows, Valid, put_back, stepped, carried_after, gives, chain, at_map, at_set}
+use Rattle.buffer_pool.proofs.Terms.{set_here, set_else, set_again, Which, StandsAt, times, Account, no_share, Setup}
+use Rattle.buffer_pool.proofs.Terms.{Marking, put, Event, Kind, effect, Full, Empty, head_of, Counts, LeadTo, counted}
+use Rattle.buffer_pool.proofs.Terms.{counts_at, no_counts, Law, held_times, at_below, at_get_or, put_here, put_else}
+use Rattle.buffer_pool.proofs.Terms.{lawful_where, leads_on, terms_le, held_apart, place_one, stacked_below, top_stands}
+use Rattle.buffer_pool.proofs.Terms.{SeatView, AreViewsOf, HasSaidAll, IsViewOf, logged, RestsWith, Book, counts_of}
+use Rattle.buffer_pool.proofs.Terms.{Log, LeadsToBook, head_word, link_word, Reading, IsTied, Rests, Carries, free}
+use Rattle.buffer_pool.proofs.Terms.{slot_of, slots_of, Reached, Rule, account_of, cut, marking_of, view_counts}
 use mathlib.Core.Option as maybe
 use Rattle.mark_core.specs.Events as may
 use Rattle.buffer_pool.proofs.Deeds.{and_then, log_of, told_free, told_set, told_seen, told_step, did_one}
@@ -75,6 +74,10 @@ counts_set = map-set view_counts
 
 pub nothing_out : (n : ℕ) → n ≡ 0 → (i : ℕ) → n ≡ suc i → ⊥
 nothing_out n z i s = omega (arith, z, s)
+
+-- a seat whose log is up to date has said all
+pub said_all : (log : Log) (v : SeatView) → HasSaidAll (logged log v)
+said_all log v = record { named = refl; unsaid = refl }
 
 -- a word written again leaves the rule as it is
 pub written_again :

@@ -10,7 +10,7 @@ pub use Rattle.std.proofs.lemmas.List.Elements.{All-contains, All-append}
 pub use Rattle.std.proofs.lemmas.List.FromFn.{get_or-map-range_with_len, length-map-range_with_len}
 pub use Rattle.std.proofs.lemmas.Nat.Bits.{bit_at_or, bit_at_cat_low, bit_at_cat_high, bit_at_above, bit_at-zero}
 pub use Rattle.std.proofs.lemmas.Nat.Bits.{bit_at-lt, bit_at_not, shr_and_one, bit_at-trailing_zeros}
-pub use Rattle.atomic_table.proofs.Lists.{at_map, at_set, set_here, set_else, exchanged, at_snoc, set_again}
+pub use Rattle.atomic_table.proofs.Lists.{at_map, at_set, set_here, set_else, exchanged, at_snoc, at_longer, set_again}
 pub use Rattle.atomic_table.specs.Seated.{TableId}
 pub use Rattle.atomic_table.specs.Table.{State, Me, Step, Allows, step, keeps, Final, Seen, Splits, Joins, Act, Valid}
 pub use Rattle.atomic_table.specs.Table.{stepped, carried_after, takes, rest, gives, put_back, chain}

@@ -1,18 +1,17 @@
 -- A try that was lost may be made again.
-use Rattle.std.proofs.Common.{◌≡◌, ◌∙◌, ℕ, ◌++◌, Option, sym, subst}
+use Rattle.std.proofs.Common.{◌≡◌, ◌∙◌, ℕ, List, ◌++◌, Option, sym, subst}
 use Rattle.buffer_pool.proofs.Terms.{Head, Which, Full, Empty, Book, loaded, link_loaded, failed, Holder, HeldBuffer}
 use Rattle.buffer_pool.proofs.Terms.{MayPush, TriesPop, TriesPush, lost_pops, try_pop_steps, Did, Log, TryPopped}
-use Rattle.buffer_pool.proofs.Terms.{IsBusy}
+use Rattle.buffer_pool.proofs.Terms.{IsBusy, lost_pushes, try_push_steps}
+use Rattle.buffer_pool.specs.declared.answers.TryPushed.{TryPushed}
 use Rattle.buffer_pool.proofs.Deeds.{did_on}
 use Rattle.buffer_pool.specs.declared.answers.TryPopped.TheVariants as try_pop
 use Rattle.buffer_pool.specs.declared.answers.TryPushed.TheVariants as try_push
 
 may_loaded : (q : Which) (h : HeldBuffer) (head : Head) (b : Book) → MayPush q h b
     → MayPush q h (failed (loaded q head b))
-may_loaded Full h head b may =
-    record { held = may.held; size = may.size; charged = may.charged; bare = may.bare; busy = may.busy }
-may_loaded Empty h head b may =
-    record { held = may.held; size = may.size; charged = may.charged; bare = may.bare; busy = may.busy }
+may_loaded Full h head b m = record { held = m.held; size = m.size; charged = m.charged; bare = m.bare; busy = m.busy }
+may_loaded Empty h head b m = record { held = m.held; size = m.size; charged = m.charged; bare = m.bare; busy = m.busy }
 
 pub may_again : (q : Which) (h back : HeldBuffer) (old new : Book) → MayPush q h old
     → TriesPush q h old new (try_push.Lost back) → MayPush q back new
@@ -41,3 +40,17 @@ pub pop_did : (q : Which) (old mid new : Log) (tried : TryPopped HeldBuffer)
     → (lost : ℕ) × Did old (lost_pops q lost ++ try_pop_steps q tried) new
 pop_did q old mid new tried was did =
     (was.0, did_on old mid new (lost_pops q was.0) (try_pop_steps q tried) was.1 did)
+
+-- and the same of a push, of a buffer that bears two names
+pub push_did :
+    (q : Which) (h k : HeldBuffer) (old mid new : Log) (tried : TryPushed HeldBuffer) → k ≡ h
+    → ((links : List (Option ℕ)) × Did old (lost_pushes q h links) mid)
+    → ((link : Option ℕ) × Did mid (try_push_steps q k link tried) new)
+    → (links : List (Option ℕ)) × (link : Option ℕ)
+    × Did old (lost_pushes q h links ++ try_push_steps q h link tried) new
+push_did q h k old mid new tried same was did = (
+  was.0,
+  did.0,
+  did_on old mid new (lost_pushes q h was.0) (try_push_steps q h did.0 tried) was.1
+      (subst (λ x. Did mid (try_push_steps q x did.0 tried) new) same did.1),
+)
