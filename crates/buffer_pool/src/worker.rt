@@ -34,7 +34,7 @@ impl<A: Allocator> Worker<A> {
 
     /// What each worker keeps, said of this one: the buffers that it holds are the pool's, and what it answers for are
     /// objects. So what is popped from full may be scanned. The call does nothing.
-    pub fn stays_within(&self)
+    pub fn recall_within(&self)
         ensures { IsWithin self.now.book.setup self.now.book.account }
     {
         // Read so that what the seat keeps is known here.
@@ -43,7 +43,7 @@ impl<A: Allocator> Worker<A> {
 
     /// What each worker keeps, said of this one: it finished no object twice, so no more objects than there are.
     /// The call does nothing.
-    pub fn has_finished_few(&self)
+    pub fn recall_few_finished(&self)
         ensures once { (o : ℕ) → times o self.now.book.account.finished ≤ 1 }
         ensures few { length self.now.book.account.finished ≤ self.now.book.setup.objects }
     {
@@ -55,7 +55,7 @@ impl<A: Allocator> Worker<A> {
     /// the worker has its book. So what it was told happened: a `Lost` has a failed exchange in the story that was
     /// possible there, and another worker exchanged that head since its load (`mark_core::all_runs_keep_law`, clause
     /// `losses`). The call does nothing.
-    pub fn keeps_its_story(&self)
+    pub fn recall_story(&self)
         ensures { LeadsToBook self.now.log self.now.book }
     {
         // Read so that what the seat keeps is known here.

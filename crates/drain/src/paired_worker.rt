@@ -244,7 +244,7 @@ impl<A: Allocator> PairedWorker<A> {
         let Some(object) = self.pair.get(rt, pool, &mut self.worker)? else {
             return Ok(None);
         };
-        self.worker.stays_within();
+        self.worker.recall_within();
         Ok(Some(object))
     }
 

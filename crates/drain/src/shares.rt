@@ -39,8 +39,8 @@ fn join_share<A: Allocator, V: Measured>(
         worker: other,
         tally: more,
     } = back;
-    worker.has_finished_few();
-    other.has_finished_few();
+    worker.recall_few_finished();
+    other.recall_few_finished();
     tally.join(&more);
     let worker = pool.join(worker, other);
     Tallied { worker, tally }

@@ -47,10 +47,10 @@ fn push_alone<A: Allocator>(
     requires alone { worker.old.book.account.share ≡ whole }
     ensures never { WasNotLost result }
 {
-    worker.stays_within();
-    worker.keeps_its_story();
+    worker.recall_within();
+    worker.recall_story();
     let tried = pool.try_push(worker, which, held);
-    worker.keeps_its_story();
+    worker.recall_story();
     tried
 }
 

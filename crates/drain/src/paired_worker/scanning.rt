@@ -103,7 +103,7 @@ impl<A: Allocator> PairedWorker<A> {
     {
         let (class, mut rest) = given;
         self.claim_and_finish(rt, job.pool, seen, object, class, &mut rest)?;
-        self.worker.has_finished_few();
+        self.worker.recall_few_finished();
         job.graph.recall_measure();
         tally.add(rest.read());
         Ok(())

@@ -15,7 +15,7 @@ pub join-requires-clause-small : goal.join-requires-clause-small
 join-requires-clause-small g c =
     let leader = c.args.leader in
     tally_is_small leader.worker.book.setup.objects (g.V.Measured.measure c.args.graph.now) c.requires.measure
-    leader.worker.book.account.finished c.has_finished_few.ensures.few leader.tally.rows.items leader.tally.unresolved
+    leader.worker.book.account.finished c.recall_few_finished.ensures.few leader.tally.rows.items leader.tally.unresolved
     c.requires.tally
 
 pub join-requires-clause-others : goal.join-requires-clause-others
@@ -23,7 +23,7 @@ join-requires-clause-others g c =
     let leader = c.args.leader.worker in
     let back = c.args.back in
     let few = subst (λ (e : Setup). length back.worker.book.account.finished ≤ e.objects) c.requires.back.setup
-    c.has_finished_few-2.ensures.few in
+    c.recall_few_finished-2.ensures.few in
     tally_is_small leader.book.setup.objects (g.V.Measured.measure c.args.graph.now) c.requires.measure
     back.worker.book.account.finished few back.tally.rows.items back.tally.unresolved c.requires.back.tally
 

@@ -15,6 +15,6 @@ returns g c =
     let at_work = dealt old.pair old.worker [] (o ∷ []) pair new deals [] got.going c.requires.at_work in
     record {
       goes_on = dealt_goes_on old.pair old.worker [] (o ∷ []) pair new deals got.pool;
-      some = (at_work, got_is_object o pair new at_work c.stays_within.ensures.charge);
+      some = (at_work, got_is_object o pair new at_work c.recall_within.ensures.charge);
       none = search rules;
     }

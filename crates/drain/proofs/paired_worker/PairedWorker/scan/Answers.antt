@@ -35,7 +35,7 @@ add-requires g c =
     record {
       row = omega (arith, scan.row, bounded.within o c.requires.below, c.requires.tally.each);
       small = small_before m (g.V.Edges.count graph) o old c.claim_and_finish.new.self.worker c.args.tally.now bounded
-          objects done.finished c.has_finished_few.ensures.few c.requires.tally;
+          objects done.finished c.recall_few_finished.ensures.few c.requires.tally;
       bytes = omega (arith, scan.bytes, bounded.few_bytes o);
       unresolved = omega (arith, scan.unresolved, bounded.few_unresolved o);
     }

@@ -3,7 +3,7 @@
 use Rattle.std.proofs.Common.{length, subst, ℕ, ◌≤◌}
 use Rattle.buffer_pool.proofs.Terms.{times, Holder}
 use Rattle.buffer_pool.proofs.Few.{few_finished, once_finished}
-use Rattle.buffer_pool.proofs.worker.Worker.has_finished_few.Goals as goal
+use Rattle.buffer_pool.proofs.worker.Worker.recall_few_finished.Goals as goal
 
 pub returns-clause-once : goal.returns-clause-once
 returns-clause-once g c =
