@@ -1,25 +1,15 @@
 -- Identifiers that agree in their lowest bits, by what stands above those.
-use Rattle.std.proofs.Common.{Contains, List, None, Option, Some, ap, arith, get_or, length, position}
-use Rattle.std.proofs.Common.{slice_get, sym, take, ℕ, ◌%◌, ◌*◌, ◌+◌, ◌/◌, ◌<◌, ◌^◌, ◌∙◌, ◌≡◌, ◌≢◌}
+use Rattle.std.proofs.Common.{List, None, Option, Some, ap, arith, get_or, length, position}
+use Rattle.std.proofs.Common.{slice_get, sym, ℕ, ◌%◌, ◌*◌, ◌+◌, ◌/◌, ◌<◌, ◌^◌, ◌∙◌, ◌≡◌, ◌≢◌}
 use Rattle.std.specs.Prelude.{◌==◌}
 use Rattle.std.proofs.lemmas.Bool.{eq-eqb, eqb-false, eqb-true, ne_eqb}
-use Rattle.std.proofs.lemmas.Grind.{common_steps}
-use Rattle.std.proofs.lemmas.List.{get_or-map, length-map, length-take}
+use Rattle.std.proofs.lemmas.List.{get_or-map, length-map}
 use Rattle.std.proofs.lemmas.List.Quantifiers.{position-Some}
 use Rattle.std.proofs.lemmas.Nat.{div-add-mod', div-mul-add, mod-mul-add}
-use Rattle.std.proofs.lemmas.Option.{gets, get_or_from_slice_get, slice_get-get_or, slice_get_within}
+use Rattle.std.proofs.lemmas.Option.{get_or_from_slice_get, slice_get-get_or, slice_get_within}
 use Rattle.id_index.specs.Aligned.{whole_id, whole_ids}
 use Rattle.id_index.specs.Repeats.{IsFirstRepeat}
-use Rattle.id_index.proofs.Bearers.{absent, position_is, position_none}
-
--- an earlier bearer, as a place
-before_in : (ids : List ℕ) (number id : ℕ) → Contains (take number ids) id
-    → (k : ℕ) × (k < number) × (slice_get ids k ≡ Some id)
-before_in ids number id has = (has.0, omega (arith, has.1, length-take number ids), grind (arith, common_steps, gets, has.1, has.2))
-
-in_before : (ids : List ℕ) (number id k : ℕ) → k < number → slice_get ids k ≡ Some id
-    → Contains (take number ids) id
-in_before ids number id k below e = (k, grind (arith, common_steps, gets), grind (arith, common_steps, gets))
+use Rattle.id_index.proofs.Bearers.{before_in, in_before, absent, position_is, position_none}
 
 module _ (shift low : ℕ) (fits : low < 2 ^ shift) where
   -- the identifier at a place

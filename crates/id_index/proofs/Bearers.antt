@@ -6,12 +6,12 @@ use Rattle.std.specs.Prelude.{◌==◌, IfSome, IsTrue, MatchOption, nat_lt, ◌
 use Rattle.std.specs.Int.{bit_at}
 use Rattle.std.specs.List.{position_or_len}
 use Rattle.std.proofs.lemmas.Bool.{lt-ltb, eqb-true, eqb-false, cond_above, cond_below, eq-eqb, ltb-true, ne_eqb}
-use Rattle.std.proofs.lemmas.List.{get_or-take, length-take}
+use Rattle.std.proofs.lemmas.List.{length-take}
 use Rattle.std.proofs.Math.Nat.{lt_of_not-le}
 use Rattle.std.proofs.lemmas.List.Quantifiers.{position-Some}
-use Rattle.std.proofs.lemmas.Grind.{get_or_default_zero}
+use Rattle.std.proofs.lemmas.Grind.{common_steps}
 use Rattle.std.proofs.lemmas.List.Sums.{fails_before_first, position_or_len_is}
-use Rattle.std.proofs.lemmas.Option.{get_or_from_slice_get, slice_get-get_or, slice_get_within}
+use Rattle.std.proofs.lemmas.Option.{gets, get_or_from_slice_get, slice_get-get_or, slice_get_within}
 use Rattle.id_index.specs.declared.runs.Run.{Run}
 use Rattle.id_index.specs.Runs.{AreAscending, AreFewAPage, HasBearer, IsBearerAt, IsFirstBearer, IsFirstFrom, Tell}
 use Rattle.id_index.specs.Runs.{IsNumberAt, number_in, page_in, rank, run_in}
@@ -109,32 +109,27 @@ none_past runs id from stop up few first (inr many) before k below has =
     let same : page_in runs back ≡ page_in runs k = omega (arith, page, low, rise) in
     few back (omega (arith, e, below)) (same ∙ ap (λ (m : ℕ). page_in runs m) (sym e))
 
-pub get_or_id : (ids : List ℕ) (k id : ℕ) → k < length ids → get_or ids k 0 ≡ id → get_or ids k id ≡ id
-get_or_id ids k id h e = get_or_default_zero ids k id h ∙ e
+-- an earlier object with an identifier, by its number
+pub before_in : (ids : List ℕ) (number id : ℕ) → Contains (take number ids) id
+    → (k : ℕ) × (k < number) × (slice_get ids k ≡ Some id)
+before_in ids number id has =
+    (has.0, omega (arith, has.1, length-take number ids), grind (arith, common_steps, gets, has.1, has.2))
+
+pub in_before : (ids : List ℕ) (number id k : ℕ) → k < number → slice_get ids k ≡ Some id
+    → Contains (take number ids) id
+in_before ids number id k below e = (k, grind (arith, common_steps, gets), grind (arith, common_steps, gets))
 
 -- an earlier object bears the identifier exactly where the first one that bears it is earlier
 pub earlier : (ids : List ℕ) (id number first : ℕ) → Some first ≡ position (λ x. x == id) ids
     → IsTrue (nat_lt first number) ↔ Contains (take number ids) id
 earlier ids id number first e =
-    let it = position-Some (λ x. x == id) ids first 0 (sym e) in
-    let here : get_or ids first 0 ≡ id = eqb-true (get_or ids first 0) id it.1 in (
-      (λ less. let below : first < number = ltb-true first number less in (
-        first,
-        simp length-take (omega (arith, below, it.0)),
-        get_or-take number ids first id below
-            ∙ get_or_id ids first id it.0 here,
-      )),
-      (λ has. let below : has.0 < number = omega (arith, has.1, length-take number ids) in
-          let within : has.0 < length ids = omega (arith, has.1, length-take number ids) in
-          let there : get_or ids has.0 0 ≡ id =
-          sym (get_or_default_zero ids has.0 id within) ∙ sym (get_or-take number ids has.0 id below) ∙ has.2 in
-          let late : ¬ (has.0 < first) =
-          λ (lt : has.0 < first). eqb-false (get_or ids has.0 0) id (it.2 has.0 lt) there in
-          lt-ltb first number (omega (
-            arith,
-            below,
-            lt_of_not-le {n = has.0 + 1} {m = first} (λ le. late (omega (arith, le))),
-          ))),
+    let it = position-Some (λ x. x == id) ids first 0 (sym e) in (
+      (λ less. in_before ids number id first (ltb-true first number less)
+          (slice_get-get_or ids first 0 it.0 ∙ ap Some (eqb-true (get_or ids first 0) id it.1))),
+      (λ has. let (k, below, is) = before_in ids number id has in
+          let late : ¬ (k < first) = λ (lt : k < first).
+          eqb-false (get_or ids k 0) id (it.2 k lt) (get_or_from_slice_get ids k id 0 is) in
+          lt-ltb first number (omega (arith, below, late))),
     )
 
 -- nobody bears an identifier that has no position
@@ -151,7 +146,5 @@ absent ids id k e within =
 
 pub nowhere : (ids : List ℕ) (id number : ℕ) → None ≡ position (λ x. x == id) ids → Contains (take number ids) id → ⊥
 nowhere ids id number e has =
-    let within : has.0 < length ids = omega (arith, has.1, length-take number ids) in
-    let below : has.0 < number = omega (arith, has.1, length-take number ids) in
-    absent ids id has.0 e within (sym (get_or_default_zero ids has.0 id within)
-    ∙ sym (get_or-take number ids has.0 id below) ∙ has.2)
+    let (k, below, is) = before_in ids number id has in
+    absent ids id k e (slice_get_within ids k id is) (get_or_from_slice_get ids k id 0 is)

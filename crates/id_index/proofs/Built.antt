@@ -29,33 +29,24 @@ at_push runs run k e = ap (λ (m : ℕ). run_in (runs ++ run ∷ []) m) e ∙ ge
 more_in_turn : (runs : List Run) (run : Run) → AreInTurn runs
     → ((i : ℕ) → i < length runs → end_of (run_in runs i) ≤ run.first) → AreInTurn (runs ++ run ∷ [])
 more_in_turn runs run turn before i j less within =
-    let inside : j < length runs + 1 = omega (arith, within, push_length runs run) in
     elim (cases_eq j (length runs)) [
       | inl last ↦
-          let left : end_of (run_in (runs ++ run ∷ []) i) ≡ end_of (run_in runs i) =
-          ap end_of (in_push runs run i (omega (arith, less, last))) in
-          let right : (run_in (runs ++ run ∷ []) j).first ≡ run.first =
-          ap (λ (l : Run). l.first) (at_push runs run j last) in
-          omega (arith, left, right, before i (omega (arith, less, last)))
+          let below : i < length runs = omega (arith, less, last) in
+          rw (in_push runs run i below, at_push runs run j last) (before i below)
       | inr other ↦
-          let below : j < length runs = omega (arith, inside, other) in
-          let left : end_of (run_in (runs ++ run ∷ []) i) ≡ end_of (run_in runs i) =
-          ap end_of (in_push runs run i (omega (arith, less, below))) in
-          let right : (run_in (runs ++ run ∷ []) j).first ≡ (run_in runs j).first =
-          ap (λ (l : Run). l.first) (in_push runs run j below) in
-          omega (arith, left, right, turn i j less below)
+          let below : j < length runs = omega (arith, within, push_length runs run, other) in
+          rw (in_push runs run i (omega (arith, less, below)), in_push runs run j below) (turn i j less below)
     ]
 
 more_before : (runs : List Run) (run : Run) (count : ℕ)
     → ((i : ℕ) → i < length runs → end_of (run_in runs i) ≤ run.first) → end_of run ≡ count
     → (i : ℕ) → i < length (runs ++ run ∷ []) → end_of (run_in (runs ++ run ∷ []) i) ≤ count
 more_before runs run count before end i within =
-    let inside : i < length runs + 1 = omega (arith, within, push_length runs run) in
     elim (cases_eq i (length runs)) [
-      | inl last ↦ omega (arith, end, ap end_of (at_push runs run i last))
+      | inl last ↦ rw (at_push runs run i last) (omega (arith, end))
       | inr other ↦
-          let below : i < length runs = omega (arith, inside, other) in
-          omega (arith, end, ap end_of (in_push runs run i below), before i below)
+          let below : i < length runs = omega (arith, within, push_length runs run, other) in
+          rw (in_push runs run i below) (omega (arith, end, before i below))
     ]
 
 -- ---- the last run

@@ -1,15 +1,14 @@
 -- One more object: in a place above all others of the last run, or in a run of its own.
-use Rattle.std.proofs.Common.{List, Some, [], ap, arith, get_or, inl, inr, length, length-append, slice_get}
+use Rattle.std.proofs.Common.{List, Some, [], ap, arith, inl, inr, length, length-append, slice_get}
 use Rattle.std.proofs.Common.{subst, sym, ℕ, ◌%◌, ◌*◌, ◌+◌, ◌++◌, ◌/◌, ◌<◌, ◌^◌, ◌∙◌, ◌∷◌, ◌≡◌, ◌≢◌, ◌⊎◌}
 use Rattle.std.specs.Prelude.{bit_or, count_ones}
 use Rattle.std.specs.Int.{bit_at}
-use Rattle.std.proofs.Math.ListN.{get_or-append}
-use Rattle.std.proofs.Math.Seq.{get_or-append_seam}
 use Rattle.std.proofs.lemmas.Bool.{cases_eq}
 use Rattle.std.proofs.lemmas.List.Elements.{Contains-append_left, Contains-push, Contains-push_cases}
 use Rattle.std.proofs.lemmas.Nat.{mod_below}
 use Rattle.std.proofs.lemmas.Nat.Bits.{bit_at-zero}
-use Rattle.std.proofs.lemmas.Option.{get_or_from_slice_get, slice_get-get_or, slice_get_within}
+use Rattle.std.proofs.lemmas.Grind.{common_steps}
+use Rattle.std.proofs.lemmas.Option.{gets}
 use Rattle.id_index.specs.declared.runs.Run.{Run}
 use Rattle.id_index.specs.Runs.{AreComplete, AreSound, HasBearer, number_in, run_of}
 use Rattle.id_index.proofs.Ones.{rank_at_set, rank_below_set, set_before, set_elsewhere, set_here}
@@ -20,30 +19,17 @@ pub push_length : {X : Type 0} (xs : List X) (x : X) → length (xs ++ x ∷ [])
 push_length xs x = length-append xs (x ∷ [])
 
 get_kept : (xs : List ℕ) (x k y : ℕ) → slice_get xs k ≡ Some y → slice_get (xs ++ x ∷ []) k ≡ Some y
-get_kept xs x k y e =
-    let within : k < length xs = slice_get_within xs k y e in
-    slice_get-get_or (xs ++ x ∷ []) k y (omega (arith, within, push_length xs x))
-    ∙ ap Some (get_or-append xs (x ∷ []) y k within ∙ get_or_from_slice_get xs k y y e)
+get_kept xs x k y e = grind (arith, common_steps, gets)
 
 get_last : (xs : List ℕ) (x : ℕ) → slice_get (xs ++ x ∷ []) (length xs) ≡ Some x
-get_last xs x =
-    slice_get-get_or (xs ++ x ∷ []) (length xs) 0 (omega (arith, push_length xs x))
-    ∙ ap Some (get_or-append_seam xs x [] 0)
+get_last xs x = grind (arith, common_steps, gets)
 
 get_either : (xs : List ℕ) (x k y : ℕ) → slice_get (xs ++ x ∷ []) k ≡ Some y
     → (slice_get xs k ≡ Some y) ⊎ ((k ≡ length xs) × (y ≡ x))
 get_either xs x k y e =
-    let within : k < length (xs ++ x ∷ []) = slice_get_within (xs ++ x ∷ []) k y e in
     elim (cases_eq k (length xs)) [
-      | inl last ↦ inr (
-        last,
-        sym (get_or_from_slice_get (xs ++ x ∷ []) k y 0 e)
-            ∙ ap (λ (m : ℕ). get_or (xs ++ x ∷ []) m 0) last ∙ get_or-append_seam xs x [] 0,
-      )
-      | inr other ↦
-          let inside : k < length xs = omega (arith, within, other, push_length xs x) in
-          inl (slice_get-get_or xs k 0 inside
-          ∙ ap Some (sym (get_or-append xs (x ∷ []) 0 k inside) ∙ get_or_from_slice_get (xs ++ x ∷ []) k y 0 e))
+      | inl last ↦ inr (last, grind (arith, common_steps, gets))
+      | inr other ↦ inl (grind (arith, common_steps, gets))
     ]
 
 -- ---- a run with nothing in it

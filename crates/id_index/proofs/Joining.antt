@@ -99,37 +99,26 @@ module _ (xs ys : List Run) (ids more : List ℕ) where
   turn : AreBuilt xs ids → AreInTurn ys → AreInTurn all
   turn first second i j less within =
       elim (cases_lt j (length xs)) [
-        | inl below ↦ omega (
-          arith,
-          first.turn i j less below,
-          ap end_of (in_first i (omega (arith, less, below))),
-          ap (λ (l : Run). l.first) (in_first j below),
-        )
-        | inr from ↦
-            let right = ap (λ (l : Run). l.first) (in_second j from within) in
-            elim (cases_lt i (length xs)) [
-              | inl below ↦ omega (arith, first.before i below, ap end_of (in_first i below), right)
-              | inr behind ↦ omega (
-                arith,
-                second (i - length xs) (j - length xs) (omega (arith, less, behind))
-                    (omega (arith, within, many, from)),
-                ap end_of (in_second i behind (omega (arith, less, within))),
-                right,
-              )
-            ]
+        | inl below ↦ rw (in_first i (omega (arith, less, below)), in_first j below) (first.turn i j less below)
+        | inr from ↦ elim (cases_lt i (length xs)) [
+          | inl below ↦ rw (in_first i below, in_second j from within) (omega (arith, first.before i below))
+          | inr behind ↦ rw (in_second i behind (omega (arith, less, within)), in_second j from within) (omega (
+            arith,
+            second (i - length xs) (j - length xs) (omega (arith, less, behind)) (omega (arith, within, many, from)),
+          ))
+        ]
       ]
 
   before : AreBuilt xs ids → AreBuilt ys more → (i : ℕ) → i < length all
       → end_of (run_in all i) ≤ length (ids ++ more)
   before first second i within =
       elim (cases_lt i (length xs)) [
-        | inl below ↦ omega (arith, first.before i below, ap end_of (in_first i below), length-append ids more)
-        | inr from ↦ omega (
+        | inl below ↦ rw (in_first i below) (omega (arith, first.before i below, length-append ids more))
+        | inr from ↦ rw (in_second i from within) (omega (
           arith,
           second.before (i - length xs) (omega (arith, within, many, from)),
-          ap end_of (in_second i from within),
           length-append ids more,
-        )
+        ))
       ]
 
   pub joined : AreBuilt xs ids → AreBuilt ys more → AreBuilt all (ids ++ more)

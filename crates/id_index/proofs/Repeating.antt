@@ -1,22 +1,20 @@
 -- Repeats among ascending runs, and the first object whose identifier an earlier one bears.
-use Rattle.std.proofs.Common.{Contains, List, Some, ap, arith, get_or, inl, inr, length, min, refl, slice_get, subst}
+use Rattle.std.proofs.Common.{Contains, List, Some, ap, arith, inl, inr, length, min, refl, slice_get, subst}
 use Rattle.std.proofs.Common.{sym, take, ℕ, ◌%◌, ◌*◌, ◌+◌, ◌-◌, ◌/◌, ◌<◌, ◌^◌, ◌∙◌, ◌≡◌, ◌≢◌, ◌≤◌}
 use Rattle.std.specs.Prelude.{bit_and, count_ones}
 use Rattle.std.specs.Int.{bit_at, trailing_zeros, w64}
 use Rattle.std.proofs.Math.Nat.{min-eq_left, min-eq_right, min-le_left, min-le_right}
 use Rattle.std.proofs.lemmas.Bool.{cases_lt, cases_order}
-use Rattle.std.proofs.lemmas.List.{get_or-take, length-take}
 use Rattle.std.proofs.lemmas.List.Elements.{Contains-get_or}
-use Rattle.std.proofs.lemmas.Grind.{get_or_default_zero}
 use Rattle.std.proofs.lemmas.Nat.{and_le_r, div-mul-add, mod-mul-add}
 use Rattle.std.proofs.lemmas.Nat.Bits.{bit_at-lt, bit_at-trailing_zeros, bit_at-zero, bit_at_and}
-use Rattle.std.proofs.lemmas.Option.{get_or_from_slice_get, slice_get-get_or, slice_get_within}
+use Rattle.std.proofs.lemmas.Option.{slice_get_within}
 use Rattle.id_index.specs.declared.runs.Run.{Run}
 use Rattle.id_index.specs.Runs.{AreComplete, AreSound, HasBearer, end_of, no_run, number_in, page_in, rank, run_in}
 use Rattle.id_index.specs.Repeats.{AreSeen, IsFirstRepeat, IsLeastRepeat, IsLowered, IsRepeatAt}
 use Rattle.id_index.specs.Settling.{AreSorted}
 use Rattle.id_index.proofs.Apart.{ends_in_turn}
-use Rattle.id_index.proofs.Bearers.{get_or_id}
+use Rattle.id_index.proofs.Bearers.{before_in, in_before}
 use Rattle.id_index.proofs.Ones.{rank_grows, rank_less_than_all}
 use Rattle.id_index.proofs.Seen.{below_or_at, seen_all, seen_only}
 use Rattle.id_index.proofs.Settled.{before_end}
@@ -121,14 +119,6 @@ module _ (runs : List Run) (at page seen before : ℕ) (sorted : AreSorted runs)
 some_same : (x y : ℕ) → Some x ≡ Some y → x ≡ y
 some_same x y e = cc
 
-taken_before : (ids : List ℕ) (number k id : ℕ) → k < number → slice_get ids k ≡ Some id → Contains (take number ids) id
-taken_before ids number k id below e =
-    let within : k < length ids = slice_get_within ids k id e in (
-      k,
-      simp length-take (omega (arith, below, within)),
-      get_or-take number ids k id below ∙ get_or_id ids k id within (get_or_from_slice_get ids k id 0 e),
-    )
-
 module _ (runs : List Run) (ids : List ℕ) (count number : ℕ) (sorted : AreSorted runs)
     (sound : AreSound runs ids) (complete : AreComplete runs ids) (len : length ids ≡ count)
     (it : IsLeastRepeat runs (length runs) count number) where
@@ -177,17 +167,14 @@ module _ (runs : List Run) (ids : List ℕ) (count number : ℕ) (sorted : AreSo
       ends_in_turn runs a b sorted.sorted sorted.apart repeat.order within repeat.page in
       let less : rank (run_in runs a).places place < count_ones (run_in runs a).places =
       rank_less_than_all (run_in runs a).places place repeat.earlier in
-      taken_before ids number (number_in (run_in runs a) place) id (omega (arith, end, less, is))
+      in_before ids number id (number_in (run_in runs a) place) (omega (arith, end, less, is))
       (earlier ∙ ap Some same)
 
   pub first_repeat : IsFirstRepeat ids number
   first_repeat = record {
     first = λ k id below e has.
-        let under : has.0 < k = omega (arith, has.1, length-take k ids) in
-        let within : has.0 < length ids = omega (arith, has.1, length-take k ids) in
-        let there : get_or ids has.0 0 ≡ id =
-        sym (get_or_default_zero ids has.0 id within) ∙ sym (get_or-take k ids has.0 id under) ∙ has.2 in
-        let (x, in_x, has_x, is_x) = complete id has.0 (slice_get-get_or ids has.0 0 within ∙ ap Some there) in
+        let (j, under, there) = before_in ids k id has in
+        let (x, in_x, has_x, is_x) = complete id j there in
         let (y, in_y, has_y, is_y) = complete id k e in
         let (a, below_a, same_a) = stands runs x in_x in
         let (b, below_b, same_b) = stands runs y in_y in
@@ -195,11 +182,11 @@ module _ (runs : List Run) (ids : List ℕ) (count number : ℕ) (sorted : AreSo
         subst (λ (l : Run). HasBearer l id) (sym same_a) has_x in
         let bears_b : HasBearer (run_in runs b) id =
         subst (λ (l : Run). HasBearer l id) (sym same_b) has_y in
-        let number_a : number_in (run_in runs a) (id % 64) ≡ has.0 =
+        let number_a : number_in (run_in runs a) (id % 64) ≡ j =
         ap (λ (l : Run). number_in l (id % 64)) same_a ∙ is_x in
         let number_b : number_in (run_in runs b) (id % 64) ≡ k =
         ap (λ (l : Run). number_in l (id % 64)) same_b ∙ is_y in
-        let order : a < b = in_run_order id has.0 k a b below_a below_b bears_a bears_b number_a number_b under in
+        let order : a < b = in_run_order id j k a b below_a below_b bears_a bears_b number_a number_b under in
         let low : number ≤ number_in (run_in runs b) (id % 64) =
         it.least a b (id % 64) (record {
           order = order;

@@ -71,24 +71,16 @@ module _ (runs : List Run) (at : ℕ) (kept : List Run) (sorted : AreSorted runs
   own_at : (k : ℕ) → k ≡ length kept → run_in more k ≡ here
   own_at k e = at_push kept here k e
 
-  old_page : (k : ℕ) → k < length kept → page_in more k ≡ page_in kept k
-  old_page k h = ap (λ (l : Run). l.page) (old_at k h)
-
-  own_page : (k : ℕ) → k ≡ length kept → page_in more k ≡ here.page
-  own_page k e = ap (λ (l : Run). l.page) (own_at k e)
-
   still_rise : (i j : ℕ) → i ≤ j → j < length more → page_in more i ≤ page_in more j
   still_rise i j le h =
       elim (old_or_new j h) [
-        | inl old ↦
-            let old_i : i < length kept = omega (arith, le, old) in
-            omega (arith, old_page i old_i, old_page j old, it.ascending.rise i j le old)
+        | inl old ↦ rw (page_in, old_at i (omega (arith, le, old)), old_at j old) (it.ascending.rise i j le old)
         | inr own ↦ elim (old_or_new i (omega (arith, le, h))) [
           | inl old_i ↦
               let (m, less, same) = it.from i old_i in
-              let up : page_in runs m ≤ here.page = pages_rise runs sorted.sorted m at (omega (arith, less)) below in
-              omega (arith, old_page i old_i, own_page j own, up, ap (λ (l : Run). l.page) same)
-          | inr own_i ↦ omega (arith, own_page i own_i, own_page j own)
+              rw (page_in, old_at i old_i, own_at j own, ← same)
+              (pages_rise runs sorted.sorted m at (omega (arith, less)) below)
+          | inr own_i ↦ rw (page_in, own_at i own_i, own_at j own) (omega arith)
         ]
       ]
 
@@ -96,29 +88,20 @@ module _ (runs : List Run) (at : ℕ) (kept : List Run) (sorted : AreSorted runs
   still_ascending = record {
     rise = still_rise;
     few = λ k h. elim (old_or_new k h) [
-      | inl old ↦ omega (arith, ap end_of (old_at k old), it.ascending.few k old)
-      | inr own ↦ omega (arith, ap end_of (own_at k own), sorted.few at below)
+      | inl old ↦ rw (old_at k old) (it.ascending.few k old)
+      | inr own ↦ rw (own_at k own) (sorted.few at below)
     ];
     apart = λ i j less h page.
         elim (old_or_new j h) [
           | inl old ↦
               let old_i : i < length kept = omega (arith, less, old) in
-              let left : end_of (run_in more i) ≡ end_of (run_in kept i) = ap end_of (old_at i old_i) in
-              let right : (run_in more j).first ≡ (run_in kept j).first = ap (λ (l : Run). l.first) (old_at j old) in
-              omega (
-                arith,
-                left,
-                right,
-                it.ascending.apart i j less old (sym (old_page i old_i) ∙ page ∙ old_page j old),
-              )
+              rw (old_at i old_i, old_at j old)
+              (it.ascending.apart i j less old (rw (page_in, old_at i old_i, old_at j old) at page))
           | inr own ↦
               let old_i : i < length kept = omega (arith, less, own) in
               let (m, earlier, same) = it.from i old_i in
-              let left : end_of (run_in more i) ≡ end_of (run_in kept i) = ap end_of (old_at i old_i) in
-              let right : (run_in more j).first ≡ here.first = ap (λ (l : Run). l.first) (own_at j own) in
-              let page_m : page_in runs m ≡ here.page =
-              ap (λ (l : Run). l.page) same ∙ sym (old_page i old_i) ∙ page ∙ own_page j own in
-              omega (arith, left, right, ap end_of same, ends_before m earlier page_m)
+              rw (old_at i old_i, own_at j own, ← same)
+              (ends_before m earlier (rw (page_in, old_at i old_i, own_at j own, ← same) at page))
         ];
   }
 
@@ -132,23 +115,14 @@ module _ (runs : List Run) (at : ℕ) (kept : List Run) (sorted : AreSorted runs
     ];
     covered = λ i id less has. elim (below_or_at at i less) [
       | inl before ↦
-          let (k, h, bears, low) = it.covered i id before has in (
-            k,
-            omega (arith, h, push_length kept here),
-            subst (λ (l : Run). HasBearer l id) (sym (old_at k h)) bears,
-            omega (arith, low, ap (λ (l : Run). number_in l (id % 64)) (old_at k h)),
-          )
+          let (k, h, bears, low) = it.covered i id before has in
+          (k, omega (arith, h, push_length kept here), rw (old_at k h) bears, rw (old_at k h) low)
       | inr e ↦
-          let mine : HasBearer here id = subst (λ (l : Run). HasBearer l id) (from_here i e) has in
           let own = own_at (length kept) refl in (
             length kept,
             omega (arith, push_length kept here),
-            subst (λ (l : Run). HasBearer l id) (sym own) mine,
-            omega (
-              arith,
-              ap (λ (l : Run). number_in l (id % 64)) own,
-              ap (λ (l : Run). number_in l (id % 64)) (from_here i e),
-            ),
+            rw own (rw (from_here i e) at has),
+            rw (own, from_here i e) (omega arith),
           )
     ];
   }
@@ -192,16 +166,14 @@ module _ (runs : List Run) (at : ℕ) (kept : List Run) (sorted : AreSorted runs
         record {
           last = last_more;
           held = λ k h own. elim (old_or_new k h) [
-            | inl old ↦ omega (arith, held_before k old (sym (old_page k old) ∙ own), grows, long)
+            | inl old ↦ omega (arith, held_before k old (rw (page_in, old_at k old) at own), grows, long)
             | inr e ↦ omega (arith, e, grows, long)
           ];
           pages = λ k h page_k. elim (old_or_new (k + 64) h) [
-            | inl old ↦
-                let old_k : k < length kept = omega (arith, old) in
-                few.pages k old (sym (old_page k old_k) ∙ page_k ∙ old_page (k + 64) old)
+            | inl old ↦ few.pages k old (rw (page_in, old_at k (omega (arith, old)), old_at (k + 64) old) at page_k)
             | inr e ↦
                 let old_k : k < length kept = omega (arith, e) in
-                let own : page_in kept k ≡ here.page = sym (old_page k old_k) ∙ page_k ∙ own_page (k + 64) e in
+                let own : page_in kept k ≡ here.page = rw (page_in, old_at k old_k, own_at (k + 64) e) at page_k in
                 omega (arith, held_before k old_k own, grows, bound, e)
           ];
         }
