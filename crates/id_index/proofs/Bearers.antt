@@ -6,7 +6,7 @@ use Rattle.std.specs.Prelude.{◌==◌, IfSome, IsTrue, MatchOption, nat_lt, ◌
 use Rattle.std.specs.Int.{bit_at}
 use Rattle.std.specs.List.{position_or_len}
 use Rattle.std.proofs.lemmas.Bool.{lt-ltb, eqb-true, eqb-false, cond_above, cond_below, eq-eqb, ltb-true, ne_eqb}
-use Rattle.std.proofs.lemmas.List.{length-take}
+use Rattle.std.proofs.lemmas.List.{get_or_read, length-take}
 use Rattle.std.proofs.Math.Nat.{lt_of_not-le}
 use Rattle.std.proofs.lemmas.List.Quantifiers.{position-Some}
 use Rattle.std.proofs.lemmas.Grind.{common_steps}
@@ -14,8 +14,12 @@ use Rattle.std.proofs.lemmas.List.Sums.{fails_before_first, position_or_len_is}
 use Rattle.std.proofs.lemmas.Option.{gets, get_or_from_slice_get, slice_get-get_or, slice_get_within}
 use Rattle.id_index.specs.declared.runs.Run.{Run}
 use Rattle.id_index.specs.Runs.{AreAscending, AreFewAPage, HasBearer, IsBearerAt, IsFirstBearer, IsFirstFrom, Tell}
-use Rattle.id_index.specs.Runs.{IsNumberAt, number_in, page_in, rank, run_in}
+use Rattle.id_index.specs.Runs.{IsNumberAt, no_run, number_in, page_in, rank, run_in}
 use Rattle.id_index.proofs.Ones.{rank_less_than_all}
+
+-- where a run stands
+pub stands : (runs : List Run) (x : Run) → Contains runs x → (k : ℕ) × (k < length runs) × (run_in runs k ≡ x)
+stands runs x h = (h.0, h.1, sym (get_or_read runs h.0 x h.1 (sym h.2) no_run))
 
 -- the first place that passes
 pub position_is : (p : ℕ → Bool) (xs : List ℕ) (i : ℕ) → i < length xs → ((k : ℕ) → k < i → p (get_or xs k 0) ≡ false)

@@ -9,10 +9,10 @@ use Rattle.std.proofs.Math.Seq.{get_or-append_seam}
 use Rattle.std.proofs.lemmas.Bool.{cases_eq}
 use Rattle.std.proofs.lemmas.List.{append-nil}
 use Rattle.std.proofs.lemmas.List.FromFn.{length-map-range_with_len}
-use Rattle.std.proofs.lemmas.Nat.{mod_below, pow_pos}
+use Rattle.std.proofs.lemmas.Nat.{mod_below, one_shl, pow_pos}
 use Rattle.std.proofs.lemmas.Option.{slice_get_within}
 use Rattle.id_index.specs.declared.runs.Run.{Run}
-use Rattle.id_index.specs.Building.{AreBuilt, AreBuiltUpTo, AreInTurn, AreOpen, ids_built, with_last}
+use Rattle.id_index.specs.Building.{AreBuilt, AreBuiltUpTo, AreFewBuilt, AreInTurn, AreOpen, ids_built, with_last}
 use Rattle.id_index.specs.Runs.{end_of, id_of_number, no_run, run_in, run_of}
 use Rattle.id_index.proofs.Extending.{empty_complete, empty_sound, extend_complete, extend_sound, push_length}
 use Rattle.id_index.proofs.Numbering.{given_back}
@@ -75,7 +75,7 @@ pub ids_count : (runs : List Run) (last : Option Run) (count : ℕ) → length (
 ids_count runs last count = length-map-range_with_len (id_of_number (with_last runs last)) 0 count
 
 -- a last run in place of another
-pub as_many : (runs : List Run) (last : Option Run) (run : Run) (count : ℕ) → length (with_last runs last) ≤ count
+as_many : (runs : List Run) (last : Option Run) (run : Run) (count : ℕ) → length (with_last runs last) ≤ count
     → length (runs ++ run ∷ []) ≤ count + 1
 as_many runs last run count few =
     omega (arith, few, push_length runs run, length-append runs (option_to_list last))
@@ -94,7 +94,7 @@ emptied runs ids page it = record {
 }
 
 -- an object in a place above the others of the last run
-pub placed : (runs : List Run) (ids : List ℕ) (page first word id : ℕ) → AreOpen runs (run_of page first word) ids
+placed : (runs : List Run) (ids : List ℕ) (page first word id : ℕ) → AreOpen runs (run_of page first word) ids
     → page ≡ id / 64 → word < 2 ^ (id % 64)
     → AreOpen runs (run_of page first (bit_or word (1 * 2 ^ (id % 64) % 2 ^ 64))) (ids ++ id ∷ [])
 placed runs ids page first word id it at above = record {
@@ -111,13 +111,58 @@ placed runs ids page first word id it at above = record {
 }
 
 -- an object in a run of its own
-pub begun : (runs : List Run) (ids : List ℕ) (count id : ℕ) → AreBuilt runs ids → count ≡ length ids
+begun : (runs : List Run) (ids : List ℕ) (count id : ℕ) → AreBuilt runs ids → count ≡ length ids
     → AreOpen runs (run_of (id / 64) count (1 * 2 ^ (id % 64) % 2 ^ 64)) (ids ++ id ∷ [])
 begun runs ids count id it len =
     let bit : ℕ = 1 * 2 ^ (id % 64) % 2 ^ 64 in
     subst (λ (n : ℕ). AreOpen runs (run_of (id / 64) n bit) (ids ++ id ∷ [])) (sym len)
     (subst (λ (w : ℕ). AreOpen runs (run_of (id / 64) (length ids) w) (ids ++ id ∷ [])) (or_zero_l bit)
     (placed runs ids (id / 64) (length ids) 0 id (emptied runs ids (id / 64) it) refl (pow_pos (id % 64))))
+
+-- what a builder has then
+module _ (runs : List Run) (last : Option Run) (count : ℕ)
+    (it : AreFewBuilt runs last (ids_built runs last count) count) where
+  abbrev ids : List ℕ
+  ids = ids_built runs last count
+
+  len : length ids ≡ count
+  len = ids_count runs last count
+
+  pub may_add : (old : List ℕ) → ids ≡ old → length old + 1 < 2 ^ 32 → count + 1 < 2 ^ 32
+  may_add old same h = omega (arith, h, len, ap (λ (xs : List ℕ). length xs) same)
+
+  module _ (id : ℕ) (few : count + 1 < 2 ^ 32) where
+    abbrev AreAdded : List Run → Run → Type 0
+    AreAdded more new = AreFewBuilt more (Some new) (ids_built more (Some new) (count + 1)) (count + 1)
+        × (ids_built more (Some new) (count + 1) ≡ ids ++ id ∷ [])
+
+    added : (more : List Run) (new : Run) → AreOpen more new (ids ++ id ∷ []) → length (more ++ new ∷ []) ≤ count + 1
+        → AreAdded more new
+    added more new made fewer =
+        let same : ids ++ id ∷ [] ≡ ids_built more (Some new) (count + 1) =
+        gives more (Some new) (ids ++ id ∷ []) (count + 1) made (omega (arith, len, push_length ids id)) in (
+          record { built = subst (λ (xs : List ℕ). AreOpen more new xs) same made; fewer = fewer; few = few },
+          sym same,
+        )
+
+    -- the object joins the last run
+    pub joins : (run : Run) → last ≡ Some run → run.page ≡ id / 64 → run.places < 1 * 2 ^ (id % 64) % 2 ^ 64
+        → AreAdded runs (run_of run.page run.first (bit_or run.places (1 * 2 ^ (id % 64) % 2 ^ 64)))
+    joins run is page above =
+        let new : Run = run_of run.page run.first (bit_or run.places (1 * 2 ^ (id % 64) % 2 ^ 64)) in
+        added runs new (placed runs ids run.page run.first run.places id
+        (subst (λ (l : Option Run). AreBuiltUpTo runs l ids) is it.built) page
+        (omega (arith, above, one_shl (id % 64) 64 (mod_below id 64 (omega arith)))))
+        (as_many runs last new count it.fewer)
+
+    -- the object begins a run
+    pub begins : (more : List Run) → more ≡ with_last runs last
+        → AreAdded more (run_of (id / 64) count (1 * 2 ^ (id % 64) % 2 ^ 64))
+    begins more closed =
+        let new : Run = run_of (id / 64) count (1 * 2 ^ (id % 64) % 2 ^ 64) in
+        added more new (begun more ids count id
+        (subst (λ (ls : List Run). AreBuilt ls ids) (sym closed) (all_built runs last ids it.built)) (sym len))
+        (omega (arith, it.fewer, push_length more new, ap (λ (ls : List Run). length ls) closed))
 
 pub nothing : AreBuilt [] []
 nothing = record {

@@ -14,11 +14,10 @@ use Rattle.id_index.specs.Runs.{AreComplete, AreSound, HasBearer, end_of, no_run
 use Rattle.id_index.specs.Repeats.{AreSeen, IsFirstRepeat, IsLeastRepeat, IsLowered, IsRepeatAt}
 use Rattle.id_index.specs.Settling.{AreSorted}
 use Rattle.id_index.proofs.Apart.{ends_in_turn}
-use Rattle.id_index.proofs.Bearers.{before_in, in_before}
+use Rattle.id_index.proofs.Bearers.{before_in, in_before, stands}
 use Rattle.id_index.proofs.Ones.{rank_grows, rank_less_than_all}
 use Rattle.id_index.proofs.Seen.{below_or_at, seen_all, seen_only}
 use Rattle.id_index.proofs.Settled.{before_end}
-use Rattle.id_index.proofs.Telling.{stands}
 
 -- ---- one run's repeats
 
@@ -178,14 +177,10 @@ module _ (runs : List Run) (ids : List ℕ) (count number : ℕ) (sorted : AreSo
         let (y, in_y, has_y, is_y) = complete id k e in
         let (a, below_a, same_a) = stands runs x in_x in
         let (b, below_b, same_b) = stands runs y in_y in
-        let bears_a : HasBearer (run_in runs a) id =
-        subst (λ (l : Run). HasBearer l id) (sym same_a) has_x in
-        let bears_b : HasBearer (run_in runs b) id =
-        subst (λ (l : Run). HasBearer l id) (sym same_b) has_y in
-        let number_a : number_in (run_in runs a) (id % 64) ≡ j =
-        ap (λ (l : Run). number_in l (id % 64)) same_a ∙ is_x in
-        let number_b : number_in (run_in runs b) (id % 64) ≡ k =
-        ap (λ (l : Run). number_in l (id % 64)) same_b ∙ is_y in
+        let bears_a : HasBearer (run_in runs a) id = rw same_a has_x in
+        let bears_b : HasBearer (run_in runs b) id = rw same_b has_y in
+        let number_a : number_in (run_in runs a) (id % 64) ≡ j = rw same_a is_x in
+        let number_b : number_in (run_in runs b) (id % 64) ≡ k = rw same_b is_y in
         let order : a < b = in_run_order id j k a b below_a below_b bears_a bears_b number_a number_b under in
         let low : number ≤ number_in (run_in runs b) (id % 64) =
         it.least a b (id % 64) (record {

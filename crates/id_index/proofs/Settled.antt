@@ -50,15 +50,11 @@ module _ (runs : List Run) (at : ℕ) (kept : List Run) (sorted : AreSorted runs
     covered = λ i id less has. elim (below_or_at at i less) [
       | inl before ↦ it.covered i id before has
       | inr e ↦
-          let mine : HasBearer here id = subst (λ (l : Run). HasBearer l id) (from_here i e) has in
+          let mine : HasBearer here id = rw (from_here i e) at has in
           let (j, earlier, page, set) = seen (id % 64) mine.set in
           let (k, h, bears, low) = it.covered j id earlier (record { page = page ∙ mine.page; set = set }) in
           let end : end_of (run_in runs j) ≤ here.first = ends_before j earlier page in
-          let inside : number_in (run_in runs j) (id % 64) ≤ end_of (run_in runs j) =
-          before_end (run_in runs j) (id % 64) in
-          let number : number_in (run_in runs i) (id % 64) ≡ number_in here (id % 64) =
-          ap (λ (l : Run). number_in l (id % 64)) (from_here i e) in
-          (k, h, bears, omega (arith, low, inside, end, number))
+          (k, h, bears, rw (from_here i e) (omega (arith, low, before_end (run_in runs j) (id % 64), end)))
     ];
   }
 

@@ -1,20 +1,19 @@
 -- What settled runs tell of the objects.
-use Rattle.std.proofs.Common.{Contains, IsPermutation, IsSorted, List, Option, Some, ap, arith, length, slice_get}
-use Rattle.std.proofs.Common.{subst, sym, take, ℕ, ◌%◌, ◌<◌, ◌^◌, ◌≡◌, ◌≤◌}
-use Rattle.std.proofs.lemmas.List.{get_or_read}
+use Rattle.std.proofs.Common.{IsPermutation, IsSorted, List, Option, ap, arith, length}
+use Rattle.std.proofs.Common.{subst, sym, take, ℕ, ◌<◌, ◌^◌, ◌≡◌}
+use Rattle.std.proofs.lemmas.List.{length-take-le}
 use Rattle.std.proofs.lemmas.List.Elements.{All-from_get_or, Contains-get_or}
 use Rattle.std.proofs.lemmas.List.Sorted.{All-permutation, Contains-permutation, IsPermutation-sym, length_permutation}
 use Rattle.id_index.specs.declared.runs.Run.{Run}
 use Rattle.id_index.specs.Building.{AreBuilt, AreFewBuilt, ids_built, run_cmp, with_last}
-use Rattle.id_index.specs.Runs.{AreComplete, AreSound, HasBearer, Tell, end_of, ids_of_runs, no_run, number_in, run_in}
+use Rattle.id_index.specs.Repeats.{IsFirstRepeat, IsLeastRepeat}
+use Rattle.id_index.specs.Runs.{AreComplete, AreSound, Tell, end_of, ids_of_runs, no_run, run_in}
 use Rattle.id_index.specs.Settling.{AreSettled, AreSorted}
 use Rattle.id_index.proofs.Apart.{apart_in_turn, apart_moved}
+use Rattle.id_index.proofs.Bearers.{stands}
 use Rattle.id_index.proofs.Built.{all_built, ids_count}
 use Rattle.id_index.proofs.Numbering.{given_back}
-
--- where a run stands
-pub stands : (runs : List Run) (x : Run) → Contains runs x → (k : ℕ) × (k < length runs) × (run_in runs k ≡ x)
-stands runs x h = (h.0, h.1, sym (get_or_read runs h.0 x h.1 (sym h.2) no_run))
+use Rattle.id_index.proofs.Repeating.{first_repeat}
 
 -- ---- in another order
 
@@ -37,6 +36,27 @@ module _ (runs ordered : List Run) (ids : List ℕ) (same : IsPermutation runs o
         (λ i less. omega (arith, few, it.before i less))) k no_run h;
   }
 
+-- ---- those that are kept
+
+module _ (runs now : List Run) (kept : ℕ) (ids : List ℕ) (it : AreSettled runs now (length runs) kept)
+    (sound : AreSound runs ids) (complete : AreComplete runs ids) where
+  tell : Tell (take kept now) ids
+  tell = record {
+    sound = λ k id h has.
+        let (i, less, same) = it.settled.from k h in
+        rw (← same) (sound (run_in runs i) id (Contains-get_or runs i no_run less) (rw same has));
+    earliest = λ id n e.
+        let (run, has, bearer, number) = complete id n e in
+        let (i, less, same) = stands runs run has in
+        let (k, h, bears, low) = it.settled.covered i id less (rw same bearer) in
+        (k, h, bears, omega (arith, rw same at low, number));
+  }
+
+  told : (count : ℕ) → length ids ≡ count → ids ≡ ids_of_runs now count
+  told count len =
+      given_back now ids count (still_sound runs now ids it.same sound) (still_complete runs now ids it.same complete)
+      len
+
 -- ---- from the builder's runs to ascending ones
 
 module _ (runs : List Run) (last : Option Run) (count : ℕ) (all ordered : List Run)
@@ -54,36 +74,34 @@ module _ (runs : List Run) (last : Option Run) (count : ℕ) (all ordered : List
   pub sorted_runs : AreSorted ordered
   sorted_runs = ordered_runs all ordered ids same built (omega (arith, it.few, len)) up
 
-  pub sorted_sound : AreSound ordered ids
-  sorted_sound = still_sound all ordered ids same built.sound
+  sound : AreSound ordered ids
+  sound = still_sound all ordered ids same built.sound
 
-  pub sorted_complete : AreComplete ordered ids
-  sorted_complete = still_complete all ordered ids same built.complete
+  complete : AreComplete ordered ids
+  complete = still_complete all ordered ids same built.complete
 
-  pub sorted_few : length ordered ≤ count
-  sorted_few =
-      omega (arith, length_permutation all ordered same, ap (λ (ls : List Run). length ls) closed, it.fewer)
+  -- what an index of them has
+  module _ (now : List Run) (kept : ℕ) (settled : AreSettled ordered now (length ordered) kept) where
+    pub same_ids : ids ≡ ids_of_runs now count
+    same_ids = told ordered now kept ids settled sound complete count len
 
--- ---- those that are kept
+    pub kept_few : length (take kept now) < 2 ^ 32
+    kept_few = omega (
+      arith,
+      length-take-le kept now (omega (arith, settled.order, settled.long)),
+      settled.order,
+      length_permutation all ordered same,
+      ap (λ (ls : List Run). length ls) closed,
+      it.fewer,
+      it.few,
+    )
 
-module _ (runs now : List Run) (kept : ℕ) (ids : List ℕ) (it : AreSettled runs now (length runs) kept)
-    (sound : AreSound runs ids) (complete : AreComplete runs ids) where
-  pub tell : Tell (take kept now) ids
-  tell = record {
-    sound = λ k id h has.
-        let (i, less, same) = it.settled.from k h in
-        subst (λ (l : Run). slice_get ids (number_in l (id % 64)) ≡ Some id) same
-        (sound (run_in runs i) id (Contains-get_or runs i no_run less)
-        (subst (λ (l : Run). HasBearer l id) (sym same) has));
-    earliest = λ id n e.
-        let (run, has, bearer, number) = complete id n e in
-        let (i, less, same) = stands runs run has in
-        let (k, h, bears, low) = it.settled.covered i id less
-        (subst (λ (l : Run). HasBearer l id) (sym same) bearer) in
-        (k, h, bears, omega (arith, low, number, ap (λ (l : Run). number_in l (id % 64)) same));
-  }
+    pub kept_tell : Tell (take kept now) (ids_of_runs now count)
+    kept_tell =
+        subst (λ (xs : List ℕ). Tell (take kept now) xs) same_ids (tell ordered now kept ids settled sound complete)
 
-  pub told : (count : ℕ) → length ids ≡ count → ids ≡ ids_of_runs now count
-  told count len =
-      given_back now ids count (still_sound runs now ids it.same sound) (still_complete runs now ids it.same complete)
-      len
+    pub first_repeated : (repeat : ℕ) → IsLeastRepeat ordered (length ordered) count repeat
+        → IsFirstRepeat (ids_of_runs now count) repeat
+    first_repeated repeat least =
+        subst (λ (xs : List ℕ). IsFirstRepeat xs repeat) same_ids
+        (first_repeat ordered ids count repeat sorted_runs sound complete len least)

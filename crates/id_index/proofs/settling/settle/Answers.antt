@@ -1,11 +1,8 @@
 -- A run is taken as its places were seen, so one more run is settled.
-use Rattle.std.proofs.Common.{List, arith, length, subst, sym, take, ◌<◌, ◌+◌, ◌^◌, ◌∙◌, ◌≡◌, ℕ}
-use Rattle.std.specs.Prelude.{bit_or}
+use Rattle.std.proofs.Common.{List, arith, length, ◌<◌, ◌∙◌, ◌≡◌, ℕ}
 use Rattle.std.proofs.lemmas.List.{get_or_read}
 use Rattle.id_index.specs.declared.runs.Run.{Run}
-use Rattle.id_index.specs.Repeats.{AreSeen}
-use Rattle.id_index.specs.Runs.{no_run, page_in, run_in}
-use Rattle.id_index.specs.Settling.{AreFewSeen, IsTaken}
+use Rattle.id_index.specs.Runs.{no_run, run_in}
 use Rattle.id_index.proofs.Seen.{seen_more}
 use Rattle.id_index.proofs.Settled.{few_more, settled_more}
 use Rattle.id_index.proofs.settling.settle.Goals as goal
@@ -27,20 +24,14 @@ loop-at-preserved g c =
     let read : run ≡ run_in runs at =
     get_or_read now at run (omega (arith, below, it.settled.long)) c.index-run.ensures no_run
     ∙ it.settled.rest at (omega arith) in
-    let same : page_in runs at ≡ page → before ≡ seen =
-    subst (λ (r : Run). r.page ≡ page → before ≡ seen) read c.seen_of-before.ensures.same in
-    let other : (page_in runs at ≡ page → ⊥) → before ≡ 0 =
-    subst (λ (r : Run). (r.page ≡ page → ⊥) → before ≡ 0) read c.seen_of-before.ensures.other in
-    let taken : IsTaken now now' kept at (run_in runs at).places before kept' =
-    subst (λ (r : Run). IsTaken now now' kept at r.places before kept') read c.take_run-kept.ensures.taken in
-    let fits : bit_or before (run_in runs at).places < 2 ^ 64 =
-    subst (λ (r : Run). bit_or before r.places < 2 ^ 64) read c.take_run-kept.ensures.fits in
+    let same = rw read at c.seen_of-before.ensures.same in
+    let other = rw read at c.seen_of-before.ensures.other in
+    let taken = rw read at c.take_run-kept.ensures.taken in
+    let fits = rw read at c.take_run-kept.ensures.fits in
     record {
       settled = settled_more runs now now' at kept kept' page seen before c.requires below it.settled it.seen same other
           fits it.few taken;
-      seen = subst (λ (r : Run). AreSeen runs (at + 1) r.page (bit_or before r.places)) (sym read)
-          (seen_more runs at page seen before c.requires below it.seen same other);
-      few = subst (λ (r : Run). AreFewSeen runs (at + 1) r.page (bit_or before r.places) (take kept' now')) (sym read)
-          (few_more runs now now' at kept kept' page seen before c.requires below it.settled it.seen same other fits
-          it.few taken);
+      seen = rw read (seen_more runs at page seen before c.requires below it.seen same other);
+      few = rw read (few_more runs now now' at kept kept' page seen before c.requires below it.settled it.seen same
+          other fits it.few taken);
     }
