@@ -7,8 +7,8 @@ use Rattle.hprof_grammar.specs.Spelling.Field.{number}
 use Rattle.hprof_grammar.specs.SubRecord.{Class, Constant, HasSizes, IsFormed, Member, RootOrigin, Static, SubRecord}
 use Rattle.hprof_grammar.specs.SubRecord.{class_fields, constant_fields, fields_of, member_fields, origin_fields}
 use Rattle.hprof_grammar.specs.SubRecord.{static_fields, tag_of}
-use Rattle.hprof_grammar.specs.SubRecord.RootOrigin.{java_frame, jni_global, jni_local, monitor_used, native_stack}
-use Rattle.hprof_grammar.specs.SubRecord.RootOrigin.{sticky_class, thread_block, thread_object, unknown}
+use Rattle.hprof_grammar.specs.SubRecord.RootOrigin.{java_frame, jni_global, jni_local, native_stack}
+use Rattle.hprof_grammar.specs.SubRecord.RootOrigin.{thread_block, thread_object}
 use Rattle.hprof_grammar.specs.SubRecord.SubRecord.{class_dump, instance_dump, object_array_dump}
 use Rattle.hprof_grammar.specs.SubRecord.SubRecord.{primitive_array_dump, root}
 use Rattle.hprof_grammar.specs.FormatTables.{is_sub_tag, size_of}
@@ -63,15 +63,13 @@ class_bound s c fit sizes =
     }
 
 origin_bound : (s : ℕ) (origin : RootOrigin) → AllByRecursion Fits (origin_fields s origin) → IsOrigin s origin
-origin_bound s unknown fit = tt
 origin_bound s (jni_global reference) fit = fit.0
 origin_bound s (jni_local thread frame) fit = (fit.0, fit.1.0)
 origin_bound s (java_frame thread frame) fit = (fit.0, fit.1.0)
 origin_bound s (native_stack thread) fit = fit.0
-origin_bound s sticky_class fit = tt
 origin_bound s (thread_block thread) fit = fit.0
-origin_bound s monitor_used fit = tt
 origin_bound s (thread_object thread stack) fit = (fit.0, fit.1.0)
+origin_bound s o fit = tt
 
 bounds_of : (s : ℕ) (sub : SubRecord) → AllByRecursion Fits (fields_of s sub) → HasSizes s sub → HasBounds s sub
 bounds_of s (root r) fit sizes = record { object = fit.0; origin = origin_bound s r.origin fit.1 }
@@ -121,7 +119,8 @@ counted_parts_fit s c bound =
     (bound.constant_count
     & each_fit constant_fields (IsConstant s) (λ k h. h.index & tt & tt & tt) c.constants bound.constants)
     (all_join Fits (counted_fields (static_fields s) c.statics) (fields_from_members s c)
-    (bound.static_count & each_fit (static_fields s) (IsStatic s) (λ f h. h.name & tt & tt & tt) c.statics bound.statics)
+    (bound.static_count
+    & each_fit (static_fields s) (IsStatic s) (λ f h. h.name & tt & tt & tt) c.statics bound.statics)
     (bound.member_count & each_fit (member_fields s) (IsMember s) (λ m h. h & tt & tt) c.members bound.members))
 
 class_fit : (s : ℕ) (c : Class) → IsClass s c → AllByRecursion Fits (class_fields s c)
@@ -129,15 +128,13 @@ class_fit s c bound = bound.object & bound.stack & bound.super & bound.loader & 
     & bound.reserved & bound.reserved_too & bound.instance_size & counted_parts_fit s c bound
 
 origin_fit : (s : ℕ) (origin : RootOrigin) → IsOrigin s origin → AllByRecursion Fits (origin_fields s origin)
-origin_fit s unknown bound = tt
 origin_fit s (jni_global reference) bound = (bound, tt)
 origin_fit s (jni_local thread frame) bound = (bound.0, (bound.1, tt))
 origin_fit s (java_frame thread frame) bound = (bound.0, (bound.1, tt))
 origin_fit s (native_stack thread) bound = (bound, tt)
-origin_fit s sticky_class bound = tt
 origin_fit s (thread_block thread) bound = (bound, tt)
-origin_fit s monitor_used bound = tt
 origin_fit s (thread_object thread stack) bound = (bound.0, (bound.1, tt))
+origin_fit s o bound = tt
 
 numbers_fit : (s : ℕ) (sub : SubRecord) → HasBounds s sub → AllByRecursion Fits (fields_of s sub)
 numbers_fit s (root r) bound = (bound.object, origin_fit s r.origin bound.origin)
@@ -148,12 +145,10 @@ numbers_fit s (object_array_dump a) bound =
 numbers_fit s (primitive_array_dump a) bound = (bound.object, (bound.stack, (bound.count, (tt, (tt, tt)))))
 
 sized : (s : ℕ) (sub : SubRecord) → HasBounds s sub → HasSizes s sub
-sized s (root r) bound = tt
 sized s (class_dump c) bound =
     (constants_sized s c.constants bound.constants, statics_sized s c.statics bound.statics)
-sized s (instance_dump i) bound = tt
-sized s (object_array_dump a) bound = tt
 sized s (primitive_array_dump a) bound = bound.values
+sized s sub bound = tt
 
 pub formed_by : {s : ℕ} {sub : SubRecord} → is_sub_tag (tag_of sub) ≡ true → HasBounds s sub → IsFormed s sub
 formed_by {s} {sub} tag bound =

@@ -72,19 +72,13 @@ number-cons n a bytes = ap (λ (r : ℕ). a * 256 ^ n + r) (big_from-cons 0 n a 
 same_bytes : (n : ℕ) (xs ys : List ℕ) → IsBytes xs → IsBytes ys → length xs ≡ n → length ys ≡ n
     → big_number n xs ≡ big_number n ys → xs ≡ ys
 same_bytes zero [] [] h k p q e = refl
-same_bytes zero [] (y ∷ ys) h k p q e = absurd (omega arith)
-same_bytes zero (x ∷ xs) ys h k p q e = absurd (omega arith)
-same_bytes (suc n) [] ys h k p q e = absurd (omega arith)
-same_bytes (suc n) (x ∷ xs) [] h k p q e = absurd (omega arith)
 same_bytes (suc n) (x ∷ xs) (y ∷ ys) h k p q e =
     let low = bytes-tail x xs h in
     let low_too = bytes-tail y ys k in
     let d = same_digits x y (256 ^ n) (big_number n xs) (big_number n ys) (big_from-lt 0 n xs low)
     (big_from-lt 0 n ys low_too) (sym (number-cons n x xs) ∙ e ∙ number-cons n y ys) in
     rw (d.0, same_bytes n xs ys low low_too (omega arith) (omega arith) d.1) refl
-
-pub length-big_bytes : (n x : ℕ) → length (big_bytes n x) ≡ n
-length-big_bytes n x = length-bytes_high_first n x
+same_bytes n xs ys h k p q e = absurd (omega arith)
 
 -- n bytes make a number below 256 ^ n
 pub number-lt : (n : ℕ) (bytes : List ℕ) → IsBytes bytes → big_number n bytes < 256 ^ n
@@ -98,16 +92,12 @@ bytes_of_number n bytes h fits =
     let read : big_number n (big_bytes n value) ≡ value = ap (big_number n) (sym (append-nil (big_bytes n value)))
     ∙ big_number-reads_back n value [] (number-lt n bytes h) in
     same_bytes n (big_bytes n value) (take n bytes) (big_bytes-bytes n value) (bytes-take n bytes h)
-    (length-big_bytes n value) (length-take-le n bytes fits)
+    (length-bytes_high_first n value) (length-take-le n bytes fits)
     (read ∙ sym (big_from-take 0 n n bytes (omega arith)))
 
 pub number_parts : (n : ℕ) (bytes : List ℕ) → IsBytes bytes → n ≤ length bytes
     → bytes ≡ big_bytes n (big_number n bytes) ++ drop n bytes
 number_parts n bytes h fits = rw (bytes_of_number n bytes h fits) (sym (take-append-drop n bytes))
-
--- a number that is spelled is read
-pub number_read : (n x : ℕ) (rest : List ℕ) → x < 256 ^ n → big_number n (big_bytes n x ++ rest) ≡ x
-number_read n x rest h = big_number-reads_back n x rest h
 
 -- what stands behind n bytes
 pub behind_bytes : (n : ℕ) (front rest : List ℕ) → length front ≡ n → drop n (front ++ rest) ≡ rest
@@ -117,13 +107,13 @@ pub first_bytes : (n : ℕ) (front rest : List ℕ) → length front ≡ n → t
 first_bytes n front rest e = rw (← e) (take-append_seam front rest)
 
 pub behind_number : (n x : ℕ) (rest : List ℕ) → drop n (big_bytes n x ++ rest) ≡ rest
-behind_number n x rest = behind_bytes n (big_bytes n x) rest (length-big_bytes n x)
+behind_number n x rest = behind_bytes n (big_bytes n x) rest (length-bytes_high_first n x)
 
 -- two spellings of numbers of n bytes that begin one text
 pub same_number : (n x y : ℕ) (rest more : List ℕ) → x < 256 ^ n → y < 256 ^ n
     → big_bytes n x ++ rest ≡ big_bytes n y ++ more → (x ≡ y) × (rest ≡ more)
 same_number n x y rest more h k e = (
-  sym (number_read n x rest h) ∙ ap (big_number n) e ∙ number_read n y more k,
+  sym (big_number-reads_back n x rest h) ∙ ap (big_number n) e ∙ big_number-reads_back n y more k,
   sym (behind_number n x rest)
       ∙ ap (drop n) e ∙ behind_number n y more,
 )

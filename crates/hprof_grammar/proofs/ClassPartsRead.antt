@@ -3,15 +3,13 @@ use Rattle.std.proofs.Common.{List, [], ap, append_assoc, arith, drop, flat_map,
 use Rattle.std.proofs.Common.{◌*◌, ◌++◌, ◌+◌, ◌<◌, ◌^◌, ◌∙◌, ◌∷◌, ◌≡◌, ◌≤◌}
 use Rattle.std.proofs.lemmas.List.{length-append, length-drop}
 use Rattle.std.proofs.Math.Seq.{drop-append_seam}
-use Rattle.std.specs.List.{AllByRecursion}
 use Rattle.byteorder.specs.Endian.{big_bytes}
 use Rattle.byteorder.specs.Numbers.{big_number-reads_back, length-bytes_high_first}
 use Rattle.hprof_grammar.specs.Spelling.{Field, spelled}
 use Rattle.hprof_grammar.specs.Spelling.Field.{number}
 use Rattle.hprof_grammar.specs.Bounds.{IsConstant, IsStatic}
-use Rattle.hprof_grammar.specs.SubRecord.{Class, Constant, Static, constant_fields, member_fields, static_fields}
+use Rattle.hprof_grammar.specs.SubRecord.{Class, constant_fields, member_fields, static_fields}
 use Rattle.hprof_grammar.specs.SubRecord.SubRecord.{class_dump}
-use Rattle.hprof_grammar.specs.FormatTables.{size_of}
 use Rattle.hprof_grammar.specs.declared.kinds.TypePlace.TheVariants.{InConstant, InStatic}
 use Rattle.hprof_grammar.specs.Standing.{Sight, Stands}
 use Rattle.hprof_grammar.specs.Series.{HasCountedValues, LabelledValue, behind_counted_values, count_in}
@@ -43,9 +41,9 @@ pub record IsCountedValues (s w : ℕ) (them : List LabelledValue) (others bytes
   pub values : counted_values_in s w bytes ≡ them
   pub behind : behind_counted_values s w bytes ≡ others
 
-counted_values : (s w n : ℕ) (them : List LabelledValue) (inner others bytes : List ℕ) → IsCounted n inner bytes
+counted_values : {s w n : ℕ} {them : List LabelledValue} {inner others bytes : List ℕ} → IsCounted n inner bytes
     → AreValues s w n them others inner → IsCountedValues s w them others bytes
-counted_values s w n them inner others bytes counted are = record {
+counted_values counted are = record {
   room = record { count = counted.room; values = rw (counted.count, counted.behind) are.room };
   values = rw (counted.count, counted.behind) are.values;
   behind = rw (counted.count, counted.behind) are.behind;
@@ -61,113 +59,73 @@ counted_first {X} fields xs more rest bytes fits e =
     ∙ append_assoc (big_bytes 2 (length xs)) (spelled (flat_map fields xs)) (spelled more ++ rest) in
     subst (λ (l : List ℕ). IsCounted (length xs) inner l) (sym parts) (count_again (length xs) inner fits)
 
-constants_fit : (s : ℕ) (xs : List Constant) → AllByRecursion (IsConstant s) xs
-    → AllByRecursion (λ x. (x.index < 256 ^ 2) × (length x.value ≡ size_of s x.type)) xs
-constants_fit s [] h = tt
-constants_fit s (x ∷ xs) h = ((h.0.index, h.0.value), constants_fit s xs h.1)
+module _ {s : ℕ} {c : Class} {bytes : List ℕ} (h : IsPartOf s c (fields_from_constants s c) bytes) where
+  pub constants_read : IsCountedValues s 2 (map of_constant c.constants) (spelled (fields_from_statics s c) ++ h.rest)
+      bytes
+  constants_read = counted_values
+      (counted_first constant_fields c.constants (fields_from_statics s c) h.rest bytes h.is.constant_count h.bytes_are)
+      (values_again s 2 InConstant (λ k. k.index) (λ k. k.type) (λ k. k.value) (IsConstant s)
+      (λ k is. (is.index, is.value)) c.constants (spelled (fields_from_statics s c) ++ h.rest) h.is.constants)
 
-statics_fit : (s : ℕ) (xs : List Static) → AllByRecursion (IsStatic s) xs
-    → AllByRecursion (λ x. (x.name < 256 ^ s) × (length x.value ≡ size_of s x.type)) xs
-statics_fit s [] h = tt
-statics_fit s (x ∷ xs) h = ((h.0.name, h.0.value), statics_fit s xs h.1)
+  pub behind_constants : {behind : List ℕ} → behind ≡ behind_counted_values s 2 bytes
+      → IsPartOf s c (fields_from_statics s c) behind
+  behind_constants e = record { rest = h.rest; bytes_are = e ∙ constants_read.behind; is = h.is }
 
-constant_values : (s : ℕ) (c : Class) (bytes : List ℕ) (h : IsPartOf s c (fields_from_constants s c) bytes)
-    → IsCountedValues s 2 (map of_constant c.constants) (spelled (fields_from_statics s c) ++ h.rest) bytes
-constant_values s c bytes h =
-    let behind = spelled (fields_from_statics s c) ++ h.rest in
-    counted_values s 2 (length c.constants) (map of_constant c.constants)
-    (spelled (flat_map constant_fields c.constants) ++ behind) behind bytes
-    (counted_first constant_fields c.constants (fields_from_statics s c) h.rest bytes h.is.constant_count h.bytes_are)
-    (values_again s 2 InConstant (λ k. k.index) (λ k. k.type) (λ k. k.value) c.constants behind
-    (constants_fit s c.constants h.is.constants))
+module _ {s : ℕ} {c : Class} {bytes : List ℕ} (h : IsPartOf s c (fields_from_statics s c) bytes) where
+  pub statics_read : IsCountedValues s s (map of_static c.statics) (spelled (fields_from_members s c) ++ h.rest) bytes
+  statics_read = counted_values
+      (counted_first (static_fields s) c.statics (fields_from_members s c) h.rest bytes h.is.static_count h.bytes_are)
+      (values_again s s InStatic (λ f. f.name) (λ f. f.type) (λ f. f.value) (IsStatic s)
+      (λ f is. (is.name, is.value)) c.statics (spelled (fields_from_members s c) ++ h.rest) h.is.statics)
 
-pub constants_room : {s : ℕ} {c : Class} {bytes : List ℕ} → IsPartOf s c (fields_from_constants s c) bytes
-    → HasCountedValues s 2 bytes
-constants_room {s} {c} {bytes} h = (constant_values s c bytes h).room
+  pub behind_statics : {behind : List ℕ} → behind ≡ behind_counted_values s s bytes
+      → IsPartOf s c (fields_from_members s c) behind
+  behind_statics e = record { rest = h.rest; bytes_are = e ∙ statics_read.behind; is = h.is }
 
-pub constants_read : {s : ℕ} {c : Class} {bytes : List ℕ} → IsPartOf s c (fields_from_constants s c) bytes
-    → counted_values_in s 2 bytes ≡ map of_constant c.constants
-constants_read {s} {c} {bytes} h = (constant_values s c bytes h).values
+module _ {s : ℕ} {c : Class} {bytes : List ℕ} (h : IsPartOf s c (fields_from_members s c) bytes) where
+  abbrev members_bytes : List ℕ
+  members_bytes = spelled (flat_map (member_fields s) c.members)
 
-pub behind_constants : {s : ℕ} {c : Class} {bytes behind : List ℕ} → IsPartOf s c (fields_from_constants s c) bytes
-    → behind ≡ behind_counted_values s 2 bytes → IsPartOf s c (fields_from_statics s c) behind
-behind_constants {s} {c} {bytes} h e =
-    record { rest = h.rest; bytes_are = e ∙ (constant_values s c bytes h).behind; is = h.is }
+  members_counted : IsCounted (length c.members) (members_bytes ++ h.rest) bytes
+  members_counted =
+      let parts = h.bytes_are ∙ append_assoc (big_bytes 2 (length c.members)) members_bytes h.rest in
+      subst (λ (l : List ℕ). IsCounted (length c.members) (members_bytes ++ h.rest) l) (sym parts)
+      (count_again (length c.members) (members_bytes ++ h.rest) h.is.member_count)
 
-static_values : (s : ℕ) (c : Class) (bytes : List ℕ) (h : IsPartOf s c (fields_from_statics s c) bytes)
-    → IsCountedValues s s (map of_static c.statics) (spelled (fields_from_members s c) ++ h.rest) bytes
-static_values s c bytes h =
-    let behind = spelled (fields_from_members s c) ++ h.rest in
-    counted_values s s (length c.statics) (map of_static c.statics)
-    (spelled (flat_map (static_fields s) c.statics) ++ behind) behind bytes
-    (counted_first (static_fields s) c.statics (fields_from_members s c) h.rest bytes h.is.static_count h.bytes_are)
-    (values_again s s InStatic (λ f. f.name) (λ f. f.type) (λ f. f.value) c.statics behind
-    (statics_fit s c.statics h.is.statics))
+  pub members_room : 2 + count_in bytes * (s + 1) ≤ length bytes
+  members_room = rw members_counted.count (omega (
+    arith,
+    members_counted.room,
+    ap length members_counted.behind,
+    length-drop 2 bytes,
+    length-append members_bytes h.rest,
+    length-spelled (flat_map (member_fields s) c.members),
+    widths-members s c.members,
+  ))
 
-pub statics_room : {s : ℕ} {c : Class} {bytes : List ℕ} → IsPartOf s c (fields_from_statics s c) bytes
-    → HasCountedValues s s bytes
-statics_room {s} {c} {bytes} h = (static_values s c bytes h).room
-
-pub statics_read : {s : ℕ} {c : Class} {bytes : List ℕ} → IsPartOf s c (fields_from_statics s c) bytes
-    → counted_values_in s s bytes ≡ map of_static c.statics
-statics_read {s} {c} {bytes} h = (static_values s c bytes h).values
-
-pub behind_statics : {s : ℕ} {c : Class} {bytes behind : List ℕ} → IsPartOf s c (fields_from_statics s c) bytes
-    → behind ≡ behind_counted_values s s bytes → IsPartOf s c (fields_from_members s c) behind
-behind_statics {s} {c} {bytes} h e =
-    record { rest = h.rest; bytes_are = e ∙ (static_values s c bytes h).behind; is = h.is }
-
-members_counted : (s : ℕ) (c : Class) (bytes : List ℕ) (h : IsPartOf s c (fields_from_members s c) bytes)
-    → IsCounted (length c.members) (spelled (flat_map (member_fields s) c.members) ++ h.rest) bytes
-members_counted s c bytes h =
-    let inner = spelled (flat_map (member_fields s) c.members) ++ h.rest in
-    let parts : bytes ≡ big_bytes 2 (length c.members) ++ inner =
-    h.bytes_are ∙ append_assoc (big_bytes 2 (length c.members)) (spelled (flat_map (member_fields s) c.members))
-    h.rest in
-    subst (λ (l : List ℕ). IsCounted (length c.members) inner l) (sym parts)
-    (count_again (length c.members) inner h.is.member_count)
-
-pub members_room : {s : ℕ} {c : Class} {bytes : List ℕ} → IsPartOf s c (fields_from_members s c) bytes
-    → 2 + count_in bytes * (s + 1) ≤ length bytes
-members_room {s} {c} {bytes} h =
-    let counted = members_counted s c bytes h in
-    let fields = flat_map (member_fields s) c.members in
-    rw counted.count (omega (
-      arith,
-      counted.room,
-      ap length counted.behind,
-      length-drop 2 bytes,
-      length-append (spelled fields) h.rest,
-      length-spelled fields,
-      widths-members s c.members,
-    ))
-
-pub members_read : {s : ℕ} {c : Class} {bytes : List ℕ} → IsPartOf s c (fields_from_members s c) bytes
-    → members_in s (count_in bytes) (drop 2 bytes) ≡ c.members
-members_read {s} {c} {bytes} h =
-    let counted = members_counted s c bytes h in
-    rw (counted.count, counted.behind) (members_again s c.members h.rest h.is.members)
+  pub members_read : members_in s (count_in bytes) (drop 2 bytes) ≡ c.members
+  members_read =
+      rw (members_counted.count, members_counted.behind) (members_again s c.members h.rest h.is.members)
 
 -- ---- where w is what the fields of a view show, and v is the view
-
-pub constants_stand : {v w : Sight} {at : ℕ} {c : Class} → w ≡ v → Stands v at (class_dump c)
-    → Spell w.bytes (at + 9 + 7 * w.id_size) (spelled (fields_from_constants w.id_size c))
-constants_stand {w = w} {c = c} e h =
-    let s = w.id_size in
-    let front = number s c.object ∷ number 4 c.stack ∷ map (number s) (ids_behind_stack c)
-    ++ number 4 c.instance_size ∷ [] in
-    fields_in front (fields_from_constants s c) (in_sight e h) refl (omega arith)
 
 -- a part of a class, as the view says it and as its fields do
 pub part_seen : {v w : Sight} {c : Class} {bytes : List ℕ} (fields : ℕ → Class → List Field) → w ≡ v
     → IsPartOf v.id_size c (fields v.id_size c) bytes → IsPartOf w.id_size c (fields w.id_size c) bytes
-part_seen {c = c} {bytes = bytes} fields e h =
-    subst (λ (x : Sight). IsPartOf x.id_size c (fields x.id_size c) bytes) (sym e) h
+part_seen fields e h = rw e h
 
-pub constants_part : {v w : Sight} {at : ℕ} {c : Class} {bytes : List ℕ} → w ≡ v
-    → bytes ≡ drop (at + 9 + 7 * w.id_size) w.bytes → Stands v at (class_dump c)
-    → IsPartOf v.id_size c (fields_from_constants v.id_size c) bytes
-constants_part e bytes_are h =
-    let there = constants_stand e h in
-    part_seen fields_from_constants (sym e)
-    (record { rest = there.rest; bytes_are = bytes_are ∙ there.bytes_are; is = bounds (in_sight e h).is.formed })
+module _ {v w : Sight} {at : ℕ} {c : Class} (e : w ≡ v) (h : Stands v at (class_dump c)) where
+  pub constants_stand : Spell w.bytes (at + 9 + 7 * w.id_size) (spelled (fields_from_constants w.id_size c))
+  constants_stand =
+      let s = w.id_size in
+      let front = number s c.object ∷ number 4 c.stack ∷ map (number s) (ids_behind_stack c)
+      ++ number 4 c.instance_size ∷ [] in
+      fields_in front (fields_from_constants s c) (in_sight e h) refl (omega arith)
+
+  pub constants_part : {bytes : List ℕ} → bytes ≡ drop (at + 9 + 7 * w.id_size) w.bytes
+      → IsPartOf v.id_size c (fields_from_constants v.id_size c) bytes
+  constants_part bytes_are = part_seen fields_from_constants (sym e) (record {
+    rest = constants_stand.rest;
+    bytes_are = bytes_are ∙ constants_stand.bytes_are;
+    is = bounds (in_sight e h).is.formed;
+  })

@@ -9,7 +9,7 @@ use Rattle.hprof_grammar.specs.declared.flaw.Flaw.{Flaw}
 use Rattle.hprof_grammar.proofs.Bytes.{IsBytes, bytes-behind}
 use Rattle.hprof_grammar.proofs.Fields.{Breaks, all_join, all_split, breaks_first, breaks_never, breaks_second}
 use Rattle.hprof_grammar.proofs.Fields.{breaks_split, spelled_then}
-use Rattle.hprof_grammar.proofs.Format.{IsFormat, Taken, bind_err, bind_ok, number_format}
+use Rattle.hprof_grammar.proofs.Format.{IsFormat, Taken, bind_err, bind_ok, number_format, ok_same}
 
 -- what was taken was bytes, and so is what is left
 rest_bytes : {A : Type 0} (W : A → Type 0) (fields : A → List Field) (bytes : List ℕ) (x : A) (rest : List ℕ)
@@ -23,9 +23,6 @@ breaks_behind : {A : Type 0} (W : A → Type 0) (fields : A → List Field) (byt
 breaks_behind W fields bytes x rest gs flaw t b =
     subst (Breaks flaw (fields x ++ gs)) (sym t.bytes_are) (breaks_second flaw (fields x) gs rest t.allowed b)
 
-ok_value : {X E : Type 0} (x y : X) → ◌≡◌ {A = Result X E} (Ok x) (Ok y) → x ≡ y
-ok_value x y e = cc
-
 -- ---- one behind the other, where the second may depend on the value of the first
 
 module _ {A B : Type 0} {W : A → Type 0} {F : A → List Field} {r : List ℕ → Result (A × List ℕ) Flaw}
@@ -38,9 +35,7 @@ module _ {A B : Type 0} {W : A → Type 0} {F : A → List Field} {r : List ℕ 
       let b = bind_ok (q a.0.0 a.0.1) (λ y. Ok ((a.0.0, y.0), y.1)) z a.2 in
       let s = first.takes bytes a.0 h a.1 in
       let t = (second a.0.0).takes a.0.1 b.0 (rest_bytes W F bytes a.0.0 a.0.1 s h) b.1 in
-      subst (λ (y : (A × B) × List ℕ). Taken (λ (p : A × B). W p.0 × V p.0 p.1)
-      (λ p. F p.0 ++ G p.0 p.1) bytes y.0 y.1) (ok_value {E = Flaw} ((a.0.0, b.0.0), b.0.1) z b.2)
-      (record {
+      rw (← ok_same {E = Flaw} ((a.0.0, b.0.0), b.0.1) z b.2) (record {
         well = (s.well, t.well);
         allowed = all_join IsAllowed (F a.0.0) (G a.0.0 b.0.0) s.allowed t.allowed;
         bytes_are = s.bytes_are ∙ ap (λ (x : List ℕ). spelled (F a.0.0) ++ x) t.bytes_are
@@ -103,17 +98,13 @@ module _ {A : Type 0} {W : A → Type 0} {F : A → List Field} {r : List ℕ �
   list_takes : (n : ℕ) (bytes : List ℕ) (z : List A × List ℕ) → IsBytes bytes → list_at r n bytes ≡ Ok z
       → Taken (λ xs. (length xs ≡ n) × AllByRecursion W xs) (λ xs. flat_map F xs) bytes z.0 z.1
   list_takes zero bytes z h e =
-      subst (λ (y : List A × List ℕ). Taken (λ xs. (length xs ≡ 0) × AllByRecursion W xs)
-      (λ xs. flat_map F xs) bytes y.0 y.1) (ok_value {E = Flaw} ([], bytes) z e)
-      (record { well = (refl, tt); allowed = tt; bytes_are = refl })
+      rw (← ok_same {E = Flaw} ([], bytes) z e) (record { well = (refl, tt); allowed = tt; bytes_are = refl })
   list_takes (suc n) bytes z h e =
       let a = bind_ok (r bytes) (λ x. list_at r n x.1 >>= λ xs. Ok (x.0 ∷ xs.0, xs.1)) z e in
       let b = bind_ok (list_at r n a.0.1) (λ xs. Ok (a.0.0 ∷ xs.0, xs.1)) z a.2 in
       let s = one.takes bytes a.0 h a.1 in
       let t = list_takes n a.0.1 b.0 (rest_bytes W F bytes a.0.0 a.0.1 s h) b.1 in
-      subst (λ (y : List A × List ℕ). Taken (λ xs. (length xs ≡ suc n) × AllByRecursion W xs)
-      (λ xs. flat_map F xs) bytes y.0 y.1) (ok_value {E = Flaw} (a.0.0 ∷ b.0.0, b.0.1) z b.2)
-      (record {
+      rw (← ok_same {E = Flaw} (a.0.0 ∷ b.0.0, b.0.1) z b.2) (record {
         well = (omega (arith, t.well.0), (s.well, t.well.1));
         allowed = all_join IsAllowed (F a.0.0) (flat_map F b.0.0) s.allowed t.allowed;
         bytes_are = s.bytes_are ∙ ap (λ (x : List ℕ). spelled (F a.0.0) ++ x) t.bytes_are
@@ -200,8 +191,7 @@ module _ {A B : Type 0} {W : A → Type 0} {F : A → List Field} {r : List ℕ 
       let a = bind_ok (r bytes) (λ x. Ok (to x.0, x.1)) z e in
       let s = under.takes bytes a.0 h a.1 in
       let g = same.fields_to a.0.0 s.well in
-      subst (λ (y : B × List ℕ). Taken V G bytes y.0 y.1) (ok_value {E = Flaw} (to a.0.0, a.0.1) z a.2)
-      (record { well = same.well_to a.0.0 s.well; allowed = rw g s.allowed; bytes_are = rw g s.bytes_are })
+      rw (← ok_same {E = Flaw} (to a.0.0, a.0.1) z a.2) (record { well = same.well_to a.0.0 s.well; allowed = rw g s.allowed; bytes_are = rw g s.bytes_are })
 
   as_again : (b : B) (rest : List ℕ) → V b → AreAllowed (G b) → as_at to r (spelled (G b) ++ rest) ≡ Ok (b, rest)
   as_again b rest h allowed =

@@ -205,8 +205,7 @@ header_told text bytes = elim (cases_lt limit (length text)) [
       inr (
         2,
         19,
-        id_size_wrong (big_number 4 (drop 19 text)) text (record { code = 2; offset = 19 }) refl bytes size
-            room magic_is refl e,
+        id_size_wrong (big_number 4 (drop 19 text)) text bytes size room magic_is refl e,
       )
 
   begins : length text ≤ limit → (b : Bool) → b ≡ starts_with nat_eq text magic → HeaderTold text

@@ -73,18 +73,24 @@ breaks_here flaw f fs bytes h =
       spoiled = h;
     }
 
-pub breaks_first : (flaw : Flaw) (fs gs : List Field) (bytes : List ℕ) → Breaks flaw fs bytes
-    → Breaks flaw (fs ++ gs) bytes
-breaks_first flaw fs gs bytes b = record {
+-- in other fields, of which the front and the one that is spoiled are the same
+breaks_among : {flaw : Flaw} {fs gs : List Field} {bytes : List ℕ} (b : Breaks flaw fs bytes) (more : List Field)
+    → gs ≡ b.front ++ b.field ∷ more → Breaks flaw gs bytes
+breaks_among b more e = record {
   front = b.front;
   field = b.field;
-  more = b.more ++ gs;
+  more = more;
   rest = b.rest;
-  in_order = ap (λ (x : List Field). x ++ gs) b.in_order ∙ append_assoc b.front (b.field ∷ b.more) gs;
+  in_order = e;
   allowed = b.allowed;
   bytes_are = b.bytes_are;
   spoiled = b.spoiled;
 }
+
+pub breaks_first : (flaw : Flaw) (fs gs : List Field) (bytes : List ℕ) → Breaks flaw fs bytes
+    → Breaks flaw (fs ++ gs) bytes
+breaks_first flaw fs gs bytes b = breaks_among b (b.more ++ gs)
+    (ap (λ (x : List Field). x ++ gs) b.in_order ∙ append_assoc b.front (b.field ∷ b.more) gs)
 
 pub breaks_second : (flaw : Flaw) (fs gs : List Field) (rest : List ℕ) → AreAllowed fs → Breaks flaw gs rest
     → Breaks flaw (fs ++ gs) (spelled fs ++ rest)
@@ -118,16 +124,7 @@ split_at {A = A} (x ∷ xs) ys (z ∷ front) a more e =
 pub breaks_split : (flaw : Flaw) (fs gs : List Field) (bytes : List ℕ) → Breaks flaw (fs ++ gs) bytes
     → Breaks flaw fs bytes ⊎ ((rest : List ℕ) × AreAllowed fs × (bytes ≡ spelled fs ++ rest) × Breaks flaw gs rest)
 breaks_split flaw fs gs bytes b = elim (split_at fs gs b.front b.field b.more b.in_order) [
-  | inl s ↦ inl (record {
-    front = b.front;
-    field = b.field;
-    more = s.0;
-    rest = b.rest;
-    in_order = s.1;
-    allowed = b.allowed;
-    bytes_are = b.bytes_are;
-    spoiled = b.spoiled;
-  })
+  | inl s ↦ inl (breaks_among b s.0 s.1)
   | inr s ↦
       let parts = all_split IsAllowed fs s.0 (subst AreAllowed s.1 b.allowed) in
       inr (
@@ -191,7 +188,6 @@ breaks_short fields bytes h = record {
 wrong_at : (fields front : List Field) (field : Field) (more : List Field) (bytes rest : List ℕ)
     → fields ≡ front ++ field ∷ more → AreAllowed front → bytes ≡ spelled front ++ rest → IsWrong field rest
     → HasWrongType fields bytes
-wrong_at fields front (number width value) more bytes rest e h is w = absurd w
 wrong_at fields front (type_code place code) more bytes rest e h is w =
     record {
       front = front;
@@ -204,7 +200,7 @@ wrong_at fields front (type_code place code) more bytes rest e h is w =
       wrong = w.0;
       bytes_are = is ∙ ap (λ (x : List ℕ). spelled front ++ x) w.1.1;
     }
-wrong_at fields front (raw text) more bytes rest e h is w = absurd w
+wrong_at fields front field more bytes rest e h is w = absurd w
 
 pub has_wrong_type : (fields : List Field) (bytes : List ℕ) → Breaks WrongType fields bytes → HasWrongType fields bytes
 has_wrong_type fields bytes b =

@@ -1,6 +1,8 @@
 -- Formats: values, the fields that spell them, and the reading of them, each with the laws that join the three.
+use Rattle.byteorder.specs.Numbers.{big_number-reads_back}
+use Rattle.byteorder.specs.Numbers.{length-bytes_high_first}
 use Rattle.std.proofs.Common.{Bool, Err, List, Ok, Result, [], ap, arith, drop, false, if◌then◌else◌, inl, inr, length}
-use Rattle.std.proofs.Common.{nat_lt, refl, replicate, subst, sym, take, true, ℕ, ◌++◌, ◌-◌, ◌<◌, ◌^◌, ◌∙◌, ◌∷◌, ◌≡◌}
+use Rattle.std.proofs.Common.{nat_lt, refl, replicate, sym, take, true, ℕ, ◌++◌, ◌-◌, ◌<◌, ◌^◌, ◌∙◌, ◌∷◌, ◌≡◌}
 use Rattle.std.proofs.Common.{◌≤◌, ◌⊎◌}
 use Rattle.std.proofs.lemmas.List.{length-append, length-replicate, length-take-le, take-append-drop, take_all}
 use Rattle.std.proofs.Math.Nat.{one-le-pow}
@@ -14,7 +16,7 @@ use Rattle.hprof_grammar.specs.declared.kinds.TypePlace.{TypePlace}
 use Rattle.hprof_grammar.specs.declared.flaw.Flaw.{Flaw}
 use Rattle.hprof_grammar.specs.declared.flaw.Flaw.TheVariants.{Short, UnknownTag, WrongType}
 use Rattle.hprof_grammar.proofs.Bytes.{IsBytes, behind_bytes, behind_number, bytes-join, bytes_of_number, first_bytes}
-use Rattle.hprof_grammar.proofs.Bytes.{length-big_bytes, number-lt, number_parts, number_read, zeros-bytes}
+use Rattle.hprof_grammar.proofs.Bytes.{number-lt, number_parts, zeros-bytes}
 use Rattle.hprof_grammar.proofs.Fields.{Breaks, Spoils, breaks_here, breaks_one, spelled_one}
 
 -- the value was spelled by the bytes, up to the rest
@@ -41,7 +43,7 @@ pub record IsFormat {A : Type 0} (IsWell : A → Type 0) (fields : A → List Fi
 
 -- ---- results
 
-ok_same : {X E : Type 0} (x y : X) → ◌≡◌ {A = Result X E} (Ok x) (Ok y) → x ≡ y
+pub ok_same : {X E : Type 0} (x y : X) → ◌≡◌ {A = Result X E} (Ok x) (Ok y) → x ≡ y
 ok_same x y e = cc
 
 err_same : {X E : Type 0} (x y : E) → ◌≡◌ {A = Result X E} (Err x) (Err y) → x ≡ y
@@ -86,15 +88,14 @@ number_cut w bytes h = rw (lt-ltb (length bytes) w h) refl
 
 number_again : (w x : ℕ) (rest : List ℕ) → x < 256 ^ w → number_at w (big_bytes w x ++ rest) ≡ Ok (x, rest)
 number_again w x rest h =
-    number_whole w (big_bytes w x ++ rest) (omega (arith, length-append (big_bytes w x) rest, length-big_bytes w x))
-    ∙ rw (number_read w x rest h, behind_number w x rest) refl
+    number_whole w (big_bytes w x ++ rest) (omega (arith, length-append (big_bytes w x) rest, length-bytes_high_first w x))
+    ∙ rw (big_number-reads_back w x rest h, behind_number w x rest) refl
 
 number_takes : (w : ℕ) (bytes : List ℕ) (z : ℕ × List ℕ) → IsBytes bytes → number_at w bytes ≡ Ok z
     → Taken (λ x. x < 256 ^ w) (λ x. number w x ∷ []) bytes z.0 z.1
 number_takes w bytes z h e =
     let t = test_ok (nat_lt (length bytes) w) Short (big_number w bytes, drop w bytes) z e in
-    subst (λ (y : ℕ × List ℕ). Taken (λ x. x < 256 ^ w) (λ x. number w x ∷ []) bytes y.0 y.1) t.1
-    (record {
+    rw (← t.1) (record {
       well = number-lt w bytes h;
       allowed = (tt, tt);
       bytes_are = number_parts w bytes h (ltb-false (length bytes) w t.0)
@@ -124,17 +125,15 @@ number_fails w bytes flaw h e =
     ∙ take_all w whole (omega arith) in (
       big_number w whole,
       number-lt w whole are,
-      subst (λ (y : Flaw). Breaks y (number w (big_number w whole) ∷ []) bytes) t.1
-          (breaks_here Short (number w (big_number w whole)) [] bytes
+      rw (← t.1) (breaks_here Short (number w (big_number w whole)) [] bytes
           (replicate (w - length bytes) 0, spells, filled-more w bytes short)),
     )
 
 number_fails_again : (w x : ℕ) (bytes : List ℕ) (flaw : Flaw) → Spoils flaw (number w x) bytes
     → number_at w bytes ≡ Err flaw
 number_fails_again w x bytes Short s =
-    number_cut w bytes (omega (arith, s.2, ap length s.1, length-append bytes s.0, length-big_bytes w x))
-number_fails_again w x bytes WrongType s = absurd s
-number_fails_again w x bytes UnknownTag s = absurd s
+    number_cut w bytes (omega (arith, s.2, ap length s.1, length-append bytes s.0, length-bytes_high_first w x))
+number_fails_again w x bytes flaw s = absurd s
 
 pub number_format : (w : ℕ) → IsFormat (λ x. x < 256 ^ w) (λ x. number w x ∷ []) (number_at w)
 number_format w = record {
@@ -162,8 +161,7 @@ raw_takes : (n : ℕ) (bytes : List ℕ) (z : List ℕ × List ℕ) → raw_at n
     → Taken (λ x. length x ≡ n) (λ x. raw x ∷ []) bytes z.0 z.1
 raw_takes n bytes z e =
     let t = test_ok (nat_lt (length bytes) n) Short (take n bytes, drop n bytes) z e in
-    subst (λ (y : List ℕ × List ℕ). Taken (λ x. length x ≡ n) (λ x. raw x ∷ []) bytes y.0 y.1) t.1
-    (record {
+    rw (← t.1) (record {
       well = length-take-le n bytes (ltb-false (length bytes) n t.0);
       allowed = (tt, tt);
       bytes_are = sym (take-append-drop n bytes) ∙ sym (spelled_one (raw (take n bytes)) (drop n bytes));
@@ -176,16 +174,14 @@ raw_fails n bytes flaw e =
     let short : length bytes < n = ltb-true (length bytes) n t.0 in (
       filled n bytes,
       filled-length n bytes (omega arith),
-      subst (λ (y : Flaw). Breaks y (raw (filled n bytes) ∷ []) bytes) t.1
-          (breaks_here Short (raw (filled n bytes)) [] bytes
+      rw (← t.1) (breaks_here Short (raw (filled n bytes)) [] bytes
           (replicate (n - length bytes) 0, refl, filled-more n bytes short)),
     )
 
 raw_fails_again : (n : ℕ) (x bytes : List ℕ) (flaw : Flaw) → length x ≡ n → Spoils flaw (raw x) bytes
     → raw_at n bytes ≡ Err flaw
 raw_fails_again n x bytes Short h s = raw_cut n bytes (omega (arith, s.2, ap length s.1, length-append bytes s.0))
-raw_fails_again n x bytes WrongType h s = absurd s
-raw_fails_again n x bytes UnknownTag h s = absurd s
+raw_fails_again n x bytes flaw h s = absurd s
 
 pub raw_format : (n : ℕ) → IsFormat (λ x. length x ≡ n) (λ x. raw x ∷ []) (raw_at n)
 raw_format n = record {
@@ -204,8 +200,7 @@ type_takes : (place : TypePlace) (bytes : List ℕ) (z : ℕ × List ℕ) → ty
 type_takes place [] z e = absurd (cc)
 type_takes place (t ∷ rest) z e =
     let b = type_ok (is_type_at place t) WrongType (t, rest) z e in
-    subst (λ (y : ℕ × List ℕ). Taken (λ x. Unit {0}) (λ x. type_code place x ∷ []) (t ∷ rest) y.0 y.1) b.1
-    (record { well = tt; allowed = (b.0, tt); bytes_are = refl })
+    rw (← b.1) (record { well = tt; allowed = (b.0, tt); bytes_are = refl })
 
 type_again : (place : TypePlace) (t : ℕ) (rest : List ℕ) → is_type_at place t ≡ true
     → type_at place (t ∷ rest) ≡ Ok (t, rest)
@@ -216,15 +211,13 @@ type_fails : (place : TypePlace) (bytes : List ℕ) (flaw : Flaw) → type_at pl
 type_fails place [] flaw e = (
   0,
   tt,
-  subst (λ (y : Flaw). Breaks y (type_code place 0 ∷ []) []) (err_same {X = ℕ × List ℕ} Short flaw e)
-      (breaks_here Short (type_code place 0) [] [] (0 ∷ [], refl, omega arith)),
+  rw (← err_same {X = ℕ × List ℕ} Short flaw e) (breaks_here Short (type_code place 0) [] [] (0 ∷ [], refl, omega arith)),
 )
 type_fails place (t ∷ rest) flaw e =
     let b = type_err (is_type_at place t) WrongType flaw (t, rest) e in (
       t,
       tt,
-      subst (λ (y : Flaw). Breaks y (type_code place t ∷ []) (t ∷ rest)) b.1
-          (breaks_here WrongType (type_code place t) [] (t ∷ rest) (b.0, (rest, refl))),
+      rw (← b.1) (breaks_here WrongType (type_code place t) [] (t ∷ rest) (b.0, (rest, refl))),
     )
 
 type_fails_again : (place : TypePlace) (x : ℕ) (bytes : List ℕ) (flaw : Flaw) → Spoils flaw (type_code place x) bytes

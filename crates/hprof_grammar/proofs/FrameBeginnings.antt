@@ -1,4 +1,5 @@
 -- Headers and frames of records that begin one text.
+use Rattle.byteorder.specs.Numbers.{length-bytes_high_first}
 use Rattle.std.proofs.Common.{List, [], ap, append_assoc, arith, length, refl, sym, true, ℕ, ◌++◌, ◌+◌, ◌<◌, ◌^◌, ◌∙◌}
 use Rattle.std.proofs.Common.{◌∷◌, ◌≡◌}
 use Rattle.std.proofs.lemmas.List.{append-nil, length-append}
@@ -7,7 +8,7 @@ use Rattle.hprof_grammar.specs.Dump.{header, magic}
 use Rattle.hprof_grammar.specs.Fault.{RunsPastEnd}
 use Rattle.hprof_grammar.specs.Record.{framed}
 use Rattle.hprof_grammar.specs.FormatTables.{is_id_size}
-use Rattle.hprof_grammar.proofs.Bytes.{length-big_bytes, same_front, same_number}
+use Rattle.hprof_grammar.proofs.Bytes.{same_front, same_number}
 use Rattle.hprof_grammar.proofs.TableLaws.{is_id_size-lt}
 
 -- ---- frames
@@ -20,8 +21,8 @@ length-framed tag time body after =
       length-append (framed tag time body) after,
       length-append (big_bytes 4 time) (big_bytes 4 (length body) ++ body),
       length-append (big_bytes 4 (length body)) body,
-      length-big_bytes 4 time,
-      length-big_bytes 4 (length body),
+      length-bytes_high_first 4 time,
+      length-bytes_high_first 4 (length body),
     )
 
 -- the parts of a frame are known from a text that begins with it
@@ -47,8 +48,8 @@ same_frame tag time body after tag_too time_too body_too after_too h k e =
     let behind : big_bytes 4 time ++ (big_bytes 4 (length body) ++ (body ++ after))
     ≡ big_bytes 4 time_too ++ (big_bytes 4 (length body_too) ++ (body_too ++ after_too)) = cc in
     let times = same_front 4 (big_bytes 4 time) (big_bytes 4 time_too) (big_bytes 4 (length body) ++ (body ++ after))
-    (big_bytes 4 (length body_too) ++ (body_too ++ after_too)) (length-big_bytes 4 time)
-    (length-big_bytes 4 time_too) behind in
+    (big_bytes 4 (length body_too) ++ (body_too ++ after_too)) (length-bytes_high_first 4 time)
+    (length-bytes_high_first 4 time_too) behind in
     let sizes = same_number 4 (length body) (length body_too) (body ++ after) (body_too ++ after_too) h k times.1 in
     let bodies = same_front (length body_too) body body_too after after_too sizes.0 refl sizes.1 in
     record { tags = cc; times = times.0; bodies = bodies.0; afters = bodies.1 }
@@ -69,8 +70,8 @@ pub length-header : (s time : ℕ) → length (header s time) ≡ 31
 length-header s time = omega (
   arith,
   length-append (big_bytes 4 s) (big_bytes 8 time),
-  length-big_bytes 4 s,
-  length-big_bytes 8 time,
+  length-bytes_high_first 4 s,
+  length-bytes_high_first 8 time,
 )
 
 pub header_parts : (s time : ℕ) (rest : List ℕ)
@@ -91,6 +92,6 @@ same_header s time s_too time_too rest more h k e =
     let sizes = same_size s s_too (big_bytes 8 time ++ rest) (big_bytes 8 time_too ++ more) (is_id_size-lt s h)
     (is_id_size-lt s_too k) (sym (header_parts s time rest) ∙ e ∙ header_parts s_too time_too more) in (
       sizes.0,
-      (same_front 8 (big_bytes 8 time) (big_bytes 8 time_too) rest more (length-big_bytes 8 time)
-          (length-big_bytes 8 time_too) sizes.1).1,
+      (same_front 8 (big_bytes 8 time) (big_bytes 8 time_too) rest more (length-bytes_high_first 8 time)
+          (length-bytes_high_first 8 time_too) sizes.1).1,
     )

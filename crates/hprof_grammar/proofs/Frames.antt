@@ -1,6 +1,6 @@
 -- The frame of a record: what is read was spelled, what is spelled is read, and where none is read the record runs
 -- past the end.
-use Rattle.std.proofs.Common.{Err, List, Ok, Result, [], ap, append_assoc, arith, inl, inr, length, refl, subst, sym, ℕ}
+use Rattle.std.proofs.Common.{Err, List, Ok, Result, [], ap, append_assoc, arith, inl, inr, length, refl, sym, ℕ}
 use Rattle.std.proofs.Common.{◌++◌, ◌<◌, ◌^◌, ◌∙◌, ◌∷◌, ◌≡◌}
 use Rattle.std.proofs.lemmas.List.{append-nil, length-append}
 use Rattle.byteorder.specs.Endian.{big_bytes}
@@ -14,7 +14,7 @@ use Rattle.hprof_grammar.specs.declared.flaw.Flaw.TheVariants.{Short, UnknownTag
 use Rattle.hprof_grammar.specs.declared.kinds.TypePlace.{TypePlace}
 use Rattle.hprof_grammar.proofs.Bytes.{IsBytes, bytes-tail}
 use Rattle.hprof_grammar.proofs.Fields.{Breaks, ends_short, has_wrong_type, spelled-append}
-use Rattle.hprof_grammar.proofs.Format.{IsFormat, bind_err, bind_ok, number_format, raw_format}
+use Rattle.hprof_grammar.proofs.Format.{IsFormat, bind_err, bind_ok, number_format, ok_same, raw_format}
 use Rattle.hprof_grammar.proofs.Combined.{as_format, pair_format}
 
 -- ---- what stands behind the tag: a time, a length, and so many bytes
@@ -52,12 +52,6 @@ pub record FrameTaken (bytes : List ℕ) (tag time : ℕ) (body rest : List ℕ)
   pub length_fits : length body < 256 ^ 4
   pub bytes_are : bytes ≡ framed tag time body ++ rest
 
-taken_as : (bytes : List ℕ) (x z : (ℕ × ℕ × List ℕ) × List ℕ) → ◌≡◌ {A = Result ((ℕ × ℕ × List ℕ) × List ℕ) Flaw}
-    (Ok x) (Ok z) → FrameTaken bytes x.0.0 x.0.1 x.0.2 x.1 → FrameTaken bytes z.0.0 z.0.1 z.0.2 z.1
-taken_as bytes x z e t =
-    let same : x ≡ z = cc in
-    subst (λ (y : (ℕ × ℕ × List ℕ) × List ℕ). FrameTaken bytes y.0.0 y.0.1 y.0.2 y.1) same t
-
 pub frame_takes : {bytes : List ℕ} {z : (ℕ × ℕ × List ℕ) × List ℕ} → IsBytes bytes → frame_at bytes ≡ Ok z
     → FrameTaken bytes z.0.0 z.0.1 z.0.2 z.1
 unfolding frame_at
@@ -66,8 +60,7 @@ frame_takes {bytes = tag ∷ bytes} {z} h e =
     let p = bind_ok (then_at (number_at 4) (λ _. block_at) bytes)
     (λ (x : (ℕ × List ℕ) × List ℕ). Ok ((tag, x.0.0, x.0.1), x.1)) z e in
     let t = behind_tag.takes bytes p.0 (bytes-tail tag bytes h) p.1 in
-    taken_as (tag ∷ bytes) ((tag, p.0.0.0, p.0.0.1), p.0.1) z p.2
-    (record {
+    rw (← ok_same {E = Flaw} ((tag, p.0.0.0, p.0.0.1), p.0.1) z p.2) (record {
       time_fits = t.well.0;
       length_fits = t.well.1;
       bytes_are = ap (λ (back : List ℕ). tag ∷ back) t.bytes_are

@@ -1,7 +1,7 @@
 -- The header of a dump: a text that has it, what is wrong with one that has not, and what the records behind it make of
 -- the text.
 use Rattle.std.proofs.Common.{Bool, List, [], ap, arith, drop, length, map, refl, subst, sym, false, true, ℕ, ◌++◌, ◌<◌}
-use Rattle.std.proofs.Common.{◌^◌, ◌∙◌, ◌≡◌, ◌≤◌}
+use Rattle.std.proofs.Common.{◌+◌, ◌^◌, ◌∙◌, ◌≡◌, ◌≤◌}
 use Rattle.std.specs.List.{starts_with}
 use Rattle.std.specs.Prelude.{nat_eq}
 use Rattle.std.proofs.lemmas.Bool.Decides.{Decides-eqb}
@@ -11,7 +11,7 @@ use Rattle.byteorder.specs.Endian.{big_bytes, big_number}
 use Rattle.hprof_grammar.specs.Dump.{header, limit, magic, spellings}
 use Rattle.hprof_grammar.specs.Places.{IsDumpOf, Places}
 use Rattle.hprof_grammar.specs.Fault.{FirstFault, HasMagic}
-use Rattle.hprof_grammar.specs.Fault.FirstFault.{bad_header, bad_id_size, in_records, short_header, too_large}
+use Rattle.hprof_grammar.specs.Fault.FirstFault.{bad_id_size, in_records}
 use Rattle.hprof_grammar.specs.working.Joining.{AddsAll, HasHeader, HasRecordFault, nothing_of}
 use Rattle.hprof_grammar.specs.Record.{tag_of}
 use Rattle.hprof_grammar.specs.FormatTables.{is_id_size}
@@ -32,26 +32,19 @@ magic_is_found text r e h = (starts_is Decides-eqb text magic r e).1 h.0 h.1
 
 -- ---- the numbers behind it
 
--- the size of identifiers, and what stands behind it
-id_size_part : (text : List ℕ) → IsBytes text → 23 ≤ length text
-    → drop 19 text ≡ big_bytes 4 (big_number 4 (drop 19 text)) ++ drop 23 text
-id_size_part text bytes room =
-    let within : 4 ≤ length (drop 19 text) = omega (arith, length-drop 19 text) in
-    number_parts 4 (drop 19 text) (bytes-drop 19 text bytes) within
-    ∙ ap (λ rest. big_bytes 4 (big_number 4 (drop 19 text)) ++ rest) (drop-drop 4 19 text)
-
-time_part : (text : List ℕ) → IsBytes text → 31 ≤ length text
-    → drop 23 text ≡ big_bytes 8 (big_number 8 (drop 23 text)) ++ drop 31 text
-time_part text bytes room =
-    let within : 8 ≤ length (drop 23 text) = omega (arith, length-drop 23 text) in
-    number_parts 8 (drop 23 text) (bytes-drop 23 text bytes) within
-    ∙ ap (λ rest. big_bytes 8 (big_number 8 (drop 23 text)) ++ rest) (drop-drop 8 23 text)
+-- a number of w bytes that stands at a place, and what stands behind it
+number_then : (at w : ℕ) (text : List ℕ) → IsBytes text → at + w ≤ length text
+    → drop at text ≡ big_bytes w (big_number w (drop at text)) ++ drop (at + w) text
+number_then at w text bytes room =
+    let within : w ≤ length (drop at text) = omega (arith, length-drop at text) in
+    number_parts w (drop at text) (bytes-drop at text bytes) within
+    ∙ ap (λ rest. big_bytes w (big_number w (drop at text)) ++ rest) (drop-drop w at text)
 
 pub header_stands : (s : ℕ) (text : List ℕ) → IsBytes text → length text ≤ limit → 31 ≤ length text
     → text ≡ magic ++ drop 19 text → s ≡ big_number 4 (drop 19 text) → is_id_size s ≡ true → HasHeader s text
 header_stands s text bytes size room begins e is =
     let time = big_number 8 (drop 23 text) in
-    let sizes : drop 19 text ≡ big_bytes 4 s ++ drop 23 text = id_size_part text bytes (omega arith)
+    let sizes : drop 19 text ≡ big_bytes 4 s ++ drop 23 text = number_then 19 4 text bytes (omega arith)
     ∙ ap (λ n. big_bytes 4 n ++ drop 23 text) (sym e) in
     record {
       size = size;
@@ -59,37 +52,17 @@ header_stands s text bytes size room begins e is =
       time = time;
       time_fits = number-lt 8 (drop 23 text) (bytes-drop 23 text bytes);
       whole = begins ∙ ap (λ back. magic ++ back)
-          (sizes ∙ ap (λ back. big_bytes 4 s ++ back) (time_part text bytes room))
+          (sizes ∙ ap (λ back. big_bytes 4 s ++ back) (number_then 23 8 text bytes room))
           ∙ sym (header_parts s time (drop 31 text));
     }
 
--- ---- the faults of a header
-
-fault_at : (text : List ℕ) (fault : FormatFault) (code offset : ℕ) → fault ≡ record { code = code; offset = offset }
-    → FirstFault text code offset → FirstFault text fault.code fault.offset
-fault_at text fault code offset e h = subst (λ (f : FormatFault). FirstFault text f.code f.offset) (sym e) h
-
-pub text_too_large : (text : List ℕ) (fault : FormatFault) → fault ≡ record { code = 14; offset = limit }
-    → limit < length text → FirstFault text fault.code fault.offset
-text_too_large text fault e long = fault_at text fault 14 limit e (too_large long)
-
-pub header_missing : (text : List ℕ) (fault : FormatFault) → fault ≡ record { code = 1; offset = 0 }
-    → length text ≤ limit → (HasMagic text → ⊥) → FirstFault text fault.code fault.offset
-header_missing text fault e size no_magic = fault_at text fault 1 0 e (bad_header size no_magic)
-
-pub header_cut : (text : List ℕ) (fault : FormatFault) → fault ≡ record { code = 3; offset = 0 }
-    → text ≡ magic ++ drop 19 text → length text < 31 → FirstFault text fault.code fault.offset
-header_cut text fault e begins small = fault_at text fault 3 0 e (short_header (drop 19 text, begins) small)
-
-pub id_size_wrong : (s : ℕ) (text : List ℕ) (fault : FormatFault) → fault ≡ record { code = 2; offset = 19 }
-    → IsBytes text → length text ≤ limit → 31 ≤ length text → text ≡ magic ++ drop 19 text
-    → s ≡ big_number 4 (drop 19 text) → is_id_size s ≡ false → FirstFault text fault.code fault.offset
-id_size_wrong s text fault e bytes size room begins is wrong =
-    let sizes : drop 19 text ≡ big_bytes 4 s ++ drop 23 text = id_size_part text bytes (omega arith)
+pub id_size_wrong : (s : ℕ) (text : List ℕ) → IsBytes text → length text ≤ limit → 31 ≤ length text
+    → text ≡ magic ++ drop 19 text → s ≡ big_number 4 (drop 19 text) → is_id_size s ≡ false → FirstFault text 2 19
+id_size_wrong s text bytes size room begins is wrong =
+    let sizes : drop 19 text ≡ big_bytes 4 s ++ drop 23 text = number_then 19 4 text bytes (omega arith)
     ∙ ap (λ n. big_bytes 4 n ++ drop 23 text) (sym is) in
     let fits : s < 256 ^ 4 = rw is (number-lt 4 (drop 19 text) (bytes-drop 19 text bytes)) in
-    fault_at text fault 2 19 e (bad_id_size s (drop 23 text) size room fits
-    (begins ∙ ap (λ back. magic ++ back) sizes) wrong)
+    bad_id_size s (drop 23 text) size room fits (begins ∙ ap (λ back. magic ++ back) sizes) wrong
 
 -- ---- the records behind the header
 

@@ -13,7 +13,6 @@ use Rattle.hprof_grammar.specs.working.Joining.{AddsSubs, HasSubFault, noted, wi
 use Rattle.hprof_grammar.specs.working.Reading.{behind, flaw_code, sub_record_at}
 use Rattle.hprof_grammar.specs.SubRecord.{IsSubRecord, SubRecord, spelling_of, tag_of}
 use Rattle.hprof_grammar.specs.Kinds.{kind_of, sub_kind}
-use Rattle.hprof_grammar.specs.SubRecord.SubRecord.{class_dump, instance_dump, object_array_dump, primitive_array_dump}
 use Rattle.hprof_grammar.specs.SubRecord.SubRecord.{root}
 use Rattle.hprof_grammar.specs.declared.kinds.Kind.{Kind}
 use Rattle.hprof_grammar.specs.declared.flaw.Flaw.{Flaw}
@@ -60,10 +59,7 @@ placed_more s at (y ∷ subs) x =
 -- what the tag of a sub-record says
 kind_noted : (x : SubRecord) (p : Places) (at : ℕ) → noted p (sub_kind x) at ≡ with_subs p at (x ∷ [])
 kind_noted (root r) p at = rw (append-nil p.objects) refl
-kind_noted (class_dump c) p at = rw (append-nil p.roots) refl
-kind_noted (instance_dump i) p at = rw (append-nil p.roots) refl
-kind_noted (object_array_dump a) p at = rw (append-nil p.roots) refl
-kind_noted (primitive_array_dump a) p at = rw (append-nil p.roots) refl
+kind_noted x p at = rw (append-nil p.roots) refl
 
 -- ---- the loop over the sub-records, where these have come: at each turn, and at a flaw
 

@@ -84,8 +84,7 @@ widths (f ∷ fs) = width_of f + widths fs
 
 length-field_spelling : (f : Field) → length (field_spelling f) ≡ width_of f
 length-field_spelling (number width value) = length-bytes_high_first width value
-length-field_spelling (type_code place code) = refl
-length-field_spelling (raw bytes) = refl
+length-field_spelling f = refl
 
 pub length-spelled : (fs : List Field) → length (spelled fs) ≡ widths fs
 length-spelled [] = refl

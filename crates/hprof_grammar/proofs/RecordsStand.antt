@@ -99,7 +99,8 @@ module _ {v w : Sight} {at time serial class stack name : ℕ} (e : w ≡ v)
   behind_serial =
       let more = id_bytes class ++ (big_bytes 4 stack ++ id_bytes name) in
       let there : at + 9 + 4 ≡ at + 13 = omega arith in
-      rw there at (moved w.bytes (at + 9) 4 (big_bytes 4 serial) more (length-bytes_high_first 4 serial) (body_seen e h))
+      rw there at
+      (moved w.bytes (at + 9) 4 (big_bytes 4 serial) more (length-bytes_high_first 4 serial) (body_seen e h))
 
   pub loaded_class_id : NumberAt w.bytes (at + 13) w.id_size class
   loaded_class_id = number_read w.bytes (at + 13) w.id_size class parts_seen.parts.1

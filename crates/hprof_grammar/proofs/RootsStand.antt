@@ -50,25 +50,18 @@ trace_second : (s : ℕ) (o : RootOrigin) (n : ℕ) → trace_of o ≡ Some n
 trace_second s (thread_object thread stack) n e = (thread, cc)
 trace_second s o n e = absurd (cc)
 
-pub root_reference : {v w : Sight} {at n : ℕ} → w ≡ v → RootSays v at reference_of n
-    → NumberAt w.bytes (at + 1 + w.id_size) w.id_size n
-root_reference {w = w} {n = n} e h =
-    behind_object (in_sight e h.stands) (reference_first w.id_size h.root_is.origin n h.says)
+module _ {v w : Sight} {at n : ℕ} (e : w ≡ v) where
+  pub root_reference : RootSays v at reference_of n → NumberAt w.bytes (at + 1 + w.id_size) w.id_size n
+  root_reference h = behind_object (in_sight e h.stands) (reference_first w.id_size h.root_is.origin n h.says)
 
-pub root_thread : {v w : Sight} {at n : ℕ} → w ≡ v → RootSays v at thread_of n
-    → NumberAt w.bytes (at + 1 + w.id_size) 4 n
-root_thread {w = w} {n = n} e h =
-    behind_object (in_sight e h.stands) (thread_first w.id_size h.root_is.origin n h.says).1
+  pub root_thread : RootSays v at thread_of n → NumberAt w.bytes (at + 1 + w.id_size) 4 n
+  root_thread h = behind_object (in_sight e h.stands) (thread_first w.id_size h.root_is.origin n h.says).1
 
-pub root_frame : {v w : Sight} {at n : ℕ} → w ≡ v → RootSays v at frame_of n
-    → NumberAt w.bytes (at + 5 + w.id_size) 4 n
-root_frame {w = w} {n = n} e h =
-    behind_thread (in_sight e h.stands) (frame_second w.id_size h.root_is.origin n h.says).1
+  pub root_frame : RootSays v at frame_of n → NumberAt w.bytes (at + 5 + w.id_size) 4 n
+  root_frame h = behind_thread (in_sight e h.stands) (frame_second w.id_size h.root_is.origin n h.says).1
 
-pub root_trace : {v w : Sight} {at n : ℕ} → w ≡ v → RootSays v at trace_of n
-    → NumberAt w.bytes (at + 5 + w.id_size) 4 n
-root_trace {w = w} {n = n} e h =
-    behind_thread (in_sight e h.stands) (trace_second w.id_size h.root_is.origin n h.says).1
+  pub root_trace : RootSays v at trace_of n → NumberAt w.bytes (at + 5 + w.id_size) 4 n
+  root_trace h = behind_thread (in_sight e h.stands) (trace_second w.id_size h.root_is.origin n h.says).1
 
 -- the byte of a tag stands there, and says the kind of the root
 pub record RootTagAt (bytes : List ℕ) (at : ℕ) (r : Root) : Type 0 where

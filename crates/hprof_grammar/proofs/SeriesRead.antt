@@ -1,4 +1,5 @@
 -- What is spelled one after the other is read one after the other.
+use Rattle.hprof_grammar.proofs.Bytes.{behind_number}
 use Rattle.std.proofs.Common.{List, [], ap, append_assoc, arith, drop, flat_map, length, map, slice_index, subst, sym}
 use Rattle.std.proofs.Common.{take, refl, suc, zero, ℕ, ◌*◌, ◌+◌, ◌++◌, ◌<◌, ◌^◌, ◌∙◌, ◌∷◌, ◌≡◌, ◌≤◌}
 use Rattle.std.proofs.lemmas.List.{append-nil, drop-drop, get_or-drop, length-append}
@@ -27,18 +28,13 @@ pub widths-numbers : (w : ℕ) (xs : List ℕ) → widths (map (number w) xs) �
 widths-numbers w [] = omega arith
 widths-numbers w (x ∷ xs) = omega (arith, widths-numbers w xs)
 
-behind_bytes : (w x : ℕ) (rest : List ℕ) → drop w (big_bytes w x ++ rest) ≡ rest
-behind_bytes w x rest = ap (λ (n : ℕ). drop n (big_bytes w x ++ rest))
-    (let len : w ≡ length (big_bytes w x) = omega (arith, length-bytes_high_first w x) in len)
-    ∙ drop-append_seam (big_bytes w x) rest
-
 pub numbers_again : (w : ℕ) (xs rest : List ℕ) → AllByRecursion (λ x. x < 256 ^ w) xs
     → numbers_in w (length xs) (spelled (map (number w) xs) ++ rest) ≡ xs
 numbers_again w [] rest fit = refl
 numbers_again w (x ∷ xs) rest fit =
     let others = spelled (map (number w) xs) ++ rest in
     let first : big_number w (big_bytes w x ++ others) ≡ x = big_number-reads_back w x others fit.0 in
-    let behind : drop w (big_bytes w x ++ others) ≡ others = behind_bytes w x others in
+    let behind : drop w (big_bytes w x ++ others) ≡ others = behind_number w x others in
     rw (append_assoc, first, behind, numbers_again w xs rest fit.1) refl
 
 -- ---- values behind type codes
@@ -98,19 +94,20 @@ module _ {X : Type 0} (s w : ℕ) (place : TypePlace) (front type : X → ℕ) (
   abbrev pub labelled : X → LabelledValue
   labelled x = record { label = front x; type = type x; value = value x }
 
-  pub values_again : (xs : List X) (rest : List ℕ)
-      → AllByRecursion (λ x. (front x < 256 ^ w) × (length (value x) ≡ size_of s (type x))) xs
+  pub values_again : (Is : X → Type 0)
+      → ((x : X) → Is x → (front x < 256 ^ w) × (length (value x) ≡ size_of s (type x))) → (xs : List X) (rest : List ℕ) → AllByRecursion Is xs
       → AreValues s w (length xs) (map labelled xs) rest (spelled (flat_map value_fields xs) ++ rest)
-  values_again [] rest fit = record { room = tt; values = refl; behind = refl }
-  values_again (x ∷ xs) rest fit =
+  values_again Is fits [] rest all = record { room = tt; values = refl; behind = refl }
+  values_again Is fits (x ∷ xs) rest all =
+      let fit = fits x all.0 in
       let others = spelled (flat_map value_fields xs) ++ rest in
       let here = is_value w (size_of s (type x)) (type x) (big_bytes w (front x)) (value x) others
-      (length-bytes_high_first w (front x)) fit.0.1 in
-      let first = big_number-reads_back w (front x) (type x ∷ (value x ++ others)) fit.0.0 in
-      let all = one_more s w (length xs) (front x) (type x) (value x) (map labelled xs) others rest
-      (big_bytes w (front x) ++ (type x ∷ (value x ++ others))) first here (values_again xs rest fit.1) in
+      (length-bytes_high_first w (front x)) fit.1 in
+      let first = big_number-reads_back w (front x) (type x ∷ (value x ++ others)) fit.0 in
+      let more = one_more s w (length xs) (front x) (type x) (value x) (map labelled xs) others rest
+      (big_bytes w (front x) ++ (type x ∷ (value x ++ others))) first here (values_again Is fits xs rest all.1) in
       subst (λ (l : List ℕ). AreValues s w (length (x ∷ xs)) (map labelled (x ∷ xs)) rest l)
-      (sym (spelled_first x xs rest)) all
+      (sym (spelled_first x xs rest)) more
 
 pub length-values_in : (s w n : ℕ) (bytes : List ℕ) → length (values_in s w n bytes) ≡ n
 length-values_in s w zero bytes = refl

@@ -48,10 +48,9 @@ stays_out tags tag is = filter-append is_snapshot_tag tags (tag ∷ [])
 
 pub others_keep : (order : Order) (tags : List ℕ) (tag : ℕ) → is_snapshot_tag tag ≡ false → IsAt order tags
     → IsAt order (tags ++ tag ∷ [])
-others_keep Before tags tag is h = stays_out tags tag is ∙ h
-others_keep Whole tags tag is h = stays_out tags tag is ∙ h
 others_keep Segments tags tag is h = (h.0, stays_out tags tag is ∙ h.1)
 others_keep Ended tags tag is h = (h.0, stays_out tags tag is ∙ h.1)
+others_keep order tags tag is h = stays_out tags tag is ∙ h
 
 pub whole_comes : (tags : List ℕ) → IsAt Before tags → IsAt Whole (tags ++ 0x0C ∷ [])
 whole_comes tags h = comes tags 0x0C refl ∙ ap (λ (front : List ℕ). front ++ 0x0C ∷ []) h
@@ -117,12 +116,11 @@ no_dump_in_segments tags h on = let found = too_many tags (replicate (suc h.0) 0
 
 pub no_more : (order : Order) (tags : List ℕ) (tag : ℕ) → is_done order ≡ true → is_snapshot_tag tag ≡ true
     → IsAt order tags → CanGoOn (tags ++ tag ∷ []) → ⊥
-no_more Before tags tag done is h on = cc
 no_more Whole tags tag done is h on = let found = too_many tags (0x0C ∷ []) tag is h on in
     after_whole tag found.0 found.1
-no_more Segments tags tag done is h on = cc
 no_more Ended tags tag done is h on = let found = too_many tags (replicate (suc h.0) 0x1C ++ 0x2C ∷ []) tag is h.1 on
     in after_end h.0 tag found.0 found.1
+no_more order tags tag done is h on = cc
 
 -- ---- where the records end
 
@@ -135,10 +133,9 @@ at_goes_on Ended tags h = ([], inr (h.0, ap snapshot_tags (append-nil tags) ∙ 
 
 -- the list is orderly just where the order is done
 pub done_is_orderly : (order : Order) (tags : List ℕ) → is_done order ≡ true → IsAt order tags → IsOrderly tags
-done_is_orderly Before tags e h = absurd (cc)
 done_is_orderly Whole tags e h = inl h
-done_is_orderly Segments tags e h = absurd (cc)
 done_is_orderly Ended tags e h = inr h
+done_is_orderly order tags e h = absurd (cc)
 
 nothing_is_none : IsSnapshot [] → ⊥
 nothing_is_none (inl e) = cc
@@ -150,6 +147,5 @@ segments_are_none n (inr (m, e)) = row_no_end 0x1C 0x2C (suc n) (suc m) [] end_i
 
 pub not_done_is_not : (order : Order) (tags : List ℕ) → is_done order ≡ false → IsAt order tags → IsOrderly tags → ⊥
 not_done_is_not Before tags e h is = nothing_is_none (subst IsSnapshot h is)
-not_done_is_not Whole tags e h is = cc
 not_done_is_not Segments tags e h is = segments_are_none h.0 (subst IsSnapshot h.1 is)
-not_done_is_not Ended tags e h is = cc
+not_done_is_not order tags e h is = cc

@@ -5,11 +5,11 @@ use Rattle.std.proofs.lemmas.List.{append-nil, map-append}
 use Rattle.std.specs.List.{AllByRecursion}
 use Rattle.byteorder.specs.Endian.{big_bytes}
 use Rattle.byteorder.specs.Numbers.{length-bytes_high_first}
-use Rattle.hprof_grammar.specs.Dump.{header, heap_list, heap_of, is_object, is_root, placed, placed_subs, places_where}
+use Rattle.hprof_grammar.specs.Dump.{header, heap_list, is_object, is_root, placed, placed_subs, places_where}
 use Rattle.hprof_grammar.specs.Dump.{spellings}
 use Rattle.hprof_grammar.specs.Places.{IsDumpOf, Places, is_load, is_string}
 use Rattle.hprof_grammar.specs.Record.{IsRecord, Record, body_of, framed, record_spelling, subs_of, tag_of, time_of}
-use Rattle.hprof_grammar.specs.Record.Record.{heap, load_class, other, string}
+use Rattle.hprof_grammar.specs.Record.Record.{heap}
 use Rattle.hprof_grammar.specs.SubRecord.{IsSubRecord, SubRecord, spelling_of}
 use Rattle.hprof_grammar.specs.Standing.{IsPlaced, RecordStandsAt, StandInTurn, SubRecordStandsAt}
 use Rattle.hprof_grammar.proofs.Fields.{all_join}
@@ -59,13 +59,11 @@ subs_stand s text at (x ∷ xs) h each =
 
 record_subs : (s : ℕ) (text : List ℕ) (at : ℕ) (r : Record) → RecordStandsAt s text at r
     → AllByRecursion (λ (p : ℕ × SubRecord). SubRecordStandsAt s text p.0 p.1) (placed_subs s (at + 9) (subs_of r))
-record_subs s text at (string time id body) h = tt
-record_subs s text at (load_class time serial class stack name) h = tt
 record_subs s text at (heap tag time subs) h =
     subs_stand s text (at + 9) subs
     (body_stands text at tag time (flat_map (spelling_of s) subs) (record_stands s text at (heap tag time subs) h))
     h.is.parts.1
-record_subs s text at (other tag time body) h = tt
+record_subs s text at r h = tt
 
 heap_stands : (s : ℕ) (text : List ℕ) (ps : List (ℕ × Record))
     → AllByRecursion (λ (p : ℕ × Record). RecordStandsAt s text p.0 p.1) ps
@@ -150,16 +148,12 @@ all_placed text dump is =
     record {
       time = is.spells.time;
       header = record { rest = spellings s is.records; bytes_are = is.spells.whole; fits = is.spells.time_fits };
-      strings = subst (λ (l : List ℕ). StandInTurn (RecordStandsAt s text) l (filter is_string is.records))
-          (sym (ap (λ (d : Places). d.strings) is.places))
+      strings = rw (ap (λ (d : Places). d.strings) is.places)
           (rw only_records at (in_turn (RecordStandsAt s text) is_string ps records));
-      loaded = subst (λ (l : List ℕ). StandInTurn (RecordStandsAt s text) l (filter is_load is.records))
-          (sym (ap (λ (d : Places). d.loaded) is.places))
+      loaded = rw (ap (λ (d : Places). d.loaded) is.places)
           (rw only_records at (in_turn (RecordStandsAt s text) is_load ps records));
-      roots = subst (λ (l : List ℕ). StandInTurn (SubRecordStandsAt s text) l (filter is_root (heap_of is.records)))
-          (sym (ap (λ (d : Places). d.roots) is.places))
+      roots = rw (ap (λ (d : Places). d.roots) is.places)
           (rw only_subs at (in_turn (SubRecordStandsAt s text) is_root (heap_list s is.records) subs));
-      objects = subst (λ (l : List ℕ). StandInTurn (SubRecordStandsAt s text) l (filter is_object (heap_of is.records)))
-          (sym (ap (λ (d : Places). d.objects) is.places))
+      objects = rw (ap (λ (d : Places). d.objects) is.places)
           (rw only_subs at (in_turn (SubRecordStandsAt s text) is_object (heap_list s is.records) subs));
     }

@@ -1,6 +1,6 @@
 -- Sub-records: what is read was spelled, what is spelled is read, and a flaw shows the fault.
-use Rattle.std.proofs.Common.{Err, List, None, Ok, Option, Result, Some, [], ap, arith, false, inl, inr, length, refl, subst, sym, ℕ}
-use Rattle.std.proofs.Common.{◌++◌, ◌<◌, ◌^◌, ◌∙◌, ◌∷◌, ◌≡◌}
+use Rattle.std.proofs.Common.{Err, List, None, Ok, Option, Result, Some, [], ap, arith, false, inl, inr, length}
+use Rattle.std.proofs.Common.{refl, subst, sym, ℕ, ◌++◌, ◌<◌, ◌^◌, ◌∙◌, ◌∷◌, ◌≡◌}
 use Rattle.hprof_grammar.specs.Fault.{SubFault}
 use Rattle.hprof_grammar.specs.Fault.SubFault.{short, unknown_tag, wrong_type}
 use Rattle.hprof_grammar.specs.working.Reading.{as_at, body_at, class_dump_at, flaw_code, instance_at, lone_root}
@@ -28,7 +28,7 @@ use Rattle.hprof_grammar.specs.declared.flaw.Flaw.TheVariants.{Short, UnknownTag
 use Rattle.hprof_grammar.proofs.BoundsLaws.{bounds, formed_by}
 use Rattle.hprof_grammar.proofs.Bytes.{IsBytes, bytes-tail}
 use Rattle.hprof_grammar.proofs.Fields.{Breaks, breaks_short, breaks_wrong, ends_short, has_wrong_type}
-use Rattle.hprof_grammar.proofs.Format.{IsFormat, bind_err, bind_ok, number_format}
+use Rattle.hprof_grammar.proofs.Format.{IsFormat, bind_err, bind_ok, number_format, ok_same}
 use Rattle.hprof_grammar.proofs.PartFormats.{class_format, instance_format, object_array_format, primitive_array_format}
 use Rattle.hprof_grammar.proofs.PartFormats.{three_numbers, two_numbers}
 use Rattle.hprof_grammar.proofs.TableLaws.{class_tag, instance_tag, kind_says, no_kind, no_sub_tag, object_array_tag}
@@ -70,12 +70,9 @@ module _ {A : Type 0} {s tag : ℕ} {make : A → SubRecord} {W : A → Type 0} 
   kind_takes rest z h e =
       let a = bind_ok (r rest) (λ x. Ok (make x.0, x.1)) z e in
       let t = k.under.takes rest a.0 h a.1 in
-      let same : (make a.0.0, a.0.1) ≡ z =
-      (let k : ◌≡◌ {A = Result (SubRecord × List ℕ) Flaw} (Ok (make a.0.0, a.0.1)) (Ok z) = a.2 in cc) in
       let f = k.fields_are a.0.0 in
       let formed = formed_by (tag_known (make a.0.0)) (k.in_bounds a.0.0 t.well) in
-      subst (λ (y : SubRecord × List ℕ). SubTaken s (tag ∷ rest) y.0 y.1) same
-      (record {
+      rw (← ok_same {E = Flaw} (make a.0.0, a.0.1) z a.2) (record {
         is = record { formed = formed; allowed = rw f t.allowed };
         bytes_are = rw (k.tag_is a.0.0 t.well, f) (ap (λ (x : List ℕ). tag ∷ x) t.bytes_are);
       })

@@ -6,9 +6,7 @@ use Rattle.std.proofs.lemmas.Bool.Decides.{nat_tests}
 use Rattle.hprof_grammar.specs.FormatTables.{is_heap_tag, is_id_size, is_length_of, is_sub_tag}
 use Rattle.hprof_grammar.specs.Kinds.{kind_of, origin_kind, root_kind, root_of, root_tag, sub_kind}
 use Rattle.hprof_grammar.specs.SubRecord.{RootOrigin, SubRecord, origin_tag, tag_of}
-use Rattle.hprof_grammar.specs.SubRecord.RootOrigin.{java_frame, jni_global, jni_local, monitor_used, native_stack}
-use Rattle.hprof_grammar.specs.SubRecord.RootOrigin.{sticky_class, thread_block, thread_object, unknown}
-use Rattle.hprof_grammar.specs.SubRecord.SubRecord.{class_dump, instance_dump, object_array_dump, primitive_array_dump}
+use Rattle.hprof_grammar.specs.SubRecord.RootOrigin.{unknown}
 use Rattle.hprof_grammar.specs.SubRecord.SubRecord.{root}
 use Rattle.hprof_grammar.specs.declared.kinds.Kind.{Kind}
 use Rattle.hprof_grammar.specs.declared.kinds.RootKind.{RootKind}
@@ -69,14 +67,7 @@ root_kind_found tag kind h = grind (arith, nat_tests, root_found (root_kind tag)
 tag_of_kind : (tag : ℕ) (kind : RootKind) → root_kind tag ≡ Some kind → tag ≡ root_tag kind
 unfolding root_kind
 tag_of_kind tag roots.Unknown h = grind (arith, nat_tests)
-tag_of_kind tag roots.JniGlobal h = grind (arith, nat_tests)
-tag_of_kind tag roots.JniLocal h = grind (arith, nat_tests)
-tag_of_kind tag roots.JavaFrame h = grind (arith, nat_tests)
-tag_of_kind tag roots.NativeStack h = grind (arith, nat_tests)
-tag_of_kind tag roots.StickyClass h = grind (arith, nat_tests)
-tag_of_kind tag roots.ThreadBlock h = grind (arith, nat_tests)
-tag_of_kind tag roots.MonitorUsed h = grind (arith, nat_tests)
-tag_of_kind tag roots.ThreadObject h = grind (arith, nat_tests)
+tag_of_kind tag kind h = grind (arith, nat_tests)
 
 pub root_tag_is : (tag : ℕ) (kind : RootKind) → kind_of tag ≡ Some (Root kind) → tag ≡ root_tag kind
 root_tag_is tag kind h = tag_of_kind tag kind (root_kind_found tag kind h)
@@ -86,22 +77,12 @@ root_tag_is tag kind h = tag_of_kind tag kind (root_kind_found tag kind h)
 root_says : (o : RootOrigin) → kind_of (origin_tag o) ≡ Some (Root (origin_kind o))
 unfolding kind_of root_kind
 root_says unknown = refl
-root_says (jni_global reference) = refl
-root_says (jni_local thread frame) = refl
-root_says (java_frame thread frame) = refl
-root_says (native_stack thread) = refl
-root_says sticky_class = refl
-root_says (thread_block thread) = refl
-root_says monitor_used = refl
-root_says (thread_object thread stack) = refl
+root_says o = refl
 
 pub kind_says : (x : SubRecord) → kind_of (tag_of x) ≡ Some (sub_kind x)
 unfolding kind_of
 kind_says (root r) = root_says r.origin
-kind_says (class_dump c) = refl
-kind_says (instance_dump i) = refl
-kind_says (object_array_dump a) = refl
-kind_says (primitive_array_dump a) = refl
+kind_says x = refl
 
 -- ---- the tags of sub-records are those that say a kind
 

@@ -14,7 +14,7 @@ use Rattle.hprof_grammar.specs.working.SnapshotOrder.{IsAt, is_done}
 use Rattle.hprof_grammar.specs.Record.{IsRecord, Record, body_of, framed, record_spelling, tag_of}
 use Rattle.hprof_grammar.specs.Snapshot.{CanGoOn, IsOrderly}
 use Rattle.hprof_grammar.specs.Record.{time_of}
-use Rattle.hprof_grammar.specs.Record.Record.{heap, load_class, other, string}
+use Rattle.hprof_grammar.specs.Record.Record.{heap, other}
 use Rattle.hprof_grammar.specs.SubRecord.{IsSubRecord, SubRecord, spelling_of}
 use Rattle.hprof_grammar.specs.FormatTables.{is_heap_tag, is_length_of}
 use Rattle.hprof_grammar.specs.declared.snapshot_order.Order.{Order}
@@ -104,10 +104,9 @@ no_whole_body s body subs others rest code parts each fault all e =
 -- a heap record's body is the spelling of its sub-records
 heap_body : (s : ℕ) (z : Record) → IsRecord s z → is_heap_tag (tag_of z) ≡ true → (subs : List SubRecord)
     × AllByRecursion (IsSubRecord s) subs × (body_of s z ≡ flat_map (spelling_of s) subs)
-heap_body s (string time id text) is h = absurd (cc)
-heap_body s (load_class time serial class stack name) is h = absurd (cc)
 heap_body s (heap tag time subs) is h = (subs, is.parts.1, refl)
 heap_body s (other tag time body) is h = absurd (let no_heap = is.parts.2 in cc)
+heap_body s z is h = absurd (cc)
 
 module _ {s at tag time : ℕ} {body after rest : List ℕ} {fault : FormatFault} (records : List Record) (was : Order)
     (frame : FrameTaken rest tag time body after) (comes : IsAt was (map tag_of records)) where

@@ -3,36 +3,36 @@ use Rattle.std.proofs.Common.{ap, arith, drop, sym, true, ◌∙◌, ◌≡◌, 
 use Rattle.std.proofs.lemmas.List.{take_rest}
 use Rattle.byteorder.specs.Endian.{big_number}
 use Rattle.hprof_grammar.proofs.Bytes.{IsBytes, in_bytes}
-use Rattle.hprof_grammar.proofs.Headers.{begins_with_magic, header_cut, header_missing, header_stands, id_size_wrong}
-use Rattle.hprof_grammar.proofs.Headers.{magic_is_found, text_too_large}
+use Rattle.hprof_grammar.specs.Fault.FirstFault.{bad_header, short_header, too_large}
+use Rattle.hprof_grammar.proofs.Headers.{begins_with_magic, header_stands, id_size_wrong, magic_is_found}
 use Rattle.hprof_grammar.proofs.TableLaws.{id_size_high}
 use Rattle.hprof_grammar.proofs.parse.header_id_size.Goals as goal
 
 pub returns-then-bytes-clause-fault : goal.returns-then-bytes-clause-fault
-returns-then-bytes-clause-fault c = text_too_large c.args.bytes.now c.new.result c.new.ensures c.if-bytes.true
+returns-then-bytes-clause-fault c = rw c.new.ensures (too_large c.if-bytes.true)
 
 pub returns-then-not-starts_with-clause-fault : goal.returns-then-not-starts_with-clause-fault
-returns-then-not-starts_with-clause-fault c =
-    header_missing c.args.bytes.now c.new-then-not-starts_with.result c.new-then-not-starts_with.ensures
-    c.if-bytes.false
+returns-then-not-starts_with-clause-fault c = rw c.new-then-not-starts_with.ensures (bad_header c.if-bytes.false
     (λ h. let found : c.starts_with.result
-    ≡ true = magic_is_found c.args.bytes.now c.starts_with.result c.starts_with.ensures.value h in cc)
+    ≡ true = magic_is_found c.args.bytes.now c.starts_with.result c.starts_with.ensures.value h in cc))
 
 pub returns-then-bytes-2-clause-fault : goal.returns-then-bytes-2-clause-fault
-returns-then-bytes-2-clause-fault c =
-    header_cut c.args.bytes.now c.new-then-bytes-2.result c.new-then-bytes-2.ensures
-    (begins_with_magic c.args.bytes.now c.starts_with.result c.starts_with.ensures.value c.if-not-starts_with.false)
-    c.if-bytes-2.true
+returns-then-bytes-2-clause-fault c = rw c.new-then-bytes-2.ensures
+    (short_header (
+      drop 19 c.args.bytes.now,
+      begins_with_magic c.args.bytes.now c.starts_with.result
+          c.starts_with.ensures.value c.if-not-starts_with.false,
+    ) c.if-bytes-2.true)
 
 pub returns-then-not-is_id_size-clause-fault : goal.returns-then-not-is_id_size-clause-fault
 returns-then-not-is_id_size-clause-fault c =
     let bytes : IsBytes c.args.bytes.now = in_bytes c.args.bytes.now c.type_inv.bytes in
     let size : c.read_u32-size.result ≡ big_number 4 (drop 19 c.args.bytes.now) =
     c.read_u32-size.ensures ∙ ap (big_number 4) (take_rest c.args.bytes.now 19) in
-    id_size_wrong c.read_u32-size.result c.args.bytes.now c.new-then-not-is_id_size.result
-    c.new-then-not-is_id_size.ensures bytes c.if-bytes.false c.if-bytes-2.false
+    rw c.new-then-not-is_id_size.ensures
+    (id_size_wrong c.read_u32-size.result c.args.bytes.now bytes c.if-bytes.false c.if-bytes-2.false
     (begins_with_magic c.args.bytes.now c.starts_with.result c.starts_with.ensures.value c.if-not-starts_with.false)
-    size (sym c.is_id_size.ensures ∙ c.if-not-is_id_size.true)
+    size (sym c.is_id_size.ensures ∙ c.if-not-is_id_size.true))
 
 pub overflow_cast-result : goal.overflow_cast-result
 overflow_cast-result c =

@@ -1,13 +1,15 @@
 -- The bytes begin with the constants' count, so they have room for that many, and read as those of the class.
 use Rattle.std.proofs.Common.{◌∙◌}
 use Rattle.hprof_grammar.specs.working.ClassParts.{fields_from_constants}
-use Rattle.hprof_grammar.proofs.ClassPartsRead.{constants_read, constants_room, part_seen}
+use Rattle.hprof_grammar.proofs.ClassPartsRead.{constants_read, part_seen}
 use Rattle.hprof_grammar.proofs.view.View.constants.Goals as goal
 
 pub new-requires-clause-room : goal.new-requires-clause-room
 new-requires-clause-room c =
-    constants_room (part_seen fields_from_constants c.self.view_is (c.constants_from.ensures c.requires.0 c.requires.1))
+    let part = part_seen fields_from_constants c.self.view_is (c.constants_from.ensures c.requires.0 c.requires.1) in
+    (constants_read part).room
 
 pub returns : goal.returns
 returns c = λ k h.
-    c.new.ensures ∙ constants_read (part_seen fields_from_constants c.self.view_is (c.constants_from.ensures k h))
+    let part = part_seen fields_from_constants c.self.view_is (c.constants_from.ensures k h) in
+    c.new.ensures ∙ (constants_read part).values

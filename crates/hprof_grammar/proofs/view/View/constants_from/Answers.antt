@@ -9,4 +9,4 @@ bytes_from-requires c =
     omega (arith, there.inside)
 
 pub returns : goal.returns
-returns c = λ k h. constants_part c.self.view_is c.bytes_from.ensures h
+returns c = λ k h. constants_part c.self.view_is h c.bytes_from.ensures

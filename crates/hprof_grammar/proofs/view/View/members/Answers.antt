@@ -1,12 +1,13 @@
 -- Behind the static fields, which are passed one by one, the bytes begin with the members' count, and read as members.
 use Rattle.std.proofs.Common.{◌∙◌}
 use Rattle.hprof_grammar.specs.working.ClassParts.{fields_from_statics}
-use Rattle.hprof_grammar.proofs.ClassPartsRead.{behind_statics, members_read, members_room, part_seen, statics_room}
+use Rattle.hprof_grammar.proofs.ClassPartsRead.{behind_statics, members_read, members_room, part_seen, statics_read}
 use Rattle.hprof_grammar.proofs.view.View.members.Goals as goal
 
 pub skip_values-members-requires : goal.skip_values-members-requires
 skip_values-members-requires c =
-    statics_room (part_seen fields_from_statics c.self.view_is (c.statics_from.ensures c.requires.0 c.requires.1))
+    let part = part_seen fields_from_statics c.self.view_is (c.statics_from.ensures c.requires.0 c.requires.1) in
+    (statics_read part).room
 
 pub new-requires-clause-room : goal.new-requires-clause-room
 new-requires-clause-room c =

@@ -1,12 +1,13 @@
 -- The constants are passed one by one, each as long as its type says: the rest begins with the static fields' count.
 use Rattle.std.proofs.Common.{sym}
 use Rattle.hprof_grammar.specs.working.ClassParts.{fields_from_constants, fields_from_statics}
-use Rattle.hprof_grammar.proofs.ClassPartsRead.{behind_constants, constants_room, part_seen}
+use Rattle.hprof_grammar.proofs.ClassPartsRead.{behind_constants, constants_read, part_seen}
 use Rattle.hprof_grammar.proofs.view.View.statics_from.Goals as goal
 
 pub skip_values-requires : goal.skip_values-requires
 skip_values-requires c =
-    constants_room (part_seen fields_from_constants c.self.view_is (c.constants_from.ensures c.requires.0 c.requires.1))
+    let part = part_seen fields_from_constants c.self.view_is (c.constants_from.ensures c.requires.0 c.requires.1) in
+    (constants_read part).room
 
 pub returns : goal.returns
 returns c = λ k h.
