@@ -1,19 +1,13 @@
 -- A sub-record is formed just where it keeps the bounds by the names of its parts: its fields are gone through once.
-use Rattle.std.proofs.Common.{List, [], flat_map, length, map, true, ℕ, ◌<◌, ◌^◌, ◌∷◌, ◌≡◌}
-use Rattle.std.specs.List.{AllByRecursion}
-use Rattle.hprof_grammar.specs.Bounds.{HasBounds, IsClass, IsConstant, IsMember, IsOrigin, IsStatic}
-use Rattle.hprof_grammar.specs.Spelling.{Field, Fits}
-use Rattle.hprof_grammar.specs.Spelling.Field.{number}
-use Rattle.hprof_grammar.specs.SubRecord.{Class, Constant, HasSizes, IsFormed, Member, RootOrigin, Static, SubRecord}
-use Rattle.hprof_grammar.specs.SubRecord.{class_fields, constant_fields, fields_of, member_fields, origin_fields}
-use Rattle.hprof_grammar.specs.SubRecord.{static_fields, tag_of}
-use Rattle.hprof_grammar.specs.SubRecord.RootOrigin.{java_frame, jni_global, jni_local, native_stack}
-use Rattle.hprof_grammar.specs.SubRecord.RootOrigin.{thread_block, thread_object}
-use Rattle.hprof_grammar.specs.SubRecord.SubRecord.{class_dump, instance_dump, object_array_dump}
-use Rattle.hprof_grammar.specs.SubRecord.SubRecord.{primitive_array_dump, root}
-use Rattle.hprof_grammar.specs.FormatTables.{is_sub_tag, size_of}
-use Rattle.hprof_grammar.specs.working.ClassParts.{counted_fields, fields_from_constants, fields_from_members}
-use Rattle.hprof_grammar.specs.working.ClassParts.{fields_from_statics}
+use Rattle.hprof_grammar.proofs.Words.{AllByRecursion, Class, Constant, Field, Fits, HasBounds, HasSizes, IsClass}
+use Rattle.hprof_grammar.proofs.Words.{IsConstant, IsFormed, IsMember, IsOrigin, IsStatic, List, Member, RootOrigin}
+use Rattle.hprof_grammar.proofs.Words.{Static, SubRecord, [], class_dump, class_fields, constant_fields, counted_fields}
+use Rattle.hprof_grammar.proofs.Words.{fields_from_constants, fields_from_members, fields_from_statics, fields_of}
+use Rattle.hprof_grammar.proofs.Words.{flat_map, instance_dump, is_sub_tag, java_frame, jni_global, jni_local, length}
+use Rattle.hprof_grammar.proofs.Words.{map, member_fields, native_stack, number, object_array_dump, origin_fields}
+use Rattle.hprof_grammar.proofs.Words.{primitive_array_dump, root, size_of, static_fields, thread_block, thread_object}
+use Rattle.hprof_grammar.proofs.Words.{true, ℕ, ◌<◌, ◌^◌, ◌∷◌, ◌≡◌}
+use Rattle.hprof_grammar.specs.SubRecord.{tag_of}
 use Rattle.hprof_grammar.proofs.Fields.{all_join, all_split, ◌&◌}
 
 -- ---- from the fields to the bounds

@@ -1,13 +1,11 @@
 -- Lists of bytes, and the bytes of a number of any width.
-use Rattle.std.proofs.Common.{◌*◌, ◌+◌, ◌++◌, ◌/◌, ◌<◌, ◌^◌, ◌∙◌, ◌∷◌, ◌≡◌, ◌≤◌, Fits, List, [], ap, arith, drop}
-use Rattle.std.proofs.Common.{length, refl, replicate, slice_index, suc, sym, take, w8, zero, ℕ}
-use Rattle.std.proofs.lemmas.List.{append-nil, get_or-append-add, get_or-drop, length-take-le, take-append-drop}
-use Rattle.std.proofs.Math.Seq.{drop-append_seam, take-append_seam}
-use Rattle.std.proofs.Math.Arith.{digits_div}
-use Rattle.std.specs.Int.{byte_at}
-use Rattle.byteorder.specs.Endian.{big_bytes, big_number}
-use Rattle.byteorder.specs.Numbers.{big_from-cons, big_from-lt, big_from-take, big_number-reads_back}
-use Rattle.byteorder.specs.Numbers.{length-bytes_high_first}
+use Rattle.hprof_grammar.proofs.Words.{List, [], ap, append-nil, arith, big_bytes, big_from-cons, big_from-lt}
+use Rattle.hprof_grammar.proofs.Words.{big_from-take, big_number, big_number-reads_back, byte_at, digits_div, drop}
+use Rattle.hprof_grammar.proofs.Words.{drop-append_seam, get_or-append-add, get_or-drop, length}
+use Rattle.hprof_grammar.proofs.Words.{length-bytes_high_first, length-take-le, refl, replicate, slice_index, suc, sym}
+use Rattle.hprof_grammar.proofs.Words.{take, take-append-drop, take-append_seam, w8, zero, ℕ, ◌*◌, ◌++◌, ◌+◌, ◌/◌, ◌<◌}
+use Rattle.hprof_grammar.proofs.Words.{◌^◌, ◌∙◌, ◌∷◌, ◌≡◌, ◌≤◌}
+use Rattle.std.proofs.Common.{Fits}
 
 -- each of these numbers is a byte
 abbrev pub IsBytes : List ℕ → Type 0

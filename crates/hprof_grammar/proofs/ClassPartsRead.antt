@@ -1,21 +1,13 @@
 -- The parts of a class dump that have counts, as they are read.
-use Rattle.std.proofs.Common.{List, [], ap, append_assoc, arith, drop, flat_map, length, map, refl, subst, sym, ℕ}
-use Rattle.std.proofs.Common.{◌*◌, ◌++◌, ◌+◌, ◌<◌, ◌^◌, ◌∙◌, ◌∷◌, ◌≡◌, ◌≤◌}
-use Rattle.std.proofs.lemmas.List.{length-append, length-drop}
-use Rattle.std.proofs.Math.Seq.{drop-append_seam}
-use Rattle.byteorder.specs.Endian.{big_bytes}
-use Rattle.byteorder.specs.Numbers.{big_number-reads_back, length-bytes_high_first}
-use Rattle.hprof_grammar.specs.Spelling.{Field, spelled}
-use Rattle.hprof_grammar.specs.Spelling.Field.{number}
-use Rattle.hprof_grammar.specs.Bounds.{IsConstant, IsStatic}
-use Rattle.hprof_grammar.specs.SubRecord.{Class, constant_fields, member_fields, static_fields}
-use Rattle.hprof_grammar.specs.SubRecord.SubRecord.{class_dump}
-use Rattle.hprof_grammar.specs.declared.kinds.TypePlace.TheVariants.{InConstant, InStatic}
-use Rattle.hprof_grammar.specs.Standing.{Sight, Stands}
-use Rattle.hprof_grammar.specs.Series.{HasCountedValues, LabelledValue, behind_counted_values, count_in}
-use Rattle.hprof_grammar.specs.Series.{counted_values_in, members_in, of_constant, of_static}
-use Rattle.hprof_grammar.specs.working.ClassParts.{IsPartOf, counted_fields, fields_from_constants, fields_from_members}
-use Rattle.hprof_grammar.specs.working.ClassParts.{fields_from_statics, ids_behind_stack}
+use Rattle.hprof_grammar.proofs.Words.{Class, Field, HasCountedValues, InConstant, InStatic, IsConstant, IsPartOf}
+use Rattle.hprof_grammar.proofs.Words.{IsStatic, LabelledValue, List, Sight, Stands, [], ap, append_assoc, arith}
+use Rattle.hprof_grammar.proofs.Words.{behind_counted_values, big_bytes, big_number-reads_back, class_dump}
+use Rattle.hprof_grammar.proofs.Words.{constant_fields, count_in, counted_fields, counted_values_in, drop}
+use Rattle.hprof_grammar.proofs.Words.{drop-append_seam, fields_from_constants, fields_from_members}
+use Rattle.hprof_grammar.proofs.Words.{fields_from_statics, flat_map, ids_behind_stack, length, length-append}
+use Rattle.hprof_grammar.proofs.Words.{length-bytes_high_first, length-drop, map, member_fields, members_in, number}
+use Rattle.hprof_grammar.proofs.Words.{of_constant, of_static, refl, spelled, static_fields, subst, sym, ℕ, ◌*◌, ◌++◌}
+use Rattle.hprof_grammar.proofs.Words.{◌+◌, ◌<◌, ◌^◌, ◌∙◌, ◌∷◌, ◌≡◌, ◌≤◌}
 use Rattle.hprof_grammar.proofs.BoundsLaws.{bounds}
 use Rattle.hprof_grammar.proofs.Fields.{spelled_then}
 use Rattle.hprof_grammar.proofs.Places.{Spell, fields_in, in_sight, length-spelled}

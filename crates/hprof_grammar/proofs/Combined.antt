@@ -1,11 +1,8 @@
 -- Formats made of others: one behind the other, lists, the same as something else, a count and that many.
-use Rattle.std.proofs.Common.{Err, List, Ok, Result, [], ap, arith, inl, inr, length, refl, replicate, subst, suc, sym}
-use Rattle.std.proofs.Common.{zero, ℕ, ◌++◌, ◌<◌, ◌^◌, ◌∙◌, ◌∷◌, ◌≡◌}
-use Rattle.std.specs.List.{AllByRecursion, flat_map}
-use Rattle.hprof_grammar.specs.working.Reading.{as_at, counted_at, list_at, then_at, ◌>>=◌}
-use Rattle.hprof_grammar.specs.Spelling.{AreAllowed, Field, IsAllowed, spelled}
-use Rattle.hprof_grammar.specs.Spelling.Field.{number}
-use Rattle.hprof_grammar.specs.declared.flaw.Flaw.{Flaw}
+use Rattle.hprof_grammar.proofs.Words.{AllByRecursion, AreAllowed, Err, Field, Flaw, IsAllowed, List, Ok, Result, []}
+use Rattle.hprof_grammar.proofs.Words.{ap, arith, as_at, counted_at, flat_map, inl, inr, length, list_at, number, refl}
+use Rattle.hprof_grammar.proofs.Words.{replicate, spelled, subst, suc, sym, then_at, zero, ℕ, ◌++◌, ◌<◌, ◌>>=◌, ◌^◌}
+use Rattle.hprof_grammar.proofs.Words.{◌∙◌, ◌∷◌, ◌≡◌}
 use Rattle.hprof_grammar.proofs.Bytes.{IsBytes, bytes-behind}
 use Rattle.hprof_grammar.proofs.Fields.{Breaks, all_join, all_split, breaks_first, breaks_never, breaks_second}
 use Rattle.hprof_grammar.proofs.Fields.{breaks_split, spelled_then}

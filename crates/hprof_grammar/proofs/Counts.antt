@@ -1,12 +1,8 @@
 -- Reading one thing after the other, a known number of times: what is left to read at each turn, and numbers that are
 -- passed at once.
-use Rattle.std.proofs.Common.{Err, List, Ok, Result, arith, ap, drop, inl, inr, length, refl, suc}
-use Rattle.std.proofs.Common.{zero, ℕ, ◌*◌, ◌+◌, ◌-◌, ◌<◌, ◌∙◌, ◌∷◌, ◌≡◌, ◌≤◌}
-use Rattle.std.proofs.lemmas.Bool.{cases_lt, le-ltb, lt-ltb}
-use Rattle.std.proofs.lemmas.List.{drop-drop, length-drop}
-use Rattle.hprof_grammar.specs.working.Reading.{behind, list_at, number_at, raw_at, ◌>>=◌}
-use Rattle.hprof_grammar.specs.declared.flaw.Flaw.{Flaw}
-use Rattle.hprof_grammar.specs.declared.flaw.Flaw.TheVariants.{Short}
+use Rattle.hprof_grammar.proofs.Words.{Err, Flaw, List, Ok, Result, Short, ap, arith, behind, cases_lt, drop, drop-drop}
+use Rattle.hprof_grammar.proofs.Words.{inl, inr, le-ltb, length, length-drop, list_at, lt-ltb, number_at, raw_at, refl}
+use Rattle.hprof_grammar.proofs.Words.{suc, zero, ℕ, ◌*◌, ◌+◌, ◌-◌, ◌<◌, ◌>>=◌, ◌∙◌, ◌∷◌, ◌≡◌, ◌≤◌}
 
 -- what is made of a part does not change what is left behind it
 pub behind_same : {A B : Type 0} (f : A → B) (r : Result (A × List ℕ) Flaw)

@@ -1,30 +1,14 @@
 -- A text spells a dump or has a first fault: the parser's steps on lists, told for every text of bytes.
-use Rattle.std.proofs.Common.{Bool, Err, List, None, Ok, Option, Result, Some, [], ap, append-nil, arith, drop, false}
-use Rattle.std.proofs.Common.{inl, inr, length, length-append, refl, subst, suc, true, zero, ℕ, ◌++◌}
-use Rattle.std.proofs.Common.{◌+◌, ◌-◌, ◌∷◌, ◌≡◌, ◌≤◌, ◌⊎◌}
-use Rattle.std.specs.List.{starts_with}
-use Rattle.std.specs.Prelude.{nat_eq}
-use Rattle.std.proofs.lemmas.Bool.{cases_eq, cases_lt}
-use Rattle.std.proofs.lemmas.Bool.Decides.{nat_tests}
-use Rattle.byteorder.specs.Endian.{big_bytes, big_number}
-use Rattle.hprof_grammar.specs.Dump.{limit, magic}
-use Rattle.hprof_grammar.specs.Places.{Places}
-use Rattle.hprof_grammar.specs.Laws.{AreBytes, HasFirstFault, SpellsDump}
-use Rattle.hprof_grammar.specs.Fault.FirstFault.{bad_header, short_header, too_large}
-use Rattle.hprof_grammar.specs.working.Joining.{AddsAll, AddsRecord, AddsRecords, AddsSubs, FrameFault, HasHeader}
-use Rattle.hprof_grammar.specs.working.Joining.{HasRecordFault, HasSubFault, nothing_of, with_loaded}
-use Rattle.hprof_grammar.specs.working.Joining.{with_string}
-use Rattle.hprof_grammar.specs.working.Joining.FrameFault.{wrong_length, wrong_order}
-use Rattle.hprof_grammar.specs.working.SnapshotOrder.{StepsTo, is_done}
-use Rattle.hprof_grammar.specs.working.Reading.{behind, flaw_code, frame_at, sub_record_at}
-use Rattle.hprof_grammar.specs.Record.{framed}
-use Rattle.hprof_grammar.specs.SubRecord.{spelling_of}
-use Rattle.hprof_grammar.specs.FormatTables.{is_heap_tag, is_id_size, is_length_of}
-use Rattle.hprof_grammar.specs.Snapshot.{is_snapshot_tag}
-use Rattle.hprof_grammar.specs.declared.flaw.Flaw.{Flaw}
-use Rattle.hprof_grammar.specs.declared.flaw.FormatFault.{FormatFault}
-use Rattle.hprof_grammar.specs.declared.snapshot_order.Order.{Order}
-use Rattle.hprof_grammar.specs.declared.snapshot_order.Order.TheVariants.{Before, Ended, Segments, Whole}
+use Rattle.hprof_grammar.proofs.Words.{AddsAll, AddsRecord, AddsRecords, AddsSubs, AreBytes, Before, Bool, Ended, Err}
+use Rattle.hprof_grammar.proofs.Words.{Flaw, FormatFault, FrameFault, HasFirstFault, HasHeader, HasRecordFault}
+use Rattle.hprof_grammar.proofs.Words.{HasSubFault, List, None, Ok, Option, Order, Places, Result, Segments, Some}
+use Rattle.hprof_grammar.proofs.Words.{SpellsDump, StepsTo, Whole, [], ap, append-nil, arith, bad_header, behind}
+use Rattle.hprof_grammar.proofs.Words.{big_bytes, big_number, cases_eq, cases_lt, drop, false, flaw_code, frame_at}
+use Rattle.hprof_grammar.proofs.Words.{framed, inl, inr, is_done, is_heap_tag, is_id_size, is_length_of}
+use Rattle.hprof_grammar.proofs.Words.{is_snapshot_tag, length, length-append, limit, magic, nat_eq, nat_tests}
+use Rattle.hprof_grammar.proofs.Words.{nothing_of, refl, short_header, spelling_of, starts_with, sub_record_at, subst}
+use Rattle.hprof_grammar.proofs.Words.{suc, too_large, true, with_loaded, with_string, wrong_length, wrong_order, zero}
+use Rattle.hprof_grammar.proofs.Words.{ℕ, ◌++◌, ◌+◌, ◌-◌, ◌∷◌, ◌≡◌, ◌≤◌, ◌⊎◌}
 use Rattle.hprof_grammar.proofs.Bytes.{IsBytes, bytes-behind, bytes-drop, bytes-front}
 use Rattle.hprof_grammar.proofs.FrameContents.{IsPlacedFrame, heap_broken, heap_framed, load_framed, other_framed}
 use Rattle.hprof_grammar.proofs.FrameContents.{string_framed}

@@ -1,14 +1,9 @@
 -- Lists of fields: their bytes one behind the other, and the first field at which reading breaks off.
-use Rattle.std.proofs.Common.{◌++◌, ◌<◌, ◌∙◌, ◌∷◌, ◌≡◌, ◌⊎◌, List, [], ap, append_assoc, arith, false, inl, inr, length}
-use Rattle.std.proofs.Common.{refl, subst, sym, ℕ}
-use Rattle.std.proofs.lemmas.List.{length-append}
-use Rattle.std.proofs.lemmas.Grind.{flat_map-append}
-use Rattle.std.specs.List.{AllByRecursion}
-use Rattle.hprof_grammar.specs.Spelling.{AreAllowed, EndsShort, Field, HasWrongType, IsAllowed, field_spelling, spelled}
-use Rattle.hprof_grammar.specs.Spelling.Field.{number, raw, type_code}
-use Rattle.hprof_grammar.specs.FormatTables.{is_type_at}
-use Rattle.hprof_grammar.specs.declared.flaw.Flaw.{Flaw}
-use Rattle.hprof_grammar.specs.declared.flaw.Flaw.TheVariants.{Short, UnknownTag, WrongType}
+use Rattle.hprof_grammar.proofs.Words.{AllByRecursion, AreAllowed, EndsShort, Field, Flaw, HasWrongType, IsAllowed}
+use Rattle.hprof_grammar.proofs.Words.{List, Short, UnknownTag, WrongType, [], ap, append_assoc, arith, false}
+use Rattle.hprof_grammar.proofs.Words.{field_spelling, flat_map-append, inl, inr, is_type_at, length, length-append}
+use Rattle.hprof_grammar.proofs.Words.{number, raw, refl, spelled, subst, sym, type_code, ℕ, ◌++◌, ◌<◌, ◌∙◌, ◌∷◌, ◌≡◌}
+use Rattle.hprof_grammar.proofs.Words.{◌⊎◌}
 
 infixr 4 ◌&◌
 -- a pair, and of many things one pair in the other

@@ -1,18 +1,10 @@
 -- The fields of sub-records, each at its place. In these lemmas w is what the fields of a view show, and v is the view.
-use Rattle.std.proofs.Common.{List, Some, [], ap, arith, drop, length, map, refl, slice_index, suc, take, true, zero, ℕ}
-use Rattle.std.proofs.Common.{◌*◌, ◌++◌, ◌+◌, ◌<◌, ◌∙◌, ◌∷◌, ◌≡◌, ◌≤◌}
-use Rattle.hprof_grammar.specs.Spelling.{Field, spelled}
-use Rattle.hprof_grammar.specs.Spelling.Field.{number, raw, type_code}
-use Rattle.hprof_grammar.specs.FormatTables.{size_of}
-use Rattle.hprof_grammar.specs.declared.kinds.TypePlace.TheVariants.{InArray}
-use Rattle.hprof_grammar.specs.SubRecord.{Class, Instance, ObjectArray, PrimitiveArray, SubRecord, class_fields}
-use Rattle.hprof_grammar.specs.SubRecord.{fields_of, primitive_array_fields}
-use Rattle.hprof_grammar.specs.SubRecord.SubRecord.{class_dump, instance_dump, object_array_dump, primitive_array_dump}
-use Rattle.hprof_grammar.specs.SubRecord.SubRecord.{root}
-use Rattle.hprof_grammar.specs.Standing.{Sight, Stands, SubRecordStandsAt, stack_of}
-use Rattle.hprof_grammar.specs.Dump.{id_of, is_object}
-use Rattle.hprof_grammar.specs.working.ClassParts.{ids_behind_stack}
-use Rattle.hprof_grammar.specs.Series.{numbers_in}
+use Rattle.hprof_grammar.proofs.Words.{Class, Field, InArray, Instance, List, ObjectArray, PrimitiveArray, Sight, Some}
+use Rattle.hprof_grammar.proofs.Words.{Stands, SubRecord, SubRecordStandsAt, [], ap, arith, class_dump, class_fields}
+use Rattle.hprof_grammar.proofs.Words.{drop, fields_of, id_of, ids_behind_stack, instance_dump, is_object, length, map}
+use Rattle.hprof_grammar.proofs.Words.{number, numbers_in, object_array_dump, primitive_array_dump}
+use Rattle.hprof_grammar.proofs.Words.{primitive_array_fields, raw, refl, root, size_of, slice_index, spelled, stack_of}
+use Rattle.hprof_grammar.proofs.Words.{suc, take, true, type_code, zero, ℕ, ◌*◌, ◌++◌, ◌+◌, ◌<◌, ◌∙◌, ◌∷◌, ◌≡◌, ◌≤◌}
 use Rattle.hprof_grammar.proofs.BoundsLaws.{bounds}
 use Rattle.hprof_grammar.proofs.Fields.{spelled-append}
 use Rattle.hprof_grammar.proofs.SeriesRead.{numbers_again, widths-numbers}

@@ -1,20 +1,11 @@
 -- Formats: values, the fields that spell them, and the reading of them, each with the laws that join the three.
-use Rattle.byteorder.specs.Numbers.{big_number-reads_back}
-use Rattle.byteorder.specs.Numbers.{length-bytes_high_first}
-use Rattle.std.proofs.Common.{Bool, Err, List, Ok, Result, [], ap, arith, drop, false, if◌then◌else◌, inl, inr, length}
-use Rattle.std.proofs.Common.{nat_lt, refl, replicate, sym, take, true, ℕ, ◌++◌, ◌-◌, ◌<◌, ◌^◌, ◌∙◌, ◌∷◌, ◌≡◌}
-use Rattle.std.proofs.Common.{◌≤◌, ◌⊎◌}
-use Rattle.std.proofs.lemmas.List.{length-append, length-replicate, length-take-le, take-append-drop, take_all}
-use Rattle.std.proofs.Math.Nat.{one-le-pow}
-use Rattle.std.proofs.lemmas.Bool.{le-ltb, lt-ltb, ltb-false, ltb-true}
-use Rattle.byteorder.specs.Endian.{big_bytes, big_number}
-use Rattle.hprof_grammar.specs.working.Reading.{number_at, raw_at, type_at, ◌>>=◌}
-use Rattle.hprof_grammar.specs.Spelling.{AreAllowed, Field, spelled}
-use Rattle.hprof_grammar.specs.Spelling.Field.{number, raw, type_code}
-use Rattle.hprof_grammar.specs.FormatTables.{is_type_at}
-use Rattle.hprof_grammar.specs.declared.kinds.TypePlace.{TypePlace}
-use Rattle.hprof_grammar.specs.declared.flaw.Flaw.{Flaw}
-use Rattle.hprof_grammar.specs.declared.flaw.Flaw.TheVariants.{Short, UnknownTag, WrongType}
+use Rattle.hprof_grammar.proofs.Words.{AreAllowed, Bool, Err, Field, Flaw, List, Ok, Result, Short, TypePlace}
+use Rattle.hprof_grammar.proofs.Words.{UnknownTag, WrongType, [], ap, arith, big_bytes, big_number}
+use Rattle.hprof_grammar.proofs.Words.{big_number-reads_back, drop, false, if◌then◌else◌, inl, inr, is_type_at, le-ltb}
+use Rattle.hprof_grammar.proofs.Words.{length, length-append, length-bytes_high_first, length-replicate, length-take-le}
+use Rattle.hprof_grammar.proofs.Words.{lt-ltb, ltb-false, ltb-true, nat_lt, number, number_at, one-le-pow, raw, raw_at}
+use Rattle.hprof_grammar.proofs.Words.{refl, replicate, spelled, sym, take, take-append-drop, take_all, true, type_at}
+use Rattle.hprof_grammar.proofs.Words.{type_code, ℕ, ◌++◌, ◌-◌, ◌<◌, ◌>>=◌, ◌^◌, ◌∙◌, ◌∷◌, ◌≡◌, ◌≤◌, ◌⊎◌}
 use Rattle.hprof_grammar.proofs.Bytes.{IsBytes, behind_bytes, behind_number, bytes-join, bytes_of_number, first_bytes}
 use Rattle.hprof_grammar.proofs.Bytes.{number-lt, number_parts, zeros-bytes}
 use Rattle.hprof_grammar.proofs.Fields.{Breaks, Spoils, breaks_here, breaks_one, spelled_one}

@@ -1,13 +1,7 @@
 -- Headers and frames of records that begin one text.
-use Rattle.byteorder.specs.Numbers.{length-bytes_high_first}
-use Rattle.std.proofs.Common.{List, [], ap, append_assoc, arith, length, refl, sym, true, ℕ, ◌++◌, ◌+◌, ◌<◌, ◌^◌, ◌∙◌}
-use Rattle.std.proofs.Common.{◌∷◌, ◌≡◌}
-use Rattle.std.proofs.lemmas.List.{append-nil, length-append}
-use Rattle.byteorder.specs.Endian.{big_bytes}
-use Rattle.hprof_grammar.specs.Dump.{header, magic}
-use Rattle.hprof_grammar.specs.Fault.{RunsPastEnd}
-use Rattle.hprof_grammar.specs.Record.{framed}
-use Rattle.hprof_grammar.specs.FormatTables.{is_id_size}
+use Rattle.hprof_grammar.proofs.Words.{List, RunsPastEnd, [], ap, append-nil, append_assoc, arith, big_bytes, framed}
+use Rattle.hprof_grammar.proofs.Words.{header, is_id_size, length, length-append, length-bytes_high_first, magic, refl}
+use Rattle.hprof_grammar.proofs.Words.{sym, true, ℕ, ◌++◌, ◌+◌, ◌<◌, ◌^◌, ◌∙◌, ◌∷◌, ◌≡◌}
 use Rattle.hprof_grammar.proofs.Bytes.{same_front, same_number}
 use Rattle.hprof_grammar.proofs.TableLaws.{is_id_size-lt}
 

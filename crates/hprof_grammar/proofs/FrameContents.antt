@@ -1,18 +1,10 @@
 -- What stands in the frame of a record, by its tag.
-use Rattle.std.proofs.Common.{List, [], ap, arith, drop, length, refl, subst, sym, true, ℕ, ◌*◌, ◌++◌, ◌+◌, ◌∙◌, ◌∷◌}
-use Rattle.std.proofs.Common.{◌≡◌, ◌≤◌, Bool, Fits, slice_index, w8}
-use Rattle.std.proofs.Math.ListN.{drop_of_length-le}
-use Rattle.std.proofs.lemmas.List.{append-nil, length-drop}
-use Rattle.byteorder.specs.Endian.{big_bytes, big_number}
-use Rattle.hprof_grammar.specs.Places.{Places}
-use Rattle.hprof_grammar.specs.working.Joining.{AddsRecord, AddsSubs, FrameFault, HasSubFault, with_loaded, with_string}
-use Rattle.hprof_grammar.specs.working.Joining.FrameFault.{wrong_heap}
-use Rattle.hprof_grammar.specs.working.SnapshotOrder.{IsAt}
-use Rattle.hprof_grammar.specs.Record.{IsOther}
-use Rattle.hprof_grammar.specs.Record.Record.{heap, load_class, other, string}
-use Rattle.hprof_grammar.specs.FormatTables.{is_heap_tag, is_length_of}
-use Rattle.hprof_grammar.specs.declared.flaw.FormatFault.{FormatFault}
-use Rattle.hprof_grammar.specs.declared.snapshot_order.Order.{Order}
+use Rattle.hprof_grammar.proofs.Words.{AddsRecord, AddsSubs, Bool, FormatFault, FrameFault, HasSubFault, IsAt, IsOther}
+use Rattle.hprof_grammar.proofs.Words.{List, Order, Places, [], ap, append-nil, arith, big_bytes, big_number, drop}
+use Rattle.hprof_grammar.proofs.Words.{drop_of_length-le, heap, is_heap_tag, is_length_of, length, length-drop}
+use Rattle.hprof_grammar.proofs.Words.{load_class, other, refl, slice_index, string, subst, sym, true, w8, with_loaded}
+use Rattle.hprof_grammar.proofs.Words.{with_string, wrong_heap, ℕ, ◌*◌, ◌++◌, ◌+◌, ◌∙◌, ◌∷◌, ◌≡◌, ◌≤◌}
+use Rattle.std.proofs.Common.{Fits}
 use Rattle.hprof_grammar.proofs.Bytes.{IsBytes, bytes-drop, in_bytes, number-lt, number_parts}
 use Rattle.hprof_grammar.proofs.SnapshotOrderLaws.{at_goes_on}
 use Rattle.hprof_grammar.proofs.TableLaws.{load_length, string_length}

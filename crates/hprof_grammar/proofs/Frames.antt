@@ -1,17 +1,10 @@
 -- The frame of a record: what is read was spelled, what is spelled is read, and where none is read the record runs
 -- past the end.
-use Rattle.std.proofs.Common.{Err, List, Ok, Result, [], ap, append_assoc, arith, inl, inr, length, refl, sym, ℕ}
-use Rattle.std.proofs.Common.{◌++◌, ◌<◌, ◌^◌, ◌∙◌, ◌∷◌, ◌≡◌}
-use Rattle.std.proofs.lemmas.List.{append-nil, length-append}
-use Rattle.byteorder.specs.Endian.{big_bytes}
-use Rattle.hprof_grammar.specs.Fault.{RunsPastEnd}
-use Rattle.hprof_grammar.specs.working.Reading.{block_at, frame_at, number_at, then_at}
-use Rattle.hprof_grammar.specs.Record.{framed}
-use Rattle.hprof_grammar.specs.Spelling.{EndsShort, Field, spelled}
-use Rattle.hprof_grammar.specs.Spelling.Field.{number, raw, type_code}
-use Rattle.hprof_grammar.specs.declared.flaw.Flaw.{Flaw}
-use Rattle.hprof_grammar.specs.declared.flaw.Flaw.TheVariants.{Short, UnknownTag, WrongType}
-use Rattle.hprof_grammar.specs.declared.kinds.TypePlace.{TypePlace}
+use Rattle.hprof_grammar.proofs.Words.{EndsShort, Err, Field, Flaw, List, Ok, Result, RunsPastEnd, Short, TypePlace}
+use Rattle.hprof_grammar.proofs.Words.{UnknownTag, WrongType, [], ap, append-nil, append_assoc, arith, big_bytes}
+use Rattle.hprof_grammar.proofs.Words.{block_at, framed, inl, inr, length, length-append, number, number_at, raw, refl}
+use Rattle.hprof_grammar.proofs.Words.{spelled, sym, then_at, type_code, ℕ, ◌++◌, ◌<◌, ◌^◌, ◌∙◌, ◌∷◌, ◌≡◌}
+use Rattle.hprof_grammar.specs.working.Reading.{frame_at}
 use Rattle.hprof_grammar.proofs.Bytes.{IsBytes, bytes-tail}
 use Rattle.hprof_grammar.proofs.Fields.{Breaks, ends_short, has_wrong_type, spelled-append}
 use Rattle.hprof_grammar.proofs.Format.{IsFormat, bind_err, bind_ok, number_format, ok_same, raw_format}

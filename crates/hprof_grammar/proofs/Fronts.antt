@@ -1,8 +1,6 @@
 -- Lists of spellings that begin one text: if no spelling begins another, then one list goes on where the other ends.
-use Rattle.std.proofs.Common.{List, [], ap, append_assoc, arith, inl, inr, length, refl, sym, ℕ, ◌++◌, ◌<◌, ◌∙◌, ◌∷◌}
-use Rattle.std.proofs.Common.{◌≡◌, ◌≤◌, ◌⊎◌}
-use Rattle.std.specs.List.{AllByRecursion, flat_map}
-use Rattle.std.proofs.lemmas.List.{append-nil, length-append}
+use Rattle.hprof_grammar.proofs.Words.{AllByRecursion, List, [], ap, append-nil, append_assoc, arith, flat_map, inl}
+use Rattle.hprof_grammar.proofs.Words.{inr, length, length-append, refl, sym, ℕ, ◌++◌, ◌<◌, ◌∙◌, ◌∷◌, ◌≡◌, ◌≤◌, ◌⊎◌}
 use Rattle.hprof_grammar.proofs.Fields.{all_split}
 
 -- no spelling of these begins another's

@@ -1,21 +1,11 @@
 -- The header of a dump: a text that has it, what is wrong with one that has not, and what the records behind it make of
 -- the text.
-use Rattle.std.proofs.Common.{Bool, List, [], ap, arith, drop, length, map, refl, subst, sym, false, true, ℕ, ◌++◌, ◌<◌}
-use Rattle.std.proofs.Common.{◌+◌, ◌^◌, ◌∙◌, ◌≡◌, ◌≤◌}
-use Rattle.std.specs.List.{starts_with}
-use Rattle.std.specs.Prelude.{nat_eq}
-use Rattle.std.proofs.lemmas.Bool.Decides.{Decides-eqb}
-use Rattle.std.proofs.lemmas.List.{append-nil, drop-drop, length-drop}
-use Rattle.std.proofs.lemmas.Slice.Eq.{starts_is}
-use Rattle.byteorder.specs.Endian.{big_bytes, big_number}
-use Rattle.hprof_grammar.specs.Dump.{header, limit, magic, spellings}
-use Rattle.hprof_grammar.specs.Places.{IsDumpOf, Places}
-use Rattle.hprof_grammar.specs.Fault.{FirstFault, HasMagic}
-use Rattle.hprof_grammar.specs.Fault.FirstFault.{bad_id_size, in_records}
-use Rattle.hprof_grammar.specs.working.Joining.{AddsAll, HasHeader, HasRecordFault, nothing_of}
-use Rattle.hprof_grammar.specs.Record.{tag_of}
-use Rattle.hprof_grammar.specs.FormatTables.{is_id_size}
-use Rattle.hprof_grammar.specs.declared.flaw.FormatFault.{FormatFault}
+use Rattle.hprof_grammar.proofs.Words.{AddsAll, Bool, Decides-eqb, FirstFault, FormatFault, HasHeader, HasMagic}
+use Rattle.hprof_grammar.proofs.Words.{HasRecordFault, IsDumpOf, List, Places, [], ap, append-nil, arith, bad_id_size}
+use Rattle.hprof_grammar.proofs.Words.{big_bytes, big_number, drop, drop-drop, false, header, in_records, is_id_size}
+use Rattle.hprof_grammar.proofs.Words.{length, length-drop, limit, magic, map, nat_eq, nothing_of, refl, spellings}
+use Rattle.hprof_grammar.proofs.Words.{starts_is, starts_with, subst, sym, tag_of, true, ℕ, ◌++◌, ◌+◌, ◌<◌, ◌^◌, ◌∙◌}
+use Rattle.hprof_grammar.proofs.Words.{◌≡◌, ◌≤◌}
 use Rattle.hprof_grammar.proofs.Bytes.{IsBytes, bytes-drop, number-lt, number_parts}
 use Rattle.hprof_grammar.proofs.FrameBeginnings.{header_parts}
 use Rattle.hprof_grammar.proofs.SnapshotOrderLaws.{done_is_orderly}

@@ -1,22 +1,11 @@
 -- The sub-records that the body of a heap record begins with.
-use Rattle.std.proofs.Common.{Err, List, Ok, Result, Some, [], ap, append_assoc, arith, length, refl}
-use Rattle.std.proofs.Common.{subst, sym, ℕ, ◌++◌, ◌+◌, ◌-◌, ◌<◌, ◌∙◌, ◌∷◌, ◌≡◌, ◌≤◌}
-use Rattle.std.specs.List.{flat_map, slice_get}
-use Rattle.std.specs.Option.{option_and_then}
-use Rattle.std.proofs.lemmas.List.{append-nil, length-append, map-append}
-use Rattle.std.proofs.lemmas.List.Elements.{filter-append}
-use Rattle.std.proofs.lemmas.Grind.{flat_map-append}
-use Rattle.hprof_grammar.specs.Dump.{placed_subs}
-use Rattle.hprof_grammar.specs.Places.{Places}
-use Rattle.hprof_grammar.specs.Fault.{LongestSubs}
-use Rattle.hprof_grammar.specs.working.Joining.{AddsSubs, HasSubFault, noted, with_subs}
-use Rattle.hprof_grammar.specs.working.Reading.{behind, flaw_code, sub_record_at}
-use Rattle.hprof_grammar.specs.SubRecord.{IsSubRecord, SubRecord, spelling_of, tag_of}
-use Rattle.hprof_grammar.specs.Kinds.{kind_of, sub_kind}
-use Rattle.hprof_grammar.specs.SubRecord.SubRecord.{root}
-use Rattle.hprof_grammar.specs.declared.kinds.Kind.{Kind}
-use Rattle.hprof_grammar.specs.declared.flaw.Flaw.{Flaw}
-use Rattle.hprof_grammar.specs.declared.flaw.FormatFault.{FormatFault}
+use Rattle.hprof_grammar.proofs.Words.{AddsSubs, Err, Flaw, FormatFault, HasSubFault, IsSubRecord, Kind, List}
+use Rattle.hprof_grammar.proofs.Words.{LongestSubs, Ok, Places, Result, Some, SubRecord, [], ap, append-nil}
+use Rattle.hprof_grammar.proofs.Words.{append_assoc, arith, behind, filter-append, flat_map, flat_map-append, flaw_code}
+use Rattle.hprof_grammar.proofs.Words.{kind_of, length, length-append, map-append, noted, option_and_then, placed_subs}
+use Rattle.hprof_grammar.proofs.Words.{refl, root, slice_get, spelling_of, sub_kind, sub_record_at, subst, sym}
+use Rattle.hprof_grammar.proofs.Words.{with_subs, ℕ, ◌++◌, ◌+◌, ◌-◌, ◌<◌, ◌∙◌, ◌∷◌, ◌≡◌, ◌≤◌}
+use Rattle.hprof_grammar.specs.SubRecord.{tag_of}
 use Rattle.hprof_grammar.proofs.Bytes.{IsBytes, bytes-behind}
 use Rattle.hprof_grammar.proofs.Fields.{all_join}
 use Rattle.hprof_grammar.proofs.Fronts.{longest_front, same_fronts}

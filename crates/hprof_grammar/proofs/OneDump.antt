@@ -1,14 +1,9 @@
 -- A text spells at most one dump: a record is known from its spelling, and so is the list of records.
-use Rattle.std.proofs.Common.{List, [], ap, arith, false, length, refl, sym, true, ℕ, ◌++◌, ◌<◌, ◌^◌, ◌∙◌, ◌≡◌}
-use Rattle.std.specs.List.{AllByRecursion}
-use Rattle.std.proofs.lemmas.List.{append-nil}
-use Rattle.byteorder.specs.Endian.{big_bytes}
-use Rattle.hprof_grammar.specs.Dump.{Spells, spellings}
-use Rattle.hprof_grammar.specs.Places.{IsDumpOf, Places, places_of}
-use Rattle.hprof_grammar.specs.Record.{HasParts, IsRecord, Record, body_of, record_spelling, tag_of, time_of}
-use Rattle.hprof_grammar.specs.Record.Record.{heap, load_class, other, string}
-use Rattle.hprof_grammar.specs.SubRecord.{IsSubRecord, SubRecord, spelling_of}
-use Rattle.hprof_grammar.specs.FormatTables.{is_heap_tag}
+use Rattle.hprof_grammar.proofs.Words.{AllByRecursion, HasParts, IsDumpOf, IsRecord, IsSubRecord, List, Places, Record}
+use Rattle.hprof_grammar.proofs.Words.{Spells, SubRecord, [], ap, append-nil, arith, big_bytes, body_of, false, heap}
+use Rattle.hprof_grammar.proofs.Words.{is_heap_tag, length, load_class, other, places_of, record_spelling, refl}
+use Rattle.hprof_grammar.proofs.Words.{spelling_of, spellings, string, sym, tag_of, time_of, true, ℕ, ◌++◌, ◌<◌, ◌^◌}
+use Rattle.hprof_grammar.proofs.Words.{◌∙◌, ◌≡◌}
 use Rattle.hprof_grammar.proofs.Bytes.{same_number}
 use Rattle.hprof_grammar.proofs.Fronts.{IsDetermined, same_list}
 use Rattle.hprof_grammar.proofs.FrameBeginnings.{same_frame, same_header}

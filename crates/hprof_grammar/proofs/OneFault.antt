@@ -1,19 +1,11 @@
 -- A text has at most one first fault, and none if it spells a dump.
-use Rattle.std.proofs.Common.{List, [], ap, arith, false, length, map, refl, subst, sym, true, ℕ, ◌++◌, ◌+◌, ◌<◌, ◌^◌}
-use Rattle.std.proofs.Common.{◌∙◌, ◌∷◌, ◌≡◌, ◌≤◌}
-use Rattle.std.specs.List.{AllByRecursion, flat_map}
-use Rattle.std.proofs.lemmas.List.{append-nil, length-append}
-use Rattle.byteorder.specs.Endian.{big_bytes}
-use Rattle.hprof_grammar.specs.Dump.{header, magic, spellings}
-use Rattle.hprof_grammar.specs.Places.{IsDumpOf, Places}
-use Rattle.hprof_grammar.specs.Fault.{FirstFault, HasMagic, LongestRecords, RecordFault, SubFault}
-use Rattle.hprof_grammar.specs.Fault.FirstFault.{bad_header, bad_id_size, in_records, short_header, too_large}
-use Rattle.hprof_grammar.specs.Fault.RecordFault.{bad_length, in_heap, no_snapshot, out_of_order, truncated}
-use Rattle.hprof_grammar.specs.Record.{IsRecord, Record, body_of, framed, record_spelling, tag_of}
-use Rattle.hprof_grammar.specs.Snapshot.{CanGoOn, IsOrderly}
-use Rattle.hprof_grammar.specs.Record.{time_of}
-use Rattle.hprof_grammar.specs.SubRecord.{SubRecord, spelling_of}
-use Rattle.hprof_grammar.specs.FormatTables.{is_id_size}
+use Rattle.hprof_grammar.proofs.Words.{AllByRecursion, CanGoOn, FirstFault, HasMagic, IsDumpOf, IsOrderly, IsRecord}
+use Rattle.hprof_grammar.proofs.Words.{List, LongestRecords, Places, Record, RecordFault, SubFault, SubRecord, [], ap}
+use Rattle.hprof_grammar.proofs.Words.{append-nil, arith, bad_header, bad_id_size, bad_length, big_bytes, body_of}
+use Rattle.hprof_grammar.proofs.Words.{false, flat_map, framed, header, in_heap, in_records, is_id_size, length}
+use Rattle.hprof_grammar.proofs.Words.{length-append, magic, map, no_snapshot, out_of_order, record_spelling, refl}
+use Rattle.hprof_grammar.proofs.Words.{short_header, spelling_of, spellings, subst, sym, tag_of, time_of, too_large}
+use Rattle.hprof_grammar.proofs.Words.{true, truncated, ℕ, ◌++◌, ◌+◌, ◌<◌, ◌^◌, ◌∙◌, ◌∷◌, ◌≡◌, ◌≤◌}
 use Rattle.hprof_grammar.proofs.FrameBeginnings.{cut_or_whole, header_parts, length-framed, length-header, same_frame}
 use Rattle.hprof_grammar.proofs.FrameBeginnings.{same_header, same_size}
 use Rattle.hprof_grammar.proofs.Fronts.{longest_front, same_fronts}

@@ -1,17 +1,12 @@
 -- The formats of the parts of sub-records, one for each kind of part.
-use Rattle.std.proofs.Common.{[], length, refl, ℕ, ◌*◌, ◌<◌, ◌^◌, ◌∷◌}
-use Rattle.std.proofs.lemmas.List.Concat.{flat_map_single}
-use Rattle.hprof_grammar.specs.working.Reading.{class_dump_at, constant_at, instance_at, member_at, number_at}
-use Rattle.hprof_grammar.specs.working.Reading.{numbers_at}
-use Rattle.hprof_grammar.specs.working.Reading.{object_array_at, then_at, primitive_array_at, static_at}
-use Rattle.hprof_grammar.specs.Spelling.Field.{number}
-use Rattle.hprof_grammar.specs.Bounds.{IsClass, IsConstant, IsInstance, IsMember, IsObjectArray, IsPrimitiveArray}
-use Rattle.hprof_grammar.specs.Bounds.{IsStatic}
-use Rattle.hprof_grammar.specs.SubRecord.{Class, Constant, Instance, Member, ObjectArray, PrimitiveArray, Static}
-use Rattle.hprof_grammar.specs.SubRecord.{class_fields, constant_fields, instance_fields, member_fields}
-use Rattle.hprof_grammar.specs.SubRecord.{object_array_fields, primitive_array_fields, static_fields}
-use Rattle.hprof_grammar.specs.FormatTables.{size_of}
-use Rattle.hprof_grammar.specs.declared.kinds.TypePlace.TheVariants.{InArray, InConstant, InMember, InStatic}
+use Rattle.hprof_grammar.proofs.Words.{Class, Constant, InArray, InConstant, InMember, InStatic, Instance, IsClass}
+use Rattle.hprof_grammar.proofs.Words.{IsConstant, IsInstance, IsMember, IsObjectArray, IsPrimitiveArray, IsStatic}
+use Rattle.hprof_grammar.proofs.Words.{Member, ObjectArray, PrimitiveArray, Static, [], class_fields, constant_at}
+use Rattle.hprof_grammar.proofs.Words.{constant_fields, flat_map_single, instance_fields, length, member_at}
+use Rattle.hprof_grammar.proofs.Words.{member_fields, number, number_at, numbers_at, object_array_fields}
+use Rattle.hprof_grammar.proofs.Words.{primitive_array_fields, refl, size_of, static_at, static_fields, then_at, ℕ, ◌*◌}
+use Rattle.hprof_grammar.proofs.Words.{◌<◌, ◌^◌, ◌∷◌}
+use Rattle.hprof_grammar.specs.working.Reading.{class_dump_at, instance_at, object_array_at, primitive_array_at}
 use Rattle.hprof_grammar.proofs.Format.{IsFormat, number_format, raw_format, type_format}
 use Rattle.hprof_grammar.proofs.Combined.{as_format, counted_format, list_format, pair_format, ◌⨾◌}
 use Rattle.hprof_grammar.proofs.Fields.{◌&◌}

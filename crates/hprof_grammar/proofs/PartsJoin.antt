@@ -1,20 +1,9 @@
 -- Parts that are joined one behind another.
-use Rattle.std.proofs.Common.{Bool, List, [], ap, arith, drop, false, length, not, refl, subst, sym, take, true, ℕ}
-use Rattle.std.proofs.Common.{◌&&◌, ◌++◌, ◌+◌, ◌-◌, ◌<◌, ◌^◌, ◌∙◌, ◌≡◌, ◌≤◌}
-use denote.Enum.Bare.{same_true, sameb}
-use Rattle.std.proofs.Math.Dec.{eqb}
-use Rattle.std.proofs.Math.ListN.{drop_of_length-le}
-use Rattle.std.proofs.lemmas.Bool.{eqb-true}
-use Rattle.std.proofs.lemmas.List.{drop-drop, length-drop, take-append-drop}
-use Rattle.hprof_grammar.specs.Places.{Places}
-use Rattle.hprof_grammar.specs.working.Joining.{AddsAll, AddsRecords, AddsRecordsFrom, nothing_of, with_places}
-use Rattle.hprof_grammar.specs.working.Parts.{IsPart}
-use Rattle.hprof_grammar.specs.working.SnapshotOrder.{is_done}
-use Rattle.hprof_grammar.specs.declared.cuts.Seam.{Seam}
-use Rattle.hprof_grammar.specs.declared.parts.Part.{Part}
-use Rattle.hprof_grammar.specs.contracts.snapshot_order.Order.{the_type}
-use Rattle.hprof_grammar.specs.declared.snapshot_order.Order.{Order}
-use Rattle.hprof_grammar.specs.declared.snapshot_order.Order.TheVariants.{Before}
+use Rattle.hprof_grammar.proofs.Words.{AddsAll, AddsRecords, AddsRecordsFrom, Before, Bool, IsPart, List, Order, Part}
+use Rattle.hprof_grammar.proofs.Words.{Places, Seam, [], ap, arith, drop, drop-drop, drop_of_length-le, eqb, eqb-true}
+use Rattle.hprof_grammar.proofs.Words.{false, is_done, length, length-drop, not, nothing_of, refl, same_true, sameb}
+use Rattle.hprof_grammar.proofs.Words.{subst, sym, take, take-append-drop, the_type, true, with_places, ℕ, ◌&&◌, ◌++◌}
+use Rattle.hprof_grammar.proofs.Words.{◌+◌, ◌-◌, ◌<◌, ◌^◌, ◌∙◌, ◌≡◌, ◌≤◌}
 use Rattle.hprof_grammar.proofs.RecordSteps.{read_apart, records_begin, records_join}
 
 both_hold : (x y : Bool) → not (x && y) ≡ false → (x ≡ true) × (y ≡ true)

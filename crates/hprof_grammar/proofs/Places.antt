@@ -1,16 +1,12 @@
 -- Bytes that stand at a place, and what is read there.
-use Rattle.std.proofs.Common.{List, [], ap, append_assoc, arith, drop, length, refl, slice_index, subst, sym, take, ℕ}
-use Rattle.std.proofs.Common.{◌++◌, ◌+◌, ◌<◌, ◌^◌, ◌∙◌, ◌∷◌, ◌≡◌, ◌≤◌}
-use Rattle.std.proofs.lemmas.List.{drop-drop, get_or-drop, length-append, length-drop}
-use Rattle.std.proofs.Math.Seq.{drop-append_seam, take-append_seam}
-use Rattle.byteorder.specs.Endian.{big_bytes, big_number}
-use Rattle.byteorder.specs.Numbers.{big_number-reads_back, length-bytes_high_first}
-use Rattle.std.specs.List.{AllByRecursion}
-use Rattle.hprof_grammar.specs.Spelling.{Field, Fits, field_spelling, spelled}
-use Rattle.hprof_grammar.specs.Spelling.Field.{number, raw, type_code}
-use Rattle.hprof_grammar.specs.SubRecord.{SubRecord, fields_of, spelling_of, tag_of}
+use Rattle.hprof_grammar.proofs.Words.{AllByRecursion, Field, Fits, List, Sight, Stands, SubRecord, SubRecordStandsAt}
+use Rattle.hprof_grammar.proofs.Words.{[], ap, append_assoc, arith, big_bytes, big_number, big_number-reads_back, drop}
+use Rattle.hprof_grammar.proofs.Words.{drop-append_seam, drop-drop, field_spelling, fields_of, get_or-drop, length}
+use Rattle.hprof_grammar.proofs.Words.{length-append, length-bytes_high_first, length-drop, number, raw, refl}
+use Rattle.hprof_grammar.proofs.Words.{slice_index, spelled, spelling_of, subst, sym, take, take-append_seam, type_code}
+use Rattle.hprof_grammar.proofs.Words.{ℕ, ◌++◌, ◌+◌, ◌<◌, ◌^◌, ◌∙◌, ◌∷◌, ◌≡◌, ◌≤◌}
+use Rattle.hprof_grammar.specs.SubRecord.{tag_of}
 use Rattle.hprof_grammar.proofs.Fields.{all_split, spelled-append}
-use Rattle.hprof_grammar.specs.Standing.{Sight, Stands, SubRecordStandsAt}
 
 -- from that place on stand these bytes
 pub record Spell (bytes : List ℕ) (at : ℕ) (xs : List ℕ) : Type 0 where

@@ -1,17 +1,9 @@
 -- The loop over the records: before it, and at each turn. Records that were read by themselves join those before them.
-use Rattle.std.proofs.Common.{List, [], ap, append_assoc, arith, length, map, refl, subst, sym, ℕ}
-use Rattle.std.proofs.Common.{◌++◌, ◌+◌, ◌-◌, ◌∙◌, ◌∷◌, ◌≡◌}
-use Rattle.std.specs.List.{AllByRecursion}
-use Rattle.std.proofs.lemmas.List.{append-nil, length-append, map-append}
-use Rattle.std.proofs.lemmas.List.Elements.{filter-append}
-use Rattle.std.proofs.lemmas.Grind.{flat_map-append}
-use Rattle.hprof_grammar.specs.Dump.{placed, placed_subs, spellings}
-use Rattle.hprof_grammar.specs.Places.{Places}
-use Rattle.hprof_grammar.specs.working.Joining.{AddsRecord, AddsRecordsFrom, with_places, with_record}
-use Rattle.hprof_grammar.specs.working.Joining.{nothing_of, with_records}
-use Rattle.hprof_grammar.specs.working.SnapshotOrder.{IsAt}
-use Rattle.hprof_grammar.specs.Record.{IsRecord, Record, framed, record_spelling, subs_of, tag_of}
-use Rattle.hprof_grammar.specs.declared.snapshot_order.Order.{Order}
+use Rattle.hprof_grammar.proofs.Words.{AddsRecord, AddsRecordsFrom, AllByRecursion, IsAt, IsRecord, List, Order, Places}
+use Rattle.hprof_grammar.proofs.Words.{Record, [], ap, append-nil, append_assoc, arith, filter-append, flat_map-append}
+use Rattle.hprof_grammar.proofs.Words.{framed, length, length-append, map, map-append, nothing_of, placed, placed_subs}
+use Rattle.hprof_grammar.proofs.Words.{record_spelling, refl, spellings, subs_of, subst, sym, tag_of, with_places}
+use Rattle.hprof_grammar.proofs.Words.{with_record, with_records, ℕ, ◌++◌, ◌+◌, ◌-◌, ◌∙◌, ◌∷◌, ◌≡◌}
 use Rattle.hprof_grammar.proofs.Fields.{all_join}
 use Rattle.hprof_grammar.proofs.Frames.{FrameTaken}
 

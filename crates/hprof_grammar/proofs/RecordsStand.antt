@@ -1,13 +1,9 @@
 -- The fields of strings and loaded classes, each at its place. In these lemmas w is what the fields of a view show, and
 -- v is the view.
-use Rattle.std.proofs.Common.{List, [], ap, arith, length, refl, subst, ℕ, ◌++◌, ◌+◌, ◌∷◌, ◌≡◌}
-use Rattle.std.proofs.lemmas.List.{length-append}
-use Rattle.byteorder.specs.Endian.{big_bytes}
-use Rattle.byteorder.specs.Numbers.{length-bytes_high_first}
-use Rattle.hprof_grammar.specs.Record.{IsRecord, Record, body_of, tag_of, time_of}
-use Rattle.hprof_grammar.specs.Record.Record.{load_class}
-use Rattle.hprof_grammar.specs.Dump.{header, magic}
-use Rattle.hprof_grammar.specs.Standing.{HeaderStands, LoadStands, RecordStands, Sight, StringStands}
+use Rattle.hprof_grammar.proofs.Words.{HeaderStands, IsRecord, List, LoadStands, Record, RecordStands, Sight}
+use Rattle.hprof_grammar.proofs.Words.{StringStands, [], ap, arith, big_bytes, body_of, header, length, length-append}
+use Rattle.hprof_grammar.proofs.Words.{length-bytes_high_first, load_class, magic, refl, subst, tag_of, time_of, ℕ}
+use Rattle.hprof_grammar.proofs.Words.{◌++◌, ◌+◌, ◌∷◌, ◌≡◌}
 use Rattle.hprof_grammar.proofs.Places.{NumberAt, Spell, first_stands, next_stands, number_read}
 use Rattle.hprof_grammar.proofs.Stands.{body_stands, record_stands}
 

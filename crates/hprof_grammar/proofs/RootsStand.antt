@@ -1,17 +1,13 @@
 -- The fields of roots, each at its place. In these lemmas w is what the fields of a view show, and v is the view.
-use Rattle.std.proofs.Common.{List, Some, [], ap, arith, slice_index, ℕ, ◌+◌, ◌∙◌, ◌∷◌, ◌≡◌}
-use Rattle.hprof_grammar.specs.RootFields.{RootSays, frame_of, reference_of, thread_of, trace_of}
-use Rattle.hprof_grammar.specs.Spelling.{Field, spelled}
-use Rattle.hprof_grammar.specs.Spelling.Field.{number}
-use Rattle.hprof_grammar.specs.Standing.{Sight, Stands, SubRecordStandsAt}
-use Rattle.hprof_grammar.specs.SubRecord.{Root, RootOrigin, origin_fields, root_fields, tag_of}
-use Rattle.hprof_grammar.specs.Kinds.{kind_of, origin_kind}
-use Rattle.hprof_grammar.specs.SubRecord.RootOrigin.{java_frame, jni_global, jni_local, native_stack, thread_block}
-use Rattle.hprof_grammar.specs.SubRecord.RootOrigin.{thread_object}
-use Rattle.hprof_grammar.specs.SubRecord.SubRecord.{root}
-use Rattle.hprof_grammar.specs.declared.kinds.Kind.TheVariants as kinds
+use Rattle.hprof_grammar.proofs.Words.{Field, List, Root, RootOrigin, RootSays, Sight, Some, Stands, SubRecordStandsAt}
+use Rattle.hprof_grammar.proofs.Words.{[], ap, arith, frame_of, java_frame, jni_global, jni_local, kind_of}
+use Rattle.hprof_grammar.proofs.Words.{native_stack, number, origin_fields, origin_kind, reference_of, root}
+use Rattle.hprof_grammar.proofs.Words.{root_fields, slice_index, spelled, thread_block, thread_object, thread_of}
+use Rattle.hprof_grammar.proofs.Words.{trace_of, ℕ, ◌+◌, ◌∙◌, ◌∷◌, ◌≡◌}
+use Rattle.hprof_grammar.specs.SubRecord.{tag_of}
 use Rattle.hprof_grammar.proofs.Places.{ByteAt, NumberAt, byte_read, in_sight, number_in, sub_stands}
 use Rattle.hprof_grammar.proofs.TableLaws.{kind_says}
+use Rattle.hprof_grammar.specs.declared.kinds.Kind.TheVariants as kinds
 
 -- the number behind the object, and the one behind that
 behind_object : {s at w n : ℕ} {bytes : List ℕ} {r : Root} {more : List Field} → SubRecordStandsAt s bytes at (root r)

@@ -1,20 +1,12 @@
 -- What is spelled one after the other is read one after the other.
+use Rattle.hprof_grammar.proofs.Words.{AllByRecursion, Field, HasValues, IsMember, LabelledValue, List, Member}
+use Rattle.hprof_grammar.proofs.Words.{TypePlace, [], ap, append-nil, append_assoc, arith, behind_values, big_bytes}
+use Rattle.hprof_grammar.proofs.Words.{big_number, big_number-reads_back, drop, drop-append_seam, drop-drop, flat_map}
+use Rattle.hprof_grammar.proofs.Words.{get_or-drop, length, length-append, length-bytes_high_first, map, member_fields}
+use Rattle.hprof_grammar.proofs.Words.{members_in, number, numbers_in, raw, refl, size_of, slice_index, spelled, subst}
+use Rattle.hprof_grammar.proofs.Words.{suc, sym, take, take-append_seam, type_code, value_end, values_in, zero, ℕ, ◌*◌}
+use Rattle.hprof_grammar.proofs.Words.{◌++◌, ◌+◌, ◌<◌, ◌^◌, ◌∙◌, ◌∷◌, ◌≡◌, ◌≤◌}
 use Rattle.hprof_grammar.proofs.Bytes.{behind_number}
-use Rattle.std.proofs.Common.{List, [], ap, append_assoc, arith, drop, flat_map, length, map, slice_index, subst, sym}
-use Rattle.std.proofs.Common.{take, refl, suc, zero, ℕ, ◌*◌, ◌+◌, ◌++◌, ◌<◌, ◌^◌, ◌∙◌, ◌∷◌, ◌≡◌, ◌≤◌}
-use Rattle.std.proofs.lemmas.List.{append-nil, drop-drop, get_or-drop, length-append}
-use Rattle.std.proofs.Math.Seq.{drop-append_seam, take-append_seam}
-use Rattle.std.specs.List.{AllByRecursion}
-use Rattle.byteorder.specs.Endian.{big_bytes, big_number}
-use Rattle.byteorder.specs.Numbers.{big_number-reads_back, length-bytes_high_first}
-use Rattle.hprof_grammar.specs.Spelling.{Field, spelled}
-use Rattle.hprof_grammar.specs.Spelling.Field.{number, raw, type_code}
-use Rattle.hprof_grammar.specs.Bounds.{IsMember}
-use Rattle.hprof_grammar.specs.SubRecord.{Member, member_fields}
-use Rattle.hprof_grammar.specs.FormatTables.{size_of}
-use Rattle.hprof_grammar.specs.declared.kinds.TypePlace.{TypePlace}
-use Rattle.hprof_grammar.specs.Series.{HasValues, LabelledValue, behind_values, members_in, numbers_in, value_end}
-use Rattle.hprof_grammar.specs.Series.{values_in}
 use Rattle.hprof_grammar.proofs.Fields.{spelled_then}
 use Rattle.hprof_grammar.proofs.Places.{widths}
 

@@ -1,12 +1,9 @@
 -- What the order of the snapshot's records says of the tags that have come.
-use Rattle.std.proofs.Common.{Bool, List, [], add-one, ap, append_assoc, arith, cond, false, inl, inr, refl, replicate}
-use Rattle.std.proofs.Common.{subst, suc, sym, true, zero, ℕ, ◌++◌, ◌∙◌, ◌∷◌, ◌≡◌, ◌≢◌}
-use Rattle.std.proofs.lemmas.List.{append-nil, replicate_more}
-use Rattle.std.proofs.lemmas.List.Elements.{filter-append}
-use Rattle.hprof_grammar.specs.Snapshot.{CanGoOn, IsOrderly, IsSnapshot, is_snapshot_tag, snapshot_tags}
-use Rattle.hprof_grammar.specs.working.SnapshotOrder.{IsAt, is_done}
-use Rattle.hprof_grammar.specs.declared.snapshot_order.Order.{Order}
-use Rattle.hprof_grammar.specs.declared.snapshot_order.Order.TheVariants.{Before, Ended, Segments, Whole}
+use Rattle.hprof_grammar.proofs.Words.{Before, Bool, CanGoOn, Ended, IsAt, IsOrderly, IsSnapshot, List, Order, Segments}
+use Rattle.hprof_grammar.proofs.Words.{Whole, [], add-one, ap, append-nil, append_assoc, arith, cond, false}
+use Rattle.hprof_grammar.proofs.Words.{filter-append, inl, inr, is_done, is_snapshot_tag, refl, replicate}
+use Rattle.hprof_grammar.proofs.Words.{replicate_more, snapshot_tags, subst, suc, sym, true, zero, ℕ, ◌++◌, ◌∙◌, ◌∷◌}
+use Rattle.hprof_grammar.proofs.Words.{◌≡◌, ◌≢◌}
 
 -- ---- rows of one number, and what ends them
 

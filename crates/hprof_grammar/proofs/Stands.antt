@@ -1,17 +1,11 @@
 -- The places of a dump hold its parts: each record and sub-record stands where the sum of the spellings before it ends.
-use Rattle.std.proofs.Common.{Bool, List, Some, [], ap, arith, cond, false, filter, flat_map, length, map, refl}
-use Rattle.std.proofs.Common.{slice_get, suc, subst, sym, true, zero, ℕ, ◌++◌, ◌+◌, ◌∙◌, ◌∷◌, ◌≡◌}
-use Rattle.std.proofs.lemmas.List.{append-nil, map-append}
-use Rattle.std.specs.List.{AllByRecursion}
-use Rattle.byteorder.specs.Endian.{big_bytes}
-use Rattle.byteorder.specs.Numbers.{length-bytes_high_first}
-use Rattle.hprof_grammar.specs.Dump.{header, heap_list, is_object, is_root, placed, placed_subs, places_where}
-use Rattle.hprof_grammar.specs.Dump.{spellings}
-use Rattle.hprof_grammar.specs.Places.{IsDumpOf, Places, is_load, is_string}
-use Rattle.hprof_grammar.specs.Record.{IsRecord, Record, body_of, framed, record_spelling, subs_of, tag_of, time_of}
-use Rattle.hprof_grammar.specs.Record.Record.{heap}
-use Rattle.hprof_grammar.specs.SubRecord.{IsSubRecord, SubRecord, spelling_of}
-use Rattle.hprof_grammar.specs.Standing.{IsPlaced, RecordStandsAt, StandInTurn, SubRecordStandsAt}
+use Rattle.hprof_grammar.proofs.Words.{AllByRecursion, Bool, IsDumpOf, IsPlaced, IsRecord, IsSubRecord, List, Places}
+use Rattle.hprof_grammar.proofs.Words.{Record, RecordStandsAt, Some, StandInTurn, SubRecord, SubRecordStandsAt, [], ap}
+use Rattle.hprof_grammar.proofs.Words.{append-nil, arith, big_bytes, body_of, cond, false, filter, flat_map, framed}
+use Rattle.hprof_grammar.proofs.Words.{header, heap, heap_list, is_load, is_object, is_root, is_string, length}
+use Rattle.hprof_grammar.proofs.Words.{length-bytes_high_first, map, map-append, placed, placed_subs, places_where}
+use Rattle.hprof_grammar.proofs.Words.{record_spelling, refl, slice_get, spelling_of, spellings, subs_of, subst, suc}
+use Rattle.hprof_grammar.proofs.Words.{sym, tag_of, time_of, true, zero, ℕ, ◌++◌, ◌+◌, ◌∙◌, ◌∷◌, ◌≡◌}
 use Rattle.hprof_grammar.proofs.Fields.{all_join}
 use Rattle.hprof_grammar.proofs.Places.{Spell, first_stands, next_stands, some_stand}
 

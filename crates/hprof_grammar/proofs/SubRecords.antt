@@ -1,30 +1,19 @@
 -- Sub-records: what is read was spelled, what is spelled is read, and a flaw shows the fault.
-use Rattle.std.proofs.Common.{Err, List, None, Ok, Option, Result, Some, [], ap, arith, false, inl, inr, length}
-use Rattle.std.proofs.Common.{refl, subst, sym, ℕ, ◌++◌, ◌<◌, ◌^◌, ◌∙◌, ◌∷◌, ◌≡◌}
-use Rattle.hprof_grammar.specs.Fault.{SubFault}
-use Rattle.hprof_grammar.specs.Fault.SubFault.{short, unknown_tag, wrong_type}
-use Rattle.hprof_grammar.specs.working.Reading.{as_at, body_at, class_dump_at, flaw_code, instance_at, lone_root}
-use Rattle.hprof_grammar.specs.working.Reading.{number_at, numbers_at, object_array_at, primitive_array_at, root_at}
-use Rattle.hprof_grammar.specs.working.Reading.{root_with, root_with_two, sub_record_at, then_at}
-use Rattle.hprof_grammar.specs.Spelling.{AreAllowed, Field, spelled}
-use Rattle.hprof_grammar.specs.Spelling.Field.{number}
-use Rattle.hprof_grammar.specs.Bounds.{HasBounds, IsClass, IsInstance, IsObjectArray, IsOrigin, IsPrimitiveArray}
-use Rattle.hprof_grammar.specs.Bounds.{IsRoot}
-use Rattle.hprof_grammar.specs.SubRecord.{IsFormed, IsSubRecord, RootOrigin, SubRecord, class_fields, fields_of}
-use Rattle.hprof_grammar.specs.SubRecord.{instance_fields, object_array_fields, origin_fields, origin_tag}
-use Rattle.hprof_grammar.specs.SubRecord.{primitive_array_fields, spelling_of, tag_of}
-use Rattle.hprof_grammar.specs.Kinds.{kind_of, origin_kind, root_tag, sub_kind}
-use Rattle.hprof_grammar.specs.SubRecord.RootOrigin.{java_frame, jni_global, jni_local, monitor_used, native_stack}
-use Rattle.hprof_grammar.specs.SubRecord.RootOrigin.{sticky_class, thread_block, thread_object, unknown}
-use Rattle.hprof_grammar.specs.SubRecord.SubRecord.{class_dump, instance_dump, object_array_dump, primitive_array_dump}
-use Rattle.hprof_grammar.specs.SubRecord.SubRecord.{root}
-use Rattle.hprof_grammar.specs.FormatTables.{is_sub_tag}
-use Rattle.hprof_grammar.specs.declared.kinds.RootKind.{RootKind}
-use Rattle.hprof_grammar.specs.declared.kinds.RootKind.TheVariants as roots
-use Rattle.hprof_grammar.specs.declared.kinds.Kind.{Kind}
-use Rattle.hprof_grammar.specs.declared.kinds.Kind.TheVariants as kinds
-use Rattle.hprof_grammar.specs.declared.flaw.Flaw.{Flaw}
-use Rattle.hprof_grammar.specs.declared.flaw.Flaw.TheVariants.{Short, UnknownTag, WrongType}
+use Rattle.hprof_grammar.proofs.Words.{AreAllowed, Err, Field, Flaw, HasBounds, IsClass, IsFormed, IsInstance}
+use Rattle.hprof_grammar.proofs.Words.{IsObjectArray, IsOrigin, IsPrimitiveArray, IsRoot, IsSubRecord, Kind, List, None}
+use Rattle.hprof_grammar.proofs.Words.{Ok, Option, Result, RootKind, RootOrigin, Short, Some, SubFault, SubRecord}
+use Rattle.hprof_grammar.proofs.Words.{UnknownTag, WrongType, [], ap, arith, as_at, body_at, class_dump, class_dump_at}
+use Rattle.hprof_grammar.proofs.Words.{class_fields, false, fields_of, flaw_code, inl, inr, instance_at, instance_dump}
+use Rattle.hprof_grammar.proofs.Words.{instance_fields, is_sub_tag, java_frame, jni_global, jni_local, kind_of, length}
+use Rattle.hprof_grammar.proofs.Words.{lone_root, monitor_used, native_stack, number, number_at, numbers_at}
+use Rattle.hprof_grammar.proofs.Words.{object_array_at, object_array_dump, object_array_fields, origin_fields}
+use Rattle.hprof_grammar.proofs.Words.{origin_kind, origin_tag, primitive_array_at, primitive_array_dump}
+use Rattle.hprof_grammar.proofs.Words.{primitive_array_fields, refl, root, root_at, root_tag, root_with, root_with_two}
+use Rattle.hprof_grammar.proofs.Words.{short, spelled, spelling_of, sticky_class, sub_kind, subst, sym, then_at}
+use Rattle.hprof_grammar.proofs.Words.{thread_block, thread_object, unknown, unknown_tag, wrong_type, ℕ, ◌++◌, ◌<◌, ◌^◌}
+use Rattle.hprof_grammar.proofs.Words.{◌∙◌, ◌∷◌, ◌≡◌}
+use Rattle.hprof_grammar.specs.working.Reading.{sub_record_at}
+use Rattle.hprof_grammar.specs.SubRecord.{tag_of}
 use Rattle.hprof_grammar.proofs.BoundsLaws.{bounds, formed_by}
 use Rattle.hprof_grammar.proofs.Bytes.{IsBytes, bytes-tail}
 use Rattle.hprof_grammar.proofs.Fields.{Breaks, breaks_short, breaks_wrong, ends_short, has_wrong_type}
@@ -33,6 +22,8 @@ use Rattle.hprof_grammar.proofs.PartFormats.{class_format, instance_format, obje
 use Rattle.hprof_grammar.proofs.PartFormats.{three_numbers, two_numbers}
 use Rattle.hprof_grammar.proofs.TableLaws.{class_tag, instance_tag, kind_says, no_kind, no_sub_tag, object_array_tag}
 use Rattle.hprof_grammar.proofs.TableLaws.{primitive_array_tag, root_tag_is, tag_known}
+use Rattle.hprof_grammar.specs.declared.kinds.RootKind.TheVariants as roots
+use Rattle.hprof_grammar.specs.declared.kinds.Kind.TheVariants as kinds
 
 -- a whole sub-record was taken from the bytes
 pub record SubTaken (s : ℕ) (bytes : List ℕ) (sub : SubRecord) (rest : List ℕ) : Type 0 where

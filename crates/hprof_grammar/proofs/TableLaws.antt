@@ -1,17 +1,13 @@
 -- The few facts of the format's tables that proofs use.
-use Rattle.std.proofs.Common.{Bool, None, Option, Some, ap, arith, false, refl, sym, true, ℕ, ◌*◌, ◌+◌, ◌<◌, ◌^◌, ◌∙◌}
-use Rattle.std.proofs.Common.{◌≡◌, ◌≤◌}
-use Rattle.std.specs.Prelude.{nat_le, ◌&&◌, ◌==◌, ◌||◌}
-use Rattle.std.proofs.lemmas.Bool.Decides.{nat_tests}
-use Rattle.hprof_grammar.specs.FormatTables.{is_heap_tag, is_id_size, is_length_of, is_sub_tag}
-use Rattle.hprof_grammar.specs.Kinds.{kind_of, origin_kind, root_kind, root_of, root_tag, sub_kind}
-use Rattle.hprof_grammar.specs.SubRecord.{RootOrigin, SubRecord, origin_tag, tag_of}
-use Rattle.hprof_grammar.specs.SubRecord.RootOrigin.{unknown}
-use Rattle.hprof_grammar.specs.SubRecord.SubRecord.{root}
-use Rattle.hprof_grammar.specs.declared.kinds.Kind.{Kind}
-use Rattle.hprof_grammar.specs.declared.kinds.RootKind.{RootKind}
-use Rattle.hprof_grammar.specs.declared.kinds.RootKind.TheVariants as roots
+use Rattle.hprof_grammar.proofs.Words.{Bool, Kind, None, Option, RootKind, RootOrigin, Some, SubRecord, ap, arith}
+use Rattle.hprof_grammar.proofs.Words.{false, is_heap_tag, nat_le, nat_tests, origin_kind, origin_tag, refl, root}
+use Rattle.hprof_grammar.proofs.Words.{root_of, root_tag, sub_kind, sym, true, unknown, ℕ, ◌&&◌, ◌*◌, ◌+◌, ◌<◌, ◌==◌}
+use Rattle.hprof_grammar.proofs.Words.{◌^◌, ◌||◌, ◌∙◌, ◌≡◌, ◌≤◌}
+use Rattle.hprof_grammar.specs.FormatTables.{is_id_size, is_length_of, is_sub_tag}
+use Rattle.hprof_grammar.specs.Kinds.{kind_of, root_kind}
+use Rattle.hprof_grammar.specs.SubRecord.{tag_of}
 use Rattle.hprof_grammar.specs.declared.kinds.Kind.TheVariants.{Class, Instance, ObjectArray, PrimitiveArray, Root}
+use Rattle.hprof_grammar.specs.declared.kinds.RootKind.TheVariants as roots
 
 -- ---- identifiers have 4 or 8 bytes
 

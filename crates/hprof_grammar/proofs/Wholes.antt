@@ -1,25 +1,13 @@
 -- The records that the bytes behind the header begin with.
-use Rattle.std.proofs.Common.{List, [], ap, append_assoc, arith, false, inl, inr, length, map, refl, subst, sym, true}
-use Rattle.std.proofs.Common.{ℕ, ◌++◌, ◌+◌, ◌-◌, ◌<◌, ◌∙◌, ◌∷◌, ◌≡◌, ◌≤◌}
-use Rattle.std.specs.List.{AllByRecursion, flat_map}
-use Rattle.std.proofs.lemmas.List.{append-nil, length-append, map-append}
-use Rattle.hprof_grammar.specs.Dump.{spellings}
-use Rattle.hprof_grammar.specs.Places.{Places}
-use Rattle.hprof_grammar.specs.Fault.{RecordFault, RunsPastEnd, SubFault}
-use Rattle.hprof_grammar.specs.Fault.RecordFault.{bad_length, in_heap, no_snapshot, out_of_order, truncated}
-use Rattle.hprof_grammar.specs.Fault.SubFault.{short, unknown_tag, wrong_type}
-use Rattle.hprof_grammar.specs.working.Joining.{AddsRecords, AddsRecordsFrom, FrameFault, HasRecordFault}
-use Rattle.hprof_grammar.specs.working.Joining.FrameFault.{wrong_heap, wrong_length, wrong_order}
-use Rattle.hprof_grammar.specs.working.SnapshotOrder.{IsAt, is_done}
-use Rattle.hprof_grammar.specs.Record.{IsRecord, Record, body_of, framed, record_spelling, tag_of}
-use Rattle.hprof_grammar.specs.Snapshot.{CanGoOn, IsOrderly}
-use Rattle.hprof_grammar.specs.Record.{time_of}
-use Rattle.hprof_grammar.specs.Record.Record.{heap, other}
-use Rattle.hprof_grammar.specs.SubRecord.{IsSubRecord, SubRecord, spelling_of}
-use Rattle.hprof_grammar.specs.FormatTables.{is_heap_tag, is_length_of}
-use Rattle.hprof_grammar.specs.declared.snapshot_order.Order.{Order}
-use Rattle.hprof_grammar.specs.declared.snapshot_order.Order.TheVariants.{Before}
-use Rattle.hprof_grammar.specs.declared.flaw.FormatFault.{FormatFault}
+use Rattle.hprof_grammar.proofs.Words.{AddsRecords, AddsRecordsFrom, AllByRecursion, Before, CanGoOn, FormatFault}
+use Rattle.hprof_grammar.proofs.Words.{FrameFault, HasRecordFault, IsAt, IsOrderly, IsRecord, IsSubRecord, List, Order}
+use Rattle.hprof_grammar.proofs.Words.{Places, Record, RecordFault, RunsPastEnd, SubFault, SubRecord, [], ap}
+use Rattle.hprof_grammar.proofs.Words.{append-nil, append_assoc, arith, bad_length, body_of, false, flat_map, framed}
+use Rattle.hprof_grammar.proofs.Words.{heap, in_heap, inl, inr, is_done, is_heap_tag, is_length_of, length}
+use Rattle.hprof_grammar.proofs.Words.{length-append, map, map-append, no_snapshot, other, out_of_order}
+use Rattle.hprof_grammar.proofs.Words.{record_spelling, refl, short, spelling_of, spellings, subst, sym, tag_of}
+use Rattle.hprof_grammar.proofs.Words.{time_of, true, truncated, unknown_tag, wrong_heap, wrong_length, wrong_order}
+use Rattle.hprof_grammar.proofs.Words.{wrong_type, ℕ, ◌++◌, ◌+◌, ◌-◌, ◌<◌, ◌∙◌, ◌∷◌, ◌≡◌, ◌≤◌}
 use Rattle.hprof_grammar.proofs.Bytes.{IsBytes, bytes-behind}
 use Rattle.hprof_grammar.proofs.Fields.{all_split}
 use Rattle.hprof_grammar.proofs.FrameBeginnings.{cut_or_whole, length-framed, same_frame}

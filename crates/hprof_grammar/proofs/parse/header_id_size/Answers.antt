@@ -1,9 +1,8 @@
 -- A test that fails is the first fault, since those before it were passed. Where all four are passed the header stands.
-use Rattle.std.proofs.Common.{ap, arith, drop, sym, true, ◌∙◌, ◌≡◌, ◌≤◌}
+use Rattle.hprof_grammar.proofs.Words.{ap, arith, bad_header, big_number, drop, short_header, sym, too_large, true, ◌∙◌}
+use Rattle.hprof_grammar.proofs.Words.{◌≡◌, ◌≤◌}
 use Rattle.std.proofs.lemmas.List.{take_rest}
-use Rattle.byteorder.specs.Endian.{big_number}
 use Rattle.hprof_grammar.proofs.Bytes.{IsBytes, in_bytes}
-use Rattle.hprof_grammar.specs.Fault.FirstFault.{bad_header, short_header, too_large}
 use Rattle.hprof_grammar.proofs.Headers.{begins_with_magic, header_stands, id_size_wrong, magic_is_found}
 use Rattle.hprof_grammar.proofs.TableLaws.{id_size_high}
 use Rattle.hprof_grammar.proofs.parse.header_id_size.Goals as goal

@@ -1,10 +1,8 @@
 -- The header ends at byte 31: what is told of the bytes from there on is told of the whole text.
-use Rattle.std.proofs.Common.{List, ap, arith, drop, length, subst, take, ℕ, ◌-◌, ◌≡◌}
+use Rattle.hprof_grammar.proofs.Words.{AddsAll, FirstFault, HasRecordFault, List, Places, ap, arith, drop, length}
+use Rattle.hprof_grammar.proofs.Words.{subst, take, ℕ, ◌-◌, ◌≡◌}
 use Rattle.std.proofs.lemmas.List.{take_rest}
 use Rattle.std.proofs.lemmas.Result.{err_from_is_err_and}
-use Rattle.hprof_grammar.specs.Places.{Places}
-use Rattle.hprof_grammar.specs.Fault.{FirstFault}
-use Rattle.hprof_grammar.specs.working.Joining.{AddsAll, HasRecordFault}
 use Rattle.hprof_grammar.proofs.Headers.{dump_read, record_fault_read}
 use Rattle.hprof_grammar.proofs.Refusals.{fault_passes}
 use Rattle.hprof_grammar.proofs.TableLaws.{id_size_high, id_size_low}

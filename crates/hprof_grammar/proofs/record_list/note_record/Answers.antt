@@ -1,9 +1,7 @@
 -- Length and order allow the record, so what its tag notes is what it adds, and a fault in its body is its fault.
-use Rattle.std.proofs.Common.{arith, false, inl, inr, refl, true, ℕ, ◌+◌, ◌≡◌, ◌⊎◌}
-use Rattle.std.proofs.lemmas.Bool.Decides.{nat_tests}
+use Rattle.hprof_grammar.proofs.Words.{FrameFault, HasSubFault, arith, false, inl, inr, is_heap_tag, nat_tests, refl}
+use Rattle.hprof_grammar.proofs.Words.{true, ℕ, ◌+◌, ◌≡◌, ◌⊎◌}
 use Rattle.std.proofs.lemmas.Result.{err_from_is_err_and}
-use Rattle.hprof_grammar.specs.FormatTables.{is_heap_tag}
-use Rattle.hprof_grammar.specs.working.Joining.{FrameFault, HasSubFault}
 use Rattle.hprof_grammar.proofs.Refusals.{fault_passes}
 use Rattle.hprof_grammar.proofs.FrameContents.{IsPlacedFrame, heap_broken, heap_framed, load_framed, other_framed}
 use Rattle.hprof_grammar.proofs.FrameContents.{placed_frame, string_framed}

@@ -1,10 +1,7 @@
 -- Each turn takes a frame off the rest and joins its record. What stops it lies behind the longest list of records.
-use Rattle.std.proofs.Common.{ap, arith, length, refl, ℕ, ◌+◌, ◌-◌, ◌<◌, ◌≡◌}
-use Rattle.std.proofs.lemmas.Bool.Decides.{nat_tests}
+use Rattle.hprof_grammar.proofs.Words.{Before, FrameFault, HasRecordFault, Order, ap, arith, length, nat_tests, refl, ℕ}
+use Rattle.hprof_grammar.proofs.Words.{◌+◌, ◌-◌, ◌<◌, ◌≡◌}
 use Rattle.std.proofs.lemmas.Result.{err_from_is_err_and}
-use Rattle.hprof_grammar.specs.working.Joining.{FrameFault, HasRecordFault}
-use Rattle.hprof_grammar.specs.declared.snapshot_order.Order.{Order}
-use Rattle.hprof_grammar.specs.declared.snapshot_order.Order.TheVariants.{Before}
 use Rattle.hprof_grammar.proofs.Refusals.{fault_passes}
 use Rattle.hprof_grammar.proofs.Bytes.{in_bytes}
 use Rattle.hprof_grammar.proofs.Frames.{cut_record, frame_takes}

@@ -1,6 +1,5 @@
 -- The bytes are the records so far, which have joined, and then the rest. The rest gets shorter.
-use Rattle.std.proofs.Common.{length}
-use Rattle.hprof_grammar.specs.working.Joining.{AddsRecordsFrom}
+use Rattle.hprof_grammar.proofs.Words.{AddsRecordsFrom, length}
 use Rattle.hprof_grammar.proofs.record_list.note_records.Given as goal
 
 abbrev pub invariant-loop-reader : goal.invariant-loop-reader

@@ -1,6 +1,5 @@
 -- Each turn takes a sub-record off the rest and notes its place. A flaw lies behind the longest list of whole ones.
-use Rattle.std.proofs.Common.{ap, arith, length, ◌<◌, ◌∙◌}
-use Rattle.std.proofs.lemmas.Bool.Decides.{nat_tests}
+use Rattle.hprof_grammar.proofs.Words.{ap, arith, length, nat_tests, ◌<◌, ◌∙◌}
 use Rattle.hprof_grammar.proofs.Bytes.{in_bytes}
 use Rattle.hprof_grammar.proofs.Heaps.{sub_shorter, subs_fault, subs_step}
 use Rattle.hprof_grammar.proofs.sub_record_list.note_subs.Goals as goal

@@ -1,6 +1,5 @@
 -- The body is the sub-records so far, whose places have joined, and then the rest. The rest gets shorter.
-use Rattle.std.proofs.Common.{length}
-use Rattle.hprof_grammar.specs.working.Joining.{AddsSubs}
+use Rattle.hprof_grammar.proofs.Words.{AddsSubs, length}
 use Rattle.hprof_grammar.proofs.sub_record_list.note_subs.Given as goal
 
 abbrev pub invariant-loop-reader : goal.invariant-loop-reader

@@ -1,6 +1,5 @@
 -- To read the constants that are left ends as reading all of them does: in the same bytes, or in the same flaw.
-use Rattle.std.proofs.Common.{◌-◌, ◌≡◌}
-use Rattle.hprof_grammar.specs.working.Reading.{behind, constant_at, list_at}
+use Rattle.hprof_grammar.proofs.Words.{behind, constant_at, list_at, ◌-◌, ◌≡◌}
 use Rattle.hprof_grammar.proofs.sub_records.constants.Given as goal
 
 abbrev pub invariant-loop-i : goal.invariant-loop-i

@@ -1,6 +1,5 @@
 -- A flaw in the static field of this turn is the flaw of all that were to be read.
-use Rattle.std.proofs.Common.{arith, ◌<◌}
-use Rattle.hprof_grammar.specs.working.Reading.{static_at}
+use Rattle.hprof_grammar.proofs.Words.{arith, static_at, ◌<◌}
 use Rattle.hprof_grammar.proofs.Counts.{list_stops}
 use Rattle.hprof_grammar.proofs.sub_records.statics.Goals as goal
 

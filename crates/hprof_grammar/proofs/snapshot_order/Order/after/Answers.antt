@@ -1,9 +1,6 @@
 -- Behind segments a dump breaks the order and a segment goes on; behind a whole snapshot no tag of a snapshot may come.
-use Rattle.std.proofs.Common.{[], inl, inr, refl, subst, sym, true, ℕ, ◌++◌, ◌∷◌, ◌≡◌, ◌⊎◌}
-use Rattle.hprof_grammar.specs.working.SnapshotOrder.{IsAt, is_done}
-use Rattle.hprof_grammar.specs.Snapshot.{CanGoOn, is_snapshot_tag}
-use Rattle.hprof_grammar.specs.declared.snapshot_order.Order.{Order}
-use Rattle.hprof_grammar.specs.declared.snapshot_order.Order.TheVariants.{Ended, Segments, Whole}
+use Rattle.hprof_grammar.proofs.Words.{CanGoOn, Ended, IsAt, Order, Segments, Whole, [], inl, inr, is_done}
+use Rattle.hprof_grammar.proofs.Words.{is_snapshot_tag, refl, subst, sym, true, ℕ, ◌++◌, ◌∷◌, ◌≡◌, ◌⊎◌}
 use Rattle.hprof_grammar.proofs.SnapshotOrderLaws.{next_segment, no_dump_in_segments, no_more}
 use Rattle.hprof_grammar.proofs.snapshot_order.Order.after.Goals as goal
 

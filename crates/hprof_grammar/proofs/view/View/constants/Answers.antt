@@ -1,6 +1,5 @@
 -- The bytes begin with the constants' count, so they have room for that many, and read as those of the class.
-use Rattle.std.proofs.Common.{◌∙◌}
-use Rattle.hprof_grammar.specs.working.ClassParts.{fields_from_constants}
+use Rattle.hprof_grammar.proofs.Words.{fields_from_constants, ◌∙◌}
 use Rattle.hprof_grammar.proofs.ClassPartsRead.{constants_read, part_seen}
 use Rattle.hprof_grammar.proofs.view.View.constants.Goals as goal
 

@@ -1,6 +1,5 @@
 -- Count times size of an element is the length of the values, so that many bytes behind the type code are the values.
-use Rattle.std.proofs.Common.{ap, length, subst, sym, ℕ, ◌*◌, ◌+◌, ◌∙◌, ◌≡◌, ◌≤◌}
-use Rattle.hprof_grammar.specs.FormatTables.{size_of}
+use Rattle.hprof_grammar.proofs.Words.{ap, length, size_of, subst, sym, ℕ, ◌*◌, ◌+◌, ◌∙◌, ◌≡◌, ◌≤◌}
 use Rattle.hprof_grammar.proofs.FieldsStand.{packed_elements, packed_size}
 use Rattle.hprof_grammar.proofs.Places.{raw_read}
 use Rattle.hprof_grammar.proofs.view.View.packed_elements.Goals as goal

@@ -1,6 +1,5 @@
 -- The constants are passed one by one, each as long as its type says: the rest begins with the static fields' count.
-use Rattle.std.proofs.Common.{sym}
-use Rattle.hprof_grammar.specs.working.ClassParts.{fields_from_constants, fields_from_statics}
+use Rattle.hprof_grammar.proofs.Words.{fields_from_constants, fields_from_statics, sym}
 use Rattle.hprof_grammar.proofs.ClassPartsRead.{behind_constants, constants_read, part_seen}
 use Rattle.hprof_grammar.proofs.view.View.statics_from.Goals as goal
 

@@ -1,6 +1,5 @@
 -- The bytes behind the values that are left are those behind all of them, and the rest has room for those.
-use Rattle.std.proofs.Common.{◌≡◌}
-use Rattle.hprof_grammar.specs.Series.{HasValues, behind_counted_values, behind_values}
+use Rattle.hprof_grammar.proofs.Words.{HasValues, behind_counted_values, behind_values, ◌≡◌}
 use Rattle.hprof_grammar.proofs.view.values.skip_values.Given as goal
 
 abbrev pub invariant-loop-left : goal.invariant-loop-left

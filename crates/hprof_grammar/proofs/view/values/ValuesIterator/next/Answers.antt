@@ -1,6 +1,5 @@
 -- Where there is room for all that are left, there is room for the others behind the first one.
-use Rattle.std.proofs.Common.{List, arith, drop, suc, sym, subst, zero, ℕ, ◌-◌, ◌≡◌, ◌≢◌}
-use Rattle.hprof_grammar.specs.Series.{HasValues, value_end}
+use Rattle.hprof_grammar.proofs.Words.{HasValues, List, arith, drop, subst, suc, sym, value_end, zero, ℕ, ◌-◌, ◌≡◌, ◌≢◌}
 use Rattle.hprof_grammar.proofs.view.values.ValuesIterator.next.Goals as goal
 
 one_fewer : (s front left : ℕ) (bytes : List ℕ) → left ≢ 0 → HasValues s front left bytes
