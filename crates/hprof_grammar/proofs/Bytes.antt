@@ -1,10 +1,10 @@
 -- Lists of bytes, and the bytes of a number of any width.
 use Rattle.hprof_grammar.proofs.Words.{List, [], ap, append-nil, arith, big_bytes, big_from-cons, big_from-lt}
 use Rattle.hprof_grammar.proofs.Words.{big_from-take, big_number, big_number-reads_back, byte_at, digits_div, drop}
-use Rattle.hprof_grammar.proofs.Words.{drop-append_seam, get_or-append-add, get_or-drop, length}
-use Rattle.hprof_grammar.proofs.Words.{length-bytes_high_first, length-take-le, refl, replicate, slice_index, suc, sym}
-use Rattle.hprof_grammar.proofs.Words.{take, take-append-drop, take-append_seam, w8, zero, ℕ, ◌*◌, ◌++◌, ◌+◌, ◌/◌, ◌<◌}
-use Rattle.hprof_grammar.proofs.Words.{◌^◌, ◌∙◌, ◌∷◌, ◌≡◌, ◌≤◌}
+use Rattle.hprof_grammar.proofs.Words.{drop-append_seam, drop-drop, get_or-append-add, get_or-drop, length}
+use Rattle.hprof_grammar.proofs.Words.{length-bytes_high_first, length-drop, length-take-le, refl, replicate}
+use Rattle.hprof_grammar.proofs.Words.{slice_index, suc, sym, take, take-append-drop, take-append_seam, w8, zero, ℕ}
+use Rattle.hprof_grammar.proofs.Words.{◌*◌, ◌++◌, ◌+◌, ◌/◌, ◌<◌, ◌^◌, ◌∙◌, ◌∷◌, ◌≡◌, ◌≤◌}
 use Rattle.std.proofs.Common.{Fits}
 
 -- each of these numbers is a byte
@@ -96,6 +96,14 @@ bytes_of_number n bytes h fits =
 pub number_parts : (n : ℕ) (bytes : List ℕ) → IsBytes bytes → n ≤ length bytes
     → bytes ≡ big_bytes n (big_number n bytes) ++ drop n bytes
 number_parts n bytes h fits = rw (bytes_of_number n bytes h fits) (sym (take-append-drop n bytes))
+
+-- a number of w bytes that stands at a place, and what stands behind it
+pub number_stands : (at w : ℕ) (bytes : List ℕ) → IsBytes bytes → at + w ≤ length bytes
+    → drop at bytes ≡ big_bytes w (big_number w (drop at bytes)) ++ drop (at + w) bytes
+number_stands at w bytes h room =
+    let within : w ≤ length (drop at bytes) = omega (arith, length-drop at bytes) in
+    number_parts w (drop at bytes) (bytes-drop at bytes h) within
+    ∙ ap (λ rest. big_bytes w (big_number w (drop at bytes)) ++ rest) (drop-drop w at bytes)
 
 -- what stands behind n bytes
 pub behind_bytes : (n : ℕ) (front rest : List ℕ) → length front ≡ n → drop n (front ++ rest) ≡ rest

@@ -6,7 +6,7 @@ use Rattle.hprof_grammar.proofs.Words.{◌∙◌, ◌∷◌, ◌≡◌}
 use Rattle.hprof_grammar.proofs.Bytes.{IsBytes, bytes-behind}
 use Rattle.hprof_grammar.proofs.Fields.{Breaks, all_join, all_split, breaks_first, breaks_never, breaks_second}
 use Rattle.hprof_grammar.proofs.Fields.{breaks_split, spelled_then}
-use Rattle.hprof_grammar.proofs.Format.{IsFormat, Taken, bind_err, bind_ok, number_format, ok_same}
+use Rattle.hprof_grammar.proofs.Format.{IsFormat, Taken, bind_err, bind_ok, map_err, number_format, ok_same}
 
 -- what was taken was bytes, and so is what is left
 rest_bytes : {A : Type 0} (W : A → Type 0) (fields : A → List Field) (bytes : List ℕ) (x : A) (rest : List ℕ)
@@ -54,14 +54,11 @@ module _ {A B : Type 0} {W : A → Type 0} {F : A → List Field} {r : List ℕ 
         let a = first.fails bytes flaw h f in
         let b = second a.0 in
         ((a.0, b.sample), (a.1, b.sample_well), breaks_first flaw (F a.0) (G a.0 b.sample) bytes a.2)
-    | inr a ↦ elim (bind_err (q a.0.0 a.0.1) (λ y. Ok ((a.0.0, y.0), y.1)) flaw a.2) [
-      | inl f ↦
-          let s = first.takes bytes a.0 h a.1 in
-          let b = (second a.0.0).fails a.0.1 flaw (rest_bytes W F bytes a.0.0 a.0.1 s h) f in
-          ((a.0.0, b.0), (s.well, b.1), breaks_behind W F bytes a.0.0 a.0.1 (G a.0.0 b.0) flaw s b.2)
-      | inr b ↦ absurd (let e : ◌≡◌ {A = Result ((A × B) × List ℕ) Flaw} (Ok ((a.0.0, b.0.0), b.0.1)) (Err flaw) = b.2
-          in cc)
-    ]
+    | inr a ↦
+        let s = first.takes bytes a.0 h a.1 in
+        let f = map_err (q a.0.0 a.0.1) (λ y. ((a.0.0, y.0), y.1)) flaw a.2 in
+        let b = (second a.0.0).fails a.0.1 flaw (rest_bytes W F bytes a.0.0 a.0.1 s h) f in
+        ((a.0.0, b.0), (s.well, b.1), breaks_behind W F bytes a.0.0 a.0.1 (G a.0.0 b.0) flaw s b.2)
   ]
 
   pair_fails_again : (p : A × B) (bytes : List ℕ) (flaw : Flaw) → W p.0 × V p.0 p.1
@@ -136,17 +133,14 @@ module _ {A : Type 0} {W : A → Type 0} {F : A → List Field} {r : List ℕ �
               (omega (arith, some.0), (a.1, some.1)),
               breaks_first flaw (F a.0) (flat_map F (replicate n one.sample)) bytes a.2,
             )
-        | inr a ↦ elim (bind_err (list_at r n a.0.1) (λ xs. Ok (a.0.0 ∷ xs.0, xs.1)) flaw a.2) [
-          | inl f ↦
-              let s = one.takes bytes a.0 h a.1 in
-              let b = list_fails n a.0.1 flaw (rest_bytes W F bytes a.0.0 a.0.1 s h) f in (
-                a.0.0 ∷ b.0,
-                (omega (arith, b.1.0), (s.well, b.1.1)),
-                breaks_behind W F bytes a.0.0 a.0.1 (flat_map F b.0) flaw s b.2,
-              )
-          | inr b ↦ absurd (let k : ◌≡◌ {A = Result (List A × List ℕ) Flaw} (Ok (a.0.0 ∷ b.0.0, b.0.1)) (Err flaw) = b.2
-              in cc)
-        ]
+        | inr a ↦
+            let s = one.takes bytes a.0 h a.1 in
+            let f = map_err (list_at r n a.0.1) (λ xs. (a.0.0 ∷ xs.0, xs.1)) flaw a.2 in
+            let b = list_fails n a.0.1 flaw (rest_bytes W F bytes a.0.0 a.0.1 s h) f in (
+              a.0.0 ∷ b.0,
+              (omega (arith, b.1.0), (s.well, b.1.1)),
+              breaks_behind W F bytes a.0.0 a.0.1 (flat_map F b.0) flaw s b.2,
+            )
       ]
 
   list_fails_again : (n : ℕ) (xs : List A) (bytes : List ℕ) (flaw : Flaw) → (length xs ≡ n) × AllByRecursion W xs
@@ -198,12 +192,9 @@ module _ {A B : Type 0} {W : A → Type 0} {F : A → List Field} {r : List ℕ 
 
   as_fails : (bytes : List ℕ) (flaw : Flaw) → IsBytes bytes → as_at to r bytes ≡ Err flaw → (b : B) × V b
       × Breaks flaw (G b) bytes
-  as_fails bytes flaw h e = elim (bind_err (r bytes) (λ x. Ok (to x.0, x.1)) flaw e) [
-    | inl f ↦
-        let a = under.fails bytes flaw h f in
-        (to a.0, same.well_to a.0 a.1, rw (same.fields_to a.0 a.1) a.2)
-    | inr a ↦ absurd (let k : ◌≡◌ {A = Result (B × List ℕ) Flaw} (Ok (to a.0.0, a.0.1)) (Err flaw) = a.2 in cc)
-  ]
+  as_fails bytes flaw h e =
+      let a = under.fails bytes flaw h (map_err (r bytes) (λ x. (to x.0, x.1)) flaw e) in
+      (to a.0, same.well_to a.0 a.1, rw (same.fields_to a.0 a.1) a.2)
 
   as_fails_again : (b : B) (bytes : List ℕ) (flaw : Flaw) → V b → Breaks flaw (G b) bytes → as_at to r bytes ≡ Err flaw
   as_fails_again b bytes flaw h f =

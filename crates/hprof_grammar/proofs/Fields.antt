@@ -180,26 +180,21 @@ breaks_short fields bytes h = record {
   spoiled = (h.missing, h.cut_is, h.not_whole);
 }
 
-wrong_at : (fields front : List Field) (field : Field) (more : List Field) (bytes rest : List ℕ)
-    → fields ≡ front ++ field ∷ more → AreAllowed front → bytes ≡ spelled front ++ rest → IsWrong field rest
-    → HasWrongType fields bytes
-wrong_at fields front (type_code place code) more bytes rest e h is w =
-    record {
-      front = front;
-      place = place;
-      code = code;
-      more = more;
-      rest = w.1.0;
-      in_order = e;
-      allowed = h;
-      wrong = w.0;
-      bytes_are = is ∙ ap (λ (x : List ℕ). spelled front ++ x) w.1.1;
-    }
-wrong_at fields front field more bytes rest e h is w = absurd w
-
 pub has_wrong_type : (fields : List Field) (bytes : List ℕ) → Breaks WrongType fields bytes → HasWrongType fields bytes
-has_wrong_type fields bytes b =
-    wrong_at fields b.front b.field b.more bytes b.rest b.in_order b.allowed b.bytes_are b.spoiled
+has_wrong_type fields bytes b = by b.field b.in_order b.spoiled where
+  by : (field : Field) → fields ≡ b.front ++ field ∷ b.more → IsWrong field b.rest → HasWrongType fields bytes
+  by (type_code place code) e w = record {
+    front = b.front;
+    place = place;
+    code = code;
+    more = b.more;
+    rest = w.1.0;
+    in_order = e;
+    allowed = b.allowed;
+    wrong = w.0;
+    bytes_are = b.bytes_are ∙ ap (λ (x : List ℕ). spelled b.front ++ x) w.1.1;
+  }
+  by field e w = absurd w
 
 pub breaks_wrong : (fields : List Field) (bytes : List ℕ) → HasWrongType fields bytes → Breaks WrongType fields bytes
 breaks_wrong fields bytes h = record {

@@ -4,7 +4,8 @@ use Rattle.hprof_grammar.proofs.Words.{Stands, SubRecord, SubRecordStandsAt, [],
 use Rattle.hprof_grammar.proofs.Words.{drop, fields_of, id_of, ids_behind_stack, instance_dump, is_object, length, map}
 use Rattle.hprof_grammar.proofs.Words.{number, numbers_in, object_array_dump, primitive_array_dump}
 use Rattle.hprof_grammar.proofs.Words.{primitive_array_fields, raw, refl, root, size_of, slice_index, spelled, stack_of}
-use Rattle.hprof_grammar.proofs.Words.{suc, take, true, type_code, zero, ℕ, ◌*◌, ◌++◌, ◌+◌, ◌<◌, ◌∙◌, ◌∷◌, ◌≡◌, ◌≤◌}
+use Rattle.hprof_grammar.proofs.Words.{suc, sym, take, true, type_code, zero, ℕ, ◌*◌, ◌++◌, ◌+◌, ◌<◌, ◌∙◌, ◌∷◌, ◌≡◌}
+use Rattle.hprof_grammar.proofs.Words.{◌≤◌}
 use Rattle.hprof_grammar.proofs.BoundsLaws.{bounds}
 use Rattle.hprof_grammar.proofs.Fields.{spelled-append}
 use Rattle.hprof_grammar.proofs.SeriesRead.{numbers_again, widths-numbers}
@@ -111,9 +112,9 @@ module _ {v w : Sight} {at : ℕ} {a : PrimitiveArray} (e : w ≡ v) (h : Stands
       (fields_in packed_front (raw a.values ∷ []) (in_sight e h) refl (omega arith))
 
 -- how many bytes they are, as the view says it
-pub packed_size : {v : Sight} {at : ℕ} {a : PrimitiveArray} → Stands v at (primitive_array_dump a)
-    → length a.values ≡ a.count * size_of v.id_size a.type
-packed_size h = h.is.formed.sizes
+pub packed_size : {v : Sight} {at count type size : ℕ} {a : PrimitiveArray} → Stands v at (primitive_array_dump a)
+    → count ≡ a.count → type ≡ a.type → size ≡ size_of v.id_size type → count * size ≡ length a.values
+packed_size {v} h counted typed sized = rw (counted, sized, typed) (sym h.is.formed.sizes)
 
 -- ---- classes
 

@@ -51,6 +51,12 @@ pub bind_err : {A B : Type 0} (r : Result A Flaw) (f : A → Result B Flaw) (fla
 bind_err (Ok x) f flaw e = inr (x, refl, e)
 bind_err {B = B} (Err z) f flaw e = inl (ap Err (err_same {X = B} z flaw e))
 
+-- a flaw is that of the first step, where the second gives something
+pub map_err : {A B : Type 0} (r : Result A Flaw) (f : A → B) (flaw : Flaw)
+    → ◌≡◌ {A = Result B Flaw} (r >>= λ x. Ok (f x)) (Err flaw) → r ≡ Err flaw
+map_err (Ok x) f flaw e = absurd (cc)
+map_err {B = B} (Err z) f flaw e = ap Err (err_same {X = B} z flaw e)
+
 test_ok : {X E : Type 0} (b : Bool) (flaw : E) (x y : X) → (if b then Err flaw else Ok x) ≡ Ok y → (b ≡ false) × (x ≡ y)
 test_ok true flaw x y e = absurd (cc)
 test_ok {E = E} false flaw x y e = (refl, ok_same {E = E} x y e)

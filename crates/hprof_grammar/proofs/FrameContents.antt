@@ -1,11 +1,11 @@
 -- What stands in the frame of a record, by its tag.
 use Rattle.hprof_grammar.proofs.Words.{AddsRecord, AddsSubs, Bool, FormatFault, FrameFault, HasSubFault, IsAt, IsOther}
 use Rattle.hprof_grammar.proofs.Words.{List, Order, Places, [], ap, append-nil, arith, big_bytes, big_number, drop}
-use Rattle.hprof_grammar.proofs.Words.{drop_of_length-le, heap, is_heap_tag, is_length_of, length, length-drop}
-use Rattle.hprof_grammar.proofs.Words.{load_class, other, refl, slice_index, string, subst, sym, true, w8, with_loaded}
-use Rattle.hprof_grammar.proofs.Words.{with_string, wrong_heap, ℕ, ◌*◌, ◌++◌, ◌+◌, ◌∙◌, ◌∷◌, ◌≡◌, ◌≤◌}
+use Rattle.hprof_grammar.proofs.Words.{drop_of_length-le, heap, is_heap_tag, is_length_of, length, load_class, other}
+use Rattle.hprof_grammar.proofs.Words.{refl, slice_index, string, subst, sym, true, w8, with_loaded, with_string}
+use Rattle.hprof_grammar.proofs.Words.{wrong_heap, ℕ, ◌*◌, ◌++◌, ◌+◌, ◌∙◌, ◌∷◌, ◌≡◌, ◌≤◌}
 use Rattle.std.proofs.Common.{Fits}
-use Rattle.hprof_grammar.proofs.Bytes.{IsBytes, bytes-drop, in_bytes, number-lt, number_parts}
+use Rattle.hprof_grammar.proofs.Bytes.{IsBytes, bytes-drop, in_bytes, number-lt, number_parts, number_stands}
 use Rattle.hprof_grammar.proofs.SnapshotOrderLaws.{at_goes_on}
 use Rattle.hprof_grammar.proofs.TableLaws.{load_length, string_length}
 
@@ -25,29 +25,20 @@ placed_frame {tag} {body} bytes size test passed order = record {
   order = order;
 }
 
+-- the w bytes that stand at a place of a body, as the bytes of their number
+abbrev spelled_at : List ℕ → ℕ → ℕ → List ℕ
+spelled_at body at w = big_bytes w (big_number w (drop at body))
+
 -- a body of four numbers
 four_numbers : (s : ℕ) (body : List ℕ) → IsBytes body → length body ≡ 8 + 2 * s
-    → big_bytes 4 (big_number 4 body)
-    ++ (big_bytes s (big_number s (drop 4 body))
-    ++ (big_bytes 4 (big_number 4 (drop s (drop 4 body)))
-    ++ big_bytes s (big_number s (drop 4 (drop s (drop 4 body)))))) ≡ body
+    → spelled_at body 0 4 ++ (spelled_at body 4 s ++ (spelled_at body (4 + s) 4 ++ spelled_at body (4 + s + 4) s)) ≡ body
 four_numbers s body h e =
-    let one = drop 4 body in
-    let two = drop s one in
-    let three = drop 4 two in
-    let one_bytes : IsBytes one = bytes-drop 4 body h in
-    let two_bytes : IsBytes two = bytes-drop s one one_bytes in
-    let three_bytes : IsBytes three = bytes-drop 4 two two_bytes in
-    let one_length : length one ≡ 4 + 2 * s = omega (arith, length-drop 4 body) in
-    let two_length : length two ≡ 4 + s = omega (arith, length-drop s one) in
-    let three_length : length three ≡ s = omega (arith, length-drop 4 two) in
-    let last : drop s three ≡ [] = drop_of_length-le three (omega arith) in
+    let last : drop (4 + s + 4 + s) body ≡ [] = drop_of_length-le body (omega arith) in
     sym (number_parts 4 body h (omega arith)
-    ∙ ap (λ (l : List ℕ). big_bytes 4 (big_number 4 body) ++ l) (number_parts s one one_bytes (omega arith)
-    ∙ ap (λ (l : List ℕ). big_bytes s (big_number s one) ++ l) (number_parts 4 two two_bytes (omega arith)
-    ∙ ap (λ (l : List ℕ). big_bytes 4 (big_number 4 two) ++ l) (number_parts s three three_bytes (omega arith)
-    ∙ ap (λ (l : List ℕ). big_bytes s (big_number s three) ++ l) last
-    ∙ append-nil (big_bytes s (big_number s three))))))
+    ∙ ap (λ (l : List ℕ). spelled_at body 0 4 ++ l) (number_stands 4 s body h (omega arith)
+    ∙ ap (λ (l : List ℕ). spelled_at body 4 s ++ l) (number_stands (4 + s) 4 body h (omega arith)
+    ∙ ap (λ (l : List ℕ). spelled_at body (4 + s) 4 ++ l) (number_stands (4 + s + 4) s body h (omega arith)
+    ∙ ap (λ (l : List ℕ). spelled_at body (4 + s + 4) s ++ l) last ∙ append-nil (spelled_at body (4 + s + 4) s)))))
 
 -- ---- what its tag says stands in such a frame
 
@@ -76,22 +67,14 @@ module _ {at tag time : ℕ} {body : List ℕ} {was next : Order} {old : Places}
       let s = old.id_size in
       let size : length body ≡ 8 + 2 * s =
       load_length s (length body) (subst (λ (n : ℕ). is_length_of s n (length body) ≡ true) e frame.length_allowed) in
-      let one = drop 4 body in
-      let two = drop s one in
-      let three = drop 4 two in
-      let one_bytes : IsBytes one = bytes-drop 4 body frame.bytes in
-      let two_bytes : IsBytes two = bytes-drop s one one_bytes in
+      let number_at = λ (at w : ℕ). big_number w (drop at body) in
+      let fits = λ (at w : ℕ). number-lt w (drop at body) (bytes-drop at body frame.bytes) in
       record {
-        is = load_class time (big_number 4 body) (big_number s one) (big_number 4 two) (big_number s three);
+        is = load_class time (number_at 0 4) (number_at 4 s) (number_at (4 + s) 4) (number_at (4 + s + 4) s);
         tag_is = sym e;
         time_is = refl;
         body_is = four_numbers s body frame.bytes size;
-        parts = (
-          number-lt 4 body frame.bytes,
-          number-lt s one one_bytes,
-          number-lt 4 two two_bytes,
-          number-lt s three (bytes-drop 4 two two_bytes),
-        );
+        parts = (fits 0 4, fits 4 s, fits (4 + s) 4, fits (4 + s + 4) s);
         length_allowed = frame.length_allowed;
         order = frame.order;
         joined = noted ∙ rw (append-nil old.strings, append-nil old.roots, append-nil old.objects) refl;

@@ -1,13 +1,13 @@
 -- The frame of a record: what is read was spelled, what is spelled is read, and where none is read the record runs
 -- past the end.
-use Rattle.hprof_grammar.proofs.Words.{EndsShort, Err, Field, Flaw, List, Ok, Result, RunsPastEnd, Short, TypePlace}
-use Rattle.hprof_grammar.proofs.Words.{UnknownTag, WrongType, [], ap, append-nil, append_assoc, arith, big_bytes}
-use Rattle.hprof_grammar.proofs.Words.{block_at, framed, inl, inr, length, length-append, number, number_at, raw, refl}
-use Rattle.hprof_grammar.proofs.Words.{spelled, sym, then_at, type_code, ℕ, ◌++◌, ◌<◌, ◌^◌, ◌∙◌, ◌∷◌, ◌≡◌}
+use Rattle.hprof_grammar.proofs.Words.{EndsShort, Err, Field, Flaw, List, Ok, RunsPastEnd, Short, TypePlace, UnknownTag}
+use Rattle.hprof_grammar.proofs.Words.{WrongType, [], ap, append-nil, append_assoc, arith, big_bytes, block_at, framed}
+use Rattle.hprof_grammar.proofs.Words.{length, length-append, number, number_at, raw, refl, spelled, sym, then_at}
+use Rattle.hprof_grammar.proofs.Words.{type_code, ℕ, ◌++◌, ◌<◌, ◌^◌, ◌∙◌, ◌∷◌, ◌≡◌}
 use Rattle.hprof_grammar.specs.working.Reading.{frame_at}
 use Rattle.hprof_grammar.proofs.Bytes.{IsBytes, bytes-tail}
 use Rattle.hprof_grammar.proofs.Fields.{Breaks, ends_short, has_wrong_type, spelled-append}
-use Rattle.hprof_grammar.proofs.Format.{IsFormat, bind_err, bind_ok, number_format, ok_same, raw_format}
+use Rattle.hprof_grammar.proofs.Format.{IsFormat, bind_ok, map_err, number_format, ok_same, raw_format}
 use Rattle.hprof_grammar.proofs.Combined.{as_format, pair_format}
 
 -- ---- what stands behind the tag: a time, a length, and so many bytes
@@ -104,9 +104,7 @@ pub cut_record : {rest : List ℕ} {flaw : Flaw} → 0 < length rest → IsBytes
 unfolding frame_at
 cut_record {rest = []} some h e = absurd (omega (arith, some))
 cut_record {rest = tag ∷ rest} {flaw} some h e =
-    elim (bind_err (then_at (number_at 4) (λ _. block_at) rest)
-    (λ (x : (ℕ × List ℕ) × List ℕ). Ok ((tag, x.0.0, x.0.1), x.1)) flaw e) [
-      | inl f ↦ let b = behind_tag.fails rest flaw (bytes-tail tag rest h) f in runs_past tag rest b.0 flaw b.1 b.2
-      | inr a ↦ absurd (let k : ◌≡◌ {A = Result ((ℕ × ℕ × List ℕ) × List ℕ) Flaw} (Ok ((tag, a.0.0.0, a.0.0.1), a.0.1))
-          (Err flaw) = a.2 in cc)
-    ]
+    let f = map_err (then_at (number_at 4) (λ _. block_at) rest)
+    (λ (x : (ℕ × List ℕ) × List ℕ). ((tag, x.0.0, x.0.1), x.1)) flaw e in
+    let b = behind_tag.fails rest flaw (bytes-tail tag rest h) f in
+    runs_past tag rest b.0 flaw b.1 b.2

@@ -2,11 +2,10 @@
 -- the text.
 use Rattle.hprof_grammar.proofs.Words.{AddsAll, Bool, Decides-eqb, FirstFault, FormatFault, HasHeader, HasMagic}
 use Rattle.hprof_grammar.proofs.Words.{HasRecordFault, IsDumpOf, List, Places, [], ap, append-nil, arith, bad_id_size}
-use Rattle.hprof_grammar.proofs.Words.{big_bytes, big_number, drop, drop-drop, false, header, in_records, is_id_size}
-use Rattle.hprof_grammar.proofs.Words.{length, length-drop, limit, magic, map, nat_eq, nothing_of, refl, spellings}
-use Rattle.hprof_grammar.proofs.Words.{starts_is, starts_with, subst, sym, tag_of, true, ℕ, ◌++◌, ◌+◌, ◌<◌, ◌^◌, ◌∙◌}
-use Rattle.hprof_grammar.proofs.Words.{◌≡◌, ◌≤◌}
-use Rattle.hprof_grammar.proofs.Bytes.{IsBytes, bytes-drop, number-lt, number_parts}
+use Rattle.hprof_grammar.proofs.Words.{big_bytes, big_number, drop, false, header, in_records, is_id_size, length}
+use Rattle.hprof_grammar.proofs.Words.{limit, magic, map, nat_eq, nothing_of, refl, spellings, starts_is, starts_with}
+use Rattle.hprof_grammar.proofs.Words.{subst, sym, tag_of, true, ℕ, ◌++◌, ◌<◌, ◌^◌, ◌∙◌, ◌≡◌, ◌≤◌}
+use Rattle.hprof_grammar.proofs.Bytes.{IsBytes, bytes-drop, number-lt, number_stands}
 use Rattle.hprof_grammar.proofs.FrameBeginnings.{header_parts}
 use Rattle.hprof_grammar.proofs.SnapshotOrderLaws.{done_is_orderly}
 
@@ -22,19 +21,11 @@ magic_is_found text r e h = (starts_is Decides-eqb text magic r e).1 h.0 h.1
 
 -- ---- the numbers behind it
 
--- a number of w bytes that stands at a place, and what stands behind it
-number_then : (at w : ℕ) (text : List ℕ) → IsBytes text → at + w ≤ length text
-    → drop at text ≡ big_bytes w (big_number w (drop at text)) ++ drop (at + w) text
-number_then at w text bytes room =
-    let within : w ≤ length (drop at text) = omega (arith, length-drop at text) in
-    number_parts w (drop at text) (bytes-drop at text bytes) within
-    ∙ ap (λ rest. big_bytes w (big_number w (drop at text)) ++ rest) (drop-drop w at text)
-
 pub header_stands : (s : ℕ) (text : List ℕ) → IsBytes text → length text ≤ limit → 31 ≤ length text
     → text ≡ magic ++ drop 19 text → s ≡ big_number 4 (drop 19 text) → is_id_size s ≡ true → HasHeader s text
 header_stands s text bytes size room begins e is =
     let time = big_number 8 (drop 23 text) in
-    let sizes : drop 19 text ≡ big_bytes 4 s ++ drop 23 text = number_then 19 4 text bytes (omega arith)
+    let sizes : drop 19 text ≡ big_bytes 4 s ++ drop 23 text = number_stands 19 4 text bytes (omega arith)
     ∙ ap (λ n. big_bytes 4 n ++ drop 23 text) (sym e) in
     record {
       size = size;
@@ -42,14 +33,14 @@ header_stands s text bytes size room begins e is =
       time = time;
       time_fits = number-lt 8 (drop 23 text) (bytes-drop 23 text bytes);
       whole = begins ∙ ap (λ back. magic ++ back)
-          (sizes ∙ ap (λ back. big_bytes 4 s ++ back) (number_then 23 8 text bytes room))
+          (sizes ∙ ap (λ back. big_bytes 4 s ++ back) (number_stands 23 8 text bytes room))
           ∙ sym (header_parts s time (drop 31 text));
     }
 
 pub id_size_wrong : (s : ℕ) (text : List ℕ) → IsBytes text → length text ≤ limit → 31 ≤ length text
     → text ≡ magic ++ drop 19 text → s ≡ big_number 4 (drop 19 text) → is_id_size s ≡ false → FirstFault text 2 19
 id_size_wrong s text bytes size room begins is wrong =
-    let sizes : drop 19 text ≡ big_bytes 4 s ++ drop 23 text = number_then 19 4 text bytes (omega arith)
+    let sizes : drop 19 text ≡ big_bytes 4 s ++ drop 23 text = number_stands 19 4 text bytes (omega arith)
     ∙ ap (λ n. big_bytes 4 n ++ drop 23 text) (sym is) in
     let fits : s < 256 ^ 4 = rw is (number-lt 4 (drop 19 text) (bytes-drop 19 text bytes)) in
     bad_id_size s (drop 23 text) size room fits (begins ∙ ap (λ back. magic ++ back) sizes) wrong

@@ -7,7 +7,7 @@ fault_maps X Y (Fault fault) P Q map h = map fault h
 fault_maps X Y OutOfMemory P Q map h = tt
 
 -- at the exit of a `?`
-pub fault_passes : {Y : Type 0} (X : Type 0) (result : Result Y ReadRefusal) (refusal : ReadRefusal)
+pub fault_passes : (X : Type 0) {Y : Type 0} {result : Result Y ReadRefusal} {refusal : ReadRefusal}
     (P Q : FormatFault → Type 0) → (passed : ReadRefusal) × (result ≡ Err passed) × (passed ≡ refusal)
     → ((fault : FormatFault) → P fault → Q fault) → IfFault {X = X} (Err refusal) P → IfFault result Q
-fault_passes {Y = Y} X result refusal P Q exit map h = rw (exit.1, exit.2) (fault_maps X Y refusal P Q map h)
+fault_passes X {Y} {refusal = refusal} P Q exit map h = rw (exit.1, exit.2) (fault_maps X Y refusal P Q map h)

@@ -3,7 +3,7 @@ use Rattle.hprof_grammar.proofs.Words.{AreAllowed, Err, Field, Flaw, HasBounds, 
 use Rattle.hprof_grammar.proofs.Words.{IsObjectArray, IsOrigin, IsPrimitiveArray, IsRoot, IsSubRecord, Kind, List, None}
 use Rattle.hprof_grammar.proofs.Words.{Ok, Option, Result, RootKind, RootOrigin, Short, Some, SubFault, SubRecord}
 use Rattle.hprof_grammar.proofs.Words.{UnknownTag, WrongType, [], ap, arith, as_at, body_at, class_dump, class_dump_at}
-use Rattle.hprof_grammar.proofs.Words.{class_fields, false, fields_of, flaw_code, inl, inr, instance_at, instance_dump}
+use Rattle.hprof_grammar.proofs.Words.{class_fields, false, fields_of, flaw_code, instance_at, instance_dump}
 use Rattle.hprof_grammar.proofs.Words.{instance_fields, is_sub_tag, java_frame, jni_global, jni_local, kind_of, length}
 use Rattle.hprof_grammar.proofs.Words.{lone_root, monitor_used, native_stack, number, number_at, numbers_at}
 use Rattle.hprof_grammar.proofs.Words.{object_array_at, object_array_dump, object_array_fields, origin_fields}
@@ -17,7 +17,7 @@ use Rattle.hprof_grammar.specs.SubRecord.{tag_of}
 use Rattle.hprof_grammar.proofs.BoundsLaws.{bounds, formed_by}
 use Rattle.hprof_grammar.proofs.Bytes.{IsBytes, bytes-tail}
 use Rattle.hprof_grammar.proofs.Fields.{Breaks, breaks_short, breaks_wrong, ends_short, has_wrong_type}
-use Rattle.hprof_grammar.proofs.Format.{IsFormat, bind_err, bind_ok, number_format, ok_same}
+use Rattle.hprof_grammar.proofs.Format.{IsFormat, bind_ok, map_err, number_format, ok_same}
 use Rattle.hprof_grammar.proofs.PartFormats.{class_format, instance_format, object_array_format, primitive_array_format}
 use Rattle.hprof_grammar.proofs.PartFormats.{three_numbers, two_numbers}
 use Rattle.hprof_grammar.proofs.TableLaws.{class_tag, instance_tag, kind_says, no_kind, no_sub_tag, object_array_tag}
@@ -69,14 +69,10 @@ module _ {A : Type 0} {s tag : ℕ} {make : A → SubRecord} {W : A → Type 0} 
       })
 
   kind_fails : (rest : List ℕ) (flaw : Flaw) → IsBytes rest → as_at make r rest ≡ Err flaw → SubBreaks s tag rest flaw
-  kind_fails rest flaw h e = elim (bind_err (r rest) (λ x. Ok (make x.0, x.1)) flaw e) [
-    | inl f ↦
-        let a = k.under.fails rest flaw h f in
-        let formed : IsFormed s (make a.0) = formed_by (tag_known (make a.0)) (k.in_bounds a.0 a.1) in
-        (make a.0, formed, k.tag_is a.0 a.1, rw (k.fields_are a.0) a.2)
-    | inr a ↦ absurd (let k : ◌≡◌ {A = Result (SubRecord × List ℕ) Flaw} (Ok (make a.0.0, a.0.1)) (Err flaw) = a.2 in
-        cc)
-  ]
+  kind_fails rest flaw h e =
+      let a = k.under.fails rest flaw h (map_err (r rest) (λ x. (make x.0, x.1)) flaw e) in
+      let formed : IsFormed s (make a.0) = formed_by (tag_known (make a.0)) (k.in_bounds a.0 a.1) in
+      (make a.0, formed, k.tag_is a.0 a.1, rw (k.fields_are a.0) a.2)
 
   read_kind : ReadsKind s tag (as_at make r)
   read_kind = record { takes = kind_takes; fails = kind_fails }

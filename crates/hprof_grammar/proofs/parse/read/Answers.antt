@@ -25,8 +25,7 @@ returns-in_err-note_all-clause-fault g c =
     c.from_residual-in_err-note_all.ensures.1 in
     let size : c.new-dump.result.id_size ≡ c.in_ok-id_size.id_size =
     ap (λ (p : Places). p.id_size) c.new-dump.ensures in
-    fault_passes (Unit {0}) c.from_residual-in_err-note_all.result c.in_err-note_all.field-0.0
-    (HasRecordFault c.new-dump.result.id_size (take (length text - 31) (drop 31 text)))
+    fault_passes (Unit {0}) (HasRecordFault c.new-dump.result.id_size (take (length text - 31) (drop 31 text)))
     (λ fault. FirstFault c.args.bytes.now fault.code fault.offset) exit
     (λ fault wrong. record_fault_read c.args.bytes.now c.in_ok-id_size.id_size fault c.in_ok-id_size.ensures.ok
     (subst (λ (s : ℕ). HasRecordFault s (drop 31 c.args.bytes.now) fault) size

@@ -33,8 +33,7 @@ returns-in_err-note_subs-in-12-clause-fault g c =
     c.in-Some.ensures in
     let exit = err_from_is_err_and c.from_residual-in_err-note_subs-in-12.result
     c.from_residual-in_err-note_subs-in-12.ensures.1 in
-    fault_passes (Unit {0}) c.from_residual-in_err-note_subs-in-12.result c.in_err-note_subs-in-12.field-0.0
-    (HasSubFault s (c.args.at + 9) c.args.body.now)
+    fault_passes (Unit {0}) (HasSubFault s (c.args.at + 9) c.args.body.now)
     (FrameFault s c.args.at c.args.tag c.args.body.now c.args.order) exit
     (λ fault bad. heap_broken frame (is_heap c.args.tag c.in-12.is) bad) c.in_err-note_subs-in-12.ensures.fault
 

@@ -32,7 +32,7 @@ returns-in_err-order-clause-fault g c =
     let size = length c.args.bytes.now - length c.loop-reader.reader.rest.now in
     let frame = frame_takes left c.in-Ok.ensures in
     let exit = err_from_is_err_and c.from_residual.result c.from_residual.ensures.1 in
-    fault_passes Order c.from_residual.result c.in_err-order.field-0.0
+    fault_passes Order
     (FrameFault c.loop-reader.dump.id_size (c.args.at + size) c.in-Ok.frame.tag c.in-Ok.frame.body.now
     c.loop-reader.order)
     (λ fault. c.args.at ≡ 31 → c.args.order ≡ Before
