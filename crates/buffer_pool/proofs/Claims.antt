@@ -58,6 +58,15 @@ module _
           (marks_after e s.words o c x small below (omega (arith, at.rule.word_count, below)) becomes) refl
           (idle_beside_mark e s.words o c) (accounts_set s.views id w)
 
+-- the pair of bits of an object says its mark, so it is not 10
+pub mark_known :
+    {B : Type 0} {r : Reading B} {e : Setup} {s : State (Option B) SeatView} (rule : Rule r e s) (o : ℕ) → o < e.objects
+    → pair_mark (slice_index s.words (mark_word e o)) (o % 32) ≤ 2
+mark_known {r = r} {e = e} {s = s} rule o below =
+    let m = marking_of r e s in
+    let seen = cut_object e.objects (mark_in s.words (first_mark e)) o below in
+    omega (arith, seen, linear e m.mark m.slots m.accounts (lawful rule).coloured o)
+
 -- the word and the bits of an object's pair tell the object
 one_object :
     (first o p c : ℕ) → c < 4 → bit_at c 0 ≡ 1 → first + o / 32 ≡ first + p / 32 → pair_bits c o ≡ pair_bits c p → o ≡ p
@@ -80,7 +89,7 @@ module _ {B : Type 0} (r : Reading B) (e : Setup) (slots id : ℕ) (me : Me (Opt
       let a = me.0.book.account in
       let below : o < e.objects = subst (λ (g : Setup). o < g.objects) (own_setup at) within in
       let seen : m.mark o ≡ found = cut_object e.objects (mark_in s.words (first_mark e)) o below in
-      let known : found ≤ 2 = omega (arith, seen, linear e m.mark m.slots m.accounts (lawful at.rule).coloured o) in
+      let known : found ≤ 2 = mark_known at.rule o below in
       let is_effect : effect m id a (Claim o) ≡ marked_now at refl o (max found 1) u.book.account =
       λ k. record m { mark = put o (max (seen k) 1) m.mark; accounts = set m.accounts id (after_claim o (seen k) a) } in
       let words = raised_words e s.words o 1 in

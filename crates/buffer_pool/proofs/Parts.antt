@@ -216,35 +216,33 @@ sound_now {B} t u m n b table same was laid share within story = (
     is = ap (λ (x : Me (Option B) SeatView). x.0.book) same ∙ was
 
 -- A split: the units were noted (two), the views were cut (kept and given), and each has its log up to date (now)
-module _ {B : Type 0} (t u : TableId) (m two : Me (Option B) SeatView) (units : ℕ) (table : u ≡ t) (log : Log)
+module _ {B : Type 0} {t u : TableId} {m two : Me (Option B) SeatView} (units : ℕ) (table : u ≡ t) (log : Log)
     (sound : IsSound t m)
     (aside : two ≡ (record (logged log (free m.0)) { aside = units }, [])) (did : Did m.0.log [] log) where
   abbrev noted : SeatView
   noted = record (logged log (free m.0)) { aside = units }
 
-  kept_is : (kept : Me (Option B) SeatView) → kept ≡ (kept_part two.0, two.1) → kept ≡ (kept_part noted, [])
-  kept_is kept cut = cut ∙ ap (λ (x : Me (Option B) SeatView). (kept_part x.0, x.1)) aside
+  kept_is : {kept : Me (Option B) SeatView} → kept ≡ (kept_part two.0, two.1) → kept ≡ (kept_part noted, [])
+  kept_is cut = cut ∙ ap (λ (x : Me (Option B) SeatView). (kept_part x.0, x.1)) aside
 
-  given_is : (given : Me (Option B) SeatView) → given ≡ (given_part two.0, []) → given ≡ (given_part noted, [])
-  given_is given cut = cut ∙ ap (λ (x : Me (Option B) SeatView). (given_part x.0, [])) aside
+  given_is : {given : Me (Option B) SeatView} → given ≡ (given_part two.0, []) → given ≡ (given_part noted, [])
+  given_is cut = cut ∙ ap (λ (x : Me (Option B) SeatView). (given_part x.0, [])) aside
 
   -- what the loads after the cut ask
-  pub kept_may : (kept : Me (Option B) SeatView) → kept ≡ (kept_part two.0, two.1) → units < m.0.book.account.share
+  pub kept_may : {kept : Me (Option B) SeatView} → kept ≡ (kept_part two.0, two.1) → units < m.0.book.account.share
       → Carries kept × (0 < kept.0.book.account.share)
-  kept_may kept cut less = moved (λ x. Carries x × (0 < x.0.book.account.share)) (kept_is kept cut)
-      (refl, omega (arith, less))
+  kept_may cut less = moved (λ x. Carries x × (0 < x.0.book.account.share)) (kept_is cut) (refl, omega (arith, less))
 
-  pub given_may : (given : Me (Option B) SeatView) → given ≡ (given_part two.0, []) → 0 < units → Carries given
+  pub given_may : {given : Me (Option B) SeatView} → given ≡ (given_part two.0, []) → 0 < units → Carries given
       × (0 < given.0.book.account.share)
-  given_may given cut some_units = moved (λ x. Carries x × (0 < x.0.book.account.share)) (given_is given cut)
-      (refl, some_units)
+  given_may cut some_units = moved (λ x. Carries x × (0 < x.0.book.account.share)) (given_is cut) (refl, some_units)
 
   pub keeps_part :
-      (kept now : Me (Option B) SeatView) → kept ≡ (kept_part two.0, two.1) → IsUpToDate kept now
+      {kept now : Me (Option B) SeatView} → kept ≡ (kept_part two.0, two.1) → IsUpToDate kept now
       → units < m.0.book.account.share
       → (IsSound u now × (now.0.book ≡ parted units m.0.book)) × Did m.0.log (Split units ∷ []) now.0.log
-  keeps_part kept now cut told less =
-      let is = kept_is kept cut in
+  keeps_part {kept} {now} cut told less =
+      let is = kept_is cut in
       let second : Did log (Split units ∷ []) now.0.log =
       subst {A = Me (Option B) SeatView} (λ x. x.0.named ≡ true → Did x.0.log x.0.unsaid now.0.log) is told.did refl
       in (
@@ -255,10 +253,10 @@ module _ {B : Type 0} (t u : TableId) (m two : Me (Option B) SeatView) (units : 
       )
 
   pub has_part :
-      (given now : Me (Option B) SeatView) → given ≡ (given_part two.0, []) → IsUpToDate given now → 0 < units
+      {given now : Me (Option B) SeatView} → given ≡ (given_part two.0, []) → IsUpToDate given now → 0 < units
       → (IsSound u now × (now.0.book ≡ new_book m.0.book.setup units)) × IsNewcomer m.0.log now.0.log
       × (m.0.log.number ≢ now.0.log.number)
-  has_part given now cut told some_units = (
+  has_part {given} {now} cut told some_units = (
     sound_now t u given now (new_book m.0.book.setup units) table told.same
         (ap (λ (x : Me (Option B) SeatView). x.0.book) is) sound.laid some_units
         (record { held = λ i k. absurd (omega (arith, k.1)); charge = λ o k. absurd (omega (arith, k.1)) }) told.story,
@@ -275,7 +273,7 @@ module _ {B : Type 0} (t u : TableId) (m two : Me (Option B) SeatView) (units : 
   )
     where
       is : given ≡ (given_part noted, [])
-      is = given_is given cut
+      is = given_is cut
 
       -- the story of the first at the split is a beginning, and what it was before is a beginning of that
       first : (more : List Event) × (now.0.log.story ≡ log.story ++ more)
@@ -283,7 +281,7 @@ module _ {B : Type 0} (t u : TableId) (m two : Me (Option B) SeatView) (units : 
           told.knows
 
 -- A join: the other's log was brought up to date (freed), the two were joined (both), and then its own (now)
-module _ {B : Type 0} (t u : TableId) (m o freed both now : Me (Option B) SeatView) (table : u ≡ t)
+module _ {B : Type 0} {t u : TableId} {m o freed both now : Me (Option B) SeatView} (table : u ≡ t)
     (first : IsSound t m) (second : IsSound t o)
     (other : IsUpToDate o freed) (joint : both ≡ (joined_view m.0 freed.0, m.1)) (told : IsUpToDate both now) where
   is : both ≡ (joined_view m.0 (logged freed.0.log (free o.0)), m.1)
@@ -326,9 +324,9 @@ module _ {B : Type 0} (t u : TableId) (m o freed both now : Me (Option B) SeatVi
   has_joined = (has_both, did_join, ends_other)
 
 -- its slot is where it was
-pub carries_joined : {B : Type 0} (m o n : Me (Option B) SeatView) → n ≡ (joined_view m.0 o.0, m.1)
-    → Carries m → Carries n
-carries_joined m o n is carries = moved Carries is carries
+pub carries_joined : {B : Type 0} (m o : Me (Option B) SeatView) {n : Me (Option B) SeatView}
+    → n ≡ (joined_view m.0 o.0, m.1) → Carries m → Carries n
+carries_joined m o is carries = moved Carries is carries
 
 -- where the two together have each thing once, they have nothing in common
 pub apart_by : (a b : Account) → HasEachOnce (after_join a b) → AreApart a b

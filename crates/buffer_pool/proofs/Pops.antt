@@ -1,20 +1,19 @@
 -- An exchange of a head for the link of its buffer keeps the rule: it pops, or it has failed.
 use Rattle.std.proofs.Common.{◌≡◌, ◌≢◌, ℕ, zero, suc, ◌<◌, ◌==◌, List, [], ◌∷◌, ◌++◌, map, Option, Some, None, set}
 use Rattle.std.proofs.Common.{slice_index, slice_set, ap, sym, refl, subst, ◌∙◌, Contains, length-set, arith}
-use Rattle.buffer_pool.proofs.Terms.{none, some, some-ne-none, ℕ_discrete, get_elem?, either, State, Me, Act, Allows}
-use Rattle.buffer_pool.proofs.Terms.{Valid, step, stepped, carried_after, keeps, takes, at_map, set_else, Head, head_of}
-use Rattle.buffer_pool.proofs.Terms.{after, Which, Empty, StandsAt, times, only, look_of, after_pop, Setup, Marking}
-use Rattle.buffer_pool.proofs.Terms.{items_of, put_which, CanPop, Pop, Fail, IsBusy, effect}
-use Rattle.buffer_pool.proofs.Terms.{stack_popped as popped_event, count_failure, linear, stands_times, sum_of-append}
-use Rattle.buffer_pool.proofs.Terms.{term_le, only-same, only-other, SeatView, popped, failed, HasMissed, HasTaken}
-use Rattle.buffer_pool.proofs.Terms.{IsOurs, top_taken, mark_in, first_mark, head_word, link_word, Reading, IsTied}
-use Rattle.buffer_pool.proofs.Terms.{Rests, free, slot_of, Reached, Rule, marking_of, TableId, IsSound, logged, at_one}
-use Rattle.buffer_pool.proofs.Terms.{at_get_or}
+use Rattle.buffer_pool.proofs.Terms.{none, some, some-ne-none, ℕ_discrete, get_elem?, either, State, Me, Allows, step}
+use Rattle.buffer_pool.proofs.Terms.{keeps, takes, at_map, set_else, Head, head_of, after, Which, Empty, StandsAt}
+use Rattle.buffer_pool.proofs.Terms.{times, only, look_of, after_pop, Setup, Marking, items_of, put_which, CanPop, Pop}
+use Rattle.buffer_pool.proofs.Terms.{Fail, IsBusy, effect, stack_popped as popped_event, count_failure, linear}
+use Rattle.buffer_pool.proofs.Terms.{stands_times, sum_of-append, term_le, only-same, only-other, SeatView, popped}
+use Rattle.buffer_pool.proofs.Terms.{failed, HasMissed, HasTaken, IsOurs, top_taken, mark_in, first_mark, head_word}
+use Rattle.buffer_pool.proofs.Terms.{link_word, Reading, IsTied, Rests, free, slot_of, Reached, Rule, marking_of}
+use Rattle.buffer_pool.proofs.Terms.{TableId, IsSound, logged, at_one, at_get_or}
 use mathlib.Core.Option as maybe
 use Rattle.buffer_pool.proofs.Bits.{marked_object}
 use Rattle.buffer_pool.proofs.States.{Seated, left, agrees, lawful, changed, accounts_set, accounts_same, counts_same}
 use Rattle.buffer_pool.proofs.States.{counts_changed, slots_set, sized_set, happened, story_now, rests_after, log_after}
-use Rattle.buffer_pool.proofs.States.{nothing_out, said_all, written_again, own_setup, told, on_top, stacked_free}
+use Rattle.buffer_pool.proofs.States.{Goes, nothing_out, said_all, written_again, own_setup, told, on_top, stacked_free}
 use Rattle.buffer_pool.proofs.States.{freed}
 use Rattle.buffer_pool.proofs.Deeds.{did_one}
 use Rattle.buffer_pool.proofs.Loads.{noticed, same_head}
@@ -78,7 +77,12 @@ module _
   popped_rule b home x l can busy linked_to next =
       changed at words homes w (length-set s.words (head_word q) x) (length-set s.homes i none)
       (λ j h. omega (arith, link_beside_head e s.words q x j, at.rule.linked j h))
-      (sized_set at.rule i none (λ c h. let gone : ⊥ = cc in absurd gone)) tied rests others refl reached
+      (sized_set at.rule i none (λ c h. let gone : ⊥ = cc in absurd gone)) tied rests others refl
+      (happened at (Pop q) (can, busy) words homes w refl
+      (agrees (marking_of r e (left s words homes id w)) (taken (r.items b))
+      (heads_after e s.words q x (after (m.head q) l) (omega (arith, at.rule.word_count)) next)
+      (links_beside_head e s.words q x) (marks_beside_head e s.words q x) (slots_set r s.homes i none)
+      (idle_beside_head e s.words q x) (accounts_set s.views id w) ∙ sym pop_is) (counts_same at w refl))
     where
       m : Marking
       m = marking_of r e s
@@ -127,14 +131,6 @@ module _
           (λ k. popped_event m id v.book.account q (top k) (linked_to k))
           ∙ ap (λ slot. taken (items_of slot)) (at_get_or m.slots i (Some (r.items b)) None (in_slot at.rule i b home))
 
-      reached : Reached r e (left s words homes id w)
-      reached =
-          happened at (Pop q) (can, busy) words homes w refl
-          (agrees (marking_of r e (left s words homes id w)) (taken (r.items b))
-          (heads_after e s.words q x (after (m.head q) l) (omega (arith, at.rule.word_count)) next)
-          (links_beside_head e s.words q x) (marks_beside_head e s.words q x) (slots_set r s.homes i none)
-          (idle_beside_head e s.words q x) (accounts_set s.views id w) ∙ sym pop_is) (counts_same at w refl)
-
 -- where it is another one only the failure is counted, and slots stay where they are
 pub missed_reached :
     {B : Type 0} {r : Reading B} {e : Setup} {s : State (Option B) SeatView} {id : ℕ} {v : SeatView}
@@ -167,15 +163,9 @@ module _ {B : Type 0} (r : Reading B) (e : Setup) (slots id : ℕ) (me : Me (Opt
       v : SeatView
       v = free me.0
 
-      Goal : State (Option B) SeatView → Type 0
-      Goal s =
-          (w : SeatView) × (a : Act (Option B)) × Valid s.homes [] a
-          × Rule r e (stepped s (head_word q)
-          (either (slice_index s.words (head_word q) == old) new (slice_index s.words (head_word q))) id [] w a)
-          × top_taken r (step slots (head_word q) old new none) me (slice_index s.words (head_word q))
-          (w, carried_after [] a)
-
-      go : (s : State (Option B) SeatView) → Seated r e s id v → Dec (slice_index s.words (head_word q) ≡ old) → Goal s
+      go : (s : State (Option B) SeatView) → Seated r e s id v → Dec (slice_index s.words (head_word q) ≡ old)
+          → Goes r e slots id (head_word q) (λ n. either (n == old) new n)
+          (top_taken r (step slots (head_word q) old new none) me) [] s
       go s at (yes hit) =
           let n = slice_index s.words (head_word q) in
           let same : old ≡ n = sym hit in

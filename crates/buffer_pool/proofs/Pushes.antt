@@ -3,16 +3,16 @@
 use Rattle.std.proofs.Common.{◌≡◌, ◌≢◌, ℕ, suc, ◌+◌, ◌<◌, ◌≤◌, ◌==◌, nat_lt, if◌then◌else◌, List, [], ◌∷◌, length}
 use Rattle.std.proofs.Common.{Option, Some, None, get_or, set, slice_index, slice_set, ap, sym, refl, subst, subst₂}
 use Rattle.std.proofs.Common.{◌∙◌, length-set, arith}
-use Rattle.buffer_pool.proofs.Terms.{none, some, ℕ_discrete, get_elem?, either, TableId, State, Me, Act, Allows, Valid}
-use Rattle.buffer_pool.proofs.Terms.{rest, step, stepped, carried_after, keeps, takes, gives, set_else, set_again}
-use Rattle.buffer_pool.proofs.Terms.{head_of, index_of, low_of, after, Which, Full, Empty, times, remove_one, IsPart}
-use Rattle.buffer_pool.proofs.Terms.{look_of, Setup, Marking, put, CanExchange, StoreLink, Push, Fail, IsBusy, effect}
+use Rattle.buffer_pool.proofs.Terms.{none, some, ℕ_discrete, get_elem?, either, TableId, State, Me, Allows, rest, step}
+use Rattle.buffer_pool.proofs.Terms.{stepped, carried_after, keeps, takes, gives, set_else, set_again, head_of}
+use Rattle.buffer_pool.proofs.Terms.{index_of, low_of, after, Which, Full, Empty, times, remove_one, IsPart, look_of}
+use Rattle.buffer_pool.proofs.Terms.{Setup, Marking, put, CanExchange, StoreLink, Push, Fail, IsBusy, effect}
 use Rattle.buffer_pool.proofs.Terms.{times-remove_one, times_stands, only-same, only-other, SeatView, Book, pushed}
 use Rattle.buffer_pool.proofs.Terms.{failed, CanPut, HasPushed, rested, link_stored, top_put, Did, LeadsToBook, IsSound}
 use Rattle.buffer_pool.proofs.Terms.{SitsAt, setup_of, Key, Seat, Shared, logged, head_word, link_word, Reading, IsTied}
-use Rattle.buffer_pool.proofs.Terms.{Rests, free, Reached, Rule, marking_of, has_each_once}
+use Rattle.buffer_pool.proofs.Terms.{Rests, free, Rule, marking_of, has_each_once}
 use mathlib.Core.Option as maybe
-use Rattle.buffer_pool.proofs.States.{Seated, left, agrees, lawful, cut_below, cut_put, changed, accounts_set}
+use Rattle.buffer_pool.proofs.States.{Seated, Goes, left, agrees, lawful, cut_below, cut_put, changed, accounts_set}
 use Rattle.buffer_pool.proofs.States.{accounts_same, counts_same, slots_set, sized_set, happened, story_now, log_after}
 use Rattle.buffer_pool.proofs.States.{nothing_out, written_again, own_setup, told, stands, held_alone, held_below}
 use Rattle.buffer_pool.proofs.States.{held_away, freed}
@@ -38,10 +38,6 @@ pub carried_with : {B : Type 0} (m n : Me (Option B) SeatView) (i j : ℕ) (b : 
     → m.1 ≡ (j, None) ∷ [] → n ≡ (m.0, (i, Some b) ∷ [])
 carried_with {B} m n i j b exchanged carried =
     exchanged ∙ ap {B = Me (Option B) SeatView} (λ (xs : List (ℕ × Option B)). (m.0, (i, Some b) ∷ rest xs)) carried
-
--- a seat stays at its table in two steps
-pub stays : (a b c d : TableId) → b ≡ a → c ≡ b → d ≡ c → d ≡ a
-stays a b c d first second third = cc
 
 -- it still carries that slot after a step that left its slots as they were
 pub still_carried : {B : Type 0} (m n : Me (Option B) SeatView) (i : ℕ) (b : B) → n.1 ≡ m.1 → m.1 ≡ (i, Some b) ∷ []
@@ -90,7 +86,12 @@ module _
       → Rule r e (left s (set s.words (link_word i) x) (set s.homes i none) id (stored_view x))
   stored_rule x bare small =
       changed at words homes w (length-set s.words (link_word i) x) (length-set s.homes i none) linked
-      (sized_set at.rule i none (λ c h. let gone : ⊥ = cc in absurd gone)) tied rests others refl reached
+      (sized_set at.rule i none (λ c h. let gone : ⊥ = cc in absurd gone)) tied rests others refl
+      (happened at (StoreLink i (index_of x)) (times_stands v.book.account.held i mine) words homes w refl
+      (agrees (marking_of r e (left s words homes id w)) (record m { link = put i (index_of x) m.link })
+      (λ q. ap head_of (head_beside_link e s.words i x q)) links (marks_beside_link e s.words i x below)
+      (slots_set r s.homes i none ∙ set_again m.slots i None (held_away at.rule id v at.is i mine))
+      (idle_beside_link e s.words i x) (accounts_same at w refl)) (counts_same at w refl))
     where
       m : Marking
       m = marking_of r e s
@@ -140,14 +141,6 @@ module _
           ap (λ y. if nat_lt j e.buffers then y else None) (links_after e s.words i x in_words j)
           ∙ cut_put e.buffers (λ k. index_of (slice_index s.words (link_word k))) i (index_of x) below j
 
-      reached : Reached r e (left s words homes id w)
-      reached =
-          happened at (StoreLink i (index_of x)) (times_stands v.book.account.held i mine) words homes w refl
-          (agrees (marking_of r e (left s words homes id w)) (record m { link = put i (index_of x) m.link })
-          (λ q. ap head_of (head_beside_link e s.words i x q)) links (marks_beside_link e s.words i x below)
-          (slots_set r s.homes i none ∙ set_again m.slots i None (held_away at.rule id v at.is i mine))
-          (idle_beside_link e s.words i x) (accounts_same at w refl)) (counts_same at w refl)
-
   module _ (b : B) (out : v.out ≡ suc i) (q : Which) where
     abbrev push_view : SeatView
     push_view = record (logged (log_after at (Push q i (r.items b))) (free v))
@@ -170,7 +163,13 @@ module _
         (λ j o. absurd (nothing_out 0 refl j o)) rests (λ k u other is. (
           (λ j o. let t = at.rule.tied k u is j o in (t.0, link_beside_head e s.words q x j ∙ t.1)),
           rests_beside (some (Some b)) k u other is,
-        )) refl reached
+        )) refl
+        (happened at (Push q i (r.items b))
+        (can, (times_stands v.book.account.held i mine, part, room, none_empty), follows, busy) words homes w refl
+        (agrees (marking_of r e (left s words homes id w)) (effect m id v.book.account (Push q i (r.items b)))
+        (heads_after e s.words q x (after (m.head q) (Some i)) (omega (arith, at.rule.word_count)) next)
+        (links_beside_head e s.words q x) (marks_beside_head e s.words q x) (slots_set r s.homes i (some (Some b)))
+        (idle_beside_head e s.words q x) (accounts_set s.views id w)) (counts_same at w refl))
       where
         m : Marking
         m = marking_of r e s
@@ -206,15 +205,6 @@ module _
         room : length (r.items b) ≤ e.size
         room = subst (λ (g : Setup). length (r.items b) ≤ g.size) (own_setup at) fits
 
-        reached : Reached r e (left s words homes id w)
-        reached =
-            happened at (Push q i (r.items b))
-            (can, (times_stands v.book.account.held i mine, part, room, none_empty), follows, busy) words homes w refl
-            (agrees (marking_of r e (left s words homes id w)) (effect m id v.book.account (Push q i (r.items b)))
-            (heads_after e s.words q x (after (m.head q) (Some i)) (omega (arith, at.rule.word_count)) next)
-            (links_beside_head e s.words q x) (marks_beside_head e s.words q x) (slots_set r s.homes i (some (Some b)))
-            (idle_beside_head e s.words q x) (accounts_set s.views id w)) (counts_same at w refl)
-
 module _ {B : Type 0} (r : Reading B) (e : Setup) (slots id : ℕ) (me : Me (Option B) SeatView) where
   pub stores :
       {t : TableId} (sound : IsSound t me) (i x : ℕ) → 0 < times i me.0.book.account.held → x ≤ e.buffers
@@ -249,15 +239,9 @@ module _ {B : Type 0} (r : Reading B) (e : Setup) (slots id : ℕ) (me : Me (Opt
       v : SeatView
       v = me.0
 
-      Goal : Type 0
-      Goal =
-          (w : SeatView) × (a : Act (Option B)) × Valid s.homes me.1 a
-          × Rule r e (stepped s (head_word q)
-          (either (slice_index s.words (head_word q) == old) new (slice_index s.words (head_word q))) id me.1 w a)
-          × top_put r q (step slots (head_word q) old new none) me (slice_index s.words (head_word q))
-          (w, carried_after me.1 a)
-
-      go : Seated r e s id v → Dec (slice_index s.words (head_word q) ≡ old) → Goal
+      go : Seated r e s id v → Dec (slice_index s.words (head_word q) ≡ old)
+          → Goes r e slots id (head_word q) (λ n. either (n == old) new n)
+          (top_put r q (step slots (head_word q) old new none) me) me.1 s
       go at (yes hit) =
           let n = slice_index s.words (head_word q) in
           let same : old ≡ n = sym hit in

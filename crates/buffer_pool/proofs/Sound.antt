@@ -3,9 +3,9 @@ use Rattle.std.proofs.Common.{◌≡◌, ◌==◌, Bool, true, false, if◌then�
 use Rattle.std.proofs.Common.{None, Contains, sym, ap, refl, subst, ⊎_elim, arith}
 use Rattle.buffer_pool.proofs.Terms.{Me, TableId, Head, Which, Full, Empty, times, remove_one, without, IsPart, Setup}
 use Rattle.buffer_pool.proofs.Terms.{Kind, stands_times, times_stands, stands_push, stands_append, times-remove_one}
-use Rattle.buffer_pool.proofs.Terms.{times-without, SeatView, Book, loaded, link_loaded, failed, popped, pushed}
-use Rattle.buffer_pool.proofs.Terms.{claimed, finished, IsWithin, IsBare, IsLaid, IsSound, RestsWith, rested, Log}
-use Rattle.buffer_pool.proofs.Terms.{LeadsToBook, HasSaidAll, logged, slots_of}
+use Rattle.buffer_pool.proofs.Terms.{times-without, SeatView, Book, loaded, link_loaded, popped, pushed, claimed}
+use Rattle.buffer_pool.proofs.Terms.{finished, IsWithin, IsBare, IsLaid, IsSound, RestsWith, rested, Log, LeadsToBook}
+use Rattle.buffer_pool.proofs.Terms.{HasSaidAll, logged, slots_of}
 
 -- what is in a list is below a bound, and so it is with one more that is below it, and with one removed
 below_push : (xs : List ℕ) (x n : ℕ) → ((y : ℕ) → Contains xs y → y < n) → x < n → (y : ℕ) → Contains (xs ++ x ∷ []) y
@@ -18,7 +18,7 @@ below_removed xs x n all mine y here =
     let there = stands_times (remove_one x xs) y here in
     all y (times_stands xs y (omega (arith, times-remove_one y x xs mine)))
 
-module _ {B : Type 0} (t : TableId) (m : Me (Option B) SeatView) (sound : IsSound t m) where
+module _ {B : Type 0} {t : TableId} {m : Me (Option B) SeatView} (sound : IsSound t m) where
   -- nothing that is kept changed but the view's book
   sound_rested :
       (log : Log) (b : Book) → b.setup ≡ m.0.book.setup → b.account.share ≡ m.0.book.account.share
@@ -141,30 +141,18 @@ pub bare_rested :
     {B : Type 0} {m new : Me (Option B) SeatView} {b : Book} {kinds : List Kind} → RestsWith m b kinds new → IsBare new
 bare_rested rests = subst IsBare (sym rests.same) (record { slots = refl; out = refl })
 
--- the slot of a held buffer came out, and an exchange failed while it was out
-module _ {B : Type 0} (t : TableId) (m : Me (Option B) SeatView) (sound : IsSound t m) (log : Log) (i n : ℕ) where
-  pub sound_stored :
-      LeadsToBook log m.0.book
-      → IsSound {B = B} t (record (logged log m.0) { out = suc i; out_link = n }, (i, None) ∷ [])
-  sound_stored story =
-      record {
-        story = story;
-        laid = sound.laid;
-        share = sound.share;
-        carries = refl;
-        within = sound.within;
-        settled = record { named = refl; unsaid = refl };
-      }
-
-  pub sound_missed :
-      (out : m.0.out ≡ suc i) → LeadsToBook log (failed m.0.book)
-      → IsSound {B = B} t (record (logged log m.0) { book = failed m.0.book }, (i, None) ∷ [])
-  sound_missed out story =
-      record {
-        story = story;
-        laid = sound.laid;
-        share = sound.share;
-        carries = ap slots_of (sym out);
-        within = record { held = sound.within.held; charge = sound.within.charge };
-        settled = record { named = refl; unsaid = refl };
-      }
+-- the slot of a held buffer is out: it came out, or an exchange failed while it was
+pub sound_out :
+    {B : Type 0} {t : TableId} {m : Me (Option B) SeatView} (sound : IsSound t m) (log : Log) (i : ℕ) (u : SeatView)
+    → u.out ≡ suc i → u.book.setup ≡ m.0.book.setup → u.book.account.share ≡ m.0.book.account.share
+    → IsWithin m.0.book.setup u.book.account → LeadsToBook log u.book
+    → IsSound {B = B} t (logged log u, (i, None) ∷ [])
+sound_out {t = t} sound log i u out setup share within story =
+    record {
+      laid = subst (IsLaid t) (sym setup) sound.laid;
+      share = subst (λ n. 0 < n) (sym share) sound.share;
+      carries = ap slots_of (sym out);
+      within = subst (λ (e : Setup). IsWithin e u.book.account) (sym setup) within;
+      settled = record { named = refl; unsaid = refl };
+      story = story;
+    }

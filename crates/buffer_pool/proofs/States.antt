@@ -352,15 +352,15 @@ module _
 -- may do.
 module _ {B : Type 0} (r : Reading B) (e : Setup) (slots id word : ℕ) (f : ℕ → ℕ)
     (tells : ℕ → Me (Option B) SeatView → Type 0) where
-  -- the step may be made at this table, in which the seat has nothing out
-  abbrev Goes : State (Option B) SeatView → Type 0
-  Goes s = (w : SeatView) × (a : Act (Option B)) × Valid s.homes [] a
-      × Rule r e (stepped s word (f (slice_index s.words word)) id [] w a)
-      × tells (slice_index s.words word) (w, carried_after [] a)
+  -- the step may be made at this table by a seat that carries these slots
+  abbrev pub Goes : List (ℕ × Option B) → State (Option B) SeatView → Type 0
+  Goes carried s = (w : SeatView) × (a : Act (Option B)) × Valid s.homes carried a
+      × Rule r e (stepped s word (f (slice_index s.words word)) id carried w a)
+      × tells (slice_index s.words word) (w, carried_after carried a)
 
   freed_at :
       (v : SeatView) (n : ℕ) → v.out ≡ n → 0 < v.book.account.share
-      → ((s : State (Option B) SeatView) → Seated r e s id (free v) → Goes s)
+      → ((s : State (Option B) SeatView) → Seated r e s id (free v) → Goes [] s)
       → Allows (Rule r e) slots id (v, slots_of n) word f tells
   freed_at v n out there allows = go n out
     where
@@ -368,7 +368,7 @@ module _ {B : Type 0} (r : Reading B) (e : Setup) (slots id word : ℕ) (f : ℕ
       acts :
           (s : State (Option B) SeatView) (homes : List (maybe.Option (Option B))) → Rule r e s
           → get_elem? s.views id ≡ some v → Rule r e (left s s.words homes id (free v))
-          → Goes (record { words = s.words; homes = homes; views = s.views })
+          → Goes [] (record { words = s.words; homes = homes; views = s.views })
       acts s homes rule is freed =
           let at : Seated r e s id v = record { rule = rule; is = is; there = there } in
           let t = left s s.words homes id (free v) in
@@ -391,7 +391,7 @@ module _ {B : Type 0} (r : Reading B) (e : Setup) (slots id word : ℕ) (f : ℕ
           (a.0, chain gives a.1, (tt, a.2), a.3, a.4)
 
   pub freed : (me : Me (Option B) SeatView) → Carries me → 0 < me.0.book.account.share
-      → ((s : State (Option B) SeatView) → Seated r e s id (free me.0) → Goes s)
+      → ((s : State (Option B) SeatView) → Seated r e s id (free me.0) → Goes [] s)
       → Allows (Rule r e) slots id me word f tells
   freed me carries there allows = subst (λ c. Allows (Rule r e) slots id (me.0, c) word f tells) (sym carries)
       (freed_at me.0 me.0.out refl there allows)

@@ -26,8 +26,8 @@ pub use Rattle.mark_core.proofs.Ownership.{held_apart, place_one, stacked_below,
 pub use Rattle.mark_core.proofs.Places.{at_get_or, at_below, at_one, put_here, put_else}
 pub use Rattle.mark_core.proofs.Sums.{stands_times, sum_of-append, term_le, only-same, only-other, times-remove_one}
 pub use Rattle.mark_core.proofs.Sums.{times_stands, stands_push, stands_append, times-without, terms_le}
-pub use Rattle.mark_core.specs.Account.{Account, after_claim, look_of, part, no_share, after_split, after_join}
-pub use Rattle.mark_core.specs.Account.{after_load, after_load_link, after_pop}
+pub use Rattle.mark_core.specs.Account.{Account, after_claim, look_of, part, no_share, after_join, after_load}
+pub use Rattle.mark_core.specs.Account.{after_load_link, after_pop}
 pub use Rattle.mark_core.specs.Colours.{IsReachableIn}
 pub use Rattle.mark_core.specs.Counts.{counted, Counts, LeadTo, count_load_idle, count_load, add_counts, counts_at}
 pub use Rattle.mark_core.specs.Counts.{no_counts, count_failure}

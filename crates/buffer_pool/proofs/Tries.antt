@@ -1,8 +1,8 @@
 -- A try that was lost may be made again.
-use Rattle.std.proofs.Common.{◌≡◌, ◌∙◌, ℕ, List, ◌++◌, Option, sym, subst}
-use Rattle.buffer_pool.proofs.Terms.{Head, Which, Full, Empty, Book, loaded, link_loaded, failed, Holder, HeldBuffer}
-use Rattle.buffer_pool.proofs.Terms.{MayPush, TriesPop, TriesPush, lost_pops, try_pop_steps, Did, Log, TryPopped}
-use Rattle.buffer_pool.proofs.Terms.{IsBusy, lost_pushes, try_push_steps}
+use Rattle.std.proofs.Common.{◌≡◌, ℕ, List, ◌++◌, Option, sym, subst}
+use Rattle.buffer_pool.proofs.Terms.{Head, Which, Full, Empty, Book, loaded, link_loaded, failed, HeldBuffer, MayPush}
+use Rattle.buffer_pool.proofs.Terms.{TriesPop, TriesPush, lost_pops, try_pop_steps, Did, Log, TryPopped, IsBusy}
+use Rattle.buffer_pool.proofs.Terms.{lost_pushes, try_push_steps}
 use Rattle.buffer_pool.specs.declared.answers.TryPushed.{TryPushed}
 use Rattle.buffer_pool.proofs.Deeds.{did_on}
 use Rattle.buffer_pool.specs.declared.answers.TryPopped.TheVariants as try_pop
@@ -29,10 +29,6 @@ pub busy_again : (q : Which) (old new : Book) → IsBusy old.account → TriesPo
     → IsBusy new.account
 busy_again q old new busy lost =
     subst (λ (b : Book). IsBusy b.account) (sym lost.5) (busy_looked q lost.0 lost.2 old busy)
-
--- a worker stays in its pool
-pub same_pool : (a b c : Holder) → b.pool ≡ a.pool → c.pool ≡ b.pool → c.pool ≡ a.pool
-same_pool a b c first second = second ∙ first
 
 -- what a worker did: tries of a pop that were all lost, and one more
 pub pop_did : (q : Which) (old mid new : Log) (tried : TryPopped HeldBuffer)

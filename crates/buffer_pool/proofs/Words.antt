@@ -24,16 +24,17 @@ pub exchange_miss : (n old new : ℕ) → n ≢ old → either (n == old) new n 
 exchange_miss n old new miss = ap (λ b. either b new n) (ne_eqb n old miss)
 
 module _ (e : Setup) (words : List ℕ) where
+  -- a word is as it was
+  abbrev pub Keeps : List ℕ → ℕ → Type 0
+  Keeps new k = slice_index new k ≡ slice_index words k
+
   -- the mark of an object is as it was where its word is
-  same_mark :
-      (new : List ℕ) (o : ℕ) → slice_index new (mark_word e o) ≡ slice_index words (mark_word e o)
-      → marks_of e new o ≡ marks_of e words o
+  same_mark : (new : List ℕ) (o : ℕ) → Keeps new (mark_word e o) → marks_of e new o ≡ marks_of e words o
   same_mark new o same = ap (λ y. if nat_lt o e.objects then pair_mark y (o % 32) else 0) same
 
   -- after a write of a head
   module _ (q : Which) (x : ℕ) where
-    pub link_beside_head : (i : ℕ)
-        → slice_index (set words (head_word q) x) (link_word i) ≡ slice_index words (link_word i)
+    pub link_beside_head : (i : ℕ) → Keeps (set words (head_word q) x) (link_word i)
     link_beside_head i = get_or-set_other words (head_word q) (link_word i) x 0 (λ h. omega (arith, h, head_below q))
 
     pub links_beside_head :
@@ -42,10 +43,10 @@ module _ (e : Setup) (words : List ℕ) where
         ≡ cut e.buffers (λ k. index_of (slice_index words (link_word k))) i
     links_beside_head i = ap (λ y. if nat_lt i e.buffers then index_of y else None) (link_beside_head i)
 
-    pub idle_beside_head : slice_index (set words (head_word q) x) 8 ≡ slice_index words 8
+    pub idle_beside_head : Keeps (set words (head_word q) x) 8
     idle_beside_head = go q
       where
-        go : (p : Which) → slice_index (set words (head_word p) x) 8 ≡ slice_index words 8
+        go : (p : Which) → Keeps (set words (head_word p) x) 8
         go Full = get_or-set_other words 0 8 x 0 (λ h. omega (arith, h))
         go Empty = get_or-set_other words 16 8 x 0 (λ h. omega (arith, h))
 
@@ -68,15 +69,13 @@ module _ (e : Setup) (words : List ℕ) where
 
   -- after a write of a buffer's link
   module _ (i x : ℕ) where
-    pub head_beside_link : (q : Which)
-        → slice_index (set words (link_word i) x) (head_word q) ≡ slice_index words (head_word q)
+    pub head_beside_link : (q : Which) → Keeps (set words (link_word i) x) (head_word q)
     head_beside_link q = get_or-set_other words (link_word i) (head_word q) x 0 (λ h. omega (arith, h, head_below q))
 
-    pub idle_beside_link : slice_index (set words (link_word i) x) 8 ≡ slice_index words 8
+    pub idle_beside_link : Keeps (set words (link_word i) x) 8
     idle_beside_link = get_or-set_other words (link_word i) 8 x 0 (λ h. omega (arith, h))
 
-    pub link_beside_link : (j : ℕ) → j ≢ i
-        → slice_index (set words (link_word i) x) (link_word j) ≡ slice_index words (link_word j)
+    pub link_beside_link : (j : ℕ) → j ≢ i → Keeps (set words (link_word i) x) (link_word j)
     link_beside_link j other = get_or-set_other words (link_word i) (link_word j) x 0 (λ h. other (omega (arith, h)))
 
     pub link_here : 32 + i < length words → slice_index (set words (link_word i) x) (link_word i) ≡ x
@@ -108,15 +107,14 @@ module _ (e : Setup) (words : List ℕ) where
     abbrev pub raised_words : List ℕ
     raised_words = set words (mark_word e o) raised
 
-    pub head_beside_mark : (q : Which) → slice_index raised_words (head_word q) ≡ slice_index words (head_word q)
+    pub head_beside_mark : (q : Which) → Keeps raised_words (head_word q)
     head_beside_mark q =
         get_or-set_other words (mark_word e o) (head_word q) raised 0 (λ h. omega (arith, h, head_below q))
 
-    pub idle_beside_mark : slice_index raised_words 8 ≡ slice_index words 8
+    pub idle_beside_mark : Keeps raised_words 8
     idle_beside_mark = get_or-set_other words (mark_word e o) 8 raised 0 (λ h. omega (arith, h))
 
-    pub link_beside_mark :
-        (i : ℕ) → i < e.buffers → slice_index raised_words (link_word i) ≡ slice_index words (link_word i)
+    pub link_beside_mark : (i : ℕ) → i < e.buffers → Keeps raised_words (link_word i)
     link_beside_mark i below =
         get_or-set_other words (mark_word e o) (link_word i) raised 0 (λ h. omega (arith, h, below))
 
@@ -151,11 +149,11 @@ module _ (e : Setup) (words : List ℕ) where
 
   -- after a write of the idle word
   module _ (x : ℕ) where
-    pub head_beside_idle : (q : Which) → slice_index (set words 8 x) (head_word q) ≡ slice_index words (head_word q)
+    pub head_beside_idle : (q : Which) → Keeps (set words 8 x) (head_word q)
     head_beside_idle Full = get_or-set_other words 8 0 x 0 (λ h. omega (arith, h))
     head_beside_idle Empty = get_or-set_other words 8 16 x 0 (λ h. omega (arith, h))
 
-    pub link_beside_idle : (i : ℕ) → slice_index (set words 8 x) (link_word i) ≡ slice_index words (link_word i)
+    pub link_beside_idle : (i : ℕ) → Keeps (set words 8 x) (link_word i)
     link_beside_idle i = get_or-set_other words 8 (link_word i) x 0 (λ h. omega (arith, h))
 
     pub marks_beside_idle : (o : ℕ) → marks_of e (set words 8 x) o ≡ marks_of e words o

@@ -28,7 +28,7 @@ use Rattle.buffer_pool.specs.WorkerLog.{Log, Did, LeadsToBook, deeds}
 use Rattle.pool_tests.specs.Forged.{WasNotLost}
 use Rattle.buffer_pool.specs.declared.answers.TryPushed.{TryPushed}
 use Rattle.buffer_pool.specs.declared.answers.TryPushed.TheVariants as try_push
-use Rattle.buffer_pool.proofs.Loads.{setup_loaded}
+use Rattle.buffer_pool.proofs.Loads.{is_loaded}
 
 -- the account w has the whole share
 record Alone (e : Setup) (w : ℕ) (m : Marking) : Type 0 where
@@ -157,7 +157,7 @@ lost_alone :
     → LeadsToBook b new → ⊥
 lost_alone a b old new q head i link some_buffer all first is did second =
     let e = old.setup in
-    let setup : new.setup ≡ e = ap (λ (c : Book). c.setup) is ∙ setup_loaded q head old in
+    let setup : new.setup ≡ e = ap (λ (c : Book). c.setup) is ∙ (is_loaded q head old).setup in
     let led : LeadTo e b.story second.0 second.1 =
     subst (λ (f : Setup). LeadTo f b.story second.0 second.1) setup second.2 in
     let story : b.story ≡ a.story ++ did.0 = ap (λ (x : Log). x.story) did.1 in

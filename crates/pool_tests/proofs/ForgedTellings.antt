@@ -72,7 +72,7 @@ module _ {B : Type 0} (r : Reading B) where
       let rule : Rule r e t = a.3 in
       let m = marking_of r e s in
       let k = marking_of r e t in
-      let law = lawful r e s at.rule in
+      let law = lawful at.rule in
       let on_top = ap (λ (h : Head). h.index) is ∙ top in
       let below = stacked_below e.buffers m.head m.link m.accounts law.stack law.owned q i
       (top_stands e.buffers m.head m.link m.accounts law.stack law.owned q i on_top) in

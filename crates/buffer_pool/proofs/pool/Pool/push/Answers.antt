@@ -4,7 +4,7 @@ use Rattle.buffer_pool.proofs.Terms.{TriesPush}
 use Rattle.buffer_pool.specs.Calls.LostPushes.{none, more}
 use Rattle.buffer_pool.specs.declared.answers.TryPushed.TheVariants as try_push
 use Rattle.buffer_pool.proofs.Deeds.{did_nothing}
-use Rattle.buffer_pool.proofs.Tries.{may_again, push_did, same_pool}
+use Rattle.buffer_pool.proofs.Tries.{may_again, push_did}
 use Rattle.buffer_pool.proofs.pool.Pool.push.Goals as goal
 
 pub loop-init : goal.loop-init
@@ -23,7 +23,7 @@ loop-preserved g c =
     let did =
     push_did q h c.loop.held c.args.worker.now.log c.loop.worker.log c.try_push.new.worker.log
     (try_push.Lost c.in-Lost.back) was.1 was.4 c.in-Lost.ensures.did in (
-      same_pool c.args.worker.now c.loop.worker c.try_push.new.worker was.0 c.try_push.ensures.pool,
+      c.try_push.ensures.pool ∙ was.0,
       same,
       may_again q c.loop.held c.in-Lost.back old new was.2 tried,
       more c.args.worker.now.book old new was.3 again,

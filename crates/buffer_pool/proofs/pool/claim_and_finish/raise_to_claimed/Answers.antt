@@ -33,7 +33,7 @@ returns-clause-sound g c =
     let below =
     claimable_within t me.0.book.setup me.0.book.account c.args.object c.requires.sound.laid c.requires.can in
     let found : ℕ = pair_mark c.fetch_or-word.result (c.args.object % 32) in
-    sound_after (sound_claimed t me c.requires.sound c.args.object found below) c.fetch_or-word.ensures.0
+    sound_after (sound_claimed c.requires.sound c.args.object found below) c.fetch_or-word.ensures.0
     (c.fetch_or-word.ensures.2 c.args.object (own g c) c.pair_bits.ensures).0
 
 pub returns-clause-rests : goal.returns-clause-rests

@@ -26,10 +26,8 @@ fetch_or-requires g c =
 
 pub returns-clause-sound : goal.returns-clause-sound
 returns-clause-sound g c =
-    let t = c.args.seat.now.table_id in
-    let me = c.args.seat.now.me in
-    let mine = stands_times me.0.book.account.charge c.args.object c.requires.can.0 in
-    sound_after (sound_finished t me c.requires.sound c.args.object mine) c.fetch_or.ensures.0
+    let mine = stands_times c.args.seat.now.me.0.book.account.charge c.args.object c.requires.can.0 in
+    sound_after (sound_finished c.requires.sound c.args.object mine) c.fetch_or.ensures.0
     (c.fetch_or.ensures.2 c.args.object (own g c) c.pair_bits.ensures).0
 
 pub returns-clause-rests : goal.returns-clause-rests

@@ -30,8 +30,7 @@ returns g c =
     record {
       same = record { table = c.load.ensures.0; number = c.load.ensures.1 };
       sound =
-          sound_after (sound_loaded c.args.seat.now.table_id me c.requires.sound q c.from_word.result)
-          c.load.ensures.0 rests;
+          sound_after (sound_loaded c.requires.sound q c.from_word.result) c.load.ensures.0 rests;
       rests = rests;
       within = subst (λ (h : Head). (i : ℕ) → h.index ≡ Some i → i < me.0.book.setup.buffers)
           (sym c.from_word.ensures) seen.1;

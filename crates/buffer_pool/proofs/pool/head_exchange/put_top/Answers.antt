@@ -2,7 +2,7 @@
 use Rattle.std.proofs.Common.{◌≡◌, suc, ◌<◌, arith, sym, subst, ap, ◌∙◌, Option, Some, Contains, refl}
 use Rattle.buffer_pool.proofs.Terms.{Head, index_of, after, last_tag, index_of-low_of, stands_times, buffer_reading}
 use Rattle.buffer_pool.proofs.Terms.{IsPart, HeldBuffer, CanPut}
-use Rattle.buffer_pool.proofs.Pushes.{carried_with, stays, still_carried, told_of}
+use Rattle.buffer_pool.proofs.Pushes.{carried_with, still_carried, told_of}
 use Rattle.buffer_pool.proofs.pool.head_exchange.put_top.Goals as goal
 
 pub exchange_for_buffer-requires-clause-put : goal.exchange_for_buffer-requires-clause-put
@@ -60,8 +60,6 @@ exchange-requires-2 g c =
     let back = c.exchange_for_buffer.ensures.exchanges.1 c.if-exchange_for_buffer-word.false in
     let carried = still_carried c.exchange.new.seat.me c.exchange_for_buffer.new.seat.me i b (λ k. (back.0 k).1)
     (λ k. (at k).1) in (
-      stays c.args.words.now.table_id c.args.seat.now.table_id c.exchange.new.seat.table_id
-          c.exchange_for_buffer.new.seat.table_id c.requires.table.same c.exchange.ensures.0
-          c.exchange_for_buffer.ensures.same.table,
+      c.exchange_for_buffer.ensures.same.table ∙ c.exchange.ensures.0 ∙ c.requires.table.same,
       (Some b, carried),
     )

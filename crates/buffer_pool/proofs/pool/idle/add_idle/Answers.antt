@@ -10,6 +10,5 @@ fetch_add-requires g c = goes_idle buffer_reading c.requires.table c.requires.so
 
 pub returns-clause-sound : goal.returns-clause-sound
 returns-clause-sound g c =
-    let me = c.args.seat.now.me in
-    sound_after (sound_looked c.args.seat.now.table_id me c.requires.sound (idled me.0.book) refl refl
-    refl refl) c.fetch_add.ensures.0 c.fetch_add.ensures.2
+    sound_after (sound_looked c.requires.sound (idled c.args.seat.now.me.0.book) refl refl refl refl)
+    c.fetch_add.ensures.0 c.fetch_add.ensures.2

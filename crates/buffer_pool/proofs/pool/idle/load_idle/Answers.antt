@@ -10,6 +10,6 @@ load-requires g c = sees_idle buffer_reading c.requires.table c.requires.sound
 
 pub returns-clause-sound : goal.returns-clause-sound
 returns-clause-sound g c =
-    let me = c.args.seat.now.me in
-    sound_after (sound_looked c.args.seat.now.table_id me c.requires.sound (idle_loaded c.load.result me.0.book) refl
-    refl refl refl) c.load.ensures.0 c.load.ensures.2.0
+    sound_after
+    (sound_looked c.requires.sound (idle_loaded c.load.result c.args.seat.now.me.0.book) refl refl refl refl)
+    c.load.ensures.0 c.load.ensures.2.0

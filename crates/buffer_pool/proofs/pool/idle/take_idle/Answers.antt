@@ -10,6 +10,5 @@ fetch_sub-requires g c = comes_back buffer_reading c.requires.table c.requires.s
 
 pub returns-clause-sound : goal.returns-clause-sound
 returns-clause-sound g c =
-    let me = c.args.seat.now.me in
-    sound_after (sound_looked c.args.seat.now.table_id me c.requires.sound (woken me.0.book) refl refl
-    refl refl) c.fetch_sub.ensures.0 c.fetch_sub.ensures.2
+    sound_after (sound_looked c.requires.sound (woken c.args.seat.now.me.0.book) refl refl refl refl)
+    c.fetch_sub.ensures.0 c.fetch_sub.ensures.2

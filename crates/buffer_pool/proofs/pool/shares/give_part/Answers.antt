@@ -32,9 +32,8 @@ pub load-requires : goal.load-requires
 load-requires g c =
     let told = c.compare_exchange.ensures.2 in
     let may =
-    kept_may c.args.seat.now.table_id c.args.seat.now.table_id c.args.seat.now.me c.compare_exchange.new.seat.me
-    c.args.units refl c.compare_exchange.new.seat.me.0.log c.requires.sound told.0 told.1
-    c.split_seat-other.new.seat.me c.split_seat-other.ensures.2 c.requires.units.1 in (
+    kept_may c.args.units refl c.compare_exchange.new.seat.me.0.log c.requires.sound told.0 told.1
+    c.split_seat-other.ensures.2 c.requires.units.1 in (
       c.split_seat-other.ensures.0 ∙ c.compare_exchange.ensures.0 ∙ c.requires.table,
       omega (arith, c.requires.sound.laid.words, ap (λ (t : TableId). t.words) c.requires.table),
       settles buffer_reading (setup_of c.args.words.now.key) c.args.words.now.table_id.slots
@@ -45,9 +44,8 @@ pub load-requires-2 : goal.load-requires-2
 load-requires-2 g c =
     let told = c.compare_exchange.ensures.2 in
     let may =
-    given_may c.args.seat.now.table_id c.args.seat.now.table_id c.args.seat.now.me c.compare_exchange.new.seat.me
-    c.args.units refl c.compare_exchange.new.seat.me.0.log c.requires.sound told.0 told.1
-    c.split_seat-other.result.me c.split_seat-other.ensures.4 c.requires.units.0 in (
+    given_may c.args.units refl c.compare_exchange.new.seat.me.0.log c.requires.sound told.0 told.1
+    c.split_seat-other.ensures.4 c.requires.units.0 in (
       c.split_seat-other.ensures.3 ∙ c.compare_exchange.ensures.0 ∙ c.requires.table,
       omega (arith, c.requires.sound.laid.words, ap (λ (t : TableId). t.words) c.requires.table),
       settles buffer_reading (setup_of c.args.words.now.key) c.args.words.now.table_id.slots
@@ -59,17 +57,12 @@ returns g c =
     let told = c.compare_exchange.ensures.2 in
     let log = c.compare_exchange.new.seat.me.0.log in
     let one = c.compare_exchange.ensures.0 in
-    let t = c.args.seat.now.table_id in
     let kept =
-    keeps_part t c.load.new.seat.table_id c.args.seat.now.me c.compare_exchange.new.seat.me c.args.units
-    (c.load.ensures.0 ∙ c.split_seat-other.ensures.0 ∙ one) log c.requires.sound told.0 told.1
-    c.split_seat-other.new.seat.me c.load.new.seat.me c.split_seat-other.ensures.2 c.load.ensures.2 c.requires.units.1
-    in
+    keeps_part c.args.units (c.load.ensures.0 ∙ c.split_seat-other.ensures.0 ∙ one) log c.requires.sound told.0 told.1
+    c.split_seat-other.ensures.2 c.load.ensures.2 c.requires.units.1 in
     let given =
-    has_part t c.load-2.new.seat.table_id c.args.seat.now.me c.compare_exchange.new.seat.me c.args.units
-    (c.load-2.ensures.0 ∙ c.split_seat-other.ensures.3 ∙ one) log c.requires.sound told.0 told.1
-    c.split_seat-other.result.me c.load-2.new.seat.me c.split_seat-other.ensures.4 c.load-2.ensures.2
-    c.requires.units.0 in
+    has_part c.args.units (c.load-2.ensures.0 ∙ c.split_seat-other.ensures.3 ∙ one) log c.requires.sound told.0 told.1
+    c.split_seat-other.ensures.4 c.load-2.ensures.2 c.requires.units.0 in
     record {
       same = (
         c.load.ensures.0 ∙ c.split_seat-other.ensures.0 ∙ one,

@@ -40,8 +40,7 @@ load-requires-2 g c =
       c.join_seat.ensures.0 ∙ c.requires.table.0,
       omega (arith, sound.laid.words, ap (λ (t : TableId). t.words) c.requires.table.0),
       settles buffer_reading (setup_of c.args.words.now.key) c.args.words.now.table_id.slots c.join_seat.new.seat.id
-          c.join_seat.new.seat.me 0 (carries_joined c.args.seat.now.me c.load.new.seat.me c.join_seat.new.seat.me both
-          sound.carries)
+          c.join_seat.new.seat.me 0 (carries_joined c.args.seat.now.me c.load.new.seat.me both sound.carries)
           (omega (arith, sound.share, ap (λ (n : Token g). n.0.book.account.share) both)),
     )
 
@@ -50,10 +49,8 @@ returns g c =
     let same = sym (c.requires.table.1 ∙ sym c.requires.table.0) in
     let stays = c.load-2.ensures.0 ∙ c.join_seat.ensures.0 in
     let all =
-    has_joined c.args.seat.now.table_id c.load-2.new.seat.table_id c.args.seat.now.me c.args.other.me c.load.new.seat.me
-    c.join_seat.new.seat.me c.load-2.new.seat.me stays c.requires.sound.0
-    (subst (λ t. IsSound t c.args.other.me) (sym same) c.requires.sound.1) c.load.ensures.2 c.join_seat.ensures.2
-    c.load-2.ensures.2 in
+    has_joined stays c.requires.sound.0 (subst (λ t. IsSound t c.args.other.me) (sym same) c.requires.sound.1)
+    c.load.ensures.2 c.join_seat.ensures.2 c.load-2.ensures.2 in
     let each : HasEachOnce (after_join c.args.seat.now.me.0.book.account c.load.new.seat.me.0.book.account) =
     subst (λ (n : Token g). HasEachOnce n.0.book.account) c.join_seat.ensures.2 c.load-2.ensures.2.each in
     record {

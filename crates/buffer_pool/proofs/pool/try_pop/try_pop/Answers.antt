@@ -23,8 +23,7 @@ linked :
     (g : given.Over) (c : After-load_link-link g)
     → IsSound c.load_link-link.new.seat.table_id c.load_link-link.new.seat.me
 linked g c =
-    let one = c.load_head-head.new.seat in
-    sound_after (sound_linked one.table_id one.me c.load_head-head.ensures.sound c.args.which c.load_link-link.result)
+    sound_after (sound_linked c.load_head-head.ensures.sound c.args.which c.load_link-link.result)
     c.load_link-link.ensures.same.table c.load_link-link.ensures.rests
 
 pub take_top-requires-clause-sound : goal.take_top-requires-clause-sound
@@ -47,14 +46,13 @@ returns-in-Some-take_top-clause-sound g c =
     let below = subst (λ (e : Setup). c.in-Some.index < e.buffers) (sym setup)
     (c.load_head-head.ensures.within c.in-Some.index (sym c.in-Some.ensures.same)) in
     sound_as {n = three.me}
-    (sound_popped two.table_id two.me second three.me c.in-Some.index b.items.items below taken.ours.objects
+    (sound_popped second three.me c.in-Some.index b.items.items below taken.ours.objects
     taken.slots taken.out taken.book taken.settled) c.take_top.ensures.same.table refl taken.story
 
 pub returns-in-None-clause-sound : goal.returns-in-None-clause-sound
 returns-in-None-clause-sound g c =
     let second = linked g (goal.at.returns-in-None-clause-sound g c).After-load_link-link in
-    let two = c.load_link-link.new.seat in
-    sound_after (sound_looked two.table_id two.me second (failed two.me.0.book) refl refl refl refl)
+    sound_after (sound_looked second (failed c.load_link-link.new.seat.me.0.book) refl refl refl refl)
     c.take_top.ensures.same.table c.in-None.ensures.takes
 
 pub returns-in-Some-take_top-clause-did : goal.returns-in-Some-take_top-clause-did
