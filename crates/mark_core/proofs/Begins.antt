@@ -56,17 +56,16 @@ pub lawful_opening :
     → All (λ p. (p.0 < e.objects) × (p.1 < e.objects)) e.pairs → IsLawful s
 lawful_opening s e tag opened same links slots marks some few rooted paired =
     let law : Law e (marking_of s) = subst (Law e) (sym opened) (opening_keeps e tag some) in
-    let back : e ≡ s.setup = sym same in
     let accounts = ap (λ (m : Marking). m.accounts) opened in
     let one : AreNumbered s.accounts = subst AreNumbered (sym accounts) (numbered_opening whole (omega arith)) in
     record {
-      law = subst (λ (x : Setup). Law x (marking_of s)) back law;
-      links = links ∙ ap (λ (x : Setup). x.buffers) back;
-      slots = slots ∙ ap (λ (x : Setup). x.buffers) back;
-      marks = marks ∙ ap (λ (x : Setup). x.objects) back;
+      law = rw same law;
+      links = rw same links;
+      slots = rw same slots;
+      marks = rw same marks;
       numbered = one.numbered;
       weights = one.weights;
-      few = subst (λ (x : Setup). x.buffers ≤ 65534) back few;
-      rooted = subst (λ (x : Setup). All (λ o. o < x.objects) x.roots) back rooted;
-      paired = subst (λ (x : Setup). All (λ p. (p.0 < x.objects) × (p.1 < x.objects)) x.pairs) back paired;
+      few = rw same few;
+      rooted = rw same rooted;
+      paired = rw same paired;
     }

@@ -1,6 +1,6 @@
 -- The list that the links give from an index on.
-use Rattle.std.proofs.Common.{◌≡◌, ℕ, ◌<◌, List, [], ◌∷◌, Option, Some, None, ap, sym, refl, subst, ◌∙◌, inl, inr, ⊎_elim}
-use Rattle.std.proofs.Common.{arith}
+use Rattle.std.proofs.Common.{◌≡◌, ℕ, ◌<◌, List, [], ◌∷◌, Option, Some, None, ap, sym, refl, subst, ◌∙◌, inl, inr}
+use Rattle.std.proofs.Common.{⊎_elim, arith}
 use Rattle.tagged_index.specs.Head.{Head, after}
 use Rattle.mark_core.specs.declared.which.Which.{Which}
 use Rattle.mark_core.specs.declared.which.Which.TheVariants.{Full, Empty}

@@ -9,12 +9,12 @@ use Rattle.mark_core.specs.Lists.{times}
 use Rattle.mark_core.specs.Account.{Account, look_of}
 use Rattle.mark_core.specs.World.{Setup, Marking, account_at, IsThere, put, put_which}
 use Rattle.mark_core.specs.Events.{Kind, Claim, Finish, StoreLink, Pop, Push}
-use Rattle.mark_core.specs.Events.{Allows, effect, stack_popped}
+use Rattle.mark_core.specs.Events.{Allows, effect}
 use Rattle.mark_core.specs.Ownership.{Chain}
 use Rattle.mark_core.specs.Law.{Law}
 use Rattle.mark_core.specs.Runs.{IsListOf, Changes, StacksChange, TagsRise, PopsFindLinks, MarksRise}
 use Rattle.mark_core.proofs.Places.{put_here, put_else, put_one}
-use Rattle.mark_core.proofs.Happens.{happens_as, pops_as}
+use Rattle.mark_core.proofs.Happens.{happens_as, pops_as, tried}
 use Rattle.mark_core.proofs.Sums.{stands_times}
 use Rattle.mark_core.proofs.Chains.{chain_one, chain_links, chain_rest, chain_more, recent_link}
 use Rattle.mark_core.proofs.Ownership.{held_apart}
@@ -118,12 +118,9 @@ tag_after m p q i = put_one (λ r h. (h ≡ m.head r) ⊎ (h.tag ≡ (m.head r).
 
 effect_rises : (m : Marking) (w : ℕ) (a : Account) (kind : Kind) (q : Which) → ((effect m w a kind).head q ≡ m.head q)
     ⊎ (((effect m w a kind).head q).tag ≡ (m.head q).tag + 1)
-effect_rises m w a (Pop p) q = go (m.head p).index (look_of a p).link
-  where
-    go : (x : Option ℕ) (k : Option (Option ℕ)) → ((stack_popped m w a p x k).head q ≡ m.head q)
-        ⊎ (((stack_popped m w a p x k).head q).tag ≡ (m.head q).tag + 1)
-    go (Some i) (Some l) = tag_after m p q l
-    go _ _ = inl refl
+effect_rises m w a (Pop p) q =
+    tried (λ (n : Marking). (n.head q ≡ m.head q) ⊎ ((n.head q).tag ≡ (m.head q).tag + 1)) m w a p (inl refl)
+    (λ i l. tag_after m p q l)
 effect_rises m w a (Push p i items) q = tag_after m p q (Some i)
 effect_rises m w a _ q = inl refl
 
@@ -148,11 +145,8 @@ effect_marks e m law w a there (Claim p) can o = put_rises m.mark p (max (m.mark
 effect_marks e m law w a there (Finish p) can o =
     let was = charged e m.mark m.slots m.accounts law.coloured w a there.0 p (stands_times a.charge p can.0) in
     put_rises m.mark p 2 (omega (arith, was.0)) o
-effect_marks e m law w a there (Pop p) can o = go (m.head p).index (look_of a p).link
-  where
-    go : (x : Option ℕ) (k : Option (Option ℕ)) → m.mark o ≤ (stack_popped m w a p x k).mark o
-    go (Some i) (Some l) = omega arith
-    go _ _ = omega arith
+effect_marks e m law w a there (Pop p) can o =
+    tried (λ (n : Marking). m.mark o ≤ n.mark o) m w a p (omega arith) (λ i l. omega arith)
 effect_marks e m law w a there _ can o = omega arith
 
 pub marks_rise : MarksRise

@@ -47,8 +47,12 @@ one_more : (o a : ℕ) → only o a + one_where (nat_lt o a) ≡ one_where (nat_
 one_more o a = ⊎_elim
     (λ same. omega (arith, only-same o a (sym same), past a (omega (arith, same)), below (omega (arith, same))))
     (⊎_elim
-    (λ low. omega (arith, only-other o a (λ e. omega (arith, e, low)), ap one_where (lt-ltb o a low), below (omega (arith, low))))
-    (λ high. omega (arith, only-other o a (λ e. omega (arith, e, high)), past a (omega (arith, high)), past (a + 1) (omega (arith, high)))))
+    (λ low.
+    let here = ap one_where (lt-ltb o a low) in
+    omega (arith, only-other o a (λ e. omega (arith, e, low)), here, below (omega (arith, low))))
+    (λ high.
+    let next = past (a + 1) (omega (arith, high)) in
+    omega (arith, only-other o a (λ e. omega (arith, e, high)), past a (omega (arith, high)), next)))
     (cases_order o a)
   where
     below : o < a + 1 → one_where (nat_lt o (a + 1)) ≡ 1

@@ -1,6 +1,6 @@
 -- What accounts have apart, and what one account with the whole share may conclude.
-use Rattle.std.proofs.Common.{◌≡◌, ◌≢◌, ◌⊎◌, ℕ, ◌+◌, ◌*◌, ◌<◌, ◌≤◌, true, false, true≢false, nat_lt, List, [], Option}
-use Rattle.std.proofs.Common.{Some, None, Contains, ap, sym, subst, ◌∙◌, inl, inr, arith}
+use Rattle.std.proofs.Common.{◌≡◌, ◌≢◌, ℕ, ◌+◌, ◌*◌, ◌<◌, ◌≤◌, true, false, true≢false, nat_lt, List, [], Option}
+use Rattle.std.proofs.Common.{Some, None, Contains, ap, sym, subst, ◌∙◌, ⊎_elim, arith}
 use native.Mathlib.Decide.{dec_le, ℕ_discrete}
 use Rattle.mark_core.specs.declared.which.Which.TheVariants.{Full, Empty}
 use Rattle.mark_core.specs.Lists.{StandsAt, times, one_where}
@@ -10,8 +10,7 @@ use Rattle.mark_core.specs.Ownership.{HasOpenPush, held_times}
 use Rattle.mark_core.specs.Colours.{stacked_times, charged_times, finished_times}
 use Rattle.mark_core.specs.Shares.{HasNothing, whole}
 use Rattle.mark_core.specs.Law.{Law}
-use Rattle.mark_core.specs.Runs.{IsListOf, HasEachOnce, AccountsHaveEachOnce, AreApart, AccountsAreApart, LiesIn}
-use Rattle.mark_core.specs.Runs.{IsClosed, ClosedIsDetermined}
+use Rattle.mark_core.specs.Runs.{IsListOf, HasEachOnce, AreApart, LiesIn, IsClosed}
 use Rattle.mark_core.proofs.Places.{at_below, at_one}
 use Rattle.mark_core.proofs.Sums.{term_le, terms_le, sum_of-alone, some_term, stands_times, times_stands}
 use Rattle.mark_core.proofs.Chains.{chain_one}
@@ -20,42 +19,44 @@ use Rattle.mark_core.proofs.Colours.{linear}
 
 module _ (e : Setup) (m : Marking) (law : Law e m) where
   pub has_each_once : (w : ℕ) (a : Account) → StandsAt m.accounts w a → HasEachOnce a
-  has_each_once w a is = record { held = held; objects = objects }
-    where
-      held : (i : ℕ) → times i a.held ≤ 1
-      held i = omega (
-        arith,
-        place_one e.buffers m.head m.link m.accounts law.stack law.owned i,
-        term_le (λ (x : Account). times i x.held) m.accounts w a is,
-      )
-
-      objects : (o : ℕ) → times o a.charge + times o a.finished ≤ 1
-      objects o =
-          omega (
-            arith,
-            linear e m.mark m.slots m.accounts law.coloured o,
-            term_le (λ (x : Account). times o x.charge) m.accounts w a is,
-            term_le (λ (x : Account). times o x.finished) m.accounts w a is,
-          )
+  has_each_once w a is =
+      record {
+        held =
+            λ i.
+            omega (
+              arith,
+              place_one e.buffers m.head m.link m.accounts law.stack law.owned i,
+              term_le (λ (x : Account). times i x.held) m.accounts w a is,
+            );
+        objects =
+            λ o.
+            omega (
+              arith,
+              linear e m.mark m.slots m.accounts law.coloured o,
+              term_le (λ (x : Account). times o x.charge) m.accounts w a is,
+              term_le (λ (x : Account). times o x.finished) m.accounts w a is,
+            );
+      }
 
   pub are_apart : (w v : ℕ) (a b : Account) → v ≢ w → StandsAt m.accounts w a → StandsAt m.accounts v b → AreApart a b
-  are_apart w v a b n is at = record { held = held; objects = objects }
-    where
-      held : (i : ℕ) → times i a.held + times i b.held ≤ 1
-      held i = omega (
-        arith,
-        place_one e.buffers m.head m.link m.accounts law.stack law.owned i,
-        terms_le (λ (x : Account). times i x.held) m.accounts w v a b n is at,
-      )
-
-      objects : (o : ℕ) → (times o a.charge + times o a.finished) + (times o b.charge + times o b.finished) ≤ 1
-      objects o =
-          omega (
-            arith,
-            linear e m.mark m.slots m.accounts law.coloured o,
-            terms_le (λ (x : Account). times o x.charge) m.accounts w v a b n is at,
-            terms_le (λ (x : Account). times o x.finished) m.accounts w v a b n is at,
-          )
+  are_apart w v a b n is at =
+      record {
+        held =
+            λ i.
+            omega (
+              arith,
+              place_one e.buffers m.head m.link m.accounts law.stack law.owned i,
+              terms_le (λ (x : Account). times i x.held) m.accounts w v a b n is at,
+            );
+        objects =
+            λ o.
+            omega (
+              arith,
+              linear e m.mark m.slots m.accounts law.coloured o,
+              terms_le (λ (x : Account). times o x.charge) m.accounts w v a b n is at,
+              terms_le (λ (x : Account). times o x.finished) m.accounts w v a b n is at,
+            );
+      }
 
   module _ (w : ℕ) (a : Account) (is : StandsAt m.accounts w a) (all : a.share ≡ whole) where
     pub others_nothing : (v : ℕ) (b : Account) → v ≢ w → StandsAt m.accounts v b → HasNothing b
@@ -116,8 +117,7 @@ module _ (e : Setup) (m : Marking) (law : Law e m) where
             go (yes p) d = p
             go (no n) (yes p) =
                 let same : Some items ≡ Some [] = at_one m.slots b (Some items) (Some []) at (law.shelved.bare b p) in
-                let none : items ≡ [] = cc in
-                let t : times o items ≡ 0 = ap (times o) none in
+                let t : times o items ≡ 0 = cc in
                 absurd (omega arith)
             go (no n) (no k) =
                 let low : b < e.buffers = omega (arith, at_below m.slots b (Some items) at, law.shelved.places) in
@@ -155,11 +155,7 @@ module _ (e : Setup) (m : Marking) (law : Law e m) where
 
         emptied : a.open_push ≡ false → (full : List ℕ) → IsListOf m Full full → full ≡ []
         emptied closed full c = chain_one m.link (m.head Full).index full (law.stack Full) c (law.owned.chain Full)
-            ∙ go law.owned.owed
-          where
-            go : (law.stack Full ≡ []) ⊎ HasOpenPush m.accounts → law.stack Full ≡ []
-            go (inl p) = p
-            go (inr p) = absurd (true≢false (sym (alone_open p) ∙ closed))
+            ∙ ⊎_elim (λ p. p) (λ p. absurd (true≢false (sym (alone_open p) ∙ closed))) law.owned.owed
 
         buffers : (full empty : List ℕ) → IsListOf m Full full → IsListOf m Empty empty → (b : ℕ)
             → times b full + times b empty + times b a.held ≡ one_where (nat_lt b e.buffers)
@@ -167,12 +163,3 @@ module _ (e : Setup) (m : Marking) (law : Law e m) where
             let f = chain_one m.link (m.head Full).index full (law.stack Full) c (law.owned.chain Full) in
             let g = chain_one m.link (m.head Empty).index empty (law.stack Empty) d (law.owned.chain Empty) in
             omega (arith, ap (times b) f, ap (times b) g, law.owned.once b, alone_held b)
-
-pub each_once : AccountsHaveEachOnce
-each_once = has_each_once
-
-pub apart : AccountsAreApart
-apart = are_apart
-
-pub closed_is_determined : ClosedIsDetermined
-closed_is_determined = closes

@@ -200,5 +200,5 @@ module _ {e : Setup} {mark : ℕ → ℕ} {slots : List (Option (List ℕ))} {ac
         mine o k = ⊎_elim (c.saw w a is o) (c.saw v b at o) (stands_append a.seen b.seen o k)
 
         saw : OfEach (HasSeen mark) (set (set accounts w both) v no_share)
-        saw = set_all (HasSeen mark) (set accounts w both) v no_share (set_all (HasSeen mark) accounts w both c.saw mine)
-            (λ o k. absurd (omega (arith, k.1)))
+        saw = set_all (HasSeen mark) (set accounts w both) v no_share
+            (set_all (HasSeen mark) accounts w both c.saw mine) (λ o k. absurd (omega (arith, k.1)))

@@ -11,11 +11,11 @@ use Rattle.mark_core.specs.Account.{Account, look_of, part, no_share, after_spli
 use Rattle.mark_core.specs.Account.{after_join, after_load}
 use Rattle.mark_core.specs.World.{Setup, Marking, account_at, put_which}
 use Rattle.mark_core.specs.Events.{Kind, Split, Join, Load, LoadLink, StoreLink, Pop, Push, Fail}
-use Rattle.mark_core.specs.Events.{Event, Allows, IsPossible, effect, happens, stack_popped}
+use Rattle.mark_core.specs.Events.{Event, Allows, IsPossible, effect, happens}
 use Rattle.mark_core.specs.Runs.{Run}
 use Rattle.mark_core.specs.Conclusions.{Exchanges, LossesAreContested}
 use Rattle.mark_core.proofs.Places.{at_longer, at_one, set_else, set_here}
-use Rattle.mark_core.proofs.Happens.{happens_as}
+use Rattle.mark_core.proofs.Happens.{happens_as, tried}
 
 -- the account has loaded the head that the stack has, or it was taken in
 abbrev Knows : Which → ℕ → Marking → Type 0
@@ -27,16 +27,11 @@ head_beside Full Full x f other = absurd (other refl)
 head_beside Empty Empty x f other = absurd (other refl)
 head_beside _ _ x f other = refl
 
-popped_head :
-    (m : Marking) (w : ℕ) (a : Account) (p q : Which) (x : Option ℕ) (y : Option (Option ℕ)) → (p ≡ q → ⊥)
-    → (stack_popped m w a p x y).head q ≡ m.head q
-popped_head m w a p q (Some i) (Some l) other = head_beside p q (after (m.head p) l) m.head other
-popped_head m w a p q _ _ other = refl
-
 head_kept :
     (m : Marking) (w : ℕ) (a : Account) (kind : Kind) (q : Which) → (Exchanges q kind → ⊥)
     → (effect m w a kind).head q ≡ m.head q
-head_kept m w a (Pop p) q other = popped_head m w a p q (m.head p).index (look_of a p).link other
+head_kept m w a (Pop p) q other =
+    tried (λ (n : Marking). n.head q ≡ m.head q) m w a p refl (λ i l. head_beside p q (after (m.head p) l) m.head other)
 head_kept m w a (Push p i items) q other = head_beside p q (after (m.head p) (Some i)) m.head other
 head_kept m w a _ q other = refl
 
@@ -69,10 +64,6 @@ module _ (m : Marking) (w : ℕ) (a : Account) (at : StandsAt m.accounts w a) (q
       → (b' : Account) × StandsAt (set m.accounts w b) w b' × ((look_of b' q).head ≡ (look_of a q).head)
   still_both b full empty = still_set b (same_look q a b full empty)
 
-  popped_still : (p : Which) (x : Option ℕ) (y : Option (Option ℕ)) → Still (stack_popped m w a p x y)
-  popped_still p (Some i) (Some l) = still_both _ refl refl
-  popped_still p _ _ = (a, at, refl)
-
   own_still : (e : Setup) (kind : Kind) → Allows e m w a kind → (kind ≡ Load q → ⊥) → Still (effect m w a kind)
   own_still e (Split units) can other =
       let here = still_both (after_split units a) refl refl in
@@ -85,7 +76,7 @@ module _ (m : Marking) (w : ℕ) (a : Account) (at : StandsAt m.accounts w a) (q
       still_set (after_load p (m.head p) a) (look_load p q (m.head p) a (λ same. other (ap Load same)))
   own_still e (LoadLink Full) can other = still_both _ refl refl
   own_still e (StoreLink i l) can other = (a, at, refl)
-  own_still e (Pop p) can other = popped_still p (m.head p).index (look_of a p).link
+  own_still e (Pop p) can other = tried Still m w a p (a, at, refl) (λ i l. still_both _ refl refl)
   own_still e (Fail p) can other = (a, at, refl)
   own_still e _ can other = still_both _ refl refl
 
@@ -95,12 +86,6 @@ module _ (m : Marking) (w : ℕ) (a : Account) (at : StandsAt m.accounts w a) (q
 
   beside : (u : ℕ) (b : Account) → w ≢ u → StandsAt (set m.accounts u b) w a
   beside u b apart = set_else m.accounts u w b apart ∙ at
-
-  popped_left :
-      (u : ℕ) (b : Account) → w ≢ u → (p : Which) (x : Option ℕ) (y : Option (Option ℕ))
-      → Left (stack_popped m u b p x y)
-  popped_left u b apart p (Some i) (Some l) = inl (beside u _ apart)
-  popped_left u b apart p _ _ = inl at
 
   join_left :
       (u v : ℕ) (b : Account) → w ≢ u → Dec (w ≡ v)
@@ -115,7 +100,7 @@ module _ (m : Marking) (w : ℕ) (a : Account) (at : StandsAt m.accounts w a) (q
       inl (at_longer (set m.accounts u (after_split units b)) (part units ∷ []) w a (beside u _ apart))
   others_left u b (Join v) apart = join_left u v (after_join b (account_at m.accounts v)) apart (ℕ_discrete w v)
   others_left u b (StoreLink i l) apart = inl at
-  others_left u b (Pop p) apart = popped_left u b apart p (m.head p).index (look_of b p).link
+  others_left u b (Pop p) apart = tried Left m u b p (inl at) (λ i l. inl (beside u _ apart))
   others_left u b (Fail p) apart = inl at
   others_left u b _ apart = inl (beside u _ apart)
 
@@ -129,6 +114,11 @@ dec_exchanges q (Pop p) = dec_which p q
 dec_exchanges q (Push p i items) = dec_which p q
 dec_exchanges q _ = no (λ h. h)
 
+-- another worker exchanged the head among these events
+abbrev IsContested : Which → ℕ → List Event → Type 0
+IsContested q w between =
+    (k : ℕ) × (event : Event) × StandsAt between k event × (event.worker ≢ w) × Exchanges q event.kind
+
 module _ (e : Setup) (q : Which) where
   -- after an event that exchanges another head or none, and is no load by this worker
   own_knows :
@@ -141,13 +131,8 @@ module _ (e : Setup) (q : Which) where
       ⊎_elim (λ gone. absurd (omega (arith, can.1.1, gone, ap (λ (x : Account). x.share) one)))
       (λ had. ap (λ (x : Account). (look_of x q).head) (sym one) ∙ had) knows.2 in
       let still = own_still m w can.0 can.1.0 q e event.kind can.2 loads in
-      let after_it : Knows q w (effect m w can.0 event.kind) = (
-        still.0,
-        still.1,
-        inr (still.2 ∙ look ∙ ap {B = Option Head} Some
-            (sym (head_kept m w can.0 event.kind q leaves))),
-      ) in
-      subst (Knows q w) (sym (happens_as e m event can)) after_it
+      let kept = ap {B = Option Head} Some (sym (head_kept m w can.0 event.kind q leaves)) in
+      subst (Knows q w) (sym (happens_as e m event can)) (still.0, still.1, inr (still.2 ∙ look ∙ kept))
 
   others_know :
       (w : ℕ) (m : Marking) (event : Event) → w ≢ event.worker → (Exchanges q event.kind → ⊥) → Knows q w m
@@ -156,12 +141,7 @@ module _ (e : Setup) (q : Which) where
       let b = account_at m.accounts event.worker in
       let same = head_kept m event.worker b event.kind q leaves in
       ⊎_elim
-      (λ stood. (
-        knows.0,
-        stood,
-        ⊎_elim (λ gone. inl gone) (λ had. inr (had ∙ ap {B = Option Head} Some (sym same)))
-            knows.2,
-      ))
+      (λ stood. (knows.0, stood, ⊎_elim inl (λ had. inr (had ∙ ap {B = Option Head} Some (sym same))) knows.2))
       (λ gone. (no_share, gone, inl refl))
       (others_left m w knows.0 knows.1 q event.worker b event.kind apart)
 
@@ -169,8 +149,7 @@ module _ (e : Setup) (q : Which) where
       (w : ℕ) (between : List Event) (first last : Marking) → Knows q w first
       → Run e first (between ++ record { worker = w; kind = Fail q } ∷ []) last
       → ((k : ℕ) (event : Event) → StandsAt between k event → event.worker ≡ w
-      → (event.kind ≡ Load q → ⊥) × (Exchanges q event.kind → ⊥))
-      → (k : ℕ) × (event : Event) × StandsAt between k event × (event.worker ≢ w) × Exchanges q event.kind
+      → (event.kind ≡ Load q → ⊥) × (Exchanges q event.kind → ⊥)) → IsContested q w between
   contested w [] first last knows run own =
       let can = run.0 in
       let one : knows.0 ≡ can.0 = at_one first.accounts w knows.0 can.0 knows.1 can.1.0 in
@@ -183,21 +162,18 @@ module _ (e : Setup) (q : Which) where
       go (ℕ_discrete event.worker w) (dec_exchanges q event.kind)
       (λ on. contested w rest (happens first event) last on run.1 (λ k ev at. own (suc k) ev at))
     where
-      go :
-          Dec (event.worker ≡ w) → Dec (Exchanges q event.kind)
-          → (Knows q w (happens first event)
-          → (k : ℕ) × (ev : Event) × StandsAt rest k ev × (ev.worker ≢ w) × Exchanges q ev.kind)
-          → (k : ℕ) × (ev : Event) × StandsAt (event ∷ rest) k ev × (ev.worker ≢ w) × Exchanges q ev.kind
+      later_too : IsContested q w rest → IsContested q w (event ∷ rest)
+      later_too found = (suc found.0, found.1, found.2, found.3, found.4)
+
+      go : Dec (event.worker ≡ w) → Dec (Exchanges q event.kind) → (Knows q w (happens first event) → IsContested q w rest)
+          → IsContested q w (event ∷ rest)
       go (yes mine) d later =
           let no = own 0 event refl mine in
-          let found =
-          later (subst (λ x. Knows q x (happens first event)) mine
-          (own_knows first event run.0 no.1 no.0 (subst (λ x. Knows q x first) (sym mine) knows))) in
-          (suc found.0, found.1, found.2, found.3, found.4)
+          later_too (later (subst (λ x. Knows q x (happens first event)) mine
+          (own_knows first event run.0 no.1 no.0 (subst (λ x. Knows q x first) (sym mine) knows))))
       go (no theirs) (yes exchanged) later = (0, event, refl, theirs, exchanged)
       go (no theirs) (no leaves) later =
-          let found = later (others_know w first event (λ same. theirs (sym same)) leaves knows) in
-          (suc found.0, found.1, found.2, found.3, found.4)
+          later_too (later (others_know w first event (λ same. theirs (sym same)) leaves knows))
 
 look_loaded : (q : Which) (h : Head) (a : Account) → (look_of (after_load q h a) q).head ≡ Some h
 look_loaded Full h a = refl

@@ -88,10 +88,10 @@ module _ (e : Setup) (m : Marking) (law : Law e m) (w : ℕ) (a : Account) (is :
   load_link_keeps :
       (q : Which) (h : Head) (i : ℕ) → (look_of a q).head ≡ Some h → h.index ≡ Some i
       → Law e (record m { accounts = set m.accounts w (after_load_link q (m.link i) a) })
-  load_link_keeps Full h i last top = looks_keep _ m.idle (link_recent Full h i last top) (law.owned.recent Empty w a is)
-      refl refl refl refl refl inr
-  load_link_keeps Empty h i last top = looks_keep _ m.idle (law.owned.recent Full w a is) (link_recent Empty h i last top)
-      refl refl refl refl refl inr
+  load_link_keeps Full h i last top =
+      looks_keep _ m.idle (link_recent Full h i last top) (law.owned.recent Empty w a is) refl refl refl refl refl inr
+  load_link_keeps Empty h i last top =
+      looks_keep _ m.idle (law.owned.recent Full w a is) (link_recent Empty h i last top) refl refl refl refl refl inr
 
   -- no stacked buffer is held, so a store at a held one changes no stack
   store_keeps : (i : ℕ) (l : Option ℕ) → 0 < times i a.held → Law e (effect m w a (StoreLink i l))

@@ -12,14 +12,14 @@ use Rattle.mark_core.specs.Lists.{StandsAt}
 use Rattle.mark_core.specs.Account.{Account, look_of, part, no_share}
 use Rattle.mark_core.specs.World.{Setup, Marking, account_at}
 use Rattle.mark_core.specs.Events.{Kind, Split, Join, Load, LoadLink, StoreLink, Pop, Push, Fail}
-use Rattle.mark_core.specs.Events.{LoadIdle, Event, Allows, IsPossible, effect, happens, stack_popped}
+use Rattle.mark_core.specs.Events.{LoadIdle, Event, Allows, IsPossible, effect, happens}
 use Rattle.mark_core.specs.Shares.{whole}
 use Rattle.mark_core.specs.Runs.{Run, first_heads, opening}
 use Rattle.mark_core.specs.Counts.{Counts, LeadTo, add_counts, all_counted, count_load}
 use Rattle.mark_core.specs.Counts.{counted, counts_at, no_counts}
 use Rattle.mark_core.specs.Conclusions.{FirstTagsAreFirst, HadHead, HasChanged, LoadedHeadsWere, PushesFollowChanges}
 use Rattle.mark_core.proofs.Places.{OfEach, set_all, push_all, one_all}
-use Rattle.mark_core.proofs.Happens.{happens_as}
+use Rattle.mark_core.proofs.Happens.{happens_as, tried}
 use Rattle.mark_core.proofs.Changes.{tags_rise}
 
 -- what holds of each element of a list and of the default
@@ -47,11 +47,6 @@ module _ (S : Which → Head → Type 0) where
   knows_nothing : (units : ℕ) → Knows (part units)
   knows_nothing units = (nothing_loaded Full, nothing_loaded Empty)
 
-  popped_knows : (m : Marking) (w : ℕ) (a : Account) (q : Which) (x : Option ℕ) (y : Option (Option ℕ))
-      → OfEach Knows m.accounts → Knows a → OfEach Knows (stack_popped m w a q x y).accounts
-  popped_knows m w a q (Some i) (Some l) all own = set_all Knows m.accounts w _ all own
-  popped_knows m w a q _ _ all own = all
-
   -- after an event: what they knew before, and the heads as they were
   effect_knows : (m : Marking) (w : ℕ) (a : Account) (kind : Kind) → OfEach Knows m.accounts → Knows a
       → ((q : Which) → S q (m.head q)) → OfEach Knows (effect m w a kind).accounts
@@ -65,7 +60,8 @@ module _ (S : Which → Head → Type 0) where
       set_all Knows m.accounts w _ all (own.0, (λ h e. loaded_one Empty (m.head Empty) h (heads Empty) e))
   effect_knows m w a (LoadLink Full) all own heads = set_all Knows m.accounts w _ all own
   effect_knows m w a (StoreLink i l) all own heads = all
-  effect_knows m w a (Pop q) all own heads = popped_knows m w a q (m.head q).index (look_of a q).link all own
+  effect_knows m w a (Pop q) all own heads =
+      tried (λ (n : Marking). OfEach Knows n.accounts) m w a q all (λ i l. set_all Knows m.accounts w _ all own)
   effect_knows m w a (Fail q) all own heads = all
   effect_knows m w a _ all own heads = set_all Knows m.accounts w _ all own
 
@@ -135,11 +131,6 @@ module _ (C : Type 0) where
   and_left true b h = refl
   and_left false b h = h
 
-  popped_pushed : (m : Marking) (w : ℕ) (a : Account) (q : Which) (x : Option ℕ) (y : Option (Option ℕ))
-      → OfEach Pushed m.accounts → Pushed a → OfEach Pushed (stack_popped m w a q x y).accounts
-  popped_pushed m w a q (Some i) (Some l) all own = set_all Pushed m.accounts w _ all own
-  popped_pushed m w a q _ _ all own = all
-
   effect_pushed :
       (m : Marking) (w : ℕ) (a : Account) (kind : Kind) → OfEach Pushed m.accounts → Pushed a
       → ((v : ℕ) → Pushed (account_at m.accounts v)) → ((i : ℕ) (items : List ℕ) → kind ≡ Push Full i items → C)
@@ -154,7 +145,8 @@ module _ (C : Type 0) where
       set_all Pushed m.accounts w _ all (λ h. own (and_left a.open_push (is_some (m.head Full).index) h))
   effect_pushed m w a (LoadLink Full) all own others push = set_all Pushed m.accounts w _ all own
   effect_pushed m w a (StoreLink i l) all own others push = all
-  effect_pushed m w a (Pop q) all own others push = popped_pushed m w a q (m.head q).index (look_of a q).link all own
+  effect_pushed m w a (Pop q) all own others push =
+      tried (λ (n : Marking). OfEach Pushed n.accounts) m w a q all (λ i l. set_all Pushed m.accounts w _ all own)
   effect_pushed m w a (Push Full i items) all own others push =
       set_all Pushed m.accounts w _ all (λ h. push i items refl)
   effect_pushed m w a (Fail q) all own others push = all
@@ -174,9 +166,9 @@ SomeChanged e m = HasChanged e m Full ⊎ HasChanged e m Empty
 -- what holds of each marking of a run, with the counts there
 pub record Firsts (e : Setup) (m : Marking) (counts : List Counts) : Type 0 where
   pub heads : (q : Which) → IsFirstOr e q (m.head q)
-  pub looks : (k : ℕ) (a : Account) → StandsAt m.accounts k a → Knows (WasSeen e m) a
-  pub failures : (k : ℕ) (c : Counts) → StandsAt counts k c → Failed (SomeChanged e m) c
-  pub pushes : (k : ℕ) (a : Account) → StandsAt m.accounts k a → Pushed (HasChanged e m Full) a
+  pub looks : OfEach (Knows (WasSeen e m)) m.accounts
+  pub failures : OfEach (Failed (SomeChanged e m)) counts
+  pub pushes : OfEach (Pushed (HasChanged e m Full)) m.accounts
 
 one_changed : (e : Setup) (m : Marking) (q : Which) → HasChanged e m q → SomeChanged e m
 one_changed e m Full h = inl h
@@ -184,42 +176,42 @@ one_changed e m Empty h = inr h
 
 module _ (e : Setup) (m : Marking) (counts : List Counts) (event : Event) (can : IsPossible e m event)
     (was : Firsts e m counts) where
-  now : Marking
+  abbrev now : Marking
   now = happens m event
 
-  rises : (q : Which) → (m.head q).tag ≤ ((happens m event).head q).tag
+  rises : (q : Which) → (m.head q).tag ≤ (now.head q).tag
   rises q = ⊎_elim (λ same. omega (arith, ap (λ (h : Head). h.tag) same)) (λ up. omega (arith, up))
       (tags_rise m event q)
 
-  heads_now : (q : Which) → IsFirstOr e q ((happens m event).head q)
+  heads_now : (q : Which) → IsFirstOr e q (now.head q)
   heads_now q = ⊎_elim (λ same. subst (IsFirstOr e q) (sym same) (was.heads q))
       (λ up. (omega (arith, up, (was.heads q).0), (λ first. absurd (omega (arith, first, up, (was.heads q).0)))))
       (tags_rise m event q)
 
-  still : (q : Which) → HasChanged e m q → HasChanged e (happens m event) q
+  still : (q : Which) → HasChanged e m q → HasChanged e now q
   still q h = omega (arith, h, rises q)
 
-  seen_still : (q : Which) (h : Head) → WasSeen e m q h → WasSeen e (happens m event) q h
+  seen_still : (q : Which) (h : Head) → WasSeen e m q h → WasSeen e now q h
   seen_still q h seen = (seen.0, omega (arith, seen.1, rises q))
 
-  looks_now : (k : ℕ) (a : Account) → StandsAt (happens m event).accounts k a → Knows (WasSeen e (happens m event)) a
+  looks_now : OfEach (Knows (WasSeen e now)) now.accounts
   looks_now =
-      happens_knows (WasSeen e (happens m event)) e m event can
+      happens_knows (WasSeen e now) e m event can
       (λ k a at. let old = was.looks k a at in
       ((λ h l. seen_still Full h (old.0 h l)), (λ h l. seen_still Empty h (old.1 h l))))
       (λ q. (was.heads q, rises q))
 
-  some_still : SomeChanged e m → SomeChanged e (happens m event)
+  some_still : SomeChanged e m → SomeChanged e now
   some_still some = ⊎_elim (λ h. inl (still Full h)) (λ h. inr (still Empty h)) some
 
   -- a failed exchange found another head than the one loaded, so not both are the first
-  failed_now : (q : Which) → event.kind ≡ Fail q → SomeChanged e (happens m event)
+  failed_now : (q : Which) → event.kind ≡ Fail q → SomeChanged e now
   failed_now q is = go (dec_le (m.head q).tag e.first_tag)
     where
       may : Allows e m event.worker can.0 (Fail q)
       may = subst (Allows e m event.worker can.0) is can.2
 
-      go : Dec ((m.head q).tag ≤ e.first_tag) → SomeChanged e (happens m event)
+      go : Dec ((m.head q).tag ≤ e.first_tag) → SomeChanged e now
       go (no above) = some_still (one_changed e m q (omega (arith, above)))
       go (yes low) =
           let seen = knows_look (WasSeen e m) can.0 q may.0 (was.looks event.worker can.0 can.1.0) may.1 in
@@ -228,28 +220,26 @@ module _ (e : Setup) (m : Marking) (counts : List Counts) (event : Event) (can :
           let there : may.0 ≡ first_heads e.first_tag q = seen.0.1 (omega (arith, low, seen.0.0, seen.1)) in
           absurd (may.2 (here ∙ sym there))
 
-  failures_now : (k : ℕ) (c : Counts) → StandsAt (counted m counts event.worker event.kind) k c
-      → Failed (SomeChanged e (happens m event)) c
-  failures_now = counted_fails (SomeChanged e (happens m event)) m counts event.worker event.kind
+  failures_now : OfEach (Failed (SomeChanged e now)) (counted m counts event.worker event.kind)
+  failures_now = counted_fails (SomeChanged e now) m counts event.worker event.kind
       (λ k c at h. some_still (was.failures k c at h)) failed_now
 
-  pushes_now : (k : ℕ) (a : Account) → StandsAt (happens m event).accounts k a
-      → Pushed (HasChanged e (happens m event) Full) a
+  pushes_now : OfEach (Pushed (HasChanged e now Full)) now.accounts
   pushes_now =
-      effect_pushed (HasChanged e (happens m event) Full) m event.worker
+      effect_pushed (HasChanged e now Full) m event.worker
       (account_at m.accounts event.worker) event.kind old (others event.worker) others
       (λ i items is. subst
       (λ k. e.first_tag < ((effect m event.worker (account_at m.accounts event.worker) k).head Full).tag)
       (sym is) (omega (arith, (was.heads Full).0)))
     where
-      old : (k : ℕ) (a : Account) → StandsAt m.accounts k a → Pushed (HasChanged e (happens m event) Full) a
+      old : OfEach (Pushed (HasChanged e now Full)) m.accounts
       old k a at h = still Full (was.pushes k a at h)
 
-      others : (v : ℕ) → Pushed (HasChanged e (happens m event) Full) (account_at m.accounts v)
-      others v = or_default (Pushed (HasChanged e (happens m event) Full)) m.accounts v no_share old
+      others : (v : ℕ) → Pushed (HasChanged e now Full) (account_at m.accounts v)
+      others v = or_default (Pushed (HasChanged e now Full)) m.accounts v no_share old
           (λ h. absurd (false≢true h))
 
-  firsts_next : Firsts e (happens m event) (counted m counts event.worker event.kind)
+  firsts_next : Firsts e now (counted m counts event.worker event.kind)
   firsts_next = record { heads = heads_now; looks = looks_now; failures = failures_now; pushes = pushes_now }
 
 firsts_run : (e : Setup) (events : List Event) (first last : Marking) (counts : List Counts) → Firsts e first counts

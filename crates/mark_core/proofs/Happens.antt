@@ -1,5 +1,5 @@
 -- What an event does, said of the account that takes part in it, and what holds along a run.
-use Rattle.std.proofs.Common.{◌≡◌, ℕ, List, [], ◌∷◌, Some, ap, sym, subst, ◌∙◌}
+use Rattle.std.proofs.Common.{◌≡◌, ℕ, List, [], ◌∷◌, Option, Some, ap, sym, subst, ◌∙◌}
 use Rattle.mark_core.specs.declared.which.Which.{Which}
 use Rattle.mark_core.specs.Account.{Account, look_of, no_share}
 use Rattle.mark_core.specs.World.{Setup, Marking}
@@ -29,3 +29,13 @@ pub along :
 along e P keep [] first last here run = subst P (sym run) here
 along e P keep (event ∷ events) first last here run =
     along e P keep events (happens first event) last (keep first event here run.0) run.1
+
+-- what holds of a marking, and of it after a pop, holds after a pop is tried
+pub tried :
+    (P : Marking → Type 0) (m : Marking) (w : ℕ) (a : Account) (q : Which)
+    → P m → ((i : ℕ) (l : Option ℕ) → P (stack_popped m w a q (Some i) (Some l))) → P (effect m w a (Pop q))
+tried P m w a q was popped = go (m.head q).index (look_of a q).link
+  where
+    go : (x : Option ℕ) (y : Option (Option ℕ)) → P (stack_popped m w a q x y)
+    go (Some i) (Some l) = popped i l
+    go _ _ = was

@@ -143,7 +143,8 @@ module _ {buffers : ℕ} {head : Which → Head} {link : ℕ → Option ℕ} {ac
         → OfEach (λ x. IsRecent link (put_which q (after (head q) l) head p) (look_of x p)) (set accounts w b)
     recent_turned b f g q l =
         let now = recent_set b (keeps_looks b f g) in
-        put_one (λ p (h : Head). OfEach (λ x. IsRecent link h (look_of x p)) (set accounts w b)) q (after (head q) l) head
+        put_one (λ p (h : Head). OfEach (λ x. IsRecent link h (look_of x p)) (set accounts w b)) q (after (head q) l)
+        head
         (λ v x at. recent_after link (head q) (look_of x q) l (now q v x at)) now
 
     -- the account changes, and holds the same buffers

@@ -97,7 +97,8 @@ module _ {X : Type 0} (P : X → Type 0) where
 -- what holds of each element after one was written held before, if it did of that one
 pub set_back :
     {X : Type 0} (P : ℕ → X → Type 0) (xs : List X) (w : ℕ) (a b : X) → StandsAt xs w a
-    → ((k : ℕ) (x : X) → StandsAt (set xs w b) k x → P k x) → (P w b → P w a) → (k : ℕ) (x : X) → StandsAt xs k x → P k x
+    → ((k : ℕ) (x : X) → StandsAt (set xs w b) k x → P k x) → (P w b → P w a)
+    → (k : ℕ) (x : X) → StandsAt xs k x → P k x
 set_back P xs w a b is all own k x at = go (ℕ_discrete k w)
   where
     go : Dec (k ≡ w) → P k x

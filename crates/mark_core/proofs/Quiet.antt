@@ -126,7 +126,8 @@ module _ (e : Setup) (m : Marking) (s : Hushed m) (w : ℕ) (a : Account) (there
               (λ was e. sym pushed ∙ was e);
           another = more_than_one h.another;
           others =
-              set_back (λ k x. 0 < k → x.found ≡ true) m.accounts w a b there.0 h.others (λ was later. found (was later));
+              set_back (λ k x. 0 < k → x.found ≡ true) m.accounts w a b there.0 h.others
+              (λ was later. found (was later));
         })
 
     -- its idle number changes, or the full head does; what is noted of it stays

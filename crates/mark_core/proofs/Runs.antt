@@ -9,7 +9,8 @@ use Rattle.mark_core.proofs.Openings.{opening_keeps}
 -- each possible event keeps the law
 pub happens_keeps : EventsKeepLaw
 happens_keeps e m event law can =
-    subst (Law e) (sym (happens_as e m event can)) (effect_keeps e m law event.worker can.0 can.1.0 can.1.1 event.kind can.2)
+    subst (Law e) (sym (happens_as e m event can))
+    (effect_keeps e m law event.worker can.0 can.1.0 can.1.1 event.kind can.2)
 
 pub runs_keep_law : RunsKeepLaw
 runs_keep_law e m run =

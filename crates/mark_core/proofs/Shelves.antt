@@ -20,7 +20,8 @@ shelved_set buffers slots stack new i was x s at others stacked bare away =
     record { places = length-set slots i x ∙ s.places; stacked = in_slots; bare = in_bare; away = in_away }
   where
     -- what stands at b then
-    stands : (b : ℕ) (y : Option (List ℕ)) → (b ≡ i → x ≡ y) → (b ≢ i → StandsAt slots b y) → StandsAt (set slots i x) b y
+    stands : (b : ℕ) (y : Option (List ℕ)) → (b ≡ i → x ≡ y) → (b ≢ i → StandsAt slots b y)
+        → StandsAt (set slots i x) b y
     stands b y mine others = go (ℕ_discrete b i)
       where
         go : Dec (b ≡ i) → StandsAt (set slots i x) b y

@@ -1,9 +1,9 @@
 -- From what one account does to a step of a world, and the law after it.
-use Rattle.std.proofs.Common.{◌≡◌, ℕ, ◌<◌, ◌≤◌, Bool, true, false, Result, Ok, Err, IfErr, IfOk, All, ap, sym, subst}
+use Rattle.std.proofs.Common.{ℕ, Bool, true, false, Result, Ok, Err, IfErr, IfOk, ap, sym, subst}
 use Rattle.std.proofs.Common.{◌∙◌}
 use Rattle.std.proofs.lemmas.List.{get_or_default}
 use Rattle.mark_core.specs.Account.{Account, no_share}
-use Rattle.mark_core.specs.World.{Setup, Marking, account_at, IsThere}
+use Rattle.mark_core.specs.World.{Marking, account_at, IsThere}
 use Rattle.mark_core.specs.Events.{Kind, Event, Allows}
 use Rattle.mark_core.specs.Law.{Law}
 use Rattle.mark_core.specs.StepCall.{Listing, IsLawful, HasAccount, HasNumber, CanStep, MayDo, Tries, Follows, Steps}
@@ -23,14 +23,17 @@ pub no_number : (l : Listing) (w : ℕ) (kind : Kind) → ¬ HasNumber kind l.ac
     → ¬ CanStep l (record { worker = w; kind = kind })
 no_number l w kind none can = none can.1
 
+-- the account that the lists have at this number is there
+there_at : (l : Listing) (w : ℕ) → HasAccount l w → IsThere l.accounts w (account_at l.accounts w)
+there_at l w there =
+    let a = account_at l.accounts w in
+    (stands_here l.accounts w a there.0 (get_or_default l.accounts w no_share a there.0), there.1)
+
 pub steps_of : (old new : Listing) (w : ℕ) (kind : Kind) (done : Bool) → HasAccount old w
     → HasNumber kind old.accounts → Tries old w kind done new → Steps old (record { worker = w; kind = kind }) done new
 steps_of old new w kind true there number does =
-    let a : Account = account_at old.accounts w in
-    let stands : IsThere old.accounts w a =
-    (stands_here old.accounts w a there.0 (get_or_default old.accounts w no_share a there.0), there.1) in
     record {
-      possible = ((a, stands, does.allowed), number);
+      possible = ((account_at old.accounts w, there_at old w there, does.allowed), number);
       marking = does.marking;
       setup = does.setup;
       links = does.links;
@@ -62,10 +65,7 @@ pub steps_refused :
     → IfErr answer (λ _. MayDo old w kind) → IfErr answer (λ _. CanStep old (record { worker = w; kind = kind }))
 steps_refused old w kind (Ok done) there number may = tt
 steps_refused old w kind (Err e) there number may =
-    let a : Account = account_at old.accounts w in
-    let stands : IsThere old.accounts w a =
-    (stands_here old.accounts w a there.0 (get_or_default old.accounts w no_share a there.0), there.1) in
-    ((a, stands, may), number)
+    ((account_at old.accounts w, there_at old w there, may), number)
 
 -- after a step the law holds
 pub lawful_after : (old new : Listing) (event : Event) → IsLawful old → Follows old event new → IsLawful new
@@ -73,18 +73,17 @@ lawful_after old new event lawful f =
     let law : Law old.setup (marking_of new) =
     subst (Law old.setup) (sym f.marking) (happens_keeps old.setup (marking_of old) event lawful.law f.possible.0)
     in
-    let same : old.setup ≡ new.setup = sym f.setup in
     let before : AreNumbered old.accounts = record { numbered = lawful.numbered; weights = lawful.weights } in
     let after = subst AreNumbered (sym (ap (λ (m : Marking). m.accounts) f.marking))
     (happens_numbered old.setup (marking_of old) event before f.possible.0 f.possible.1) in
     record {
-      law = subst (λ (e : Setup). Law e (marking_of new)) same law;
-      links = f.links ∙ lawful.links ∙ ap (λ (e : Setup). e.buffers) same;
-      slots = f.slots ∙ lawful.slots ∙ ap (λ (e : Setup). e.buffers) same;
-      marks = f.marks ∙ lawful.marks ∙ ap (λ (e : Setup). e.objects) same;
+      law = rw f.setup law;
+      links = rw f.setup (f.links ∙ lawful.links);
+      slots = rw f.setup (f.slots ∙ lawful.slots);
+      marks = rw f.setup (f.marks ∙ lawful.marks);
       numbered = after.numbered;
       weights = after.weights;
-      few = subst (λ (e : Setup). e.buffers ≤ 65534) same lawful.few;
-      rooted = subst (λ (e : Setup). All (λ o. o < e.objects) e.roots) same lawful.rooted;
-      paired = subst (λ (e : Setup). All (λ p. (p.0 < e.objects) × (p.1 < e.objects)) e.pairs) same lawful.paired;
+      few = rw f.setup lawful.few;
+      rooted = rw f.setup lawful.rooted;
+      paired = rw f.setup lawful.paired;
     }

@@ -1,8 +1,8 @@
 -- Sums over lists, and how often a number stands in a list.
 use Rattle.std.proofs.Common.{◌≡◌, ◌≢◌, ◌⊎◌, ℕ, zero, suc, ◌+◌, ◌<◌, ◌≤◌, List, [], ◌∷◌, ◌++◌, length, get_or, set}
-use Rattle.std.proofs.Common.{cond, Contains, ap, sym, refl, inl, inr, eq-eqb, ne_eqb, arith}
+use Rattle.std.proofs.Common.{cond, Contains, ap, sym, refl, inl, inr, ⊎_elim, eq-eqb, ne_eqb, arith}
 use mathlib.Core.Option.{some-injective, some-ne-none}
-use native.Mathlib.Decide.{dec_le, ℕ_discrete}
+use Rattle.std.proofs.lemmas.Bool.{cases_eq, cases_lt}
 use Rattle.mark_core.specs.Lists.{StandsAt, sum_of, one_where, only, times, remove_one, without, IsPart}
 
 module _ {X : Type 0} (f : X → ℕ) where
@@ -50,15 +50,10 @@ module _ {X : Type 0} (f : X → ℕ) where
   -- a sum that is not 0 has a term that is not
   pub some_term : (xs : List X) → 0 < sum_of f xs → (i : ℕ) × (a : X) × StandsAt xs i a × (0 < f a)
   some_term [] h = absurd (omega arith)
-  some_term (x ∷ xs) h = go (dec_le 1 (f x)) (some_term xs)
-    where
-      later : (i : ℕ) × (a : X) × StandsAt xs i a × (0 < f a) → (i : ℕ) × (a : X) × StandsAt (x ∷ xs) i a × (0 < f a)
-      later t = (suc t.0, t.1, t.2, t.3)
-
-      go : Dec (1 ≤ f x) → (0 < sum_of f xs → (i : ℕ) × (a : X) × StandsAt xs i a × (0 < f a)) → (i : ℕ) × (a : X)
-          × StandsAt (x ∷ xs) i a × (0 < f a)
-      go (yes p) rest = (0, x, refl, p)
-      go (no p) rest = later (rest (omega arith))
+  some_term (x ∷ xs) h = ⊎_elim
+      (λ here. (0, x, refl, here))
+      (λ none. let t = some_term xs (omega arith) in (suc t.0, t.1, t.2, t.3))
+      (cases_lt 0 (f x))
 
 pub only-same : (x y : ℕ) → y ≡ x → only x y ≡ 1
 only-same x y e = ap one_where (eq-eqb y x e)
@@ -67,11 +62,7 @@ pub only-other : (x y : ℕ) → y ≢ x → only x y ≡ 0
 only-other x y n = ap one_where (ne_eqb y x n)
 
 pub only_one : (x y : ℕ) → 0 < only x y → y ≡ x
-only_one x y h = go (ℕ_discrete y x)
-  where
-    go : Dec (y ≡ x) → y ≡ x
-    go (yes e) = e
-    go (no n) = absurd (omega (arith, only-other x y n))
+only_one x y h = ⊎_elim (λ e. e) (λ n. absurd (omega (arith, only-other x y n))) (cases_eq y x)
 
 pub Contains-times : (xs : List ℕ) (x k : ℕ) → k < length xs → get_or xs k x ≡ x → 0 < times x xs
 Contains-times [] x k h e = absurd (omega arith)
@@ -83,30 +74,22 @@ stands_times xs x c = Contains-times xs x c.0 c.1 c.2
 
 pub times_stands : (xs : List ℕ) (x : ℕ) → 0 < times x xs → Contains xs x
 times_stands [] x h = absurd (omega arith)
-times_stands (y ∷ ys) x h = go (ℕ_discrete y x) (times_stands ys x)
-  where
-    later : Contains ys x → Contains (y ∷ ys) x
-    later c = (suc c.0, omega (arith, c.1), c.2)
-
-    go : Dec (y ≡ x) → (0 < times x ys → Contains ys x) → Contains (y ∷ ys) x
-    go (yes e) rest = (0, omega arith, e)
-    go (no n) rest = later (rest (omega (arith, only-other x y n)))
-
--- an element of a list with one more at its end
-pub stands_push : (xs : List ℕ) (y x : ℕ) → Contains (xs ++ y ∷ []) x → Contains xs x ⊎ (y ≡ x)
-stands_push xs y x c = go (dec_le 1 (times x xs))
-  where
-    go : Dec (1 ≤ times x xs) → Contains xs x ⊎ (y ≡ x)
-    go (yes p) = inl (times_stands xs x p)
-    go (no p) = inr (only_one x y (omega (arith, stands_times (xs ++ y ∷ []) x c, sum_of-append (only x) xs (y ∷ []))))
+times_stands (y ∷ ys) x h = ⊎_elim
+    (λ e. (0, omega arith, e))
+    (λ n. let c = times_stands ys x (omega (arith, only-other x y n)) in (suc c.0, omega (arith, c.1), c.2))
+    (cases_eq y x)
 
 -- an element of one of two lists
 pub stands_append : (xs ys : List ℕ) (x : ℕ) → Contains (xs ++ ys) x → Contains xs x ⊎ Contains ys x
-stands_append xs ys x c = go (dec_le 1 (times x xs))
-  where
-    go : Dec (1 ≤ times x xs) → Contains xs x ⊎ Contains ys x
-    go (yes p) = inl (times_stands xs x p)
-    go (no p) = inr (times_stands ys x (omega (arith, stands_times (xs ++ ys) x c, sum_of-append (only x) xs ys)))
+stands_append xs ys x c = ⊎_elim
+    (λ some. inl (times_stands xs x some))
+    (λ none. inr (times_stands ys x (omega (arith, stands_times (xs ++ ys) x c, sum_of-append (only x) xs ys))))
+    (cases_lt 0 (times x xs))
+
+-- an element of a list with one more at its end
+pub stands_push : (xs : List ℕ) (y x : ℕ) → Contains (xs ++ y ∷ []) x → Contains xs x ⊎ (y ≡ x)
+stands_push xs y x c =
+    ⊎_elim inl (λ t. inr (only_one x y (omega (arith, stands_times (y ∷ []) x t)))) (stands_append xs (y ∷ []) x c)
 
 pub remove_one-same : (x y : ℕ) (ys : List ℕ) → y ≡ x → remove_one x (y ∷ ys) ≡ ys
 remove_one-same x y ys e = ap (λ t. cond t ys (y ∷ remove_one x ys)) (eq-eqb y x e)
@@ -116,14 +99,12 @@ remove_one-other x y ys n = ap (λ t. cond t ys (y ∷ remove_one x ys)) (ne_eqb
 
 pub times-remove_one : (x y : ℕ) (ys : List ℕ) → 0 < times y ys → times x (remove_one y ys) + only x y ≡ times x ys
 times-remove_one x y [] h = absurd (omega arith)
-times-remove_one x y (z ∷ zs) h = go (ℕ_discrete z y) (times-remove_one x y zs)
-  where
-    go : Dec (z ≡ y) → (0 < times y zs → times x (remove_one y zs) + only x y ≡ times x zs)
-        → times x (remove_one y (z ∷ zs)) + only x y ≡ times x (z ∷ zs)
-    go (yes e) rest = let s : only x z ≡ only x y = ap (only x) e in
-        omega (arith, ap (times x) (remove_one-same y z zs e))
-    go (no n) rest = let p : 0 < times y zs = omega (arith, only-other y z n) in
-        omega (arith, ap (times x) (remove_one-other y z zs n), rest p)
+times-remove_one x y (z ∷ zs) h = ⊎_elim
+    (λ e. omega (arith, ap (only x) e, ap (times x) (remove_one-same y z zs e)))
+    (λ n.
+    let rest = times-remove_one x y zs (omega (arith, only-other y z n)) in
+    omega (arith, ap (times x) (remove_one-other y z zs n), rest))
+    (cases_eq z y)
 
 pub times-without : (xs ys : List ℕ) → IsPart xs ys → (x : ℕ) → times x (without xs ys) + times x xs ≡ times x ys
 times-without [] ys part x = omega arith

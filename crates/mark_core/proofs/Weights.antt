@@ -1,18 +1,17 @@
 -- The accounts that were made bound the idle numbers: each event keeps it so.
-use Rattle.std.proofs.Common.{◌≡◌, ◌≢◌, ℕ, ◌+◌, ◌<◌, ◌≤◌, List, [], ◌∷◌, ◌++◌, length, length-set, Option, Some}
+use Rattle.std.proofs.Common.{◌≡◌, ◌≢◌, ℕ, ◌+◌, ◌<◌, ◌≤◌, List, [], ◌∷◌, ◌++◌, length, length-set}
 use Rattle.std.proofs.Common.{set, sym, refl, subst, ◌∙◌, arith}
 use Rattle.std.proofs.lemmas.List.{length-append}
-use Rattle.mark_core.specs.declared.which.Which.{Which}
 use Rattle.mark_core.specs.declared.which.Which.TheVariants.{Full}
 use Rattle.mark_core.specs.Lists.{StandsAt, sum_of}
-use Rattle.mark_core.specs.Account.{Account, look_of, part, no_share, after_split}
+use Rattle.mark_core.specs.Account.{Account, part, no_share, after_split}
 use Rattle.mark_core.specs.Account.{after_join}
 use Rattle.mark_core.specs.World.{Setup, Marking, IsThere}
 use Rattle.mark_core.specs.Events.{Kind, Split, Join, Load, LoadLink, StoreLink, Pop, Fail, IdleUp}
-use Rattle.mark_core.specs.Events.{IdleDown, Event, Allows, IsPossible, effect, happens, stack_popped}
+use Rattle.mark_core.specs.Events.{IdleDown, Event, Allows, IsPossible, effect, happens}
 use Rattle.mark_core.specs.StepCall.{HasNumber, weight}
 use Rattle.mark_core.proofs.Places.{at_get_or, set_else}
-use Rattle.mark_core.proofs.Happens.{happens_as}
+use Rattle.mark_core.proofs.Happens.{happens_as, tried}
 use Rattle.mark_core.proofs.Sums.{sum_of-set, sum_of-append}
 
 -- each account has a number, and the idle numbers are no more than the accounts
@@ -86,10 +85,6 @@ module _
   put : (b : Account) → weight b ≡ weight a → AreNumbered (set m.accounts w b)
   put = numbered_set m.accounts n w a there.0
 
-  popped_numbered : (q : Which) (x : Option ℕ) (y : Option (Option ℕ)) → AreNumbered (stack_popped m w a q x y).accounts
-  popped_numbered q (Some i) (Some l) = put _ refl
-  popped_numbered q _ _ = n
-
   effect_numbered :
       (kind : Kind) → Allows e m w a kind → HasNumber kind m.accounts → AreNumbered (effect m w a kind).accounts
   effect_numbered (Split units) can room = numbered_split m.accounts n w a there.0 units can.0 can.1 room
@@ -100,7 +95,8 @@ module _
   effect_numbered (Load Full) can room = put _ refl
   effect_numbered (LoadLink Full) can room = put _ refl
   effect_numbered (StoreLink i l) can room = n
-  effect_numbered (Pop q) can room = popped_numbered q (m.head q).index (look_of a q).link
+  effect_numbered (Pop q) can room =
+      tried (λ (x : Marking). AreNumbered x.accounts) m w a q n (λ i l. put _ refl)
   effect_numbered (Fail q) can room = n
   effect_numbered IdleUp can room = put _ (omega (arith, can.0, can.1))
   effect_numbered IdleDown can room = put _ (omega (arith, can.0, can.1))

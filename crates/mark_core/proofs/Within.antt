@@ -65,13 +65,13 @@ module _ (s : Listing) (lawful : IsLawful s) where
     pub charge_within : (o : ℕ) → Contains a.charge o → o < length s.marks
     charge_within o k = go (dec_le (suc o) (length s.marks))
       where
-        marked : get_or s.marks o 0 ≡ 1
-        marked = let m = marking_of s in
-            (charged s.setup m.mark m.slots m.accounts lawful.law.coloured w a here o (stands_times a.charge o k)).0
-
         go : Dec (suc o ≤ length s.marks) → o < length s.marks
         go (yes p) = omega arith
-        go (no n) = absurd (omega (arith, marked, get_or-eq_default s.marks 0 {n = o} (omega arith)))
+        go (no n) =
+            let m = marking_of s in
+            let was = charged s.setup m.mark m.slots m.accounts lawful.law.coloured w a here o
+            (stands_times a.charge o k) in
+            absurd (omega (arith, was.0, get_or-eq_default s.marks 0 {n = o} (omega arith)))
 
     pub held_within : (i : ℕ) → Contains a.held i → i < s.setup.buffers
     held_within i k = let m = marking_of s in
