@@ -9,16 +9,15 @@ use Rattle.hprof_grammar.proofs.Fields.{breaks_split, spelled_then}
 use Rattle.hprof_grammar.proofs.Format.{IsFormat, Taken, bind_err, bind_ok, map_err, number_format, ok_same}
 
 -- what was taken was bytes, and so is what is left
-rest_bytes : {A : Type 0} (W : A → Type 0) (fields : A → List Field) (bytes : List ℕ) (x : A) (rest : List ℕ)
-    → Taken W fields bytes x rest → IsBytes bytes → IsBytes rest
-rest_bytes W fields bytes x rest t h = bytes-behind (spelled (fields x)) rest (subst IsBytes t.bytes_are h)
+module _ {A : Type 0} {W : A → Type 0} {fields : A → List Field} {bytes : List ℕ} {x : A} {rest : List ℕ}
+    (t : Taken W fields bytes x rest) where
+  rest_bytes : IsBytes bytes → IsBytes rest
+  rest_bytes h = bytes-behind (spelled (fields x)) rest (subst IsBytes t.bytes_are h)
 
--- reading breaks off behind what was taken
-breaks_behind : {A : Type 0} (W : A → Type 0) (fields : A → List Field) (bytes : List ℕ) (x : A) (rest : List ℕ)
-    (gs : List Field) (flaw : Flaw) → Taken W fields bytes x rest → Breaks flaw gs rest
-    → Breaks flaw (fields x ++ gs) bytes
-breaks_behind W fields bytes x rest gs flaw t b =
-    subst (Breaks flaw (fields x ++ gs)) (sym t.bytes_are) (breaks_second flaw (fields x) gs rest t.allowed b)
+  -- reading breaks off behind what was taken
+  breaks_behind : {gs : List Field} {flaw : Flaw} → Breaks flaw gs rest → Breaks flaw (fields x ++ gs) bytes
+  breaks_behind {gs} {flaw} b =
+      subst (Breaks flaw (fields x ++ gs)) (sym t.bytes_are) (breaks_second flaw (fields x) gs rest t.allowed b)
 
 -- ---- one behind the other, where the second may depend on the value of the first
 
@@ -31,7 +30,7 @@ module _ {A B : Type 0} {W : A → Type 0} {F : A → List Field} {r : List ℕ 
       let a = bind_ok (r bytes) (λ x. q x.0 x.1 >>= λ y. Ok ((x.0, y.0), y.1)) z e in
       let b = bind_ok (q a.0.0 a.0.1) (λ y. Ok ((a.0.0, y.0), y.1)) z a.2 in
       let s = first.takes bytes a.0 h a.1 in
-      let t = (second a.0.0).takes a.0.1 b.0 (rest_bytes W F bytes a.0.0 a.0.1 s h) b.1 in
+      let t = (second a.0.0).takes a.0.1 b.0 (rest_bytes s h) b.1 in
       rw (← ok_same {E = Flaw} ((a.0.0, b.0.0), b.0.1) z b.2) (record {
         well = (s.well, t.well);
         allowed = all_join IsAllowed (F a.0.0) (G a.0.0 b.0.0) s.allowed t.allowed;
@@ -57,8 +56,8 @@ module _ {A B : Type 0} {W : A → Type 0} {F : A → List Field} {r : List ℕ 
     | inr a ↦
         let s = first.takes bytes a.0 h a.1 in
         let f = map_err (q a.0.0 a.0.1) (λ y. ((a.0.0, y.0), y.1)) flaw a.2 in
-        let b = (second a.0.0).fails a.0.1 flaw (rest_bytes W F bytes a.0.0 a.0.1 s h) f in
-        ((a.0.0, b.0), (s.well, b.1), breaks_behind W F bytes a.0.0 a.0.1 (G a.0.0 b.0) flaw s b.2)
+        let b = (second a.0.0).fails a.0.1 flaw (rest_bytes s h) f in
+        ((a.0.0, b.0), (s.well, b.1), breaks_behind s b.2)
   ]
 
   pair_fails_again : (p : A × B) (bytes : List ℕ) (flaw : Flaw) → W p.0 × V p.0 p.1
@@ -97,7 +96,7 @@ module _ {A : Type 0} {W : A → Type 0} {F : A → List Field} {r : List ℕ �
       let a = bind_ok (r bytes) (λ x. list_at r n x.1 >>= λ xs. Ok (x.0 ∷ xs.0, xs.1)) z e in
       let b = bind_ok (list_at r n a.0.1) (λ xs. Ok (a.0.0 ∷ xs.0, xs.1)) z a.2 in
       let s = one.takes bytes a.0 h a.1 in
-      let t = list_takes n a.0.1 b.0 (rest_bytes W F bytes a.0.0 a.0.1 s h) b.1 in
+      let t = list_takes n a.0.1 b.0 (rest_bytes s h) b.1 in
       rw (← ok_same {E = Flaw} (a.0.0 ∷ b.0.0, b.0.1) z b.2) (record {
         well = (omega (arith, t.well.0), (s.well, t.well.1));
         allowed = all_join IsAllowed (F a.0.0) (flat_map F b.0.0) s.allowed t.allowed;
@@ -136,10 +135,10 @@ module _ {A : Type 0} {W : A → Type 0} {F : A → List Field} {r : List ℕ �
         | inr a ↦
             let s = one.takes bytes a.0 h a.1 in
             let f = map_err (list_at r n a.0.1) (λ xs. (a.0.0 ∷ xs.0, xs.1)) flaw a.2 in
-            let b = list_fails n a.0.1 flaw (rest_bytes W F bytes a.0.0 a.0.1 s h) f in (
+            let b = list_fails n a.0.1 flaw (rest_bytes s h) f in (
               a.0.0 ∷ b.0,
               (omega (arith, b.1.0), (s.well, b.1.1)),
-              breaks_behind W F bytes a.0.0 a.0.1 (flat_map F b.0) flaw s b.2,
+              breaks_behind s b.2,
             )
       ]
 
@@ -182,7 +181,8 @@ module _ {A B : Type 0} {W : A → Type 0} {F : A → List Field} {r : List ℕ 
       let a = bind_ok (r bytes) (λ x. Ok (to x.0, x.1)) z e in
       let s = under.takes bytes a.0 h a.1 in
       let g = same.fields_to a.0.0 s.well in
-      rw (← ok_same {E = Flaw} (to a.0.0, a.0.1) z a.2) (record { well = same.well_to a.0.0 s.well; allowed = rw g s.allowed; bytes_are = rw g s.bytes_are })
+      rw (← ok_same {E = Flaw} (to a.0.0, a.0.1) z a.2)
+      (record { well = same.well_to a.0.0 s.well; allowed = rw g s.allowed; bytes_are = rw g s.bytes_are })
 
   as_again : (b : B) (rest : List ℕ) → V b → AreAllowed (G b) → as_at to r (spelled (G b) ++ rest) ≡ Ok (b, rest)
   as_again b rest h allowed =

@@ -85,7 +85,8 @@ number_cut w bytes h = rw (lt-ltb (length bytes) w h) refl
 
 number_again : (w x : ℕ) (rest : List ℕ) → x < 256 ^ w → number_at w (big_bytes w x ++ rest) ≡ Ok (x, rest)
 number_again w x rest h =
-    number_whole w (big_bytes w x ++ rest) (omega (arith, length-append (big_bytes w x) rest, length-bytes_high_first w x))
+    number_whole w (big_bytes w x ++ rest)
+    (omega (arith, length-append (big_bytes w x) rest, length-bytes_high_first w x))
     ∙ rw (big_number-reads_back w x rest h, behind_number w x rest) refl
 
 number_takes : (w : ℕ) (bytes : List ℕ) (z : ℕ × List ℕ) → IsBytes bytes → number_at w bytes ≡ Ok z
@@ -208,7 +209,8 @@ type_fails : (place : TypePlace) (bytes : List ℕ) (flaw : Flaw) → type_at pl
 type_fails place [] flaw e = (
   0,
   tt,
-  rw (← err_same {X = ℕ × List ℕ} Short flaw e) (breaks_here Short (type_code place 0) [] [] (0 ∷ [], refl, omega arith)),
+  rw (← err_same {X = ℕ × List ℕ} Short flaw e)
+      (breaks_here Short (type_code place 0) [] [] (0 ∷ [], refl, omega arith)),
 )
 type_fails place (t ∷ rest) flaw e =
     let b = type_err (is_type_at place t) WrongType flaw (t, rest) e in (

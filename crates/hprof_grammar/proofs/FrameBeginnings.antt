@@ -33,20 +33,20 @@ frame_parts tag time body after =
     ap (λ (l : List ℕ). tag ∷ l) (append_assoc (big_bytes 4 time) (big_bytes 4 (length body) ++ body) after
     ∙ ap (λ (l : List ℕ). big_bytes 4 time ++ l) (append_assoc (big_bytes 4 (length body)) body after))
 
-pub same_frame : (tag time : ℕ) (body after : List ℕ) (tag_too time_too : ℕ) (body_too after_too : List ℕ)
-    → length body < 256 ^ 4 → length body_too < 256 ^ 4
-    → framed tag time body ++ after ≡ framed tag_too time_too body_too ++ after_too
-    → SameFrame tag time body after tag_too time_too body_too after_too
-same_frame tag time body after tag_too time_too body_too after_too h k e =
-    let whole = sym (frame_parts tag time body after) ∙ e ∙ frame_parts tag_too time_too body_too after_too in
-    let behind : big_bytes 4 time ++ (big_bytes 4 (length body) ++ (body ++ after))
-    ≡ big_bytes 4 time_too ++ (big_bytes 4 (length body_too) ++ (body_too ++ after_too)) = cc in
-    let times = same_front 4 (big_bytes 4 time) (big_bytes 4 time_too) (big_bytes 4 (length body) ++ (body ++ after))
-    (big_bytes 4 (length body_too) ++ (body_too ++ after_too)) (length-bytes_high_first 4 time)
-    (length-bytes_high_first 4 time_too) behind in
-    let sizes = same_number 4 (length body) (length body_too) (body ++ after) (body_too ++ after_too) h k times.1 in
-    let bodies = same_front (length body_too) body body_too after after_too sizes.0 refl sizes.1 in
-    record { tags = cc; times = times.0; bodies = bodies.0; afters = bodies.1 }
+module _ (tag time : ℕ) (body after : List ℕ) (tag_too time_too : ℕ) (body_too after_too : List ℕ) where
+  pub same_frame : length body < 256 ^ 4 → length body_too < 256 ^ 4
+      → framed tag time body ++ after ≡ framed tag_too time_too body_too ++ after_too
+      → SameFrame tag time body after tag_too time_too body_too after_too
+  same_frame h k e =
+      let whole = sym (frame_parts tag time body after) ∙ e ∙ frame_parts tag_too time_too body_too after_too in
+      let behind : big_bytes 4 time ++ (big_bytes 4 (length body) ++ (body ++ after))
+      ≡ big_bytes 4 time_too ++ (big_bytes 4 (length body_too) ++ (body_too ++ after_too)) = cc in
+      let times = same_front 4 (big_bytes 4 time) (big_bytes 4 time_too) (big_bytes 4 (length body) ++ (body ++ after))
+      (big_bytes 4 (length body_too) ++ (body_too ++ after_too)) (length-bytes_high_first 4 time)
+      (length-bytes_high_first 4 time_too) behind in
+      let sizes = same_number 4 (length body) (length body_too) (body ++ after) (body_too ++ after_too) h k times.1 in
+      let bodies = same_front (length body_too) body body_too after after_too sizes.0 refl sizes.1 in
+      record { tags = cc; times = times.0; bodies = bodies.0; afters = bodies.1 }
 
 -- a record that runs past the end is no whole frame
 pub cut_or_whole : (rest : List ℕ) (tag time : ℕ) (body after : List ℕ) → length body < 256 ^ 4
@@ -80,12 +80,13 @@ same_size s s_too rest more h k e =
     let behind = same_front 19 magic magic (big_bytes 4 s ++ rest) (big_bytes 4 s_too ++ more) refl refl e in
     same_number 4 s s_too rest more h k behind.1
 
-pub same_header : (s time s_too time_too : ℕ) (rest more : List ℕ) → is_id_size s ≡ true → is_id_size s_too ≡ true
-    → header s time ++ rest ≡ header s_too time_too ++ more → (s ≡ s_too) × (rest ≡ more)
-same_header s time s_too time_too rest more h k e =
-    let sizes = same_size s s_too (big_bytes 8 time ++ rest) (big_bytes 8 time_too ++ more) (is_id_size-lt s h)
-    (is_id_size-lt s_too k) (sym (header_parts s time rest) ∙ e ∙ header_parts s_too time_too more) in (
-      sizes.0,
-      (same_front 8 (big_bytes 8 time) (big_bytes 8 time_too) rest more (length-bytes_high_first 8 time)
-          (length-bytes_high_first 8 time_too) sizes.1).1,
-    )
+module _ (s time s_too time_too : ℕ) (rest more : List ℕ) where
+  pub same_header : is_id_size s ≡ true → is_id_size s_too ≡ true
+      → header s time ++ rest ≡ header s_too time_too ++ more → (s ≡ s_too) × (rest ≡ more)
+  same_header h k e =
+      let sizes = same_size s s_too (big_bytes 8 time ++ rest) (big_bytes 8 time_too ++ more) (is_id_size-lt s h)
+      (is_id_size-lt s_too k) (sym (header_parts s time rest) ∙ e ∙ header_parts s_too time_too more) in (
+        sizes.0,
+        (same_front 8 (big_bytes 8 time) (big_bytes 8 time_too) rest more (length-bytes_high_first 8 time)
+            (length-bytes_high_first 8 time_too) sizes.1).1,
+      )

@@ -31,7 +31,8 @@ spelled_at body at w = big_bytes w (big_number w (drop at body))
 
 -- a body of four numbers
 four_numbers : (s : ℕ) (body : List ℕ) → IsBytes body → length body ≡ 8 + 2 * s
-    → spelled_at body 0 4 ++ (spelled_at body 4 s ++ (spelled_at body (4 + s) 4 ++ spelled_at body (4 + s + 4) s)) ≡ body
+    → spelled_at body 0 4 ++ (spelled_at body 4 s
+    ++ (spelled_at body (4 + s) 4 ++ spelled_at body (4 + s + 4) s)) ≡ body
 four_numbers s body h e =
     let last : drop (4 + s + 4 + s) body ≡ [] = drop_of_length-le body (omega arith) in
     sym (number_parts 4 body h (omega arith)

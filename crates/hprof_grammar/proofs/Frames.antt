@@ -61,12 +61,12 @@ frame_takes {bytes = tag ∷ bytes} {z} h e =
     })
 
 -- no field of a frame is a type code
-no_types : (a b c d : ℕ) (text : List ℕ) (front : List Field) (place : TypePlace) (code : ℕ) (more : List Field)
+no_types : {a b c d : ℕ} {text : List ℕ} (front : List Field) (place : TypePlace) (code : ℕ) (more : List Field)
     → number a b ∷ number c d ∷ raw text ∷ [] ≡ front ++ type_code place code ∷ more → ⊥
-no_types a b c d text [] place code more e = cc
-no_types a b c d text (x ∷ []) place code more e = cc
-no_types a b c d text (x ∷ y ∷ []) place code more e = cc
-no_types a b c d text (x ∷ y ∷ z ∷ fs) place code more e =
+no_types [] place code more e = cc
+no_types (x ∷ []) place code more e = cc
+no_types (x ∷ y ∷ []) place code more e = cc
+no_types (x ∷ y ∷ z ∷ fs) place code more e =
     omega (arith, ap length e, length-append fs (type_code place code ∷ more))
 
 -- the fields go on behind the bytes that end short
@@ -84,7 +84,7 @@ runs_past : (tag : ℕ) (rest : List ℕ) (p : ℕ × List ℕ) (flaw : Flaw) �
 runs_past tag rest p UnknownTag room b = absurd b.spoiled
 runs_past tag rest p WrongType room b =
     let w = has_wrong_type (frame_fields p) rest b in
-    absurd (no_types 4 p.0 4 (length p.1) p.1 w.front w.place w.code w.more w.in_order)
+    absurd (no_types w.front w.place w.code w.more w.in_order)
 runs_past tag rest p Short room b =
     let s = ends_short (frame_fields p) rest b in
     record {

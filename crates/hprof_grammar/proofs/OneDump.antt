@@ -10,21 +10,21 @@ use Rattle.hprof_grammar.proofs.FrameBeginnings.{same_frame, same_header}
 use Rattle.hprof_grammar.proofs.SubRecords.{subs_determined}
 
 -- the numbers of a LOAD CLASS
-same_load : (s serial class stack name serial_too class_too stack_too name_too : ℕ)
-    → (serial < 256 ^ 4) × (class < 256 ^ s) × (stack < 256 ^ 4) × (name < 256 ^ s)
-    → (serial_too < 256 ^ 4) × (class_too < 256 ^ s) × (stack_too < 256 ^ 4) × (name_too < 256 ^ s)
-    → big_bytes 4 serial ++ (big_bytes s class ++ (big_bytes 4 stack ++ big_bytes s name))
-    ≡ big_bytes 4 serial_too ++ (big_bytes s class_too ++ (big_bytes 4 stack_too ++ big_bytes s name_too))
-    → (serial ≡ serial_too) × (class ≡ class_too) × (stack ≡ stack_too) × (name ≡ name_too)
-same_load s serial class stack name serial_too class_too stack_too name_too h k e =
-    let a = same_number 4 serial serial_too (big_bytes s class ++ (big_bytes 4 stack ++ big_bytes s name))
-    (big_bytes s class_too ++ (big_bytes 4 stack_too ++ big_bytes s name_too)) h.0 k.0 e in
-    let b = same_number s class class_too (big_bytes 4 stack ++ big_bytes s name)
-    (big_bytes 4 stack_too ++ big_bytes s name_too) h.1 k.1 a.1 in
-    let c = same_number 4 stack stack_too (big_bytes s name) (big_bytes s name_too) h.2 k.2 b.1 in
-    let d = same_number s name name_too [] [] h.3 k.3
-    (append-nil (big_bytes s name) ∙ c.1 ∙ sym (append-nil (big_bytes s name_too))) in
-    (a.0, b.0, c.0, d.0)
+module _ (s serial class stack name serial_too class_too stack_too name_too : ℕ) where
+  same_load : (serial < 256 ^ 4) × (class < 256 ^ s) × (stack < 256 ^ 4) × (name < 256 ^ s)
+      → (serial_too < 256 ^ 4) × (class_too < 256 ^ s) × (stack_too < 256 ^ 4) × (name_too < 256 ^ s)
+      → big_bytes 4 serial ++ (big_bytes s class ++ (big_bytes 4 stack ++ big_bytes s name))
+      ≡ big_bytes 4 serial_too ++ (big_bytes s class_too ++ (big_bytes 4 stack_too ++ big_bytes s name_too))
+      → (serial ≡ serial_too) × (class ≡ class_too) × (stack ≡ stack_too) × (name ≡ name_too)
+  same_load h k e =
+      let a = same_number 4 serial serial_too (big_bytes s class ++ (big_bytes 4 stack ++ big_bytes s name))
+      (big_bytes s class_too ++ (big_bytes 4 stack_too ++ big_bytes s name_too)) h.0 k.0 e in
+      let b = same_number s class class_too (big_bytes 4 stack ++ big_bytes s name)
+      (big_bytes 4 stack_too ++ big_bytes s name_too) h.1 k.1 a.1 in
+      let c = same_number 4 stack stack_too (big_bytes s name) (big_bytes s name_too) h.2 k.2 b.1 in
+      let d = same_number s name name_too [] [] h.3 k.3
+      (append-nil (big_bytes s name) ∙ c.1 ∙ sym (append-nil (big_bytes s name_too))) in
+      (a.0, b.0, c.0, d.0)
 
 sub_some : (s : ℕ) (x : SubRecord) → 0 < length (spelling_of s x)
 sub_some s x = omega arith

@@ -123,13 +123,14 @@ header_whole s time text rest e h =
     omega (arith, h, ap length e, length-append (header s time) rest, length-header s time)
 
 -- a size of identifiers that is not allowed stands in no header
-bad_size_there : (s s_too time : ℕ) (text rest body : List ℕ) → s < 256 ^ 4 → is_id_size s ≡ false
-    → text ≡ magic ++ (big_bytes 4 s ++ rest) → is_id_size s_too ≡ true → text ≡ header s_too time ++ body → ⊥
-bad_size_there s s_too time text rest body fits wrong e right k =
-    let sizes = same_size s s_too rest (big_bytes 8 time ++ body) fits (is_id_size-lt s_too right)
-    (sym e ∙ k ∙ header_parts s_too time body) in
-    let both : true ≡ false = sym right ∙ ap is_id_size (sym sizes.0) ∙ wrong in
-    cc
+module _ (s s_too time : ℕ) (text rest body : List ℕ) where
+  bad_size_there : s < 256 ^ 4 → is_id_size s ≡ false
+      → text ≡ magic ++ (big_bytes 4 s ++ rest) → is_id_size s_too ≡ true → text ≡ header s_too time ++ body → ⊥
+  bad_size_there fits wrong e right k =
+      let sizes = same_size s s_too rest (big_bytes 8 time ++ body) fits (is_id_size-lt s_too right)
+      (sym e ∙ k ∙ header_parts s_too time body) in
+      let both : true ≡ false = sym right ∙ ap is_id_size (sym sizes.0) ∙ wrong in
+      cc
 
 -- ---- the laws
 

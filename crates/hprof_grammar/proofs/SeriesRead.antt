@@ -62,10 +62,10 @@ pub record AreValues (s w n : ℕ) (them : List LabelledValue) (others bytes : L
   pub values : values_in s w n bytes ≡ them
   pub behind : behind_values s w n bytes ≡ others
 
-one_more : (s w n label t : ℕ) (value : List ℕ) (values : List LabelledValue) (behind others bytes : List ℕ)
+one_more : {s w n label t : ℕ} {value : List ℕ} {values : List LabelledValue} {behind others bytes : List ℕ}
     → big_number w bytes ≡ label → IsValue w (size_of s t) t value behind bytes → AreValues s w n values others behind
     → AreValues s w (suc n) (record { label = label; type = t; value = value } ∷ values) others bytes
-one_more s w n label t value values behind others bytes first h more = record {
+one_more first h more = record {
   room = rw (h.type, h.behind) (h.room, more.room);
   values = rw (h.type, h.behind, h.value, first, more.values) refl;
   behind = rw (h.type, h.behind) more.behind;
@@ -87,7 +87,8 @@ module _ {X : Type 0} (s w : ℕ) (place : TypePlace) (front type : X → ℕ) (
   labelled x = record { label = front x; type = type x; value = value x }
 
   pub values_again : (Is : X → Type 0)
-      → ((x : X) → Is x → (front x < 256 ^ w) × (length (value x) ≡ size_of s (type x))) → (xs : List X) (rest : List ℕ) → AllByRecursion Is xs
+      → ((x : X) → Is x → (front x < 256 ^ w) × (length (value x) ≡ size_of s (type x)))
+      → (xs : List X) (rest : List ℕ) → AllByRecursion Is xs
       → AreValues s w (length xs) (map labelled xs) rest (spelled (flat_map value_fields xs) ++ rest)
   values_again Is fits [] rest all = record { room = tt; values = refl; behind = refl }
   values_again Is fits (x ∷ xs) rest all =
@@ -96,10 +97,8 @@ module _ {X : Type 0} (s w : ℕ) (place : TypePlace) (front type : X → ℕ) (
       let here = is_value w (size_of s (type x)) (type x) (big_bytes w (front x)) (value x) others
       (length-bytes_high_first w (front x)) fit.1 in
       let first = big_number-reads_back w (front x) (type x ∷ (value x ++ others)) fit.0 in
-      let more = one_more s w (length xs) (front x) (type x) (value x) (map labelled xs) others rest
-      (big_bytes w (front x) ++ (type x ∷ (value x ++ others))) first here (values_again Is fits xs rest all.1) in
       subst (λ (l : List ℕ). AreValues s w (length (x ∷ xs)) (map labelled (x ∷ xs)) rest l)
-      (sym (spelled_first x xs rest)) more
+      (sym (spelled_first x xs rest)) (one_more first here (values_again Is fits xs rest all.1))
 
 pub length-values_in : (s w n : ℕ) (bytes : List ℕ) → length (values_in s w n bytes) ≡ n
 length-values_in s w zero bytes = refl

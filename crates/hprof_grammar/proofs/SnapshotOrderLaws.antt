@@ -7,13 +7,13 @@ use Rattle.hprof_grammar.proofs.Words.{◌≡◌, ◌≢◌}
 
 -- ---- rows of one number, and what ends them
 
-row_end : (c a d n m : ℕ) (xs ys : List ℕ) → a ≢ c → d ≢ c → replicate n c ++ a ∷ xs ≡ replicate m c ++ d ∷ ys
-    → (a ≡ d) × (xs ≡ ys)
-row_end c a d zero zero xs ys na nd e = (cc, cc)
-row_end c a d zero (suc m) xs ys na nd e = absurd (na (cc))
-row_end c a d (suc n) zero xs ys na nd e = absurd (nd (cc))
-row_end c a d (suc n) (suc m) xs ys na nd e = let tails : replicate n c ++ a ∷ xs ≡ replicate m c ++ d ∷ ys = cc in
-    row_end c a d n m xs ys na nd tails
+module _ (c a d : ℕ) (na : a ≢ c) (nd : d ≢ c) where
+  row_end : (n m : ℕ) (xs ys : List ℕ) → replicate n c ++ a ∷ xs ≡ replicate m c ++ d ∷ ys → (a ≡ d) × (xs ≡ ys)
+  row_end zero zero xs ys e = (cc, cc)
+  row_end zero (suc m) xs ys e = absurd (na (cc))
+  row_end (suc n) zero xs ys e = absurd (nd (cc))
+  row_end (suc n) (suc m) xs ys e = let tails : replicate n c ++ a ∷ xs ≡ replicate m c ++ d ∷ ys = cc in
+      row_end n m xs ys tails
 
 row_no_end : (c d n m : ℕ) (ys : List ℕ) → d ≢ c → replicate n c ≡ replicate m c ++ d ∷ ys → ⊥
 row_no_end c d zero zero ys nd e = cc
@@ -81,15 +81,15 @@ end_first more (inr (n, e)) = end_is_no_segment (cc)
 dump_in_segments : (n : ℕ) (more : List ℕ) → IsSnapshot (replicate (suc n) 0x1C ++ 0x0C ∷ more) → ⊥
 dump_in_segments n more (inl e) = dump_is_no_segment (cc)
 dump_in_segments n more (inr (m, e)) =
-    end_is_no_dump (sym (row_end 0x1C 0x0C 0x2C (suc n) (suc m) more [] dump_is_no_segment end_is_no_segment e).0)
+    end_is_no_dump (sym (row_end 0x1C 0x0C 0x2C dump_is_no_segment end_is_no_segment (suc n) (suc m) more [] e).0)
 
 -- segments and their end, and more
 after_end : (n tag : ℕ) (more : List ℕ) → IsSnapshot ((replicate (suc n) 0x1C ++ 0x2C ∷ []) ++ tag ∷ more) → ⊥
 after_end n tag more (inl e) = dump_is_no_segment (cc)
 after_end n tag more (inr (m, e)) =
     let joined = sym (append_assoc (replicate (suc n) 0x1C) (0x2C ∷ []) (tag ∷ more)) ∙ e in
-    let none : tag ∷ more ≡ [] = (row_end 0x1C 0x2C 0x2C (suc n) (suc m) (tag ∷ more)
-    [] end_is_no_segment end_is_no_segment joined).1 in
+    let none : tag ∷ more ≡ [] =
+    (row_end 0x1C 0x2C 0x2C end_is_no_segment end_is_no_segment (suc n) (suc m) (tag ∷ more) [] joined).1 in
     cc
 
 -- ---- a record that breaks the order

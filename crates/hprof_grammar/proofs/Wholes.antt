@@ -1,10 +1,10 @@
 -- The records that the bytes behind the header begin with.
 use Rattle.hprof_grammar.proofs.Words.{AddsRecords, AddsRecordsFrom, AllByRecursion, Before, CanGoOn, FormatFault}
-use Rattle.hprof_grammar.proofs.Words.{FrameFault, HasRecordFault, IsAt, IsOrderly, IsRecord, IsSubRecord, List, Order}
-use Rattle.hprof_grammar.proofs.Words.{Places, Record, RecordFault, RunsPastEnd, SubFault, SubRecord, [], ap}
-use Rattle.hprof_grammar.proofs.Words.{append-nil, append_assoc, arith, bad_length, body_of, false, flat_map, framed}
-use Rattle.hprof_grammar.proofs.Words.{heap, in_heap, inl, inr, is_done, is_heap_tag, is_length_of, length}
-use Rattle.hprof_grammar.proofs.Words.{length-append, map, map-append, no_snapshot, other, out_of_order}
+use Rattle.hprof_grammar.proofs.Words.{FrameFault, HasRecordFault, IsAt, IsOrderly, IsRecord, IsSubRecord, List}
+use Rattle.hprof_grammar.proofs.Words.{LongestSubs, Order, Places, Record, RecordFault, RunsPastEnd, SubFault}
+use Rattle.hprof_grammar.proofs.Words.{SubRecord, [], ap, append-nil, append_assoc, arith, bad_length, body_of, false}
+use Rattle.hprof_grammar.proofs.Words.{flat_map, framed, heap, in_heap, inl, inr, is_done, is_heap_tag, is_length_of}
+use Rattle.hprof_grammar.proofs.Words.{length, length-append, map, map-append, no_snapshot, other, out_of_order}
 use Rattle.hprof_grammar.proofs.Words.{record_spelling, refl, short, spelling_of, spellings, subst, sym, tag_of}
 use Rattle.hprof_grammar.proofs.Words.{time_of, true, truncated, unknown_tag, wrong_heap, wrong_length, wrong_order}
 use Rattle.hprof_grammar.proofs.Words.{wrong_type, ℕ, ◌++◌, ◌+◌, ◌-◌, ◌<◌, ◌∙◌, ◌∷◌, ◌≡◌, ◌≤◌}
@@ -31,25 +31,25 @@ abbrev IsStuck : ℕ → List Record → List ℕ → Type 0
 IsStuck s records rest = (z : Record) (left : List ℕ) → IsRecord s z → rest ≡ record_spelling s z ++ left
     → CanGoOn (map tag_of records ++ tag_of z ∷ []) → ⊥
 
-no_longer : (s : ℕ) (records others : List Record) (rest left : List ℕ) → AllByRecursion (IsRecord s) records
-    → AllByRecursion (IsRecord s) others → IsStuck s records rest → CanGoOn (tags_of others)
-    → spellings s records ++ rest ≡ spellings s others ++ left → length others ≤ length records
-no_longer s records others rest left h k stuck go e =
-    elim (fronts (record_spelling s) (IsRecord s) (records_determined s) records others rest left h k e) [
-      | inl g ↦ ends g.0 g.1 g.2
-      | inr g ↦ omega (arith, ap length g.1, length-append others g.0)
-    ] where
-      ends : (zs : List Record) → others ≡ records ++ zs → rest ≡ spellings s zs ++ left
-          → length others ≤ length records
-      ends [] p q = omega (arith, ap length p, length-append records [])
-      ends (z ∷ zs) p q =
-          let all = all_split (IsRecord s) records (z ∷ zs) (rw p at k) in
-          let tags : tags_of others ≡ (tags_of records ++ tag_of z ∷ []) ++ tags_of zs =
-          ap tags_of p ∙ map-append tag_of records (z ∷ zs)
-          ∙ sym (append_assoc (tags_of records) (tag_of z ∷ []) (tags_of zs)) in
-          absurd (stuck z (spellings s zs ++ left) all.1.0
-          (q ∙ append_assoc (record_spelling s z) (spellings s zs) left)
-          (goes_on_front (tags_of records ++ tag_of z ∷ []) (tags_of zs) (subst CanGoOn tags go)))
+module _ (s : ℕ) (records others : List Record) (rest left : List ℕ) where
+  no_longer : AllByRecursion (IsRecord s) records → AllByRecursion (IsRecord s) others → IsStuck s records rest → CanGoOn (tags_of others)
+      → spellings s records ++ rest ≡ spellings s others ++ left → length others ≤ length records
+  no_longer h k stuck go e =
+      elim (fronts (record_spelling s) (IsRecord s) (records_determined s) records others rest left h k e) [
+        | inl g ↦ ends g.0 g.1 g.2
+        | inr g ↦ omega (arith, ap length g.1, length-append others g.0)
+      ] where
+        ends : (zs : List Record) → others ≡ records ++ zs → rest ≡ spellings s zs ++ left
+            → length others ≤ length records
+        ends [] p q = omega (arith, ap length p, length-append records [])
+        ends (z ∷ zs) p q =
+            let all = all_split (IsRecord s) records (z ∷ zs) (rw p at k) in
+            let tags : tags_of others ≡ (tags_of records ++ tag_of z ∷ []) ++ tags_of zs =
+            ap tags_of p ∙ map-append tag_of records (z ∷ zs)
+            ∙ sym (append_assoc (tags_of records) (tag_of z ∷ []) (tags_of zs)) in
+            absurd (stuck z (spellings s zs ++ left) all.1.0
+            (q ∙ append_assoc (record_spelling s z) (spellings s zs) left)
+            (goes_on_front (tags_of records ++ tag_of z ∷ []) (tags_of zs) (subst CanGoOn tags go)))
 
 -- ---- where the list is stuck
 
@@ -68,12 +68,12 @@ fault_some s rest code (short x left f e) h = cc
 fault_some s rest code (wrong_type x left f e) h = cc
 
 -- a body in which a sub-record has a fault is no list of whole sub-records
-no_whole_body : (s : ℕ) (body : List ℕ) (subs others : List SubRecord) (rest : List ℕ) (code : ℕ)
-    → body ≡ flat_map (spelling_of s) subs ++ rest → AllByRecursion (IsSubRecord s) subs → SubFault s rest code
-    → AllByRecursion (IsSubRecord s) others → body ≡ flat_map (spelling_of s) others → ⊥
-no_whole_body s body subs others rest code parts each fault all e =
-    elim (fronts (spelling_of s) (IsSubRecord s) (subs_determined s) subs others rest [] each all
-    (sym parts ∙ e ∙ sym (append-nil (flat_map (spelling_of s) others)))) [
+no_whole_body : {s code : ℕ} {body : List ℕ} {subs : List SubRecord} (others : List SubRecord) {rest : List ℕ}
+    → LongestSubs s body subs rest → SubFault s rest code → AllByRecursion (IsSubRecord s) others
+    → body ≡ flat_map (spelling_of s) others → ⊥
+no_whole_body {s} {code} {subs = subs} others {rest} longest fault all e =
+    elim (fronts (spelling_of s) (IsSubRecord s) (subs_determined s) subs others rest [] longest.each all
+    (sym longest.parts ∙ e ∙ sym (append-nil (flat_map (spelling_of s) others)))) [
       | inl g ↦ goes g.0 g.1 g.2
       | inr g ↦ stops g.0 g.2
     ] where
@@ -112,8 +112,7 @@ module _ {s at tag time : ℕ} {body after rest : List ℕ} {fault : FormatFault
             (subst (λ (n : ℕ). CanGoOn (map tag_of records ++ n ∷ [])) (sym tags) go)
         | wrong_heap is_heap allowed goes bad ↦
             let whole = heap_body s z is (subst (λ (n : ℕ). is_heap_tag n ≡ true) tags is_heap) in
-            no_whole_body s body bad.subs whole.0 bad.rest fault.code bad.longest.parts bad.longest.each bad.wrong
-            whole.1 (bodies ∙ whole.2)
+            no_whole_body whole.0 bad.longest bad.wrong whole.1 (bodies ∙ whole.2)
       ]
 
   told : (code place : ℕ) → fault.code ≡ code → fault.offset ≡ place
