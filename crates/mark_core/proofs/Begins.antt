@@ -2,14 +2,8 @@
 use Rattle.std.proofs.Common.{◌≡◌, ℕ, zero, suc, ◌+◌, ◌<◌, ◌≤◌, All, length, subst, List, [], ◌∷◌, ◌++◌, get_or}
 use Rattle.std.proofs.Common.{replicate, Some, None, ap, sym, refl, ◌∙◌, arith}
 use Rattle.std.proofs.lemmas.List.{replicate-append-replicate}
-use Rattle.mark_core.specs.declared.which.Which.{Which}
-use Rattle.mark_core.specs.declared.which.Which.TheVariants.{Full, Empty}
-use Rattle.mark_core.specs.Account.{part}
-use Rattle.mark_core.specs.World.{Setup, Marking}
-use Rattle.mark_core.specs.Shares.{whole}
-use Rattle.mark_core.specs.Runs.{first_heads, first_link, opening}
-use Rattle.mark_core.specs.StepCall.{Listing, IsLawful, heads_of, marking_of}
-use Rattle.mark_core.specs.Law.{Law}
+use Rattle.mark_core.proofs.Words.{Which, Full, Empty, part, Setup, Marking, whole, first_heads, first_link, opening}
+use Rattle.mark_core.proofs.Words.{Listing, IsLawful, heads_of, marking_of, Law}
 use Rattle.mark_core.proofs.Openings.{opening_keeps}
 use Rattle.mark_core.proofs.Weights.{AreNumbered, numbered_opening}
 

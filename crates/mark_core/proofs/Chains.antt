@@ -2,11 +2,7 @@
 use Rattle.std.proofs.Common.{◌≡◌, ℕ, ◌<◌, List, [], ◌∷◌, Option, Some, None, ap, sym, refl, subst, ◌∙◌, inl, inr}
 use Rattle.std.proofs.Common.{⊎_elim, arith}
 use Rattle.tagged_index.specs.Head.{Head, after}
-use Rattle.mark_core.specs.declared.which.Which.{Which}
-use Rattle.mark_core.specs.declared.which.Which.TheVariants.{Full, Empty}
-use Rattle.mark_core.specs.Lists.{times}
-use Rattle.mark_core.specs.Account.{Account, Look, blank, look_of}
-use Rattle.mark_core.specs.Ownership.{Chain, IsRecent}
+use Rattle.mark_core.proofs.Words.{Which, Full, Empty, times, Account, Look, blank, look_of, Chain, IsRecent}
 use Rattle.mark_core.proofs.Sums.{only-same}
 
 -- the links give one list

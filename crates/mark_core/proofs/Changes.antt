@@ -1,23 +1,15 @@
 -- What an event leaves of the two lists, of the tags and of the marks.
 use Rattle.std.proofs.Common.{◌≡◌, ◌≢◌, ◌⊎◌, ℕ, ◌+◌, List, ◌∷◌, Option, Some, ap, sym, refl, subst, ◌∙◌, inl, inr}
 use Rattle.std.proofs.Common.{◌<◌, ◌≤◌, max, arith}
-use native.Mathlib.Decide.{ℕ_discrete}
 use Rattle.tagged_index.specs.Head.{Head, after}
-use Rattle.mark_core.specs.declared.which.Which.{Which}
-use Rattle.mark_core.specs.declared.which.Which.TheVariants.{Full, Empty}
-use Rattle.mark_core.specs.Lists.{times}
-use Rattle.mark_core.specs.Account.{Account, look_of}
-use Rattle.mark_core.specs.World.{Setup, Marking, account_at, IsThere, put, put_which}
-use Rattle.mark_core.specs.Events.{Kind, Claim, Finish, StoreLink, Pop, Push}
-use Rattle.mark_core.specs.Events.{Allows, effect}
-use Rattle.mark_core.specs.Ownership.{Chain}
-use Rattle.mark_core.specs.Law.{Law}
-use Rattle.mark_core.specs.Runs.{IsListOf, Changes, StacksChange, TagsRise, PopsFindLinks, MarksRise}
-use Rattle.mark_core.proofs.Places.{put_here, put_else, put_one}
+use Rattle.mark_core.proofs.Words.{Which, Full, Empty, times, Account, look_of, Setup, Marking, account_at, IsThere}
+use Rattle.mark_core.proofs.Words.{put, put_which, Kind, Claim, Finish, StoreLink, Pop, Push, Allows, effect, Chain}
+use Rattle.mark_core.proofs.Words.{Law, IsListOf, Changes, StacksChange, TagsRise, PopsFindLinks, MarksRise}
+use Rattle.mark_core.proofs.Places.{put_else, put_each, put_one}
 use Rattle.mark_core.proofs.Happens.{happens_as, pops_as, tried}
 use Rattle.mark_core.proofs.Sums.{stands_times}
 use Rattle.mark_core.proofs.Chains.{chain_one, chain_links, chain_rest, chain_more, recent_link}
-use Rattle.mark_core.proofs.Ownership.{held_apart}
+use Rattle.mark_core.proofs.Ownership.{held_else}
 use Rattle.mark_core.proofs.Colours.{charged}
 
 -- an exchange of one head: of its stack one list is left, and of the other stack the same
@@ -33,6 +25,11 @@ exchanged link head p q h old new list c d n =
     ((λ e. let f : ⊥ = cc in absurd f), (λ k. chain_one link (head q).index new old n c))
 
 module _ (e : Setup) (m : Marking) (law : Law e m) (w : ℕ) (a : Account) (there : IsThere m.accounts w a) where
+  -- the list of a stack is the law's
+  was_stack : (p q : Which) (old : List ℕ) → IsListOf m q old → p ≡ q → old ≡ law.stack p
+  was_stack p q old c s =
+      chain_one m.link (m.head q).index old (law.stack q) c (law.owned.chain q) ∙ ap law.stack (sym s)
+
   -- after a pop: the rest of the stack, whose list this was
   pub pop_takes :
       (p q : Which) (i : ℕ) (l : Option ℕ) → (look_of a p).head ≡ Some (m.head p) → (m.head p).index ≡ Some i
@@ -52,11 +49,7 @@ module _ (e : Setup) (m : Marking) (law : Law e m) (w : ℕ) (a : Account) (ther
           (subst (λ x. Chain m.link x r.0) stands r.2) n
 
       taken : p ≡ q → (k : ℕ) × (old ≡ k ∷ new)
-      taken s =
-          let was : old ≡ law.stack p = chain_one m.link (m.head p).index old (law.stack p)
-          (subst (λ z. IsListOf m z old) (sym s) c) (law.owned.chain p) in
-          let rest = both.0 s in
-          (i, was ∙ (r.1 ∙ ap (λ xs. i ∷ xs) (sym rest)))
+      taken s = (i, was_stack p q old c s ∙ (r.1 ∙ ap (λ xs. i ∷ xs) (sym (both.0 s))))
 
   -- after a push: the buffer and the stack, whose list this was
   pub push_puts :
@@ -64,17 +57,11 @@ module _ (e : Setup) (m : Marking) (law : Law e m) (w : ℕ) (a : Account) (ther
       → (old new : List ℕ) → IsListOf m q old
       → Chain m.link (put_which p (after (m.head p) (Some i)) m.head q).index new
       → (p ≡ q → new ≡ i ∷ old) × (p ≢ q → new ≡ old)
-  push_puts p q i leads old new c n = (put_on, both.1)
+  push_puts p q i leads old new c n = (λ s. both.0 s ∙ ap (λ xs. i ∷ xs) (sym (was_stack p q old c s)), both.1)
     where
       both : (p ≡ q → new ≡ i ∷ law.stack p) × (p ≢ q → new ≡ old)
       both = exchanged m.link m.head p q (after (m.head p) (Some i)) old new (i ∷ law.stack p) c
           (chain_more m.link (m.head p).index (law.stack p) i (law.owned.chain p) leads) n
-
-      put_on : p ≡ q → new ≡ i ∷ old
-      put_on s =
-          let was : old ≡ law.stack p = chain_one m.link (m.head p).index old (law.stack p)
-          (subst (λ z. IsListOf m z old) (sym s) c) (law.owned.chain p) in
-          both.0 s ∙ ap (λ xs. i ∷ xs) (sym was)
 
   -- a store at a held buffer changes no list
   pub store_leaves : (q : Which) (i : ℕ) (l : Option ℕ) → 0 < times i a.held → (old new : List ℕ) → IsListOf m q old
@@ -83,18 +70,9 @@ module _ (e : Setup) (m : Marking) (law : Law e m) (w : ℕ) (a : Account) (ther
       chain_one (put i l m.link) (m.head q).index new old n
       (chain_links m.link (put i l m.link) (m.head q).index old (λ b h. put_else i b l m.link (other b h)) c)
     where
-      apart : (i < e.buffers) × (times i (law.stack Full) ≡ 0) × (times i (law.stack Empty) ≡ 0)
-      apart = held_apart e.buffers m.head m.link m.accounts law.stack law.owned w a there.0 i mine
-
-      on_no : (p : Which) → times i (law.stack p) ≡ 0
-      on_no Full = apart.1
-      on_no Empty = apart.2
-
       other : (b : ℕ) → 0 < times b old → b ≢ i
-      other b h s =
-          let was : old ≡ law.stack q = chain_one m.link (m.head q).index old (law.stack q) c (law.owned.chain q) in
-          let t : times b old ≡ times i (law.stack q) = ap (λ j. times j old) s ∙ ap (times i) was in
-          absurd (omega (arith, on_no q))
+      other b h = held_else e.buffers m.head m.link m.accounts law.stack law.owned w a there.0 i mine q b
+          (subst (λ xs. 0 < times b xs) (was_stack q q old c refl) h)
 
   pub effect_changes : (kind : Kind) → Allows e m w a kind → (q : Which) (old new : List ℕ) → IsListOf m q old
       → IsListOf (effect m w a kind) q new → Changes q kind old new
@@ -133,11 +111,7 @@ pops_find_links e m law w a q is can i l top next =
 
 -- a number put in that is no smaller makes none smaller
 put_rises : (mark : ℕ → ℕ) (p x : ℕ) → mark p ≤ x → (o : ℕ) → mark o ≤ put p x mark o
-put_rises mark p x h o = go (ℕ_discrete o p)
-  where
-    go : Dec (o ≡ p) → mark o ≤ put p x mark o
-    go (yes s) = let t : mark o ≡ mark p = ap mark s in omega (arith, put_here p o x mark s)
-    go (no n) = omega (arith, put_else p o x mark n)
+put_rises mark p x h = put_each (λ o z. mark o ≤ z) p x mark h (λ o n. omega arith)
 
 effect_marks : (e : Setup) (m : Marking) → Law e m → (w : ℕ) (a : Account) → IsThere m.accounts w a → (kind : Kind)
     → Allows e m w a kind → (o : ℕ) → m.mark o ≤ (effect m w a kind).mark o

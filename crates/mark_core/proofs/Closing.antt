@@ -2,15 +2,9 @@
 use Rattle.std.proofs.Common.{◌≡◌, ◌≢◌, ℕ, ◌+◌, ◌*◌, ◌<◌, ◌≤◌, true, false, true≢false, nat_lt, List, [], Option}
 use Rattle.std.proofs.Common.{Some, None, Contains, ap, sym, subst, ◌∙◌, ⊎_elim, arith}
 use native.Mathlib.Decide.{dec_le, ℕ_discrete}
-use Rattle.mark_core.specs.declared.which.Which.TheVariants.{Full, Empty}
-use Rattle.mark_core.specs.Lists.{StandsAt, times, one_where}
-use Rattle.mark_core.specs.Account.{Account}
-use Rattle.mark_core.specs.World.{Setup, Marking, items_of}
-use Rattle.mark_core.specs.Ownership.{HasOpenPush, held_times}
-use Rattle.mark_core.specs.Colours.{stacked_times, charged_times, finished_times}
-use Rattle.mark_core.specs.Shares.{HasNothing, whole}
-use Rattle.mark_core.specs.Law.{Law}
-use Rattle.mark_core.specs.Runs.{IsListOf, HasEachOnce, AreApart, LiesIn, IsClosed}
+use Rattle.mark_core.proofs.Words.{Full, Empty, StandsAt, times, one_where, Account, Setup, Marking, items_of}
+use Rattle.mark_core.proofs.Words.{HasOpenPush, held_times, stacked_times, charged_times, finished_times, HasNothing}
+use Rattle.mark_core.proofs.Words.{whole, Law, IsListOf, HasEachOnce, AreApart, LiesIn, IsClosed}
 use Rattle.mark_core.proofs.Places.{at_below, at_one}
 use Rattle.mark_core.proofs.Sums.{term_le, terms_le, sum_of-alone, some_term, stands_times, times_stands}
 use Rattle.mark_core.proofs.Chains.{chain_one}

@@ -1,13 +1,10 @@
 -- What each event leaves of the colours.
 use Rattle.std.proofs.Common.{◌≡◌, ◌≢◌, ◌⊎◌, ℕ, zero, suc, ◌+◌, ◌*◌, ◌<◌, ◌≤◌, List, [], ◌∷◌, ◌++◌, Option, Some, None}
-use Rattle.std.proofs.Common.{Contains, set, ap, sym, refl, subst, ◌∙◌, inl, inr, ⊎_elim, arith}
-use native.Mathlib.Decide.{ℕ_discrete}
-use Rattle.mark_core.specs.declared.which.Which.{Which}
-use Rattle.mark_core.specs.Lists.{StandsAt, times, only, IsPart}
-use Rattle.mark_core.specs.Account.{Account, part, no_share, after_join, after_pop, after_push}
-use Rattle.mark_core.specs.World.{Setup, items_of, put}
-use Rattle.mark_core.specs.Colours.{IsColoured, HasColour, IsReachableIn, stacked_times, charged_times, finished_times}
-use Rattle.mark_core.proofs.Places.{OfEach, set_all, push_all, set_else, put_here, put_else}
+use Rattle.std.proofs.Common.{Contains, set, ap, refl, subst, ◌∙◌, inl, inr, ⊎_elim, arith}
+use Rattle.mark_core.proofs.Words.{Which, StandsAt, times, only, IsPart, Account, part, no_share, after_join, after_pop}
+use Rattle.mark_core.proofs.Words.{after_push, Setup, items_of, put, IsColoured, HasColour, IsReachableIn}
+use Rattle.mark_core.proofs.Words.{stacked_times, charged_times, finished_times}
+use Rattle.mark_core.proofs.Places.{OfEach, set_all, push_all, set_else, put_each}
 use Rattle.mark_core.proofs.Sums.{sum_of-set, sum_of-append, term_le, times-without, stands_append, stands_times}
 
 -- the three cases in linear form, and back
@@ -63,51 +60,40 @@ module _ {e : Setup} {mark : ℕ → ℕ} {slots : List (Option (List ℕ))} {ac
           sums_tell (mark o) (stacked_times o slots' + charged_times o accounts') (finished_times o accounts')
           (omega (arith, working o, done o)) (omega (arith, working o, done o))
 
-  -- a mark is written: what is told of that object is told anew, no mark falls, and the object is reachable
+  -- a mark is written: what is told of that object is told anew, and the object is reachable
   pub coloured_put :
-      (o x : ℕ) (accounts' : List Account) → 1 ≤ x → mark o ≤ x
-      → HasColour x (stacked_times o slots + charged_times o accounts') (finished_times o accounts')
-      → ((y : ℕ) → y ≢ o → (charged_times y accounts' ≡ charged_times y accounts)
-      × (finished_times y accounts' ≡ finished_times y accounts))
+      (o x : ℕ) (now : List Account) → 1 ≤ x
+      → HasColour x (stacked_times o slots + charged_times o now) (finished_times o now)
+      → ((y : ℕ) → y ≢ o → (charged_times y now ≡ charged_times y accounts)
+      × (finished_times y now ≡ finished_times y accounts))
       → (x ≡ 2 → (s : ℕ) → Contains e.pairs (o, s) → 1 ≤ mark s) → IsReachableIn e o
-      → ((w : ℕ) (a : Account) → StandsAt accounts' w a → (y : ℕ) → Contains a.seen y → (1 ≤ mark y) ⊎ (y ≡ o))
-      → IsColoured e (put o x mark) slots accounts'
-  coloured_put o x accounts' some grows here others next reach saw =
+      → ((w : ℕ) (a : Account) → StandsAt now w a → (y : ℕ) → Contains a.seen y → (1 ≤ mark y) ⊎ (y ≡ o))
+      → IsColoured e (put o x mark) slots now
+  coloured_put o x now some here others next reach saw =
       record {
-        colours = λ y. colours y (ℕ_discrete y o);
-        closed = λ y s. closed y s (ℕ_discrete y o);
-        reachable = λ y. reachable y (ℕ_discrete y o);
-        saw =
-            λ w a at y k. marked y (saw w a at y k) (ℕ_discrete y o);
+        colours =
+            put_each
+            (λ y z. HasColour z (stacked_times y slots + charged_times y now) (finished_times y now)) o x mark
+            here elsewhere;
+        closed =
+            λ y s.
+            put_each (λ v z. z ≡ 2 → Contains e.pairs (v, s) → 1 ≤ put o x mark s) o x mark
+            (λ two k. marked s (inl (next two s k))) (λ v n two k. marked s (inl (c.closed v s two k))) y;
+        reachable = put_each (λ y z. 1 ≤ z → IsReachableIn e y) o x mark (λ _. reach) (λ y n. c.reachable y);
+        saw = λ w a at y k. marked y (saw w a at y k);
       }
     where
-      marked : (y : ℕ) → (1 ≤ mark y) ⊎ (y ≡ o) → Dec (y ≡ o) → 1 ≤ put o x mark y
-      marked y h (yes p) = omega (arith, put_here o y x mark p)
-      marked y (inl h) (no n) = omega (arith, put_else o y x mark n)
-      marked y (inr h) (no n) = absurd (n h)
+      marked : (y : ℕ) → (1 ≤ mark y) ⊎ (y ≡ o) → 1 ≤ put o x mark y
+      marked = put_each (λ y z. (1 ≤ mark y) ⊎ (y ≡ o) → 1 ≤ z) o x mark (λ _. some)
+          (λ y n. ⊎_elim (λ t. t) (λ same. absurd (n same)))
 
-      colours : (y : ℕ) → Dec (y ≡ o) → HasColour (put o x mark y) (stacked_times y slots + charged_times y accounts')
-          (finished_times y accounts')
-      colours y (yes p) =
-          subst (λ z. HasColour z (stacked_times y slots + charged_times y accounts') (finished_times y accounts'))
-          (sym (put_here o y x mark p))
-          (subst (λ z. HasColour x (stacked_times z slots + charged_times z accounts') (finished_times z accounts'))
-          (sym p) here)
-      colours y (no n) =
+      elsewhere : (y : ℕ) → y ≢ o
+          → HasColour (mark y) (stacked_times y slots + charged_times y now) (finished_times y now)
+      elsewhere y n =
           let t = linear e mark slots accounts c y in
           let s = others y n in
-          let m = put_else o y x mark n in
-          sums_tell (put o x mark y) (stacked_times y slots + charged_times y accounts') (finished_times y accounts')
+          sums_tell (mark y) (stacked_times y slots + charged_times y now) (finished_times y now)
           (omega arith) (omega arith)
-
-      closed : (y s : ℕ) → Dec (y ≡ o) → put o x mark y ≡ 2 → Contains e.pairs (y, s) → 1 ≤ put o x mark s
-      closed y s (yes p) m k = marked s
-          (inl (next (sym (put_here o y x mark p) ∙ m) s (subst (λ z. Contains e.pairs (z, s)) p k))) (ℕ_discrete s o)
-      closed y s (no n) m k = marked s (inl (c.closed y s (sym (put_else o y x mark n) ∙ m) k)) (ℕ_discrete s o)
-
-      reachable : (y : ℕ) → Dec (y ≡ o) → 1 ≤ put o x mark y → IsReachableIn e y
-      reachable y (yes p) m = subst (IsReachableIn e) (sym p) reach
-      reachable y (no n) m = c.reachable y (omega (arith, put_else o y x mark n))
 
   -- a new account that has only units
   pub coloured_part : (units : ℕ) → IsColoured e mark slots (accounts ++ part units ∷ [])

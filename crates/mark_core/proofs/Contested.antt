@@ -4,16 +4,10 @@ use Rattle.std.proofs.Common.{◌≡◌, ◌≢◌, ◌⊎◌, ℕ, suc, List, [
 use Rattle.std.proofs.Common.{sym, refl, subst, ◌∙◌, inl, inr, ⊎_elim, arith}
 use native.Mathlib.Decide.{ℕ_discrete}
 use Rattle.tagged_index.specs.Head.{Head, after}
-use Rattle.mark_core.specs.declared.which.Which.{Which}
-use Rattle.mark_core.specs.declared.which.Which.TheVariants.{Full, Empty}
-use Rattle.mark_core.specs.Lists.{StandsAt}
-use Rattle.mark_core.specs.Account.{Account, look_of, part, no_share, after_split}
-use Rattle.mark_core.specs.Account.{after_join, after_load}
-use Rattle.mark_core.specs.World.{Setup, Marking, account_at, put_which}
-use Rattle.mark_core.specs.Events.{Kind, Split, Join, Load, LoadLink, StoreLink, Pop, Push, Fail}
-use Rattle.mark_core.specs.Events.{Event, Allows, IsPossible, effect, happens}
-use Rattle.mark_core.specs.Runs.{Run}
-use Rattle.mark_core.specs.Conclusions.{Exchanges, LossesAreContested}
+use Rattle.mark_core.proofs.Words.{Which, Full, Empty, StandsAt, Account, look_of, part, no_share, after_split}
+use Rattle.mark_core.proofs.Words.{after_join, after_load, Setup, Marking, account_at, put_which, Kind, Split, Join}
+use Rattle.mark_core.proofs.Words.{Load, LoadLink, StoreLink, Pop, Push, Fail, Event, Allows, IsPossible, effect}
+use Rattle.mark_core.proofs.Words.{happens, Run, Exchanges, LossesAreContested}
 use Rattle.mark_core.proofs.Places.{at_longer, at_one, set_else, set_here}
 use Rattle.mark_core.proofs.Happens.{happens_as, tried}
 
@@ -165,7 +159,8 @@ module _ (e : Setup) (q : Which) where
       later_too : IsContested q w rest → IsContested q w (event ∷ rest)
       later_too found = (suc found.0, found.1, found.2, found.3, found.4)
 
-      go : Dec (event.worker ≡ w) → Dec (Exchanges q event.kind) → (Knows q w (happens first event) → IsContested q w rest)
+      go : Dec (event.worker ≡ w) → Dec (Exchanges q event.kind)
+          → (Knows q w (happens first event) → IsContested q w rest)
           → IsContested q w (event ∷ rest)
       go (yes mine) d later =
           let no = own 0 event refl mine in

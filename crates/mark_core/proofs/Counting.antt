@@ -1,10 +1,7 @@
 -- A list of events that leads to a marking goes on by each event that is possible there.
 use Rattle.std.proofs.Common.{◌≡◌, ◌<◌, List, [], ◌∷◌, ◌++◌, ap, sym, refl, subst, ◌∙◌}
-use Rattle.mark_core.specs.World.{Setup, Marking}
-use Rattle.mark_core.specs.Events.{Event, IsPossible, happens}
-use Rattle.mark_core.specs.Law.{Law}
-use Rattle.mark_core.specs.Runs.{opening, Run}
-use Rattle.mark_core.specs.Counts.{Counts, LeadTo, no_counts, counted, all_counted}
+use Rattle.mark_core.proofs.Words.{Setup, Marking, Event, IsPossible, happens, Law, opening, Run, Counts, LeadTo}
+use Rattle.mark_core.proofs.Words.{no_counts, counted, all_counted}
 use Rattle.mark_core.proofs.Runs.{runs_keep_law}
 
 module _ (e : Setup) (event : Event) where

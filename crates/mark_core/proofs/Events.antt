@@ -4,23 +4,18 @@ use Rattle.std.proofs.Common.{None, is_some, cond, Contains, set, ap, sym, refl,
 use Rattle.std.proofs.Common.{◌∙◌, slice_index_or, inl, inr, ⊎_elim, eq-eqb, ne_eqb, arith}
 use native.Mathlib.Decide.{ℕ_discrete}
 use Rattle.tagged_index.specs.Head.{Head, after}
-use Rattle.mark_core.specs.declared.which.Which.{Which}
-use Rattle.mark_core.specs.declared.which.Which.TheVariants.{Full, Empty}
-use Rattle.mark_core.specs.Lists.{StandsAt, times, only, IsPart}
-use Rattle.mark_core.specs.Account.{Account, look_of, no_share, after_claim, after_finish, after_split}
-use Rattle.mark_core.specs.Account.{after_join, after_load_link, after_pop, after_push}
-use Rattle.mark_core.specs.World.{Setup, Marking, items_of, put, put_which}
-use Rattle.mark_core.specs.Events.{Kind, Claim, Finish, Split, Join, Load, LoadLink, StoreLink, Pop, Push, Fail}
-use Rattle.mark_core.specs.Events.{CanClaim, CanFinish, Allows, effect, stack_popped, last_link, link_from}
-use Rattle.mark_core.specs.Ownership.{IsRecent, IsOwned}
-use Rattle.mark_core.specs.Colours.{HasColour, IsReachableIn, stacked_times, charged_times, finished_times}
-use Rattle.mark_core.specs.Law.{Law}
+use Rattle.mark_core.proofs.Words.{Which, Full, Empty, StandsAt, times, only, IsPart, Account, look_of, no_share}
+use Rattle.mark_core.proofs.Words.{after_claim, after_finish, after_split, after_join, after_load_link, after_pop}
+use Rattle.mark_core.proofs.Words.{after_push, Setup, Marking, items_of, put, put_which, Kind, Claim, Finish, Split}
+use Rattle.mark_core.proofs.Words.{Join, Load, LoadLink, StoreLink, Pop, Push, Fail, CanClaim, CanFinish, Allows}
+use Rattle.mark_core.proofs.Words.{effect, stack_popped, last_link, link_from, IsRecent, IsOwned, HasColour}
+use Rattle.mark_core.proofs.Words.{IsReachableIn, stacked_times, charged_times, finished_times, Law}
 use Rattle.mark_core.proofs.Places.{at_get_or, set_all, put_else, put_one}
 use Rattle.mark_core.proofs.Happens.{pops_as}
 use Rattle.mark_core.proofs.Sums.{sum_of-set, sum_of-append, only-same, only-other, stands_push, stands_times}
 use Rattle.mark_core.proofs.Sums.{times-remove_one}
 use Rattle.mark_core.proofs.Chains.{chain_none, recent_loaded, recent_linked}
-use Rattle.mark_core.proofs.Ownership.{popped_sum, pushed_sum, owned_links, owned_part, held_apart}
+use Rattle.mark_core.proofs.Ownership.{popped_sum, pushed_sum, owned_links, owned_part, held_apart, held_else}
 use Rattle.mark_core.proofs.Ownership.{place_one, top_stands, owned_set, owned_same, owned_pop, owned_push, owned_join}
 use Rattle.mark_core.proofs.Shelves.{shelved_set}
 use Rattle.mark_core.proofs.Colours.{linear, sums_tell, charged, reachable_next, coloured_same, coloured_put}
@@ -98,22 +93,13 @@ module _ (e : Setup) (m : Marking) (law : Law e m) (w : ℕ) (a : Account) (is :
   store_keeps i l mine =
       record {
         stack = law.stack;
-        owned = owned_links law.owned (put i l m.link) (λ q b h. put_else i b l m.link (other q b h));
+        owned = owned_links law.owned (put i l m.link) (λ q b h.
+            put_else i b l m.link
+            (held_else e.buffers m.head m.link m.accounts law.stack law.owned w a is i mine q b h));
         shelved = law.shelved;
         coloured = law.coloured;
         shared = law.shared;
       }
-    where
-      apart : (i < e.buffers) × (times i (law.stack Full) ≡ 0) × (times i (law.stack Empty) ≡ 0)
-      apart = held_apart e.buffers m.head m.link m.accounts law.stack law.owned w a is i mine
-
-      on_no : (q : Which) → times i (law.stack q) ≡ 0
-      on_no Full = apart.1
-      on_no Empty = apart.2
-
-      other : (q : Which) (b : ℕ) → 0 < times b (law.stack q) → b ≢ i
-      other q b h s = let t : times b (law.stack q) ≡ times i (law.stack q) = ap (λ j. times j (law.stack q)) s in
-          absurd (omega (arith, on_no q))
 
   pop_keeps :
       (q : Which) (i : ℕ) (l : Option ℕ) → (look_of a q).head ≡ Some (m.head q) → (m.head q).index ≡ Some i
@@ -201,7 +187,7 @@ module _ (e : Setup) (m : Marking) (law : Law e m) (w : ℕ) (a : Account) (is :
         owned = owned_same law.owned w a is b refl refl refl refl;
         shelved = law.shelved;
         coloured = coloured_put law.coloured o (max (m.mark o) 1) (set m.accounts w b)
-            (omega arith) (omega arith) (here (ℕ_discrete (m.mark o) 0))
+            (omega arith) (here (ℕ_discrete (m.mark o) 0))
             (others (ℕ_discrete (m.mark o) 0)) next reach saw;
         shared = shared_set m.accounts law.shared w a is there b refl;
       }
@@ -261,8 +247,8 @@ module _ (e : Setup) (m : Marking) (law : Law e m) (w : ℕ) (a : Account) (is :
         stack = law.stack;
         owned = owned_same law.owned w a is b refl refl refl refl;
         shelved = law.shelved;
-        coloured = coloured_put law.coloured o 2 (set m.accounts w b) (omega arith)
-            (omega (arith, was)) here others next (law.coloured.reachable o (omega (arith, was))) saw;
+        coloured = coloured_put law.coloured o 2 (set m.accounts w b) (omega arith) here others
+            next (law.coloured.reachable o (omega (arith, was))) saw;
         shared = shared_set m.accounts law.shared w a is there b refl;
       }
     where

@@ -7,10 +7,7 @@ use Rattle.std.proofs.lemmas.Bool.{cases_lt}
 use Rattle.std.proofs.lemmas.List.{get_or_past}
 use Rattle.std.proofs.lemmas.List.FromFn.{fill_by_all}
 use Rattle.std.proofs.lemmas.List.Sums.{length-filter, sum_by-cons}
-use Rattle.mark_core.specs.Lists.{StandsAt, times}
-use Rattle.mark_core.specs.Account.{Account}
-use Rattle.mark_core.specs.World.{Setup, Marking}
-use Rattle.mark_core.specs.Law.{Law}
+use Rattle.mark_core.proofs.Words.{StandsAt, times, Account, Setup, Marking, Law}
 use Rattle.mark_core.proofs.Chosen.{AreThose, IsOnce, chosen, chosen_sums, few_once, ones}
 use Rattle.mark_core.proofs.Closing.{has_each_once}
 use Rattle.mark_core.proofs.Colours.{linear}

@@ -6,18 +6,11 @@ use Rattle.std.proofs.Common.{⊎_elim, arith}
 use Rattle.std.proofs.lemmas.Bool.{false≢true, or_cases}
 use native.Mathlib.Decide.{dec_le}
 use Rattle.tagged_index.specs.Head.{Head}
-use Rattle.mark_core.specs.declared.which.Which.{Which}
-use Rattle.mark_core.specs.declared.which.Which.TheVariants.{Full, Empty}
-use Rattle.mark_core.specs.Lists.{StandsAt}
-use Rattle.mark_core.specs.Account.{Account, look_of, part, no_share}
-use Rattle.mark_core.specs.World.{Setup, Marking, account_at}
-use Rattle.mark_core.specs.Events.{Kind, Split, Join, Load, LoadLink, StoreLink, Pop, Push, Fail}
-use Rattle.mark_core.specs.Events.{LoadIdle, Event, Allows, IsPossible, effect, happens}
-use Rattle.mark_core.specs.Shares.{whole}
-use Rattle.mark_core.specs.Runs.{Run, first_heads, opening}
-use Rattle.mark_core.specs.Counts.{Counts, LeadTo, add_counts, all_counted, count_load}
-use Rattle.mark_core.specs.Counts.{counted, counts_at, no_counts}
-use Rattle.mark_core.specs.Conclusions.{FirstTagsAreFirst, HadHead, HasChanged, LoadedHeadsWere, PushesFollowChanges}
+use Rattle.mark_core.proofs.Words.{Which, Full, Empty, StandsAt, Account, look_of, part, no_share, Setup, Marking}
+use Rattle.mark_core.proofs.Words.{account_at, Kind, Split, Join, Load, LoadLink, StoreLink, Pop, Push, Fail, LoadIdle}
+use Rattle.mark_core.proofs.Words.{Event, Allows, IsPossible, effect, happens, whole, Run, first_heads, opening, Counts}
+use Rattle.mark_core.proofs.Words.{LeadTo, add_counts, all_counted, count_load, counted, counts_at, no_counts}
+use Rattle.mark_core.proofs.Words.{FirstTagsAreFirst, HadHead, HasChanged, LoadedHeadsWere, PushesFollowChanges}
 use Rattle.mark_core.proofs.Places.{OfEach, set_all, push_all, one_all}
 use Rattle.mark_core.proofs.Happens.{happens_as, tried}
 use Rattle.mark_core.proofs.Changes.{tags_rise}

@@ -1,10 +1,7 @@
 -- What an event does, said of the account that takes part in it, and what holds along a run.
 use Rattle.std.proofs.Common.{◌≡◌, ℕ, List, [], ◌∷◌, Option, Some, ap, sym, subst, ◌∙◌}
-use Rattle.mark_core.specs.declared.which.Which.{Which}
-use Rattle.mark_core.specs.Account.{Account, look_of, no_share}
-use Rattle.mark_core.specs.World.{Setup, Marking}
-use Rattle.mark_core.specs.Events.{Pop, Event, CanPop, IsPossible, effect, happens, stack_popped}
-use Rattle.mark_core.specs.Runs.{Run}
+use Rattle.mark_core.proofs.Words.{Which, Account, look_of, no_share, Setup, Marking, Pop, Event, CanPop, IsPossible}
+use Rattle.mark_core.proofs.Words.{effect, happens, stack_popped, Run}
 use Rattle.mark_core.proofs.Places.{at_get_or}
 
 -- the account that is there does it

@@ -2,8 +2,7 @@
 use Rattle.std.proofs.Common.{◌≡◌, ◌<◌, true, false, nat_lt, lt-ltb, sym, List, length, ℕ, get_or, subst, ◌∙◌, arith}
 use Rattle.std.proofs.lemmas.Grind.{common_steps}
 use Rattle.std.proofs.lemmas.List.{get_or_default}
-use Rattle.mark_core.specs.Account.{Account}
-use Rattle.mark_core.specs.World.{account_at}
+use Rattle.mark_core.proofs.Words.{Account, account_at}
 
 is_within : (w n : ℕ) → true ≡ nat_lt w n → w < n
 is_within w n is = grind (arith, common_steps)

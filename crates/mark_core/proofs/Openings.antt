@@ -6,17 +6,9 @@ use mathlib.Core.Option.{some-injective, some-ne-none}
 use lib.ListN.{length-replicate}
 use Rattle.std.specs.List.{range_with_len}
 use Rattle.std.proofs.lemmas.List.FromFn.{length-range_with_len}
-use Rattle.mark_core.specs.declared.which.Which.{Which}
-use Rattle.mark_core.specs.declared.which.Which.TheVariants.{Full, Empty}
-use Rattle.mark_core.specs.Lists.{StandsAt, times, one_where}
-use Rattle.mark_core.specs.Account.{Account, look_of, part}
-use Rattle.mark_core.specs.World.{Setup, items_of}
-use Rattle.mark_core.specs.Ownership.{Chain, IsOwned, IsShelved, IsRecent}
-use Rattle.mark_core.specs.Colours.{IsColoured, stacked_times}
-use Rattle.mark_core.specs.Shares.{IsShared, HasNothing, whole}
-use Rattle.mark_core.specs.Law.{Law}
-use Rattle.mark_core.specs.Runs.{first_heads, first_link, opening}
-use Rattle.mark_core.specs.Conclusions.{first_length}
+use Rattle.mark_core.proofs.Words.{Which, Full, Empty, StandsAt, times, one_where, Account, look_of, part, Setup}
+use Rattle.mark_core.proofs.Words.{items_of, Chain, IsOwned, IsShelved, IsRecent, IsColoured, stacked_times, IsShared}
+use Rattle.mark_core.proofs.Words.{HasNothing, whole, Law, first_heads, first_link, opening, first_length}
 use Rattle.mark_core.proofs.Places.{OfEach, one_all}
 use Rattle.mark_core.proofs.Sums.{sum_of-nothing}
 use Rattle.mark_core.proofs.Chains.{recent_bare}

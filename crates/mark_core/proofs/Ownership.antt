@@ -5,12 +5,9 @@ use Rattle.std.proofs.Common.{arith}
 use Rattle.std.proofs.lemmas.Bool.{or_left, or_right}
 use native.Mathlib.Decide.{dec_le, ℕ_discrete}
 use Rattle.tagged_index.specs.Head.{Head, after}
-use Rattle.mark_core.specs.declared.which.Which.{Which}
-use Rattle.mark_core.specs.declared.which.Which.TheVariants.{Full, Empty}
-use Rattle.mark_core.specs.Lists.{StandsAt, times, one_where, only}
-use Rattle.mark_core.specs.Account.{Account, look_of, part, no_share, after_pop, after_push, after_join}
-use Rattle.mark_core.specs.World.{put_which}
-use Rattle.mark_core.specs.Ownership.{Chain, IsRecent, IsOwned, HasOpenPush, held_times}
+use Rattle.mark_core.proofs.Words.{Which, Full, Empty, StandsAt, times, one_where, only, Account, look_of, part}
+use Rattle.mark_core.proofs.Words.{no_share, after_pop, after_push, after_join, put_which, Chain, IsRecent, IsOwned}
+use Rattle.mark_core.proofs.Words.{HasOpenPush, held_times}
 use Rattle.mark_core.proofs.Places.{OfEach, set_all, push_all, at_longer, at_one, set_here, set_else, put_one, put_two}
 use Rattle.mark_core.proofs.Sums.{sum_of-set, sum_of-append, term_le, times-remove_one, only-same}
 use Rattle.mark_core.proofs.Chains.{chain_links, chain_rest, chain_more, recent_bare, recent_after, recent_links}
@@ -95,6 +92,15 @@ module _ (buffers : ℕ) (head : Which → Head) (link : ℕ → Option ℕ) (ac
       let t = term_le (λ (x : Account). times i x.held) accounts w a is in
       let p = place_one i in
       (place_below i (omega arith), omega arith, omega arith)
+
+  -- so it is none of the stacked ones
+  pub held_else : (w : ℕ) (a : Account) → StandsAt accounts w a → (i : ℕ) → 0 < times i a.held
+      → (q : Which) (b : ℕ) → 0 < times b (stack q) → b ≢ i
+  held_else w a is i h q b stands same = absurd (omega (arith, off q, ap (λ j. times j (stack q)) same))
+    where
+      off : (p : Which) → times i (stack p) ≡ 0
+      off Full = (held_apart w a is i h).1
+      off Empty = (held_apart w a is i h).2
 
 module _ {buffers : ℕ} {head : Which → Head} {link : ℕ → Option ℕ} {accounts : List Account} {stack : Which → List ℕ}
     (o : IsOwned buffers head link accounts stack) where

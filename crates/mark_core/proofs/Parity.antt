@@ -2,27 +2,14 @@
 use Rattle.std.proofs.Common.{◌≡◌, ◌≢◌, ℕ, ◌+◌, ◌*◌, List, [], ◌∷◌, length, Option, Some, ap, sym, refl, subst}
 use Rattle.std.proofs.Common.{arith}
 use Rattle.tagged_index.specs.Head.{Head, after}
-use Rattle.mark_core.specs.declared.which.Which.{Which}
-use Rattle.mark_core.specs.declared.which.Which.TheVariants.{Full, Empty}
-use Rattle.mark_core.specs.Account.{Account}
-use Rattle.mark_core.specs.World.{Setup, Marking, IsThere, put_which}
-use Rattle.mark_core.specs.Events.{Kind, Pop, Push}
-use Rattle.mark_core.specs.Events.{Event, Allows, IsPossible, effect, happens}
-use Rattle.mark_core.specs.Law.{Law}
-use Rattle.mark_core.specs.Runs.{Changes, IsListOf, Run, opening}
-use Rattle.mark_core.specs.Conclusions.{TagsKeepParity, one_stack, push_count, pushes_among}
+use Rattle.mark_core.proofs.Words.{Which, Full, Empty, Account, Setup, Marking, IsThere, put_which, Kind, Pop, Push}
+use Rattle.mark_core.proofs.Words.{Event, Allows, IsPossible, effect, happens, Law, Changes, IsListOf, Run, opening}
+use Rattle.mark_core.proofs.Words.{TagsKeepParity, one_stack, push_count, pushes_among}
 use Rattle.mark_core.proofs.Happens.{happens_as, pops_as}
 use Rattle.mark_core.proofs.Chains.{chain_one}
 use Rattle.mark_core.proofs.Changes.{effect_changes}
 use Rattle.mark_core.proofs.Runs.{happens_keeps}
 use Rattle.mark_core.proofs.Openings.{opening_keeps, opening_length}
-
--- the two stacks are two
-full_is_not_empty : Full ≢ Empty
-full_is_not_empty e = cc
-
-empty_is_not_full : Empty ≢ Full
-empty_is_not_full e = cc
 
 -- a head was exchanged, and its stack got one buffer less
 pop_parity :
@@ -30,18 +17,16 @@ pop_parity :
     × (p ≢ q → new ≡ old)
     → (put_which p (after (head p) l) head q).tag + length new ≡ (head q).tag + length old
 pop_parity head Full Full l old new c = let taken = c.0 refl in omega (arith, ap length taken.1)
-pop_parity head Full Empty l old new c = omega (arith, ap length (c.1 full_is_not_empty))
-pop_parity head Empty Full l old new c = omega (arith, ap length (c.1 empty_is_not_full))
 pop_parity head Empty Empty l old new c = let taken = c.0 refl in omega (arith, ap length taken.1)
+pop_parity head _ _ l old new c = omega (arith, ap length (c.1 (λ e. cc)))
 
 -- or one more
 push_parity :
     (head : Which → Head) (p q : Which) (i : ℕ) (old new : List ℕ) → (p ≡ q → new ≡ i ∷ old) × (p ≢ q → new ≡ old)
     → (put_which p (after (head p) (Some i)) head q).tag + length new ≡ (head q).tag + length old + 2 * one_stack p q
 push_parity head Full Full i old new c = omega (arith, ap length (c.0 refl))
-push_parity head Full Empty i old new c = omega (arith, ap length (c.1 full_is_not_empty))
-push_parity head Empty Full i old new c = omega (arith, ap length (c.1 empty_is_not_full))
 push_parity head Empty Empty i old new c = omega (arith, ap length (c.0 refl))
+push_parity head _ _ i old new c = omega (arith, ap length (c.1 (λ e. cc)))
 
 -- what an event leaves of a stack's tag and length
 abbrev Keeps : Marking → Marking → Kind → Which → List ℕ → List ℕ → Type 0

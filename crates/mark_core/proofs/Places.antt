@@ -4,10 +4,7 @@ use Rattle.std.proofs.Common.{refl, subst, ◌∙◌, inl, inr, ⊎_elim, eq-eqb
 use mathlib.Core.Option.{some-injective, some-ne-none}
 use native.Mathlib.Decide.{ℕ_discrete}
 use lib.ListN.{get_elem?}
-use Rattle.mark_core.specs.declared.which.Which.{Which}
-use Rattle.mark_core.specs.declared.which.Which.TheVariants.{Full, Empty}
-use Rattle.mark_core.specs.Lists.{StandsAt}
-use Rattle.mark_core.specs.World.{put, put_which}
+use Rattle.mark_core.proofs.Words.{Which, Full, Empty, StandsAt, put, put_which}
 
 module _ {X : Type 0} where
   -- what stands at j after a write at i
@@ -57,6 +54,15 @@ module _ {X : Type 0} where
   put_else i j x f n = ap (λ t. cond t x (f j)) (ne_eqb j i n)
 
   -- what holds of the value put in and of each other one holds of all
+  pub put_each : (C : ℕ → X → Type 0) (i : ℕ) (x : X) (f : ℕ → X) → C i x → ((j : ℕ) → j ≢ i → C j (f j))
+      → (j : ℕ) → C j (put i x f j)
+  put_each C i x f here others j = go (ℕ_discrete j i)
+    where
+      go : Dec (j ≡ i) → C j (put i x f j)
+      go (yes e) = subst (C j) (sym (put_here i j x f e)) (subst (λ k. C k x) (sym e) here)
+      go (no n) = subst (C j) (sym (put_else i j x f n)) (others j n)
+
+  -- the same of two stacks
   pub put_one : (C : Which → X → Type 0) (q : Which) (x : X) (f : Which → X) → C q x → ((p : Which) → C p (f p))
       → (p : Which) → C p (put_which q x f p)
   put_one C Full x f here each Full = here

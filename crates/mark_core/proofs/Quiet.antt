@@ -5,19 +5,12 @@ use Rattle.std.proofs.Common.{slice_index_or, ap, sym, refl, subst, ◌∙◌, i
 use Rattle.std.proofs.lemmas.Bool.{false≢true, or_left, or_parts}
 use mathlib.Core.Option.{some-injective, some-ne-none}
 use native.Mathlib.Decide.{ℕ_discrete}
-use Rattle.mark_core.specs.declared.which.Which.{Which}
-use Rattle.mark_core.specs.declared.which.Which.TheVariants.{Full, Empty}
-use Rattle.mark_core.specs.Lists.{StandsAt, sum_of, without}
-use Rattle.mark_core.specs.Account.{Account, part, no_share, after_finish, after_split}
-use Rattle.mark_core.specs.Account.{after_join, after_load, after_pop, after_push, after_idle_up}
-use Rattle.mark_core.specs.Account.{after_idle_down}
-use Rattle.mark_core.specs.World.{Setup, Marking, items_of, IsThere}
-use Rattle.mark_core.specs.Events.{Kind, Claim, Finish, Split, Join, Load, LoadLink, StoreLink, Pop, Push, Fail, IdleUp}
-use Rattle.mark_core.specs.Events.{IdleDown, Event, IsBusy, Allows, IsPossible, effect, happens, stack_popped}
-use Rattle.mark_core.specs.Events.{word_up, word_down}
-use Rattle.mark_core.specs.Shares.{whole}
-use Rattle.mark_core.specs.Runs.{IsRun, opening}
-use Rattle.mark_core.specs.Quiet.{HasGivenUnits, QuietIsDone}
+use Rattle.mark_core.proofs.Words.{Which, Full, Empty, StandsAt, sum_of, without, Account, part, no_share, after_finish}
+use Rattle.mark_core.proofs.Words.{after_split, after_join, after_load, after_pop, after_push, after_idle_up}
+use Rattle.mark_core.proofs.Words.{after_idle_down, Setup, Marking, items_of, IsThere, Kind, Claim, Finish, Split, Join}
+use Rattle.mark_core.proofs.Words.{Load, LoadLink, StoreLink, Pop, Push, Fail, IdleUp, IdleDown, Event, IsBusy, Allows}
+use Rattle.mark_core.proofs.Words.{IsPossible, effect, happens, stack_popped, word_up, word_down, whole, IsRun, opening}
+use Rattle.mark_core.proofs.Words.{HasGivenUnits, QuietIsDone}
 use Rattle.mark_core.proofs.Places.{at_below, at_get_or, set_here, set_else, set_all, push_all}
 use Rattle.mark_core.proofs.Places.{set_at, push_at, set_back, one_all}
 use Rattle.mark_core.proofs.Happens.{happens_as, pops_as, along}

@@ -1,7 +1,6 @@
 -- Every run from an opening marking keeps the law.
 use Rattle.std.proofs.Common.{sym, subst}
-use Rattle.mark_core.specs.Law.{Law}
-use Rattle.mark_core.specs.Runs.{RunsKeepLaw, EventsKeepLaw}
+use Rattle.mark_core.proofs.Words.{Law, RunsKeepLaw, EventsKeepLaw}
 use Rattle.mark_core.proofs.Happens.{happens_as, along}
 use Rattle.mark_core.proofs.Events.{effect_keeps}
 use Rattle.mark_core.proofs.Openings.{opening_keeps}

@@ -1,9 +1,8 @@
 -- What each event leaves of the shares.
 use Rattle.std.proofs.Common.{◌≡◌, ◌≢◌, ℕ, ◌<◌, List, [], ◌∷◌, ◌++◌, set, refl, ◌∙◌}
 use Rattle.std.proofs.Common.{arith}
-use Rattle.mark_core.specs.Lists.{StandsAt}
-use Rattle.mark_core.specs.Account.{Account, part, no_share, after_split, after_join}
-use Rattle.mark_core.specs.Shares.{IsShared, HasNothing, shares, whole}
+use Rattle.mark_core.proofs.Words.{StandsAt, Account, part, no_share, after_split, after_join, IsShared, HasNothing}
+use Rattle.mark_core.proofs.Words.{shares, whole}
 use Rattle.mark_core.proofs.Places.{set_all, push_all, set_else}
 use Rattle.mark_core.proofs.Sums.{sum_of-set, sum_of-append}
 

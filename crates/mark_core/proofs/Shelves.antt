@@ -1,10 +1,7 @@
 -- What a pop and a push leave of the slots.
 use Rattle.std.proofs.Common.{◌≡◌, ◌≢◌, ℕ, ◌<◌, List, [], Option, Some, None, set, sym, subst, ◌∙◌, length-set, arith}
 use native.Mathlib.Decide.{ℕ_discrete}
-use Rattle.mark_core.specs.declared.which.Which.{Which}
-use Rattle.mark_core.specs.declared.which.Which.TheVariants.{Full, Empty}
-use Rattle.mark_core.specs.Lists.{StandsAt, times}
-use Rattle.mark_core.specs.Ownership.{IsShelved}
+use Rattle.mark_core.proofs.Words.{Which, Full, Empty, StandsAt, times, IsShelved}
 use Rattle.mark_core.proofs.Places.{set_here, set_else}
 
 -- one slot changes, and what changes of the stacks is that buffer alone

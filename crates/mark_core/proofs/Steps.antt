@@ -1,13 +1,9 @@
 -- From what one account does to a step of a world, and the law after it.
-use Rattle.std.proofs.Common.{ℕ, Bool, true, false, Result, Ok, Err, IfErr, IfOk, ap, sym, subst}
+use Rattle.std.proofs.Common.{ℕ, ◌<◌, Bool, true, false, List, length, Result, Ok, Err, IfErr, IfOk, ap, sym, subst}
 use Rattle.std.proofs.Common.{◌∙◌}
 use Rattle.std.proofs.lemmas.List.{get_or_default}
-use Rattle.mark_core.specs.Account.{Account, no_share}
-use Rattle.mark_core.specs.World.{Marking, account_at, IsThere}
-use Rattle.mark_core.specs.Events.{Kind, Event, Allows}
-use Rattle.mark_core.specs.Law.{Law}
-use Rattle.mark_core.specs.StepCall.{Listing, IsLawful, HasAccount, HasNumber, CanStep, MayDo, Tries, Follows, Steps}
-use Rattle.mark_core.specs.StepCall.{marking_of}
+use Rattle.mark_core.proofs.Words.{Account, no_share, Marking, account_at, IsThere, Kind, Event, Allows, Law, Listing}
+use Rattle.mark_core.proofs.Words.{IsLawful, HasAccount, HasNumber, CanStep, MayDo, Tries, Follows, Steps, marking_of}
 use Rattle.mark_core.proofs.Places.{at_get_or}
 use Rattle.mark_core.proofs.Runs.{happens_keeps}
 use Rattle.mark_core.proofs.Within.{stands_here, is_there}
@@ -24,16 +20,18 @@ pub no_number : (l : Listing) (w : ℕ) (kind : Kind) → ¬ HasNumber kind l.ac
 no_number l w kind none can = none can.1
 
 -- the account that the lists have at this number is there
-there_at : (l : Listing) (w : ℕ) → HasAccount l w → IsThere l.accounts w (account_at l.accounts w)
-there_at l w there =
-    let a = account_at l.accounts w in
-    (stands_here l.accounts w a there.0 (get_or_default l.accounts w no_share a there.0), there.1)
+pub there_at :
+    (accounts : List Account) (w : ℕ) → (w < length accounts) × (0 < (account_at accounts w).share)
+    → IsThere accounts w (account_at accounts w)
+there_at accounts w there =
+    let a = account_at accounts w in
+    (stands_here accounts w a there.0 (get_or_default accounts w no_share a there.0), there.1)
 
 pub steps_of : (old new : Listing) (w : ℕ) (kind : Kind) (done : Bool) → HasAccount old w
     → HasNumber kind old.accounts → Tries old w kind done new → Steps old (record { worker = w; kind = kind }) done new
 steps_of old new w kind true there number does =
     record {
-      possible = ((account_at old.accounts w, there_at old w there, does.allowed), number);
+      possible = ((account_at old.accounts w, there_at old.accounts w there, does.allowed), number);
       marking = does.marking;
       setup = does.setup;
       links = does.links;
@@ -65,7 +63,7 @@ pub steps_refused :
     → IfErr answer (λ _. MayDo old w kind) → IfErr answer (λ _. CanStep old (record { worker = w; kind = kind }))
 steps_refused old w kind (Ok done) there number may = tt
 steps_refused old w kind (Err e) there number may =
-    ((account_at old.accounts w, there_at old w there, may), number)
+    ((account_at old.accounts w, there_at old.accounts w there, may), number)
 
 -- after a step the law holds
 pub lawful_after : (old new : Listing) (event : Event) → IsLawful old → Follows old event new → IsLawful new

@@ -3,20 +3,15 @@ use Rattle.std.proofs.Common.{◌≡◌, ◌≢◌, ◌↔◌, Bool, true, false
 use Rattle.std.proofs.Common.{Option, Some, None, Contains, ap, sym, subst, refl, ◌∙◌, get_or-set_same}
 use Rattle.std.proofs.Common.{get_or-set_other, length-set}
 use Rattle.std.proofs.lemmas.List.{get_or_default, set_comm}
-use native.Mathlib.Decide.{ℕ_discrete}
 use Rattle.tagged_index.specs.Head.{Head, after, last_tag}
-use Rattle.mark_core.specs.declared.which.Which.{Which}
-use Rattle.mark_core.specs.declared.which.Which.TheVariants.{Full, Empty}
-use Rattle.mark_core.specs.Lists.{IsPart}
-use Rattle.mark_core.specs.Account.{Account, Look, look_of, no_share, after_claim, after_finish, after_join, after_pop}
-use Rattle.mark_core.specs.Account.{after_push}
-use Rattle.mark_core.specs.World.{items_of, account_at, put, put_which}
-use Rattle.mark_core.specs.Events.{Claim, Finish, Join, StoreLink, Pop, Push, IsBusy, CanClaim, CanFinish}
-use Rattle.mark_core.specs.StepCall.{Listing, IsLawful, Does, Tries, heads_of, with_head, exchanged, marking_of}
-use Rattle.mark_core.specs.StepCall.{IsReadyToPush}
+use Rattle.mark_core.proofs.Words.{Which, Full, Empty, IsPart, Account, Look, look_of, no_share, after_claim}
+use Rattle.mark_core.proofs.Words.{after_finish, after_join, after_pop, after_push, items_of, account_at, put}
+use Rattle.mark_core.proofs.Words.{put_which, Claim, Finish, Join, StoreLink, Pop, Push, IsBusy, CanClaim, CanFinish}
+use Rattle.mark_core.proofs.Words.{Listing, IsLawful, Does, Tries, heads_of, with_head, exchanged, marking_of}
+use Rattle.mark_core.proofs.Words.{IsReadyToPush}
 use Rattle.std.specs.Bool.{OnTrue}
 use Rattle.mark_core.proofs.Taking.{false_is_not_true}
-use Rattle.mark_core.proofs.Places.{put_here, put_else}
+use Rattle.mark_core.proofs.Places.{put_each}
 use Rattle.mark_core.proofs.Within.{stands_here, held_within}
 
 -- a value written into a list is put into the function that reads it
@@ -25,12 +20,8 @@ pub put_in : {X : Type 0} (l : List X) (i : ℕ) (x d : X) → i < length l
 put_in l i x d inside = λ t j. at j t
   where
     at : (j : ℕ) → get_or (set l i x) j d ≡ put i x (λ k. get_or l k d) j
-    at j = go (ℕ_discrete j i)
-      where
-        go : Dec (j ≡ i) → get_or (set l i x) j d ≡ put i x (λ k. get_or l k d) j
-        go (yes e) = subst (λ k. get_or (set l i x) k d ≡ x) (sym e) (get_or-set_same l i x d inside)
-            ∙ sym (put_here i j x (λ k. get_or l k d) e)
-        go (no n) = get_or-set_other l i j x d n ∙ sym (put_else i j x (λ k. get_or l k d) n)
+    at = put_each (λ j z. get_or (set l i x) j d ≡ z) i x (λ k. get_or l k d) (get_or-set_same l i x d inside)
+        (λ j n. get_or-set_other l i j x d n)
 
 -- a head exchanged
 pub heads_turned : (l : Listing) (q : Which) (h : Head) → heads_of (with_head l q h) ≡ put_which q h (heads_of l)

@@ -2,14 +2,9 @@
 use Rattle.std.proofs.Common.{◌≡◌, ◌≢◌, ℕ, ◌+◌, ◌<◌, ◌≤◌, List, [], ◌∷◌, ◌++◌, length, length-set}
 use Rattle.std.proofs.Common.{set, sym, refl, subst, ◌∙◌, arith}
 use Rattle.std.proofs.lemmas.List.{length-append}
-use Rattle.mark_core.specs.declared.which.Which.TheVariants.{Full}
-use Rattle.mark_core.specs.Lists.{StandsAt, sum_of}
-use Rattle.mark_core.specs.Account.{Account, part, no_share, after_split}
-use Rattle.mark_core.specs.Account.{after_join}
-use Rattle.mark_core.specs.World.{Setup, Marking, IsThere}
-use Rattle.mark_core.specs.Events.{Kind, Split, Join, Load, LoadLink, StoreLink, Pop, Fail, IdleUp}
-use Rattle.mark_core.specs.Events.{IdleDown, Event, Allows, IsPossible, effect, happens}
-use Rattle.mark_core.specs.StepCall.{HasNumber, weight}
+use Rattle.mark_core.proofs.Words.{Full, StandsAt, sum_of, Account, part, no_share, after_split, after_join, Setup}
+use Rattle.mark_core.proofs.Words.{Marking, IsThere, Kind, Split, Join, Load, LoadLink, StoreLink, Pop, Fail, IdleUp}
+use Rattle.mark_core.proofs.Words.{IdleDown, Event, Allows, IsPossible, effect, happens, HasNumber, weight}
 use Rattle.mark_core.proofs.Places.{at_get_or, set_else}
 use Rattle.mark_core.proofs.Happens.{happens_as, tried}
 use Rattle.mark_core.proofs.Sums.{sum_of-set, sum_of-append}

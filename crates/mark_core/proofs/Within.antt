@@ -6,12 +6,8 @@ use Rattle.std.proofs.lemmas.List.Elements.{All-contains}
 use Rattle.std.specs.Option.{ForSome}
 use native.Mathlib.Decide.{dec_le}
 use mathlib.Core.Option.{some}
-use Rattle.mark_core.specs.declared.which.Which.{Which}
-use Rattle.mark_core.specs.Lists.{StandsAt, times}
-use Rattle.mark_core.specs.Account.{Account, look_of, no_share}
-use Rattle.mark_core.specs.World.{account_at, IsThere}
-use Rattle.mark_core.specs.Events.{CanClaim}
-use Rattle.mark_core.specs.StepCall.{Listing, IsLawful, heads_of, marking_of, weight}
+use Rattle.mark_core.proofs.Words.{Which, StandsAt, times, Account, look_of, no_share, account_at, IsThere, CanClaim}
+use Rattle.mark_core.proofs.Words.{Listing, IsLawful, heads_of, marking_of, weight}
 use Rattle.mark_core.proofs.Places.{at_below, at_get_or}
 use Rattle.mark_core.proofs.Sums.{stands_times, terms_le}
 use Rattle.mark_core.proofs.Chains.{chain_rest, recent_link}

@@ -1,8 +1,7 @@
 -- The account that is looked up is the one that the tables have at this number; where none is, there is no such number.
 use Rattle.std.proofs.Common.{◌<◌, ap, refl, sym, subst, ◌∙◌}
 use Rattle.std.proofs.lemmas.Bool.{false≢true}
-use Rattle.mark_core.specs.Account.{Account}
-use Rattle.mark_core.specs.StepCall.{Listing}
+use Rattle.mark_core.proofs.Words.{Account, Listing}
 use Rattle.mark_core.proofs.Looked.{is_of, none_is}
 use Rattle.mark_core.proofs.state.State.account.Goals.{in_default-via-in-Some+else-is_there, in_default-via-in_default}
 use Rattle.mark_core.proofs.state.State.account.Goals as goal

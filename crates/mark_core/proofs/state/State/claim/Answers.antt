@@ -1,8 +1,6 @@
 -- An object that may be claimed has a mark, since the state is lawful: what was found there says which claim it is.
 use Rattle.std.proofs.Common.{sym, subst, refl}
-use Rattle.mark_core.specs.Account.{Account}
-use Rattle.mark_core.specs.Events.{CanClaim, IsBusy}
-use Rattle.mark_core.specs.StepCall.{IsLawful}
+use Rattle.mark_core.proofs.Words.{Account, CanClaim, IsBusy, IsLawful}
 use Rattle.mark_core.proofs.Steps.{always}
 use Rattle.mark_core.proofs.Vectors.{account_here, does_claim}
 use Rattle.mark_core.proofs.Within.{claim_within}

@@ -1,7 +1,6 @@
 -- An object of the charge has a mark, since the state is lawful. Want of memory is told only where it may be finished.
 use Rattle.std.proofs.Common.{sym, subst, refl, arith}
-use Rattle.mark_core.specs.Events.{CanFinish}
-use Rattle.mark_core.specs.StepCall.{IsLawful}
+use Rattle.mark_core.proofs.Words.{CanFinish, IsLawful}
 use Rattle.mark_core.proofs.Steps.{always}
 use Rattle.mark_core.proofs.Taking.{false_is_not_true}
 use Rattle.mark_core.proofs.Vectors.{account_here, does_finish}

@@ -1,7 +1,6 @@
 -- The account that is looked up is the one that the tables have at this number.
 use Rattle.std.proofs.Common.{◌<◌, ap, sym, subst, ◌∙◌}
-use Rattle.mark_core.specs.Account.{Account}
-use Rattle.mark_core.specs.StepCall.{Listing}
+use Rattle.mark_core.proofs.Words.{Account, Listing}
 use Rattle.mark_core.proofs.Looked.{is_of}
 use Rattle.mark_core.proofs.state.State.is_there.Goals as goal
 

@@ -1,13 +1,10 @@
 -- The shares and idle numbers of two accounts add up to no more than the law has for all, so both sums fit.
 use Rattle.std.proofs.Common.{◌≡◌, ◌<◌, get_or, sym, subst, refl, ◌∙◌}
-use Rattle.std.proofs.lemmas.List.{get_or_default}
-use Rattle.mark_core.specs.Account.{Account, no_share}
-use Rattle.mark_core.specs.World.{account_at}
-use Rattle.mark_core.specs.StepCall.{IsLawful}
-use Rattle.mark_core.proofs.Steps.{always}
+use Rattle.mark_core.proofs.Words.{Account, IsLawful}
+use Rattle.mark_core.proofs.Steps.{always, there_at}
 use Rattle.mark_core.proofs.Taking.{false_is_not_true}
 use Rattle.mark_core.proofs.Vectors.{account_here, does_join}
-use Rattle.mark_core.proofs.Within.{is_there, idles_within, read_past, shares_within, stands_here}
+use Rattle.mark_core.proofs.Within.{is_there, idles_within, read_past, shares_within}
 use Rattle.mark_core.proofs.state.State.join.Goals as goal
 
 pub returns-then-not-is_there-clause-done : goal.returns-then-not-is_there-clause-done
@@ -48,17 +45,6 @@ returns-clause-done g c =
 pub returns-in_err-join-clause-refused : goal.returns-in_err-join-clause-refused
 returns-in_err-join-clause-refused g c =
     let found = rw (← c.self.view_is) at (c.if-not-is_there.ensures.0 refl) in
-    let accounts = c.self.inside.accounts.items in
-    let b = account_at accounts c.args.other in
     rw (← c.self.view_is)
-    (always _ c.from_residual.result (
-      c.if-place-w.false,
-      (
-        b,
-        (
-          stands_here accounts c.args.other b found.0
-              (get_or_default accounts c.args.other no_share b found.0),
-          found.1,
-        ),
-      ),
-    ))
+    (always _ c.from_residual.result
+    (c.if-place-w.false, (_, there_at c.self.inside.accounts.items c.args.other found)))

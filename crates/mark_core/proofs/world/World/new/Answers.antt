@@ -1,7 +1,6 @@
 -- The opening keeps the law, and its tables are as long as the setup says: so it is a world.
 use Rattle.std.proofs.Common.{ap, sym, arith, ◌∙◌}
-use Rattle.mark_core.specs.World.{Setup}
-use Rattle.mark_core.specs.Runs.{opening}
+use Rattle.mark_core.proofs.Words.{Setup, opening}
 use Rattle.mark_core.proofs.Begins.{lawful_opening}
 use Rattle.mark_core.proofs.world.World.new.Goals as goal
 
