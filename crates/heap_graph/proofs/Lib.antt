@@ -13,6 +13,7 @@ pub mod LayoutLaws
 pub mod ClimbLaws
 pub mod ClassTableLaws
 pub mod InsertLaws
+pub mod GuessLaws
 pub mod RuleLaws
 pub mod InstanceLaws
 pub mod PlanLaws

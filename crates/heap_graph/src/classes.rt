@@ -3,6 +3,7 @@
 mod builder;
 mod chains;
 mod fate;
+mod guesses;
 mod hash;
 mod sizes;
 mod table;

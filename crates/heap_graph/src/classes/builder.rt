@@ -1,6 +1,6 @@
 //! How the table of classes is filled.
 
-ghost use Rattle.std.specs.Prelude.{Contains, OnOk, [], length, ◌<◌, ◌^◌, ◌≡◌};
+ghost use Rattle.std.specs.Prelude.{Contains, IfOk, OnOk, [], length, ◌<◌, ◌^◌, ◌≡◌};
 ghost use Rattle.heap_graph.specs.working.ClassList.{ids_of};
 ghost use Rattle.heap_graph.specs.working.IdPlaces.{size_together};
 ghost use Rattle.hprof_grammar.specs.Standing.{Stands};
@@ -27,15 +27,18 @@ fn bytes_of_fields(view: &View<'_>, members: Members<'_>) -> u64
 }
 
 impl<'d, A: Allocator + Copy> Classes<'d, A> {
-    /// No class.
-    pub(crate) fn new(alloc: A, view: View<'d>, hash: ClassHash) -> Self
-        ensures view { result.view ≡ view.entry }
-        ensures entries { result.table.entries ≡ [] }
+    /// No class, with places for so many.
+    pub(crate) fn new(
+        alloc: A,
+        view: View<'d>,
+        hash: ClassHash,
+        classes: usize,
+    ) -> Result<Self, AllocError>
+        ensures view { IfOk result (λ classes. classes.view ≡ view.entry) }
+        ensures entries { IfOk result (λ classes. classes.table.entries ≡ []) }
     {
-        Classes {
-            view,
-            table: ClassTable::new(alloc, hash),
-        }
+        let table = ClassTable::new(alloc, hash, classes)?;
+        Ok(Classes { view, table })
     }
 }
 

@@ -1,37 +1,46 @@
 //! The table of classes: how a class is found by its identifier, and what is kept of it.
 
-ghost use Rattle.std.specs.Prelude.{Contains, OnOk, Some, [], length, position, slice_get, slice_index};
-ghost use Rattle.std.specs.Prelude.{◌++◌, ◌<◌, ◌==◌, ◌^◌, ◌∷◌, ◌≡◌, ℕ};
+ghost use Rattle.std.specs.Prelude.{Contains, IfOk, OnOk, Some, [], length, position, slice_get, slice_index};
+ghost use Rattle.std.specs.Prelude.{true, ◌++◌, ◌<◌, ◌==◌, ◌^◌, ◌∷◌, ◌≡◌, ℕ};
 ghost use Rattle.heap_graph.specs.working.ClassList.{TableEntry, ids_of};
 
+use crate::classes::guesses::Guesses;
 use crate::classes::hash::ClassHash;
 use crate::classes::{ClassPlace, Classes};
 use indexmap::IndexMap;
 use std::alloc::{AllocError, Allocator};
 use std::marker::Model;
 
-/// Classes in order, found by their identifiers. A class's number is its position in the map.
+/// Classes in order, found by their identifiers. A class's number is its position in the map, which is asked where the
+/// class that was guessed is another one.
 #[derive(Drop)]
 pub(crate) struct ClassTable<A: Allocator> {
     map: IndexMap<u64, ClassPlace, ClassHash, A>,
+    guesses: Guesses<A>,
 }
 
 impl<A: Allocator> Model for ClassTable<A> {
+    ghost use Rattle.std.specs.Prelude.{nat_eq};
+    ghost use Rattle.indexmap.specs.IndexMap.{IsUnique};
     ghost use Rattle.heap_graph.specs.working.ClassList.{ClassList};
 
     ghost Value = { ClassList };
 
     ghost view = { λ t. record { entries = t.map.entries } };
+
+    ghost invariant = { λ t. IsUnique nat_eq t.map };
 }
 
 impl<A: Allocator + Copy> ClassTable<A> {
-    /// No class.
-    pub(crate) fn new(alloc: A, hash: ClassHash) -> Self
-        ensures { result.entries ≡ [] }
+    /// No class, with places for so many.
+    pub(crate) fn new(alloc: A, hash: ClassHash, classes: usize) -> Result<Self, AllocError>
+        ensures { IfOk result (λ t. t.entries ≡ []) }
     {
-        ClassTable {
+        let guesses = Guesses::new(alloc, classes)?;
+        Ok(ClassTable {
             map: IndexMap::with_hasher(alloc, hash),
-        }
+            guesses,
+        })
     }
 }
 
@@ -49,12 +58,27 @@ impl<A: Allocator> ClassTable<A> {
         requires { Contains (ids_of self.old.entries) id → ⊥ }
         ensures { OnOk result (self.new.entries ≡ self.old.entries ++ (id, place) ∷ []) }
     {
+        let number = self.map.len();
         self.map.insert(id, place)?;
+        self.guesses.note(id, number);
         Ok(())
     }
 
-    /// The number of the class with that identifier.
-    fn find(&self, id: u64) -> Option<u32>
+    /// Whether there is a class of that number and it has that identifier.
+    #[inline(always)]
+    fn bears(&self, number: u32, id: u64) -> bool
+        ensures below { result ≡ true → number < length self.now.entries }
+        ensures id { result ≡ true → (e : TableEntry) → slice_get self.now.entries number ≡ Some e → e.0 ≡ id }
+    {
+        match self.map.get_index(number as usize) {
+            Some((bearer, _)) => return *bearer == id,
+            None => return false,
+        }
+    }
+
+    /// The number of the class with that identifier, by the map.
+    #[inline(never)] // so that a look-up that was guessed has no locals for it
+    fn find_in_map(&self, id: u64) -> Option<u32>
         requires { length self.now.entries < 2 ^ 32 }
         ensures { result ≡ position (λ x. x == id) (ids_of self.now.entries) }
     {
@@ -62,6 +86,19 @@ impl<A: Allocator> ClassTable<A> {
             Some(number) => return Some(number as u32),
             None => return None,
         }
+    }
+
+    /// The number of the class with that identifier.
+    #[inline(always)]
+    fn find(&self, id: u64) -> Option<u32>
+        requires { length self.now.entries < 2 ^ 32 }
+        ensures { result ≡ position (λ x. x == id) (ids_of self.now.entries) }
+    {
+        let number = self.guesses.guess(id);
+        if self.bears(number, id) {
+            return Some(number);
+        }
+        self.find_in_map(id)
     }
 
     /// The class of that number.
@@ -78,6 +115,7 @@ impl<A: Allocator> ClassTable<A> {
 
 impl<'d, A: Allocator> Classes<'d, A> {
     /// The number of the class that an identifier names.
+    #[inline(always)]
     pub(crate) fn find(&self, id: u64) -> Option<u32>
         requires { length self.now.table.entries < 2 ^ 32 }
         ensures { result ≡ position (λ x. x == id) (ids_of self.now.table.entries) }

@@ -69,7 +69,7 @@ pub(crate) fn class_table<'d, A: Allocator + Copy, B: Allocator>(
     ensures few { IfOk result (λ classes. length classes.table.entries ≤ length places.now) }
 {
     let hash = hash_of(&view, places, &indexed.class_dumps);
-    let mut classes = Classes::new(alloc, view, hash);
+    let mut classes = Classes::new(alloc, view, hash, indexed.class_dumps.len())?;
     for number in &indexed.class_dumps {
         add_class(&mut classes, places, &indexed.index, *number as usize)?;
     }

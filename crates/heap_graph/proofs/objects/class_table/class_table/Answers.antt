@@ -8,8 +8,8 @@ use Rattle.heap_graph.proofs.objects.class_table.class_table.Goals as goal
 
 pub loop-number-init : goal.loop-number-init
 loop-number-init g c = record {
-  view = c.new-classes.ensures.view;
-  among = λ heap are. among_first _ _ _ _ are.are _ _ are.class_dumps c.new-classes.ensures.entries;
+  view = c.in_ok-classes.ensures.view;
+  among = λ heap are. among_first _ _ _ _ are.are _ _ are.class_dumps c.in_ok-classes.ensures.entries;
 }
 
 pub add_class-requires-clause-heap : goal.add_class-requires-clause-heap
