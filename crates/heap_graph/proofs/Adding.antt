@@ -1,8 +1,7 @@
 -- What an addition gives: where it succeeds, and where there is room.
-use Rattle.std.specs.Prelude.{Err, Ok, OnOk, Result, length, map, ◌%◌, ◌++◌, ◌+◌, ◌^◌, ◌≡◌, ◌≤◌, ℕ}
+use Rattle.std.specs.Prelude.{Err, Ok, OnOk, Result, length, map, ℕ, ◌%◌, ◌++◌, ◌+◌, ◌^◌, ◌≡◌}
 use Rattle.std.proofs.Common.{List, Some, [], ap, arith, length-append, slice_get, sym, take, ◌∙◌, ◌∷◌}
 use Rattle.std.proofs.Math.Nat.{mod-one}
-use Rattle.std.proofs.lemmas.List.{take_all}
 use Rattle.id_index.specs.Aligned.{AlignedIds}
 use Rattle.heap_graph.proofs.EntryLaws.{map_one, take_one}
 
@@ -36,12 +35,6 @@ one_more_added Fits things key old new count id added pushed next = record {
       let it = next r fits in
       keys_more key (things r) count id it.0 old new it.1 pushed it.2 (added.each r fits);
 }
-
--- behind the last thing it has all keys
-pub all_added : {R X : Type 0} (Fits : R → Type 0) (things : R → List X) (key : X → ℕ) (ids : List ℕ) (count : ℕ)
-    (r : R) → AreAdded Fits things key ids count → Fits r → length (things r) ≤ count → ids ≡ map key (things r)
-all_added Fits things key ids count r added fits all =
-    added.each r fits ∙ ap (λ zs. map key zs) (take_all count (things r) all)
 
 -- the builder takes each identifier
 pub record TakesAll (builder : AlignedIds) : Type 0 where

@@ -1,15 +1,9 @@
 -- The classes of the table, with the texts that name them.
-use Rattle.std.proofs.Common.{List, Option, [], ap, length, map, sym, take, ℕ, ◌++◌, ◌+◌, ◌<◌, ◌∙◌, ◌∷◌, ◌≡◌, ◌≤◌}
-use Rattle.std.specs.Prelude.{option_copied, slice_index}
-use Rattle.std.proofs.lemmas.List.{take_all}
-use Rattle.std.proofs.lemmas.Option.{slice_get-get_or}
+use Rattle.heap_graph.proofs.Words.{Class, ClassEntry, List, Option, Record, [], ap, class_dumps, class_text, heap_of}
+use Rattle.heap_graph.proofs.Words.{length, map, named_classes, option_copied, slice_get-get_or, slice_index, sym, take}
+use Rattle.heap_graph.proofs.Words.{take_all, ℕ, ◌++◌, ◌+◌, ◌<◌, ◌∙◌, ◌∷◌, ◌≡◌, ◌≤◌}
 use Rattle.std.proofs.lemmas.Simd.{map-map}
-use Rattle.hprof_grammar.specs.Record.{Record}
-use Rattle.hprof_grammar.specs.SubRecord.{Class}
-use Rattle.heap_graph.specs.declared.class_entry.ClassEntry.{ClassEntry}
-use Rattle.heap_graph.specs.ClassNames.{class_text}
-use Rattle.heap_graph.specs.Heap.{class_dumps, heap_of}
-use Rattle.heap_graph.specs.ObjectGraph.{NamedClass, named_classes}
+use Rattle.heap_graph.specs.ObjectGraph.{NamedClass}
 use Rattle.heap_graph.specs.working.Refinement.{named_class}
 use Rattle.heap_graph.proofs.EntryLaws.{map_one, take_one}
 

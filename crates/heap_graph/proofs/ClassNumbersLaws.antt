@@ -1,18 +1,11 @@
 -- The numbers of the class dumps: one object more, and the table of classes from one class dump to the next.
-use Rattle.std.proofs.Common.{Contains, List, None, Some, [], ap, arith, get_or, length, length-append, refl}
-use Rattle.std.proofs.Common.{subst, suc, sym, zero, ⊎_elim, ℕ, ◌++◌, ◌+◌, ◌-◌, ◌<◌, ◌∙◌, ◌∷◌, ◌≡◌, ◌≤◌, ◌⊎◌}
+use Rattle.heap_graph.proofs.Words.{AreClassNumbers, AreClassesAmong, AreIndexed, AreObjects, Class, Contains}
+use Rattle.heap_graph.proofs.Words.{Contains-append_left, Contains-append_right, Indexed, IsClassNumber, List, None}
+use Rattle.heap_graph.proofs.Words.{Sight, Some, SubRecord, TableEntry, [], ap, arith, as_class, cases_lt, class_dump}
+use Rattle.heap_graph.proofs.Words.{get_or, get_or_past, length, length-append, objects, refl, subst, suc, sym, zero, ℕ}
+use Rattle.heap_graph.proofs.Words.{⊎_elim, ◌++◌, ◌+◌, ◌-◌, ◌<◌, ◌∙◌, ◌∷◌, ◌≡◌, ◌≤◌, ◌⊎◌}
 use Rattle.std.proofs.lemmas.Grind.{get_or_default_zero}
-use Rattle.std.proofs.lemmas.List.{get_or-append_right, get_or_append_left, get_or_past}
-use Rattle.std.proofs.lemmas.List.Elements.{Contains-append_left, Contains-append_right}
-use Rattle.std.proofs.lemmas.Bool.{cases_lt}
-use Rattle.hprof_grammar.specs.Standing.{Sight}
-use Rattle.hprof_grammar.specs.SubRecord.{Class, SubRecord}
-use Rattle.hprof_grammar.specs.SubRecord.SubRecord.{class_dump}
-use Rattle.heap_graph.specs.Heap.{as_class, objects}
-use Rattle.heap_graph.specs.declared.objects.indexing.Indexed.{Indexed}
-use Rattle.heap_graph.specs.working.ClassNumbers.{AreClassNumbers, AreIndexed, IsClassNumber}
-use Rattle.heap_graph.specs.working.ClassTable.{AreClassesAmong, TableEntry}
-use Rattle.heap_graph.specs.working.PlacedObjects.{AreObjects}
+use Rattle.std.proofs.lemmas.List.{get_or-append_right, get_or_append_left}
 use Rattle.heap_graph.proofs.ChainLaws.{some_none}
 use Rattle.heap_graph.proofs.PathLaws.{contains_none}
 use Rattle.heap_graph.proofs.Standings.{there}

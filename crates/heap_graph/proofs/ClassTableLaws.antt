@@ -1,19 +1,11 @@
 -- What the table of classes says of one class, and how it grows.
-use Rattle.std.proofs.Common.{Bool, Contains, List, None, Option, Some, [], ap, arith, cond, false, length, not, refl}
-use Rattle.std.proofs.Common.{slice_get, subst, suc, sym, true, zero, ℕ, ◌+◌, ◌<◌, ◌^◌, ◌∙◌, ◌∷◌, ◌≡◌, ◌≤◌}
-use Rattle.std.specs.Prelude.{position, slice_index, slice_index_or, ◌==◌}
-use Rattle.std.specs.List.{position_or_len}
-use Rattle.std.proofs.lemmas.Bool.{eq-eqb, eqb-true}
-use Rattle.std.proofs.lemmas.List.{length-map}
-use Rattle.std.proofs.lemmas.Option.{get_or_from_slice_get}
-use Rattle.hprof_grammar.specs.Standing.{Sight, Stands}
-use Rattle.hprof_grammar.specs.SubRecord.{Class, Member, SubRecord}
-use Rattle.hprof_grammar.specs.SubRecord.SubRecord.{class_dump}
-use Rattle.heap_graph.specs.Heap.{class_named}
-use Rattle.heap_graph.specs.working.Chains.{IsUnder}
-use Rattle.heap_graph.specs.working.ClassTable.{AreClasses, TableEntry, IsTableEntry, entry_at, ids_of}
-use Rattle.heap_graph.specs.working.IdPlaces.{size_together}
-use Rattle.heap_graph.specs.declared.classes.ClassPlace.{ClassPlace}
+use Rattle.heap_graph.proofs.Words.{AreClasses, Bool, Class, ClassPlace, Contains, IsUnder, List, Member, None, Option}
+use Rattle.heap_graph.proofs.Words.{Sight, Some, Stands, SubRecord, TableEntry, [], ap, arith, class_dump, class_named}
+use Rattle.heap_graph.proofs.Words.{cond, entry_at, eq-eqb, eqb-true, false, get_or_from_slice_get, ids_of, length}
+use Rattle.heap_graph.proofs.Words.{length-map, not, position, position_or_len, refl, size_together, slice_get}
+use Rattle.heap_graph.proofs.Words.{slice_index, slice_index_or, subst, suc, sym, true, zero, ℕ, ◌+◌, ◌<◌, ◌==◌, ◌^◌}
+use Rattle.heap_graph.proofs.Words.{◌∙◌, ◌∷◌, ◌≡◌, ◌≤◌}
+use Rattle.heap_graph.specs.working.ClassTable.{IsTableEntry}
 use Rattle.heap_graph.proofs.FieldLaws.{own_size}
 use Rattle.heap_graph.proofs.Firsts.{IsHit, position_hit, position_past}
 

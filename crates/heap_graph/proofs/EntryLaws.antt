@@ -1,19 +1,8 @@
 -- The rows and the bytes of objects.
-use Rattle.std.proofs.Common.{List, None, Some, [], ap, arith, map, refl, slice_get, suc, sum_by, sym, take, zero, ℕ}
-use Rattle.std.proofs.Common.{◌++◌, ◌+◌, ◌∙◌, ◌∷◌, ◌≡◌}
-use Rattle.std.specs.Prelude.{◌==◌}
-use Rattle.std.specs.List.{position_or_len}
-use Rattle.std.proofs.lemmas.List.Sums.{sum_by-cons}
-use Rattle.hprof_grammar.specs.SubRecord.{Class, Static, SubRecord}
-use Rattle.hprof_grammar.specs.Series.{LabelledValue, of_static}
-use Rattle.hprof_grammar.specs.FormatTables.{size_of}
-use Rattle.heap_graph.specs.Heap.{class_dumps, class_number}
-use Rattle.hprof_grammar.specs.Standing.{Sight}
-use Rattle.std.specs.Prelude.{position}
-use Rattle.heap_graph.specs.Linked.{IsLinked}
-use Rattle.heap_graph.specs.declared.classes.fate.Fate.{Fate}
-use Rattle.heap_graph.specs.working.ClassTable.{TableEntry, ids_of}
-use Rattle.heap_graph.specs.working.ClassFates.{HaveFates}
+use Rattle.heap_graph.proofs.Words.{Class, Fate, HaveFates, IsLinked, LabelledValue, List, None, Sight, Some, Static}
+use Rattle.heap_graph.proofs.Words.{SubRecord, TableEntry, [], ap, arith, class_dumps, class_number, ids_of, map}
+use Rattle.heap_graph.proofs.Words.{of_static, position, position_or_len, refl, size_of, slice_get, suc, sum_by}
+use Rattle.heap_graph.proofs.Words.{sum_by-cons, sym, take, zero, ℕ, ◌++◌, ◌+◌, ◌==◌, ◌∙◌, ◌∷◌, ◌≡◌}
 use Rattle.heap_graph.proofs.Firsts.{position_at, position_or_len-map}
 
 -- the number of a class, from the identifiers of the classes by their numbers

@@ -1,15 +1,9 @@
 -- The identifiers in the fields that are followed: where the list is empty, those in all fields.
-use Rattle.std.proofs.Common.{List, [], ap, drop, false, map, refl, take, ℕ, ◌++◌, ◌∙◌, ◌∷◌, ◌≡◌}
-use Rattle.std.specs.Prelude.{if◌then◌else◌, ◌==◌}
-use Rattle.std.proofs.lemmas.List.{map-append}
-use Rattle.byteorder.specs.Endian.{big_number}
-use Rattle.hprof_grammar.specs.Record.{Record}
-use Rattle.hprof_grammar.specs.SubRecord.{Class, Instance, Member}
-use Rattle.hprof_grammar.specs.FormatTables.{size_of}
-use Rattle.heap_graph.specs.Fields.{all_field_ids, declared_fields, field_ids, own_fields}
-use Rattle.heap_graph.specs.Layout.{layout}
+use Rattle.heap_graph.proofs.Words.{Class, Instance, List, Member, Record, [], ap, big_number, declared_fields, drop}
+use Rattle.heap_graph.proofs.Words.{false, field_ids, if◌then◌else◌, is_skipped, layout, map, map-append, own_fields}
+use Rattle.heap_graph.proofs.Words.{refl, size_of, take, ℕ, ◌++◌, ◌==◌, ◌∙◌, ◌∷◌, ◌≡◌}
+use Rattle.heap_graph.specs.Fields.{all_field_ids}
 use Rattle.heap_graph.specs.References.{instance_ids}
-use Rattle.heap_graph.specs.Skips.{is_skipped}
 
 own_members : (c : Class) (ms : List Member) → map (λ (f : Class × Member). f.1) (map (λ m. (c, m)) ms) ≡ ms
 own_members c [] = refl

@@ -1,30 +1,20 @@
 -- What is gathered from objects, part by part.
-use Rattle.std.proofs.Common.{List, None, Ok, Option, Some, [], ap, arith, get_or, length, length-append, map, min}
-use Rattle.std.proofs.Common.{refl, slice_get, subst, suc, sym, ℕ, ◌%◌, ◌*◌, ◌+◌, ◌++◌, ◌-◌, ◌/◌, ◌<◌, ◌^◌, ◌∙◌, ◌∷◌}
-use Rattle.std.proofs.Common.{◌≡◌, ◌≢◌, ◌≤◌}
+use Rattle.heap_graph.proofs.Words.{AreClassNumbers, AreIndexed, HasGathered, Indexed, List, None, Ok, Option, Sight}
+use Rattle.heap_graph.proofs.Words.{Some, StandInTurn, Stands, SubRecord, [], ap, arith, get_or, length, length-append}
+use Rattle.heap_graph.proofs.Words.{map, min, objects, refl, slice_get, subst, suc, sym, take_all, ℕ, ◌%◌, ◌*◌, ◌++◌}
+use Rattle.heap_graph.proofs.Words.{◌+◌, ◌-◌, ◌/◌, ◌<◌, ◌∙◌, ◌∷◌, ◌≡◌, ◌≤◌}
+use Rattle.std.proofs.Common.{◌≢◌}
 use Rattle.std.specs.Prelude.{Result}
 use Rattle.std.specs.declared.alloc.AllocError.{AllocError}
-use Rattle.std.proofs.Math.Nat.{mod-one}
-use Rattle.std.proofs.lemmas.List.{append-nil, append_assoc, take_all}
+use Rattle.std.proofs.lemmas.List.{append-nil, append_assoc}
 use Rattle.std.proofs.lemmas.Option.{MatchOption-at_none, MatchOption-at_some}
 use Rattle.std.proofs.lemmas.Result.{IfOk-at_ok}
 use Rattle.hprof_grammar.specs.Dump.{id_of}
-use Rattle.hprof_grammar.specs.Standing.{Sight, StandInTurn, Stands}
-use Rattle.hprof_grammar.specs.SubRecord.{SubRecord}
 use Rattle.id_index.specs.declared.index.LowBits.{LowBits}
-use Rattle.heap_graph.specs.Heap.{objects}
 use Rattle.heap_graph.specs.declared.objects.gathering.Gathered.{Gathered}
-use Rattle.heap_graph.specs.declared.objects.indexing.Indexed.{Indexed}
-use Rattle.heap_graph.specs.working.ClassNumbers.{AreClassNumbers, AreIndexed}
-use Rattle.heap_graph.specs.working.GatheredParts.{AreJoined, AreOfFirst, HasGathered, IsGathering}
+use Rattle.heap_graph.specs.working.GatheredParts.{AreJoined, AreOfFirst, IsGathering}
 use Rattle.heap_graph.proofs.Adding.{keys_more}
 use Rattle.heap_graph.proofs.Parts.{next_part, reaches}
-
--- an identifier that has no lowest bits has no others
-pub misfit : (shift low id : ℕ) → low < 2 ^ shift → (id % 2 ^ shift ≡ low → ⊥) → shift ≢ 0
-misfit shift low id fits differs none =
-    let one : 2 ^ shift ≡ 1 = ap (λ (s : ℕ). 2 ^ s) none in
-    differs (ap (λ (m : ℕ). id % m) one ∙ mod-one id ∙ omega (arith, fits, one))
 
 -- before the first object stands none
 none_first : (os : List SubRecord) → AreOfFirst os 0 [] []

@@ -1,22 +1,16 @@
 -- The identifiers that an object holds, one part after the other.
-use Rattle.std.proofs.Common.{Bool, List, Option, [], ap, arith, false, filter, length, length-append, map, refl, subst}
-use Rattle.std.proofs.Common.{sym, true, ℕ, ◌++◌, ◌+◌, ◌<◌, ◌^◌, ◌∙◌, ◌∷◌, ◌≡◌, ◌≤◌}
-use Rattle.std.specs.Prelude.{if◌then◌else◌, ◌==◌}
-use Rattle.std.specs.List.{AllByRecursion}
-use Rattle.std.proofs.lemmas.Bool.{eqb-true}
-use Rattle.std.proofs.lemmas.List.{length-map}
-use Rattle.byteorder.specs.Endian.{big_number}
-use Rattle.hprof_grammar.specs.Bounds.{IsClass, IsConstant, IsStatic}
-use Rattle.hprof_grammar.specs.SubRecord.{Class, Instance, Member, ObjectArray, PrimitiveArray, SubRecord}
-use Rattle.hprof_grammar.specs.SubRecord.SubRecord.{class_dump, instance_dump, object_array_dump, primitive_array_dump}
-use Rattle.hprof_grammar.specs.Series.{LabelledValue, of_constant, of_static}
-use Rattle.hprof_grammar.specs.FormatTables.{size_of}
-use Rattle.heap_graph.specs.declared.objects.Objects.{Objects}
-use Rattle.heap_graph.specs.Fields.{declared_fields, field_ids}
+use Rattle.heap_graph.proofs.Words.{AllByRecursion, AreIdsOf, Bool, Class, Instance, IsStatic, LabelledValue, List}
+use Rattle.heap_graph.proofs.Words.{Member, ObjectArray, Objects, Option, SubRecord, [], ap, arith, big_number}
+use Rattle.heap_graph.proofs.Words.{class_dump, declared_fields, eqb-true, false, field_ids, filter, ids_of}
+use Rattle.heap_graph.proofs.Words.{if◌then◌else◌, instance_dump, length, length-append, length-map, map}
+use Rattle.heap_graph.proofs.Words.{object_array_dump, of_static, primitive_array_dump, refl, size_of, subst, sym, true}
+use Rattle.heap_graph.proofs.Words.{values_ids, with_class, ℕ, ◌++◌, ◌+◌, ◌<◌, ◌==◌, ◌^◌, ◌∙◌, ◌∷◌, ◌≡◌, ◌≤◌}
+use Rattle.hprof_grammar.specs.Bounds.{IsClass, IsConstant}
+use Rattle.hprof_grammar.specs.SubRecord.{PrimitiveArray}
+use Rattle.hprof_grammar.specs.Series.{of_constant}
 use Rattle.heap_graph.specs.References.{class_ids, constant_ids, static_ids}
-use Rattle.heap_graph.specs.working.ClassTable.{ids_of}
-use Rattle.heap_graph.specs.working.HeldIds.{AreIdsOf, IsFirstOfInstance, IsLayoutFrom, with_class}
-use Rattle.heap_graph.specs.working.Values.{AreClassValues, AreIdValues, IsIdValue, values_ids}
+use Rattle.heap_graph.specs.working.HeldIds.{IsFirstOfInstance, IsLayoutFrom}
+use Rattle.heap_graph.specs.working.Values.{AreClassValues, AreIdValues, IsIdValue}
 use Rattle.heap_graph.proofs.FieldLaws.{size_of_id_type}
 use Rattle.heap_graph.proofs.InstanceLaws.{few_fields}
 use Rattle.heap_graph.proofs.LayoutLaws.{size_by_fields}

@@ -1,30 +1,20 @@
 -- The objects of a linked heap list hold identifiers: a list for each of them, without a call that reads them.
-use Rattle.std.proofs.Common.{Bool, List, None, Option, Some, [], arith, get_or, length, refl, slice_get, subst, suc}
-use Rattle.std.proofs.Common.{sym, zero, ℕ, ◌<◌, ◌∙◌, ◌∷◌, ◌≡◌, ◌≤◌}
-use Rattle.std.specs.Prelude.{position, ◌==◌}
+use Rattle.heap_graph.proofs.Words.{AreIdLists, AreIdsOf, AreLinkedOf, Bool, Class, Fate, HaveFates, HaveFatesOf}
+use Rattle.heap_graph.proofs.Words.{Instance, IsFate, IsLinked, IsSettled, List, Member, None, Objects, Option, Sight}
+use Rattle.heap_graph.proofs.Words.{Some, Stands, SubRecord, TableEntry, [], arith, bounds, class_dump, declared_fields}
+use Rattle.heap_graph.proofs.Words.{field_ids, get_or, ids_of, instance_dump, length, object_array_dump, objects}
+use Rattle.heap_graph.proofs.Words.{position, primitive_array_dump, refl, root, slice_get, subst, suc, sym, zero, ℕ}
+use Rattle.heap_graph.proofs.Words.{◌<◌, ◌==◌, ◌∙◌, ◌∷◌, ◌≡◌, ◌≤◌}
 use Rattle.std.proofs.lemmas.Option.{slice_get_within as slice_get_below}
-use Rattle.hprof_grammar.specs.Standing.{Sight, Stands}
-use Rattle.hprof_grammar.specs.SubRecord.{Class, Instance, Member, SubRecord}
-use Rattle.hprof_grammar.specs.SubRecord.SubRecord.{class_dump, instance_dump, object_array_dump, primitive_array_dump}
-use Rattle.hprof_grammar.specs.SubRecord.SubRecord.{root}
-use Rattle.hprof_grammar.proofs.BoundsLaws.{bounds}
-use Rattle.heap_graph.specs.declared.classes.fate.Fate.{Fate}
-use Rattle.heap_graph.specs.declared.classes.fate.Fate.TheVariants as fates
-use Rattle.heap_graph.specs.declared.objects.Objects.{Objects}
-use Rattle.heap_graph.specs.Fields.{declared_fields, field_ids}
-use Rattle.heap_graph.specs.Heap.{objects}
-use Rattle.heap_graph.specs.References.{AreIdLists, class_ids}
-use Rattle.heap_graph.specs.Linked.{IsLinked}
-use Rattle.heap_graph.specs.working.Chains.{IsFate, IsSettled}
-use Rattle.heap_graph.specs.working.ClassTable.{TableEntry, ids_of}
-use Rattle.heap_graph.specs.working.HeldIds.{AreIdsOf, AreLinkedOf, IsFirstOfInstance}
-use Rattle.heap_graph.specs.working.ClassFates.{HaveFates, HaveFatesOf}
+use Rattle.heap_graph.specs.References.{class_ids}
+use Rattle.heap_graph.specs.working.HeldIds.{IsFirstOfInstance}
 use Rattle.heap_graph.proofs.ClassTableLaws.{not_found}
 use Rattle.heap_graph.proofs.HeldLaws.{array_holds, class_holds, instance_holds, nothing_held}
 use Rattle.heap_graph.proofs.InstanceLaws.{linked_whole, right_size}
 use Rattle.heap_graph.proofs.Linking.{no_unknown}
 use Rattle.heap_graph.proofs.RuleLaws.{IsFateFound, fate_found}
 use Rattle.heap_graph.proofs.Standings.{IsThere, one_object, there}
+use Rattle.heap_graph.specs.declared.classes.fate.Fate.TheVariants as fates
 
 -- ---- the layout of an instance begins at some class
 

@@ -1,11 +1,9 @@
 -- A map with an identifier that was not in it has it last.
-use Rattle.std.proofs.Common.{Bool, Contains, List, [], ap, arith, false, refl, sym, true, ℕ, ◌++◌, ◌∷◌, ◌≡◌}
-use Rattle.std.specs.Prelude.{if◌then◌else◌, nat_eq}
-use Rattle.std.proofs.lemmas.Bool.{ne_eqb}
-use Rattle.std.proofs.lemmas.List.Elements.{Contains-append_right}
+use Rattle.heap_graph.proofs.Words.{Bool, ClassPlace, Contains, Contains-append_right, List, [], ap, arith, false}
+use Rattle.heap_graph.proofs.Words.{if◌then◌else◌, ne_eqb, refl, sym, true, ℕ, ◌++◌, ◌∷◌, ◌≡◌}
+use Rattle.std.specs.Prelude.{nat_eq}
 use Rattle.indexmap.specs.IndexMap.{insert_entry}
 use Rattle.heap_graph.specs.working.ClassList.{TableEntry, ids_of}
-use Rattle.heap_graph.specs.declared.classes.ClassPlace.{ClassPlace}
 
 insert_if : (e : TableEntry) (es : List TableEntry) (id : ℕ) (p : ClassPlace) (b : Bool) → nat_eq id e.0 ≡ b
     → b ≡ false → insert_entry nat_eq es id p ≡ es ++ (id, p) ∷ []

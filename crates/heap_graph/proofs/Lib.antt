@@ -34,7 +34,6 @@ pub mod NameLookups
 pub mod ClassLaws
 pub mod Sizes
 pub mod Targets
-pub mod CountedLaws
 pub mod HeldLists
 pub mod UnresolvedLaws
 pub mod Walking

@@ -1,14 +1,9 @@
 -- What holds in a linked heap list.
-use Rattle.std.proofs.Common.{Bool, List, None, Option, Some, ap, cond, false, refl, slice_get, subst, sym, true, ℕ}
-use Rattle.std.proofs.Common.{◌∙◌, ◌≡◌}
-use Rattle.std.specs.Prelude.{option_and_then, ◌==◌}
-use Rattle.std.proofs.lemmas.Bool.{eqb-true}
+use Rattle.heap_graph.proofs.Words.{Bool, Class, Instance, IsLinked, List, None, ObjectArray, Option, Some, SubRecord}
+use Rattle.heap_graph.proofs.Words.{UnknownClass, ap, as_class, class_dump, class_named, cond, eqb-true, false}
+use Rattle.heap_graph.proofs.Words.{instance_dump, number_named, object_array_dump, objects, option_and_then, refl}
+use Rattle.heap_graph.proofs.Words.{slice_get, subst, sym, true, ℕ, ◌==◌, ◌∙◌, ◌≡◌}
 use Rattle.hprof_grammar.specs.Dump.{id_of}
-use Rattle.hprof_grammar.specs.SubRecord.{Class, Instance, ObjectArray, SubRecord}
-use Rattle.hprof_grammar.specs.SubRecord.SubRecord.{class_dump, instance_dump, object_array_dump}
-use Rattle.heap_graph.specs.declared.rule.LinkRule.TheVariants.{UnknownClass}
-use Rattle.heap_graph.specs.Heap.{as_class, class_named, number_named, objects}
-use Rattle.heap_graph.specs.Linked.{IsLinked}
 use Rattle.heap_graph.proofs.Firsts.{IsHit, position_hit}
 
 -- the class that an identifier names is an object of the heap list, and bears that identifier

@@ -1,16 +1,11 @@
 -- The classes that entries of a list of fields are compared with: one object more, and what an entry meets.
-use Rattle.std.proofs.Common.{Bool, List, None, Option, Some, [], append-nil, ap, map, refl, slice_get, sym, take, ℕ}
-use Rattle.std.proofs.Common.{◌++◌, ◌+◌, ◌||◌, ◌∙◌, ◌∷◌, ◌≡◌}
-use Rattle.std.specs.Prelude.{filter_map}
-use Rattle.std.specs.List.{cons_option, list_any}
-use Rattle.std.proofs.lemmas.List.Elements.{filter_map-append}
-use Rattle.hprof_grammar.specs.Record.{Record}
-use Rattle.hprof_grammar.specs.SubRecord.{Class, SubRecord}
-use Rattle.hprof_grammar.specs.SubRecord.SubRecord.{class_dump}
-use Rattle.heap_graph.specs.Heap.{as_class, class_dumps, heap_of}
-use Rattle.heap_graph.specs.MetEntries.{declares, is_met}
-use Rattle.heap_graph.specs.Skips.{SkipEntry}
-use Rattle.heap_graph.specs.working.DescribedClasses.{DescribedClass, declares_described, described}
+use Rattle.heap_graph.proofs.Words.{Bool, Class, List, None, Option, Record, SkipEntry, Some, SubRecord, [], ap}
+use Rattle.heap_graph.proofs.Words.{append-nil, as_class, class_dump, class_dumps, cons_option, declares_described}
+use Rattle.heap_graph.proofs.Words.{described, filter_map, filter_map-append, heap_of, is_met, list_any, map, refl}
+use Rattle.heap_graph.proofs.Words.{slice_get, sym, take, ℕ, ◌++◌, ◌+◌, ◌∙◌, ◌∷◌, ◌≡◌}
+use Rattle.std.proofs.Common.{◌||◌}
+use Rattle.heap_graph.specs.MetEntries.{declares}
+use Rattle.heap_graph.specs.working.DescribedClasses.{DescribedClass}
 use Rattle.heap_graph.proofs.EntryLaws.{map_one, take_one}
 
 module _ (records : List Record) (os : List SubRecord) (n : ℕ) (o : SubRecord) (here : slice_get os n ≡ Some o) where

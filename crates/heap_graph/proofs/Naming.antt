@@ -1,13 +1,11 @@
 -- What identifiers name: one more identifier.
-use Rattle.std.proofs.Common.{List, Option, None, Some, [], append_assoc, ap, false, get_or, length, refl, sym, take}
-use Rattle.std.proofs.Common.{true, ℕ, ◌++◌, ◌+◌, ◌<◌, ◌∙◌, ◌∷◌, ◌≡◌}
+use Rattle.heap_graph.proofs.Words.{List, None, Option, Resolves, Some, [], ap, append_assoc, cons_option, false}
+use Rattle.heap_graph.proofs.Words.{filter_map, filter_map-append, get_or, length, refl, sym, take, target_in, true, ℕ}
+use Rattle.heap_graph.proofs.Words.{◌++◌, ◌+◌, ◌<◌, ◌∙◌, ◌∷◌, ◌≡◌}
 use Rattle.std.specs.Option.{option_to_list}
-use Rattle.std.specs.Prelude.{filter_map}
-use Rattle.std.specs.List.{cons_option}
 use Rattle.std.proofs.lemmas.List.{take_more}
-use Rattle.std.proofs.lemmas.List.Elements.{filter_map-append}
 use Rattle.std.proofs.lemmas.List.Sums.{count_by_more_no, count_by_more_yes}
-use Rattle.heap_graph.specs.working.Resolving.{Resolves, ResolvesOne, is_unresolved_in, target_in}
+use Rattle.heap_graph.specs.working.Resolving.{ResolvesOne, is_unresolved_in}
 
 one_target : (h : ℕ → Option ℕ) (x : ℕ) → filter_map h (x ∷ []) ≡ option_to_list (h x)
 one_target h x = elim (h x) as (λ o. cons_option o [] ≡ option_to_list o) [ None ↦ refl | Some y ↦ refl ]

@@ -1,13 +1,8 @@
 -- What the tests of parts say of the whole.
-use Rattle.std.proofs.Common.{List, ap, arith, length, min, ⊎_elim, ℕ, ◌%◌, ◌*◌, ◌+◌, ◌/◌, ◌<◌, ◌∙◌, ◌≡◌, ◌≤◌}
-use Rattle.std.proofs.lemmas.Bool.{cases_lt}
+use Rattle.heap_graph.proofs.Words.{AreFine, AreObjects, IsLinked, List, Sight, SubRecord, ap, arith, cases_lt, length}
+use Rattle.heap_graph.proofs.Words.{min, ℕ, ⊎_elim, ◌%◌, ◌*◌, ◌+◌, ◌/◌, ◌<◌, ◌∙◌, ◌≡◌, ◌≤◌}
 use Rattle.std.proofs.lemmas.Nat.{div-add-mod', mod_below}
 use native.Mathlib.Nat.{add-mul, one-mul}
-use Rattle.hprof_grammar.specs.Standing.{Sight}
-use Rattle.hprof_grammar.specs.SubRecord.{SubRecord}
-use Rattle.heap_graph.specs.Linked.{IsLinked}
-use Rattle.heap_graph.specs.working.PlacedObjects.{AreObjects}
-use Rattle.heap_graph.specs.working.RuleAnswers.{AreFine}
 use Rattle.heap_graph.proofs.Standings.{number_below}
 
 -- before the first object stands none

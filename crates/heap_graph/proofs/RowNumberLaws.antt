@@ -1,6 +1,5 @@
 -- The rows of a graph and the numbers below their count go together, one by one.
-use Rattle.std.proofs.Common.{ap, arith, inl, inr, ne_eqb, refl, subst, sym, ℕ, ◌+◌, ◌-◌, ◌<◌, ◌∙◌, ◌≡◌}
-use Rattle.std.proofs.Common.{⊎_elim, ◌⊎◌}
+use Rattle.std.proofs.Common.{ap, arith, inl, inr, ne_eqb, refl, subst, sym, ℕ, ⊎_elim, ◌+◌, ◌-◌, ◌<◌, ◌∙◌, ◌≡◌, ◌⊎◌}
 use Rattle.std.proofs.lemmas.Bool.{cases_lt, le-ltb, lt-ltb}
 use Rattle.std.proofs.lemmas.List.{get_or_past}
 use Rattle.heap_graph.specs.ObjectGraph.{ObjectGraph, object_count, row_at}

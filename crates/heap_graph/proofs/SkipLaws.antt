@@ -1,9 +1,8 @@
 -- The text of a list of fields that are not followed, cut at its commas and each entry at its last dot: one list.
-use Rattle.std.proofs.Common.{List, [], arith, length, refl, subst, sym, ℕ, ◌++◌, ◌∙◌, ◌∷◌, ◌≡◌, ◌≤◌}
-use Rattle.std.specs.List.{AllByRecursion, Contains}
-use Rattle.std.proofs.lemmas.List.Elements.{Contains-append_right}
+use Rattle.heap_graph.proofs.Words.{AllByRecursion, Contains-append_right, List, SkipEntry, [], arith, length, refl}
+use Rattle.heap_graph.proofs.Words.{subst, sym, ℕ, ◌++◌, ◌∙◌, ◌∷◌, ◌≡◌, ◌≤◌}
+use Rattle.std.specs.List.{Contains}
 use Rattle.heap_graph.specs.SkipText.{IsEntry, SpellsSkips, entry_text, list_text}
-use Rattle.heap_graph.specs.Skips.{SkipEntry}
 
 pub there : (k : ℕ) (xs ys : List ℕ) → Contains (xs ++ k ∷ ys) k
 there k xs ys = Contains-append_right xs (k ∷ ys) k (0, omega arith, refl)

@@ -52,14 +52,10 @@ module _ (v : Sight) (places ids : List ℕ) (heap : List SubRecord) where
       → n < length places
   number_below n o are h = omega (arith, are.stand.count, slice_get_within (objects heap) n o h)
 
--- a number has one object, and what is told of it is told of one
+-- a number has one object
 pub one_object : (heap : List SubRecord) (n : ℕ) (o x : SubRecord) → slice_get (objects heap) n ≡ Some o
     → slice_get (objects heap) n ≡ Some x → o ≡ x
 one_object heap n o x e f = let both : Some o ≡ Some x = sym e ∙ f in cc
-
-pub told_of_one : {Y : Type 0} (f : SubRecord → Y) (heap : List SubRecord) (n : ℕ) (o x : SubRecord)
-    → slice_get (objects heap) n ≡ Some o → slice_get (objects heap) n ≡ Some x → f o ≡ f x
-told_of_one f heap n o x e is = ap f (one_object heap n o x e is)
 
 class_if : (heap : List SubRecord) (id : ℕ) (b : Bool) (o : Option ℕ) → (id == 0) ≡ b → b ≡ false
     → number_named heap id ≡ o → class_named heap id ≡ option_and_then as_class

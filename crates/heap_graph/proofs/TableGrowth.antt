@@ -1,24 +1,17 @@
 -- The table of classes: one more object.
-use Rattle.std.proofs.Common.{Bool, Contains, List, None, Option, Some, [], append-nil, ap, arith, cond, false, inl}
-use Rattle.std.proofs.Common.{inr, length, length-append, map, not, refl, slice_get, subst, suc, sym, take, true, zero}
-use Rattle.std.proofs.Common.{⊎_elim, ℕ, ◌++◌, ◌+◌, ◌<◌, ◌∙◌, ◌∷◌, ◌≡◌, ◌≤◌, ◌⊎◌}
-use Rattle.std.specs.Prelude.{filter_map, nat_lt, option_and_then, position, ◌==◌}
-use Rattle.std.specs.List.{cons_option, position_or_len}
-use Rattle.std.proofs.lemmas.Bool.{cases_order, eq-eqb, eqb-true, lt-ltb, ne_eqb}
-use Rattle.std.proofs.lemmas.List.{map-append, take_all}
-use Rattle.std.proofs.lemmas.List.Elements.{Contains-append_cases, Contains-append_left, Contains-append_right}
-use Rattle.std.proofs.lemmas.List.Elements.{filter_map-append}
+use Rattle.heap_graph.proofs.Words.{AreClasses, AreClassesAmong, AreObjects, Bool, Class, Contains}
+use Rattle.heap_graph.proofs.Words.{Contains-append_left, Contains-append_right, DuplicateObject, IsLinked, List, None}
+use Rattle.heap_graph.proofs.Words.{Option, Sight, Some, Stands, SubRecord, TableEntry, ZeroObject, [], ap, append-nil}
+use Rattle.heap_graph.proofs.Words.{arith, as_class, cases_order, class_dump, class_named, cond, cons_option, eq-eqb}
+use Rattle.heap_graph.proofs.Words.{eqb-true, false, filter_map, filter_map-append, ids_of, inl, inr, length}
+use Rattle.heap_graph.proofs.Words.{length-append, map, map-append, nat_lt, ne_eqb, not, number_named, objects}
+use Rattle.heap_graph.proofs.Words.{option_and_then, position, position_or_len, refl, slice_get, subst, suc, sym, take}
+use Rattle.heap_graph.proofs.Words.{take_all, true, zero, ℕ, ⊎_elim, ◌++◌, ◌+◌, ◌<◌, ◌==◌, ◌∙◌, ◌∷◌, ◌≡◌, ◌≤◌, ◌⊎◌}
+use Rattle.std.proofs.lemmas.Bool.{lt-ltb}
+use Rattle.std.proofs.lemmas.List.Elements.{Contains-append_cases}
 use Rattle.std.proofs.lemmas.Option.{slice_get_within as slice_get_below}
-use Rattle.hprof_grammar.specs.Standing.{Sight, Stands}
 use Rattle.hprof_grammar.specs.Dump.{id_of}
-use Rattle.hprof_grammar.specs.SubRecord.{Class, SubRecord}
-use Rattle.hprof_grammar.specs.SubRecord.SubRecord.{class_dump}
-use Rattle.heap_graph.specs.declared.rule.LinkRule.TheVariants.{DuplicateObject, ZeroObject}
-use Rattle.heap_graph.specs.Heap.{as_class, class_named, number_named, objects}
-use Rattle.heap_graph.specs.Linked.{IsLinked}
-use Rattle.heap_graph.specs.working.ClassTable.{AddsEntry, AreClasses, AreClassesAmong, TableEntry, IsTableEntry}
-use Rattle.heap_graph.specs.working.ClassTable.{ids_of}
-use Rattle.heap_graph.specs.working.PlacedObjects.{AreObjects}
+use Rattle.heap_graph.specs.working.ClassTable.{AddsEntry, IsTableEntry}
 use Rattle.heap_graph.proofs.ChainLaws.{some_inj, some_none}
 use Rattle.heap_graph.proofs.EntryLaws.{take_one}
 use Rattle.heap_graph.proofs.Firsts.{IsHit, position_at, position_hit}

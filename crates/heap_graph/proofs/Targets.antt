@@ -1,11 +1,9 @@
 -- What identifiers name, from the identifiers of the objects and from the heap list.
-use Rattle.std.proofs.Common.{Bool, List, None, Option, ap, cond, count_by, false, map, ℕ, ◌∙◌, ◌≡◌}
-use Rattle.std.specs.Prelude.{filter_map, is_none, ◌==◌}
+use Rattle.heap_graph.proofs.Words.{Bool, List, None, Option, SubRecord, ap, cond, count_by, false, filter_map}
+use Rattle.heap_graph.proofs.Words.{is_unresolved, map, objects, target_in, target_of, targets, ℕ, ◌==◌, ◌∙◌, ◌≡◌}
+use Rattle.std.specs.Prelude.{is_none}
 use Rattle.hprof_grammar.specs.Dump.{id_of}
-use Rattle.hprof_grammar.specs.SubRecord.{SubRecord}
-use Rattle.heap_graph.specs.Heap.{objects}
-use Rattle.heap_graph.specs.References.{is_unresolved, target_of, targets}
-use Rattle.heap_graph.specs.working.Resolving.{is_unresolved_in, target_in}
+use Rattle.heap_graph.specs.working.Resolving.{is_unresolved_in}
 use Rattle.heap_graph.proofs.Firsts.{position-map}
 
 target_at : (heap : List SubRecord) (id : ℕ) → target_in (map id_of (objects heap)) id ≡ target_of heap id

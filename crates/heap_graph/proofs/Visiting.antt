@@ -1,13 +1,11 @@
 -- A visit of an object: what it misses in all stays the same.
-use Rattle.std.proofs.Common.{Bool, List, None, Option, Some, [], ap, arith, cond, count_by, false, length, map, refl}
-use Rattle.std.proofs.Common.{subst, sym, true, ℕ, ◌+◌, ◌^◌, ◌∙◌, ◌∷◌, ◌≡◌, ◌≤◌}
-use Rattle.std.specs.Prelude.{is_none, position, ◌==◌}
+use Rattle.heap_graph.proofs.Words.{Bool, List, None, Option, RowKey, Some, [], ap, arith, cond, count_by, false}
+use Rattle.heap_graph.proofs.Words.{is_unresolved_in, length, map, position, refl, subst, sum_by-cons, sym, true}
+use Rattle.heap_graph.proofs.Words.{unresolved_left, ℕ, ◌+◌, ◌==◌, ◌^◌, ◌∙◌, ◌∷◌, ◌≡◌, ◌≤◌}
+use Rattle.std.specs.Prelude.{is_none}
 use Rattle.std.specs.Iterator.{YieldsFirst}
-use Rattle.std.proofs.lemmas.List.Sums.{sum_by-cons}
-use Rattle.heap_graph.specs.declared.row.RowKey.{RowKey}
-use Rattle.heap_graph.specs.Walks.{Advances, Step, Visited, is_unresolved_in, is_unresolved_step, references_left}
-use Rattle.heap_graph.specs.Walks.{step_in, target_in, unresolved_left}
-use Rattle.heap_graph.proofs.Walking.{HasPassed, goes_to, goes_to_end, passed_none, passed_one, yields}
+use Rattle.heap_graph.specs.Walks.{Advances, Step, Visited, is_unresolved_step, references_left, step_in, target_in}
+use Rattle.heap_graph.proofs.Walking.{HasPassed, goes_to, passed_none, passed_one, yields}
 
 -- ---- what a step misses
 
@@ -108,17 +106,6 @@ module _ (old : Visited) (row : RowKey) (bytes unresolved : ℕ) (all : List ℕ
       let same : unresolved + 0 ≡ unresolved = omega arith in
       subst (λ (n : ℕ). IsOnTheWay old row bytes n all after) same
       (passes false named (null_if (id == 0) (position (λ x. x == id) all) null) (omega arith))
-
-pub goes_end : (old : Visited) (row : RowKey) (bytes unresolved : ℕ) (all before after : List ℕ)
-    → IsOnTheWay old row bytes unresolved all before → before ≡ [] → after ≡ []
-    → Advances old None (visited row bytes unresolved all after)
-goes_end old row bytes unresolved all before after h e f = record {
-  goes = goes_to_end all old.left before after e f h.passed;
-  row_is = h.row_is;
-  bytes_is = h.bytes_is;
-  unresolved_is = ap (λ (ids : List ℕ). unresolved + unresolved_left (map (step_in all) ids)) (f ∙ sym e)
-      ∙ h.unresolved_is;
-}
 
 -- a visit that goes on yields what it goes to
 pub gives : (old : Visited) (object : Option ℕ) (new : Visited) → Advances old object new

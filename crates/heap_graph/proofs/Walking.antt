@@ -1,12 +1,10 @@
 -- A walk over identifiers, and the objects that they name.
-use Rattle.std.proofs.Common.{List, None, Option, Some, [], append_assoc, ap, arith, length, map, refl, sym, ℕ, ◌++◌}
-use Rattle.std.proofs.Common.{◌∙◌, ◌∷◌, ◌≡◌}
-use Rattle.std.specs.Prelude.{filter_map}
+use Rattle.heap_graph.proofs.Words.{List, None, Option, Some, [], ap, append_assoc, arith, cons_option, filter_map}
+use Rattle.heap_graph.proofs.Words.{filter_map-append, length, map, references_in, refl, sym, target_in, ℕ, ◌++◌, ◌∙◌}
+use Rattle.heap_graph.proofs.Words.{◌∷◌, ◌≡◌}
 use Rattle.std.specs.Iterator.{MakesProgress, YieldsFirst, item_count}
-use Rattle.std.specs.List.{cons_option}
-use Rattle.std.proofs.lemmas.List.Elements.{filter_map-append}
-use Rattle.heap_graph.specs.Walks.{GoesPast, Step, ids_in, references_in}
-use Rattle.heap_graph.specs.working.Resolving.{step_in, target_in}
+use Rattle.heap_graph.specs.Walks.{GoesPast, Step, ids_in}
+use Rattle.heap_graph.specs.working.Resolving.{step_in}
 
 -- ---- the steps over identifiers
 

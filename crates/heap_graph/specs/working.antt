@@ -7,6 +7,7 @@ pub mod GatheredParts
 pub mod PlacedNames
 pub mod Values
 pub mod HeldIds
+pub mod Scans
 pub mod RuleAnswers
 pub mod TestedParts
 pub mod ClassList
@@ -19,7 +20,6 @@ pub mod DescribedClasses
 pub mod ClassPlans
 pub mod FieldsUp
 pub mod Rests
-pub mod CountedIds
 pub mod ReadObjects
 pub mod GraphParts
 pub mod GraphOf

@@ -12,8 +12,8 @@ ghost use Rattle.heap_graph.specs.Walks.{ids_in, unresolved_left, references_in,
 ghost use Rattle.heap_graph.specs.working.GraphOf.{GraphOf, GraphOf-prop};
 
 use crate::class_entry::ClassEntry;
+use crate::field_places::Plan;
 use crate::objects::Objects;
-use crate::plan::Plan;
 use crate::row::{FIXED_ROWS, RowKey};
 use crate::skip::SkipPair;
 use crate::successors::Successors;
@@ -75,12 +75,13 @@ impl<'a, A: Allocator> Graph<'a, A> {
         ensures steps { result ≡ map (step_in self.now.ids) (held_by self.now object) }
         ensures within { All (λ o. o < object_count self.now) (references_of self.now object) }
     {
-        let ids = self.objects.ids_of(&self.plan, object as usize);
-        Successors::new(&self.objects.index, ids)
+        Successors::of(self.visit(object))
     }
 
     /// The row and the bytes of an object, and the objects that it refers to, in order, repeats kept. They are found as
-    /// they are asked for, and the identifiers that name none are counted on the way.
+    /// they are asked for, and the identifiers that name none are counted on the way. A marking and a report ask this
+    /// alone of an object; the calls that tell one thing of it are made of it.
+    // Inlined into the loop of a worker, where its parts stay in registers.
     #[inline(always)]
     pub fn visit(&self, object: u32) -> Visit<'_, A>
         requires { object < object_count self.now }
@@ -103,7 +104,7 @@ impl<'a, A: Allocator> Graph<'a, A> {
         ensures value { result ≡ row_at self.now object }
         ensures within { IsRowIn self.now result }
     {
-        self.objects.row_of(object as usize)
+        self.visit(object).row()
     }
 
     /// The bytes of an object.
@@ -112,7 +113,7 @@ impl<'a, A: Allocator> Graph<'a, A> {
         ensures value { result ≡ bytes_at self.now object }
         ensures within { result ≤ limit }
     {
-        self.objects.bytes_of(object as usize)
+        self.visit(object).bytes()
     }
 
     /// How many of the identifiers that an object holds are other than 0 and name no object.
@@ -121,7 +122,11 @@ impl<'a, A: Allocator> Graph<'a, A> {
         ensures value { result ≡ unresolved_at self.now object }
         ensures within { result ≤ 2 ^ 33 }
     {
-        self.objects.unresolved_of(&self.plan, object as usize)
+        // Called for its clause `whole`: few identifiers of an object name none.
+        let _objects = self.len();
+        let mut visit = self.visit(object);
+        while visit.next().is_some() {}
+        visit.unresolved()
     }
 
     /// How many identifiers of roots are other than 0 and name no object.

@@ -5,10 +5,7 @@ mod field_ids;
 
 pub(crate) use self::class_ids::ClassIds;
 pub use self::field_ids::FieldIds;
-use crate::classes::Fate;
-use crate::objects::Objects;
-use crate::plan::Plan;
-use hprof_grammar::{Ids, ObjectKind};
+use hprof_grammar::Ids;
 use std::alloc::Allocator;
 use std::marker::Model;
 use std::mem;
@@ -115,133 +112,6 @@ impl<'g, A: Allocator> HeldIds<'g, A> {
                 return Some(class);
             }
             _ => return None,
-        }
-    }
-}
-
-impl<'d, A: Allocator> Objects<'d, A> {
-    ghost use Rattle.std.specs.Prelude.{Bool, List, length, ◌<◌, ◌≡◌, ◌≤◌, ℕ};
-    ghost use Rattle.hprof_grammar.specs.SubRecord.{Class, Instance, Member, ObjectArray, SubRecord};
-    ghost use Rattle.hprof_grammar.specs.SubRecord.SubRecord.{class_dump, instance_dump, object_array_dump};
-    ghost use Rattle.hprof_grammar.specs.Standing.{Stands};
-    ghost use Rattle.heap_graph.specs.Heap.{class_number};
-    ghost use Rattle.heap_graph.specs.working.ClassPlans.{IsPlanOf};
-    ghost use Rattle.heap_graph.specs.working.ClassTable.{ids_of};
-    ghost use Rattle.heap_graph.specs.working.HeldIds.{AreIdsOf, AreIdsOfNumber, AreLinkedOf, IsObjectAt};
-    ghost use Rattle.heap_graph.specs.working.HeldIds.{IsFirstOfInstance, with_class};
-    ghost use Rattle.heap_graph.specs.working.ClassFates.{HaveFatesOf};
-
-    /// The identifiers that a class dump holds. The two reserved ones are not followed.
-    #[inline(always)]
-    fn ids_of_class(&self, at: u32) -> HeldIds<'_, A>
-        requires size { (1 ≤ self.now.view.id_size) × (self.now.view.id_size ≤ 8) }
-        requires dump { (c : Class) × Stands self.now.view at (class_dump c) }
-        ensures { (skips : Class → Member → Bool) (heap : List SubRecord) (c : Class)
-            → Stands self.now.view at (class_dump c)
-            → AreIdsOf skips self.now.view.id_size heap (class_dump c) result }
-    {
-        let ids = ClassIds::new(&self.view, at);
-        HeldIds {
-            rest: Rest::OfClass(ids),
-        }
-    }
-
-    /// The class of an instance, and the first class that declares fields, of that one and those above it.
-    #[inline(always)]
-    pub(crate) fn class_of(&self, at: u32) -> (u32, Option<u32>)
-        requires { (heap : List SubRecord) × (n : ℕ) × (i : Instance) × AreLinkedOf self.now heap
-            × HaveFatesOf self.now heap × IsObjectAt self.now.view heap n at (instance_dump i) }
-        ensures class { (heap : List SubRecord) (n : ℕ) (i : Instance) → AreLinkedOf self.now heap
-            → HaveFatesOf self.now heap → IsObjectAt self.now.view heap n at (instance_dump i)
-            → result.0 ≡ class_number heap i.class }
-        ensures first { (heap : List SubRecord) (n : ℕ) (i : Instance) → AreLinkedOf self.now heap
-            → HaveFatesOf self.now heap → IsObjectAt self.now.view heap n at (instance_dump i)
-            → IsFirstOfInstance self.now.view.id_size heap (ids_of self.now.classes.table.entries) i result.1 }
-    {
-        let number = match self.classes.find(self.view.instance_class(at)) {
-            Some(number) => number,
-            None => unreachable!(),
-        };
-        match self.fates[number as usize] {
-            Fate::Whole(layout) => return (number, layout.first),
-            _ => return (number, None),
-        }
-    }
-
-    /// The identifiers that an instance holds: its class, unless they are to begin behind it, and then its fields, of a
-    /// layout that begins at that class.
-    #[inline(always)]
-    pub(crate) fn ids_of_instance<'g>(
-        &'g self,
-        plan: &'g Plan<A>,
-        at: u32,
-        first: Option<u32>,
-        behind: bool,
-    ) -> HeldIds<'g, A>
-        requires { (skips : Class → Member → Bool) × (heap : List SubRecord) × (n : ℕ) × (i : Instance)
-            × AreLinkedOf self.now heap × HaveFatesOf self.now heap × IsPlanOf skips self.now heap plan.now
-            × IsObjectAt self.now.view heap n at (instance_dump i)
-            × IsFirstOfInstance self.now.view.id_size heap (ids_of self.now.classes.table.entries) i first }
-        ensures { (skips : Class → Member → Bool) (heap : List SubRecord) (n : ℕ) (i : Instance)
-            → AreLinkedOf self.now heap → HaveFatesOf self.now heap → IsPlanOf skips self.now heap plan.now
-            → IsObjectAt self.now.view heap n at (instance_dump i)
-            → IsFirstOfInstance self.now.view.id_size heap (ids_of self.now.classes.table.entries) i first
-            → AreIdsOf skips self.now.view.id_size heap (instance_dump i) (with_class behind i.class result) }
-    {
-        let fields = FieldIds::new(self, plan, first, self.view.instance_values(at));
-        if behind {
-            return HeldIds {
-                rest: Rest::Fields(fields),
-            };
-        }
-        HeldIds {
-            rest: Rest::InstanceWithClass(self.view.instance_class(at), fields),
-        }
-    }
-
-    /// The identifiers that an object array holds: its class, unless they are to begin behind it, and then its
-    /// elements.
-    // Inlined, as all that makes a visit, so that a visit is written where it stays.
-    #[inline(always)]
-    pub(crate) fn ids_of_array(&self, at: u32, behind: bool) -> HeldIds<'_, A>
-        requires { (a : ObjectArray) × Stands self.now.view at (object_array_dump a) }
-        ensures { (skips : Class → Member → Bool) (heap : List SubRecord) (a : ObjectArray)
-            → Stands self.now.view at (object_array_dump a)
-            → AreIdsOf skips self.now.view.id_size heap (object_array_dump a) (with_class behind a.class result) }
-    {
-        let elements = self.view.array_elements(at);
-        if behind {
-            return HeldIds {
-                rest: Rest::Elements(elements),
-            };
-        }
-        HeldIds {
-            rest: Rest::ArrayWithClass(self.view.array_class(at), elements),
-        }
-    }
-
-    /// The identifiers that an object holds.
-    #[inline(always)]
-    pub(crate) fn ids_of<'g>(&'g self, plan: &'g Plan<A>, number: usize) -> HeldIds<'g, A>
-        requires below { number < length self.now.places.items }
-        requires heap { (skips : Class → Member → Bool) × (heap : List SubRecord) × AreLinkedOf self.now heap
-            × HaveFatesOf self.now heap × IsPlanOf skips self.now heap plan.now }
-        ensures { (skips : Class → Member → Bool) (heap : List SubRecord) → AreLinkedOf self.now heap
-            → HaveFatesOf self.now heap → IsPlanOf skips self.now heap plan.now
-            → AreIdsOfNumber skips self.now.view.id_size heap number result }
-    {
-        let place = self.places[number];
-        match self.view.kind(place) {
-            ObjectKind::Class => return self.ids_of_class(place),
-            ObjectKind::Instance => {
-                return self.ids_of_instance(plan, place, self.class_of(place).1, false);
-            }
-            ObjectKind::ObjectArray => return self.ids_of_array(place, false),
-            ObjectKind::PrimitiveArray => {
-                return HeldIds {
-                    rest: Rest::Nothing,
-                };
-            }
         }
     }
 }

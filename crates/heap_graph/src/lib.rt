@@ -19,13 +19,13 @@
 
 mod class_entry;
 mod classes;
+mod field_places;
 mod graph;
 mod held;
 mod laws;
 mod named;
 mod names;
 mod objects;
-mod plan;
 mod refusal;
 mod resolving;
 mod row;

@@ -30,6 +30,7 @@ impl IdSource for NoIds {
 
     ghost ids = { λ _. [] };
 
+    // Inlined: no code, then, is the loop over it.
     #[inline(always)]
     fn next_id(&mut self) -> Option<u64> {
         None
@@ -39,6 +40,7 @@ impl IdSource for NoIds {
 impl<'g, A: Allocator> IdSource for FieldIds<'g, A> {
     ghost ids = { λ f. f };
 
+    // Inlined, as `next` is.
     #[inline(always)]
     fn next_id(&mut self) -> Option<u64> {
         self.next()
@@ -48,6 +50,7 @@ impl<'g, A: Allocator> IdSource for FieldIds<'g, A> {
 impl<'g> IdSource for Ids<'g> {
     ghost ids = { λ e. e };
 
+    // Inlined, as `next` is.
     #[inline(always)]
     fn next_id(&mut self) -> Option<u64> {
         self.next()
@@ -57,6 +60,7 @@ impl<'g> IdSource for Ids<'g> {
 impl<'g, A: Allocator> IdSource for HeldIds<'g, A> {
     ghost ids = { λ h. h };
 
+    // Inlined, as `next` is.
     #[inline(always)]
     fn next_id(&mut self) -> Option<u64> {
         self.next()
@@ -91,7 +95,36 @@ impl<'g, A: Allocator, I: IdSource> Model for Named<'g, A, I> {
 }
 
 impl<'g, A: Allocator, I: IdSource> Named<'g, A, I> {
-    ghost use Rattle.std.specs.Prelude.{◌≡◌};
+    ghost use Rattle.std.specs.Prelude.{length, map, ◌+◌, ◌^◌, ◌≡◌, ◌≤◌};
+    ghost use Rattle.heap_graph.specs.Walks.{step_in};
+
+    /// The objects that these identifiers name, of an object with that row and so many bytes, of whose identifiers so
+    /// many were passed that name none.
+    // Inlined, as all that makes a visit.
+    #[inline(always)]
+    pub(crate) fn new(
+        index: &'g IdIndex<A>,
+        ids: I,
+        row: RowKey,
+        bytes: u64,
+        unresolved: u64,
+    ) -> Self
+        requires few { unresolved + length (I.ids ids) ≤ 2 ^ 33 }
+        ensures { result ≡ record {
+          row = row;
+          bytes = bytes;
+          unresolved = unresolved;
+          left = map (step_in index.now) (I.ids ids);
+        } }
+    {
+        Named {
+            index,
+            ids,
+            row,
+            bytes,
+            unresolved,
+        }
+    }
 
     /// The row of the object in the histogram.
     pub fn row(&self) -> RowKey
@@ -125,6 +158,7 @@ impl<'g, A: Allocator, I: IdSource> Iterator for Named<'g, A, I> {
 
     ghost remaining = { item_count references_left };
 
+    // Inlined into the loop of a worker, of which there is one for each source of identifiers.
     #[inline(always)]
     fn next(&mut self) -> Option<u32> {
         while let Some(id) = self.ids.next_id() {

@@ -1,15 +1,16 @@
 //! The objects of a dump at their places.
 
+mod bytes;
 mod check;
 mod check_parts;
 mod class_entries;
+mod class_of;
 mod class_plans;
 pub(crate) mod class_table;
 mod gathering;
+mod held_ids;
 pub(crate) mod indexing;
-mod rows;
 mod scan;
-mod unresolved;
 
 ghost use Rattle.hprof_grammar.specs.SubRecord.{SubRecord};
 ghost use Rattle.hprof_grammar.specs.Standing.{StandInTurn, Stands};

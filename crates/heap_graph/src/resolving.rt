@@ -1,7 +1,7 @@
 //! What identifiers name: 0 is null, and another one names the first object that bears it.
 
 ghost use Rattle.std.specs.Prelude.{IfOk, ◌≡◌};
-ghost use Rattle.heap_graph.specs.working.Resolving.{Resolves, ResolvesOne, is_unresolved_in, target_in};
+ghost use Rattle.heap_graph.specs.working.Resolving.{Resolves, ResolvesOne, target_in};
 
 use id_index::IdIndex;
 use std::alloc::{AllocError, Allocator};
@@ -14,13 +14,6 @@ pub(crate) fn target<A: Allocator>(index: &IdIndex<A>, id: u64) -> Option<u32>
         return None;
     }
     index.find(id)
-}
-
-/// Whether an identifier is another than 0 and names no object.
-pub(crate) fn is_unresolved<A: Allocator>(index: &IdIndex<A>, id: u64) -> bool
-    ensures { result ≡ is_unresolved_in index.now id }
-{
-    id != 0 && index.find(id).is_none()
 }
 
 /// Appends the object that an identifier names, and says whether it is another than 0 and names none.

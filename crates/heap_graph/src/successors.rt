@@ -2,39 +2,32 @@
 
 ghost use Rattle.std.specs.Prelude.{length, ◌≡◌};
 
-use crate::held::HeldIds;
-use crate::resolving::target;
-use id_index::IdIndex;
+use crate::visit::Visit;
 use std::alloc::Allocator;
 use std::marker::Model;
 
-/// An iterator over the numbers of the objects that an object refers to. It reads the identifiers that the object holds
-/// from the bytes, and looks each of them up.
+/// An iterator over the numbers of the objects that an object refers to: a visit of it, without its row and its bytes.
+/// It reads the identifiers that the object holds from the bytes, and looks each of them up.
 #[derive(Drop)]
 pub struct Successors<'g, A: Allocator> {
-    index: &'g IdIndex<A>,
-    ids: HeldIds<'g, A>,
+    visit: Visit<'g, A>,
 }
 
 impl<'g, A: Allocator> Model for Successors<'g, A> {
-    ghost use Rattle.std.specs.Prelude.{List, map};
+    ghost use Rattle.std.specs.Prelude.{List};
     ghost use Rattle.heap_graph.specs.Walks.{Step};
-    ghost use Rattle.heap_graph.specs.working.Resolving.{step_in};
 
     ghost Value = { List Step };
 
-    ghost view = { λ s. map (step_in s.index.now) s.ids };
+    ghost view = { λ s. s.visit.left };
 }
 
 impl<'g, A: Allocator> Successors<'g, A> {
-    ghost use Rattle.std.specs.Prelude.{map};
-    ghost use Rattle.heap_graph.specs.working.Resolving.{step_in};
-
-    /// The objects that these identifiers name.
-    pub(crate) fn new(index: &'g IdIndex<A>, ids: HeldIds<'g, A>) -> Self
-        ensures { result ≡ map (step_in index.now) ids.entry }
+    /// The objects that a visit gives.
+    pub(crate) fn of(visit: Visit<'g, A>) -> Self
+        ensures { result ≡ visit.entry.left }
     {
-        Successors { index, ids }
+        Successors { visit }
     }
 
     /// How many of the identifiers that the object holds were not walked yet, those counted too that are 0 or name no
@@ -42,7 +35,7 @@ impl<'g, A: Allocator> Successors<'g, A> {
     pub fn left(&self) -> u64
         ensures { result ≡ length self.now }
     {
-        self.ids.len()
+        self.visit.left()
     }
 }
 
@@ -57,11 +50,6 @@ impl<'g, A: Allocator> Iterator for Successors<'g, A> {
     ghost remaining = { item_count references_in };
 
     fn next(&mut self) -> Option<u32> {
-        while let Some(id) = self.ids.next() {
-            if let Some(object) = target(self.index, id) {
-                return Some(object);
-            }
-        }
-        None
+        self.visit.next()
     }
 }

@@ -59,6 +59,7 @@ impl<'g, A: Allocator> Visit<'g, A> {
 
     /// The class, where it is known, and the objects that these identifiers name, of an object with that row and so
     /// many bytes.
+    // Inlined, as all that makes a visit.
     #[inline(always)]
     pub(crate) fn new(
         index: &'g IdIndex<A>,
@@ -79,13 +80,7 @@ impl<'g, A: Allocator> Visit<'g, A> {
         Visit {
             index,
             class,
-            rest: Named {
-                index,
-                ids,
-                row,
-                bytes,
-                unresolved: 0,
-            },
+            rest: Named::new(index, ids, row, bytes, 0),
         }
     }
 
@@ -111,7 +106,20 @@ impl<'g, A: Allocator> Visit<'g, A> {
         self.rest.unresolved()
     }
 
+    /// How many of the identifiers that the object holds were not passed yet, those counted too that are 0 or name no
+    /// object.
+    pub(crate) fn left(&self) -> u64
+        ensures { result ≡ length self.now.left }
+    {
+        let behind = self.rest.ids.len();
+        match self.class {
+            Some(_) => return behind + 1,
+            None => return behind,
+        }
+    }
+
     /// The class and what the identifiers behind it name, by where they stand.
+    // Inlined, so that each kind's loop has the parts of its walk where they stand.
     #[inline(always)]
     pub fn by_kind(self) -> ByKind<'g, A>
         ensures { AreByKind self.entry result }
@@ -125,36 +133,18 @@ impl<'g, A: Allocator> Visit<'g, A> {
             unresolved,
         } = rest;
         match ids.rest {
-            Rest::Nothing => ByKind::Nothing(
-                class,
-                Named {
-                    index,
-                    ids: NoIds {},
-                    row,
-                    bytes,
-                    unresolved,
-                },
-            ),
-            Rest::Fields(ids) => ByKind::Fields(
-                class,
-                Named {
-                    index,
-                    ids,
-                    row,
-                    bytes,
-                    unresolved,
-                },
-            ),
-            Rest::Elements(ids) => ByKind::Elements(
-                class,
-                Named {
-                    index,
-                    ids,
-                    row,
-                    bytes,
-                    unresolved,
-                },
-            ),
+            Rest::Nothing => {
+                let none = Named::new(index, NoIds {}, row, bytes, unresolved);
+                ByKind::Nothing(class, none)
+            }
+            Rest::Fields(ids) => {
+                let fields = Named::new(index, ids, row, bytes, unresolved);
+                ByKind::Fields(class, fields)
+            }
+            Rest::Elements(ids) => {
+                let elements = Named::new(index, ids, row, bytes, unresolved);
+                ByKind::Elements(class, elements)
+            }
             _ => ByKind::Any,
         }
     }
@@ -170,6 +160,7 @@ impl<'g, A: Allocator> Iterator for Visit<'g, A> {
 
     ghost remaining = { item_count references_left };
 
+    // Inlined, as the walk over what is behind the class.
     #[inline(always)]
     fn next(&mut self) -> Option<u32> {
         if let Some(class) = self.class {

@@ -40,13 +40,6 @@ pub record AreIdsOf (skips : Class → Member → Bool) (s : ℕ) (heap : List S
 abbrev pub with_class : Bool → ℕ → List ℕ → List ℕ
 with_class behind class ids = if behind then class ∷ ids else ids
 
--- and these those of the object of that number
-pub record AreIdsOfNumber (skips : Class → Member → Bool) (s : ℕ) (heap : List SubRecord) (n : ℕ)
-    (ids : List ℕ) : Type 0 where
-  pub object : SubRecord
-  pub is : slice_get (objects heap) n ≡ Some object
-  pub are : AreIdsOf skips s heap object ids
-
 -- the layout of the instance begins at that class
 pub record IsFirstOfInstance (s : ℕ) (heap : List SubRecord) (ids : List ℕ) (i : Instance)
     (first : Option ℕ) : Type 0 where

@@ -3,9 +3,8 @@
 ghost use Rattle.std.specs.Prelude.{drop, length, take, ◌<◌, ◌≡◌, ◌≤◌};
 ghost use Rattle.heap_graph.specs.working.FieldsUp.{Up, Up-prop};
 
-use crate::classes::Fate;
+use crate::field_places::Plan;
 use crate::objects::Objects;
-use crate::plan::Plan;
 use std::alloc::Allocator;
 use std::marker::Model;
 
@@ -54,21 +53,6 @@ fn by_class(values: &[u8], own: usize) -> (&[u8], &[u8])
     ensures above { result.1.now ≡ drop own values.now }
 {
     values.split_at(own)
-}
-
-impl<'d, A: Allocator> Objects<'d, A> {
-    ghost use Rattle.heap_graph.specs.working.FieldsUp.{next_above};
-
-    /// The first of the classes above a class that declares fields.
-    fn next_of(&self, number: u32) -> Option<u32>
-        requires { number < length self.now.fates.items }
-        ensures { result ≡ next_above self.now.fates.items number }
-    {
-        match self.fates[number as usize] {
-            Fate::Whole(layout) => return layout.next,
-            _ => return None,
-        }
-    }
 }
 
 impl<'g, A: Allocator> FieldIds<'g, A> {

@@ -1,6 +1,5 @@
 -- The dump has a place for each of its objects, so either none breaks a rule or the first that does has its place.
-use Rattle.std.proofs.Common.{refl}
-use Rattle.hprof_grammar.specs.Places.{places_of}
+use Rattle.heap_graph.proofs.Words.{places_of, refl}
 use Rattle.heap_graph.proofs.LinkedOrFault.{linked_or_fault}
 use Rattle.heap_graph.proofs.laws.always_linked_or_fault.Goals as goal
 

@@ -1,6 +1,5 @@
 -- At the next place stands the next sub-record, so its identifier follows those so far.
-use Rattle.std.proofs.Common.{get_or, ℕ}
-use Rattle.std.proofs.lemmas.Option.{slice_get-get_or}
+use Rattle.heap_graph.proofs.Words.{get_or, slice_get-get_or, ℕ}
 use Rattle.hprof_grammar.specs.Dump.{id_of}
 use Rattle.heap_graph.proofs.Adding.{keys_more}
 use Rattle.heap_graph.proofs.objects.read_ids.Goals as goal

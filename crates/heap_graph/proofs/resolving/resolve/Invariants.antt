@@ -1,6 +1,5 @@
 -- The identifiers so far are resolved, and no more of them are missing than there were.
-use Rattle.std.proofs.Common.{take, ◌≤◌}
-use Rattle.heap_graph.specs.working.Resolving.{Resolves}
+use Rattle.heap_graph.proofs.Words.{Resolves, take, ◌≤◌}
 use Rattle.heap_graph.proofs.resolving.resolve.Given as goal
 
 abbrev pub invariant-loop-id : goal.invariant-loop-id

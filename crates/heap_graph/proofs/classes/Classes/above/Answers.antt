@@ -1,7 +1,5 @@
 -- The superclass that is read is the dump's, and the table has a class of an identifier where the heap has one.
-use Rattle.std.proofs.Common.{None, arith, subst, sym, ◌∙◌, ◌≡◌, ℕ}
-use Rattle.heap_graph.specs.Heap.{class_named}
-use Rattle.heap_graph.specs.working.ClassTable.{ids_of}
+use Rattle.heap_graph.proofs.Words.{None, arith, class_named, ids_of, subst, sym, ℕ, ◌∙◌, ◌≡◌}
 use Rattle.heap_graph.proofs.ClassTableLaws.{found, not_found, read_super, stands_at}
 use Rattle.heap_graph.proofs.classes.Classes.above.Goals as goal
 

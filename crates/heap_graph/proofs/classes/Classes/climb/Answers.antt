@@ -1,12 +1,11 @@
 -- A class that comes onto the path is unknown no more, so fewer are; where the climb ends, it ends above the path.
-use Rattle.std.proofs.Common.{Contains, List, [], set, subst, sym, ℕ, ◌++◌, ◌∷◌, ◌∙◌}
+use Rattle.heap_graph.proofs.Words.{AreFates, Contains, IsClimb, IsTop, List, [], ids_of, set, subst, sym, ℕ, ◌++◌, ◌∙◌}
+use Rattle.heap_graph.proofs.Words.{◌∷◌}
 use lib.ListN.{length-set}
-use Rattle.heap_graph.specs.declared.classes.fate.Fate.TheVariants as fates
-use Rattle.heap_graph.specs.working.ClassTable.{ids_of}
-use Rattle.heap_graph.specs.working.Chains.{AreFates, IsClimb, IsTop}
 use Rattle.heap_graph.proofs.ClassTableLaws.{same_count}
 use Rattle.heap_graph.proofs.ClimbLaws.{climb_end, climb_step}
 use Rattle.heap_graph.proofs.FateLaws.{fewer_unknown, stay_open}
+use Rattle.heap_graph.specs.declared.classes.fate.Fate.TheVariants as fates
 use Rattle.heap_graph.proofs.classes.Classes.climb.Goals as goal
 
 pub up-smaller : goal.up-smaller

@@ -1,7 +1,5 @@
 -- A class whose fields have no bytes declares none, so the first with fields is the one above; else it is this one.
-use Rattle.std.proofs.Common.{ap, sym, ◌∙◌}
-use Rattle.heap_graph.specs.working.ClassTable.{ids_of}
-use Rattle.heap_graph.specs.declared.classes.ClassPlace.{ClassPlace}
+use Rattle.heap_graph.proofs.Words.{ClassPlace, ap, ids_of, sym, ◌∙◌}
 use Rattle.heap_graph.proofs.ClassTableLaws.{no_fields, read_entry, some_fields}
 use Rattle.heap_graph.proofs.LayoutLaws.{first_above, first_here}
 use Rattle.heap_graph.proofs.classes.Classes.first_of.Goals as goal

@@ -1,6 +1,5 @@
 -- The last class of the path stands right below what has the fate, so its own fate follows, and so on down.
-use Rattle.std.proofs.Common.{arith, length, List, [], ℕ, rules, subst, ◌<◌, ◌≡◌}
-use Rattle.heap_graph.specs.working.Chains.{AreFatesOf}
+use Rattle.heap_graph.proofs.Words.{AreFatesOf, List, [], arith, length, rules, subst, ℕ, ◌<◌, ◌≡◌}
 use Rattle.heap_graph.proofs.ClassTableLaws.{same_count}
 use Rattle.heap_graph.proofs.ClimbLaws.{back_fates, back_known, back_top, last_under}
 use Rattle.heap_graph.proofs.FateLaws.{stay_known}

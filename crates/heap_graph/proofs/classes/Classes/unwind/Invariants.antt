@@ -1,8 +1,7 @@
 -- What was known is known, so is each class that left the path, and the fate is that of what stands above the path.
-use Rattle.std.proofs.Common.{Contains, List, length, ℕ, ◌⊎◌}
-use Rattle.hprof_grammar.specs.SubRecord.{SubRecord}
-use Rattle.heap_graph.specs.working.ClassTable.{AreClassesOf}
-use Rattle.heap_graph.specs.working.Chains.{AreFatesOf, DoesStay, IsKnown, IsTopOf}
+use Rattle.heap_graph.proofs.Words.{AreClassesOf, AreFatesOf, Contains, DoesStay, IsKnown, List, SubRecord, length, ℕ}
+use Rattle.heap_graph.proofs.Words.{◌⊎◌}
+use Rattle.heap_graph.specs.working.Chains.{IsTopOf}
 use Rattle.heap_graph.proofs.classes.Classes.unwind.Given as goal
 
 abbrev pub invariant-loop-number : goal.invariant-loop-number

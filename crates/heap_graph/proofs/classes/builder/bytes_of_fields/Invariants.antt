@@ -1,6 +1,5 @@
 -- What was added and what is left make up the bytes of all, and a value has at most 255.
-use Rattle.std.proofs.Common.{length, ◌*◌, ◌+◌, ◌≡◌, ◌≤◌}
-use Rattle.heap_graph.specs.working.IdPlaces.{size_together}
+use Rattle.heap_graph.proofs.Words.{length, size_together, ◌*◌, ◌+◌, ◌≡◌, ◌≤◌}
 use Rattle.heap_graph.proofs.classes.builder.bytes_of_fields.Given as goal
 
 abbrev pub invariant-loop-member : goal.invariant-loop-member

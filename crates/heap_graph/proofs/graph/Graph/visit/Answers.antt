@@ -1,28 +1,29 @@
 -- Row, bytes and identifiers are those of the one object of that number; nothing is missed before the first step.
-use Rattle.std.proofs.Common.{List, ap, arith, ◌∙◌}
-use Rattle.heap_graph.specs.Whole.{held_by}
-use Rattle.heap_graph.specs.Walks.{Step, Visited, references_in, unresolved_left}
-use Rattle.heap_graph.proofs.GraphReading.{bytes_read, held_read, references_read, row_read, row_within, seen}
-use Rattle.heap_graph.proofs.GraphReading.{steps_read}
+use Rattle.heap_graph.proofs.Words.{IsRowIn, List, RowKey, ap, arith, held_by, references_in, subst, sym}
+use Rattle.heap_graph.proofs.Words.{unresolved_left, ◌∙◌}
+use Rattle.heap_graph.specs.Walks.{Step, Visited}
+use Rattle.heap_graph.proofs.GraphReading.{bytes_read, references_read, row_read, scan_read, seen, steps_read}
 use Rattle.heap_graph.proofs.Visiting.{unresolved-steps}
 use Rattle.heap_graph.proofs.graph.Graph.visit.Goals as goal
 
 pub new-requires-clause-few : goal.new-requires-clause-few
-new-requires-clause-few g c = (held_read c.self.invariant c.args.object _ c.scan-row.ensures.ids).are.few
+new-requires-clause-few g c = (scan_read c.self.invariant c.scan-row.ensures).held.few
+
+pub new-requires-clause-class : goal.new-requires-clause-class
+new-requires-clause-class g c = (scan_read c.self.invariant c.scan-row.ensures).named
 
 pub returns-clause-row : goal.returns-clause-row
 returns-clause-row g c =
-    ap (λ (v : Visited). v.row) c.new.ensures
-    ∙ row_read (seen c.self.view_is c.self.invariant) c.args.object _ c.requires c.scan-row.ensures.row
+    ap (λ (v : Visited). v.row) c.new.ensures ∙ row_read (seen c.self.view_is c.self.invariant) c.scan-row.ensures
 
 pub returns-clause-row_within : goal.returns-clause-row_within
 returns-clause-row_within g c =
-    row_within (seen c.self.view_is c.self.invariant) c.args.object _ c.requires (returns-clause-row g c)
+    let within = (seen c.self.view_is c.self.invariant).whole.rows_within c.args.object c.requires in
+    subst (λ (row : RowKey). IsRowIn c.args.self.now row) (sym (returns-clause-row g c)) within
 
 pub returns-clause-bytes : goal.returns-clause-bytes
 returns-clause-bytes g c =
-    ap (λ (v : Visited). v.bytes) c.new.ensures
-    ∙ bytes_read (seen c.self.view_is c.self.invariant) c.args.object _ c.requires c.scan-row.ensures.bytes
+    ap (λ (v : Visited). v.bytes) c.new.ensures ∙ bytes_read (seen c.self.view_is c.self.invariant) c.scan-row.ensures
 
 pub returns-clause-few_bytes : goal.returns-clause-few_bytes
 returns-clause-few_bytes g c =
@@ -31,13 +32,12 @@ returns-clause-few_bytes g c =
 
 pub returns-clause-steps : goal.returns-clause-steps
 returns-clause-steps g c =
-    ap (λ (v : Visited). v.left) c.new.ensures
-    ∙ steps_read (seen c.self.view_is c.self.invariant) c.args.object _ c.scan-row.ensures.ids
+    ap (λ (v : Visited). v.left) c.new.ensures ∙ steps_read (seen c.self.view_is c.self.invariant) c.scan-row.ensures
 
 pub returns-clause-value : goal.returns-clause-value
 returns-clause-value g c =
     ap (λ (v : Visited). references_in v.left) c.new.ensures
-    ∙ references_read (seen c.self.view_is c.self.invariant) c.args.object _ c.scan-row.ensures.ids
+    ∙ references_read (seen c.self.view_is c.self.invariant) c.scan-row.ensures
 
 pub returns-clause-within : goal.returns-clause-within
 returns-clause-within g c = (seen c.self.view_is c.self.invariant).whole.references_within c.args.object

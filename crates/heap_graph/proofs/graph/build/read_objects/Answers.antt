@@ -1,10 +1,5 @@
 -- At the places stand the objects of one heap, so index, table and fates, made one from another, are all of it.
-use Rattle.std.proofs.Common.{arith, subst, sym, ◌∙◌, ◌≡◌}
-use Rattle.hprof_grammar.specs.Standing.{Sight}
-use Rattle.heap_graph.specs.Heap.{heap_of}
-use Rattle.heap_graph.specs.working.PlacedObjects.{ArePlacesOf}
-use Rattle.heap_graph.specs.working.ClassTable.{AreClasses}
-use Rattle.heap_graph.specs.working.ClassFates.{HaveFates}
+use Rattle.heap_graph.proofs.Words.{AreClasses, ArePlacesOf, HaveFates, Sight, arith, heap_of, subst, sym, ◌∙◌, ◌≡◌}
 use Rattle.heap_graph.proofs.Building.{are_indexed, few_objects, objects_stand, same_sight, size_in_range}
 use Rattle.heap_graph.proofs.Counting.{few_placed}
 use Rattle.heap_graph.proofs.graph.build.read_objects.Goals as goal

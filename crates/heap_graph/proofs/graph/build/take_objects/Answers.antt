@@ -1,9 +1,5 @@
 -- The places that were handed over are the dump's own, so what is read at them is of the dump.
-use Rattle.std.proofs.lemmas.Result.{IfOk-weaker}
-use Rattle.hprof_grammar.specs.Places.{IsDumpOf, Places}
-use Rattle.heap_graph.specs.Heap.{heap_of}
-use Rattle.heap_graph.specs.working.PlacedObjects.{ArePlacesOf, IsReadFrom}
-use Rattle.heap_graph.specs.working.ClassFates.{HaveFatesOf}
+use Rattle.heap_graph.proofs.Words.{ArePlacesOf, HaveFatesOf, IfOk-weaker, IsDumpOf, IsReadFrom, Places, heap_of}
 use Rattle.heap_graph.proofs.Building.{handed_places}
 use Rattle.heap_graph.proofs.graph.build.take_objects.Goals as goal
 

@@ -1,6 +1,5 @@
 -- The identifiers are those of the roots, and what they name is looked for among the objects.
-use Rattle.std.proofs.Common.{filter, ◌∙◌}
-use Rattle.hprof_grammar.specs.Dump.{is_root}
+use Rattle.heap_graph.proofs.Words.{filter, is_root, ◌∙◌}
 use Rattle.heap_graph.proofs.Building.{roots_resolved}
 use Rattle.heap_graph.proofs.graph.parts.find_roots.Goals as goal
 

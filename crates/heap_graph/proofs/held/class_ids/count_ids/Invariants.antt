@@ -1,6 +1,5 @@
 -- Those counted, with those among the values that are left, are all; no value counts for more than one.
-use Rattle.std.proofs.Common.{length, ◌+◌, ◌≡◌, ◌≤◌}
-use Rattle.heap_graph.specs.working.Values.{values_ids}
+use Rattle.heap_graph.proofs.Words.{length, values_ids, ◌+◌, ◌≡◌, ◌≤◌}
 use Rattle.heap_graph.proofs.held.class_ids.count_ids.Given as goal
 
 abbrev pub invariant-loop-value : goal.invariant-loop-value

@@ -1,6 +1,5 @@
 -- Each identifier that is passed is 0, missing or names the object: what is missed in all stays the same.
-use Rattle.std.proofs.Common.{ap, arith, length, sym, ◌∙◌}
-use Rattle.std.proofs.lemmas.Bool.{eq-eqb, ne_eqb}
+use Rattle.heap_graph.proofs.Words.{ap, arith, eq-eqb, length, ne_eqb, sym, ◌∙◌}
 use Rattle.heap_graph.proofs.Visiting.{begun, gives, goes_named, goes_null, goes_unresolved}
 use Rattle.heap_graph.proofs.Walking.{none_of}
 use Rattle.heap_graph.proofs.named.NamedIterator.next.Goals as goal

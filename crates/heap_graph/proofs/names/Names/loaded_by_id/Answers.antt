@@ -1,6 +1,5 @@
 -- At the next place stands the next loaded class, so its identifier follows those so far.
-use Rattle.std.proofs.Common.{arith}
-use Rattle.hprof_grammar.specs.Record.Record.{load_class}
+use Rattle.heap_graph.proofs.Words.{arith, load_class}
 use Rattle.heap_graph.proofs.Adding.{one_more_added, still_takes, takes}
 use Rattle.heap_graph.proofs.NameLookups.{loaded_at}
 use Rattle.heap_graph.proofs.names.Names.loaded_by_id.Goals as goal

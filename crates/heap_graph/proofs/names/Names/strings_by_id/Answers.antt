@@ -1,6 +1,5 @@
 -- At the next place stands the next string, so its identifier follows those so far.
-use Rattle.std.proofs.Common.{arith}
-use Rattle.hprof_grammar.specs.Record.Record.{string}
+use Rattle.heap_graph.proofs.Words.{arith, string}
 use Rattle.heap_graph.proofs.Adding.{one_more_added, still_takes, takes}
 use Rattle.heap_graph.proofs.NameLookups.{text_at}
 use Rattle.heap_graph.proofs.names.Names.strings_by_id.Goals as goal

@@ -1,6 +1,5 @@
 -- The index finds the first loaded class that bears the identifier, and that one's name counts.
-use Rattle.std.proofs.Common.{Some, ap, ℕ, ◌∙◌}
-use Rattle.heap_graph.specs.working.PlacedNames.{loaded_id}
+use Rattle.heap_graph.proofs.Words.{Some, ap, loaded_id, ℕ, ◌∙◌}
 use Rattle.heap_graph.proofs.Lookups.{found, found_below, missing}
 use Rattle.heap_graph.proofs.NameLookups.{first_name, loaded_at, loaded_name}
 use Rattle.heap_graph.proofs.names.NamesById.name_of.Goals as goal

@@ -1,6 +1,5 @@
 -- The index finds the first string that bears the identifier, and that one's text counts.
-use Rattle.std.proofs.Common.{List, Some, ap, ℕ, ◌∙◌}
-use Rattle.heap_graph.specs.working.PlacedNames.{string_id}
+use Rattle.heap_graph.proofs.Words.{List, Some, ap, string_id, ℕ, ◌∙◌}
 use Rattle.heap_graph.proofs.Lookups.{found, found_below, missing}
 use Rattle.heap_graph.proofs.NameLookups.{first_text, string_text, text_at}
 use Rattle.heap_graph.proofs.names.NamesById.string_named.Goals as goal

@@ -1,6 +1,5 @@
 -- The table has a class of that identifier where the heap has one, and an array has no other rule to break.
-use Rattle.std.proofs.Common.{None, Some, subst, sym, ◌≡◌, ℕ}
-use Rattle.heap_graph.specs.Heap.{class_named}
+use Rattle.heap_graph.proofs.Words.{None, Some, class_named, subst, sym, ℕ, ◌≡◌}
 use Rattle.heap_graph.proofs.ClassTableLaws.{not_found}
 use Rattle.heap_graph.proofs.RuleLaws.{array_fine, array_unknown, fate_found}
 use Rattle.heap_graph.proofs.objects.Objects.array_rule.Goals as goal

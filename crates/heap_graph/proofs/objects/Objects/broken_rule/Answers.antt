@@ -1,8 +1,7 @@
 -- The rules are tested in their order, so the first that is found broken is the least one.
-use Rattle.std.proofs.Common.{arith, sym, ◌∙◌}
+use Rattle.heap_graph.proofs.Words.{arith, sym, ◌∙◌}
 use Rattle.heap_graph.proofs.Standings.{there_at}
-use Rattle.heap_graph.proofs.Testing.{fine_object, large_fails, late_fails, own_object, repeated_object}
-use Rattle.heap_graph.proofs.Testing.{zero_fails}
+use Rattle.heap_graph.proofs.Testing.{fine_object, large_fails, late_fails, own_object, repeated_object, zero_fails}
 use Rattle.heap_graph.proofs.objects.Objects.broken_rule.Goals as goal
 
 pub returns-then-id-eq0-clause-rule : goal.returns-then-id-eq0-clause-rule

@@ -1,9 +1,5 @@
 -- No object of a part whose answer was seen breaks a rule, and the first repeat is none of them.
-use Rattle.std.proofs.Common.{List, length, min, ◌*◌, ◌≤◌}
-use Rattle.hprof_grammar.specs.SubRecord.{SubRecord}
-use Rattle.heap_graph.specs.working.PlacedObjects.{AreOf}
-use Rattle.heap_graph.specs.working.ClassFates.{HaveFatesOf}
-use Rattle.heap_graph.specs.working.RuleAnswers.{AreFine}
+use Rattle.heap_graph.proofs.Words.{AreFine, AreOf, HaveFatesOf, List, SubRecord, length, min, ◌*◌, ◌≤◌}
 use Rattle.heap_graph.proofs.objects.Objects.check.Given as goal
 
 abbrev pub invariant-loop-answer : goal.invariant-loop-answer

@@ -1,6 +1,5 @@
 -- No object before breaks a rule, so the first that is found to break one has the first fault; else all keep them.
-use Rattle.std.proofs.Common.{Some, ap, arith, sym, ℕ, ◌∙◌}
-use Rattle.std.proofs.lemmas.Option.{slice_get-get_or}
+use Rattle.heap_graph.proofs.Words.{Some, ap, arith, slice_get-get_or, sym, ℕ, ◌∙◌}
 use Rattle.heap_graph.proofs.Testing.{none_before}
 use Rattle.heap_graph.proofs.objects.Objects.check_part.Goals as goal
 

@@ -1,9 +1,5 @@
 -- No object so far breaks a rule, and the first repeat is none of them.
-use Rattle.std.proofs.Common.{List, ◌≤◌}
-use Rattle.hprof_grammar.specs.SubRecord.{SubRecord}
-use Rattle.heap_graph.specs.working.PlacedObjects.{AreOf}
-use Rattle.heap_graph.specs.working.ClassFates.{HaveFatesOf}
-use Rattle.heap_graph.specs.working.RuleAnswers.{AreFine}
+use Rattle.heap_graph.proofs.Words.{AreFine, AreOf, HaveFatesOf, List, SubRecord, ◌≤◌}
 use Rattle.heap_graph.proofs.objects.Objects.check_part.Given as goal
 
 abbrev pub invariant-loop-number : goal.invariant-loop-number

@@ -1,11 +1,9 @@
 -- 0 is no superclass; another is sound where the table has it and the fate of its chain is not endless.
-use Rattle.std.proofs.Common.{None, arith, length, refl, subst, sym, ◌<◌, ◌≡◌, ℕ}
-use Rattle.std.proofs.lemmas.Grind.{common_steps}
-use Rattle.heap_graph.specs.declared.classes.fate.Fate.TheVariants as fates
-use Rattle.heap_graph.specs.Heap.{class_named}
+use Rattle.heap_graph.proofs.Words.{None, arith, class_named, common_steps, length, refl, subst, sym, ℕ, ◌<◌, ◌≡◌}
 use Rattle.heap_graph.proofs.ClassTableLaws.{not_found}
-use Rattle.heap_graph.proofs.RuleLaws.{class_bad, class_fine, endless_super, ends, fate_found, fate_read}
-use Rattle.heap_graph.proofs.RuleLaws.{fine_super, missing_super, no_super}
+use Rattle.heap_graph.proofs.RuleLaws.{class_bad, class_fine, endless_super, ends, fate_found, fate_read, fine_super}
+use Rattle.heap_graph.proofs.RuleLaws.{missing_super, no_super}
+use Rattle.heap_graph.specs.declared.classes.fate.Fate.TheVariants as fates
 use Rattle.heap_graph.proofs.objects.Objects.class_rule.Goals as goal
 
 pub returns-then-superclass-eq0 : goal.returns-then-superclass-eq0

@@ -1,6 +1,5 @@
 -- A linked heap has its classes in the table in the order of their dumps, so they are named in that order.
-use Rattle.std.proofs.Common.{arith}
-use Rattle.heap_graph.specs.working.ClassTable.{ids_of}
+use Rattle.heap_graph.proofs.Words.{arith, ids_of}
 use Rattle.heap_graph.proofs.ClassLaws.{all_named, none_named, one_more_named}
 use Rattle.heap_graph.proofs.ClassTableLaws.{same_count}
 use Rattle.heap_graph.proofs.objects.Objects.classes.Goals as goal

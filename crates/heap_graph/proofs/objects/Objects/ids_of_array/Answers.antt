@@ -1,6 +1,5 @@
 -- An array holds its class and then its elements, of which its form allows no more than the walk has room for.
-use Rattle.std.proofs.Common.{ap, arith, length, refl}
-use Rattle.hprof_grammar.proofs.BoundsLaws.{bounds}
+use Rattle.heap_graph.proofs.Words.{ap, arith, bounds, length, refl}
 use Rattle.heap_graph.proofs.HeldLaws.{array_holds, held_behind, held_whole}
 use Rattle.heap_graph.proofs.objects.Objects.ids_of_array.Goals as goal
 
@@ -10,7 +9,7 @@ invariant_of-result g c =
     omega (arith, ap length (c.array_elements-elements.ensures r.0 r.1), (bounds r.1.is.formed).count)
 
 pub returns-then-behind : goal.returns-then-behind
-returns-then-behind g c = λ skips heap a stands.
+returns-then-behind g c = λ skips heap a stands is.
     held_behind _ _ _ _ _ _ _ c.if-behind.true
     (array_holds skips c.args.self.now.view.id_size heap a a.class c.array_elements-elements.result
     (bounds stands.is.formed).count refl (c.array_elements-elements.ensures a stands))
@@ -21,7 +20,7 @@ invariant_of-result-2 g c =
     omega (arith, ap length (c.array_elements-elements.ensures r.0 r.1), (bounds r.1.is.formed).count)
 
 pub returns : goal.returns
-returns g c = λ skips heap a stands.
+returns g c = λ skips heap a stands is.
     held_whole _ _ _ _ _ _ _ c.if-behind.false
-    (array_holds skips c.args.self.now.view.id_size heap a c.array_class.result c.array_elements-elements.result
-    (bounds stands.is.formed).count (c.array_class.ensures a stands) (c.array_elements-elements.ensures a stands))
+    (array_holds skips c.args.self.now.view.id_size heap a c.args.class c.array_elements-elements.result
+    (bounds stands.is.formed).count is (c.array_elements-elements.ensures a stands))

@@ -1,6 +1,5 @@
 -- A class holds what is read of its dump, whose form allows no more than the walk has room for.
-use Rattle.std.proofs.Common.{ap, arith, length}
-use Rattle.hprof_grammar.proofs.BoundsLaws.{bounds}
+use Rattle.heap_graph.proofs.Words.{ap, arith, bounds, length}
 use Rattle.heap_graph.proofs.HeldLaws.{class_holds, few_in_class}
 use Rattle.heap_graph.proofs.objects.Objects.ids_of_class.Goals as goal
 

@@ -1,13 +1,11 @@
 -- An instance holds its class and then the fields of its layout, of which there are no more than bytes of values.
-use Rattle.std.proofs.Common.{arith, refl}
-use Rattle.hprof_grammar.proofs.BoundsLaws.{bounds}
-use Rattle.heap_graph.specs.Fields.{declared_fields}
+use Rattle.heap_graph.proofs.Words.{arith, bounds, declared_fields, refl}
 use Rattle.heap_graph.proofs.HeldLaws.{few_in_instance, held_behind, held_whole, instance_holds, layout_from}
 use Rattle.heap_graph.proofs.objects.Objects.ids_of_instance.Goals as goal
 
 pub new-fields-requires-clause-heap : goal.new-fields-requires-clause-heap
 new-fields-requires-clause-heap g c =
-    let first = c.requires.8 in (
+    let first = c.requires.9 in (
       c.requires.0,
       c.requires.1,
       declared_fields first.chain,
@@ -19,7 +17,7 @@ new-fields-requires-clause-heap g c =
 
 pub invariant_of-result : goal.invariant_of-result
 invariant_of-result g c =
-    let first = c.requires.8 in
+    let first = c.requires.9 in
     let values = c.instance_values.ensures c.requires.3 c.requires.7.stands in
     let fields = c.new-fields.ensures c.requires.0 c.requires.1 (declared_fields first.chain) c.requires.5 c.requires.6
     (layout_from c.args.self.now c.requires.1 c.requires.3 c.args.first c.instance_values.result.now first values) in
@@ -28,7 +26,7 @@ invariant_of-result g c =
     omega (arith, few)
 
 pub returns-then-behind : goal.returns-then-behind
-returns-then-behind g c = λ skips heap n i linked told plan at first.
+returns-then-behind g c = λ skips heap n i linked told plan at is first.
     let values = c.instance_values.ensures i at.stands in
     let fields = c.new-fields.ensures skips heap (declared_fields first.chain) told plan
     (layout_from c.args.self.now heap i c.args.first c.instance_values.result.now first values) in
@@ -38,7 +36,7 @@ returns-then-behind g c = λ skips heap n i linked told plan at first.
 
 pub invariant_of-result-2 : goal.invariant_of-result-2
 invariant_of-result-2 g c =
-    let first = c.requires.8 in
+    let first = c.requires.9 in
     let values = c.instance_values.ensures c.requires.3 c.requires.7.stands in
     let fields = c.new-fields.ensures c.requires.0 c.requires.1 (declared_fields first.chain) c.requires.5 c.requires.6
     (layout_from c.args.self.now c.requires.1 c.requires.3 c.args.first c.instance_values.result.now first values) in
@@ -47,10 +45,10 @@ invariant_of-result-2 g c =
     omega (arith, few)
 
 pub returns : goal.returns
-returns g c = λ skips heap n i linked told plan at first.
+returns g c = λ skips heap n i linked told plan at is first.
     let values = c.instance_values.ensures i at.stands in
     let fields = c.new-fields.ensures skips heap (declared_fields first.chain) told plan
     (layout_from c.args.self.now heap i c.args.first c.instance_values.result.now first values) in
     held_whole _ _ _ _ _ _ _ c.if-behind.false
     (instance_holds skips _ _ _ i _ first _ _ _ linked.low (bounds at.stands.is.formed).values
-    (c.instance_class.ensures i at.stands) values fields)
+    is values fields)

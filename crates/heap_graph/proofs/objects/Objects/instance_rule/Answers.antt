@@ -1,12 +1,10 @@
 -- The fate of its class tells the size that the values must have, or that no chain is whole, which asks for no size.
-use Rattle.std.proofs.Common.{None, ap, arith, length, refl, subst, sym, ◌<◌, ◌≡◌, ℕ}
-use Rattle.std.proofs.lemmas.Grind.{common_steps}
-use Rattle.hprof_grammar.proofs.BoundsLaws.{bounds}
-use Rattle.heap_graph.specs.declared.classes.fate.Fate.TheVariants as fates
-use Rattle.heap_graph.specs.Heap.{class_named}
+use Rattle.heap_graph.proofs.Words.{None, ap, arith, bounds, class_named, common_steps, length, refl, subst, sym, ℕ}
+use Rattle.heap_graph.proofs.Words.{◌<◌, ◌≡◌}
 use Rattle.heap_graph.proofs.ClassTableLaws.{not_found}
-use Rattle.heap_graph.proofs.RuleLaws.{fate_found, fate_read, instance_fine, instance_unknown, instance_wrong}
-use Rattle.heap_graph.proofs.RuleLaws.{no_chain, size_right, size_wrong}
+use Rattle.heap_graph.proofs.RuleLaws.{fate_found, fate_read, instance_fine, instance_unknown, instance_wrong, no_chain}
+use Rattle.heap_graph.proofs.RuleLaws.{size_right, size_wrong}
+use Rattle.heap_graph.specs.declared.classes.fate.Fate.TheVariants as fates
 use Rattle.heap_graph.proofs.objects.Objects.instance_rule.Goals as goal
 
 pub find-requires : goal.find-requires

@@ -1,13 +1,12 @@
--- One object stands at the place, so row, bytes and identifiers are told of the same.
-use Rattle.std.proofs.Common.{List, ap, length, subst, sym, ◌<◌, ◌∙◌, ℕ}
-use Rattle.hprof_grammar.specs.SubRecord.SubRecord.{instance_dump, object_array_dump}
-use Rattle.heap_graph.specs.declared.row.RowKey.{RowKey}
+-- One object of the kind that was read stands at the place, so row, bytes and identifiers are told of the same; in a
+-- linked heap the class that it names is there, and is planned.
+use Rattle.heap_graph.proofs.Words.{AreIdsOf, List, ap, class_dump, class_number, instance_dump, length}
+use Rattle.heap_graph.proofs.Words.{object_array_dump, primitive_array_dump, refl, subst, sym, ℕ, ◌<◌, ◌∙◌}
 use Rattle.heap_graph.specs.declared.row.RowKey.TheVariants as keys
-use Rattle.heap_graph.specs.Rows.{bytes_of, row_of}
-use Rattle.heap_graph.specs.working.ClassPlans.{HasPlan}
-use Rattle.heap_graph.specs.working.HeldIds.{AreIdsOf}
 use Rattle.heap_graph.proofs.FirstNamed.{array_planned, instance_planned, known_class, known_first, known_named}
-use Rattle.heap_graph.proofs.Standings.{array_at, instance_at, there_at, told_of_one}
+use Rattle.heap_graph.proofs.HeldLaws.{nothing_held}
+use Rattle.heap_graph.proofs.Linking.{no_unknown_array}
+use Rattle.heap_graph.proofs.Standings.{array_at, class_at, instance_at, primitives_at, there_at}
 use Rattle.heap_graph.proofs.objects.Objects.scan.Goals as goal
 
 pub kind-requires : goal.kind-requires
@@ -15,8 +14,34 @@ kind-requires g c =
     let it = there_at _ _ _ _ _ _ c.requires.heap.2.are c.requires.below c.index-place.ensures in
     (it.object, it.stands, it.describes)
 
-pub class_of-class-requires : goal.class_of-class-requires
-class_of-class-requires g c =
+-- ---- a class
+
+pub class_bytes-bytes-requires : goal.class_bytes-bytes-requires
+class_bytes-bytes-requires g c =
+    let o = class_at _ _ _ _ _ _ c.requires.heap.2.are c.requires.below c.index-place.ensures c.in-Class.ensures in
+    (o.0, o.1.stands)
+
+pub ids_of_class-requires-clause-dump : goal.ids_of_class-requires-clause-dump
+ids_of_class-requires-clause-dump g c =
+    let o = class_at _ _ _ _ _ _ c.requires.heap.2.are c.requires.below c.index-place.ensures c.in-Class.ensures in
+    (o.0, o.1.stands)
+
+pub returns-in-Class : goal.returns-in-Class
+returns-in-Class g c = λ skips heap linked told plan.
+    let o = class_at _ _ _ _ _ _ linked.are c.requires.below c.index-place.ensures c.in-Class.ensures in
+    record {
+      object = class_dump o.0;
+      is = o.1.is;
+      row_is = refl;
+      bytes_is = c.class_bytes-bytes.ensures o.0 o.1.stands;
+      named = tt;
+      held = c.ids_of_class.ensures skips heap o.0 o.1.stands;
+    }
+
+-- ---- an instance
+
+pub class_of-id-requires : goal.class_of-id-requires
+class_of-id-requires g c =
     let r = c.requires.heap in
     let o = instance_at _ _ _ _ _ _ r.2.are c.requires.below c.index-place.ensures c.in-Instance.ensures in
     (r.1, c.args.number, o.0, r.2, r.3, o.1)
@@ -27,13 +52,11 @@ instance_values-requires g c =
     let o = instance_at _ _ _ _ _ _ are c.requires.below c.index-place.ensures c.in-Instance.ensures in
     (o.0, o.1.stands)
 
--- ---- an instance
-
 pub object_of_row-known-requires : goal.object_of_row-known-requires
 object_of_row-known-requires g c =
     let r = c.requires.heap in
     let o = instance_at _ _ _ _ _ _ r.2.are c.requires.below c.index-place.ensures c.in-Instance.ensures in
-    let class = c.class_of-class.ensures.class r.1 c.args.number o.0 r.2 r.3 o.1 in
+    let class = c.class_of-id.ensures.class r.1 c.args.number o.0 r.2 r.3 o.1 in
     subst (λ (n : ℕ). n < length c.args.plan.now.classes.items) (sym class)
     (instance_planned r.1 _ c.args.plan.now.classes.items (r.3.classes.in_order r.2.linked) r.4.one_each _ _ o.0
     r.2.linked o.1.is)
@@ -42,58 +65,58 @@ pub ids_of_instance-ids-requires : goal.ids_of_instance-ids-requires
 ids_of_instance-ids-requires g c =
     let r = c.requires.heap in
     let o = instance_at _ _ _ _ _ _ r.2.are c.requires.below c.index-place.ensures c.in-Instance.ensures in
-    let first = c.class_of-class.ensures.first r.1 c.args.number o.0 r.2 r.3 o.1 in
-    (r.0, r.1, c.args.number, o.0, r.2, r.3, r.4, o.1, first)
+    let first = c.class_of-id.ensures.first r.1 c.args.number o.0 r.2 r.3 o.1 in
+    (r.0, r.1, c.args.number, o.0, r.2, r.3, r.4, o.1, c.class_of-id.ensures.id r.1 c.args.number o.0 o.1, first)
 
-pub returns-in-Instance-clause-class : goal.returns-in-Instance-clause-class
-returns-in-Instance-clause-class g c =
-    let r = c.requires.heap in
-    let o = instance_at _ _ _ _ _ _ r.2.are c.requires.below c.index-place.ensures c.in-Instance.ensures in
-    let class = c.class_of-class.ensures.class r.1 c.args.number o.0 r.2 r.3 o.1 in
-    let in_order = r.3.classes.in_order r.2.linked in
-    let has = instance_planned r.1 _ c.args.plan.now.classes.items in_order r.4.one_each _ _ o.0 r.2.linked o.1.is in
-    known_named c.args.self.now.index o.0.class _
-    (known_class r.1 _ _ in_order r.4.one_each _ _ _ _ r.4.objects_are has (ap (λ (n : ℕ). keys.Class n) class)
-    c.object_of_row-known.ensures)
-
-pub returns-in-Instance-clause-row : goal.returns-in-Instance-clause-row
-returns-in-Instance-clause-row g c = λ heap object linked told is.
+pub returns-in-Instance : goal.returns-in-Instance
+returns-in-Instance g c = λ skips heap linked told plan.
     let o = instance_at _ _ _ _ _ _ linked.are c.requires.below c.index-place.ensures c.in-Instance.ensures in
-    ap (λ (n : ℕ). keys.Class n) (c.class_of-class.ensures.class heap c.args.number o.0 linked told o.1)
-    ∙ told_of_one (row_of heap) heap c.args.number _ _ o.1.is is
-
-pub returns-in-Instance-clause-bytes : goal.returns-in-Instance-clause-bytes
-returns-in-Instance-clause-bytes g c = λ heap object are is.
-    let o = instance_at _ _ _ _ _ _ are c.requires.below c.index-place.ensures c.in-Instance.ensures in
-    ap length (c.instance_values.ensures o.0 o.1.stands)
-    ∙ told_of_one (bytes_of c.args.self.now.view.id_size) heap c.args.number _ _ o.1.is is
-
-pub returns-in-Instance-clause-ids : goal.returns-in-Instance-clause-ids
-returns-in-Instance-clause-ids g c = λ skips heap linked told plan.
-    let o = instance_at _ _ _ _ _ _ linked.are c.requires.below c.index-place.ensures c.in-Instance.ensures in
-    let first = c.class_of-class.ensures.first heap c.args.number o.0 linked told o.1 in
-    let class = c.class_of-class.ensures.class heap c.args.number o.0 linked told o.1 in
+    let id = c.class_of-id.ensures.id heap c.args.number o.0 o.1 in
+    let first = c.class_of-id.ensures.first heap c.args.number o.0 linked told o.1 in
+    let row = ap (λ (n : ℕ). keys.Class n) (c.class_of-id.ensures.class heap c.args.number o.0 linked told o.1) in
     let in_order = told.classes.in_order linked.linked in
-    let plans = c.args.plan.now.classes.items in
-    let has = instance_planned heap _ plans in_order plan.one_each _ _ o.0 linked.linked o.1.is in
-    let known = known_class heap _ _ in_order plan.one_each _ _ _ _ plan.objects_are has
-    (ap (λ (n : ℕ). keys.Class n) class) c.object_of_row-known.ensures in
+    let has = instance_planned heap _ c.args.plan.now.classes.items in_order plan.one_each _ _ o.0 linked.linked
+    o.1.is in
+    let known = known_class heap _ _ in_order plan.one_each _ _ _ _ plan.objects_are has row
+    c.object_of_row-known.ensures in
     record {
       object = instance_dump o.0;
       is = o.1.is;
-      are = subst (λ (ids : List ℕ). AreIdsOf skips c.args.self.now.view.id_size heap (instance_dump o.0) ids)
+      row_is = row;
+      bytes_is = ap length (c.instance_values.ensures o.0 o.1.stands);
+      named = known_named c.args.self.now.index o.0.class _ known;
+      held = subst (λ (ids : List ℕ). AreIdsOf skips c.args.self.now.view.id_size heap (instance_dump o.0) ids)
           (known_first c.args.self.now.index _ o.0.class _ _ known c.is_some.ensures)
-          (c.ids_of_instance-ids.ensures skips heap c.args.number o.0 linked told plan o.1 first);
+          (c.ids_of_instance-ids.ensures skips heap c.args.number o.0 linked told plan o.1 id first);
     }
 
 -- ---- an array of objects
+
+pub array_class-id-requires : goal.array_class-id-requires
+array_class-id-requires g c =
+    let are = c.requires.heap.2.are in
+    let o = array_at _ _ _ _ _ _ are c.requires.below c.index-place.ensures c.in-ObjectArray.ensures in
+    (o.0, o.1.stands)
+
+pub class_numbered-class-requires : goal.class_numbered-class-requires
+class_numbered-class-requires g c =
+    let r = c.requires.heap in
+    let o = array_at _ _ _ _ _ _ r.2.are c.requires.below c.index-place.ensures c.in-ObjectArray.ensures in
+    (r.1, r.2, r.3, no_unknown_array _ r.1 _ o.0 _ r.2.linked o.1.is (c.array_class-id.ensures o.0 o.1.stands))
+
+pub array_bytes-bytes-requires : goal.array_bytes-bytes-requires
+array_bytes-bytes-requires g c =
+    let are = c.requires.heap.2.are in
+    let o = array_at _ _ _ _ _ _ are c.requires.below c.index-place.ensures c.in-ObjectArray.ensures in
+    (o.0, o.1.stands)
 
 pub object_of_row-known-requires-in-ObjectArray : goal.object_of_row-known-requires-in-ObjectArray
 object_of_row-known-requires-in-ObjectArray g c =
     let r = c.requires.heap in
     let o = array_at _ _ _ _ _ _ r.2.are c.requires.below c.index-place.ensures c.in-ObjectArray.ensures in
-    let row = c.row_of-row.ensures r.1 (object_array_dump o.0) r.2 r.3 o.1.is in
-    subst (λ (k : RowKey). HasPlan c.args.plan.now.classes.items k) (sym row)
+    let class = c.class_numbered-class.ensures.number r.1 r.2 r.3
+    ∙ ap (λ (id : ℕ). class_number r.1 id) (c.array_class-id.ensures o.0 o.1.stands) in
+    subst (λ (n : ℕ). n < length c.args.plan.now.classes.items) (sym class)
     (array_planned r.1 _ c.args.plan.now.classes.items (r.3.classes.in_order r.2.linked) r.4.one_each _ _ o.0
     r.2.linked o.1.is)
 
@@ -101,23 +124,14 @@ pub ids_of_array-ids-requires : goal.ids_of_array-ids-requires
 ids_of_array-ids-requires g c =
     let are = c.requires.heap.2.are in
     let o = array_at _ _ _ _ _ _ are c.requires.below c.index-place.ensures c.in-ObjectArray.ensures in
-    (o.0, o.1.stands)
+    (o.0, o.1.stands, c.array_class-id.ensures o.0 o.1.stands)
 
-pub returns-in-ObjectArray-clause-class : goal.returns-in-ObjectArray-clause-class
-returns-in-ObjectArray-clause-class g c =
-    let r = c.requires.heap in
-    let o = array_at _ _ _ _ _ _ r.2.are c.requires.below c.index-place.ensures c.in-ObjectArray.ensures in
-    let row = c.row_of-row.ensures r.1 (object_array_dump o.0) r.2 r.3 o.1.is in
-    let in_order = r.3.classes.in_order r.2.linked in
-    let has = array_planned r.1 _ c.args.plan.now.classes.items in_order r.4.one_each _ _ o.0 r.2.linked o.1.is in
-    known_named c.args.self.now.index o.0.class _
-    (known_class r.1 _ _ in_order r.4.one_each _ _ _ _ r.4.objects_are has row
-    c.object_of_row-known-in-ObjectArray.ensures)
-
-pub returns-in-ObjectArray-clause-ids : goal.returns-in-ObjectArray-clause-ids
-returns-in-ObjectArray-clause-ids g c = λ skips heap linked told plan.
+pub returns-in-ObjectArray : goal.returns-in-ObjectArray
+returns-in-ObjectArray g c = λ skips heap linked told plan.
     let o = array_at _ _ _ _ _ _ linked.are c.requires.below c.index-place.ensures c.in-ObjectArray.ensures in
-    let row = c.row_of-row.ensures heap (object_array_dump o.0) linked told o.1.is in
+    let id = c.array_class-id.ensures o.0 o.1.stands in
+    let row = ap (λ (n : ℕ). keys.Class n) (c.class_numbered-class.ensures.number heap linked told
+    ∙ ap (λ (x : ℕ). class_number heap x) id) in
     let in_order = told.classes.in_order linked.linked in
     let has = array_planned heap _ c.args.plan.now.classes.items in_order plan.one_each _ _ o.0 linked.linked o.1.is in
     let known = known_class heap _ _ in_order plan.one_each _ _ _ _ plan.objects_are has row
@@ -125,7 +139,38 @@ returns-in-ObjectArray-clause-ids g c = λ skips heap linked told plan.
     record {
       object = object_array_dump o.0;
       is = o.1.is;
-      are = subst (λ (ids : List ℕ). AreIdsOf skips c.args.self.now.view.id_size heap (object_array_dump o.0) ids)
+      row_is = row;
+      bytes_is = c.array_bytes-bytes.ensures o.0 o.1.stands;
+      named = known_named c.args.self.now.index o.0.class _ known;
+      held = subst (λ (ids : List ℕ). AreIdsOf skips c.args.self.now.view.id_size heap (object_array_dump o.0) ids)
           (known_first c.args.self.now.index _ o.0.class _ _ known c.is_some-in-ObjectArray.ensures)
-          (c.ids_of_array-ids.ensures skips heap o.0 o.1.stands);
+          (c.ids_of_array-ids.ensures skips heap o.0 o.1.stands id);
+    }
+
+-- ---- an array of primitive values
+
+pub element_type-code-requires : goal.element_type-code-requires
+element_type-code-requires g c =
+    let are = c.requires.heap.2.are in
+    let o = primitives_at _ _ _ _ _ _ are c.requires.below c.index-place.ensures c.in-PrimitiveArray.ensures in
+    (o.0, o.1.stands)
+
+pub primitive_bytes-bytes-requires : goal.primitive_bytes-bytes-requires
+primitive_bytes-bytes-requires g c =
+    let are = c.requires.heap.2.are in
+    let o = primitives_at _ _ _ _ _ _ are c.requires.below c.index-place.ensures c.in-PrimitiveArray.ensures in
+    (o.0, o.1.stands, c.element_type-code.ensures o.0 o.1.stands)
+
+pub returns-in-PrimitiveArray : goal.returns-in-PrimitiveArray
+returns-in-PrimitiveArray g c = λ skips heap linked told plan.
+    let are = linked.are in
+    let o = primitives_at _ _ _ _ _ _ are c.requires.below c.index-place.ensures c.in-PrimitiveArray.ensures in
+    let code = c.element_type-code.ensures o.0 o.1.stands in
+    record {
+      object = primitive_array_dump o.0;
+      is = o.1.is;
+      row_is = ap (λ (t : ℕ). keys.Primitive t) code;
+      bytes_is = c.primitive_bytes-bytes.ensures o.0 o.1.stands code;
+      named = tt;
+      held = nothing_held skips c.args.self.now.view.id_size heap o.0;
     }

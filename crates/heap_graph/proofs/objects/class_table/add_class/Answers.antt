@@ -1,18 +1,14 @@
 -- What has identifier 0 or an earlier object's is no class that an identifier names: the rest are added.
-use Rattle.std.proofs.Common.{Contains, Option, Some, ap, arith, get_or, refl, subst, sym, take}
-use Rattle.std.proofs.Common.{ℕ, ◌∙◌, ◌≡◌}
-use Rattle.std.specs.Prelude.{option_and_then}
-use Rattle.std.proofs.lemmas.Bool.{iff_false, ne_eqb}
-use Rattle.hprof_grammar.specs.Standing.{Stands}
+use Rattle.heap_graph.proofs.Words.{Contains, Option, Some, Stands, SubRecord, ap, arith, as_class, class_dump}
+use Rattle.heap_graph.proofs.Words.{class_named, get_or, ne_eqb, number_named, option_and_then, refl, subst, sym, take}
+use Rattle.heap_graph.proofs.Words.{ℕ, ◌∙◌, ◌≡◌}
+use Rattle.std.proofs.lemmas.Bool.{iff_false}
 use Rattle.hprof_grammar.specs.Dump.{id_of}
-use Rattle.hprof_grammar.specs.SubRecord.{SubRecord}
-use Rattle.hprof_grammar.specs.SubRecord.SubRecord.{class_dump}
-use Rattle.heap_graph.specs.Heap.{as_class, class_named, number_named}
 use Rattle.heap_graph.proofs.Adding.{on_ok}
 use Rattle.heap_graph.proofs.ChainLaws.{some_inj}
 use Rattle.heap_graph.proofs.Standings.{IsDumpBy, class_is, class_number, there}
-use Rattle.heap_graph.proofs.TableGrowth.{among_more, among_skip, first_number, repeated_linked}
-use Rattle.heap_graph.proofs.TableGrowth.{repeated_skip, zero_linked, zero_skip}
+use Rattle.heap_graph.proofs.TableGrowth.{among_more, among_skip, first_number, repeated_linked, repeated_skip}
+use Rattle.heap_graph.proofs.TableGrowth.{zero_linked, zero_skip}
 use Rattle.heap_graph.proofs.objects.class_table.add_class.Goals as goal
 
 pub object_id-id-requires : goal.object_id-id-requires

@@ -1,7 +1,5 @@
 -- The table so far has the classes among the objects before the next class dump, and in the end those among all.
-use Rattle.std.proofs.Common.{arith, subst, sym, ◌∙◌}
-use Rattle.hprof_grammar.specs.Standing.{Sight}
-use Rattle.heap_graph.specs.working.ClassTable.{AreClasses}
+use Rattle.heap_graph.proofs.Words.{AreClasses, Sight, arith, subst, sym, ◌∙◌}
 use Rattle.heap_graph.proofs.ClassNumbersLaws.{all_classes, among_first, next_added, next_class}
 use Rattle.heap_graph.proofs.TableGrowth.{among_all}
 use Rattle.heap_graph.proofs.objects.class_table.class_table.Goals as goal

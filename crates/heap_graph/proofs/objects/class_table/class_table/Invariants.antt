@@ -1,9 +1,5 @@
 -- The builder has the classes among the objects before the next class dump, and reads the same bytes.
-use Rattle.std.proofs.Common.{List, length, ◌≡◌}
-use Rattle.std.specs.Prelude.{slice_index_or}
-use Rattle.hprof_grammar.specs.SubRecord.{SubRecord}
-use Rattle.heap_graph.specs.working.ClassNumbers.{AreIndexed}
-use Rattle.heap_graph.specs.working.ClassTable.{AreClassesAmong}
+use Rattle.heap_graph.proofs.Words.{AreClassesAmong, AreIndexed, List, SubRecord, length, slice_index_or, ◌≡◌}
 use Rattle.heap_graph.proofs.objects.class_table.class_table.Given as goal
 
 abbrev pub invariant-loop-number : goal.invariant-loop-number

@@ -1,8 +1,7 @@
 -- Each part follows those before it: joined in order they are what all objects give.
-use Rattle.std.proofs.Common.{arith, subst, sym, ℕ, ◌+◌, ◌∙◌}
-use Rattle.heap_graph.specs.working.GatheredParts.{HasGathered}
-use Rattle.heap_graph.proofs.Gathering.{all_left, all_parts, answered, next_answer, nothing, one_more_part}
-use Rattle.heap_graph.proofs.Gathering.{others_left, unanswered}
+use Rattle.heap_graph.proofs.Words.{HasGathered, arith, subst, sym, ℕ, ◌+◌, ◌∙◌}
+use Rattle.heap_graph.proofs.Gathering.{all_left, all_parts, answered, next_answer, nothing, one_more_part, others_left}
+use Rattle.heap_graph.proofs.Gathering.{unanswered}
 use Rattle.heap_graph.proofs.objects.gathering.gather_in_parts.Goals as goal
 
 pub loop-part-init : goal.loop-part-init

@@ -1,7 +1,6 @@
 -- What the parts so far give is joined, and the answers of the others are left.
-use Rattle.std.proofs.Common.{length, min, ℕ, ◌%◌, ◌*◌, ◌+◌, ◌/◌, ◌≡◌}
+use Rattle.heap_graph.proofs.Words.{HasGathered, length, min, ℕ, ◌%◌, ◌*◌, ◌+◌, ◌/◌, ◌≡◌}
 use Rattle.std.specs.Vec.Iter.{into_iter_items, into_iter_len}
-use Rattle.heap_graph.specs.working.GatheredParts.{HasGathered}
 use Rattle.heap_graph.proofs.Gathering.{AreLeft}
 use Rattle.heap_graph.proofs.objects.gathering.gather_in_parts.Given as goal
 

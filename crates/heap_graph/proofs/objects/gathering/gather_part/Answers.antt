@@ -1,6 +1,5 @@
 -- At the next place stands the next object: its identifier follows those so far, and it is noted if it is a class dump.
-use Rattle.std.proofs.Common.{arith, subst, ℕ}
-use Rattle.heap_graph.specs.working.GatheredParts.{HasGathered}
+use Rattle.heap_graph.proofs.Words.{HasGathered, arith, subst, ℕ}
 use Rattle.heap_graph.proofs.Gathering.{one_more}
 use Rattle.heap_graph.proofs.Standings.{id_there}
 use Rattle.heap_graph.proofs.objects.gathering.gather_part.Goals as goal

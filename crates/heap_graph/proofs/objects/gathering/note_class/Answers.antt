@@ -1,10 +1,7 @@
 -- What is read as a class is a class dump, and its number is noted; another object is none.
-use Rattle.std.proofs.Common.{List, None, Some, [], ap, subst, sym, ℕ, ◌++◌, ◌+◌, ◌∙◌, ◌∷◌, ◌≡◌}
+use Rattle.heap_graph.proofs.Words.{AreClassNumbers, List, None, Some, SubRecord, [], ap, as_class, class_dump, objects}
+use Rattle.heap_graph.proofs.Words.{subst, sym, ℕ, ◌++◌, ◌+◌, ◌∙◌, ◌∷◌, ◌≡◌}
 use Rattle.std.proofs.lemmas.List.{append_assoc}
-use Rattle.hprof_grammar.specs.SubRecord.{SubRecord}
-use Rattle.hprof_grammar.specs.SubRecord.SubRecord.{class_dump}
-use Rattle.heap_graph.specs.Heap.{as_class, objects}
-use Rattle.heap_graph.specs.working.ClassNumbers.{AreClassNumbers}
 use Rattle.heap_graph.proofs.ChainLaws.{some_none}
 use Rattle.heap_graph.proofs.ClassNumbersLaws.{noted_more, noted_skip}
 use Rattle.heap_graph.proofs.Standings.{IsDumpBy, class_number, is_class_dump, no_class_dump, stands_there}

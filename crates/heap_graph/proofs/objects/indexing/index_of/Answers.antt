@@ -1,7 +1,6 @@
 -- What was gathered from all objects is indexed; without lowest bits there is always something gathered.
-use Rattle.std.proofs.Common.{arith}
+use Rattle.heap_graph.proofs.Words.{IfOk-weaker, arith}
 use Rattle.std.proofs.lemmas.Option.{MatchOption-at_some}
-use Rattle.std.proofs.lemmas.Result.{IfOk-weaker}
 use Rattle.heap_graph.proofs.Gathering.{all_indexed}
 use Rattle.heap_graph.proofs.objects.indexing.index_of.Goals as goal
 

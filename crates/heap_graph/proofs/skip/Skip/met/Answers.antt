@@ -1,12 +1,7 @@
 -- The places are those of the dump, so the names and the classes are those of its records.
-use Rattle.std.proofs.Common.{List, ap, arith, map, ℕ, ◌∙◌, ◌≡◌}
-use Rattle.std.proofs.lemmas.Result.{IfOk-weaker}
-use Rattle.hprof_grammar.specs.Places.{IsDumpOf, Places}
-use Rattle.hprof_grammar.specs.Standing.{IsPlaced, Sight, StandInTurn, Stands, SubRecordStandsAt}
-use Rattle.heap_graph.specs.Heap.{heap_of, objects}
-use Rattle.heap_graph.specs.MetEntries.{is_met}
-use Rattle.heap_graph.specs.Skips.{SkipEntry}
-use Rattle.heap_graph.specs.working.PlacedNames.{AreNames}
+use Rattle.heap_graph.proofs.Words.{AreNames, IfOk-weaker, IsDumpOf, IsPlaced, List, Places, Sight, SkipEntry}
+use Rattle.heap_graph.proofs.Words.{StandInTurn, Stands, SubRecordStandsAt, ap, arith, heap_of, is_met, map, objects, ℕ}
+use Rattle.heap_graph.proofs.Words.{◌∙◌, ◌≡◌}
 use Rattle.heap_graph.proofs.Building.{are_names, seen_by}
 use Rattle.heap_graph.proofs.Sizes.{id_size_range}
 use Rattle.heap_graph.proofs.skip.Skip.met.Goals as goal

@@ -1,7 +1,5 @@
 -- No entry so far names the class.
-use Rattle.std.proofs.Common.{false, get_or, option_copied, ℕ, ◌<◌, ◌≡◌}
-use Rattle.heap_graph.specs.Skips.{SkipEntry}
-use Rattle.heap_graph.specs.working.ClassSkips.{names_class}
+use Rattle.heap_graph.proofs.Words.{SkipEntry, false, get_or, names_class, option_copied, ℕ, ◌<◌, ◌≡◌}
 use Rattle.heap_graph.proofs.skip.class_skips.any_names.Given as goal
 
 abbrev pub invariant-loop-entry : goal.invariant-loop-entry

@@ -1,16 +1,11 @@
 -- What is read as a class is a class dump, and is described; another object is none.
-use Rattle.std.proofs.Common.{List, ap, arith, map, ℕ, ◌∙◌}
-use Rattle.std.specs.Prelude.{filter_map}
-use Rattle.std.proofs.lemmas.List.{take_all}
-use Rattle.hprof_grammar.specs.SubRecord.{Class, SubRecord}
-use Rattle.hprof_grammar.specs.SubRecord.SubRecord.{class_dump}
-use Rattle.heap_graph.specs.Heap.{as_class, heap_of, objects}
-use Rattle.heap_graph.specs.working.DescribedClasses.{described}
+use Rattle.heap_graph.proofs.Words.{Class, List, SubRecord, ap, arith, as_class, class_dump, described, filter_map}
+use Rattle.heap_graph.proofs.Words.{heap_of, map, objects, take_all, ℕ, ◌∙◌}
 use Rattle.heap_graph.proofs.MetLaws.{no_class_more, one_class_more}
 use Rattle.heap_graph.proofs.Standings.{IsDumpBy, is_class_dump, no_class_dump, stands_there}
 use Rattle.heap_graph.proofs.Wholeness.{same_classes}
-use Rattle.heap_graph.proofs.skip.met.described_classes.Goals as goal
 use Rattle.heap_graph.proofs.skip.met.described_classes.Goals.{in-Class+in_ok-push-in-Class, in_default}
+use Rattle.heap_graph.proofs.skip.met.described_classes.Goals as goal
 
 pub kind-requires : goal.kind-requires
 kind-requires g c =

@@ -1,11 +1,6 @@
 -- The classes so far are those whose dumps stand among the first objects.
-use Rattle.std.proofs.Common.{List, map, take, ◌≡◌}
-use Rattle.std.specs.Prelude.{filter_map}
-use Rattle.hprof_grammar.specs.Record.{Record}
-use Rattle.hprof_grammar.specs.Standing.{StandInTurn, Stands}
-use Rattle.heap_graph.specs.Heap.{as_class, heap_of, objects}
-use Rattle.heap_graph.specs.working.DescribedClasses.{described}
-use Rattle.heap_graph.specs.working.PlacedNames.{AreNamesByIdOf}
+use Rattle.heap_graph.proofs.Words.{AreNamesByIdOf, List, Record, StandInTurn, Stands, as_class, described, filter_map}
+use Rattle.heap_graph.proofs.Words.{heap_of, map, objects, take, ◌≡◌}
 use Rattle.heap_graph.proofs.skip.met.described_classes.Given as goal
 
 abbrev pub invariant-loop-at : goal.invariant-loop-at

@@ -1,7 +1,5 @@
 -- Behind the last class none declares the field.
-use Rattle.std.proofs.Common.{arith, sym}
-use Rattle.std.proofs.lemmas.List.Folds.{list_any_none}
-use Rattle.heap_graph.specs.working.DescribedClasses.{declares_described}
+use Rattle.heap_graph.proofs.Words.{arith, declares_described, list_any_none, sym}
 use Rattle.heap_graph.proofs.skip.met.is_met.Goals as goal
 
 pub returns : goal.returns

@@ -1,8 +1,6 @@
 -- No class so far declares the field of the entry.
-use Rattle.std.proofs.Common.{List, false, get_or, ℕ, ◌<◌, ◌≡◌}
-use Rattle.hprof_grammar.specs.Record.{Record}
-use Rattle.heap_graph.specs.working.DescribedClasses.{DescribedClass, declares_described}
-use Rattle.heap_graph.specs.working.PlacedNames.{AreNamesByIdOf}
+use Rattle.heap_graph.proofs.Words.{AreNamesByIdOf, List, Record, declares_described, false, get_or, ℕ, ◌<◌, ◌≡◌}
+use Rattle.heap_graph.specs.working.DescribedClasses.{DescribedClass}
 use Rattle.heap_graph.proofs.skip.met.is_met.Given as goal
 
 abbrev pub invariant-loop-class : goal.invariant-loop-class

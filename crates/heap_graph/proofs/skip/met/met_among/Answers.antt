@@ -1,9 +1,5 @@
 -- The names are those of the records whose classes are described, so an entry is met by one where a class declares it.
-use Rattle.std.proofs.Common.{List, Some, ap, map, sym, ◌∙◌}
-use Rattle.std.proofs.lemmas.List.{take_all}
-use Rattle.std.proofs.lemmas.Option.{slice_get-get_or}
-use Rattle.heap_graph.specs.MetEntries.{is_met}
-use Rattle.heap_graph.specs.Skips.{SkipEntry}
+use Rattle.heap_graph.proofs.Words.{List, SkipEntry, Some, ap, is_met, map, slice_get-get_or, sym, take_all, ◌∙◌}
 use Rattle.heap_graph.proofs.MetLaws.{one_more_met}
 use Rattle.heap_graph.proofs.skip.met.met_among.Goals as goal
 

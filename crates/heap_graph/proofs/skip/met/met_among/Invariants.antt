@@ -1,10 +1,6 @@
 -- The first entries are answered.
-use Rattle.std.proofs.Common.{List, map, take, ◌≡◌}
-use Rattle.hprof_grammar.specs.Record.{Record}
-use Rattle.hprof_grammar.specs.Standing.{StandInTurn, Stands}
-use Rattle.heap_graph.specs.Heap.{heap_of, objects}
-use Rattle.heap_graph.specs.MetEntries.{is_met}
-use Rattle.heap_graph.specs.working.PlacedNames.{AreNamesOf}
+use Rattle.heap_graph.proofs.Words.{AreNamesOf, List, Record, StandInTurn, Stands, heap_of, is_met, map, objects, take}
+use Rattle.heap_graph.proofs.Words.{◌≡◌}
 use Rattle.heap_graph.proofs.skip.met.met_among.Given as goal
 
 abbrev pub invariant-loop-entry : goal.invariant-loop-entry

@@ -1,6 +1,5 @@
 -- The dump of a class is formed, which bounds its parts, and read one behind the other they are what it holds.
-use Rattle.std.proofs.Common.{ap, arith, length}
-use Rattle.hprof_grammar.proofs.BoundsLaws.{bounds}
+use Rattle.heap_graph.proofs.Words.{ap, arith, bounds, length}
 use Rattle.heap_graph.proofs.HeldLaws.{class_constants, class_parts, class_statics}
 use Rattle.heap_graph.proofs.held.class_ids.ClassIds.new.Goals as goal
 

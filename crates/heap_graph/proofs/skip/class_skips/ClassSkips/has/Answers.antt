@@ -1,13 +1,7 @@
 -- The field is on the list where an entry names its class and its name; the class's text counts where it has one.
-use Rattle.std.proofs.Common.{Bool, List, Option, [], ap, arith, option_copied, sym, ⊎_elim, ℕ, ◌∙◌, ◌≡◌}
-use Rattle.std.proofs.Common.{◌⊎◌}
-use Rattle.std.specs.List.{list_any}
-use Rattle.std.proofs.lemmas.List.Folds.{list_any_none}
-use Rattle.hprof_grammar.specs.Record.{Record}
-use Rattle.hprof_grammar.specs.SubRecord.{Member}
-use Rattle.heap_graph.specs.ClassNames.{class_text}
-use Rattle.heap_graph.specs.Skips.{SkipEntry}
-use Rattle.heap_graph.specs.working.ClassSkips.{is_skipped_in, names_field}
+use Rattle.heap_graph.proofs.Words.{Bool, List, Member, Option, Record, SkipEntry, [], ap, arith, class_text}
+use Rattle.heap_graph.proofs.Words.{is_skipped_in, list_any, list_any_none, names_field, option_copied, sym, ℕ, ⊎_elim}
+use Rattle.heap_graph.proofs.Words.{◌∙◌, ◌≡◌, ◌⊎◌}
 use Rattle.heap_graph.proofs.skip.class_skips.ClassSkips.has.Goals as goal
 
 abbrev any_named : List Record → Option (List ℕ) → ℕ → List SkipEntry → Bool

@@ -1,9 +1,6 @@
 -- No entry so far names the class and the field.
-use Rattle.std.proofs.Common.{List, false, get_or, option_copied, ℕ, ◌<◌, ◌≡◌}
-use Rattle.hprof_grammar.specs.Record.{Record}
-use Rattle.heap_graph.specs.Skips.{SkipEntry}
-use Rattle.heap_graph.specs.working.ClassSkips.{names_field}
-use Rattle.heap_graph.specs.working.PlacedNames.{AreNamesByIdOf}
+use Rattle.heap_graph.proofs.Words.{AreNamesByIdOf, List, Record, SkipEntry, false, get_or, names_field, option_copied}
+use Rattle.heap_graph.proofs.Words.{ℕ, ◌<◌, ◌≡◌}
 use Rattle.heap_graph.proofs.skip.class_skips.ClassSkips.has.Given as goal
 
 abbrev pub invariant-loop-entry : goal.invariant-loop-entry

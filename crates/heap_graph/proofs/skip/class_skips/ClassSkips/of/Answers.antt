@@ -1,17 +1,15 @@
 -- Where no entry names the class the whole list skips what the empty one does: no field of it.
-use Rattle.std.proofs.Common.{Bool, Bor, List, Option, [], ap, false, get_or, inl, inr, length, option_copied}
-use Rattle.std.proofs.Common.{refl, subst, sym, true, ℕ, ◌&&◌, ◌∙◌, ◌≡◌, ◌⊎◌}
-use Rattle.std.specs.List.{list_any}
-use Rattle.std.proofs.lemmas.Bool.{eqb-true, false≢true}
+use Rattle.heap_graph.proofs.Words.{Bool, List, Option, Record, SkipEntry, [], ap, class_text, eqb-true, false, get_or}
+use Rattle.heap_graph.proofs.Words.{inl, inr, is_skipped_in, length, list_any, list_any_none, names_class, names_field}
+use Rattle.heap_graph.proofs.Words.{option_copied, refl, string_named, subst, sym, true, ℕ, ◌&&◌, ◌∙◌, ◌≡◌, ◌⊎◌}
+use Rattle.std.proofs.Common.{Bor}
+use Rattle.std.proofs.lemmas.Bool.{false≢true}
 use Rattle.std.proofs.lemmas.List.{nil_from_length}
-use Rattle.std.proofs.lemmas.List.Folds.{list_any_at, list_any_none}
-use Rattle.hprof_grammar.specs.Record.{Record}
-use Rattle.heap_graph.specs.ClassNames.{class_text, string_named}
-use Rattle.heap_graph.specs.Skips.{SkipEntry, is_text}
-use Rattle.heap_graph.specs.working.ClassSkips.{is_skipped_in, names_class, names_field}
-use Rattle.heap_graph.proofs.skip.class_skips.ClassSkips.of.Goals as goal
+use Rattle.std.proofs.lemmas.List.Folds.{list_any_at}
+use Rattle.heap_graph.specs.Skips.{is_text}
 use Rattle.heap_graph.proofs.skip.class_skips.ClassSkips.of.Goals.{else-any_names, else-is_empty, then-any_names}
 use Rattle.heap_graph.proofs.skip.class_skips.ClassSkips.of.Goals.{then-is_empty}
+use Rattle.heap_graph.proofs.skip.class_skips.ClassSkips.of.Goals as goal
 
 not_true : (b : Bool) → (b ≡ true → ⊥) → b ≡ false
 not_true true none = absurd (none refl)

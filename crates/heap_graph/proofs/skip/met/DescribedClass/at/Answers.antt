@@ -1,7 +1,5 @@
 -- What is read at the class's place is the class's own.
-use Rattle.std.proofs.Common.{ap, ◌∙◌}
-use Rattle.hprof_grammar.specs.SubRecord.SubRecord.{class_dump}
-use Rattle.heap_graph.specs.ClassNames.{class_text}
+use Rattle.heap_graph.proofs.Words.{ap, class_dump, class_text, ◌∙◌}
 use Rattle.heap_graph.proofs.skip.met.DescribedClass.at.Goals as goal
 
 pub returns : goal.returns

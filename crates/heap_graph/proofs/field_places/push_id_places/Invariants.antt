@@ -1,9 +1,7 @@
 -- The places so far and those of the fields that are left make up the places of all.
-use Rattle.std.proofs.Common.{Bool, length, ◌*◌, ◌++◌, ◌+◌, ◌≡◌, ◌≤◌}
-use Rattle.hprof_grammar.specs.SubRecord.{Member}
+use Rattle.heap_graph.proofs.Words.{Bool, Member, id_places, length, size_together, ◌*◌, ◌++◌, ◌+◌, ◌≡◌, ◌≤◌}
 use Rattle.heap_graph.specs.working.ClassSkips.{IsSkipTest}
-use Rattle.heap_graph.specs.working.IdPlaces.{id_places, size_together}
-use Rattle.heap_graph.proofs.plan.push_id_places.Given as goal
+use Rattle.heap_graph.proofs.field_places.push_id_places.Given as goal
 
 abbrev pub invariant-loop-member : goal.invariant-loop-member
 invariant-loop-member g l = record {

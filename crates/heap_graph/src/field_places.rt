@@ -12,7 +12,7 @@ use std::alloc::{AllocError, Allocator};
 
 /// What is planned for a class: where the places of its fields of type 2 begin and end among those of all classes, how
 /// many bytes the values of all fields have that it declares, and the object that its identifier names, the class
-/// itself.
+/// itself. `ClassPlace` has the bytes too, for the tests of layouts: here a step up a chain has them beside the places.
 #[derive(Clone, Copy)]
 pub(crate) struct ClassPlan {
     pub(crate) start: usize,

@@ -1,7 +1,6 @@
 -- The bytes so far, with those of the values that are left, are all; no value has more than 255.
-use Rattle.std.proofs.Common.{length, sum_by, ◌*◌, ◌+◌, ◌≡◌, ◌≤◌}
-use Rattle.hprof_grammar.specs.FormatTables.{size_of}
-use Rattle.heap_graph.proofs.objects.rows.bytes_together.Given as goal
+use Rattle.heap_graph.proofs.Words.{length, size_of, sum_by, ◌*◌, ◌+◌, ◌≡◌, ◌≤◌}
+use Rattle.heap_graph.proofs.objects.bytes.bytes_together.Given as goal
 
 abbrev pub invariant-loop-value : goal.invariant-loop-value
 invariant-loop-value l = record {

@@ -1,0 +1,89 @@
+//! The identifiers that objects hold, read at their places.
+
+ghost use Rattle.std.specs.Prelude.{Bool, List, ◌≡◌, ◌≤◌, ℕ};
+ghost use Rattle.hprof_grammar.specs.Standing.{Stands};
+ghost use Rattle.hprof_grammar.specs.SubRecord.{Class, Instance, Member, ObjectArray, SubRecord};
+ghost use Rattle.hprof_grammar.specs.SubRecord.SubRecord.{class_dump, instance_dump, object_array_dump};
+
+use crate::field_places::Plan;
+use crate::held::{ClassIds, FieldIds, HeldIds, Rest};
+use crate::objects::Objects;
+use std::alloc::Allocator;
+
+impl<'d, A: Allocator> Objects<'d, A> {
+    ghost use Rattle.heap_graph.specs.working.ClassFates.{HaveFatesOf};
+    ghost use Rattle.heap_graph.specs.working.ClassPlans.{IsPlanOf};
+    ghost use Rattle.heap_graph.specs.working.ClassTable.{ids_of};
+    ghost use Rattle.heap_graph.specs.working.HeldIds.{AreIdsOf, AreLinkedOf, IsFirstOfInstance, IsObjectAt};
+    ghost use Rattle.heap_graph.specs.working.HeldIds.{with_class};
+
+    /// The identifiers that a class dump holds. The two reserved ones are not followed.
+    // Inlined, as all that makes a visit.
+    #[inline(always)]
+    pub(crate) fn ids_of_class(&self, at: u32) -> HeldIds<'_, A>
+        requires size { (1 ≤ self.now.view.id_size) × (self.now.view.id_size ≤ 8) }
+        requires dump { (c : Class) × Stands self.now.view at (class_dump c) }
+        ensures { (skips : Class → Member → Bool) (heap : List SubRecord) (c : Class)
+            → Stands self.now.view at (class_dump c)
+            → AreIdsOf skips self.now.view.id_size heap (class_dump c) result }
+    {
+        let ids = ClassIds::new(&self.view, at);
+        HeldIds {
+            rest: Rest::OfClass(ids),
+        }
+    }
+
+    /// The identifiers that an instance holds: its class, unless they are to begin behind it, and then its fields, of a
+    /// layout that begins at that class.
+    // Inlined, as all that makes a visit.
+    #[inline(always)]
+    pub(crate) fn ids_of_instance<'g>(
+        &'g self,
+        plan: &'g Plan<A>,
+        at: u32,
+        class: u64,
+        first: Option<u32>,
+        behind: bool,
+    ) -> HeldIds<'g, A>
+        requires { (skips : Class → Member → Bool) × (heap : List SubRecord) × (n : ℕ) × (i : Instance)
+            × AreLinkedOf self.now heap × HaveFatesOf self.now heap × IsPlanOf skips self.now heap plan.now
+            × IsObjectAt self.now.view heap n at (instance_dump i) × (class ≡ i.class)
+            × IsFirstOfInstance self.now.view.id_size heap (ids_of self.now.classes.table.entries) i first }
+        ensures { (skips : Class → Member → Bool) (heap : List SubRecord) (n : ℕ) (i : Instance)
+            → AreLinkedOf self.now heap → HaveFatesOf self.now heap → IsPlanOf skips self.now heap plan.now
+            → IsObjectAt self.now.view heap n at (instance_dump i) → class ≡ i.class
+            → IsFirstOfInstance self.now.view.id_size heap (ids_of self.now.classes.table.entries) i first
+            → AreIdsOf skips self.now.view.id_size heap (instance_dump i) (with_class behind i.class result) }
+    {
+        let fields = FieldIds::new(self, plan, first, self.view.instance_values(at));
+        if behind {
+            return HeldIds {
+                rest: Rest::Fields(fields),
+            };
+        }
+        HeldIds {
+            rest: Rest::InstanceWithClass(class, fields),
+        }
+    }
+
+    /// The identifiers that an object array holds: its class, unless they are to begin behind it, and then its
+    /// elements.
+    // Inlined, as all that makes a visit.
+    #[inline(always)]
+    pub(crate) fn ids_of_array(&self, at: u32, class: u64, behind: bool) -> HeldIds<'_, A>
+        requires { (a : ObjectArray) × Stands self.now.view at (object_array_dump a) × (class ≡ a.class) }
+        ensures { (skips : Class → Member → Bool) (heap : List SubRecord) (a : ObjectArray)
+            → Stands self.now.view at (object_array_dump a) → class ≡ a.class
+            → AreIdsOf skips self.now.view.id_size heap (object_array_dump a) (with_class behind a.class result) }
+    {
+        let elements = self.view.array_elements(at);
+        if behind {
+            return HeldIds {
+                rest: Rest::Elements(elements),
+            };
+        }
+        HeldIds {
+            rest: Rest::ArrayWithClass(class, elements),
+        }
+    }
+}
