@@ -1,26 +1,19 @@
 -- What a worker with its pair has after each call.
-use Rattle.std.proofs.Common.{◌≡◌, ◌≢◌, ℕ, ◌<◌, List, [], ◌∷◌, ◌++◌, All, Contains, false, get_or, if◌then◌else◌, ◌==◌}
-use Rattle.std.proofs.Common.{cond, eq-eqb, ne_eqb, ap, sym, refl, subst, ◌∙◌, inl, inr, ⊎_elim, arith}
-use Rattle.std.proofs.lemmas.List.Elements.{All-from_get_or, Contains-append_cases, Contains-append_left}
-use Rattle.std.proofs.lemmas.List.Elements.{Contains-get_or, Contains-push, Contains-push_cases}
-use Rattle.mark_core.specs.Lists.{times, only}
-use Rattle.mark_core.specs.World.{Setup}
+use Rattle.drain.proofs.Words.{All, All-from_get_or, AreClaimed, AreOfSize, Book, CameFrom, CanClaim, CanFinish}
+use Rattle.drain.proofs.Words.{Contains, Contains-append_cases, Contains-append_left, Contains-get_or, Contains-push}
+use Rattle.drain.proofs.Words.{Contains-push_cases, Deals, GoesOn, HasAtHand, Holder, IsAtWork, IsBacked, IsBusy}
+use Rattle.drain.proofs.Words.{IsFree, IsOpen, List, MayClaim, PairState, Setup, WorksOn, [], ap, arith, buffered_items}
+use Rattle.drain.proofs.Words.{claimed, cond, empty_pair, eq-eqb, false, finished, get_or, if◌then◌else◌, inl, inr}
+use Rattle.drain.proofs.Words.{ne_eqb, none_last, only, only-same, pair_items, refl, stands_times, subst, sum_of-append}
+use Rattle.drain.proofs.Words.{sym, times, times-remove_one, times_stands, without_spill, ℕ, ⊎_elim, ◌++◌, ◌<◌, ◌==◌}
+use Rattle.drain.proofs.Words.{◌∙◌, ◌∷◌, ◌≡◌, ◌≢◌}
 use Rattle.mark_core.specs.Account.{Account}
-use Rattle.mark_core.specs.Events.{CanClaim, CanFinish, IsBusy}
-use Rattle.mark_core.proofs.Sums.{only-same, stands_times, times-remove_one, times_stands, sum_of-append}
-use Rattle.buffer_pool.specs.Book.{Book, claimed, finished}
-use Rattle.buffer_pool.specs.Calls.{Holder}
-use Rattle.work_pair.specs.Deals.{Deals}
-use Rattle.work_pair.specs.PairState.{AreOfSize, IsBacked, IsOpen, PairState, buffered_items, pair_items, empty_pair}
-use Rattle.work_pair.specs.PairState.{without_spill}
-use Rattle.work_pair.proofs.Calls.{none_last}
-use Rattle.drain.specs.working.AtWork.{AreClaimed, CameFrom, GoesOn, HasAtHand, IsAtWork, IsFree, MayClaim, WorksOn}
 
 pub came_at_all : (w : Holder) → CameFrom w w
 came_at_all w = record { pool = refl; setup = refl; share = refl; seen = λ o h. h }
 
-pub came_again : (a b c : Holder) → CameFrom a b → CameFrom b c → CameFrom a c
-came_again a b c s t = record {
+pub came_again : {a b c : Holder} → CameFrom a b → CameFrom b c → CameFrom a c
+came_again s t = record {
   pool = t.pool ∙ s.pool;
   setup = t.setup ∙ s.setup;
   share = t.share ∙ s.share;
@@ -30,22 +23,19 @@ came_again a b c s t = record {
 pub goes_on_at_all : (w : Holder) → GoesOn w w
 goes_on_at_all w = record { came = came_at_all w; idle = refl; finished = refl }
 
-pub goes_on_again : (a b c : Holder) → GoesOn a b → GoesOn b c → GoesOn a c
-goes_on_again a b c s t = record {
-  came = came_again a b c s.came t.came;
+pub goes_on_again : {a b c : Holder} → GoesOn a b → GoesOn b c → GoesOn a c
+goes_on_again s t = record {
+  came = came_again s.came t.came;
   idle = t.idle ∙ s.idle;
   finished = t.finished ∙ s.finished;
 }
 
-pub works_on_at_all : (w : Holder) → WorksOn w w
-works_on_at_all w = record { came = came_at_all w; idle = refl }
-
-pub works_on_again : (a b c : Holder) → WorksOn a b → WorksOn b c → WorksOn a c
-works_on_again a b c s t = record { came = came_again a b c s.came t.came; idle = t.idle ∙ s.idle }
+pub works_on_again : {a b c : Holder} → WorksOn a b → WorksOn b c → WorksOn a c
+works_on_again s t = record { came = came_again s.came t.came; idle = t.idle ∙ s.idle }
 
 -- one that goes on works on
-pub works : (a b : Holder) → GoesOn a b → WorksOn a b
-works a b on = record { came = on.came; idle = on.idle }
+pub works : {a b : Holder} → GoesOn a b → WorksOn a b
+works on = record { came = on.came; idle = on.idle }
 
 -- who has the share and the idle number of a busy one is busy
 pub busy_on : (a b : Account) → b.share ≡ a.share → b.idle ≡ a.idle → IsBusy a → IsBusy b
@@ -62,8 +52,8 @@ pub only_member : (a o : ℕ) → Contains (a ∷ []) o → a ≡ o
 only_member a o h = ⊎_elim (λ e. absurd (omega (arith, e.1))) (λ e. e) (Contains-push_cases [] a o h)
 
 -- a free worker before it has a pair
-pub free_hand : (w : Holder) → IsFree w → HasAtHand empty_pair [] w
-free_hand w free = record {
+pub free_hand : {w : Holder} → IsFree w → HasAtHand empty_pair [] w
+free_hand free = record {
   going = record { going = refl; third = refl };
   sized = record { first = tt; second = tt; third = tt };
   held = λ i. ap (times i) free.held;
@@ -71,9 +61,9 @@ free_hand w free = record {
 }
 
 -- a pair without items has as much at hand without its spill list
-pub hand_without_spill : (p : PairState) (w : Holder) → pair_items p ≡ [] → HasAtHand p [] w
+pub hand_without_spill : {p : PairState} {w : Holder} → pair_items p ≡ [] → HasAtHand p [] w
     → HasAtHand (without_spill p) [] w
-hand_without_spill p w none hand = record {
+hand_without_spill {p} none hand = record {
   going = record { going = hand.going.going; third = hand.going.third };
   sized = record { first = hand.sized.first; second = hand.sized.second; third = hand.sized.third };
   held = hand.held;
@@ -82,23 +72,23 @@ hand_without_spill p w none hand = record {
 }
 
 -- and once its pair is gone
-pub gone_free : (w : Holder) → HasAtHand empty_pair [] w → w.book.account.open_push ≡ false → IsFree w
-gone_free w hand closed = record {
+pub gone_free : {w : Holder} → HasAtHand empty_pair [] w → w.book.account.open_push ≡ false → IsFree w
+gone_free {w} hand closed = record {
   held = nothing w.book.account.held hand.held;
   charge = nothing w.book.account.charge (λ o. hand.charge o);
   open_push = closed;
 }
 
 -- the worker holds the buffers of its pair, and answers for the items and for what it puts
-pub backs : (p : PairState) (put rest : List ℕ) (w : Holder) → HasAtHand p (put ++ rest) w → IsBacked p put w.book
-backs p put rest w hand = record {
+pub backs : {p : PairState} (put rest : List ℕ) {w : Holder} → HasAtHand p (put ++ rest) w → IsBacked p put w.book
+backs {p} put rest hand = record {
   held = λ i. omega (arith, hand.held i);
   charged = λ o. omega
       (arith, hand.charge o, sum_of-append (only o) (pair_items p) put, sum_of-append (only o) put rest);
   sized = hand.sized;
 }
 
-module _ (old : PairState) (before : Holder) (put got : List ℕ) (new : PairState) (after : Holder)
+module _ {old : PairState} (before : Holder) {put got : List ℕ} {new : PairState} (after : Holder)
     (deals : Deals old before.book put got new after.book) where
   -- what was put is in the pair, or went with a buffer of it, and what was got is not
   pub dealt_hand : (rest : List ℕ) → IsOpen new → HasAtHand old (put ++ rest) before
@@ -133,9 +123,9 @@ module _ (old : PairState) (before : Holder) (put got : List ℕ) (new : PairSta
   }
 
 -- what may be claimed by what the worker has at hand
-pub can_claim : (p : PairState) (besides : List ℕ) (w : Holder) (o : ℕ) → HasAtHand p besides w
+pub can_claim : {p : PairState} {besides : List ℕ} {w : Holder} (o : ℕ) → HasAtHand p besides w
     → MayClaim w.book.setup besides o → CanClaim w.book.setup o w.book.account
-can_claim p besides w o hand may = ⊎_elim inl
+can_claim {p} {besides} {w} o hand may = ⊎_elim inl
     (λ by.
     let here = stands_times besides by.0 by.1 in
     inr (by.0, times_stands w.book.account.charge by.0 (omega (arith, here, hand.charge by.0)), by.2))
@@ -223,15 +213,15 @@ module _ (old new : Holder) (pool : new.pool ≡ old.pool) (o found : ℕ) (is :
   pub white_claimed : found ≡ 0 → (p q : PairState) (end : Holder) → end.pool ≡ new.pool
       → Deals p new.book (o ∷ []) [] q end.book → IsOpen q → AreClaimed (o ∷ []) p old q end
   white_claimed white p q end same deals going =
-      let on = dealt_goes_on p new (o ∷ []) [] q end deals same in
+      let on = dealt_goes_on new end deals same in
       record {
-        goes_on = goes_on_again old new end claimed_goes_on on;
+        goes_on = goes_on_again claimed_goes_on on;
         saw = λ x h. on.came.seen x (saw_it x h);
         at_work = λ besides was.
             let claimed : IsAtWork p (o ∷ besides) new =
             record { hand = white_at_hand white p besides was.hand; busy = claimed_busy was.busy }
             in
-            dealt p new (o ∷ []) [] q end deals besides going claimed;
+            dealt new end deals besides going claimed;
       }
 
 pub none_claimed : (p : PairState) (w : Holder) → AreClaimed [] p w p w
@@ -242,17 +232,17 @@ none_claimed p w = record {
 }
 
 -- some objects, and then others
-pub more_claimed : (xs ys : List ℕ) (p q r : PairState) (a b c : Holder) → AreClaimed xs p a q b → AreClaimed ys q b r c
+pub more_claimed : {xs ys : List ℕ} {p q r : PairState} {a b c : Holder} → AreClaimed xs p a q b → AreClaimed ys q b r c
     → AreClaimed (xs ++ ys) p a r c
-more_claimed xs ys p q r a b c first next = record {
-  goes_on = goes_on_again a b c first.goes_on next.goes_on;
+more_claimed {xs} {ys} first next = record {
+  goes_on = goes_on_again first.goes_on next.goes_on;
   saw = λ o h.
       ⊎_elim (λ k. next.goes_on.came.seen o (first.saw o k)) (next.saw o) (Contains-append_cases xs ys o h);
   at_work = λ besides was. next.at_work besides (first.at_work besides was);
 }
 
 -- the scanned object may be finished once all that it refers to was claimed, and then it is no longer at hand
-module _ (o : ℕ) (p : PairState) (mid : Holder) (at_work : IsAtWork p (o ∷ []) mid) where
+module _ {o : ℕ} {p : PairState} {mid : Holder} (at_work : IsAtWork p (o ∷ []) mid) where
   charged : 0 < times o mid.book.account.charge
   charged = omega (arith, at_work.hand.charge o, only-same o o refl)
 
@@ -296,6 +286,6 @@ all_claimable o nexts e pairs =
     (λ k inside. inr (o, Contains-push [] o, pairs (get_or nexts k 0) (Contains-get_or nexts k 0 inside)))
 
 -- an object that was got
-pub got_is_object : (o : ℕ) (p : PairState) (w : Holder) → IsAtWork p (o ∷ []) w
+pub got_is_object : {o : ℕ} {p : PairState} {w : Holder} → IsAtWork p (o ∷ []) w
     → ((x : ℕ) → Contains w.book.account.charge x → x < w.book.setup.objects) → o < w.book.setup.objects
-got_is_object o p w at_work within = within o (times_stands w.book.account.charge o (charged o p w at_work))
+got_is_object {o} {p} {w} at_work within = within o (times_stands w.book.account.charge o (charged at_work))

@@ -1,18 +1,9 @@
 -- The marks at the close are exactly at the reachable objects.
-use Rattle.std.proofs.Common.{◌≡◌, ◌↔◌, false, ℕ, zero, suc, ◌≤◌, List, [], ◌∷◌, map, slice_index, Contains, ap, sym}
-use Rattle.std.proofs.Common.{subst, ◌∙◌, leb-true, le-leb, arith}
-use Rattle.std.proofs.lemmas.Bool.{false≢true}
-use Rattle.std.proofs.lemmas.List.{length-map}
-use Rattle.mark_core.specs.World.{Setup, Marking}
+use Rattle.drain.proofs.Words.{Book, Contains, Holder, IsMarked, IsReachable, IsReferenceOf, IsRootOf, IsSetupOf, List}
+use Rattle.drain.proofs.Words.{Marking, MarksReachableOf, MarksTell, ObjectGraph, SawRoots, Setup, [], ap, arith, false}
+use Rattle.drain.proofs.Words.{false≢true, is_set, le-leb, leb-true, length-map, map, new_book, object_count, pairs_of}
+use Rattle.drain.proofs.Words.{slice_index, subst, suc, sym, zero, ℕ, ◌↔◌, ◌∙◌, ◌∷◌, ◌≡◌, ◌≤◌}
 use Rattle.mark_core.specs.Colours as colours
-use Rattle.heap_graph.specs.ObjectGraph.{ObjectGraph, object_count}
-use Rattle.heap_graph.specs.Reachable.{IsMarked, IsReachable, IsReferenceOf, IsRootOf, MarksReachableOf}
-use Rattle.buffer_pool.specs.Book.{Book, new_book}
-use Rattle.buffer_pool.specs.Calls.{Holder}
-use Rattle.buffer_pool.specs.Closing.{MarksTell}
-use Rattle.drain.specs.Marks.{is_set}
-use Rattle.drain.specs.working.Pairs.{pairs_of}
-use Rattle.drain.specs.working.AtWork.{IsSetupOf, SawRoots}
 use Rattle.drain.proofs.Exact.{exactly_reachable, next_reachable, root_reachable}
 use Rattle.drain.proofs.Pairs.{pair_is_reference}
 

@@ -1,8 +1,6 @@
 -- As many marks are set as tell of a finished object, where each claimed object was finished.
-use Rattle.std.proofs.Common.{◌≡◌, ℕ, zero, suc, ◌+◌, ◌≤◌, ◌==◌, Bool, List, [], ◌∷◌, cond, count_by, map, ap, refl}
-use Rattle.std.proofs.Common.{sym, ◌∙◌, arith}
-use Rattle.std.proofs.lemmas.List.Sums.{sum_by-cons}
-use Rattle.drain.specs.Marks.{AreFinished, is_set}
+use Rattle.drain.proofs.Words.{AreFinished, Bool, List, [], ap, arith, cond, count_by, is_set, map, refl, suc}
+use Rattle.drain.proofs.Words.{sum_by-cons, sym, zero, ℕ, ◌+◌, ◌==◌, ◌∙◌, ◌∷◌, ◌≡◌, ◌≤◌}
 
 -- one mark in front of others that are counted alike
 one_more : (m n k : ℕ) → (1 ≤ m → m ≡ 2) → n ≡ k → cond (m == 2) 1 0 + n ≡ cond (is_set m) 1 0 + k

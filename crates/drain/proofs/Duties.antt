@@ -1,20 +1,14 @@
 -- What a thread owed comes back, whatever the leader did meanwhile.
-use Rattle.std.proofs.Common.{ap, subst, sym, ◌≡◌, ◌∙◌}
-use Rattle.buffer_pool.specs.Book.{Book}
-use Rattle.buffer_pool.specs.Calls.{Holder}
+use Rattle.drain.proofs.Words.{Book, Duty, HasTallied, Holder, IsBackUnder, IsDutyUnder, IsThrough, Measure, ap, subst}
+use Rattle.drain.proofs.Words.{sym, ◌∙◌, ◌≡◌}
 use Rattle.drain.specs.declared.tallied.Tallied.{Tallied}
 use Rattle.drain.specs.declared.tally.Tally.{Tally}
-use Rattle.drain.specs.declared.worker_threads.Duty.{Duty}
-use Rattle.drain.specs.working.AtWork.{IsThrough}
-use Rattle.drain.specs.working.Duties.{IsBackUnder, IsDutyUnder}
-use Rattle.drain.specs.working.Tallies.{Measure}
-use Rattle.drain.specs.working.Tallying.{HasTallied}
 
 -- a worker that kept its duty is back
-pub came_back : {A V : Type 0} (measure : V → Measure) (graph : V) (leader w : Holder) (t : Tally A) (duty : Duty A V)
+pub came_back : {A V : Type 0} (measure : V → Measure) {graph : V} {leader w : Holder} (t : Tally A) {duty : Duty A V}
     → IsDutyUnder graph leader duty → IsThrough duty.begun.value w → HasTallied (measure duty.graph.value) w t
     → IsBackUnder (measure graph) leader w t
-came_back measure graph leader w t duty owed through tally = record {
+came_back measure {w = w} t owed through tally = record {
   pool = through.0.pool ∙ owed.pool;
   setup = through.0.setup ∙ ap (λ (b : Book). b.setup) owed.book;
   share = through.0.share ∙ ap (λ (b : Book). b.account.share) owed.book;
@@ -27,9 +21,9 @@ abbrev pub Back : {A : Type 0} → Measure → Holder → Tallied A → Type 0
 Back m leader t = IsBackUnder m leader t.worker t.tally
 
 -- for a leader of the same pool and setup as well
-pub back_still : {A : Type 0} (m : Measure) (old new w : Holder) (t : Tally A) → new.pool ≡ old.pool
-    → new.book.setup ≡ old.book.setup → IsBackUnder m old w t → IsBackUnder m new w t
-back_still m old new w t pool setup back = record {
+pub back_still : {A : Type 0} {m : Measure} {old : Holder} (new : Holder) {w : Holder} {t : Tally A}
+    → new.pool ≡ old.pool → new.book.setup ≡ old.book.setup → IsBackUnder m old w t → IsBackUnder m new w t
+back_still new pool setup back = record {
   pool = back.pool ∙ sym pool;
   setup = back.setup ∙ sym setup;
   share = back.share;

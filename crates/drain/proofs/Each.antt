@@ -1,8 +1,6 @@
 -- What holds of each element of a list holds of the first, and of each of the others, and of one more behind them.
-use Rattle.std.proofs.Common.{◌≡◌, ℕ, suc, ◌+◌, ◌<◌, ◌≤◌, List, [], ◌∷◌, ◌++◌, All, length, get_or, ap, refl, subst}
-use Rattle.std.proofs.Common.{sym, ◌∙◌, ⊎_elim, arith}
-use Rattle.std.proofs.lemmas.Bool.{cases_lt}
-use Rattle.std.proofs.lemmas.List.{get_or_append_left, get_or_push, length_push}
+use Rattle.drain.proofs.Words.{All, List, [], ap, arith, cases_lt, get_or, get_or_append_left, get_or_push, length}
+use Rattle.drain.proofs.Words.{length_push, refl, subst, suc, sym, ℕ, ⊎_elim, ◌++◌, ◌+◌, ◌<◌, ◌∙◌, ◌∷◌, ◌≡◌, ◌≤◌}
 
 module _ {X : Type 0} (P : X → Type 0) (len : ℕ) (xs rest : List X) (x : X) (is : xs ≡ x ∷ rest)
     (all : (k : ℕ) (d : X) → k < len → P (get_or xs k d)) where

@@ -1,6 +1,5 @@
 -- Marked roots, closed under references, and nothing but reachable objects: then marked is reachable.
-use Rattle.std.proofs.Common.{List, [], refl, subst, sym, ℕ, ◌++◌, ◌∷◌, ◌↔◌}
-use Rattle.heap_graph.specs.Reachable.{IsReachable, LeadsTo}
+use Rattle.drain.proofs.Words.{IsReachable, LeadsTo, List, [], refl, subst, sym, ℕ, ◌++◌, ◌↔◌, ◌∷◌}
 
 module _ (is_root : ℕ → Type 0) (refers : ℕ → ℕ → Type 0) where
   -- a path goes on by one more reference

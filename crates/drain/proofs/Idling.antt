@@ -1,29 +1,23 @@
 -- A worker that goes idle, looks at the idle word and at the full stack, and comes back.
-use Rattle.std.proofs.Common.{◌≡◌, ℕ, ◌*◌, ◌+◌, Bool, true, false, List, [], ◌&&◌, ◌||◌, Contains, is_none, is_some, ap}
-use Rattle.std.proofs.Common.{inr, sym, refl, subst, ◌∙◌, arith}
-use Rattle.mark_core.specs.Events.{CanIdle}
-use Rattle.mark_core.specs.Lists.{times}
-use Rattle.mark_core.specs.World.{Setup}
+use Rattle.drain.proofs.Words.{AreOfSize, Book, Bool, CameFrom, CanIdle, Contains, HasAtHand, HasNoneLeft, Holder}
+use Rattle.drain.proofs.Words.{IsAtWork, IsAwake, IsIdling, IsStill, List, PairState, Sees, Setup, [], ap, arith, false}
+use Rattle.drain.proofs.Words.{idle_loaded, idled, inr, is_none, is_some, loaded, pair_items, refl, subst, sym, times}
+use Rattle.drain.proofs.Words.{true, woken, ℕ, ◌&&◌, ◌*◌, ◌+◌, ◌||◌, ◌∙◌, ◌≡◌}
 use Rattle.mark_core.specs.declared.which.Which.TheVariants.{Full}
-use Rattle.buffer_pool.specs.Book.{Book, idle_loaded, idled, loaded, woken}
-use Rattle.buffer_pool.specs.Calls.{Holder, Sees}
-use Rattle.work_pair.specs.PairState.{AreOfSize, PairState, pair_items}
-use Rattle.drain.specs.working.AtWork.{CameFrom, HasAtHand, HasNoneLeft, IsAtWork}
-use Rattle.drain.specs.working.Idle.{IsAwake, IsIdling, IsStill}
 use Rattle.drain.proofs.AtHand.{came_again, came_at_all, nothing}
 
 -- a worker without items may go idle
-pub may_idle : (p : PairState) (w : Holder) → IsAwake w → HasAtHand p [] w → HasNoneLeft p w → CanIdle w.book.account
-may_idle p w awake hand none =
+pub may_idle : {p : PairState} {w : Holder} → IsAwake w → HasAtHand p [] w → HasNoneLeft p w → CanIdle w.book.account
+may_idle {w = w} awake hand none =
     let uncharged = nothing w.book.account.charge (λ o. omega (arith, hand.charge o, ap (times o) none.0)) in
     (awake.share, awake.idle, uncharged, none.2)
 
 -- and one that is not idle is at work
-pub awake_at_work : (p : PairState) (w : Holder) → IsAwake w → HasAtHand p [] w → IsAtWork p [] w
-awake_at_work p w awake hand = record { hand = hand; busy = inr awake.idle }
+pub awake_at_work : {p : PairState} {w : Holder} → IsAwake w → HasAtHand p [] w → IsAtWork p [] w
+awake_at_work awake hand = record { hand = hand; busy = inr awake.idle }
 
 -- it has its pair still, and nothing in it
-module _ (p q : PairState) (begun w : Holder) (same : q ≡ p) (still : IsStill begun w) where
+module _ {p q : PairState} {begun w : Holder} (same : q ≡ p) (still : IsStill begun w) where
   pub hand_still : HasAtHand p [] begun → HasAtHand q [] w
   hand_still was =
       subst (λ (r : PairState). HasAtHand r [] w) (sym same) (record {
@@ -36,26 +30,23 @@ module _ (p q : PairState) (begun w : Holder) (same : q ≡ p) (still : IsStill 
   pub none_still : HasNoneLeft p begun → HasNoneLeft q w
   none_still was = (ap pair_items same ∙ was.0, still.open_push, still.found)
 
-module _ (begun old new : Holder) (pool : new.pool ≡ old.pool) where
+module _ {old : Holder} (new : Holder) (pool : new.pool ≡ old.pool) where
   -- a book that differs in none of these
   module _ (b : Book) (is : new.book ≡ b) (setup : b.setup ≡ old.book.setup)
       (share : b.account.share ≡ old.book.account.share) (held : b.account.held ≡ old.book.account.held)
       (charge : b.account.charge ≡ old.book.account.charge) (seen : b.account.seen ≡ old.book.account.seen)
       (finished : b.account.finished ≡ old.book.account.finished) where
-    seen_is : new.book.account.seen ≡ old.book.account.seen
-    seen_is = ap (λ (c : Book). c.account.seen) is ∙ seen
-
     came_after : CameFrom old new
     came_after = record {
       pool = pool;
       setup = ap (λ (c : Book). c.setup) is ∙ setup;
       share = ap (λ (c : Book). c.account.share) is ∙ share;
-      seen = λ o h. subst (λ (xs : List ℕ). Contains xs o) (sym seen_is) h;
+      seen = λ o h. subst (λ (xs : List ℕ). Contains xs o) (sym (ap (λ (c : Book). c.account.seen) is ∙ seen)) h;
     }
 
-    still_after : IsStill begun old → b.account.open_push ≡ false → b.account.found ≡ true → IsStill begun new
+    still_after : {begun : Holder} → IsStill begun old → b.account.open_push ≡ false → b.account.found ≡ true → IsStill begun new
     still_after was closed found = record {
-      came = came_again begun old new was.came came_after;
+      came = came_again was.came came_after;
       held = ap (λ (c : Book). c.account.held) is ∙ held ∙ was.held;
       charge = ap (λ (c : Book). c.account.charge) is ∙ charge ∙ was.charge;
       finished = ap (λ (c : Book). c.account.finished) is ∙ finished ∙ was.finished;
@@ -63,7 +54,7 @@ module _ (begun old new : Holder) (pool : new.pool ≡ old.pool) where
       found = ap (λ (c : Book). c.account.found) is ∙ found;
     }
 
-  module _ (made : ℕ) (was : IsIdling begun made old) where
+  module _ {begun : Holder} {made : ℕ} (was : IsIdling begun made old) where
     -- it loads the idle word
     pub sees_idle : (word : ℕ) → new.book ≡ idle_loaded word old.book → IsIdling begun (made + 1) new
     sees_idle word is =
@@ -98,9 +89,9 @@ module _ (begun old new : Holder) (pool : new.pool ≡ old.pool) where
     }
 
 -- it goes idle
-pub goes_idle : (p : PairState) (old new : Holder) → new.pool ≡ old.pool → new.book ≡ idled old.book → IsAwake old
+pub goes_idle : (p : PairState) {old : Holder} (new : Holder) → new.pool ≡ old.pool → new.book ≡ idled old.book → IsAwake old
     → HasNoneLeft p old → IsIdling old 0 new
-goes_idle p old new pool is awake none =
+goes_idle p {old} new pool is awake none =
     let still : IsStill old old =
     record {
       came = came_at_all old;
@@ -112,13 +103,13 @@ goes_idle p old new pool is awake none =
     }
     in
     record {
-      still = still_after old old new pool (idled old.book) is refl refl refl refl refl refl still none.1 none.2;
+      still = still_after new pool (idled old.book) is refl refl refl refl refl refl still none.1 none.2;
       idle = omega (arith, ap (λ (c : Book). c.account.idle) is, awake.idle);
       loads = omega (arith, ap (λ (c : Book). c.loads) is);
     }
 
 -- a turn is two loads
-pub next_turn : (begun w : Holder) (turn : ℕ) → IsIdling begun (2 * turn + 1 + 1) w → IsIdling begun (2 * (turn + 1)) w
-next_turn begun w turn idling =
+pub next_turn : {begun w : Holder} (turn : ℕ) → IsIdling begun (2 * turn + 1 + 1) w → IsIdling begun (2 * (turn + 1)) w
+next_turn {begun} {w} turn idling =
     let two : 2 * turn + 1 + 1 ≡ 2 * (turn + 1) = omega arith in
     subst (λ (made : ℕ). IsIdling begun made w) two idling

@@ -1,15 +1,7 @@
 -- The leader, as it gives away units and takes workers in.
-use Rattle.std.proofs.Common.{◌≡◌, ℕ, ◌<◌, ◌||◌, List, [], ◌++◌, Contains, ap, inl, sym, refl, subst, ◌∙◌, arith}
-use Rattle.std.proofs.lemmas.List.Elements.{Contains-append_left}
-use Rattle.mark_core.specs.Events.{IsBusy}
-use Rattle.mark_core.specs.Lists.{times, only}
-use Rattle.mark_core.specs.World.{Setup}
-use Rattle.mark_core.proofs.Sums.{sum_of-append}
-use Rattle.buffer_pool.specs.Book.{Book, joined, new_book, parted}
-use Rattle.buffer_pool.specs.Calls.{Holder}
-use Rattle.work_pair.specs.PairState.{AreOfSize, PairState}
-use Rattle.drain.specs.working.AtWork.{HasAtHand, IsAtWork, IsFree, Leads}
-use Rattle.drain.specs.working.Idle.{IsAwake}
+use Rattle.drain.proofs.Words.{AreOfSize, Book, Contains, Contains-append_left, HasAtHand, Holder, IsAtWork, IsAwake}
+use Rattle.drain.proofs.Words.{IsBusy, IsFree, Leads, List, PairState, Setup, [], ap, arith, inl, joined, new_book}
+use Rattle.drain.proofs.Words.{only, parted, refl, subst, sum_of-append, sym, times, ℕ, ◌++◌, ◌<◌, ◌||◌, ◌∙◌, ◌≡◌}
 
 pub leads_at_all : (w : Holder) → Leads w w
 leads_at_all w = record {
@@ -21,8 +13,8 @@ leads_at_all w = record {
   pushed = refl;
 }
 
-pub leads_again : (a b c : Holder) → Leads a b → Leads b c → Leads a c
-leads_again a b c s t = record {
+pub leads_again : {a b c : Holder} → Leads a b → Leads b c → Leads a c
+leads_again s t = record {
   pool = t.pool ∙ s.pool;
   setup = t.setup ∙ s.setup;
   seen = λ o h. t.seen o (s.seen o h);
@@ -75,8 +67,8 @@ joined_free old other new is free other_free = record {
 }
 
 -- its pair is its pair still
-leads_hand : (p : PairState) (old new : Holder) → Leads old new → HasAtHand p [] old → HasAtHand p [] new
-leads_hand p old new leads was = record {
+leads_hand : {p : PairState} {old new : Holder} → Leads old new → HasAtHand p [] old → HasAtHand p [] new
+leads_hand {p} leads was = record {
   going = was.going;
   sized = subst (λ (e : Setup). AreOfSize e.size p) (sym leads.setup) was.sized;
   held = λ i. leads.held i ∙ was.held i;
@@ -88,10 +80,9 @@ pub several_busy : (w : Holder) → 1 < w.book.account.share → IsBusy w.book.a
 several_busy w several = inl (λ one. omega (arith, several, one))
 
 -- and it goes on with its work once it has several units again
-pub leads_on : (p : PairState) (old new : Holder) → Leads old new → 1 < new.book.account.share → HasAtHand p [] old
+pub leads_on : {p : PairState} {old new : Holder} → Leads old new → 1 < new.book.account.share → HasAtHand p [] old
     → IsAtWork p [] new
-leads_on p old new leads several was =
-    record { hand = leads_hand p old new leads was; busy = several_busy new several }
+leads_on {new = new} leads several was = record { hand = leads_hand leads was; busy = several_busy new several }
 
 -- a worker that was just made with one unit is not idle
 pub new_awake : (w : Holder) (e : Setup) → w.book ≡ new_book e 1 → IsAwake w

@@ -18,3 +18,4 @@ pub mod Sharing
 pub mod Starting
 pub mod Tallies
 pub mod Visits
+pub mod Words

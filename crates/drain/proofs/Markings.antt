@@ -1,29 +1,15 @@
 -- At the close the leader's finished list has exactly the marked objects, each once: so its tally is theirs.
-use Rattle.std.proofs.Common.{◌≡◌, ℕ, ◌+◌, ◌<◌, ◌≤◌, ◌==◌, ◌&&◌, Bool, true, false, List, cond, Contains}
-use Rattle.std.proofs.Common.{filter, length, map, slice_index, slice_index_or, sum_by, ap, refl, sym, ◌∙◌, ⊎_elim}
-use Rattle.std.proofs.Common.{◌-◌, le-leb, leb-true, arith}
-use Rattle.std.specs.Prelude.{nat_le}
-use Rattle.std.proofs.lemmas.Bool.{cases_lt}
-use Rattle.std.proofs.lemmas.List.{get_or_past, length-map}
-use Rattle.mark_core.proofs.Chosen.{AreThose, IsOnce, chosen_sums}
-use Rattle.heap_graph.specs.ObjectGraph.{ObjectGraph, bytes_at, class_count, object_count, row_at}
-use Rattle.heap_graph.specs.RowNumbers.{row_number}
-use Rattle.heap_graph.specs.Whole.{IsRowIn, IsWhole, unresolved_at}
-use Rattle.heap_graph.specs.declared.row.RowKey.{RowKey}
+use Rattle.drain.proofs.Words.{AreThose, Book, Bool, Contains, IsMarkingOf, IsOnce, IsRowIn, IsTallyOf, IsWhole, List}
+use Rattle.drain.proofs.Words.{Marking, MarksTell, ObjectGraph, RowKey, Sum, ap, arith, bytes_at, cases_lt, chosen_sums}
+use Rattle.drain.proofs.Words.{class_count, cond, false, filter, get_or_past, is_set, le-leb, leb-true, length}
+use Rattle.drain.proofs.Words.{length-map, map, marked_objects, measure_of, nat_le, no_object, number_within}
+use Rattle.drain.proofs.Words.{object_count, of_row, refl, row_at, row_number, row_there, slice_index, slice_index_or}
+use Rattle.drain.proofs.Words.{sum_at, sum_by, sum_in, sum_of_row, sym, total, true, unresolved_at, ℕ, ⊎_elim, ◌&&◌}
+use Rattle.drain.proofs.Words.{◌+◌, ◌-◌, ◌<◌, ◌==◌, ◌∙◌, ◌≡◌, ◌≤◌}
 use Rattle.heap_graph.specs.declared.row.RowKey.TheVariants as keys
-use Rattle.buffer_pool.specs.Book.{Book}
-use Rattle.buffer_pool.specs.Closing.{MarksTell}
-use Rattle.mark_core.specs.World.{Marking}
-use Rattle.drain.specs.Marks.{IsMarkingOf, is_set}
-use Rattle.drain.specs.Totals.{marked_objects, of_row, total}
-use Rattle.drain.specs.declared.sum.Sum.{Sum}
-use Rattle.drain.specs.Sums.{no_object, sum_at, sum_of_row}
-use Rattle.drain.specs.working.Measures.{measure_of}
-use Rattle.drain.specs.working.Tallies.{IsTallyOf, sum_in}
 use Rattle.drain.proofs.Closes.{marked_where_set}
 use Rattle.drain.proofs.Passing.{passing_count, passing_sum}
 use Rattle.drain.proofs.RowTests.{in_or_not, none_of_row, same_number}
-use Rattle.heap_graph.proofs.RowNumberLaws.{number_within, row_there}
 
 module _ (g : ObjectGraph) (whole : IsWhole g) (objects : List ℕ) (marks : List Bool) (rows : List Sum) (unresolved : ℕ)
     (once : IsOnce objects) (those : AreThose (λ o. slice_index_or marks o false) (object_count g) objects)

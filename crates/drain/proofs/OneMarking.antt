@@ -1,7 +1,5 @@
 -- Two lists of marks at the same objects are one.
-use Rattle.std.proofs.Common.{Bool, List, false, get_or, refl, sym, true, ℕ, ◌≡◌, ◌↔◌, ◌∙◌}
-use Rattle.std.proofs.lemmas.List.{ext_get_or}
-use Rattle.heap_graph.specs.Reachable.{MarksReachable}
+use Rattle.drain.proofs.Words.{Bool, List, MarksReachable, ext_get_or, false, get_or, refl, sym, true, ℕ, ◌↔◌, ◌∙◌, ◌≡◌}
 
 same_bool : (a b : Bool) → (a ≡ true) ↔ (b ≡ true) → a ≡ b
 same_bool true b h = sym (h.0 refl)

@@ -1,12 +1,9 @@
 -- The pairs of a graph are its references.
-use Rattle.std.proofs.Common.{◌≡◌, ◌↔◌, ◌⊎◌, ℕ, zero, suc, ◌+◌, ◌<◌, List, [], ◌∷◌, map, length, All, Contains, get_or}
-use Rattle.std.proofs.Common.{slice_index_or, ap, sym, subst, ◌∙◌, ⊎_elim, arith}
-use Rattle.std.proofs.lemmas.List.{get_or-map, length-map}
-use Rattle.std.proofs.lemmas.List.Elements.{All-contains, All-from_get_or, Contains-append_cases, Contains-append_left}
-use Rattle.std.proofs.lemmas.List.Elements.{Contains-append_right, Contains-get_or}
-use Rattle.heap_graph.specs.ObjectGraph.{ObjectGraph, object_count, references_of}
-use Rattle.heap_graph.specs.Whole.{IsWhole}
-use Rattle.drain.specs.working.Pairs.{pairs_from, pairs_of}
+use Rattle.drain.proofs.Words.{All, All-contains, All-from_get_or, Contains, Contains-append_cases}
+use Rattle.drain.proofs.Words.{Contains-append_left, Contains-append_right, Contains-get_or, IsWhole, List, ObjectGraph}
+use Rattle.drain.proofs.Words.{[], ap, arith, get_or, get_or-map, length, length-map, map, object_count, pairs_from}
+use Rattle.drain.proofs.Words.{pairs_of, references_of, slice_index_or, subst, suc, sym, zero, ℕ, ⊎_elim, ◌+◌, ◌<◌, ◌↔◌}
+use Rattle.drain.proofs.Words.{◌∙◌, ◌∷◌, ◌≡◌, ◌⊎◌}
 
 -- the pairs of one object
 abbrev pair : ℕ → ℕ → ℕ × ℕ

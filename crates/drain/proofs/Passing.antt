@@ -1,8 +1,6 @@
 -- Sums over the objects that pass a test, as sums of weights.
-use Rattle.std.proofs.Common.{◌≡◌, ℕ, ◌+◌, Bool, true, false, not, cond, List, [], ◌∷◌, arith}
-use Rattle.std.proofs.Common.{filter, length, sum_by, sym, refl, ◌∙◌}
-use Rattle.std.proofs.lemmas.List.Sums.{sum_by-cons}
-use Rattle.mark_core.proofs.Chosen.{ones}
+use Rattle.drain.proofs.Words.{Bool, List, [], arith, cond, false, filter, length, not, ones, refl, sum_by, sum_by-cons}
+use Rattle.drain.proofs.Words.{sym, true, ℕ, ◌+◌, ◌∙◌, ◌∷◌, ◌≡◌}
 
 pass-cons :
     (f : ℕ → ℕ) (p : ℕ → Bool) (x : ℕ) (xs : List ℕ)

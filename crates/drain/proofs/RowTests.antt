@@ -1,15 +1,10 @@
 -- Two rows of a graph are the same where their numbers are, and a row that a graph does not have has no object.
-use Rattle.std.proofs.Common.{ap, arith, Bool, eq-eqb, false, filter, inl, inr, List, ne_eqb, refl, subst, sym, true}
-use Rattle.std.proofs.Common.{[], ℕ, ◌+◌, ◌-◌, ◌<◌, ◌==◌, ◌∙◌, ◌∷◌, ◌≡◌, ◌⊎◌, ⊎_elim}
-use Rattle.std.proofs.lemmas.Bool.{cases_lt, eqb-true}
+use Rattle.drain.proofs.Words.{Bool, IsRowIn, IsWhole, List, ObjectGraph, RowKey, [], ap, arith, cases_lt, class_count}
+use Rattle.drain.proofs.Words.{eq-eqb, eqb-true, false, filter, inl, inr, ne_eqb, numbered_row, of_row, refl, row_at}
+use Rattle.drain.proofs.Words.{row_number, row_of_its_number, row_there, same_row, subst, sym, true, ℕ, ⊎_elim, ◌-◌}
+use Rattle.drain.proofs.Words.{◌==◌, ◌∙◌, ◌∷◌, ◌≡◌, ◌⊎◌}
 use native.Mathlib.Decide.{ℕ_discrete}
-use Rattle.heap_graph.specs.ObjectGraph.{ObjectGraph, class_count, row_at}
-use Rattle.heap_graph.specs.RowNumbers.{numbered_row, row_number}
-use Rattle.heap_graph.specs.Whole.{IsRowIn, IsWhole}
-use Rattle.heap_graph.specs.declared.row.RowKey.{RowKey}
 use Rattle.heap_graph.specs.declared.row.RowKey.TheVariants as keys
-use Rattle.heap_graph.proofs.RowNumberLaws.{row_of_its_number, row_there}
-use Rattle.drain.specs.Totals.{of_row, same_row}
 
 pub same_itself : (row : RowKey) → same_row row row ≡ true
 same_itself (keys.Class n) = eq-eqb n n refl

@@ -1,9 +1,7 @@
 -- What a loop over an iterator of objects has met, where each run gives a known list.
-use Rattle.std.proofs.Common.{[], ◌∷◌, ◌++◌, All, List, None, Option, Some, length, map-id, refl, subst, sym, ℕ, ◌≡◌}
-use Rattle.std.proofs.Common.{◌∙◌}
-use Rattle.std.specs.Iterator.{AlwaysYields, Yields}
+use Rattle.drain.proofs.Words.{All, AlwaysYields, List, None, Option, Some, Yields, YieldsList-end, YieldsList-turn, []}
+use Rattle.drain.proofs.Words.{length, map-id, refl, subst, sym, ℕ, ◌++◌, ◌∙◌, ◌∷◌, ◌≡◌}
 use Rattle.std.proofs.lemmas.Iterator.{YieldsList}
-use Rattle.std.proofs.lemmas.Iterator.Consumers.{YieldsList-end, YieldsList-turn}
 
 module _ {S : Type 0} (steps : S → Option ℕ → S → Type 0) (s start t : S) (from : start ≡ s) (given : List ℕ)
     (always : AlwaysYields steps (λ (o : ℕ). o) s given) (met : List ℕ) (run : Yields steps start met t) where

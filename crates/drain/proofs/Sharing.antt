@@ -1,12 +1,8 @@
 -- The object that is got from a pair with a spill list is the last of that list, and it is put again.
-use Rattle.std.proofs.Common.{◌≡◌, ◌≢◌, ◌<◌, ◌≤◌, ℕ, List, [], ◌∷◌, ◌++◌, Err, None, Ok, Option, Result}
-use Rattle.std.proofs.Common.{ap, arith, length, refl, subst}
-use Rattle.buffer_pool.specs.Book.{Book}
-use Rattle.work_pair.specs.Deals.{Puts}
-use Rattle.work_pair.specs.PairState.{PairState, buffered_items, pair_items}
+use Rattle.drain.proofs.Words.{Book, Err, List, None, Ok, Option, PairState, Puts, PutsAgain, Result, [], ap, arith}
+use Rattle.drain.proofs.Words.{buffered_items, length, none_first, pair_items, refl, subst, ℕ, ◌++◌, ◌<◌, ◌∷◌, ◌≡◌, ◌≢◌}
+use Rattle.drain.proofs.Words.{◌≤◌}
 use Rattle.work_pair.specs.declared.stop.Stop.{Stop}
-use Rattle.work_pair.proofs.Calls.{none_first}
-use Rattle.drain.specs.working.Sharing.{PutsAgain}
 
 -- a list that has something has a last object
 pub last_of : (xs : List ℕ) → 0 < length xs → (rest : List ℕ) × (object : ℕ) × (xs ≡ rest ++ object ∷ [])

@@ -1,14 +1,10 @@
 -- A finish is a push on the finished list and a join an append: so a tally takes in an object, or another tally.
-use Rattle.std.proofs.Common.{◌≡◌, ℕ, ◌+◌, ◌*◌, ◌^◌, ◌<◌, ◌≤◌, ◌==◌, Bool, true, false, cond, List, [], ◌∷◌}
-use Rattle.std.proofs.Common.{◌++◌, length, replicate, get_or, slice_index_or, slice_set, sum_by, ap, sym, refl}
-use Rattle.std.proofs.Common.{◌∙◌, eq-eqb, ne_eqb, length-set, get_or-set_same, get_or-set_other, arith}
-use Rattle.std.proofs.lemmas.List.{get_or-replicate, length-replicate}
-use Rattle.std.proofs.lemmas.List.Elements.{All-from_get_or}
-use Rattle.std.proofs.lemmas.List.Sums.{sum_by-append, sum_by-le, sum_by_push}
+use Rattle.drain.proofs.Words.{All-from_get_or, Bool, IsMeasureOf, IsSmall, IsTallyOf, List, Measure, Sum, [], ap}
+use Rattle.drain.proofs.Words.{arith, cond, eq-eqb, false, get_or, get_or-replicate, get_or-set_other, get_or-set_same}
+use Rattle.drain.proofs.Words.{length, length-replicate, length-set, ne_eqb, no_object, one_more, refl, replicate}
+use Rattle.drain.proofs.Words.{slice_index_or, slice_set, sum_by, sum_by-append, sum_by-le, sum_by_push, sum_in, sym}
+use Rattle.drain.proofs.Words.{together, true, ℕ, ◌*◌, ◌++◌, ◌+◌, ◌<◌, ◌==◌, ◌^◌, ◌∙◌, ◌∷◌, ◌≡◌, ◌≤◌}
 use native.Mathlib.Decide.{ℕ_discrete}
-use Rattle.drain.specs.Sums.{no_object}
-use Rattle.drain.specs.declared.sum.Sum.{Sum}
-use Rattle.drain.specs.working.Tallies.{IsMeasureOf, IsSmall, IsTallyOf, Measure, one_more, sum_in, together}
 
 -- what an object counts for in a row, and its bytes there
 abbrev counts : Measure → ℕ → ℕ → ℕ
@@ -100,26 +96,25 @@ at_most : (b : Bool) (x most : ℕ) → x ≤ most → cond b x 0 ≤ most
 at_most true x most h = h
 at_most false x most h = omega arith
 
-module _ (count : ℕ) (m : Measure) (bounded : IsMeasureOf count m) (objects : List ℕ)
-    (few : length objects ≤ count) where
-  few_in : (f : ℕ → ℕ) (most : ℕ) → ((o : ℕ) → f o ≤ most) → sum_by f objects ≤ length objects * most
-  few_in f most small =
-      sum_by-le f most objects (All-from_get_or (λ x. f x ≤ most) objects 0 (λ k inside. small (get_or objects k 0)))
+few_in : (objects : List ℕ) (f : ℕ → ℕ) (most : ℕ) → ((o : ℕ) → f o ≤ most) → sum_by f objects ≤ length objects * most
+few_in objects f most small =
+    sum_by-le f most objects (All-from_get_or (λ x. f x ≤ most) objects 0 (λ k inside. small (get_or objects k 0)))
 
-  -- the sums of so few objects are small
-  pub tally_is_small : (rows : List Sum) (unresolved : ℕ) → IsTallyOf m objects rows unresolved
-      → IsSmall rows unresolved
-  tally_is_small rows unresolved is = record {
-    counts = λ n inside.
-        let here = is.right n (omega (arith, inside, is.each)) in
-        let sums = few_in (counts m n) 1 (λ o. at_most (m.row o == n) 1 1 (omega arith)) in
-        omega (arith, ap (λ (s : Sum). s.count) here, sums, few, bounded.few_objects);
-    bytes = λ n inside.
-        let here = is.right n (omega (arith, inside, is.each)) in
-        let light : (o : ℕ) → weighs m n o ≤ 2 ^ 30 =
-        λ o. at_most (m.row o == n) (m.bytes o) (2 ^ 30) (bounded.few_bytes o) in
-        let sums = few_in (weighs m n) (2 ^ 30) light in
-        omega (arith, ap (λ (s : Sum). s.bytes) here, sums, few, bounded.few_objects);
-    few_unresolved =
-        omega (arith, is.unresolved_is, few_in m.unresolved (2 ^ 33) bounded.few_unresolved, few, bounded.few_objects);
-  }
+-- the sums of so few objects are small
+pub tally_is_small : {count : ℕ} {m : Measure} {objects : List ℕ} {rows : List Sum} {unresolved : ℕ}
+    → IsMeasureOf count m → length objects ≤ count → IsTallyOf m objects rows unresolved → IsSmall rows unresolved
+tally_is_small {count} {m} {objects} bounded few is = record {
+  counts = λ n inside.
+      let here = is.right n (omega (arith, inside, is.each)) in
+      let sums = few_in objects (counts m n) 1 (λ o. at_most (m.row o == n) 1 1 (omega arith)) in
+      omega (arith, ap (λ (s : Sum). s.count) here, sums, few, bounded.few_objects);
+  bytes = λ n inside.
+      let here = is.right n (omega (arith, inside, is.each)) in
+      let light : (o : ℕ) → weighs m n o ≤ 2 ^ 30 =
+      λ o. at_most (m.row o == n) (m.bytes o) (2 ^ 30) (bounded.few_bytes o) in
+      let sums = few_in objects (weighs m n) (2 ^ 30) light in
+      omega (arith, ap (λ (s : Sum). s.bytes) here, sums, few, bounded.few_objects);
+  few_unresolved =
+      let sums = few_in objects m.unresolved (2 ^ 33) bounded.few_unresolved in
+      omega (arith, is.unresolved_is, sums, few, bounded.few_objects);
+}

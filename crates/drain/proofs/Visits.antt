@@ -1,19 +1,12 @@
 -- A visit keeps what it tells of its object: behind the last object that it gave that is what is read of it.
-use Rattle.std.proofs.Common.{◌≡◌, ◌+◌, ◌<◌, ◌↔◌, [], ◌∷◌, All, ap, arith, Contains, length, List, None, Option, refl}
-use Rattle.std.proofs.Common.{Some, subst, sym, ◌∙◌, ℕ}
-use Rattle.std.specs.Iterator.{Yields, YieldsFirst, item_count}
-use Rattle.std.proofs.lemmas.Iterator.Consumers.{YieldsList-from_shown}
+use Rattle.drain.proofs.Words.{All, Contains, IsMeasureOf, IsWhole, List, Measure, None, ObjectGraph, Option, Some}
+use Rattle.drain.proofs.Words.{Yields, YieldsFirst, YieldsList-from_shown, [], ap, arith, bytes_at, item_count, length}
+use Rattle.drain.proofs.Words.{measure_of, number_within, object_count, pairs_of, references_of, refl, row_at}
+use Rattle.drain.proofs.Words.{row_number, scanned_in, subst, sym, unresolved_at, ℕ, ◌+◌, ◌<◌, ◌↔◌, ◌∙◌, ◌∷◌, ◌≡◌}
 use Rattle.heap_graph.specs.ByKind.{IsBehind}
-use Rattle.heap_graph.specs.ObjectGraph.{ObjectGraph, bytes_at, object_count, references_of, row_at}
-use Rattle.heap_graph.specs.Whole.{IsWhole, unresolved_at}
 use Rattle.heap_graph.specs.Walks.{Advances, Visited, unresolved_left, references_left}
-use Rattle.heap_graph.specs.RowNumbers.{row_number}
-use Rattle.drain.specs.working.Measures.{measure_of, scanned_in}
-use Rattle.drain.specs.working.Tallies.{IsMeasureOf, Measure}
-use Rattle.drain.specs.working.Pairs.{pairs_of}
 use Rattle.drain.specs.working.Walk.{IsGiven, IsVisitOf}
 use Rattle.drain.proofs.Pairs.{pair_is_reference}
-use Rattle.heap_graph.proofs.RowNumberLaws.{number_within}
 
 -- a call of the visit
 abbrev pub visits : Visited → Option ℕ → Visited → Type 0

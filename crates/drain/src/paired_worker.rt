@@ -19,6 +19,15 @@ pub(crate) struct PairedWorker<A: Allocator> {
     pub(crate) pair: Pair<A>,
 }
 
+/// What the opening of a pair gives.
+#[derive(Drop)]
+pub(crate) enum Opened<A: Allocator> {
+    /// The worker at its pair.
+    Paired(PairedWorker<A>),
+    /// The worker as it was: there were not two empty buffers.
+    Unpaired(Worker<A>),
+}
+
 impl<A: Allocator> PairedWorker<A> {
     ghost use Rattle.std.specs.Prelude.{◌≡◌, ◌<◌, ◌↔◌, ◌⊎◌, ◌∷◌, [], ℕ, All, IfErr, IfNone, IfOk};
     ghost use Rattle.std.specs.Prelude.{IfSome, IsTrue, List, OnOk, length};
@@ -27,29 +36,28 @@ impl<A: Allocator> PairedWorker<A> {
     ghost use Rattle.work_pair.specs.Moves.{WasSeenEmpty};
     ghost use Rattle.work_pair.specs.PairState.{buffered_items};
     ghost use Rattle.std.specs.Iterator.{AlwaysYields, IsFinite};
-    ghost use Rattle.drain.specs.working.AtWork.{AreClaimed, GoesOn, HasAtHand, HasNoneLeft, IsAtWork};
+    ghost use Rattle.drain.specs.working.AtWork.{AreClaimed, GoesOn, HasAtHand, HasNoneLeft, HasOpened, IsAtWork};
     ghost use Rattle.drain.specs.working.AtWork.{IsFree, IsThrough, MayClaim};
     ghost use Rattle.drain.specs.working.RecentlySeen.{HasSeenAll, IsNoted};
     ghost use Rattle.drain.specs.working.Sharing.{GivesSome, PutsAgain, SharesWork, Unspills};
     ghost use Rattle.drain.specs.working.Walk.{HasEnded};
 
-    /// A pair for a worker that has none yet. `None` where there were not two empty buffers.
+    /// A pair for a worker that has none yet. `Unpaired` where there were not two empty buffers.
     pub(crate) fn open<R: Wait>(
         rt: &R,
         alloc: A,
         pool: &Pool<A>,
         worker: Worker<A>,
-    ) -> Result<Result<PairedWorker<A>, Worker<A>>, Stop>
+    ) -> Result<Opened<A>, Stop>
         requires pool { worker.pool ≡ pool.now }
         requires free { IsFree worker }
         requires busy { IsBusy worker.book.account }
-        ensures opened { IfOk result (λ r. IfOk r (λ p. GoesOn worker p.worker × IsAtWork p.pair [] p.worker)) }
-        ensures none { IfOk result (λ r. IfErr r (λ w. GoesOn worker w × IsFree w)) }
+        ensures { IfOk result (HasOpened worker) }
     {
         let mut worker = worker;
         match Pair::open(rt, alloc, pool, &mut worker)? {
-            Some(pair) => Ok(Ok(PairedWorker { worker, pair })),
-            None => Ok(Err(worker)),
+            Some(pair) => Ok(Opened::Paired(PairedWorker { worker, pair })),
+            None => Ok(Opened::Unpaired(worker)),
         }
     }
 
@@ -68,8 +76,8 @@ impl<A: Allocator> PairedWorker<A> {
         ensures { IfOk result (λ p. GoesOn worker p.worker × IsAtWork p.pair [] p.worker) }
     {
         match PairedWorker::open(rt, alloc, pool, worker)? {
-            Ok(paired) => Ok(paired),
-            Err(worker) => Ok(PairedWorker::bare(alloc, worker)),
+            Opened::Paired(paired) => Ok(paired),
+            Opened::Unpaired(worker) => Ok(PairedWorker::bare(alloc, worker)),
         }
     }
 

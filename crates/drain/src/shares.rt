@@ -1,8 +1,9 @@
 //! The joins: what the leader takes in once it has drained.
 
 ghost use Rattle.std.specs.Prelude.{◌≡◌, ◌+◌, [], ℕ, Contains, IfOk, vec_len};
-ghost use Rattle.drain.specs.working.AtWork.{IsAtWork, IsFree, IsSetupOf, Leads};
+ghost use Rattle.drain.specs.working.AtWork.{IsFree, Leads};
 ghost use Rattle.drain.specs.working.Duties.{AreBackUnder, IsBackUnder};
+ghost use Rattle.drain.specs.working.Jobs.{IsOnJob};
 ghost use Rattle.drain.specs.working.Tallies.{IsMeasureOf};
 ghost use Rattle.drain.specs.working.Tallying.{HasTallied};
 
@@ -77,11 +78,7 @@ pub(crate) fn gather<R: Wait, A: Allocator, V: Walk, G: Gate, S>(
     job: &Job<'_, A, V, G, S>,
     ran: Ran<A>,
 ) -> Result<Tallied<A>, Stop>
-    requires pool { ran.paired.worker.pool ≡ job.now.pool.now }
-    requires setup { IsSetupOf (V.count job.now.graph.now) (V.roots job.now.graph.now) (V.pairs job.now.graph.now)
-        ran.paired.worker.book.setup }
-    requires at_work { IsAtWork ran.paired.pair [] ran.paired.worker }
-    requires tally { HasTallied (V.measure job.now.graph.now) ran.paired.worker ran.tally }
+    requires on_job { IsOnJob V.count V.roots V.pairs V.measure job.now [] ran.paired ran.tally }
     requires back { AreBackUnder (V.measure job.now.graph.now) ran.paired.worker ran.back.items }
     ensures pool { IfOk result (λ t. t.worker.pool ≡ ran.paired.worker.pool) }
     ensures setup { IfOk result (λ t. t.worker.book.setup ≡ ran.paired.worker.book.setup) }

@@ -38,6 +38,7 @@ impl<'a, 'b, A: Allocator> Measured for WalkedGraph<'a, 'b, A> {
     ghost measure = { λ l. measure_of l.graph.now };
 
     fn recall_measure(&self) {
+        // Read for its clause `whole` alone: what is true of each graph bounds its rows, bytes and identifiers.
         let _objects = self.graph.len();
     }
 
@@ -47,6 +48,7 @@ impl<'a, 'b, A: Allocator> Measured for WalkedGraph<'a, 'b, A> {
 }
 
 /// What a tally takes in of an object: its row, its size, and how many of its identifiers name no object.
+// Inlined, as all that is told of a visit: else its three words are written behind a call and read again.
 #[inline(always)]
 fn scanned(row: RowKey, bytes: u64, unresolved: u64) -> Scanned
     ensures { result ≡ record { row = numbers.row_number row; bytes = bytes; unresolved = unresolved } }

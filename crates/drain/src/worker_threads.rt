@@ -12,7 +12,7 @@ use crate::gate::Gate;
 use crate::job::Job;
 use crate::marked::RunFault;
 use crate::measured::Measured;
-use crate::paired_worker::PairedWorker;
+use crate::paired_worker::{Opened, PairedWorker};
 use crate::ready::Ready;
 use crate::start_hook::StartHook;
 use crate::supplies::Supplies;
@@ -63,8 +63,8 @@ fn work<T: Wait, A: Allocator + Copy, V: Walk, G: Gate, S>(
 {
     let Tallied { worker, mut tally } = begun;
     let mut paired = match PairedWorker::open(rt, job.alloc, job.pool, worker)? {
-        Ok(paired) => paired,
-        Err(worker) => return Ok(Tallied { worker, tally }),
+        Opened::Paired(paired) => paired,
+        Opened::Unpaired(worker) => return Ok(Tallied { worker, tally }),
     };
     paired.work_off(rt, job, number, &mut tally)?;
     let worker = paired.close(rt, job.pool)?;

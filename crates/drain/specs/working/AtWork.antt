@@ -6,6 +6,8 @@ use Rattle.mark_core.specs.World.{Setup}
 use Rattle.mark_core.specs.declared.which.Which.TheVariants.{Empty}
 use Rattle.buffer_pool.specs.Book.{empties_of}
 use Rattle.buffer_pool.specs.Calls.{Holder}
+use Rattle.drain.specs.declared.paired_worker.Opened.{Opened}
+use Rattle.drain.specs.declared.paired_worker.Opened.TheVariants as opened
 use Rattle.work_pair.specs.PairState.{AreOfSize, IsOpen, PairState, buffered_items, pair_items, numbers_of}
 
 -- These are the objects, the roots and the references of a graph.
@@ -79,6 +81,12 @@ IsThrough begun w = CameFrom begun w × IsFree w
 -- Others have what the buffers of its pair held: they have no items, or it saw that no empty buffer was left.
 abbrev pub HasGiven : PairState → Holder → Type 0
 HasGiven p w = (buffered_items p ≡ []) ⊎ (0 < empties_of w.book Empty)
+
+-- The opening of a pair: the worker went on from there, and is at work with nothing at hand beside the pair's items, or
+-- as free as it was.
+abbrev pub HasOpened : {A : Type 0} → Holder → Opened A → Type 0
+HasOpened w (opened.Paired p) = GoesOn w p.worker × IsAtWork p.pair [] p.worker
+HasOpened w (opened.Unpaired v) = GoesOn w v × IsFree v
 
 -- It saw each root marked.
 abbrev pub SawRoots : Holder → Type 0

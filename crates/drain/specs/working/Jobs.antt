@@ -1,10 +1,13 @@
--- What is asked where a worker begins with its job, and where a leader runs its workers.
-use Rattle.std.specs.Prelude.{List, ℕ, ◌<◌, ◌≡◌, ◌≤◌}
+-- What is asked where a worker begins with its job, while it scans, and where a leader runs its workers.
+use Rattle.std.specs.Prelude.{List, [], ℕ, ◌<◌, ◌≡◌, ◌≤◌}
 use Rattle.buffer_pool.specs.Calls.{Holder}
 use Rattle.drain.specs.declared.job.Job.{Job}
+use Rattle.drain.specs.declared.paired_worker.PairedWorker.{PairedWorker}
+use Rattle.drain.specs.declared.recently_seen.RecentlySeen.{RecentlySeen}
 use Rattle.drain.specs.declared.tally.Tally.{Tally}
-use Rattle.drain.specs.working.AtWork.{IsFree, IsSetupOf}
+use Rattle.drain.specs.working.AtWork.{IsAtWork, IsFree, IsSetupOf, WorksOn}
 use Rattle.drain.specs.working.Idle.{IsAwake}
+use Rattle.drain.specs.working.RecentlySeen.{HasSeenAll}
 use Rattle.drain.specs.working.Tallies.{Measure}
 use Rattle.drain.specs.working.Tallying.{AreTalliesOfNone, HasTallied}
 
@@ -16,6 +19,25 @@ pub record MayWork {A V G S : Type 0} (count : V → ℕ) (roots : V → List �
   pub free : IsFree w
   pub awake : IsAwake w
   pub tally : HasTallied (measure job.graph.now) w t
+
+-- a worker of the job's pool and graph at its pair, with these objects at hand beside the pair's items, and the tally of
+-- what it finished
+pub record IsOnJob {A V G S : Type 0} (count : V → ℕ) (roots : V → List ℕ) (pairs : V → List (ℕ × ℕ))
+    (measure : V → Measure) (job : Job A V G S) (besides : List ℕ) (paired : PairedWorker A) (t : Tally A)
+    : Type 0 where
+  pub pool : paired.worker.pool ≡ job.pool.now
+  pub setup : IsSetupOf (count job.graph.now) (roots job.graph.now) (pairs job.graph.now) paired.worker.book.setup
+  pub at_work : IsAtWork paired.pair besides paired.worker
+  pub tally : HasTallied (measure job.graph.now) paired.worker t
+
+-- the worker works on with nothing at hand beside its pair's items, and its tally and its table are of what it finished
+-- and saw
+pub record HasScanned {A : Type 0} (m : Measure) (old new : PairedWorker A) (table : RecentlySeen) (t : Tally A)
+    : Type 0 where
+  pub goes_on : WorksOn old.worker new.worker
+  pub at_work : IsAtWork new.pair [] new.worker
+  pub tally : HasTallied m new.worker t
+  pub seen : HasSeenAll table new.worker
 
 -- a leader of the job's pool and graph with more units than there are workers, room for so many threads and for so many
 -- workers that come back, of which none is there, and so many tallies of no object

@@ -14,6 +14,7 @@ impl<A: Allocator> PairedWorker<A> {
     ghost use Rattle.std.specs.Prelude.{◌≡◌, [], IfOk, IsTrue, OnOk, false};
     ghost use Rattle.drain.specs.working.AtWork.{CameFrom, HasAtHand, HasNoneLeft, IsAtWork, IsSetupOf, WorksOn};
     ghost use Rattle.drain.specs.working.Idle.{IsAwake};
+    ghost use Rattle.drain.specs.working.Jobs.{IsOnJob};
     ghost use Rattle.drain.specs.working.RecentlySeen.{HasSeenAll};
     ghost use Rattle.drain.specs.working.Tallying.{HasTallied};
 
@@ -58,12 +59,8 @@ impl<A: Allocator> PairedWorker<A> {
         number: u32,
         tally: &mut Tally<A>,
     ) -> Result<(), Stop>
-        requires pool { self.old.worker.pool ≡ job.now.pool.now }
-        requires setup { IsSetupOf (V.count job.now.graph.now) (V.roots job.now.graph.now)
-            (V.pairs job.now.graph.now) self.old.worker.book.setup }
-        requires at_work { IsAtWork self.old.pair [] self.old.worker }
+        requires on_job { IsOnJob V.count V.roots V.pairs V.measure job.now [] self.old tally.old }
         requires awake { IsAwake self.old.worker }
-        requires tally { HasTallied (V.measure job.now.graph.now) self.old.worker tally.old }
         ensures came { OnOk result (CameFrom self.old.worker self.new.worker) }
         ensures hand { OnOk result (HasAtHand self.new.pair [] self.new.worker) }
         ensures tally { OnOk result (HasTallied (V.measure job.now.graph.now) self.new.worker tally.new) }
@@ -87,11 +84,7 @@ impl<A: Allocator> PairedWorker<A> {
         number: u32,
         tally: &mut Tally<A>,
     ) -> Result<(), Stop>
-        requires pool { self.old.worker.pool ≡ job.now.pool.now }
-        requires setup { IsSetupOf (V.count job.now.graph.now) (V.roots job.now.graph.now)
-            (V.pairs job.now.graph.now) self.old.worker.book.setup }
-        requires at_work { IsAtWork self.old.pair [] self.old.worker }
-        requires tally { HasTallied (V.measure job.now.graph.now) self.old.worker tally.old }
+        requires on_job { IsOnJob V.count V.roots V.pairs V.measure job.now [] self.old tally.old }
         ensures goes_on { OnOk result (WorksOn self.old.worker self.new.worker) }
         ensures at_work { OnOk result (IsAtWork self.new.pair [] self.new.worker) }
         ensures tally { OnOk result (HasTallied (V.measure job.now.graph.now) self.new.worker tally.new) }

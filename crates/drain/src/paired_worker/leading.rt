@@ -14,7 +14,8 @@ use work_pair::Stop;
 impl<A: Allocator> PairedWorker<A> {
     ghost use Rattle.std.specs.Prelude.{◌≡◌, [], IfOk, OnOk};
     ghost use Rattle.mark_core.specs.Events.{IsBusy};
-    ghost use Rattle.drain.specs.working.AtWork.{GoesOn, HasGiven, IsAtWork, IsFree, IsSetupOf, IsThrough, SawRoots};
+    ghost use Rattle.drain.specs.working.AtWork.{GoesOn, HasGiven, IsAtWork, IsFree, IsThrough, SawRoots};
+    ghost use Rattle.drain.specs.working.Jobs.{IsOnJob};
     ghost use Rattle.drain.specs.working.Tallying.{HasTallied};
 
     /// Claims each root, and puts those that were white into the pair.
@@ -78,11 +79,7 @@ impl<A: Allocator> PairedWorker<A> {
         job: &Job<'_, A, V, G, S>,
         tally: Tally<A>,
     ) -> Result<Tallied<A>, Stop>
-        requires pool { self.worker.pool ≡ job.now.pool.now }
-        requires setup { IsSetupOf (V.count job.now.graph.now) (V.roots job.now.graph.now)
-            (V.pairs job.now.graph.now) self.worker.book.setup }
-        requires at_work { IsAtWork self.pair [] self.worker }
-        requires tally { HasTallied (V.measure job.now.graph.now) self.worker tally }
+        requires { IsOnJob V.count V.roots V.pairs V.measure job.now [] self tally }
         ensures through { IfOk result (λ t. IsThrough self.worker t.worker) }
         ensures tally { IfOk result (λ t. HasTallied (V.measure job.now.graph.now) t.worker t.tally) }
     {

@@ -16,9 +16,9 @@ impl<A: Allocator> PairedWorker<A> {
     ghost use Rattle.std.specs.Prelude.{◌≡◌, ◌<◌, ◌↔◌, ◌∷◌, ◌++◌, [], ℕ, All, Contains, IfOk, List, OnOk, false};
     ghost use Rattle.std.specs.Prelude.{option_to_list};
     ghost use Rattle.std.specs.Iterator.{AlwaysYields, IsFinite};
-    ghost use Rattle.drain.specs.working.AtWork.{AreClaimed, HasNoneLeft, IsAtWork, IsSetupOf, MayClaim, WorksOn};
+    ghost use Rattle.drain.specs.working.AtWork.{AreClaimed, HasNoneLeft, IsAtWork, MayClaim, WorksOn};
+    ghost use Rattle.drain.specs.working.Jobs.{HasScanned, IsOnJob};
     ghost use Rattle.drain.specs.working.RecentlySeen.{HasSeenAll};
-    ghost use Rattle.drain.specs.working.Tallying.{HasTallied};
     ghost use Rattle.drain.specs.working.Walk.{HasEnded, IsGiven};
 
     /// Claims an object that may be known, unless it was lately seen.
@@ -86,20 +86,13 @@ impl<A: Allocator> PairedWorker<A> {
         seen: &mut RecentlySeen,
         tally: &mut Tally<A>,
     ) -> Result<(), Stop>
-        requires pool { self.old.worker.pool ≡ job.now.pool.now }
-        requires setup { IsSetupOf (V.count job.now.graph.now) (V.roots job.now.graph.now)
-            (V.pairs job.now.graph.now) self.old.worker.book.setup }
-        requires at_work { IsAtWork self.old.pair (object ∷ []) self.old.worker }
+        requires on_job { IsOnJob V.count V.roots V.pairs V.measure job.now (object ∷ []) self.old tally.old }
         requires below { object < V.count job.now.graph.now }
         requires given { IsGiven I.can_next I.next_gives I.remaining I.read_so_far
             (λ next. Contains (V.pairs job.now.graph.now) (object, next)) (V.measure job.now.graph.now) object
             given.0 given.1 }
         requires seen { HasSeenAll seen.old self.old.worker }
-        requires tally { HasTallied (V.measure job.now.graph.now) self.old.worker tally.old }
-        ensures goes_on { OnOk result (WorksOn self.old.worker self.new.worker) }
-        ensures at_work { OnOk result (IsAtWork self.new.pair [] self.new.worker) }
-        ensures tally { OnOk result (HasTallied (V.measure job.now.graph.now) self.new.worker tally.new) }
-        ensures seen { OnOk result (HasSeenAll seen.new self.new.worker) }
+        ensures { OnOk result (HasScanned (V.measure job.now.graph.now) self.old self.new seen.new tally.new) }
     {
         let (class, mut rest) = given;
         self.claim_and_finish(rt, job.pool, seen, object, class, &mut rest)?;
@@ -120,23 +113,17 @@ impl<A: Allocator> PairedWorker<A> {
         seen: &mut RecentlySeen,
         tally: &mut Tally<A>,
     ) -> Result<(), Stop>
-        requires pool { self.old.worker.pool ≡ job.now.pool.now }
-        requires setup { IsSetupOf (V.count job.now.graph.now) (V.roots job.now.graph.now)
-            (V.pairs job.now.graph.now) self.old.worker.book.setup }
-        requires at_work { IsAtWork self.old.pair (object ∷ []) self.old.worker }
+        requires on_job { IsOnJob V.count V.roots V.pairs V.measure job.now (object ∷ []) self.old tally.old }
         requires below { object < V.count job.now.graph.now }
         requires seen { HasSeenAll seen.old self.old.worker }
-        requires tally { HasTallied (V.measure job.now.graph.now) self.old.worker tally.old }
-        ensures goes_on { OnOk result (WorksOn self.old.worker self.new.worker) }
-        ensures at_work { OnOk result (IsAtWork self.new.pair [] self.new.worker) }
-        ensures tally { OnOk result (HasTallied (V.measure job.now.graph.now) self.new.worker tally.new) }
-        ensures seen { OnOk result (HasSeenAll seen.new self.new.worker) }
+        ensures { OnOk result (HasScanned (V.measure job.now.graph.now) self.old self.new seen.new tally.new) }
     {
         let visit = job.graph.visit(object);
         self.scan(rt, job, object, (None, visit), seen, tally)
     }
 
     /// Scans the object at hand.
+    // Inlined, so that the worker's loop itself goes to the loop for references of the object's kind.
     #[inline(always)]
     fn scan_one<R: Wait, V: Walk, G: Gate, S>(
         &mut self,
@@ -146,17 +133,10 @@ impl<A: Allocator> PairedWorker<A> {
         seen: &mut RecentlySeen,
         tally: &mut Tally<A>,
     ) -> Result<(), Stop>
-        requires pool { self.old.worker.pool ≡ job.now.pool.now }
-        requires setup { IsSetupOf (V.count job.now.graph.now) (V.roots job.now.graph.now)
-            (V.pairs job.now.graph.now) self.old.worker.book.setup }
-        requires at_work { IsAtWork self.old.pair (object ∷ []) self.old.worker }
+        requires on_job { IsOnJob V.count V.roots V.pairs V.measure job.now (object ∷ []) self.old tally.old }
         requires below { object < V.count job.now.graph.now }
         requires seen { HasSeenAll seen.old self.old.worker }
-        requires tally { HasTallied (V.measure job.now.graph.now) self.old.worker tally.old }
-        ensures goes_on { OnOk result (WorksOn self.old.worker self.new.worker) }
-        ensures at_work { OnOk result (IsAtWork self.new.pair [] self.new.worker) }
-        ensures tally { OnOk result (HasTallied (V.measure job.now.graph.now) self.new.worker tally.new) }
-        ensures seen { OnOk result (HasSeenAll seen.new self.new.worker) }
+        ensures { OnOk result (HasScanned (V.measure job.now.graph.now) self.old self.new seen.new tally.new) }
     {
         match job.graph.visit(object).by_kind() {
             ByKind::Nothing(class, rest) => self.scan(rt, job, object, (class, rest), seen, tally),
@@ -176,16 +156,9 @@ impl<A: Allocator> PairedWorker<A> {
         seen: &mut RecentlySeen,
         tally: &mut Tally<A>,
     ) -> Result<bool, Stop>
-        requires pool { self.old.worker.pool ≡ job.now.pool.now }
-        requires setup { IsSetupOf (V.count job.now.graph.now) (V.roots job.now.graph.now)
-            (V.pairs job.now.graph.now) self.old.worker.book.setup }
-        requires at_work { IsAtWork self.old.pair [] self.old.worker }
+        requires on_job { IsOnJob V.count V.roots V.pairs V.measure job.now [] self.old tally.old }
         requires seen { HasSeenAll seen.old self.old.worker }
-        requires tally { HasTallied (V.measure job.now.graph.now) self.old.worker tally.old }
-        ensures goes_on { OnOk result (WorksOn self.old.worker self.new.worker) }
-        ensures at_work { OnOk result (IsAtWork self.new.pair [] self.new.worker) }
-        ensures tally { OnOk result (HasTallied (V.measure job.now.graph.now) self.new.worker tally.new) }
-        ensures seen { OnOk result (HasSeenAll seen.new self.new.worker) }
+        ensures scanned { OnOk result (HasScanned (V.measure job.now.graph.now) self.old self.new seen.new tally.new) }
         ensures none { IfOk result (λ more. more ≡ false → HasNoneLeft self.new.pair self.new.worker) }
     {
         let Some(object) = self.next_object(rt, job.pool)? else {

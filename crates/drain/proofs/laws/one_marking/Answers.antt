@@ -1,6 +1,5 @@
 -- Two lists of marks have one length and agree at each object, as reachable leaves no choice.
-use Rattle.heap_graph.specs.ObjectGraph.{object_count}
-use Rattle.heap_graph.specs.Reachable.{IsReferenceOf, IsRootOf}
+use Rattle.drain.proofs.Words.{IsReferenceOf, IsRootOf, object_count}
 use Rattle.drain.proofs.OneMarking.{marks_determined}
 use Rattle.drain.proofs.laws.one_marking.Goals as goal
 

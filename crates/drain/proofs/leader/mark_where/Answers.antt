@@ -1,13 +1,9 @@
 -- The leader that closes the pool saw all roots and is free, so what the close tells of marks and tally is the answer.
-use Rattle.std.proofs.Common.{ap, rules, sym, subst, ◌∙◌, arith}
+use Rattle.drain.proofs.Words.{Book, IsMarkingOf, MarkedObjects, Setup, ap, arith, object_count, rules, subst, sym, ◌∙◌}
 use Rattle.mark_core.specs.Shares.{whole}
 use Rattle.buffer_pool.specs.Faults.{Refuses}
 use Rattle.buffer_pool.specs.Ranges.{IsInside}
-use Rattle.heap_graph.specs.ObjectGraph.{object_count}
-use Rattle.mark_core.specs.World.{Setup}
-use Rattle.buffer_pool.specs.Book.{Book}
 use Rattle.drain.specs.ExactlyReachable.{ExactlyReachable}
-use Rattle.drain.specs.Marks.{IsMarkingOf, MarkedObjects}
 use Rattle.drain.proofs.Closes.{exactly_marked, opened_setup}
 use Rattle.drain.proofs.Markings.{marking_of}
 use Rattle.drain.proofs.leader.mark_where.Goals as goal

@@ -1,10 +1,7 @@
 -- Neither worker finished more than there is, so no sum overflows, and the joined list is tallied by both.
-use Rattle.std.proofs.Common.{List, ap, arith, length, subst, sym, ◌∙◌, ◌≤◌, ℕ}
-use Rattle.mark_core.specs.World.{Setup}
-use Rattle.buffer_pool.specs.Book.{Book}
-use Rattle.buffer_pool.specs.Calls.{Holder}
-use Rattle.drain.specs.working.Tallying.{Tallies}
+use Rattle.drain.proofs.Words.{Book, Holder, ap, arith, sym, ◌∙◌}
 use Rattle.drain.proofs.Leading.{joined_free, took_in}
+use Rattle.drain.proofs.Scanning.{same_tally}
 use Rattle.drain.proofs.Tallies.{tally_is_small}
 use Rattle.drain.proofs.shares.join_share.Goals as goal
 
@@ -13,19 +10,12 @@ join-requires-clause-rows g c = c.requires.tally.each ∙ sym c.requires.back.ta
 
 pub join-requires-clause-small : goal.join-requires-clause-small
 join-requires-clause-small g c =
-    let leader = c.args.leader in
-    tally_is_small leader.worker.book.setup.objects (g.V.Measured.measure c.args.graph.now) c.requires.measure
-    leader.worker.book.account.finished c.recall_few_finished.ensures.few leader.tally.rows.items leader.tally.unresolved
-    c.requires.tally
+    tally_is_small c.requires.measure c.recall_few_finished.ensures.few c.requires.tally
 
 pub join-requires-clause-others : goal.join-requires-clause-others
 join-requires-clause-others g c =
-    let leader = c.args.leader.worker in
-    let back = c.args.back in
-    let few = subst (λ (e : Setup). length back.worker.book.account.finished ≤ e.objects) c.requires.back.setup
-    c.recall_few_finished-2.ensures.few in
-    tally_is_small leader.book.setup.objects (g.V.Measured.measure c.args.graph.now) c.requires.measure
-    back.worker.book.account.finished few back.tally.rows.items back.tally.unresolved c.requires.back.tally
+    let few = rw c.requires.back.setup at c.recall_few_finished-2.ensures.few in
+    tally_is_small c.requires.measure few c.requires.back.tally
 
 pub returns-clause-leads : goal.returns-clause-leads
 returns-clause-leads g c =
@@ -49,5 +39,4 @@ returns-clause-tally g c =
     let leader = c.args.leader.worker.book.account.finished in
     let back = c.args.back.worker.book.account.finished in
     let both = c.join.ensures m leader back c.requires.tally c.requires.back.tally in
-    let finished = ap (λ (h : Holder). h.book.account.finished) c.join-worker.ensures.together in
-    subst (λ (xs : List ℕ). Tallies m xs c.join.new.self) (sym finished) both
+    same_tally (ap (λ (h : Holder). h.book.account.finished) c.join-worker.ensures.together) both

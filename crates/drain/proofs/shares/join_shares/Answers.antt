@@ -1,8 +1,5 @@
 -- The worker that is joined is back for the leader still, and the rest goes on as it was.
-use Rattle.std.proofs.Common.{arith, get_or, subst, sym, ◌∙◌}
-use Rattle.std.specs.Vec.Iter.{into_iter_items, into_iter_len}
-use Rattle.mark_core.specs.World.{Setup}
-use Rattle.drain.specs.working.Tallies.{IsMeasureOf}
+use Rattle.drain.proofs.Words.{IsMeasureOf, Setup, arith, get_or, into_iter_items, into_iter_len, subst, sym, ◌∙◌}
 use Rattle.drain.proofs.Duties.{Back, back_still}
 use Rattle.drain.proofs.Each.{first_holds, others_hold}
 use Rattle.drain.proofs.Leading.{leads_again, leads_at_all}
@@ -31,11 +28,10 @@ join_share-leader-requires-clause-back g c =
     let m = g.V.Measured.measure c.args.graph.now in
     let begun = c.args.leader.worker in
     let now = c.loop-other.other-iterator in
-    let other = c.in-Some.other in
     let back =
-    first_holds (Back m begun) (into_iter_len now) (into_iter_items now) (into_iter_items c.next.new.self) other step.0
-    was.3 (omega (arith, step.1)) in
-    back_still m begun c.loop-other.leader.worker other.worker other.tally was.0.pool was.0.setup back
+    first_holds (Back m begun) (into_iter_len now) (into_iter_items now) (into_iter_items c.next.new.self)
+    c.in-Some.other step.0 was.3 (omega (arith, step.1)) in
+    back_still c.loop-other.leader.worker was.0.pool was.0.setup back
 
 pub join_share-leader-requires-clause-measure : goal.join_share-leader-requires-clause-measure
 join_share-leader-requires-clause-measure g c =
@@ -50,7 +46,7 @@ loop-other-preserved g c =
     let m = g.V.Measured.measure c.args.graph.now in
     let now = c.loop-other.other-iterator in
     let took = c.join_share-leader in (
-      leads_again begun c.loop-other.leader.worker took.result.worker was.0 took.ensures.leads,
+      leads_again was.0 took.ensures.leads,
       took.ensures.free,
       omega (arith, took.ensures.share, was.2, step.1),
       others_hold (Back m begun) (into_iter_len now) (into_iter_items now) (into_iter_items c.next.new.self)

@@ -1,9 +1,7 @@
 -- The leader took in those that were joined and is free, the others are back still, and its tally is of all that it has
 -- finished.
-use Rattle.std.proofs.Common.{◌≡◌, ◌<◌, ◌+◌, ℕ, get_or, vec_len}
-use Rattle.std.specs.Vec.Iter.{into_iter_items, into_iter_len}
-use Rattle.drain.specs.working.AtWork.{IsFree, Leads}
-use Rattle.drain.specs.working.Tallying.{HasTallied}
+use Rattle.drain.proofs.Words.{HasTallied, IsFree, Leads, get_or, into_iter_items, into_iter_len, vec_len, ℕ, ◌+◌, ◌<◌}
+use Rattle.drain.proofs.Words.{◌≡◌}
 use Rattle.drain.proofs.Duties.{Back}
 use Rattle.drain.proofs.shares.join_shares.Given as goal
 

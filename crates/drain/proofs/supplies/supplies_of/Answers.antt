@@ -1,5 +1,5 @@
 -- Each tally has as many rows as the graph's measure, so each is one of no object.
-use Rattle.std.proofs.Common.{arith, sym}
+use Rattle.drain.proofs.Words.{arith, sym}
 use Rattle.drain.proofs.supplies.supplies_of.Goals as goal
 
 pub returns-clause-tallies : goal.returns-clause-tallies

@@ -1,6 +1,5 @@
 -- There is room for each tally, and each one more is of no object, as those before it.
-use Rattle.std.proofs.Common.{[], All, arith, subst, sym}
-use Rattle.drain.specs.working.Tallying.{Tallies}
+use Rattle.drain.proofs.Words.{All, Tallies, [], arith, subst, sym}
 use Rattle.drain.proofs.Each.{more_hold}
 use Rattle.drain.proofs.supplies.tallies_of_none.Goals as goal
 

@@ -1,7 +1,5 @@
 -- Each tally so far is of no object.
-use Rattle.std.proofs.Common.{◌≡◌, ◌-◌, ◌≤◌, vec_capacity, vec_len}
-use Rattle.drain.specs.working.Tallies.{Measure}
-use Rattle.drain.specs.working.Tallying.{AreTalliesOfNone}
+use Rattle.drain.proofs.Words.{AreTalliesOfNone, Measure, vec_capacity, vec_len, ◌-◌, ◌≡◌, ◌≤◌}
 use Rattle.drain.proofs.supplies.tallies_of_none.Given as goal
 
 abbrev pub decreases-loop-alloc : goal.decreases-loop-alloc

@@ -1,7 +1,5 @@
 -- The thread that is joined kept its duty, so its worker is back, and the rest goes on as it was.
-use Rattle.std.proofs.Common.{arith, get_or, subst, sym}
-use Rattle.std.specs.Vec.Iter.{into_iter_items, into_iter_len}
-use Rattle.drain.specs.working.Duties.{AreBackUnder, IsDutyUnder}
+use Rattle.drain.proofs.Words.{AreBackUnder, IsDutyUnder, arith, get_or, into_iter_items, into_iter_len, subst, sym}
 use Rattle.drain.proofs.Duties.{Back, came_back}
 use Rattle.drain.proofs.Each.{first_holds, more_hold, others_hold}
 use Rattle.drain.proofs.worker_threads.join_all.Goals as goal
@@ -35,8 +33,7 @@ loop-thread-preserved g c =
           first_holds (λ t. IsDutyUnder graph leader t.promise) (into_iter_len now) (into_iter_items now)
           (into_iter_items c.next.new.self) thread step.0 here.0 (omega (arith, step.1)) in
           let m = g.V.Measured.measure graph in
-          let back = came_back g.V.Measured.measure graph leader joined.worker joined.tally thread.promise duty kept.0
-          kept.1 in (
+          let back = came_back g.V.Measured.measure joined.tally duty kept.0 kept.1 in (
             others_hold (λ t. IsDutyUnder graph leader t.promise) (into_iter_len now) (into_iter_items now)
                 (into_iter_items c.next.new.self) thread step.0 here.0 (into_iter_len c.next.new.self) step.1,
             subst (AreBackUnder m leader) (sym pushed.ensures.items)

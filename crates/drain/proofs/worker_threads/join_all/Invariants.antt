@@ -1,8 +1,6 @@
 -- Those that were joined are back for whatever leader all threads owe, the others are owed still, and there is room.
-use Rattle.std.proofs.Common.{◌≡◌, ◌<◌, ◌≤◌, ◌+◌, ℕ, get_or, vec_capacity, vec_len}
-use Rattle.std.specs.Vec.Iter.{into_iter_items, into_iter_len}
-use Rattle.buffer_pool.specs.Calls.{Holder}
-use Rattle.drain.specs.working.Duties.{AreBackUnder, IsDutyUnder}
+use Rattle.drain.proofs.Words.{AreBackUnder, Holder, IsDutyUnder, get_or, into_iter_items, into_iter_len, vec_capacity}
+use Rattle.drain.proofs.Words.{vec_len, ℕ, ◌+◌, ◌<◌, ◌≡◌, ◌≤◌}
 use Rattle.drain.proofs.worker_threads.join_all.Given as goal
 
 abbrev pub invariant-loop-thread : goal.invariant-loop-thread

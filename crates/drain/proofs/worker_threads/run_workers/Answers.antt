@@ -33,8 +33,4 @@ scoped-requires g c = record {
 }
 
 pub returns-clause-tally : goal.returns-clause-tally
-returns-clause-tally g c =
-    let m = g.V.Measured.measure c.args.job.now.graph.now in
-    let ready = c.args.ready in
-    same_tally m ready.paired.worker c.in_ok-worker.worker ready.supplies.tally c.in_ok-worker.ensures.1.1.0
-    c.requires.tally
+returns-clause-tally g c = same_tally c.in_ok-worker.ensures.1.1.0 c.requires.tally

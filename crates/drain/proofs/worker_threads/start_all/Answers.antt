@@ -1,6 +1,6 @@
 -- So far the leader gave a unit to each thread, and has one for the next.
-use Rattle.std.proofs.Common.{◌<◌, ◌∙◌, arith, rules, subst, sym}
-use Rattle.drain.specs.working.AtWork.{IsSetupOf}
+use Rattle.drain.proofs.Words.{arith, rules, ◌<◌, ◌∙◌}
+use Rattle.drain.proofs.Scanning.{same_setup}
 use Rattle.drain.proofs.worker_threads.start_all.Goals as goal
 
 pub start_next-requires-clause-pool : goal.start_next-requires-clause-pool
@@ -10,9 +10,7 @@ start_next-requires-clause-pool g c =
 
 pub start_next-requires-clause-setup : goal.start_next-requires-clause-setup
 start_next-requires-clause-setup g c =
-    let graph = c.args.job.now.graph.now in
-    let setup = subst (IsSetupOf (g.V.Edges.count graph) (g.V.Edges.roots graph) (g.V.Edges.pairs graph))
-    (sym c.loop-number.invariant.2.leads.setup) c.requires.setup in
+    let setup = same_setup c.loop-number.invariant.2.leads.setup c.requires.setup in
     search (rules, setup)
 
 pub start_next-requires-clause-share : goal.start_next-requires-clause-share

@@ -1,7 +1,5 @@
 -- So many threads were started, each with a unit of the leader's and a tally of its own.
-use Rattle.std.proofs.Common.{◌≡◌, ◌+◌, ◌≤◌, vec_len, vec_capacity}
-use Rattle.drain.specs.working.Duties.{HasStarted}
-use Rattle.drain.specs.working.Tallying.{AreTalliesOfNone}
+use Rattle.drain.proofs.Words.{AreTalliesOfNone, HasStarted, vec_capacity, vec_len, ◌+◌, ◌≡◌, ◌≤◌}
 use Rattle.drain.proofs.worker_threads.start_all.Given as goal
 
 abbrev pub invariant-loop-number : goal.invariant-loop-number

@@ -1,19 +1,14 @@
 -- The tally that is popped is of no object, as its worker's list; the thread owes a worker that was just split off.
-use Rattle.std.proofs.Common.{[], List, ap, length, option_to_list, rules, subst, sym, ◌++◌, ◌∙◌, ℕ, arith}
-use Rattle.buffer_pool.specs.Book.{Book}
-use Rattle.buffer_pool.specs.Calls.{Holder}
-use Rattle.drain.specs.working.AtWork.{IsSetupOf}
-use Rattle.drain.specs.working.Jobs.{MayWork}
-use Rattle.drain.specs.working.Tallying.{Tallies}
+use Rattle.drain.proofs.Words.{Book, Holder, MayWork, Tallies, [], ap, arith, length, option_to_list, rules, ◌++◌, ◌∙◌}
 use Rattle.drain.proofs.Each.{last_holds, left_hold}
 use Rattle.drain.proofs.Leading.{new_awake, new_free}
+use Rattle.drain.proofs.Scanning.{same_setup, same_tally}
 use Rattle.drain.proofs.Starting.{one_more_started}
 use Rattle.drain.proofs.worker_threads.start_next.Goals as goal
 
 pub start-requires-clause-may : goal.start-requires-clause-may
 start-requires-clause-may g c =
-    let graph = c.args.job.now.graph.now in
-    let m = g.V.Measured.measure graph in
+    let m = g.V.Measured.measure c.args.job.now.graph.now in
     let tally = c.in-Some.tally in
     let left = c.pop.new.self.items in
     let is = c.pop.ensures.items ∙ ap (λ r. left ++ option_to_list r) c.in-Some.is in
@@ -21,16 +16,13 @@ start-requires-clause-may g c =
     let worker = c.split-leader.result.1 in
     let pool = ap (λ (h : Holder). h.pool) c.split-leader.ensures.second in
     let book = ap (λ (h : Holder). h.book) c.split-leader.ensures.second in
-    let new = ap (λ (b : Book). b.account.finished) book in
-    let setup = ap (λ (b : Book). b.setup) book in
     let may : MayWork g.V.Edges.count g.V.Edges.roots g.V.Edges.pairs g.V.Measured.measure c.args.job.now worker tally =
     record {
       pool = pool ∙ c.requires.pool;
-      setup = subst (IsSetupOf (g.V.Edges.count graph) (g.V.Edges.roots graph) (g.V.Edges.pairs graph)) (sym setup)
-          c.requires.setup;
+      setup = same_setup (ap (λ (b : Book). b.setup) book) c.requires.setup;
       free = new_free worker c.args.starting.leader.book.setup 1 book;
       awake = new_awake worker c.args.starting.leader.book.setup book;
-      tally = subst (λ (xs : List ℕ). Tallies m xs tally) (sym new) none;
+      tally = same_tally (ap (λ (b : Book). b.account.finished) book) none;
     } in
     search (rules, may)
 
@@ -44,10 +36,8 @@ returns g c =
     let left = c.pop.new.self.items in
     let is = c.pop.ensures.items ∙ ap (λ r. left ++ option_to_list r) c.in-Some.is in
     record {
-      started = λ begun enough long so_far. one_more_started c.args.job.now.graph.now (λ t. t.promise) begun was.leader
-          split.result.0 split.result.1 was.threads.items pushed.new.self.items c.in_ok-thread.thread c.args.number
-          so_far enough (omega (arith, was.threads.ok, long)) pushed.ensures.items split.ensures.first
-          split.ensures.second owes.owes owes.graph;
+      started = λ begun enough long so_far. one_more_started so_far enough (omega (arith, was.threads.ok, long))
+          pushed.ensures.items split.ensures.first split.ensures.second owes.owes owes.graph;
       room = (omega (arith, pushed.ensures.len), omega (arith, pushed.ensures.capacity));
       tallies = (
         omega (arith, c.pop.ensures.len, ap (λ r. length (option_to_list r)) c.in-Some.is),

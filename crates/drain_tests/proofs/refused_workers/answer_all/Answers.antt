@@ -1,16 +1,14 @@
 -- Each worker has finished nothing, so its tally is of no object; the leader gave it a unit, and finished nothing.
-use Rattle.std.proofs.Common.{List, ap, arith, rules, subst, sym, ℕ}
+use Rattle.std.proofs.Common.{ap, arith, rules, sym}
 use Rattle.buffer_pool.specs.Calls.{Holder}
-use Rattle.drain.specs.working.Tallying.{Tallies}
+use Rattle.drain.proofs.Scanning.{same_tally}
 use Rattle.drain.proofs.Starting.{one_more_started}
 use Rattle.drain_tests.proofs.refused_workers.answer_all.Goals as goal
 
 pub answer-requires-clause-tally : goal.answer-requires-clause-tally
 answer-requires-clause-tally g c =
-    let m = g.V.Measured.measure c.args.graph.now in
-    let none = c.in_ok-tally.ensures m (sym c.rows.ensures) in
-    let new = ap (λ (h : Holder). h.book.account.finished) c.split-rest.ensures.second in
-    let had = subst (λ (xs : List ℕ). Tallies m xs c.in_ok-tally.tally) (sym new) none in
+    let none = c.in_ok-tally.ensures (g.V.Measured.measure c.args.graph.now) (sym c.rows.ensures) in
+    let had = same_tally (ap (λ (h : Holder). h.book.account.finished) c.split-rest.ensures.second) none in
     search (rules, had)
 
 pub loop-number-preserved : goal.loop-number-preserved
@@ -21,9 +19,7 @@ loop-number-preserved g c =
     let pushed = c.push_reserved in (
       omega (arith, pushed.ensures.len, was.0),
       omega (arith, pushed.ensures.capacity, was.1),
-      one_more_started c.args.graph.now (λ t. t.promise) c.args.leader c.loop-number.leader split.result.0
-          split.result.1 c.loop-number.threads.items pushed.new.self.items c.in_ok-thread.thread c.loop-number.number
-          was.2 (omega (arith, c.requires.share, c.loop-number-test.true))
+      one_more_started was.2 (omega (arith, c.requires.share, c.loop-number-test.true))
           (omega (arith, c.loop-number.threads.ok, was.0)) pushed.ensures.items split.ensures.first
           split.ensures.second owes.owes owes.graph,
     )

@@ -1,5 +1,5 @@
 -- The marks' own count of finished objects: each that was claimed is one of them.
-use Rattle.std.proofs.Common.{rules, ◌∙◌}
+use Rattle.drain.proofs.Words.{rules, ◌∙◌}
 use Rattle.drain.proofs.Counts.{finished_are_set}
 use Rattle.drain.proofs.marked.Marked.len.Goals as goal
 

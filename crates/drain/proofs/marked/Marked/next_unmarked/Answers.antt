@@ -1,10 +1,9 @@
 -- What is not finished is what is not marked, and there are as many marks.
-use Rattle.std.proofs.Common.{◌≡◌, ℕ, zero, suc, ◌≤◌, ◌-◌, ◌==◌, List, Bool, false, find, length, map, not, slice_index}
-use Rattle.std.proofs.Common.{slice_index_or, ap, sym, refl, ◌∙◌, arith, le-leb, Option}
+use Rattle.drain.proofs.Words.{AreFinished, Bool, List, MarkedObjects, Option, ap, arith, false, find, is_set, le-leb}
+use Rattle.drain.proofs.Words.{length, length-map, map, not, refl, slice_index, slice_index_or, suc, sym, zero, ℕ, ◌-◌}
+use Rattle.drain.proofs.Words.{◌==◌, ◌∙◌, ◌≡◌, ◌≤◌}
 use Rattle.std.proofs.Math.ListN.{get_or-map}
-use Rattle.std.proofs.lemmas.List.{length-map}
 use Rattle.std.specs.List.{range_with_len}
-use Rattle.drain.specs.Marks.{AreFinished, MarkedObjects, is_set}
 use Rattle.drain.proofs.marked.Marked.next_unmarked.Goals as goal
 
 -- the first of these that is not set, from a number on

@@ -1,16 +1,12 @@
 -- A publish goes on from the claims, so what was seen stays seen.
-use Rattle.std.proofs.Common.{Contains, subst}
-use Rattle.mark_core.specs.World.{Setup}
+use Rattle.drain.proofs.Words.{Contains, Setup, subst}
 use Rattle.drain.proofs.AtHand.{goes_on_again}
 use Rattle.drain.proofs.Outcomes.{on_ok}
 use Rattle.drain.proofs.paired_worker.PairedWorker.begin.Goals as goal
 
 pub returns-clause-goes_on : goal.returns-clause-goes_on
 returns-clause-goes_on g c =
-    let claimed = c.claim_roots.new.self.worker in
-    let new = c.publish.new.self.worker in
-    on_ok c.publish.result c.publish.ensures.goes_on
-    (goes_on_again c.args.self.now.worker claimed new c.in_ok-claim_roots.ensures.goes_on)
+    on_ok c.publish.result c.publish.ensures.goes_on (goes_on_again c.in_ok-claim_roots.ensures.goes_on)
 
 pub returns-clause-saw : goal.returns-clause-saw
 returns-clause-saw g c =

@@ -1,6 +1,5 @@
 -- The leader that has begun went on from the one that was opened.
-use Rattle.std.proofs.Common.{ap, sym, ◌∙◌}
-use Rattle.mark_core.specs.World.{Setup}
+use Rattle.drain.proofs.Words.{Setup, ap, sym, ◌∙◌}
 use Rattle.drain.proofs.AtHand.{goes_on_again}
 use Rattle.drain.proofs.paired_worker.PairedWorker.begun.Goals as goal
 
@@ -10,5 +9,4 @@ begin-requires-clause-roots g c =
 
 pub returns-clause-goes_on : goal.returns-clause-goes_on
 returns-clause-goes_on g c =
-    goes_on_again c.args.leader c.in_ok-paired.paired.worker c.begin.new.self.worker c.in_ok-paired.ensures.0
-    c.in_ok-begin.ensures.goes_on
+    goes_on_again c.in_ok-paired.ensures.0 c.in_ok-begin.ensures.goes_on

@@ -1,13 +1,11 @@
 -- What was white is in the worker's charge, beside what it had, and so may be put; what was marked changes nothing.
-use Rattle.std.proofs.Common.{sym, ◌∷◌, [], ◌∙◌}
-use Rattle.std.proofs.lemmas.Bool.{false≢true}
+use Rattle.drain.proofs.Words.{[], false≢true, sym, ◌∙◌, ◌∷◌}
 use Rattle.drain.proofs.AtHand.{backs, can_claim, claimed_busy, marked_claimed, white_at_hand, white_claimed}
 use Rattle.drain.proofs.paired_worker.PairedWorker.claim.Goals as goal
 
 pub claim-requires-clause-can : goal.claim-requires-clause-can
 claim-requires-clause-can g c =
-    can_claim c.args.self.now.pair c.requires.may.0 c.args.self.now.worker c.args.object c.requires.may.1.hand
-    c.requires.may.2
+    can_claim c.args.object c.requires.may.1.hand c.requires.may.2
 
 pub returns-then-not-claim : goal.returns-then-not-claim
 returns-then-not-claim g c =
@@ -21,7 +19,7 @@ put-requires-clause-backed g c =
     let white = told.event.2.0 c.if-not-claim.false in
     let hand = white_at_hand c.args.self.now.worker c.claim.new.worker told.pool c.args.object told.event.0
     told.event.1 white c.args.self.now.pair c.requires.may.0 c.requires.may.1.hand in
-    backs c.args.self.now.pair (c.args.object ∷ []) c.requires.may.0 c.claim.new.worker hand
+    backs (c.args.object ∷ []) c.requires.may.0 hand
 
 pub put-requires-clause-busy : goal.put-requires-clause-busy
 put-requires-clause-busy g c =

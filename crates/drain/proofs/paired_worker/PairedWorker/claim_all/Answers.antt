@@ -1,7 +1,5 @@
 -- Each object that is given may be claimed, and at the end all of them were given.
-use Rattle.std.proofs.Common.{[], ◌∷◌, ◌++◌, refl, rules, subst, sym, ◌∙◌}
-use Rattle.mark_core.specs.World.{Setup}
-use Rattle.drain.specs.working.AtWork.{MayClaim}
+use Rattle.drain.proofs.Words.{MayClaim, Setup, [], refl, rules, subst, sym, ◌++◌, ◌∙◌, ◌∷◌}
 use Rattle.drain.proofs.AtHand.{more_claimed, none_claimed}
 use Rattle.drain.proofs.Runs.{holds_of_next, met_all, runs_on}
 use Rattle.drain.proofs.paired_worker.PairedWorker.claim_all.Goals as goal
@@ -36,9 +34,7 @@ loop-object-preserved g c =
     let step = subst (λ r. g.I.Iterator.next_gives c.loop-object.objects r c.next.new.self) c.in-Some.is
     c.next.ensures.steps in
     let claimed =
-    more_claimed met.0 (c.in-Some.object ∷ []) c.args.self.now.pair c.loop-object.self.pair
-    c.claim_unless_seen.new.self.pair c.args.self.now.worker c.loop-object.self.worker
-    c.claim_unless_seen.new.self.worker met.2 c.in_ok-claim_unless_seen.ensures.claimed in (
+    more_claimed met.2 c.in_ok-claim_unless_seen.ensures.claimed in (
       search rules,
       search rules,
       (

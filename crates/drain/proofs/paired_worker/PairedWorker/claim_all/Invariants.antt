@@ -1,8 +1,5 @@
 -- What was met so far was claimed, and what is left ends.
-use Rattle.std.proofs.Common.{List, ℕ}
-use Rattle.std.specs.Iterator.{IsFinite, Yields, size}
-use Rattle.drain.specs.working.AtWork.{AreClaimed}
-use Rattle.drain.specs.working.RecentlySeen.{HasSeenAll}
+use Rattle.drain.proofs.Words.{AreClaimed, HasSeenAll, IsFinite, List, Yields, size, ℕ}
 use Rattle.drain.proofs.paired_worker.PairedWorker.claim_all.Given as goal
 
 abbrev pub invariant-loop-object : goal.invariant-loop-object

@@ -1,9 +1,6 @@
 -- What the object refers to may be claimed since it is at hand, and it is finished once all of that was seen.
-use Rattle.std.proofs.Common.{[], ◌∷◌, ◌++◌, ◌∙◌, ℕ, List, Contains, ap, rules, subst, sym}
-use Rattle.std.proofs.lemmas.List.Elements.{Contains-append_left, Contains-append_right}
-use Rattle.std.specs.Prelude.{option_to_list}
-use Rattle.mark_core.specs.World.{Setup}
-use Rattle.buffer_pool.specs.Book.{Book}
+use Rattle.drain.proofs.Words.{Book, Contains, Contains-append_left, Contains-append_right, List, Setup, [], ap}
+use Rattle.drain.proofs.Words.{option_to_list, rules, subst, sym, ℕ, ◌++◌, ◌∙◌, ◌∷◌}
 use Rattle.drain.proofs.AtHand.{all_claimable, may_finish, more_claimed, scanned, works, works_on_again}
 use Rattle.drain.proofs.paired_worker.PairedWorker.claim_and_finish.Goals as goal
 
@@ -20,18 +17,13 @@ claim_known-requires-clause-may g c =
 pub returns : goal.returns
 returns g c =
     let o = c.args.object in
-    let old = c.args.self.now.worker in
-    let first = c.claim_known.new.self in
-    let mid = c.claim_all.new.self in
-    let end = c.finish.new.worker in
-    let given = c.requires.exact.0 in
-    let are = more_claimed (option_to_list c.args.class) given c.args.self.now.pair first.pair mid.pair old first.worker
-    mid.worker c.in_ok-claim_known.ensures.claimed (c.in_ok-claim_all.ensures.claimed given c.requires.exact.1) in
+    let exact = c.requires.exact in
+    let are = more_claimed c.in_ok-claim_known.ensures.claimed (c.in_ok-claim_all.ensures.claimed exact.0 exact.1) in
     let at_work = are.at_work (o ∷ []) c.requires.at_work in
-    let done = scanned o mid.pair mid.worker at_work end c.finish.ensures.pool c.finish.ensures.event in
+    let done = scanned at_work c.finish.new.worker c.finish.ensures.pool c.finish.ensures.event in
     let one_more = ap (λ (b : Book). b.account.finished) c.finish.ensures.event in
     record {
-      goes_on = works_on_again old mid.worker end (works old mid.worker are.goes_on) done.0;
+      goes_on = works_on_again (works are.goes_on) done.0;
       at_work = done.1;
       finished = one_more ∙ ap (λ (xs : List ℕ). xs ++ o ∷ []) are.goes_on.finished;
       ended = c.in_ok-claim_all.ensures.ended;
@@ -56,12 +48,8 @@ claim_all-requires-clause-may g c =
 pub finish-requires-clause-can : goal.finish-requires-clause-can
 finish-requires-clause-can g c =
     let o = c.args.object in
-    let first = c.claim_known.new.self in
-    let mid = c.claim_all.new.self in
     let exact = c.requires.exact in
-    let are = more_claimed (option_to_list c.args.class) exact.0 c.args.self.now.pair first.pair mid.pair
-    c.args.self.now.worker first.worker mid.worker c.in_ok-claim_known.ensures.claimed
-    (c.in_ok-claim_all.ensures.claimed exact.0 exact.1) in
+    let are = more_claimed c.in_ok-claim_known.ensures.claimed (c.in_ok-claim_all.ensures.claimed exact.0 exact.1) in
     let pairs = ap (λ (e : Setup). e.pairs) are.goes_on.came.setup in
-    may_finish o mid.pair mid.worker (are.at_work (o ∷ []) c.requires.at_work)
+    may_finish (are.at_work (o ∷ []) c.requires.at_work)
     (λ s h. are.saw s ((exact.2 s).1 (subst (λ (ps : List (ℕ × ℕ)). Contains ps (o, s)) pairs h)))

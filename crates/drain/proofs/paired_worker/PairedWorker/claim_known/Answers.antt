@@ -1,8 +1,5 @@
 -- An object that is known is one of a list of one.
-use Rattle.std.proofs.Common.{[], Contains, subst, sym}
-use Rattle.std.proofs.lemmas.List.Elements.{All-contains, Contains-push}
-use Rattle.std.specs.Prelude.{option_to_list}
-use Rattle.drain.specs.working.AtWork.{MayClaim}
+use Rattle.drain.proofs.Words.{All-contains, Contains, Contains-push, MayClaim, [], option_to_list, subst, sym}
 use Rattle.drain.proofs.paired_worker.PairedWorker.claim_known.Goals as goal
 
 pub claim_unless_seen-requires-clause-may : goal.claim_unless_seen-requires-clause-may

@@ -1,8 +1,6 @@
 -- Each root may be claimed as a root, and behind the last place of the list each was seen.
-use Rattle.std.proofs.Common.{[], ◌∙◌, ◌≡◌, ℕ, List, Contains, slice_index, below_more, inl, subst, sym, arith}
-use Rattle.std.proofs.lemmas.List.{get_or_default}
-use Rattle.std.proofs.lemmas.List.Elements.{Contains-get_or, Contains-push}
-use Rattle.mark_core.specs.World.{Setup}
+use Rattle.drain.proofs.Words.{Contains, Contains-get_or, Contains-push, List, Setup, [], arith, below_more}
+use Rattle.drain.proofs.Words.{get_or_default, inl, slice_index, subst, sym, ℕ, ◌∙◌, ◌≡◌}
 use Rattle.drain.proofs.AtHand.{goes_on_again}
 use Rattle.drain.proofs.paired_worker.PairedWorker.claim_roots.Goals as goal
 
@@ -23,7 +21,7 @@ loop-root-preserved g c =
     let are = c.in_ok-claim.ensures in
     let new = c.claim.new.self.worker in
     let root = slice_index c.args.roots.now c.loop-root.root-index in (
-      goes_on_again c.args.self.now.worker c.loop-root.self.worker new was.0 are.goes_on,
+      goes_on_again was.0 are.goes_on,
       are.at_work [] was.1,
       below_more (λ (k : ℕ). Contains new.book.account.seen (slice_index c.args.roots.now k)) c.loop-root.root-index
           (λ k low. are.goes_on.came.seen (slice_index c.args.roots.now k) (was.2 k low))

@@ -1,6 +1,5 @@
 -- The roots before this place were seen, and the worker is at work.
-use Rattle.std.proofs.Common.{Contains, slice_index, [], ℕ, ◌<◌}
-use Rattle.drain.specs.working.AtWork.{GoesOn, IsAtWork}
+use Rattle.drain.proofs.Words.{Contains, GoesOn, IsAtWork, [], slice_index, ℕ, ◌<◌}
 use Rattle.drain.proofs.paired_worker.PairedWorker.claim_roots.Given as goal
 
 abbrev pub invariant-loop-root : goal.invariant-loop-root

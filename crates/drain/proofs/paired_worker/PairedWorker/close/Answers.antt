@@ -1,7 +1,5 @@
 -- A pair without items has none spilled, and what is disposed of leaves the worker free.
-use Rattle.std.proofs.Common.{[], refl, inl}
-use Rattle.work_pair.specs.PairState.{buffered_items, empty_pair, without_spill}
-use Rattle.work_pair.proofs.Calls.{none_first, none_last}
+use Rattle.drain.proofs.Words.{[], buffered_items, inl, none_first, none_last, refl}
 use Rattle.drain.proofs.AtHand.{dealt_goes_on, dealt_hand, gone_free, hand_without_spill}
 use Rattle.drain.proofs.paired_worker.PairedWorker.close.Goals as goal
 
@@ -20,9 +18,8 @@ returns-in-Ok-clause-through g c =
     let new = c.dispose.new.worker in
     let gone = c.in-Ok.ensures.gone in
     let none = c.requires.none in
-    let was = hand_without_spill p old none.0 c.requires.hand in
-    let hand = dealt_hand (without_spill p) old [] [] empty_pair new gone.0 []
-    (record { going = refl; third = refl }) was in (
-      (dealt_goes_on (without_spill p) old [] [] empty_pair new gone.0 c.in-Ok.ensures.pool).came,
-      gone_free new hand (gone.0.closed (gone.1 (none_last p.spill (buffered_items p) none.0)) none.1),
+    let was = hand_without_spill none.0 c.requires.hand in
+    let hand = dealt_hand old new gone.0 [] (record { going = refl; third = refl }) was in (
+      (dealt_goes_on old new gone.0 c.in-Ok.ensures.pool).came,
+      gone_free hand (gone.0.closed (gone.1 (none_last p.spill (buffered_items p) none.0)) none.1),
     )

@@ -6,11 +6,7 @@ use Rattle.drain.proofs.paired_worker.PairedWorker.end.Goals as goal
 pub returns-clause-through : goal.returns-clause-through
 returns-clause-through g c =
     let closed = c.in_ok-worker.ensures.through in
-    let drained = c.drain.new.self.worker in
-    (came_again c.args.self.worker drained c.in_ok-worker.worker c.in_ok-drain.ensures.goes_on.came closed.0, closed.1)
+    (came_again c.in_ok-drain.ensures.goes_on.came closed.0, closed.1)
 
 pub returns-clause-tally : goal.returns-clause-tally
-returns-clause-tally g c =
-    let m = g.V.Measured.measure c.args.job.now.graph.now in
-    same_tally m c.drain.new.self.worker c.in_ok-worker.worker c.drain.new.tally c.in_ok-worker.ensures.finished
-    c.in_ok-drain.ensures.tally
+returns-clause-tally g c = same_tally c.in_ok-worker.ensures.finished c.in_ok-drain.ensures.tally

@@ -1,6 +1,5 @@
 -- The worker has its pair still, and after so many turns twice as many loads: else nothing changed since it went idle.
-use Rattle.std.proofs.Common.{◌≡◌, ◌*◌}
-use Rattle.drain.specs.working.Idle.{IsIdling}
+use Rattle.drain.proofs.Words.{IsIdling, ◌*◌, ◌≡◌}
 use Rattle.drain.proofs.paired_worker.PairedWorker.finds_more.Given as goal
 
 abbrev pub invariant-loop-turn : goal.invariant-loop-turn

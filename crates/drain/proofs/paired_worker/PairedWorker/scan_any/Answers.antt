@@ -1,5 +1,5 @@
 -- A visit gives the references of its object, and tells at their end what is read of it.
-use Rattle.std.proofs.Common.{None}
+use Rattle.drain.proofs.Words.{None}
 use Rattle.drain.proofs.Visits.{are_given, behind_none}
 use Rattle.drain.proofs.paired_worker.PairedWorker.scan_any.Goals as goal
 

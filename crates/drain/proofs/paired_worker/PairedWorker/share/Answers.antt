@@ -1,6 +1,5 @@
 -- The look at the full stack comes first, and what was given is told of the book behind it.
-use Rattle.std.proofs.Common.{refl, sym, ◌∙◌}
-use Rattle.std.proofs.lemmas.Bool.{false≢true}
+use Rattle.drain.proofs.Words.{false≢true, refl, sym, ◌∙◌}
 use Rattle.drain.proofs.Outcomes.{on_ok}
 use Rattle.drain.proofs.paired_worker.PairedWorker.share.Goals as goal
 

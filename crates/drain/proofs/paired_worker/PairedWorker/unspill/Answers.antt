@@ -1,6 +1,5 @@
 -- Each object that is put again makes the list shorter, or is the last that is put.
-use Rattle.std.proofs.Common.{arith, length, sym, ◌∙◌, ⊎_elim}
-use Rattle.std.proofs.lemmas.Bool.{cases_lt, false≢true}
+use Rattle.drain.proofs.Words.{arith, cases_lt, false≢true, length, sym, ⊎_elim, ◌∙◌}
 use Rattle.drain.specs.working.Sharing.Unspills.{last, more, none}
 use Rattle.drain.proofs.AtHand.{goes_on_again}
 use Rattle.drain.proofs.Sharing.{none_of}
@@ -13,7 +12,7 @@ loop-self-preserved g c =
     let mid = c.unspill_one.new.self in
     let one = c.in_ok-unspill_one.ensures in
     let fewer = one.fewer.0 c.if-not-branch.false in (
-      goes_on_again c.args.self.now.worker old.worker mid.worker was.0 one.goes_on,
+      goes_on_again was.0 one.goes_on,
       one.at_work,
       λ new after rest. was.2 new after
           (more old.pair old.worker.book mid.pair mid.worker.book new after one.again fewer rest),

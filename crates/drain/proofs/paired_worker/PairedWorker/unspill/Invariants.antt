@@ -1,9 +1,5 @@
 -- What the rest of the list becomes, the whole list becomes; it gets shorter.
-use Rattle.std.proofs.Common.{[], length}
-use Rattle.buffer_pool.specs.Book.{Book}
-use Rattle.work_pair.specs.PairState.{PairState}
-use Rattle.drain.specs.working.AtWork.{GoesOn, IsAtWork}
-use Rattle.drain.specs.working.Sharing.{Unspills}
+use Rattle.drain.proofs.Words.{Book, GoesOn, IsAtWork, PairState, Unspills, [], length}
 use Rattle.drain.proofs.paired_worker.PairedWorker.unspill.Given as goal
 
 abbrev pub invariant-loop-self : goal.invariant-loop-self

@@ -1,9 +1,6 @@
 -- What was got from the list is put again, and the worker has at hand what it had.
-use Rattle.std.proofs.Common.{[], ◌∷◌, ◌∙◌, Some, ap, subst, sym}
+use Rattle.drain.proofs.Words.{Deals, Holder, IfSome, Some, [], ap, subst, sym, ◌∙◌, ◌∷◌}
 use Rattle.std.proofs.lemmas.Option.{same_Some}
-use Rattle.std.specs.Prelude.{IfSome}
-use Rattle.buffer_pool.specs.Calls.{Holder}
-use Rattle.work_pair.specs.Deals.{Deals}
 use Rattle.drain.proofs.AtHand.{backs, dealt}
 use Rattle.drain.proofs.Sharing.{last_of, puts_again, same_answer, spilled_items}
 use Rattle.drain.proofs.paired_worker.PairedWorker.unspill_one.Goals as goal
@@ -15,9 +12,8 @@ put-requires-clause-backed g c =
     let o = c.in-Some.object in
     let deals = subst (λ r. IfSome r (λ x. Deals c.args.self.now.pair old.book [] (x ∷ []) c.get.new.self got.book))
     c.in-Some.is c.in_ok-object.ensures.got in
-    let at_work = dealt c.args.self.now.pair old [] (o ∷ []) c.get.new.self got deals []
-    c.in_ok-object.ensures.going c.requires.at_work in
-    backs c.get.new.self (o ∷ []) [] got at_work.hand
+    let at_work = dealt old got deals [] c.in_ok-object.ensures.going c.requires.at_work in
+    backs (o ∷ []) [] at_work.hand
 
 pub unreachable-requires : goal.unreachable-requires
 unreachable-requires g c =

@@ -4,19 +4,9 @@ use Rattle.drain.proofs.paired_worker.PairedWorker.work_off.Goals as goal
 
 pub loop-preserved : goal.loop-preserved
 loop-preserved g c =
-    let old = c.loop.self.worker in
-    let end = c.turn.new.self.worker in
-    let turn = c.in_ok-turn.ensures in (
-      came_again c.share.new.self.worker old end c.loop.invariant.0 turn.came,
-      turn.hand,
-      turn.awake c.if-not-branch.false,
-      turn.seen,
-      turn.tally,
-    )
+    let turn = c.in_ok-turn.ensures in
+    (came_again c.loop.invariant.0 turn.came, turn.hand, turn.awake c.if-not-branch.false, turn.seen, turn.tally)
 
 pub returns-then-not-branch-clause-came : goal.returns-then-not-branch-clause-came
 returns-then-not-branch-clause-came g c =
-    let old = c.loop.self.worker in
-    let end = c.turn.new.self.worker in
-    let since = came_again c.share.new.self.worker old end c.loop.invariant.0 c.in_ok-turn.ensures.came in
-    came_again c.args.self.now.worker c.share.new.self.worker end c.in_ok-share.ensures.goes_on.came since
+    came_again c.in_ok-share.ensures.goes_on.came (came_again c.loop.invariant.0 c.in_ok-turn.ensures.came)

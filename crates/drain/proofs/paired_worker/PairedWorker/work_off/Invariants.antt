@@ -1,10 +1,6 @@
 -- Between two turns the worker is awake at its pair, with the one unit that it began with, and its tally and its table
 -- are of what it finished and saw.
-use Rattle.std.proofs.Common.{[]}
-use Rattle.drain.specs.working.AtWork.{CameFrom, HasAtHand}
-use Rattle.drain.specs.working.Idle.{IsAwake}
-use Rattle.drain.specs.working.RecentlySeen.{HasSeenAll}
-use Rattle.drain.specs.working.Tallying.{HasTallied}
+use Rattle.drain.proofs.Words.{CameFrom, HasAtHand, HasSeenAll, HasTallied, IsAwake, []}
 use Rattle.drain.proofs.paired_worker.PairedWorker.work_off.Given as goal
 
 abbrev pub invariant-loop : goal.invariant-loop

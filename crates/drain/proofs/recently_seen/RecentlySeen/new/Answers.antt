@@ -1,8 +1,7 @@
 -- No entry is at its place: that of place 0 is 1, and all others are 0.
 use native.Mathlib.Decide.{ℕ_discrete}
-use Rattle.std.proofs.Common.{◌≡◌, ℕ, ◌%◌, ◌<◌, ap, sym, ◌∙◌, arith, slice_index}
-use Rattle.std.specs.Prelude.{replicate, slice_set}
-use Rattle.std.proofs.lemmas.List.{get_or-replicate, get_or-set_other}
+use Rattle.drain.proofs.Words.{ap, arith, get_or-replicate, get_or-set_other, replicate, slice_index, slice_set, sym, ℕ}
+use Rattle.drain.proofs.Words.{◌%◌, ◌<◌, ◌∙◌, ◌≡◌}
 use Rattle.drain.proofs.recently_seen.RecentlySeen.new.Goals as goal
 
 -- place 0 has an object of place 1, and each other place one of place 0

@@ -1,7 +1,5 @@
 -- The rows so far have the sums of both, the others those that they had.
-use Rattle.std.proofs.Common.{length, slice_index_or, ℕ, ◌<◌, ◌≡◌, ◌≤◌}
-use Rattle.drain.specs.Sums.{no_object}
-use Rattle.drain.specs.working.Tallies.{together}
+use Rattle.drain.proofs.Words.{length, no_object, slice_index_or, together, ℕ, ◌<◌, ◌≡◌, ◌≤◌}
 use Rattle.drain.proofs.tally.Tally.join.Given as goal
 
 abbrev pub invariant-loop-row : goal.invariant-loop-row

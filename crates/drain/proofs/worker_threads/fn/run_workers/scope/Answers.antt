@@ -1,5 +1,5 @@
 -- The leader leads through the starts, and each unit that went is back from its thread.
-use Rattle.std.proofs.Common.{arith, ◌∙◌}
+use Rattle.drain.proofs.Words.{arith, ◌∙◌}
 use Rattle.drain.proofs.Duties.{back_still}
 use Rattle.drain.proofs.worker_threads.fn.run_workers.scope.Goals as goal
 
@@ -16,5 +16,5 @@ returns g c =
       share = started.1.share;
       count = came.count ∙ started.0;
       back = λ k d below.
-          back_still _ begun c.in_ok-started.started.leader _ _ leads.pool leads.setup (owed k d below);
+          back_still c.in_ok-started.started.leader leads.pool leads.setup (owed k d below);
     }
