@@ -10,19 +10,22 @@ use std::marker::Model;
 
 /// The identifiers that are left in the fields of an instance: those of a class, and then those of the classes above
 /// it that declare fields.
+// The order of the fields is for the compiler: other variants of the walk that this is one of have fields of a byte and
+// of four bytes where `next` and `own` lie. It keeps what lies there in such pieces, and would put these together again
+// for each identifier if the number of places were there.
 #[derive(Drop)]
 pub struct FieldIds<'g, A: Allocator> {
     objects: &'g Objects<'g, A>,
     plan: &'g Plan<A>,
-    /// Where those of the class stand in the values.
-    places: &'g [u32],
-    /// The values of the fields of the class, and of the classes above it.
-    values: &'g [u8],
-    /// How many bytes the values of the class have.
-    own: usize,
-    /// The first class above it that declares fields.
+    /// The first class above the one at hand that declares fields.
     next: Option<u32>,
-    /// That class, the first above it, and so on up.
+    /// How many bytes the values of the class at hand have.
+    own: usize,
+    /// Where those of the class at hand stand in the values.
+    places: &'g [u32],
+    /// The values of the fields of the class at hand, and of the classes above it.
+    values: &'g [u8],
+    /// The next class, the first above it, and so on up.
     ghost up: { Up objects.now.fates.items next } by { Up-prop objects.now.fates.items next },
 }
 
