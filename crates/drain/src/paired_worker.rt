@@ -94,6 +94,9 @@ impl<A: Allocator> PairedWorker<A> {
     }
 
     /// Claims an object, and puts it into the pair if it was white.
+    // Inlined with its callers into the loop over what an object refers to: as a call it would save registers and hand
+    // its result on for each reference.
+    #[inline(always)]
     fn claim<R: Wait>(&mut self, rt: &R, pool: &Pool<A>, object: u32) -> Result<(), Stop>
         requires pool { self.old.worker.pool ≡ pool.now }
         requires may { (besides : List ℕ) × IsAtWork self.old.pair besides self.old.worker
@@ -110,6 +113,7 @@ impl<A: Allocator> PairedWorker<A> {
     }
 
     /// Claims an object, unless the worker lately saw it marked: then a claim would change nothing.
+    #[inline(always)]
     fn claim_unless_seen<R: Wait>(
         &mut self,
         rt: &R,
@@ -137,6 +141,7 @@ impl<A: Allocator> PairedWorker<A> {
 
     /// Claims each object that the iterator gives until its end, unless it was lately seen, and puts those that were
     /// white into the pair.
+    #[inline(always)]
     fn claim_all<R: Wait, I: Iterator<Item = u32> + Drop>(
         &mut self,
         rt: &R,
@@ -213,6 +218,8 @@ impl<A: Allocator> PairedWorker<A> {
     }
 
     /// Gives some of what is in the pair to others, what is spilled first.
+    // A call, so that the many turns in which nothing is given neither save registers for it nor clear its locals.
+    #[inline(never)]
     fn give<R: Wait>(&mut self, rt: &R, pool: &Pool<A>) -> Result<(), Stop>
         requires pool { self.old.worker.pool ≡ pool.now }
         requires at_work { IsAtWork self.old.pair [] self.old.worker }
@@ -225,6 +232,7 @@ impl<A: Allocator> PairedWorker<A> {
     }
 
     /// Gives some of what is in the pair to others, if the full stack is seen empty.
+    #[inline(always)]
     fn share<R: Wait>(&mut self, rt: &R, pool: &Pool<A>) -> Result<(), Stop>
         requires pool { self.old.worker.pool ≡ pool.now }
         requires at_work { IsAtWork self.old.pair [] self.old.worker }
@@ -240,6 +248,7 @@ impl<A: Allocator> PairedWorker<A> {
     }
 
     /// Gets an object of the pair, or of the full stack: the worker has it at hand besides. `None` where none is left.
+    #[inline(always)]
     fn next_object<R: Wait>(&mut self, rt: &R, pool: &Pool<A>) -> Result<Option<u32>, Stop>
         requires pool { self.old.worker.pool ≡ pool.now }
         requires at_work { IsAtWork self.old.pair [] self.old.worker }

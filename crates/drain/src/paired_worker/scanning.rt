@@ -22,6 +22,7 @@ impl<A: Allocator> PairedWorker<A> {
     ghost use Rattle.drain.specs.working.Walk.{HasEnded, IsGiven};
 
     /// Claims an object that may be known, unless it was lately seen.
+    #[inline(always)]
     fn claim_known<R: Wait>(
         &mut self,
         rt: &R,
@@ -44,6 +45,7 @@ impl<A: Allocator> PairedWorker<A> {
     }
 
     /// Claims what the object at hand refers to, its class first where that is known, and then finishes it.
+    #[inline(always)]
     fn claim_and_finish<R: Wait, I: Iterator<Item = u32> + Drop>(
         &mut self,
         rt: &R,
