@@ -113,6 +113,7 @@ impl<A: Allocator> PairedWorker<A> {
     }
 
     /// Claims an object, unless the worker lately saw it marked: then a claim would change nothing.
+    // Inlined, as `claim` is.
     #[inline(always)]
     fn claim_unless_seen<R: Wait>(
         &mut self,
@@ -141,6 +142,7 @@ impl<A: Allocator> PairedWorker<A> {
 
     /// Claims each object that the iterator gives until its end, unless it was lately seen, and puts those that were
     /// white into the pair.
+    // Inlined, so that there is a loop of its own for references of each kind.
     #[inline(always)]
     fn claim_all<R: Wait, I: Iterator<Item = u32> + Drop>(
         &mut self,
@@ -232,6 +234,7 @@ impl<A: Allocator> PairedWorker<A> {
     }
 
     /// Gives some of what is in the pair to others, if the full stack is seen empty.
+    // Inlined: only the look is made in each turn of the worker's loop.
     #[inline(always)]
     fn share<R: Wait>(&mut self, rt: &R, pool: &Pool<A>) -> Result<(), Stop>
         requires pool { self.old.worker.pool ≡ pool.now }
@@ -248,6 +251,7 @@ impl<A: Allocator> PairedWorker<A> {
     }
 
     /// Gets an object of the pair, or of the full stack: the worker has it at hand besides. `None` where none is left.
+    // Inlined, as the common case of `Pair::get` is, which it hands on.
     #[inline(always)]
     fn next_object<R: Wait>(&mut self, rt: &R, pool: &Pool<A>) -> Result<Option<u32>, Stop>
         requires pool { self.old.worker.pool ≡ pool.now }

@@ -7,6 +7,7 @@ use id_index::IdIndex;
 use std::alloc::{AllocError, Allocator};
 
 /// The number of the object that an identifier names, none for 0.
+// Inlined, as the look-up is that it asks.
 #[inline(always)]
 pub(crate) fn target<A: Allocator>(index: &IdIndex<A>, id: u64) -> Option<u32>
     ensures { result ≡ target_in index.now id }

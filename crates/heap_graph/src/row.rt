@@ -20,7 +20,8 @@ pub enum RowKey {
 
 impl RowKey {
     /// The number of a row: the types 4 to 11 first, then the class objects, then the classes by their numbers.
-    #[inline(always)] // asked of each object that is marked
+    // Inlined: asked of each object that is marked.
+    #[inline(always)]
     pub fn number(self) -> usize
         ensures { result ≡ numbers.row_number self }
     {

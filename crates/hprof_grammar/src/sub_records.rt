@@ -187,7 +187,8 @@ fn root(reader: &mut Reader<'_>, id_size: u8, kind: RootKind) -> Result<(), Flaw
 }
 
 /// A whole sub-record, of which the tag says the kind.
-#[inline(always)] // in the one loop over all of them: as a call it took a third of the parse again
+// Inlined into the loops over all of them: as a call it took a third of the parse again.
+#[inline(always)]
 #[tactic(auto, unfolding(crate::specs::working::Reading::sub_record_at))]
 pub fn sub_record(reader: &mut Reader<'_>, id_size: u8) -> Result<Kind, Flaw>
     requires low { 1 ≤ id_size }

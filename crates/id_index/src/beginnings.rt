@@ -114,6 +114,7 @@ impl<A: Allocator> Beginnings<A> {
     /// About where the first run of a page stands among those of its bucket, from `begin` up to `end`: there it would
     /// be if their pages were as far from one another as they can be. It may be anywhere, where the product wraps:
     /// nothing rests on it but time.
+    // Inlined, as `around` is.
     #[inline(always)]
     pub(crate) fn guess(&self, page: u64, begin: usize, end: usize) -> usize
         requires shifted { self.now.shift < 64 }

@@ -46,6 +46,7 @@ impl<A: Allocator> Model for IdIndex<A> {
 
 impl<A: Allocator> IdIndex<A> {
     /// The number of the object that an identifier names, if an object bears it.
+    // Inlined into a worker's loop, which asks for each reference that is not 0.
     #[inline(always)]
     pub fn find(&self, id: u64) -> Option<u32>
         ensures { result ≡ position (λ x. x == id) self.now }

@@ -15,6 +15,7 @@ use std::alloc::Allocator;
 const MANY_RUNS: usize = 64;
 
 /// The number of the object at a place of a run, if the run has one there.
+// Inlined, as the look-up is.
 #[inline(always)]
 fn number_at_place(run: Run, place: u32) -> Option<u32>
     requires place { place < 64 }
@@ -30,6 +31,7 @@ fn number_at_place(run: Run, place: u32) -> Option<u32>
 }
 
 /// The number of the object with that identifier, if the run at an index has it and is the first one of its page.
+// Inlined, as the look-up is.
 #[inline(always)]
 fn number_at(runs: &[Run], at: usize, id: u64) -> Option<u32>
     requires { AreAscending runs.now }
@@ -82,6 +84,7 @@ fn searched(runs: &[Run], begin: usize, end: usize, near: usize, id: u64) -> Opt
 }
 
 /// The number of the object with that identifier in the first run that has it.
+// Inlined, as the `find` of an index is, which hands it on.
 #[inline(always)]
 pub(crate) fn first_bearer<A: Allocator>(
     runs: &[Run],

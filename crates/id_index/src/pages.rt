@@ -32,6 +32,7 @@ fn after_look(runs: &[Run], low: usize, high: usize, at: usize, page: u64) -> (u
 
 /// Two ends that have at most `MANY_RUNS` runs between them, where there may be more between these: those around a
 /// guess if it is a good one, else what is left after halving.
+// A call, so that what searches a few runs has no locals for halving many.
 #[inline(never)]
 fn narrowed(runs: &[Run], begin: usize, end: usize, near: usize, page: u64) -> (usize, usize)
     requires rise { DoPagesRise runs.now }

@@ -46,6 +46,7 @@ impl<A: Allocator> Model for RunIndex<A> {
 
 impl<A: Allocator> RunIndex<A> {
     /// The number of the object that an identifier names.
+    // Inlined, as the `find` of an index is, which hands it on.
     #[inline(always)]
     pub(crate) fn find(&self, id: u64) -> Option<u32>
         ensures { result ≡ position (λ x. x == id) self.now }

@@ -22,6 +22,7 @@ impl<A: Allocator> PairedWorker<A> {
     ghost use Rattle.drain.specs.working.Walk.{HasEnded, IsGiven};
 
     /// Claims an object that may be known, unless it was lately seen.
+    // Inlined, as `claim` is.
     #[inline(always)]
     fn claim_known<R: Wait>(
         &mut self,
@@ -45,6 +46,7 @@ impl<A: Allocator> PairedWorker<A> {
     }
 
     /// Claims what the object at hand refers to, its class first where that is known, and then finishes it.
+    // Inlined, as `scan` is.
     #[inline(always)]
     fn claim_and_finish<R: Wait, I: Iterator<Item = u32> + Drop>(
         &mut self,

@@ -107,6 +107,7 @@ impl<'d, A: Allocator> Classes<'d, A> {
             × Contains path.new.items first) }
     {
         let mut at = first;
+        // Named for its invariant.
         'up: loop {
             known[at as usize] = Fate::OnPath;
             path.push(at)?;

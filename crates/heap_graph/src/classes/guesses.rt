@@ -51,6 +51,7 @@ impl<A: Allocator> Guesses<A> {
     }
 
     /// The place of an identifier.
+    // Inlined, as `guess` is.
     #[inline(always)]
     fn place_of(&self, id: u64) -> usize
         ensures { result < length self.now }
@@ -67,6 +68,7 @@ impl<A: Allocator> Guesses<A> {
     }
 
     /// The number of the class at the place of that identifier.
+    // Inlined: asked of each instance and each object array that is marked.
     #[inline(always)]
     pub(crate) fn guess(&self, id: u64) -> u32 {
         self.places[self.place_of(id)]

@@ -65,6 +65,7 @@ impl<A: Allocator> ClassTable<A> {
     }
 
     /// Whether there is a class of that number and it has that identifier.
+    // Inlined, as `find` is.
     #[inline(always)]
     fn bears(&self, number: u32, id: u64) -> bool
         ensures below { result ≡ true → number < length self.now.entries }
@@ -77,7 +78,8 @@ impl<A: Allocator> ClassTable<A> {
     }
 
     /// The number of the class with that identifier, by the map.
-    #[inline(never)] // so that a look-up that was guessed has no locals for it
+    // A call, so that a look-up whose guess is right has no locals for it.
+    #[inline(never)]
     fn find_in_map(&self, id: u64) -> Option<u32>
         requires { length self.now.entries < 2 ^ 32 }
         ensures { result ≡ position (λ x. x == id) (ids_of self.now.entries) }
@@ -89,6 +91,7 @@ impl<A: Allocator> ClassTable<A> {
     }
 
     /// The number of the class with that identifier.
+    // Inlined, as the `find` of the classes is.
     #[inline(always)]
     fn find(&self, id: u64) -> Option<u32>
         requires { length self.now.entries < 2 ^ 32 }
@@ -115,6 +118,7 @@ impl<A: Allocator> ClassTable<A> {
 
 impl<'d, A: Allocator> Classes<'d, A> {
     /// The number of the class that an identifier names.
+    // Inlined: asked of each instance and each object array that is marked.
     #[inline(always)]
     pub(crate) fn find(&self, id: u64) -> Option<u32>
         requires { length self.now.table.entries < 2 ^ 32 }

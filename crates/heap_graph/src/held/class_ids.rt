@@ -68,6 +68,7 @@ impl<'g> ClassIds<'g> {
     ghost use Rattle.heap_graph.specs.References.{class_ids};
 
     /// Those of the class dump at a place.
+    // Inlined, as all that makes a visit.
     #[inline(always)]
     pub(crate) fn new(view: &View<'g>, at: u32) -> Self
         requires size { (1 ≤ view.now.id_size) × (view.now.id_size ≤ 8) }

@@ -49,6 +49,7 @@ impl<'g, A: Allocator> Model for FieldIds<'g, A> {
 
 /// The values of the fields of a class, which have so many bytes, and those of the classes above it, which stand behind
 /// them.
+// Inlined, as `next` is.
 #[inline(always)]
 fn by_class(values: &[u8], own: usize) -> (&[u8], &[u8])
     requires { own ≤ length values.now }
@@ -67,6 +68,7 @@ impl<'g, A: Allocator> FieldIds<'g, A> {
     ghost use Rattle.heap_graph.specs.working.ClassFates.{HaveFatesOf};
 
     /// Those of a layout, of an instance with these values. `first` is the first class with fields of that layout.
+    // Inlined, as all that makes a visit.
     #[inline(always)]
     pub(crate) fn new(
         objects: &'g Objects<'g, A>,
@@ -116,6 +118,7 @@ impl<'g, A: Allocator> Iterator for FieldIds<'g, A> {
 
     ghost remaining = { item_count (λ f. f) };
 
+    // Inlined into the loop of a worker, which asks for each reference of an instance.
     #[inline(always)]
     fn next(&mut self) -> Option<u64> {
         loop {

@@ -11,7 +11,8 @@ use byteorder::{BigEndian, ByteOrder};
 
 /// The big-endian number of `width` bytes at a place: the identifier there, where `width` is the size of identifiers.
 /// Each width that a field has is read at a width that is known here.
-#[inline(always)] // read for each reference that is followed: no call in the loops over them
+// Inlined: each reference that is followed is read so.
+#[inline(always)]
 pub fn number_at(bytes: &[u8], at: usize, width: usize) -> u64
     requires low { 1 ≤ width }
     requires high { width ≤ 8 }
