@@ -1,14 +1,9 @@
 -- Identifiers that agree in their lowest bits, by what stands above those.
-use Rattle.std.proofs.Common.{List, None, Option, Some, ap, arith, get_or, length, position}
-use Rattle.std.proofs.Common.{slice_get, sym, ℕ, ◌%◌, ◌*◌, ◌+◌, ◌/◌, ◌<◌, ◌^◌, ◌∙◌, ◌≡◌, ◌≢◌}
-use Rattle.std.specs.Prelude.{◌==◌}
-use Rattle.std.proofs.lemmas.Bool.{eq-eqb, eqb-false, eqb-true, ne_eqb}
-use Rattle.std.proofs.lemmas.List.{get_or-map, length-map}
-use Rattle.std.proofs.lemmas.List.Quantifiers.{position-Some}
-use Rattle.std.proofs.lemmas.Nat.{div-add-mod', div-mul-add, mod-mul-add}
-use Rattle.std.proofs.lemmas.Option.{get_or_from_slice_get, slice_get-get_or, slice_get_within}
-use Rattle.id_index.specs.Aligned.{whole_id, whole_ids}
-use Rattle.id_index.specs.Repeats.{IsFirstRepeat}
+use Rattle.id_index.proofs.Words.{IsFirstRepeat, List, None, Option, Some, ap, arith, div-add-mod', div-mul-add, eq-eqb}
+use Rattle.id_index.proofs.Words.{eqb-false, eqb-true, get_or, get_or-map, get_or_from_slice_get, length, length-map}
+use Rattle.id_index.proofs.Words.{mod-mul-add, ne_eqb, position, position-Some, slice_get, slice_get-get_or}
+use Rattle.id_index.proofs.Words.{slice_get_within, sym, whole_id, whole_ids, ℕ, ◌%◌, ◌*◌, ◌+◌, ◌/◌, ◌<◌, ◌==◌, ◌^◌}
+use Rattle.id_index.proofs.Words.{◌∙◌, ◌≡◌, ◌≢◌}
 use Rattle.id_index.proofs.Bearers.{before_in, in_before, absent, position_is, position_none}
 
 module _ (shift low : ℕ) (fits : low < 2 ^ shift) where

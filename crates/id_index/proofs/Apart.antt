@@ -1,19 +1,9 @@
 -- Runs that are apart stay so in another order, and ascending runs of a page stand in the order of their objects.
-use Rattle.std.proofs.Common.{IsPermutation, IsSorted, List, ap, arith, false, inl, inr, length, refl, subst, sym, ℕ}
-use Rattle.std.proofs.Common.{◌<◌, ◌∙◌, ◌≡◌, ◌≤◌, ◌⊎◌}
-use Rattle.std.specs.Prelude.{count_ones}
-use Rattle.std.specs.Cmp.{IsStrictWeakOrder}
-use Rattle.std.specs.List.{swap}
-use Rattle.std.specs.Ordering.{is_lt}
-use Rattle.std.proofs.lemmas.Bool.{cases_eq, cases_lt}
-use Rattle.std.proofs.lemmas.Bool.Decides.{nat_tests}
-use Rattle.std.proofs.lemmas.Cmp.{nat_cmp_total, on_total, then_total}
-use Rattle.std.proofs.lemmas.List.Edits.{length-swap, swapped_from_swap}
-use Rattle.std.proofs.lemmas.List.Sorted.{IsPermutation-keeps, ranks_by, sorted_far}
-use Rattle.std.proofs.lemmas.Nat.{zero_from_ones}
-use Rattle.id_index.specs.declared.runs.Run.{Run}
-use Rattle.id_index.specs.Building.{AreApart, AreInTurn, IsApart, run_cmp}
-use Rattle.id_index.specs.Runs.{DoPagesRise, end_of, no_run, page_in, run_in}
+use Rattle.id_index.proofs.Words.{AreApart, AreInTurn, DoPagesRise, IsApart, IsPermutation, IsPermutation-keeps}
+use Rattle.id_index.proofs.Words.{IsSorted, IsStrictWeakOrder, List, Run, ap, arith, cases_eq, cases_lt, count_ones}
+use Rattle.id_index.proofs.Words.{end_of, false, inl, inr, is_lt, length, length-swap, nat_cmp_total, nat_tests, no_run}
+use Rattle.id_index.proofs.Words.{on_total, page_in, ranks_by, refl, run_cmp, run_in, sorted_far, subst, swap}
+use Rattle.id_index.proofs.Words.{swapped_from_swap, sym, then_total, zero_from_ones, ℕ, ◌<◌, ◌∙◌, ◌≡◌, ◌≤◌, ◌⊎◌}
 use Rattle.id_index.proofs.Ones.{ones_of_bit}
 
 turned : (x y : Run) → IsApart x y → IsApart y x

@@ -1,20 +1,13 @@
 -- What the first run with an identifier says of the objects' identifiers.
-use Rattle.std.proofs.Common.{Bool, refl, Contains, List, None, Option, Some, arith, false, get_or, inl, inr, length}
-use Rattle.std.proofs.Common.{ap, position, slice_get, subst, sym, take, true, ℕ, ◌%◌, ◌+◌, ◌-◌, ◌/◌, ◌<◌, ◌∙◌, ◌≡◌}
-use Rattle.std.proofs.Common.{◌≢◌, ◌≤◌, ◌⊎◌}
-use Rattle.std.specs.Prelude.{◌==◌, IfSome, IsTrue, MatchOption, nat_lt, ◌↔◌, count_ones}
-use Rattle.std.specs.Int.{bit_at}
-use Rattle.std.specs.List.{position_or_len}
-use Rattle.std.proofs.lemmas.Bool.{lt-ltb, eqb-true, eqb-false, cond_above, cond_below, eq-eqb, ltb-true, ne_eqb}
-use Rattle.std.proofs.lemmas.List.{get_or_read, length-take}
-use Rattle.std.proofs.Math.Nat.{lt_of_not-le}
-use Rattle.std.proofs.lemmas.List.Quantifiers.{position-Some}
-use Rattle.std.proofs.lemmas.Grind.{common_steps}
-use Rattle.std.proofs.lemmas.List.Sums.{fails_before_first, position_or_len_is}
-use Rattle.std.proofs.lemmas.Option.{gets, get_or_from_slice_get, slice_get-get_or, slice_get_within}
-use Rattle.id_index.specs.declared.runs.Run.{Run}
-use Rattle.id_index.specs.Runs.{AreAscending, AreFewAPage, HasBearer, IsBearerAt, IsFirstBearer, IsFirstFrom, Tell}
-use Rattle.id_index.specs.Runs.{IsNumberAt, no_run, number_in, page_in, rank, run_in}
+use Rattle.id_index.proofs.Words.{AreAscending, AreFewAPage, Bool, Contains, HasBearer, IfSome, IsBearerAt}
+use Rattle.id_index.proofs.Words.{IsFirstBearer, IsFirstFrom, IsNumberAt, IsTrue, List, MatchOption, None, Option, Run}
+use Rattle.id_index.proofs.Words.{Some, Tell, ap, arith, bit_at, common_steps, cond_above, cond_below, count_ones}
+use Rattle.id_index.proofs.Words.{eq-eqb, eqb-false, eqb-true, fails_before_first, false, get_or, get_or_from_slice_get}
+use Rattle.id_index.proofs.Words.{get_or_read, gets, inl, inr, length, length-take, lt-ltb, lt_of_not-le, ltb-true}
+use Rattle.id_index.proofs.Words.{nat_lt, ne_eqb, no_run, number_in, page_in, position, position-Some, position_or_len}
+use Rattle.id_index.proofs.Words.{position_or_len_is, rank, refl, run_in, slice_get, slice_get-get_or, slice_get_within}
+use Rattle.id_index.proofs.Words.{subst, sym, take, true, ℕ, ◌%◌, ◌+◌, ◌-◌, ◌/◌, ◌<◌, ◌==◌, ◌↔◌, ◌∙◌, ◌≡◌, ◌≢◌, ◌≤◌}
+use Rattle.id_index.proofs.Words.{◌⊎◌}
 use Rattle.id_index.proofs.Ones.{rank_less_than_all}
 
 -- where a run stands

@@ -1,13 +1,7 @@
 -- Where the runs of a bucket stand.
-use Rattle.std.proofs.Common.{List, [], ap, inl, inr, arith, get_or, length, subst, sym, ℕ, ◌+◌, ◌++◌, ◌<◌, ◌∙◌, ◌∷◌}
-use Rattle.std.proofs.Common.{◌≡◌, ◌≤◌}
-use Rattle.std.proofs.Math.ListN.{get_or-append}
-use Rattle.std.proofs.Math.Nat.{eq-or-lt_of_le, lt_of_not-le}
-use Rattle.std.proofs.Math.Pow.{shr_mono}
-use Rattle.std.proofs.Math.Seq.{get_or-append_seam}
-use Rattle.id_index.specs.declared.runs.Run.{Run}
-use Rattle.id_index.specs.Runs.{DoPagesRise, page_in}
-use Rattle.id_index.specs.Beginnings.{IsAround, IsBeginning, bucket_of}
+use Rattle.id_index.proofs.Words.{DoPagesRise, IsAround, IsBeginning, List, Run, [], arith, bucket_of, cases_lt}
+use Rattle.id_index.proofs.Words.{eq-or-lt_of_le, get_or, get_or-append, get_or-append_seam, inl, inr, length}
+use Rattle.id_index.proofs.Words.{lt_of_not-le, page_in, shr_mono, ℕ, ◌++◌, ◌+◌, ◌<◌, ◌∷◌, ◌≡◌, ◌≤◌}
 
 -- buckets rise as pages do
 pub buckets_rise : (runs : List Run) (least shift i j : ℕ) → DoPagesRise runs → i ≤ j → j < length runs
@@ -28,17 +22,19 @@ pub around_bucket : (runs : List Run) (least shift page begin end : ℕ)
     → IsBeginning runs least shift (bucket_of least shift page + 1) end → IsAround runs page begin end
 around_bucket runs least shift page begin end here next = record {
   order =
-      let later : ¬ (end < begin) = λ (lt : end < begin).
-      let low : bucket_of least shift (page_in runs end) < bucket_of least shift page = here.before end lt in
-      let high : bucket_of least shift page + 1 ≤ bucket_of least shift (page_in runs end) =
-      next.behind end (omega arith) (omega (arith, lt, here.within)) in
-      omega (arith, low, high) in
-      omega (arith, lt_of_not-le {n = end + 1} {m = begin} (λ le. later (omega (arith, le))));
+      elim (cases_lt end begin) [
+        | inl lt ↦ absurd (omega (
+          arith,
+          here.before end lt,
+          next.behind end (omega arith) (omega (arith, lt, here.within)),
+        ))
+        | inr le ↦ le
+      ];
   within = next.within;
   before = λ k h. bucket_below least shift (page_in runs k) page (here.before k h);
   behind = λ k from below.
-      let high : bucket_of least shift page + 1 ≤ bucket_of least shift (page_in runs k) = next.behind k from below in
-      let less : page < page_in runs k = bucket_below least shift page (page_in runs k) (omega (arith, high)) in
+      let less : page < page_in runs k =
+      bucket_below least shift page (page_in runs k) (omega (arith, next.behind k from below)) in
       omega (arith, less);
 }
 
@@ -49,11 +45,6 @@ pub one_more : (runs : List Run) (least shift count at : ℕ) (starts : List ℕ
     → IsBeginning runs least shift b (get_or (starts ++ at ∷ []) b 0)
 one_more runs least shift count at starts len here each b h =
     elim (eq-or-lt_of_le {n = b} {m = count} (omega (arith, h))) [
-      | inl last ↦
-          let there : get_or (starts ++ at ∷ []) b 0 ≡ at =
-          ap (λ n. get_or (starts ++ at ∷ []) n 0) (last ∙ sym len) ∙ get_or-append_seam starts at [] 0 in
-          subst (λ (p : ℕ). IsBeginning runs least shift b p) (sym there)
-          (subst (λ (bucket : ℕ). IsBeginning runs least shift bucket at) (sym last) here)
-      | inr before ↦ subst (λ (p : ℕ). IsBeginning runs least shift b p)
-          (sym (get_or-append starts (at ∷ []) 0 b (omega (arith, before, len)))) (each b before)
+      | inl last ↦ rw (last, ← len, get_or-append_seam starts at [] 0, len) here
+      | inr before ↦ rw (get_or-append starts (at ∷ []) 0 b (omega (arith, before, len))) (each b before)
     ]

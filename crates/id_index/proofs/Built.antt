@@ -1,19 +1,10 @@
 -- Runs while they are made.
-use Rattle.std.proofs.Common.{List, None, Option, Some, [], ap, arith, inl, inr, length, length-append, refl, subst}
-use Rattle.std.proofs.Common.{sym, ℕ, ◌%◌, ◌*◌, ◌+◌, ◌++◌, ◌/◌, ◌<◌, ◌^◌, ◌∙◌, ◌∷◌, ◌≡◌, ◌≤◌}
-use Rattle.std.specs.Prelude.{bit_or}
-use Rattle.std.specs.Int.Bits.{or_zero_l}
-use Rattle.std.specs.Option.{option_to_list}
-use Rattle.std.proofs.Math.ListN.{get_or-append}
-use Rattle.std.proofs.Math.Seq.{get_or-append_seam}
-use Rattle.std.proofs.lemmas.Bool.{cases_eq}
-use Rattle.std.proofs.lemmas.List.{append-nil}
-use Rattle.std.proofs.lemmas.List.FromFn.{length-map-range_with_len}
-use Rattle.std.proofs.lemmas.Nat.{mod_below, one_shl, pow_pos}
-use Rattle.std.proofs.lemmas.Option.{slice_get_within}
-use Rattle.id_index.specs.declared.runs.Run.{Run}
-use Rattle.id_index.specs.Building.{AreBuilt, AreBuiltUpTo, AreFewBuilt, AreInTurn, AreOpen, ids_built, with_last}
-use Rattle.id_index.specs.Runs.{end_of, id_of_number, no_run, run_in, run_of}
+use Rattle.id_index.proofs.Words.{AreBuilt, AreBuiltUpTo, AreFewBuilt, AreInTurn, AreOpen, List, None, Option, Run}
+use Rattle.id_index.proofs.Words.{Some, [], ap, append-nil, arith, bit_or, cases_eq, end_of, get_or-append}
+use Rattle.id_index.proofs.Words.{get_or-append_seam, id_of_number, ids_built, inl, inr, length, length-append}
+use Rattle.id_index.proofs.Words.{length-map-range_with_len, mod_below, no_run, one_shl, option_to_list, or_zero_l}
+use Rattle.id_index.proofs.Words.{pow_pos, refl, run_in, run_of, slice_get_within, subst, sym, with_last, ℕ, ◌%◌, ◌*◌}
+use Rattle.id_index.proofs.Words.{◌++◌, ◌+◌, ◌/◌, ◌<◌, ◌^◌, ◌∙◌, ◌∷◌, ◌≡◌, ◌≤◌}
 use Rattle.id_index.proofs.Extending.{empty_complete, empty_sound, extend_complete, extend_sound, push_length}
 use Rattle.id_index.proofs.Numbering.{given_back}
 use Rattle.id_index.proofs.Ones.{ones_of_bit, ones_set}

@@ -1,16 +1,9 @@
 -- One more object: in a place above all others of the last run, or in a run of its own.
-use Rattle.std.proofs.Common.{List, Some, [], ap, arith, inl, inr, length, length-append, slice_get}
-use Rattle.std.proofs.Common.{subst, sym, ℕ, ◌%◌, ◌*◌, ◌+◌, ◌++◌, ◌/◌, ◌<◌, ◌^◌, ◌∙◌, ◌∷◌, ◌≡◌, ◌≢◌, ◌⊎◌}
-use Rattle.std.specs.Prelude.{bit_or, count_ones}
-use Rattle.std.specs.Int.{bit_at}
-use Rattle.std.proofs.lemmas.Bool.{cases_eq}
-use Rattle.std.proofs.lemmas.List.Elements.{Contains-append_left, Contains-push, Contains-push_cases}
-use Rattle.std.proofs.lemmas.Nat.{mod_below}
-use Rattle.std.proofs.lemmas.Nat.Bits.{bit_at-zero}
-use Rattle.std.proofs.lemmas.Grind.{common_steps}
-use Rattle.std.proofs.lemmas.Option.{gets}
-use Rattle.id_index.specs.declared.runs.Run.{Run}
-use Rattle.id_index.specs.Runs.{AreComplete, AreSound, HasBearer, number_in, run_of}
+use Rattle.id_index.proofs.Words.{AreComplete, AreSound, Contains-append_left, Contains-push, Contains-push_cases}
+use Rattle.id_index.proofs.Words.{HasBearer, List, Run, Some, [], ap, arith, bit_at, bit_at-zero, bit_or, cases_eq}
+use Rattle.id_index.proofs.Words.{common_steps, count_ones, gets, inl, inr, length, length-append, mod_below, number_in}
+use Rattle.id_index.proofs.Words.{run_of, slice_get, subst, sym, ℕ, ◌%◌, ◌*◌, ◌++◌, ◌+◌, ◌/◌, ◌<◌, ◌^◌, ◌∙◌, ◌∷◌, ◌≡◌}
+use Rattle.id_index.proofs.Words.{◌≢◌, ◌⊎◌}
 use Rattle.id_index.proofs.Ones.{rank_at_set, rank_below_set, set_before, set_elsewhere, set_here}
 
 -- ---- a list with one more
@@ -68,43 +61,40 @@ module _ (runs : List Run) (ids : List ℕ) (page first word id : ℕ) (at : pag
   number_there : number_in new (id % 64) ≡ length ids
   number_there = omega (arith, end, rank_at_set word (id % 64) inside above)
 
+  -- places below that one are as they were
+  as_before : (place : ℕ) → place < id % 64
+      → (bit_at new.places place ≡ bit_at word place) × (number_in new place ≡ number_in old place)
+  as_before place less = (
+    set_elsewhere word (id % 64) inside above place (λ e. omega (arith, e, less)),
+    ap (λ (r : ℕ). first + r) (rank_below_set word (id % 64) inside above place (omega (arith, less))),
+  )
+
   -- what the longer run had before
   had : (other : ℕ) → other % 64 ≢ id % 64 → HasBearer new other
       → HasBearer old other × (number_in new (other % 64) ≡ number_in old (other % 64))
   had other differs has =
       let set : bit_at word (other % 64) ≡ 1 =
       sym (set_elsewhere word (id % 64) inside above (other % 64) differs) ∙ has.set in
-      let less : other % 64 < id % 64 = set_before word (id % 64) inside above (other % 64) set in (
-        record { page = has.page; set = set },
-        ap (λ (r : ℕ). first + r) (rank_below_set word (id % 64) inside above (other % 64) (omega (arith, less))),
-      )
+      let it = as_before (other % 64) (set_before word (id % 64) inside above (other % 64) set) in
+      (record { page = has.page; set = set }, it.1)
 
   has_still : (other : ℕ) → HasBearer old other
       → HasBearer new other × (number_in new (other % 64) ≡ number_in old (other % 64))
   has_still other has =
-      let less : other % 64 < id % 64 = set_before word (id % 64) inside above (other % 64) has.set in (
-        record {
-          page = has.page;
-          set = set_elsewhere word (id % 64) inside above (other % 64) (λ e. omega (arith, e, less)) ∙ has.set;
-        },
-        ap (λ (r : ℕ). first + r) (rank_below_set word (id % 64) inside above (other % 64) (omega (arith, less))),
-      )
+      let it = as_before (other % 64) (set_before word (id % 64) inside above (other % 64) has.set) in
+      (record { page = has.page; set = it.0 ∙ has.set }, it.1)
 
   told : AreSound (runs ++ old ∷ []) ids → (other : ℕ) → HasBearer new other
       → slice_get (ids ++ id ∷ []) (number_in new (other % 64)) ≡ Some other
   told sound other has =
       elim (cases_eq (other % 64) (id % 64)) [
         | inl same ↦
-            let page_is : page ≡ other / 64 = has.page in
-            let one : other ≡ id = omega (arith, same, page_is, at) in
-            let number : number_in new (other % 64) ≡ length ids =
-            ap (λ (p : ℕ). number_in new p) same ∙ number_there in
-            ap (λ (n : ℕ). slice_get (ids ++ id ∷ []) n) number ∙ get_last ids id ∙ ap Some (sym one)
+            let one : other ≡ id = omega (arith, same, has.page, at) in
+            rw (one, number_there) (get_last ids id)
         | inr differs ↦
             let before = had other differs has in
-            ap (λ (n : ℕ). slice_get (ids ++ id ∷ []) n) before.1
-            ∙ get_kept ids id (number_in old (other % 64)) other
-            (sound old other (Contains-push runs old) before.0)
+            rw before.1 (get_kept ids id (number_in old (other % 64)) other
+            (sound old other (Contains-push runs old) before.0))
       ]
 
   pub extend_sound : AreSound (runs ++ old ∷ []) ids → AreSound (runs ++ new ∷ []) (ids ++ id ∷ [])
@@ -112,9 +102,7 @@ module _ (runs : List Run) (ids : List ℕ) (page first word id : ℕ) (at : pag
       elim (Contains-push_cases runs new run has) [
         | inl before ↦ get_kept ids id (number_in run (other % 64)) other
             (sound run other (Contains-append_left runs (old ∷ []) run before) bearer)
-        | inr same ↦ subst
-            (λ (l : Run). slice_get (ids ++ id ∷ []) (number_in l (other % 64)) ≡ Some other) same
-            (told sound other (subst (λ (l : Run). HasBearer l other) (sym same) bearer))
+        | inr same ↦ rw (← same) (told sound other (rw same bearer))
       ]
 
   pub extend_complete : AreComplete (runs ++ old ∷ []) ids → AreComplete (runs ++ new ∷ []) (ids ++ id ∷ [])
@@ -125,9 +113,7 @@ module _ (runs : List Run) (ids : List ℕ) (page first word id : ℕ) (at : pag
             elim (Contains-push_cases runs old run has) [
               | inl there ↦ (run, Contains-append_left runs (new ∷ []) run there, bearer, number)
               | inr same ↦
-                  let mine : HasBearer old other =
-                  subst (λ (l : Run). HasBearer l other) (sym same) bearer in
-                  let still = has_still other mine in (
+                  let still = has_still other (rw same bearer) in (
                     new,
                     Contains-push runs new,
                     still.0,
@@ -137,10 +123,7 @@ module _ (runs : List Run) (ids : List ℕ) (page first word id : ℕ) (at : pag
         | inr last ↦ (
           new,
           Contains-push runs new,
-          record {
-            page = at ∙ ap (λ (x : ℕ). x / 64) (sym last.1);
-            set = ap (λ (x : ℕ). bit_at new.places (x % 64)) last.1 ∙ set_here word (id % 64) inside above;
-          },
-          ap (λ (x : ℕ). number_in new (x % 64)) last.1 ∙ number_there ∙ sym last.0,
+          record { page = rw last.1 at; set = rw last.1 (set_here word (id % 64) inside above) },
+          rw last.1 (number_there ∙ sym last.0),
         )
       ]

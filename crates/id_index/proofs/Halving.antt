@@ -1,8 +1,6 @@
 -- What one look into ascending runs tells of all of them.
-use Rattle.std.proofs.Common.{List, arith, length, ℕ, ◌+◌, ◌<◌, ◌≤◌}
-use Rattle.id_index.specs.Beginnings.{IsAround}
-use Rattle.id_index.specs.declared.runs.Run.{Run}
-use Rattle.id_index.specs.Runs.{DoPagesRise, IsFirstFrom, page_in}
+use Rattle.id_index.proofs.Words.{DoPagesRise, IsAround, IsFirstFrom, List, Run, arith, length, page_in, ℕ, ◌+◌, ◌<◌}
+use Rattle.id_index.proofs.Words.{◌≤◌}
 
 module _ (runs : List Run) (up : DoPagesRise runs) (page low high at : ℕ)
     (around : IsAround runs page low high) (after : low ≤ at) (inside : at < high) where

@@ -1,15 +1,11 @@
 -- The objects of one list behind those of another.
-use Rattle.std.proofs.Common.{Contains, List, None, Option, Some, ap, arith, inl, inr, length, length-append}
-use Rattle.std.proofs.Common.{map, slice_get, subst, sym, ℕ, ◌%◌, ◌+◌, ◌++◌, ◌-◌, ◌<◌, ◌^◌, ◌∙◌, ◌≡◌, ◌≤◌}
-use Rattle.std.proofs.lemmas.Bool.{cases_lt}
-use Rattle.std.proofs.lemmas.Grind.{common_steps}
-use Rattle.std.proofs.lemmas.List.{append-nil, get_or-append-add, get_or-map, get_or_append_left, length-map}
-use Rattle.std.proofs.lemmas.List.Elements.{Contains-append_cases, Contains-append_left, Contains-append_right}
-use Rattle.std.proofs.lemmas.List.Elements.{Contains-get_or}
-use Rattle.std.proofs.lemmas.Option.{gets}
-use Rattle.id_index.specs.declared.runs.Run.{Run}
-use Rattle.id_index.specs.Building.{AreBuilt, AreFewBuilt, AreInTurn, ids_built, raised_by, with_last}
-use Rattle.id_index.specs.Runs.{AreComplete, AreSound, HasBearer, end_of, ids_of_runs, no_run, number_in, run_in}
+use Rattle.id_index.proofs.Words.{AreBuilt, AreComplete, AreFewBuilt, AreInTurn, AreSound, Contains}
+use Rattle.id_index.proofs.Words.{Contains-append_cases, Contains-append_left, Contains-append_right, Contains-get_or}
+use Rattle.id_index.proofs.Words.{HasBearer, List, None, Option, Run, Some, ap, append-nil, arith, cases_lt}
+use Rattle.id_index.proofs.Words.{common_steps, end_of, get_or-append-add, get_or-map, get_or_append_left, gets}
+use Rattle.id_index.proofs.Words.{ids_built, ids_of_runs, inl, inr, length, length-append, length-map, map, no_run}
+use Rattle.id_index.proofs.Words.{number_in, raised_by, run_in, slice_get, subst, sym, with_last, ℕ, ◌%◌, ◌++◌, ◌+◌}
+use Rattle.id_index.proofs.Words.{◌-◌, ◌<◌, ◌^◌, ◌∙◌, ◌≡◌, ◌≤◌}
 use Rattle.id_index.proofs.Built.{all_built, gives, ids_count}
 
 -- ---- one list behind another
@@ -73,7 +69,7 @@ module _ (xs ys : List Run) (ids more : List ℕ) where
         | inl here ↦ get_first ids more (number_in run (id % 64)) id (first run id here bearer)
         | inr there ↦
             let (own, is, same) = lowered run there in
-            let mine : HasBearer (raised own) id = subst (λ (l : Run). HasBearer l id) (sym same) bearer in
+            let mine : HasBearer (raised own) id = rw same bearer in
             let told = second own id is (record { page = mine.page; set = mine.set }) in
             let number : length ids + number_in own (id % 64) ≡ number_in run (id % 64) =
             omega (arith, ap (λ (l : Run). number_in l (id % 64)) same) in
@@ -170,14 +166,12 @@ module _ (xs ys : List Run) (last next : Option Run) (count many : ℕ)
   pub both_runs : (runs front more : List Run) → runs ≡ front ++ map (raised_by count) more
       → front ≡ with_last xs last → more ≡ with_last ys next → runs ≡ both
   both_runs runs front more are closed closed_more =
-      are ∙ ap (λ (ls : List Run). ls ++ map (raised_by count) more) closed
-      ∙ ap (λ (ls : List Run). with_last xs last ++ map (raised_by count) ls) closed_more
+      rw (are, closed, closed_more)
 
   all_both : AreBuilt both (ids_built xs last count ++ ids_built ys next many)
   all_both =
-      subst (λ (n : ℕ). AreBuilt (with_last xs last ++ map (raised_by n) (with_last ys next))
-      (ids_built xs last count ++ ids_built ys next many)) (ids_count xs last count)
-      (joined (with_last xs last) (with_last ys next) (ids_built xs last count) (ids_built ys next many)
+      rw (ids_count xs last count)
+      at (joined (with_last xs last) (with_last ys next) (ids_built xs last count) (ids_built ys next many)
       (all_built xs last (ids_built xs last count) it.built) (all_built ys next (ids_built ys next many) other.built))
 
   pub joined_ids : ids_built xs last count ++ ids_built ys next many ≡ ids_built both None (count + many)

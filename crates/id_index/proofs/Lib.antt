@@ -1,3 +1,4 @@
+pub mod Words
 pub mod Buckets
 pub mod Halving
 pub mod Ones

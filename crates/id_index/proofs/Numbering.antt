@@ -1,22 +1,11 @@
 -- The identifiers that runs give back.
-use Rattle.std.proofs.Common.{Bool, List, Some, ap, arith, false, get_or, length, slice_get, subst, sym, true, ℕ}
-use Rattle.std.proofs.Common.{◌%◌, ◌/◌, ◌<◌, ◌∙◌, ◌≡◌}
-use Rattle.std.specs.Prelude.{nat_lt}
-use Rattle.std.specs.Int.{bit_at}
-use Rattle.std.specs.List.{find, position_or_len, range_with_len}
-use Rattle.std.specs.Option.{option_map_or}
-use Rattle.std.proofs.Math.Nat.{lt_of_not-le}
-use Rattle.std.proofs.lemmas.Bool.{lt-ltb, ltb-true}
-use Rattle.std.proofs.lemmas.Bool.Decides.{nat_tests}
-use Rattle.std.proofs.lemmas.List.FromFn.{fill_by_all, get_or-range_with_len, length-range_with_len}
-use Rattle.std.proofs.lemmas.List.Folds.{find_at}
-use Rattle.std.proofs.lemmas.List.Elements.{Contains-get_or}
-use Rattle.std.proofs.lemmas.List.Sums.{fails_before_first, passes_at_first}
-use Rattle.std.proofs.lemmas.Nat.{div-mul-add, mod-mul-add, mod_below}
-use Rattle.std.proofs.lemmas.Option.{get_or_from_slice_get, slice_get-get_or}
-use Rattle.id_index.specs.declared.runs.Run.{Run}
-use Rattle.id_index.specs.Runs.{AreComplete, AreSound, HasBearer, id_in, id_of_number, ids_of_runs, no_run, number_in}
-use Rattle.id_index.specs.Runs.{place_of, stands_at}
+use Rattle.id_index.proofs.Words.{AreComplete, AreSound, Bool, Contains-get_or, HasBearer, List, Run, Some, ap, arith}
+use Rattle.id_index.proofs.Words.{bit_at, div-mul-add, fails_before_first, false, fill_by_all, find, find_at, get_or}
+use Rattle.id_index.proofs.Words.{get_or-range_with_len, get_or_from_slice_get, id_in, id_of_number, ids_of_runs}
+use Rattle.id_index.proofs.Words.{length, length-range_with_len, lt-ltb, lt_of_not-le, ltb-true, mod-mul-add, mod_below}
+use Rattle.id_index.proofs.Words.{nat_lt, nat_tests, no_run, number_in, option_map_or, passes_at_first, place_of}
+use Rattle.id_index.proofs.Words.{position_or_len, range_with_len, slice_get, slice_get-get_or, stands_at, subst, sym}
+use Rattle.id_index.proofs.Words.{true, ℕ, ◌%◌, ◌/◌, ◌<◌, ◌∙◌, ◌≡◌}
 
 passes_both : (run : Run) (n p : ℕ) → bit_at run.places p ≡ 1 → number_in run p ≡ n → stands_at run n p ≡ true
 passes_both run n p set number = grind (arith, nat_tests)
@@ -70,14 +59,9 @@ number_id runs ids n sound complete h =
     let id : ℕ = id_in n found in
     let page : found.page ≡ id / 64 = sym (div-mul-add found.page 64 place below) in
     let rest : id % 64 ≡ place = mod-mul-add found.page 64 place below in
-    let has : HasBearer found id = record {
-      page = page;
-      set = subst (λ (p : ℕ). bit_at found.places p ≡ 1) (sym rest) here.0;
-    } in
-    let number : number_in found (id % 64) ≡ n = ap (λ (p : ℕ). number_in found p) rest ∙ here.1 in
-    let told : slice_get ids n ≡ Some id =
-    subst (λ (m : ℕ). slice_get ids m ≡ Some id) number
-    (sound found id (Contains-get_or runs at no_run inside) has) in
+    let has : HasBearer found id = record { page = page; set = rw rest here.0 } in
+    let number : number_in found (id % 64) ≡ n = rw rest here.1 in
+    let told : slice_get ids n ≡ Some id = rw number at (sound found id (Contains-get_or runs at no_run inside) has) in
     let read : find test runs ≡ Some found = find_at test runs ∙ slice_get-get_or runs at no_run inside in
     get_or_from_slice_get ids n id 0 told ∙ sym (ap (λ o. option_map_or (id_in n) o 0) read)
 

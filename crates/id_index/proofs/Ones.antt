@@ -1,16 +1,10 @@
 -- How many bits of a number are set below a place.
-use Rattle.std.proofs.Common.{arith, ap, inl, inr, subst, suc, sym, zero, ℕ, ◌%◌, ◌*◌, ◌+◌, ◌-◌, ◌/◌, ◌<◌, ◌^◌}
-use Rattle.std.proofs.Common.{◌∙◌, ◌≡◌, ◌≢◌, ◌≤◌, ◌⊎◌}
-use Rattle.std.specs.Prelude.{bit_and, bit_or, count_ones}
-use Rattle.std.specs.Int.{bit_at, w64}
-use Rattle.std.proofs.Math.Nat.{div-eq_of_lt, le-max_left, lt_of_not-le, mul-mod_left}
-use Rattle.std.proofs.lemmas.Bool.{cases_lt}
-use Rattle.std.specs.Int.Bits.{or_shifted_r}
-use Rattle.std.proofs.lemmas.Nat.{and_comm, and_mask, and_or_self, le_or_l, mod-pow-add, mod_below, one_shl, ones_cat}
-use Rattle.std.proofs.lemmas.Nat.{pow-add, pow_pos, shl-shr, shl_below, shr_split}
-use Rattle.std.proofs.lemmas.Nat.Bits.{bit_at-lt, bit_at_above, bit_at_or, bit_at_set_other, bit_at_set_same}
-use Rattle.std.proofs.lemmas.Nat.Bits.{same_from_bits_below}
-use Rattle.id_index.specs.Runs.{rank}
+use Rattle.id_index.proofs.Words.{and_comm, and_mask, and_or_self, ap, arith, bit_and, bit_at, bit_at-lt, bit_at_above}
+use Rattle.id_index.proofs.Words.{bit_at_or, bit_at_set_other, bit_at_set_same, bit_or, cases_lt, count_ones}
+use Rattle.id_index.proofs.Words.{div-eq_of_lt, inl, inr, le-max_left, le_or_l, lt_of_not-le, mod-pow-add, mod_below}
+use Rattle.id_index.proofs.Words.{mul-mod_left, one_shl, ones_cat, or_shifted_r, pow-add, pow_pos, rank}
+use Rattle.id_index.proofs.Words.{same_from_bits_below, shl-shr, shl_below, shr_split, subst, suc, sym, w64, zero, ℕ}
+use Rattle.id_index.proofs.Words.{◌%◌, ◌*◌, ◌+◌, ◌-◌, ◌/◌, ◌<◌, ◌^◌, ◌∙◌, ◌≡◌, ◌≢◌, ◌≤◌, ◌⊎◌}
 
 zero_or_one : (b : ℕ) → b < 2 → (b ≡ 0) ⊎ (b ≡ 1)
 zero_or_one b h = grind arith
@@ -117,55 +111,38 @@ module _ (n place : ℕ) (inside : place < 64) where
 
 -- ---- more bits
 
--- where each bit of one number is set in another, the other's set bits below a place are no fewer, and gain on the way
-gains : (a c i d : ℕ) → ((p : ℕ) → bit_at a p ≤ bit_at c p) → rank a (i + d) + rank c i ≤ rank c (i + d) + rank a i
-gains a c i zero all =
-    let e : i + 0 ≡ i = omega arith in
-    subst (λ (m : ℕ). rank a m + rank c i ≤ rank c m + rank a i) (sym e) (omega arith)
-gains a c i (suc d) all =
-    let e : i + suc d ≡ i + d + 1 = omega arith in
-    subst (λ (m : ℕ). rank a m + rank c i ≤ rank c m + rank a i) (sym e)
-    (omega (arith, gains a c i d all, rank_more a (i + d), rank_more c (i + d), all (i + d)))
+-- the other has no fewer bits set below a place, and as many only where they are the same
+abbrev AreNoFewer : ℕ → ℕ → ℕ → Type 0
+AreNoFewer a c k = (rank a k ≤ rank c k) × (rank a k ≡ rank c k → (p : ℕ) → p < k → bit_at a p ≡ bit_at c p)
 
-more_ones : (a c p : ℕ) → ((q : ℕ) → bit_at a q ≤ bit_at c q) → a < 2 ^ 64 → c < 2 ^ 64 → p < 64
-    → bit_at a p < bit_at c p → count_ones a < count_ones c
-more_ones a c p all fits_a fits_c inside less =
-    let begin : 0 + p ≡ p = omega arith in
-    let start : rank a p + rank c 0 ≤ rank c p + rank a 0 =
-    subst (λ (m : ℕ). rank a m + rank c 0 ≤ rank c m + rank a 0) begin (gains a c 0 p all) in
-    let e : p + 1 + (64 - (p + 1)) ≡ 64 = omega (arith, inside) in
-    let rest : rank a 64 + rank c (p + 1) ≤ rank c 64 + rank a (p + 1) =
-    subst (λ (m : ℕ). rank a m + rank c (p + 1) ≤ rank c m + rank a (p + 1)) e
-    (gains a c (p + 1) (64 - (p + 1)) all) in
-    omega (
-      arith,
-      start,
-      rest,
-      less,
-      rank_none a,
-      rank_none c,
-      rank_more a p,
-      rank_more c p,
-      rank_whole a 64 fits_a,
-      rank_whole c 64 fits_c,
-    )
+-- so it is where each bit of one number is set in the other
+no_fewer : (a c k : ℕ) → ((p : ℕ) → bit_at a p ≤ bit_at c p) → AreNoFewer a c k
+no_fewer a c zero all = (omega (arith, rank_none a, rank_none c), λ same p h. absurd (omega (arith, h)))
+no_fewer a c (suc k) all =
+    let below = no_fewer a c k all in
+    let less : rank a (k + 1) ≤ rank c (k + 1) =
+    omega (arith, below.0, rank_more a k, rank_more c k, all k) in
+    let bits : rank a (k + 1) ≡ rank c (k + 1) → (p : ℕ) → p < k + 1 → bit_at a p ≡ bit_at c p =
+    λ same p h. elim (cases_lt p k) [
+      | inl before ↦ below.1 (omega (arith, same, below.0, rank_more a k, rank_more c k, all k)) p before
+      | inr from ↦
+          let last : p ≡ k = omega (arith, from, h) in
+          rw last (omega (arith, same, below.0, rank_more a k, rank_more c k, all k))
+    ] in
+    subst (λ (m : ℕ). AreNoFewer a c m) (omega arith) (less, bits)
 
 -- bits that are not all there yet are more bits
 pub ones_grow : (a b : ℕ) → bit_or a b < 2 ^ 64 → bit_and b a ≢ b → count_ones a < count_ones (bit_or a b)
 ones_grow a b fits some =
     let c : ℕ = bit_or a b in
     let fits_a : a < 2 ^ 64 = omega (arith, fits, le_or_l a b) in
-    let all : (p : ℕ) → bit_at a p ≤ bit_at c p =
-    λ p. omega (arith, bit_at_or a b p, le-max_left (bit_at a p) (bit_at b p)) in
+    let ranks = no_fewer a c 64 (λ p. omega (arith, bit_at_or a b p, le-max_left (bit_at a p) (bit_at b p))) in
     elim (cases_lt (count_ones a) (count_ones c)) [
       | inl more ↦ more
       | inr none ↦
-          let bits : (p : ℕ) → p < 64 → bit_at a p ≡ bit_at c p =
-          λ p inside. elim (cases_lt (bit_at a p) (bit_at c p)) [
-            | inl less ↦ absurd (omega (arith, none, more_ones a c p all fits_a fits inside less))
-            | inr from ↦ omega (arith, from, all p)
-          ] in
-          let same : a ≡ c = same_from_bits_below 64 a c fits_a fits bits in
+          let even : rank a 64 ≡ rank c 64 =
+          omega (arith, none, ranks.0, rank_whole a 64 fits_a, rank_whole c 64 fits) in
+          let same : a ≡ c = same_from_bits_below 64 a c fits_a fits (ranks.1 even) in
           absurd (some (and_comm b a ∙ ap (λ (x : ℕ). bit_and x b) same ∙ and_or_self b a))
     ]
 

@@ -1,18 +1,11 @@
 -- Repeats among ascending runs, and the first object whose identifier an earlier one bears.
-use Rattle.std.proofs.Common.{Contains, List, Some, ap, arith, inl, inr, length, min, refl, slice_get, subst}
-use Rattle.std.proofs.Common.{sym, take, ℕ, ◌%◌, ◌*◌, ◌+◌, ◌-◌, ◌/◌, ◌<◌, ◌^◌, ◌∙◌, ◌≡◌, ◌≢◌, ◌≤◌}
-use Rattle.std.specs.Prelude.{bit_and, count_ones}
-use Rattle.std.specs.Int.{bit_at, trailing_zeros, w64}
-use Rattle.std.proofs.Math.Nat.{min-eq_left, min-eq_right, min-le_left, min-le_right}
-use Rattle.std.proofs.lemmas.Bool.{cases_lt, cases_order}
-use Rattle.std.proofs.lemmas.List.Elements.{Contains-get_or}
-use Rattle.std.proofs.lemmas.Nat.{and_le_r, div-mul-add, mod-mul-add}
-use Rattle.std.proofs.lemmas.Nat.Bits.{bit_at-lt, bit_at-trailing_zeros, bit_at-zero, bit_at_and}
-use Rattle.std.proofs.lemmas.Option.{slice_get_within}
-use Rattle.id_index.specs.declared.runs.Run.{Run}
-use Rattle.id_index.specs.Runs.{AreComplete, AreSound, HasBearer, end_of, no_run, number_in, page_in, rank, run_in}
-use Rattle.id_index.specs.Repeats.{AreSeen, IsFirstRepeat, IsLeastRepeat, IsLowered, IsRepeatAt}
-use Rattle.id_index.specs.Settling.{AreSorted}
+use Rattle.id_index.proofs.Words.{AreComplete, AreSeen, AreSorted, AreSound, Contains, Contains-get_or, HasBearer}
+use Rattle.id_index.proofs.Words.{IsFirstRepeat, IsLeastRepeat, IsLowered, IsRepeatAt, List, Run, Some, and_le_r, ap}
+use Rattle.id_index.proofs.Words.{arith, bit_and, bit_at, bit_at-lt, bit_at-trailing_zeros, bit_at-zero, bit_at_and}
+use Rattle.id_index.proofs.Words.{cases_lt, cases_order, count_ones, div-mul-add, end_of, inl, inr, length, min}
+use Rattle.id_index.proofs.Words.{min-eq_left, min-eq_right, min-le_left, min-le_right, mod-mul-add, no_run, number_in}
+use Rattle.id_index.proofs.Words.{page_in, rank, refl, run_in, slice_get, slice_get_within, subst, sym, take}
+use Rattle.id_index.proofs.Words.{trailing_zeros, w64, ℕ, ◌%◌, ◌*◌, ◌+◌, ◌-◌, ◌/◌, ◌<◌, ◌^◌, ◌∙◌, ◌≡◌, ◌≢◌, ◌≤◌}
 use Rattle.id_index.proofs.Apart.{ends_in_turn}
 use Rattle.id_index.proofs.Bearers.{before_in, in_before, stands}
 use Rattle.id_index.proofs.Ones.{rank_grows, rank_less_than_all}

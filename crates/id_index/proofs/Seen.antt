@@ -1,14 +1,7 @@
 -- The places of a page that ascending runs have so far.
-use Rattle.std.proofs.Common.{List, ap, arith, inl, inr, length, max, refl, sym, ℕ, ◌+◌, ◌-◌, ◌<◌, ◌∙◌, ◌≡◌, ◌≤◌, ◌⊎◌}
-use Rattle.std.specs.Prelude.{bit_or}
-use Rattle.std.specs.Int.{bit_at}
-use Rattle.std.proofs.Math.Nat.{le-max_left, le-max_right}
-use Rattle.std.proofs.lemmas.Bool.{cases_eq}
-use Rattle.std.proofs.lemmas.Nat.Bits.{bit_at-lt, bit_at-zero, bit_at_or}
-use Rattle.id_index.specs.declared.runs.Run.{Run}
-use Rattle.id_index.specs.Repeats.{AreSeen}
-use Rattle.id_index.specs.Runs.{page_in, run_in}
-use Rattle.id_index.specs.Settling.{AreSorted}
+use Rattle.id_index.proofs.Words.{AreSeen, AreSorted, List, Run, ap, arith, bit_at, bit_at-lt, bit_at-zero, bit_at_or}
+use Rattle.id_index.proofs.Words.{bit_or, cases_eq, inl, inr, le-max_left, le-max_right, length, max, page_in, refl}
+use Rattle.id_index.proofs.Words.{run_in, sym, ℕ, ◌+◌, ◌-◌, ◌<◌, ◌∙◌, ◌≡◌, ◌≤◌, ◌⊎◌}
 use Rattle.id_index.proofs.Apart.{pages_rise}
 
 pub below_or_at : (at i : ℕ) → i < at + 1 → (i < at) ⊎ (i ≡ at)

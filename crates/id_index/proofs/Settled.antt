@@ -1,19 +1,11 @@
 -- One more run is settled.
-use Rattle.std.proofs.Common.{IsPermutation, List, [], ap, arith, inl, inr, length, min, refl, subst, sym, take, ℕ}
-use Rattle.std.proofs.Common.{◌%◌, ◌+◌, ◌++◌, ◌-◌, ◌<◌, ◌^◌, ◌∙◌, ◌∷◌, ◌≡◌, ◌≤◌, ◌⊎◌}
-use Rattle.std.specs.Prelude.{bit_and, bit_or, count_ones}
-use Rattle.std.specs.Int.{bit_at}
-use Rattle.std.specs.Int.Bits.{or_add_and}
-use Rattle.std.specs.List.{swap}
-use Rattle.std.proofs.lemmas.List.{ext_get_or, get_or-take, length-take-le, take_more}
-use Rattle.std.proofs.lemmas.List.Edits.{length-swap, swapped_from_swap}
-use Rattle.std.proofs.lemmas.List.Sorted.{IsPermutation-swap, IsPermutation-trans}
-use Rattle.std.proofs.lemmas.Nat.{and_comm, ones-le}
-use Rattle.std.proofs.lemmas.Nat.Bits.{bit_at-lt, bit_at_and}
-use Rattle.id_index.specs.declared.runs.Run.{Run}
-use Rattle.id_index.specs.Repeats.{AreSeen}
-use Rattle.id_index.specs.Runs.{AreAscending, HasBearer, end_of, no_run, number_in, page_in, run_in}
-use Rattle.id_index.specs.Settling.{AreFewSeen, AreKept, AreSettled, AreSorted, IsTaken}
+use Rattle.id_index.proofs.Words.{AreAscending, AreFewSeen, AreKept, AreSeen, AreSettled, AreSorted, HasBearer}
+use Rattle.id_index.proofs.Words.{IsPermutation-swap, IsPermutation-trans, IsTaken, List, Run, []}
+use Rattle.id_index.proofs.Words.{and_comm, ap, arith, bit_and, bit_at, bit_at-lt, bit_at_and, bit_or, count_ones}
+use Rattle.id_index.proofs.Words.{end_of, ext_get_or, get_or-take, inl, inr, length, length-swap, length-take-le, min}
+use Rattle.id_index.proofs.Words.{no_run, number_in, ones-le, or_add_and, page_in, refl, run_in, swap}
+use Rattle.id_index.proofs.Words.{swapped_from_swap, sym, take, take_more, ℕ, ◌%◌, ◌++◌, ◌+◌, ◌-◌, ◌<◌, ◌^◌, ◌∙◌, ◌∷◌}
+use Rattle.id_index.proofs.Words.{◌≡◌, ◌≤◌, ◌⊎◌}
 use Rattle.id_index.proofs.Apart.{ends_in_turn, pages_rise}
 use Rattle.id_index.proofs.Built.{at_push, in_push}
 use Rattle.id_index.proofs.Extending.{push_length}
@@ -191,9 +183,7 @@ moved now kept at le below =
     get_or-take kept (swap now kept at) i no_run less
     ∙ both.2 i (λ e. omega (arith, e, less)) (λ e. omega (arith, e, less, le))
     ∙ sym (get_or-take kept now i no_run less)) in
-    take_more (swap now kept at) kept no_run (omega (arith, le, below, len))
-    ∙ ap (λ (ls : List Run). ls ++ run_in (swap now kept at) kept ∷ []) front
-    ∙ ap (λ (run : Run). take kept now ++ run ∷ []) both.0
+    rw (take_more (swap now kept at) kept no_run (omega (arith, le, below, len)), front, both.0)
 
 module _ (runs now now' : List Run) (at kept kept' page seen before : ℕ) (sorted : AreSorted runs)
     (below : at < length runs) (it : AreSettled runs now at kept) (had : AreSeen runs at page seen)
@@ -212,10 +202,7 @@ module _ (runs now now' : List Run) (at kept kept' page seen before : ℕ) (sort
 
   grown : kept' ≡ kept + 1 → now' ≡ swap now kept at
       → take kept' now' ≡ take kept now ++ run_in runs at ∷ []
-  grown e is =
-      ap (λ (n : ℕ). take n now') e ∙ ap (λ (ls : List Run). take (kept + 1) ls) is
-      ∙ moved now kept at it.order (omega (arith, below, it.long))
-      ∙ ap (λ (run : Run). take kept now ++ run ∷ []) (it.rest at (omega arith))
+  grown e is = rw (e, is, moved now kept at it.order (omega (arith, below, it.long)), it.rest at (omega arith))
 
   pub settled_more : IsTaken now now' kept at places before kept' → AreSettled runs now' (at + 1) kept'
   settled_more (inl new) =
@@ -230,29 +217,21 @@ module _ (runs now now' : List Run) (at kept kept' page seen before : ℕ) (sort
             both.2 k (λ e. omega (arith, e, from, it.order)) (λ e. omega (arith, e, from))
             ∙ it.rest k (omega (arith, from));
         order = omega (arith, new.1.1, it.order);
-        settled = subst (λ (ls : List Run). AreKept runs (at + 1) ls) (sym (grown new.1.1 is))
-            (added runs at (take kept now) sorted below it.settled);
+        settled = rw (grown new.1.1 is) (added runs at (take kept now) sorted below it.settled);
       }
-  settled_more (inr none) =
-      let kept_is : take kept' now' ≡ take kept now =
-      ap (λ (n : ℕ). take n now') none.1.1 ∙ ap (λ (ls : List Run). take kept ls) none.1.0 in
-      record {
-        same = subst (λ (ls : List Run). IsPermutation runs ls) (sym none.1.0) it.same;
-        long = ap (λ (ls : List Run). length ls) none.1.0 ∙ it.long;
-        rest = λ k from. ap (λ (ls : List Run). run_in ls k) none.1.0 ∙ it.rest k (omega (arith, from));
-        order = omega (arith, none.1.1, it.order);
-        settled = subst (λ (ls : List Run). AreKept runs (at + 1) ls) (sym kept_is)
-            (dropped runs at (take kept now) sorted below it.settled (all_seen none.0));
-      }
+  settled_more (inr none) = rw (none.1.0, none.1.1) (record {
+    same = it.same;
+    long = it.long;
+    rest = λ k from. it.rest k (omega (arith, from));
+    order = omega (arith, it.order);
+    settled = dropped runs at (take kept now) sorted below it.settled (all_seen none.0);
+  })
 
   pub few_more : IsTaken now now' kept at places before kept'
       → AreFewSeen runs (at + 1) (page_in runs at) (bit_or before places) (take kept' now')
   few_more (inl new) =
-      subst (λ (ls : List Run). AreFewSeen runs (at + 1) (page_in runs at) (bit_or before places) ls)
-      (sym (grown new.1.1 new.1.0))
+      rw (grown new.1.1 new.1.0)
       (few_added runs at (take kept now) sorted below it.settled page seen before same other had few fits new.0)
   few_more (inr none) =
-      let kept_is : take kept' now' ≡ take kept now =
-      ap (λ (n : ℕ). take n now') none.1.1 ∙ ap (λ (ls : List Run). take kept ls) none.1.0 in
-      subst (λ (ls : List Run). AreFewSeen runs (at + 1) (page_in runs at) (bit_or before places) ls) (sym kept_is)
+      rw (none.1.0, none.1.1)
       (few_dropped runs at (take kept now) sorted below it.settled page seen before same other had few none.0)

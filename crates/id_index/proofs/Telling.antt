@@ -1,14 +1,9 @@
 -- What settled runs tell of the objects.
-use Rattle.std.proofs.Common.{IsPermutation, IsSorted, List, Option, ap, arith, length}
-use Rattle.std.proofs.Common.{subst, sym, take, ℕ, ◌<◌, ◌^◌, ◌≡◌}
-use Rattle.std.proofs.lemmas.List.{length-take-le}
-use Rattle.std.proofs.lemmas.List.Elements.{All-from_get_or, Contains-get_or}
-use Rattle.std.proofs.lemmas.List.Sorted.{All-permutation, Contains-permutation, IsPermutation-sym, length_permutation}
-use Rattle.id_index.specs.declared.runs.Run.{Run}
-use Rattle.id_index.specs.Building.{AreBuilt, AreFewBuilt, ids_built, run_cmp, with_last}
-use Rattle.id_index.specs.Repeats.{IsFirstRepeat, IsLeastRepeat}
-use Rattle.id_index.specs.Runs.{AreComplete, AreSound, Tell, end_of, ids_of_runs, no_run, run_in}
-use Rattle.id_index.specs.Settling.{AreSettled, AreSorted}
+use Rattle.id_index.proofs.Words.{All-from_get_or, All-permutation, AreBuilt, AreComplete, AreFewBuilt, AreSettled}
+use Rattle.id_index.proofs.Words.{AreSorted, AreSound, Contains-get_or, Contains-permutation, IsFirstRepeat}
+use Rattle.id_index.proofs.Words.{IsLeastRepeat, IsPermutation, IsPermutation-sym, IsSorted, List, Option, Run, Tell}
+use Rattle.id_index.proofs.Words.{ap, arith, end_of, ids_built, ids_of_runs, length, length-take-le, length_permutation}
+use Rattle.id_index.proofs.Words.{no_run, run_cmp, run_in, subst, sym, take, with_last, ℕ, ◌<◌, ◌^◌, ◌≡◌}
 use Rattle.id_index.proofs.Apart.{apart_in_turn, apart_moved}
 use Rattle.id_index.proofs.Bearers.{stands}
 use Rattle.id_index.proofs.Built.{all_built, ids_count}

@@ -1,7 +1,5 @@
 -- Buckets rise with pages, so behind a run that is in no earlier bucket no run is in one.
-use Rattle.std.proofs.Common.{arith, ℕ, ◌≤◌}
-use Rattle.id_index.specs.Beginnings.{bucket_of}
-use Rattle.id_index.specs.Runs.{page_in}
+use Rattle.id_index.proofs.Words.{arith, bucket_of, page_in, ℕ, ◌≤◌}
 use Rattle.id_index.proofs.Buckets.{buckets_rise}
 use Rattle.id_index.proofs.beginnings.start_of.Goals as goal
 

@@ -1,7 +1,5 @@
 -- The runs that were passed are in earlier buckets.
-use Rattle.std.proofs.Common.{◌<◌, ℕ}
-use Rattle.id_index.specs.Beginnings.{bucket_of}
-use Rattle.id_index.specs.Runs.{page_in}
+use Rattle.id_index.proofs.Words.{bucket_of, page_in, ℕ, ◌<◌}
 use Rattle.id_index.proofs.beginnings.start_of.Given as goal
 
 abbrev pub invariant-loop-at : goal.invariant-loop-at

@@ -1,7 +1,5 @@
 -- The runs so far stand behind the old ones, raised, and there is room for the rest.
-use Rattle.std.proofs.Common.{length, map, take, ◌++◌, ◌+◌, ◌-◌, ◌≡◌, ◌≤◌}
-use Rattle.std.specs.Prelude.{vec_capacity, vec_len}
-use Rattle.id_index.specs.Building.{raised_by}
+use Rattle.id_index.proofs.Words.{length, map, raised_by, take, vec_capacity, vec_len, ◌++◌, ◌+◌, ◌-◌, ◌≡◌, ◌≤◌}
 use Rattle.id_index.proofs.builder.push_raised.Given as goal
 
 abbrev pub invariant-loop-run : goal.invariant-loop-run

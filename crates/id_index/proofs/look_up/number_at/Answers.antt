@@ -1,6 +1,5 @@
 -- The run before it is of a smaller page, or there is none, so no run before it is of its page.
-use Rattle.std.proofs.Common.{arith, ℕ, ◌-◌, ◌/◌, ◌<◌, ◌≤◌}
-use Rattle.id_index.specs.Runs.{page_in}
+use Rattle.id_index.proofs.Words.{arith, page_in, ℕ, ◌-◌, ◌/◌, ◌<◌, ◌≤◌}
 use Rattle.id_index.proofs.Bearers.{bearer_at}
 use Rattle.id_index.proofs.look_up.number_at.Goals as goal
 use Rattle.id_index.proofs.look_up.number_at.Goals.{else-at-gt0-via-else-at-gt0}

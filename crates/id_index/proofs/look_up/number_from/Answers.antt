@@ -1,6 +1,5 @@
 -- Pages rise, so behind a run of another page no run is of this one; and a run's numbers fit 32 bits.
-use Rattle.std.proofs.Common.{arith, inl, inr, length}
-use Rattle.std.proofs.lemmas.Bool.{cases_lt}
+use Rattle.id_index.proofs.Words.{arith, cases_lt, inl, inr, length}
 use Rattle.id_index.proofs.Bearers.{none_behind, none_past}
 use Rattle.id_index.proofs.look_up.number_from.Goals as goal
 

@@ -1,6 +1,5 @@
 -- The runs that were passed do not have the identifier.
-use Rattle.std.proofs.Common.{ℕ, ◌<◌}
-use Rattle.id_index.specs.Runs.{HasBearer, run_in}
+use Rattle.id_index.proofs.Words.{HasBearer, run_in, ℕ, ◌<◌}
 use Rattle.id_index.proofs.look_up.number_from.Given as goal
 
 abbrev pub invariant-loop-at : goal.invariant-loop-at

@@ -1,6 +1,5 @@
 -- On the way down the last run of a smaller page is met, or the low end; then the first whose page is not smaller.
-use Rattle.std.proofs.Common.{arith, ◌-◌, ◌≤◌}
-use Rattle.id_index.specs.Runs.{page_in}
+use Rattle.id_index.proofs.Words.{arith, page_in, ◌-◌, ◌≤◌}
 use Rattle.id_index.proofs.Halving.{first_in_turn}
 use Rattle.id_index.proofs.pages.first_from.Goals as goal
 use Rattle.id_index.proofs.pages.first_from.Goals.{else-loop-at-test, then-loop-at-test+else-runs-at}

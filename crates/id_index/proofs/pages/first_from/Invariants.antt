@@ -1,7 +1,5 @@
 -- The run is between the two ends; on the way up, the runs that were passed have smaller pages.
-use Rattle.std.proofs.Common.{◌-◌, ◌<◌, ◌≤◌, ℕ}
-use Rattle.id_index.specs.Beginnings.{IsAround}
-use Rattle.id_index.specs.Runs.{page_in}
+use Rattle.id_index.proofs.Words.{IsAround, page_in, ℕ, ◌-◌, ◌<◌, ◌≤◌}
 use Rattle.id_index.proofs.pages.first_from.Given as goal
 
 abbrev pub invariant-loop-at : goal.invariant-loop-at

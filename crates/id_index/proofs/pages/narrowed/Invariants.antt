@@ -1,6 +1,5 @@
 -- What is left has the first run of the page, and each look leaves less of it.
-use Rattle.std.proofs.Common.{◌-◌}
-use Rattle.id_index.specs.Beginnings.{IsAround}
+use Rattle.id_index.proofs.Words.{IsAround, ◌-◌}
 use Rattle.id_index.proofs.pages.narrowed.Given as goal
 
 abbrev pub invariant-loop-high : goal.invariant-loop-high

@@ -1,7 +1,5 @@
 -- The lowest place that was seen before has the least number of them all.
-use Rattle.std.proofs.Common.{ap, arith, min, ℕ, ◌+◌, ◌∙◌}
-use Rattle.std.specs.Prelude.{bit_and}
-use Rattle.std.specs.Int.{trailing_zeros, w64}
+use Rattle.id_index.proofs.Words.{ap, arith, bit_and, min, trailing_zeros, w64, ℕ, ◌+◌, ◌∙◌}
 use Rattle.id_index.proofs.Repeating.{lowered_by, none_lowered}
 use Rattle.id_index.proofs.Settled.{before_end}
 use Rattle.id_index.proofs.repeats.lowered.Goals as goal

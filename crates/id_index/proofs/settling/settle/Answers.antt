@@ -1,8 +1,5 @@
 -- A run is taken as its places were seen, so one more run is settled.
-use Rattle.std.proofs.Common.{List, arith, length, ◌<◌, ◌∙◌, ◌≡◌, ℕ}
-use Rattle.std.proofs.lemmas.List.{get_or_read}
-use Rattle.id_index.specs.declared.runs.Run.{Run}
-use Rattle.id_index.specs.Runs.{no_run, run_in}
+use Rattle.id_index.proofs.Words.{List, Run, arith, get_or_read, length, no_run, run_in, ℕ, ◌<◌, ◌∙◌, ◌≡◌}
 use Rattle.id_index.proofs.Seen.{seen_more}
 use Rattle.id_index.proofs.Settled.{few_more, settled_more}
 use Rattle.id_index.proofs.settling.settle.Goals as goal

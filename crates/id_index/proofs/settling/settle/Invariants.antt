@@ -1,7 +1,5 @@
 -- The runs before this index are settled, and the places of the last one's page were seen.
-use Rattle.std.proofs.Common.{take}
-use Rattle.id_index.specs.Repeats.{AreSeen}
-use Rattle.id_index.specs.Settling.{AreFewSeen, AreSettled}
+use Rattle.id_index.proofs.Words.{AreFewSeen, AreSeen, AreSettled, take}
 use Rattle.id_index.proofs.settling.settle.Given as goal
 
 abbrev pub invariant-loop-at : goal.invariant-loop-at

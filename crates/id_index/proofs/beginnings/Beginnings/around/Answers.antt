@@ -1,8 +1,6 @@
 -- Buckets rise with pages, so the runs of one stand between the beginnings of its bucket and of the next.
-use Rattle.std.proofs.Common.{arith, subst, ◌%◌, ◌+◌, ◌-◌, ◌/◌, ◌^◌, ◌≡◌, ◌≤◌, ℕ}
-use Rattle.std.proofs.Math.Pow.{shr_mono}
-use Rattle.std.proofs.lemmas.List.{get_or_read}
-use Rattle.id_index.specs.Beginnings.{IsBeginning}
+use Rattle.id_index.proofs.Words.{IsBeginning, arith, get_or_read, shr_mono, subst, ℕ, ◌%◌, ◌+◌, ◌-◌, ◌/◌, ◌^◌, ◌≡◌}
+use Rattle.id_index.proofs.Words.{◌≤◌}
 use Rattle.id_index.proofs.Buckets.{around_bucket}
 use Rattle.id_index.proofs.beginnings.Beginnings.around.Goals as goal
 

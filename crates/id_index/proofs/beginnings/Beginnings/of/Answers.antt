@@ -1,8 +1,6 @@
 -- Before the beginning of a bucket are the runs of the earlier ones, so the next is looked for from there on.
-use Rattle.std.proofs.Common.{List, [], ap, arith, length, length-append, slice_index, subst, sym, ℕ, ◌++◌, ◌<◌, ◌∷◌}
-use Rattle.std.proofs.Common.{◌≡◌}
-use Rattle.id_index.specs.Beginnings.{IsBeginning, bucket_of}
-use Rattle.id_index.specs.Runs.{page_in}
+use Rattle.id_index.proofs.Words.{IsBeginning, List, [], ap, arith, bucket_of, length, length-append, page_in}
+use Rattle.id_index.proofs.Words.{slice_index, subst, sym, ℕ, ◌++◌, ◌<◌, ◌∷◌, ◌≡◌}
 use Rattle.id_index.proofs.Buckets.{one_more}
 use Rattle.id_index.proofs.beginnings.Beginnings.of.Goals as goal
 

@@ -1,7 +1,5 @@
 -- Each bucket so far has its beginning, and the runs that were passed are in those buckets.
-use Rattle.std.proofs.Common.{length, slice_index, ◌<◌, ◌≡◌, ◌≤◌, ℕ}
-use Rattle.id_index.specs.Beginnings.{IsBeginning, bucket_of}
-use Rattle.id_index.specs.Runs.{page_in}
+use Rattle.id_index.proofs.Words.{IsBeginning, bucket_of, length, page_in, slice_index, ℕ, ◌<◌, ◌≡◌, ◌≤◌}
 use Rattle.id_index.proofs.beginnings.Beginnings.of.Given as goal
 
 abbrev pub invariant-loop-bucket : goal.invariant-loop-bucket

@@ -1,8 +1,6 @@
 -- With their numbers raised, the runs of the other list have its objects behind those of this one.
-use Rattle.std.proofs.Common.{List, None, ap, arith, length, subst, sym, ℕ, ◌+◌, ◌++◌, ◌<◌, ◌^◌, ◌∙◌}
-use Rattle.id_index.specs.declared.runs.Run.{Run}
-use Rattle.id_index.specs.Building.{AreFewBuilt, ids_built}
-use Rattle.id_index.specs.Runs.{run_in}
+use Rattle.id_index.proofs.Words.{AreFewBuilt, List, None, Run, ap, arith, ids_built, length, run_in, subst, sym, ℕ}
+use Rattle.id_index.proofs.Words.{◌++◌, ◌+◌, ◌<◌, ◌^◌, ◌∙◌}
 use Rattle.id_index.proofs.Joining.{all_few, both_runs, few_both, joined_few, joined_ids, may_raise}
 use Rattle.id_index.proofs.builder.RunIndexBuilder.append.Goals as goal
 

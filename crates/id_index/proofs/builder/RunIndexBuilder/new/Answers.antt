@@ -1,7 +1,5 @@
 -- No run has no object.
-use Rattle.std.proofs.Common.{List, None, [], ap, arith, length, subst, sym}
-use Rattle.id_index.specs.declared.runs.Run.{Run}
-use Rattle.id_index.specs.Building.{AreBuilt, with_last}
+use Rattle.id_index.proofs.Words.{AreBuilt, List, None, Run, [], ap, arith, length, subst, sym, with_last}
 use Rattle.id_index.proofs.Built.{nothing}
 use Rattle.id_index.proofs.builder.RunIndexBuilder.new.Goals as goal
 

@@ -1,7 +1,5 @@
 -- What stands above the lowest bits is looked up, where those are the common ones.
-use Rattle.std.proofs.Common.{List, ap, arith, position, ℕ, ◌%◌, ◌^◌, ◌∙◌, ◌≡◌}
-use Rattle.std.specs.Prelude.{bit_and, ◌==◌}
-use Rattle.std.proofs.lemmas.Nat.{and_mask}
+use Rattle.id_index.proofs.Words.{List, and_mask, ap, arith, bit_and, position, ℕ, ◌%◌, ◌==◌, ◌^◌, ◌∙◌, ◌≡◌}
 use Rattle.id_index.proofs.Aligning.{found, other_bits}
 use Rattle.id_index.proofs.index.IdIndex.find.Goals as goal
 

@@ -1,6 +1,5 @@
 -- Identifiers repeat where what stands above their lowest bits does.
-use Rattle.std.proofs.Common.{List, subst, ℕ}
-use Rattle.id_index.specs.Repeats.{IsFirstRepeat}
+use Rattle.id_index.proofs.Words.{IsFirstRepeat, List, subst, ℕ}
 use Rattle.id_index.proofs.Aligning.{repeats}
 use Rattle.id_index.proofs.index.IdIndex.first_repeat.Goals as goal
 

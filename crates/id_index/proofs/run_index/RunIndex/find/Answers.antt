@@ -1,8 +1,5 @@
 -- The runs tell of the objects, so the first of them with an identifier has the first object that bears it.
-use Rattle.std.proofs.Common.{List, ap, position, subst, take, ℕ, ◌∙◌}
-use Rattle.std.specs.Prelude.{◌==◌}
-use Rattle.id_index.specs.declared.runs.Run.{Run}
-use Rattle.id_index.specs.Runs.{IsFirstBearer, ids_of_runs}
+use Rattle.id_index.proofs.Words.{IsFirstBearer, List, Run, ap, ids_of_runs, position, subst, take, ℕ, ◌==◌, ◌∙◌}
 use Rattle.id_index.proofs.Bearers.{named}
 use Rattle.id_index.proofs.run_index.RunIndex.find.Goals as goal
 
