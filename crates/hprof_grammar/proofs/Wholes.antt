@@ -32,8 +32,9 @@ IsStuck s records rest = (z : Record) (left : List ℕ) → IsRecord s z → res
     → CanGoOn (map tag_of records ++ tag_of z ∷ []) → ⊥
 
 module _ (s : ℕ) (records others : List Record) (rest left : List ℕ) where
-  no_longer : AllByRecursion (IsRecord s) records → AllByRecursion (IsRecord s) others → IsStuck s records rest → CanGoOn (tags_of others)
-      → spellings s records ++ rest ≡ spellings s others ++ left → length others ≤ length records
+  no_longer : AllByRecursion (IsRecord s) records → AllByRecursion (IsRecord s) others → IsStuck s records rest
+      → CanGoOn (tags_of others) → spellings s records ++ rest ≡ spellings s others ++ left
+      → length others ≤ length records
   no_longer h k stuck go e =
       elim (fronts (record_spelling s) (IsRecord s) (records_determined s) records others rest left h k e) [
         | inl g ↦ ends g.0 g.1 g.2
@@ -45,8 +46,7 @@ module _ (s : ℕ) (records others : List Record) (rest left : List ℕ) where
         ends (z ∷ zs) p q =
             let all = all_split (IsRecord s) records (z ∷ zs) (rw p at k) in
             let tags : tags_of others ≡ (tags_of records ++ tag_of z ∷ []) ++ tags_of zs =
-            ap tags_of p ∙ map-append tag_of records (z ∷ zs)
-            ∙ sym (append_assoc (tags_of records) (tag_of z ∷ []) (tags_of zs)) in
+            ap tags_of p ∙ simp (map-append, append_assoc) in
             absurd (stuck z (spellings s zs ++ left) all.1.0
             (q ∙ append_assoc (record_spelling s z) (spellings s zs) left)
             (goes_on_front (tags_of records ++ tag_of z ∷ []) (tags_of zs) (subst CanGoOn tags go)))
