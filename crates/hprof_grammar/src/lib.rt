@@ -42,7 +42,7 @@ pub use dump::Dump;
 pub use flaw::{FormatFault, ReadRefusal};
 pub use kinds::RootKind;
 pub use laws::{always_dump_or_fault, dump_or_fault, one_dump, one_fault, one_list_of_records};
-pub use parse::read;
+pub use parse::{LIMIT, read};
 pub use placed::{dump_is_placed, stands_within};
 pub use team::Team;
 pub use view::identifiers::number_at;

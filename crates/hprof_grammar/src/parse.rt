@@ -18,7 +18,7 @@ use std::alloc::Allocator;
 use std::thread::Threads;
 
 /// The bytes of the longest dump that is read.
-const LIMIT: u32 = 1_073_741_824;
+pub const LIMIT: u32 = 1_073_741_824;
 
 /// What a dump begins with.
 const MAGIC: &[u8] = b"JAVA PROFILE 1.0.2\0";
