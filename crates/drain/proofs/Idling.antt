@@ -44,7 +44,8 @@ module _ {old : Holder} (new : Holder) (pool : new.pool ≡ old.pool) where
       seen = λ o h. subst (λ (xs : List ℕ). Contains xs o) (sym (ap (λ (c : Book). c.account.seen) is ∙ seen)) h;
     }
 
-    still_after : {begun : Holder} → IsStill begun old → b.account.open_push ≡ false → b.account.found ≡ true → IsStill begun new
+    still_after : {begun : Holder} → IsStill begun old → b.account.open_push ≡ false → b.account.found ≡ true
+        → IsStill begun new
     still_after was closed found = record {
       came = came_again was.came came_after;
       held = ap (λ (c : Book). c.account.held) is ∙ held ∙ was.held;
@@ -89,8 +90,8 @@ module _ {old : Holder} (new : Holder) (pool : new.pool ≡ old.pool) where
     }
 
 -- it goes idle
-pub goes_idle : (p : PairState) {old : Holder} (new : Holder) → new.pool ≡ old.pool → new.book ≡ idled old.book → IsAwake old
-    → HasNoneLeft p old → IsIdling old 0 new
+pub goes_idle : (p : PairState) {old : Holder} (new : Holder) → new.pool ≡ old.pool → new.book ≡ idled old.book
+    → IsAwake old → HasNoneLeft p old → IsIdling old 0 new
 goes_idle p {old} new pool is awake none =
     let still : IsStill old old =
     record {

@@ -12,8 +12,8 @@ pub one_more_started : {A V X : Type 0} {graph : V} {duty : X → Duty A V} {beg
     → worker ≡ record old { book = new_book old.book.setup 1; log = worker.log }
     → (duty thread).begun.value ≡ worker → (duty thread).graph.value ≡ graph
     → HasStarted graph duty begun rest more (number + 1)
-one_more_started {graph = graph} {duty} {begun} {old} {rest} {worker} {threads} {more} {thread} {number} was enough long is
-    first second owes same =
+one_more_started {graph = graph} {duty} {begun} {old} {rest} {worker} {threads} {more} {thread} {number}
+    was enough long is first second owes same =
     let book = ap (λ (h : Holder). h.book) first in
     let less = ap (λ (b : Book). b.account.share) book in
     let owed : IsDutyUnder graph begun (duty thread) = record {

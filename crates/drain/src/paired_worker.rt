@@ -1,5 +1,5 @@
-//! A worker at its pair: it claims objects, puts those that were white into its pair, gives some of these to others, and
-//! gets the next of its own or of what others gave to the full stack.
+//! A worker at its pair: it claims objects, puts those that were white into its pair, gives some of these to others,
+//! and gets the next of its own or of what others gave to the full stack.
 
 use crate::recently_seen::RecentlySeen;
 use buffer_pool::{Pool, Which, Worker};

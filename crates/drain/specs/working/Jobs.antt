@@ -20,8 +20,8 @@ pub record MayWork {A V G S : Type 0} (count : V → ℕ) (roots : V → List �
   pub awake : IsAwake w
   pub tally : HasTallied (measure job.graph.now) w t
 
--- a worker of the job's pool and graph at its pair, with these objects at hand beside the pair's items, and the tally of
--- what it finished
+-- a worker of the job's pool and graph at its pair, with these objects at hand beside the pair's items, and the tally
+-- of what it finished
 pub record IsOnJob {A V G S : Type 0} (count : V → ℕ) (roots : V → List ℕ) (pairs : V → List (ℕ × ℕ))
     (measure : V → Measure) (job : Job A V G S) (besides : List ℕ) (paired : PairedWorker A) (t : Tally A)
     : Type 0 where

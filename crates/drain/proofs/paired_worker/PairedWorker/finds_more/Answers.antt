@@ -1,7 +1,7 @@
 -- While it is idle the worker keeps what it had; where it leaves, the last load or the number of loads says why.
 use Rattle.drain.proofs.Words.{Book, Some, ap, arith, false≢true, inl, inr, refl, sym, ◌∙◌}
-use Rattle.drain.proofs.Idling.{awake_back, goes_idle, hand_still, may_idle, next_turn, none_still, sees_full, sees_idle}
-use Rattle.drain.proofs.Idling.{still_back}
+use Rattle.drain.proofs.Idling.{awake_back, goes_idle, hand_still, may_idle, next_turn, none_still, sees_full}
+use Rattle.drain.proofs.Idling.{sees_idle, still_back}
 use Rattle.drain.proofs.paired_worker.PairedWorker.finds_more.Goals as goal
 
 pub idle_up-requires-clause-may : goal.idle_up-requires-clause-may

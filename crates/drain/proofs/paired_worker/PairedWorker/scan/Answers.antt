@@ -24,13 +24,14 @@ add-requires g c =
     let done = c.in_ok-claim_and_finish.ensures in
     let bounded = c.recall_measure.ensures in
     let on_job = c.requires.on_job in
-    let objects = (same_setup done.goes_on.came.setup on_job.setup).objects in
+    let setup = same_setup done.goes_on.came.setup on_job.setup in
+    let few = rw setup.objects at c.recall_few_finished.ensures.few in
     let m = g.V.Measured.measure c.args.job.now.graph.now in
     let scan = subst (IsScanOf m o) (sym c.read.ensures)
     (c.requires.given.ends c.claim_and_finish.new.successors done.ended) in
     record {
       row = omega (arith, scan.row, bounded.within o c.requires.below, on_job.tally.each);
-      small = small_before o bounded done.finished (omega (arith, c.recall_few_finished.ensures.few, objects)) on_job.tally;
+      small = small_before o bounded done.finished few on_job.tally;
       bytes = omega (arith, scan.bytes, bounded.few_bytes o);
       unresolved = omega (arith, scan.unresolved, bounded.few_unresolved o);
     }
