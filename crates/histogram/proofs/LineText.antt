@@ -50,14 +50,6 @@ pub escaped : (old new : List ℕ) (byte : ℕ) → byte < 256 → is_plain byte
     → new ≡ old ++ shown_byte byte
 escaped old new byte small not_plain is = rw not_plain (rw (hex_byte false byte small) at is)
 
--- one more piece
-pub flat_map_step : {X : Type 0} (f : X → List ℕ) (start now next : List ℕ) (xs : List X) (i : ℕ) (d : X)
-    → i < length xs → now ≡ start ++ flat_map f (take i xs) → next ≡ now ++ f (get_or xs i d)
-    → next ≡ start ++ flat_map f (take (i + 1) xs)
-flat_map_step f start now next xs i d below was step =
-    rw (take_more xs i d below) (step ∙ ap (λ t. t ++ f (get_or xs i d)) was
-    ∙ flat_map_more f start (take i xs) (get_or xs i d))
-
 -- all rows, and three lines behind them
 pub report_made : {X : Type 0} (entry : X → Entry) (rows items : List X) (index : ℕ)
     (lines one two all first second third : List ℕ)

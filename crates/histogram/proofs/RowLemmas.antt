@@ -10,7 +10,9 @@ use Rattle.mark_core.proofs.Chosen.{ones}
 use Rattle.heap_graph.specs.ObjectGraph.{ObjectGraph, bytes_at, object_count, row_at}
 use Rattle.heap_graph.specs.Whole.{IsRowIn, IsWhole}
 use Rattle.heap_graph.specs.declared.row.RowKey.{RowKey}
-use Rattle.histogram.specs.Histogram.{marked_objects, of_row, same_row}
+use Rattle.drain.specs.Marks.{IsMarkingOf, MarkedObjects}
+use Rattle.drain.specs.Sums.{sum_of_row}
+use Rattle.histogram.specs.Histogram.{marked_objects, of_row, same_row, total}
 use Rattle.heap_graph.specs.RowNumbers.{numbered_row, row_count, row_number}
 use Rattle.histogram.specs.working.RowNumbers.{objects_below}
 use Rattle.drain.proofs.Passing.{passing_sum}
@@ -47,6 +49,11 @@ two_parts f r p q xs each =
           each y,
           weights ys,
         )
+
+-- so many marked objects have the rows below that number, and so many bytes
+pub record AreSums (g : ObjectGraph) (marks : List Bool) (n count bytes : ℕ) : Type 0 where
+  pub count_is : count ≡ length (objects_below g n (marked_objects g marks))
+  pub bytes_is : bytes ≡ sum_by (bytes_at g) (objects_below g n (marked_objects g marks))
 
 module _ (g : ObjectGraph) (whole : IsWhole g) where
   abbrev number_at : ℕ → ℕ
@@ -150,3 +157,28 @@ module _ (g : ObjectGraph) (whole : IsWhole g) where
       let all = length-range_with_len 0 (object_count g) in
       let count : length below ≤ 2 ^ 24 = omega (arith, passing, no_more, chosen, few, all, whole.few_objects) in
       (count, omega (arith, count, sum_by-le (bytes_at g) limit below (λ k d h. whole.few_bytes _)))
+
+  pub none_summed : (marks : List Bool) → AreSums g marks 0 0 0
+  none_summed marks = record {
+    count_is = sym (count_none (marked_objects g marks));
+    bytes_is = sym (below_none (bytes_at g) (marked_objects g marks));
+  }
+
+  -- one row more, by what is told of it
+  module _ (m : MarkedObjects) (marking : IsMarkingOf g m) {n count bytes : ℕ} (row : RowKey) (told : ℕ × ℕ)
+      (so : AreSums g m.marks n count bytes) (is : row ≡ numbered_row n) (tells : told ≡ sum_of_row m.sums row)
+      (below : n < row_count g) where
+    pub row_summed : AreSums g m.marks (n + 1) (count + told.0) (bytes + told.1)
+    row_summed =
+        let marked = marked_objects g m.marks in
+        let both = tells ∙ marking.tallies row ∙ ap (λ (r : RowKey). total g (of_row g r marked)) is in
+        record {
+          count_is = omega (arith, so.count_is, count_next n marked below, ap (λ (p : ℕ × ℕ). p.0) both);
+          bytes_is = omega (arith, so.bytes_is, below_next (bytes_at g) n marked below, ap (λ (p : ℕ × ℕ). p.1) both);
+        }
+
+    pub few_summed : (count + told.0 ≤ 2 ^ 24) × (bytes + told.1 ≤ 2 ^ 54)
+    few_summed =
+        let it = row_summed in
+        let small = small_part (n + 1) m.marks in
+        (omega (arith, it.count_is, small.0), omega (arith, it.bytes_is, small.1))

@@ -140,9 +140,6 @@ module _ (g : ObjectGraph) where
   abbrev pub HasCounted : List ℕ → List ℕ → Unmarked → Type 0
   HasCounted all rest left = (done : List ℕ) × (done ++ rest ≡ all) × (left ≡ counted g done)
 
-  pub counted_none : (all : List ℕ) → HasCounted all all (counted g [])
-  counted_none all = ([], refl, refl)
-
   -- those that come next were counted, too
   module _ (all rest some after : List ℕ) (left one : Unmarked) (has : HasCounted all rest left)
       (is : rest ≡ some ++ after) (told : one ≡ counted g some) where
@@ -167,6 +164,3 @@ module _ (g : ObjectGraph) where
   next_are_objects all rest some after left has is are =
       let together : has.0 ++ (some ++ after) ≡ all = ap (λ r. has.0 ++ r) (sym is) ∙ has.1 in
       before_are_objects some after (behind_are_objects has.0 (some ++ after) (subst (AreObjects g) (sym together) are))
-
-  pub counted_all : (all : List ℕ) (left : Unmarked) → HasCounted all [] left → left ≡ counted g all
-  counted_all all left has = has.2 ∙ ap (counted g) (sym (append-nil has.0) ∙ has.1)

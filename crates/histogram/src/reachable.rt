@@ -16,7 +16,7 @@ pub(crate) fn reachable<A: Allocator, B: Allocator>(
     requires { IsMarkingOf graph.now marks.now }
     ensures { result ≡ total graph.now (marked_objects graph.now marks.now.marks) }
 {
-    // A graph has few objects, so neither sum overflows.
+    // Called for its clause `whole`: a graph has few objects, so neither sum overflows.
     let _objects = graph.len();
     let mut count = 0;
     let mut bytes = 0;

@@ -53,7 +53,7 @@ fn all_unresolved<A: Allocator, B: Allocator>(
     requires unmarked { unmarked ≡ unresolved_among graph.now (unmarked_objects graph.now marks.now.marks) }
     ensures { result ≡ graph.now.unresolved }
 {
-    // A graph has few objects, so neither sum overflows.
+    // Called for its clause `whole`: a graph has few objects, so neither sum overflows.
     let _objects = graph.len();
     marks.unresolved() + unmarked + graph.unresolved()
 }

@@ -91,7 +91,7 @@ fn count_in_batches<T: Threads + Sync, A: Allocator + Copy, B: Allocator + Sync,
     requires { length marks.now.marks ≡ object_count graph.now }
     ensures { IfOk result (λ left. left ≡ counted graph.now (unmarked_objects graph.now marks.now.marks)) }
 {
-    // A graph has few objects, so no sum overflows.
+    // Called for its clause `whole`: a graph has few objects, so no sum overflows.
     let _objects = graph.len();
     let mut left = Unmarked::NONE;
     let mut numbers = UnmarkedNumbers::of(marks);
@@ -108,7 +108,7 @@ fn count_in_turn<A: Allocator, B: Allocator>(graph: &Graph<'_, A>, marks: &Marke
     requires { length marks.now.marks ≡ object_count graph.now }
     ensures { result ≡ counted graph.now (unmarked_objects graph.now marks.now.marks) }
 {
-    // A graph has few objects, so no sum overflows.
+    // Called for its clause `whole`: a graph has few objects, so no sum overflows.
     let _objects = graph.len();
     let mut left = Unmarked::NONE;
     for object in UnmarkedNumbers::of(marks) {
@@ -131,7 +131,7 @@ fn count_in_parts<T: Threads + Sync, A: Allocator + Sync>(
     if numbers.len() <= size {
         return count(graph, numbers);
     }
-    // A graph has few objects, so no sum overflows.
+    // Called for its clause `whole`: a graph has few objects, so no sum overflows.
     let _objects = graph.len();
     let (first, others) = numbers.split_at(size);
     let front = move || -> Unmarked
@@ -151,7 +151,7 @@ fn count<A: Allocator>(graph: &Graph<'_, A>, numbers: &[u32]) -> Unmarked
     requires { AreObjects graph.now numbers.now }
     ensures { result ≡ counted graph.now numbers.now }
 {
-    // A graph has few objects, so no sum overflows.
+    // Called for its clause `whole`: a graph has few objects, so no sum overflows.
     let _objects = graph.len();
     let mut left = Unmarked::NONE;
     for object in numbers {
