@@ -20,6 +20,7 @@ impl<A: Allocator> PairedWorker<A> {
 
     /// Scans an object, and gives to others what it has too much of; where none is left it waits for others. False
     /// where it leaves: then it is idle still.
+    #[inline(always)]
     fn turn<R: Wait, V: Walk, G: Gate, S>(
         &mut self,
         rt: &R,
@@ -52,6 +53,8 @@ impl<A: Allocator> PairedWorker<A> {
 
     /// Scans until no object is left, and stays until all are idle or it waited long enough. Each time before it looks
     /// for an object it gives to others what it has too much of, but where it was idle: then it has nothing.
+    // A call, once for a thread, so that what a turn uses stands in one function and shares registers with no other.
+    #[inline(never)]
     pub(crate) fn work_off<R: Wait, V: Walk, G: Gate, S>(
         &mut self,
         rt: &R,
