@@ -20,6 +20,7 @@ impl<A: Allocator> PairedWorker<A> {
 
     /// Scans an object, and gives to others what it has too much of; where none is left it waits for others. False
     /// where it leaves: then it is idle still.
+    // Inlined, as `scan_next` is.
     #[inline(always)]
     fn turn<R: Wait, V: Walk, G: Gate, S>(
         &mut self,

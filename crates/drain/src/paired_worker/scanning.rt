@@ -152,6 +152,7 @@ impl<A: Allocator> PairedWorker<A> {
 
     /// Scans an object of the pair, or of the full stack: claims what it refers to, finishes it, and adds it to the
     /// tally. False where none is left.
+    // Inlined into the loop of a worker, so that what it knows of the graph stays in registers.
     #[inline(always)]
     pub(super) fn scan_next<R: Wait, V: Walk, G: Gate, S>(
         &mut self,
