@@ -24,42 +24,43 @@ heads_open s tag full empty = λ t q. at q t
     at Full = full
     at Empty = empty
 
-pub opens :
-    (s : Listing) (d e : Setup) (tag : ℕ) → d ≡ e → s.full ≡ record { index = None; tag = tag }
-    → s.empty ≡ record { index = Some 0; tag = tag }
-    → ((i : ℕ) → get_or s.links i None ≡ first_link d.buffers i) → s.marks ≡ replicate d.objects 0
-    → s.slots ≡ replicate d.buffers (Some []) → s.idle ≡ 0 → s.accounts ≡ part whole ∷ []
-    → marking_of s ≡ opening e tag
-opens s d e tag same full empty links marks slots idle accounts = opened ∙ ap (λ (x : Setup). opening x tag) same
-  where
-    opened : marking_of s ≡ opening d tag
-    opened = λ t. record {
-      head = heads_open s tag full empty t;
-      link = λ i. links i t;
-      mark = λ o. (ap (λ ms. get_or ms o 0) marks ∙ zero_at d.objects o) t;
-      slots = slots t;
-      idle = idle t;
-      accounts = accounts t;
-    }
+module _ (s : Listing) (e : Setup) (tag : ℕ) where
+  pub opens :
+      (d : Setup) → d ≡ e → s.full ≡ record { index = None; tag = tag }
+      → s.empty ≡ record { index = Some 0; tag = tag }
+      → ((i : ℕ) → get_or s.links i None ≡ first_link d.buffers i) → s.marks ≡ replicate d.objects 0
+      → s.slots ≡ replicate d.buffers (Some []) → s.idle ≡ 0 → s.accounts ≡ part whole ∷ []
+      → marking_of s ≡ opening e tag
+  opens d same full empty links marks slots idle accounts = opened ∙ ap (λ (x : Setup). opening x tag) same
+    where
+      opened : marking_of s ≡ opening d tag
+      opened = λ t. record {
+        head = heads_open s tag full empty t;
+        link = λ i. links i t;
+        mark = λ o. (ap (λ ms. get_or ms o 0) marks ∙ zero_at d.objects o) t;
+        slots = slots t;
+        idle = idle t;
+        accounts = accounts t;
+      }
 
--- the opening is under the law
-pub lawful_opening :
-    (s : Listing) (e : Setup) (tag : ℕ) → marking_of s ≡ opening e tag → s.setup ≡ e → length s.links ≡ e.buffers
-    → length s.slots ≡ e.buffers → length s.marks ≡ e.objects
-    → 0 < e.buffers → e.buffers ≤ 65534 → All (λ o. o < e.objects) e.roots
-    → All (λ p. (p.0 < e.objects) × (p.1 < e.objects)) e.pairs → IsLawful s
-lawful_opening s e tag opened same links slots marks some few rooted paired =
-    let law : Law e (marking_of s) = subst (Law e) (sym opened) (opening_keeps e tag some) in
-    let accounts = ap (λ (m : Marking). m.accounts) opened in
-    let one : AreNumbered s.accounts = subst AreNumbered (sym accounts) (numbered_opening whole (omega arith)) in
-    record {
-      law = rw same law;
-      links = rw same links;
-      slots = rw same slots;
-      marks = rw same marks;
-      numbered = one.numbered;
-      weights = one.weights;
-      few = rw same few;
-      rooted = rw same rooted;
-      paired = rw same paired;
-    }
+  -- the opening is under the law
+  pub lawful_opening :
+      marking_of s ≡ opening e tag → s.setup ≡ e → length s.links ≡ e.buffers
+      → length s.slots ≡ e.buffers → length s.marks ≡ e.objects
+      → 0 < e.buffers → e.buffers ≤ 65534 → All (λ o. o < e.objects) e.roots
+      → All (λ p. (p.0 < e.objects) × (p.1 < e.objects)) e.pairs → IsLawful s
+  lawful_opening opened same links slots marks some few rooted paired =
+      let law : Law e (marking_of s) = subst (Law e) (sym opened) (opening_keeps e tag some) in
+      let accounts = ap (λ (m : Marking). m.accounts) opened in
+      let one : AreNumbered s.accounts = subst AreNumbered (sym accounts) (numbered_opening whole (omega arith)) in
+      record {
+        law = rw same law;
+        links = rw same links;
+        slots = rw same slots;
+        marks = rw same marks;
+        numbered = one.numbered;
+        weights = one.weights;
+        few = rw same few;
+        rooted = rw same rooted;
+        paired = rw same paired;
+      }

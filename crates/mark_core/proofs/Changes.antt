@@ -13,16 +13,16 @@ use Rattle.mark_core.proofs.Ownership.{held_else}
 use Rattle.mark_core.proofs.Colours.{charged}
 
 -- an exchange of one head: of its stack one list is left, and of the other stack the same
-exchanged :
-    (link : ℕ → Option ℕ) (head : Which → Head) (p q : Which) (h : Head) (old new list : List ℕ)
-    → Chain link (head q).index old → Chain link h.index list → Chain link (put_which p h head q).index new
-    → (p ≡ q → new ≡ list) × (p ≢ q → new ≡ old)
-exchanged link head Full Full h old new list c d n =
-    ((λ e. chain_one link h.index new list n d), (λ k. absurd (k refl)))
-exchanged link head Empty Empty h old new list c d n =
-    ((λ e. chain_one link h.index new list n d), (λ k. absurd (k refl)))
-exchanged link head p q h old new list c d n =
-    ((λ e. let f : ⊥ = cc in absurd f), (λ k. chain_one link (head q).index new old n c))
+module _ (link : ℕ → Option ℕ) (head : Which → Head) (h : Head) (old new list : List ℕ) where
+  exchanged : (p q : Which) → Chain link (head q).index old → Chain link h.index list
+      → Chain link (put_which p h head q).index new → (p ≡ q → new ≡ list) × (p ≢ q → new ≡ old)
+  exchanged Full Full c d n = ((λ e. chain_one link h.index new list n d), (λ k. absurd (k refl)))
+  exchanged Empty Empty c d n = ((λ e. chain_one link h.index new list n d), (λ k. absurd (k refl)))
+  exchanged p q c d n = ((λ e. let f : ⊥ = cc in absurd f), (λ k. chain_one link (head q).index new old n c))
+
+-- a number put in that is no smaller makes none smaller
+put_rises : (mark : ℕ → ℕ) (p x : ℕ) → mark p ≤ x → (o : ℕ) → mark o ≤ put p x mark o
+put_rises mark p x h = put_each (λ o z. mark o ≤ z) p x mark h (λ o n. omega arith)
 
 module _ (e : Setup) (m : Marking) (law : Law e m) (w : ℕ) (a : Account) (there : IsThere m.accounts w a) where
   -- the list of a stack is the law's
@@ -45,7 +45,7 @@ module _ (e : Setup) (m : Marking) (law : Law e m) (w : ℕ) (a : Account) (ther
       stands = recent_link m.link (m.head p) (look_of a p) i l (law.owned.recent p w a there.0) hit top next
 
       both : (p ≡ q → new ≡ r.0) × (p ≢ q → new ≡ old)
-      both = exchanged m.link m.head p q (after (m.head p) l) old new r.0 c
+      both = exchanged m.link m.head (after (m.head p) l) old new r.0 p q c
           (subst (λ x. Chain m.link x r.0) stands r.2) n
 
       taken : p ≡ q → (k : ℕ) × (old ≡ k ∷ new)
@@ -60,7 +60,7 @@ module _ (e : Setup) (m : Marking) (law : Law e m) (w : ℕ) (a : Account) (ther
   push_puts p q i leads old new c n = (λ s. both.0 s ∙ ap (λ xs. i ∷ xs) (sym (was_stack p q old c s)), both.1)
     where
       both : (p ≡ q → new ≡ i ∷ law.stack p) × (p ≢ q → new ≡ old)
-      both = exchanged m.link m.head p q (after (m.head p) (Some i)) old new (i ∷ law.stack p) c
+      both = exchanged m.link m.head (after (m.head p) (Some i)) old new (i ∷ law.stack p) p q c
           (chain_more m.link (m.head p).index (law.stack p) i (law.owned.chain p) leads) n
 
   -- a store at a held buffer changes no list
@@ -82,6 +82,16 @@ module _ (e : Setup) (m : Marking) (law : Law e m) (w : ℕ) (a : Account) (ther
       (subst (λ n. IsListOf n q new) (pops_as m w a p can.0) n)
   effect_changes (Push p i items) can q old new c n = push_puts p q i can.2 old new c n
   effect_changes _ can q old new c n = chain_one m.link (m.head q).index new old n c
+
+  -- no mark falls
+  effect_marks : (kind : Kind) → Allows e m w a kind → (o : ℕ) → m.mark o ≤ (effect m w a kind).mark o
+  effect_marks (Claim p) can o = put_rises m.mark p (max (m.mark p) 1) (omega arith) o
+  effect_marks (Finish p) can o =
+      let was = charged e m.mark m.slots m.accounts law.coloured w a there.0 p (stands_times a.charge p can.0) in
+      put_rises m.mark p 2 (omega (arith, was.0)) o
+  effect_marks (Pop p) can o =
+      tried (λ (n : Marking). m.mark o ≤ n.mark o) m w a p (omega arith) (λ i l. omega arith)
+  effect_marks _ can o = omega arith
 
 pub stacks_change : StacksChange
 stacks_change e m event law can q old new c n =
@@ -108,20 +118,6 @@ tags_rise m event q = effect_rises m event.worker (account_at m.accounts event.w
 pub pops_find_links : PopsFindLinks
 pops_find_links e m law w a q is can i l top next =
     recent_link m.link (m.head q) (look_of a q) i l (law.owned.recent q w a is) can.0.0 top next
-
--- a number put in that is no smaller makes none smaller
-put_rises : (mark : ℕ → ℕ) (p x : ℕ) → mark p ≤ x → (o : ℕ) → mark o ≤ put p x mark o
-put_rises mark p x h = put_each (λ o z. mark o ≤ z) p x mark h (λ o n. omega arith)
-
-effect_marks : (e : Setup) (m : Marking) → Law e m → (w : ℕ) (a : Account) → IsThere m.accounts w a → (kind : Kind)
-    → Allows e m w a kind → (o : ℕ) → m.mark o ≤ (effect m w a kind).mark o
-effect_marks e m law w a there (Claim p) can o = put_rises m.mark p (max (m.mark p) 1) (omega arith) o
-effect_marks e m law w a there (Finish p) can o =
-    let was = charged e m.mark m.slots m.accounts law.coloured w a there.0 p (stands_times a.charge p can.0) in
-    put_rises m.mark p 2 (omega (arith, was.0)) o
-effect_marks e m law w a there (Pop p) can o =
-    tried (λ (n : Marking). m.mark o ≤ n.mark o) m w a p (omega arith) (λ i l. omega arith)
-effect_marks e m law w a there _ can o = omega arith
 
 pub marks_rise : MarksRise
 marks_rise e m event law can o =

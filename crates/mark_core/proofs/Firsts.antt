@@ -3,7 +3,7 @@
 use Rattle.std.proofs.Common.{◌≡◌, ◌⊎◌, ℕ, zero, suc, ◌<◌, ◌≤◌, Bool, true, false, ◌&&◌, is_some, List, [], ◌∷◌}
 use Rattle.std.proofs.Common.{Option, Some, None, slice_index_or, ap, sym, refl, subst, ◌∙◌, inl, inr}
 use Rattle.std.proofs.Common.{⊎_elim, arith}
-use Rattle.std.proofs.lemmas.Bool.{false≢true, or_cases}
+use Rattle.std.proofs.lemmas.Bool.{false≢true, cases_lt, or_cases}
 use native.Mathlib.Decide.{dec_le}
 use Rattle.tagged_index.specs.Head.{Head}
 use Rattle.mark_core.proofs.Words.{Which, Full, Empty, StandsAt, Account, look_of, part, no_share, Setup, Marking}
@@ -199,19 +199,18 @@ module _ (e : Setup) (m : Marking) (counts : List Counts) (event : Event) (can :
 
   -- a failed exchange found another head than the one loaded, so not both are the first
   failed_now : (q : Which) → event.kind ≡ Fail q → SomeChanged e now
-  failed_now q is = go (dec_le (m.head q).tag e.first_tag)
+  failed_now q is =
+      ⊎_elim (λ above. some_still (one_changed e m q above))
+      (λ low.
+      let seen = knows_look (WasSeen e m) can.0 q may.0 (was.looks event.worker can.0 can.1.0) may.1 in
+      let first = was.heads q in
+      let here : m.head q ≡ first_heads e.first_tag q = first.1 (omega (arith, low, first.0)) in
+      let there : may.0 ≡ first_heads e.first_tag q = seen.0.1 (omega (arith, low, seen.0.0, seen.1)) in
+      absurd (may.2 (here ∙ sym there)))
+      (cases_lt e.first_tag (m.head q).tag)
     where
       may : Allows e m event.worker can.0 (Fail q)
       may = subst (Allows e m event.worker can.0) is can.2
-
-      go : Dec ((m.head q).tag ≤ e.first_tag) → SomeChanged e now
-      go (no above) = some_still (one_changed e m q (omega (arith, above)))
-      go (yes low) =
-          let seen = knows_look (WasSeen e m) can.0 q may.0 (was.looks event.worker can.0 can.1.0) may.1 in
-          let first = was.heads q in
-          let here : m.head q ≡ first_heads e.first_tag q = first.1 (omega (arith, low, first.0)) in
-          let there : may.0 ≡ first_heads e.first_tag q = seen.0.1 (omega (arith, low, seen.0.0, seen.1)) in
-          absurd (may.2 (here ∙ sym there))
 
   failures_now : OfEach (Failed (SomeChanged e now)) (counted m counts event.worker event.kind)
   failures_now = counted_fails (SomeChanged e now) m counts event.worker event.kind
@@ -235,12 +234,23 @@ module _ (e : Setup) (m : Marking) (counts : List Counts) (event : Event) (can :
   firsts_next : Firsts e now (counted m counts event.worker event.kind)
   firsts_next = record { heads = heads_now; looks = looks_now; failures = failures_now; pushes = pushes_now }
 
-firsts_run : (e : Setup) (events : List Event) (first last : Marking) (counts : List Counts) → Firsts e first counts
-    → Run e first events last → Firsts e last (all_counted first counts events)
-firsts_run e [] first last counts was run = subst (λ (m : Marking). Firsts e m counts) (sym run) was
-firsts_run e (event ∷ events) first last counts was run =
-    firsts_run e events (happens first event) last (counted first counts event.worker event.kind)
-    (firsts_next e first counts event run.0 was) run.1
+module _ (e : Setup) where
+  firsts_run : (events : List Event) (first last : Marking) (counts : List Counts) → Firsts e first counts
+      → Run e first events last → Firsts e last (all_counted first counts events)
+  firsts_run [] first last counts was run = subst (λ (m : Marking). Firsts e m counts) (sym run) was
+  firsts_run (event ∷ events) first last counts was run =
+      firsts_run events (happens first event) last (counted first counts event.worker event.kind)
+      (firsts_next e first counts event run.0 was) run.1
+
+  -- each head that a stack had is one of these
+  had_first :
+      (events : List Event) (first last : Marking) (counts : List Counts) (q : Which) (h : Head) → Firsts e first counts
+      → Run e first events last → HadHead first events q h → IsFirstOr e q h
+  had_first [] first last counts q h was run had = subst (IsFirstOr e q) had (was.heads q)
+  had_first (event ∷ events) first last counts q h was run had =
+      ⊎_elim (λ here. subst (IsFirstOr e q) here (was.heads q))
+      (λ later. had_first events (happens first event) last (counted first counts event.worker event.kind) q h
+      (firsts_next e first counts event run.0 was) run.1 later) had
 
 firsts_open : (e : Setup) → Firsts e (opening e e.first_tag) (no_counts ∷ [])
 firsts_open e =
@@ -254,17 +264,6 @@ firsts_open e =
     heads : (q : Which) → IsFirstOr e q (first_heads e.first_tag q)
     heads Full = (omega arith, (λ same. refl))
     heads Empty = (omega arith, (λ same. refl))
-
--- each head that a stack had is one of these
-had_first :
-    (e : Setup) (events : List Event) (first last : Marking) (counts : List Counts) (q : Which) (h : Head)
-    → Firsts e first counts → Run e first events last
-    → HadHead first events q h → IsFirstOr e q h
-had_first e [] first last counts q h was run had = subst (IsFirstOr e q) had (was.heads q)
-had_first e (event ∷ events) first last counts q h was run had =
-    ⊎_elim (λ here. subst (IsFirstOr e q) here (was.heads q))
-    (λ later. had_first e events (happens first event) last (counted first counts event.worker event.kind) q h
-    (firsts_next e first counts event run.0 was) run.1 later) had
 
 pub first_tags_are_first : FirstTagsAreFirst
 first_tags_are_first e events m run q h had same =

@@ -1,16 +1,14 @@
 -- The law holds of an opening marking.
 use Rattle.std.proofs.Common.{◌≡◌, ℕ, zero, suc, ◌+◌, ◌<◌, ◌≤◌, nat_lt, List, [], ◌∷◌, Option, Some, None}
-use Rattle.std.proofs.Common.{Contains, if◌then◌else◌, length, replicate, ap, sym, refl, subst, inl, lt-ltb}
+use Rattle.std.proofs.Common.{Contains, if◌then◌else◌, length, replicate, ap, refl, subst, inl, lt-ltb}
 use Rattle.std.proofs.Common.{le-ltb, arith}
-use mathlib.Core.Option.{some-injective, some-ne-none}
 use lib.ListN.{length-replicate}
 use Rattle.std.specs.List.{range_with_len}
 use Rattle.std.proofs.lemmas.List.FromFn.{length-range_with_len}
 use Rattle.mark_core.proofs.Words.{Which, Full, Empty, StandsAt, times, one_where, Account, look_of, part, Setup}
-use Rattle.mark_core.proofs.Words.{items_of, Chain, IsOwned, IsShelved, IsRecent, IsColoured, stacked_times, IsShared}
+use Rattle.mark_core.proofs.Words.{Chain, IsOwned, IsShelved, IsRecent, IsColoured, stacked_times, IsShared}
 use Rattle.mark_core.proofs.Words.{HasNothing, whole, Law, first_heads, first_link, opening, first_length}
 use Rattle.mark_core.proofs.Places.{OfEach, one_all}
-use Rattle.mark_core.proofs.Sums.{sum_of-nothing}
 use Rattle.mark_core.proofs.Chains.{recent_bare}
 use Rattle.mark_core.proofs.Ownership.{counted_below}
 use Rattle.mark_core.proofs.Chosen.{times-range}
@@ -31,10 +29,9 @@ at_replicate zero i x h = absurd (omega arith)
 at_replicate (suc n) zero x h = refl
 at_replicate (suc n) (suc i) x h = at_replicate n i x (omega arith)
 
-in_replicate : {X : Type 0} (n i : ℕ) (x y : X) → StandsAt (replicate n x) i y → x ≡ y
-in_replicate zero i x y e = absurd (some-ne-none y (sym e))
-in_replicate (suc n) zero x y e = some-injective x y e
-in_replicate (suc n) (suc i) x y e = in_replicate n i x y e
+stacked_nowhere : (n o : ℕ) → stacked_times o (replicate n (Some [])) ≡ 0
+stacked_nowhere zero o = refl
+stacked_nowhere (suc n) o = omega (arith, stacked_nowhere n o)
 
 module _ (e : Setup) (tag : ℕ) (some_buffer : 0 < e.buffers) where
   first_stack : Which → List ℕ
@@ -82,17 +79,13 @@ module _ (e : Setup) (tag : ℕ) (some_buffer : 0 < e.buffers) where
   first_coloured : IsColoured e (λ o. 0) (replicate e.buffers (Some [])) (part whole ∷ [])
   first_coloured =
       record {
-        colours = λ o. inl (refl, omega (arith, bare o), refl);
+        colours = λ o. inl (refl, omega (arith, stacked_nowhere e.buffers o), refl);
         closed = λ o s two pair. absurd (omega arith);
         reachable = λ o one. absurd (omega arith);
         saw =
             one_all (λ (a : Account). (o : ℕ) → Contains a.seen o → 1 ≤ 0) (part whole)
             (λ o k. absurd (omega (arith, k.1)));
       }
-    where
-      bare : (o : ℕ) → stacked_times o (replicate e.buffers (Some [])) ≡ 0
-      bare o = sum_of-nothing (λ slot. times o (items_of slot)) (replicate e.buffers (Some []))
-          (λ i slot at. sym (ap (λ s. times o (items_of s)) (in_replicate e.buffers i (Some []) slot at)))
 
   first_shared : IsShared (part whole ∷ [])
   first_shared = record {

@@ -1,9 +1,9 @@
 -- What each event leaves of the ownership of the buffers.
 use Rattle.std.proofs.Common.{◌≡◌, ◌≢◌, ◌⊎◌, ℕ, ◌+◌, ◌<◌, ◌≤◌, Bool, true, false, nat_lt, List, [], ◌∷◌, ◌++◌}
-use Rattle.std.proofs.Common.{Option, Some, set, ap, sym, refl, subst, ◌∙◌, inl, inr, ⊎_elim, le-ltb, lt_of_not-le}
+use Rattle.std.proofs.Common.{Option, Some, set, ap, sym, refl, subst, ◌∙◌, inl, inr, ⊎_elim, le-ltb}
 use Rattle.std.proofs.Common.{arith}
-use Rattle.std.proofs.lemmas.Bool.{or_left, or_right}
-use native.Mathlib.Decide.{dec_le, ℕ_discrete}
+use Rattle.std.proofs.lemmas.Bool.{cases_lt, or_left, or_right}
+use native.Mathlib.Decide.{ℕ_discrete}
 use Rattle.tagged_index.specs.Head.{Head, after}
 use Rattle.mark_core.proofs.Words.{Which, Full, Empty, StandsAt, times, one_where, only, Account, look_of, part}
 use Rattle.mark_core.proofs.Words.{no_share, after_pop, after_push, after_join, put_which, Chain, IsRecent, IsOwned}
@@ -15,11 +15,8 @@ use Rattle.mark_core.proofs.Chains.{recent_link}
 
 -- a number counted among the buffers is below their number
 pub counted_below : (b n : ℕ) → 0 < one_where (nat_lt b n) → b < n
-counted_below b n h = go (dec_le n b)
-  where
-    go : Dec (n ≤ b) → b < n
-    go (yes p) = let e = ap one_where (le-ltb b n p) in absurd (omega arith)
-    go (no p) = lt_of_not-le p
+counted_below b n h =
+    ⊎_elim (λ low. low) (λ past. let e = ap one_where (le-ltb b n past) in absurd (omega arith)) (cases_lt b n)
 
 pub counted_once : (t : Bool) → one_where t ≤ 1
 counted_once true = omega arith

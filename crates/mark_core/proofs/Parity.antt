@@ -46,34 +46,35 @@ module _ (e : Setup) (m : Marking) (law : Law e m) (w : ℕ) (a : Account) (ther
   effect_parity (Push p i items) can q old new c = push_parity m.head p q i old new c
   effect_parity _ can q old new c = same_list m q old new c
 
-happens_parity :
-    (e : Setup) (m : Marking) (event : Event) → Law e m → IsPossible e m event → (q : Which) (old new : List ℕ)
-    → IsListOf m q old → IsListOf (happens m event) q new
-    → Keeps m (happens m event) event.kind q old new
-happens_parity e m event law can q old new c n =
-    let same = happens_as e m event can in
-    subst (λ n. Keeps m n event.kind q old new) (sym same)
-    (effect_parity e m law event.worker can.0 can.1 event.kind can.2 q old new
-    (effect_changes e m law event.worker can.0 can.1 event.kind can.2 q old new c
-    (subst (λ n. IsListOf n q new) same n)))
+module _ (e : Setup) (q : Which) where
+  happens_parity :
+      (m : Marking) (event : Event) → Law e m → IsPossible e m event → (old new : List ℕ) → IsListOf m q old
+      → IsListOf (happens m event) q new → Keeps m (happens m event) event.kind q old new
+  happens_parity m event law can old new c n =
+      let same = happens_as e m event can in
+      subst (λ n. Keeps m n event.kind q old new) (sym same)
+      (effect_parity e m law event.worker can.0 can.1 event.kind can.2 q old new
+      (effect_changes e m law event.worker can.0 can.1 event.kind can.2 q old new c
+      (subst (λ n. IsListOf n q new) same n)))
 
-run_parity :
-    (e : Setup) (events : List Event) (first last : Marking) → Law e first → Run e first events last
-    → (q : Which) (old new : List ℕ) → IsListOf first q old → IsListOf last q new
-    → (last.head q).tag + length new ≡ (first.head q).tag + length old + 2 * pushes_among events q
-run_parity e [] first last law run q old new c n =
-    let same : new ≡ old = chain_one first.link (first.head q).index new old (subst (λ m. IsListOf m q new) run n) c in
-    omega (arith, ap length same, ap (λ (m : Marking). (m.head q).tag) run)
-run_parity e (event ∷ events) first last law run q old new c n =
-    let next = happens_keeps e first event law run.0 in
-    let here = happens_parity e first event law run.0 q old (next.stack q) c (next.owned.chain q) in
-    let later = run_parity e events (happens first event) last next run.1 q (next.stack q) new (next.owned.chain q) n in
-    omega (arith, here, later)
+  run_parity :
+      (events : List Event) (first last : Marking) → Law e first → Run e first events last → (old new : List ℕ)
+      → IsListOf first q old → IsListOf last q new
+      → (last.head q).tag + length new ≡ (first.head q).tag + length old + 2 * pushes_among events q
+  run_parity [] first last law run old new c n =
+      let there : IsListOf first q new = subst (λ m. IsListOf m q new) run n in
+      let same : new ≡ old = chain_one first.link (first.head q).index new old there c in
+      omega (arith, ap length same, ap (λ (m : Marking). (m.head q).tag) run)
+  run_parity (event ∷ events) first last law run old new c n =
+      let next = happens_keeps e first event law run.0 in
+      let here = happens_parity first event law run.0 old (next.stack q) c (next.owned.chain q) in
+      let later = run_parity events (happens first event) last next run.1 (next.stack q) new (next.owned.chain q) n in
+      omega (arith, here, later)
 
 pub tags_keep_parity : TagsKeepParity
 tags_keep_parity e events m some_buffer run q list is =
     let law = opening_keeps e e.first_tag some_buffer in
-    let all = run_parity e events (opening e e.first_tag) m law run q (law.stack q) list (law.owned.chain q) is in
+    let all = run_parity e q events (opening e e.first_tag) m law run (law.stack q) list (law.owned.chain q) is in
     omega (arith, all, opening_length e e.first_tag some_buffer q, first_tags q)
   where
     first_tags : (p : Which) → ((opening e e.first_tag).head p).tag ≡ e.first_tag

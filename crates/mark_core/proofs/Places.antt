@@ -66,9 +66,15 @@ module _ {X : Type 0} where
   pub put_one : (C : Which → X → Type 0) (q : Which) (x : X) (f : Which → X) → C q x → ((p : Which) → C p (f p))
       → (p : Which) → C p (put_which q x f p)
   put_one C Full x f here each Full = here
-  put_one C Full x f here each Empty = each Empty
-  put_one C Empty x f here each Full = each Full
   put_one C Empty x f here each Empty = here
+  put_one C _ x f here each p = each p
+
+-- the same of two functions
+pub put_two : {X Y : Type 0} (C : X → Y → Type 0) (q : Which) (x : X) (y : Y) (f : Which → X) (g : Which → Y) → C x y
+    → ((p : Which) → C (f p) (g p)) → (p : Which) → C (put_which q x f p) (put_which q y g p)
+put_two C Full x y f g here each Full = here
+put_two C Empty x y f g here each Empty = here
+put_two C _ x y f g here each p = each p
 
 -- what holds of each element of a list, by its place, after one was written or put at the end
 pub set_at :
@@ -112,11 +118,3 @@ set_back P xs w a b is all own k x at = go (ℕ_discrete k w)
         let same : x ≡ a = at_one xs w x a (subst (λ j. StandsAt xs j x) e at) is in
         subst (P k) (sym same) (subst (λ j. P j a) (sym e) (own (all w b (set_here xs w b a is))))
     go (no n) = all k x (set_else xs w k b n ∙ at)
-
--- the same of two functions
-pub put_two : {X Y : Type 0} (C : X → Y → Type 0) (q : Which) (x : X) (y : Y) (f : Which → X) (g : Which → Y) → C x y
-    → ((p : Which) → C (f p) (g p)) → (p : Which) → C (put_which q x f p) (put_which q y g p)
-put_two C Full x y f g here each Full = here
-put_two C Full x y f g here each Empty = each Empty
-put_two C Empty x y f g here each Full = each Full
-put_two C Empty x y f g here each Empty = here

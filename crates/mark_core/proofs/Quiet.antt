@@ -377,46 +377,46 @@ all_idle (b ∷ cs) all even (suc k) a at =
     let rest : AllApart cs = λ j c f. all (suc j) c f in
     all_idle cs rest (omega (arith, even, first, sum_le cs rest)) k a at
 
-quiet_list :
-    (idle n : ℕ) (top : Option ℕ) (accounts : List Account)
-    → IsHushed idle top accounts → share_sum accounts ≡ whole → 0 < n → idle ≡ n
-    → ((k : ℕ) (a : Account) → StandsAt accounts k a → a.joined ≡ false)
-    → ((a : Account) → StandsAt accounts 0 a → HasGivenUnits n a)
-    → (top ≡ None) × ((k : ℕ) (a : Account) → 0 < k → StandsAt accounts k a → a.charge ≡ [])
-quiet_list idle n top [] s sum least word apart opening = absurd (omega (arith, sum))
-quiet_list idle n top (a ∷ cs) s sum least word apart opening =
-    (s.emptied found, λ k b later at. (others k b at later).0)
-  where
-    o : HasGivenUnits n a
-    o = opening a refl
+module _ (idle n : ℕ) (top : Option ℕ) where
+  quiet_list :
+      (accounts : List Account) → IsHushed idle top accounts → share_sum accounts ≡ whole → 0 < n → idle ≡ n
+      → ((k : ℕ) (a : Account) → StandsAt accounts k a → a.joined ≡ false)
+      → ((a : Account) → StandsAt accounts 0 a → HasGivenUnits n a)
+      → (top ≡ None) × ((k : ℕ) (a : Account) → 0 < k → StandsAt accounts k a → a.charge ≡ [])
+  quiet_list [] s sum least word apart opening = absurd (omega (arith, sum))
+  quiet_list (a ∷ cs) s sum least word apart opening =
+      (s.emptied found, λ k b later at. (others k b at later).0)
+    where
+      o : HasGivenUnits n a
+      o = opening a refl
 
-    none : a.idle ≡ 0
-    none =
-        let rest = s.resting 0 a refl (apart 0 a refl) in
-        ⊎_elim (λ z. z) (λ r. ⊎_elim (λ ne. absurd (ne r.1)) (λ z. z) o.busy) rest.1
+      none : a.idle ≡ 0
+      none =
+          let rest = s.resting 0 a refl (apart 0 a refl) in
+          ⊎_elim (λ z. z) (λ r. ⊎_elim (λ ne. absurd (ne r.1)) (λ z. z) o.busy) rest.1
 
-    all : AllApart cs
-    all k b at = (apart (suc k) b at, s.resting (suc k) b at)
+      all : AllApart cs
+      all k b at = (apart (suc k) b at, s.resting (suc k) b at)
 
-    even : idle_sum cs ≡ share_sum cs
-    even = omega (arith, s.counted, word, none, o.units, sum, sum_le cs all)
+      even : idle_sum cs ≡ share_sum cs
+      even = omega (arith, s.counted, word, none, o.units, sum, sum_le cs all)
 
-    longer : (bs : List Account) → 0 < share_sum bs → 1 < suc (length bs)
-    longer [] h = absurd (omega arith)
-    longer (b ∷ bs) h = omega arith
+      longer : (bs : List Account) → 0 < share_sum bs → 1 < suc (length bs)
+      longer [] h = absurd (omega arith)
+      longer (b ∷ bs) h = omega arith
 
-    others : (k : ℕ) (b : Account) → StandsAt (a ∷ cs) k b → 0 < k → (b.charge ≡ []) × (b.found ≡ true)
-    others zero b at later = absurd (omega arith)
-    others (suc k) b at later = all_idle cs all even k b at
+      others : (k : ℕ) (b : Account) → StandsAt (a ∷ cs) k b → 0 < k → (b.charge ≡ []) × (b.found ≡ true)
+      others zero b at later = absurd (omega arith)
+      others (suc k) b at later = all_idle cs all even k b at
 
-    found : HaveFound (a ∷ cs)
-    found =
-        record {
-          apart = apart;
-          opening = λ k b at e. (opening b (subst (λ j. StandsAt (a ∷ cs) j b) e at)).pushed;
-          another = longer cs (omega (arith, least, o.units, sum));
-          others = λ k b at later. (others k b at later).1;
-        }
+      found : HaveFound (a ∷ cs)
+      found =
+          record {
+            apart = apart;
+            opening = λ k b at e. (opening b (subst (λ j. StandsAt (a ∷ cs) j b) e at)).pushed;
+            another = longer cs (omega (arith, least, o.units, sum));
+            others = λ k b at later. (others k b at later).1;
+          }
 
 pub quiet_is_done : QuietIsDone
 quiet_is_done e m n run quiet =

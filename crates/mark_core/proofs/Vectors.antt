@@ -60,17 +60,17 @@ pub record PopTold (head : Head) (a : Account) (q : Which) (i : ℕ) (l : Option
   pub link : (look_of a q).link ≡ Some l
   pub busy : IsBusy a
 
-pub pop_told :
-    (head : Head) (a : Account) (q : Which) (i : ℕ) (l : Option ℕ) (look : Look) (now : Head)
-    → look ≡ look_of a q → now ≡ head → look.head ≡ Some now → now.index ≡ Some i → look.link ≡ Some l → IsBusy a
-    → PopTold head a q i l
-pop_told head a q i l look now looked loaded shows top link busy =
-    record {
-      shows = sym (ap (λ (x : Look). x.head) looked) ∙ shows ∙ ap Some loaded;
-      top = sym (ap (λ (x : Head). x.index) loaded) ∙ top;
-      link = sym (ap (λ (x : Look). x.link) looked) ∙ link;
-      busy = busy;
-    }
+module _ (head : Head) (a : Account) (q : Which) (i : ℕ) (l : Option ℕ) (look : Look) (now : Head) where
+  pub pop_told :
+      look ≡ look_of a q → now ≡ head → look.head ≡ Some now → now.index ≡ Some i → look.link ≡ Some l → IsBusy a
+      → PopTold head a q i l
+  pop_told looked loaded shows top link busy =
+      record {
+        shows = rw (looked, loaded) at shows;
+        top = rw loaded at top;
+        link = rw looked at link;
+        busy = busy;
+      }
 
 module _ (s : Listing) (w : ℕ) (a b c : Account) (there : w < length s.accounts) (is_a : a ≡ get_or s.accounts w a)
     (is_b : b ≡ get_or s.accounts w b) where
@@ -201,25 +201,23 @@ module _ (s : Listing) (w : ℕ) (a b c : Account) (there : w < length s.account
         marks = refl;
       }
 
--- what the tests of a push tell
-pub may_push :
-    (s : Listing) (w : ℕ) (a : Account) → w < length s.accounts → a ≡ get_or s.accounts w a
-    → (q : Which) (i : ℕ) (items : List ℕ) (look : Look) (now : Head) → look ≡ look_of a q → now ≡ heads_of s q
-    → look.head ≡ Some now
-    → Contains a.held i → length items ≤ s.setup.size → (q ≡ Empty → items ≡ []) → get_or s.links i None ≡ now.index
-    → (q ≡ Full → IsBusy a) → IsReadyToPush s w q i items
-may_push s w a inside is q i items look now looked loaded shows held fits bare link busy =
-    let here : a ≡ account_at s.accounts w = account_here s.accounts w a inside is in
-    let head : (look_of a q).head ≡ Some (heads_of s q) = sym (ap (λ (l : Look). l.head) looked) ∙ shows
-    ∙ ap Some loaded in
-    record {
-      head = rw (← here) head;
-      held = rw (← here) held;
-      fits = fits;
-      bare = bare;
-      link = link ∙ ap (λ (h : Head). h.index) loaded;
-      busy = rw (← here) busy;
-    }
+module _ (s : Listing) (w : ℕ) (a : Account) (inside : w < length s.accounts) (is : a ≡ get_or s.accounts w a) where
+  -- what the tests of a push tell
+  pub may_push :
+      (q : Which) (i : ℕ) (items : List ℕ) (look : Look) (now : Head) → look ≡ look_of a q → now ≡ heads_of s q
+      → look.head ≡ Some now
+      → Contains a.held i → length items ≤ s.setup.size → (q ≡ Empty → items ≡ []) → get_or s.links i None ≡ now.index
+      → (q ≡ Full → IsBusy a) → IsReadyToPush s w q i items
+  may_push q i items look now looked loaded shows held fits bare link busy =
+      let here : a ≡ account_at s.accounts w = account_here s.accounts w a inside is in
+      record {
+        head = rw (← here) (rw (looked, loaded) at shows);
+        held = rw (← here) held;
+        fits = fits;
+        bare = bare;
+        link = rw loaded at link;
+        busy = rw (← here) busy;
+      }
 
 -- a buffer that may be pushed is one that a head can hold
 pub push_within : (s : Listing) (w : ℕ) → IsLawful s → w < length s.accounts → (q : Which) (i : ℕ) (items : List ℕ)

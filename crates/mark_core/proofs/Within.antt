@@ -1,10 +1,11 @@
 -- What the law says of the numbers that an event names: they are places of the tables.
 use Rattle.std.proofs.Common.{◌≡◌, ◌≢◌, ℕ, zero, suc, ◌+◌, ◌<◌, ◌≤◌, ◌^◌, List, [], ◌∷◌, length, get_or, set}
-use Rattle.std.proofs.Common.{get_or-set_other, Option, Some, Contains, ap, sym, subst, refl, ◌∙◌, inl, inr, arith}
+use Rattle.std.proofs.Common.{get_or-set_other, Option, Some, Contains, ap, sym, subst, refl, ◌∙◌, inl, inr}
+use Rattle.std.proofs.Common.{⊎_elim, arith}
 use Rattle.std.proofs.Math.ListN.{get_or-eq_default}
 use Rattle.std.proofs.lemmas.List.Elements.{All-contains}
 use Rattle.std.specs.Option.{ForSome}
-use native.Mathlib.Decide.{dec_le}
+use Rattle.std.proofs.lemmas.Bool.{cases_lt}
 use mathlib.Core.Option.{some}
 use Rattle.mark_core.proofs.Words.{Which, StandsAt, times, Account, look_of, no_share, account_at, IsThere, CanClaim}
 use Rattle.mark_core.proofs.Words.{Listing, IsLawful, heads_of, marking_of, weight}
@@ -59,15 +60,12 @@ module _ (s : Listing) (lawful : IsLawful s) where
     )
 
     pub charge_within : (o : ℕ) → Contains a.charge o → o < length s.marks
-    charge_within o k = go (dec_le (suc o) (length s.marks))
-      where
-        go : Dec (suc o ≤ length s.marks) → o < length s.marks
-        go (yes p) = omega arith
-        go (no n) =
-            let m = marking_of s in
-            let was = charged s.setup m.mark m.slots m.accounts lawful.law.coloured w a here o
-            (stands_times a.charge o k) in
-            absurd (omega (arith, was.0, get_or-eq_default s.marks 0 {n = o} (omega arith)))
+    charge_within o k =
+        let m = marking_of s in
+        let was = charged s.setup m.mark m.slots m.accounts lawful.law.coloured w a here o
+        (stands_times a.charge o k) in
+        ⊎_elim (λ low. low) (λ past. absurd (omega (arith, was.0, get_or-eq_default s.marks 0 {n = o} past)))
+        (cases_lt o (length s.marks))
 
     pub held_within : (i : ℕ) → Contains a.held i → i < s.setup.buffers
     held_within i k = let m = marking_of s in

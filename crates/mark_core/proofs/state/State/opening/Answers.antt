@@ -25,7 +25,7 @@ returns-clause-marking g c =
       accounts = c.push.new.self.items;
     }
     in
-    opens tables _ c.args.setup c.setup.inside.first_tag c.setup.view_is c.none.ensures c.of.ensures
+    opens tables c.args.setup c.setup.inside.first_tag _ c.setup.view_is c.none.ensures c.of.ensures
     c.in_ok-links.ensures.links (c.in_ok-marks.ensures.items_if_clones_equal (λ y e. e)) c.in_ok-slots.ensures
     refl accounts
     ∙ ap (λ (e : Setup). opening c.args.setup e.first_tag) c.setup.view_is
