@@ -1,3 +1,4 @@
 pub mod Hint
 pub mod Marking
 pub mod NoReport
+pub mod StatusOfSome

@@ -13,6 +13,7 @@ use crate::reopened::open_again;
 use crate::shown::Shown;
 use beginning::{Beginning, Packer, Version};
 use command_line::Arguments;
+use hprof_grammar::LIMIT;
 use records::record_end;
 use std::io::{Read, Write};
 use std::rt::Files;
@@ -46,9 +47,6 @@ pub(crate) enum Hint<'a> {
     /// The text of the fields to be skipped lists none.
     Fields,
 }
-
-/// The place at which a file is refused that has more bytes than a dump may have.
-const MOST_BYTES: u64 = 1_073_741_824;
 
 /// Prints in one line what can be done about a refusal, where something can. `length` is how many bytes of the file
 /// were read, where that is known.
@@ -91,7 +89,8 @@ fn hint_of<'a, T: Files>(
         3 => Some(Hint::EndsEarly(shown)),
         6 if is_in_last_record(rt, file, refusal.offset, length) => Some(Hint::EndsEarly(shown)),
         8 if is_at_end(refusal.offset, length) => Some(Hint::EndsEarly(shown)),
-        14 if refusal.offset == Some(MOST_BYTES) => Some(Hint::TooManyBytes(shown)),
+        // The place at which a file is refused that has more bytes than a dump may have.
+        14 if refusal.offset == Some(u64::from(LIMIT)) => Some(Hint::TooManyBytes(shown)),
         14 => Some(Hint::TooManyObjects(shown)),
         15 => Some(Hint::Memory(shown, workers)),
         16 => Some(Hint::FirstTag(first_tag)),

@@ -9,10 +9,10 @@
 //! both in words, and `docs/ARCHITECTURE.md` where everything else is.
 #![tactic(auto)]
 
-ghost use Rattle.std.specs.Prelude.{◌≡◌, ◌+◌, ◌-◌, ◌^◌, ◌<◌, ◌≤◌};
+ghost use Rattle.std.specs.Prelude.{◌≡◌, ◌-◌, ◌^◌, ◌<◌};
 ghost use Rattle.std.specs.Io.KnownBytes.{Keeps};
-ghost use Rattle.heapmark.specs.SkippedFields.{WritesBeginningForSome};
-ghost use Rattle.histogram.specs.Counting.{failures_of, inner_of};
+ghost use Rattle.heapmark.specs.working.StatusOfSome.{IsStatusOfSome};
+ghost use Rattle.histogram.specs.Counting.{failures_of};
 
 mod command;
 mod hint;
@@ -61,13 +61,7 @@ where
     W: Write,
     E: Write + IsTerminal,
     requires { failures_of out.old < 2 ^ 64 - 1 }
-    ensures status { result ≤ 2 }
-    ensures untouched { result ≡ 2 → Keeps (W.contents (inner_of out.old)) (W.contents (inner_of out.new)) }
-    ensures unwritten { result ≡ 1 → failures_of out.new ≡ failures_of out.old
-        → Keeps (W.contents (inner_of out.old)) (W.contents (inner_of out.new)) }
-    ensures beginning { result ≡ 1 → failures_of out.new ≡ failures_of out.old + 1
-        → WritesBeginningForSome (W.contents (inner_of out.old)) (W.contents (inner_of out.new)) }
-    ensures failures { failures_of out.new ≤ failures_of out.old + 1 }
+    ensures { IsStatusOfSome result W.contents out.old out.new }
 {
     let status = start(rt, line, out, err);
     if status == status::DONE && err.is_terminal() {
@@ -92,7 +86,7 @@ where
 }
 
 /// Hands the words of the command line to the program, and answers the exit status. No contract knows these words, so
-/// the clauses say what each status means for the streams.
+/// the clauses say what each status means for the streams alone.
 fn start<T, V, W, E>(rt: &T, line: &V, out: &mut Counted<W>, err: &mut E) -> u8
 where
     T: Files + AllocGlobal + Threads + Wait + Sync,
@@ -100,18 +94,10 @@ where
     W: Write,
     E: Write + IsTerminal,
     requires { failures_of out.old < 2 ^ 64 - 1 }
-    ensures status { result ≤ 2 }
+    ensures status { IsStatusOfSome result W.contents out.old out.new }
 
-    // At 0 no refusal was told, and at 2 nothing was written.
+    // At 0 no refusal was told.
     ensures silent { result ≡ 0 → Keeps (E.contents err.old) (E.contents err.new) }
-    ensures untouched { result ≡ 2 → Keeps (W.contents (inner_of out.old)) (W.contents (inner_of out.new)) }
-
-    // At 1 nothing was written, but for a beginning of a report where the writer failed.
-    ensures unwritten { result ≡ 1 → failures_of out.new ≡ failures_of out.old
-        → Keeps (W.contents (inner_of out.old)) (W.contents (inner_of out.new)) }
-    ensures beginning { result ≡ 1 → failures_of out.new ≡ failures_of out.old + 1
-        → WritesBeginningForSome (W.contents (inner_of out.old)) (W.contents (inner_of out.new)) }
-    ensures failures { failures_of out.new ≤ failures_of out.old + 1 }
 {
     let args = match args_of(line, rt.alloc()) {
         Ok(args) => args,

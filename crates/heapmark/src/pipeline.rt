@@ -17,14 +17,14 @@ use crate::refusal::Refusal;
 use drain::{Gate, Options, mark};
 use heap_graph::{Graph, Skip};
 use histogram::{Counted, Report, rows, write_report};
-use hprof_grammar::{Team, read};
+use hprof_grammar::{LIMIT, Team, read};
 use std::alloc::Allocator;
 use std::io::{Read, Write};
 use std::sync::Wait;
 use std::thread::Threads;
 
 /// One byte more than a dump may have, so that a longer one is seen as such.
-const MOST_BYTES: usize = 1_073_741_825;
+const READ_LIMIT: usize = LIMIT as usize + 1;
 
 /// Reads a heap dump, marks its reachable objects with a thread for each worker, and writes the histogram of them. What
 /// stands in the fields to be skipped is not followed, and does not count as unresolved.
@@ -126,7 +126,7 @@ pub(crate) fn read_bytes<A: Allocator, R: Read>(
     ensures fault { HasCode result 19 ↔ (failures_of reader.new ≡ failures_of reader.old + 1) }
     ensures no_fault { (HasCode result 19 → ⊥) → failures_of reader.new ≡ failures_of reader.old }
 {
-    match reader.read_to_limit(alloc, MOST_BYTES) {
+    match reader.read_to_limit(alloc, READ_LIMIT) {
         Ok(bytes) => Ok(bytes),
         Err(refusal) => Err(Refusal::from(refusal)),
     }
