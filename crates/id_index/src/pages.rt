@@ -60,7 +60,8 @@ pub(crate) fn first_from(runs: &[Run], begin: usize, end: usize, near: usize, pa
     if end - begin > MANY_RUNS {
         (low, high) = narrowed(runs, begin, end, near, page);
     }
-    let mut at = near.min(high);
+    // The guess may lie below both: from there it would be many steps.
+    let mut at = near.max(low).min(high);
     while at > low && runs[at - 1].page >= page {
         at -= 1;
     }

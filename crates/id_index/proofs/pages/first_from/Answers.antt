@@ -8,12 +8,12 @@ pub loop-at-2-init : goal.loop-at-2-init
 loop-at-2-init c =
     let around = c.loop-at.invariant.0 in (
       around,
-      c.loop-at.invariant.1,
+      c.loop-at.invariant.2,
       elim c.loop-at-test.branch [
         | then-loop-at-test+else-runs-at w ↦ λ k h.
             let rise : page_in c.args.runs.now k ≤ page_in c.args.runs.now (c.loop-at.at - 1) =
             c.requires.rise k (c.loop-at.at - 1) (omega (arith, h))
-            (omega (arith, h, c.loop-at.invariant.1, around.within)) in
+            (omega (arith, h, c.loop-at.invariant.2, around.within)) in
             omega (arith, rise, w.if-runs-at.false)
         | else-loop-at-test w ↦ λ k h. around.before k (omega (arith, h, w.loop-at-test.false))
       ],

@@ -3,7 +3,7 @@ use Rattle.id_index.proofs.Words.{IsAround, page_in, ℕ, ◌-◌, ◌<◌, ◌�
 use Rattle.id_index.proofs.pages.first_from.Given as goal
 
 abbrev pub invariant-loop-at : goal.invariant-loop-at
-invariant-loop-at l = IsAround l.runs l.page l.low l.high × (l.at ≤ l.high)
+invariant-loop-at l = IsAround l.runs l.page l.low l.high × (l.low ≤ l.at) × (l.at ≤ l.high)
 
 abbrev pub decreases-loop-at : goal.decreases-loop-at
 decreases-loop-at l = l.at - l.low
