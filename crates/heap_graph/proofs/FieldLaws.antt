@@ -4,7 +4,7 @@ use Rattle.heap_graph.proofs.Words.{append_assoc, arith, big_number, class_field
 use Rattle.heap_graph.proofs.Words.{false, field_ids, flat_map, if◌then◌else◌, length, member_fields, nat_tests, not}
 use Rattle.heap_graph.proofs.Words.{number, refl, size_of_fields, size_together, static_fields, sum_by-cons, sym, take}
 use Rattle.heap_graph.proofs.Words.{true, ℕ, ◌&&◌, ◌++◌, ◌==◌, ◌∙◌, ◌∷◌, ◌≡◌, ◌≤◌}
-use Rattle.hprof_grammar.specs.FormatTables.{is_type_at, size_of}
+use Rattle.hprof_grammar.specs.TagsAndTypes.{is_type_at, size_of}
 
 -- a value of type 2 is an identifier
 pub size_of_id : (s : ℕ) → size_of s 2 ≡ s

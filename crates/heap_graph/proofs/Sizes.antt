@@ -6,7 +6,7 @@ use Rattle.heap_graph.proofs.Words.{length-bytes_high_first, map, member_fields,
 use Rattle.heap_graph.proofs.Words.{primitive_array_dump, raw, root, size_of, spelled, spelling_of, static_fields}
 use Rattle.heap_graph.proofs.Words.{sum_by, sum_by-cons, true, type_code, ℕ, ◌*◌, ◌++◌, ◌+◌, ◌∙◌, ◌∷◌, ◌≡◌, ◌≤◌}
 use Rattle.hprof_grammar.specs.Spelling as spelling
-use Rattle.hprof_grammar.specs.FormatTables.{is_id_size, is_type_at}
+use Rattle.hprof_grammar.specs.TagsAndTypes.{is_id_size, is_type_at}
 
 -- ---- two facts of the tables
 

@@ -32,7 +32,7 @@ pub use Rattle.byteorder.specs.Numbers.{big_from-take, length-bytes_high_first}
 pub use Rattle.hprof_grammar.proofs.BoundsLaws.{bounds}
 pub use Rattle.hprof_grammar.specs.Bounds.{IsStatic}
 pub use Rattle.hprof_grammar.specs.Dump.{Spells, header, heap_list, is_object, is_root, limit, places_where, spellings}
-pub use Rattle.hprof_grammar.specs.FormatTables.{size_of}
+pub use Rattle.hprof_grammar.specs.TagsAndTypes.{size_of}
 pub use Rattle.hprof_grammar.specs.ObjectKinds.{object_kind}
 pub use Rattle.hprof_grammar.specs.Places.{IsDumpOf, Places, is_load, is_string, places_of}
 pub use Rattle.hprof_grammar.specs.Record.{Record, body_of, record_spelling, subs_of, tag_of, time_of}

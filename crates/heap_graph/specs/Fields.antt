@@ -2,7 +2,7 @@
 use Rattle.std.specs.Prelude.{Bool, List, [], drop, flat_map, if◌then◌else◌, map, not, take, ℕ, ◌&&◌, ◌++◌, ◌==◌, ◌∷◌}
 use Rattle.byteorder.specs.Endian.{big_number}
 use Rattle.hprof_grammar.specs.SubRecord.{Class, Member}
-use Rattle.hprof_grammar.specs.FormatTables.{size_of}
+use Rattle.hprof_grammar.specs.TagsAndTypes.{size_of}
 
 -- the fields that a class declares, each beside the class, and those of a layout
 abbrev pub own_fields : Class → List (Class × Member)

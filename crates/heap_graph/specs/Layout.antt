@@ -1,7 +1,7 @@
 -- The superclasses of a class, and the layout of its instances.
 use Rattle.std.specs.Prelude.{List, Some, [], flat_map, length, sum_by, ℕ, ◌∷◌, ◌≡◌}
 use Rattle.heap_graph.specs.Heap.{class_named}
-use Rattle.hprof_grammar.specs.FormatTables.{size_of}
+use Rattle.hprof_grammar.specs.TagsAndTypes.{size_of}
 use Rattle.hprof_grammar.specs.SubRecord.{Class, Member, SubRecord}
 
 -- these are the class of that identifier, its superclass, and so on up

@@ -1,7 +1,7 @@
 -- The row and the bytes of an object.
 use Rattle.std.specs.Prelude.{List, length, sum_by, ℕ, ◌*◌}
 use Rattle.heap_graph.specs.Heap.{class_number}
-use Rattle.hprof_grammar.specs.FormatTables.{size_of}
+use Rattle.hprof_grammar.specs.TagsAndTypes.{size_of}
 use Rattle.hprof_grammar.specs.SubRecord.{SubRecord}
 use Rattle.hprof_grammar.specs.SubRecord.SubRecord.{class_dump, instance_dump, object_array_dump, primitive_array_dump}
 use Rattle.hprof_grammar.specs.SubRecord.SubRecord.{root}

@@ -2,7 +2,7 @@
 use Rattle.std.proofs.Common.{Bool, List, Some, [], codes, refl, true, false, ℕ, ◌++◌, ◌∷◌, ◌≡◌, reverse, slice_get, subst, sym}
 use Rattle.std.proofs.Common.{zero, suc}
 use Rattle.std.specs.Fmt.{digits}
-use Rattle.hprof_grammar.specs.FormatTables.{size_of}
+use Rattle.hprof_grammar.specs.TagsAndTypes.{size_of}
 use Rattle.hprof_grammar.specs.SubRecord.{Class, Instance, Member, SubRecord}
 use Rattle.hprof_grammar.specs.SubRecord.RootOrigin.{unknown}
 use Rattle.hprof_grammar.specs.SubRecord.SubRecord.{class_dump, instance_dump, root}

@@ -3,7 +3,7 @@
 -- just where it is formed (`IsFormed`) stands in proofs/BoundsLaws.antt.
 use Rattle.std.specs.Prelude.{length, ℕ, ◌*◌, ◌<◌, ◌^◌, ◌≡◌}
 use Rattle.std.specs.List.{AllByRecursion}
-use Rattle.hprof_grammar.specs.FormatTables.{size_of}
+use Rattle.hprof_grammar.specs.TagsAndTypes.{size_of}
 use Rattle.hprof_grammar.specs.SubRecord.{Class, Constant, Instance, Member, ObjectArray, PrimitiveArray, Root}
 use Rattle.hprof_grammar.specs.SubRecord.{RootOrigin, Static, SubRecord}
 use Rattle.hprof_grammar.specs.SubRecord.RootOrigin.{java_frame, jni_global, jni_local, monitor_used, native_stack}

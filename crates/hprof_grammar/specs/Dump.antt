@@ -4,7 +4,7 @@ use Rattle.std.specs.Prelude.{◌∷◌, ◌≡◌, ◌≤◌}
 use Rattle.std.specs.List.{AllByRecursion}
 use Rattle.byteorder.specs.Endian.{big_bytes}
 use Rattle.hprof_grammar.specs.Record.{IsRecord, Record, record_spelling, subs_of}
-use Rattle.hprof_grammar.specs.FormatTables.{is_id_size}
+use Rattle.hprof_grammar.specs.TagsAndTypes.{is_id_size}
 use Rattle.hprof_grammar.specs.SubRecord.{SubRecord, spelling_of}
 use Rattle.hprof_grammar.specs.SubRecord.SubRecord.{class_dump, instance_dump, object_array_dump, primitive_array_dump}
 use Rattle.hprof_grammar.specs.SubRecord.SubRecord.{root}

@@ -1,4 +1,4 @@
-pub mod FormatTables
+pub mod TagsAndTypes
 pub mod Snapshot
 pub mod Spelling
 pub mod SubRecord

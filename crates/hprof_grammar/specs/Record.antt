@@ -2,7 +2,7 @@
 use Rattle.std.specs.Prelude.{List, [], false, flat_map, length, true, ℕ, ◌++◌, ◌<◌, ◌^◌, ◌∷◌, ◌≡◌}
 use Rattle.std.specs.List.{AllByRecursion}
 use Rattle.byteorder.specs.Endian.{big_bytes}
-use Rattle.hprof_grammar.specs.FormatTables.{is_heap_tag, is_length_of}
+use Rattle.hprof_grammar.specs.TagsAndTypes.{is_heap_tag, is_length_of}
 use Rattle.hprof_grammar.specs.SubRecord.{IsSubRecord, SubRecord, spelling_of}
 
 pub data Record : Type 0 where

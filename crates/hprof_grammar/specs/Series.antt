@@ -2,7 +2,7 @@
 use Rattle.std.specs.Prelude.{List, [], drop, length, slice_index, suc, take, zero, ℕ, ◌*◌, ◌+◌, ◌∷◌, ◌≤◌}
 use Rattle.byteorder.specs.Endian.{big_number}
 use Rattle.hprof_grammar.specs.SubRecord.{Constant, Member, Static}
-use Rattle.hprof_grammar.specs.FormatTables.{size_of}
+use Rattle.hprof_grammar.specs.TagsAndTypes.{size_of}
 
 -- n numbers of `width` bytes each
 abbrev pub numbers_in : ℕ → ℕ → List ℕ → List ℕ

@@ -2,7 +2,7 @@
 use Rattle.std.specs.Prelude.{List, [], false, flat_map, length, true, ℕ, ◌++◌, ◌<◌, ◌^◌, ◌∷◌, ◌≡◌}
 use Rattle.std.specs.List.{AllByRecursion}
 use Rattle.byteorder.specs.Endian.{big_bytes}
-use Rattle.hprof_grammar.specs.FormatTables.{is_type_at}
+use Rattle.hprof_grammar.specs.TagsAndTypes.{is_type_at}
 use Rattle.hprof_grammar.specs.declared.kinds.TypePlace.{TypePlace}
 
 pub data Field : Type 0 where

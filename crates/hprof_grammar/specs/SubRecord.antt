@@ -1,7 +1,7 @@
 -- The sub-records of a heap record, and their fields in the order that the manual gives them.
 use Rattle.std.specs.Prelude.{List, [], flat_map, length, map, true, ℕ, ◌*◌, ◌++◌, ◌∷◌, ◌≡◌}
 use Rattle.std.specs.List.{AllByRecursion}
-use Rattle.hprof_grammar.specs.FormatTables.{is_sub_tag, size_of}
+use Rattle.hprof_grammar.specs.TagsAndTypes.{is_sub_tag, size_of}
 use Rattle.hprof_grammar.specs.Spelling.{AreAllowed, Field, Fits, spelled}
 use Rattle.hprof_grammar.specs.Spelling.Field.{number, raw, type_code}
 use Rattle.hprof_grammar.specs.declared.kinds.TypePlace.TheVariants.{InArray, InConstant, InMember, InStatic}

@@ -22,7 +22,6 @@ mod cuts;
 mod dump;
 mod fault_codes;
 mod flaw;
-mod format_tables;
 mod frame;
 mod kinds;
 mod laws;
@@ -35,6 +34,7 @@ mod snapshot_order;
 mod sub_record_list;
 mod sub_records;
 mod tags;
+mod tags_and_types;
 mod team;
 mod view;
 

@@ -4,8 +4,8 @@ ghost use Rattle.std.specs.Prelude.{◌≡◌, ◌==◌, length};
 ghost use Rattle.hprof_grammar.specs.working.Reading.{Reads, ReadsAs, Passes, list_at, number_at, raw_at, type_at};
 
 use crate::flaw::Flaw;
-use crate::format_tables::is_type_at;
 use crate::kinds::TypePlace;
+use crate::tags_and_types::is_type_at;
 use byteorder::{BigEndian, ByteOrder};
 
 /// The bytes that are left to read.

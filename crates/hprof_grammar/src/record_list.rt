@@ -7,11 +7,11 @@ ghost use Rattle.hprof_grammar.specs.Refusal.{IfFault};
 
 use crate::dump::Dump;
 use crate::flaw::{FormatFault, ReadRefusal};
-use crate::format_tables::is_length_of;
 use crate::frame::next_frame;
 use crate::reader::Reader;
 use crate::snapshot_order::Order;
 use crate::sub_record_list::note_subs;
+use crate::tags_and_types::is_length_of;
 use crate::{fault_codes, tags};
 use std::alloc::Allocator;
 

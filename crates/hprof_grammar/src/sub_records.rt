@@ -4,7 +4,7 @@
 ghost use Rattle.std.specs.Prelude.{◌≡◌, ◌≤◌, IfOk, Some, slice_get, ℕ};
 ghost use Rattle.std.specs.Option.{option_and_then};
 ghost use Rattle.hprof_grammar.specs.Kinds as kind_tables;
-ghost use Rattle.hprof_grammar.specs.FormatTables as tables;
+ghost use Rattle.hprof_grammar.specs.TagsAndTypes as tables;
 ghost use Rattle.hprof_grammar.specs.working.Reading.{Passes, class_dump_at, constant_at, counted_at, instance_at};
 ghost use Rattle.hprof_grammar.specs.working.Reading.{list_at};
 ghost use Rattle.hprof_grammar.specs.working.Reading.{member_at, number_at, object_array_at, then_at};
@@ -12,9 +12,9 @@ ghost use Rattle.hprof_grammar.specs.working.Reading.{primitive_array_at, raw_at
 ghost use Rattle.hprof_grammar.specs.working.Reading.{type_at};
 
 use crate::flaw::Flaw;
-use crate::format_tables::{kind_of, size_of};
 use crate::kinds::{Kind, RootKind, TypePlace};
 use crate::reader::Reader;
+use crate::tags_and_types::{kind_of, size_of};
 
 /// A type code, and a value of that type.
 fn typed_value(reader: &mut Reader<'_>, id_size: u8, place: TypePlace) -> Result<(), Flaw>

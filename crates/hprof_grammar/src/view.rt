@@ -18,10 +18,10 @@ ghost use Rattle.std.specs.Prelude.{Some, true, ◌+◌, ◌≡◌, ◌≤◌, d
 ghost use Rattle.byteorder.specs.Endian.{big_number};
 ghost use Rattle.hprof_grammar.specs.Dump.{is_object};
 ghost use Rattle.hprof_grammar.specs.SubRecord.{SubRecord};
-ghost use Rattle.hprof_grammar.specs.FormatTables as tables;
+ghost use Rattle.hprof_grammar.specs.TagsAndTypes as tables;
 ghost use Rattle.hprof_grammar.specs.Standing.{Stands, stack_of};
 
-use crate::{format_tables, tags};
+use crate::{tags, tags_and_types};
 use byteorder::{BigEndian, ByteOrder};
 use std::marker::Model;
 
@@ -90,7 +90,7 @@ impl<'a> View<'a> {
     pub fn size_of(&self, type_code: u8) -> u8
         ensures { result ≡ tables.size_of self.now.id_size type_code }
     {
-        format_tables::size_of(self.id_size, type_code)
+        tags_and_types::size_of(self.id_size, type_code)
     }
 
     /// The kind of the object that the sub-record at a place describes.

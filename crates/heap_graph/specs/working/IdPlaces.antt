@@ -2,7 +2,7 @@
 use Rattle.std.specs.Prelude.{Bool, List, [], drop, if◌then◌else◌, map, not, sum_by, ℕ, ◌&&◌, ◌++◌, ◌+◌, ◌==◌, ◌∷◌}
 use Rattle.byteorder.specs.Endian.{big_number}
 use Rattle.hprof_grammar.specs.SubRecord.{Class, Member}
-use Rattle.hprof_grammar.specs.FormatTables.{size_of}
+use Rattle.hprof_grammar.specs.TagsAndTypes.{size_of}
 
 -- the bytes of the values of these fields; the same of fields that are told with the classes that declare them
 abbrev pub size_together : ℕ → List Member → ℕ

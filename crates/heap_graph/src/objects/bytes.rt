@@ -1,7 +1,7 @@
 //! The bytes of objects, read at their places.
 
 ghost use Rattle.std.specs.Prelude.{length, sum_by, ◌<◌, ◌^◌, ◌≡◌};
-ghost use Rattle.hprof_grammar.specs.FormatTables as tables;
+ghost use Rattle.hprof_grammar.specs.TagsAndTypes as tables;
 ghost use Rattle.hprof_grammar.specs.Standing.{Stands};
 ghost use Rattle.hprof_grammar.specs.SubRecord.{Class, ObjectArray, PrimitiveArray};
 ghost use Rattle.hprof_grammar.specs.SubRecord.SubRecord.{class_dump, object_array_dump, primitive_array_dump};

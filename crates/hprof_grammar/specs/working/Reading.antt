@@ -2,7 +2,7 @@
 use Rattle.std.specs.Prelude.{Err, List, None, Ok, Option, Result, Some, [], drop, if◌then◌else◌, length, nat_lt, suc}
 use Rattle.std.specs.Prelude.{take, zero, ℕ, ◌*◌, ◌∷◌, ◌≡◌}
 use Rattle.byteorder.specs.Endian.{big_number}
-use Rattle.hprof_grammar.specs.FormatTables.{is_type_at, size_of}
+use Rattle.hprof_grammar.specs.TagsAndTypes.{is_type_at, size_of}
 use Rattle.hprof_grammar.specs.Kinds.{kind_of}
 use Rattle.hprof_grammar.specs.SubRecord.{Class, Constant, Instance, Member, ObjectArray, PrimitiveArray, RootOrigin}
 use Rattle.hprof_grammar.specs.SubRecord.{Static, SubRecord}

@@ -7,8 +7,8 @@ ghost use Rattle.hprof_grammar.specs.Standing.{Stands};
 ghost use Rattle.hprof_grammar.specs.SubRecord.{Root};
 ghost use Rattle.hprof_grammar.specs.SubRecord.SubRecord.{root};
 
-use crate::format_tables::kind_of;
 use crate::kinds::{Kind, RootKind};
+use crate::tags_and_types::kind_of;
 use crate::view::identifiers::number_at;
 use crate::view::{OBJECT, View, u32_at};
 

@@ -4,7 +4,7 @@ ghost use Rattle.std.specs.Prelude.{◌≡◌, ◌≤◌, ◌↔◌, [], IsTrue,
 ghost use Rattle.hprof_grammar.specs.Series.{HasCountedValues, behind_counted_values, count_in, counted_values_in};
 ghost use Rattle.hprof_grammar.specs.Series.{value_end, value_in};
 
-use crate::format_tables::size_of;
+use crate::tags_and_types::size_of;
 use crate::view::bytes_at;
 use crate::view::identifiers::number_at;
 use byteorder::{BigEndian, ByteOrder};

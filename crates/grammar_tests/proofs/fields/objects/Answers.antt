@@ -1,6 +1,6 @@
 -- The class, the instance and the arrays stand in both dumps, by computation.
 use Rattle.std.proofs.Common.{refl}
-use Rattle.hprof_grammar.specs.FormatTables.{is_type_at, size_of}
+use Rattle.hprof_grammar.specs.TagsAndTypes.{is_type_at, size_of}
 use Rattle.grammar_tests.proofs.Computed.{seen}
 use Rattle.grammar_tests.proofs.TestDumps.{the_class, the_instance, the_objects, the_shorts}
 use Rattle.grammar_tests.proofs.fields.objects.Goals as goal

@@ -2,13 +2,13 @@
 
 ghost use Rattle.std.specs.Prelude.{◌≡◌};
 ghost use Rattle.hprof_grammar.specs.Kinds as kind_tables;
-ghost use Rattle.hprof_grammar.specs.FormatTables as tables;
+ghost use Rattle.hprof_grammar.specs.TagsAndTypes as tables;
 
 use crate::kinds::{Kind, RootKind, TypePlace};
 use crate::tags;
 
 /// Whether identifiers may have so many bytes: 4 or 8.
-#[tactic(auto, unfolding(crate::specs::FormatTables::is_id_size))]
+#[tactic(auto, unfolding(crate::specs::TagsAndTypes::is_id_size))]
 pub fn is_id_size(size: u32) -> bool
     ensures { result ≡ tables.is_id_size size }
 {
@@ -16,7 +16,7 @@ pub fn is_id_size(size: u32) -> bool
 }
 
 /// Whether this type code may stand at such a place.
-#[tactic(auto, unfolding(crate::specs::FormatTables::is_type_at))]
+#[tactic(auto, unfolding(crate::specs::TagsAndTypes::is_type_at))]
 pub fn is_type_at(place: TypePlace, code: u8) -> bool
     ensures { result ≡ tables.is_type_at place code }
 {
@@ -29,7 +29,7 @@ pub fn is_type_at(place: TypePlace, code: u8) -> bool
 }
 
 /// How many bytes a value of this type code has, 0 for a code that is no type.
-#[tactic(auto, unfolding(crate::specs::FormatTables::size_of))]
+#[tactic(auto, unfolding(crate::specs::TagsAndTypes::size_of))]
 pub fn size_of(id_size: u8, code: u8) -> u8
     ensures { result ≡ tables.size_of id_size code }
 {
@@ -77,7 +77,7 @@ pub fn kind_of(tag: u8) -> Option<Kind>
 }
 
 /// Whether the body of a record with this tag may have so many bytes.
-#[tactic(auto, unfolding(crate::specs::FormatTables::is_length_of))]
+#[tactic(auto, unfolding(crate::specs::TagsAndTypes::is_length_of))]
 pub fn is_length_of(id_size: u8, tag: u8, length: usize) -> bool
     ensures { result ≡ tables.is_length_of id_size tag length }
 {
