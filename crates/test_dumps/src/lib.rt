@@ -5,12 +5,12 @@
 //! Nothing here is promised; what reads these bytes is.
 #![tactic(auto)]
 
-mod bytes;
+mod encoding;
 mod record;
 mod sub;
 mod worked;
 
-pub use bytes::Bytes;
+pub use encoding::Bytes;
 pub use record::Record;
 pub use sub::{ClassParts, Sub};
 pub use worked::{NOTHING, TWO_OBJECTS};

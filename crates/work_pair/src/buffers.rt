@@ -1,7 +1,7 @@
 //! The buffers of a pair, and what its calls do with them.
 ghost use Rattle.std.specs.Prelude.{◌≡◌, None};
 
-use crate::place::{clear_at, halve, len_at, publish_at, put_at, put_out, renew, take_at};
+use crate::place::{clear_at, put_at, put_out, renew, take_at};
 use crate::steps::pop_one;
 use crate::stop::Stop;
 use buffer_pool::{Held, Pool, Which, Worker};
@@ -9,8 +9,7 @@ use std::alloc::Allocator;
 use std::mem::swap;
 use std::sync::Wait;
 
-/// How many objects are few: the first buffer is halved where it has more.
-const FEW: u32 = 4;
+mod giving;
 
 /// Two buffers, and one that a stopped call left over. The calls of [`Pair`](crate::Pair) hand on to these, which know
 /// of no spill list and of no stops told apart: what is shown of buffers and stacks is shown here without them.
@@ -22,14 +21,12 @@ pub(crate) struct Buffers<A: Allocator> {
 }
 
 impl<A: Allocator> Buffers<A> {
-    ghost use Rattle.std.specs.Prelude.{◌≡◌, ◌≢◌, None, [], ◌∷◌, IsOk};
+    ghost use Rattle.std.specs.Prelude.{◌≡◌, ◌≢◌, None, [], ◌∷◌};
     ghost use Rattle.mark_core.specs.Events.{IsBusy};
-    ghost use Rattle.work_pair.specs.Deals.{HasMore};
     ghost use Rattle.work_pair.specs.PairState.{HasRoom, HasRoomAt, IsBacked, pair_items};
     ghost use Rattle.work_pair.specs.working.Asks.{MayTrade};
     ghost use Rattle.work_pair.specs.working.Buffers.{places_of};
-    ghost use Rattle.work_pair.specs.working.Steps.{BalanceAnswers, ClearAnswers, GetsObject, PublishAnswers};
-    ghost use Rattle.work_pair.specs.working.Steps.{PutsObject, Takes};
+    ghost use Rattle.work_pair.specs.working.Steps.{ClearAnswers, GetsObject, PutsObject, Takes};
 
     /// Puts an object into the first buffer, or into the second, which is the first then, or into an empty one. False
     /// where there is none: then nothing changes but the places of the two.
@@ -129,46 +126,6 @@ impl<A: Allocator> Buffers<A> {
             put_out(rt, pool, worker, &mut self.first, &mut self.third, next)?;
         }
         unreachable!()
-    }
-
-    /// Pushes the second buffer if it has items, or else the lower part of the first if that has more than a few.
-    pub(crate) fn balance<R: Wait>(
-        &mut self,
-        rt: &R,
-        pool: &Pool<A>,
-        worker: &mut Worker<A>,
-    ) -> Result<(), Stop>
-        requires { MayTrade worker.old pool.now (places_of self.old) [] }
-        ensures pool { worker.new.pool ≡ worker.old.pool }
-        ensures balances { BalanceAnswers (places_of self.old) worker.old.book (places_of self.new) worker.new.book
-            result }
-        ensures few { (HasMore (places_of self.old) → ⊥) → (places_of self.new ≡ places_of self.old)
-            × (worker.new ≡ worker.old) × IsOk result }
-    {
-        if len_at(&self.second) > 0 {
-            renew(rt, pool, worker, &mut self.second, &mut self.third)?;
-        } else if len_at(&self.first) > FEW {
-            halve(rt, pool, worker, &mut self.first, &mut self.third)?;
-        }
-        Ok(())
-    }
-
-    /// Pushes each buffer that has items.
-    pub(crate) fn publish<R: Wait>(
-        &mut self,
-        rt: &R,
-        pool: &Pool<A>,
-        worker: &mut Worker<A>,
-    ) -> Result<(), Stop>
-        requires { MayTrade worker.old pool.now (places_of self.old) [] }
-        ensures pool { worker.new.pool ≡ worker.old.pool }
-        ensures publishes { PublishAnswers (places_of self.old) worker.old.book (places_of self.new) worker.new.book
-            result }
-        ensures nothing { pair_items (places_of self.old) ≡ [] → (places_of self.new ≡ places_of self.old)
-            × (worker.new ≡ worker.old) × IsOk result }
-    {
-        publish_at(rt, pool, worker, &mut self.first, &mut self.third)?;
-        publish_at(rt, pool, worker, &mut self.second, &mut self.third)
     }
 
     /// Pushes all buffers, those with items on full and the others on empty. Where a last tag was loaded the rest

@@ -1,4 +1,4 @@
-//! The bytes of a dump.
+//! How a dump is encoded: the bytes of its header, records and sub-records.
 
 ghost use Rattle.std.specs.Prelude.{◌≡◌, ◌++◌, OnOk};
 

@@ -1,0 +1,60 @@
+//! What a pair's buffers give to other workers, and how many objects are too few to give.
+
+use crate::buffers::Buffers;
+use crate::place::{halve, len_at, publish_at, renew};
+use crate::stop::Stop;
+use buffer_pool::{Pool, Worker};
+use std::alloc::Allocator;
+use std::sync::Wait;
+
+/// How many objects are few: the first buffer is halved where it has more.
+const FEW: u32 = 4;
+
+impl<A: Allocator> Buffers<A> {
+    ghost use Rattle.std.specs.Prelude.{◌≡◌, [], IsOk};
+    ghost use Rattle.work_pair.specs.Deals.{HasMore};
+    ghost use Rattle.work_pair.specs.PairState.{pair_items};
+    ghost use Rattle.work_pair.specs.working.Asks.{MayTrade};
+    ghost use Rattle.work_pair.specs.working.Buffers.{places_of};
+    ghost use Rattle.work_pair.specs.working.Steps.{BalanceAnswers, PublishAnswers};
+
+    /// Pushes the second buffer if it has items, or else the lower part of the first if that has more than a few.
+    pub(crate) fn balance<R: Wait>(
+        &mut self,
+        rt: &R,
+        pool: &Pool<A>,
+        worker: &mut Worker<A>,
+    ) -> Result<(), Stop>
+        requires { MayTrade worker.old pool.now (places_of self.old) [] }
+        ensures pool { worker.new.pool ≡ worker.old.pool }
+        ensures balances { BalanceAnswers (places_of self.old) worker.old.book (places_of self.new) worker.new.book
+            result }
+        ensures few { (HasMore (places_of self.old) → ⊥) → (places_of self.new ≡ places_of self.old)
+            × (worker.new ≡ worker.old) × IsOk result }
+    {
+        if len_at(&self.second) > 0 {
+            renew(rt, pool, worker, &mut self.second, &mut self.third)?;
+        } else if len_at(&self.first) > FEW {
+            halve(rt, pool, worker, &mut self.first, &mut self.third)?;
+        }
+        Ok(())
+    }
+
+    /// Pushes each buffer that has items.
+    pub(crate) fn publish<R: Wait>(
+        &mut self,
+        rt: &R,
+        pool: &Pool<A>,
+        worker: &mut Worker<A>,
+    ) -> Result<(), Stop>
+        requires { MayTrade worker.old pool.now (places_of self.old) [] }
+        ensures pool { worker.new.pool ≡ worker.old.pool }
+        ensures publishes { PublishAnswers (places_of self.old) worker.old.book (places_of self.new) worker.new.book
+            result }
+        ensures nothing { pair_items (places_of self.old) ≡ [] → (places_of self.new ≡ places_of self.old)
+            × (worker.new ≡ worker.old) × IsOk result }
+    {
+        publish_at(rt, pool, worker, &mut self.first, &mut self.third)?;
+        publish_at(rt, pool, worker, &mut self.second, &mut self.third)
+    }
+}
