@@ -69,12 +69,12 @@ module _ {X : Type 0} where
   put_one C Empty x f here each Empty = here
   put_one C _ x f here each p = each p
 
--- the same of two functions
-pub put_two : {X Y : Type 0} (C : X → Y → Type 0) (q : Which) (x : X) (y : Y) (f : Which → X) (g : Which → Y) → C x y
-    → ((p : Which) → C (f p) (g p)) → (p : Which) → C (put_which q x f p) (put_which q y g p)
-put_two C Full x y f g here each Full = here
-put_two C Empty x y f g here each Empty = here
-put_two C _ x y f g here each p = each p
+  -- and of two functions
+  pub put_two : {Y : Type 0} (C : X → Y → Type 0) (q : Which) (x : X) (y : Y) (f : Which → X) (g : Which → Y) → C x y
+      → ((p : Which) → C (f p) (g p)) → (p : Which) → C (put_which q x f p) (put_which q y g p)
+  put_two C Full x y f g here each Full = here
+  put_two C Empty x y f g here each Empty = here
+  put_two C _ x y f g here each p = each p
 
 -- what holds of each element of a list, by its place, after one was written or put at the end
 pub set_at :
