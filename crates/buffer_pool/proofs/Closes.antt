@@ -54,99 +54,95 @@ tell b marks last w count law own same all none_held none_charged =
             let k : Contains [] lies.0 = subst (λ (l : List ℕ). Contains l lies.0) list lies.2 in
             omega (arith, k.1)
 
--- there is a mark for each object
-pub marks_length : (words : List ℕ) (first objects : ℕ) → length (marks_in words first objects) ≡ objects
-marks_length words first objects = length-map-range_with_len (mark_in words first) 0 objects
+module _ (words : List ℕ) (first objects : ℕ) where
+  -- there is a mark for each object
+  pub marks_length : length (marks_in words first objects) ≡ objects
+  marks_length = length-map-range_with_len (mark_in words first) 0 objects
 
-pub ends_of :
-    {B : Type 0} (r : Reading B) (e : Setup) (id : ℕ) (v : SeatView) (words : List ℕ) (slots : List (Option B))
-    (first objects : ℕ) → first ≡ 32 + e.buffers → objects ≡ e.objects → Final (Seen (Rule r e) id v) words slots
-    → v.book.account.share ≡ whole → v.book.account.held ≡ [] → v.book.account.charge ≡ [] → HasSaidAll v
-    → (end : IsAtTheEnd v.log v.book (marks_in words first objects))
-    × MarksTell v.book end.last (marks_in words first objects)
-ends_of r e id v words slots first objects place number final all none_held none_charged done = (
-  record {
-    events = rule.reached.events;
-    last = last;
-    counts = each;
-    story = (told.since, told.goes_on, ap (λ n. deeds n told.since) mine ∙ told.unsaid ∙ done.unsaid);
-    led = led;
-    own = (own, own_counts);
-    same_marks = marks;
-  },
-  tell v.book (marks_in words first objects) last v.log.number count
-      (lawful_where v.book.setup rule.reached.events last each some_buffer led) own marks all none_held none_charged,
-)
-  where
-    rule : Rule r e final.0
-    rule = final.1.0
+  pub ends_of :
+      {B : Type 0} (r : Reading B) (e : Setup) (id : ℕ) (v : SeatView) (slots : List (Option B))
+      → first ≡ 32 + e.buffers → objects ≡ e.objects → Final (Seen (Rule r e) id v) words slots
+      → v.book.account.share ≡ whole → v.book.account.held ≡ [] → v.book.account.charge ≡ [] → HasSaidAll v
+      → (end : IsAtTheEnd v.log v.book (marks_in words first objects))
+      × MarksTell v.book end.last (marks_in words first objects)
+  ends_of r e id v slots place number final all none_held none_charged done = (
+    record {
+      events = rule.reached.events;
+      last = last;
+      counts = each;
+      story = (told.since, told.goes_on, ap (λ n. deeds n told.since) mine ∙ told.unsaid ∙ done.unsaid);
+      led = led;
+      own = (own, own_counts);
+      same_marks = marks;
+    },
+    tell v.book (marks_in words first objects) last v.log.number count
+        (lawful_where v.book.setup rule.reached.events last each some_buffer led) own marks all none_held none_charged,
+  )
+    where
+      rule : Rule r e final.0
+      rule = final.1.0
 
-    told : IsViewOf rule.reached.events id v
-    told = rule.reached.views id v final.1.1 (omega (arith, all))
+      told : IsViewOf rule.reached.events id v
+      told = rule.reached.views id v final.1.1 (omega (arith, all))
 
-    last : Marking
-    last = marking_of r e final.0
+      last : Marking
+      last = marking_of r e final.0
 
-    each : List Counts
-    each = map view_counts final.0.views
+      each : List Counts
+      each = map view_counts final.0.views
 
-    -- the worker's number is that of its seat
-    mine : v.log.number ≡ id
-    mine = told.number done.named
+      -- the worker's number is that of its seat
+      mine : v.log.number ≡ id
+      mine = told.number done.named
 
-    own : StandsAt last.accounts v.log.number v.book.account
-    own = subst (λ n. StandsAt last.accounts n v.book.account) (sym mine) (stands rule id v final.1.1)
+      own : StandsAt last.accounts v.log.number v.book.account
+      own = subst (λ n. StandsAt last.accounts n v.book.account) (sym mine) (stands rule id v final.1.1)
 
-    own_counts : StandsAt each v.log.number (counts_of v.book)
-    own_counts =
-        subst (λ n. StandsAt each n (counts_of v.book)) (sym mine) (at_map view_counts final.0.views id v final.1.1)
+      own_counts : StandsAt each v.log.number (counts_of v.book)
+      own_counts =
+          subst (λ n. StandsAt each n (counts_of v.book)) (sym mine) (at_map view_counts final.0.views id v final.1.1)
 
-    same : v.book.setup ≡ e
-    same = rule.same_setup id v final.1.1 (omega (arith, all))
+      same : v.book.setup ≡ e
+      same = rule.same_setup id v final.1.1 (omega (arith, all))
 
-    some_buffer : 0 < v.book.setup.buffers
-    some_buffer = subst (λ (g : Setup). 0 < g.buffers) (sym same) rule.some_buffer
+      some_buffer : 0 < v.book.setup.buffers
+      some_buffer = subst (λ (g : Setup). 0 < g.buffers) (sym same) rule.some_buffer
 
-    led : LeadTo v.book.setup rule.reached.events last each
-    led = subst (λ (g : Setup). LeadTo g rule.reached.events last each) (sym same) rule.reached.led
+      led : LeadTo v.book.setup rule.reached.events last each
+      led = subst (λ (g : Setup). LeadTo g rule.reached.events last each) (sym same) rule.reached.led
 
-    marks : (o : ℕ) → slice_index (marks_in words first objects) o ≡ last.mark o
-    marks o = ⊎_elim inside past (cases_lt o objects)
-      where
-        inside : o < objects → slice_index (marks_in words first objects) o ≡ last.mark o
-        inside below =
-            get_or-map-range_with_len (mark_in words first) 0 objects o o 0 below (omega arith)
-            ∙ (λ k. mark_in (sym final.2 k) (place k) o)
-            ∙ sym (cut_object e.objects (mark_in final.0.words (first_mark e)) o (omega (arith, below, number)))
+      marks : (o : ℕ) → slice_index (marks_in words first objects) o ≡ last.mark o
+      marks o = ⊎_elim inside past (cases_lt o objects)
+        where
+          inside : o < objects → slice_index (marks_in words first objects) o ≡ last.mark o
+          inside below =
+              get_or-map-range_with_len (mark_in words first) 0 objects o o 0 below (omega arith)
+              ∙ (λ k. mark_in (sym final.2 k) (place k) o)
+              ∙ sym (cut_object e.objects (mark_in final.0.words (first_mark e)) o (omega (arith, below, number)))
 
-        past : objects ≤ o → slice_index (marks_in words first objects) o ≡ last.mark o
-        past h =
-            get_or_past (marks_in words first objects) o 0 (omega (arith, h, marks_length words first objects))
-            ∙ sym (cut_past e.objects (mark_in final.0.words (first_mark e)) o (omega (arith, h, number)))
+          past : objects ≤ o → slice_index (marks_in words first objects) o ≡ last.mark o
+          past h =
+              get_or_past (marks_in words first objects) o 0 (omega (arith, h, marks_length))
+              ∙ sym (cut_past e.objects (mark_in final.0.words (first_mark e)) o (omega (arith, h, number)))
 
-    count : length (marks_in words first objects) ≡ v.book.setup.objects
-    count = omega (arith, marks_length words first objects, number, ap (λ (g : Setup). g.objects) same)
+      count : length (marks_in words first objects) ≡ v.book.setup.objects
+      count = omega (arith, marks_length, number, ap (λ (g : Setup). g.objects) same)
 
--- so have the marks that contracts see
-pub marks_count :
-    (words : List ℕ) (first objects : ℕ) (marks : List ℕ) → marks_in words first objects ≡ marks
-    → length marks ≡ objects
-marks_count words first objects marks same =
-    omega (arith, ap (λ (ms : List ℕ). length ms) same, marks_length words first objects)
+  -- so have the marks that contracts see
+  pub marks_count : (marks : List ℕ) → marks_in words first objects ≡ marks → length marks ≡ objects
+  marks_count marks same =
+      omega (arith, ap (λ (ms : List ℕ). length ms) same, marks_length)
 
--- a number that has a mark is an object
-pub object_below :
-    (words : List ℕ) (first objects object : ℕ) (marks : List ℕ) → marks_in words first objects ≡ marks
-    → object < length marks → object < objects
-object_below words first objects object marks same inside =
-    omega (arith, inside, marks_count words first objects marks same)
+  -- a number that has a mark is an object
+  pub object_below : (object : ℕ) (marks : List ℕ) → marks_in words first objects ≡ marks → object < length marks
+      → object < objects
+  object_below object marks same inside = omega (arith, inside, marks_count marks same)
 
--- the mark of an object, read from its word at the close
-pub mark_there :
-    (words : List ℕ) (first objects o place word : ℕ) → o < objects → o / 32 ≡ place
-    → get_elem? words (first + place) ≡ some word
-    → slice_index (marks_in words first objects) o ≡ pair_mark word (o % 32)
-mark_there words first objects o place word below is at =
-    get_or-map-range_with_len (mark_in words first) 0 objects o o 0 below (omega arith)
-    ∙ ap (λ q. pair_mark (slice_index words (first + q)) (o % 32)) is
-    ∙ ap (λ x. pair_mark x (o % 32)) (at_get_or words (first + place) word 0 at)
+  -- the mark of an object, read from its word at the close
+  pub mark_there :
+      (o place word : ℕ) → o < objects → o / 32 ≡ place → get_elem? words (first + place) ≡ some word
+      → slice_index (marks_in words first objects) o ≡ pair_mark word (o % 32)
+  mark_there o place word below is at =
+      get_or-map-range_with_len (mark_in words first) 0 objects o o 0 below (omega arith)
+      ∙ ap (λ q. pair_mark (slice_index words (first + q)) (o % 32)) is
+      ∙ ap (λ x. pair_mark x (o % 32)) (at_get_or words (first + place) word 0 at)

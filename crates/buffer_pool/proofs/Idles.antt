@@ -14,33 +14,36 @@ use Rattle.buffer_pool.proofs.Loads.{noted}
 use Rattle.buffer_pool.proofs.Words.{head_beside_idle, link_beside_idle, marks_beside_idle, idle_here}
 
 -- a step that changes the idle word is an event that changes that word and the account alone
-idle_changes :
+module _
     {B : Type 0} (r : Reading B) (e : Setup) (slots id : ℕ) (me : Me (Option B) SeatView) {t : TableId}
-    (sound : IsSound t me) (kind : Kind) (f : ℕ → ℕ) (b : Book) → b.account.share ≡ me.0.book.account.share
-    → b.account.held ≡ me.0.book.account.held → b.setup ≡ me.0.book.setup → counts_of b ≡ counts_of me.0.book
-    → ((m : Marking) → may.Allows e m id me.0.book.account kind)
-    → ((m : Marking) → effect m id me.0.book.account kind
-    ≡ record m { idle = f m.idle; accounts = set m.accounts id b.account })
-    → ((m : Marking) (counts : List Counts) → counted m counts id kind ≡ counts)
-    → Allows (Rule r e) slots id me idle_word f (λ n after. RestsWith me b (kind ∷ []) after)
-idle_changes {B} r e slots id me sound kind f b share held setup counts can is_effect is_counted =
-    freed r e slots id idle_word f (λ n after. RestsWith me b (kind ∷ []) after) me sound.carries sound.share (λ s at.
-    let x : ℕ = f (slice_index s.words idle_word) in
-    let words = set s.words idle_word x in
-    let u : SeatView = record (free me.0) { book = b } in
-    let w : SeatView = logged (log_after at kind) u in
-    let m = marking_of r e s in
-    let t : State (Option B) SeatView = left s words s.homes id w in
-    let changed : marking_of r e t ≡ record m { idle = x; accounts = set m.accounts id b.account } =
-    agrees (marking_of r e t) (record m { idle = x; accounts = set m.accounts id b.account })
-    (λ q. ap head_of (head_beside_idle e s.words x q))
-    (λ i. ap (λ y. if nat_lt i e.buffers then index_of y else None) (link_beside_idle e s.words x i))
-    (marks_beside_idle e s.words x) refl (idle_here e s.words x (omega (arith, at.rule.word_count)))
-    (accounts_set s.views id w) in
-    let rule : Rule r e t =
-    noted at refl kind (can m) words u (length-set s.words idle_word x) (λ i h. link_beside_idle e s.words x i) refl
-    held setup (changed ∙ sym (is_effect m)) (counts_same at w counts ∙ sym (is_counted m (map view_counts s.views))) in
-    (w, keeps, tt, rule, rests_after me at sound.settled kind b words (omega (arith, share, at.there)) rule))
+    (sound : IsSound t me) where
+  idle_changes :
+      (kind : Kind) (f : ℕ → ℕ) (b : Book) → b.account.share ≡ me.0.book.account.share
+      → b.account.held ≡ me.0.book.account.held → b.setup ≡ me.0.book.setup → counts_of b ≡ counts_of me.0.book
+      → ((m : Marking) → may.Allows e m id me.0.book.account kind)
+      → ((m : Marking) → effect m id me.0.book.account kind
+      ≡ record m { idle = f m.idle; accounts = set m.accounts id b.account })
+      → ((m : Marking) (counts : List Counts) → counted m counts id kind ≡ counts)
+      → Allows (Rule r e) slots id me idle_word f (λ n after. RestsWith me b (kind ∷ []) after)
+  idle_changes kind f b share held setup counts can is_effect is_counted =
+      freed r e slots id idle_word f (λ n after. RestsWith me b (kind ∷ []) after) me sound.carries sound.share (λ s at.
+      let x : ℕ = f (slice_index s.words idle_word) in
+      let words = set s.words idle_word x in
+      let u : SeatView = record (free me.0) { book = b } in
+      let w : SeatView = logged (log_after at kind) u in
+      let m = marking_of r e s in
+      let t : State (Option B) SeatView = left s words s.homes id w in
+      let changed : marking_of r e t ≡ record m { idle = x; accounts = set m.accounts id b.account } =
+      agrees (marking_of r e t) (record m { idle = x; accounts = set m.accounts id b.account })
+      (λ q. ap head_of (head_beside_idle e s.words x q))
+      (λ i. ap (λ y. if nat_lt i e.buffers then index_of y else None) (link_beside_idle e s.words x i))
+      (marks_beside_idle e s.words x) refl (idle_here e s.words x (omega (arith, at.rule.word_count)))
+      (accounts_set s.views id w) in
+      let rule : Rule r e t =
+      noted at refl kind (can m) words u (length-set s.words idle_word x) (λ i h. link_beside_idle e s.words x i) refl
+      held setup (changed ∙ sym (is_effect m))
+      (counts_same at w counts ∙ sym (is_counted m (map view_counts s.views))) in
+      (w, keeps, tt, rule, rests_after me at sound.settled kind b words (omega (arith, share, at.there)) rule))
 
 -- so the idle word may be changed and loaded
 module _

@@ -199,19 +199,21 @@ module _ {B : Type 0} (r : Reading B) (e : Setup) (slots id : ℕ) (me : Me (Opt
       ))
 
 -- so the load of a link may be made at its word, by the play of the stack that it is
-pub may_see_link :
+module _
     {B P : Type 0} {words : Shared (Option B) SeatView Key P} {seat : Seat (Option B) SeatView} (r : Reading B)
-    (sits : SitsAt words seat) (sound : IsSound seat.table_id seat.me) (q p : Which) (index : ℕ)
-    → ((h : Head) × ((look_of seat.me.0.book.account q).head ≡ Some h) × (h.index ≡ Some index)
-    × (index < seat.me.0.book.setup.buffers))
-    → q ≡ p
-    → (seat.table_id ≡ words.table_id) × (32 + index < words.table_id.words)
-    × Allows (Rule r (setup_of words.key)) words.table_id.slots seat.id seat.me (32 + index) (λ n. n)
-    (link_seen p (step words.table_id.slots (32 + index) 0 0 none) seat.me)
-may_see_link {words = words} {seat = seat} r sits sound q p index looked is =
-    let slots : seat.table_id.slots ≡ words.table_id.slots = ap (λ (x : TableId). x.slots) sits.same in (
-      sits.same,
-      omega (arith, looked.3, sits.laid.words, sits.laid.slots, sound.laid.slots, slots),
-      sees_link r (setup_of words.key) words.table_id.slots seat.id seat.me sound p looked.0 index
-          (subst (λ k. (look_of seat.me.0.book.account k).head ≡ Some looked.0) is looked.1) looked.2 looked.3,
-    )
+    (sits : SitsAt words seat) (sound : IsSound seat.table_id seat.me) where
+  pub may_see_link :
+      (q p : Which) (index : ℕ)
+      → ((h : Head) × ((look_of seat.me.0.book.account q).head ≡ Some h) × (h.index ≡ Some index)
+      × (index < seat.me.0.book.setup.buffers))
+      → q ≡ p
+      → (seat.table_id ≡ words.table_id) × (32 + index < words.table_id.words)
+      × Allows (Rule r (setup_of words.key)) words.table_id.slots seat.id seat.me (32 + index) (λ n. n)
+      (link_seen p (step words.table_id.slots (32 + index) 0 0 none) seat.me)
+  may_see_link q p index looked is =
+      let slots : seat.table_id.slots ≡ words.table_id.slots = ap (λ (x : TableId). x.slots) sits.same in (
+        sits.same,
+        omega (arith, looked.3, sits.laid.words, sits.laid.slots, sound.laid.slots, slots),
+        sees_link r (setup_of words.key) words.table_id.slots seat.id seat.me sound p looked.0 index
+            (subst (λ k. (look_of seat.me.0.book.account k).head ≡ Some looked.0) is looked.1) looked.2 looked.3,
+      )

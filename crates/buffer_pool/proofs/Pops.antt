@@ -14,8 +14,7 @@ use Rattle.buffer_pool.proofs.Bits.{marked_object}
 use Rattle.buffer_pool.proofs.States.{Seated, left, agrees, lawful, changed, accounts_set, accounts_same, counts_same}
 use Rattle.buffer_pool.proofs.States.{counts_changed, slots_set, sized_set, happened, story_now, rests_after, log_after}
 use Rattle.buffer_pool.proofs.States.{Goes, nothing_out, said_all, written_again, own_setup, told, on_top, stacked_free}
-use Rattle.buffer_pool.proofs.States.{freed}
-use Rattle.buffer_pool.proofs.Deeds.{did_one}
+use Rattle.buffer_pool.proofs.States.{freed, did_event, missed_reached}
 use Rattle.buffer_pool.proofs.Loads.{noticed, same_head}
 use Rattle.buffer_pool.proofs.Words.{one_head, exchange_hit, exchange_miss, link_beside_head, links_beside_head}
 use Rattle.buffer_pool.proofs.Words.{marks_beside_head, heads_after, idle_beside_head}
@@ -131,17 +130,6 @@ module _
           (λ k. popped_event m id v.book.account q (top k) (linked_to k))
           ∙ ap (λ slot. taken (items_of slot)) (at_get_or m.slots i (Some (r.items b)) None (in_slot at.rule i b home))
 
--- where it is another one only the failure is counted, and slots stay where they are
-pub missed_reached :
-    {B : Type 0} {r : Reading B} {e : Setup} {s : State (Option B) SeatView} {id : ℕ} {v : SeatView}
-    (at : Seated r e s id v) (q : Which) (h : Head) → (look_of v.book.account q).head ≡ Some h
-    → (head_of (slice_index s.words (head_word q)) ≡ h → ⊥)
-    → Reached r e (left s s.words s.homes id (record (logged (log_after at (Fail q)) v) { book = failed v.book }))
-missed_reached {r = r} {e = e} {s = s} {v = v} at q h last other =
-    let w : SeatView = record (logged (log_after at (Fail q)) v) { book = failed v.book } in
-    happened at (Fail q) (h, last, other) s.words s.homes w refl
-    (λ k. record (marking_of r e s) { accounts = accounts_same at w refl k }) (counts_changed at w count_failure refl)
-
 module _ {B : Type 0} (r : Reading B) (e : Setup) (slots id : ℕ) (me : Me (Option B) SeatView) where
   -- what the play tells of the stack k, where the number found is n
   abbrev pop_told : ℕ → Which → ℕ → Me (Option B) SeatView → Type 0
@@ -196,8 +184,7 @@ module _ {B : Type 0} (r : Reading B) (e : Setup) (slots id : ℕ) (me : Me (Opt
                       ours = ours;
                       bare = bare_on_empty at.rule i b home.1 q top';
                       settled = said_all w.log w;
-                      did = did_one at.rule.reached.events id v (told at) sound.settled.named sound.settled.unsaid
-                          (Pop q);
+                      did = did_event at sound.settled.named sound.settled.unsaid (Pop q);
                       story = story_now at (set s.words (head_word q) new) (set s.homes i none) w.log w rule at.there;
                     },
                   )),

@@ -15,9 +15,7 @@ use mathlib.Core.Option as maybe
 use Rattle.buffer_pool.proofs.States.{Seated, Goes, left, agrees, lawful, cut_below, cut_put, changed, accounts_set}
 use Rattle.buffer_pool.proofs.States.{accounts_same, counts_same, slots_set, sized_set, happened, story_now, log_after}
 use Rattle.buffer_pool.proofs.States.{nothing_out, written_again, own_setup, told, stands, held_alone, held_below}
-use Rattle.buffer_pool.proofs.States.{held_away, freed}
-use Rattle.buffer_pool.proofs.Deeds.{did_one}
-use Rattle.buffer_pool.proofs.Pops.{missed_reached}
+use Rattle.buffer_pool.proofs.States.{held_away, freed, did_event, missed_reached}
 use Rattle.buffer_pool.proofs.Words.{one_head, exchange_hit, exchange_miss, link_beside_head, links_beside_head}
 use Rattle.buffer_pool.proofs.Words.{marks_beside_head, heads_after, idle_beside_head, idle_beside_link, head_below}
 use Rattle.buffer_pool.proofs.Words.{head_beside_link, link_beside_link, link_here, marks_beside_link, links_after}
@@ -33,29 +31,29 @@ kept_pushed : (q : Which) (i : ℕ) (items : List ℕ) (b : Book)
 kept_pushed Full i items b = (refl, refl)
 kept_pushed Empty i items b = (refl, refl)
 
--- a seat that carries one slot, after the slot's value was exchanged
-pub carried_with : {B : Type 0} (m n : Me (Option B) SeatView) (i j : ℕ) (b : B) → n ≡ (m.0, (i, Some b) ∷ rest m.1)
-    → m.1 ≡ (j, None) ∷ [] → n ≡ (m.0, (i, Some b) ∷ [])
-carried_with {B} m n i j b exchanged carried =
-    exchanged ∙ ap {B = Me (Option B) SeatView} (λ (xs : List (ℕ × Option B)). (m.0, (i, Some b) ∷ rest xs)) carried
+module _ {B : Type 0} (m n : Me (Option B) SeatView) where
+  -- a seat that carries one slot, after the slot's value was exchanged
+  pub carried_with : (i j : ℕ) (b : B) → n ≡ (m.0, (i, Some b) ∷ rest m.1) → m.1 ≡ (j, None) ∷ []
+      → n ≡ (m.0, (i, Some b) ∷ [])
+  carried_with i j b exchanged carried = exchanged
+      ∙ ap {B = Me (Option B) SeatView} (λ (xs : List (ℕ × Option B)). (m.0, (i, Some b) ∷ rest xs)) carried
 
--- it still carries that slot after a step that left its slots as they were
-pub still_carried : {B : Type 0} (m n : Me (Option B) SeatView) (i : ℕ) (b : B) → n.1 ≡ m.1 → m.1 ≡ (i, Some b) ∷ []
-    → n.1 ≡ (i, Some b) ∷ rest n.1
-still_carried {B} m n i b same carried = let now = same ∙ carried in
-    now ∙ ap (λ (xs : List (ℕ × Option B)). (i, Some b) ∷ rest xs) (sym now)
+  -- it still carries that slot after a step that left its slots as they were
+  pub still_carried : (i : ℕ) (b : B) → n.1 ≡ m.1 → m.1 ≡ (i, Some b) ∷ [] → n.1 ≡ (i, Some b) ∷ rest n.1
+  still_carried i b same carried =
+      let now = same ∙ carried in now ∙ ap (λ (xs : List (ℕ × Option B)). (i, Some b) ∷ rest xs) (sym now)
 
--- what a push told, of other names for what was pushed
-pub told_of :
-    {B : Type 0} (m n o : Me (Option B) SeatView) (q : Which) (i j : ℕ) (xs ys : List ℕ) → m.0 ≡ n.0 → i ≡ j → xs ≡ ys
-    → HasPushed q i xs m o → HasPushed q j ys n o
-told_of {B} m n o q i j xs ys same index items told =
-    record {
-      same = told.same ∙ (λ k. rested {B = B} (same k, []) o.0.log (pushed q (index k) (items k) (same k).book));
-      did = subst (λ (x : SeatView). Did x.log (Push q j ys ∷ []) o.0.log) same
-          (subst₂ (λ x zs. Did m.0.log (Push q x zs ∷ []) o.0.log) index items told.did);
-      story = told.story;
-    }
+  -- what a push told, of other names for what was pushed
+  pub told_of :
+      (o : Me (Option B) SeatView) (q : Which) (i j : ℕ) (xs ys : List ℕ) → m.0 ≡ n.0 → i ≡ j → xs ≡ ys
+      → HasPushed q i xs m o → HasPushed q j ys n o
+  told_of o q i j xs ys same index items told =
+      record {
+        same = told.same ∙ (λ k. rested {B = B} (same k, []) o.0.log (pushed q (index k) (items k) (same k).book));
+        did = subst (λ (x : SeatView). Did x.log (Push q j ys ∷ []) o.0.log) same
+            (subst₂ (λ x zs. Did m.0.log (Push q x zs ∷ []) o.0.log) index items told.did);
+        story = told.story;
+      }
 
 -- a slot that a seat carries alone is the one that it took
 one_carried : {B : Type 0} (i j : ℕ) (b c : B) → ◌≡◌ {A = List (ℕ × Option B)} ((i, Some b) ∷ [])
@@ -216,8 +214,7 @@ module _ {B : Type 0} (r : Reading B) (e : Setup) (slots id : ℕ) (me : Me (Opt
       let w : SeatView = stored_view at i mine x in
       let words = set s.words (link_word i) x in
       let rule : Rule r e (left s words (set s.homes i none) id w) = stored_rule at i mine x refl small in
-      let did = did_one at.rule.reached.events id v (told at) sound.settled.named sound.settled.unsaid
-      (StoreLink i (index_of x)) in (
+      let did = did_event at sound.settled.named sound.settled.unsaid (StoreLink i (index_of x)) in (
         w,
         takes i None,
         at.rule.rests id v at.is i mine (nothing_out 0 refl i),
@@ -255,8 +252,7 @@ module _ {B : Type 0} (r : Reading B) (e : Setup) (slots id : ℕ) (me : Me (Opt
           let put : Rule r e (stepped s (head_word q) (either (n == old) new n) id ((i, Some b) ∷ []) w gives) =
           subst (λ x. Rule r e (left s (set s.words (head_word q) x) homes id w))
           (sym (exchange_hit n old new hit)) after_it in
-          let did =
-          did_one at.rule.reached.events id v (told at) can.settled.named can.settled.unsaid (Push q i (r.items b)) in
+          let did = did_event at can.settled.named can.settled.unsaid (Push q i (r.items b)) in
           let story : LeadsToBook w.log w.book =
           story_now at (set s.words (head_word q) new) homes w.log w after_it
           (omega (arith, can.share, (kept_pushed q i (r.items b) me.0.book).1)) in (
@@ -294,26 +290,27 @@ module _ {B : Type 0} (r : Reading B) (e : Setup) (slots id : ℕ) (me : Me (Opt
               (λ hit j c t. absurd (miss hit)),
               (λ h. (
                 refl,
-                did_one at.rule.reached.events id v (told at) can.settled.named can.settled.unsaid (Fail q),
+                did_event at can.settled.named can.settled.unsaid (Fail q),
                 story_now at s.words s.homes w.log w after_it can.share,
               )),
             ),
           )
 
 -- so it may be made at the head's word, by the play of the stack that it is
-pub may_put :
+module _
     {B P : Type 0} {words : Shared (Option B) SeatView Key P} {seat : Seat (Option B) SeatView} (r : Reading B)
-    (sits : SitsAt words seat) (q p : Which) (old new word : ℕ) → word ≡ head_word q
-    → ((i : ℕ) × (b : B) × CanPut r q seat.me old new i b) → q ≡ p
-    → (seat.table_id ≡ words.table_id) × (word < words.table_id.words)
-    × Allows (Rule r (setup_of words.key)) words.table_id.slots seat.id seat.me word (λ n. either (n == old) new n)
-    (top_put r p (step words.table_id.slots word old new none) seat.me)
-may_put {words = words} {seat = seat} r sits q p old new word is_head put is =
-    let small = head_below q in
-    let slots = words.table_id.slots in (
-      sits.same,
-      omega (arith, is_head, small, sits.laid.words),
-      subst₂ (λ k x. Allows (Rule r (setup_of words.key)) slots seat.id seat.me x (λ n. either (n == old) new n)
-          (top_put r k (step slots x old new none) seat.me)) is (sym is_head)
-          (pushes r (setup_of words.key) slots seat.id seat.me q old new put.0 put.1 put.2),
-    )
+    (sits : SitsAt words seat) where
+  pub may_put : (q p : Which) (old new word : ℕ) → word ≡ head_word q
+      → ((i : ℕ) × (b : B) × CanPut r q seat.me old new i b) → q ≡ p
+      → (seat.table_id ≡ words.table_id) × (word < words.table_id.words)
+      × Allows (Rule r (setup_of words.key)) words.table_id.slots seat.id seat.me word (λ n. either (n == old) new n)
+      (top_put r p (step words.table_id.slots word old new none) seat.me)
+  may_put q p old new word is_head put is =
+      let small = head_below q in
+      let slots = words.table_id.slots in (
+        sits.same,
+        omega (arith, is_head, small, sits.laid.words),
+        subst₂ (λ k x. Allows (Rule r (setup_of words.key)) slots seat.id seat.me x (λ n. either (n == old) new n)
+            (top_put r k (step slots x old new none) seat.me)) is (sym is_head)
+            (pushes r (setup_of words.key) slots seat.id seat.me q old new put.0 put.1 put.2),
+      )

@@ -1,6 +1,6 @@
 -- Markings that agree, the list of events that goes on by one, and the rule of a table after one seat's view changed.
 use Rattle.std.proofs.Common.{◌≡◌, ◌≢◌, ℕ, zero, suc, ◌+◌, ◌<◌, ◌≤◌, nat_lt, if◌then◌else◌, List, [], ◌∷◌, length, map}
-use Rattle.std.proofs.Common.{Option, Some, None, set, slice_index, slice_set, ap, subst₂, sym, refl, subst, ◌∙◌}
+use Rattle.std.proofs.Common.{Option, Some, None, true, set, slice_index, slice_set, ap, subst₂, sym, refl, subst, ◌∙◌}
 use Rattle.std.proofs.Common.{⊎_elim, length-set, lt-ltb, le-ltb, arith}
 use Rattle.buffer_pool.proofs.Terms.{map-set, set-set, set-get_or, cases_lt, some, ℕ_discrete, get_elem?, State, Me}
 use Rattle.buffer_pool.proofs.Terms.{Act, Allows, Valid, put_back, stepped, carried_after, gives, chain, at_map, at_set}
@@ -11,6 +11,7 @@ use Rattle.buffer_pool.proofs.Terms.{lawful_where, leads_on, terms_le, held_apar
 use Rattle.buffer_pool.proofs.Terms.{SeatView, AreViewsOf, HasSaidAll, IsViewOf, logged, RestsWith, Book, counts_of}
 use Rattle.buffer_pool.proofs.Terms.{Log, LeadsToBook, head_word, link_word, Reading, IsTied, Rests, Carries, free}
 use Rattle.buffer_pool.proofs.Terms.{slot_of, slots_of, Reached, Rule, account_of, cut, marking_of, view_counts}
+use Rattle.buffer_pool.proofs.Terms.{Head, Fail, Did, look_of, failed, count_failure}
 use mathlib.Core.Option as maybe
 use Rattle.mark_core.specs.Events as may
 use Rattle.buffer_pool.proofs.Deeds.{and_then, log_of, told_free, told_set, told_seen, told_step, did_one}
@@ -167,6 +168,10 @@ module _
   pub told : IsViewOf at.rule.reached.events id v
   told = at.rule.reached.views id v at.is at.there
 
+  -- of a seat that had said all that it did, the log after an event has that event
+  pub did_event : v.named ≡ true → v.unsaid ≡ [] → (kind : Kind) → Did v.log (kind ∷ []) (log_after kind)
+  did_event = did_one at.rule.reached.events id v told
+
   -- it has its new view
   pub seat_has : (w : SeatView) → get_elem? (set s.views id w) id ≡ some w
   seat_has w = set_here s.views id w (at_below s.views id v at.is)
@@ -273,6 +278,15 @@ module _
       happened_told kind can t marking counts
       (told_step at.rule.reached.events s.views at.rule.reached.views id u kind
       (leads_here w (and_then at.rule.reached.events id kind) t refl setup led))
+
+  -- an exchange failed: only that is counted, and slots stay where they are
+  pub missed_reached : (q : Which) (h : Head) → (look_of v.book.account q).head ≡ Some h
+      → (head_of (slice_index s.words (head_word q)) ≡ h → ⊥)
+      → Reached r e (left s s.words s.homes id (record (logged (log_after (Fail q)) v) { book = failed v.book }))
+  missed_reached q h last other =
+      let w : SeatView = record (logged (log_after (Fail q)) v) { book = failed v.book } in
+      happened (Fail q) (h, last, other) s.words s.homes w refl
+      (λ k. record (marking_of r e s) { accounts = accounts_same w refl k }) (counts_changed w count_failure refl)
 
   -- nothing happened: the marking and the counts are the same
   pub nothing_happened :
@@ -397,15 +411,16 @@ module _ {B : Type 0} (r : Reading B) (e : Setup) (slots id word : ℕ) (f : ℕ
       (freed_at me.0 me.0.out refl there allows)
 
 -- a seat that had said all that it did rests with its new book after an event, where the rule holds then
-pub rests_after :
+module _
     {B : Type 0} {r : Reading B} {e : Setup} {s : State (Option B) SeatView} {id : ℕ} (me : Me (Option B) SeatView)
-    (at : Seated r e s id (free me.0)) → HasSaidAll me.0 → (kind : Kind) (b : Book) (words : List ℕ)
-    → 0 < b.account.share
-    → Rule r e (left s words s.homes id (record (logged (log_after at kind) (free me.0)) { book = b }))
-    → RestsWith me b (kind ∷ []) (record (logged (log_after at kind) (free me.0)) { book = b }, [])
-rests_after {s = s} {id = id} me at done kind b words share after =
-    record {
-      same = refl;
-      did = did_one at.rule.reached.events id (free me.0) (told at) done.named done.unsaid kind;
-      story = story_now at words s.homes (log_after at kind) (record (free me.0) { book = b }) after share;
-    }
+    (at : Seated r e s id (free me.0)) (done : HasSaidAll me.0) where
+  pub rests_after :
+      (kind : Kind) (b : Book) (words : List ℕ) → 0 < b.account.share
+      → Rule r e (left s words s.homes id (record (logged (log_after at kind) (free me.0)) { book = b }))
+      → RestsWith me b (kind ∷ []) (record (logged (log_after at kind) (free me.0)) { book = b }, [])
+  rests_after kind b words share after =
+      record {
+        same = refl;
+        did = did_event at done.named done.unsaid kind;
+        story = story_now at words s.homes (log_after at kind) (record (free me.0) { book = b }) after share;
+      }

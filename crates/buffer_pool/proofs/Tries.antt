@@ -30,23 +30,22 @@ pub busy_again : (q : Which) (old new : Book) → IsBusy old.account → TriesPo
 busy_again q old new busy lost =
     subst (λ (b : Book). IsBusy b.account) (sym lost.5) (busy_looked q lost.0 lost.2 old busy)
 
--- what a worker did: tries of a pop that were all lost, and one more
-pub pop_did : (q : Which) (old mid new : Log) (tried : TryPopped HeldBuffer)
-    → ((lost : ℕ) × Did old (lost_pops q lost) mid) → Did mid (try_pop_steps q tried) new
-    → (lost : ℕ) × Did old (lost_pops q lost ++ try_pop_steps q tried) new
-pop_did q old mid new tried was did =
-    (was.0, did_on old mid new (lost_pops q was.0) (try_pop_steps q tried) was.1 did)
+module _ (q : Which) (old mid new : Log) where
+  -- what a worker did: tries of a pop that were all lost, and one more
+  pub pop_did : (tried : TryPopped HeldBuffer) → ((lost : ℕ) × Did old (lost_pops q lost) mid)
+      → Did mid (try_pop_steps q tried) new → (lost : ℕ) × Did old (lost_pops q lost ++ try_pop_steps q tried) new
+  pop_did tried was did = (was.0, did_on old mid new (lost_pops q was.0) (try_pop_steps q tried) was.1 did)
 
--- and the same of a push, of a buffer that bears two names
-pub push_did :
-    (q : Which) (h k : HeldBuffer) (old mid new : Log) (tried : TryPushed HeldBuffer) → k ≡ h
-    → ((links : List (Option ℕ)) × Did old (lost_pushes q h links) mid)
-    → ((link : Option ℕ) × Did mid (try_push_steps q k link tried) new)
-    → (links : List (Option ℕ)) × (link : Option ℕ)
-    × Did old (lost_pushes q h links ++ try_push_steps q h link tried) new
-push_did q h k old mid new tried same was did = (
-  was.0,
-  did.0,
-  did_on old mid new (lost_pushes q h was.0) (try_push_steps q h did.0 tried) was.1
-      (subst (λ x. Did mid (try_push_steps q x did.0 tried) new) same did.1),
-)
+  -- and the same of a push, of a buffer that bears two names
+  pub push_did :
+      (h k : HeldBuffer) (tried : TryPushed HeldBuffer) → k ≡ h
+      → ((links : List (Option ℕ)) × Did old (lost_pushes q h links) mid)
+      → ((link : Option ℕ) × Did mid (try_push_steps q k link tried) new)
+      → (links : List (Option ℕ)) × (link : Option ℕ)
+      × Did old (lost_pushes q h links ++ try_push_steps q h link tried) new
+  push_did h k tried same was did = (
+    was.0,
+    did.0,
+    did_on old mid new (lost_pushes q h was.0) (try_push_steps q h did.0 tried) was.1
+        (subst (λ x. Did mid (try_push_steps q x did.0 tried) new) same did.1),
+  )

@@ -30,11 +30,10 @@ told :
 told g c =
     let seat = c.worker.inside.seat in
     let is = c.worker.view_is in
-    let first : ℕ = c.mark_word-first_mark.result in
     let at_close =
-    ends_of buffer_reading (setup_of c.self.inside.table.shared.key) seat.id seat.me.0
-    (slots_items c.close_with-closed.result.words) (slots_items c.close_with-closed.result.slots) first
-    c.self.inside.objects (place g c) c.self.invariant.2
+    ends_of (slots_items c.close_with-closed.result.words) c.mark_word-first_mark.result c.self.inside.objects
+    buffer_reading (setup_of c.self.inside.table.shared.key) seat.id seat.me.0
+    (slots_items c.close_with-closed.result.slots) (place g c) c.self.invariant.2
     c.close_with-closed.ensures.values.2 (ap (λ (x : Holder). x.book.account.share) is ∙ c.requires.share)
     (ap (λ (x : Holder). x.book.account.held) is ∙ c.requires.held)
     (ap (λ (x : Holder). x.book.account.charge) is ∙ c.requires.charge) c.worker.invariant.0.settled in

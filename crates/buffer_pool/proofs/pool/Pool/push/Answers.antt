@@ -21,7 +21,7 @@ loop-preserved g c =
     let same : c.in-Lost.back ≡ h = tried.1 ∙ was.1 in
     let again : TriesPush q h old new (try_push.Lost h) = (tried.0, refl, tried.2, tried.3) in
     let did =
-    push_did q h c.loop.held c.args.worker.now.log c.loop.worker.log c.try_push.new.worker.log
+    push_did q c.args.worker.now.log c.loop.worker.log c.try_push.new.worker.log h c.loop.held
     (try_push.Lost c.in-Lost.back) was.1 was.4 c.in-Lost.ensures.did in (
       c.try_push.ensures.pool ∙ was.0,
       same,
@@ -32,10 +32,10 @@ loop-preserved g c =
 
 pub returns-in-Done-clause-did : goal.returns-in-Done-clause-did
 returns-in-Done-clause-did g c =
-    push_did c.args.which c.args.held c.loop.held c.args.worker.now.log c.loop.worker.log c.try_push.new.worker.log
+    push_did c.args.which c.args.worker.now.log c.loop.worker.log c.try_push.new.worker.log c.args.held c.loop.held
     try_push.Done c.loop.invariant.1 c.loop.invariant.4 c.in-Done.ensures.did
 
 pub returns-in-Spent-clause-did : goal.returns-in-Spent-clause-did
 returns-in-Spent-clause-did g c =
-    push_did c.args.which c.args.held c.loop.held c.args.worker.now.log c.loop.worker.log c.try_push.new.worker.log
+    push_did c.args.which c.args.worker.now.log c.loop.worker.log c.try_push.new.worker.log c.args.held c.loop.held
     (try_push.Spent c.in-Spent.back) c.loop.invariant.1 c.loop.invariant.4 c.in-Spent.ensures.did
