@@ -90,25 +90,22 @@ move_effect (Gave q h) old new p =
 move_effect (FoundNone q) old new p = look_effect old new (empty_look q old new p)
 move_effect (Ended q) old new p = look_effect old new (ended_look q old new p)
 
--- one effect after another
-effect_again : (a b c : Book) (g₀ t₀ gn₀ tn₀ g₁ t₁ gn₁ tn₁ : List ℕ) → IsEffect a b g₀ t₀ gn₀ tn₀
-    → IsEffect b c g₁ t₁ gn₁ tn₁ → IsEffect a c (g₀ ++ g₁) (t₀ ++ t₁) (gn₀ ++ gn₁) (tn₀ ++ tn₁)
-effect_again a b c g₀ t₀ gn₀ tn₀ g₁ t₁ gn₁ tn₁ s t =
-    record {
-      kept = grind arith;
-      charge = λ o. omega (arith, s.charge o, t.charge o, sum_of-append (only o) g₀ g₁, sum_of-append (only o) t₀ t₁);
-      held = λ i. omega (arith, s.held i, t.held i, sum_of-append (only i) gn₀ gn₁, sum_of-append (only i) tn₀ tn₁);
-      fulls = omega (arith, s.fulls, t.fulls);
-      empties = omega (arith, s.empties, t.empties);
-    }
-
 pub moves_effect : (moves : List Move) (old new : Book) → Moves old moves new
     → IsEffect old new (pushed_items moves) (popped_items moves) (pushed_numbers moves) (popped_numbers moves)
 moves_effect [] old new same = rw same (look_effect old old (look_at_all old))
 moves_effect (move ∷ moves) old new p =
-    effect_again old p.0 new (given_items move) (taken_items move) (given_number move) (taken_number move)
-    (pushed_items moves) (popped_items moves) (pushed_numbers moves) (popped_numbers moves)
-    (move_effect move old p.0 p.1) (moves_effect moves p.0 new p.2)
+    let one = move_effect move old p.0 p.1 in
+    let more = moves_effect moves p.0 new p.2 in
+    let add = λ (n : ℕ) (xs ys : List ℕ). sum_of-append (only n) xs ys in
+    record {
+      kept = grind arith;
+      charge = λ o. omega (arith, one.charge o, more.charge o, add o (given_items move) (pushed_items moves),
+          add o (taken_items move) (popped_items moves));
+      held = λ i. omega (arith, one.held i, more.held i, add i (given_number move) (pushed_numbers moves),
+          add i (taken_number move) (popped_numbers moves));
+      fulls = omega (arith, one.fulls, more.fulls);
+      empties = omega (arith, one.empties, more.empties);
+    }
 
 -- a worker that is not idle stays so
 pub busy_after : (moves : List Move) (old new : Book) → Moves old moves new → IsBusy old.account → IsBusy new.account
