@@ -3,8 +3,8 @@ use Rattle.std.proofs.Common.{◌≡◌, ◌≢◌, ◌⊎◌, ◌↔◌, ℕ, s
 use Rattle.std.proofs.Common.{if◌then◌else◌, bit_and, bit_or, ap, sym, ◌∙◌, inl, inr, ⊎_elim, eq-eqb, eqb-true, lt-ltb}
 use Rattle.std.proofs.Common.{le-ltb, pow_pos, pow_mono, pow-add, shr-shr, mod-eq_of_lt, mul-le-mul_right, suc-mul, w64}
 use Rattle.std.proofs.Common.{arith}
-use Rattle.buffer_pool.proofs.Terms.{cases_lt, bit_at_or, bit_at_cat_low, bit_at_cat_high, bit_at_above, bit_at-zero}
-use Rattle.buffer_pool.proofs.Terms.{bit_at-lt, bit_at_not, shr_and_one, ℕ_discrete, cut_marks, mark_of, pair_mark}
+use Rattle.buffer_pool.proofs.Words.{cases_lt, bit_at_or, bit_at_cat_low, bit_at_cat_high, bit_at_above, bit_at-zero}
+use Rattle.buffer_pool.proofs.Words.{bit_at-lt, bit_at_not, shr_and_one, ℕ_discrete, cut_marks, mark_of, pair_mark}
 use Rattle.std.specs.Int.{bit_at, bit_not}
 
 no_more : (x : ℕ) → x ≡ x + 0

@@ -1,20 +1,20 @@
 -- Claims and finishes keep the rule, and are the events of those names.
 use Rattle.std.proofs.Common.{◌≡◌, ℕ, ◌+◌, ◌/◌, ◌%◌, ◌<◌, ◌≤◌, max, bit_or, [], ◌∷◌, map, List, Option, set}
 use Rattle.std.proofs.Common.{slice_index, ap, sym, refl, subst, subst₂, ◌∙◌, ⊎_elim, length-set, arith}
-use Rattle.buffer_pool.proofs.Terms.{All-contains, none, TableId, State, Me, Step, Allows, step, keeps, head_of}
-use Rattle.buffer_pool.proofs.Terms.{index_of, Account, after_claim, Setup, Marking, put, Kind, Claim, Finish, CanClaim}
-use Rattle.buffer_pool.proofs.Terms.{CanFinish, IsBusy, effect, counted, linear, SeatView, claimed, finished, RestsWith}
-use Rattle.buffer_pool.proofs.Terms.{claim_made, finish_made, IsLaid, IsSound, SitsAt, setup_of, Key, Seat, Shared}
-use Rattle.buffer_pool.proofs.Terms.{mark_in, pair_bits, pair_mark, first_mark, link_word, mark_word, Reading, free}
-use Rattle.buffer_pool.proofs.Terms.{Rule, marking_of, view_counts, logged, has_each_once}
+use Rattle.buffer_pool.proofs.Words.{All-contains, none, TableId, State, Me, Step, Allows, step, keeps, head_of}
+use Rattle.buffer_pool.proofs.Words.{index_of, Account, after_claim, Setup, Marking, put, Kind, Claim, Finish, CanClaim}
+use Rattle.buffer_pool.proofs.Words.{CanFinish, IsBusy, effect, counted, linear, SeatView, claimed, finished, RestsWith}
+use Rattle.buffer_pool.proofs.Words.{claim_made, finish_made, IsLaid, IsSound, SitsAt, setup_of, Key, Seat, Shared}
+use Rattle.buffer_pool.proofs.Words.{mark_in, pair_bits, pair_mark, first_mark, link_word, mark_word, Reading, free}
+use Rattle.buffer_pool.proofs.Words.{Rule, marking_of, view_counts, logged, has_each_once}
 use Rattle.std.specs.Int.{bit_at}
 use Rattle.mark_core.specs.Events as may
 use Rattle.buffer_pool.proofs.Bits.{cut_object, mark_claimed, mark_finished, one_pair}
 use Rattle.buffer_pool.proofs.States.{Seated, left, agrees, lawful, cut_same, accounts_set, counts_same, rests_after}
 use Rattle.buffer_pool.proofs.States.{log_after, own_setup, seat_has, stands, freed}
 use Rattle.buffer_pool.proofs.Loads.{noted}
-use Rattle.buffer_pool.proofs.Words.{head_beside_mark, idle_beside_mark, link_beside_mark, marks_after, raised}
-use Rattle.buffer_pool.proofs.Words.{raised_words}
+use Rattle.buffer_pool.proofs.TableWords.{head_beside_mark, idle_beside_mark, link_beside_mark, marks_after, raised}
+use Rattle.buffer_pool.proofs.TableWords.{raised_words}
 
 module _
     {B : Type 0} {r : Reading B} {e : Setup} {s : State (Option B) SeatView} {id : ℕ} {v : SeatView}

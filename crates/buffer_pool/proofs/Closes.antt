@@ -1,11 +1,11 @@
 -- What holds of the last state of a pool that is closed.
 use Rattle.std.proofs.Common.{◌≡◌, ℕ, ◌+◌, ◌/◌, ◌%◌, ◌<◌, ◌≤◌, false, List, [], length, map, Contains, Option}
 use Rattle.std.proofs.Common.{slice_index, ap, sym, subst, ◌∙◌, ⊎_elim, arith}
-use Rattle.buffer_pool.proofs.Terms.{cases_lt, get_or_past, get_or-map-range_with_len, length-map-range_with_len, some}
-use Rattle.buffer_pool.proofs.Terms.{get_elem?, at_get_or, Final, Seen, at_map, Full, StandsAt, times, Setup, Marking}
-use Rattle.buffer_pool.proofs.Terms.{Counts, LeadTo, Law, whole, IsClosed, LiesIn, linear, closes, lawful_where}
-use Rattle.buffer_pool.proofs.Terms.{SeatView, Book, counts_of, IsAtTheEnd, MarksTell, deeds, HasSaidAll, IsViewOf}
-use Rattle.buffer_pool.proofs.Terms.{mark_in, marks_in, pair_mark, first_mark, Reading, Rule, marking_of, view_counts}
+use Rattle.buffer_pool.proofs.Words.{cases_lt, get_or_past, get_or-map-range_with_len, length-map-range_with_len, some}
+use Rattle.buffer_pool.proofs.Words.{get_elem?, at_get_or, Final, Seen, at_map, Full, StandsAt, times, Setup, Marking}
+use Rattle.buffer_pool.proofs.Words.{Counts, LeadTo, Law, whole, IsClosed, LiesIn, linear, closes, lawful_where}
+use Rattle.buffer_pool.proofs.Words.{SeatView, Book, counts_of, IsAtTheEnd, MarksTell, deeds, HasSaidAll, IsViewOf}
+use Rattle.buffer_pool.proofs.Words.{mark_in, marks_in, pair_mark, first_mark, Reading, Rule, marking_of, view_counts}
 use Rattle.buffer_pool.proofs.Bits.{cut_object, cut_past}
 use Rattle.buffer_pool.proofs.States.{stands}
 

@@ -2,9 +2,9 @@
 use Rattle.std.proofs.Common.{◌≡◌, ◌≢◌, ℕ, ◌<◌, ◌==◌, Bool, if◌then◌else◌, true, false, List, [], ◌∷◌, ◌++◌, length}
 use Rattle.std.proofs.Common.{Option, Some, None, set, ap, sym, refl, subst, ◌∙◌, ⊎_elim, eq-eqb, ne_eqb, length-append}
 use Rattle.std.proofs.Common.{arith}
-use Rattle.buffer_pool.proofs.Terms.{false≢true, append_assoc, append-nil, some, get_elem?, Event, Kind, Join, SeatView}
-use Rattle.buffer_pool.proofs.Terms.{Log, Did, LeadsToBook, deeds, free, AreViewsOf, IsTakenIn, IsViewOf, logged}
-use Rattle.buffer_pool.proofs.Terms.{at_set}
+use Rattle.buffer_pool.proofs.Words.{false≢true, append_assoc, append-nil, some, get_elem?, Event, Kind, Join, SeatView}
+use Rattle.buffer_pool.proofs.Words.{Log, Did, LeadsToBook, deeds, free, AreViewsOf, IsTakenIn, IsViewOf, logged}
+use Rattle.buffer_pool.proofs.Words.{at_set}
 
 -- of two stretches
 pub deeds_on : (w : ℕ) (xs ys : List Event) → deeds w (xs ++ ys) ≡ deeds w xs ++ deeds w ys

@@ -1,8 +1,8 @@
 -- A worker's story leads to a lawful marking. Of its finished objects each can be reached, so it is an object, and none
 -- was finished twice: so they are no more than there are, and their number is small.
 use Rattle.std.proofs.Common.{◌≡◌, ℕ, ◌<◌, ◌≤◌, [], ◌∷◌, length, arith}
-use Rattle.buffer_pool.proofs.Terms.{All-contains, TableId, IsReachableIn, Law, Setup, times, has_each_once}
-use Rattle.buffer_pool.proofs.Terms.{lawful_where, finished_few, Book, LeadsToBook, Log, IsLaid}
+use Rattle.buffer_pool.proofs.Words.{All-contains, TableId, IsReachableIn, Law, Setup, times, has_each_once}
+use Rattle.buffer_pool.proofs.Words.{lawful_where, finished_few, Book, LeadsToBook, Log, IsLaid}
 
 -- what a path of references leads to is an object
 reached_within : (t : TableId) (e : Setup) → IsLaid t e → (o : ℕ) → IsReachableIn e o → o < e.objects

@@ -1,8 +1,8 @@
 -- An account that was taken in does nothing any more.
 use Rattle.std.proofs.Common.{◌≡◌, ◌≢◌, ℕ, List, [], ◌∷◌, ◌++◌, set, ap, sym, refl, subst, ◌∙◌, ne_eqb, cond, arith}
-use Rattle.buffer_pool.proofs.Terms.{append_assoc, ℕ_discrete, at_longer, set_here, set_else, StandsAt, Account, part}
-use Rattle.buffer_pool.proofs.Terms.{no_share, after_join, Setup, Marking, account_at, IsThere, Event, Kind, Join}
-use Rattle.buffer_pool.proofs.Terms.{effect, happens, Run, at_below, at_one, EndsStory, deeds, IsTakenIn}
+use Rattle.buffer_pool.proofs.Words.{append_assoc, ℕ_discrete, at_longer, set_here, set_else, StandsAt, Account, part}
+use Rattle.buffer_pool.proofs.Words.{no_share, after_join, Setup, Marking, account_at, IsThere, Event, Kind, Join}
+use Rattle.buffer_pool.proofs.Words.{effect, happens, Run, at_below, at_one, EndsStory, deeds, IsTakenIn}
 use Rattle.buffer_pool.proofs.Effects.{effect_by}
 use Rattle.buffer_pool.proofs.Deeds.{deeds_on}
 

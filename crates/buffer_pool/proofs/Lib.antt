@@ -1,4 +1,4 @@
-pub mod Terms
+pub mod Words
 pub mod Effects
 pub mod Deeds
 pub mod Newcomers
@@ -6,7 +6,7 @@ pub mod Gone
 pub mod States
 pub mod Loads
 pub mod Bits
-pub mod Words
+pub mod TableWords
 pub mod Claims
 pub mod Idles
 pub mod Pops

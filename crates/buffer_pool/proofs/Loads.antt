@@ -1,13 +1,13 @@
 -- Loads keep the rule, and tell what was loaded. So do the steps that change nothing.
 use Rattle.std.proofs.Common.{◌≡◌, ℕ, ◌+◌, ◌<◌, ◌≤◌, ◌==◌, List, [], ◌∷◌, length, map, Option, Some, set, slice_index}
 use Rattle.std.proofs.Common.{slice_set, ap, sym, refl, subst, ◌∙◌, arith}
-use Rattle.buffer_pool.proofs.Terms.{none, either, TableId, State, Me, Allows, step, keeps, exchanged, Head, head_of}
-use Rattle.buffer_pool.proofs.Terms.{index_of, Which, Full, Empty, times, look_of, after_load, after_load_link, Setup}
-use Rattle.buffer_pool.proofs.Terms.{opening, Kind, Load, LoadLink, effect, last_link, link_from, count_load, counted}
-use Rattle.buffer_pool.proofs.Terms.{has_each_once, SeatView, Book, counts_of, loaded, link_loaded, RestsWith}
-use Rattle.buffer_pool.proofs.Terms.{head_seen, link_seen, set_aside, settled, IsSound, SitsAt, setup_of, Key, Seat}
-use Rattle.buffer_pool.proofs.Terms.{Shared, logged, charged, stands_times, IsWithin, mark_in, first_mark, head_word}
-use Rattle.buffer_pool.proofs.Terms.{link_word, Reading, Carries, free, Reached, Rule, marking_of, view_counts}
+use Rattle.buffer_pool.proofs.Words.{none, either, TableId, State, Me, Allows, step, keeps, exchanged, Head, head_of}
+use Rattle.buffer_pool.proofs.Words.{index_of, Which, Full, Empty, times, look_of, after_load, after_load_link, Setup}
+use Rattle.buffer_pool.proofs.Words.{opening, Kind, Load, LoadLink, effect, last_link, link_from, count_load, counted}
+use Rattle.buffer_pool.proofs.Words.{has_each_once, SeatView, Book, counts_of, loaded, link_loaded, RestsWith}
+use Rattle.buffer_pool.proofs.Words.{head_seen, link_seen, set_aside, settled, IsSound, SitsAt, setup_of, Key, Seat}
+use Rattle.buffer_pool.proofs.Words.{Shared, logged, charged, stands_times, IsWithin, mark_in, first_mark, head_word}
+use Rattle.buffer_pool.proofs.Words.{link_word, Reading, Carries, free, Reached, Rule, marking_of, view_counts}
 use Rattle.mark_core.specs.Events as may
 use Rattle.buffer_pool.proofs.Bits.{marked_object}
 use Rattle.buffer_pool.proofs.States.{Seated, left, lawful, cut_below, stands, changed, accounts_set, counts_same}

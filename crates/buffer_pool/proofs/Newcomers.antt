@@ -1,10 +1,10 @@
 -- A number that no account has yet did nothing, so the new worker of a split did nothing.
 use Rattle.std.proofs.Common.{◌≡◌, ◌≢◌, ◌⊎◌, ℕ, zero, suc, ◌<◌, ◌≤◌, true, List, [], ◌∷◌, ◌++◌, length, Some, set, ap}
 use Rattle.std.proofs.Common.{sym, refl, subst, ◌∙◌, inl, inr, ⊎_elim, length-set, length-append, ne_eqb, cond, arith}
-use Rattle.buffer_pool.proofs.Terms.{false≢true, append_assoc, some, some-injective, some-ne-none, get_elem?, Account}
-use Rattle.buffer_pool.proofs.Terms.{part, no_share, Setup, Marking, account_at, Event, Kind, Split, Join, effect}
-use Rattle.buffer_pool.proofs.Terms.{happens, Run, at_below, SeatView, deeds, AreViewsOf, IsTakenIn, IsViewOf}
-use Rattle.buffer_pool.proofs.Terms.{kept_part, given_part, joined_view, no_share_view}
+use Rattle.buffer_pool.proofs.Words.{false≢true, append_assoc, some, some-injective, some-ne-none, get_elem?, Account}
+use Rattle.buffer_pool.proofs.Words.{part, no_share, Setup, Marking, account_at, Event, Kind, Split, Join, effect}
+use Rattle.buffer_pool.proofs.Words.{happens, Run, at_below, SeatView, deeds, AreViewsOf, IsTakenIn, IsViewOf}
+use Rattle.buffer_pool.proofs.Words.{kept_part, given_part, joined_view, no_share_view}
 use Rattle.buffer_pool.proofs.Effects.{effect_by}
 use Rattle.buffer_pool.proofs.Deeds.{deeds_on, no_deed, taken_on, told_mine, told_theirs, told_set}
 

@@ -1,14 +1,14 @@
 -- A split of a worker, and a join of two, keep the rule.
 use Rattle.std.proofs.Common.{◌≡◌, ◌≢◌, ℕ, ◌<◌, ◌≤◌, true, false, length, List, [], ◌∷◌, ◌++◌, map, Option, Some, None}
 use Rattle.std.proofs.Common.{set, ap, sym, refl, subst, ◌∙◌, ⊎_elim, arith}
-use Rattle.buffer_pool.proofs.Terms.{map-append, some, dec_le, get_elem?, Me, State, Splits, Joins, TableId, at_map}
-use Rattle.buffer_pool.proofs.Terms.{at_set, at_snoc, set_else, times, only, Account, part, no_share, after_join, Setup}
-use Rattle.buffer_pool.proofs.Terms.{Marking, account_at, AreApart, HasEachOnce, opening, Event, Split, Join, Counts}
-use Rattle.buffer_pool.proofs.Terms.{add_counts, counts_at, no_counts, sum_of-append, at_get_or, SeatView, Book, joined}
-use Rattle.buffer_pool.proofs.Terms.{new_book, parted, IsWithin, IsLaid, IsSound, Log, Did, EndsStory, IsNewcomer}
-use Rattle.buffer_pool.proofs.Terms.{LeadsToBook, deeds, HasSaidAll, logged, IsUpToDate, kept_part, given_part}
-use Rattle.buffer_pool.proofs.Terms.{joined_view, no_share_view, Reading, Carries, IsTied, Rests, free, Reached, Rule}
-use Rattle.buffer_pool.proofs.Terms.{account_of, marking_of, view_counts, append_assoc, length-map}
+use Rattle.buffer_pool.proofs.Words.{map-append, some, dec_le, get_elem?, Me, State, Splits, Joins, TableId, at_map}
+use Rattle.buffer_pool.proofs.Words.{at_set, at_snoc, set_else, times, only, Account, part, no_share, after_join, Setup}
+use Rattle.buffer_pool.proofs.Words.{Marking, account_at, AreApart, HasEachOnce, opening, Event, Split, Join, Counts}
+use Rattle.buffer_pool.proofs.Words.{add_counts, counts_at, no_counts, sum_of-append, at_get_or, SeatView, Book, joined}
+use Rattle.buffer_pool.proofs.Words.{new_book, parted, IsWithin, IsLaid, IsSound, Log, Did, EndsStory, IsNewcomer}
+use Rattle.buffer_pool.proofs.Words.{LeadsToBook, deeds, HasSaidAll, logged, IsUpToDate, kept_part, given_part}
+use Rattle.buffer_pool.proofs.Words.{joined_view, no_share_view, Reading, Carries, IsTied, Rests, free, Reached, Rule}
+use Rattle.buffer_pool.proofs.Words.{account_of, marking_of, view_counts, append_assoc, length-map}
 use Rattle.buffer_pool.proofs.States.{Seated, nothing_out, stands, own_setup, accounts_set, counts_set, counts_same}
 use Rattle.buffer_pool.proofs.States.{happened_told}
 use Rattle.buffer_pool.proofs.Deeds.{deeds_on, did_on}

@@ -3,22 +3,22 @@
 use Rattle.std.proofs.Common.{◌≡◌, ◌≢◌, ℕ, suc, ◌+◌, ◌<◌, ◌≤◌, ◌==◌, nat_lt, if◌then◌else◌, List, [], ◌∷◌, length}
 use Rattle.std.proofs.Common.{Option, Some, None, get_or, set, slice_index, slice_set, ap, sym, refl, subst, subst₂}
 use Rattle.std.proofs.Common.{◌∙◌, length-set, arith}
-use Rattle.buffer_pool.proofs.Terms.{none, some, ℕ_discrete, get_elem?, either, TableId, State, Me, Allows, rest, step}
-use Rattle.buffer_pool.proofs.Terms.{stepped, carried_after, keeps, takes, gives, set_else, set_again, head_of}
-use Rattle.buffer_pool.proofs.Terms.{index_of, low_of, after, Which, Full, Empty, times, remove_one, IsPart, look_of}
-use Rattle.buffer_pool.proofs.Terms.{Setup, Marking, put, CanExchange, StoreLink, Push, Fail, IsBusy, effect}
-use Rattle.buffer_pool.proofs.Terms.{times-remove_one, times_stands, only-same, only-other, SeatView, Book, pushed}
-use Rattle.buffer_pool.proofs.Terms.{failed, CanPut, HasPushed, rested, link_stored, top_put, Did, LeadsToBook, IsSound}
-use Rattle.buffer_pool.proofs.Terms.{SitsAt, setup_of, Key, Seat, Shared, logged, head_word, link_word, Reading, IsTied}
-use Rattle.buffer_pool.proofs.Terms.{Rests, free, Rule, marking_of, has_each_once}
+use Rattle.buffer_pool.proofs.Words.{none, some, ℕ_discrete, get_elem?, either, TableId, State, Me, Allows, rest, step}
+use Rattle.buffer_pool.proofs.Words.{stepped, carried_after, keeps, takes, gives, set_else, set_again, head_of}
+use Rattle.buffer_pool.proofs.Words.{index_of, low_of, after, Which, Full, Empty, times, remove_one, IsPart, look_of}
+use Rattle.buffer_pool.proofs.Words.{Setup, Marking, put, CanExchange, StoreLink, Push, Fail, IsBusy, effect}
+use Rattle.buffer_pool.proofs.Words.{times-remove_one, times_stands, only-same, only-other, SeatView, Book, pushed}
+use Rattle.buffer_pool.proofs.Words.{failed, CanPut, HasPushed, rested, link_stored, top_put, Did, LeadsToBook, IsSound}
+use Rattle.buffer_pool.proofs.Words.{SitsAt, setup_of, Key, Seat, Shared, logged, head_word, link_word, Reading, IsTied}
+use Rattle.buffer_pool.proofs.Words.{Rests, free, Rule, marking_of, has_each_once}
 use mathlib.Core.Option as maybe
 use Rattle.buffer_pool.proofs.States.{Seated, Goes, left, agrees, lawful, cut_below, cut_put, changed, accounts_set}
 use Rattle.buffer_pool.proofs.States.{accounts_same, counts_same, slots_set, sized_set, happened, story_now, log_after}
 use Rattle.buffer_pool.proofs.States.{nothing_out, written_again, own_setup, told, stands, held_alone, held_below}
 use Rattle.buffer_pool.proofs.States.{held_away, freed, did_event, missed_reached}
-use Rattle.buffer_pool.proofs.Words.{one_head, exchange_hit, exchange_miss, link_beside_head, links_beside_head}
-use Rattle.buffer_pool.proofs.Words.{marks_beside_head, heads_after, idle_beside_head, idle_beside_link, head_below}
-use Rattle.buffer_pool.proofs.Words.{head_beside_link, link_beside_link, link_here, marks_beside_link, links_after}
+use Rattle.buffer_pool.proofs.TableWords.{one_head, exchange_hit, exchange_miss, link_beside_head, links_beside_head}
+use Rattle.buffer_pool.proofs.TableWords.{marks_beside_head, heads_after, idle_beside_head, idle_beside_link, head_below}
+use Rattle.buffer_pool.proofs.TableWords.{head_beside_link, link_beside_link, link_here, marks_beside_link, links_after}
 
 -- the link word to an index of a buffer is at most the number of buffers
 pub low_small : (index : Option ℕ) (buffers : ℕ) → ((i : ℕ) → index ≡ Some i → i < buffers) → low_of index ≤ buffers

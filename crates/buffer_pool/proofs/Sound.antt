@@ -1,11 +1,11 @@
 -- What a seat keeps between two calls is kept by each step.
 use Rattle.std.proofs.Common.{◌≡◌, ◌==◌, Bool, true, false, if◌then◌else◌, ℕ, suc, ◌<◌, List, [], ◌∷◌, ◌++◌, Option}
 use Rattle.std.proofs.Common.{None, Contains, sym, ap, refl, subst, ⊎_elim, arith}
-use Rattle.buffer_pool.proofs.Terms.{Me, TableId, Head, Which, Full, Empty, times, remove_one, without, IsPart, Setup}
-use Rattle.buffer_pool.proofs.Terms.{Kind, stands_times, times_stands, stands_push, stands_append, times-remove_one}
-use Rattle.buffer_pool.proofs.Terms.{times-without, SeatView, Book, loaded, link_loaded, popped, pushed, claimed}
-use Rattle.buffer_pool.proofs.Terms.{finished, IsWithin, IsBare, IsLaid, IsSound, RestsWith, rested, Log, LeadsToBook}
-use Rattle.buffer_pool.proofs.Terms.{HasSaidAll, logged, slots_of}
+use Rattle.buffer_pool.proofs.Words.{Me, TableId, Head, Which, Full, Empty, times, remove_one, without, IsPart, Setup}
+use Rattle.buffer_pool.proofs.Words.{Kind, stands_times, times_stands, stands_push, stands_append, times-remove_one}
+use Rattle.buffer_pool.proofs.Words.{times-without, SeatView, Book, loaded, link_loaded, popped, pushed, claimed}
+use Rattle.buffer_pool.proofs.Words.{finished, IsWithin, IsBare, IsLaid, IsSound, RestsWith, rested, Log, LeadsToBook}
+use Rattle.buffer_pool.proofs.Words.{HasSaidAll, logged, slots_of}
 
 -- what is in a list is below a bound, and so it is with one more that is below it, and with one removed
 below_push : (xs : List ℕ) (x n : ℕ) → ((y : ℕ) → Contains xs y → y < n) → x < n → (y : ℕ) → Contains (xs ++ x ∷ []) y

@@ -2,19 +2,19 @@
 use Rattle.std.proofs.Common.{◌≡◌, ◌≢◌, ℕ, zero, suc, ◌+◌, ◌%◌, ◌<◌, ◌≤◌, if◌then◌else◌, List, [], ◌∷◌, ◌++◌, length}
 use Rattle.std.proofs.Common.{map, replicate, Option, Some, None, All, set, slice_index, ap, sym, refl, subst, ◌∙◌}
 use Rattle.std.proofs.Common.{⊎_elim, length-set, lt-ltb, le-ltb, arith}
-use Rattle.buffer_pool.proofs.Terms.{get_or-set_same, get_or-set_other, length-replicate, length-map, All-append}
-use Rattle.buffer_pool.proofs.Terms.{cases_lt, some, some-injective, some-ne-none, get_elem?, TableId, head_of}
-use Rattle.buffer_pool.proofs.Terms.{index_of, Which, Full, Empty, Setup, first_heads, first_link, SeatView, no_counts}
-use Rattle.buffer_pool.proofs.Terms.{whole, new_book, LeadsToBook, first_log, IsInside, IsLaid, IsSound, first_view}
-use Rattle.buffer_pool.proofs.Terms.{HasFirstWords, IsFirstSlot, mark_in, mark_words, pair_mark, first_mark, head_word}
-use Rattle.buffer_pool.proofs.Terms.{link_word, mark_word, Reading, IsTied, Rests, slot_of, Rule, cut, marking_of}
-use Rattle.buffer_pool.proofs.Terms.{marks_of, IsViewOf}
+use Rattle.buffer_pool.proofs.Words.{get_or-set_same, get_or-set_other, length-replicate, length-map, All-append}
+use Rattle.buffer_pool.proofs.Words.{cases_lt, some, some-injective, some-ne-none, get_elem?, TableId, head_of}
+use Rattle.buffer_pool.proofs.Words.{index_of, Which, Full, Empty, Setup, first_heads, first_link, SeatView, no_counts}
+use Rattle.buffer_pool.proofs.Words.{whole, new_book, LeadsToBook, first_log, IsInside, IsLaid, IsSound, first_view}
+use Rattle.buffer_pool.proofs.Words.{HasFirstWords, IsFirstSlot, mark_in, mark_words, pair_mark, first_mark, head_word}
+use Rattle.buffer_pool.proofs.Words.{link_word, mark_word, Reading, IsTied, Rests, slot_of, Rule, cut, marking_of}
+use Rattle.buffer_pool.proofs.Words.{marks_of, IsViewOf}
 use Rattle.atomic_table.specs.Table.{opening}
 use Rattle.mark_core.specs.Runs as runs
 use Rattle.buffer_pool.proofs.Bits.{cut_white, white_pair}
 use Rattle.buffer_pool.proofs.States.{agrees, cut_below, cut_past, nothing_out}
 use Rattle.buffer_pool.proofs.Deeds.{told_now}
-use Rattle.buffer_pool.proofs.Words.{head_below}
+use Rattle.buffer_pool.proofs.TableWords.{head_below}
 
 zeros : (n i : ℕ) → slice_index (replicate n 0) i ≡ 0
 zeros zero i = refl

@@ -2,16 +2,16 @@
 use Rattle.std.proofs.Common.{◌≡◌, ◌≢◌, ℕ, zero, suc, ◌+◌, ◌<◌, ◌≤◌, nat_lt, if◌then◌else◌, List, [], ◌∷◌, length, map}
 use Rattle.std.proofs.Common.{Option, Some, None, true, set, slice_index, slice_set, ap, subst₂, sym, refl, subst, ◌∙◌}
 use Rattle.std.proofs.Common.{⊎_elim, length-set, lt-ltb, le-ltb, arith}
-use Rattle.buffer_pool.proofs.Terms.{map-set, set-set, set-get_or, cases_lt, some, ℕ_discrete, get_elem?, State, Me}
-use Rattle.buffer_pool.proofs.Terms.{Act, Allows, Valid, put_back, stepped, carried_after, gives, chain, at_map, at_set}
-use Rattle.buffer_pool.proofs.Terms.{set_here, set_else, set_again, Which, StandsAt, times, Account, no_share, Setup}
-use Rattle.buffer_pool.proofs.Terms.{Marking, put, Event, Kind, effect, Full, Empty, head_of, Counts, LeadTo, counted}
-use Rattle.buffer_pool.proofs.Terms.{counts_at, no_counts, Law, held_times, at_below, at_get_or, put_here, put_else}
-use Rattle.buffer_pool.proofs.Terms.{lawful_where, leads_on, terms_le, held_apart, place_one, stacked_below, top_stands}
-use Rattle.buffer_pool.proofs.Terms.{SeatView, AreViewsOf, HasSaidAll, IsViewOf, logged, RestsWith, Book, counts_of}
-use Rattle.buffer_pool.proofs.Terms.{Log, LeadsToBook, head_word, link_word, Reading, IsTied, Rests, Carries, free}
-use Rattle.buffer_pool.proofs.Terms.{slot_of, slots_of, Reached, Rule, account_of, cut, marking_of, view_counts}
-use Rattle.buffer_pool.proofs.Terms.{Head, Fail, Did, look_of, failed, count_failure}
+use Rattle.buffer_pool.proofs.Words.{map-set, set-set, set-get_or, cases_lt, some, ℕ_discrete, get_elem?, State, Me}
+use Rattle.buffer_pool.proofs.Words.{Act, Allows, Valid, put_back, stepped, carried_after, gives, chain, at_map, at_set}
+use Rattle.buffer_pool.proofs.Words.{set_here, set_else, set_again, Which, StandsAt, times, Account, no_share, Setup}
+use Rattle.buffer_pool.proofs.Words.{Marking, put, Event, Kind, effect, Full, Empty, head_of, Counts, LeadTo, counted}
+use Rattle.buffer_pool.proofs.Words.{counts_at, no_counts, Law, held_times, at_below, at_get_or, put_here, put_else}
+use Rattle.buffer_pool.proofs.Words.{lawful_where, leads_on, terms_le, held_apart, place_one, stacked_below, top_stands}
+use Rattle.buffer_pool.proofs.Words.{SeatView, AreViewsOf, HasSaidAll, IsViewOf, logged, RestsWith, Book, counts_of}
+use Rattle.buffer_pool.proofs.Words.{Log, LeadsToBook, head_word, link_word, Reading, IsTied, Rests, Carries, free}
+use Rattle.buffer_pool.proofs.Words.{slot_of, slots_of, Reached, Rule, account_of, cut, marking_of, view_counts}
+use Rattle.buffer_pool.proofs.Words.{Head, Fail, Did, look_of, failed, count_failure}
 use mathlib.Core.Option as maybe
 use Rattle.mark_core.specs.Events as may
 use Rattle.buffer_pool.proofs.Deeds.{and_then, log_of, told_free, told_set, told_seen, told_step, did_one}

@@ -22,7 +22,7 @@ use Rattle.buffer_pool.specs.working.Slots.{Reading}
 use Rattle.buffer_pool.specs.working.Table.{Rule, account_of, marking_of, view_counts}
 use Rattle.pool_tests.specs.Forged.{NoEvenPop, NoForgedHead, NoForgedLoss, NoForgedPush, OtherFirstHeadsWereNot}
 use Rattle.buffer_pool.proofs.States.{cut_below, lawful}
-use Rattle.buffer_pool.proofs.Words.{links_beside_head}
+use Rattle.buffer_pool.proofs.TableWords.{links_beside_head}
 
 pub other_first_heads_were_not : OtherFirstHeadsWereNot
 other_first_heads_were_not e q h first other events m run had =

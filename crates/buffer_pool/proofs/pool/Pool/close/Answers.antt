@@ -2,8 +2,8 @@
 -- since it has each finished object once.
 use Rattle.std.proofs.Common.{◌≡◌, ◌==◌, ◌∙◌, ℕ, ◌+◌, List, ap, arith, count_by, subst, sym}
 use Rattle.std.specs.Slots.{IsFull, slots_items}
-use Rattle.buffer_pool.proofs.Terms.{finished_counted, buffer_reading, Book, Holder, IsAtTheEnd, MarksTell, Log}
-use Rattle.buffer_pool.proofs.Terms.{marks_in, setup_of}
+use Rattle.buffer_pool.proofs.Words.{finished_counted, buffer_reading, Book, Holder, IsAtTheEnd, MarksTell, Log}
+use Rattle.buffer_pool.proofs.Words.{marks_in, setup_of}
 use Rattle.buffer_pool.proofs.Closes.{ends_of}
 use Rattle.buffer_pool.proofs.pool.Pool.close.Given as given
 use Rattle.buffer_pool.proofs.pool.Pool.close.Goals.{After-empty_slots}

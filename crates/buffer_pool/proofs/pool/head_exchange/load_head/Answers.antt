@@ -1,10 +1,10 @@
 -- A load of a head keeps the rule, and tells the head.
 use Rattle.std.proofs.Common.{◌≡◌, ℕ, ◌<◌, [], ◌∷◌, sym, subst, Some, arith}
-use Rattle.buffer_pool.proofs.Terms.{none, Head, Load, Allows, step, buffer_reading, RestsWith, head_seen, loaded}
-use Rattle.buffer_pool.proofs.Terms.{setup_of, Rule}
+use Rattle.buffer_pool.proofs.Words.{none, Head, Load, Allows, step, buffer_reading, RestsWith, head_seen, loaded}
+use Rattle.buffer_pool.proofs.Words.{setup_of, Rule}
 use Rattle.buffer_pool.proofs.Loads.{sees_head}
 use Rattle.buffer_pool.proofs.Sound.{sound_after, sound_loaded}
-use Rattle.buffer_pool.proofs.Words.{head_below}
+use Rattle.buffer_pool.proofs.TableWords.{head_below}
 use Rattle.buffer_pool.proofs.pool.head_exchange.load_head.Goals as goal
 
 pub load-requires : goal.load-requires

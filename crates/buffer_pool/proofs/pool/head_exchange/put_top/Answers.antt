@@ -1,7 +1,7 @@
 -- The slot carries the buffer into the exchange, and out of it where it failed.
 use Rattle.std.proofs.Common.{◌≡◌, suc, ◌<◌, arith, sym, subst, ap, ◌∙◌, Option, Some, Contains, refl}
-use Rattle.buffer_pool.proofs.Terms.{Head, index_of, after, last_tag, index_of-low_of, stands_times, buffer_reading}
-use Rattle.buffer_pool.proofs.Terms.{IsPart, HeldBuffer, CanPut}
+use Rattle.buffer_pool.proofs.Words.{Head, index_of, after, last_tag, index_of-low_of, stands_times, buffer_reading}
+use Rattle.buffer_pool.proofs.Words.{IsPart, HeldBuffer, CanPut}
 use Rattle.buffer_pool.proofs.Pushes.{carried_with, still_carried, told_of}
 use Rattle.buffer_pool.proofs.pool.head_exchange.put_top.Goals as goal
 

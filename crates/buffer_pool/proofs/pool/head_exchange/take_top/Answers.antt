@@ -1,9 +1,9 @@
 -- The exchange pops or has failed, and the slot that it took has the buffer.
 use Rattle.std.proofs.Common.{◌==◌, ◌∷◌, sym, subst, ap, ◌∙◌, Some, arith}
-use Rattle.buffer_pool.proofs.Terms.{none, either, Head, head_of, after, look_of, CanPop, Allows, step, rest}
-use Rattle.buffer_pool.proofs.Terms.{buffer_reading, top_taken, setup_of, Rule}
+use Rattle.buffer_pool.proofs.Words.{none, either, Head, head_of, after, look_of, CanPop, Allows, step, rest}
+use Rattle.buffer_pool.proofs.Words.{buffer_reading, top_taken, setup_of, Rule}
 use Rattle.buffer_pool.proofs.Pops.{pops}
-use Rattle.buffer_pool.proofs.Words.{head_below}
+use Rattle.buffer_pool.proofs.TableWords.{head_below}
 use Rattle.buffer_pool.proofs.pool.head_exchange.take_top.Goals as goal
 
 pub compare_exchange-requires : goal.compare_exchange-requires

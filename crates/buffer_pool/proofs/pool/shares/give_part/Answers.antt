@@ -1,6 +1,6 @@
 -- The units are set aside, the seat is split, and both parts are settled: each is sound, with its part of the share.
 use Rattle.std.proofs.Common.{◌∙◌, ap, refl, sym, Option, arith}
-use Rattle.buffer_pool.proofs.Terms.{Me, TableId, Buffer, SeatView, buffer_reading, setup_of, Log}
+use Rattle.buffer_pool.proofs.Words.{Me, TableId, Buffer, SeatView, buffer_reading, setup_of, Log}
 use Rattle.buffer_pool.proofs.Loads.{sets_aside, settles}
 use Rattle.buffer_pool.proofs.Parts.{noted_units, splits, kept_may, given_may, keeps_part, has_part}
 use Rattle.buffer_pool.proofs.pool.shares.give_part.Given as given

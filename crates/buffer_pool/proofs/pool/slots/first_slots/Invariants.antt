@@ -1,6 +1,6 @@
 -- Each slot so far has its buffer.
 use Rattle.std.proofs.Common.{◌≡◌, ◌-◌, ◌≤◌, All, vec_len, vec_capacity}
-use Rattle.buffer_pool.proofs.Terms.{buffer_reading, IsFirstSlot}
+use Rattle.buffer_pool.proofs.Words.{buffer_reading, IsFirstSlot}
 use Rattle.buffer_pool.proofs.pool.slots.first_slots.Given as goal
 
 abbrev pub decreases-loop-alloc : goal.decreases-loop-alloc

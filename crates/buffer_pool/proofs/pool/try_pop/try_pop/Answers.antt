@@ -1,6 +1,6 @@
 -- What the seat keeps is kept at each step and at each end.
 use Rattle.std.proofs.Common.{◌≡◌, ◌<◌, refl, sym, subst, ◌∙◌}
-use Rattle.buffer_pool.proofs.Terms.{Setup, failed, Load, LoadLink, Pop, Fail, IsSound}
+use Rattle.buffer_pool.proofs.Words.{Setup, failed, Load, LoadLink, Pop, Fail, IsSound}
 use Rattle.buffer_pool.proofs.Loads.{is_loaded}
 use Rattle.buffer_pool.proofs.Deeds.{did_three}
 use Rattle.buffer_pool.proofs.Sound.{bare_rested, sound_after, sound_as, sound_linked, sound_looked, sound_popped}

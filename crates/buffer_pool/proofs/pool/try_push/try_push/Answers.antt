@@ -1,7 +1,7 @@
 -- What the seat keeps is kept at each step and at each end.
 use Rattle.std.proofs.Common.{◌≡◌, ℕ, suc, ◌<◌, [], ◌∷◌, Option, refl, sym, subst, ◌∙◌, ap, arith}
-use Rattle.buffer_pool.proofs.Terms.{low_of, times, IsPart, stands_times, failed, loaded, HeldBuffer, Kind, Did, Log}
-use Rattle.buffer_pool.proofs.Terms.{IsSound}
+use Rattle.buffer_pool.proofs.Words.{low_of, times, IsPart, stands_times, failed, loaded, HeldBuffer, Kind, Did, Log}
+use Rattle.buffer_pool.proofs.Words.{IsSound}
 use Rattle.buffer_pool.proofs.Loads.{is_loaded}
 use Rattle.mark_core.specs.Events as events
 use Rattle.buffer_pool.proofs.Deeds.{did_three}

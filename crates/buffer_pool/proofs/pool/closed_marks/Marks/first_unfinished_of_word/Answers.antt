@@ -1,7 +1,7 @@
 -- The lowest bit that is not set, from the object's pair on, is of the first pair that is not finished.
 use Rattle.std.proofs.Common.{◌≡◌, ◌≢◌, ◌+◌, ◌-◌, ◌*◌, ◌/◌, ◌%◌, ◌^◌, ◌<◌, ◌∙◌, ℕ, ap, sym, arith, rules, w64}
 use Rattle.std.proofs.Math.Nat.{div-le_self}
-use Rattle.buffer_pool.proofs.Terms.{bit_at-trailing_zeros, bit_at-zero, pair_mark}
+use Rattle.buffer_pool.proofs.Words.{bit_at-trailing_zeros, bit_at-zero, pair_mark}
 use Rattle.std.specs.Int.{bit_at, trailing_zeros}
 use Rattle.buffer_pool.proofs.Bits.{pair_finished, pair_unfinished, unset_below, unset_from}
 use Rattle.buffer_pool.proofs.pool.closed_marks.Marks.first_unfinished_of_word.Given as given
