@@ -17,8 +17,9 @@ use Rattle.buffer_pool.proofs.States.{accounts_same, counts_same, slots_set, siz
 use Rattle.buffer_pool.proofs.States.{nothing_out, written_again, own_setup, told, stands, held_alone, held_below}
 use Rattle.buffer_pool.proofs.States.{held_away, freed, did_event, missed_reached}
 use Rattle.buffer_pool.proofs.TableWords.{one_head, exchange_hit, exchange_miss, link_beside_head, links_beside_head}
-use Rattle.buffer_pool.proofs.TableWords.{marks_beside_head, heads_after, idle_beside_head, idle_beside_link, head_below}
-use Rattle.buffer_pool.proofs.TableWords.{head_beside_link, link_beside_link, link_here, marks_beside_link, links_after}
+use Rattle.buffer_pool.proofs.TableWords.{marks_beside_head, heads_after, idle_beside_head, idle_beside_link}
+use Rattle.buffer_pool.proofs.TableWords.{head_below, head_beside_link, link_beside_link, link_here, marks_beside_link}
+use Rattle.buffer_pool.proofs.TableWords.{links_after}
 
 -- the link word to an index of a buffer is at most the number of buffers
 pub low_small : (index : Option ℕ) (buffers : ℕ) → ((i : ℕ) → index ≡ Some i → i < buffers) → low_of index ≤ buffers

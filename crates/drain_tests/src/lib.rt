@@ -2,8 +2,8 @@
 //! what callers may ask, and `drain::inside`. The crate has nothing to hand out.
 //!
 //! `dumps` has the dumps that are marked. `refused_threads` refuses threads, `several_refusals` has several workers
-//! refused, `gate_calls` and `leading` tell who calls the gate and when, `memory` refuses requests, `tallies` and `sums`
-//! have what is counted, the latter at its bounds, and `texts` what is printed of a fault.
+//! refused, `gate_calls` and `leading` tell who calls the gate and when, `memory` refuses requests, `tallies` and
+//! `sums` have what is counted, the latter at its bounds, and `texts` what is printed of a fault.
 
 #![tactic(auto)]
 
