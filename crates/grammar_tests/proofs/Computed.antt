@@ -12,7 +12,8 @@ use Rattle.hprof_grammar.specs.Spelling.Field.{number, raw, type_code}
 use Rattle.hprof_grammar.specs.Standing.{RecordStands, Sight, Stands}
 use Rattle.hprof_grammar.specs.SubRecord.{HasSizes, IsSubRecord, Root, SubRecord, fields_of, spelling_of}
 use Rattle.hprof_grammar.specs.SubRecord.SubRecord.{class_dump, primitive_array_dump, root}
-use Rattle.hprof_grammar.specs.TagsAndTypes.{is_heap_tag, is_length_of, is_type_at, size_of}
+use Rattle.hprof_grammar.specs.TagsAndTypes.{is_type_at, size_of}
+use Rattle.hprof_grammar.specs.Record.{is_heap_tag, is_length_of}
 use Rattle.hprof_grammar.proofs.TableLaws.{tag_known}
 
 abbrev every : {A : Type 0} → (A → Bool) → List A → Bool

@@ -7,7 +7,8 @@ use Rattle.hprof_grammar.specs.Record.Record.{heap, load_class, string}
 use Rattle.hprof_grammar.specs.SubRecord.{Class, Instance, Root, SubRecord}
 use Rattle.hprof_grammar.specs.SubRecord.RootOrigin.{unknown}
 use Rattle.hprof_grammar.specs.SubRecord.SubRecord.{class_dump, instance_dump, root}
-use Rattle.hprof_grammar.specs.TagsAndTypes.{is_id_size, is_length_of, is_type_at, size_of}
+use Rattle.hprof_grammar.specs.TagsAndTypes.{is_id_size, is_type_at, size_of}
+use Rattle.hprof_grammar.specs.Record.{is_length_of}
 use Rattle.grammar_tests.proofs.Computed.{record_is}
 
 abbrev file : List ℕ

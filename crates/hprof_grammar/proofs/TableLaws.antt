@@ -3,7 +3,8 @@ use Rattle.hprof_grammar.proofs.Words.{Bool, Kind, None, Option, RootKind, RootO
 use Rattle.hprof_grammar.proofs.Words.{false, is_heap_tag, nat_le, nat_tests, origin_kind, origin_tag, refl, root}
 use Rattle.hprof_grammar.proofs.Words.{root_of, root_tag, sub_kind, sym, true, unknown, ℕ, ◌&&◌, ◌*◌, ◌+◌, ◌<◌, ◌==◌}
 use Rattle.hprof_grammar.proofs.Words.{◌^◌, ◌||◌, ◌∙◌, ◌≡◌, ◌≤◌}
-use Rattle.hprof_grammar.specs.TagsAndTypes.{is_id_size, is_length_of, is_sub_tag}
+use Rattle.hprof_grammar.specs.TagsAndTypes.{is_id_size, is_sub_tag}
+use Rattle.hprof_grammar.specs.Record.{is_length_of}
 use Rattle.hprof_grammar.specs.Kinds.{kind_of, root_kind}
 use Rattle.hprof_grammar.specs.SubRecord.{tag_of}
 use Rattle.hprof_grammar.specs.declared.kinds.Kind.TheVariants.{Class, Instance, ObjectArray, PrimitiveArray, Root}

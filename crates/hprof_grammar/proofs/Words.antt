@@ -33,7 +33,8 @@ pub use Rattle.hprof_grammar.specs.Fault.{SubFault}
 pub use Rattle.hprof_grammar.specs.Fault.FirstFault.{bad_header, bad_id_size, in_records, short_header, too_large}
 pub use Rattle.hprof_grammar.specs.Fault.RecordFault.{bad_length, in_heap, no_snapshot, out_of_order, truncated}
 pub use Rattle.hprof_grammar.specs.Fault.SubFault.{short, unknown_tag, wrong_type}
-pub use Rattle.hprof_grammar.specs.TagsAndTypes.{is_heap_tag, is_id_size, is_length_of}
+pub use Rattle.hprof_grammar.specs.TagsAndTypes.{is_id_size}
+pub use Rattle.hprof_grammar.specs.Record.{is_heap_tag, is_length_of}
 pub use Rattle.hprof_grammar.specs.TagsAndTypes.{is_sub_tag, is_type_at, size_of}
 pub use Rattle.hprof_grammar.specs.Kinds.{kind_of, origin_kind, root_of, root_tag, sub_kind}
 pub use Rattle.hprof_grammar.specs.Laws.{AreBytes, HasFirstFault, SpellsDump}

@@ -2,9 +2,9 @@
 use Rattle.std.specs.Prelude.{List, [], false, flat_map, length, map, true, ℕ, ◌++◌, ◌+◌, ◌<◌, ◌^◌, ◌∷◌, ◌≡◌, ◌≤◌}
 use Rattle.std.specs.List.{AllByRecursion}
 use Rattle.byteorder.specs.Endian.{big_bytes}
-use Rattle.hprof_grammar.specs.Record.{IsRecord, Record, framed, tag_of}
+use Rattle.hprof_grammar.specs.Record.{IsRecord, Record, framed, is_heap_tag, is_length_of, tag_of}
 use Rattle.hprof_grammar.specs.Snapshot.{CanGoOn, IsOrderly}
-use Rattle.hprof_grammar.specs.TagsAndTypes.{is_heap_tag, is_id_size, is_length_of, is_sub_tag}
+use Rattle.hprof_grammar.specs.TagsAndTypes.{is_id_size, is_sub_tag}
 use Rattle.hprof_grammar.specs.Dump.{header, limit, magic, spellings}
 use Rattle.hprof_grammar.specs.SubRecord.{IsFormed, IsSubRecord, SubRecord, fields_of, spelling_of}
 use Rattle.hprof_grammar.specs.SubRecord as sub

@@ -1,8 +1,8 @@
 -- The records of a file, behind its header: a tag, a time, a length, and a body of so many bytes.
-use Rattle.std.specs.Prelude.{List, [], false, flat_map, length, true, ℕ, ◌++◌, ◌<◌, ◌^◌, ◌∷◌, ◌≡◌}
+use Rattle.std.specs.Prelude.{Bool, List, [], false, flat_map, if◌then◌else◌, length, nat_le, true, ℕ}
+use Rattle.std.specs.Prelude.{◌*◌, ◌++◌, ◌+◌, ◌<◌, ◌==◌, ◌^◌, ◌||◌, ◌∷◌, ◌≡◌}
 use Rattle.std.specs.List.{AllByRecursion}
 use Rattle.byteorder.specs.Endian.{big_bytes}
-use Rattle.hprof_grammar.specs.TagsAndTypes.{is_heap_tag, is_length_of}
 use Rattle.hprof_grammar.specs.SubRecord.{IsSubRecord, SubRecord, spelling_of}
 
 pub data Record : Type 0 where
@@ -41,6 +41,19 @@ body_of s (load_class time serial class stack name) =
     big_bytes 4 serial ++ (big_bytes s class ++ (big_bytes 4 stack ++ big_bytes s name))
 body_of s (heap tag time subs) = flat_map (spelling_of s) subs
 body_of s (other tag time body) = body
+
+-- the lengths that the body of a record may have: STRING IN UTF8 (0x01) has at least its ID, LOAD CLASS (0x02) two IDs
+-- and two u4, HEAP DUMP END (0x2C) nothing; any other record any length
+unfoldable pub is_length_of : ℕ → ℕ → ℕ → Bool
+is_length_of s tag n =
+    if tag == 0x01 then nat_le s n
+    else if tag == 0x02 then n == 8 + 2 * s
+    else if tag == 0x2C then n == 0
+    else true
+
+-- HEAP DUMP and HEAP DUMP SEGMENT
+abbrev pub is_heap_tag : ℕ → Bool
+is_heap_tag tag = (tag == 0x0C) || (tag == 0x1C)
 
 -- The one spelling of a record.
 abbrev pub record_spelling : ℕ → Record → List ℕ

@@ -1,7 +1,6 @@
 -- The format's tables: which numbers are allowed where, and what sizes they stand for. No proof opens one of these
 -- words but a few lemmas of two lines, so that the accepted part of the format is settled here alone.
-use Rattle.std.specs.Prelude.{Bool, if◌then◌else◌, nat_le, true, ℕ, ◌&&◌, ◌*◌, ◌+◌}
-use Rattle.std.specs.Prelude.{◌==◌, ◌||◌}
+use Rattle.std.specs.Prelude.{Bool, if◌then◌else◌, nat_le, true, ℕ, ◌&&◌, ◌==◌, ◌||◌}
 use Rattle.hprof_grammar.specs.declared.kinds.TypePlace.{TypePlace}
 use Rattle.hprof_grammar.specs.declared.kinds.TypePlace.TheVariants.{InArray}
 
@@ -32,16 +31,3 @@ size_of s t =
 -- array dumps
 unfoldable pub is_sub_tag : ℕ → Bool
 is_sub_tag t = (t == 0xFF) || (nat_le 1 t && nat_le t 8) || (nat_le 0x20 t && nat_le t 0x23)
-
--- the lengths that the body of a record may have: STRING IN UTF8 (0x01) has at least its ID, LOAD CLASS (0x02) two IDs
--- and two u4, HEAP DUMP END (0x2C) nothing; any other record any length
-unfoldable pub is_length_of : ℕ → ℕ → ℕ → Bool
-is_length_of s tag n =
-    if tag == 0x01 then nat_le s n
-    else if tag == 0x02 then n == 8 + 2 * s
-    else if tag == 0x2C then n == 0
-    else true
-
--- HEAP DUMP and HEAP DUMP SEGMENT
-abbrev pub is_heap_tag : ℕ → Bool
-is_heap_tag tag = (tag == 0x0C) || (tag == 0x1C)

@@ -2,6 +2,7 @@
 
 ghost use Rattle.std.specs.Prelude.{◌≡◌};
 ghost use Rattle.hprof_grammar.specs.Kinds as kind_tables;
+ghost use Rattle.hprof_grammar.specs.Record as records;
 ghost use Rattle.hprof_grammar.specs.TagsAndTypes as tables;
 
 use crate::kinds::{Kind, RootKind, TypePlace};
@@ -77,9 +78,9 @@ pub fn kind_of(tag: u8) -> Option<Kind>
 }
 
 /// Whether the body of a record with this tag may have so many bytes.
-#[tactic(auto, unfolding(crate::specs::TagsAndTypes::is_length_of))]
+#[tactic(auto, unfolding(crate::specs::Record::is_length_of))]
 pub fn is_length_of(id_size: u8, tag: u8, length: usize) -> bool
-    ensures { result ≡ tables.is_length_of id_size tag length }
+    ensures { result ≡ records.is_length_of id_size tag length }
 {
     let size = usize::from(id_size);
     match tag {

@@ -6,14 +6,9 @@ ghost use Rattle.buffer_pool.specs.Faults.{Refuses};
 ghost use Rattle.buffer_pool.specs.Ranges.{IsInside};
 ghost use Rattle.pool_bench.specs.Holders.{AreRoots, numbers};
 
+use crate::sizes::{BUFFERS, SIZE};
 use buffer_pool::{Edges, Pool, PoolFault, Worker};
 use std::alloc::Global;
-
-/// How many buffers a pool has.
-const BUFFERS: u32 = 64;
-
-/// How many objects a buffer is made for.
-const SIZE: u32 = 256;
 
 /// Objects that are all roots, without successors.
 #[derive(Drop)]

@@ -1,8 +1,14 @@
-//! The words of the command line.
+//! How large a run is: the words of the command line, and what is the same in each run.
 
 ghost use Rattle.std.specs.Prelude.{◌<◌, ◌≤◌};
 
 use anyhow::{Context, Result, bail, ensure};
+
+/// How many buffers a pool has.
+pub(crate) const BUFFERS: u32 = 64;
+
+/// How many objects a buffer is made for.
+pub(crate) const SIZE: u32 = 256;
 
 /// The most threads.
 const MOST_THREADS: u32 = 64;

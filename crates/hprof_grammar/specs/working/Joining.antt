@@ -1,9 +1,10 @@
 -- What the parts of the parser add to a dump, and the faults that they find. The private contracts cite these words.
 use Rattle.std.specs.Prelude.{List, [], drop, false, flat_map, length, map, true, ℕ, ◌++◌, ◌+◌, ◌<◌, ◌^◌, ◌∷◌, ◌≡◌, ◌≤◌}
 use Rattle.std.specs.List.{AllByRecursion}
-use Rattle.hprof_grammar.specs.Record.{HasParts, IsRecord, Record, body_of, subs_of, tag_of, time_of}
+use Rattle.hprof_grammar.specs.Record.{HasParts, IsRecord, Record, body_of, is_heap_tag, is_length_of, subs_of}
+use Rattle.hprof_grammar.specs.Record.{tag_of, time_of}
 use Rattle.hprof_grammar.specs.Snapshot.{CanGoOn}
-use Rattle.hprof_grammar.specs.TagsAndTypes.{is_heap_tag, is_id_size, is_length_of}
+use Rattle.hprof_grammar.specs.TagsAndTypes.{is_id_size}
 use Rattle.hprof_grammar.specs.Dump.{header, is_object, is_root, limit, placed, placed_subs, places_where}
 use Rattle.hprof_grammar.specs.Dump.{spellings}
 use Rattle.hprof_grammar.specs.Places.{Places, is_load, is_string}

@@ -1,6 +1,6 @@
 -- The header, the string and the loaded class stand in both dumps, by computation.
 use Rattle.std.proofs.Common.{[], lit<, refl, ◌∷◌}
-use Rattle.hprof_grammar.specs.TagsAndTypes.{is_length_of}
+use Rattle.hprof_grammar.specs.Record.{is_length_of}
 use Rattle.grammar_tests.proofs.Computed.{record_seen}
 use Rattle.grammar_tests.proofs.TestDumps.{header_seen}
 use Rattle.grammar_tests.proofs.fields.records.Goals as goal
