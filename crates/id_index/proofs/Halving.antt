@@ -1,6 +1,6 @@
 -- What one look into ascending runs tells of all of them.
 use Rattle.id_index.proofs.Words.{DoPagesRise, IsAround, IsFirstFrom, List, Run, arith, length, page_in, ℕ, ◌+◌, ◌<◌}
-use Rattle.id_index.proofs.Words.{◌≤◌}
+use Rattle.id_index.proofs.Words.{pow-add, pow_mono, zero, suc, ◌*◌, ◌/◌, ◌^◌, ◌≤◌}
 
 module _ (runs : List Run) (up : DoPagesRise runs) (page low high at : ℕ)
     (around : IsAround runs page low high) (after : low ≤ at) (inside : at < high) where
@@ -33,3 +33,15 @@ first_in_turn runs page at up inside below here = record {
   above = λ k from h.
       let rise : page_in runs at ≤ page_in runs k = up at k from h in omega (arith, rise, here);
 }
+
+-- with so many looks left more than 64 runs are halved until 64 are left: one look at least
+pub look_left : (left many : ℕ) → 64 < many → many ≤ 64 * 2 ^ left → 0 < left
+look_left zero many more few = absurd (omega (arith, more, few))
+look_left (suc left) many more few = omega arith
+
+-- and so it is with a look less for the half of them
+pub half_left : (left left' many half : ℕ) → many ≤ 64 * 2 ^ left → left ≤ left' + 1 → half ≤ many / 2
+    → half ≤ 64 * 2 ^ left'
+half_left left left' many half few less halved =
+    let more : 2 ^ left ≤ 2 ^ (left' + 1) = pow_mono less in
+    omega (arith, few, halved, more, pow-add 2 left' 1)

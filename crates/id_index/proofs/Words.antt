@@ -6,7 +6,7 @@ pub use Rattle.std.proofs.Common.{◌-◌, ◌/◌, ◌<◌, ◌^◌, ◌∙◌,
 pub use Rattle.std.proofs.Math.ListN.{get_or-append}
 pub use Rattle.std.proofs.Math.Nat.{div-eq_of_lt, eq-or-lt_of_le, le-max_left, le-max_right, lt_of_not-le, min-eq_left}
 pub use Rattle.std.proofs.Math.Nat.{min-eq_right, min-le_left, min-le_right, mul-mod_left}
-pub use Rattle.std.proofs.Math.Pow.{shr_mono}
+pub use Rattle.std.proofs.Math.Pow.{pow_mono, shr_mono}
 pub use Rattle.std.proofs.Math.Seq.{get_or-append_seam}
 pub use Rattle.std.proofs.lemmas.Bool.{cases_eq, cases_lt, cases_order, cond_above, cond_below, eq-eqb, eqb-false}
 pub use Rattle.std.proofs.lemmas.Bool.{eqb-true, lt-ltb, ltb-true, ne_eqb}

@@ -9,13 +9,14 @@
 //! `run_index`. `builder` makes the runs one object after the other. Then they are sorted (`sorting`), the first
 //! identifier that repeats is looked for (`repeats`), and the runs that say something new are told from the others
 //! (`settling`). A look-up goes through a table of where pages begin (`beginnings`) to the first run of a page
-//! (`pages`), and over the runs of that page (`look_up`).
+//! (`pages`), and over the runs of that page (`look_up`). How many runs it looks at until then has a bound (`looks`).
 #![tactic(auto)]
 
 mod beginnings;
 mod builder;
 mod index;
 mod look_up;
+mod looks;
 mod pages;
 mod repeats;
 mod run_index;

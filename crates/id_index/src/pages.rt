@@ -1,9 +1,10 @@
 //! The first run of a page among ascending runs, looked for from a guess on.
 
-ghost use Rattle.std.specs.Prelude.{◌+◌, ◌<◌, ◌≤◌};
+ghost use Rattle.std.specs.Prelude.{◌+◌, ◌<◌, ◌≤◌, ◌⊎◌};
 ghost use Rattle.id_index.specs.Beginnings.{IsAround};
 ghost use Rattle.id_index.specs.Runs.{DoPagesRise, IsFirstFrom};
 
+use crate::looks::Looks;
 use crate::runs::Run;
 
 /// Of at most so many runs the first one is looked for from a guess on, one run after the other.
@@ -12,18 +13,34 @@ const MANY_RUNS: usize = 64;
 /// So far on either side of a guess a run is looked at where there are more runs.
 const REACH: usize = 32;
 
+/// So many looks leave at most `MANY_RUNS` runs of however many: two around a guess, and 58 that halve up to 2^64.
+const NARROWING: usize = 60;
+
+/// So many looks go over `MANY_RUNS` runs, down and up.
+const WALKING: usize = 2 * MANY_RUNS;
+
 /// One look at a run: where it is between two others, the first run whose page is not below that one is behind it, or
 /// it is not.
-fn after_look(runs: &[Run], low: usize, high: usize, at: usize, page: u64) -> (usize, usize)
+fn after_look(
+    looks: &mut Looks,
+    runs: &[Run],
+    low: usize,
+    high: usize,
+    at: usize,
+    page: u64,
+) -> (usize, usize)
     requires rise { DoPagesRise runs.now }
     requires around { IsAround runs.now page low high }
+    requires look { 0 < looks.old.left }
     ensures around { IsAround runs.now page result.0 result.1 }
-    ensures less { low ≤ at → at < high → result.1 + low < high + result.0 }
+    ensures within { (low ≤ result.0) × (result.1 ≤ high) }
+    ensures past { low ≤ at → at < high → (result.1 ≤ at) ⊎ (at < result.0) }
+    ensures look { looks.old.left ≤ looks.new.left + 1 }
 {
     if at < low || at >= high {
         return (low, high);
     }
-    if runs[at].page < page {
+    if looks.page(runs, at) < page {
         (at + 1, high)
     } else {
         (low, at)
@@ -31,7 +48,7 @@ fn after_look(runs: &[Run], low: usize, high: usize, at: usize, page: u64) -> (u
 }
 
 /// Two ends that have at most `MANY_RUNS` runs between them, where there may be more between these: those around a
-/// guess if it is a good one, else what is left after halving.
+/// guess if it is a good one, else what is left after halving. It takes `NARROWING` looks at most.
 // A call, so that what searches a few runs has no locals for halving many.
 #[inline(never)]
 fn narrowed(runs: &[Run], begin: usize, end: usize, near: usize, page: u64) -> (usize, usize)
@@ -40,17 +57,21 @@ fn narrowed(runs: &[Run], begin: usize, end: usize, near: usize, page: u64) -> (
     ensures around { IsAround runs.now page result.0 result.1 }
     ensures few { result.1 ≤ result.0 + 64 }
 {
+    let mut looks = Looks::at_most(NARROWING);
     let (mut low, mut high) = (begin, end);
-    (low, high) = after_look(runs, low, high, near.saturating_sub(REACH), page);
-    (low, high) = after_look(runs, low, high, near.saturating_add(REACH), page);
+    let (before, behind) = (near.saturating_sub(REACH), near.saturating_add(REACH));
+    (low, high) = after_look(&mut looks, runs, low, high, before, page);
+    (low, high) = after_look(&mut looks, runs, low, high, behind, page);
     while high - low > MANY_RUNS {
-        (low, high) = after_look(runs, low, high, low + (high - low) / 2, page);
+        let middle = low + (high - low) / 2;
+        (low, high) = after_look(&mut looks, runs, low, high, middle, page);
     }
     (low, high)
 }
 
 /// Where the first of ascending runs stands whose page is not below that one, if it stands between two ends or at the
-/// second. It is looked for from a guess on: any guess gives the same run, a good one gives it sooner.
+/// second. It is looked for from a guess on: any guess gives the same run, a good one gives it sooner. That takes at most
+/// `WALKING` looks where there are few runs, and `NARROWING` more where there are many.
 pub(crate) fn first_from(runs: &[Run], begin: usize, end: usize, near: usize, page: u64) -> usize
     requires rise { DoPagesRise runs.now }
     requires around { IsAround runs.now page begin end }
@@ -60,12 +81,13 @@ pub(crate) fn first_from(runs: &[Run], begin: usize, end: usize, near: usize, pa
     if end - begin > MANY_RUNS {
         (low, high) = narrowed(runs, begin, end, near, page);
     }
-    // The guess may lie below both: from there it would be many steps.
+    let mut looks = Looks::at_most(WALKING);
+    // The guess may lie below both: from there it would be more looks.
     let mut at = near.max(low).min(high);
-    while at > low && runs[at - 1].page >= page {
+    while at > low && looks.page(runs, at - 1) >= page {
         at -= 1;
     }
-    while at < high && runs[at].page < page {
+    while at < high && looks.page(runs, at) < page {
         at += 1;
     }
     at

@@ -2,7 +2,7 @@
 use Rattle.id_index.proofs.Words.{arith, page_in, ◌-◌, ◌≤◌}
 use Rattle.id_index.proofs.Halving.{first_in_turn}
 use Rattle.id_index.proofs.pages.first_from.Goals as goal
-use Rattle.id_index.proofs.pages.first_from.Goals.{else-loop-at-test, then-loop-at-test+else-runs-at}
+use Rattle.id_index.proofs.pages.first_from.Goals.{else-loop-at-test, then-loop-at-test+else-page}
 
 pub loop-at-2-init : goal.loop-at-2-init
 loop-at-2-init c =
@@ -10,16 +10,20 @@ loop-at-2-init c =
       around,
       c.loop-at.invariant.2,
       elim c.loop-at-test.branch [
-        | then-loop-at-test+else-runs-at w ↦ λ k h.
+        | then-loop-at-test+else-page w ↦ λ k h.
             let rise : page_in c.args.runs.now k ≤ page_in c.args.runs.now (c.loop-at.at - 1) =
             c.requires.rise k (c.loop-at.at - 1) (omega (arith, h))
             (omega (arith, h, c.loop-at.invariant.2, around.within)) in
-            omega (arith, rise, w.if-runs-at.false)
+            omega (arith, rise, w.if-page.false)
         | else-loop-at-test w ↦ λ k h. around.before k (omega (arith, h, w.loop-at-test.false))
+      ],
+      elim c.loop-at-test.branch [
+        | then-loop-at-test+else-page w ↦ rw w.looks-is (omega (arith, c.loop-at.invariant))
+        | else-loop-at-test w ↦ rw w.looks-is (omega (arith, c.loop-at.invariant))
       ],
     )
 
-pub returns-else-runs-at-2 : goal.returns-else-runs-at-2
-returns-else-runs-at-2 c = first_in_turn c.args.runs.now c.args.page c.loop-at-2.at c.requires.rise
+pub returns-else-page-2 : goal.returns-else-page-2
+returns-else-page-2 c = first_in_turn c.args.runs.now c.args.page c.loop-at-2.at c.requires.rise
     (omega (arith, c.loop-at-2-test.true, c.loop-at-2.invariant.0.within)) c.loop-at-2.invariant.2
-    (omega (arith, c.if-runs-at-2.false))
+    (omega (arith, c.if-page-2.false))
