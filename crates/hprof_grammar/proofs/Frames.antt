@@ -61,8 +61,8 @@ frame_takes {bytes = tag ∷ bytes} {z} h e =
     })
 
 -- no field of a frame is a type code
-no_types : {a b c d : ℕ} {text : List ℕ} (front : List Field) (place : TypePlace) (code : ℕ) (more : List Field)
-    → number a b ∷ number c d ∷ raw text ∷ [] ≡ front ++ type_code place code ∷ more → ⊥
+no_types : {p : ℕ × List ℕ} (front : List Field) (place : TypePlace) (code : ℕ) (more : List Field)
+    → frame_fields p ≡ front ++ type_code place code ∷ more → ⊥
 no_types [] place code more e = cc
 no_types (x ∷ []) place code more e = cc
 no_types (x ∷ y ∷ []) place code more e = cc
@@ -84,7 +84,7 @@ runs_past : (tag : ℕ) (rest : List ℕ) (p : ℕ × List ℕ) (flaw : Flaw) �
 runs_past tag rest p UnknownTag room b = absurd b.spoiled
 runs_past tag rest p WrongType room b =
     let w = has_wrong_type (frame_fields p) rest b in
-    absurd (no_types w.front w.place w.code w.more w.in_order)
+    absurd (no_types {p = p} w.front w.place w.code w.more w.in_order)
 runs_past tag rest p Short room b =
     let s = ends_short (frame_fields p) rest b in
     record {

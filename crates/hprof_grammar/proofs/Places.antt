@@ -97,25 +97,24 @@ sub_stands s bytes at sub h = some_stand bytes at (tag_of sub) (spelled (fields_
 pub in_sight : {v w : Sight} {at : ℕ} {sub : SubRecord} → w ≡ v → Stands v at sub → Stands w at sub
 in_sight {v} {w} {at} {sub} e h = subst (λ (x : Sight). Stands x at sub) (sym e) h
 
--- behind the tag and the first fields stand the others
-pub fields_in : {s at place : ℕ} {bytes : List ℕ} {sub : SubRecord} (front more : List Field)
-    → SubRecordStandsAt s bytes at sub → fields_of s sub ≡ front ++ more → place ≡ at + (1 + widths front)
-    → Spell bytes place (spelled more)
-fields_in {s} {at} {place} {bytes} {sub} front more h are place_is =
-    let tag = tag_of sub in
-    let parts : spelled (fields_of s sub) ≡ spelled front ++ spelled more =
-    ap spelled are ∙ spelled-append front more in
-    let parted : Spell bytes at ((tag ∷ spelled front) ++ spelled more) =
-    subst (λ (l : List ℕ). Spell bytes at (tag ∷ l)) parts (sub_stands s bytes at sub h) in
-    let there : at + length (tag ∷ spelled front) ≡ place = omega (arith, place_is, length-spelled front) in
-    subst (λ (n : ℕ). Spell bytes n (spelled more)) there
-    (next_stands bytes at (tag ∷ spelled front) (spelled more) parted)
+module _ {s at place : ℕ} {bytes : List ℕ} {sub : SubRecord} (front : List Field) where
+  -- behind the tag and the first fields stand the others
+  pub fields_in : (more : List Field) → SubRecordStandsAt s bytes at sub → fields_of s sub ≡ front ++ more
+      → place ≡ at + (1 + widths front) → Spell bytes place (spelled more)
+  fields_in more h are place_is =
+      let tag = tag_of sub in
+      let parts : spelled (fields_of s sub) ≡ spelled front ++ spelled more =
+      ap spelled are ∙ spelled-append front more in
+      let parted : Spell bytes at ((tag ∷ spelled front) ++ spelled more) =
+      subst (λ (l : List ℕ). Spell bytes at (tag ∷ l)) parts (sub_stands s bytes at sub h) in
+      let there : at + length (tag ∷ spelled front) ≡ place = omega (arith, place_is, length-spelled front) in
+      subst (λ (n : ℕ). Spell bytes n (spelled more)) there
+      (next_stands bytes at (tag ∷ spelled front) (spelled more) parted)
 
--- a number among them: it fits its bytes, as all fields do
-pub number_in : {s at place w n : ℕ} {bytes : List ℕ} {sub : SubRecord} (front more : List Field)
-    → SubRecordStandsAt s bytes at sub → fields_of s sub ≡ front ++ number w n ∷ more
-    → place ≡ at + (1 + widths front) → NumberAt bytes place w n
-number_in {s} {at} {place} {w} {n} {bytes} {sub} front more h are place_is =
-    let fit = all_split Fits front (number w n ∷ more) (subst (AllByRecursion Fits) are h.is.formed.numbers) in
-    number_read bytes place w n fit.1.0
-    (first_stands bytes place (big_bytes w n) (spelled more) (fields_in front (number w n ∷ more) h are place_is))
+  -- a number among them: it fits its bytes, as all fields do
+  pub number_in : {w n : ℕ} (more : List Field) → SubRecordStandsAt s bytes at sub
+      → fields_of s sub ≡ front ++ number w n ∷ more → place ≡ at + (1 + widths front) → NumberAt bytes place w n
+  number_in {w} {n} more h are place_is =
+      let fit = all_split Fits front (number w n ∷ more) (subst (AllByRecursion Fits) are h.is.formed.numbers) in
+      number_read bytes place w n fit.1.0
+      (first_stands bytes place (big_bytes w n) (spelled more) (fields_in (number w n ∷ more) h are place_is))

@@ -41,63 +41,61 @@ records_begin {before = before} bytes p = record {
   joined = rw (append-nil p.strings, append-nil p.loaded, append-nil p.roots, append-nil p.objects) refl;
 }
 
--- records that stand behind those that have come join them
-pub records_join : {at place : ℕ} {before was next : Order} {bytes rest left : List ℕ} {old new newer : Places}
-    → AddsRecordsFrom at before bytes rest was old new → AddsRecordsFrom place was rest left next new newer
-    → place ≡ at + (length bytes - length rest) → AddsRecordsFrom at before bytes left next old newer
-records_join {at} {place} {next = next} {rest = rest} {left = left} {old = old} {new = new} adds more e =
-    let s = old.id_size in
-    let xs = adds.records in
-    let ys = more.records in
-    let size : new.id_size ≡ s = ap (λ (p : Places). p.id_size) adds.joined in
-    let behind : rest ≡ spellings s ys ++ left =
-    subst (λ (n : ℕ). rest ≡ spellings n ys ++ left) size more.parts in
-    let there : place ≡ at + length (spellings s xs) =
-    omega (arith, e, ap length adds.parts, length-append (spellings s xs) rest) in
-    record {
-      records = xs ++ ys;
-      parts = adds.parts ∙ ap (λ (l : List ℕ). spellings s xs ++ l) behind ∙ simp (flat_map-append, append_assoc);
-      each = all_join (IsRecord s) xs ys adds.each (subst (λ (n : ℕ). AllByRecursion (IsRecord n) ys) size more.each);
-      order = λ tags come.
-          subst (IsAt next) (append_assoc tags (map tag_of xs) (map tag_of ys)
-          ∙ ap (λ (l : List ℕ). tags ++ l) (sym (map-append tag_of xs ys)))
-          (more.order (tags ++ map tag_of xs) (adds.order tags come));
-      joined = more.joined ∙ ap (λ (p : Places). with_records p place ys) adds.joined
-          ∙ sym (joined_places old at xs ys place there);
-    }
+module _ {at : ℕ} {was next : Order} {rest left : List ℕ} where
+  -- records that stand behind those that have come join them
+  pub records_join : {begin : ℕ} {before : Order} {bytes : List ℕ} {old new newer : Places}
+      → AddsRecordsFrom begin before bytes rest was old new → AddsRecordsFrom at was rest left next new newer
+      → at ≡ begin + (length bytes - length rest) → AddsRecordsFrom begin before bytes left next old newer
+  records_join {begin} {old = old} {new = new} adds more e =
+      let s = old.id_size in
+      let xs = adds.records in
+      let ys = more.records in
+      let size : new.id_size ≡ s = ap (λ (p : Places). p.id_size) adds.joined in
+      let behind : rest ≡ spellings s ys ++ left =
+      subst (λ (n : ℕ). rest ≡ spellings n ys ++ left) size more.parts in
+      let there : at ≡ begin + length (spellings s xs) =
+      omega (arith, e, ap length adds.parts, length-append (spellings s xs) rest) in
+      record {
+        records = xs ++ ys;
+        parts = adds.parts ∙ ap (λ (l : List ℕ). spellings s xs ++ l) behind ∙ simp (flat_map-append, append_assoc);
+        each = all_join (IsRecord s) xs ys adds.each (subst (λ (n : ℕ). AllByRecursion (IsRecord n) ys) size more.each);
+        order = λ tags come.
+            subst (IsAt next) (append_assoc tags (map tag_of xs) (map tag_of ys)
+            ∙ ap (λ (l : List ℕ). tags ++ l) (sym (map-append tag_of xs ys)))
+            (more.order (tags ++ map tag_of xs) (adds.order tags come));
+        joined = more.joined ∙ ap (λ (p : Places). with_records p at ys) adds.joined
+            ∙ sym (joined_places old begin xs ys at there);
+      }
 
--- a record whose frame stands here is a list of one record
-pub one_record : {rest left body : List ℕ} {was next : Order} {old new : Places} {at tag time : ℕ}
-    → FrameTaken rest tag time body left → AddsRecord at tag time body was next old new
-    → AddsRecordsFrom at was rest left next old new
-one_record {rest} {left} {body} {next = next} {old = old} {at = at} {tag} {time} frame one =
-    let s = old.id_size in
-    let spelled : record_spelling s one.is ≡ framed tag time body = rw (one.tag_is, one.time_is, one.body_is) refl in
-    let is_record : IsRecord s one.is = record {
-      parts = one.parts;
-      time = rw one.time_is frame.time_fits;
-      length_fits = rw one.body_is frame.length_fits;
-      length_allowed = rw (one.tag_is, one.body_is) one.length_allowed;
-    } in
-    record {
-      records = one.is ∷ [];
-      parts = frame.bytes_are
-          ∙ ap (λ (l : List ℕ). l ++ left) (sym spelled ∙ sym (append-nil (record_spelling s one.is)));
-      each = (is_record, tt);
-      order = λ tags come. subst (λ (t : ℕ). IsAt next (tags ++ t ∷ [])) (sym one.tag_is) (one.order tags come);
-      joined = one.joined ∙ sym (one_alone old at one.is);
-    }
+  -- a record whose frame stands here is a list of one record
+  pub one_record : {body : List ℕ} {old new : Places} {tag time : ℕ} → FrameTaken rest tag time body left
+      → AddsRecord at tag time body was next old new → AddsRecordsFrom at was rest left next old new
+  one_record {body} {old = old} {tag = tag} {time} frame one =
+      let s = old.id_size in
+      let spelled : record_spelling s one.is ≡ framed tag time body = rw (one.tag_is, one.time_is, one.body_is) refl in
+      let is_record : IsRecord s one.is = record {
+        parts = one.parts;
+        time = rw one.time_is frame.time_fits;
+        length_fits = rw one.body_is frame.length_fits;
+        length_allowed = rw (one.tag_is, one.body_is) one.length_allowed;
+      } in
+      record {
+        records = one.is ∷ [];
+        parts = frame.bytes_are
+            ∙ ap (λ (l : List ℕ). l ++ left) (sym spelled ∙ sym (append-nil (record_spelling s one.is)));
+        each = (is_record, tt);
+        order = λ tags come. subst (λ (t : ℕ). IsAt next (tags ++ t ∷ [])) (sym one.tag_is) (one.order tags come);
+        joined = one.joined ∙ sym (one_alone old at one.is);
+      }
 
--- ---- records that were read by themselves
-
--- with nothing before them they add what they add to places that are there
-pub read_apart : {at : ℕ} {was next : Order} {body rest left : List ℕ} {more : Places} (p : Places)
-    → AddsRecordsFrom at was body [] next (nothing_of p.id_size) more → rest ≡ body ++ left
-    → AddsRecordsFrom at was rest left next p (with_places p more)
-read_apart {at} {left = left} p part e = record {
-  records = part.records;
-  parts = e ∙ ap (λ (l : List ℕ). l ++ left) (part.parts ∙ append-nil (spellings p.id_size part.records));
-  each = part.each;
-  order = part.order;
-  joined = ap (with_places p) part.joined;
-}
+  -- records that were read by themselves, with nothing before them, add what they add to places that are there
+  pub read_apart : {body : List ℕ} {more : Places} (p : Places)
+      → AddsRecordsFrom at was body [] next (nothing_of p.id_size) more → rest ≡ body ++ left
+      → AddsRecordsFrom at was rest left next p (with_places p more)
+  read_apart p part e = record {
+    records = part.records;
+    parts = e ∙ ap (λ (l : List ℕ). l ++ left) (part.parts ∙ append-nil (spellings p.id_size part.records));
+    each = part.each;
+    order = part.order;
+    joined = ap (with_places p) part.joined;
+  }

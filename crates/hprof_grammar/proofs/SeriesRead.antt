@@ -62,15 +62,6 @@ pub record AreValues (s w n : ℕ) (them : List LabelledValue) (others bytes : L
   pub values : values_in s w n bytes ≡ them
   pub behind : behind_values s w n bytes ≡ others
 
-one_more : {s w n label t : ℕ} {value : List ℕ} {values : List LabelledValue} {behind others bytes : List ℕ}
-    → big_number w bytes ≡ label → IsValue w (size_of s t) t value behind bytes → AreValues s w n values others behind
-    → AreValues s w (suc n) (record { label = label; type = t; value = value } ∷ values) others bytes
-one_more first h more = record {
-  room = rw (h.type, h.behind) (h.room, more.room);
-  values = rw (h.type, h.behind, h.value, first, more.values) refl;
-  behind = rw (h.type, h.behind) more.behind;
-}
-
 module _ {X : Type 0} (s w : ℕ) (place : TypePlace) (front type : X → ℕ) (value : X → List ℕ) where
   abbrev pub value_fields : X → List Field
   value_fields x = number w (front x) ∷ type_code place (type x) ∷ raw (value x) ∷ []
@@ -86,6 +77,15 @@ module _ {X : Type 0} (s w : ℕ) (place : TypePlace) (front type : X → ℕ) (
   abbrev pub labelled : X → LabelledValue
   labelled x = record { label = front x; type = type x; value = value x }
 
+  one_more : {x : X} {n : ℕ} {values : List LabelledValue} {behind others bytes : List ℕ}
+      → big_number w bytes ≡ front x → IsValue w (size_of s (type x)) (type x) (value x) behind bytes
+      → AreValues s w n values others behind → AreValues s w (suc n) (labelled x ∷ values) others bytes
+  one_more first h more = record {
+    room = rw (h.type, h.behind) (h.room, more.room);
+    values = rw (h.type, h.behind, h.value, first, more.values) refl;
+    behind = rw (h.type, h.behind) more.behind;
+  }
+
   pub values_again : (Is : X → Type 0)
       → ((x : X) → Is x → (front x < 256 ^ w) × (length (value x) ≡ size_of s (type x)))
       → (xs : List X) (rest : List ℕ) → AllByRecursion Is xs
@@ -98,7 +98,7 @@ module _ {X : Type 0} (s w : ℕ) (place : TypePlace) (front type : X → ℕ) (
       (length-bytes_high_first w (front x)) fit.1 in
       let first = big_number-reads_back w (front x) (type x ∷ (value x ++ others)) fit.0 in
       subst (λ (l : List ℕ). AreValues s w (length (x ∷ xs)) (map labelled (x ∷ xs)) rest l)
-      (sym (spelled_first x xs rest)) (one_more first here (values_again Is fits xs rest all.1))
+      (sym (spelled_first x xs rest)) (one_more {x = x} first here (values_again Is fits xs rest all.1))
 
 pub length-values_in : (s w n : ℕ) (bytes : List ℕ) → length (values_in s w n bytes) ≡ n
 length-values_in s w zero bytes = refl
