@@ -34,27 +34,32 @@ right_aligned width text =
     let room = width - length text in
     in_parts (room - 0 - 0) (room - 0 - 0 - (room - 0 - 0)) room text (omega arith) (omega arith)
 
--- what the parts of a line were put together by
-pub line_appended : (old in_10 in_14 numbers named all : List ℕ) (count bytes : ℕ) (name : List ℕ)
-    → in_10 ≡ styled_decimal (format_spec 32 3 0 10 (2 ^ 64 - 1)) count
-    → in_14 ≡ styled_decimal (format_spec 32 3 0 14 (2 ^ 64 - 1)) bytes
-    → numbers ≡ old ++ (in_10 ++ 32 ∷ 32 ∷ (in_14 ++ 32 ∷ 32 ∷ []))
-    → named ≡ numbers ++ name → all ≡ named ++ 10 ∷ [] → all ≡ old ++ line count bytes name
-unfolding line
-line_appended old in_10 in_14 numbers named all count bytes name ten fourteen a b c =
-    rw (c, b, a, ten, fourteen, right_aligned 10 (decimal count), right_aligned 14 (decimal bytes)) (simp append_assoc)
+-- behind an old text
+module _ (old : List ℕ) where
+  -- what the parts of a line were put together by
+  pub line_appended : (in_10 in_14 numbers named all : List ℕ) (count bytes : ℕ) (name : List ℕ)
+      → in_10 ≡ styled_decimal (format_spec 32 3 0 10 (2 ^ 64 - 1)) count
+      → in_14 ≡ styled_decimal (format_spec 32 3 0 14 (2 ^ 64 - 1)) bytes
+      → numbers ≡ old ++ (in_10 ++ 32 ∷ 32 ∷ (in_14 ++ 32 ∷ 32 ∷ []))
+      → named ≡ numbers ++ name → all ≡ named ++ 10 ∷ [] → all ≡ old ++ line count bytes name
+  unfolding line
+  line_appended in_10 in_14 numbers named all count bytes name ten fourteen a b c =
+      rw (c, b, a, ten, fourteen, right_aligned 10 (decimal count), right_aligned 14 (decimal bytes)) (simp append_assoc)
 
--- a byte that is not plain
-pub escaped : (old new : List ℕ) (byte : ℕ) → byte < 256 → is_plain byte ≡ false
-    → new ≡ old ++ 0x5C ∷ 0x78 ∷ padded_integral (format_spec 32 0 4 2 (2 ^ 64 - 1)) false [] (digits 16 false byte)
-    → new ≡ old ++ shown_byte byte
-escaped old new byte small not_plain is = rw not_plain (rw (hex_byte false byte small) at is)
+  -- a byte that is not plain
+  pub escaped : (new : List ℕ) (byte : ℕ) → byte < 256 → is_plain byte ≡ false
+      → new ≡ old ++ 0x5C ∷ 0x78 ∷ padded_integral (format_spec 32 0 4 2 (2 ^ 64 - 1)) false [] (digits 16 false byte)
+      → new ≡ old ++ shown_byte byte
+  escaped new byte small not_plain is = rw not_plain (rw (hex_byte false byte small) at is)
 
--- all rows, and three lines behind them
-pub report_made : {X : Type 0} (entry : X → Entry) (rows items : List X) (index : ℕ)
-    (lines one two all first second third : List ℕ)
-    → items ≡ rows → length items ≤ index → lines ≡ flat_map (λ r. line_of (entry r)) (take index items)
-    → one ≡ lines ++ first → two ≡ one ++ second → all ≡ two ++ third
-    → all ≡ flat_map line_of (map entry rows) ++ (first ++ (second ++ third))
-report_made entry rows items index lines one two all first second third same end is a b c =
-    rw (c, b, a, is, take_all index items end, same, flat_map-map line_of entry rows) (simp append_assoc)
+-- all rows
+pub rows_told : {X : Type 0} (entry : X → Entry) {rows items : List X} (index : ℕ) {lines : List ℕ} → items ≡ rows
+    → length items ≤ index → lines ≡ flat_map (λ r. line_of (entry r)) (take index items)
+    → lines ≡ flat_map line_of (map entry rows)
+rows_told entry {rows} {items} index same end is =
+    rw (is, take_all index items end, same, flat_map-map line_of entry rows) refl
+
+-- three lines behind a text
+pub three_more : (first second third : List ℕ) {start lines one two all : List ℕ} → lines ≡ start
+    → one ≡ lines ++ first → two ≡ one ++ second → all ≡ two ++ third → all ≡ start ++ (first ++ (second ++ third))
+three_more first second third is a b c = rw (c, b, a, is) (simp append_assoc)
