@@ -1,13 +1,14 @@
 -- What is asked where a worker begins with its job, while it scans, and where a leader runs its workers.
-use Rattle.std.specs.Prelude.{List, [], ℕ, ◌<◌, ◌≡◌, ◌≤◌}
+use Rattle.std.specs.Prelude.{Bool, List, [], false, true, ℕ, ◌++◌, ◌<◌, ◌≡◌, ◌≤◌, ◌⊎◌, ◌∷◌}
 use Rattle.buffer_pool.specs.Calls.{Holder}
 use Rattle.drain.specs.declared.job.Job.{Job}
 use Rattle.drain.specs.declared.paired_worker.PairedWorker.{PairedWorker}
 use Rattle.drain.specs.declared.recently_seen.RecentlySeen.{RecentlySeen}
 use Rattle.drain.specs.declared.tally.Tally.{Tally}
-use Rattle.drain.specs.working.AtWork.{IsAtWork, IsFree, IsSetupOf, WorksOn}
-use Rattle.drain.specs.working.Idle.{IsAwake}
+use Rattle.drain.specs.working.AtWork.{CameFrom, IsAtWork, IsFree, IsSetupOf, WorksOn}
+use Rattle.drain.specs.working.Idle.{HasFoundMore, HasWaited, IsAwake}
 use Rattle.drain.specs.working.RecentlySeen.{HasSeenAll}
+use Rattle.drain.specs.working.Sharing.{SharesWork}
 use Rattle.drain.specs.working.Tallies.{Measure}
 use Rattle.drain.specs.working.Tallying.{AreTalliesOfNone, HasTallied}
 
@@ -38,6 +39,26 @@ pub record HasScanned {A : Type 0} (m : Measure) (old new : PairedWorker A) (tab
   pub at_work : IsAtWork new.pair [] new.worker
   pub tally : HasTallied m new.worker t
   pub seen : HasSeenAll table new.worker
+
+-- the worker finished one object where there was one, and else none
+abbrev pub FinishesNext : Bool → Holder → Holder → Type 0
+FinishesNext true old new = (o : ℕ) × (new.book.account.finished ≡ old.book.account.finished ++ o ∷ [])
+FinishesNext false old new = new.book.account.finished ≡ old.book.account.finished
+
+-- a turn: the worker finished an object and then shared; or there was none, and it waited for more, found or not
+abbrev pub TakesTurn : {A : Type 0} → ℕ → PairedWorker A → PairedWorker A → Bool → Type 0
+TakesTurn {A} workers old new true =
+    (mid : PairedWorker A)
+    × ((FinishesNext true old.worker mid.worker × SharesWork mid.pair mid.worker.book new.pair new.worker.book)
+    ⊎ (FinishesNext false old.worker mid.worker × HasFoundMore mid.worker new.worker))
+TakesTurn {A} workers old new false =
+    (mid : PairedWorker A)
+    × FinishesNext false old.worker mid.worker × HasWaited workers 1024 mid.worker new.worker
+
+-- the last turn was one in which it waited and found no more
+abbrev pub HasWorkedOff : {A : Type 0} → ℕ → PairedWorker A → PairedWorker A → Type 0
+HasWorkedOff {A} workers old new =
+    (last : PairedWorker A) × CameFrom old.worker last.worker × TakesTurn workers last new false
 
 -- a leader of the job's pool and graph with more units than there are workers, room for so many threads and for so many
 -- workers that come back, of which none is there, and so many tallies of no object

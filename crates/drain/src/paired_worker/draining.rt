@@ -14,7 +14,7 @@ impl<A: Allocator> PairedWorker<A> {
     ghost use Rattle.std.specs.Prelude.{◌≡◌, [], IfOk, IsTrue, OnOk, false};
     ghost use Rattle.drain.specs.working.AtWork.{CameFrom, HasAtHand, HasNoneLeft, IsAtWork, IsSetupOf, WorksOn};
     ghost use Rattle.drain.specs.working.Idle.{IsAwake};
-    ghost use Rattle.drain.specs.working.Jobs.{IsOnJob};
+    ghost use Rattle.drain.specs.working.Jobs.{HasWorkedOff, IsOnJob, TakesTurn};
     ghost use Rattle.drain.specs.working.RecentlySeen.{HasSeenAll};
     ghost use Rattle.drain.specs.working.Tallying.{HasTallied};
 
@@ -42,6 +42,7 @@ impl<A: Allocator> PairedWorker<A> {
         ensures seen { OnOk result (HasSeenAll seen.new self.new.worker) }
         ensures tally { OnOk result (HasTallied (V.measure job.now.graph.now) self.new.worker tally.new) }
         ensures awake { IfOk result (λ more. IsTrue more → IsAwake self.new.worker) }
+        ensures took { IfOk result (TakesTurn job.now.workers self.old self.new) }
         ensures none { IfOk result (λ more. more ≡ false → HasNoneLeft self.new.pair self.new.worker) }
     {
         let scanned = self.scan_next(rt, job, number, seen, tally)?;
@@ -69,6 +70,7 @@ impl<A: Allocator> PairedWorker<A> {
         ensures hand { OnOk result (HasAtHand self.new.pair [] self.new.worker) }
         ensures tally { OnOk result (HasTallied (V.measure job.now.graph.now) self.new.worker tally.new) }
         ensures none { OnOk result (HasNoneLeft self.new.pair self.new.worker) }
+        ensures waited { OnOk result (HasWorkedOff job.now.workers self.old self.new) }
     {
         let mut seen = RecentlySeen::new();
         self.share(rt, job.pool)?;

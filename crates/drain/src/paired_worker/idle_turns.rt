@@ -16,7 +16,7 @@ impl<A: Allocator> PairedWorker<A> {
     ghost use Rattle.mark_core.specs.Events.{CanWake};
     ghost use Rattle.buffer_pool.specs.Book.{idle_loaded, woken};
     ghost use Rattle.drain.specs.working.AtWork.{CameFrom, HasAtHand, HasNoneLeft};
-    ghost use Rattle.drain.specs.working.Idle.{HasWaited, IsAwake};
+    ghost use Rattle.drain.specs.working.Idle.{HasFoundMore, HasWaited, IsAwake};
 
     /// Looks at the idle word: whether so many workers are idle.
     fn sees_all_idle(&mut self, pool: &Pool<A>, workers: u32) -> bool
@@ -52,6 +52,7 @@ impl<A: Allocator> PairedWorker<A> {
         ensures hand { HasAtHand self.new.pair [] self.new.worker }
         ensures none { HasNoneLeft self.new.pair self.new.worker }
         ensures awake { IsTrue result → IsAwake self.new.worker }
+        ensures found { IsTrue result → HasFoundMore self.old.worker self.new.worker }
         ensures waited { result ≡ false → HasWaited workers TURNS self.old.worker self.new.worker }
     {
         pool.idle_up(&mut self.worker);

@@ -17,7 +17,7 @@ impl<A: Allocator> PairedWorker<A> {
     ghost use Rattle.std.specs.Prelude.{option_to_list};
     ghost use Rattle.std.specs.Iterator.{AlwaysYields, IsFinite};
     ghost use Rattle.drain.specs.working.AtWork.{AreClaimed, HasNoneLeft, IsAtWork, MayClaim, WorksOn};
-    ghost use Rattle.drain.specs.working.Jobs.{HasScanned, IsOnJob};
+    ghost use Rattle.drain.specs.working.Jobs.{FinishesNext, HasScanned, IsOnJob};
     ghost use Rattle.drain.specs.working.RecentlySeen.{HasSeenAll};
     ghost use Rattle.drain.specs.working.Walk.{HasEnded, IsGiven};
 
@@ -96,7 +96,9 @@ impl<A: Allocator> PairedWorker<A> {
             (λ next. Contains (V.pairs job.now.graph.now) (object, next)) (V.measure job.now.graph.now) object
             given.0 given.1 }
         requires seen { HasSeenAll seen.old self.old.worker }
-        ensures { OnOk result (HasScanned (V.measure job.now.graph.now) self.old self.new seen.new tally.new) }
+        ensures scanned { OnOk result (HasScanned (V.measure job.now.graph.now) self.old self.new seen.new tally.new) }
+        ensures finished { OnOk result (self.new.worker.book.account.finished
+            ≡ self.old.worker.book.account.finished ++ object ∷ []) }
     {
         let (class, mut rest) = given;
         self.claim_and_finish(rt, job.pool, seen, object, class, &mut rest)?;
@@ -120,7 +122,9 @@ impl<A: Allocator> PairedWorker<A> {
         requires on_job { IsOnJob V.count V.roots V.pairs V.measure job.now (object ∷ []) self.old tally.old }
         requires below { object < V.count job.now.graph.now }
         requires seen { HasSeenAll seen.old self.old.worker }
-        ensures { OnOk result (HasScanned (V.measure job.now.graph.now) self.old self.new seen.new tally.new) }
+        ensures scanned { OnOk result (HasScanned (V.measure job.now.graph.now) self.old self.new seen.new tally.new) }
+        ensures finished { OnOk result (self.new.worker.book.account.finished
+            ≡ self.old.worker.book.account.finished ++ object ∷ []) }
     {
         let visit = job.graph.visit(object);
         self.scan(rt, job, object, (None, visit), seen, tally)
@@ -140,7 +144,9 @@ impl<A: Allocator> PairedWorker<A> {
         requires on_job { IsOnJob V.count V.roots V.pairs V.measure job.now (object ∷ []) self.old tally.old }
         requires below { object < V.count job.now.graph.now }
         requires seen { HasSeenAll seen.old self.old.worker }
-        ensures { OnOk result (HasScanned (V.measure job.now.graph.now) self.old self.new seen.new tally.new) }
+        ensures scanned { OnOk result (HasScanned (V.measure job.now.graph.now) self.old self.new seen.new tally.new) }
+        ensures finished { OnOk result (self.new.worker.book.account.finished
+            ≡ self.old.worker.book.account.finished ++ object ∷ []) }
     {
         match job.graph.visit(object).by_kind() {
             ByKind::Nothing(class, rest) => self.scan(rt, job, object, (class, rest), seen, tally),
@@ -165,6 +171,7 @@ impl<A: Allocator> PairedWorker<A> {
         requires on_job { IsOnJob V.count V.roots V.pairs V.measure job.now [] self.old tally.old }
         requires seen { HasSeenAll seen.old self.old.worker }
         ensures scanned { OnOk result (HasScanned (V.measure job.now.graph.now) self.old self.new seen.new tally.new) }
+        ensures finished { IfOk result (λ more. FinishesNext more self.old.worker self.new.worker) }
         ensures none { IfOk result (λ more. more ≡ false → HasNoneLeft self.new.pair self.new.worker) }
     {
         let Some(object) = self.next_object(rt, job.pool)? else {

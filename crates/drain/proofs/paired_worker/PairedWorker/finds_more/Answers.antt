@@ -1,5 +1,8 @@
 -- While it is idle the worker keeps what it had; where it leaves, the last load or the number of loads says why.
-use Rattle.drain.proofs.Words.{Book, Some, ap, arith, false≢true, inl, inr, refl, sym, ◌∙◌}
+use Rattle.drain.proofs.Words.{Book, Bool, Sees, Some, ap, arith, false≢true, inl, inr, refl, subst, sym, ◌*◌, ◌+◌}
+use Rattle.drain.proofs.Words.{◌∙◌}
+use Rattle.mark_core.specs.declared.which.Which.TheVariants.{Full}
+use Rattle.drain.specs.working.Idle.{HasFoundMore}
 use Rattle.drain.proofs.Idling.{awake_back, goes_idle, hand_still, may_idle, next_turn, none_still, sees_full}
 use Rattle.drain.proofs.Idling.{sees_idle, still_back}
 use Rattle.drain.proofs.paired_worker.PairedWorker.finds_more.Goals as goal
@@ -40,8 +43,11 @@ returns-then-sees_all_idle g c =
       hand = hand_still same one.still c.requires.hand;
       none = none_still same one.still c.requires.none;
       awake = λ more. absurd (false≢true more);
-      waited = λ left. inl (ap (λ (b : Book). b.account.last_idle) ask.sees.1
-          ∙ ap Some (ask.sees.2.0 c.if-sees_all_idle.true));
+      found = λ more. absurd {A = HasFoundMore c.args.self.now.worker c.sees_all_idle.new.self.worker} (false≢true more);
+      waited = λ left. (
+        one.idle,
+        inl (ap (λ (b : Book). b.account.last_idle) ask.sees.1 ∙ ap Some (ask.sees.2.0 c.if-sees_all_idle.true)),
+      );
     }
 
 -- the full stack has a buffer
@@ -61,6 +67,15 @@ returns-then-not-sees_empty g c =
       hand = hand_still same still c.requires.hand;
       none = none_still same still c.requires.none;
       awake = λ more. awake_back end down.pool two c.requires.awake down.back;
+      found = λ more. (
+        2 * c.loop-turn.turn + 1,
+        c.sees_all_idle.new.self.worker,
+        c.sees_empty.new.worker.book,
+        one,
+        subst (λ (none : Bool). Sees Full c.sees_all_idle.new.self.worker.book c.sees_empty.new.worker.book none)
+            c.if-not-sees_empty.true look.sees,
+        down.back,
+      );
       waited = λ left. absurd (false≢true (sym left));
     }
 
@@ -75,5 +90,9 @@ returns g c =
       hand = hand_still same idling.still c.requires.hand;
       none = none_still same idling.still c.requires.none;
       awake = λ more. absurd (false≢true more);
-      waited = λ left. inr (omega (arith, idling.loads, c.loop-turn-test.false, c.loop-turn.auto.turn-end));
+      found = λ more. absurd {A = HasFoundMore c.args.self.now.worker c.loop-turn.self.worker} (false≢true more);
+      waited = λ left. (
+        idling.idle,
+        inr (omega (arith, idling.loads, c.loop-turn-test.false, c.loop-turn.auto.turn-end)),
+      );
     }

@@ -36,8 +36,8 @@ add-requires g c =
       unresolved = omega (arith, scan.unresolved, bounded.few_unresolved o);
     }
 
-pub returns : goal.returns
-returns g c =
+pub returns-clause-scanned : goal.returns-clause-scanned
+returns-clause-scanned g c =
     let o = c.args.object in
     let done = c.in_ok-claim_and_finish.ensures in
     let m = g.V.Measured.measure c.args.job.now.graph.now in

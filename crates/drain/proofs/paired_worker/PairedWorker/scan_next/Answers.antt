@@ -1,5 +1,5 @@
 -- The object that was got is the one besides the pair's items, and it is scanned.
-use Rattle.drain.proofs.Words.{subst, ℕ, ◌<◌, ◌∙◌}
+use Rattle.drain.proofs.Words.{List, [], ap, subst, ℕ, ◌++◌, ◌<◌, ◌∙◌, ◌∷◌}
 use Rattle.drain.proofs.AtHand.{works, works_on_again}
 use Rattle.drain.proofs.Outcomes.{at_some}
 use Rattle.drain.proofs.Scanning.{same_setup, same_tally}
@@ -25,10 +25,15 @@ scan_one-requires-clause-below g c κs within =
 
 pub returns-clause-scanned : goal.returns-clause-scanned
 returns-clause-scanned g c =
-    let scanned = c.in_ok-scan_one.ensures in
+    let scanned = c.in_ok-scan_one.ensures.scanned in
     record {
       goes_on = works_on_again (works c.in_ok-object.ensures.goes_on) scanned.goes_on;
       at_work = scanned.at_work;
       tally = scanned.tally;
       seen = scanned.seen;
     }
+
+pub returns-clause-finished : goal.returns-clause-finished
+returns-clause-finished g c =
+    let o = c.in-Some.object in
+    (o, c.in_ok-scan_one.ensures.finished ∙ ap (λ (xs : List ℕ). xs ++ o ∷ []) c.in_ok-object.ensures.goes_on.finished)
