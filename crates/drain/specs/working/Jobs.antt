@@ -45,7 +45,8 @@ abbrev pub FinishesNext : Bool → Holder → Holder → Type 0
 FinishesNext true old new = (o : ℕ) × (new.book.account.finished ≡ old.book.account.finished ++ o ∷ [])
 FinishesNext false old new = new.book.account.finished ≡ old.book.account.finished
 
--- a turn: the worker finished an object and then shared; or there was none, and it waited for more, found or not
+-- a turn: the worker finished an object and then shared; or there was none, and it waited for more, found or not. It
+-- waits 1,024 turns at most (`TURNS` of `idle_turns.rt`).
 abbrev pub TakesTurn : {A : Type 0} → ℕ → PairedWorker A → PairedWorker A → Bool → Type 0
 TakesTurn {A} workers old new true =
     (mid : PairedWorker A)
