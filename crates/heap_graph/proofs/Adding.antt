@@ -9,32 +9,29 @@ pub on_ok : {X E : Type 0} {P Q : Type 0} (r : Result X E) → (P → Q) → OnO
 on_ok (Ok x) f h = f h
 on_ok (Err e) f h = tt
 
--- one more key, of the thing behind those so far
-pub keys_more : {X : Type 0} (key : X → ℕ) (xs : List X) (i id : ℕ) (x : X) (old new : List ℕ)
-    → slice_get xs i ≡ Some x → new ≡ old ++ id ∷ [] → id ≡ key x → old ≡ map key (take i xs)
-    → new ≡ map key (take (i + 1) xs)
-keys_more key xs i id x old new here pushed own before =
-    pushed ∙ ap (λ (ids : List ℕ). ids ++ id ∷ []) before ∙ ap (λ (n : ℕ). map key (take i xs) ++ n ∷ []) own
-    ∙ sym (map_one key (take i xs) x) ∙ ap (λ zs. map key zs) (sym (take_one xs i x here))
-
 -- the builder has the keys of the first things of each list that fits
 pub record AreAdded {R X : Type 0} (Fits : R → Type 0) (things : R → List X) (key : X → ℕ) (ids : List ℕ)
     (count : ℕ) : Type 0 where
   pub count_is : length ids ≡ count
   pub each : (r : R) → Fits r → ids ≡ map key (take count (things r))
 
--- and of one thing more
-pub one_more_added : {R X : Type 0} (Fits : R → Type 0) (things : R → List X) (key : X → ℕ) (old new : List ℕ)
-    (count id : ℕ)
-    → AreAdded Fits things key old count → new ≡ old ++ id ∷ []
-    → ((r : R) → Fits r → (x : X) × (slice_get (things r) count ≡ Some x) × (id ≡ key x))
-    → AreAdded Fits things key new (count + 1)
-one_more_added Fits things key old new count id added pushed next = record {
-  count_is = omega (arith, ap length pushed, length-append old (id ∷ []), added.count_is);
-  each = λ r fits.
-      let it = next r fits in
-      keys_more key (things r) count id it.0 old new it.1 pushed it.2 (added.each r fits);
-}
+module _ {X : Type 0} (key : X → ℕ) {id : ℕ} {old new : List ℕ} (pushed : new ≡ old ++ id ∷ []) where
+  -- one more key, of the thing behind those so far
+  pub keys_more : (xs : List X) (i : ℕ) (x : X) → slice_get xs i ≡ Some x → id ≡ key x → old ≡ map key (take i xs)
+      → new ≡ map key (take (i + 1) xs)
+  keys_more xs i x here own before =
+      pushed ∙ ap (λ (ids : List ℕ). ids ++ id ∷ []) before ∙ ap (λ (n : ℕ). map key (take i xs) ++ n ∷ []) own
+      ∙ sym (map_one key (take i xs) x) ∙ ap (λ zs. map key zs) (sym (take_one xs i x here))
+
+  -- and of one thing more
+  pub one_more_added : {R : Type 0} {Fits : R → Type 0} {things : R → List X} {count : ℕ}
+      → AreAdded Fits things key old count
+      → ((r : R) → Fits r → (x : X) × (slice_get (things r) count ≡ Some x) × (id ≡ key x))
+      → AreAdded Fits things key new (count + 1)
+  one_more_added {things = things} {count} added next = record {
+    count_is = omega (arith, ap length pushed, length-append old (id ∷ []), added.count_is);
+    each = λ r fits. let it = next r fits in keys_more (things r) count it.0 it.1 it.2 (added.each r fits);
+  }
 
 -- the builder takes each identifier
 pub record TakesAll (builder : AlignedIds) : Type 0 where

@@ -66,9 +66,9 @@ module _ {A : Type 0} (v : Sight) (places : List ℕ) (bits : LowBits) where
         let it = there heap stand in
         let were = had.behind heap ids numbers stand first in
         record {
-          ids_are = keys_more id_of (objects heap) number id it.0 (ids ++ old.ids.ids) (ids ++ new.ids.ids) it.1
-              (ap (λ (xs : List ℕ). ids ++ xs) pushed ∙ sym (append_assoc ids old.ids.ids (id ∷ []))) it.2
-              were.ids_are;
+          ids_are = keys_more id_of
+              (ap (λ (xs : List ℕ). ids ++ xs) pushed ∙ sym (append_assoc ids old.ids.ids (id ∷ [])))
+              (objects heap) number it.0 it.1 it.2 were.ids_are;
           class_dumps = noted heap numbers stand were.class_dumps;
         };
   }

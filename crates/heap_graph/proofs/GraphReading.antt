@@ -9,38 +9,36 @@ use Rattle.heap_graph.proofs.Answering.{bytes_here, held_here, references_here, 
 use Rattle.heap_graph.proofs.Targets.{same_targets}
 use Rattle.heap_graph.proofs.Walking.{targets_of_steps}
 
--- what the parts of a graph stand for is the graph that is seen
-pub seen : {A : Type 0} {o : Objects A} {plan : Plan A} {roots : List ℕ} {classes : List ClassEntry} {unresolved : ℕ}
-    {skip : List SkipEntry} {inside now : ObjectGraph}
-    → inside ≡ now → StandFor o plan roots classes unresolved skip inside
-    → StandFor o plan roots classes unresolved skip now
-seen {o = o} {plan = plan} {roots = roots} {classes = classes} {unresolved = unresolved} {skip = skip} e stand =
-    subst (λ (g : ObjectGraph). StandFor o plan roots classes unresolved skip g) e stand
-
 module _ {A : Type 0} {o : Objects A} {plan : Plan A} {roots : List ℕ} {classes : List ClassEntry} {unresolved : ℕ}
-    {skip : List SkipEntry} {g : ObjectGraph} (stand : StandFor o plan roots classes unresolved skip g) {n : ℕ}
-    {row : RowKey} {bytes : ℕ} {class : Option ℕ} {ids : List ℕ}
-    (read : (skips : Class → Member → Bool) (heap : List SubRecord) → AreLinkedOf o heap → HaveFatesOf o heap
-    → IsPlanOf skips o heap plan → IsScanOf skips o heap n row bytes class ids) where
-  pub scan_read : IsScanOf (is_skipped stand.records skip) o (heap_of stand.records) n row bytes class ids
-  scan_read = read _ (heap_of stand.records) stand.linked stand.fates stand.planned
+    {skip : List SkipEntry} where
+  -- what the parts of a graph stand for is the graph that is seen
+  pub seen : {inside now : ObjectGraph} → inside ≡ now → StandFor o plan roots classes unresolved skip inside
+      → StandFor o plan roots classes unresolved skip now
+  seen e stand = subst (StandFor o plan roots classes unresolved skip) e stand
 
-  pub row_read : row ≡ row_at g n
-  row_read = let it = scan_read in it.row_is ∙ sym (row_here stand.graph n it.object it.is)
+  module _ {g : ObjectGraph} (stand : StandFor o plan roots classes unresolved skip g) {n : ℕ} {row : RowKey} {bytes : ℕ}
+      {class : Option ℕ} {ids : List ℕ}
+      (read : (skips : Class → Member → Bool) (heap : List SubRecord) → AreLinkedOf o heap → HaveFatesOf o heap
+      → IsPlanOf skips o heap plan → IsScanOf skips o heap n row bytes class ids) where
+    pub scan_read : IsScanOf (is_skipped stand.records skip) o (heap_of stand.records) n row bytes class ids
+    scan_read = read _ (heap_of stand.records) stand.linked stand.fates stand.planned
 
-  pub bytes_read : bytes ≡ bytes_at g n
-  bytes_read = let it = scan_read in it.bytes_is ∙ sym (bytes_here stand.graph n it.object it.is)
+    pub row_read : row ≡ row_at g n
+    row_read = let it = scan_read in it.row_is ∙ sym (row_here stand.graph n it.object it.is)
 
-  -- the identifiers that it holds, and the steps over them
-  pub steps_read : map (step_in o.index) (known_ids o.index class ++ ids) ≡ map (step_in g.ids) (held_by g n)
-  steps_read =
-      let it = scan_read in
-      ap (λ (xs : List ℕ). map (step_in o.index) xs) (held_here stand.graph n _ it.is _ it.held.are)
-      ∙ ap (λ (all : List ℕ). map (step_in all) (held_by g n)) (stand.linked.are.ids_are ∙ sym stand.graph.ids_are)
+    pub bytes_read : bytes ≡ bytes_at g n
+    bytes_read = let it = scan_read in it.bytes_is ∙ sym (bytes_here stand.graph n it.object it.is)
 
-  pub references_read : references_in (map (step_in o.index) (known_ids o.index class ++ ids)) ≡ references_of g n
-  references_read =
-      let it = scan_read in
-      let held = known_ids o.index class ++ ids in
-      targets_of_steps o.index held ∙ same_targets (heap_of stand.records) o.index held stand.linked.are.ids_are
-      ∙ references_here stand.graph n _ it.is held it.held.are
+    -- the identifiers that it holds, and the steps over them
+    pub steps_read : map (step_in o.index) (known_ids o.index class ++ ids) ≡ map (step_in g.ids) (held_by g n)
+    steps_read =
+        let it = scan_read in
+        ap (λ (xs : List ℕ). map (step_in o.index) xs) (held_here stand.graph n _ it.is _ it.held.are)
+        ∙ ap (λ (all : List ℕ). map (step_in all) (held_by g n)) (stand.linked.are.ids_are ∙ sym stand.graph.ids_are)
+
+    pub references_read : references_in (map (step_in o.index) (known_ids o.index class ++ ids)) ≡ references_of g n
+    references_read =
+        let it = scan_read in
+        let held = known_ids o.index class ++ ids in
+        targets_of_steps o.index held ∙ same_targets (heap_of stand.records) o.index held stand.linked.are.ids_are
+        ∙ references_here stand.graph n _ it.is held it.held.are

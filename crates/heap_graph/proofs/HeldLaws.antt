@@ -121,35 +121,33 @@ layout_from o heap i first values it e = record {
   room = omega (arith, size_by_fields o.view.id_size it.chain, it.size_is, ap length e);
 }
 
--- no more identifiers than bytes
-pub few_in_instance : (skips : Class → Member → Bool) (s : ℕ) (heap : List SubRecord) (ids : List ℕ) (i : Instance)
-    (first : Option ℕ) (it : IsFirstOfInstance s heap ids i first) (fields values : List ℕ) → 1 ≤ s
-    → length i.values < 256 ^ 4 → values ≡ i.values
-    → fields ≡ field_ids skips s (declared_fields it.chain) values → length fields ≤ 2 ^ 32
-few_in_instance skips s heap ids i first it fields values low few ev ef =
-    omega (
-      arith,
-      ap length ef,
-      few_fields skips s (declared_fields it.chain) values low,
-      size_by_fields s it.chain,
-      it.size_is,
-      few,
-    )
+module _ (skips : Class → Member → Bool) {s : ℕ} {heap : List SubRecord} {ids : List ℕ} {i : Instance}
+    {first : Option ℕ} (it : IsFirstOfInstance s heap ids i first) where
+  -- no more identifiers than bytes
+  pub few_in_instance : (fields values : List ℕ) → 1 ≤ s → length i.values < 256 ^ 4 → values ≡ i.values
+      → fields ≡ field_ids skips s (declared_fields it.chain) values → length fields ≤ 2 ^ 32
+  few_in_instance fields values low few ev ef =
+      omega (
+        arith,
+        ap length ef,
+        few_fields skips s (declared_fields it.chain) values low,
+        size_by_fields s it.chain,
+        it.size_is,
+        few,
+      )
 
-pub instance_holds : (skips : Class → Member → Bool) (s : ℕ) (heap : List SubRecord) (ids : List ℕ) (i : Instance)
-    (first : Option ℕ) (it : IsFirstOfInstance s heap ids i first) (class : ℕ) (fields values : List ℕ) → 1 ≤ s
-    → length i.values < 256 ^ 4 → class ≡ i.class → values ≡ i.values
-    → fields ≡ field_ids skips s (declared_fields it.chain) values
-    → AreIdsOf skips s heap (instance_dump i) (class ∷ fields)
-instance_holds skips s heap ids i first it class fields values low few ec ev ef = record {
-  are = (
-    it.chain,
-    it.is,
-    ap (λ (x : ℕ). x ∷ fields) ec ∙ ap (λ (xs : List ℕ). i.class ∷ xs)
-        (ef ∙ ap (λ (vs : List ℕ). field_ids skips s (declared_fields it.chain) vs) ev),
-  );
-  few = omega (arith, few_in_instance skips s heap ids i first it fields values low few ev ef);
-}
+  pub instance_holds : (class : ℕ) (fields values : List ℕ) → 1 ≤ s → length i.values < 256 ^ 4 → class ≡ i.class
+      → values ≡ i.values → fields ≡ field_ids skips s (declared_fields it.chain) values
+      → AreIdsOf skips s heap (instance_dump i) (class ∷ fields)
+  instance_holds class fields values low few ec ev ef = record {
+    are = (
+      it.chain,
+      it.is,
+      ap (λ (x : ℕ). x ∷ fields) ec ∙ ap (λ (xs : List ℕ). i.class ∷ xs)
+          (ef ∙ ap (λ (vs : List ℕ). field_ids skips s (declared_fields it.chain) vs) ev),
+    );
+    few = omega (arith, few_in_instance fields values low few ev ef);
+  }
 
 pub array_holds : (skips : Class → Member → Bool) (s : ℕ) (heap : List SubRecord) (a : ObjectArray) (class : ℕ)
     (elements : List ℕ) → length a.elements < 256 ^ 4 → class ≡ a.class → elements ≡ a.elements

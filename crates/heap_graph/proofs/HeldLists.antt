@@ -18,66 +18,58 @@ use Rattle.heap_graph.specs.declared.classes.fate.Fate.TheVariants as fates
 
 -- ---- the layout of an instance begins at some class
 
-first_by : (s : ℕ) (heap : List SubRecord) (ids : List ℕ) (known : List Fate) (n k : ℕ) (i : Instance) (f : Fate)
-    → IsLinked s heap → slice_get (objects heap) n ≡ Some (instance_dump i)
-    → (it : IsFateFound s heap ids known i.class k) → it.fate ≡ f
-    → (first : Option ℕ) × IsFirstOfInstance s heap ids i first
-first_by s heap ids known n k i (fates.Whole l) linked is it e =
-    let says : IsFate s heap ids i.class (fates.Whole l) =
-    subst (λ (f : Fate). IsFate s heap ids i.class f) e it.says in (
-      l.first,
-      record {
-        chain = says.0;
-        is = says.1;
-        begins = says.2.first_is;
-        size_is = right_size s heap n i says.0 linked is says.1;
-      },
-    )
-first_by s heap ids known n k i fates.Unknown linked is it e = absurd (subst (λ (f : Fate). IsSettled f) e it.settled)
-first_by s heap ids known n k i fates.OnPath linked is it e = absurd (subst (λ (f : Fate). IsSettled f) e it.settled)
-first_by s heap ids known n k i fates.Broken linked is it e =
-    absurd (linked_whole s heap ids i.class it.class it.fate linked it.named it.settled
-    (λ l h. let wrong : fates.Broken ≡ fates.Whole l = sym e ∙ h in cc) it.says)
-first_by s heap ids known n k i fates.Endless linked is it e =
-    absurd (linked_whole s heap ids i.class it.class it.fate linked it.named it.settled
-    (λ l h. let wrong : fates.Endless ≡ fates.Whole l = sym e ∙ h in cc) it.says)
+module _ {s : ℕ} {heap : List SubRecord} {ids : List ℕ} {known : List Fate} (n : ℕ) {k : ℕ} {i : Instance}
+    (linked : IsLinked s heap) (is : slice_get (objects heap) n ≡ Some (instance_dump i))
+    (it : IsFateFound s heap ids known i.class k) where
+  first_by : (f : Fate) → it.fate ≡ f → (first : Option ℕ) × IsFirstOfInstance s heap ids i first
+  first_by (fates.Whole l) e =
+      let says : IsFate s heap ids i.class (fates.Whole l) =
+      subst (λ (f : Fate). IsFate s heap ids i.class f) e it.says in (
+        l.first,
+        record {
+          chain = says.0;
+          is = says.1;
+          begins = says.2.first_is;
+          size_is = right_size s heap n i says.0 linked is says.1;
+        },
+      )
+  first_by fates.Unknown e = absurd (subst (λ (f : Fate). IsSettled f) e it.settled)
+  first_by fates.OnPath e = absurd (subst (λ (f : Fate). IsSettled f) e it.settled)
+  first_by fates.Broken e =
+      absurd (linked_whole s heap ids i.class it.class it.fate linked it.named it.settled
+      (λ l h. let wrong : fates.Broken ≡ fates.Whole l = sym e ∙ h in cc) it.says)
+  first_by fates.Endless e =
+      absurd (linked_whole s heap ids i.class it.class it.fate linked it.named it.settled
+      (λ l h. let wrong : fates.Endless ≡ fates.Whole l = sym e ∙ h in cc) it.says)
 
-first_at : (v : Sight) (heap : List SubRecord) (entries : List TableEntry) (known : List Fate) (n : ℕ)
-    (i : Instance) (o : Option ℕ) → IsLinked v.id_size heap → HaveFates v heap entries known
-    → slice_get (objects heap) n ≡ Some (instance_dump i) → position (λ x. x == i.class) (ids_of entries) ≡ o
-    → (first : Option ℕ) × IsFirstOfInstance v.id_size heap (ids_of entries) i first
-first_at v heap entries known n i None linked told is e =
-    absurd (no_unknown v.id_size heap n i i.class linked is refl (not_found v heap entries i.class told.classes e))
-first_at v heap entries known n i (Some k) linked told is e =
-    let it : IsFateFound v.id_size heap (ids_of entries) known i.class k =
-    fate_found v heap entries known i.class k told e in
-    first_by v.id_size heap (ids_of entries) known n k i it.fate linked is it refl
+module _ (v : Sight) (heap : List SubRecord) (entries : List TableEntry) (known : List Fate)
+    (linked : IsLinked v.id_size heap) (told : HaveFates v heap entries known) where
+  first_at : (n : ℕ) (i : Instance) (o : Option ℕ) → slice_get (objects heap) n ≡ Some (instance_dump i)
+      → position (λ x. x == i.class) (ids_of entries) ≡ o
+      → (first : Option ℕ) × IsFirstOfInstance v.id_size heap (ids_of entries) i first
+  first_at n i None is e =
+      absurd (no_unknown v.id_size heap n i i.class linked is refl (not_found v heap entries i.class told.classes e))
+  first_at n i (Some k) is e =
+      let it : IsFateFound v.id_size heap (ids_of entries) known i.class k =
+      fate_found v heap entries known i.class k told e in
+      first_by n linked is it it.fate refl
 
--- ---- the identifiers of one object
-
-ids_here : (skips : Class → Member → Bool) (v : Sight) (heap : List SubRecord) (entries : List TableEntry)
-    (known : List Fate)
-    (n at : ℕ) (x : SubRecord) → IsLinked v.id_size heap → 1 ≤ v.id_size → HaveFates v heap entries known
-    → slice_get (objects heap) n ≡ Some x → Stands v at x → (ids : List ℕ) × AreIdsOf skips v.id_size heap x ids
-ids_here skips v heap entries known n at (root r) linked low told is stands =
-    ([], record { are = refl; few = omega arith })
-ids_here skips v heap entries known n at (class_dump c) linked low told is stands =
-    (class_ids v.id_size c, class_holds skips v.id_size heap c (class_ids v.id_size c) (bounds stands.is.formed) refl)
-ids_here skips v heap entries known n at (instance_dump i) linked low told is stands =
-    let found =
-    first_at v heap entries known n i (position (λ x. x == i.class) (ids_of entries)) linked told is refl in
-    let fields : List ℕ = field_ids skips v.id_size (declared_fields found.1.chain) i.values in (
-      i.class ∷ fields,
-      instance_holds skips v.id_size heap (ids_of entries) i found.0 found.1 i.class fields i.values low
-          (bounds stands.is.formed).values refl refl refl,
-    )
-ids_here skips v heap entries known n at (object_array_dump a) linked low told is stands = (
-  a.class ∷ a.elements,
-  array_holds skips v.id_size heap a a.class a.elements (bounds stands.is.formed).count refl
-      refl,
-)
-ids_here skips v heap entries known n at (primitive_array_dump a) linked low told is stands =
-    ([], nothing_held skips v.id_size heap a)
+  -- so an object holds identifiers
+  ids_here : (skips : Class → Member → Bool) → 1 ≤ v.id_size → (n at : ℕ) (x : SubRecord)
+      → slice_get (objects heap) n ≡ Some x → Stands v at x → (ids : List ℕ) × AreIdsOf skips v.id_size heap x ids
+  ids_here skips low n at (root r) is stands = ([], record { are = refl; few = omega arith })
+  ids_here skips low n at (class_dump c) is stands =
+      (class_ids v.id_size c, class_holds skips v.id_size heap c (class_ids v.id_size c) (bounds stands.is.formed) refl)
+  ids_here skips low n at (instance_dump i) is stands =
+      let found = first_at n i (position (λ x. x == i.class) (ids_of entries)) is refl in
+      let fields : List ℕ = field_ids skips v.id_size (declared_fields found.1.chain) i.values in (
+        i.class ∷ fields,
+        instance_holds skips found.1 i.class fields i.values low (bounds stands.is.formed).values refl refl refl,
+      )
+  ids_here skips low n at (object_array_dump a) is stands =
+      (a.class ∷ a.elements, array_holds skips v.id_size heap a a.class a.elements (bounds stands.is.formed).count refl refl)
+  ids_here skips low n at (primitive_array_dump a) is stands =
+      ([], nothing_held skips v.id_size heap a)
 
 -- ---- those of all objects
 
@@ -123,8 +115,8 @@ held_lists skips o heap linked told = all (chosen (AreIdsOf skips o.view.id_size
         let it : IsThere o.view heap n (get_or o.places.items n 0) =
         there o.view o.places.items o.index heap n linked.are below in
         let same : it.object ≡ x = one_object heap n it.object x it.is is in
-        ids_here skips o.view heap o.classes.table.entries o.fates.items n
-        (get_or o.places.items n 0) x linked.linked linked.low told is
+        ids_here o.view heap o.classes.table.entries o.fates.items linked.linked told skips linked.low n
+        (get_or o.places.items n 0) x is
         (subst (λ (y : SubRecord). Stands o.view (get_or o.places.items n 0) y) same it.stands)
 
     all : ((lists : List (List ℕ)) × (length lists ≡ length (objects heap))

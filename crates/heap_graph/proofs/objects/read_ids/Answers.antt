@@ -8,5 +8,5 @@ pub loop-at-preserved : goal.loop-at-preserved
 loop-at-preserved g c = λ subs stand.
     let n : ℕ = c.loop-at.at-index in
     let it = stand.each n (get_or c.args.places.now n 0) (slice_get-get_or c.args.places.now n 0 c.loop-at-test.true) in
-    keys_more id_of _ _ _ it.0 _ _ it.1 c.in_ok-push.ensures.items (c.object_id.ensures it.0 it.2)
+    keys_more id_of c.in_ok-push.ensures.items _ _ it.0 it.1 (c.object_id.ensures it.0 it.2)
     (c.loop-at.invariant subs stand)

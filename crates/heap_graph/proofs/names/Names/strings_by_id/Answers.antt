@@ -18,7 +18,7 @@ push-requires-clause-few g c =
 pub loop-at-preserved : goal.loop-at-preserved
 loop-at-preserved g c = record {
   takes = still_takes _ _ c.loop-at.invariant.takes c.in_ok-push.ensures.shift c.in_ok-push.ensures.low;
-  added = one_more_added _ _ _ _ _ _ _ c.loop-at.invariant.added c.in_ok-push.ensures.ids (λ records are.
+  added = one_more_added _ c.in_ok-push.ensures.ids c.loop-at.invariant.added (λ records are.
       let it = text_at _ _ _ _ _ are c.loop-at-test.true in
       (string it.time it.id it.text, it.here, c.string_id.ensures it.time it.id it.text it.stands));
 }

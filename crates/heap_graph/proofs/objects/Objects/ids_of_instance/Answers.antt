@@ -21,7 +21,7 @@ invariant_of-result g c =
     let values = c.instance_values.ensures c.requires.3 c.requires.7.stands in
     let fields = c.new-fields.ensures c.requires.0 c.requires.1 (declared_fields first.chain) c.requires.5 c.requires.6
     (layout_from c.args.self.now c.requires.1 c.requires.3 c.args.first c.instance_values.result.now first values) in
-    let few = few_in_instance c.requires.0 _ _ _ _ _ first _ _ c.requires.4.low
+    let few = few_in_instance c.requires.0 first _ _ c.requires.4.low
     (bounds c.requires.7.stands.is.formed).values values fields in
     omega (arith, few)
 
@@ -31,7 +31,7 @@ returns-then-behind g c = λ skips heap n i linked told plan at is first.
     let fields = c.new-fields.ensures skips heap (declared_fields first.chain) told plan
     (layout_from c.args.self.now heap i c.args.first c.instance_values.result.now first values) in
     held_behind _ _ _ _ _ _ _ c.if-behind.true
-    (instance_holds skips _ _ _ i _ first i.class _ _ linked.low (bounds at.stands.is.formed).values refl values
+    (instance_holds skips first i.class _ _ linked.low (bounds at.stands.is.formed).values refl values
     fields)
 
 pub invariant_of-result-2 : goal.invariant_of-result-2
@@ -40,7 +40,7 @@ invariant_of-result-2 g c =
     let values = c.instance_values.ensures c.requires.3 c.requires.7.stands in
     let fields = c.new-fields.ensures c.requires.0 c.requires.1 (declared_fields first.chain) c.requires.5 c.requires.6
     (layout_from c.args.self.now c.requires.1 c.requires.3 c.args.first c.instance_values.result.now first values) in
-    let few = few_in_instance c.requires.0 _ _ _ _ _ first _ _ c.requires.4.low
+    let few = few_in_instance c.requires.0 first _ _ c.requires.4.low
     (bounds c.requires.7.stands.is.formed).values values fields in
     omega (arith, few)
 
@@ -50,5 +50,5 @@ returns g c = λ skips heap n i linked told plan at is first.
     let fields = c.new-fields.ensures skips heap (declared_fields first.chain) told plan
     (layout_from c.args.self.now heap i c.args.first c.instance_values.result.now first values) in
     held_whole _ _ _ _ _ _ _ c.if-behind.false
-    (instance_holds skips _ _ _ i _ first _ _ _ linked.low (bounds at.stands.is.formed).values
+    (instance_holds skips first _ _ _ linked.low (bounds at.stands.is.formed).values
     is values fields)
