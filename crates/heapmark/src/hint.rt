@@ -3,7 +3,7 @@
 mod beginning;
 mod records;
 
-ghost use Rattle.std.specs.Prelude.{◌≡◌, ◌+◌, ◌*◌, IsSome};
+ghost use Rattle.std.specs.Prelude.{◌≡◌, ◌↔◌, ◌+◌, ◌*◌, IsSome, IsTrue};
 ghost use Rattle.std.specs.Io.KnownBytes.{Keeps};
 ghost use Rattle.heapmark.specs.working.Hint.{HasHint};
 ghost use Rattle.heapmark.specs.working.NoReport.{HasTooFewBuffers};
@@ -122,7 +122,9 @@ fn beginning_of<T: Files>(rt: &T, name: &str) -> io::Result<Beginning> {
 }
 
 /// Whether a place is known to be that where the reading of the file ended.
-fn is_at_end(place: Option<u64>, length: Option<u64>) -> bool {
+fn is_at_end(place: Option<u64>, length: Option<u64>) -> bool
+    ensures { IsTrue result ↔ (IsSome place × (place ≡ length)) }
+{
     place.is_some() && place == length
 }
 

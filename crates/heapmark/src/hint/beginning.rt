@@ -1,5 +1,7 @@
 //! What a file is that does not begin as a dump does.
 
+ghost use Rattle.std.specs.Prelude.{◌↔◌, ◌≤◌, All, IsTrue};
+
 use std::fmt;
 
 /// What a dump begins with that is read.
@@ -81,7 +83,9 @@ impl Version {
 }
 
 /// Whether these are decimal digits.
-fn is_numeral(bytes: &[u8]) -> bool {
+fn is_numeral(bytes: &[u8]) -> bool
+    ensures { IsTrue result ↔ All (λ byte. (48 ≤ byte) × (byte ≤ 57)) bytes.now }
+{
     bytes.iter().all(|byte| byte.is_ascii_digit())
 }
 

@@ -1,6 +1,7 @@
 //! Where the records of a file end.
 
-ghost use Rattle.std.specs.Prelude.{◌≤◌};
+ghost use Rattle.std.specs.Int.{from_be_bytes, w32};
+ghost use Rattle.std.specs.Prelude.{◌≡◌, ◌+◌, ◌<◌, IfSome, drop};
 
 use std::io::{Read, Seek, SeekFrom};
 
@@ -11,7 +12,9 @@ const FIRST: u64 = 31;
 const FRONT: usize = 9;
 
 /// Where the record ends in which this place of a file stands, if the file has it.
-pub(super) fn record_end<F: Read + Seek>(file: &mut F, place: u64) -> Option<u64> {
+pub(super) fn record_end<F: Read + Seek>(file: &mut F, place: u64) -> Option<u64>
+    ensures { IfSome result (λ end. place < end) }
+{
     let mut end = FIRST;
     while end <= place {
         file.seek(SeekFrom::Start(end)).ok()?;
@@ -24,7 +27,7 @@ pub(super) fn record_end<F: Read + Seek>(file: &mut F, place: u64) -> Option<u64
 
 /// How many bytes a record has: its tag, a time, the length of its body and the body.
 fn length_of(front: &[u8; FRONT]) -> u64
-    ensures { 9 ≤ result }
+    ensures { result ≡ 9 + from_be_bytes w32 (drop 5 front.now) }
 {
     let [_, _, _, _, _, a, b, c, d] = *front;
     9 + u64::from(u32::from_be_bytes([a, b, c, d]))

@@ -136,6 +136,10 @@ const OLDER: &str = "heapmark_hints.hprof: \
 HPROF of version 1.0.1; only 1.0.2 is read, as `jcmd PID GC.heap_dump FILE` writes it
 ";
 
+const OTHER: &str = "heapmark_hints.hprof: \
+HPROF of version 1.2.3; only 1.0.2 is read, as `jcmd PID GC.heap_dump FILE` writes it
+";
+
 const NEWER: &str = "heapmark_hints.hprof: \
 HPROF of version 1.0.3; only 1.0.2 is read, as `jcmd PID GC.heap_dump FILE` writes it
 ";
@@ -144,7 +148,7 @@ HPROF of version 1.0.3; only 1.0.2 is read, as `jcmd PID GC.heap_dump FILE` writ
 #[test]
 fn a_file_is_told_by_its_first_bytes(rt: HostRuntime) {
     let gzipped = "heapmark_hints.hprof: compressed: gunzip it first\n";
-    let cases: [(&[u8], &str); 16] = [
+    let cases: [(&[u8], &str); 20] = [
         (b"", EMPTY),
         (b"J", EARLY),
         (b"JAVA PROFILE 1.0.2", EARLY),
@@ -152,6 +156,10 @@ fn a_file_is_told_by_its_first_bytes(rt: HostRuntime) {
         (b"JAVA PROFILE 1.0.3\0", NEWER),
         (b"JAVA PROFILE 1.0.1", NONE_OF_IT),
         (b"JAVA PROFILE 1.0.x\0", NONE_OF_IT),
+        (b"JAVA PROFILE 1.x.3\0", NONE_OF_IT),
+        (b"JAVA PROFILE x.0.3\0", NONE_OF_IT),
+        (b"JAVA PROFILE 1.2-3\0", NONE_OF_IT),
+        (b"JAVA PROFILE 1.2.3\0", OTHER),
         (b"JAVA PROFILE 1.0.10\0", NONE_OF_IT),
         (&[0x1f, 0x8b, 8, 0], gzipped),
         (&[0x1f, 0x8b], gzipped),
