@@ -276,6 +276,7 @@ impl<A: Allocator> PairedWorker<A> {
         requires none { HasNoneLeft self.pair self.worker }
         ensures through { IfOk result (IsThrough self.worker) }
         ensures finished { IfOk result (λ w. w.book.account.finished ≡ self.worker.book.account.finished) }
+        ensures idle { IfOk result (λ w. w.book.account.idle ≡ self.worker.book.account.idle) }
     {
         let PairedWorker { mut worker, pair } = self;
         match pair.dispose(rt, pool, &mut worker) {

@@ -1,5 +1,5 @@
 -- The worker comes from the one that was given and is not idle when it begins.
-use Rattle.drain.proofs.Words.{IsAwake, [], rules, ◌∙◌}
+use Rattle.drain.proofs.Words.{IsAwake, [], inl, rules, ◌∙◌}
 use Rattle.drain.specs.working.Jobs.{IsOnJob}
 use Rattle.drain.proofs.AtHand.{came_again}
 use Rattle.drain.proofs.Scanning.{same_setup, same_tally}
@@ -37,3 +37,6 @@ returns-clause-through g c =
 
 pub returns-clause-tally : goal.returns-clause-tally
 returns-clause-tally g c = same_tally c.in_ok-worker.ensures.finished c.in_ok-work_off.ensures.tally
+
+pub returns-clause-worked : goal.returns-clause-worked
+returns-clause-worked g c = inl (c.in_ok-worker.ensures.idle ∙ c.in_ok-work_off.ensures.waited.2.2.0)

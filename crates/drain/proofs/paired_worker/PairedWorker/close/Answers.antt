@@ -11,6 +11,9 @@ dispose-requires-clause-spill g c =
 pub returns-in-Ok-clause-finished : goal.returns-in-Ok-clause-finished
 returns-in-Ok-clause-finished g c = c.in-Ok.ensures.gone.0.kept.finished
 
+pub returns-in-Ok-clause-idle : goal.returns-in-Ok-clause-idle
+returns-in-Ok-clause-idle g c = c.in-Ok.ensures.gone.0.kept.idle
+
 pub returns-in-Ok-clause-through : goal.returns-in-Ok-clause-through
 returns-in-Ok-clause-through g c =
     let p = c.args.self.pair in
