@@ -5,7 +5,7 @@ use Rattle.heap_graph.proofs.Words.{class_dump, declared_fields, eqb-true, false
 use Rattle.heap_graph.proofs.Words.{if◌then◌else◌, instance_dump, length, length-append, length-map, map}
 use Rattle.heap_graph.proofs.Words.{object_array_dump, of_static, primitive_array_dump, refl, size_of, subst, sym, true}
 use Rattle.heap_graph.proofs.Words.{values_ids, with_class, ℕ, ◌++◌, ◌+◌, ◌<◌, ◌==◌, ◌^◌, ◌∙◌, ◌∷◌, ◌≡◌, ◌≤◌}
-use Rattle.hprof_grammar.specs.Bounds.{IsClass, IsConstant}
+use Rattle.hprof_grammar.specs.FormedParts.{IsClass, IsConstant}
 use Rattle.hprof_grammar.specs.SubRecord.{PrimitiveArray}
 use Rattle.hprof_grammar.specs.Series.{of_constant}
 use Rattle.heap_graph.specs.References.{class_ids, constant_ids, static_ids}

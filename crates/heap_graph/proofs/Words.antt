@@ -29,8 +29,8 @@ pub use Rattle.std.specs.Prelude.{IfSome, filter_map, if◌then◌else◌, is_so
 pub use Rattle.std.specs.Prelude.{slice_index_or, slice_range, ◌==◌}
 pub use Rattle.byteorder.specs.Endian.{big_bytes, big_number}
 pub use Rattle.byteorder.specs.Numbers.{big_from-take, length-bytes_high_first}
-pub use Rattle.hprof_grammar.proofs.BoundsLaws.{bounds}
-pub use Rattle.hprof_grammar.specs.Bounds.{IsStatic}
+pub use Rattle.hprof_grammar.proofs.FormedPartsLaws.{bounds}
+pub use Rattle.hprof_grammar.specs.FormedParts.{IsStatic}
 pub use Rattle.hprof_grammar.specs.Dump.{Spells, header, heap_list, is_object, is_root, limit, places_where, spellings}
 pub use Rattle.hprof_grammar.specs.TagsAndTypes.{size_of}
 pub use Rattle.hprof_grammar.specs.ObjectKinds.{object_kind}
@@ -57,7 +57,7 @@ pub use Rattle.heap_graph.specs.Heap.{as_class, class_dumps, class_named, class_
 pub use Rattle.heap_graph.specs.Heap.{object_named, objects}
 pub use Rattle.heap_graph.specs.Layout.{IsChain, IsLine, NeverEnds, layout, layout_size}
 pub use Rattle.heap_graph.specs.LinkFault.{HasLinkFault, IsFirstFault, IsLeastFault, code_of}
-pub use Rattle.heap_graph.specs.Linked.{Breaks, Fails, HasBadChain, HasWrongSize, IsLinked, LacksClass, most_objects}
+pub use Rattle.heap_graph.specs.LinkRules.{Breaks, Fails, HasBadChain, HasWrongSize, IsLinked, LacksClass, most_objects}
 pub use Rattle.heap_graph.specs.MetEntries.{is_met}
 pub use Rattle.heap_graph.specs.ObjectGraph.{IsGraphOf, IsGraphOfText, ObjectGraph, bytes_at, class_count}
 pub use Rattle.heap_graph.specs.ObjectGraph.{named_classes, named_in, object_count, references_of, row_at}

@@ -1,6 +1,6 @@
 -- When a dump is accepted.
 use Rattle.std.specs.Prelude.{List, map, ℕ}
-use Rattle.heap_graph.specs.Linked.{IsLinked}
+use Rattle.heap_graph.specs.LinkRules.{IsLinked}
 use Rattle.heap_graph.specs.Heap.{heap_of}
 use Rattle.hprof_grammar.specs.Record.{Record, tag_of}
 use Rattle.hprof_grammar.specs.Snapshot.{IsOrderly}

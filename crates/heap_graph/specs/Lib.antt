@@ -12,7 +12,7 @@ pub mod Skips
 pub mod MetEntries
 pub mod SkipText
 pub mod SkipRefusals
-pub mod Linked
+pub mod LinkRules
 pub mod Accepted
 pub mod LinkFault
 pub mod ObjectGraph

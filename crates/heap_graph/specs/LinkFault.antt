@@ -1,7 +1,7 @@
 -- The first fault in the links of a dump.
 use Rattle.std.specs.Prelude.{List, Some, map, slice_get, ℕ, ◌<◌, ◌≡◌, ◌≤◌}
 use Rattle.heap_graph.specs.Heap.{heap_of}
-use Rattle.heap_graph.specs.Linked.{Fails}
+use Rattle.heap_graph.specs.LinkRules.{Fails}
 use Rattle.hprof_grammar.specs.Record.{Record, tag_of}
 use Rattle.hprof_grammar.specs.Snapshot.{IsOrderly}
 use Rattle.hprof_grammar.specs.Dump.{Spells, heap_list, is_object}

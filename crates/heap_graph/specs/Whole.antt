@@ -1,7 +1,7 @@
 -- What holds of each graph of a linked heap list.
 use Rattle.std.specs.Prelude.{All, List, [], count_by, length, slice_index_or, sum_by, ℕ, ◌+◌, ◌<◌, ◌^◌, ◌≡◌, ◌≤◌}
 use Rattle.std.specs.List.{range_with_len}
-use Rattle.heap_graph.specs.Linked.{most_objects}
+use Rattle.heap_graph.specs.LinkRules.{most_objects}
 use Rattle.heap_graph.specs.ObjectGraph.{ObjectGraph, bytes_at, class_count, object_count, references_of, row_at}
 use Rattle.heap_graph.specs.Walks.{is_unresolved_in}
 use Rattle.hprof_grammar.specs.Dump.{limit}

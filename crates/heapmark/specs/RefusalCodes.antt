@@ -6,8 +6,8 @@ use Rattle.heap_graph.specs.declared.refusal.LinkRefusal.{LinkRefusal}
 use Rattle.heap_graph.specs.declared.refusal.LinkRefusal.TheVariants as link
 use Rattle.heap_graph.specs.declared.skip.refusal.SkipRefusal.{SkipRefusal}
 use Rattle.heap_graph.specs.declared.skip.refusal.SkipRefusal.TheVariants as skipping
-use Rattle.histogram.specs.declared.reading.ReaderRefusal.{ReaderRefusal}
-use Rattle.histogram.specs.declared.reading.ReaderRefusal.TheVariants as reading
+use Rattle.histogram.specs.declared.read_to_limit.ReaderRefusal.{ReaderRefusal}
+use Rattle.histogram.specs.declared.read_to_limit.ReaderRefusal.TheVariants as reading
 use Rattle.histogram.specs.declared.report_writing.WriteRefusal.{WriteRefusal}
 use Rattle.histogram.specs.declared.report_writing.WriteRefusal.TheVariants as writing
 use Rattle.hprof_grammar.specs.declared.flaw.ReadRefusal.{ReadRefusal}

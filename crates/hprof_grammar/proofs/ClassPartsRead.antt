@@ -8,7 +8,7 @@ use Rattle.hprof_grammar.proofs.Words.{fields_from_statics, flat_map, ids_behind
 use Rattle.hprof_grammar.proofs.Words.{length-bytes_high_first, length-drop, map, member_fields, members_in, number}
 use Rattle.hprof_grammar.proofs.Words.{of_constant, of_static, refl, spelled, static_fields, subst, sym, ℕ, ◌*◌, ◌++◌}
 use Rattle.hprof_grammar.proofs.Words.{◌+◌, ◌<◌, ◌^◌, ◌∙◌, ◌∷◌, ◌≡◌, ◌≤◌}
-use Rattle.hprof_grammar.proofs.BoundsLaws.{bounds}
+use Rattle.hprof_grammar.proofs.FormedPartsLaws.{bounds}
 use Rattle.hprof_grammar.proofs.Fields.{spelled_then}
 use Rattle.hprof_grammar.proofs.Places.{Spell, fields_in, in_sight, length-spelled}
 use Rattle.hprof_grammar.proofs.SeriesRead.{AreValues, members_again, values_again, widths-members}

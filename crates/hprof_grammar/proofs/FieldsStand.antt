@@ -6,7 +6,7 @@ use Rattle.hprof_grammar.proofs.Words.{number, numbers_in, object_array_dump, pr
 use Rattle.hprof_grammar.proofs.Words.{primitive_array_fields, raw, refl, root, size_of, slice_index, spelled, stack_of}
 use Rattle.hprof_grammar.proofs.Words.{suc, sym, take, true, type_code, zero, ℕ, ◌*◌, ◌++◌, ◌+◌, ◌<◌, ◌∙◌, ◌∷◌, ◌≡◌}
 use Rattle.hprof_grammar.proofs.Words.{◌≤◌}
-use Rattle.hprof_grammar.proofs.BoundsLaws.{bounds}
+use Rattle.hprof_grammar.proofs.FormedPartsLaws.{bounds}
 use Rattle.hprof_grammar.proofs.Fields.{spelled-append}
 use Rattle.hprof_grammar.proofs.SeriesRead.{numbers_again, widths-numbers}
 use Rattle.hprof_grammar.proofs.Places.{ByteAt, NumberAt, Spell, byte_read, fields_in, first_stands, in_sight}

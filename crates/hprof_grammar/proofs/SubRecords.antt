@@ -14,7 +14,7 @@ use Rattle.hprof_grammar.proofs.Words.{thread_block, thread_object, unknown, unk
 use Rattle.hprof_grammar.proofs.Words.{◌∙◌, ◌∷◌, ◌≡◌}
 use Rattle.hprof_grammar.specs.working.Reading.{sub_record_at}
 use Rattle.hprof_grammar.specs.SubRecord.{tag_of}
-use Rattle.hprof_grammar.proofs.BoundsLaws.{bounds, formed_by}
+use Rattle.hprof_grammar.proofs.FormedPartsLaws.{bounds, formed_by}
 use Rattle.hprof_grammar.proofs.Bytes.{IsBytes, bytes-tail}
 use Rattle.hprof_grammar.proofs.Fields.{Breaks, breaks_short, breaks_wrong, ends_short, has_wrong_type}
 use Rattle.hprof_grammar.proofs.Format.{IsFormat, bind_ok, map_err, number_format, ok_same}

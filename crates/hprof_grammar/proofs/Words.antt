@@ -24,8 +24,8 @@ pub use Rattle.std.specs.Prelude.{nat_eq, nat_le, ◌==◌, ◌||◌}
 pub use Rattle.byteorder.specs.Endian.{big_bytes, big_number}
 pub use Rattle.byteorder.specs.Numbers.{big_from-cons, big_from-lt, big_from-take, big_number-reads_back}
 pub use Rattle.byteorder.specs.Numbers.{length-bytes_high_first}
-pub use Rattle.hprof_grammar.specs.Bounds.{HasBounds, IsClass, IsConstant, IsInstance, IsMember, IsObjectArray}
-pub use Rattle.hprof_grammar.specs.Bounds.{IsOrigin, IsPrimitiveArray, IsRoot, IsStatic}
+pub use Rattle.hprof_grammar.specs.FormedParts.{HasBounds, IsClass, IsConstant, IsInstance, IsMember, IsObjectArray}
+pub use Rattle.hprof_grammar.specs.FormedParts.{IsOrigin, IsPrimitiveArray, IsRoot, IsStatic}
 pub use Rattle.hprof_grammar.specs.Dump.{Spells, header, heap_list, id_of, is_object, is_root, limit, magic, placed}
 pub use Rattle.hprof_grammar.specs.Dump.{placed_subs, places_where, spellings}
 pub use Rattle.hprof_grammar.specs.Fault.{FirstFault, HasMagic, LongestRecords, LongestSubs, RecordFault, RunsPastEnd}

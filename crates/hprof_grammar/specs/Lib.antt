@@ -2,7 +2,7 @@ pub mod TagsAndTypes
 pub mod Snapshot
 pub mod Spelling
 pub mod SubRecord
-pub mod Bounds
+pub mod FormedParts
 pub mod Kinds
 pub mod Record
 pub mod Dump

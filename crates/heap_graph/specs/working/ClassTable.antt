@@ -5,7 +5,7 @@ use Rattle.hprof_grammar.specs.Standing.{Sight, Stands}
 use Rattle.hprof_grammar.specs.SubRecord.{Class, SubRecord}
 use Rattle.hprof_grammar.specs.SubRecord.SubRecord.{class_dump}
 use Rattle.heap_graph.specs.Heap.{as_class, class_dumps, class_named, number_named, objects}
-use Rattle.heap_graph.specs.Linked.{IsLinked}
+use Rattle.heap_graph.specs.LinkRules.{IsLinked}
 use Rattle.heap_graph.specs.working.IdPlaces.{size_together}
 use Rattle.heap_graph.specs.declared.classes.ClassPlace.{ClassPlace}
 pub use Rattle.heap_graph.specs.working.ClassList.{TableEntry, ids_of}

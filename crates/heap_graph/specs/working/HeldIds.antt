@@ -7,7 +7,7 @@ use Rattle.heap_graph.specs.declared.objects.Objects.{Objects}
 use Rattle.heap_graph.specs.Fields.{declared_fields}
 use Rattle.heap_graph.specs.Heap.{objects}
 use Rattle.heap_graph.specs.Layout.{IsChain, layout_size}
-use Rattle.heap_graph.specs.Linked.{IsLinked}
+use Rattle.heap_graph.specs.LinkRules.{IsLinked}
 use Rattle.heap_graph.specs.working.PlacedObjects.{AreObjects}
 use Rattle.heap_graph.specs.References.{AreIdsIn}
 use Rattle.heap_graph.specs.working.Chains.{IsFirst}

@@ -6,7 +6,7 @@ use Rattle.heap_graph.specs.declared.rule.LinkRule.{LinkRule}
 use Rattle.heap_graph.specs.declared.rule.LinkRule.TheVariants.{DuplicateObject, InstanceSize, SuperChain, TooLarge}
 use Rattle.heap_graph.specs.declared.rule.LinkRule.TheVariants.{UnknownClass, ZeroObject}
 use Rattle.heap_graph.specs.LinkFault.{IsFirstFault, IsLeastFault, code_of}
-use Rattle.heap_graph.specs.Linked.{Fails, HasBadChain, HasWrongSize, LacksClass}
+use Rattle.heap_graph.specs.LinkRules.{Fails, HasBadChain, HasWrongSize, LacksClass}
 
 -- the rules on classes, superclasses and sizes
 abbrev pub BreaksLate : ℕ → List SubRecord → SubRecord → LinkRule → Type 0

@@ -35,7 +35,7 @@ impl<'d, A: Allocator> Objects<'d, A> {
 }
 
 impl<'d, A: Allocator + Copy + Send + Sync> Objects<'d, A> {
-    ghost use Rattle.heap_graph.specs.Linked.{IsLinked};
+    ghost use Rattle.heap_graph.specs.LinkRules.{IsLinked};
     ghost use Rattle.heap_graph.specs.working.PlacedObjects.{AreOf};
     ghost use Rattle.heap_graph.specs.working.ClassFates.{HaveFatesOf};
     ghost use Rattle.heap_graph.specs.working.RuleAnswers.{IsFaultOf};

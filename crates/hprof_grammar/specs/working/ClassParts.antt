@@ -2,7 +2,7 @@
 use Rattle.std.specs.Prelude.{List, [], flat_map, length, ℕ, ◌++◌, ◌∷◌, ◌≡◌}
 use Rattle.hprof_grammar.specs.Spelling.{Field, spelled}
 use Rattle.hprof_grammar.specs.Spelling.Field.{number}
-use Rattle.hprof_grammar.specs.Bounds.{IsClass}
+use Rattle.hprof_grammar.specs.FormedParts.{IsClass}
 use Rattle.hprof_grammar.specs.SubRecord.{Class, constant_fields, member_fields, static_fields}
 
 -- the IDs behind the stack trace

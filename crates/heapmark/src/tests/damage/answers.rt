@@ -1,5 +1,5 @@
 //! The answers for each byte of the dump of two objects changed to each other value: what the plain marker
-//! of bench/plain answers, which is no part of heapmark. bench/changed.py makes this file.
+//! of bench/plain answers, which is no part of heapmark. bench/every_byte.py makes this file.
 
 use super::Answer;
 

@@ -1,6 +1,6 @@
 -- What the closure asks is what a new pool and a new list have.
 use Rattle.std.proofs.Common.{arith, rules}
-use Rattle.drain_tests.proofs.several_refusals.told.Goals as goal
+use Rattle.drain_tests.proofs.several_refused_workers.told.Goals as goal
 
 pub scoped-outcome-requires : goal.scoped-outcome-requires
 scoped-outcome-requires g c =

@@ -3,7 +3,7 @@ use Rattle.std.proofs.Common.{ap, arith, rules, sym}
 use Rattle.buffer_pool.specs.Calls.{Holder}
 use Rattle.drain.proofs.Scanning.{same_tally}
 use Rattle.drain.proofs.Starting.{one_more_started}
-use Rattle.drain_tests.proofs.several_refusals.answer_all.Goals as goal
+use Rattle.drain_tests.proofs.several_refused_workers.answer_all.Goals as goal
 
 pub answer-requires-clause-tally : goal.answer-requires-clause-tally
 answer-requires-clause-tally g c =

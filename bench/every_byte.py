@@ -1,7 +1,7 @@
 #!/usr/bin/env python3
 """What the plain marker answers where one byte of a small dump is another: each place, each other value.
 
-usage: bench/changed.py [--jobs N] PLAIN [DUMP]
+usage: bench/every_byte.py [--jobs N] PLAIN [DUMP]
 
 PLAIN is the plain marker of bench/plain, built; DUMP the dump of two objects, crates/heapmark/data/two_objects.hprof.
 Prints crates/heapmark/src/tests/damage/answers.rt: a row for each range of values of one place with the same answer,
@@ -80,7 +80,7 @@ def ranges(answers):
 
 
 def main():
-    words = argparse.ArgumentParser(usage="changed.py [--jobs N] PLAIN [DUMP]")
+    words = argparse.ArgumentParser(usage="every_byte.py [--jobs N] PLAIN [DUMP]")
     words.add_argument("--jobs", type=int, default=2)
     words.add_argument("plain")
     words.add_argument("dump", nargs="?", default=DUMP)
@@ -96,7 +96,7 @@ def main():
         sums[told.code][0] += 1
         sums[told.code][1] += told.at
     print("//! The answers for each byte of the dump of two objects changed to each other value: what the plain marker")
-    print("//! of bench/plain answers, which is no part of heapmark. bench/changed.py makes this file.")
+    print("//! of bench/plain answers, which is no part of heapmark. bench/every_byte.py makes this file.")
     print("\nuse super::Answer;")
     print(f"\npub static ANSWERS: [Answer; {len(rows)}] = [")
     for place, first, last, (code, at), mix in rows:

@@ -1,7 +1,7 @@
 -- So many threads were started, each with a unit of the leader's, who has finished no more than before.
 use Rattle.std.proofs.Common.{◌≡◌, ◌≤◌, length, vec_len, vec_capacity}
 use Rattle.drain.specs.working.Duties.{HasStarted}
-use Rattle.drain_tests.proofs.several_refusals.answer_all.Given as goal
+use Rattle.drain_tests.proofs.several_refused_workers.answer_all.Given as goal
 
 abbrev pub invariant-loop-number : goal.invariant-loop-number
 invariant-loop-number g l =
