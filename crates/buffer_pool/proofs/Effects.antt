@@ -1,9 +1,8 @@
 -- What an event makes of the accounts: they are as they were, or one changed, and besides there is one more, or another
 -- was taken in.
-use Rattle.std.proofs.Common.{ℕ, List, [], ◌∷◌, ◌++◌, Option, Some, None, set}
-use Rattle.buffer_pool.proofs.Words.{Which, Account, look_of, part, no_share, Marking, Kind, Claim, Finish, Split, Join}
-use Rattle.buffer_pool.proofs.Words.{Load, LoadLink, StoreLink, Pop, Push, Fail, IdleUp, IdleDown, LoadIdle, effect}
-use Rattle.buffer_pool.proofs.Words.{stack_popped}
+use Rattle.buffer_pool.proofs.Words.{Account, Claim, Fail, Finish, IdleDown, IdleUp, Join, Kind, List, Load, LoadIdle}
+use Rattle.buffer_pool.proofs.Words.{LoadLink, Marking, None, Option, Pop, Push, Some, Split, StoreLink, Which, []}
+use Rattle.buffer_pool.proofs.Words.{effect, look_of, no_share, part, set, stack_popped, ℕ, ◌++◌, ◌∷◌}
 
 module _ (P : List Account → Type 0) (m : Marking) (w : ℕ) (a : Account) (same : P m.accounts)
     (one : (b : Account) → P (set m.accounts w b))

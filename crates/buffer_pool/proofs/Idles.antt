@@ -1,17 +1,16 @@
 -- Going idle, coming back and looking at the idle word keep the rule, and are the events of those names.
-use Rattle.std.proofs.Common.{◌≡◌, ℕ, ◌<◌, nat_lt, if◌then◌else◌, [], ◌∷◌, map, length-set, List, Option, None, set}
-use Rattle.std.proofs.Common.{slice_index, ap, sym, refl, subst, ◌∙◌, arith}
-use Rattle.buffer_pool.proofs.Words.{none, State, Me, Allows, step, keeps, head_of, index_of, Setup, Marking, Kind}
-use Rattle.buffer_pool.proofs.Words.{IdleUp, IdleDown, LoadIdle, CanIdle, CanWake, effect, word_up, word_down, Counts}
-use Rattle.buffer_pool.proofs.Words.{counted, count_load_idle, SeatView, Book, counts_of, idled, woken, idle_loaded}
-use Rattle.buffer_pool.proofs.Words.{Shows, RestsWith, went_idle, came_back, idle_seen, idle_word, Reading, free, Rule}
-use Rattle.buffer_pool.proofs.Words.{marking_of, view_counts, logged, IsSound, SitsAt, setup_of, Key, Seat, Shared}
-use Rattle.buffer_pool.proofs.Words.{TableId}
-use Rattle.mark_core.specs.Events as may
+use Rattle.buffer_pool.proofs.Words.{Allows, Book, CanIdle, CanWake, Counts, IdleDown, IdleUp, IsSound, Key, Kind, List}
+use Rattle.buffer_pool.proofs.Words.{LoadIdle, Marking, Me, None, Option, Reading, RestsWith, Rule, Seat, SeatView}
+use Rattle.buffer_pool.proofs.Words.{Setup, Shared, Shows, SitsAt, State, TableId, [], ap, arith, came_back}
+use Rattle.buffer_pool.proofs.Words.{count_load_idle, counted, counts_of, effect, free, head_of, idle_loaded, idle_seen}
+use Rattle.buffer_pool.proofs.Words.{idle_word, idled, if◌then◌else◌, index_of, keeps, length-set, logged, map}
+use Rattle.buffer_pool.proofs.Words.{marking_of, nat_lt, none, refl, set, setup_of, slice_index, step, subst, sym}
+use Rattle.buffer_pool.proofs.Words.{view_counts, went_idle, woken, word_down, word_up, ℕ, ◌<◌, ◌∙◌, ◌∷◌, ◌≡◌}
 use Rattle.buffer_pool.proofs.States.{left, agrees, accounts_set, counts_same, counts_changed, happened_led}
 use Rattle.buffer_pool.proofs.States.{written_again, own_setup, rests_after, log_after, freed}
 use Rattle.buffer_pool.proofs.Loads.{noted}
 use Rattle.buffer_pool.proofs.TableWords.{head_beside_idle, link_beside_idle, marks_beside_idle, idle_here}
+use Rattle.mark_core.specs.Events as may
 
 -- a step that changes the idle word is an event that changes that word and the account alone
 module _

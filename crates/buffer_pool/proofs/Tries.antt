@@ -1,8 +1,7 @@
 -- A try that was lost may be made again.
-use Rattle.std.proofs.Common.{◌≡◌, ℕ, List, ◌++◌, Option, sym, subst}
-use Rattle.buffer_pool.proofs.Words.{Head, Which, Full, Empty, Book, loaded, link_loaded, failed, HeldBuffer, MayPush}
-use Rattle.buffer_pool.proofs.Words.{TriesPop, TriesPush, lost_pops, try_pop_steps, Did, Log, TryPopped, IsBusy}
-use Rattle.buffer_pool.proofs.Words.{lost_pushes, try_push_steps}
+use Rattle.buffer_pool.proofs.Words.{Book, Did, Empty, Full, Head, HeldBuffer, IsBusy, List, Log, MayPush, Option}
+use Rattle.buffer_pool.proofs.Words.{TriesPop, TriesPush, TryPopped, Which, failed, link_loaded, loaded, lost_pops}
+use Rattle.buffer_pool.proofs.Words.{lost_pushes, subst, sym, try_pop_steps, try_push_steps, ℕ, ◌++◌, ◌≡◌}
 use Rattle.buffer_pool.specs.declared.answers.TryPushed.{TryPushed}
 use Rattle.buffer_pool.proofs.Deeds.{did_on}
 use Rattle.buffer_pool.specs.declared.answers.TryPopped.TheVariants as try_pop

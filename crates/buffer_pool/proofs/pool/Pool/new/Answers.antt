@@ -1,8 +1,7 @@
 -- The words and buffers are those of an opening, and the first worker finished nothing. The first tag is named nowhere
 -- here: that it is the one asked for is what the clause has to find.
-use Rattle.std.proofs.Common.{ℕ, ◌+◌, ◌<◌, All, Option, length, ap, subst, sym, arith}
-use Rattle.buffer_pool.proofs.Words.{Me, Buffer, SeatView, buffer_reading, setup_of, HasFirstWords, IsInside}
-use Rattle.buffer_pool.proofs.Words.{mark_words, IsLaid, IsSound, Key}
+use Rattle.buffer_pool.proofs.Words.{All, Buffer, HasFirstWords, IsInside, IsLaid, IsSound, Key, Me, Option, SeatView}
+use Rattle.buffer_pool.proofs.Words.{ap, arith, buffer_reading, length, mark_words, setup_of, subst, sym, ℕ, ◌+◌, ◌<◌}
 use Rattle.buffer_pool.proofs.Starts.{starts, laid_first, sound_first}
 use Rattle.buffer_pool.proofs.pool.Pool.new.Given as given
 use Rattle.buffer_pool.proofs.pool.Pool.new.Goals as goal

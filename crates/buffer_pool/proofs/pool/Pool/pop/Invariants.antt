@@ -1,6 +1,5 @@
 -- So far the tries were lost, and the worker did those alone.
-use Rattle.std.proofs.Common.{◌≡◌, ℕ}
-use Rattle.buffer_pool.proofs.Words.{IsBusy, LostPops, lost_pops, Did}
+use Rattle.buffer_pool.proofs.Words.{Did, IsBusy, LostPops, lost_pops, ℕ, ◌≡◌}
 use Rattle.buffer_pool.proofs.pool.Pool.pop.Given as goal
 
 abbrev pub invariant-loop : goal.invariant-loop

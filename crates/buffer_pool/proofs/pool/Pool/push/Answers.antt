@@ -1,10 +1,9 @@
 -- A try that was lost goes with those before it, and may be made again.
-use Rattle.std.proofs.Common.{◌≡◌, [], ◌∷◌, refl, ◌∙◌}
-use Rattle.buffer_pool.proofs.Words.{TriesPush}
+use Rattle.buffer_pool.proofs.Words.{TriesPush, [], refl, ◌∙◌, ◌∷◌, ◌≡◌}
 use Rattle.buffer_pool.specs.Calls.LostPushes.{none, more}
-use Rattle.buffer_pool.specs.declared.answers.TryPushed.TheVariants as try_push
 use Rattle.buffer_pool.proofs.Deeds.{did_nothing}
 use Rattle.buffer_pool.proofs.Tries.{may_again, push_did}
+use Rattle.buffer_pool.specs.declared.answers.TryPushed.TheVariants as try_push
 use Rattle.buffer_pool.proofs.pool.Pool.push.Goals as goal
 
 pub loop-init : goal.loop-init

@@ -1,6 +1,5 @@
 -- So far the tries were lost, the buffer came back, and the worker did those tries alone.
-use Rattle.std.proofs.Common.{◌≡◌, ℕ, List, Option}
-use Rattle.buffer_pool.proofs.Words.{LostPushes, MayPush, lost_pushes, Did}
+use Rattle.buffer_pool.proofs.Words.{Did, List, LostPushes, MayPush, Option, lost_pushes, ℕ, ◌≡◌}
 use Rattle.buffer_pool.proofs.pool.Pool.push.Given as goal
 
 abbrev pub invariant-loop : goal.invariant-loop

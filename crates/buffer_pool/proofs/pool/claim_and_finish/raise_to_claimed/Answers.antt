@@ -1,6 +1,5 @@
 -- The step keeps the rule, and is the event.
-use Rattle.std.proofs.Common.{◌≡◌, ℕ, ◌%◌}
-use Rattle.buffer_pool.proofs.Words.{buffer_reading, pair_mark, claim_made, setup_of, mark_word}
+use Rattle.buffer_pool.proofs.Words.{buffer_reading, claim_made, mark_word, pair_mark, setup_of, ℕ, ◌%◌, ◌≡◌}
 use Rattle.buffer_pool.proofs.Bits.{low_tells}
 use Rattle.buffer_pool.proofs.Claims.{claims, claimable_within, own_word, sets_pair}
 use Rattle.buffer_pool.proofs.Sound.{sound_after, sound_claimed}

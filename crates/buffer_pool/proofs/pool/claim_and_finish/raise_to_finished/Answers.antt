@@ -1,6 +1,5 @@
 -- The step keeps the rule, and is the event.
-use Rattle.std.proofs.Common.{◌≡◌}
-use Rattle.buffer_pool.proofs.Words.{stands_times, buffer_reading, finish_made, setup_of, mark_word}
+use Rattle.buffer_pool.proofs.Words.{buffer_reading, finish_made, mark_word, setup_of, stands_times, ◌≡◌}
 use Rattle.buffer_pool.proofs.Claims.{finishes, own_word, sets_pair}
 use Rattle.buffer_pool.proofs.Sound.{sound_after, sound_finished}
 use Rattle.buffer_pool.proofs.pool.claim_and_finish.raise_to_finished.Given as given

@@ -1,6 +1,5 @@
 -- The exchange pushes or has failed.
-use Rattle.std.proofs.Common.{sym, subst}
-use Rattle.buffer_pool.proofs.Words.{none, step, Full, Empty, buffer_reading, top_put}
+use Rattle.buffer_pool.proofs.Words.{Empty, Full, buffer_reading, none, step, subst, sym, top_put}
 use Rattle.buffer_pool.proofs.Pushes.{may_put}
 use Rattle.buffer_pool.proofs.pool.head_exchange.exchange_for_buffer.Goals as goal
 

@@ -1,7 +1,6 @@
 -- A load of a head keeps the rule, and tells the head.
-use Rattle.std.proofs.Common.{◌≡◌, ℕ, ◌<◌, [], ◌∷◌, sym, subst, Some, arith}
-use Rattle.buffer_pool.proofs.Words.{none, Head, Load, Allows, step, buffer_reading, RestsWith, head_seen, loaded}
-use Rattle.buffer_pool.proofs.Words.{setup_of, Rule}
+use Rattle.buffer_pool.proofs.Words.{Allows, Head, Load, RestsWith, Rule, Some, [], arith, buffer_reading, head_seen}
+use Rattle.buffer_pool.proofs.Words.{loaded, none, setup_of, step, subst, sym, ℕ, ◌<◌, ◌∷◌, ◌≡◌}
 use Rattle.buffer_pool.proofs.Loads.{sees_head}
 use Rattle.buffer_pool.proofs.Sound.{sound_after, sound_loaded}
 use Rattle.buffer_pool.proofs.TableWords.{head_below}

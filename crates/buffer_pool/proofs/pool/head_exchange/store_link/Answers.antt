@@ -1,7 +1,6 @@
 -- The store keeps the rule, and the buffer's slot comes out.
-use Rattle.buffer_pool.proofs.Words.{index_of, index_of-low_of, StoreLink, Did, logged, stands_times, TableId}
-use Rattle.buffer_pool.proofs.Words.{buffer_reading, setup_of}
-use Rattle.std.proofs.Common.{◌≡◌, subst, suc, [], ◌∷◌, ap, ◌∙◌, None, refl, arith}
+use Rattle.buffer_pool.proofs.Words.{Did, None, StoreLink, TableId, [], ap, arith, buffer_reading, index_of}
+use Rattle.buffer_pool.proofs.Words.{index_of-low_of, logged, refl, setup_of, stands_times, subst, suc, ◌∙◌, ◌∷◌, ◌≡◌}
 use Rattle.buffer_pool.proofs.Pushes.{stores, low_small}
 use Rattle.buffer_pool.proofs.pool.head_exchange.store_link.Goals as goal
 

@@ -1,6 +1,5 @@
 -- The step keeps the rule, and is the event.
-use Rattle.std.proofs.Common.{refl}
-use Rattle.buffer_pool.proofs.Words.{idled, buffer_reading}
+use Rattle.buffer_pool.proofs.Words.{buffer_reading, idled, refl}
 use Rattle.buffer_pool.proofs.Idles.{goes_idle}
 use Rattle.buffer_pool.proofs.Sound.{sound_after, sound_looked}
 use Rattle.buffer_pool.proofs.pool.idle.add_idle.Goals as goal

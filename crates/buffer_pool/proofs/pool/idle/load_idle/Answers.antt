@@ -1,6 +1,5 @@
 -- The step keeps the rule, and is the event.
-use Rattle.std.proofs.Common.{refl}
-use Rattle.buffer_pool.proofs.Words.{idle_loaded, buffer_reading}
+use Rattle.buffer_pool.proofs.Words.{buffer_reading, idle_loaded, refl}
 use Rattle.buffer_pool.proofs.Idles.{sees_idle}
 use Rattle.buffer_pool.proofs.Sound.{sound_after, sound_looked}
 use Rattle.buffer_pool.proofs.pool.idle.load_idle.Goals as goal

@@ -1,6 +1,5 @@
 -- The step keeps the rule, and is the event.
-use Rattle.std.proofs.Common.{refl}
-use Rattle.buffer_pool.proofs.Words.{woken, buffer_reading}
+use Rattle.buffer_pool.proofs.Words.{buffer_reading, refl, woken}
 use Rattle.buffer_pool.proofs.Idles.{comes_back}
 use Rattle.buffer_pool.proofs.Sound.{sound_after, sound_looked}
 use Rattle.buffer_pool.proofs.pool.idle.take_idle.Goals as goal

@@ -1,6 +1,5 @@
 -- The links before this number are laid.
-use Rattle.std.proofs.Common.{◌<◌}
-use Rattle.buffer_pool.specs.working.Opening.{HasFirstWords}
+use Rattle.buffer_pool.proofs.Words.{HasFirstWords, ◌<◌}
 use Rattle.buffer_pool.proofs.pool.opening.first_words.Given as goal
 
 abbrev pub invariant-loop-next : goal.invariant-loop-next

@@ -1,7 +1,6 @@
 -- The other seat is settled before it is joined, and the joined one after: its book is that of both, each object once.
-use Rattle.std.proofs.Common.{◌∙◌, ap, subst, sym, Option, arith}
-use Rattle.buffer_pool.proofs.Words.{Me, TableId, Buffer, SeatView, buffer_reading, setup_of, IsSound, times}
-use Rattle.buffer_pool.proofs.Words.{after_join, AreApart, HasEachOnce}
+use Rattle.buffer_pool.proofs.Words.{AreApart, Buffer, HasEachOnce, IsSound, Me, Option, SeatView, TableId, after_join}
+use Rattle.buffer_pool.proofs.Words.{ap, arith, buffer_reading, setup_of, subst, sym, times, ◌∙◌}
 use Rattle.buffer_pool.proofs.Loads.{settles}
 use Rattle.buffer_pool.proofs.Parts.{apart_by, carries_joined, has_joined, joins}
 use Rattle.buffer_pool.proofs.pool.shares.take_in.Given as given

@@ -1,6 +1,5 @@
 -- The list had room for all from the start, and the slot that is pushed has a new buffer of that size.
-use Rattle.std.proofs.Common.{◌∙◌, All, subst, sym, arith}
-use Rattle.buffer_pool.proofs.Words.{buffer_reading, IsFirstSlot}
+use Rattle.buffer_pool.proofs.Words.{All, IsFirstSlot, arith, buffer_reading, subst, sym, ◌∙◌}
 use Rattle.buffer_pool.proofs.Starts.{slot_pushed}
 use Rattle.buffer_pool.proofs.pool.slots.first_slots.Goals as goal
 

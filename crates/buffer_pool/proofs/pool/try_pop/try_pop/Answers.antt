@@ -1,11 +1,10 @@
 -- What the seat keeps is kept at each step and at each end.
-use Rattle.std.proofs.Common.{◌≡◌, ◌<◌, refl, sym, subst, ◌∙◌}
-use Rattle.buffer_pool.proofs.Words.{Setup, failed, Load, LoadLink, Pop, Fail, IsSound}
+use Rattle.buffer_pool.proofs.Words.{Fail, IsSound, Load, LoadLink, Pop, Setup, failed, refl, subst, sym, ◌<◌, ◌∙◌, ◌≡◌}
 use Rattle.buffer_pool.proofs.Loads.{is_loaded}
 use Rattle.buffer_pool.proofs.Deeds.{did_three}
 use Rattle.buffer_pool.proofs.Sound.{bare_rested, sound_after, sound_as, sound_linked, sound_looked, sound_popped}
-use Rattle.buffer_pool.proofs.pool.try_pop.try_pop.Given as given
 use Rattle.buffer_pool.proofs.pool.try_pop.try_pop.Goals.{After-load_link-link}
+use Rattle.buffer_pool.proofs.pool.try_pop.try_pop.Given as given
 use Rattle.buffer_pool.proofs.pool.try_pop.try_pop.Goals as goal
 
 pub returns-in_default-clause-sound : goal.returns-in_default-clause-sound

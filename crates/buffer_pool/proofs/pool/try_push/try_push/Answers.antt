@@ -1,13 +1,12 @@
 -- What the seat keeps is kept at each step and at each end.
-use Rattle.std.proofs.Common.{◌≡◌, ℕ, suc, ◌<◌, [], ◌∷◌, Option, refl, sym, subst, ◌∙◌, ap, arith}
-use Rattle.buffer_pool.proofs.Words.{low_of, times, IsPart, stands_times, failed, loaded, HeldBuffer, Kind, Did, Log}
-use Rattle.buffer_pool.proofs.Words.{IsSound}
+use Rattle.buffer_pool.proofs.Words.{Did, HeldBuffer, IsPart, IsSound, Kind, Log, Option, [], ap, arith, failed, loaded}
+use Rattle.buffer_pool.proofs.Words.{low_of, refl, stands_times, subst, suc, sym, times, ℕ, ◌<◌, ◌∙◌, ◌∷◌, ◌≡◌}
 use Rattle.buffer_pool.proofs.Loads.{is_loaded}
-use Rattle.mark_core.specs.Events as events
 use Rattle.buffer_pool.proofs.Deeds.{did_three}
 use Rattle.buffer_pool.proofs.Sound.{bare_rested, sound_after, sound_as, sound_out, sound_pushed}
-use Rattle.buffer_pool.proofs.pool.try_push.try_push.Given as given
 use Rattle.buffer_pool.proofs.pool.try_push.try_push.Goals.{After-store_link}
+use Rattle.mark_core.specs.Events as events
+use Rattle.buffer_pool.proofs.pool.try_push.try_push.Given as given
 use Rattle.buffer_pool.proofs.pool.try_push.try_push.Goals as goal
 
 pub head_above-requires : goal.head_above-requires

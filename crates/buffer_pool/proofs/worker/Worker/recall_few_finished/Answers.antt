@@ -1,7 +1,6 @@
 -- A seat that is sound has a story that leads to its book, and lies in a pool whose roots and references are of
 -- objects.
-use Rattle.std.proofs.Common.{length, subst, ℕ, ◌≤◌}
-use Rattle.buffer_pool.proofs.Words.{times, Holder}
+use Rattle.buffer_pool.proofs.Words.{Holder, length, subst, times, ℕ, ◌≤◌}
 use Rattle.buffer_pool.proofs.Few.{few_finished, once_finished}
 use Rattle.buffer_pool.proofs.worker.Worker.recall_few_finished.Goals as goal
 

@@ -1,6 +1,5 @@
 -- There is a mark for each object.
-use Rattle.std.proofs.Common.{sym}
-use Rattle.std.specs.Slots.{slots_items}
+use Rattle.buffer_pool.proofs.Words.{slots_items, sym}
 use Rattle.buffer_pool.proofs.Closes.{marks_count}
 use Rattle.buffer_pool.proofs.pool.closed_marks.Marks.len.Goals as goal
 
