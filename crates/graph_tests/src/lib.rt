@@ -15,6 +15,8 @@ mod chains;
 #[cfg(test)]
 mod faults;
 #[cfg(test)]
+mod faults_in_parts;
+#[cfg(test)]
 mod gathered;
 #[cfg(test)]
 mod graphs;
@@ -22,8 +24,6 @@ mod graphs;
 mod memory;
 #[cfg(test)]
 mod met;
-#[cfg(test)]
-mod faults_in_parts;
 #[cfg(test)]
 mod refused;
 #[cfg(test)]
