@@ -1,10 +1,10 @@
 //! Look-ups in ascending runs.
 
-ghost use Rattle.std.specs.Prelude.{IfSome, MatchOption, ◌/◌, ◌<◌, ◌≢◌, ◌^◌};
+ghost use Rattle.std.specs.Prelude.{IfNone, IfSome, MatchOption, ◌/◌, ◌<◌, ◌≢◌, ◌^◌};
 ghost use Rattle.std.specs.Int.{bit_at};
 ghost use Rattle.id_index.specs.Beginnings.{AreBeginnings, IsAround};
-ghost use Rattle.id_index.specs.Runs.{AreAscending, AreFewAPage, IsBearerAt, IsFirstBearer, IsFirstFrom, IsNumberAt};
-ghost use Rattle.id_index.specs.Runs.{end_of};
+ghost use Rattle.id_index.specs.Runs.{AreAscending, AreFewAPage, HasBearer, IsBearerAt, IsFirstBearer, IsFirstFrom};
+ghost use Rattle.id_index.specs.Runs.{IsNumberAt, end_of, run_in};
 
 use crate::beginnings::Beginnings;
 use crate::pages::first_from;
@@ -35,7 +35,8 @@ fn number_at_place(run: Run, place: u32) -> Option<u32>
 #[inline(always)]
 fn number_at(runs: &[Run], at: usize, id: u64) -> Option<u32>
     requires { AreAscending runs.now }
-    ensures { IfSome result (λ number. IsBearerAt runs.now id number at) }
+    ensures some { IfSome result (λ number. IsBearerAt runs.now id number at) }
+    ensures none { IfNone result (IsFirstFrom runs.now (id / 64) at → HasBearer (run_in runs.now at) id → ⊥) }
 {
     let page = id / PLACES;
     if at >= runs.len() || runs[at].page != page {

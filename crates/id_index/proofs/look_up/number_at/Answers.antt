@@ -5,8 +5,8 @@ use Rattle.id_index.proofs.look_up.number_at.Goals as goal
 use Rattle.id_index.proofs.look_up.number_at.Goals.{else-at-gt0-via-else-at-gt0}
 use Rattle.id_index.proofs.look_up.number_at.Goals.{else-at-gt0-via-then-at-gt0+else-runs-at-2}
 
-pub returns : goal.returns
-returns c =
+pub returns-clause-some : goal.returns-clause-some
+returns-clause-some c =
     let runs = c.args.runs.now in
     let at = c.args.at in
     let below : (k : ℕ) → k < at → page_in runs k < c.args.id / 64 =
