@@ -55,17 +55,7 @@ record IsPushOf (place : Option HeldBuffer) (moves : List Move) : Type 0 where
   out : HasPopFromFull moves → ⊥
 
 shelving : (place : Option HeldBuffer) → IsPushOf place (shelving_of place)
-shelving None =
-    record {
-      given = refl;
-      number = refl;
-      none = refl;
-      no_number = refl;
-      filled = tt;
-      full = λ some. some refl;
-      quiet = λ none push. push;
-      out = λ pop. pop;
-    }
+shelving None = grind arith
 shelving (Some h) =
     record {
       given = append-nil h.items;
