@@ -166,12 +166,9 @@ module _ (w j : ℕ) (fits : w < 2 ^ 64) where
       let b : 2 * j + (2 * (k - j) + 1) ≡ 2 * k + 1 = omega (arith, from) in
       let unset_low = unset_in_word (2 * (k - j)) (omega (arith, from, below)) in
       let unset_high = unset_in_word (2 * (k - j) + 1) (omega (arith, from, below)) in
-      let one_low : bit_at w (2 * k) ≡ 1 =
-      omega (arith, low, unset_low, ap (bit_at w) a, bit_at-lt w (2 * k))
-      in
+      let one_low : bit_at w (2 * k) ≡ 1 = omega (arith, low, unset_low, ap (bit_at w) a, bit_at-lt w (2 * k)) in
       let one_high : bit_at w (2 * k + 1) ≡ 1 =
-      omega (arith, high, unset_high, ap (bit_at w) b, bit_at-lt w (2 * k + 1))
-      in
+      omega (arith, high, unset_high, ap (bit_at w) b, bit_at-lt w (2 * k + 1)) in
       omega (arith, one_low, one_high)
 
   pub pair_unfinished : (i : ℕ) → bit_at (unset_from w j) i ≡ 1 → pair_mark w (j + i / 2) ≢ 2

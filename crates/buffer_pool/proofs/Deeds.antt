@@ -115,18 +115,7 @@ module _ (events : List Event) (w : ℕ) (v : SeatView) (told : IsViewOf events 
 
   -- its slot went home
   pub told_free : IsViewOf events w (free v)
-  told_free =
-      record {
-        number = told.number;
-        since = told.since;
-        goes_on = told.goes_on;
-        unsaid = told.unsaid;
-        taken = told.taken;
-        fresh = told.fresh;
-        leads = told.leads;
-        apart = told.apart;
-        ended = told.ended;
-      }
+  told_free = grind arith
 
   -- what it may tell when its log has the events up to now, and more: its noted deeds, and those among the more
   did_now : v.named ≡ true → (more : List Event) → Did v.log (v.unsaid ++ deeds w more) (log_of w (events ++ more))
