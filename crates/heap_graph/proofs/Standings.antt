@@ -5,7 +5,7 @@ use Rattle.heap_graph.proofs.Words.{cond, false, get_or, id_of, instance_dump, i
 use Rattle.heap_graph.proofs.Words.{number_named, object_array_dump, object_kind, object_named, objects}
 use Rattle.heap_graph.proofs.Words.{option_and_then, position, primitive_array_dump, refl, slice_get, slice_get-get_or}
 use Rattle.heap_graph.proofs.Words.{slice_get_read, slice_get_within, subst, sym, true, ℕ, ◌<◌, ◌==◌, ◌∙◌, ◌≡◌}
-use Rattle.hprof_grammar.specs.declared.view.ObjectKind.TheVariants as kinds
+use Rattle.hprof_grammar.specs.declared.kinds.ObjectKind.TheVariants as kinds
 use Rattle.heap_graph.proofs.Firsts.{filter_passes, position-map}
 
 -- the object of that number, and that it stands at its place

@@ -48,7 +48,7 @@ pub use Rattle.hprof_grammar.specs.SubRecord.{class_fields, constant_fields, mem
 pub use Rattle.hprof_grammar.specs.SubRecord.SubRecord.{class_dump, instance_dump, object_array_dump}
 pub use Rattle.hprof_grammar.specs.SubRecord.SubRecord.{primitive_array_dump, root}
 pub use Rattle.hprof_grammar.specs.declared.kinds.TypePlace.TheVariants.{InArray, InMember, InStatic}
-pub use Rattle.hprof_grammar.specs.declared.view.ObjectKind.{ObjectKind}
+pub use Rattle.hprof_grammar.specs.declared.kinds.ObjectKind.{ObjectKind}
 pub use Rattle.id_index.specs.Repeats.{IsFirstRepeat}
 pub use Rattle.heap_graph.specs.Accepted.{IsAccepted}
 pub use Rattle.heap_graph.specs.ClassNames.{class_text, name_of, string_named}

@@ -1,12 +1,14 @@
 -- Bytes that stand at a place, and what is read there.
-use Rattle.hprof_grammar.proofs.Words.{AllByRecursion, Field, Fits, List, Sight, Stands, SubRecord, SubRecordStandsAt}
-use Rattle.hprof_grammar.proofs.Words.{[], ap, append_assoc, arith, big_bytes, big_number, big_number-reads_back, drop}
-use Rattle.hprof_grammar.proofs.Words.{drop-append_seam, drop-drop, field_spelling, fields_of, get_or-drop, length}
-use Rattle.hprof_grammar.proofs.Words.{length-append, length-bytes_high_first, length-drop, number, raw, refl}
-use Rattle.hprof_grammar.proofs.Words.{slice_index, spelled, spelling_of, subst, sym, take, take-append_seam, type_code}
-use Rattle.hprof_grammar.proofs.Words.{ℕ, ◌++◌, ◌+◌, ◌<◌, ◌^◌, ◌∙◌, ◌∷◌, ◌≡◌, ◌≤◌}
+use Rattle.hprof_grammar.proofs.Words.{AllByRecursion, Field, Fits, List, Sight, Some, Stands, SubRecord}
+use Rattle.hprof_grammar.proofs.Words.{SubRecordStandsAt, [], ap, append_assoc, arith, big_bytes, big_number}
+use Rattle.hprof_grammar.proofs.Words.{big_number-reads_back, drop, drop-append_seam, drop-drop, field_spelling}
+use Rattle.hprof_grammar.proofs.Words.{fields_of, get_or-drop, kind_of, length, length-append}
+use Rattle.hprof_grammar.proofs.Words.{length-bytes_high_first, length-drop, number, raw, refl, slice_index, spelled}
+use Rattle.hprof_grammar.proofs.Words.{spelling_of, sub_kind, subst, sym, take, take-append_seam, type_code, ℕ, ◌++◌}
+use Rattle.hprof_grammar.proofs.Words.{◌+◌, ◌<◌, ◌^◌, ◌∙◌, ◌∷◌, ◌≡◌, ◌≤◌}
 use Rattle.hprof_grammar.specs.SubRecord.{tag_of}
 use Rattle.hprof_grammar.proofs.Fields.{all_split, spelled-append}
+use Rattle.hprof_grammar.proofs.TableLaws.{kind_says}
 
 -- from that place on stand these bytes
 pub record Spell (bytes : List ℕ) (at : ℕ) (xs : List ℕ) : Type 0 where
@@ -96,6 +98,17 @@ sub_stands s bytes at sub h = some_stand bytes at (tag_of sub) (spelled (fields_
 -- what stands in sight of the fields of a view
 pub in_sight : {v w : Sight} {at : ℕ} {sub : SubRecord} → w ≡ v → Stands v at sub → Stands w at sub
 in_sight {v} {w} {at} {sub} e h = subst (λ (x : Sight). Stands x at sub) (sym e) h
+
+-- the byte of the tag stands there, and says the kind
+pub record TagAt (bytes : List ℕ) (at : ℕ) (sub : SubRecord) : Type 0 where
+  pub tag : ByteAt bytes at (tag_of sub)
+  pub says : kind_of (slice_index bytes at) ≡ Some (sub_kind sub)
+
+pub tagged : {v w : Sight} {at : ℕ} {sub : SubRecord} → w ≡ v → Stands v at sub → TagAt w.bytes at sub
+tagged {w = w} {at = at} {sub = sub} e h =
+    let spell = sub_stands w.id_size w.bytes at sub (in_sight e h) in
+    let there = byte_read w.bytes at (tag_of sub) (spelled (fields_of w.id_size sub)) spell in
+    record { tag = there; says = ap kind_of there.value ∙ kind_says sub }
 
 module _ {s at place : ℕ} {bytes : List ℕ} {sub : SubRecord} (front : List Field) where
   -- behind the tag and the first fields stand the others

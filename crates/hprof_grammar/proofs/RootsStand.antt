@@ -1,13 +1,9 @@
 -- The fields of roots, each at its place. In these lemmas w is what the fields of a view show, and v is the view.
-use Rattle.hprof_grammar.proofs.Words.{Field, List, Root, RootOrigin, RootSays, Sight, Some, Stands, SubRecordStandsAt}
-use Rattle.hprof_grammar.proofs.Words.{[], ap, arith, frame_of, java_frame, jni_global, jni_local, kind_of}
-use Rattle.hprof_grammar.proofs.Words.{native_stack, number, origin_fields, origin_kind, reference_of, root}
-use Rattle.hprof_grammar.proofs.Words.{root_fields, slice_index, spelled, thread_block, thread_object, thread_of}
-use Rattle.hprof_grammar.proofs.Words.{trace_of, ℕ, ◌+◌, ◌∙◌, ◌∷◌, ◌≡◌}
-use Rattle.hprof_grammar.specs.SubRecord.{tag_of}
-use Rattle.hprof_grammar.proofs.Places.{ByteAt, NumberAt, byte_read, in_sight, number_in, sub_stands}
-use Rattle.hprof_grammar.proofs.TableLaws.{kind_says}
-use Rattle.hprof_grammar.specs.declared.kinds.Kind.TheVariants as kinds
+use Rattle.hprof_grammar.proofs.Words.{Field, List, Root, RootOrigin, RootSays, Sight, Some, SubRecordStandsAt, [], ap}
+use Rattle.hprof_grammar.proofs.Words.{arith, frame_of, java_frame, jni_global, jni_local, native_stack, number}
+use Rattle.hprof_grammar.proofs.Words.{origin_fields, reference_of, root, thread_block, thread_object, thread_of}
+use Rattle.hprof_grammar.proofs.Words.{trace_of, ℕ, ◌+◌, ◌∷◌, ◌≡◌}
+use Rattle.hprof_grammar.proofs.Places.{NumberAt, in_sight, number_in}
 
 -- the number behind the object, and the one behind that
 behind_object : {s at w n : ℕ} {bytes : List ℕ} {r : Root} {more : List Field} → SubRecordStandsAt s bytes at (root r)
@@ -58,14 +54,3 @@ module _ {v w : Sight} {at n : ℕ} (e : w ≡ v) where
 
   pub root_trace : RootSays v at trace_of n → NumberAt w.bytes (at + 5 + w.id_size) 4 n
   root_trace h = behind_thread (in_sight e h.stands) (trace_second w.id_size h.root_is.origin n h.says).1
-
--- the byte of a tag stands there, and says the kind of the root
-pub record RootTagAt (bytes : List ℕ) (at : ℕ) (r : Root) : Type 0 where
-  pub tag : ByteAt bytes at (tag_of (root r))
-  pub says : kind_of (slice_index bytes at) ≡ Some (kinds.Root (origin_kind r.origin))
-
-pub root_tagged : {v w : Sight} {at : ℕ} {r : Root} → w ≡ v → Stands v at (root r) → RootTagAt w.bytes at r
-root_tagged {w = w} {at = at} {r = r} e h =
-    let spell = sub_stands w.id_size w.bytes at (root r) (in_sight e h) in
-    let there = byte_read w.bytes at (tag_of (root r)) (spelled (root_fields w.id_size r)) spell in
-    record { tag = there; says = ap kind_of there.value ∙ kind_says (root r) }

@@ -24,6 +24,7 @@ use Rattle.hprof_grammar.proofs.TableLaws.{class_tag, instance_tag, kind_says, n
 use Rattle.hprof_grammar.proofs.TableLaws.{primitive_array_tag, root_tag_is, tag_known}
 use Rattle.hprof_grammar.specs.declared.kinds.RootKind.TheVariants as roots
 use Rattle.hprof_grammar.specs.declared.kinds.Kind.TheVariants as kinds
+use Rattle.hprof_grammar.specs.declared.kinds.ObjectKind.TheVariants as objects
 
 -- a whole sub-record was taken from the bytes
 pub record SubTaken (s : ℕ) (bytes : List ℕ) (sub : SubRecord) (rest : List ℕ) : Type 0 where
@@ -185,10 +186,11 @@ primitive_array_kind s tag t =
 
 body_read : (s tag : ℕ) (kind : Kind) → kind_of tag ≡ Some kind → ReadsKind s tag (body_at s (Some kind))
 body_read s tag (kinds.Root kind) k = root_read s tag kind (root_tag_is tag kind k)
-body_read s tag kinds.Class k = read_kind (class_kind s tag (class_tag tag k))
-body_read s tag kinds.Instance k = read_kind (instance_kind s tag (instance_tag tag k))
-body_read s tag kinds.ObjectArray k = read_kind (object_array_kind s tag (object_array_tag tag k))
-body_read s tag kinds.PrimitiveArray k = read_kind (primitive_array_kind s tag (primitive_array_tag tag k))
+body_read s tag (kinds.Object objects.Class) k = read_kind (class_kind s tag (class_tag tag k))
+body_read s tag (kinds.Object objects.Instance) k = read_kind (instance_kind s tag (instance_tag tag k))
+body_read s tag (kinds.Object objects.ObjectArray) k = read_kind (object_array_kind s tag (object_array_tag tag k))
+body_read s tag (kinds.Object objects.PrimitiveArray) k =
+    read_kind (primitive_array_kind s tag (primitive_array_tag tag k))
 
 sub_back : (s : ℕ) (x : SubRecord) → IsFormed s x → ReadsBack s x (body_at s (Some (sub_kind x)))
 sub_back s (root r) h = root_back s r.object r.origin (bounds h)

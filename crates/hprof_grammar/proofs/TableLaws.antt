@@ -1,13 +1,17 @@
 -- The few facts of the format's tables that proofs use.
 use Rattle.hprof_grammar.proofs.Words.{Bool, Kind, None, Option, RootKind, RootOrigin, Some, SubRecord, ap, arith}
-use Rattle.hprof_grammar.proofs.Words.{false, is_heap_tag, nat_le, nat_tests, origin_kind, origin_tag, refl, root}
+use Rattle.hprof_grammar.proofs.Words.{class_dump, false, instance_dump, is_heap_tag, is_object, nat_le, nat_tests}
+use Rattle.hprof_grammar.proofs.Words.{object_array_dump, origin_kind, origin_tag, primitive_array_dump, refl, root}
 use Rattle.hprof_grammar.proofs.Words.{root_of, root_tag, sub_kind, sym, true, unknown, ℕ, ◌&&◌, ◌*◌, ◌+◌, ◌<◌, ◌==◌}
 use Rattle.hprof_grammar.proofs.Words.{◌^◌, ◌||◌, ◌∙◌, ◌≡◌, ◌≤◌}
 use Rattle.hprof_grammar.specs.TagsAndTypes.{is_id_size, is_sub_tag}
 use Rattle.hprof_grammar.specs.Record.{is_length_of}
 use Rattle.hprof_grammar.specs.Kinds.{kind_of, root_kind}
+use Rattle.hprof_grammar.specs.ObjectKinds.{object_kind}
 use Rattle.hprof_grammar.specs.SubRecord.{tag_of}
-use Rattle.hprof_grammar.specs.declared.kinds.Kind.TheVariants.{Class, Instance, ObjectArray, PrimitiveArray, Root}
+use Rattle.hprof_grammar.specs.declared.kinds.Kind.TheVariants.{Object, Root}
+use Rattle.hprof_grammar.specs.declared.kinds.ObjectKind.{ObjectKind}
+use Rattle.hprof_grammar.specs.declared.kinds.ObjectKind.TheVariants.{Class, Instance, ObjectArray, PrimitiveArray}
 use Rattle.hprof_grammar.specs.declared.kinds.RootKind.TheVariants as roots
 
 -- ---- identifiers have 4 or 8 bytes
@@ -35,21 +39,21 @@ root_is : (r : Option RootKind) (kind : Kind) → root_of r ≡ Some kind → (k
 root_is None kind e = absurd (cc)
 root_is (Some k) kind e = (k, cc)
 
-pub class_tag : (tag : ℕ) → kind_of tag ≡ Some Class → tag ≡ 0x20
+pub class_tag : (tag : ℕ) → kind_of tag ≡ Some (Object Class) → tag ≡ 0x20
 unfolding kind_of
-class_tag tag h = grind (arith, nat_tests, root_is (root_kind tag) Class)
+class_tag tag h = grind (arith, nat_tests, root_is (root_kind tag) (Object Class))
 
-pub instance_tag : (tag : ℕ) → kind_of tag ≡ Some Instance → tag ≡ 0x21
+pub instance_tag : (tag : ℕ) → kind_of tag ≡ Some (Object Instance) → tag ≡ 0x21
 unfolding kind_of
-instance_tag tag h = grind (arith, nat_tests, root_is (root_kind tag) Instance)
+instance_tag tag h = grind (arith, nat_tests, root_is (root_kind tag) (Object Instance))
 
-pub object_array_tag : (tag : ℕ) → kind_of tag ≡ Some ObjectArray → tag ≡ 0x22
+pub object_array_tag : (tag : ℕ) → kind_of tag ≡ Some (Object ObjectArray) → tag ≡ 0x22
 unfolding kind_of
-object_array_tag tag h = grind (arith, nat_tests, root_is (root_kind tag) ObjectArray)
+object_array_tag tag h = grind (arith, nat_tests, root_is (root_kind tag) (Object ObjectArray))
 
-pub primitive_array_tag : (tag : ℕ) → kind_of tag ≡ Some PrimitiveArray → tag ≡ 0x23
+pub primitive_array_tag : (tag : ℕ) → kind_of tag ≡ Some (Object PrimitiveArray) → tag ≡ 0x23
 unfolding kind_of
-primitive_array_tag tag h = grind (arith, nat_tests, root_is (root_kind tag) PrimitiveArray)
+primitive_array_tag tag h = grind (arith, nat_tests, root_is (root_kind tag) (Object PrimitiveArray))
 
 -- ---- and one that it is a root of a kind
 
@@ -80,6 +84,15 @@ pub kind_says : (x : SubRecord) → kind_of (tag_of x) ≡ Some (sub_kind x)
 unfolding kind_of
 kind_says (root r) = root_says r.origin
 kind_says x = refl
+
+-- the kind of a sub-record that describes an object is that of the object
+pub kind_described : (x : SubRecord) → is_object x ≡ true
+    → (kind : ObjectKind) × (sub_kind x ≡ Object kind) × (object_kind x ≡ Some kind)
+kind_described (root r) describes = absurd (cc describes)
+kind_described (class_dump c) describes = (Class, refl, refl)
+kind_described (instance_dump i) describes = (Instance, refl, refl)
+kind_described (object_array_dump a) describes = (ObjectArray, refl, refl)
+kind_described (primitive_array_dump a) describes = (PrimitiveArray, refl, refl)
 
 -- ---- the tags of sub-records are those that say a kind
 

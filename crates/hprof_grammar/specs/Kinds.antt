@@ -6,7 +6,8 @@ use Rattle.hprof_grammar.specs.SubRecord.RootOrigin.{sticky_class, thread_block,
 use Rattle.hprof_grammar.specs.SubRecord.SubRecord.{class_dump, instance_dump, object_array_dump, primitive_array_dump}
 use Rattle.hprof_grammar.specs.SubRecord.SubRecord.{root}
 use Rattle.hprof_grammar.specs.declared.kinds.Kind.{Kind}
-use Rattle.hprof_grammar.specs.declared.kinds.Kind.TheVariants.{Class, Instance, ObjectArray, PrimitiveArray, Root}
+use Rattle.hprof_grammar.specs.declared.kinds.Kind.TheVariants.{Object, Root}
+use Rattle.hprof_grammar.specs.declared.kinds.ObjectKind.TheVariants.{Class, Instance, ObjectArray, PrimitiveArray}
 use Rattle.hprof_grammar.specs.declared.kinds.RootKind.{RootKind}
 use Rattle.hprof_grammar.specs.declared.kinds.RootKind.TheVariants.{JavaFrame, JniGlobal, JniLocal, MonitorUsed}
 use Rattle.hprof_grammar.specs.declared.kinds.RootKind.TheVariants.{NativeStack, StickyClass, ThreadBlock, ThreadObject}
@@ -27,10 +28,10 @@ origin_kind (thread_object thread stack) = ThreadObject
 -- what a sub-record is, as a kind
 abbrev pub sub_kind : SubRecord → Kind
 sub_kind (root r) = Root (origin_kind r.origin)
-sub_kind (class_dump c) = Class
-sub_kind (instance_dump i) = Instance
-sub_kind (object_array_dump a) = ObjectArray
-sub_kind (primitive_array_dump a) = PrimitiveArray
+sub_kind (class_dump c) = Object Class
+sub_kind (instance_dump i) = Object Instance
+sub_kind (object_array_dump a) = Object ObjectArray
+sub_kind (primitive_array_dump a) = Object PrimitiveArray
 
 -- the kind of a root, by its tag
 unfoldable pub root_kind : ℕ → Option RootKind
@@ -65,8 +66,8 @@ root_of (Some kind) = Some (Root kind)
 -- what a sub-record's tag says: CLASS DUMP, INSTANCE DUMP, OBJECT ARRAY DUMP, PRIMITIVE ARRAY DUMP, or a root
 unfoldable pub kind_of : ℕ → Option Kind
 kind_of tag =
-    if tag == 0x20 then Some Class
-    else if tag == 0x21 then Some Instance
-    else if tag == 0x22 then Some ObjectArray
-    else if tag == 0x23 then Some PrimitiveArray
+    if tag == 0x20 then Some (Object Class)
+    else if tag == 0x21 then Some (Object Instance)
+    else if tag == 0x22 then Some (Object ObjectArray)
+    else if tag == 0x23 then Some (Object PrimitiveArray)
     else root_of (root_kind tag)

@@ -3,8 +3,8 @@ use Rattle.std.specs.Prelude.{None, Option, Some}
 use Rattle.hprof_grammar.specs.SubRecord.{SubRecord}
 use Rattle.hprof_grammar.specs.SubRecord.SubRecord.{class_dump, instance_dump, object_array_dump, primitive_array_dump}
 use Rattle.hprof_grammar.specs.SubRecord.SubRecord.{root}
-use Rattle.hprof_grammar.specs.declared.view.ObjectKind.{ObjectKind}
-use Rattle.hprof_grammar.specs.declared.view.ObjectKind.TheVariants.{Class, Instance, ObjectArray, PrimitiveArray}
+use Rattle.hprof_grammar.specs.declared.kinds.ObjectKind.{ObjectKind}
+use Rattle.hprof_grammar.specs.declared.kinds.ObjectKind.TheVariants.{Class, Instance, ObjectArray, PrimitiveArray}
 
 -- none for a root, which only names an object
 abbrev pub object_kind : SubRecord → Option ObjectKind

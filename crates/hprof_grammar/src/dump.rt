@@ -77,7 +77,7 @@ impl<A: Allocator> Dump<A> {
     {
         match kind {
             Kind::Root(_) => self.roots.push(at).map_err(|_| ReadRefusal::OutOfMemory),
-            _ => self.objects.push(at).map_err(|_| ReadRefusal::OutOfMemory),
+            Kind::Object(_) => self.objects.push(at).map_err(|_| ReadRefusal::OutOfMemory),
         }
     }
 

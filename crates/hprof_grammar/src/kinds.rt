@@ -23,19 +23,26 @@ pub enum RootKind {
     ThreadObject,
 }
 
+/// The kind of a sub-record that describes an object.
+#[derive(Clone, Copy, Debug, PartialEq, Eq)]
+pub enum ObjectKind {
+    /// A class: CLASS DUMP.
+    Class,
+    /// An instance: INSTANCE DUMP.
+    Instance,
+    /// An array of objects: OBJECT ARRAY DUMP.
+    ObjectArray,
+    /// An array of values of a primitive type: PRIMITIVE ARRAY DUMP.
+    PrimitiveArray,
+}
+
 /// What the tag of a sub-record says.
 #[derive(Clone, Copy, Debug, PartialEq, Eq)]
 pub enum Kind {
     /// A root of this kind.
     Root(RootKind),
-    /// CLASS DUMP.
-    Class,
-    /// INSTANCE DUMP.
-    Instance,
-    /// OBJECT ARRAY DUMP.
-    ObjectArray,
-    /// PRIMITIVE ARRAY DUMP.
-    PrimitiveArray,
+    /// A description of an object of this kind.
+    Object(ObjectKind),
 }
 
 /// Where a type code stands.

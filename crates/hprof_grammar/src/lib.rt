@@ -40,13 +40,13 @@ mod view;
 
 pub use dump::Dump;
 pub use flaw::{FormatFault, ReadRefusal};
-pub use kinds::RootKind;
+pub use kinds::{ObjectKind, RootKind};
 pub use laws::{always_dump_or_fault, dump_or_fault, one_dump, one_fault, one_list_of_records};
 pub use parse::{LIMIT, read};
 pub use placed::{dump_is_placed, stands_within};
 pub use team::Team;
+pub use view::View;
 pub use view::identifiers::number_at;
 pub use view::ids::Ids;
 pub use view::members::{MemberField, Members};
 pub use view::values::{TypedValue, Values};
-pub use view::{ObjectKind, View};

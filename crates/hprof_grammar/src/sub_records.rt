@@ -12,7 +12,7 @@ ghost use Rattle.hprof_grammar.specs.working.Reading.{primitive_array_at, raw_at
 ghost use Rattle.hprof_grammar.specs.working.Reading.{type_at};
 
 use crate::flaw::Flaw;
-use crate::kinds::{Kind, RootKind, TypePlace};
+use crate::kinds::{Kind, ObjectKind, RootKind, TypePlace};
 use crate::reader::Reader;
 use crate::tags_and_types::{kind_of, size_of};
 
@@ -206,10 +206,10 @@ pub fn sub_record(reader: &mut Reader<'_>, id_size: u8) -> Result<Kind, Flaw>
     reader.rest = behind;
     match kind {
         Kind::Root(kind) => root(reader, id_size, kind)?,
-        Kind::Class => class(reader, id_size)?,
-        Kind::Instance => instance(reader, id_size)?,
-        Kind::ObjectArray => object_array(reader, id_size)?,
-        Kind::PrimitiveArray => primitive_array(reader, id_size)?,
+        Kind::Object(ObjectKind::Class) => class(reader, id_size)?,
+        Kind::Object(ObjectKind::Instance) => instance(reader, id_size)?,
+        Kind::Object(ObjectKind::ObjectArray) => object_array(reader, id_size)?,
+        Kind::Object(ObjectKind::PrimitiveArray) => primitive_array(reader, id_size)?,
     }
     Ok(kind)
 }

@@ -5,7 +5,7 @@ ghost use Rattle.hprof_grammar.specs.Kinds as kind_tables;
 ghost use Rattle.hprof_grammar.specs.Record as records;
 ghost use Rattle.hprof_grammar.specs.TagsAndTypes as tables;
 
-use crate::kinds::{Kind, RootKind, TypePlace};
+use crate::kinds::{Kind, ObjectKind, RootKind, TypePlace};
 use crate::tags;
 
 /// Whether identifiers may have so many bytes: 4 or 8.
@@ -69,10 +69,10 @@ pub fn kind_of(tag: u8) -> Option<Kind>
     ensures { result ≡ kind_tables.kind_of tag }
 {
     match tag {
-        tags::CLASS_DUMP => Some(Kind::Class),
-        tags::INSTANCE_DUMP => Some(Kind::Instance),
-        tags::OBJECT_ARRAY_DUMP => Some(Kind::ObjectArray),
-        tags::PRIMITIVE_ARRAY_DUMP => Some(Kind::PrimitiveArray),
+        tags::CLASS_DUMP => Some(Kind::Object(ObjectKind::Class)),
+        tags::INSTANCE_DUMP => Some(Kind::Object(ObjectKind::Instance)),
+        tags::OBJECT_ARRAY_DUMP => Some(Kind::Object(ObjectKind::ObjectArray)),
+        tags::PRIMITIVE_ARRAY_DUMP => Some(Kind::Object(ObjectKind::PrimitiveArray)),
         _ => root_kind(tag).map(Kind::Root),
     }
 }

@@ -21,7 +21,8 @@ ghost use Rattle.hprof_grammar.specs.SubRecord.{SubRecord};
 ghost use Rattle.hprof_grammar.specs.TagsAndTypes as tables;
 ghost use Rattle.hprof_grammar.specs.Standing.{Stands, stack_of};
 
-use crate::{tags, tags_and_types};
+use crate::kinds::{Kind, ObjectKind};
+use crate::tags_and_types;
 use byteorder::{BigEndian, ByteOrder};
 use std::marker::Model;
 
@@ -32,19 +33,6 @@ const OBJECT: usize = 1;
 const STACK_TRACE: usize = OBJECT;
 
 const BEHIND_STACK_TRACE: usize = STACK_TRACE + 4;
-
-/// The kind of a sub-record that describes an object.
-#[derive(Clone, Copy, Debug, PartialEq, Eq)]
-pub enum ObjectKind {
-    /// A class: CLASS DUMP.
-    Class,
-    /// An instance: INSTANCE DUMP.
-    Instance,
-    /// An array of objects: OBJECT ARRAY DUMP.
-    ObjectArray,
-    /// An array of values of a primitive type: PRIMITIVE ARRAY DUMP.
-    PrimitiveArray,
-}
 
 /// The bytes of a dump and the size of its identifiers, by which the fields of its parts are read at their places.
 #[derive(Drop)]
@@ -98,10 +86,8 @@ impl<'a> View<'a> {
         requires { (sub : SubRecord) × Stands self.now at sub × (is_object sub ≡ true) }
         ensures { (sub : SubRecord) → Stands self.now at sub → is_object sub ≡ true → object_kind sub ≡ Some result }
     {
-        match self.bytes[at as usize] {
-            tags::CLASS_DUMP => ObjectKind::Class,
-            tags::INSTANCE_DUMP => ObjectKind::Instance,
-            tags::OBJECT_ARRAY_DUMP => ObjectKind::ObjectArray,
+        match tags_and_types::kind_of(self.bytes[at as usize]) {
+            Some(Kind::Object(kind)) => kind,
             _ => ObjectKind::PrimitiveArray,
         }
     }

@@ -23,7 +23,7 @@ nothing_of s = record { id_size = s; strings = []; loaded = []; roots = []; obje
 -- with the place of one more sub-record
 abbrev pub noted : Places → Kind → ℕ → Places
 noted p (kinds.Root kind) at = record p { roots = p.roots ++ at ∷ [] }
-noted p kind at = record p { objects = p.objects ++ at ∷ [] }
+noted p (kinds.Object kind) at = record p { objects = p.objects ++ at ∷ [] }
 
 abbrev pub with_string : Places → ℕ → Places
 with_string p at = record p { strings = p.strings ++ at ∷ [] }

@@ -12,6 +12,7 @@ use Rattle.hprof_grammar.specs.SubRecord.SubRecord.{class_dump, instance_dump, o
 use Rattle.hprof_grammar.specs.SubRecord.SubRecord.{root}
 use Rattle.hprof_grammar.specs.declared.kinds.Kind.{Kind}
 use Rattle.hprof_grammar.specs.declared.kinds.Kind.TheVariants as kinds
+use Rattle.hprof_grammar.specs.declared.kinds.ObjectKind.TheVariants as objects
 use Rattle.hprof_grammar.specs.declared.kinds.RootKind.{RootKind}
 use Rattle.hprof_grammar.specs.declared.kinds.RootKind.TheVariants as roots
 use Rattle.hprof_grammar.specs.declared.kinds.TypePlace.{TypePlace}
@@ -137,10 +138,10 @@ root_at s roots.ThreadObject = as_at (root_with_two thread_object) (then_at (num
 abbrev pub body_at : ℕ → Option Kind → List ℕ → Result (SubRecord × List ℕ) Flaw
 body_at s None bytes = Err UnknownTag
 body_at s (Some (kinds.Root kind)) bytes = root_at s kind bytes
-body_at s (Some kinds.Class) bytes = as_at class_dump (class_dump_at s) bytes
-body_at s (Some kinds.Instance) bytes = as_at instance_dump (instance_at s) bytes
-body_at s (Some kinds.ObjectArray) bytes = as_at object_array_dump (object_array_at s) bytes
-body_at s (Some kinds.PrimitiveArray) bytes = as_at primitive_array_dump (primitive_array_at s) bytes
+body_at s (Some (kinds.Object objects.Class)) bytes = as_at class_dump (class_dump_at s) bytes
+body_at s (Some (kinds.Object objects.Instance)) bytes = as_at instance_dump (instance_at s) bytes
+body_at s (Some (kinds.Object objects.ObjectArray)) bytes = as_at object_array_dump (object_array_at s) bytes
+body_at s (Some (kinds.Object objects.PrimitiveArray)) bytes = as_at primitive_array_dump (primitive_array_at s) bytes
 
 -- a sub-record, and the bytes behind it
 unfoldable pub sub_record_at : ℕ → List ℕ → Result (SubRecord × List ℕ) Flaw
