@@ -19,7 +19,7 @@ use Rattle.work_pair.specs.declared.stop.Stop.TheVariants.{TagSpent, OutOfMemory
 use Rattle.work_pair.specs.working.Asks.{MayTrade}
 use Rattle.work_pair.specs.working.Buffers.{places_of}
 use Rattle.work_pair.specs.working.Steps.{BalanceAnswers, Clears, ClearAnswers, Ends, EndsOut, FindsNone, GetAnswers}
-use Rattle.work_pair.specs.working.Steps.{PublishAnswers, PutAnswers, Trades}
+use Rattle.work_pair.specs.working.Steps.{PublishAnswers, PutAnswers, Trades, places}
 use Rattle.work_pair.proofs.Renewing.{out_alone}
 use Rattle.work_pair.proofs.Spilling.{beside, dealt_listed, listed, listed_sum, spilled, unspilled}
 use Rattle.work_pair.proofs.Trading.{backed_less, untouched}
@@ -46,6 +46,19 @@ by_rule i q moves r told = (
   refills_of (places_of i.buffers) (seen_as i) refl refl told.0 told.2 told.1 told.5,
   told.6,
 )
+
+-- the first place is as it was, so what the buffers tell from there on is told from their places before
+pub put_from : {A : Type 0} (m : Buffers A) {first : Option HeldBuffer} → first ≡ m.first → (object : ℕ) (b : Book)
+    (q : PairState) (c : Book) (r : Result Bool Stop) → PutAnswers object (places first m.second m.third) b q c r
+    → PutAnswers object (places_of m) b q c r
+put_from m same object b q c r told =
+    subst (λ (f : Option HeldBuffer). PutAnswers object (places f m.second m.third) b q c r) same told
+
+pub got_from : {A : Type 0} (m : Buffers A) {first : Option HeldBuffer} → first ≡ m.first → (b : Book) (q : PairState)
+    (c : Book) (r : Result (Option ℕ) Stop) → GetAnswers (places first m.second m.third) b q c r
+    → GetAnswers (places_of m) b q c r
+got_from m same b q c r told =
+    subst (λ (f : Option HeldBuffer). GetAnswers (places f m.second m.third) b q c r) same told
 
 -- a pair that a contract sees as v
 module _ {A : Type 0} {v : PairState} (i : Inside A) (is : seen_as i ≡ v) where

@@ -23,36 +23,16 @@ pub(crate) struct Buffers<A: Allocator> {
 impl<A: Allocator> Buffers<A> {
     ghost use Rattle.std.specs.Prelude.{◌≡◌, ◌≢◌, None, [], ◌∷◌};
     ghost use Rattle.mark_core.specs.Events.{IsBusy};
-    ghost use Rattle.work_pair.specs.PairState.{HasRoom, HasRoomAt, IsBacked, pair_items};
+    ghost use Rattle.work_pair.specs.PairState.{HasRoomAt, IsBacked, pair_items};
     ghost use Rattle.work_pair.specs.working.Asks.{MayTrade};
     ghost use Rattle.work_pair.specs.working.Buffers.{places_of};
     ghost use Rattle.work_pair.specs.working.Steps.{ClearAnswers, GetsObject, PutsObject, Takes};
 
-    /// Puts an object into the first buffer, or into the second, which is the first then, or into an empty one. False
-    /// where there is none: then nothing changes but the places of the two.
-    // The first nearly always has room, and a call would cost more than putting it there.
-    #[inline(always)]
-    pub(crate) fn put<R: Wait>(
-        &mut self,
-        rt: &R,
-        pool: &Pool<A>,
-        worker: &mut Worker<A>,
-        object: u32,
-    ) -> Result<bool, Stop>
-        requires { MayTrade worker.old pool.now (places_of self.old) (object ∷ []) }
-        ensures { PutsObject (HasRoom (places_of self.old)) object (places_of self.old) worker.old (places_of self.new)
-            worker.new result }
-    {
-        if put_at(&mut self.first, object) {
-            return Ok(true);
-        }
-        self.put_elsewhere(rt, pool, worker, object)
-    }
-
-    /// [`put`](Self::put) where the first buffer has no room.
+    /// Puts an object into the second buffer, which is the first then, or into an empty one, where the first has no
+    /// room. False where there is none: then nothing changes but the places of the two.
     // A call, so that the many that find room neither save registers for it nor clear its locals.
     #[inline(never)]
-    fn put_elsewhere<R: Wait>(
+    pub(crate) fn put_elsewhere<R: Wait>(
         &mut self,
         rt: &R,
         pool: &Pool<A>,
@@ -87,27 +67,9 @@ impl<A: Allocator> Buffers<A> {
 
     /// Takes an object from these buffers, or from those of the full stack. A buffer that was pushed there without
     /// items is passed over.
-    // The first nearly always has one, and a call would cost more than taking it.
-    #[inline(always)]
-    pub(crate) fn get<R: Wait>(
-        &mut self,
-        rt: &R,
-        pool: &Pool<A>,
-        worker: &mut Worker<A>,
-    ) -> Result<Option<u32>, Stop>
-        requires { MayTrade worker.old pool.now (places_of self.old) [] }
-        ensures { GetsObject (places_of self.old) worker.old (places_of self.new) worker.new result }
-    {
-        if let Some(object) = take_at(&mut self.first) {
-            return Ok(Some(object));
-        }
-        self.get_elsewhere(rt, pool, worker)
-    }
-
-    /// [`get`](Self::get), whatever the first buffer has.
     // A call, so that the many that find an object neither save registers for it nor clear its locals.
     #[inline(never)]
-    fn get_elsewhere<R: Wait>(
+    pub(crate) fn get_elsewhere<R: Wait>(
         &mut self,
         rt: &R,
         pool: &Pool<A>,

@@ -2,7 +2,7 @@
 ghost use Rattle.std.specs.Prelude.{◌≡◌, None};
 
 use crate::buffers::Buffers;
-use crate::place::{clear_at, count_at};
+use crate::place::{clear_at, count_at, put_at, take_at};
 use crate::steps::pop_one;
 use crate::stop::Stop;
 use buffer_pool::{Held, Pool, Which, Worker};
@@ -115,7 +115,8 @@ impl<A: Allocator> Pair<A> {
     /// Puts an object into the pair: into one of its buffers where that has room, and then the stacks are left alone,
     /// or into an empty one, or where none was found on the spill list. The object comes back where a last tag was
     /// loaded, or the list could not grow.
-    // For each white object, which nearly always goes into the first buffer: so that much stands at the caller.
+    // For each white object, which nearly always goes into the first buffer: so that much stands at the caller, and is
+    // no call that may wait, behind which a byte is tested.
     #[inline]
     pub fn put<R: Wait>(
         &mut self,
@@ -141,7 +142,10 @@ impl<A: Allocator> Pair<A> {
         ensures spent { IfErr result (λ e. e.1 ≡ TagSpent → (self.new.stopped ≡ true) × (self.new.starved
             ≡ self.old.starved)) }
     {
-        match self.buffers.put(rt, pool, worker, object) {
+        if put_at(&mut self.buffers.first, object) {
+            return Ok(());
+        }
+        match self.buffers.put_elsewhere(rt, pool, worker, object) {
             Ok(true) => Ok(()),
             Ok(false) => self.spill_over(object),
             Err(stop) => {
@@ -153,7 +157,7 @@ impl<A: Allocator> Pair<A> {
 
     /// Gets the last object of the spill list, or one from the buffers, or where the pair has none from a buffer of the
     /// full stack. `None` where none is left and that stack was seen empty.
-    // For each object, which nearly always comes from the first buffer: so that much stands at the caller.
+    // For each object, which nearly always comes from the first buffer: so that much stands at the caller, as in `put`.
     #[inline]
     pub fn get<R: Wait>(
         &mut self,
@@ -186,7 +190,10 @@ impl<A: Allocator> Pair<A> {
         if let Some(object) = self.spill.pop() {
             return Ok(Some(object));
         }
-        match self.buffers.get(rt, pool, worker) {
+        if let Some(object) = take_at(&mut self.buffers.first) {
+            return Ok(Some(object));
+        }
+        match self.buffers.get_elsewhere(rt, pool, worker) {
             Ok(got) => Ok(got),
             Err(stop) => {
                 self.stopped = true;

@@ -1,26 +1,67 @@
--- The last object of the list, or what the buffers tell of a get, told of the pair.
-use Rattle.std.proofs.Common.{◌∙◌, [], ◌∷◌, length, ap, sym, arith}
+-- The last object of the list, or one of the first buffer, which is got without a trade; where that has none all is as
+-- it was for the call behind, and what that tells is told of the pair.
+use Rattle.std.proofs.Common.{◌∙◌, [], ◌∷◌, Err, Ok, Some, length, ap, refl, sym, arith}
 use Rattle.std.proofs.lemmas.List.{append-nil}
 use Rattle.work_pair.specs.PairState.{PairState}
+use Rattle.work_pair.specs.declared.buffers.Buffers.{Buffers}
+use Rattle.work_pair.specs.working.Buffers.{places_of}
 use Rattle.work_pair.proofs.Calls.{none_last}
-use Rattle.work_pair.proofs.Pairs.{get_stops, gets_told, got_told, may_trade, none_told, takes_last}
-use Rattle.work_pair.proofs.Trading.{none_in}
+use Rattle.work_pair.proofs.Getting.{got}
+use Rattle.work_pair.proofs.Locals.{taken_first}
+use Rattle.work_pair.proofs.Pairs.{get_stops, gets_told, got_from, got_told, may_trade, none_told, takes_last}
+use Rattle.work_pair.proofs.Trading.{none_in, untouched}
 use Rattle.work_pair.proofs.pair.Pair.get.Goals as goal
 
-pub get-requires : goal.get-requires
-get-requires g c =
-    may_trade c.self.inside c.self.view_is c.requires.pool c.requires.going c.requires.backed c.requires.busy
+pub get_elsewhere-requires : goal.get_elsewhere-requires
+get_elsewhere-requires g c =
+    rw c.in_default-take_at.ensures.1
+    (may_trade c.self.inside c.self.view_is c.requires.pool c.requires.going c.requires.backed c.requires.busy)
 
 pub returns-in-Some-clause-got : goal.returns-in-Some-clause-got
 returns-in-Some-clause-got g c =
     takes_last c.self.inside c.self.view_is c.pop.new.self.items c.in-Some.object c.in-Some.ensures.items
     c.requires.going c.args.worker.now.book c.requires.backed
 
+pub returns-in-Some-take_at-clause-got : goal.returns-in-Some-take_at-clause-got
+returns-in-Some-take_at-clause-got g c =
+    let i = c.self.inside in
+    let n = c.pop.new.self.items in
+    let b = c.args.worker.now.book in
+    let m = i.buffers in
+    let place = c.take_at.new.place in
+    let o = c.in-Some-take_at.object in
+    let may = may_trade i c.self.view_is {w = c.args.worker.now} c.requires.pool c.requires.going c.requires.backed
+    c.requires.busy in
+    let left : Buffers _ = record m { first = place } in
+    let told = got may.backed m (untouched may.backed.sized) may.third [] (refl, refl, refl) left o
+    (taken_first m.first m.second m.third place o c.in-Some-take_at.ensures) in
+    got_told i c.self.view_is b left b c.requires.backed n (sym (c.in_default.ensures.items ∙ append-nil n))
+    c.requires.going (Some o) told
+
+pub returns-in-Some-take_at-clause-gets : goal.returns-in-Some-take_at-clause-gets
+returns-in-Some-take_at-clause-gets g c none =
+    let i = c.self.inside in
+    let n = c.pop.new.self.items in
+    let b = c.args.worker.now.book in
+    let m = i.buffers in
+    let place = c.take_at.new.place in
+    let o = c.in-Some-take_at.object in
+    let may = may_trade i c.self.view_is {w = c.args.worker.now} c.requires.pool c.requires.going c.requires.backed
+    c.requires.busy in
+    let left : Buffers _ = record m { first = place } in
+    let told = got may.backed m (untouched may.backed.sized) may.third [] (refl, refl, refl) left o
+    (taken_first m.first m.second m.third place o c.in-Some-take_at.ensures) in
+    gets_told i c.self.view_is b left b c.requires.backed n (sym (c.in_default.ensures.items ∙ append-nil n))
+    c.requires.going (Some o) told
+
 pub returns-in-Ok-clause-got : goal.returns-in-Ok-clause-got
 returns-in-Ok-clause-got g c =
+    let told = got_from c.self.inside.buffers c.in_default-take_at.ensures.1 c.args.worker.now.book
+    (places_of c.get_elsewhere.new.self) c.get_elsewhere.new.worker.book (Ok _) c.in-Ok.ensures.gets in
     let m = c.pop.new.self.items in
-    got_told c.self.inside c.self.view_is c.args.worker.now.book c.get.new.self c.get.new.worker.book c.requires.backed
-    m (sym (c.in_default.ensures.items ∙ append-nil m)) c.requires.going c.in-Ok.got c.in-Ok.ensures.gets
+    got_told c.self.inside c.self.view_is c.args.worker.now.book c.get_elsewhere.new.self
+    c.get_elsewhere.new.worker.book c.requires.backed m (sym (c.in_default.ensures.items ∙ append-nil m))
+    c.requires.going c.in-Ok.got told
 
 pub returns-in-Some-clause-gets : goal.returns-in-Some-clause-gets
 returns-in-Some-clause-gets g c none =
@@ -30,20 +71,27 @@ returns-in-Some-clause-gets g c none =
 
 pub returns-in-Ok-clause-gets : goal.returns-in-Ok-clause-gets
 returns-in-Ok-clause-gets g c none =
+    let told = got_from c.self.inside.buffers c.in_default-take_at.ensures.1 c.args.worker.now.book
+    (places_of c.get_elsewhere.new.self) c.get_elsewhere.new.worker.book (Ok _) c.in-Ok.ensures.gets in
     let m = c.pop.new.self.items in
-    gets_told c.self.inside c.self.view_is c.args.worker.now.book c.get.new.self c.get.new.worker.book
-    c.requires.backed m (sym (c.in_default.ensures.items ∙ append-nil m)) c.requires.going c.in-Ok.got
-    c.in-Ok.ensures.gets
+    gets_told c.self.inside c.self.view_is c.args.worker.now.book c.get_elsewhere.new.self
+    c.get_elsewhere.new.worker.book c.requires.backed m (sym (c.in_default.ensures.items ∙ append-nil m))
+    c.requires.going c.in-Ok.got told
 
 pub returns-in-Ok-clause-none : goal.returns-in-Ok-clause-none
 returns-in-Ok-clause-none g c =
+    let told = got_from c.self.inside.buffers c.in_default-take_at.ensures.1 c.args.worker.now.book
+    (places_of c.get_elsewhere.new.self) c.get_elsewhere.new.worker.book (Ok _) c.in-Ok.ensures.gets in
     let m = c.pop.new.self.items in
-    none_told c.self.inside c.self.view_is c.args.worker.now.book c.get.new.self c.get.new.worker.book c.requires.backed
-    m (sym (c.in_default.ensures.items ∙ append-nil m)) c.requires.going
-    (none_in m (omega (arith, c.in_default.ensures.cases.1))) c.in-Ok.got c.in-Ok.ensures.gets
+    none_told c.self.inside c.self.view_is c.args.worker.now.book c.get_elsewhere.new.self
+    c.get_elsewhere.new.worker.book c.requires.backed m (sym (c.in_default.ensures.items ∙ append-nil m))
+    c.requires.going (none_in m (omega (arith, c.in_default.ensures.cases.1))) c.in-Ok.got told
 
 pub returns-in-Err-clause-spent : goal.returns-in-Err-clause-spent
 returns-in-Err-clause-spent g c =
+    let told = got_from c.self.inside.buffers c.in_default-take_at.ensures.1 c.args.worker.now.book
+    (places_of c.get_elsewhere.new.self) c.get_elsewhere.new.worker.book (Err _) c.in-Err.ensures.gets in
     let m = c.pop.new.self.items in
-    get_stops c.self.inside c.self.view_is c.args.worker.now.book c.get.new.self c.get.new.worker.book c.requires.backed
-    m (sym (c.in_default.ensures.items ∙ append-nil m)) c.in-Err.stop c.in-Err.ensures.gets
+    get_stops c.self.inside c.self.view_is c.args.worker.now.book c.get_elsewhere.new.self
+    c.get_elsewhere.new.worker.book c.requires.backed m (sym (c.in_default.ensures.items ∙ append-nil m))
+    c.in-Err.stop told

@@ -1,5 +1,6 @@
--- What the buffers tell of an object that was put; where there was no buffer for it, it went to the list.
-use Rattle.std.proofs.Common.{◌≡◌, ℕ, true, [], ◌∷◌, ◌++◌, ap, refl}
+-- The first buffer has room and takes the object in. Where it has none all is as it was for the call behind: what that
+-- tells of the object, and where there was no buffer for it, it went to the list.
+use Rattle.std.proofs.Common.{◌≡◌, ℕ, true, [], ◌∷◌, ◌++◌, Err, Ok, ap, inl, refl}
 use Rattle.mark_core.specs.declared.which.Which.TheVariants.{Empty}
 use Rattle.work_pair.specs.Deals.{Deals, DealsOut, Puts}
 use Rattle.work_pair.specs.Moves.{FoundNone}
@@ -7,53 +8,80 @@ use Rattle.work_pair.specs.PairState.{PairState, AreAlike, IsOpen}
 use Rattle.work_pair.specs.declared.stop.Stop.{Stop}
 use Rattle.work_pair.specs.declared.stop.Stop.TheVariants.{OutOfMemory}
 use Rattle.work_pair.specs.working.Buffers.{places_of}
-use Rattle.work_pair.proofs.Pairs.{as_before, if_spilled, if_starved, may_trade, puts, spills, starves, still_open}
-use Rattle.work_pair.proofs.Pairs.{stops}
+use Rattle.work_pair.proofs.Locals.{put_first}
+use Rattle.work_pair.proofs.Pairs.{as_before, if_spilled, if_starved, may_trade, put_from, puts, spills, starves}
+use Rattle.work_pair.proofs.Pairs.{still_open, stops}
 use Rattle.work_pair.proofs.Renewing.{out_alone}
 use Rattle.work_pair.proofs.Spilling.{listed}
-use Rattle.work_pair.proofs.Trading.{backed_less}
+use Rattle.work_pair.proofs.Trading.{backed_less, still}
 use Rattle.work_pair.proofs.pair.Pair.put.Goals as goal
 
-pub put-requires : goal.put-requires
-put-requires g c =
-    may_trade c.self.inside c.self.view_is c.requires.pool c.requires.going c.requires.backed c.requires.busy
+pub returns-then-put_at-clause-put : goal.returns-then-put_at-clause-put
+returns-then-put_at-clause-put g c =
+    let i = c.self.inside in
+    let b = c.args.worker.now.book in
+    let put = c.if-put_at.ensures.put in
+    let may = may_trade i c.self.view_is {w = c.args.worker.now} c.requires.pool c.requires.going c.requires.backed
+    c.requires.busy in
+    puts i c.self.view_is b (record i.buffers { first = c.put_at.new.place }) b c.requires.going c.args.object
+    c.requires.backed (
+      still (put_first put.1 put.2) may.backed.sized,
+      may.third,
+      λ pop. pop,
+      inl (inl c.if-put_at.ensures.had_room, refl),
+    )
+    refl
+
+pub put_elsewhere-requires-clause-may : goal.put_elsewhere-requires-clause-may
+put_elsewhere-requires-clause-may g c =
+    rw c.if-put_at.ensures.full
+    (may_trade c.self.inside c.self.view_is c.requires.pool c.requires.going c.requires.backed c.requires.busy)
 
 pub returns-in-Ok-true-clause-put : goal.returns-in-Ok-true-clause-put
 returns-in-Ok-true-clause-put g c =
-    puts c.self.inside c.self.view_is c.args.worker.now.book c.put.new.self c.put.new.worker.book c.requires.going
-    c.args.object c.requires.backed c.in-Ok-true.ensures.puts c.in-Ok-true.field-0-test
+    let told = put_from c.self.inside.buffers c.if-put_at.ensures.full c.args.object c.args.worker.now.book
+    (places_of c.put_elsewhere.new.self) c.put_elsewhere.new.worker.book (Ok _) c.in-Ok-true.ensures.puts in
+    puts c.self.inside c.self.view_is c.args.worker.now.book c.put_elsewhere.new.self c.put_elsewhere.new.worker.book
+    c.requires.going c.args.object c.requires.backed told c.in-Ok-true.field-0-test
 
 pub returns-in-Ok-false-clause-put : goal.returns-in-Ok-false-clause-put
 returns-in-Ok-false-clause-put g c =
+    let answer = put_from c.self.inside.buffers c.if-put_at.ensures.full c.args.object c.args.worker.now.book
+    (places_of c.put_elsewhere.new.self) c.put_elsewhere.new.worker.book (Ok _) c.in-Ok-false.ensures.puts in
     let i = c.self.inside in
     let b = c.args.worker.now.book in
-    let after = c.put.new.worker.book in
+    let after = c.put_elsewhere.new.worker.book in
     let object = c.args.object in
     let items = i.spill.items ++ object ∷ [] in
-    if_spilled c.spill_over.result c.spill_over.new.self (listed (places_of c.put.new.self) items i.stopped i.starved)
+    if_spilled c.spill_over.result c.spill_over.new.self
+    (listed (places_of c.put_elsewhere.new.self) items i.stopped i.starved)
     (λ (w : PairState). Puts c.args.self.now b object w after) c.spill_over.ensures.spilled
-    (spills i c.self.view_is b c.put.new.self after c.requires.going object c.requires.backed
-    c.in-Ok-false.ensures.puts c.in-Ok-false.field-0-test items refl)
+    (spills i c.self.view_is b c.put_elsewhere.new.self after c.requires.going object c.requires.backed
+    answer c.in-Ok-false.field-0-test items refl)
 
 pub returns-in-Ok-false-clause-back : goal.returns-in-Ok-false-clause-back
 returns-in-Ok-false-clause-back g c =
+    let answer = put_from c.self.inside.buffers c.if-put_at.ensures.full c.args.object c.args.worker.now.book
+    (places_of c.put_elsewhere.new.self) c.put_elsewhere.new.worker.book (Ok _) c.in-Ok-false.ensures.puts in
     let i = c.self.inside in
     let b = c.args.worker.now.book in
-    let after = c.put.new.worker.book in
-    let told = starves i c.self.view_is b c.put.new.self after c.requires.going c.args.object c.requires.backed
-    c.in-Ok-false.ensures.puts c.in-Ok-false.field-0-test i.spill.items refl in
+    let after = c.put_elsewhere.new.worker.book in
+    let told = starves i c.self.view_is b c.put_elsewhere.new.self after c.requires.going c.args.object
+    c.requires.backed answer c.in-Ok-false.field-0-test i.spill.items refl in
     if_starved c.spill_over.result c.spill_over.new.self
-    (listed (places_of c.put.new.self) i.spill.items i.stopped true) (c.args.object, OutOfMemory)
+    (listed (places_of c.put_elsewhere.new.self) i.spill.items i.stopped true) (c.args.object, OutOfMemory)
     (λ (e : ℕ × Stop) (w : PairState). (e.0 ≡ c.args.object) × (w.spill ≡ c.args.self.now.spill)
     × DealsOut c.args.self.now b w after) c.spill_over.ensures.starved
     (refl, ap (λ (w : PairState). w.spill) c.self.view_is, (told.0, out_alone told.0.moves told.1))
 
 pub returns-in-Ok-false-clause-no_memory : goal.returns-in-Ok-false-clause-no_memory
 returns-in-Ok-false-clause-no_memory g c =
+    let answer = put_from c.self.inside.buffers c.if-put_at.ensures.full c.args.object c.args.worker.now.book
+    (places_of c.put_elsewhere.new.self) c.put_elsewhere.new.worker.book (Ok _) c.in-Ok-false.ensures.puts in
     let i = c.self.inside in
     let b = c.args.worker.now.book in
-    let q = c.put.new.self in
-    let after = c.put.new.worker.book in
+    let q = c.put_elsewhere.new.self in
+    let after = c.put_elsewhere.new.worker.book in
     let items = i.spill.items in
     if_starved c.spill_over.result c.spill_over.new.self (listed (places_of q) items i.stopped true)
     (c.args.object, OutOfMemory)
@@ -62,18 +90,20 @@ returns-in-Ok-false-clause-no_memory g c =
     c.spill_over.ensures.starved
     (λ starved. (
       still_open i c.self.view_is b q after c.requires.going c.args.object c.requires.backed
-          c.in-Ok-false.ensures.puts c.in-Ok-false.field-0-test items,
+          answer c.in-Ok-false.field-0-test items,
       as_before i c.self.view_is b q after c.requires.going c.args.object c.requires.backed
-          c.in-Ok-false.ensures.puts c.in-Ok-false.field-0-test items refl,
+          answer c.in-Ok-false.field-0-test items refl,
       refl,
       starves i c.self.view_is b q after c.requires.going c.args.object c.requires.backed
-          c.in-Ok-false.ensures.puts c.in-Ok-false.field-0-test items refl,
+          answer c.in-Ok-false.field-0-test items refl,
     ))
 
 pub returns-in-Err-clause-back : goal.returns-in-Err-clause-back
 returns-in-Err-clause-back g c =
+    let answer = put_from c.self.inside.buffers c.if-put_at.ensures.full c.args.object c.args.worker.now.book
+    (places_of c.put_elsewhere.new.self) c.put_elsewhere.new.worker.book (Err _) c.in-Err.ensures.puts in
     let b = c.args.worker.now.book in
     let backed = backed_less c.args.self.now (c.args.object ∷ []) b c.requires.backed in
-    let told = stops c.self.inside c.self.view_is b c.put.new.self c.put.new.worker.book backed c.in-Err.stop
-    c.in-Err.ensures.puts in
+    let told = stops c.self.inside c.self.view_is b c.put_elsewhere.new.self c.put_elsewhere.new.worker.book backed
+    c.in-Err.stop answer in
     (refl, ap (λ (w : PairState). w.spill) c.self.view_is, told.2)
