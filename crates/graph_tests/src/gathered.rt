@@ -181,3 +181,98 @@ fn parts_or_want_of_memory(rt: HostRuntime) -> Result<(), Fail> {
     }
     Ok(())
 }
+
+/// How many requests for memory one thread makes to read these objects and to make their graph. None where it is wrong.
+fn requests_of<T: Threads + Sync>(rt: &T, alloc: Global, ids: &[u32]) -> Option<u64> {
+    let heap = LimitedHeap::new(alloc, u64::MAX);
+    match is_right(rt, alloc, &heap, ids, 1) {
+        Some(true) => Some(u64::MAX - heap.requests_left()),
+        _ => None,
+    }
+}
+
+/// What it takes for identifiers that agree in their lowest three bits, for others that do, and for those of which the
+/// last one does not.
+fn requests_by_bits<T: Threads + Sync>(
+    rt: &T,
+    alloc: Global,
+    order: Order,
+) -> Result<[Option<u64>; 3], AllocError> {
+    let agree = ids_of(alloc, order, MOST, MOST)?;
+    let mut others = ids_of(alloc, order, MOST, MOST)?;
+    for id in &mut others {
+        *id = id.wrapping_add(4);
+    }
+    let odd = ids_of(alloc, order, MOST, MOST - 1)?;
+    Ok([
+        requests_of(rt, alloc, &agree),
+        requests_of(rt, alloc, &others),
+        requests_of(rt, alloc, &odd),
+    ])
+}
+
+/// Identifiers that agree in their lowest bits, whichever these are, are gathered once.
+#[test]
+fn gathered_once(rt: HostRuntime) -> Result<(), Fail> {
+    for order in ORDERS {
+        let [agree, others, odd] = requests_by_bits(&rt, rt.alloc(), order)?;
+        assert!(rt; agree.is_some() && agree == others, "order {order:?}");
+        assert!(rt; agree < odd, "order {order:?}");
+    }
+    Ok(())
+}
+
+/// Whether the dump is read over this heap.
+fn is_read<T: Threads + Sync>(
+    team: &Team<'_, T>,
+    heap: &LimitedHeap<Global>,
+    bytes: &[u8],
+) -> bool {
+    read(team, heap, bytes).is_ok()
+}
+
+/// How many requests for memory a team of so many threads makes to read the dump of these objects.
+fn requests_to_read<T: Threads + Sync>(
+    rt: &T,
+    alloc: Global,
+    ids: &[u32],
+    threads: u32,
+) -> Result<u64, AllocError> {
+    let file = dump(alloc, ids)?;
+    let heap = LimitedHeap::new(alloc, u64::MAX);
+    let _read = is_read(
+        &Team::sharing_from(rt, threads, 1),
+        &heap,
+        file.bytes.as_slice(),
+    );
+    Ok(u64::MAX - heap.requests_left())
+}
+
+/// Whether the graph is right where the first request behind the reading is refused alone. None where memory is missing
+/// then.
+fn is_right_without_the_first<T: Threads + Sync>(
+    rt: &T,
+    alloc: Global,
+    ids: &[u32],
+    threads: u32,
+) -> Result<Option<bool>, AllocError> {
+    let first = requests_to_read(rt, alloc, ids, threads)?;
+    Ok(is_right(
+        rt,
+        alloc,
+        &LimitedHeap::refusing(alloc, first),
+        ids,
+        threads,
+    ))
+}
+
+/// Want of memory for the parts is no refusal: the calling thread gathers all then, and so it can be told who gathered.
+#[test]
+fn parts_are_used(rt: HostRuntime) -> Result<(), Fail> {
+    let ids = ids_of(rt.alloc(), (3, 5), MOST, MOST)?;
+    for (threads, wanted) in [(1, None), (2, Some(true)), (4, Some(true))] {
+        let right = is_right_without_the_first(&rt, rt.alloc(), ids.as_slice(), threads)?;
+        assert_eq!(rt; right, wanted, "{threads} threads");
+    }
+    Ok(())
+}
