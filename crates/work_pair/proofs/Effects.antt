@@ -99,10 +99,20 @@ moves_effect (move ∷ moves) old new p =
     let add = λ (n : ℕ) (xs ys : List ℕ). sum_of-append (only n) xs ys in
     record {
       kept = grind arith;
-      charge = λ o. omega (arith, one.charge o, more.charge o, add o (given_items move) (pushed_items moves),
-          add o (taken_items move) (popped_items moves));
-      held = λ i. omega (arith, one.held i, more.held i, add i (given_number move) (pushed_numbers moves),
-          add i (taken_number move) (popped_numbers moves));
+      charge = λ o. omega (
+        arith,
+        one.charge o,
+        more.charge o,
+        add o (given_items move) (pushed_items moves),
+        add o (taken_items move) (popped_items moves),
+      );
+      held = λ i. omega (
+        arith,
+        one.held i,
+        more.held i,
+        add i (given_number move) (pushed_numbers moves),
+        add i (taken_number move) (popped_numbers moves),
+      );
       fulls = omega (arith, one.fulls, more.fulls);
       empties = omega (arith, one.empties, more.empties);
     }
