@@ -2,11 +2,11 @@
 //! ask what callers may ask. The crate has nothing to hand out.
 //!
 //! `worked` has dumps with the graphs that they have to give, `skipped` those of which some fields are not followed,
-//! `chains` and `faults` dumps that are not linked, with the first fault of each, `faults_in_parts` large ones, `gathered` small
-//! ones that are gathered in parts all the same. `graphs` asks a graph all that it tells, `walks` what is left of a
-//! walk, `kinds` what a visit is by the kind of its object, `memory` refuses each request in turn. `skips` holds the
-//! texts that are lists of fields, `met` which of their entries a dump meets (`refused` refuses the requests of both),
-//! `texts` how a refusal is shown, `sizes` how large a visit is.
+//! `chains` and `faults` dumps that are not linked, with the first fault of each, `faults_in_parts` large ones,
+//! `gathered` small ones that are gathered in parts all the same. `graphs` asks a graph all that it tells, `walks` what
+//! is left of a walk, `kinds` what a visit is by the kind of its object, `memory` refuses each request in turn. `skips`
+//! holds the texts that are lists of fields, `met` which of their entries a dump meets (`refused` refuses the requests
+//! of both), `texts` how a refusal is shown, `sizes` how large a visit is.
 
 #![tactic(auto)]
 
