@@ -70,8 +70,8 @@ fn narrowed(runs: &[Run], begin: usize, end: usize, near: usize, page: u64) -> (
 }
 
 /// Where the first of ascending runs stands whose page is not below that one, if it stands between two ends or at the
-/// second. It is looked for from a guess on: any guess gives the same run, a good one gives it sooner. That takes at most
-/// `WALKING` looks where there are few runs, and `NARROWING` more where there are many.
+/// second. It is looked for from a guess on: any guess gives the same run, a good one gives it sooner. That takes at
+/// most `WALKING` looks where there are few runs, and `NARROWING` more where there are many.
 pub(crate) fn first_from(runs: &[Run], begin: usize, end: usize, near: usize, page: u64) -> usize
     requires rise { DoPagesRise runs.now }
     requires around { IsAround runs.now page begin end }
