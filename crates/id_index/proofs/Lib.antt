@@ -13,3 +13,4 @@ pub mod Telling
 pub mod Repeating
 pub mod Aligning
 pub mod Joining
+pub mod Pairing

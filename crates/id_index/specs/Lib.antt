@@ -4,3 +4,4 @@ pub mod Repeats
 pub mod Building
 pub mod Settling
 pub mod Aligned
+pub mod Pairs

@@ -6,6 +6,7 @@ ghost use Rattle.std.specs.Prelude.{◌==◌, ◌≡◌, ◌↔◌, ◌%◌, ◌
 ghost use Rattle.id_index.specs.Repeats.{IsFirstRepeat};
 
 use crate::builder::RunIndexBuilder;
+use crate::pairs::PairIndex;
 use crate::run_index::RunIndex;
 use std::alloc::{AllocError, Allocator};
 use std::marker::Model;
@@ -23,7 +24,10 @@ pub struct LowBits {
 /// first object that bears it. No look-up takes memory.
 #[derive(Drop)]
 pub struct IdIndex<A: Allocator> {
+    /// By runs, if there are no pairs.
     runs: RunIndex<A>,
+    /// By pairs of identifier and number.
+    pairs: Option<PairIndex<A>>,
     bits: LowBits,
     /// The lowest `bits.shift` bits, set: made once, not for each look-up.
     mask: u64,
@@ -31,11 +35,11 @@ pub struct IdIndex<A: Allocator> {
 
 impl<A: Allocator> Model for IdIndex<A> {
     ghost use Rattle.std.specs.Prelude.{List, ℕ, ◌-◌, ◌<◌, ◌^◌, ◌≡◌};
-    ghost use Rattle.id_index.specs.Aligned.{whole_ids};
+    ghost use Rattle.id_index.specs.Aligned.{ids_held, whole_ids};
 
     ghost Value = { List ℕ };
 
-    ghost view = { λ i. whole_ids i.bits.shift i.bits.low i.runs };
+    ghost view = { λ i. whole_ids i.bits.shift i.bits.low (ids_held i.pairs i.runs) };
 
     ghost invariant = { λ i. record {
       shifted : i.bits.shift < 64;
@@ -54,7 +58,10 @@ impl<A: Allocator> IdIndex<A> {
         if id & self.mask != self.bits.low {
             return None;
         }
-        self.runs.find(id >> self.bits.shift)
+        match &self.pairs {
+            Some(pairs) => return pairs.find(id >> self.bits.shift),
+            None => return self.runs.find(id >> self.bits.shift),
+        }
     }
 
     /// Whether an object before that number bears the identifier.
@@ -72,7 +79,10 @@ impl<A: Allocator> IdIndex<A> {
     pub fn first_repeat(&self) -> usize
         ensures { IsFirstRepeat self.now result }
     {
-        self.runs.first_repeat()
+        match &self.pairs {
+            Some(pairs) => return pairs.first_repeat(),
+            None => return self.runs.first_repeat(),
+        }
     }
 }
 
@@ -152,11 +162,27 @@ impl<A: Allocator> IdIndexBuilder<A> {
     /// The index of these objects. `AllocError` where memory is refused: for the last run, for sorting the runs, or for
     /// the table in front of them, which is taken from `alloc`.
     pub fn finish(self, alloc: A) -> Result<IdIndex<A>, AllocError>
+    where
+        A: Copy,
         ensures { IfOk result (λ index. index ≡ self.ids) }
     {
-        let bits = self.bits;
-        let runs = self.runs.finish(alloc)?;
+        let (bits, mut built) = (self.bits, self.runs);
         let mask = (1 << bits.shift) - 1;
-        Ok(IdIndex { runs, bits, mask })
+        if let Some(pairs) = built.pairs(alloc)? {
+            let runs = RunIndexBuilder::new(alloc).finish(alloc)?;
+            return Ok(IdIndex {
+                runs,
+                pairs: Some(pairs),
+                bits,
+                mask,
+            });
+        }
+        let runs = built.finish(alloc)?;
+        Ok(IdIndex {
+            runs,
+            pairs: None,
+            bits,
+            mask,
+        })
     }
 }

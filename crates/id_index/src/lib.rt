@@ -5,6 +5,9 @@
 //! object, and a word with a bit for each place where it has an object. So an object's number is that of the run's
 //! first one and how many bits are set below its place.
 //!
+//! If runs come in no order and stand close together, no run is sorted: there are pairs of identifier and number in
+//! ascending order, which are looked at once more after they are placed (`pairs`).
+//!
 //! `index` has the public calls: it leaves out the lowest bits where all identifiers agree in them, and asks
 //! `run_index`. `builder` makes the runs one object after the other. Then they are sorted (`sorting`), the first
 //! identifier that repeats is looked for (`repeats`), and the runs that say something new are told from the others
@@ -18,6 +21,7 @@ mod index;
 mod look_up;
 mod looks;
 mod pages;
+mod pairs;
 mod repeats;
 mod run_index;
 mod runs;

@@ -43,7 +43,7 @@ fn first_bits(view: &View<'_>, places: &[u32]) -> LowBits
 /// All bits of identifiers.
 const ALL_BITS: LowBits = LowBits { shift: 0, low: 0 };
 
-impl<A: Allocator> Indexed<A> {
+impl<A: Allocator + Copy> Indexed<A> {
     /// The objects that were gathered.
     fn of(alloc: A, gathered: Gathered<A>) -> Result<Self, AllocError>
         ensures { IfOk result (λ indexed. (indexed.index ≡ gathered.ids.ids)
