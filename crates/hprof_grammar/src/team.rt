@@ -1,6 +1,6 @@
 //! A runtime, and how many threads it gives to a piece of work.
 
-ghost use Rattle.std.specs.Prelude.{◌<◌};
+ghost use Rattle.std.specs.Prelude.{max, ◌*◌, ◌<◌, ◌≡◌, ◌≤◌};
 
 use std::thread::{Threads, available_parallelism};
 
@@ -21,12 +21,16 @@ impl<'r, T: Threads> Threads for Team<'r, T> {}
 
 impl<'r, T: Threads> Team<'r, T> {
     /// A team of that many threads. With one or none the calling thread does all of the work.
-    pub fn new(rt: &'r T, threads: u32) -> Team<'r, T> {
+    pub fn new(rt: &'r T, threads: u32) -> Team<'r, T>
+        ensures { result.threads ≡ threads }
+    {
         Team::sharing_from(rt, threads, FEWEST_IN_PARTS)
     }
 
     /// A team of that many threads, or of as many as the system grants processors, where it tells of fewer.
-    pub fn at_most(rt: &'r T, threads: u32) -> Team<'r, T> {
+    pub fn at_most(rt: &'r T, threads: u32) -> Team<'r, T>
+        ensures { result.threads ≤ threads }
+    {
         let granted = match available_parallelism(rt) {
             Ok(processors) => u32::try_from(processors.get()).unwrap_or(u32::MAX),
             Err(_) => u32::MAX,
@@ -35,7 +39,9 @@ impl<'r, T: Threads> Team<'r, T> {
     }
 
     /// A team of that many threads that shares out work on so many objects or more.
-    pub fn sharing_from(rt: &'r T, threads: u32, fewest: u32) -> Team<'r, T> {
+    pub fn sharing_from(rt: &'r T, threads: u32, fewest: u32) -> Team<'r, T>
+        ensures { result.threads ≡ threads }
+    {
         Team {
             rt,
             threads,
@@ -52,7 +58,8 @@ impl<'r, T> Team<'r, T> {
 
     /// How long each part of a piece of work of that length is, so that each thread has one.
     pub fn part_of(&self, length: usize) -> usize
-        ensures { 0 < result }
+        ensures some { 0 < result }
+        ensures few { length ≤ max self.now.threads 1 * result }
     {
         length.div_ceil(self.threads.max(1) as usize).max(1)
     }
