@@ -2,7 +2,7 @@
 
 use super::dumps::{Sample, TWO_OBJECTS_REPORT};
 use super::program::{Asked, answered_on};
-use crate::{Counted, process, start};
+use crate::{Counted, process};
 use std::alloc::{AllocError, Global};
 use std::env::{Env, FillError};
 use std::io;
@@ -88,7 +88,7 @@ fn answered<T: AllocGlobal + Files + Threads + Wait + Sync>(
         shown: Vec::new(rt.alloc()),
         is_terminal,
     };
-    let status = start(rt, &Words { words }, &mut out, &mut err);
+    let status = process(rt, &Words { words }, &mut out, &mut err);
     let is_told = err.shown.as_slice() == told.as_bytes();
     (status, out.into_inner().is_empty(), is_told)
 }
@@ -130,7 +130,7 @@ fn reported_of<T: AllocGlobal + Files + Threads + Wait + Sync>(
         shown: Vec::new(rt.alloc()),
         is_terminal,
     };
-    let status = start(rt, &Words { words }, &mut out, &mut err);
+    let status = process(rt, &Words { words }, &mut out, &mut err);
     (status, out.into_inner().as_slice() == report.as_bytes())
 }
 
@@ -195,7 +195,8 @@ static LINES: [(&str, u8, &str); 7] = [
 /// A file is reported, and each word behind it counts, whoever reads standard error.
 #[test]
 fn a_line_is_answered_to_its_end(rt: HostRuntime) {
-    let (name, sample) = ("heapmark_process.hprof", Sample::TwoObjects);
+    // The blanks are part of the name.
+    let (name, sample) = ("heapmark process .hprof ", Sample::TwoObjects);
     for (line, want, report) in LINES {
         for is_terminal in [false, true] {
             let asked = Asked::Process(is_terminal, report);

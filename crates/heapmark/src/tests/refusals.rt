@@ -43,6 +43,22 @@ fn told(alloc: Global, refusal: &Refusal, want: &str) -> (u8, bool) {
     (status, err.as_slice() == want.as_bytes())
 }
 
+/// Whether a refusal of this code, without a place, is printed by its code and this name, with status 1.
+fn is_printed(alloc: Global, code: u8, name: &str) -> bool {
+    let refusal = Refusal { code, offset: None };
+    match format!(in alloc; "heapmark: refused {code} {name}\n") {
+        Ok(want) => told(alloc, &refusal, want.as_str()) == (1, true),
+        Err(_) => false,
+    }
+}
+
+#[test]
+fn each_code_is_printed(rt: HostRuntime) {
+    for (code, name) in NAMES {
+        assert!(rt; is_printed(rt.alloc(), code, name), "{name}");
+    }
+}
+
 #[test]
 fn refusals_are_printed_by_code_name_and_place(rt: HostRuntime) {
     let too_large = Refusal {

@@ -7,6 +7,7 @@ use crate::tests::dumps::{Record, Sample};
 use crate::tests::program::{Asked, answered_on};
 use crate::tests::rows::{Line, report_of};
 use crate::tests::texts::VERSION;
+use std::alloc::{AllocError, Global};
 use std::env::Env;
 use std::rt::Files;
 use std::sync::Wait;
@@ -131,6 +132,39 @@ fn entries_that_name_no_field_are_told(rt: HostRuntime) {
         assert!(rt; is_told(&rt, case, true, told), "{list}");
         assert!(rt; is_told(&rt, case, false, ""), "{list}, no terminal");
     }
+}
+
+/// A line with a list of 25,000 bytes, of which the last entry is the one that counts.
+fn long_line(alloc: Global) -> Result<String, AllocError> {
+    let mut line = String::new(alloc);
+    line.push_str("FILE --skip ")?;
+    for _ in 0..5_000 {
+        line.push_str("long/")?;
+    }
+    line.push_str("T.referent,java/lang/ref/Reference.referent")?;
+    Ok(line)
+}
+
+/// Whether the process answers that line by the report without the fields of the last entry.
+fn long_line_is_read<T: AllocGlobal + Env + Files + Threads + Wait + Sync>(
+    rt: &T,
+    is_terminal: bool,
+) -> bool {
+    let Ok(report) = report_of(rt.alloc(), SUPERCLASS_SKIPPED) else {
+        return false;
+    };
+    let Ok(line) = long_line(rt.alloc()) else {
+        return false;
+    };
+    let (name, sample) = ("heapmark_long_line.hprof", Sample::Records(4, REFERENCES));
+    let asked = Asked::Process(is_terminal, report.as_str());
+    answered_on(rt, name, sample, line.as_str(), asked) == Some((0, true, true))
+}
+
+#[test]
+fn a_long_word_is_read_to_its_end(rt: HostRuntime) {
+    assert!(rt; long_line_is_read(&rt, false));
+    assert!(rt; long_line_is_read(&rt, true), "a terminal");
 }
 
 /// A list that is refused has its own second line, and nothing is read where the version is asked for.
