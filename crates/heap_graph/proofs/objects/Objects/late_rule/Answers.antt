@@ -1,7 +1,13 @@
 -- The object at the place is of the kind that was read there, so the rules of that kind are those that it is tested by.
-use Rattle.heap_graph.proofs.Words.{IsLateRule, Stands, SubRecord, class_dump, instance_dump, subst, sym}
+use Rattle.heap_graph.proofs.Words.{IsLateRule, Some, Stands, SubRecord, class_dump, instance_dump, refl, subst, sym, ◌≡◌}
+use Rattle.heap_graph.proofs.Words.{object_array_dump, object_kind}
 use Rattle.heap_graph.proofs.Standings.{IsDumpBy, is_class_dump, is_instance_dump}
+use Rattle.hprof_grammar.specs.declared.kinds.ObjectKind.TheVariants as kinds
 use Rattle.heap_graph.proofs.objects.Objects.late_rule.Goals as goal
+
+is_array_dump : (o : SubRecord) → object_kind o ≡ Some kinds.ObjectArray → IsDumpBy object_array_dump o
+is_array_dump (object_array_dump a) h = record { what = a; same = refl }
+is_array_dump o h = absurd (cc h)
 
 pub returns-in-Class : goal.returns-in-Class
 returns-in-Class g c = λ heap o told st describes.
@@ -15,4 +21,11 @@ returns-in-Instance g c = λ heap o told st describes.
     let dump : IsDumpBy instance_dump o = is_instance_dump o (c.in-Instance.ensures o st describes) in
     subst (λ (x : SubRecord). IsLateRule c.args.self.now.view.id_size heap x c.instance_rule.result) (sym dump.same)
     (c.instance_rule.ensures heap dump.what told
+    (subst (λ (x : SubRecord). Stands c.args.self.now.view c.args.at x) dump.same st))
+
+pub returns-in-ObjectArray : goal.returns-in-ObjectArray
+returns-in-ObjectArray g c = λ heap o told st describes.
+    let dump : IsDumpBy object_array_dump o = is_array_dump o (c.in-ObjectArray.ensures o st describes) in
+    subst (λ (x : SubRecord). IsLateRule c.args.self.now.view.id_size heap x c.array_rule.result) (sym dump.same)
+    (c.array_rule.ensures heap dump.what told
     (subst (λ (x : SubRecord). Stands c.args.self.now.view c.args.at x) dump.same st))

@@ -1,7 +1,19 @@
 -- The names are those of the records whose classes are described, so an entry is met by one where a class declares it.
-use Rattle.heap_graph.proofs.Words.{List, SkipEntry, Some, ap, is_met, map, slice_get-get_or, sym, take_all, ◌∙◌}
+use Rattle.heap_graph.proofs.Words.{List, SkipEntry, Some, ap, heap_of, is_met, map, slice_get-get_or, sym, take_all, ◌∙◌}
 use Rattle.heap_graph.proofs.MetLaws.{one_more_met}
 use Rattle.heap_graph.proofs.skip.met.met_among.Goals as goal
+
+pub new-requires : goal.new-requires
+new-requires g c = (c.requires.0, c.requires.1)
+
+pub described_classes-requires-clause-names : goal.described_classes-requires-clause-names
+described_classes-requires-clause-names g c = (c.requires.0, c.in_ok-by_id.ensures c.requires.0 c.requires.1)
+
+pub described_classes-requires-clause-stand : goal.described_classes-requires-clause-stand
+described_classes-requires-clause-stand g c = (heap_of c.requires.0, c.requires.2)
+
+pub is_met-requires : goal.is_met-requires
+is_met-requires g c = (c.requires.0, c.in_ok-by_id.ensures c.requires.0 c.requires.1)
 
 pub loop-entry-preserved : goal.loop-entry-preserved
 loop-entry-preserved g c = λ records names stand.
