@@ -1,8 +1,10 @@
 //! From the bytes of a dump to its report.
 
 ghost use Rattle.std.specs.Prelude.{◌≡◌, ◌≢◌, ◌+◌, ◌-◌, ◌^◌, ◌<◌, ◌≤◌, ◌↔◌, ◌⊎◌};
-ghost use Rattle.std.specs.Prelude.{IfErr, IfOk, IfSome, IsErrAnd, OnOk, true};
+ghost use Rattle.std.specs.Prelude.{IfErr, IfOk, IfSome, IsErrAnd, List, OnOk, true, ℕ};
+ghost use Rattle.heap_graph.specs.Skips.{SkipEntry};
 ghost use Rattle.std.specs.Io.KnownBytes.{Keeps};
+ghost use Rattle.heap_graph.specs.ObjectGraph.{IsGraphOfText};
 ghost use Rattle.histogram.specs.Report.{IsReport, report_of};
 ghost use Rattle.histogram.specs.Counting.{ConsumesFewer, failures_of, inner_of, is_flushed};
 ghost use Rattle.histogram.specs.HistogramOf.{histogram_of};
@@ -192,17 +194,59 @@ where
     ensures known { IfErr result (λ refusal. IsRunRefusal refusal × (refusal.code ≤ 18)) }
 {
     let team = Team::at_most(rt, options.workers());
-    let dump = match read(&team, alloc, bytes) {
-        Ok(dump) => dump,
-        Err(refusal) => return Err(Refusal::from(refusal)),
-    };
-    let graph = match Graph::build(&team, alloc, bytes, dump, skip) {
+    let graph = match graph_of(&team, alloc, bytes, skip) {
         Ok(graph) => graph,
-        Err(refusal) => return Err(Refusal::from(refusal)),
+        Err(refusal) => return Err(refusal),
     };
-    let marked = match mark(rt, alloc, &graph, options, gate) {
+    report_of_graph(rt, &team, alloc, &graph, options, gate)
+}
+
+/// The report of a graph.
+fn report_of_graph<T, A, G>(
+    rt: &T,
+    team: &Team<'_, T>,
+    alloc: A,
+    graph: &Graph<'_, A>,
+    options: &Options,
+    gate: &G,
+) -> Result<Report<A>, Refusal>
+where
+    T: Threads + Wait + Sync,
+    A: Allocator + Copy + Send + Sync,
+    G: Gate,
+    ensures report { IfOk result (λ report. (text : List ℕ) (skip : List SkipEntry)
+        → IsGraphOfText text skip graph.now → IsReport text skip (report_of (histogram_of report))) }
+    ensures refusal { IfErr result (λ refusal. (refusal ≡ out_of_memory) ⊎ IsOfMarking refusal) }
+    ensures known { IfErr result (λ refusal. IsRunRefusal refusal × (refusal.code ≤ 18)) }
+{
+    let marked = match mark(rt, alloc, graph, options, gate) {
         Ok(marked) => marked,
         Err(fault) => return Err(Refusal::from(fault)),
     };
-    Ok(rows(&team, alloc, &graph, &marked)?)
+    Ok(rows(team, alloc, graph, &marked)?)
+}
+
+/// The graph of the bytes of a dump.
+fn graph_of<'a, T, A, B>(
+    team: &Team<'_, T>,
+    alloc: A,
+    bytes: &'a [u8],
+    skip: &'a Skip<'_, B>,
+) -> Result<Graph<'a, A>, Refusal>
+where
+    T: Threads + Sync,
+    A: Allocator + Copy + Send + Sync,
+    B: Allocator,
+    ensures graph { IfOk result (λ graph. IsGraphOfText bytes.now skip.now graph) }
+    ensures refusal { IfErr result (λ refusal. RefusesFirstFault bytes.now refusal ⊎ (refusal ≡ out_of_memory)) }
+    ensures known { IfErr result (λ refusal. IsRunRefusal refusal × (refusal.code ≤ 18)) }
+{
+    let dump = match read(team, alloc, bytes) {
+        Ok(dump) => dump,
+        Err(refusal) => return Err(Refusal::from(refusal)),
+    };
+    match Graph::build(team, alloc, bytes, dump, skip) {
+        Ok(graph) => Ok(graph),
+        Err(refusal) => Err(Refusal::from(refusal)),
+    }
 }

@@ -1,0 +1,6 @@
+-- What a marking refuses is its own, or want of memory.
+use Rattle.heapmark.proofs.OfMarking.{known_marking}
+use Rattle.heapmark.proofs.pipeline.report_of_graph.Goals as goal
+
+pub returns-in-Err-clause-known : goal.returns-in-Err-clause-known
+returns-in-Err-clause-known g c = known_marking c.from.result c.in-Err.fault c.from.ensures
