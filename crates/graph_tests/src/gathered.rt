@@ -112,12 +112,34 @@ fn is_right<T: Threads + Sync, A: Allocator + Copy + Send + Sync>(
 ) -> Option<bool> {
     let file = dump(alloc, ids).ok()?;
     let references = references_of(alloc, count_of(ids)).ok()?;
-    let bytes = file.bytes.as_slice();
+    tells(rt, alloc, heap, file.bytes.as_slice(), ids, references.as_slice(), threads)
+}
+
+/// Whether the graph that such a team makes of these bytes has these objects and classes.
+fn tells<T: Threads + Sync, A: Allocator + Copy + Send + Sync>(
+    rt: &T,
+    alloc: Global,
+    heap: A,
+    bytes: &[u8],
+    ids: &[u32],
+    references: &[u32],
+    threads: u32,
+) -> Option<bool> {
     let skip = Skip::none(alloc);
     let team = Team::sharing_from(rt, threads, 1);
-    let dump = read(&team, heap, bytes).ok()?;
-    let graph = Graph::build(&team, heap, bytes, dump, &skip).ok()?;
-    Some(tells_objects(&graph, ids, references.as_slice()) && tells_classes(&graph, ids))
+    let graph = graph_by(&team, heap, bytes, &skip)?;
+    Some(tells_objects(&graph, ids, references) && tells_classes(&graph, ids))
+}
+
+/// The graph that the team makes of these bytes. None where memory is missing.
+fn graph_by<'a, T: Threads + Sync, A: Allocator + Copy + Send + Sync>(
+    team: &Team<'_, T>,
+    heap: A,
+    bytes: &'a [u8],
+    skip: &'a Skip<'_, Global>,
+) -> Option<Graph<'a, A>> {
+    let dump = read(team, heap, bytes).ok()?;
+    Graph::build(team, heap, bytes, dump, skip).ok()
 }
 
 /// Whether teams of one thread, two and four make the right graph.
