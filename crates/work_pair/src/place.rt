@@ -184,8 +184,6 @@ pub(crate) fn publish_at<R: Wait, A: Allocator>(
     if len_at(place) == 0 {
         return Ok(());
     }
-    match renew(rt, pool, worker, place, third) {
-        Ok(_) => Ok(()),
-        Err(stop) => Err(stop),
-    }
+    renew(rt, pool, worker, place, third)?;
+    Ok(())
 }

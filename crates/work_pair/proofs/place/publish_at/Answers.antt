@@ -12,9 +12,9 @@ returns-then-len_at-eq0-clause-publishes g c =
     let none : length (items_at place) ≤ 0 = omega (arith, c.if-len_at-eq0.true, c.len_at.ensures) in
     publish_nothing c.requires (none_in (items_at place) none)
 
-pub returns-in-Ok-clause-publishes : goal.returns-in-Ok-clause-publishes
-returns-in-Ok-clause-publishes g c =
+pub returns-clause-publishes : goal.returns-clause-publishes
+returns-clause-publishes g c =
     let n = c.renew.new in
     let place = c.args.place.now in
-    publish_renewed place c.args.worker.now.book n.place n.third n.worker.book c.in-Ok.field-0
-    (some_items (items_at place) (omega (arith, c.if-len_at-eq0.false, c.len_at.ensures))) c.in-Ok.ensures.renews
+    publish_renewed place c.args.worker.now.book n.place n.third n.worker.book c.in_ok-renew.field-0
+    (some_items (items_at place) (omega (arith, c.if-len_at-eq0.false, c.len_at.ensures))) c.in_ok-renew.ensures.renews
