@@ -15,4 +15,5 @@ pub mod ObjectKinds
 pub mod MemberFields
 pub mod Refusal
 pub mod RootFields
+pub mod TeamLimits
 pub mod working

@@ -1,6 +1,6 @@
 -- The format's tables: which numbers are allowed where, and what sizes they stand for. No proof opens one of these
 -- words but a few lemmas of two lines, so that the accepted part of the format is settled here alone.
-use Rattle.std.specs.Prelude.{Bool, if◌then◌else◌, nat_le, true, ℕ, ◌&&◌, ◌==◌, ◌||◌}
+use Rattle.std.specs.Prelude.{Bool, if◌then◌else◌, nat_le, ℕ, ◌&&◌, ◌==◌, ◌||◌}
 use Rattle.hprof_grammar.specs.declared.kinds.TypePlace.{TypePlace}
 use Rattle.hprof_grammar.specs.declared.kinds.TypePlace.TheVariants.{InArray}
 

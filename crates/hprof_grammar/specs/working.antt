@@ -3,4 +3,5 @@ pub mod Reading
 pub mod SnapshotOrder
 pub mod Joining
 pub mod Parts
+pub mod Cuts
 pub mod ClassParts

@@ -1,6 +1,7 @@
 //! Where the records of a dump are cut into parts.
 
 ghost use Rattle.std.specs.Prelude.{IfSome, ◌+◌, ◌<◌, ◌^◌, length};
+ghost use Rattle.hprof_grammar.specs.working.Cuts.{AreCuts};
 
 use crate::frame::next_frame;
 use crate::reader::Reader;
@@ -48,6 +49,7 @@ fn behind_record(bytes: &[u8]) -> Option<(u8, &[u8])>
 /// a request for memory was refused. No clause says where the cuts are: who reads the parts tests it.
 pub fn cut_records<A: Allocator>(alloc: A, bytes: &[u8], size: usize) -> Option<Vec<Cut, A>>
     requires { 31 + length bytes.now < 2 ^ 32 }
+    ensures { IfSome result (λ cuts. AreCuts size 31 cuts.items (31 + length bytes.now)) }
 {
     let mut cuts = Vec::new(alloc);
     let mut from = FIRST_SEAM;

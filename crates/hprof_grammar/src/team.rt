@@ -1,35 +1,48 @@
-//! A runtime, and how many threads it gives to a piece of work.
+//! A runtime, and the number of threads that it gives to a piece of work.
 
-ghost use Rattle.std.specs.Prelude.{max, ◌*◌, ◌<◌, ◌≡◌, ◌≤◌};
-
+use std::marker::Model;
 use std::thread::{Threads, available_parallelism};
 
-/// The fewest objects that `new` and `at_most` share out: a thread is not worth its start below.
+/// The fewest objects that a team of `Team::new` or `Team::at_most` shares: fewer are not worth the start of a thread.
 const FEWEST_IN_PARTS: u32 = 65_536;
 
-/// A runtime that can start threads, for work that is done in parts: so many at once, the calling thread among them.
-/// How many they are changes no answer.
+/// A runtime that can start threads, for work that is done in parts: at most `threads` at once, the calling thread among
+/// them. No result depends on their number.
 #[derive(Drop)]
 pub struct Team<'r, T> {
-    /// Never read: a value of such a type is the leave to start threads.
+    /// Never read: a value of such a type is the permission to start threads.
     rt: &'r T,
     threads: u32,
     fewest: u32,
 }
 
+impl<'r, T> Model for Team<'r, T> {
+    ghost use Rattle.hprof_grammar.specs.TeamLimits.{TeamLimits};
+
+    ghost Value = { TeamLimits };
+
+    ghost view = { λ t. record { threads = t.threads; fewest = t.fewest } };
+}
+
 impl<'r, T: Threads> Threads for Team<'r, T> {}
 
 impl<'r, T: Threads> Team<'r, T> {
-    /// A team of that many threads. With one or none the calling thread does all of the work.
+    ghost use Rattle.std.specs.Prelude.{◌≡◌, ◌≤◌};
+
+    /// Creates a team of `threads` threads that shares work on 65,536 objects or more. The calling thread does all of
+    /// the work if `threads` is 0 or 1.
     pub fn new(rt: &'r T, threads: u32) -> Team<'r, T>
-        ensures { result.threads ≡ threads }
+        ensures threads { result.threads ≡ threads }
+        ensures fewest { result.fewest ≡ 65536 }
     {
         Team::sharing_from(rt, threads, FEWEST_IN_PARTS)
     }
 
-    /// A team of that many threads, or of as many as the system grants processors, where it tells of fewer.
+    /// Creates a team like [`Team::new`], of fewer threads if the system grants the process fewer than `threads`
+    /// processors.
     pub fn at_most(rt: &'r T, threads: u32) -> Team<'r, T>
-        ensures { result.threads ≤ threads }
+        ensures threads { result.threads ≤ threads }
+        ensures fewest { result.fewest ≡ 65536 }
     {
         let granted = match available_parallelism(rt) {
             Ok(processors) => u32::try_from(processors.get()).unwrap_or(u32::MAX),
@@ -38,9 +51,10 @@ impl<'r, T: Threads> Team<'r, T> {
         Team::new(rt, threads.min(granted))
     }
 
-    /// A team of that many threads that shares out work on so many objects or more.
+    /// Creates a team of `threads` threads that shares work on `fewest` objects or more.
     pub fn sharing_from(rt: &'r T, threads: u32, fewest: u32) -> Team<'r, T>
-        ensures { result.threads ≡ threads }
+        ensures threads { result.threads ≡ threads }
+        ensures fewest { result.fewest ≡ fewest }
     {
         Team {
             rt,
@@ -51,15 +65,23 @@ impl<'r, T: Threads> Team<'r, T> {
 }
 
 impl<'r, T> Team<'r, T> {
-    /// Whether work on so many objects is done in parts.
-    pub fn shares(&self, objects: usize) -> bool {
+    ghost use Rattle.std.specs.Prelude.{◌<◌, ◌≡◌, nat_le, nat_lt, ◌&&◌};
+    ghost use Rattle.hprof_grammar.specs.TeamLimits.{HasFewParts, HasManyParts};
+
+    /// Tests whether work on `objects` objects is done in parts.
+    pub fn shares(&self, objects: usize) -> bool
+        ensures { result ≡ (nat_lt 1 self.now.threads && nat_le self.now.fewest objects) }
+    {
         self.threads > 1 && objects >= self.fewest as usize
     }
 
-    /// How long each part of a piece of work of that length is, so that each thread has one.
+    /// Returns the length of each part of a piece of work of `length` items. There are no more such parts than threads,
+    /// and more than half as many if there is an item for each thread.
+    #[tactic(auto, using(crate::proofs::TeamParts::rounded))]
     pub fn part_of(&self, length: usize) -> usize
         ensures some { 0 < result }
-        ensures few { length ≤ max self.now.threads 1 * result }
+        ensures few { HasFewParts self.now.threads length result }
+        ensures many { HasManyParts self.now.threads length result }
     {
         length.div_ceil(self.threads.max(1) as usize).max(1)
     }

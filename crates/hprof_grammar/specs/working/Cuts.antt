@@ -1,0 +1,11 @@
+-- Where the records of a dump are cut.
+use Rattle.std.specs.Prelude.{List, [], ℕ, ◌+◌, ◌∷◌, ◌≡◌, ◌≤◌}
+use Rattle.hprof_grammar.specs.declared.cuts.Cut.{Cut}
+
+-- The cuts lead from a place to an end, each from where the one before it ends, and each but the last has `size` bytes
+-- or more.
+abbrev pub AreCuts : ℕ → ℕ → List Cut → ℕ → Type 0
+AreCuts size from [] end = from ≡ end
+AreCuts size from (cut ∷ []) end = (cut.from.place ≡ from) × (cut.to ≡ end)
+AreCuts size from (cut ∷ next ∷ more) end =
+    (cut.from.place ≡ from) × (from + size ≤ cut.to) × AreCuts size cut.to (next ∷ more) end
